@@ -1,0 +1,44 @@
+-- Lists of instructions that turn one tile into another.
+use Rattle.std.specs.Prelude.{◌≡◌, ℕ, ◌-◌, ◌/◌, ◌%◌, ◌<◌, ◌≤◌, List, [], ◌∷◌, length, reverse, map, slice_index, bit_xor, if◌then◌else◌, All}
+use Rattle.bit_lists.specs.Counting.{below}
+use Rattle.bit_lists.specs.Bits.{has_bit}
+use Rattle.cdg_instructions.specs.Instruction.{InTileRange}
+use Rattle.cdg_instructions.specs.declared.instr.Instr.{Instr}
+use Rattle.cdg_instructions.specs.declared.instr.Instr.TheVariants.{SetTile, XorTile}
+
+-- an instruction that sets or combines the tile of this row and column
+abbrev pub IsOfPlace : ℕ → ℕ → Instr → Type 0
+IsOfPlace row column (SetTile colour0 colour1 r c lines) = (r ≡ row) × (c ≡ column) × InTileRange colour0 colour1 r c lines
+IsOfPlace row column (XorTile colour0 colour1 r c lines) = (r ≡ row) × (c ≡ column) × InTileRange colour0 colour1 r c lines
+IsOfPlace row column _ = ⊥
+
+-- colour 0 or 1 of pixel i of line j of a tile, by the bit of that pixel, the leftmost at bit 5
+abbrev pub tile_colour : ℕ → ℕ → List ℕ → ℕ → ℕ → ℕ
+tile_colour colour0 colour1 lines i j = if has_bit (5 - i) (slice_index lines j) then colour1 else colour0
+
+-- the pixels of a tile that an instruction draws, line by line from the left
+abbrev pub drawn : ℕ → ℕ → List ℕ → ℕ → ℕ
+drawn colour0 colour1 lines p = tile_colour colour0 colour1 lines (p % 6) (p / 6)
+
+-- the 72 pixels of a tile after instructions of its place, which are given the last one first
+unfoldable pub tile_from : List ℕ → List Instr → List ℕ
+tile_from old [] = old
+tile_from old (SetTile colour0 colour1 row column lines ∷ before) = map (drawn colour0 colour1 lines) (below 72)
+tile_from old (XorTile colour0 colour1 row column lines ∷ before) =
+    let older = tile_from old before in
+    map (λ p. bit_xor (drawn colour0 colour1 lines p) (slice_index older p)) (below 72)
+tile_from old (_ ∷ before) = tile_from old before
+
+-- the same of instructions in order
+abbrev pub tile_after : List ℕ → List Instr → List ℕ
+tile_after old instrs = tile_from old (reverse instrs)
+
+-- the instructions of this place turn the old tile into the new one
+pub record Turns (row column : ℕ) (old new : List ℕ) (instrs : List Instr) : Type 0 where
+  pub of_place : All (IsOfPlace row column) instrs
+  pub result : tile_after old instrs ≡ new
+
+-- m is the least number of instructions of this place that turn the old tile into the new one
+pub record IsLeast (row column : ℕ) (old new : List ℕ) (m : ℕ) : Type 0 where
+  pub enough : (instrs : List Instr) × Turns row column old new instrs × (length instrs ≡ m)
+  pub needed : (instrs : List Instr) → Turns row column old new instrs → m ≤ length instrs

@@ -1,0 +1,15 @@
+//! The graphics instructions that packs hold, read and written.
+#![tactic(auto)]
+
+mod instr;
+mod reading;
+mod tile;
+mod writing;
+
+pub use instr::Instr;
+pub use reading::{only_one_meaning, read};
+pub use tile::{PIXELS, Tile};
+pub use writing::{read_of_written, write};
+
+#[cfg(test)]
+mod tests;

@@ -1,0 +1,137 @@
+-- What stands in the memory and on the screen after a list of instructions.
+use Rattle.std.specs.Prelude.{◌≡◌, ℕ, ◌+◌, ◌-◌, ◌*◌, ◌/◌, ◌%◌, ◌<◌, Bool, List, [], ◌∷◌, reverse, slice_index, slice_index_or, ◌==◌, nat_le, nat_lt, ◌&&◌, if◌then◌else◌, bit_xor}
+use Rattle.bit_lists.specs.Bits.{has_bit}
+use Rattle.cdg_instructions.specs.declared.instr.Instr.{Instr}
+use Rattle.cdg_instructions.specs.declared.instr.Instr.TheVariants.{MemoryPreset, BorderPreset, SetTile, XorTile, ScrollPreset, ScrollCopy, Transparency, ColoursLow, ColoursHigh}
+
+-- what stands at a moment: the memory of 300 by 216 pixels, the border, sixteen colours and levels, and the offsets of the screen
+pub record Standing : Type 0 where
+  pub memory : ℕ → ℕ → ℕ
+  pub border : ℕ
+  pub colour : ℕ → ℕ
+  pub level : ℕ → ℕ
+  pub h : ℕ
+  pub v : ℕ
+
+-- all zero, as at the start
+abbrev pub blank : Standing
+blank = record { memory = λ x y. 0; border = 0; colour = λ k. 0; level = λ k. 0; h = 0; v = 0 }
+
+-- The memory as rows that begin at a moving origin: pixel (0, 0) is element `left` of row `top`, and what is past an end goes on at the other.
+pub record Grid : Type 0 where
+  pub rows : List (List ℕ)
+  pub left : ℕ
+  pub top : ℕ
+
+-- pixel (x, y) of it
+unfoldable pub at : Grid → ℕ → ℕ → ℕ
+at grid x y = slice_index (slice_index_or grid.rows ((y + grid.top) % 216) []) ((x + grid.left) % 300)
+
+-- what stands as lists
+pub record Display : Type 0 where
+  pub memory : Grid
+  pub border : ℕ
+  pub colours : List ℕ
+  pub levels : List ℕ
+  pub h : ℕ
+  pub v : ℕ
+
+abbrev pub standing_of : Display → Standing
+standing_of d = record {
+  memory = at d.memory;
+  border = d.border;
+  colour = λ k. slice_index d.colours k;
+  level = λ k. slice_index d.levels k;
+  h = d.h;
+  v = d.v;
+}
+
+-- whether the tile of a row and column is on the memory and holds the pixel
+abbrev pub covers : ℕ → ℕ → ℕ → ℕ → Bool
+covers row column x y = nat_le row 17 && nat_le column 49 && x / 6 == column && y / 12 == row
+
+-- colour 0 or 1 of pixel i of line j of a tile, by the bit of that pixel, the leftmost at bit 5
+abbrev pub tile_colour : ℕ → ℕ → List ℕ → ℕ → ℕ → ℕ
+tile_colour colour0 colour1 lines i j = if has_bit (5 - i) (slice_index lines j) then colour1 else colour0
+
+-- Where a pixel comes from in a scroll, plus the size in that direction, so that it is no negative number:
+-- a move of 1 goes right or down, one of 2 left or up, by one tile.
+abbrev pub source : ℕ → ℕ → ℕ → ℕ → ℕ
+source size step direction x = if direction == 1 then x + size - step else (if direction == 2 then x + size + step else x + size)
+
+abbrev pub source_x : ℕ → ℕ → ℕ
+source_x across x = source 300 6 across x
+
+abbrev pub source_y : ℕ → ℕ → ℕ
+source_y down y = source 216 12 down y
+
+-- whether it comes from the memory and not from outside
+abbrev pub is_inside : ℕ → ℕ → Bool
+is_inside size from = nat_le size from && nat_lt from (2 * size)
+
+-- In the next five definitions the instructions are given the last one first, and `start` is what stood before all of them.
+
+-- pixel (x, y) of the memory
+abbrev pub memory_from : Standing → List Instr → ℕ → ℕ → ℕ
+memory_from start [] x y = start.memory x y
+memory_from start (MemoryPreset colour repeat ∷ before) x y = colour
+memory_from start (SetTile colour0 colour1 row column lines ∷ before) x y =
+    let old = memory_from start before x y in
+    if covers row column x y then tile_colour colour0 colour1 lines (x % 6) (y % 12) else old
+memory_from start (XorTile colour0 colour1 row column lines ∷ before) x y =
+    let old = memory_from start before x y in
+    if covers row column x y then bit_xor (tile_colour colour0 colour1 lines (x % 6) (y % 12)) old else old
+memory_from start (ScrollPreset colour across h down v ∷ before) x y =
+    let old = memory_from start before (source_x across x - 300) (source_y down y - 216) in
+    if is_inside 300 (source_x across x) && is_inside 216 (source_y down y) then old else colour
+memory_from start (ScrollCopy colour across h down v ∷ before) x y = memory_from start before (source_x across x % 300) (source_y down y % 216)
+memory_from start (_ ∷ before) x y = memory_from start before x y
+
+abbrev pub border_from : Standing → List Instr → ℕ
+border_from start [] = start.border
+border_from start (BorderPreset colour ∷ before) = colour
+border_from start (_ ∷ before) = border_from start before
+
+abbrev pub colour_from : Standing → List Instr → ℕ → ℕ
+colour_from start [] k = start.colour k
+colour_from start (ColoursLow colours ∷ before) k = let old = colour_from start before k in if nat_lt k 8 then slice_index colours k else old
+colour_from start (ColoursHigh colours ∷ before) k = let old = colour_from start before k in if nat_lt k 8 then old else slice_index colours (k - 8)
+colour_from start (_ ∷ before) k = colour_from start before k
+
+abbrev pub level_from : Standing → List Instr → ℕ → ℕ
+level_from start [] k = start.level k
+level_from start (Transparency levels ∷ before) k = slice_index levels k
+level_from start (_ ∷ before) k = level_from start before k
+
+-- both offsets, across and down
+abbrev pub offsets_from : Standing → List Instr → ℕ × ℕ
+offsets_from start [] = (start.h, start.v)
+offsets_from start (ScrollPreset colour across h down v ∷ before) = (h, v)
+offsets_from start (ScrollCopy colour across h down v ∷ before) = (h, v)
+offsets_from start (_ ∷ before) = offsets_from start before
+
+-- what stands after the instructions, given in order, where this stood before
+abbrev pub standing_after : Standing → List Instr → Standing
+standing_after start instrs =
+    let before = reverse instrs in
+    record {
+      memory = memory_from start before;
+      border = border_from start before;
+      colour = colour_from start before;
+      level = level_from start before;
+      h = (offsets_from start before).0;
+      v = (offsets_from start before).1;
+    }
+
+-- pixel (x, y) of the screen: in the window the memory, moved by the offsets, and elsewhere the border
+abbrev pub screen_pixel : Standing → ℕ → ℕ → ℕ
+screen_pixel now x y = if nat_le 6 x && nat_le x 293 && nat_le 12 y && nat_le y 203 then now.memory (x + now.h) (y + now.v) else now.border
+
+-- the same stands in both, at each pixel of the memory and each number of a colour
+pub record SameStanding (a b : Standing) : Type 0 where
+  pub memory : (x y : ℕ) → x < 300 → y < 216 → a.memory x y ≡ b.memory x y
+  pub border : a.border ≡ b.border
+  pub colour : (k : ℕ) → k < 16 → a.colour k ≡ b.colour k
+  pub level : (k : ℕ) → k < 16 → a.level k ≡ b.level k
+  pub h : a.h ≡ b.h
+  pub v : a.v ≡ b.v

@@ -1,0 +1,69 @@
+-- Blocks of 96 bytes: eight channels of 96 bits, P to W, one bit of each in a byte.
+use Rattle.std.specs.Prelude.{◌≡◌, ℕ, ◌+◌, ◌-◌, ◌*◌, ◌%◌, ◌/◌, ◌<◌, Bool, List, [], ◌∷◌, length, map, flat_map, drop, slice_index}
+use Rattle.bit_lists.specs.Counting.{below, whole_parts}
+use Rattle.bit_lists.specs.Bits.{has_bit, bits_of, number_of}
+use Rattle.raw_subcode.specs.declared.form.Form.{Form}
+use Rattle.raw_subcode.specs.declared.form.Form.TheVariants.{Raw, Sector, Cooked}
+
+-- the bit of a channel in a byte: channel 0 is P and the highest bit, channel 7 is W and the lowest
+abbrev pub channel_bit : ℕ → ℕ → Bool
+channel_bit channel byte = has_bit (7 - channel) byte
+
+-- the P bits of a block, and its Q bits
+abbrev pub p_bits : List ℕ → List Bool
+p_bits block = map (channel_bit 0) block
+
+abbrev pub q_bits : List ℕ → List Bool
+q_bits block = map (channel_bit 1) block
+
+-- the symbols of a block, which channels R to W make
+abbrev pub symbols_of : List ℕ → List ℕ
+symbols_of block = map (λ byte. byte % 64) block
+
+-- the bits of symbols, the highest first
+abbrev pub symbol_bits : List ℕ → List Bool
+symbol_bits symbols = flat_map (bits_of 6) symbols
+
+-- the planar form has twelve bytes for each channel, with its bits in order
+pub record IsPlanarForm (block planar : List ℕ) : Type 0 where
+  pub size : length planar ≡ 96
+  pub bit : (channel k j : ℕ) → channel < 8 → k < 12 → j < 8 →
+      has_bit (7 - j) (slice_index planar (12 * channel + k)) ≡ channel_bit channel (slice_index block (8 * k + j))
+
+-- the bytes that hold one block
+abbrev pub unit_size : Form → ℕ
+unit_size Raw = 96
+unit_size Sector = 2448
+unit_size Cooked = 96
+
+-- the block in these bytes: a sector has 2,352 bytes of audio before its block
+abbrev pub block_of : Form → List ℕ → List ℕ
+block_of form bytes = drop (unit_size form - 96) bytes
+
+-- the blocks of a stream
+abbrev pub blocks_of : Form → List ℕ → List (List ℕ)
+blocks_of form bytes = map (block_of form) (whole_parts (unit_size form) bytes)
+
+-- the symbols of the program blocks, which follow the lead-in blocks
+abbrev pub program_symbols : Form → List ℕ → ℕ → List ℕ
+program_symbols form bytes lead_in = flat_map symbols_of (drop lead_in (blocks_of form bytes))
+
+-- byte 8k + j of a block has the P bit, bit j of byte k of Q, and its symbol
+pub record IsBuilt (p : Bool) (q symbols block : List ℕ) : Type 0 where
+  pub size : length block ≡ 96
+  pub p_bit : (i : ℕ) → i < 96 → channel_bit 0 (slice_index block i) ≡ p
+  pub q_bit : (k j : ℕ) → k < 12 → j < 8 → channel_bit 1 (slice_index block (8 * k + j)) ≡ has_bit (7 - j) (slice_index q k)
+  pub symbol : (i : ℕ) → i < 96 → slice_index block i % 64 ≡ slice_index symbols i
+
+-- the byte of these eight bits, the highest first
+abbrev pub byte_of : Bool → Bool → Bool → Bool → Bool → Bool → Bool → Bool → ℕ
+byte_of b0 b1 b2 b3 b4 b5 b6 b7 = number_of (b0 ∷ b1 ∷ b2 ∷ b3 ∷ b4 ∷ b5 ∷ b6 ∷ b7 ∷ [])
+
+-- the byte of a channel's bits at eight bytes
+abbrev pub packed_at : List ℕ → ℕ → ℕ → ℕ
+packed_at block channel first =
+    number_of (map (λ j. channel_bit channel (slice_index block (first + j))) (below 8))
+
+-- the byte of the bits at one place of the eight channels of a planar form
+abbrev pub gathered_at : List ℕ → ℕ → ℕ
+gathered_at planar i = number_of (map (λ c. has_bit (7 - i % 8) (slice_index planar (12 * c + i / 8))) (below 8))

@@ -1,0 +1,25 @@
+-- The steps of a gatherer: from the last slots, at most seven, and a further slot.
+use Rattle.std.specs.Prelude.{ℕ, ◌-◌, ◌%◌, List, [], ◌∷◌, ◌++◌, length, map, drop, slice_index, slice_index_or, nat_lt, if◌then◌else◌, None, Some}
+use Rattle.std.specs.declared.option.Option.{Option}
+use Rattle.bit_lists.specs.Counting.{below}
+use Rattle.rw_interleave.specs.Interleave.{swapped}
+
+-- the last seven
+abbrev pub last_seven : List (List ℕ) → List (List ℕ)
+last_seven slots = drop (length slots - 7) slots
+
+-- the symbol at a position of the slot that is so many slots after the first
+abbrev pub symbol_at : List (List ℕ) → ℕ → ℕ
+symbol_at slots position = slice_index (slice_index_or slots (position % 8) []) position
+
+-- the word whose last symbol came with the last of eight slots
+unfoldable pub gathered : List (List ℕ) → List ℕ
+gathered slots = map (λ i. symbol_at slots (swapped i)) (below 24)
+
+-- the slots kept after one more
+unfoldable pub gather_next : List (List ℕ) → List ℕ → List (List ℕ)
+gather_next slots slot = last_seven (slots ++ slot ∷ [])
+
+-- a word comes with the eighth slot and with each after it
+unfoldable pub gather_gives : List (List ℕ) → List ℕ → Option (List ℕ)
+gather_gives slots slot = if nat_lt (length slots) 7 then None else Some (gathered (slots ++ slot ∷ []))

@@ -1,0 +1,23 @@
+-- The steps of a spreader: from the last packs, at most seven, and a further pack.
+use Rattle.std.specs.Prelude.{ℕ, ◌-◌, ◌%◌, List, [], ◌∷◌, ◌++◌, length, map, slice_index, slice_index_or, nat_lt, if◌then◌else◌, Some}
+use Rattle.std.specs.declared.option.Option.{Option}
+use Rattle.bit_lists.specs.Counting.{below}
+use Rattle.rw_interleave.specs.Interleave.{swapped}
+use Rattle.rw_interleave.specs.Gathering.{last_seven}
+
+-- the symbol at a position of the slot that comes with the last of some packs: that of the pack whose symbol falls there, and 0 before the first
+unfoldable pub spread_symbol : List (List ℕ) → ℕ → ℕ
+spread_symbol packs position =
+    if nat_lt (position % 8) (length packs) then slice_index (slice_index_or packs (length packs - position % 8 - 1) []) (swapped position) else 0
+
+-- the slot that comes with the last of some packs
+unfoldable pub spread_over : List (List ℕ) → List ℕ
+spread_over packs = map (spread_symbol packs) (below 24)
+
+-- the packs kept after one more
+unfoldable pub spread_next : List (List ℕ) → List ℕ → List (List ℕ)
+spread_next packs pack = last_seven (packs ++ pack ∷ [])
+
+-- a slot comes with each pack
+unfoldable pub spread_gives : List (List ℕ) → List ℕ → Option (List ℕ)
+spread_gives packs pack = Some (spread_over (packs ++ pack ∷ []))

@@ -1,0 +1,58 @@
+-- The words of a stream, what is recovered from them, and which damage can be recovered.
+use Rattle.std.specs.List.{list_any}
+use Rattle.std.specs.Prelude.{⊤, Bool, false, nat_le, nat_lt, ◌&&◌, ◌≡◌, ℕ, ◌+◌, ◌*◌, ◌/◌, ◌<◌, ◌≤◌, List, [], ◌∷◌, length, map, slice_index, slice_index_or, count_by, replicate, Option, Some, None, is_none}
+use Rattle.bit_lists.specs.Counting.{below}
+use Rattle.rw_code.specs.Codeword.{IsNear}
+use Rattle.rw_code.specs.Finding.{IsFinding}
+use Rattle.rw_interleave.specs.Interleave.{word_of, whole_packs}
+use Rattle.raw_subcode.specs.declared.form.Form.{Form}
+use Rattle.raw_subcode.specs.declared.form.Form.TheVariants.{Raw, Sector, Cooked}
+
+-- how many words so many blocks hold
+abbrev pub word_count : Form → ℕ → ℕ
+word_count Raw blocks = whole_packs blocks
+word_count Sector blocks = whole_packs blocks
+word_count Cooked blocks = 4 * blocks
+
+-- word n of symbols that stand as they are
+abbrev pub plain_word : List ℕ → ℕ → List ℕ
+plain_word symbols n = map (λ i. slice_index symbols (24 * n + i)) (below 24)
+
+-- word n of the program symbols: gathered from its places, or as it stands where the stream is cooked
+abbrev pub form_word : Form → List ℕ → ℕ → List ℕ
+form_word Raw symbols n = word_of symbols n
+form_word Sector symbols n = word_of symbols n
+form_word Cooked symbols n = plain_word symbols n
+
+-- what is found for each word of the program symbols
+pub record IsRecovered (form : Form) (symbols : List ℕ) (found : List (Option (List ℕ))) : Type 0 where
+  pub count : length found ≡ word_count form (length symbols / 96)
+  pub each : (n : ℕ) → n < word_count form (length symbols / 96) → IsFinding (form_word form symbols n) (slice_index_or found n None)
+
+-- the words for which nothing is found
+abbrev pub bad_count : List (Option (List ℕ)) → ℕ
+bad_count found = count_by is_none found
+
+-- the program symbols of another stream hold each word of these symbols with at most two wrong ones, and further words are nearly zero
+pub record IsDamaged (symbols : List ℕ) (form : Form) (others : List ℕ) : Type 0 where
+  pub size : length others ≡ length symbols
+  pub words : (n : ℕ) → n < whole_packs (length symbols / 96) → IsNear (word_of symbols n) (form_word form others n)
+  pub further : (n : ℕ) → whole_packs (length symbols / 96) ≤ n → n < word_count form (length symbols / 96) → IsNear (form_word form others n) (replicate 24 0)
+
+-- Symbols that differ in bursts
+
+-- bursts by their first place and size, from a place on: each has at most sixteen symbols, and each but the first comes at least 192 places after the one before
+abbrev pub AreBurstsFrom : ℕ → List (ℕ × ℕ) → Type 0
+AreBurstsFrom place [] = ⊤
+AreBurstsFrom place (burst ∷ rest) = (place ≤ burst.0) × (burst.1 ≤ 16) × AreBurstsFrom (burst.0 + burst.1 + 192) rest
+
+-- whether a burst holds the place
+abbrev pub is_in_burst : ℕ → ℕ × ℕ → Bool
+is_in_burst place burst = nat_le burst.0 place && nat_lt place (burst.0 + burst.1)
+
+-- the symbols are equal outside such bursts
+pub record DiffersInBursts (symbols others : List ℕ) : Type 0 where
+  pub size : length others ≡ length symbols
+  pub bursts : List (ℕ × ℕ)
+  pub apart : AreBurstsFrom 0 bursts
+  pub equal : (p : ℕ) → p < length symbols → list_any (is_in_burst p) bursts ≡ false → slice_index others p ≡ slice_index symbols p

@@ -1,0 +1,78 @@
+-- The plan that is written for a tile: the shortest list of instructions, and among these one by a fixed rule.
+use Rattle.std.specs.Prelude.{◌/◌, ℕ, ◌+◌, ◌*◌, Bool, true, false, List, [], ◌∷◌, ◌++◌, length, map, slice_index, ◌==◌, nat_le, ◌&&◌, ◌||◌, if◌then◌else◌, bit_xor, max, min}
+use Rattle.std.specs.List.{list_all}
+use Rattle.bit_lists.specs.Counting.{below, parts}
+use Rattle.bit_lists.specs.Bits.{has_bit, number_of}
+use Rattle.cdg_instructions.specs.declared.instr.Instr.{Instr}
+use Rattle.cdg_instructions.specs.declared.instr.Instr.TheVariants.{SetTile, XorTile}
+
+-- whether a number is the combination by exclusive or of some members: without the first one, or with it
+unfoldable pub is_combination : List ℕ → ℕ → Bool
+is_combination [] number = number == 0
+is_combination (first ∷ rest) number = is_combination rest number || is_combination rest (bit_xor first number)
+
+-- the members, followed by those numbers that are no combination of the members before them
+unfoldable pub basis_from : List ℕ → List ℕ → List ℕ
+basis_from members [] = members
+basis_from members (number ∷ rest) = basis_from (if is_combination members number then members else members ++ number ∷ []) rest
+
+-- the differences of the pixels from the first pixel
+unfoldable pub differences : List ℕ → List ℕ
+differences pixels = map (bit_xor (slice_index pixels 0)) pixels
+
+-- those differences that are no combination of the ones before them
+unfoldable pub basis : List ℕ → List ℕ
+basis pixels = basis_from [] (differences pixels)
+
+-- how many instructions draw the pixels where nothing stands, or everywhere the same
+unfoldable pub weight : List ℕ → ℕ
+weight pixels = max 1 (length (basis pixels))
+
+-- the number whose bit j tells whether member j has a part in the one combination that makes the number
+unfoldable pub selection : List ℕ → ℕ → ℕ
+selection [] number = 0
+selection (first ∷ rest) number =
+    if is_combination rest number then 2 * selection rest number else 1 + 2 * selection rest (bit_xor first number)
+
+-- the combination of the members that a selection tells, bit 0 for the first of them
+unfoldable pub combination : List ℕ → ℕ → ℕ
+combination [] chosen = 0
+combination (first ∷ rest) chosen = bit_xor (if has_bit 0 chosen then first else 0) (combination rest (chosen / 2))
+
+-- for each pixel, whether member j has a part in its difference
+unfoldable pub member_bits : List ℕ → ℕ → List Bool
+member_bits pixels j = map (λ d. has_bit j (selection (basis pixels) d)) (differences pixels)
+
+-- the same as twelve lines of six bits, the leftmost the highest
+unfoldable pub lines_of : List ℕ → ℕ → List ℕ
+lines_of pixels j = map number_of (parts 12 6 (member_bits pixels j))
+
+-- instruction j of those that draw the pixels, or that combine them with what stands; the first is number 0
+unfoldable pub planned : Bool → ℕ → ℕ → List ℕ → ℕ → Instr
+planned draws row column pixels j =
+    let colour0 = if j == 0 then slice_index pixels 0 else 0 in
+    let colour1 = bit_xor colour0 (slice_index (basis pixels) j) in
+    let lines = lines_of pixels j in
+    if draws && j == 0 then SetTile colour0 colour1 row column lines else XorTile colour0 colour1 row column lines
+
+-- what is to be combined with the old pixels
+unfoldable pub delta : List ℕ → List ℕ → List ℕ
+delta old new = map (λ p. bit_xor (slice_index old p) (slice_index new p)) (below 72)
+
+-- whether the new pixels are the old ones
+unfoldable pub are_equal : List ℕ → List ℕ → Bool
+are_equal old new = list_all (λ d. d == 0) (delta old new)
+
+-- nothing where the tiles are equal; the new tile drawn, where that is as short as combining what differs; else that
+unfoldable pub plan : ℕ → ℕ → List ℕ → List ℕ → List Instr
+plan row column old new =
+    let d = delta old new in
+    if are_equal old new
+    then []
+    else (if nat_le (weight new) (weight d)
+    then map (planned true row column new) (below (weight new))
+    else map (planned false row column d) (below (weight d)))
+
+-- the length of that plan
+unfoldable pub steps : List ℕ → List ℕ → ℕ
+steps old new = if are_equal old new then 0 else min (weight new) (weight (delta old new))

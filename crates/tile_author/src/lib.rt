@@ -1,0 +1,115 @@
+// Shortest lists of instructions that turn one tile into another.
+#![tactic(auto)]
+
+ghost use Rattle.std.specs.Prelude.{◌≡◌, ◌≢◌, ℕ, ◌<◌, ◌≤◌, List, length, replicate, slice_index, bit_xor, ◌^◌};
+ghost use Rattle.std.specs.List.{list_all};
+ghost use Rattle.std.specs.Prelude.{◌==◌};
+ghost use Rattle.cdg_instructions.specs.Instruction.{IsTilePixels};
+ghost use Rattle.cdg_instructions.specs.Drawing.{Turns, IsLeast};
+ghost use Rattle.tile_author.specs.Span.{Spanned, Free};
+ghost use Rattle.tile_author.specs.Plan.{basis, combination, selection, delta, plan, steps, weight};
+
+mod basis;
+#[cfg(test)]
+mod tests;
+
+use arrayvec::ArrayVec;
+use basis::Basis;
+use cdg_instructions::{Instr, PIXELS, Tile};
+
+/// The length of a shortest list of tile instructions of one place that turns the old tile into the new one.
+pub fn steps(old: &Tile, new: &Tile) -> u8
+    ensures value { result ≡ steps old.now new.now }
+    ensures least { (row column : ℕ) → row < 32 → column < 64 → IsLeast row column old.now new.now result }
+    ensures most { result ≤ 4 }
+{
+    count(old.pixels(), new.pixels())
+}
+
+/// A shortest list of tile instructions of this place that turns the old tile into the new one.
+pub fn plan(old: &Tile, new: &Tile, row: u8, column: u8) -> ArrayVec<Instr, 4>
+    requires row { row < 18 }
+    requires column { column < 50 }
+    ensures plan { result.items ≡ plan row column old.now new.now }
+    ensures turns { Turns row column old.now new.now result.items }
+    ensures count { length result.items ≡ steps old.now new.now }
+{
+    list(old.pixels(), new.pixels(), row, column)
+}
+
+/// The length of a shortest list that draws the tile where everywhere one colour stands, unless the tile is that colour.
+pub fn weight(new: &Tile) -> u8
+    ensures value { result ≡ weight new.now }
+    ensures least { (row column c : ℕ) → row < 32 → column < 64 → c < 16 → new.now ≢ replicate 72 c → IsLeast row column (replicate 72 c) new.now result }
+    ensures none { (row column c : ℕ) → row < 32 → column < 64 → c < 16 → new.now ≡ replicate 72 c → IsLeast row column (replicate 72 c) new.now 0 }
+    ensures most { result ≤ 4 }
+{
+    Basis::of(new.pixels()).weight() as u8
+}
+
+/// The length of the plan for these pixels.
+fn count(old: &[u8; PIXELS], new: &[u8; PIXELS]) -> u8
+    requires old { IsTilePixels old.now }
+    requires new { IsTilePixels new.now }
+    ensures value { result ≡ steps old.now new.now }
+    ensures most { result ≤ 4 }
+{
+    let changes = changes(old, new);
+    if is_blank(&changes) {
+        return 0;
+    }
+    let drawn = Basis::of(new).weight();
+    let combined = Basis::of(&changes).weight();
+    drawn.min(combined) as u8
+}
+
+/// The plan for these pixels.
+fn list(old: &[u8; PIXELS], new: &[u8; PIXELS], row: u8, column: u8) -> ArrayVec<Instr, 4>
+    requires old { IsTilePixels old.now }
+    requires new { IsTilePixels new.now }
+    ensures { result.items ≡ plan row column old.now new.now }
+{
+    let changes = changes(old, new);
+    if is_blank(&changes) {
+        return ArrayVec::new();
+    }
+    let drawn = Basis::of(new);
+    let combined = Basis::of(&changes);
+    if drawn.weight() <= combined.weight() {
+        drawn.instructions(new, true, row, column)
+    } else {
+        combined.instructions(&changes, false, row, column)
+    }
+}
+
+/// What is to be combined with the old pixels.
+fn changes(old: &[u8; PIXELS], new: &[u8; PIXELS]) -> [u8; PIXELS]
+    requires old { IsTilePixels old.now }
+    requires new { IsTilePixels new.now }
+    ensures value { result ≡ delta old.now new.now }
+    ensures tile { IsTilePixels result }
+{
+    let mut changes = [0; PIXELS];
+    for i in 0..PIXELS {
+        changes[i] = old[i] ^ new[i];
+    }
+    changes
+}
+
+/// Whether nothing is to be combined.
+fn is_blank(changes: &[u8; PIXELS]) -> bool
+    ensures { result ≡ list_all (λ d. d == 0) changes.now }
+{
+    changes.iter().all(|change| *change == 0)
+}
+
+/// Where each of some independent numbers is a combination of others, these are at least as many.
+pub fn independent_are_few()
+    ensures { (given independent : List ℕ) → Spanned given independent → Free independent → length independent ≤ length given }
+{}
+
+/// Each pixel's difference is the combination of the basis that its selection tells, and each combination has one selection.
+pub fn selections_are_the_only_ones()
+    ensures makes { (pixels : List ℕ) (p : ℕ) → p < length pixels → let d = bit_xor (slice_index pixels 0) (slice_index pixels p) in combination (basis pixels) (selection (basis pixels) d) ≡ d }
+    ensures only { (pixels : List ℕ) (chosen : ℕ) → chosen < 2 ^ length (basis pixels) → selection (basis pixels) (combination (basis pixels) chosen) ≡ chosen }
+{}
