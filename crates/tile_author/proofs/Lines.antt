@@ -6,6 +6,7 @@ use Rattle.std.proofs.lemmas.Nat.Bits.{bit_at_cat_low, bit_at_cat_high}
 use Rattle.std.proofs.lemmas.List.{length-map, length-take-le, length-drop, get_or-take, get_or-drop, get_or-map, drop-drop}
 use Rattle.bit_lists.specs.Counting.{parts}
 use Rattle.bit_lists.specs.Bits.{has_bit, number_of}
+use Rattle.bit_lists.proofs.BitsLemmas.{number_of-lt}
 use Rattle.cdg_instructions.specs.Drawing.{drawn}
 use Rattle.tile_author.specs.Plan.{basis, differences, selection, member_bits, lines_of}
 
@@ -17,17 +18,13 @@ unfolding digit
 worth true size = omega arith
 worth false size = omega arith
 
-pub number_of-lt : (bs : List Bool) → number_of bs < 2 ^ length bs
-number_of-lt [] = omega arith
-number_of-lt (true ∷ bs) = let h = number_of-lt bs in let double : 2 ^ suc (length bs) ≡ 2 * 2 ^ length bs = omega arith in omega arith
-number_of-lt (false ∷ bs) = let h = number_of-lt bs in let double : 2 ^ suc (length bs) ≡ 2 * 2 ^ length bs = omega arith in omega arith
-
 digit-bit : (b : Bool) (k : ℕ) → k ≡ 0 → (bit_at (digit b) k == 1) ≡ b
 unfolding digit
 digit-bit true k h = ap (λ n. bit_at 1 n == 1) h
 digit-bit false k h = ap (λ n. bit_at 0 n == 1) h
 
 pub has_bit-number_of : (bs : List Bool) (i k : ℕ) → i + k + 1 ≡ length bs → has_bit k (number_of bs) ≡ get_or bs i false
+unfolding number_of
 has_bit-number_of [] i k h = absurd (omega arith)
 has_bit-number_of (b ∷ bs) zero k h =
     let high : k ≡ length bs = omega arith in

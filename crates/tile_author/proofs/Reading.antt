@@ -14,7 +14,8 @@ use Rattle.cdg_instructions.specs.declared.instr.Instr.TheVariants.{SetTile, Xor
 use Rattle.std.proofs.lemmas.List.FromFn.{map-range_with_len_more, length-map-range_with_len}
 use Rattle.tile_author.specs.Table.{entry}
 use Rattle.tile_author.proofs.Growth.{made, not_made}
-use Rattle.tile_author.proofs.Lines.{number_of-lt, length-parts, parts_at}
+use Rattle.bit_lists.proofs.BitsLemmas.{number_of-lt}
+use Rattle.tile_author.proofs.Lines.{length-parts, parts_at}
 use Rattle.tile_author.proofs.BasisLaws.{spanned_test, spans_difference}
 
 binary : (n : ℕ) → n < 2 → n ≡ (if n == 1 then 1 else 0)
@@ -51,6 +52,7 @@ length-take-at_most : (i n : ℕ) (bs : List Bool) → i ≤ n → length (take 
 length-take-at_most i n bs h = omega (arith, length-take i bs)
 
 number_of-snoc : (bs : List Bool) (b : Bool) → number_of (bs ++ b ∷ []) ≡ 2 * number_of bs + (if b then 1 else 0)
+unfolding number_of
 number_of-snoc [] true = refl
 number_of-snoc [] false = refl
 number_of-snoc (true ∷ bs) b =
@@ -65,7 +67,7 @@ unfoldable pub read_bits : List ℕ → ℕ → ℕ → ℕ → List Bool
 read_bits pixels j q i = take i (drop (q * 6) (member_bits pixels j))
 
 pub no_bits : (pixels : List ℕ) (j q : ℕ) → 0 ≡ number_of (read_bits pixels j q 0)
-unfolding read_bits
+unfolding read_bits number_of
 no_bits pixels j q = refl
 
 member_bit_at : (pixels : List ℕ) (j p : ℕ) → p < length pixels → get_or (member_bits pixels j) p false ≡ has_bit j (selection (basis pixels) (bit_xor (slice_index pixels 0) (slice_index pixels p)))

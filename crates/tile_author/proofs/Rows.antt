@@ -1,6 +1,7 @@
 -- Plans of known tiles, computed.
 use Rattle.std.proofs.Common.{◌≡◌, ℕ, List, [], ◌∷◌, refl, map, replicate}
 use Rattle.std.specs.Prelude.{bit_xor}
+use Rattle.bit_lists.specs.Bits.{number_of}
 use Rattle.cdg_instructions.specs.Drawing.{tile_from, tile_after}
 use Rattle.tile_author.specs.Plan.{is_combination, basis_from, differences, basis, weight, selection, member_bits, lines_of, planned, delta, are_equal, plan, steps}
 use Rattle.cdg_instructions.specs.declared.instr.Instr.TheVariants.{SetTile, XorTile}
@@ -19,9 +20,9 @@ unfolding zeros of_three of_five is_combination basis_from differences basis wei
 step_rows = refl
 
 plan_row : plan 1 1 zeros of_three ≡ SetTile 1 2 1 1 (16 ∷ replicate 11 0) ∷ XorTile 0 5 1 1 (15 ∷ replicate 11 63) ∷ []
-unfolding zeros of_three is_combination basis_from differences basis weight selection member_bits lines_of planned delta are_equal plan
+unfolding zeros of_three is_combination basis_from differences basis weight selection member_bits lines_of number_of planned delta are_equal plan
 plan_row = refl
 
 plan_works : tile_after zeros (plan 1 1 zeros of_three) ≡ of_three
-unfolding zeros of_three is_combination basis_from differences basis weight selection member_bits lines_of planned delta are_equal plan tile_from
+unfolding zeros of_three is_combination basis_from differences basis weight selection member_bits lines_of number_of planned delta are_equal plan tile_from
 plan_works = refl

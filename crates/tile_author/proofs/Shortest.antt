@@ -15,7 +15,8 @@ use Rattle.cdg_instructions.specs.declared.instr.Instr.{Instr}
 use Rattle.cdg_instructions.specs.declared.instr.Instr.TheVariants.{SetTile, XorTile}
 use Rattle.tile_author.specs.Plan.{basis, basis_from, differences, selection, member_bits, lines_of, planned, weight, delta, are_equal, plan, steps}
 use Rattle.tile_author.proofs.BasisLaws.{spans_tells}
-use Rattle.tile_author.proofs.Lines.{number_of-lt, length-parts, parts_at}
+use Rattle.bit_lists.proofs.BitsLemmas.{number_of-lt}
+use Rattle.tile_author.proofs.Lines.{length-parts, parts_at}
 use Rattle.tile_author.proofs.Needed.{length-delta, delta_at, equal_tells, steps_needed}
 use Rattle.tile_author.proofs.Works.{drawn_new, combined_new}
 
