@@ -1,0 +1,4 @@
+pub mod Appended
+pub mod Bytes
+pub mod Spelled
+pub mod Fields
