@@ -38,7 +38,7 @@ basis_from-small ms (d ∷ ds) old new =
       | inr fails ↦ rw fails.0 (basis_from-small (ms ++ d ∷ []) ds (All-push (λ n. n < 16) ms d old (All-head (λ n. n < 16) d ds new)) rest)
     ]
 
-differences-small : (w : List ℕ) → All (λ n. n < 16) w → All (λ n. n < 16) (differences w)
+pub differences-small : (w : List ℕ) → All (λ n. n < 16) w → All (λ n. n < 16) (differences w)
 unfolding differences
 differences-small w h =
     All-map (λ n. n < 16) (bit_xor (slice_index w 0)) w

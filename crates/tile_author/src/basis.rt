@@ -45,6 +45,9 @@ impl Basis {
         let first = pixels[0];
         let mut basis = Basis::new();
         for pixel in pixels {
+            if basis.members.is_full() {
+                return basis;
+            }
             basis.offer(first ^ *pixel);
         }
         basis
