@@ -1,0 +1,30 @@
+-- What a reader keeps: at place n of 256 the kept pack with the number n.
+use Rattle.std.specs.Prelude.{ℕ, not, ◌&&◌, List, map, find, replicate, set, slice_index_or, Option, Some, None, is_some, ◌==◌, if◌then◌else◌}
+use Rattle.bit_lists.specs.Counting.{below}
+use Rattle.cdtext_packs.specs.Packs.{pack_number, check_matches, is_first_block, is_good}
+use Rattle.cdtext_packs.specs.declared.kinds.Offer.{Offer}
+use Rattle.cdtext_packs.specs.declared.kinds.Offer.TheVariants.{Kept, Again, BadCrc, OtherBlock}
+
+unfoldable pub nothing_kept : List (Option (List ℕ))
+nothing_kept = replicate 256 None
+
+abbrev pub with_number : List (Option (List ℕ)) → ℕ → Option (List ℕ)
+with_number kept n = slice_index_or kept n None
+
+-- what becomes of a pack that is offered where these are kept
+abbrev pub offer_of : List (Option (List ℕ)) → List ℕ → Offer
+offer_of kept pack =
+    if not (check_matches pack) then BadCrc
+    else (if not (is_first_block pack) then OtherBlock
+    else (if is_some (with_number kept (pack_number pack)) then Again
+    else Kept))
+
+abbrev pub kept_by : Offer → List (Option (List ℕ)) → List ℕ → List (Option (List ℕ))
+kept_by Kept kept pack = set kept (pack_number pack) (Some pack)
+kept_by Again kept pack = kept
+kept_by BadCrc kept pack = kept
+kept_by OtherBlock kept pack = kept
+
+-- what is kept of a list of offered packs: for each number the first good pack with it
+abbrev pub kept_among : List (List ℕ) → List (Option (List ℕ))
+kept_among packs = map (λ n. find (λ pack. is_good pack && pack_number pack == n) packs) (below 256)

@@ -1,0 +1,41 @@
+// A pack of eighteen bytes.
+ghost use Rattle.std.specs.Prelude.{◌≡◌, ◌<◌, List, ℕ, length};
+ghost use Rattle.cdtext_packs.specs.Packs.{sealed};
+
+use disc_time::crc16;
+use std::marker::Model;
+
+/// A pack: its type, track, number and place, twelve bytes of text, and the check of these sixteen.
+#[derive(Clone, Copy, PartialEq, Eq)]
+pub struct TextPack {
+    bytes: [u8; 18],
+}
+
+impl Model for TextPack {
+    ghost Value = { List ℕ };
+
+    ghost view = { λ p. p.bytes };
+
+    ghost inverse = { λ xs. record { bytes = xs } };
+}
+
+impl TextPack {
+    /// The eighteen bytes.
+    pub fn bytes(&self) -> [u8; 18]
+        ensures { result ≡ self.now }
+    {
+        self.bytes
+    }
+
+    /// The pack of these bytes and their check.
+    pub(crate) fn sealed(content: [u8; 16]) -> TextPack
+        ensures { result ≡ sealed content }
+    {
+        let check = crc16(&content);
+        let mut bytes = [0; 18];
+        bytes[..16].copy_from_slice(&content);
+        bytes[16] = (check / 256) as u8;
+        bytes[17] = (check % 256) as u8;
+        TextPack { bytes }
+    }
+}
