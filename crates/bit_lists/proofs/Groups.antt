@@ -1,0 +1,51 @@
+-- Numbers from groups of bits.
+use Rattle.std.proofs.Common.{◌≡◌, ℕ, suc, ◌*◌, ◌/◌, ◌^◌, ◌<◌, List, [], ◌∷◌, ◌++◌, length, take, drop, map, flat_map, refl, sym, ap, ap₂, ◌∙◌, arith, length-append}
+use Rattle.std.specs.Prelude.{All}
+use Rattle.std.proofs.Math.Nat.{mod-eq_of_lt}
+use Rattle.std.proofs.Math.Seq.{take-append_seam, drop-append_seam}
+use Rattle.bit_lists.specs.Counting.{parts}
+use Rattle.bit_lists.specs.Bits.{bits_of, number_of, bits_of_bytes, numbers_of}
+use Rattle.bit_lists.proofs.BitsLemmas.{length-bits_of, number_of-bits_of}
+
+length-groups : (width : ℕ) (xs : List ℕ) → length (flat_map (bits_of width) xs) ≡ width * length xs
+length-groups width [] = omega arith
+length-groups width (x ∷ xs) =
+    let rest = length-groups width xs in
+    length-append (bits_of width x) (flat_map (bits_of width) xs) ∙ omega (arith, length-bits_of width x)
+
+-- the parts of the bits of numbers are the bits of each
+parts-groups : (width : ℕ) (xs : List ℕ) → parts (length xs) width (flat_map (bits_of width) xs) ≡ map (bits_of width) xs
+parts-groups width [] = refl
+parts-groups width (x ∷ xs) =
+    let rest = flat_map (bits_of width) xs in
+    let size = length-bits_of width x in
+    let front : take width (bits_of width x ++ rest) ≡ bits_of width x = ap (λ k. take k (bits_of width x ++ rest)) (sym size) ∙ take-append_seam (bits_of width x) rest in
+    let back : drop width (bits_of width x ++ rest) ≡ rest = ap (λ k. drop k (bits_of width x ++ rest)) (sym size) ∙ drop-append_seam (bits_of width x) rest in
+    ap₂ (λ p ps. p ∷ ps) front (ap (parts (length xs) width) back ∙ parts-groups width xs)
+
+numbers-groups : (width : ℕ) (xs : List ℕ) → All (λ x. x < 2 ^ width) xs → map number_of (map (bits_of width) xs) ≡ xs
+numbers-groups width [] small = refl
+numbers-groups width (x ∷ xs) small =
+    let lt : x < 2 ^ width = small 0 0 (omega arith) in
+    let same : number_of (bits_of width x) ≡ x = number_of-bits_of width x ∙ mod-eq_of_lt lt in
+    ap₂ (λ y ys. y ∷ ys) same (numbers-groups width xs (λ k d k_lt. small (suc k) d (omega arith)))
+
+-- numbers come back from their bits
+numbers_of-groups : (width : ℕ) (xs : List ℕ) → ((n : ℕ) → width * n / width ≡ n) → All (λ x. x < 2 ^ width) xs
+    → numbers_of width (flat_map (bits_of width) xs) ≡ xs
+unfolding numbers_of
+numbers_of-groups width xs divides small =
+    let bits = flat_map (bits_of width) xs in
+    let count : length bits / width ≡ length xs = ap (λ n. n / width) (length-groups width xs) ∙ divides (length xs) in
+    ap (map number_of) (ap (λ n. parts n width bits) count ∙ parts-groups width xs) ∙ numbers-groups width xs small
+
+pub bytes_from_bits : (bytes : List ℕ) → All (λ b. b < 256) bytes → numbers_of 8 (bits_of_bytes bytes) ≡ bytes
+unfolding bits_of_bytes
+bytes_from_bits bytes small = numbers_of-groups 8 bytes (λ n. omega arith) small
+
+pub symbols_from_bits : (symbols : List ℕ) → All (λ s. s < 64) symbols → numbers_of 6 (flat_map (bits_of 6) symbols) ≡ symbols
+symbols_from_bits symbols small = numbers_of-groups 6 symbols (λ n. omega arith) small
+
+-- bytes with the same bits are equal
+pub same_bytes : (xs ys : List ℕ) → All (λ b. b < 256) xs → All (λ b. b < 256) ys → bits_of_bytes xs ≡ bits_of_bytes ys → xs ≡ ys
+same_bytes xs ys xs_lt ys_lt same = sym (bytes_from_bits xs xs_lt) ∙ ap (numbers_of 8) same ∙ bytes_from_bits ys ys_lt
