@@ -19,7 +19,9 @@ use Rattle.subcode_player.specs.declared.sectors.SectorBlocks.{SectorBlocks}
 use Rattle.subcode_player.proofs.Slots.{length-all_slots}
 use Rattle.subcode_player.proofs.FormWords.{words_from, found_in}
 use Rattle.subcode_player.proofs.StageRuns.{all_items, words_run, correction_run, correction_counts, bad_counts}
-use Rattle.subcode_player.proofs.Conversion.{Plays}
+use Rattle.subcode_player.specs.Convert.{IsConverted}
+use Rattle.subcode_player.proofs.Playing.{Plays}
+use Rattle.subcode_player.proofs.Conversion.{converts_by}
 
 abbrev pub Blocks : Type 0
 Blocks = Then BlockWords Correction
@@ -63,11 +65,11 @@ plain_blocks Raw size (u ∷ units) = ap (λ us. u ∷ us) (plain_blocks Raw siz
 plain_blocks Sector size (u ∷ units) = absurd (omega (arith, size))
 plain_blocks Cooked size (u ∷ units) = ap (λ us. u ∷ us) (plain_blocks Cooked size units)
 
-pub plays_blocks : (form : Form) (lead_in : ℕ) (s : Blocks) → unit_size form ≡ 96 → s.first ≡ begun form lead_in → s.second.bad ≡ 0 → Plays form lead_in blocks_next blocks_give s (λ (t : Blocks). t.second.bad)
-plays_blocks form lead_in s size start none = record {
-  text = λ units. block_text form lead_in s units start ∙ ap (λ us. cdg_bytes (found_in form (drop lead_in us))) (sym (plain_blocks form size units));
-  bad = λ units few. block_bad form lead_in s units start none few ∙ ap (λ us. bad_count (found_in form (drop lead_in us))) (sym (plain_blocks form size units));
-}
+pub plays_blocks : (form : Form) (lead_in : ℕ) (s : Blocks) → unit_size form ≡ 96 → s.first ≡ begun form lead_in → s.second.bad ≡ 0 → Plays (IsConverted form lead_in) form blocks_next blocks_give s (λ (t : Blocks). t.second.bad)
+plays_blocks form lead_in s size start none =
+    converts_by form lead_in blocks_next blocks_give s (λ (t : Blocks). t.second.bad)
+      (λ units. block_text form lead_in s units start ∙ ap (λ us. cdg_bytes (found_in form (drop lead_in us))) (sym (plain_blocks form size units)))
+      (λ units few. block_bad form lead_in s units start none few ∙ ap (λ us. bad_count (found_in form (drop lead_in us))) (sym (plain_blocks form size units)))
 
 -- ---- bytes that are sectors
 
@@ -90,10 +92,10 @@ cut_all : (s : SectorBlocks) (units : List (List ℕ)) → run_gives cut_next cu
 cut_all s [] = refl
 cut_all s (u ∷ units) = ap (λ us. drop 2352 u ∷ us) (cut_all s units)
 
-pub plays_sectors : (lead_in : ℕ) (s : Sectors) → s.second.first ≡ begun Sector lead_in → s.second.second.bad ≡ 0 → Plays Sector lead_in sectors_next sectors_give s (λ (t : Sectors). t.second.second.bad)
-plays_sectors lead_in s start none = record {
-  text = λ units. ap concat (joined_gives cut_next cut_give blocks_next blocks_give s units) ∙ ap (λ us. concat (run_gives blocks_next blocks_give s.second us)) (cut_all s.first units)
-      ∙ block_text Sector lead_in s.second (map (block_of Sector) units) start;
-  bad = λ units few. ap (λ (t : Blocks). t.second.bad) (joined_second cut_next cut_give blocks_next s units) ∙ ap (λ us. (run_state blocks_next s.second us).second.bad) (cut_all s.first units)
-      ∙ block_bad Sector lead_in s.second (map (block_of Sector) units) start none (omega (arith, few, length-map units (block_of Sector)));
-}
+pub plays_sectors : (lead_in : ℕ) (s : Sectors) → s.second.first ≡ begun Sector lead_in → s.second.second.bad ≡ 0 → Plays (IsConverted Sector lead_in) Sector sectors_next sectors_give s (λ (t : Sectors). t.second.second.bad)
+plays_sectors lead_in s start none =
+    converts_by Sector lead_in sectors_next sectors_give s (λ (t : Sectors). t.second.second.bad)
+      (λ units. ap concat (joined_gives cut_next cut_give blocks_next blocks_give s units) ∙ ap (λ us. concat (run_gives blocks_next blocks_give s.second us)) (cut_all s.first units)
+      ∙ block_text Sector lead_in s.second (map (block_of Sector) units) start)
+      (λ units few. ap (λ (t : Blocks). t.second.bad) (joined_second cut_next cut_give blocks_next s units) ∙ ap (λ us. (run_state blocks_next s.second us).second.bad) (cut_all s.first units)
+      ∙ block_bad Sector lead_in s.second (map (block_of Sector) units) start none (omega (arith, few, length-map units (block_of Sector))))

@@ -1,6 +1,7 @@
 //! A player of subcode streams: it reads blocks, gathers and corrects packs, and writes them.
 #![tactic(auto)]
 
+mod converting;
 mod correction;
 mod player;
 mod sectors;

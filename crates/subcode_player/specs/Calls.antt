@@ -1,0 +1,50 @@
+-- What a call of a player takes, writes and answers.
+--
+-- `writes bytes text bad` says of some bytes, whole units and maybe a rest of a unit, which text is written for the units, and how many words or frames are bad.
+use Rattle.std.specs.Prelude.{◌≡◌, ◌≢◌, ℕ, ◌-◌, ◌*◌, ◌/◌, ◌%◌, ◌<◌, ◌≤◌, ⊤, List, length, Option, Result, Ok, Err}
+use Rattle.cdg_io.specs.Streams.{Streams, WritesAtEnd}
+use Rattle.cdg_io.specs.declared.pumping.PumpStop.{PumpStop}
+use Rattle.cdg_io.specs.declared.pumping.PumpStop.TheVariants as pump_stop
+use Rattle.raw_subcode.specs.Channels.{unit_size}
+use Rattle.raw_subcode.specs.declared.form.Form.{Form}
+use Rattle.subcode_player.specs.declared.player.Played.{Played}
+use Rattle.subcode_player.specs.declared.player.PlayStop.{PlayStop}
+use Rattle.subcode_player.specs.declared.player.PlayStop.TheVariants.{ReadFault, WriteFault, Torn, TooLong}
+
+-- the most units that are read
+abbrev pub most_units : ℕ
+most_units = 1000000
+
+-- the answer to some bytes, and the text that is written for them
+pub record IsPlayed (writes : List ℕ → List ℕ → ℕ → Type 0) (form : Form) (lead_in : ℕ) (bytes : List ℕ) (played : Played) (text : List ℕ) : Type 0 where
+  pub blocks : played.blocks ≡ length bytes / unit_size form - lead_in
+  pub written : writes bytes text played.bad
+
+-- a call that writes while it reads
+abbrev pub PlaysInTurn : (List ℕ → List ℕ → ℕ → Type 0) → Form → ℕ → Option (List ℕ) → Option (List ℕ) → Option (List ℕ) → Option (List ℕ) → Result Played PlayStop → List ℕ → Type 0
+PlaysInTurn writes form lead_in left left' held held' result taken = Streams (unit_size form) most_units Torn WriteFault (IsPlayed writes form lead_in) left left' held held' result taken
+
+-- it comes before the end of the input
+abbrev pub IsEarly : PlayStop → Type 0
+IsEarly ReadFault = ⊤
+IsEarly TooLong = ⊤
+IsEarly stop = ⊥
+
+-- a call that writes nothing before it read all
+abbrev pub PlaysAtEnd : (List ℕ → List ℕ → ℕ → Type 0) → Form → ℕ → Option (List ℕ) → Option (List ℕ) → Option (List ℕ) → Option (List ℕ) → Result Played PlayStop → List ℕ → Type 0
+PlaysAtEnd writes form lead_in left left' held held' result taken = WritesAtEnd (unit_size form) most_units IsEarly WriteFault (IsPlayed writes form lead_in) left left' held held' result taken
+
+-- the stop of a pump as that of a player
+abbrev pub play_stop : PumpStop → PlayStop
+play_stop pump_stop.ReadFault = ReadFault
+play_stop pump_stop.WriteFault = WriteFault
+play_stop (pump_stop.Torn unit) = Torn unit
+play_stop pump_stop.TooLong = TooLong
+
+-- the answer to an input of so many bytes that is read and written without a fault
+abbrev pub IsAnsweredBy : Result Played PlayStop → ℕ → ℕ → Type 0
+IsAnsweredBy (Ok played) size len = (len ≤ most_units * size) × (len % size ≡ 0)
+IsAnsweredBy (Err (Torn block)) size len = (len ≤ most_units * size) × (len % size ≢ 0) × (block ≡ len / size)
+IsAnsweredBy (Err TooLong) size len = most_units * size < len
+IsAnsweredBy (Err ReadFault) size len = ⊤
+IsAnsweredBy (Err WriteFault) size len = ⊤
