@@ -1,6 +1,6 @@
 -- What stands in the memory and on the screen after a list of instructions.
 use Rattle.std.specs.Prelude.{◌≡◌, ℕ, ◌+◌, ◌-◌, ◌*◌, ◌/◌, ◌%◌, ◌<◌, Bool, List, [], ◌∷◌, reverse, slice_index, slice_index_or, ◌==◌, nat_le, nat_lt, ◌&&◌, if◌then◌else◌, bit_xor}
-use Rattle.bit_lists.specs.Bits.{has_bit}
+use Rattle.cdg_instructions.specs.Drawing.{tile_colour}
 use Rattle.cdg_instructions.specs.declared.instr.Instr.{Instr}
 use Rattle.cdg_instructions.specs.declared.instr.Instr.TheVariants.{MemoryPreset, BorderPreset, SetTile, XorTile, ScrollPreset, ScrollCopy, Transparency, ColoursLow, ColoursHigh}
 
@@ -49,10 +49,6 @@ standing_of d = record {
 -- whether the tile of a row and column is on the memory and holds the pixel
 abbrev pub covers : ℕ → ℕ → ℕ → ℕ → Bool
 covers row column x y = nat_le row 17 && nat_le column 49 && x / 6 == column && y / 12 == row
-
--- colour 0 or 1 of pixel i of line j of a tile, by the bit of that pixel, the leftmost at bit 5
-abbrev pub tile_colour : ℕ → ℕ → List ℕ → ℕ → ℕ → ℕ
-tile_colour colour0 colour1 lines i j = if has_bit (5 - i) (slice_index lines j) then colour1 else colour0
 
 -- Where a pixel comes from in a scroll, plus the size in that direction, so that it is no negative number:
 -- a move of 1 goes right or down, one of 2 left or up, by one tile.
