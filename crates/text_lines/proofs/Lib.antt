@@ -1,0 +1,4 @@
+pub mod Places
+pub mod LineSteps
+pub mod WordSteps
+pub mod NumberSteps

@@ -1,0 +1,10 @@
+//! Texts that are read line by line: lines, blanks, words, numbers and times, all without a copy.
+#![tactic(auto)]
+
+mod lines;
+mod numbers;
+mod words;
+
+pub use lines::{next_line, without_mark};
+pub use numbers::{number, time, two_digits};
+pub use words::{is_blank, next_word, split_command, trim, trim_start};
