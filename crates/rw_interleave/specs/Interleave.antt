@@ -1,6 +1,7 @@
 -- Where the symbols of the packs stand among the program symbols.
-use Rattle.std.specs.Prelude.{ℕ, ◌+◌, ◌-◌, ◌*◌, ◌%◌, List, map, slice_index, ◌==◌, if◌then◌else◌}
+use Rattle.std.specs.Prelude.{◌≡◌, ◌≢◌, ℕ, ◌+◌, ◌-◌, ◌*◌, ◌%◌, ◌<◌, List, [], length, map, All, slice_index, slice_index_or, ◌==◌, if◌then◌else◌}
 use Rattle.bit_lists.specs.Counting.{below}
+use Rattle.rw_code.specs.Codeword.{IsCodeword}
 
 -- a and b in each other's place
 abbrev pub exchanged : ℕ → ℕ → ℕ → ℕ
@@ -25,3 +26,11 @@ whole_of_slots slots = slots - 7
 -- how many packs of so many blocks are whole: each block has four slots
 abbrev pub whole_packs : ℕ → ℕ
 whole_packs blocks = 4 * blocks - 7
+
+-- the program symbols of so many blocks hold exactly these packs, and zeros at the other places
+pub record Carries (blocks : ℕ) (symbols : List ℕ) (packs : List (List ℕ)) : Type 0 where
+  pub size : length symbols ≡ 96 * blocks
+  pub count : length packs ≡ whole_packs blocks
+  pub codewords : All IsCodeword packs
+  pub words : (n : ℕ) → n < whole_packs blocks → word_of symbols n ≡ slice_index_or packs n []
+  pub others : (p : ℕ) → p < 96 * blocks → ((n i : ℕ) → n < whole_packs blocks → i < 24 → place n i ≢ p) → slice_index symbols p ≡ 0

@@ -1,6 +1,6 @@
 -- The words of a stream, what is recovered from them, and which damage can be recovered.
 use Rattle.std.specs.List.{list_any}
-use Rattle.std.specs.Prelude.{⊤, Bool, false, nat_le, nat_lt, ◌&&◌, ◌≡◌, ℕ, ◌+◌, ◌*◌, ◌/◌, ◌<◌, ◌≤◌, List, [], ◌∷◌, length, map, slice_index, slice_index_or, count_by, replicate, Option, Some, None, is_none}
+use Rattle.std.specs.Prelude.{⊤, Bool, false, nat_le, nat_lt, ◌&&◌, ◌≡◌, ℕ, ◌+◌, ◌-◌, ◌*◌, ◌/◌, ◌<◌, ◌≤◌, List, [], ◌∷◌, ◌++◌, length, map, slice_index, slice_index_or, count_by, replicate, Option, None, is_none}
 use Rattle.bit_lists.specs.Counting.{below}
 use Rattle.rw_code.specs.Codeword.{IsNear}
 use Rattle.rw_code.specs.Finding.{IsFinding}
@@ -32,6 +32,10 @@ pub record IsRecovered (form : Form) (symbols : List ℕ) (found : List (Option 
 -- the words for which nothing is found
 abbrev pub bad_count : List (Option (List ℕ)) → ℕ
 bad_count found = count_by is_none found
+
+-- packs as words of a form: in a cooked stream of so many blocks zeros follow them
+abbrev pub all_packs : Form → ℕ → List (List ℕ) → List (List ℕ)
+all_packs form blocks packs = packs ++ replicate (word_count form blocks - length packs) (replicate 24 0)
 
 -- the program symbols of another stream hold each word of these symbols with at most two wrong ones, and further words are nearly zero
 pub record IsDamaged (symbols : List ℕ) (form : Form) (others : List ℕ) : Type 0 where
