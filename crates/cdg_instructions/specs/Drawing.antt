@@ -1,5 +1,5 @@
 -- Lists of instructions that turn one tile into another.
-use Rattle.std.specs.Prelude.{◌≡◌, ℕ, ◌-◌, ◌/◌, ◌%◌, ◌<◌, ◌≤◌, List, [], ◌∷◌, length, reverse, map, slice_index, bit_xor, if◌then◌else◌, All}
+use Rattle.std.specs.Prelude.{◌≡◌, ℕ, ◌-◌, ◌/◌, ◌%◌, ◌≤◌, List, [], ◌∷◌, length, reverse, map, slice_index, bit_xor, if◌then◌else◌, All}
 use Rattle.bit_lists.specs.Counting.{below}
 use Rattle.bit_lists.specs.Bits.{has_bit}
 use Rattle.cdg_instructions.specs.Instruction.{InTileRange}

@@ -2,6 +2,7 @@
 ghost use Rattle.std.specs.Prelude.{◌≡◌, ◌<◌, ◌≤◌, ℕ, List, drop, length, All};
 ghost use Rattle.rw_code.specs.Codeword.{IsWord};
 ghost use Rattle.cdg_instructions.specs.Instruction.{Means, InRange, IsScroll, IsTile, InScrollRange, InTileRange, content_of, move, table_colour};
+ghost use Rattle.cdg_instructions.specs.Meaning.{meaning};
 ghost use Rattle.bit_lists.specs.Counting.{below};
 ghost use Rattle.cdg_instructions.specs.declared.instr.Instr.{Instr};
 ghost use Rattle.std.specs.Prelude.{map};
@@ -135,4 +136,10 @@ fn colour(symbols: &[u8; 24], k: usize) -> u16
 /// A pack means one instruction.
 pub fn only_one_meaning()
     ensures { (word : List ℕ) (one other : Instr) → Means word one → Means word other → one ≡ other }
+{}
+
+/// What a pack means is a function of it.
+pub fn each_pack_has_a_meaning()
+    ensures is { (word : List ℕ) → Means word (meaning word) }
+    ensures only { (word : List ℕ) (instr : Instr) → Means word instr → instr ≡ meaning word }
 {}
