@@ -1,0 +1,34 @@
+-- The six sums of a word as the code keeps them.
+use Rattle.std.specs.Prelude.{◌≡◌, ℕ, ◌+◌, ◌-◌, ◌*◌, ◌/◌, ◌%◌, ◌^◌, ◌<◌, ◌≤◌, List, take}
+use Rattle.gf64.specs.Field.{product, alpha_power}
+use Rattle.rw_code.specs.declared.syndromes.Sums.{Sums}
+use Rattle.rw_code.specs.declared.correction.SumsWithout.{SumsWithout}
+use Rattle.rw_code.specs.Codeword.{weighted_sum, sum_without}
+
+-- lane j of a number: six bits of it
+unfoldable pub lane : ℕ → ℕ → ℕ
+lane j lanes = lanes / 2 ^ (6 * j) % 2 ^ 6
+
+-- Lanes 0 to 3 are the sums of the word over all symbols, lanes 4 and 5 those over the first four.
+pub record AreSyndromes (word : List ℕ) (lanes : ℕ) : Type 0 where
+  pub whole : (j : ℕ) → j < 4 → lane j lanes ≡ weighted_sum j word
+  pub first_four : (j : ℕ) → j < 2 → lane (4 + j) lanes ≡ weighted_sum j (take 4 word)
+  pub bound : lanes < 2 ^ 36
+
+-- what a symbol at a position adds to these lanes
+pub record IsEntry (position symbol lanes : ℕ) : Type 0 where
+  pub whole : (j : ℕ) → j < 4 → lane j lanes ≡ product (alpha_power (j * (23 - position))) symbol
+  pub first_four : (j : ℕ) → j < 2 → position < 4 → lane (4 + j) lanes ≡ product (alpha_power (j * (3 - position))) symbol
+  pub later : (j : ℕ) → j < 2 → 4 ≤ position → lane (4 + j) lanes ≡ 0
+  pub bound : lanes < 2 ^ 36
+
+pub record AreSums (word : List ℕ) (sums : Sums) : Type 0 where
+  pub zeroth : sums.zeroth ≡ weighted_sum 0 word
+  pub first : sums.first ≡ weighted_sum 1 word
+  pub second : sums.second ≡ weighted_sum 2 word
+  pub third : sums.third ≡ weighted_sum 3 word
+
+pub record AreSumsWithout (word : List ℕ) (i : ℕ) (sums : SumsWithout) : Type 0 where
+  pub zeroth : sums.zeroth ≡ sum_without word i 0
+  pub first : sums.first ≡ sum_without word i 1
+  pub second : sums.second ≡ sum_without word i 2

@@ -1,0 +1,79 @@
+// The six sums of a word that are 0 for a codeword.
+ghost use Rattle.std.specs.Prelude.{◌≡◌, ◌<◌, ◌↔◌, IsTrue};
+ghost use Rattle.rw_code.specs.Codeword.{IsCodeword};
+ghost use Rattle.rw_code.specs.Syndromes.{AreSums, AreSyndromes, IsEntry, lane};
+
+use crate::syndrome_table::SYNDROMES;
+use crate::{SYMBOLS, Word};
+use gf64::Sym;
+
+/// The six sums of a word in one number, six bits each: the four over all symbols, and the two over the first four.
+#[derive(Clone, Copy)]
+pub(crate) struct Syndromes {
+    lanes: u64,
+}
+
+/// The sums of a word over all symbols, at 0 to 3.
+#[derive(Clone, Copy)]
+pub(crate) struct Sums {
+    pub(crate) zeroth: Sym,
+    pub(crate) first: Sym,
+    pub(crate) second: Sym,
+    pub(crate) third: Sym,
+}
+
+impl Syndromes {
+    /// Those of a word, in one pass.
+    #[inline]
+    pub(crate) fn of(word: &Word) -> Syndromes
+        ensures { AreSyndromes word.now result.lanes }
+    {
+        let bytes = word.bytes();
+        let mut lanes = 0;
+        for i in 0..SYMBOLS {
+            lanes ^= entry(i, bytes[i] as usize);
+        }
+        Syndromes { lanes }
+    }
+
+    /// Whether all six are 0.
+    #[inline]
+    pub(crate) fn are_zero(self, word: &Word) -> bool
+        requires { AreSyndromes word.now self.lanes }
+        ensures { IsTrue result ↔ IsCodeword word.now }
+    {
+        let _ = word.bytes();
+        self.lanes == 0
+    }
+
+    /// The four over all symbols, each by itself.
+    pub(crate) fn sums(self, word: &Word) -> Sums
+        requires { AreSyndromes word.now self.lanes }
+        ensures { AreSums word.now result }
+    {
+        Sums {
+            zeroth: self.lane(0),
+            first: self.lane(1),
+            second: self.lane(2),
+            third: self.lane(3),
+        }
+    }
+
+    /// One of the six.
+    fn lane(self, j: u32) -> Sym
+        requires { j < 6 }
+        ensures { result ≡ lane j self.lanes }
+    {
+        Sym::new(((self.lanes >> (6 * j)) % 64) as u8).unwrap()
+    }
+}
+
+/// The part of a symbol at a position in the six sums.
+#[inline]
+fn entry(position: usize, symbol: usize) -> u64
+    requires position { position < 24 }
+    requires symbol { symbol < 64 }
+    ensures { IsEntry position symbol result }
+{
+    SYNDROMES[position][symbol]
+}

@@ -1,0 +1,101 @@
+// Words of 24 symbols.
+ghost use Rattle.std.specs.Prelude.{◌≡◌, ◌<◌, ◌%◌, List, ℕ, map, slice_index, slice_set, replicate, bit_xor};
+ghost use Rattle.rw_code.specs.Codeword.{IsWord, differences};
+
+use gf64::Sym;
+use std::marker::Model;
+
+/// How many symbols a word has.
+pub const SYMBOLS: usize = 24;
+
+/// A word of 24 symbols.
+#[derive(Clone, Copy)]
+pub struct Word {
+    bytes: [u8; SYMBOLS],
+}
+
+impl Model for Word {
+    ghost Value = { List ℕ };
+
+    ghost view = { λ w. w.bytes };
+
+    ghost invariant = { λ w. IsWord w.bytes };
+
+    ghost inverse = { λ symbols. record { bytes = symbols } };
+}
+
+impl Default for Word {
+    fn default() -> Word
+        ensures { result ≡ replicate 24 0 }
+    {
+        Word {
+            bytes: [0; SYMBOLS],
+        }
+    }
+}
+
+impl Word {
+    /// The word of the low six bits of the bytes.
+    pub fn new(bytes: &[u8; 24]) -> Word
+        ensures { result ≡ map (λ byte. byte % 64) bytes.now }
+    {
+        let mut low = [0; SYMBOLS];
+        for i in 0..SYMBOLS {
+            low[i] = bytes[i] % 64;
+        }
+        Word { bytes: low }
+    }
+
+    /// The symbol at a position.
+    #[inline]
+    pub fn get(&self, i: usize) -> Sym
+        requires { i < 24 }
+        ensures { result ≡ slice_index self.now i }
+    {
+        Sym::new(self.bytes[i]).unwrap()
+    }
+
+    /// The symbols, a byte each.
+    #[inline]
+    pub fn bytes(&self) -> [u8; 24]
+        ensures same { result ≡ self.now }
+        ensures word { IsWord result }
+    {
+        self.bytes
+    }
+
+    /// The word with another symbol at a position.
+    pub fn with(&self, i: usize, symbol: Sym) -> Word
+        requires { i < 24 }
+        ensures { result ≡ slice_set self.now i symbol }
+    {
+        let mut bytes = self.bytes;
+        bytes[i] = symbol.value();
+        Word { bytes }
+    }
+
+    /// The word with an error added to the symbol at a position.
+    pub(crate) fn plus(&self, i: usize, error: Sym) -> Word
+        requires { i < 24 }
+        ensures { result ≡ slice_set self.now i (bit_xor (slice_index self.now i) error) }
+    {
+        let mut bytes = self.bytes;
+        bytes[i] = self.get(i).add(error).value();
+        Word { bytes }
+    }
+
+    /// At how many positions the words differ.
+    pub(crate) fn differences(&self, other: &Word) -> u8
+        ensures { result ≡ differences self.now other.now }
+    {
+        let _ = &self.bytes;
+        let _ = &other.bytes;
+        let mut count = 0;
+        for i in 0..SYMBOLS {
+            if self.bytes[i] != other.bytes[i] {
+                count += 1;
+            }
+        }
+        count
+    }
+}
