@@ -1,2 +1,5 @@
 pub mod Packs
 pub mod Kept
+pub mod Texts
+pub mod Writing
+pub mod Map

@@ -1,4 +1,8 @@
 // What texts, offers and faults there are.
+ghost use Rattle.std.specs.Prelude.{◌≡◌};
+ghost use Rattle.cdtext_packs.specs.Writing.{type_of};
+
+use std::alloc::AllocError;
 
 /// The kinds of strings, in the order of their packs' types.
 #[derive(Clone, Copy, PartialEq, Eq, Debug)]
@@ -10,6 +14,34 @@ pub enum TextKind {
     Arranger,
     Message,
     Code,
+}
+
+/// All kinds, in this order.
+pub(crate) const KINDS: [TextKind; 7] = [
+    TextKind::Title,
+    TextKind::Performer,
+    TextKind::Songwriter,
+    TextKind::Composer,
+    TextKind::Arranger,
+    TextKind::Message,
+    TextKind::Code,
+];
+
+impl TextKind {
+    /// The type of its packs.
+    pub(crate) fn pack_type(self) -> u8
+        ensures { result ≡ type_of self }
+    {
+        match self {
+            TextKind::Title => 0x80,
+            TextKind::Performer => 0x81,
+            TextKind::Songwriter => 0x82,
+            TextKind::Composer => 0x83,
+            TextKind::Arranger => 0x84,
+            TextKind::Message => 0x85,
+            TextKind::Code => 0x8e,
+        }
+    }
 }
 
 /// What became of an offered pack.
@@ -35,4 +67,34 @@ pub enum TextFault {
     /// Byte `byte` of the kept pack `seq` contradicts the rest.
     Malformed { seq: u8, byte: u8 },
     NoMemory,
+}
+
+/// Why texts have no packs.
+#[derive(Clone, Copy, PartialEq, Eq, Debug)]
+pub enum PackStop {
+    /// They need more packs than 256.
+    TooMany { packs: u32 },
+    NoMemory,
+}
+
+impl From<AllocError> for PackStop {
+    ghost use Rattle.std.specs.Prelude.{◌≡◌};
+    ghost use Rattle.cdtext_packs.specs.declared.kinds.PackStop.TheVariants.{NoMemory};
+
+    ghost from_gives = { λ _ stop. stop ≡ NoMemory };
+
+    fn from(_: AllocError) -> PackStop {
+        PackStop::NoMemory
+    }
+}
+
+impl From<AllocError> for TextFault {
+    ghost use Rattle.std.specs.Prelude.{◌≡◌};
+    ghost use Rattle.cdtext_packs.specs.declared.kinds.TextFault.TheVariants.{NoMemory};
+
+    ghost from_gives = { λ _ fault. fault ≡ NoMemory };
+
+    fn from(_: AllocError) -> TextFault {
+        TextFault::NoMemory
+    }
 }

@@ -2,9 +2,14 @@
 #![tactic(auto)]
 
 mod kinds;
+mod map;
 mod pack;
 mod reader;
+mod strings;
+mod writer;
 
-pub use kinds::{Offer, TextFault, TextKind};
+pub use kinds::{Offer, PackStop, TextFault, TextKind};
+pub use map::TextMap;
 pub use pack::TextPack;
 pub use reader::TextReader;
+pub use writer::pack_all;

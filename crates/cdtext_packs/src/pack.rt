@@ -1,5 +1,5 @@
 // A pack of eighteen bytes.
-ghost use Rattle.std.specs.Prelude.{◌≡◌, ◌<◌, List, ℕ, length};
+ghost use Rattle.std.specs.Prelude.{◌≡◌, ◌∷◌, List, ℕ};
 ghost use Rattle.cdtext_packs.specs.Packs.{sealed};
 
 use disc_time::crc16;
@@ -28,12 +28,22 @@ impl TextPack {
     }
 
     /// The pack of these bytes and their check.
-    pub(crate) fn sealed(content: [u8; 16]) -> TextPack
-        ensures { result ≡ sealed content }
+    pub(crate) fn new(kind: u8, track: u8, number: u8, position: u8, text: &[u8; 12]) -> TextPack
+        ensures { result ≡ sealed (kind ∷ track ∷ number ∷ position ∷ text.now) }
     {
-        let check = crc16(&content);
+        let mut content = [
+            kind, track, number, position, 0, 0, 0, 0, 0, 0, 0, 0, 0, 0, 0, 0,
+        ];
+        content[4..].copy_from_slice(text);
+        TextPack::sealed(&content)
+    }
+
+    fn sealed(content: &[u8; 16]) -> TextPack
+        ensures { result ≡ sealed content.now }
+    {
+        let check = crc16(content);
         let mut bytes = [0; 18];
-        bytes[..16].copy_from_slice(&content);
+        bytes[..16].copy_from_slice(content);
         bytes[16] = (check / 256) as u8;
         bytes[17] = (check % 256) as u8;
         TextPack { bytes }

@@ -11,4 +11,4 @@ two_written content high low sixteen =
 
 pub returns : goal.returns
 unfolding sealed
-returns c = let e = two_written c.args.content in grind (arith, common_steps, two_written)
+returns c = grind (arith, common_steps, two_written)

@@ -1,0 +1,39 @@
+-- Strings in a row, a zero byte after each.
+use Rattle.std.proofs.Common.{◌≡◌, ℕ, zero, suc, ◌+◌, ◌<◌, ◌≤◌, List, [], ◌∷◌, ◌++◌, length, get_or, take, map, sym, ap, ◌∙◌, arith}
+use Rattle.std.proofs.lemmas.List.{length-append, get_or_append_left, get_or-append-add}
+use Rattle.std.proofs.lemmas.List.FromFn.{get_or-map-range_with_len, length-map-range_with_len}
+use Rattle.bit_lists.specs.Counting.{below}
+use Rattle.cdtext_packs.specs.Writing.{joined, holders}
+
+of_first : (first : ℕ) (s : List ℕ) (rest : List (ℕ × ℕ)) (offset : ℕ) → offset ≤ length s
+    → get_or (map (λ o. (first, o)) (below (length s + 1)) ++ rest) offset (0, 0) ≡ (first, offset)
+of_first first s rest offset within =
+    let f : ℕ → ℕ × ℕ = λ o. (first, o) in
+    let size = length-map-range_with_len f 0 (length s + 1) in
+    get_or_append_left (map f (below (length s + 1))) rest (0, 0) offset (omega arith)
+    ∙ get_or-map-range_with_len f 0 (length s + 1) offset offset (0, 0) (omega arith) (omega arith)
+
+of_later : (first : ℕ) (s : List ℕ) (rest : List (ℕ × ℕ)) (n : ℕ)
+    → get_or (map (λ o. (first, o)) (below (length s + 1)) ++ rest) (length s + 1 + n) (0, 0) ≡ get_or rest n (0, 0)
+of_later first s rest n =
+    let f : ℕ → ℕ × ℕ = λ o. (first, o) in
+    let size = length-map-range_with_len f 0 (length s + 1) in
+    ap (λ (k : ℕ). get_or (map f (below (length s + 1)) ++ rest) (k + n) (0, 0)) (sym size)
+    ∙ get_or-append-add (map f (below (length s + 1))) rest n (0, 0)
+
+-- the byte after so many bytes of string i
+pub holders-at : (first : ℕ) (xs : List (List ℕ)) (i offset : ℕ) → i < length xs → offset ≤ length (get_or xs i [])
+    → get_or (holders first xs) (length (joined (take i xs)) + offset) (0, 0) ≡ (first + i, offset)
+holders-at first [] i offset inside within = absurd (omega arith)
+holders-at first (s ∷ rest) zero offset inside within =
+    ap (λ (k : ℕ). get_or (holders first (s ∷ rest)) k (0, 0)) (omega arith)
+    ∙ of_first first s (holders (first + 1) rest) offset within
+    ∙ ap (λ (k : ℕ). (k, offset)) (omega arith)
+holders-at first (s ∷ rest) (suc i) offset inside within =
+    let before = length-append (s ++ 0 ∷ []) (joined (take i rest)) in
+    let one = length-append s (0 ∷ []) in
+    let place : length (joined (take (suc i) (s ∷ rest))) + offset ≡ length s + 1 + (length (joined (take i rest)) + offset) = omega arith in
+    ap (λ (k : ℕ). get_or (holders first (s ∷ rest)) k (0, 0)) place
+    ∙ of_later first s (holders (first + 1) rest) (length (joined (take i rest)) + offset)
+    ∙ holders-at (first + 1) rest i offset (omega arith) within
+    ∙ ap (λ (k : ℕ). (k, offset)) (omega arith)

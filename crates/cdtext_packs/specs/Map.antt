@@ -1,0 +1,19 @@
+-- The texts that a map holds.
+use Rattle.cdtext_packs.specs.Texts.{Texts, AreTexts}
+use Rattle.cdtext_packs.specs.declared.map.TextMap.TheInside.{Inside}
+
+abbrev pub texts_in : Inside → Texts
+texts_in m = record {
+  first = m.first;
+  last = m.last;
+  title = m.title;
+  performer = m.performer;
+  songwriter = m.songwriter;
+  composer = m.composer;
+  arranger = m.arranger;
+  message = m.message;
+  code = m.code;
+}
+
+abbrev pub HoldsTexts : Inside → Type 0
+HoldsTexts m = AreTexts (texts_in m)

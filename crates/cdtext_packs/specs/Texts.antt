@@ -1,0 +1,65 @@
+-- The texts of a disc: strings of seven kinds for the album and each track.
+use Rattle.std.specs.Prelude.{◌≡◌, ◌≢◌, ◌≤◌, ◌⊎◌, ℕ, ◌+◌, ◌-◌, Bool, List, [], ◌∷◌, length, slice_index_or, All, ◌==◌, nat_lt, if◌then◌else◌}
+use Rattle.std.specs.List.{list_all}
+use Rattle.cdtext_packs.specs.declared.kinds.TextKind.{TextKind}
+use Rattle.cdtext_packs.specs.declared.kinds.TextKind.TheVariants.{Title, Performer, Songwriter, Composer, Arranger, Message, Code}
+
+-- the numbers of the first and the last track, and for each kind the album's string and then each track's
+pub record Texts : Type 0 where
+  pub first : ℕ
+  pub last : ℕ
+  pub title : List (List ℕ)
+  pub performer : List (List ℕ)
+  pub songwriter : List (List ℕ)
+  pub composer : List (List ℕ)
+  pub arranger : List (List ℕ)
+  pub message : List (List ℕ)
+  pub code : List (List ℕ)
+
+abbrev pub no_texts : Texts
+no_texts = record { first = 0; last = 0; title = []; performer = []; songwriter = []; composer = []; arranger = []; message = []; code = [] }
+
+abbrev pub kinds : List TextKind
+kinds = Title ∷ Performer ∷ Songwriter ∷ Composer ∷ Arranger ∷ Message ∷ Code ∷ []
+
+abbrev pub strings_of : TextKind → Texts → List (List ℕ)
+strings_of Title texts = texts.title
+strings_of Performer texts = texts.performer
+strings_of Songwriter texts = texts.songwriter
+strings_of Composer texts = texts.composer
+strings_of Arranger texts = texts.arranger
+strings_of Message texts = texts.message
+strings_of Code texts = texts.code
+
+-- the string of a track, or of the album as track 0, and an empty one where there is none
+abbrev pub text_of : TextKind → ℕ → Texts → List ℕ
+text_of kind track texts =
+    if track == 0 then slice_index_or (strings_of kind texts) 0 []
+    else (if nat_lt track texts.first then []
+    else slice_index_or (strings_of kind texts) (track - texts.first + 1) [])
+
+abbrev pub is_empty : List ℕ → Bool
+is_empty s = length s == 0
+
+abbrev pub are_empty : List (List ℕ) → Bool
+are_empty strings = list_all is_empty strings
+
+-- whether every string is empty
+abbrev pub has_no_text : Texts → Bool
+has_no_text texts = list_all (λ kind. are_empty (strings_of kind texts)) kinds
+
+-- a string has no zero byte, and as many bytes as the largest sheet
+pub record IsString (s : List ℕ) : Type 0 where
+  pub size : length s ≤ 67108864
+  pub nonzero : All (λ byte. byte ≢ 0) s
+
+-- there are tracks, and a string of each kind for the album and each of them
+pub record HasTracks (texts : Texts) : Type 0 where
+  pub first : 1 ≤ texts.first
+  pub last : texts.first ≤ texts.last
+  pub limit : texts.last ≤ 99
+  pub count : (kind : TextKind) → length (strings_of kind texts) ≡ texts.last - texts.first + 2
+  pub strings : (kind : TextKind) → All IsString (strings_of kind texts)
+
+abbrev pub AreTexts : Texts → Type 0
+AreTexts texts = (texts ≡ no_texts) ⊎ HasTracks texts

@@ -1,0 +1,110 @@
+// The texts of a disc.
+ghost use Rattle.std.specs.Prelude.{◌≡◌};
+ghost use Rattle.cdtext_packs.specs.Texts.{no_texts, strings_of, text_of, has_no_text, AreTexts};
+
+use crate::kinds::TextKind;
+use crate::strings::Strings;
+use std::alloc::Global;
+use std::marker::Model;
+
+/// The strings of each kind for the album and each track, or none at all.
+#[derive(Drop)]
+pub struct TextMap {
+    first: u8,
+    last: u8,
+    title: Strings,
+    performer: Strings,
+    songwriter: Strings,
+    composer: Strings,
+    arranger: Strings,
+    message: Strings,
+    code: Strings,
+}
+
+impl Model for TextMap {
+    ghost use Rattle.cdtext_packs.specs.Texts.{Texts};
+
+    ghost Value = { Texts };
+
+    ghost use Rattle.cdtext_packs.specs.Map.{texts_in, HoldsTexts};
+
+    ghost view = { texts_in };
+
+    ghost invariant = { HoldsTexts };
+}
+
+impl TextMap {
+    /// No tracks and no strings.
+    pub(crate) fn empty(alloc: Global) -> TextMap
+        ensures { result ≡ no_texts }
+    {
+        TextMap {
+            first: 0,
+            last: 0,
+            title: Strings::new(alloc),
+            performer: Strings::new(alloc),
+            songwriter: Strings::new(alloc),
+            composer: Strings::new(alloc),
+            arranger: Strings::new(alloc),
+            message: Strings::new(alloc),
+            code: Strings::new(alloc),
+        }
+    }
+
+    /// The number of the first track, 0 in the empty map.
+    pub fn first(&self) -> u8
+        ensures number { result ≡ self.now.first }
+        ensures texts { AreTexts self.now }
+    {
+        self.first
+    }
+
+    /// The number of the last track, 0 in the empty map.
+    pub fn last(&self) -> u8
+        ensures number { result ≡ self.now.last }
+        ensures texts { AreTexts self.now }
+    {
+        self.last
+    }
+
+    /// The string of a track, or of the album as track 0, and an empty one where there is none.
+    pub fn text(&self, kind: TextKind, track: u8) -> &[u8]
+        ensures text { result.now ≡ text_of kind track self.now }
+    {
+        let strings = self.strings(kind);
+        if track == 0 {
+            strings.get(0)
+        } else if track < self.first {
+            &[]
+        } else {
+            strings.get(usize::from(track - self.first) + 1)
+        }
+    }
+
+    pub(crate) fn strings(&self, kind: TextKind) -> &Strings
+        ensures strings { result.now ≡ strings_of kind self.now }
+    {
+        match kind {
+            TextKind::Title => &self.title,
+            TextKind::Performer => &self.performer,
+            TextKind::Songwriter => &self.songwriter,
+            TextKind::Composer => &self.composer,
+            TextKind::Arranger => &self.arranger,
+            TextKind::Message => &self.message,
+            TextKind::Code => &self.code,
+        }
+    }
+
+    /// Whether every string is empty.
+    pub(crate) fn has_no_text(&self) -> bool
+        ensures { result ≡ has_no_text self.now }
+    {
+        self.title.are_empty()
+            && self.performer.are_empty()
+            && self.songwriter.are_empty()
+            && self.composer.are_empty()
+            && self.arranger.are_empty()
+            && self.message.are_empty()
+            && self.code.are_empty()
+    }
+}

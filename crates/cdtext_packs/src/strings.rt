@@ -1,0 +1,106 @@
+// The strings of one kind.
+ghost use Rattle.std.specs.Prelude.{◌≡◌, ◌<◌, ◌≤◌, ◌+◌, ◌*◌, ◌↔◌, ◌∷◌, ◌++◌, [], List, ℕ, length, IfOk, OnErr, MatchResult, IsTrue, slice_index_or, map, All};
+ghost use Rattle.cdtext_packs.specs.Texts.{are_empty, IsString};
+ghost use Rattle.cdtext_packs.specs.Writing.{joined, holders};
+
+use std::alloc::{AllocError, Global};
+use std::marker::Model;
+
+/// The album's string and each track's.
+#[derive(Drop)]
+pub struct Strings {
+    items: Vec<Vec<u8>>,
+}
+
+impl Model for Strings {
+    ghost Value = { List (List ℕ) };
+
+    ghost view = { λ s. map (λ v. v.items) s.items.items };
+}
+
+impl Strings {
+    pub fn new(alloc: Global) -> Strings
+        ensures { result ≡ [] }
+    {
+        Strings {
+            items: Vec::new(alloc),
+        }
+    }
+
+    pub fn push(&mut self, string: Vec<u8>) -> Result<(), AllocError>
+        ensures pushed { MatchResult result (λ _. self.new ≡ self.old ++ string.items ∷ []) (λ _. self.new ≡ self.old) }
+    {
+        self.items.push(string)?;
+        Ok(())
+    }
+
+    pub fn len(&self) -> usize
+        ensures { result ≡ length self.now }
+    {
+        self.items.len()
+    }
+
+    /// An empty string where there is none at this place.
+    pub fn get(&self, place: usize) -> &[u8]
+        ensures { result.now ≡ slice_index_or self.now place [] }
+    {
+        match self.items.get(place) {
+            Some(string) => string,
+            None => &[],
+        }
+    }
+
+    pub fn are_empty(&self) -> bool
+        ensures { result ≡ are_empty self.now }
+    {
+        for place in 0..self.len() {
+            if !self.get(place).is_empty() {
+                return false;
+            }
+        }
+        true
+    }
+
+    /// How many bytes the strings have with a zero byte after each.
+    pub fn joined_len(&self) -> usize
+        requires count { length self.now ≤ 100 }
+        requires strings { All IsString self.now }
+        ensures value { result ≡ length (joined self.now) }
+        ensures bound { result ≤ 67108865 * length self.now }
+    {
+        let mut len = 0;
+        for place in 0..self.len() {
+            len += self.get(place).len() + 1;
+        }
+        len
+    }
+
+    /// These bytes.
+    pub fn joined(&self, alloc: Global) -> Result<Vec<u8>, AllocError>
+        ensures { IfOk result (λ bytes. bytes.items ≡ joined self.now) }
+    {
+        let mut bytes = Vec::new(alloc);
+        for place in 0..self.len() {
+            bytes.extend_from_slice(self.get(place))?;
+            bytes.push(0)?;
+        }
+        Ok(bytes)
+    }
+
+    /// The place of the string that has byte `at` of them, and how many of its bytes stand before that.
+    pub fn holder(&self, at: usize) -> (usize, usize)
+        requires { at < length (joined self.now) }
+        ensures holder { slice_index_or (holders 0 self.now) at (0, 0) ≡ result }
+        ensures place { result.0 < length self.now }
+    {
+        let mut offset = at;
+        for place in 0..self.len() {
+            let len = self.get(place).len();
+            if offset <= len {
+                return (place, offset);
+            }
+            offset -= len + 1;
+        }
+        unreachable!()
+    }
+}
