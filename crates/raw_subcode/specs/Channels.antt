@@ -1,5 +1,5 @@
 -- Blocks of 96 bytes: eight channels of 96 bits, P to W, one bit of each in a byte.
-use Rattle.std.specs.Prelude.{◌≡◌, ℕ, ◌+◌, ◌-◌, ◌*◌, ◌%◌, ◌/◌, ◌<◌, Bool, List, [], ◌∷◌, length, map, flat_map, drop, slice_index}
+use Rattle.std.specs.Prelude.{◌≡◌, ℕ, ◌+◌, ◌-◌, ◌*◌, ◌%◌, ◌/◌, ◌<◌, Bool, List, length, map, flat_map, drop, slice_index}
 use Rattle.bit_lists.specs.Counting.{below, whole_parts}
 use Rattle.bit_lists.specs.Bits.{has_bit, bits_of, number_of}
 use Rattle.raw_subcode.specs.declared.form.Form.{Form}
@@ -47,17 +47,6 @@ blocks_of form bytes = map (block_of form) (whole_parts (unit_size form) bytes)
 -- the symbols of the program blocks, which follow the lead-in blocks
 abbrev pub program_symbols : Form → List ℕ → ℕ → List ℕ
 program_symbols form bytes lead_in = flat_map symbols_of (drop lead_in (blocks_of form bytes))
-
--- byte 8k + j of a block has the P bit, bit j of byte k of Q, and its symbol
-pub record IsBuilt (p : Bool) (q symbols block : List ℕ) : Type 0 where
-  pub size : length block ≡ 96
-  pub p_bit : (i : ℕ) → i < 96 → channel_bit 0 (slice_index block i) ≡ p
-  pub q_bit : (k j : ℕ) → k < 12 → j < 8 → channel_bit 1 (slice_index block (8 * k + j)) ≡ has_bit (7 - j) (slice_index q k)
-  pub symbol : (i : ℕ) → i < 96 → slice_index block i % 64 ≡ slice_index symbols i
-
--- the byte of these eight bits, the highest first
-abbrev pub byte_of : Bool → Bool → Bool → Bool → Bool → Bool → Bool → Bool → ℕ
-byte_of b0 b1 b2 b3 b4 b5 b6 b7 = number_of (b0 ∷ b1 ∷ b2 ∷ b3 ∷ b4 ∷ b5 ∷ b6 ∷ b7 ∷ [])
 
 -- the byte of a channel's bits at eight bytes
 abbrev pub packed_at : List ℕ → ℕ → ℕ → ℕ

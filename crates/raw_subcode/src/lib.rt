@@ -3,10 +3,14 @@
 
 mod block;
 mod form;
+mod laws;
 mod packs;
 mod planar;
 
 pub use block::Block;
 pub use form::Form;
+pub use laws::{
+    block_through_planar, frame_of_built, pack_of_its_symbols, planar_forms_are_unique,
+    planar_through_block,
+};
 pub use packs::text_symbols;
-pub use planar::planar_forms_are_unique;
