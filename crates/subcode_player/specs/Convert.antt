@@ -1,12 +1,15 @@
 -- What a conversion writes.
-use Rattle.std.specs.Prelude.{◌≡◌, ℕ, List, Option, Result}
-use Rattle.raw_subcode.specs.Channels.{program_symbols}
-use Rattle.stream_words.specs.Stream.{IsRecovered, bad_count}
+use Rattle.std.specs.Prelude.{◌≡◌, ℕ, ◌*◌, ◌%◌, ◌≤◌, ⊤, List, length, Option, Result, Ok, Err}
+use Rattle.std.specs.Io.KnownBytes.{Appends}
+use Rattle.rw_interleave.specs.Interleave.{Carries}
+use Rattle.raw_subcode.specs.Channels.{unit_size, program_symbols}
+use Rattle.stream_words.specs.Stream.{IsRecovered, IsDamaged, bad_count}
 use Rattle.subcode_player.specs.Texts.{cdg_bytes}
-use Rattle.subcode_player.specs.Calls.{PlaysInTurn}
+use Rattle.subcode_player.specs.Calls.{most_units, PlaysInTurn}
 use Rattle.raw_subcode.specs.declared.form.Form.{Form}
 use Rattle.subcode_player.specs.declared.player.Played.{Played}
 use Rattle.subcode_player.specs.declared.player.PlayStop.{PlayStop}
+use Rattle.subcode_player.specs.declared.player.PlayStop.TheVariants.{ReadFault, WriteFault}
 
 -- the text of the packs of some bytes, and how many packs are bad
 pub record IsConverted (form : Form) (lead_in : ℕ) (bytes text : List ℕ) (bad : ℕ) : Type 0 where
@@ -18,3 +21,18 @@ pub record IsConverted (form : Form) (lead_in : ℕ) (bytes text : List ℕ) (ba
 -- A conversion took these bytes, and put the text of their packs.
 abbrev pub Converts : Form → ℕ → Option (List ℕ) → Option (List ℕ) → Option (List ℕ) → Option (List ℕ) → Result Played PlayStop → List ℕ → Type 0
 Converts form lead_in left left' held held' result taken = PlaysInTurn (IsConverted form lead_in) form lead_in left left' held held' result taken
+
+-- Whole units whose program symbols are damaged from those of so many blocks that carry these packs: in each word at most two symbols differ.
+pub record IsDamagedStream (form : Form) (lead_in blocks : ℕ) (packs : List (List ℕ)) (bytes : List ℕ) : Type 0 where
+  pub few : length bytes ≤ most_units * unit_size form
+  pub whole : length bytes % unit_size form ≡ 0
+  pub symbols : List ℕ
+  pub carries : Carries blocks symbols packs
+  pub damaged : IsDamaged symbols form (program_symbols form bytes lead_in)
+
+-- unless a read or a write failed, nothing was bad and this text was put
+abbrev pub Restores : Result Played PlayStop → Option (List ℕ) → Option (List ℕ) → List ℕ → Type 0
+Restores (Ok played) held held' text = (played.bad ≡ 0) × Appends held held' text
+Restores (Err ReadFault) held held' text = ⊤
+Restores (Err WriteFault) held held' text = ⊤
+Restores (Err stop) held held' text = ⊥

@@ -1,14 +1,30 @@
 // The conversion of a stream to packs.
 ghost use Rattle.std.specs.Prelude.{◌≡◌, ◌≢◌, ◌≤◌, List, ℕ, length, IfSome, IfOk, IsErrOf};
+ghost use Rattle.std.specs.List.{concat};
 ghost use Rattle.cdg_io.specs.Causes.{Rose};
 ghost use Rattle.raw_subcode.specs.Channels.{unit_size};
 ghost use Rattle.subcode_player.specs.Steps.{begun};
+ghost use Rattle.raw_subcode.specs.declared.form.Form.{Form};
+ghost use Rattle.stream_words.specs.Stream.{all_packs};
 ghost use Rattle.subcode_player.specs.Calls.{IsAnsweredBy};
-ghost use Rattle.subcode_player.specs.Convert.{Converts, IsConverted};
+ghost use Rattle.subcode_player.specs.Convert.{Converts, IsConverted, IsDamagedStream, Restores};
 
 use crate::player::{MOST_UNITS, play_stop};
 use crate::{Form, PlayStop, Played, Player};
 use cdg_io::{Sink, Source, SteadySink, SteadySource, pump};
+use stream_words::{packs_are_recovered, text_of_packs};
+
+/// A law: the conversion of a stream that damage keeps within two symbols a word is its packs.
+pub fn damaged_streams_give_packs()
+    ensures text { (form : Form) (lead_in blocks : ℕ) (packs : List (List ℕ)) (bytes text : List ℕ) (bad : ℕ)
+        → IsDamagedStream form lead_in blocks packs bytes → IsConverted form lead_in bytes text bad
+        → text ≡ concat (all_packs form blocks packs) }
+    ensures bad { (form : Form) (lead_in blocks : ℕ) (packs : List (List ℕ)) (bytes text : List ℕ) (bad : ℕ)
+        → IsDamagedStream form lead_in blocks packs bytes → IsConverted form lead_in bytes text bad → bad ≡ 0 }
+{
+    packs_are_recovered();
+    text_of_packs();
+}
 
 impl Player {
     /// Writes the packs of a stream as its blocks are read.
@@ -22,6 +38,10 @@ impl Player {
         requires { lead_in ≤ 450000 }
         ensures converts { (taken : List ℕ) × Converts form lead_in (S.left source.old) (S.left source.new)
             (K.held out.old) (K.held out.new) result taken }
+        // Every pack comes back from damage of at most two symbols a word.
+        ensures restores { IfSome (S.left source.old) (λ all. (blocks : ℕ) (packs : List (List ℕ))
+            → IsDamagedStream form lead_in blocks packs all
+            → Restores result (K.held out.old) (K.held out.new) (concat (all_packs form blocks packs))) }
         // Where nothing failed, the answer is that of the whole input's length.
         ensures answer { IfSome (S.left source.old) (λ all. IsAnsweredBy result (unit_size form) (length all)) }
         ensures source_later { S.faults source.old ≤ S.faults source.new }
@@ -29,6 +49,7 @@ impl Player {
         ensures read_fault { IsErrOf result PlayStop.ReadFault → Rose (S.faults source.old) (S.faults source.new) }
         ensures write_fault { IsErrOf result PlayStop.WriteFault → Rose (K.faults out.old) (K.faults out.new) }
     {
+        damaged_streams_give_packs();
         self.begin(lead_in, form);
         match form {
             Form::Sector => self.convert_sectors(lead_in, source, out),
