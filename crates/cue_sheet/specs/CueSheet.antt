@@ -1,0 +1,99 @@
+-- What a cue sheet says.
+use Rattle.std.specs.Prelude.{◌≡◌, ◌≤◌, ◌<◌, ◌+◌, ◌&&◌, ◌||◌, ℕ, Bool, IsTrue, List, [], length, take, drop, All, Option, None, slice_index_or, ◌==◌, if◌then◌else◌, ◌-◌}
+use Rattle.std.specs.Option.{ForSome}
+use Rattle.std.specs.List.{list_all}
+use Rattle.std.specs.Char.{is_ascii_digit, is_ascii_uppercase}
+use Rattle.cue_sheet.specs.declared.fault.CueText.{CueText}
+use Rattle.cue_sheet.specs.declared.fault.CueText.TheVariants.{Title, Performer, Songwriter}
+
+-- a track: its number, its control bits, its code, the lengths of its two gaps in blocks, its index lines by number and file time, and its texts
+pub record CueTrack : Type 0 where
+  pub number : ℕ
+  pub control : ℕ
+  pub isrc : Option (List ℕ)
+  pub pregap : ℕ
+  pub postgap : ℕ
+  pub indices : List (ℕ × ℕ)
+  pub title : List ℕ
+  pub performer : List ℕ
+  pub songwriter : List ℕ
+
+-- a sheet: its catalogue number, the texts of the album, and its tracks; a text that is not given is empty
+pub record CueSheet : Type 0 where
+  pub catalogue : Option (List ℕ)
+  pub title : List ℕ
+  pub performer : List ℕ
+  pub songwriter : List ℕ
+  pub tracks : List CueTrack
+
+-- no track
+abbrev pub no_track : CueTrack
+no_track = record { number = 0; control = 0; isrc = None; pregap = 0; postgap = 0; indices = []; title = []; performer = []; songwriter = [] }
+
+-- track k of a sheet, counted from 0
+abbrev pub track_of : CueSheet → ℕ → CueTrack
+track_of sheet k = slice_index_or sheet.tracks k no_track
+
+-- index line j of a track, its number and its file time
+abbrev pub index_line_of : CueTrack → ℕ → ℕ × ℕ
+index_line_of track j = slice_index_or track.indices j (0, 0)
+
+-- the texts of a sheet: at place 0 those of the album, at place k + 1 those of track k
+abbrev pub album_text : CueText → CueSheet → List ℕ
+album_text Title sheet = sheet.title
+album_text Performer sheet = sheet.performer
+album_text Songwriter sheet = sheet.songwriter
+
+abbrev pub track_text : CueText → CueTrack → List ℕ
+track_text Title track = track.title
+track_text Performer track = track.performer
+track_text Songwriter track = track.songwriter
+
+abbrev pub text_at : CueText → CueSheet → ℕ → List ℕ
+text_at kind sheet place = if place == 0 then album_text kind sheet else track_text kind (track_of sheet (place - 1))
+
+-- What holds of every sheet
+
+-- a text has no byte below 20 hexadecimal, and is no longer than a sheet
+pub record IsText (s : List ℕ) : Type 0 where
+  pub short : length s ≤ 67108864
+  pub plain : All (λ b. 32 ≤ b) s
+
+abbrev pub is_catalogue_number : List ℕ → Bool
+is_catalogue_number s = length s == 13 && list_all is_ascii_digit s
+
+-- a track's code: two letters, three letters or digits, seven digits, the letters capital ones
+abbrev pub is_capital_code : List ℕ → Bool
+is_capital_code s =
+    length s == 12 && list_all is_ascii_uppercase (take 2 s)
+    && list_all (λ c. is_ascii_digit c || is_ascii_uppercase c) (take 3 (drop 2 s)) && list_all is_ascii_digit (drop 5 s)
+
+-- the index lines of a track: their numbers go up by one from 0 or 1 and include 1, and their times do not fall
+pub record AreIndices (indices : List (ℕ × ℕ)) : Type 0 where
+  pub first : (slice_index_or indices 0 (0, 0)).0 ≤ 1
+  pub has_one : 1 < (slice_index_or indices 0 (0, 0)).0 + length indices
+  pub next : (j : ℕ) → j < length indices → (slice_index_or indices j (0, 0)).0 ≡ (slice_index_or indices 0 (0, 0)).0 + j
+  pub numbers : (j : ℕ) → j < length indices → (slice_index_or indices j (0, 0)).0 ≤ 99
+  pub times : (j : ℕ) → j < length indices → (slice_index_or indices j (0, 0)).1 < 450000
+  pub order : (i j : ℕ) → i ≤ j → j < length indices → (slice_index_or indices i (0, 0)).1 ≤ (slice_index_or indices j (0, 0)).1
+
+pub record IsTrack (track : CueTrack) : Type 0 where
+  pub number : (1 ≤ track.number) × (track.number ≤ 99)
+  pub control : track.control < 16
+  pub isrc : ForSome track.isrc (λ code. IsTrue (is_capital_code code))
+  pub gaps : (track.pregap < 450000) × (track.postgap < 450000)
+  pub indices : AreIndices track.indices
+  pub title : IsText track.title
+  pub performer : IsText track.performer
+  pub songwriter : IsText track.songwriter
+
+-- a sheet has 1 to 99 tracks, whose numbers go up by one and whose first times do not fall
+pub record IsSheet (sheet : CueSheet) : Type 0 where
+  pub catalogue : ForSome sheet.catalogue (λ number. IsTrue (is_catalogue_number number))
+  pub title : IsText sheet.title
+  pub performer : IsText sheet.performer
+  pub songwriter : IsText sheet.songwriter
+  pub count : (1 ≤ length sheet.tracks) × (length sheet.tracks ≤ 99)
+  pub tracks : (k : ℕ) → k < length sheet.tracks → IsTrack (track_of sheet k)
+  pub next : (k : ℕ) → k < length sheet.tracks → (track_of sheet k).number ≡ (track_of sheet 0).number + k
+  pub order : (j k : ℕ) → j ≤ k → k < length sheet.tracks → (index_line_of (track_of sheet j) 0).1 ≤ (index_line_of (track_of sheet k) 0).1

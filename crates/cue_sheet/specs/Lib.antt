@@ -1,0 +1,2 @@
+pub mod CueSheet
+pub mod Views

@@ -1,0 +1,9 @@
+//! Cue sheets of Compact Discs: what a sheet says of the album and its tracks, or its first line that is refused and why.
+#![tactic(auto)]
+
+mod fault;
+mod section;
+mod sheet;
+
+pub use fault::{CueStop, CueText, CueWhy};
+pub use sheet::Sheet;

@@ -1,0 +1,113 @@
+// A cue sheet and its readers.
+ghost use Rattle.std.specs.Prelude.{◌≡◌, ◌≤◌, ◌<◌, length, option_copied};
+ghost use Rattle.cue_sheet.specs.CueSheet.{CueSheet, IsSheet, track_of, text_at, index_line_of};
+ghost use Rattle.cue_sheet.specs.Views.{sheet_value};
+
+use crate::fault::CueText;
+use crate::section::{Section, Track};
+use std::marker::Model;
+
+/// What a cue sheet says of an album and its tracks, of which there are 1 to 99.
+#[derive(Drop)]
+pub struct Sheet {
+    album: Section,
+    tracks: Vec<Track>,
+}
+
+impl Model for Sheet {
+    ghost Value = { CueSheet };
+
+    ghost view = { λ s. sheet_value s.album s.tracks.items };
+
+    ghost invariant = { λ s. IsSheet (sheet_value s.album s.tracks.items) };
+}
+
+impl Sheet {
+    /// The number of tracks, 1 to 99.
+    pub fn tracks(&self) -> usize
+        ensures count { result ≡ length self.now.tracks }
+        ensures sheet { IsSheet self.now }
+    {
+        self.tracks.len()
+    }
+
+    /// The first track's number.
+    pub fn first(&self) -> u8
+        ensures number { result ≡ (track_of self.now 0).number }
+    {
+        self.tracks[0].number
+    }
+
+    /// The catalogue number, 13 ASCII digits.
+    pub fn catalogue(&self) -> Option<&[u8]>
+        ensures { option_copied result ≡ self.now.catalogue }
+    {
+        match &self.album.catalogue {
+            Some(digits) => Some(digits),
+            None => None,
+        }
+    }
+
+    /// A text: at place 0 the album's, at place k that of the k-th track, counted from 1. It is empty where none is given.
+    pub fn text(&self, kind: CueText, place: usize) -> &[u8]
+        requires { place ≤ length self.now.tracks }
+        ensures { result.now ≡ text_at kind self.now place }
+    {
+        if place == 0 {
+            return self.album.text(kind);
+        }
+        self.tracks[place - 1].section.text(kind)
+    }
+
+    /// The code of track k, counted from 0: 12 ASCII characters.
+    pub fn isrc(&self, k: usize) -> Option<&[u8]>
+        requires { k < length self.now.tracks }
+        ensures { option_copied result ≡ (track_of self.now k).isrc }
+    {
+        match &self.tracks[k].section.isrc {
+            Some(code) => Some(code),
+            None => None,
+        }
+    }
+
+    /// The control bits of track k, counted from 0.
+    pub fn control(&self, k: usize) -> u8
+        requires { k < length self.now.tracks }
+        ensures { result ≡ (track_of self.now k).control }
+    {
+        self.tracks[k].section.control.unwrap_or(0)
+    }
+
+    /// The length of the gap before track k, counted from 0, in blocks.
+    pub fn pregap(&self, k: usize) -> u32
+        requires { k < length self.now.tracks }
+        ensures { result ≡ (track_of self.now k).pregap }
+    {
+        self.tracks[k].section.pregap.unwrap_or(0)
+    }
+
+    /// The length of the gap after track k, counted from 0, in blocks.
+    pub fn postgap(&self, k: usize) -> u32
+        requires { k < length self.now.tracks }
+        ensures { result ≡ (track_of self.now k).postgap }
+    {
+        self.tracks[k].section.postgap.unwrap_or(0)
+    }
+
+    /// The number of index lines of track k, counted from 0.
+    pub fn indices(&self, k: usize) -> usize
+        requires { k < length self.now.tracks }
+        ensures { result ≡ length (track_of self.now k).indices }
+    {
+        self.tracks[k].section.indices.len()
+    }
+
+    /// The number and the file time of index line j of track k, both counted from 0. The time is that of a block.
+    pub fn index(&self, k: usize, j: usize) -> (u8, u32)
+        requires track { k < length self.now.tracks }
+        requires line { j < length (track_of self.now k).indices }
+        ensures { result ≡ index_line_of (track_of self.now k) j }
+    {
+        self.tracks[k].section.indices[j]
+    }
+}
