@@ -87,7 +87,7 @@ pub record IsTrack (track : CueTrack) : Type 0 where
   pub performer : IsText track.performer
   pub songwriter : IsText track.songwriter
 
--- a sheet has 1 to 99 tracks, whose numbers go up by one and whose first times do not fall
+-- a sheet has 1 to 99 tracks, whose numbers go up by one, and a track's times are not below those of the tracks before it
 pub record IsSheet (sheet : CueSheet) : Type 0 where
   pub catalogue : ForSome sheet.catalogue (λ number. IsTrue (is_catalogue_number number))
   pub title : IsText sheet.title
@@ -96,4 +96,5 @@ pub record IsSheet (sheet : CueSheet) : Type 0 where
   pub count : (1 ≤ length sheet.tracks) × (length sheet.tracks ≤ 99)
   pub tracks : (k : ℕ) → k < length sheet.tracks → IsTrack (track_of sheet k)
   pub next : (k : ℕ) → k < length sheet.tracks → (track_of sheet k).number ≡ (track_of sheet 0).number + k
-  pub order : (j k : ℕ) → j ≤ k → k < length sheet.tracks → (index_line_of (track_of sheet j) 0).1 ≤ (index_line_of (track_of sheet k) 0).1
+  pub order : (j k i : ℕ) → j < k → k < length sheet.tracks → i < length (track_of sheet j).indices
+    → (index_line_of (track_of sheet j) i).1 ≤ (index_line_of (track_of sheet k) 0).1
