@@ -2,13 +2,15 @@
 use Rattle.std.proofs.Common.{◌≡◌, ◌≢◌, ℕ, zero, suc, ◌+◌, ◌-◌, ◌*◌, ◌/◌, ◌%◌, ◌<◌, ◌≤◌, cond, ltb, List, [], ◌∷◌, ◌++◌, length, get_or, map, drop, replicate, refl, sym, ap, ap₂, ◌∙◌, arith, append_assoc, length-append, length-drop, Some, inl, inr}
 use Rattle.std.specs.List.{All, concat, range_with_len, AllByRecursion}
 use Rattle.std.proofs.lemmas.Bool.{cases_lt, lt-ltb, le-ltb}
-use Rattle.std.proofs.lemmas.List.{get_or_append_left, drop-append-le, drop-drop, get_or-drop, get_or-replicate}
+use Rattle.std.proofs.lemmas.List.{get_or_append_left, get_or-append_right, length-replicate, drop-append-le, drop-drop, get_or-drop, get_or-replicate}
+use Rattle.std.proofs.lemmas.List.Elements.{All-append, All-replicate}
+use Rattle.rw_code.specs.Codeword.{IsCodeword}
 use Rattle.std.proofs.lemmas.List.FromFn.{length-map-range_with_len, get_or-map-range_with_len, fill_by_all}
 use Rattle.cdg_io.specs.Run.{give, run_gives}
 use Rattle.bit_lists.specs.Counting.{below}
-use Rattle.rw_interleave.specs.Interleave.{swapped, place, word_of, whole_of_slots}
+use Rattle.rw_interleave.specs.Interleave.{swapped, place, word_of, whole_of_slots, whole_packs, Carries}
 use Rattle.rw_interleave.specs.Gathering.{last_seven}
-use Rattle.rw_interleave.specs.Spreading.{spread_symbol, spread_over, spread_next, spread_gives}
+use Rattle.rw_interleave.specs.Spreading.{spread_symbol, spread_over, spread_next, spread_gives, filled_with_idle}
 use Rattle.rw_interleave.proofs.Ranges.{map_range}
 use Rattle.rw_interleave.proofs.Places.{concat_at, swapped-lt}
 
@@ -120,3 +122,29 @@ spread_others packs idle p lt other =
             | inr last ↦ from_pack ∙ ap (λ (s : List ℕ). get_or s (swapped q) 0) (idle n last (omega (arith, lt))) ∙ get_or-replicate 24 (swapped q) 0 0 (swapped-lt q (omega arith))
           ]
     ]
+
+sized_concat : (f : ℕ → List ℕ) (a n : ℕ) → ((k : ℕ) → length (f k) ≡ 24) → length (concat (map f (range_with_len a n))) ≡ 24 * n
+sized_concat f a zero size = refl
+sized_concat f a (suc n) size =
+    length-append (f a) (concat (map f (range_with_len (a + 1) n))) ∙ ap₂ (λ (m k : ℕ). m + k) (size a) (sized_concat f (a + 1) n size) ∙ omega arith
+
+-- as many symbols as the slots have
+spread_size : (packs : List (List ℕ)) → length (concat (run [] packs)) ≡ 24 * length packs
+spread_size packs = ap (λ s. length (concat s)) (slots_are packs) ∙ sized_concat (slot_of packs) 0 (length packs) (λ k. length-map-range_with_len (slot_symbol packs k) 0 24)
+
+pub carries : (blocks : ℕ) (packs : List (List ℕ)) → length packs ≡ whole_packs blocks → All IsCodeword packs → Carries blocks (concat (run [] (filled_with_idle (4 * blocks) packs))) packs
+carries blocks packs count codewords =
+    let idle : List (List ℕ) = replicate (4 * blocks - length packs) (replicate 24 0) in
+    let all : List (List ℕ) = packs ++ idle in
+    let size : length all ≡ 4 * blocks = length-append packs idle ∙ ap (λ n. length packs + n) (length-replicate (4 * blocks - length packs) (replicate 24 0)) ∙ omega (arith, count) in
+    let sized : All (λ pack. length pack ≡ 24) all = All-append (λ pack. length pack ≡ 24) packs idle (λ n d lt. (codewords n d lt).is_word.size) (All-replicate (λ pack. length pack ≡ 24) (4 * blocks - length packs) (replicate 24 0) refl) in
+    record {
+      size = spread_size all ∙ ap (λ n. 24 * n) size ∙ omega arith;
+      count = count;
+      codewords = codewords;
+      words = λ n lt. spread_words all sized n (omega (arith, size)) ∙ get_or_append_left packs idle [] n (omega (arith, count));
+      others = λ p lt other.
+          spread_others all
+          (λ n from to. get_or-append_right packs idle (length packs) n [] (refl {a = length packs}) (omega (arith, count, size)) ∙ get_or-replicate (4 * blocks - length packs) (n - length packs) (replicate 24 0) [] (omega (arith, count, size)))
+          p (omega (arith, size)) (λ n i n_lt i_lt. other n i (omega (arith, size)) i_lt);
+    }

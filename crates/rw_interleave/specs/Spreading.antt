@@ -1,5 +1,5 @@
 -- The steps of a spreader: from the last packs, at most seven, and a further pack.
-use Rattle.std.specs.Prelude.{ℕ, ◌-◌, ◌%◌, List, [], ◌∷◌, ◌++◌, length, map, slice_index, slice_index_or, nat_lt, if◌then◌else◌, Some}
+use Rattle.std.specs.Prelude.{ℕ, ◌-◌, ◌%◌, List, [], ◌∷◌, ◌++◌, length, map, replicate, slice_index, slice_index_or, nat_lt, if◌then◌else◌, Some}
 use Rattle.std.specs.declared.option.Option.{Option}
 use Rattle.bit_lists.specs.Counting.{below}
 use Rattle.rw_interleave.specs.Interleave.{swapped}
@@ -21,3 +21,7 @@ spread_next packs pack = last_seven (packs ++ pack ∷ [])
 -- a slot comes with each pack
 unfoldable pub spread_gives : List (List ℕ) → List ℕ → Option (List ℕ)
 spread_gives packs pack = Some (spread_over (packs ++ pack ∷ []))
+
+-- packs followed by idle packs, so many in all
+abbrev pub filled_with_idle : ℕ → List (List ℕ) → List (List ℕ)
+filled_with_idle count packs = packs ++ replicate (count - length packs) (replicate 24 0)

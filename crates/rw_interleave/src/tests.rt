@@ -1,0 +1,40 @@
+use super::*;
+use gf64::Sym;
+use rw_code::Pack;
+use std::test::Fail;
+
+// The places of the symbols of a pack, from the first symbol of its own slot.
+const PLACES: [u32; 24] = [
+    0, 66, 125, 191, 100, 50, 150, 175, 8, 33, 58, 83, 108, 133, 158, 183, 16, 41, 25, 91, 116,
+    141, 166, 75,
+];
+
+#[test]
+fn has_the_listed_places(rt: HostRuntime) {
+    for i in 0..24usize {
+        assert_eq!(rt; place(i), PLACES[i]);
+    }
+}
+
+// A pack comes back from its eight slots, and again after a reset.
+#[test]
+fn gathers_what_was_spread(rt: HostRuntime) -> Result<(), Fail> {
+    let symbol = Sym::alpha(5);
+    let pack = Pack::seal([symbol; 2], [symbol; 16]);
+    let mut spread = Spread::start(rt.alloc())?;
+    let mut gather = Gather::start(rt.alloc())?;
+    for _ in 0..2u32 {
+        spread.reset();
+        gather.reset();
+        let first = spread.push(&pack);
+        assert_eq!(rt; first.bytes()[0], symbol.value());
+        assert!(rt; gather.push(&first).is_none());
+        for _ in 1..7u32 {
+            assert!(rt; gather.push(&spread.push(&Pack::idle())).is_none());
+        }
+        let last = Slot::new(&spread.push(&Pack::idle()).bytes());
+        let word = gather.push(&last).ok_or("no word")?;
+        assert_eq!(rt; word.bytes(), pack.word().bytes());
+    }
+    Ok(())
+}
