@@ -1,0 +1,60 @@
+-- What stands on a canvas.
+use Rattle.std.specs.Prelude.{◌≡◌, ℕ, ◌+◌, ◌-◌, ◌*◌, ◌/◌, ◌%◌, ◌<◌, ◌≤◌, List, length, map, slice_index, Option, MatchOption}
+use Rattle.bit_lists.specs.Counting.{below}
+use Rattle.picture_script.specs.Script.{Drawing, pixel_by, border_by, colour_by, picture_pixel, picture_border, picture_colour}
+
+-- 288 by 192 pixels, a border, sixteen colours, and the number of the picture that stands there, or none where nothing was drawn
+pub record Board : Type 0 where
+  pub pixels : List ℕ
+  pub border : ℕ
+  pub colours : List ℕ
+  pub at : Option ℕ
+
+-- the pixel at a place of the window
+unfoldable pub pixel_of : List ℕ → ℕ → ℕ → ℕ
+pixel_of pixels x y = slice_index pixels (288 * y + x)
+
+-- the pixels become those of a function of the place
+abbrev pub Becomes : List ℕ → (ℕ → ℕ → ℕ) → Type 0
+Becomes pixels f = (x y : ℕ) → x < 288 → y < 192 → pixel_of pixels x y ≡ f x y
+
+-- nothing is drawn
+pub record IsBlank (board : Board) : Type 0 where
+  pub pixels_are : (x y : ℕ) → x < 288 → y < 192 → pixel_of board.pixels x y ≡ 0
+  pub border_is : board.border ≡ 0
+  pub colours_are : (n : ℕ) → n < 16 → slice_index board.colours n ≡ 0
+
+-- picture k of the script stands there
+pub record IsPicture (script : List Drawing) (k : ℕ) (board : Board) : Type 0 where
+  pub pixels_are : (x y : ℕ) → x < 288 → y < 192 → pixel_of board.pixels x y ≡ picture_pixel script k x y
+  pub border_is : board.border ≡ picture_border script k
+  pub colours_are : (n : ℕ) → n < 16 → slice_index board.colours n ≡ picture_colour script k n
+
+-- nothing is drawn, or a picture of the script that is not after k stands there
+abbrev pub StandsBefore : List Drawing → ℕ → Board → Type 0
+StandsBefore script k board = MatchOption board.at (IsBlank board) (λ j. (j ≤ k) × IsPicture script j board)
+
+-- what lines draw, which are given the last one first
+pub record IsDrawn (lines : List Drawing) (board : Board) : Type 0 where
+  pub pixels_are : (x y : ℕ) → x < 288 → y < 192 → pixel_of board.pixels x y ≡ pixel_by lines x y
+  pub border_is : board.border ≡ border_by lines
+  pub colours_are : (n : ℕ) → n < 16 → slice_index board.colours n ≡ colour_by lines n
+
+-- the 72 pixels of the tile at a row from 1 to 16 and a column from 1 to 48, line by line from the left
+unfoldable pub tile_of : List ℕ → ℕ → ℕ → List ℕ
+tile_of pixels row column = map (λ p. pixel_of pixels (6 * (column - 1) + p % 6) (12 * (row - 1) + p / 6)) (below 72)
+
+-- numbers of colours
+abbrev pub AreColours : List ℕ → Type 0
+AreColours colours = (i : ℕ) → slice_index colours i < 16
+
+-- the pixels of a whole window
+pub record IsWindow (pixels : List ℕ) : Type 0 where
+  pub count : length pixels ≡ 55296
+  pub colours : (i : ℕ) → slice_index pixels i < 16
+
+-- the ranges of what stands beside the pixels
+pub record IsInRange (border : ℕ) (colours : List ℕ) : Type 0 where
+  pub border_below : border < 16
+  pub colours_count : length colours ≡ 16
+  pub colours_below : (i : ℕ) → slice_index colours i < 4096

@@ -1,0 +1,47 @@
+-- How the lines of a script are kept.
+use Rattle.std.specs.Prelude.{◌≡◌, ℕ, ◌+◌, ◌<◌, ◌≤◌, Bool, true, ◌&&◌, nat_le, nat_lt, List, [], ◌∷◌, length, map, take, drop, slice_index_or, All}
+use Rattle.picture_script.specs.Script.{Drawing, Colour, Border, Fill, Rect, Row, Show, shows, lines_before}
+use Rattle.picture_script.specs.Board.{AreColours}
+use Rattle.picture_script.specs.declared.line.Line.{Line}
+use Rattle.picture_script.specs.declared.line.Line.TheVariants.{TableColour, BorderColour, Filled, Rectangle, PixelRow, ShowLine}
+use Rattle.picture_script.specs.declared.line.Shown.{Shown}
+
+-- what a line says; a row's colours stand among those of all rows
+abbrev pub said : List ℕ → Line → Drawing
+said pixels (TableColour number value) = Colour number value
+said pixels (BorderColour colour) = Border colour
+said pixels (Filled colour) = Fill colour
+said pixels (Rectangle x y width height colour) = Rect x y width height colour
+said pixels (PixelRow x y first count) = Row x y (take count (drop first pixels))
+said pixels (ShowLine ready hold) = Show ready hold
+
+unfoldable pub all_said : List ℕ → List Line → List Drawing
+all_said pixels lines = map (said pixels) lines
+
+-- whether a line is in its ranges, and a row's colours are among so many
+abbrev pub is_kept : ℕ → Line → Bool
+is_kept size (TableColour number value) = nat_lt number 16 && nat_lt value 4096
+is_kept size (BorderColour colour) = nat_lt colour 16
+is_kept size (Filled colour) = nat_lt colour 16
+is_kept size (Rectangle x y width height colour) = nat_le (x + width) 288 && nat_le (y + height) 192 && nat_lt colour 16
+is_kept size (PixelRow x y first count) = nat_le (x + count) 288 && nat_lt y 192 && nat_le (first + count) size
+is_kept size (ShowLine ready hold) = true
+
+abbrev pub no_show : Shown
+no_show = record { place = 0; ready = 0; hold = 0 }
+
+abbrev pub times_of : Shown → ℕ × ℕ
+times_of shown = (shown.ready, shown.hold)
+
+-- the show lines of a script: how many lines stand before each, and its times
+pub record IsIndexed (pixels : List ℕ) (lines : List Line) (shown : List Shown) : Type 0 where
+  pub kept : All (λ line. is_kept (length pixels) line ≡ true) lines
+  pub colours : AreColours pixels
+  pub times : map times_of shown ≡ shows (all_said pixels lines)
+  pub places : (k : ℕ) → k < length shown → (slice_index_or shown k no_show).place ≤ length lines
+  pub rising : (j k : ℕ) → j ≤ k → k < length shown → (slice_index_or shown j no_show).place ≤ (slice_index_or shown k no_show).place
+  pub before : (k : ℕ) → k < length shown → lines_before (all_said pixels lines) k ≡ all_said pixels (take (slice_index_or shown k no_show).place lines)
+  pub lasting : (k : ℕ) → k < length shown → (slice_index_or shown k no_show).ready ≤ (slice_index_or shown k no_show).hold
+  pub ending : (k : ℕ) → k < length shown → (slice_index_or shown k no_show).hold < 450000
+  pub ordered : (k : ℕ) → k + 1 < length shown → (slice_index_or shown k no_show).hold < (slice_index_or shown (k + 1) no_show).ready
+  pub most : length shown ≤ 20000

@@ -1,0 +1,83 @@
+-- Picture scripts: lines that draw, and the pictures that stand at each line that shows.
+use Rattle.std.specs.Prelude.{ℕ, zero, suc, ◌+◌, ◌-◌, ◌*◌, Bool, List, [], ◌∷◌, reverse, length, filter_map, slice_index, slice_index_or, ◌/◌, ◌%◌, Option, Some, None, ◌==◌, nat_le, nat_lt, ◌&&◌, if◌then◌else◌, map}
+use Rattle.bit_lists.specs.Counting.{below}
+
+-- the lines of a script that say something
+pub data Drawing : Type 0 where
+  Colour : ℕ → ℕ → Drawing
+  Border : ℕ → Drawing
+  Fill : ℕ → Drawing
+  Rect : ℕ → ℕ → ℕ → ℕ → ℕ → Drawing
+  Row : ℕ → ℕ → List ℕ → Drawing
+  Show : ℕ → ℕ → Drawing
+
+-- the ready and hold times of the pictures, in order
+abbrev pub shown_times : Drawing → Option (ℕ × ℕ)
+shown_times (Show ready hold) = Some (ready, hold)
+shown_times _ = None
+
+unfoldable pub shows : List Drawing → List (ℕ × ℕ)
+shows script = filter_map shown_times script
+
+abbrev pub pictures : List Drawing → ℕ
+pictures script = length (shows script)
+
+-- when picture k is ready, and until when it is held
+abbrev pub ready_time : List Drawing → ℕ → ℕ
+ready_time script k = (slice_index_or (shows script) k (0, 0)).0
+
+abbrev pub hold_time : List Drawing → ℕ → ℕ
+hold_time script k = (slice_index_or (shows script) k (0, 0)).1
+
+-- the lines before the show line of picture k
+unfoldable pub lines_before : List Drawing → ℕ → List Drawing
+lines_before [] k = []
+lines_before (Show ready hold ∷ rest) zero = []
+lines_before (Show ready hold ∷ rest) (suc k) = Show ready hold ∷ lines_before rest k
+lines_before (line ∷ rest) k = line ∷ lines_before rest k
+
+-- whether a line of pixels from x on covers the pixel
+abbrev pub is_within : ℕ → ℕ → ℕ → Bool
+is_within first count x = nat_le first x && nat_lt x (first + count)
+
+-- In the next three definitions the lines are given the last one first.
+
+-- the colour of the last line that covers pixel (x, y) of the window
+abbrev pub pixel_by : List Drawing → ℕ → ℕ → ℕ
+pixel_by [] x y = 0
+pixel_by (Fill colour ∷ before) x y = colour
+pixel_by (Rect left top width height colour ∷ before) x y = let old = pixel_by before x y in if is_within left width x && is_within top height y then colour else old
+pixel_by (Row left top colours ∷ before) x y = let old = pixel_by before x y in if is_within left (length colours) x && y == top then slice_index colours (x - left) else old
+pixel_by (_ ∷ before) x y = pixel_by before x y
+
+-- the border and a colour of the table as the last line sets them
+abbrev pub border_by : List Drawing → ℕ
+border_by [] = 0
+border_by (Border colour ∷ before) = colour
+border_by (_ ∷ before) = border_by before
+
+abbrev pub colour_by : List Drawing → ℕ → ℕ
+colour_by [] k = 0
+colour_by (Colour number value ∷ before) k = let old = colour_by before k in if number == k then value else old
+colour_by (_ ∷ before) k = colour_by before k
+
+-- picture k: its pixels in the window of 288 by 192, its border and its sixteen colours
+unfoldable pub picture_pixel : List Drawing → ℕ → ℕ → ℕ → ℕ
+picture_pixel script k x y = pixel_by (reverse (lines_before script k)) x y
+
+unfoldable pub picture_border : List Drawing → ℕ → ℕ
+picture_border script k = border_by (reverse (lines_before script k))
+
+unfoldable pub picture_colour : List Drawing → ℕ → ℕ → ℕ
+picture_colour script k number = colour_by (reverse (lines_before script k)) number
+
+-- the 72 pixels of the tile at a row from 1 to 16 and a column from 1 to 48, line by line from the left
+unfoldable pub picture_tile : List Drawing → ℕ → ℕ → ℕ → List ℕ
+picture_tile script k row column = map (λ p. picture_pixel script k (6 * (column - 1) + p % 6) (12 * (row - 1) + p / 6)) (below 72)
+
+-- colours 0 to 7 of a picture, and colours 8 to 15
+unfoldable pub low_colours : List Drawing → ℕ → List ℕ
+low_colours script k = map (picture_colour script k) (below 8)
+
+unfoldable pub high_colours : List Drawing → ℕ → List ℕ
+high_colours script k = map (λ n. picture_colour script k (8 + n)) (below 8)

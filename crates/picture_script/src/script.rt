@@ -1,0 +1,69 @@
+// A picture script.
+ghost use Rattle.std.specs.Prelude.{◌≡◌, ◌<◌, ◌≤◌, ◌+◌, ◌++◌, ◌-◌, ℕ, List, [], ◌∷◌, length, take, slice_index, IfOk, OnOk, IsTrue};
+
+use crate::line::{Line, Shown};
+use std::alloc::{AllocError, Global};
+use std::marker::Model;
+
+/// The lines of a picture script, and when each of its pictures is shown.
+///
+/// A contract sees the list of what its lines say.
+#[derive(Drop)]
+pub struct Script {
+    pub(crate) lines: Vec<Line>,
+    pub(crate) pixels: Vec<u8>,
+    pub(crate) shown: Vec<Shown>,
+}
+
+impl Model for Script {
+    ghost use Rattle.picture_script.specs.Script.{Drawing};
+    ghost use Rattle.picture_script.specs.Lines.{all_said, IsIndexed};
+
+    ghost Value = { List Drawing };
+
+    ghost view = { λ s. all_said s.pixels.items s.lines.items };
+
+    ghost invariant = { λ s. IsIndexed s.pixels.items s.lines.items s.shown.items };
+}
+
+impl Script {
+    ghost use Rattle.picture_script.specs.Script.{pictures, ready_time, hold_time, lines_before, Drawing, Show, Row};
+    ghost use Rattle.picture_script.specs.Lines.{said};
+
+    /// How many pictures it shows.
+    pub fn pictures(&self) -> u32
+        ensures value { result ≡ pictures self.now }
+        ensures most { result ≤ 20000 }
+    {
+        self.shown.len() as u32
+    }
+
+    /// The block number at which picture `k` is ready. The pictures are counted from 0.
+    pub fn ready(&self, k: u32) -> u32
+        requires { k < pictures self.now }
+        ensures value { result ≡ ready_time self.now k }
+        ensures order { result ≤ hold_time self.now k }
+        ensures below { result < 450000 }
+    {
+        self.shown[k as usize].ready
+    }
+
+    /// The block number until which picture `k` is held, which is before the next one is ready.
+    pub fn hold(&self, k: u32) -> u32
+        requires { k < pictures self.now }
+        ensures value { result ≡ hold_time self.now k }
+        ensures order { k + 1 < pictures self.now → result < ready_time self.now (k + 1) }
+        ensures below { result < 450000 }
+    {
+        self.shown[k as usize].hold
+    }
+
+    // How many lines stand before the show line of picture `k`.
+    pub(crate) fn place(&self, k: u32) -> usize
+        requires { k < pictures self.now }
+        ensures lines { lines_before self.now k ≡ take result self.now }
+        ensures most { result ≤ length self.now }
+    {
+        self.shown[k as usize].place
+    }
+}

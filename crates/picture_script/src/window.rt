@@ -1,0 +1,103 @@
+// The pixels of a window.
+ghost use Rattle.std.specs.Prelude.{◌≡◌, ◌<◌, ◌≤◌, ◌+◌, ◌-◌, ◌*◌, ◌==◌, ◌&&◌, nat_le, nat_lt, if◌then◌else◌, ℕ, List, length, slice_index, IfOk};
+ghost use Rattle.picture_script.specs.Script.{is_within};
+ghost use Rattle.picture_script.specs.Board.{pixel_of, Becomes, IsWindow, AreColours};
+
+use std::alloc::{AllocError, Global};
+use std::marker::Model;
+
+/// How many pixels a window has across and down.
+pub(crate) const WIDTH: usize = 288;
+
+const HEIGHT: usize = 192;
+
+/// The colours of the pixels, row by row from the left.
+#[derive(Drop)]
+pub(crate) struct Window {
+    pixels: Vec<u8>,
+}
+
+impl Model for Window {
+    ghost Value = { List ℕ };
+
+    ghost view = { λ w. w.pixels.items };
+
+    ghost invariant = { λ w. IsWindow w.pixels.items };
+}
+
+impl Window {
+    /// A window whose pixels are all 0.
+    pub(crate) fn new(alloc: Global) -> Result<Window, AllocError>
+        ensures { IfOk result (λ w. Becomes w (λ x y. 0)) }
+    {
+        let pixels = vec![in alloc; 0; WIDTH * HEIGHT]?;
+        Ok(Window { pixels })
+    }
+
+    pub(crate) fn get(&self, x: usize, y: usize) -> u8
+        requires width { x < 288 }
+        requires height { y < 192 }
+        ensures pixel { result ≡ pixel_of self.now x y }
+        ensures range { result < 16 }
+    {
+        self.pixels[WIDTH * y + x]
+    }
+
+    fn set(&mut self, x: usize, y: usize, colour: u8)
+        requires width { x < 288 }
+        requires height { y < 192 }
+        requires range { colour < 16 }
+        ensures { Becomes self.new (λ x' y'. if x' == x && y' == y then colour else pixel_of self.old x' y') }
+    {
+        self.pixels[WIDTH * y + x] = colour;
+    }
+
+    /// Sets all pixels.
+    pub(crate) fn clear(&mut self, colour: u8)
+        requires { colour < 16 }
+        ensures { Becomes self.new (λ x y. colour) }
+    {
+        for i in 0..self.pixels.len() {
+            self.pixels[i] = colour;
+        }
+    }
+
+    // Sets pixels of a row to one colour.
+    fn fill_row(&mut self, x: usize, y: usize, width: usize, colour: u8)
+        requires width { x + width ≤ 288 }
+        requires height { y < 192 }
+        requires range { colour < 16 }
+        ensures { Becomes self.new (λ x' y'.
+            if y' == y && is_within x width x' then colour else pixel_of self.old x' y') }
+    {
+        for i in 0..width {
+            self.set(x + i, y, colour);
+        }
+    }
+
+    /// Sets the pixels of a rectangle to one colour.
+    pub(crate) fn fill(&mut self, x: usize, y: usize, width: usize, height: usize, colour: u8)
+        requires width { x + width ≤ 288 }
+        requires height { y + height ≤ 192 }
+        requires range { colour < 16 }
+        ensures { Becomes self.new (λ x' y'.
+            if is_within x width x' && is_within y height y' then colour else pixel_of self.old x' y') }
+    {
+        for j in 0..height {
+            self.fill_row(x, y + j, width, colour);
+        }
+    }
+
+    /// Sets pixels of a row to these colours.
+    pub(crate) fn draw_row(&mut self, x: usize, y: usize, colours: &[u8])
+        requires width { x + length colours.now ≤ 288 }
+        requires height { y < 192 }
+        requires range { AreColours colours.now }
+        ensures { Becomes self.new (λ x' y'.
+            if is_within x (length colours.now) x' && y' == y then slice_index colours.now (x' - x) else pixel_of self.old x' y') }
+    {
+        for i in 0..colours.len() {
+            self.set(x + i, y, colours[i]);
+        }
+    }
+}
