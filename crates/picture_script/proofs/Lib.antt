@@ -1,1 +1,3 @@
 pub mod Windows
+pub mod Scripts
+pub mod Drawn

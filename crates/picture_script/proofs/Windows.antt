@@ -6,7 +6,7 @@ use Rattle.std.proofs.lemmas.List.{length-replicate, get_or-set_same, get_or-set
 use Rattle.picture_script.specs.Board.{pixel_of, Becomes, IsWindow}
 
 -- a colour everywhere, and 0 past the end
-same-below : (n colour i : ℕ) → colour < 16 → get_or (replicate n colour) i 0 < 16
+pub same-below : (n colour i : ℕ) → colour < 16 → get_or (replicate n colour) i 0 < 16
 same-below n colour i small = elim (cases_lt i n) [
   | inl lt ↦ rw (get_or-replicate {A = ℕ} n i colour 0 lt) small
   | inr past ↦ rw (get_or_past {X = ℕ} (replicate n colour) i 0 (omega (arith, length-replicate {A = ℕ}))) (omega arith)

@@ -1,5 +1,5 @@
 -- How the lines of a script are kept.
-use Rattle.std.specs.Prelude.{◌≡◌, ℕ, ◌+◌, ◌<◌, ◌≤◌, Bool, true, ◌&&◌, nat_le, nat_lt, List, [], ◌∷◌, length, map, take, drop, slice_index_or, All}
+use Rattle.std.specs.Prelude.{◌≡◌, ℕ, ◌+◌, ◌<◌, ◌≤◌, Bool, true, ◌&&◌, nat_le, nat_lt, List, length, map, take, drop, slice_index_or, All}
 use Rattle.picture_script.specs.Script.{Drawing, Colour, Border, Fill, Rect, Row, Show, shows, lines_before}
 use Rattle.picture_script.specs.Board.{AreColours}
 use Rattle.picture_script.specs.declared.line.Line.{Line}
@@ -38,9 +38,7 @@ pub record IsIndexed (pixels : List ℕ) (lines : List Line) (shown : List Shown
   pub kept : All (λ line. is_kept (length pixels) line ≡ true) lines
   pub colours : AreColours pixels
   pub times : map times_of shown ≡ shows (all_said pixels lines)
-  pub places : (k : ℕ) → k < length shown → (slice_index_or shown k no_show).place ≤ length lines
-  pub rising : (j k : ℕ) → j ≤ k → k < length shown → (slice_index_or shown j no_show).place ≤ (slice_index_or shown k no_show).place
-  pub before : (k : ℕ) → k < length shown → lines_before (all_said pixels lines) k ≡ all_said pixels (take (slice_index_or shown k no_show).place lines)
+  pub places : (k : ℕ) → k < length shown → (slice_index_or shown k no_show).place ≡ length (lines_before (all_said pixels lines) k)
   pub lasting : (k : ℕ) → k < length shown → (slice_index_or shown k no_show).ready ≤ (slice_index_or shown k no_show).hold
   pub ending : (k : ℕ) → k < length shown → (slice_index_or shown k no_show).hold < 450000
   pub ordered : (k : ℕ) → k + 1 < length shown → (slice_index_or shown k no_show).hold < (slice_index_or shown (k + 1) no_show).ready

@@ -1,6 +1,4 @@
 // A picture script.
-ghost use Rattle.std.specs.Prelude.{◌≡◌, ◌<◌, ◌≤◌, ◌+◌, ◌++◌, ◌-◌, ℕ, List, [], ◌∷◌, length, take, slice_index, IfOk, OnOk, IsTrue};
-
 use crate::line::{Line, Shown};
 use std::alloc::{AllocError, Global};
 use std::marker::Model;
@@ -16,6 +14,7 @@ pub struct Script {
 }
 
 impl Model for Script {
+    ghost use Rattle.std.specs.Prelude.{List};
     ghost use Rattle.picture_script.specs.Script.{Drawing};
     ghost use Rattle.picture_script.specs.Lines.{all_said, IsIndexed};
 
@@ -27,6 +26,7 @@ impl Model for Script {
 }
 
 impl Script {
+    ghost use Rattle.std.specs.Prelude.{◌≡◌, ◌<◌, ◌≤◌, ◌+◌, ◌++◌, ◌-◌, ℕ, List, [], ◌∷◌, length, take, slice_index, IfOk, OnOk, IsTrue};
     ghost use Rattle.picture_script.specs.Script.{pictures, ready_time, hold_time, lines_before, Drawing, Show, Row};
     ghost use Rattle.picture_script.specs.Lines.{said};
 
@@ -61,8 +61,7 @@ impl Script {
     // How many lines stand before the show line of picture `k`.
     pub(crate) fn place(&self, k: u32) -> usize
         requires { k < pictures self.now }
-        ensures lines { lines_before self.now k ≡ take result self.now }
-        ensures most { result ≤ length self.now }
+        ensures { result ≡ length (lines_before self.now k) }
     {
         self.shown[k as usize].place
     }

@@ -1,0 +1,84 @@
+-- What stands on a canvas once the first lines of a script are drawn.
+use Rattle.std.proofs.Common.{◌≡◌, ℕ, ◌+◌, ◌-◌, ◌*◌, ◌/◌, ◌%◌, ◌<◌, ◌≤◌, true, List, [], ◌∷◌, ◌++◌, length, take, map, get_or, All, reverse, ap, sym, subst, ◌∙◌, arith}
+use Rattle.std.specs.Prelude.{Option, Some, None, MatchOption}
+use Rattle.std.proofs.lemmas.Grind.{same_number_lists}
+use Rattle.std.proofs.lemmas.List.FromFn.{length-map-range_with_len, get_or-map-range_with_len}
+use Rattle.bit_lists.specs.Counting.{below}
+use Rattle.std.proofs.lemmas.List.{take_more, get_or-map, length-map, length-take, reverse-append}
+use Rattle.std.proofs.lemmas.List.Elements.{All-get_or}
+use Rattle.picture_script.specs.Script.{Drawing, lines_before, picture_pixel, picture_border, picture_colour, picture_tile}
+use Rattle.picture_script.specs.Lines.{said, all_said, is_kept}
+use Rattle.picture_script.specs.declared.line.Line.{Line}
+use Rattle.picture_script.specs.Board.{Board, IsBlank, IsPicture, IsDrawn, StandsBefore, pixel_of, tile_of}
+use Rattle.picture_script.proofs.Scripts.{before_prefix, before_rising}
+
+pub blank-drawn : (script : List Drawing) (board : Board) → IsBlank board → IsDrawn (reverse (take 0 script)) board
+blank-drawn script board h = record { pixels_are = h.pixels_are; border_is = h.border_is; colours_are = h.colours_are }
+
+pub picture-drawn : (script : List Drawing) (k n : ℕ) (board : Board) → n ≡ length (lines_before script k) → IsPicture script k board → IsDrawn (reverse (take n script)) board
+unfolding picture_pixel picture_border picture_colour
+picture-drawn script k n board size h =
+    let all : IsDrawn (reverse (lines_before script k)) board = record { pixels_are = h.pixels_are; border_is = h.border_is; colours_are = h.colours_are } in
+    subst (λ lines. IsDrawn (reverse lines) board) (before_prefix script k ∙ ap (λ m. take m script) (sym size)) all
+
+pub drawn-picture : (script : List Drawing) (k n : ℕ) (board : Board) (at : Option ℕ) → n ≡ length (lines_before script k) → IsDrawn (reverse (take n script)) board
+    → IsPicture script k (record { pixels = board.pixels; border = board.border; colours = board.colours; at = at })
+unfolding picture_pixel picture_border picture_colour
+drawn-picture script k n board at size h =
+    let all = subst (λ lines. IsDrawn (reverse lines) board) (sym (before_prefix script k ∙ ap (λ m. take m script) (sym size))) h in
+    record { pixels_are = all.pixels_are; border_is = all.border_is; colours_are = all.colours_are }
+
+pub length-all_said : (pixels : List ℕ) (lines : List Line) → length (all_said pixels lines) ≡ length lines
+unfolding all_said
+length-all_said pixels lines = length-map lines (said pixels)
+
+pub before-most : (script : List Drawing) (k : ℕ) → length (lines_before script k) ≤ length script
+before-most script k = omega (arith, ap length (before_prefix script k) ∙ length-take (length (lines_before script k)) script)
+
+pub next_line : (pixels : List ℕ) (lines : List Line) (script : List Drawing) (i : ℕ) (line : Line) (board : Board) → all_said pixels lines ≡ script → i < length lines → line ≡ get_or lines i line
+    → IsDrawn (said pixels line ∷ reverse (take i script)) board → IsDrawn (reverse (take (i + 1) script)) board
+unfolding all_said
+next_line pixels lines script i line board view i_lt read h =
+    let size : length (map (said pixels) lines) ≡ length lines = length-map lines (said pixels) in
+    let more : take (i + 1) script ≡ take i script ++ said pixels line ∷ [] =
+    ap (take (i + 1)) (sym view) ∙ take_more (map (said pixels) lines) i (said pixels line) (omega arith)
+    ∙ ap (λ xs. take i xs ++ get_or xs i (said pixels line) ∷ []) view
+    ∙ ap (λ x. take i script ++ x ∷ []) (ap (λ xs. get_or xs i (said pixels line)) (sym view) ∙ get_or-map (said pixels) lines i line (said pixels line) i_lt ∙ ap (said pixels) (sym read)) in
+    subst (λ drawn. IsDrawn drawn board) (sym (ap reverse more ∙ reverse-append (take i script) (said pixels line ∷ []))) h
+
+pub kept_at : (lines : List Line) (size n i : ℕ) (line : Line) → All (λ l. is_kept size l ≡ true) lines → n ≡ size → i < length lines → line ≡ get_or lines i line → is_kept n line ≡ true
+kept_at lines size n i line all same i_lt read =
+    subst (λ m. is_kept m line ≡ true) (sym same) (subst (λ l. is_kept size l ≡ true) (sym read) (All-get_or (λ l. is_kept size l ≡ true) lines i line i_lt all))
+
+pub drawn_before : (script : List Drawing) (k drawn n : ℕ) (board : Board) → board.at ≡ Some drawn → StandsBefore script k board → n ≡ length (lines_before script drawn) → IsDrawn (reverse (take n script)) board
+drawn_before script k drawn n board at h size =
+    picture-drawn script drawn n board size (subst (λ o. MatchOption o (IsBlank board) (λ j. (j ≤ k) × IsPicture script j board)) at h).1
+
+pub none_before : (script : List Drawing) (k n : ℕ) (board : Board) → board.at ≡ None → StandsBefore script k board → n ≡ 0 → IsDrawn (reverse (take n script)) board
+none_before script k n board at h size =
+    subst (λ m. IsDrawn (reverse (take m script)) board) (sym size)
+    (blank-drawn script board (subst (λ o. MatchOption o (IsBlank board) (λ j. (j ≤ k) × IsPicture script j board)) at h))
+
+-- the tile of a picture
+pub tile_is : (pixels tile : List ℕ) (row column : ℕ) → length tile ≡ 72
+    → ((q : ℕ) → q < 72 → get_or tile q 0 ≡ pixel_of pixels (6 * (column - 1) + q % 6) (12 * (row - 1) + q / 6)) → tile ≡ tile_of pixels row column
+unfolding tile_of
+tile_is pixels tile row column size all =
+    let f : ℕ → ℕ = λ p. pixel_of pixels (6 * (column - 1) + p % 6) (12 * (row - 1) + p / 6) in
+    let count = length-map-range_with_len f 0 72 in
+    same_number_lists tile (map f (below 72)) (omega arith) (λ q q_lt. all q (omega arith) ∙ sym (get_or-map-range_with_len f 0 72 q q 0 (omega arith) (omega arith)))
+
+pub picture_tile_is : (script : List Drawing) (k row column : ℕ) (board : Board) (tile : List ℕ) → 1 ≤ row → row ≤ 16 → 1 ≤ column → column ≤ 48 → length tile ≡ 72
+    → ((q : ℕ) → q < 72 → get_or tile q 0 ≡ pixel_of board.pixels (6 * (column - 1) + q % 6) (12 * (row - 1) + q / 6)) → IsPicture script k board → tile ≡ picture_tile script k row column
+unfolding picture_tile
+picture_tile_is script k row column board tile row_ge row_le column_ge column_le size all h =
+    let f : ℕ → ℕ = λ p. picture_pixel script k (6 * (column - 1) + p % 6) (12 * (row - 1) + p / 6) in
+    let count = length-map-range_with_len f 0 72 in
+    same_number_lists tile (map f (below 72)) (omega arith) (λ q q_lt.
+    all q (omega arith) ∙ h.pixels_are (6 * (column - 1) + q % 6) (12 * (row - 1) + q / 6) (omega arith) (omega arith)
+    ∙ sym (get_or-map-range_with_len f 0 72 q q 0 (omega arith) (omega arith)))
+
+-- a picture that stands there has no more lines before it
+pub not_after : (script : List Drawing) (k drawn : ℕ) (board : Board) → board.at ≡ Some drawn → StandsBefore script k board → length (lines_before script drawn) ≤ length (lines_before script k)
+not_after script k drawn board at h =
+    before_rising script drawn k (subst (λ o. MatchOption o (IsBlank board) (λ j. (j ≤ k) × IsPicture script j board)) at h).0

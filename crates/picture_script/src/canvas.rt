@@ -1,0 +1,161 @@
+// A canvas on which the pictures of a script are drawn.
+use crate::line::Line;
+use crate::script::Script;
+use crate::window::Window;
+use cdg_instructions::{PIXELS, Tile};
+use std::alloc::{AllocError, Global};
+use std::marker::Model;
+
+/// A window of 288 by 192 pixels, a border and a table of sixteen colours, as lines of a script set them.
+#[derive(Drop)]
+pub struct Canvas {
+    window: Window,
+    border: u8,
+    colours: [u16; 16],
+    at: Option<u32>,
+}
+
+impl Model for Canvas {
+    ghost use Rattle.picture_script.specs.Board.{Board, IsInRange};
+
+    ghost Value = { Board };
+
+    ghost view = { λ c. record { pixels = c.window; border = c.border; colours = c.colours; at = c.at } };
+
+    ghost invariant = { λ c. IsInRange c.border c.colours };
+}
+
+impl Canvas {
+    ghost use Rattle.std.specs.Prelude.{◌≡◌, ◌<◌, ◌≤◌, ◌+◌, ◌-◌, ◌*◌, ℕ, List, [], ◌∷◌, length, slice_index, true, IfOk, Some, None, reverse, take};
+    ghost use Rattle.picture_script.specs.Script.{Drawing, pictures, picture_tile, picture_pixel, picture_border, picture_colour};
+    ghost use Rattle.picture_script.specs.Board.{Board, pixel_of, tile_of, AreColours, IsBlank, IsPicture, IsDrawn, StandsBefore};
+    ghost use Rattle.picture_script.specs.Lines.{said, is_kept};
+
+    /// A canvas on which all is 0.
+    pub fn start(alloc: Global) -> Result<Canvas, AllocError>
+        ensures blank { IfOk result IsBlank }
+        ensures at { IfOk result (λ c. c.at ≡ None) }
+    {
+        Ok(Canvas {
+            window: Window::new(alloc)?,
+            border: 0,
+            colours: [0; 16],
+            at: None,
+        })
+    }
+
+    /// Makes all 0 again.
+    pub fn reset(&mut self)
+        ensures blank { IsBlank self.new }
+        ensures at { self.new.at ≡ None }
+    {
+        self.window.clear(0);
+        self.border = 0;
+        self.colours = [0; 16];
+        self.at = None;
+    }
+
+    /// The number of the picture that stands there, or none after start and reset.
+    pub fn at(&self) -> Option<u32>
+        ensures { result ≡ self.now.at }
+    {
+        self.at
+    }
+
+    // Draws what one line says.
+    fn draw(&mut self, line: Line, pixels: &[u8])
+        requires kept { is_kept (length pixels.now) line ≡ true }
+        requires colours { AreColours pixels.now }
+        ensures drawn { (before : List Drawing) → IsDrawn before self.old → IsDrawn (said pixels.now line ∷ before) self.new }
+    {
+        match line {
+            Line::TableColour { number, value } => self.colours[usize::from(number)] = value,
+            Line::BorderColour { colour } => self.border = colour,
+            Line::Filled { colour } => self.window.clear(colour),
+            Line::Rectangle {
+                x,
+                y,
+                width,
+                height,
+                colour,
+            } => self.window.fill(
+                usize::from(x),
+                usize::from(y),
+                usize::from(width),
+                usize::from(height),
+                colour,
+            ),
+            Line::PixelRow { x, y, first, count } => {
+                let end = first + usize::from(count);
+                self.window
+                    .draw_row(usize::from(x), usize::from(y), &pixels[first..end]);
+            }
+            Line::ShowLine { .. } => {}
+        }
+    }
+
+    /// Draws the lines before the show line of picture `k`, from those on that have been drawn.
+    pub fn draw_until(&mut self, script: &Script, k: u32)
+        requires picture { k < pictures script.now }
+        requires before { StandsBefore script.now k self.old }
+        ensures picture { IsPicture script.now k self.new }
+        ensures at { self.new.at ≡ Some k }
+    {
+        let from = match self.at {
+            Some(drawn) => script.place(drawn),
+            None => 0,
+        };
+        for i in from..script.place(k) {
+            self.draw(script.lines[i], &script.pixels);
+        }
+        self.at = Some(k);
+    }
+
+    /// The colour number of a pixel of the window.
+    pub fn pixel(&self, x: u32, y: u32) -> u8
+        requires width { x < 288 }
+        requires height { y < 192 }
+        ensures pixel { result ≡ pixel_of self.now.pixels x y }
+        ensures range { result < 16 }
+    {
+        self.window.get(x as usize, y as usize)
+    }
+
+    /// The pixels of the tile at a row from 1 to 16 and a column from 1 to 48.
+    pub fn tile(&self, row: u8, column: u8) -> Tile
+        requires row_first { 1 ≤ row }
+        requires row_last { row ≤ 16 }
+        requires column_first { 1 ≤ column }
+        requires column_last { column ≤ 48 }
+        ensures tile { result ≡ tile_of self.now.pixels row column }
+        ensures picture { (script : List Drawing) (k : ℕ) → IsPicture script k self.now → result ≡ picture_tile script k row column }
+    {
+        let left = 6 * (usize::from(column) - 1);
+        let top = 12 * (usize::from(row) - 1);
+        let mut pixels = [0; PIXELS];
+        for p in 0..PIXELS {
+            pixels[p] = self.window.get(left + p % 6, top + p / 6);
+        }
+        match Tile::new(&pixels) {
+            Some(tile) => tile,
+            None => unreachable!(),
+        }
+    }
+
+    /// Colour `k` of the table, as a number of four bits each for red, green and blue.
+    pub fn colour(&self, k: u8) -> u16
+        requires { k < 16 }
+        ensures value { result ≡ slice_index self.now.colours k }
+        ensures range { result < 4096 }
+    {
+        self.colours[usize::from(k)]
+    }
+
+    /// The number of the border's colour.
+    pub fn border(&self) -> u8
+        ensures value { result ≡ self.now.border }
+        ensures range { result < 16 }
+    {
+        self.border
+    }
+}
