@@ -1,0 +1,29 @@
+-- The words of a command line and its options.
+use Rattle.std.proofs.Common.{◌≡◌, ◌≢◌, ◌≤◌, ℕ, List, [], ◌∷◌, String, string_bytes, codes, bytes_eq, false, refl, sym, ap, ◌∙◌, subst, Some, None, rules}
+use Rattle.std.specs.declared.option.Option.{Option}
+use Rattle.std.specs.Option.{option_map}
+use Rattle.raw_subcode.specs.declared.form.Form.{Form}
+use Rattle.cdg_cmd.specs.declared.options.StreamOptions.{StreamOptions}
+use Rattle.cdg_cmd.specs.Words.{texts, SpellsStream}
+use Rattle.cdg_cmd.specs.Spelling.{Spells, command_name}
+use Rattle.cdg_cmd.specs.declared.command.Command.{Command}
+use Rattle.cdg_cmd.specs.declared.command.Command.TheVariants.{Convert}
+
+-- what holds of all words holds of the first and the rest
+pub texts-split : {A : Type 0} (P : List (List ℕ) → Type 0) (words : List (String A)) (x : String A) (rest : List (String A)) → words ≡ x ∷ rest → P (texts words) → P (string_bytes x ∷ texts rest)
+texts-split P words x rest e p = subst (λ (ws : List (String _)). P (texts ws)) e p
+
+pub same_command : (a b : Command) → Some a ≡ Some b → a ≡ b
+same_command a b e = (cc)
+
+pub no_form : (a : Form) → ◌≡◌ {A = Option Form} None (Some a) → ⊥
+no_form a e = (cc)
+
+pub no_command : (a : Command) → ◌≡◌ {A = Option Command} None (Some a) → ⊥
+no_command a e = (cc)
+
+-- `convert` and its options spell a conversion alone
+pub convert_all : (options : List (List ℕ)) (o : Option StreamOptions)
+    → ((lead_in : ℕ) (form : Form) → lead_in ≤ 450000 → SpellsStream lead_in form options → o ≡ Some (record { lead_in = lead_in; form = form }))
+    → (command : Command) → Spells command (codes "convert" ∷ options) → option_map (λ s. Convert s.lead_in s.form) o ≡ Some command
+convert_all options o all (Convert lead_in form) s = ap (option_map (λ (s : StreamOptions). Convert s.lead_in s.form)) (all lead_in form s.1 s.2)

@@ -1,0 +1,53 @@
+-- What a command answers and writes.
+use Rattle.std.specs.Prelude.{◌≡◌, ◌≢◌, IfSome, ℕ, ◌==◌, ◌⊎◌, ⊤, List, length, Result, Ok, Err, if◌then◌else◌}
+use Rattle.std.specs.declared.option.Option.{Option}
+use Rattle.std.specs.Io.KnownBytes.{Appends}
+use Rattle.cdg_io.specs.Causes.{Rose}
+use Rattle.cdg_io.specs.Moves.{AppendsPrefix}
+use Rattle.raw_subcode.specs.Channels.{unit_size}
+use Rattle.raw_subcode.specs.declared.form.Form.{Form}
+use Rattle.subcode_player.specs.Convert.{Converts, IsAnsweredBy}
+use Rattle.subcode_player.specs.declared.player.Played.{Played}
+use Rattle.subcode_player.specs.declared.player.PlayStop.{PlayStop}
+use Rattle.subcode_player.specs.declared.player.PlayStop.TheVariants as play
+use Rattle.cdg_cmd.specs.Line.{error_line}
+use Rattle.cdg_cmd.specs.declared.command.Command.{Command}
+use Rattle.cdg_cmd.specs.declared.command.Command.TheVariants.{Convert}
+use Rattle.cdg_cmd.specs.declared.status.Which.TheVariants.{First, Second}
+use Rattle.cdg_cmd.specs.declared.status.Refusal.TheVariants.{Torn, TooLong}
+use Rattle.cdg_cmd.specs.declared.status.Status.{Status}
+use Rattle.cdg_cmd.specs.declared.status.Status.TheVariants.{Done, Damaged, Usage, Refused, ReadFault, WriteFault, NoMemory}
+
+-- the status of what a player answers
+abbrev pub play_status : Result Played PlayStop → Status
+play_status (Ok played) = if played.bad == 0 then Done else Damaged played.bad
+play_status (Err play.ReadFault) = ReadFault First
+play_status (Err play.WriteFault) = WriteFault
+play_status (Err (play.Torn block)) = Refused (Torn block)
+play_status (Err play.TooLong) = Refused TooLong
+
+-- A conversion ended with this status: what it took and put, and the exact answer where no fault is told.
+pub record ConvertsWith (form : Form) (lead_in : ℕ) (left left' held held' : Option (List ℕ)) (status : Status) : Type 0 where
+  pub answer : Result Played PlayStop
+  pub status_is : status ≡ play_status answer
+  pub taken : List ℕ
+  pub converts : Converts form lead_in left left' held held' answer taken
+  pub exactly : IfSome left (λ all. IsAnsweredBy answer (unit_size form) (length all))
+
+-- what a command does with its input and its output, where memory is found
+abbrev pub Does : Command → Option (List ℕ) → Option (List ℕ) → Option (List ℕ) → Option (List ℕ) → Status → Type 0
+Does (Convert lead_in form) left left' held held' status = ConvertsWith form lead_in left left' held held' status
+
+-- no fault is told, and the words were a form
+abbrev pub IsAnswered : Status → Type 0
+IsAnswered Done = ⊤
+IsAnswered (Damaged n) = ⊤
+IsAnswered (Refused why) = ⊤
+IsAnswered NoMemory = ⊤
+IsAnswered Usage = ⊥
+IsAnswered (ReadFault which) = ⊥
+IsAnswered WriteFault = ⊥
+
+-- the line of the status was written, or a prefix of it where the count of faults rose
+abbrev pub Tells : Option (List ℕ) → Option (List ℕ) → ℕ → ℕ → Status → Type 0
+Tells held held' faults faults' status = Appends held held' (error_line status) ⊎ (Rose faults faults' × AppendsPrefix held held' (error_line status))

@@ -1,0 +1,5 @@
+pub mod Answer
+pub mod Line
+pub mod Spelling
+pub mod Splitting
+pub mod Words

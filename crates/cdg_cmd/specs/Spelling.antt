@@ -1,0 +1,22 @@
+-- How each command is spelled.
+use Rattle.std.specs.Prelude.{◌≡◌, ◌≤◌, ℕ, List, [], ◌∷◌, codes}
+use Rattle.cdg_cmd.specs.Words.{SpellsStream}
+use Rattle.cdg_cmd.specs.declared.command.Command.{Command}
+use Rattle.cdg_cmd.specs.declared.command.Command.TheVariants.{Convert}
+
+-- the numbers that a command may have
+abbrev pub IsAllowed : Command → Type 0
+IsAllowed (Convert lead_in form) = lead_in ≤ 450000
+
+-- the name of a command
+abbrev pub command_name : Command → List ℕ
+command_name (Convert lead_in form) = codes "convert"
+
+-- the words after its name spell the rest of a command
+abbrev pub SpellsOptions : Command → List (List ℕ) → Type 0
+SpellsOptions (Convert lead_in form) options = SpellsStream lead_in form options
+
+-- the words spell an allowed command
+abbrev pub Spells : Command → List (List ℕ) → Type 0
+Spells command [] = ⊥
+Spells command (name ∷ options) = (name ≡ command_name command) × IsAllowed command × SpellsOptions command options

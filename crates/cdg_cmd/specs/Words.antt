@@ -1,0 +1,34 @@
+-- The words of a command line, and the options that they spell.
+use Rattle.std.specs.Prelude.{◌≡◌, ℕ, List, [], ◌∷◌, map, String, string_bytes, codes, decimal}
+use Rattle.raw_subcode.specs.declared.form.Form.{Form}
+use Rattle.raw_subcode.specs.declared.form.Form.TheVariants.{Raw, Sector, Cooked}
+
+-- the bytes of each word
+abbrev pub texts : {A : Type 0} → List (String A) → List (List ℕ)
+texts words = map string_bytes words
+
+-- the name of a form
+abbrev pub form_name : Form → List ℕ
+form_name Raw = codes "raw"
+form_name Sector = codes "sector"
+form_name Cooked = codes "cooked"
+
+-- the only word names the form
+abbrev pub NamesForm : Form → List (List ℕ) → Type 0
+NamesForm form [] = ⊥
+NamesForm form (name ∷ rest) = (name ≡ form_name form) × (rest ≡ [])
+
+-- the words are `--form` and a form's name; raw is also meant where there are no words
+abbrev pub SpellsForm : Form → List (List ℕ) → Type 0
+SpellsForm form [] = form ≡ Raw
+SpellsForm form (option ∷ rest) = (option ≡ codes "--form") × NamesForm form rest
+
+-- the words are a number, in decimal without a leading zero, and then a form
+abbrev pub SpellsValues : ℕ → Form → List (List ℕ) → Type 0
+SpellsValues lead_in form [] = ⊥
+SpellsValues lead_in form (number ∷ rest) = (number ≡ decimal lead_in) × SpellsForm form rest
+
+-- the words are `--lead-in` and the number of its blocks, and then a form
+abbrev pub SpellsStream : ℕ → Form → List (List ℕ) → Type 0
+SpellsStream lead_in form [] = ⊥
+SpellsStream lead_in form (option ∷ rest) = (option ≡ codes "--lead-in") × SpellsValues lead_in form rest

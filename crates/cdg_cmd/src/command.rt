@@ -1,0 +1,39 @@
+// The words of the command line.
+ghost use Rattle.std.specs.Prelude.{◌≡◌, ◌∷◌, codes, IfSome, Some};
+ghost use Rattle.cdg_cmd.specs.Words.{texts};
+ghost use Rattle.cdg_cmd.specs.Spelling.{Spells};
+
+use crate::options::read_stream;
+use subcode_player::Form;
+
+/// A command with its numbers. A time is the number of its block.
+#[derive(Clone, Copy, Debug, PartialEq, Eq)]
+pub enum Command {
+    /// Writes the packs of a stream.
+    Convert { lead_in: u32, form: Form },
+}
+
+/// The command that the words spell: `None` where they spell none.
+pub fn read_words(words: &[String]) -> Option<Command>
+    ensures spelled { IfSome result (λ command. Spells command (texts words.now)) }
+    ensures all { (command : Command) → Spells command (texts words.now) → result ≡ Some command }
+{
+    let (name, options) = words.split_first()?;
+    match name.as_str() {
+        "convert" => read_convert(options),
+        _ => None,
+    }
+}
+
+fn read_convert(options: &[String]) -> Option<Command>
+    ensures spelled { IfSome result (λ command. Spells command (codes "convert" ∷ texts options.now)) }
+    ensures all { (command : Command) → Spells command (codes "convert" ∷ texts options.now) → result ≡ Some command }
+{
+    match read_stream(options) {
+        Some(stream) => Some(Command::Convert {
+            lead_in: stream.lead_in,
+            form: stream.form,
+        }),
+        None => None,
+    }
+}

@@ -1,0 +1,18 @@
+//! The commands of the workshop over sources and sinks: their words, what they answer, and the line that says it.
+#![tactic(auto)]
+
+mod command;
+mod line;
+mod options;
+mod parts;
+mod splitting;
+mod status;
+mod streams;
+mod top;
+
+pub use command::{Command, read_words};
+pub use line::tell;
+pub use parts::Split;
+pub use splitting::split;
+pub use status::{Refusal, Status, Which};
+pub use top::{dry_run, run};

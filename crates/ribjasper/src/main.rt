@@ -1,0 +1,76 @@
+//! Works on the subcode of Compact Discs, from standard input or named files to standard output.
+#![tactic(auto)]
+
+mod input;
+
+use cdg_cmd::{Status, run, split, tell};
+use cdg_io::{ReadSource, SteadySink, WriteSink};
+use input::Input;
+use std::env;
+use std::fs::File;
+use std::io;
+use std::io::{BufReader, BufWriter, Write};
+use std::process::ExitCode;
+
+const BUFFER: usize = 65_536;
+
+// All words after the program's own name. Where they are no text, there are none.
+fn words(rt: &HostRuntime) -> io::Result<Vec<String>> {
+    let mut words = Vec::new(rt.alloc());
+    if let Ok(args) = env::args(rt) {
+        for word in args.skip(1) {
+            words.push(word)?;
+        }
+    }
+    Ok(words)
+}
+
+// The input of this name.
+fn open(rt: &HostRuntime, name: &str) -> Input {
+    match File::open(rt, name) {
+        Ok(file) => Input::Named(file),
+        Err(_) => Input::Missing,
+    }
+}
+
+// The two inputs: those that are named, or standard input.
+fn inputs(rt: &HostRuntime, names: &[String]) -> (Input, Input) {
+    match names {
+        [first, second] => (open(rt, first), open(rt, second)),
+        [first] => (open(rt, first), Input::Empty),
+        _ => (Input::Standard(rt.stdin()), Input::Empty),
+    }
+}
+
+// Runs the words on the inputs and standard output.
+fn run_on_streams(rt: &HostRuntime) -> io::Result<Status> {
+    let alloc = rt.alloc();
+    let line = words(rt)?;
+    let split = split(&line);
+    let names = line.len() - split.names;
+    let (first, second) = inputs(rt, &line[names..]);
+    let mut first = ReadSource::new(BufReader::with_capacity(alloc, BUFFER, first)?);
+    let mut second = ReadSource::new(BufReader::with_capacity(alloc, BUFFER, second)?);
+    let mut writer = BufWriter::with_capacity(alloc, BUFFER, rt.stdout())?;
+    let mut out = WriteSink::new(&mut writer);
+    let mut err = SteadySink::new();
+    let status = run(
+        alloc,
+        &line[..split.words],
+        &mut first,
+        &mut second,
+        &mut out,
+        &mut err,
+    );
+    match writer.flush() {
+        Ok(()) => Ok(status),
+        Err(_) => Ok(Status::WriteFault),
+    }
+}
+
+fn main(rt: HostRuntime) -> ExitCode {
+    let status = run_on_streams(&rt).unwrap_or(Status::NoMemory);
+    // A failure there changes nothing.
+    let _told = tell(&mut WriteSink::new(rt.stderr()), status);
+    ExitCode::from(status.exit())
+}
