@@ -6,7 +6,8 @@ use Rattle.cdg_io.specs.Causes.{Rose}
 use Rattle.cdg_io.specs.Moves.{AppendsPrefix}
 use Rattle.raw_subcode.specs.Channels.{unit_size}
 use Rattle.raw_subcode.specs.declared.form.Form.{Form}
-use Rattle.subcode_player.specs.Convert.{Converts, IsAnsweredBy}
+use Rattle.subcode_player.specs.Calls.{IsAnsweredBy}
+use Rattle.subcode_player.specs.Convert.{Converts}
 use Rattle.subcode_player.specs.declared.player.Played.{Played}
 use Rattle.subcode_player.specs.declared.player.PlayStop.{PlayStop}
 use Rattle.subcode_player.specs.declared.player.PlayStop.TheVariants as play
