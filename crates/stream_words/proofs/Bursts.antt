@@ -44,8 +44,8 @@ at_each p a zero e k from to = absurd (omega (arith, from, to))
 at_each p a (suc n) e k from to =
     let parts = and_both (p a) (list_all p (range_with_len (a + 1) n)) e in
     elim (leb_tells (suc a) k) [
-      inl later ↦ at_each p (a + 1) n parts.1 k (omega (arith, later.1)) (omega (arith, to)) |
-      inr here ↦ let same : a ≡ k = omega (arith, here.1, from) in subst (λ m. p m ≡ true) same parts.0
+      | inl later ↦ at_each p (a + 1) n parts.1 k (omega (arith, later.1)) (omega (arith, to))
+      | inr here ↦ let same : a ≡ k = omega (arith, here.1, from) in subst (λ m. p m ≡ true) same parts.0
     ]
 
 -- ---- two places of the same burst are near each other
@@ -60,20 +60,20 @@ begins : (from : ℕ) (bursts : List (ℕ × ℕ)) (p : ℕ) → AreBurstsFrom f
 begins from [] p apart inside = absurd (cc)
 begins from (burst ∷ rest) p apart inside =
     or_elim (is_in_burst p burst) (list_any (is_in_burst p) rest) inside
-      (λ here. omega (arith, apart.0, (in_burst p burst here).0))
-      (λ there. omega (arith, apart.0, begins (burst.0 + burst.1 + 192) rest p apart.2 there))
+    (λ here. omega (arith, apart.0, (in_burst p burst here).0))
+    (λ there. omega (arith, apart.0, begins (burst.0 + burst.1 + 192) rest p apart.2 there))
 
 close : (from : ℕ) (bursts : List (ℕ × ℕ)) (p q : ℕ) → AreBurstsFrom from bursts → list_any (is_in_burst p) bursts ≡ true → list_any (is_in_burst q) bursts ≡ true → p ≤ q → q ≤ p + 191 → q ≤ p + 15
 close from [] p q apart p_in q_in before near = absurd (cc)
 close from (burst ∷ rest) p q apart p_in q_in before near =
     let later : ℕ = burst.0 + burst.1 + 192 in
     or_elim (is_in_burst p burst) (list_any (is_in_burst p) rest) p_in
-      (λ p_here. or_elim (is_in_burst q burst) (list_any (is_in_burst q) rest) q_in
-        (λ q_here. omega (arith, (in_burst p burst p_here).0, (in_burst q burst q_here).1, apart.1))
-        (λ q_there. omega (arith, (in_burst p burst p_here).1, begins (burst.0 + burst.1 + 192) rest q apart.2 q_there, near)))
-      (λ p_there. or_elim (is_in_burst q burst) (list_any (is_in_burst q) rest) q_in
-        (λ q_here. omega (arith, (in_burst q burst q_here).1, begins (burst.0 + burst.1 + 192) rest p apart.2 p_there, before))
-        (λ q_there. close (burst.0 + burst.1 + 192) rest p q apart.2 p_there q_there before near))
+    (λ p_here. or_elim (is_in_burst q burst) (list_any (is_in_burst q) rest) q_in
+    (λ q_here. omega (arith, (in_burst p burst p_here).0, (in_burst q burst q_here).1, apart.1))
+    (λ q_there. omega (arith, (in_burst p burst p_here).1, begins (burst.0 + burst.1 + 192) rest q apart.2 q_there, near)))
+    (λ p_there. or_elim (is_in_burst q burst) (list_any (is_in_burst q) rest) q_in
+    (λ q_here. omega (arith, (in_burst q burst q_here).1, begins (burst.0 + burst.1 + 192) rest p apart.2 p_there, before))
+    (λ q_there. close (burst.0 + burst.1 + 192) rest p q apart.2 p_there q_there before near))
 
 -- ---- three places of a word are not all near each other
 
@@ -127,14 +127,14 @@ differ f g zero a b (suc n) size many = absurd (omega (arith, many))
 differ f g (suc m) a b (suc n) size many =
     let rest : ℕ = differences (map f (range_with_len (a + 1) m)) (map g (range_with_len (a + 1) m)) in
     elim (eqb_tells (f a) (g a)) [
-      inl same ↦
-        let whole : cond true 0 1 + differences (map f (range_with_len (a + 1) m)) (map g (range_with_len (a + 1) m)) ≡ differences (map f (range_with_len a (suc m))) (map g (range_with_len a (suc m))) =
-        ap (λ t. cond t 0 1 + differences (map f (range_with_len (a + 1) m)) (map g (range_with_len (a + 1) m))) (sym same.0) in
-        earlier f g (suc n) a (a + 1) b (omega arith) (differ f g m (a + 1) b (suc n) (omega (arith, size)) (omega (arith, many, whole))) |
-      inr other ↦
-        let whole : cond false 0 1 + differences (map f (range_with_len (a + 1) m)) (map g (range_with_len (a + 1) m)) ≡ differences (map f (range_with_len a (suc m))) (map g (range_with_len a (suc m))) =
-        ap (λ t. cond t 0 1 + differences (map f (range_with_len (a + 1) m)) (map g (range_with_len (a + 1) m))) (sym other.0) in
-        (a, omega arith, omega (arith, size), other.1, differ f g m (a + 1) b n (omega (arith, size)) (omega (arith, many, whole)))
+      | inl same ↦
+          let whole : cond true 0 1 + differences (map f (range_with_len (a + 1) m)) (map g (range_with_len (a + 1) m)) ≡ differences (map f (range_with_len a (suc m))) (map g (range_with_len a (suc m))) =
+          ap (λ t. cond t 0 1 + differences (map f (range_with_len (a + 1) m)) (map g (range_with_len (a + 1) m))) (sym same.0) in
+          earlier f g (suc n) a (a + 1) b (omega arith) (differ f g m (a + 1) b (suc n) (omega (arith, size)) (omega (arith, many, whole)))
+      | inr other ↦
+          let whole : cond false 0 1 + differences (map f (range_with_len (a + 1) m)) (map g (range_with_len (a + 1) m)) ≡ differences (map f (range_with_len a (suc m))) (map g (range_with_len a (suc m))) =
+          ap (λ t. cond t 0 1 + differences (map f (range_with_len (a + 1) m)) (map g (range_with_len (a + 1) m))) (sym other.0) in
+          (a, omega arith, omega (arith, size), other.1, differ f g m (a + 1) b n (omega (arith, size)) (omega (arith, many, whole)))
     ]
 
 -- ---- words of symbols that differ in bursts
@@ -152,8 +152,8 @@ module _ (symbols others : List ℕ) (n : ℕ) (differs : DiffersInBursts symbol
 
   not_far : (i j : ℕ) → i < 24 → j < 24 → one i ≢ other i → one j ≢ other j → offset i ≤ offset j + 15
   not_far i j i_small j_small i_unlike j_unlike = elim (leb_tells (place n j) (place n i)) [
-    inl after ↦ omega (arith, close 0 differs.bursts (place n j) (place n i) differs.apart (is_hit j j_small j_unlike) (is_hit i i_small i_unlike) after.1 (omega (arith, swapped-lt i i_small, swapped-lt j j_small))) |
-    inr before ↦ omega (arith, before.1)
+    | inl after ↦ omega (arith, close 0 differs.bursts (place n j) (place n i) differs.apart (is_hit j j_small j_unlike) (is_hit i i_small i_unlike) after.1 (omega (arith, swapped-lt i i_small, swapped-lt j j_small)))
+    | inr before ↦ omega (arith, before.1)
   ]
 
   closely : (i j : ℕ) → i < 24 → j < 24 → one i ≢ other i → one j ≢ other j → are_close i j ≡ true
@@ -163,10 +163,10 @@ module _ (symbols others : List ℕ) (n : ℕ) (differs : DiffersInBursts symbol
   pub near_word : IsNear (word_of symbols n) (word_of others n)
   unfolding word_of
   near_word = elim (leb_tells 3 (differences (map one (below 24)) (map other (below 24)))) [
-    inl three ↦
-      let (i, i_from, i_to, i_unlike, (j, j_from, j_to, j_unlike, (k, k_from, k_to, k_unlike, rest))) = differ one other 24 0 24 3 (omega arith) three.1 in
-      absurd (not_three i j k (omega (arith, j_from)) (omega (arith, k_from)) k_to (closely i j i_to j_to i_unlike j_unlike) (closely i k i_to k_to i_unlike k_unlike) (closely j k j_to k_to j_unlike k_unlike)) |
-    inr few ↦ omega (arith, few.1)
+    | inl three ↦
+        let (i, i_from, i_to, i_unlike, (j, j_from, j_to, j_unlike, (k, k_from, k_to, k_unlike, rest))) = differ one other 24 0 24 3 (omega arith) three.1 in
+        absurd (not_three i j k (omega (arith, j_from)) (omega (arith, k_from)) k_to (closely i j i_to j_to i_unlike j_unlike) (closely i k i_to k_to i_unlike k_unlike) (closely j k j_to k_to j_unlike k_unlike))
+    | inr few ↦ omega (arith, few.1)
   ]
 
 whole_fits : (blocks n len : ℕ) → len ≡ 96 * blocks → n < whole_packs (len / 96) → 24 * (n + 8) ≤ len

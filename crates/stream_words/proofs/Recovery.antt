@@ -3,7 +3,7 @@ use Rattle.std.proofs.Common.{◌≡◌, ℕ, ◌+◌, ◌-◌, ◌*◌, ◌/◌
 use Rattle.std.specs.declared.option.Option.{Option}
 use Rattle.std.specs.List.{concat}
 use Rattle.std.proofs.lemmas.Bool.Decides.{eqb_tells, leb_tells}
-use Rattle.std.proofs.lemmas.List.{ext_get_or, length-map, length-replicate, get_or-map, get_or_append_left,  get_or-replicate}
+use Rattle.std.proofs.lemmas.List.{ext_get_or, length-map, length-replicate, get_or-map, get_or_append_left, get_or-replicate}
 use Rattle.std.proofs.Math.Seq.{get_or-append_right}
 use Rattle.std.proofs.Math.ListN.{get_or-eq_default}
 use Rattle.std.proofs.lemmas.List.Elements.{All-get_or}
@@ -28,8 +28,8 @@ pub differences-same : (xs : List ℕ) → differences xs xs ≡ 0
 unfolding differences
 differences-same [] = refl
 differences-same (x ∷ xs) = elim (eqb_tells x x) [
-  inl same ↦ ap (λ (t : Bool). cond t 0 1 + differences xs xs) same.0 ∙ ap (λ n. 0 + n) (differences-same xs) |
-  inr other ↦ absurd (other.1 refl)
+  | inl same ↦ ap (λ (t : Bool). cond t 0 1 + differences xs xs) same.0 ∙ ap (λ n. 0 + n) (differences-same xs)
+  | inr other ↦ absurd (other.1 refl)
 ]
 
 abbrev one_if_not : ℕ → ℕ → ℕ
@@ -37,8 +37,8 @@ one_if_not x y = if x == y then 0 else 1
 
 one_difference : (x y : ℕ) → one_if_not x y ≡ one_if_not y x
 one_difference x y = elim (eqb_tells x y) [
-  inl same ↦ ap₂ one_if_not same.1 (sym same.1) |
-  inr other ↦ ap (λ t. cond t 0 1) other.0 ∙ sym (elim (eqb_tells y x) [ inl same ↦ absurd (other.1 (sym same.1)) | inr more ↦ ap (λ t. cond t 0 1) more.0 ])
+  | inl same ↦ ap₂ one_if_not same.1 (sym same.1)
+  | inr other ↦ ap (λ t. cond t 0 1) other.0 ∙ sym (elim (eqb_tells y x) [ inl same ↦ absurd (other.1 (sym same.1)) | inr more ↦ ap (λ t. cond t 0 1) more.0 ])
 ]
 
 pub differences-turned : (xs ys : List ℕ) → length xs ≡ length ys → differences xs ys ≡ differences ys xs
@@ -64,8 +64,8 @@ form_words Cooked symbols n small = placed_word symbols (λ i. 24 * n + i) small
 
 pub small_get : (symbols : List ℕ) → All (λ symbol. symbol < 64) symbols → (p : ℕ) → get_or symbols p 0 < 64
 small_get symbols small p = elim (leb_tells (length symbols) p) [
-  inl past ↦ omega (arith, get_or-eq_default symbols 0 past.1) |
-  inr within ↦ All-get_or (λ symbol. symbol < 64) symbols p 0 within.1 small
+  | inl past ↦ omega (arith, get_or-eq_default symbols 0 past.1)
+  | inr within ↦ All-get_or (λ symbol. symbol < 64) symbols p 0 within.1 small
 ]
 
 -- ---- what is found
@@ -81,9 +81,9 @@ found_is form symbols found codewords one recovered each =
     let count : ℕ = word_count form (length symbols / 96) in
     let size : length (map (λ n. Some (codewords n)) (below count)) ≡ count = length-map-range_with_len (λ n. Some (codewords n)) 0 count in
     ext_get_or None found (map (λ n. Some (codewords n)) (below count)) (recovered.count ∙ sym size) (λ n lt.
-      let within : n < count = omega (arith, lt, recovered.count) in
-      finding_of (form_word form symbols n) (codewords n) _ one (each n within).0 (each n within).1 (recovered.each n within)
-      ∙ sym (get_or-map-range_with_len (λ n. Some (codewords n)) 0 count n n None within (omega arith)))
+    let within : n < count = omega (arith, lt, recovered.count) in
+    finding_of (form_word form symbols n) (codewords n) _ one (each n within).0 (each n within).1 (recovered.each n within)
+    ∙ sym (get_or-map-range_with_len (λ n. Some (codewords n)) 0 count n n None within (omega arith)))
 
 itself : (codeword : List ℕ) → IsCodeword codeword → Reads codeword codeword
 itself codeword is_codeword = record { is_codeword = is_codeword; is_near = omega (arith, differences-same codeword) }
@@ -138,15 +138,17 @@ module _ (form : Form) (blocks : ℕ) (symbols others : List ℕ) (packs : List 
       let size : length all ≡ count =
       length-append packs (replicate (word_count form blocks - length packs) (replicate 24 0)) ∙ ap (λ n. length packs + n) (length-replicate (word_count form blocks - length packs) (replicate 24 0))
       ∙ omega (arith, same, carries.count, enough form blocks) in
-      let each : (n : ℕ) → n < count → IsWord (form_word form others n) × Reads (form_word form others n) (get_or all n []) = λ n lt. (form_words form others n small,
+      let each : (n : ℕ) → n < count → IsWord (form_word form others n) × Reads (form_word form others n) (get_or all n []) = λ n lt. (
+        form_words form others n small,
         elim (leb_tells (whole_packs blocks) n) [
-          inl from ↦ reads_zeros n from.1 (omega (arith, lt, same)) |
-          inr before ↦ reads_pack n before.1
-        ]) in
+          | inl from ↦ reads_zeros n from.1 (omega (arith, lt, same))
+          | inr before ↦ reads_pack n before.1
+        ],
+      ) in
       found_is form others found (λ n. get_or all n []) one recovered each
       ∙ ext_get_or None (map (λ n. Some (get_or all n [])) (below count)) (map (λ pack. Some pack) all) (length-map-range_with_len (λ n. Some (get_or all n [])) 0 count ∙ sym (length-map all (λ pack. Some pack) ∙ size)) (λ n lt.
-        let within : n < count = omega (arith, lt, length-map-range_with_len (λ n. Some (get_or all n [])) 0 count) in
-        get_or-map-range_with_len (λ n. Some (get_or all n [])) 0 count n n None within (omega arith) ∙ sym (get_or-map (λ pack. Some pack) all n [] None (omega (arith, within, size))))
+      let within : n < count = omega (arith, lt, length-map-range_with_len (λ n. Some (get_or all n [])) 0 count) in
+      get_or-map-range_with_len (λ n. Some (get_or all n [])) 0 count n n None within (omega arith) ∙ sym (get_or-map (λ pack. Some pack) all n [] None (omega (arith, within, size))))
 
 -- ---- the text of packs
 
