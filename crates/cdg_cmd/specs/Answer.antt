@@ -39,6 +39,16 @@ pub record ConvertsWith (form : Form) (lead_in : ℕ) (left left' held held' : O
 abbrev pub Does : Command → Option (List ℕ) → Option (List ℕ) → Option (List ℕ) → Option (List ℕ) → Status → Type 0
 Does (Convert lead_in form) left left' held held' status = ConvertsWith form lead_in left left' held held' status
 
+-- this text was put and nothing was bad, unless a read or a write failed or no memory was found
+abbrev pub GivesBack : List ℕ → Option (List ℕ) → Option (List ℕ) → Status → Type 0
+GivesBack text held held' Done = Appends held held' text
+GivesBack text held held' (ReadFault which) = ⊤
+GivesBack text held held' WriteFault = ⊤
+GivesBack text held held' NoMemory = ⊤
+GivesBack text held held' (Damaged n) = ⊥
+GivesBack text held held' Usage = ⊥
+GivesBack text held held' (Refused why) = ⊥
+
 -- no fault is told, and the words were a form
 abbrev pub IsAnswered : Status → Type 0
 IsAnswered Done = ⊤

@@ -1,7 +1,10 @@
 // The commands on a stream of blocks.
-ghost use Rattle.std.specs.Prelude.{◌≡◌, ◌≢◌, ◌≤◌};
+ghost use Rattle.std.specs.Prelude.{◌≡◌, ◌≢◌, ◌≤◌, ℕ, List, IfSome};
 ghost use Rattle.cdg_io.specs.Causes.{Rose};
-ghost use Rattle.cdg_cmd.specs.Answer.{Does, play_status};
+ghost use Rattle.std.specs.List.{concat};
+ghost use Rattle.stream_words.specs.Stream.{all_packs};
+ghost use Rattle.subcode_player.specs.Convert.{IsDamagedStream};
+ghost use Rattle.cdg_cmd.specs.Answer.{Does, GivesBack, play_status};
 
 use crate::{Command, Refusal, Status, Which};
 use cdg_io::{Sink, Source};
@@ -33,6 +36,10 @@ pub(crate) fn run_convert<S: Source, K: Sink>(
     requires { lead_in ≤ 450000 }
     ensures does { result ≢ Status.NoMemory → Does (Command.Convert lead_in form) (S.left source.old) (S.left source.new)
         (K.held out.old) (K.held out.new) result }
+    // From damage of at most two symbols a word every pack comes back.
+    ensures restores { IfSome (S.left source.old) (λ all. (blocks : ℕ) (packs : List (List ℕ))
+        → IsDamagedStream form lead_in blocks packs all
+        → GivesBack (concat (all_packs form blocks packs)) (K.held out.old) (K.held out.new) result) }
     ensures never { (result ≢ Status.Usage) × (result ≢ Status.ReadFault Which.Second) }
     ensures no_memory { result ≡ Status.NoMemory → (source.new ≡ source.old) × (out.new ≡ out.old) }
     ensures source_later { S.faults source.old ≤ S.faults source.new }
@@ -57,6 +64,10 @@ fn convert_with<S: Source, K: Sink>(
     requires { lead_in ≤ 450000 }
     ensures does { Does (Command.Convert lead_in form) (S.left source.old) (S.left source.new)
         (K.held out.old) (K.held out.new) result }
+    // From damage of at most two symbols a word every pack comes back.
+    ensures restores { IfSome (S.left source.old) (λ all. (blocks : ℕ) (packs : List (List ℕ))
+        → IsDamagedStream form lead_in blocks packs all
+        → GivesBack (concat (all_packs form blocks packs)) (K.held out.old) (K.held out.new) result) }
     ensures never { (result ≢ Status.Usage) × (result ≢ Status.ReadFault Which.Second) × (result ≢ Status.NoMemory) }
     ensures source_later { S.faults source.old ≤ S.faults source.new }
     ensures out_later { K.faults out.old ≤ K.faults out.new }

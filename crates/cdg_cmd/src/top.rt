@@ -1,9 +1,13 @@
 // The top call.
-ghost use Rattle.std.specs.Prelude.{◌≡◌, ◌≢◌, ◌↔◌, ◌≤◌};
+ghost use Rattle.std.specs.Prelude.{◌≡◌, ◌≢◌, ◌↔◌, ◌≤◌, ℕ, List, IfSome};
 ghost use Rattle.cdg_io.specs.Causes.{Rose};
 ghost use Rattle.cdg_cmd.specs.Words.{texts};
 ghost use Rattle.cdg_cmd.specs.Spelling.{IsAllowed, Spells};
-ghost use Rattle.cdg_cmd.specs.Answer.{Does, IsAnswered, Tells};
+ghost use Rattle.std.specs.List.{concat};
+ghost use Rattle.raw_subcode.specs.declared.form.Form.{Form};
+ghost use Rattle.stream_words.specs.Stream.{all_packs};
+ghost use Rattle.subcode_player.specs.Convert.{IsDamagedStream};
+ghost use Rattle.cdg_cmd.specs.Answer.{Does, GivesBack, IsAnswered, Tells};
 
 use crate::line::tell;
 use crate::streams::run_convert;
@@ -29,6 +33,10 @@ pub fn run<S: Source, T: Source, K: Sink, E: Sink>(
     // What the command answers and writes.
     ensures does { (command : Command) → Spells command (texts words.now) → result ≢ Status.NoMemory
         → Does command (S.left first.old) (S.left first.new) (K.held out.old) (K.held out.new) result }
+    // From damage of at most two symbols a word a conversion gives back every pack.
+    ensures restores { (lead_in : ℕ) (form : Form) → Spells (Command.Convert lead_in form) (texts words.now)
+        → IfSome (S.left first.old) (λ all. (blocks : ℕ) (packs : List (List ℕ)) → IsDamagedStream form lead_in blocks packs all
+        → GivesBack (concat (all_packs form blocks packs)) (K.held out.old) (K.held out.new) result) }
     ensures no_memory { result ≡ Status.NoMemory → (first.new ≡ first.old) × (out.new ≡ out.old) }
 
     // Each fault has its cause.
@@ -58,6 +66,10 @@ fn answer<S: Source, K: Sink>(alloc: Global, words: &[String], first: &mut S, ou
     ensures untouched { result ≡ Status.Usage → (first.new ≡ first.old) × (out.new ≡ out.old) }
     ensures does { (command : Command) → Spells command (texts words.now) → result ≢ Status.NoMemory
         → Does command (S.left first.old) (S.left first.new) (K.held out.old) (K.held out.new) result }
+    // From damage of at most two symbols a word a conversion gives back every pack.
+    ensures restores { (lead_in : ℕ) (form : Form) → Spells (Command.Convert lead_in form) (texts words.now)
+        → IfSome (S.left first.old) (λ all. (blocks : ℕ) (packs : List (List ℕ)) → IsDamagedStream form lead_in blocks packs all
+        → GivesBack (concat (all_packs form blocks packs)) (K.held out.old) (K.held out.new) result) }
     ensures no_memory { result ≡ Status.NoMemory → (first.new ≡ first.old) × (out.new ≡ out.old) }
     ensures first_later { S.faults first.old ≤ S.faults first.new }
     ensures out_later { K.faults out.old ≤ K.faults out.new }
@@ -72,11 +84,19 @@ fn answer<S: Source, K: Sink>(alloc: Global, words: &[String], first: &mut S, ou
 }
 
 // Performs a command.
-fn perform<S: Source, K: Sink>(alloc: Global, command: Command, first: &mut S, out: &mut K) -> Status
+fn perform<S: Source, K: Sink>(
+    alloc: Global,
+    command: Command,
+    first: &mut S,
+    out: &mut K,
+) -> Status
     requires { IsAllowed command }
     ensures never { (result ≢ Status.Usage) × (result ≢ Status.ReadFault Which.Second) }
     ensures does { result ≢ Status.NoMemory
         → Does command (S.left first.old) (S.left first.new) (K.held out.old) (K.held out.new) result }
+    ensures restores { (lead_in : ℕ) (form : Form) → command ≡ Command.Convert lead_in form
+        → IfSome (S.left first.old) (λ all. (blocks : ℕ) (packs : List (List ℕ)) → IsDamagedStream form lead_in blocks packs all
+        → GivesBack (concat (all_packs form blocks packs)) (K.held out.old) (K.held out.new) result) }
     ensures no_memory { result ≡ Status.NoMemory → (first.new ≡ first.old) × (out.new ≡ out.old) }
     ensures first_later { S.faults first.old ≤ S.faults first.new }
     ensures out_later { K.faults out.old ≤ K.faults out.new }

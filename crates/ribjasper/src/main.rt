@@ -6,11 +6,10 @@ mod input;
 use cdg_cmd::{Status, run, split, tell};
 use cdg_io::{ReadSource, SteadySink, WriteSink};
 use input::Input;
-use std::env;
 use std::fs::File;
-use std::io;
 use std::io::{BufReader, BufWriter, Write};
 use std::process::ExitCode;
+use std::{env, io};
 
 const BUFFER: usize = 65_536;
 

@@ -1,19 +1,21 @@
 use Rattle.std.proofs.Common.{rules, refl, subst}
 use Rattle.cdg_cmd.specs.Answer.{Does}
 use Rattle.cdg_cmd.specs.declared.command.Command.{Command}
+use Rattle.cdg_cmd.specs.declared.command.Command.TheVariants.{Convert}
 use Rattle.cdg_cmd.proofs.WordsLemmas.{no_command, same_command}
 use Rattle.cdg_cmd.proofs.top.answer.Goals as goal
 
 pub returns-in-Some-clause-usage : goal.returns-in-Some-clause-usage
-returns-in-Some-clause-usage g c =
-    (λ e command spelled. c.perform.ensures.never.0 e,
-     λ none. absurd (none c.in-Some.command c.in-Some.ensures.spelled))
+returns-in-Some-clause-usage g c = (
+  λ e command spelled. c.perform.ensures.never.0 e,
+  λ none. absurd (none c.in-Some.command c.in-Some.ensures.spelled),
+)
 
 pub returns-in-Some-clause-does : goal.returns-in-Some-clause-does
 returns-in-Some-clause-does g c = λ command spelled found.
     subst (λ (k : Command). Does k (g.S.Source.left c.args.first.now) (g.S.Source.left c.perform.new.first)
-        (g.K.Sink.held c.args.out.now) (g.K.Sink.held c.perform.new.out) c.perform.result)
-        (same_command _ _ (c.in-Some.ensures.all command spelled)) (c.perform.ensures.does found)
+    (g.K.Sink.held c.args.out.now) (g.K.Sink.held c.perform.new.out) c.perform.result)
+    (same_command _ _ (c.in-Some.ensures.all command spelled)) (c.perform.ensures.does found)
 
 pub returns-in-None-clause-usage : goal.returns-in-None-clause-usage
 returns-in-None-clause-usage g c =
@@ -21,3 +23,11 @@ returns-in-None-clause-usage g c =
 
 pub returns-in-None-clause-does : goal.returns-in-None-clause-does
 returns-in-None-clause-does g c = λ command spelled found. absurd (no_command command (c.in-None.ensures.all command spelled))
+
+pub returns-in-Some-clause-restores : goal.returns-in-Some-clause-restores
+returns-in-Some-clause-restores g c = λ lead_in form spelled.
+    c.perform.ensures.restores lead_in form (same_command _ _ (c.in-Some.ensures.all (Convert lead_in form) spelled))
+
+pub returns-in-None-clause-restores : goal.returns-in-None-clause-restores
+returns-in-None-clause-restores g c = λ lead_in form spelled.
+    absurd (no_command _ (c.in-None.ensures.all (Convert lead_in form) spelled))

@@ -1,0 +1,48 @@
+#!/bin/sh
+# Cheap checks of what no proof sees: the handles, the links and commands of the documents, and that
+# every crate is listed.
+cd "$(dirname "$0")/.." || exit 1
+failed=0
+
+complain() {
+    echo "check: $*" >&2
+    failed=1
+}
+
+# No handle is allowed.
+[ "$(cat HANDLES)" = "Handles allowed: none." ] || complain "HANDLES is changed"
+
+# The repository stands alone: nothing is cited by the number of a task's paper.
+cited=$(git grep -nIE '\b(paper|request|demand|rung) [0-9]+|\bpapers?/[0-9]' -- . ':!tools/check_repository.sh')
+[ -z "$cited" ] || complain "a paper is cited: $cited"
+
+# Each crate is listed, and each that is listed is there.
+listed=$(sed -n 's/^\([a-z0-9_]*\):.*/\1/p; s/^\([a-z0-9_]*\) staticlib:.*/\1/p' crates.txt | sort)
+present=$(ls crates | sort)
+[ "$listed" = "$present" ] || complain "crates.txt and crates/ differ"
+
+# Each file that a document links to is there.
+for document in $(git ls-files '*.md'); do
+    folder=$(dirname "$document")
+    for link in $(grep -oE '\]\([^)#: ]+' "$document" | sed 's/^](//'); do
+        [ -e "$folder/$link" ] || complain "$document links to $link, which is not there"
+    done
+done
+
+# Each target of make and each script that README.md names is there.
+if [ -f README.md ]; then
+    for target in $(grep -oE '`make [a-z]+`' README.md | tr -d '`' | cut -d' ' -f2); do
+        grep -q "^$target:" Makefile || complain "README.md names the target $target"
+    done
+    for script in $(grep -oE '`(tools|bench|examples)/[A-Za-z0-9_./]+' README.md | tr -d '`'); do
+        [ -e "$script" ] || complain "README.md names $script, which is not there"
+    done
+fi
+
+# Scripts are programs.
+for script in .ci/run tools/*.sh bench/*.sh examples/*.sh; do
+    [ -x "$script" ] || complain "$script cannot be run"
+done
+
+[ "$failed" = 0 ] && echo "check: the repository is in order"
+exit "$failed"
