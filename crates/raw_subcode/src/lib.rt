@@ -6,6 +6,8 @@ mod form;
 mod laws;
 mod packs;
 mod planar;
+#[cfg(test)]
+mod tests;
 
 pub use block::Block;
 pub use form::Form;
