@@ -1,10 +1,11 @@
 // What reading says of frames.
-ghost use Rattle.std.specs.Prelude.{◌≡◌, ◌≢◌, ◌≤◌, ◌++◌, List, Bool, length, Result, Ok, Err};
+ghost use Rattle.std.specs.Prelude.{◌≡◌, ◌≢◌, ◌≤◌, ◌↔◌, ◌++◌, List, Bool, length, Result, Ok, Err};
 ghost use Rattle.q_frame.specs.QFrame.{IsFrame, IsValid};
 ghost use Rattle.q_frame.specs.declared.frame.QFrame.{QFrame};
 ghost use Rattle.q_frame.specs.declared.frame.QFault.{QFault};
 ghost use Rattle.q_frame.specs.declared.frame.QFault.TheVariants.{BadCrc};
 ghost use Rattle.q_channel.specs.QReading.{IsReading};
+ghost use Rattle.q_channel.specs.ReadingOf.{reading_of};
 
 use crate::decoding::decode;
 use q_frame::{QFault, QFrame, encode};
@@ -13,6 +14,12 @@ use q_frame::{QFault, QFrame, encode};
 pub fn one_reading()
     ensures { (frame : QFrame) (message : List Bool) (what : Result QFrame QFault)
         → IsFrame frame message → IsReading message what → what ≡ Ok frame }
+{}
+
+/// 96 bits are read as one thing, which is a function of them.
+pub fn readings_are_functions()
+    ensures { (message : List Bool) (what : Result QFrame QFault) → length message ≡ 96
+        → IsReading message what ↔ (what ≡ reading_of message) }
 {}
 
 /// Where the bits of a frame change, all within sixteen neighbouring ones, the check no longer matches.

@@ -49,26 +49,61 @@ fn lines_of_contents(rt: HostRuntime) {
     let time = Msf::of_block(152);
     let start = Msf::of_block(75);
     let point = TocPoint::Track { number: 9, start };
-    let frame = QFrame::Toc { control: 4, point, time };
-    has_line(&rt, frame, b"000012 4 toc track 09 start 00:01:00 time 00:02:02\n");
-    let point = TocPoint::First { track: 1, kind: 0x20 };
-    let frame = QFrame::Toc { control: 4, point, time };
+    let frame = QFrame::Toc {
+        control: 4,
+        point,
+        time,
+    };
+    has_line(
+        &rt,
+        frame,
+        b"000012 4 toc track 09 start 00:01:00 time 00:02:02\n",
+    );
+    let point = TocPoint::First {
+        track: 1,
+        kind: 0x20,
+    };
+    let frame = QFrame::Toc {
+        control: 4,
+        point,
+        time,
+    };
     has_line(&rt, frame, b"000012 4 toc first 01 type 20 time 00:02:02\n");
     let point = TocPoint::Last { track: 12 };
-    let frame = QFrame::Toc { control: 4, point, time };
+    let frame = QFrame::Toc {
+        control: 4,
+        point,
+        time,
+    };
     has_line(&rt, frame, b"000012 4 toc last 12 time 00:02:02\n");
     let point = TocPoint::LeadOut { start };
-    let frame = QFrame::Toc { control: 4, point, time };
-    has_line(&rt, frame, b"000012 4 toc lead-out 00:01:00 time 00:02:02\n");
+    let frame = QFrame::Toc {
+        control: 4,
+        point,
+        time,
+    };
+    has_line(
+        &rt,
+        frame,
+        b"000012 4 toc lead-out 00:01:00 time 00:02:02\n",
+    );
 }
 
 // The lines of a disc's number and of a recording's.
 #[test]
 fn lines_of_numbers(rt: HostRuntime) {
     let digits = *b"4006408000017";
-    let frame = QFrame::Catalogue { control: 0, digits, frame: 49 };
+    let frame = QFrame::Catalogue {
+        control: 0,
+        digits,
+        frame: 49,
+    };
     has_line(&rt, frame, b"000012 0 catalogue 4006408000017 frame 49\n");
     let code = *b"DEF059800042";
-    let frame = QFrame::Isrc { control: 10, code, frame: 7 };
+    let frame = QFrame::Isrc {
+        control: 10,
+        code,
+        frame: 7,
+    };
     has_line(&rt, frame, b"000012 a isrc DEF059800042 frame 07\n");
 }

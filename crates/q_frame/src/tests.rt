@@ -21,6 +21,12 @@ fn program(index: u8, time: Msf, absolute: Msf) -> QFrame
 #[test]
 fn program_frames(rt: HostRuntime) {
     let (start, music) = (Msf::of_block(0), Msf::of_block(150));
-    assert_eq!(rt; encode(&program(0, music, start)), [1, 1, 0, 0, 2, 0, 0, 0, 0, 0, 0xf0, 0xd9]);
-    assert_eq!(rt; encode(&program(1, start, music)), [1, 1, 1, 0, 0, 0, 0, 0, 2, 0, 0x5a, 0x28]);
+    assert_eq!(rt;
+        encode(&program(0, music, start)),
+        [1, 1, 0, 0, 2, 0, 0, 0, 0, 0, 0xf0, 0xd9]
+    );
+    assert_eq!(rt;
+        encode(&program(1, start, music)),
+        [1, 1, 1, 0, 0, 0, 0, 0, 2, 0, 0x5a, 0x28]
+    );
 }

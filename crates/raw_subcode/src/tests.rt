@@ -11,7 +11,15 @@ fn planar_form(rt: HostRuntime) {
     let block = Block::from_bytes(&bytes);
     assert_eq!(rt; block.to_planar(), planar);
     assert_eq!(rt; Block::from_planar(&planar), block);
-    assert_eq!(rt; (block.bit(0, 0), block.bit(1, 0), block.bit(2, 0), block.bit(1, 1)), (true, true, false, false));
+    assert_eq!(rt;
+        (
+            block.bit(0, 0),
+            block.bit(1, 0),
+            block.bit(2, 0),
+            block.bit(1, 1)
+        ),
+        (true, true, false, false)
+    );
 }
 
 // The start of a pause before track 1, as it stands on a disc.
@@ -36,7 +44,10 @@ fn text_pack(rt: HostRuntime) {
     pack[1] = 0x01;
     pack[17] = 0x3f;
     let symbols = text_symbols(&pack);
-    assert_eq!(rt; (symbols[0], symbols[1], symbols[2], symbols[23]), (32, 0, 4, 63));
+    assert_eq!(rt;
+        (symbols[0], symbols[1], symbols[2], symbols[23]),
+        (32, 0, 4, 63)
+    );
     let mut all = [0; 96];
     for i in 0..24 {
         all[72 + i] = symbols[i];
