@@ -1,0 +1,91 @@
+-- The P bit and the Q frame of each block of a disc.
+use Rattle.std.specs.Prelude.{◌≡◌, ◌≤◌, ◌<◌, IsTrue, reverse, ℕ, ◌+◌, ◌-◌, ◌/◌, ◌%◌, Bool, List, [], ◌∷◌, ◌++◌, length, map, Option, Some, None, find, option_map, unwrap_or, slice_index_or, max, ◌==◌, nat_le, nat_lt, ◌&&◌, if◌then◌else◌}
+use Rattle.std.specs.List.{list_any}
+use Rattle.std.specs.List.Sorted.{IsNonDecreasingBy}
+use Rattle.std.specs.Option.{ForSome}
+use Rattle.disc_time.specs.Time.{frame_of}
+use Rattle.cue_sheet.specs.CueSheet.{AreIndices, is_catalogue_number, is_capital_code}
+use Rattle.toc_model.specs.Places.{TrackPlace, DiscLayout, no_place}
+use Rattle.q_frame.specs.declared.frame.QFrame.{QFrame}
+use Rattle.q_frame.specs.declared.frame.QFrame.TheVariants.{Program, Toc, Catalogue, Isrc}
+use Rattle.q_frame.specs.declared.frame.TocPoint.{TocPoint}
+use Rattle.q_frame.specs.declared.frame.TocPoint.TheVariants.{Track, First, Last, LeadOut}
+
+-- the track of a block: the last one that begins at the block or before it
+unfoldable pub track_at : DiscLayout → ℕ → TrackPlace
+track_at layout block = unwrap_or (find (λ (place : TrackPlace). nat_le place.begin block) (reverse layout.tracks)) no_place
+
+-- the number of the last index line of a track that begins at the block or before it, or 0
+unfoldable pub index_at : TrackPlace → ℕ → ℕ
+index_at place block = unwrap_or (option_map (λ (line : ℕ × ℕ). line.0) (find (λ (line : ℕ × ℕ). nat_le line.1 block) (reverse place.lines))) 0
+
+-- the block at which index 01 of a track begins
+unfoldable pub music_begin : TrackPlace → ℕ
+music_begin place = unwrap_or (option_map (λ (line : ℕ × ℕ). line.1) (find (λ (line : ℕ × ℕ). line.0 == 1) place.lines)) 0
+
+-- the time of a block from the beginning of index 01 of its track, and before it the time that is left
+abbrev pub time_in_track : TrackPlace → ℕ → ℕ
+time_in_track place block = if nat_lt block (music_begin place) then music_begin place - block else block - music_begin place
+
+-- whether a block lies in the two seconds before index 01 of a track, or in its pause where that is longer
+abbrev pub is_paused_for : ℕ → TrackPlace → Bool
+is_paused_for block place = nat_le (music_begin place - max 150 (music_begin place - place.begin)) block && nat_lt block (music_begin place)
+
+unfoldable pub p_bit : DiscLayout → ℕ → Bool
+p_bit layout block = list_any (is_paused_for block) layout.tracks
+
+-- the frame of a block where it says the time
+abbrev pub time_frame : TrackPlace → ℕ → QFrame
+time_frame place block = Program place.control place.number (index_at place block) (time_in_track place block) block
+
+abbrev pub catalogue_frame : TrackPlace → ℕ → Option (List ℕ) → QFrame
+catalogue_frame place block None = time_frame place block
+catalogue_frame place block (Some number) = Catalogue place.control number (frame_of block)
+
+abbrev pub isrc_frame : TrackPlace → ℕ → Option (List ℕ) → QFrame
+isrc_frame place block None = time_frame place block
+isrc_frame place block (Some code) = if index_at place block == 0 then time_frame place block else Isrc place.control code (frame_of block)
+
+-- the frame of a program block: of each hundred blocks one may carry the catalogue number and one the track's code
+abbrev pub program_frame : DiscLayout → ℕ → QFrame
+program_frame layout block =
+    let place = track_at layout block in
+    if block % 100 == 49 then catalogue_frame place block layout.catalogue
+    else (if block % 100 == 99 then isrc_frame place block place.isrc
+    else time_frame place block)
+
+abbrev pub place_at : DiscLayout → ℕ → TrackPlace
+place_at layout k = slice_index_or layout.tracks k no_place
+
+-- the entries of the table of contents with their control bits: the tracks, the first and the last number, and the lead-out
+abbrev pub toc_entries : DiscLayout → List (ℕ × TocPoint)
+toc_entries layout =
+    let first = place_at layout 0 in
+    let last = place_at layout (length layout.tracks - 1) in
+    map (λ (place : TrackPlace). (place.control, Track place.number (music_begin place))) layout.tracks
+    ++ (first.control, First first.number 0) ∷ (last.control, Last last.number) ∷ (last.control, LeadOut layout.blocks) ∷ []
+
+-- the frame of block l of so many lead-in blocks: each entry three times in a row, over and over, and the time that ends at 00:00:00
+abbrev pub toc_frame : DiscLayout → ℕ → ℕ → QFrame
+toc_frame layout lead_in l =
+    let entry = slice_index_or (toc_entries layout) (l / 3 % (length layout.tracks + 3)) (0, First 0 0) in
+    Toc entry.0 entry.1 (450000 - lead_in + l)
+
+-- What holds of every place and of every layout
+
+pub record IsPlace (place : TrackPlace) : Type 0 where
+  pub number : (1 ≤ place.number) × (place.number ≤ 99)
+  pub control : place.control < 16
+  pub isrc : ForSome place.isrc (λ code. IsTrue (is_capital_code code))
+  pub lines : AreIndices place.lines
+  pub begins : place.begin ≤ music_begin place
+  pub late : 150 ≤ music_begin place
+
+pub record IsLayout (layout : DiscLayout) : Type 0 where
+  pub catalogue : ForSome layout.catalogue (λ number. IsTrue (is_catalogue_number number))
+  pub count : (1 ≤ length layout.tracks) × (length layout.tracks ≤ 99)
+  pub blocks : layout.blocks ≤ 449999
+  pub first : (place_at layout 0).begin ≡ 0
+  pub begins : IsNonDecreasingBy (λ (place : TrackPlace). place.begin) layout.tracks
+  pub music : IsNonDecreasingBy music_begin layout.tracks
+  pub within : (k : ℕ) → k < length layout.tracks → music_begin (place_at layout k) < layout.blocks

@@ -1,0 +1,72 @@
+-- Where the tracks of a sheet lie on the disc.
+use Rattle.std.specs.Prelude.{ℕ, ◌+◌, List, [], length, ◌∷◌, map, take, sum_by, Option, None, max, ◌==◌, if◌then◌else◌}
+use Rattle.bit_lists.specs.Counting.{below}
+use Rattle.cue_sheet.specs.CueSheet.{CueTrack, CueSheet, track_of, index_line_of}
+
+-- a track on the disc: its number, its control bits, its code, the block at which it begins, and its index lines by number and block
+pub record TrackPlace : Type 0 where
+  pub number : ℕ
+  pub control : ℕ
+  pub isrc : Option (List ℕ)
+  pub begin : ℕ
+  pub lines : List (ℕ × ℕ)
+
+-- a disc: its catalogue number, its tracks, and the number of its program blocks
+pub record DiscLayout : Type 0 where
+  pub catalogue : Option (List ℕ)
+  pub tracks : List TrackPlace
+  pub blocks : ℕ
+
+abbrev pub no_place : TrackPlace
+no_place = record { number = 0; control = 0; isrc = None; begin = 0; lines = [] }
+
+-- the pregaps and the postgaps of so many tracks
+unfoldable pub pregaps_to : CueSheet → ℕ → ℕ
+pregaps_to sheet count = sum_by (λ (t : CueTrack). t.pregap) (take count sheet.tracks)
+
+unfoldable pub postgaps_to : CueSheet → ℕ → ℕ
+postgaps_to sheet count = sum_by (λ (t : CueTrack). t.postgap) (take count sheet.tracks)
+
+-- the block at which file time 0 would lie, seen from track k: two seconds, the gaps of the tracks before, and the track's own pregap come first
+abbrev pub blocks_before : CueSheet → ℕ → ℕ
+blocks_before sheet k = 150 + pregaps_to sheet (k + 1) + postgaps_to sheet k
+
+-- the file time of the first index line of a track
+abbrev pub first_index_time : CueTrack → ℕ
+first_index_time track = (index_line_of track 0).1
+
+-- the block at which track k begins: the first at the beginning, each other with its pregap
+abbrev pub track_begin : CueSheet → ℕ → ℕ
+track_begin sheet k = if k == 0 then 0 else 150 + pregaps_to sheet k + postgaps_to sheet k + first_index_time (track_of sheet k)
+
+abbrev pub place_of : CueSheet → ℕ → TrackPlace
+place_of sheet k =
+    let track = track_of sheet k in
+    record {
+      number = track.number;
+      control = track.control;
+      isrc = track.isrc;
+      begin = track_begin sheet k;
+      lines = map (λ (line : ℕ × ℕ). (line.0, blocks_before sheet k + line.1)) track.indices;
+    }
+
+-- the number of program blocks
+abbrev pub program_blocks : CueSheet → ℕ → ℕ
+program_blocks sheet audio = 150 + audio + (pregaps_to sheet (length sheet.tracks) + postgaps_to sheet (length sheet.tracks))
+
+-- the greatest of some numbers, or 0
+unfoldable pub greatest : List ℕ → ℕ
+greatest [] = 0
+greatest (x ∷ xs) = max x (greatest xs)
+
+-- the greatest time of a track
+abbrev pub latest_time : CueTrack → ℕ
+latest_time track = greatest (map (λ (line : ℕ × ℕ). line.1) track.indices)
+
+-- the length of the audio that the index lines need: one more than the greatest of their times
+unfoldable pub audio_need : CueSheet → ℕ
+audio_need sheet = greatest (map latest_time sheet.tracks) + 1
+
+-- the disc of a sheet and an audio length
+abbrev pub layout_of : CueSheet → ℕ → DiscLayout
+layout_of sheet audio = record { catalogue = sheet.catalogue; tracks = map (place_of sheet) (below (length sheet.tracks)); blocks = program_blocks sheet audio }

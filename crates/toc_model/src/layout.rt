@@ -1,0 +1,180 @@
+// The layout of a disc.
+ghost use Rattle.std.specs.Prelude.{◌≡◌, ◌<◌, ◌≤◌, ◌+◌, ◌*◌, ℕ, length, slice_index_or};
+ghost use Rattle.q_frame.specs.QFrame.{IsValid};
+ghost use Rattle.toc_model.specs.Places.{DiscLayout, layout_of, audio_need, program_blocks};
+ghost use Rattle.toc_model.specs.Layout.{IsLayout, p_bit, program_frame, toc_entries, toc_frame, track_at};
+ghost use Rattle.q_frame.specs.declared.frame.TocPoint.TheVariants.{First};
+ghost use Rattle.q_frame.specs.QFrame.{IsValidPoint};
+
+use crate::place::Place;
+use crate::places::{catalogue, gaps, need, places};
+use cue_sheet::Sheet;
+use disc_time::Msf;
+use q_frame::{QFrame, TocPoint};
+use std::alloc::{AllocError, Global};
+use std::marker::Model;
+
+/// Why a sheet has no layout with an audio of some length.
+#[derive(PartialEq, Eq, Debug, Drop, thiserror::Error)]
+pub enum LayoutStop {
+    /// The audio is too short: the index lines need so many blocks.
+    #[error("the index lines need {need} blocks of audio")]
+    LengthShort { need: u32 },
+    /// The program would have so many blocks.
+    #[error("the program has {blocks} blocks")]
+    DiscTooLong { blocks: u32 },
+    /// Memory ran out.
+    #[error("out of memory")]
+    NoMemory,
+}
+
+impl From<AllocError> for LayoutStop {
+    ghost use Rattle.toc_model.specs.declared.layout.LayoutStop.TheVariants.{NoMemory};
+
+    ghost from_gives = { λ _ e. e ≡ NoMemory };
+
+    fn from(_error: AllocError) -> LayoutStop {
+        LayoutStop::NoMemory
+    }
+}
+
+/// Where the tracks of a sheet lie on a disc.
+#[derive(Drop)]
+pub struct Layout {
+    catalogue: Option<[u8; 13]>,
+    tracks: Vec<Place>,
+    blocks: u32,
+}
+
+impl Model for Layout {
+    ghost Value = { DiscLayout };
+
+    ghost view = { λ l. record { catalogue = l.catalogue; tracks = l.tracks.items; blocks = l.blocks } };
+
+    ghost invariant = { λ l. IsLayout (record { catalogue = l.catalogue; tracks = l.tracks.items; blocks = l.blocks }) };
+}
+
+impl Layout {
+    ghost use Rattle.toc_model.specs.Answers.{IsLayoutAnswer};
+
+    /// The layout of a sheet whose audio has so many blocks.
+    pub fn from_cue(alloc: Global, sheet: &Sheet, length: u32) -> Result<Layout, LayoutStop>
+        requires { length ≤ 449999 }
+        ensures { IsLayoutAnswer sheet.now length result }
+    {
+        let need = need(sheet);
+        if need > length {
+            return Err(LayoutStop::LengthShort { need });
+        }
+        let blocks = 150 + length + gaps(sheet);
+        if blocks > 449_999 {
+            return Err(LayoutStop::DiscTooLong { blocks });
+        }
+        Ok(Layout {
+            catalogue: catalogue(sheet),
+            tracks: places(alloc, sheet)?,
+            blocks,
+        })
+    }
+
+    /// The number of program blocks.
+    pub fn blocks(&self) -> u32
+        ensures blocks { result ≡ self.now.blocks }
+        ensures bound { result ≤ 449999 }
+    {
+        self.blocks
+    }
+
+    /// The frame of a program block.
+    pub fn program_frame(&self, block: u32) -> QFrame
+        requires { block < self.now.blocks }
+        ensures frame { result ≡ program_frame self.now block }
+        ensures valid { IsValid result }
+    {
+        let place = self.track_at(block);
+        match block % 100 {
+            49 => place.catalogue_frame(block, &self.catalogue),
+            99 => place.isrc_frame(block),
+            _ => place.time_frame(block),
+        }
+    }
+
+    // The track of a block.
+    fn track_at(&self, block: u32) -> &Place
+        ensures { result.now ≡ track_at self.now block }
+    {
+        let begun = self.tracks.partition_point(|place| place.begin() <= block);
+        &self.tracks[begun - 1]
+    }
+
+    /// The P bit of a program block.
+    pub fn p_bit(&self, block: u32) -> bool
+        requires { block < self.now.blocks }
+        ensures { result ≡ p_bit self.now block }
+    {
+        let past = self
+            .tracks
+            .partition_point(|place| place.music_begin() <= block);
+        match self.tracks.get(past) {
+            Some(next) => next.is_paused(block),
+            None => false,
+        }
+    }
+
+    /// The number of lead-in blocks in which each entry of the table of contents stands three times.
+    pub fn toc_blocks(&self) -> u32
+        ensures { result ≡ 3 * (length self.now.tracks + 3) }
+    {
+        3 * (self.tracks.len() as u32 + 3)
+    }
+
+    /// The frame of lead-in block `l` of `n`. The lead-in ends at 00:00:00.
+    pub fn toc_frame(&self, l: u32, n: u32) -> QFrame
+        requires block { l < n }
+        requires lead_in { n ≤ 450000 }
+        ensures frame { result ≡ toc_frame self.now n l }
+        ensures valid { IsValid result }
+    {
+        let (control, point) = self.entry((l / 3) as usize % (self.tracks.len() + 3));
+        QFrame::Toc {
+            control,
+            point,
+            time: Msf::of_block(450_000 - n + l),
+        }
+    }
+
+    // An entry of the table of contents with its control bits: the tracks, the first, the last, the lead-out.
+    fn entry(&self, k: usize) -> (u8, TocPoint)
+        requires { k < length self.now.tracks + 3 }
+        ensures entry { result ≡ slice_index_or (toc_entries self.now) k (0, First 0 0) }
+        ensures valid { (result.0 < 16) × IsValidPoint result.1 }
+    {
+        let count = self.tracks.len();
+        if k < count {
+            return (self.tracks[k].control(), self.tracks[k].entry());
+        }
+        let first = &self.tracks[0];
+        let last = &self.tracks[count - 1];
+        match k - count {
+            0 => (
+                first.control(),
+                TocPoint::First {
+                    track: first.number(),
+                    kind: 0,
+                },
+            ),
+            1 => (
+                last.control(),
+                TocPoint::Last {
+                    track: last.number(),
+                },
+            ),
+            _ => (
+                last.control(),
+                TocPoint::LeadOut {
+                    start: Msf::of_block(self.blocks),
+                },
+            ),
+        }
+    }
+}
