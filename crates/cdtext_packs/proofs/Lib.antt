@@ -1,2 +1,5 @@
 pub mod Joined
 pub mod Numbered
+pub mod KeptPacks
+pub mod Slots
+pub mod Cuts

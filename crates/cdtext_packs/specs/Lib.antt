@@ -3,3 +3,5 @@ pub mod Kept
 pub mod Texts
 pub mod Writing
 pub mod Map
+pub mod Reading
+pub mod LeadIn

@@ -2,13 +2,16 @@
 #![tactic(auto)]
 
 mod kinds;
+mod lead_in;
 mod map;
 mod pack;
 mod reader;
+mod reading;
 mod strings;
 mod writer;
 
 pub use kinds::{Offer, PackStop, TextFault, TextKind};
+pub use lead_in::lead_in_symbols;
 pub use map::TextMap;
 pub use pack::TextPack;
 pub use reader::TextReader;

@@ -2,6 +2,7 @@
 ghost use Rattle.std.specs.Prelude.{◌≡◌, ◌<◌, ◌≤◌, ◌+◌, ◌*◌, ◌↔◌, ◌∷◌, ◌++◌, [], List, ℕ, length, IfOk, OnErr, MatchResult, IsTrue, slice_index_or, map, All};
 ghost use Rattle.cdtext_packs.specs.Texts.{are_empty, IsString};
 ghost use Rattle.cdtext_packs.specs.Writing.{joined, holders};
+ghost use Rattle.cdtext_packs.specs.Reading.{meant};
 
 use std::alloc::{AllocError, Global};
 use std::marker::Model;
@@ -47,6 +48,17 @@ impl Strings {
         match self.items.get(place) {
             Some(string) => string,
             None => &[],
+        }
+    }
+
+    /// What a string means after these: a single tab means the one before it.
+    pub fn meant<'a>(&'a self, string: &'a [u8]) -> &'a [u8]
+        ensures { result.now ≡ meant self.now string.now }
+    {
+        if string.len() == 1 && string[0] == 9 && self.len() > 0 {
+            self.get(self.len() - 1)
+        } else {
+            string
         }
     }
 

@@ -1,0 +1,21 @@
+-- The packs in the symbols of the lead-in.
+use Rattle.std.specs.Prelude.{ℕ, ◌+◌, ◌*◌, ◌%◌, List, [], length, map, flat_map, replicate, slice_index_or, ◌==◌, if◌then◌else◌}
+use Rattle.bit_lists.specs.Counting.{below, whole_parts}
+use Rattle.bit_lists.specs.Bits.{bits_of_bytes, numbers_of}
+use Rattle.raw_subcode.specs.Channels.{symbols_of, symbol_bits}
+
+-- the symbols of a pack: its 144 bits by six
+abbrev pub pack_symbols : List ℕ → List ℕ
+pack_symbols pack = numbers_of 6 (bits_of_bytes pack)
+
+-- the symbols of slot j of the lead-in, which holds the packs over and over, or zeros where there are none
+abbrev pub lead_in_slot : List (List ℕ) → ℕ → List ℕ
+lead_in_slot packs j = if length packs == 0 then replicate 24 0 else pack_symbols (slice_index_or packs (j % length packs) [])
+
+-- the symbols of a block of the lead-in, which has four slots
+abbrev pub lead_in_symbols : List (List ℕ) → ℕ → List ℕ
+lead_in_symbols packs block = flat_map (λ k. lead_in_slot packs (4 * block + k)) (below 4)
+
+-- the packs of blocks of the lead-in: the bits of each 24 symbols
+abbrev pub lead_in_packs : List (List ℕ) → List (List ℕ)
+lead_in_packs blocks = map (λ slot. numbers_of 8 (symbol_bits slot)) (whole_parts 24 (flat_map symbols_of blocks))

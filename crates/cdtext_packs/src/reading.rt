@@ -1,0 +1,176 @@
+// The texts of kept packs. Pack n, if it is kept, stands at place n.
+ghost use Rattle.std.specs.Prelude.{◌≡◌, ◌≤◌, ◌*◌, false, [], length, replicate, Some, None, IfOk, All, if◌then◌else◌};
+ghost use Rattle.std.specs.List.{position_or_len};
+ghost use Rattle.std.specs.Option.{option_map};
+ghost use Rattle.cdtext_packs.specs.Texts.{IsString};
+ghost use Rattle.cdtext_packs.specs.Reading.{keeps_nothing, size_pack, first_missing, first_short, kind_packs, last_number, is_short, is_zero, ends_in, kind_texts, kind_bytes, strings_in, resolved};
+
+use crate::kinds::{KINDS, TextKind};
+use crate::strings::Strings;
+use std::alloc::{AllocError, Global};
+
+/// Whether no pack is kept.
+pub fn keeps_nothing(kept: &[Option<[u8; 18]>]) -> bool
+    ensures { result ≡ keeps_nothing kept.now }
+{
+    for slot in kept {
+        if slot.is_some() {
+            return false;
+        }
+    }
+    true
+}
+
+/// The size pack of a place, and of several the one with the least number.
+pub fn size_pack(kept: &[Option<[u8; 18]>], d: u8) -> Option<[u8; 18]>
+    ensures { result ≡ size_pack kept.now d }
+{
+    for slot in kept {
+        if let Some(pack) = slot {
+            if pack[0] == 0x8f && pack[1] == d {
+                return Some(*pack);
+            }
+        }
+    }
+    None
+}
+
+/// The least number below `count` that is not kept.
+pub fn first_missing(kept: &[Option<[u8; 18]>], count: usize) -> Option<u8>
+    requires kept { count ≤ length kept.now }
+    requires count { count ≤ 256 }
+    ensures { result ≡ first_missing kept.now count }
+{
+    for number in 0..count {
+        if kept[number].is_none() {
+            return Some(number as u8);
+        }
+    }
+    None
+}
+
+/// The number of the last pack of the first kind with fewer strings than are wanted.
+pub fn first_short(kept: &[Option<[u8; 18]>], count: usize) -> Option<u8>
+    requires { length kept.now ≤ 256 }
+    ensures { result ≡ option_map (λ kind. last_number (kind_packs kept.now kind)) (first_short kept.now count) }
+{
+    for kind in KINDS {
+        let short = short_at(kept, count, kind);
+        if short.is_some() {
+            return short;
+        }
+    }
+    None
+}
+
+/// The number of the last pack of a kind, if it has fewer strings than are wanted.
+fn short_at(kept: &[Option<[u8; 18]>], count: usize, kind: TextKind) -> Option<u8>
+    requires { length kept.now ≤ 256 }
+    ensures { result ≡ (if is_short kept.now count kind then Some (last_number (kind_packs kept.now kind)) else None) }
+{
+    let mut ends = 0;
+    let mut last = None;
+    for slot in kept {
+        if let Some(pack) = slot {
+            if pack[0] == kind.pack_type() {
+                ends += zeros_in(&pack[4..16]);
+                last = Some(pack[2]);
+            }
+        }
+    }
+    if ends < count { last } else { None }
+}
+
+/// How many of the bytes are zero.
+fn zeros_in(bytes: &[u8]) -> usize
+    ensures count { result ≡ ends_in bytes.now }
+    ensures bound { result ≤ length bytes.now }
+{
+    bytes.iter().filter(|b| **b == 0).count()
+}
+
+/// The strings of a kind, one for the album and each track.
+pub fn kind_texts(
+    alloc: Global,
+    kept: &[Option<[u8; 18]>],
+    count: usize,
+    kind: TextKind,
+) -> Result<Strings, AllocError>
+    requires few { length kept.now ≤ 256 }
+    requires enough { is_short kept.now count kind ≡ false }
+    ensures texts { IfOk result (λ strings. strings ≡ kind_texts kept.now count kind) }
+    ensures count { IfOk result (λ strings. length strings ≡ count) }
+    ensures each { IfOk result (All IsString) }
+{
+    let bytes = kind_bytes(alloc, kept, kind)?;
+    if bytes.is_empty() {
+        empty_strings(alloc, count)
+    } else {
+        strings_in(alloc, &bytes, count)
+    }
+}
+
+/// The bytes of text of a kind.
+fn kind_bytes(
+    alloc: Global,
+    kept: &[Option<[u8; 18]>],
+    kind: TextKind,
+) -> Result<Vec<u8>, AllocError>
+    ensures bytes { IfOk result (λ bytes. bytes.items ≡ kind_bytes kept.now kind) }
+    ensures size { IfOk result (λ bytes. length bytes.items ≤ 12 * length kept.now) }
+{
+    let mut bytes = Vec::new(alloc);
+    for slot in kept {
+        if let Some(pack) = slot {
+            if pack[0] == kind.pack_type() {
+                bytes.extend_from_slice(&pack[4..16])?;
+            }
+        }
+    }
+    Ok(bytes)
+}
+
+fn empty_strings(alloc: Global, count: usize) -> Result<Strings, AllocError>
+    ensures strings { IfOk result (λ strings. strings ≡ replicate count []) }
+    ensures count { IfOk result (λ strings. length strings ≡ count) }
+    ensures each { IfOk result (All IsString) }
+{
+    let mut strings = Strings::new(alloc);
+    for _place in 0..count {
+        strings.push(Vec::new(alloc))?;
+    }
+    Ok(strings)
+}
+
+/// The first strings in these bytes, with what a single tab means.
+fn strings_in(alloc: Global, bytes: &[u8], count: usize) -> Result<Strings, AllocError>
+    requires size { length bytes.now ≤ 67108864 }
+    requires count { count ≤ ends_in bytes.now }
+    ensures strings { IfOk result (λ strings. strings ≡ resolved (strings_in count bytes.now)) }
+    ensures count { IfOk result (λ strings. length strings ≡ count) }
+    ensures each { IfOk result (All IsString) }
+{
+    let mut strings = Strings::new(alloc);
+    let mut start = 0;
+    for _place in 0..count {
+        let rest = &bytes[start..];
+        let end = string_end(rest);
+        let string = strings.meant(&rest[..end]).to_vec(alloc)?;
+        strings.push(string)?;
+        start += end + 1;
+    }
+    Ok(strings)
+}
+
+/// The place of the first zero byte, or the end.
+fn string_end(bytes: &[u8]) -> usize
+    ensures end { result ≡ position_or_len is_zero bytes.now }
+    ensures bound { result ≤ length bytes.now }
+{
+    for (place, byte) in bytes.iter().enumerate() {
+        if *byte == 0 {
+            return place;
+        }
+    }
+    bytes.len()
+}
