@@ -3,3 +3,4 @@ pub mod Numbered
 pub mod KeptPacks
 pub mod Slots
 pub mod Cuts
+pub mod Steps

@@ -1,5 +1,5 @@
 -- The texts of kept packs.
-use Rattle.std.specs.Prelude.{ℕ, ◌+◌, ◌-◌, Bool, not, ◌&&◌, ◌||◌, List, [], ◌∷◌, ◌++◌, length, flat_map, filter, find, fold, take, replicate, count_by, slice_index, slice_index_or, Option, Some, None, is_none, Result, Ok, Err, ◌==◌, nat_le, nat_lt, if◌then◌else◌}
+use Rattle.std.specs.Prelude.{ℕ, ◌+◌, ◌-◌, Bool, not, ◌&&◌, ◌||◌, List, [], ◌∷◌, ◌++◌, length, flat_map, filter, find, fold, take, replicate, count_by, slice_index, slice_index_or, Option, Some, None, is_none, Result, Ok, Err, ◌==◌, nat_lt, if◌then◌else◌}
 use Rattle.std.specs.List.{filter_map, slice_split}
 use Rattle.bit_lists.specs.Counting.{below}
 use Rattle.cdtext_packs.specs.Packs.{pack_type, pack_track, pack_number, pack_text}
@@ -94,15 +94,19 @@ read_numbers kept count first_track last_track (Some n) = Err (Missing n)
 read_numbers kept count first_track last_track None =
     let used = take count kept in read_kinds used first_track last_track (first_short used (last_track - first_track + 2))
 
--- the texts of kept packs with these three size packs: byte 1 of them is the first track, byte 2 the last, byte 20 the last number
-abbrev pub read_sizes : List (Option (List ℕ)) → Option (List ℕ) → Option (List ℕ) → Option (List ℕ) → Result Texts TextFault
-read_sizes kept (Some size0) (Some size1) (Some size2) =
+-- the texts of kept packs by the first two size packs: of the size bytes 1 is the first track, 2 the last, and 20 the last number
+abbrev pub read_sized : List (Option (List ℕ)) → List ℕ → List ℕ → Result Texts TextFault
+read_sized kept size0 size1 =
     let first_track = slice_index (pack_text size0) 1 in
     let last_track = slice_index (pack_text size0) 2 in
     let count = slice_index (pack_text size1) 8 + 1 in
-    if not (nat_le 1 first_track && nat_le first_track 99) then Err (Malformed (pack_number size0) 5)
+    if nat_lt first_track 1 || nat_lt 99 first_track then Err (Malformed (pack_number size0) 5)
     else (if nat_lt last_track first_track || nat_lt 99 last_track then Err (Malformed (pack_number size0) 6)
     else read_numbers kept count first_track last_track (first_missing kept count))
+
+-- the same where all three size packs are kept
+abbrev pub read_sizes : List (Option (List ℕ)) → Option (List ℕ) → Option (List ℕ) → Option (List ℕ) → Result Texts TextFault
+read_sizes kept (Some size0) (Some size1) (Some size2) = read_sized kept size0 size1
 read_sizes kept size0 size1 size2 = Err NoSize
 
 abbrev pub keeps_nothing : List (Option (List ℕ)) → Bool

@@ -1,10 +1,12 @@
 // The texts of a disc.
-ghost use Rattle.std.specs.Prelude.{◌≡◌};
+ghost use Rattle.std.specs.Prelude.{◌≡◌, ◌≤◌, ◌+◌, ◌-◌, length, None, IfOk};
 ghost use Rattle.cdtext_packs.specs.Texts.{no_texts, strings_of, text_of, has_no_text, AreTexts};
+ghost use Rattle.cdtext_packs.specs.Reading.{first_short, all_texts};
 
 use crate::kinds::TextKind;
+use crate::reading::kind_texts;
 use crate::strings::Strings;
-use std::alloc::Global;
+use std::alloc::{AllocError, Global};
 use std::marker::Model;
 
 /// The strings of each kind for the album and each track, or none at all.
@@ -49,6 +51,34 @@ impl TextMap {
             message: Strings::new(alloc),
             code: Strings::new(alloc),
         }
+    }
+
+    /// The texts of kept packs, for the album and each track from the first to the last.
+    pub(crate) fn of_packs(
+        alloc: Global,
+        kept: &[Option<[u8; 18]>],
+        first: u8,
+        last: u8,
+    ) -> Result<TextMap, AllocError>
+        requires first { 1 ≤ first }
+        requires last { first ≤ last }
+        requires limit { last ≤ 99 }
+        requires few { length kept.now ≤ 256 }
+        requires enough { first_short kept.now (last - first + 2) ≡ None }
+        ensures { IfOk result (λ map. map ≡ all_texts kept.now first last) }
+    {
+        let count = usize::from(last - first) + 2;
+        Ok(TextMap {
+            first,
+            last,
+            title: kind_texts(alloc, kept, count, TextKind::Title)?,
+            performer: kind_texts(alloc, kept, count, TextKind::Performer)?,
+            songwriter: kind_texts(alloc, kept, count, TextKind::Songwriter)?,
+            composer: kind_texts(alloc, kept, count, TextKind::Composer)?,
+            arranger: kind_texts(alloc, kept, count, TextKind::Arranger)?,
+            message: kind_texts(alloc, kept, count, TextKind::Message)?,
+            code: kind_texts(alloc, kept, count, TextKind::Code)?,
+        })
     }
 
     /// The number of the first track, 0 in the empty map.

@@ -1,9 +1,12 @@
 // The reader of packs in any order, with any repeats.
-ghost use Rattle.std.specs.Prelude.{◌≡◌, List, ℕ, Option, vec_len, IfOk};
+ghost use Rattle.std.specs.Prelude.{◌≡◌, ◌⊎◌, List, ℕ, Option, length, vec_len, IfOk, IfErr, Ok, Err};
 ghost use Rattle.cdtext_packs.specs.Packs.{check_matches};
 ghost use Rattle.cdtext_packs.specs.Kept.{nothing_kept, offer_of, kept_by};
+ghost use Rattle.cdtext_packs.specs.Reading.{read_sized, read_texts};
 
-use crate::kinds::Offer;
+use crate::kinds::{Offer, TextFault};
+use crate::map::TextMap;
+use crate::reading::{first_missing, first_short, keeps_nothing, size_pack};
 use disc_time::crc16;
 use std::alloc::{AllocError, Global};
 use std::marker::Model;
@@ -56,6 +59,56 @@ impl TextReader {
         self.kept[number] = Some(*pack);
         Offer::Kept
     }
+
+    /// The texts of the kept packs, in any order of their offers. Without memory the answer is `NoMemory`.
+    pub fn finish(&self, alloc: Global) -> Result<TextMap, TextFault>
+        ensures texts { IfOk result (λ map. read_texts self.now ≡ Ok map) }
+        ensures fault { IfErr result (λ fault. (fault ≡ TextFault.NoMemory) ⊎ (read_texts self.now ≡ Err fault)) }
+    {
+        let kept = &self.kept[..];
+        if keeps_nothing(kept) {
+            return Ok(TextMap::empty(alloc));
+        }
+        let Some(tracks) = size_pack(kept, 0) else {
+            return Err(TextFault::NoSize);
+        };
+        let Some(counts) = size_pack(kept, 1) else {
+            return Err(TextFault::NoSize);
+        };
+        if size_pack(kept, 2).is_none() {
+            return Err(TextFault::NoSize);
+        }
+        read_sized(alloc, kept, &tracks, &counts)
+    }
+}
+
+/// The texts of kept packs by the first two size packs.
+fn read_sized(
+    alloc: Global,
+    kept: &[Option<[u8; 18]>],
+    tracks: &[u8; 18],
+    counts: &[u8; 18],
+) -> Result<TextMap, TextFault>
+    requires { length kept.now ≡ 256 }
+    ensures texts { IfOk result (λ map. read_sized kept.now tracks.now counts.now ≡ Ok map) }
+    ensures fault { IfErr result (λ fault. (fault ≡ TextFault.NoMemory) ⊎ (read_sized kept.now tracks.now counts.now ≡ Err fault)) }
+{
+    let (seq, first, last) = (tracks[2], tracks[5], tracks[6]);
+    if first < 1 || first > 99 {
+        return Err(TextFault::Malformed { seq, byte: 5 });
+    }
+    if last < first || last > 99 {
+        return Err(TextFault::Malformed { seq, byte: 6 });
+    }
+    let count = usize::from(counts[12]) + 1;
+    if let Some(seq) = first_missing(kept, count) {
+        return Err(TextFault::Missing { seq });
+    }
+    let used = &kept[..count];
+    if let Some(seq) = first_short(used, usize::from(last - first) + 2) {
+        return Err(TextFault::Malformed { seq, byte: 15 });
+    }
+    Ok(TextMap::of_packs(alloc, used, first, last)?)
 }
 
 /// Whether the last two bytes are the check of the others.
