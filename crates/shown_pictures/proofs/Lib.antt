@@ -1,0 +1,6 @@
+pub mod Tiles
+pub mod Settings
+pub mod Changes
+pub mod Known
+pub mod Schedules
+pub mod Pictures
