@@ -1,17 +1,16 @@
 -- Each 96 bits are read as one thing.
-use Rattle.std.proofs.Common.{◌≡◌, ℕ, Bool, true, false, List, ◌++◌, length, take, drop, Some, None, refl, sym, ap, ap₂, ◌∙◌, arith, subst, length-take, length-drop, take-append-drop, eq-eqb, inl, inr}
-use Rattle.std.specs.Prelude.{◌≢◌, Ok, Err, Result, Option}
+use Rattle.std.proofs.Common.{◌≡◌, ℕ, Bool, true, false, List, ◌++◌, length, take, drop, Some, None, refl, sym, ap, ap₂, ◌∙◌, arith, length-drop, take-append-drop, eq-eqb, inl, inr}
+use Rattle.std.specs.Prelude.{Ok, Err, Result, Option}
 use Rattle.std.proofs.lemmas.Bool.{eqb-true, true≢false}
 use Rattle.bit_lists.specs.Bits.{bits_of, number_of}
 use Rattle.bit_lists.specs.Check.{check_bits}
 use Rattle.bit_lists.proofs.BitsLemmas.{bits_of-number_of}
 use Rattle.bit_lists.proofs.Checks.{length-check_bits}
-use Rattle.q_frame.specs.QFrame.{IsFrame, spelled, fields_of}
 use Rattle.q_frame.specs.declared.frame.QFrame.{QFrame}
 use Rattle.q_frame.specs.declared.frame.QFault.{QFault}
 use Rattle.q_frame.specs.declared.frame.QFault.TheVariants.{BadCrc, BadField}
 use Rattle.q_channel.specs.QReading.{IsReading, first_bad_field, first_outside}
-use Rattle.q_channel.specs.Kinds.{frame_at, kind_of, ranges_of_kind}
+use Rattle.q_channel.specs.Kinds.{frame_at, kind_of}
 use Rattle.q_channel.specs.ReadingOf.{reading_by, check_matches, reading_of}
 use Rattle.q_channel.proofs.Ranges.{bool_cases}
 use Rattle.q_channel.proofs.KindFacts.{ranges_agree}

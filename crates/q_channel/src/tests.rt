@@ -2,6 +2,7 @@ ghost use Rattle.q_frame.specs.QFrame.{IsValid};
 
 use super::*;
 use disc_time::Msf;
+use std::process::Abort;
 
 // Frames as they stand in the Q channel, with the lines of block 0.
 #[test]

@@ -56,3 +56,10 @@ packed_at block channel first =
 -- the byte of the bits at one place of the eight channels of a planar form
 abbrev pub gathered_at : List ℕ → ℕ → ℕ
 gathered_at planar i = number_of (map (λ c. has_bit (7 - i % 8) (slice_index planar (12 * c + i / 8))) (below 8))
+
+-- the planar form of a block, byte by byte, and the block of a planar form
+abbrev pub planar_form : List ℕ → List ℕ
+planar_form block = map (λ i. packed_at block (i / 12) (8 * (i % 12))) (below 96)
+
+abbrev pub block_from_planar : List ℕ → List ℕ
+block_from_planar planar = map (gathered_at planar) (below 96)

@@ -1,0 +1,3 @@
+pub mod QSteps
+pub mod QList
+pub mod PlanarStream

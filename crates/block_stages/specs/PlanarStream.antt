@@ -1,0 +1,17 @@
+-- Streams of blocks and of their planar forms.
+use Rattle.std.specs.Prelude.{◌≡◌, ℕ, ◌*◌, ◌/◌, ◌<◌, List, [], length, slice_index_or}
+use Rattle.bit_lists.specs.Counting.{whole_parts}
+use Rattle.raw_subcode.specs.Channels.{IsPlanarForm}
+
+-- each whole 96 bytes are turned into 96 bytes, and nothing more is written
+pub record TurnsBlocks (turned : List ℕ → List ℕ → Type 0) (bytes text : List ℕ) : Type 0 where
+  pub size : length text ≡ 96 * (length bytes / 96)
+  pub blocks : (n : ℕ) → n < length bytes / 96 → turned (slice_index_or (whole_parts 96 bytes) n []) (slice_index_or (whole_parts 96 text) n [])
+
+-- the planar form of each block
+abbrev pub IsPlanarStream : List ℕ → List ℕ → Type 0
+IsPlanarStream bytes text = TurnsBlocks IsPlanarForm bytes text
+
+-- the block of each planar form
+abbrev pub IsBlockStream : List ℕ → List ℕ → Type 0
+IsBlockStream bytes text = TurnsBlocks (λ planar block. IsPlanarForm block planar) bytes text

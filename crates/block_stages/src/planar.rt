@@ -1,0 +1,46 @@
+// From blocks to their planar forms, and back.
+ghost use Rattle.std.specs.Prelude.{Some};
+ghost use Rattle.raw_subcode.specs.Channels.{block_from_planar, planar_form};
+
+use cdg_io::{Piece, Stage};
+use raw_subcode::Block;
+
+/// Gives the planar form of each block of 96 bytes.
+#[derive(Clone, Copy, Debug, PartialEq, Eq)]
+pub struct PlanarForms;
+
+impl Stage for PlanarForms {
+    type Item = [u8; 96];
+
+    type Out = Piece;
+
+    ghost next = { λ s _. s };
+
+    ghost gives = { λ _ block. Some (planar_form block) };
+
+    fn feed(&mut self, block: &[u8; 96]) -> Option<Piece> {
+        let mut piece = Piece::new();
+        piece.add(&Block::from_bytes(block).to_planar());
+        Some(piece)
+    }
+}
+
+/// Gives the block of each planar form of 96 bytes.
+#[derive(Clone, Copy, Debug, PartialEq, Eq)]
+pub struct BlockForms;
+
+impl Stage for BlockForms {
+    type Item = [u8; 96];
+
+    type Out = Piece;
+
+    ghost next = { λ s _. s };
+
+    ghost gives = { λ _ planar. Some (block_from_planar planar) };
+
+    fn feed(&mut self, planar: &[u8; 96]) -> Option<Piece> {
+        let mut piece = Piece::new();
+        piece.add(&Block::from_planar(planar).bytes());
+        Some(piece)
+    }
+}
