@@ -1,0 +1,65 @@
+use crate::harness::{run_on, words};
+use cdg_cmd::{Status, Which, run};
+use cdg_io::{MemSink, MemSource, SteadySource};
+use std::test::Fail;
+
+// A source that gives a block at a call fails at its call number c: what the whole blocks give is written.
+#[test]
+fn a_failed_read_ends_the_run(rt: HostRuntime) -> Result<(), Fail> {
+    let alloc = rt.alloc();
+    let fault = Status::ReadFault(Which::First);
+    let cases = [
+        ("convert --lead-in 0", 0u32, fault, 0usize),
+        ("convert --lead-in 0", 1, fault, 0),
+        ("convert --lead-in 0", 2, fault, 24),
+        ("convert --lead-in 0", 3, fault, 120),
+        ("convert --lead-in 0", 4, fault, 216),
+        ("convert --lead-in 0", 5, fault, 312),
+        ("convert --lead-in 0", 6, Status::Done, 312),
+        ("convert --lead-in 1", 3, fault, 24),
+    ];
+    for (line, call, status, count) in cases {
+        let bytes = vec![in alloc; 0u8; 480]?;
+        let first = MemSource::new(bytes, vec![in alloc; 96usize]?, vec![in alloc; call]?);
+        let ran = run_on(alloc, line, first, Vec::new(alloc))?;
+        assert_eq!(rt; ran.status, status, "{line} {call}");
+        assert_eq!(rt; ran.out.bytes().len(), count, "{line} {call}");
+        let told: &[u8] = if call < 6 { b"read fault first\n" } else { b"" };
+        assert_eq!(rt; ran.err.bytes(), told, "{line} {call}");
+    }
+    Ok(())
+}
+
+// The packs of a block come in one piece, from the second block on.
+#[test]
+fn a_failed_write_ends_the_run(rt: HostRuntime) -> Result<(), Fail> {
+    let alloc = rt.alloc();
+    let cases = [(0u32, 0usize), (1, 24), (2, 120), (3, 216), (4, 312)];
+    for (call, count) in cases {
+        let bytes = vec![in alloc; 0u8; 480]?;
+        let first = MemSource::new(bytes, Vec::new(alloc), Vec::new(alloc));
+        let ran = run_on(alloc, "convert --lead-in 0", first, vec![in alloc; call]?)?;
+        let status = if call < 4 {
+            Status::WriteFault
+        } else {
+            Status::Done
+        };
+        assert_eq!(rt; ran.status, status, "{call}");
+        assert_eq!(rt; ran.out.bytes().len(), count, "{call}");
+    }
+    Ok(())
+}
+
+#[test]
+fn a_failed_line_leaves_the_status(rt: HostRuntime) -> Result<(), Fail> {
+    let alloc = rt.alloc();
+    let words = words(alloc, "convert --lead-in 0")?;
+    let mut first = SteadySource::new(&[0; 100]);
+    let mut second = SteadySource::new(&[]);
+    let mut out = MemSink::new(alloc, 96, Vec::new(alloc), Vec::new(alloc))?;
+    let mut err = MemSink::new(alloc, 96, Vec::new(alloc), vec![in alloc; 0u32]?)?;
+    let status = run(alloc, &words, &mut first, &mut second, &mut out, &mut err);
+    assert_eq!(rt; status.exit(), 3);
+    assert!(rt; err.bytes().is_empty());
+    Ok(())
+}

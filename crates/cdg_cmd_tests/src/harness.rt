@@ -1,0 +1,58 @@
+// Runs of commands over sources and sinks in memory.
+use cdg_cmd::{Status, run};
+use cdg_io::{MemSink, MemSource, SteadySource};
+use std::alloc::{AllocError, Global};
+
+/// What a run ended with, held and told.
+#[derive(Drop)]
+pub struct Ran {
+    pub status: Status,
+    pub out: MemSink,
+    pub err: MemSink,
+}
+
+/// The words of a line, which blanks part.
+pub fn words(alloc: Global, line: &str) -> Result<Vec<String>, AllocError> {
+    let mut words = Vec::new(alloc);
+    for word in line.split(' ') {
+        words.push(String::from_str(alloc, word)?)?;
+    }
+    Ok(words)
+}
+
+/// Runs a command on a source, into sinks with room.
+pub fn run_on(
+    alloc: Global,
+    line: &str,
+    mut first: MemSource,
+    out_fails: Vec<u32>,
+) -> Result<Ran, AllocError> {
+    let words = words(alloc, line)?;
+    let mut second = SteadySource::new(&[]);
+    let mut out = MemSink::new(alloc, 4096, Vec::new(alloc), out_fails)?;
+    let mut err = MemSink::new(alloc, 256, Vec::new(alloc), Vec::new(alloc))?;
+    let status = run(alloc, &words, &mut first, &mut second, &mut out, &mut err);
+    Ok(Ran { status, out, err })
+}
+
+/// Runs a command on bytes that come in pieces of several sizes.
+pub fn run_bytes(alloc: Global, line: &str, bytes: Vec<u8>) -> Result<Ran, AllocError> {
+    let cuts = vec![in alloc; 95usize, 1, 97, 7]?;
+    run_on(
+        alloc,
+        line,
+        MemSource::new(bytes, cuts, Vec::new(alloc)),
+        Vec::new(alloc),
+    )
+}
+
+/// Zero bytes but for ones at these places.
+pub fn zeros_but(alloc: Global, len: usize, ones: &[usize]) -> Result<Vec<u8>, AllocError> {
+    let mut bytes = vec![in alloc; 0u8; len]?;
+    for place in ones {
+        if let Some(byte) = bytes.get_mut(*place) {
+            *byte = 1;
+        }
+    }
+    Ok(bytes)
+}

@@ -1,0 +1,15 @@
+//! Tests of commands over whole inputs and outputs.
+#![tactic(auto)]
+
+#[cfg(test)]
+mod convert;
+#[cfg(test)]
+mod faults;
+#[cfg(test)]
+mod files;
+#[cfg(test)]
+mod harness;
+#[cfg(test)]
+mod players;
+#[cfg(test)]
+mod words;

@@ -1,0 +1,48 @@
+use cdg_io::{MemSink, MemSource, Then};
+use rw_interleave::Gather;
+use std::test::Fail;
+use subcode_player::{BlockWords, Correction, Form, Played, Player, SectorBlocks};
+
+// A player has these fields and no others, so it can hold no stream.
+fn see_player(player: &Player) {
+    let Player { stages } = player;
+    let stages: &Then<SectorBlocks, Then<BlockWords, Correction>> = stages;
+    let Then { first, second } = stages;
+    let _sectors: &SectorBlocks = first;
+    see_stages(second);
+}
+
+fn see_stages(stages: &Then<BlockWords, Correction>) {
+    let Then { first, second } = stages;
+    see_words(first);
+    see_correction(second);
+}
+
+fn see_words(words: &BlockWords) {
+    let BlockWords {
+        form,
+        lead_in,
+        gather,
+    } = words;
+    let _form: &Form = form;
+    let _lead_in: &u32 = lead_in;
+    let _gather: &Gather = gather;
+}
+
+fn see_correction(correction: &Correction) {
+    let Correction { bad } = correction;
+    let _bad: &u32 = bad;
+}
+
+#[test]
+fn a_player_is_made_of_windows_and_counts(rt: HostRuntime) -> Result<(), Fail> {
+    let alloc = rt.alloc();
+    let mut player = Player::start(alloc)?;
+    see_player(&player);
+    let mut source = MemSource::new(vec![in alloc; 0u8; 192]?, Vec::new(alloc), Vec::new(alloc));
+    let mut sink = MemSink::new(alloc, 24, Vec::new(alloc), Vec::new(alloc))?;
+    let played = player.convert(0, Form::Raw, &mut source, &mut sink);
+    assert_eq!(rt; played, Ok(Played { blocks: 2, bad: 0 }));
+    assert_eq!(rt; sink.bytes(), [0u8; 24].as_slice());
+    Ok(())
+}

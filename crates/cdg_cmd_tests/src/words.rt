@@ -1,0 +1,74 @@
+use crate::harness::{run_bytes, words};
+use cdg_cmd::{Command, Status, read_words, split};
+use std::test::Fail;
+use subcode_player::Form;
+
+#[test]
+fn words_that_spell_nothing_are_refused(rt: HostRuntime) -> Result<(), Fail> {
+    let alloc = rt.alloc();
+    let lines = [
+        "",
+        "convert",
+        "convert --lead-in 007x",
+        "convert --lead-in 00",
+        "convert --lead-in 450001",
+        "convert --lead-in 99999999999999999999",
+        "convert --lead-in 0 --form",
+        "convert --lead-in 0 --form wide",
+        "convert --form raw --lead-in 0",
+        "convert --lead-in 0 --form raw --form raw",
+        "convert --lead-in 0 -- a b c",
+        "Convert --lead-in 0",
+    ];
+    for line in lines {
+        let ran = run_bytes(alloc, line, vec![in alloc; 0u8; 192]?)?;
+        assert_eq!(rt; ran.status, Status::Usage, "{line}");
+        assert_eq!(rt; ran.err.bytes(), b"usage\n".as_slice(), "{line}");
+        assert!(rt; ran.out.bytes().is_empty(), "{line}");
+    }
+    Ok(())
+}
+
+#[test]
+fn no_words_spell_nothing(rt: HostRuntime) -> Result<(), Fail> {
+    assert_eq!(rt; read_words(&[]), None);
+    Ok(())
+}
+
+#[test]
+fn words_spell_a_command(rt: HostRuntime) -> Result<(), Fail> {
+    let alloc = rt.alloc();
+    let cases = [
+        ("convert --lead-in 450000", 450_000, Form::Raw),
+        ("convert --lead-in 0 --form raw", 0, Form::Raw),
+        ("convert --lead-in 10 --form sector", 10, Form::Sector),
+        ("convert --lead-in 7 --form cooked", 7, Form::Cooked),
+    ];
+    for (line, lead_in, form) in cases {
+        let words = words(alloc, line)?;
+        assert_eq!(rt;
+            read_words(&words),
+            Some(Command::Convert { lead_in, form }),
+            "{line}"
+        );
+    }
+    Ok(())
+}
+
+#[test]
+fn a_line_is_split_at_its_first_dashes(rt: HostRuntime) -> Result<(), Fail> {
+    let alloc = rt.alloc();
+    let cases = [
+        ("convert --lead-in 0", 3, 0),
+        ("convert --lead-in 0 --", 3, 0),
+        ("convert --lead-in 0 -- a", 3, 1),
+        ("convert --lead-in 0 -- a b", 3, 2),
+        ("convert --lead-in 0 -- a b c", 7, 0),
+        ("-- -- a", 0, 2),
+    ];
+    for (line, count, names) in cases {
+        let split = split(&words(alloc, line)?);
+        assert_eq!(rt; (split.words, split.names), (count, names), "{line}");
+    }
+    Ok(())
+}
