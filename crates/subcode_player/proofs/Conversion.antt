@@ -22,17 +22,17 @@ program form lead_in units = drop lead_in (map (block_of form) units)
 
 -- ---- units
 
-length-units_of : (size n : ℕ) (bytes : List ℕ) → length (units_of size n bytes) ≡ n
+pub length-units_of : (size n : ℕ) (bytes : List ℕ) → length (units_of size n bytes) ≡ n
 length-units_of size zero bytes = refl
 length-units_of size (suc n) bytes = ap suc (length-units_of size n _)
 
-units_sized : (size n : ℕ) (bytes : List ℕ) → n * size ≤ length bytes → Sized size (units_of size n bytes)
+pub units_sized : (size n : ℕ) (bytes : List ℕ) → n * size ≤ length bytes → Sized size (units_of size n bytes)
 units_sized size zero bytes fits = tt
 units_sized size (suc n) bytes fits =
     let more : n * size + size ≤ length bytes = omega (arith, fits) in
     (length-take-le size bytes (omega (arith, more)), units_sized size n (drop size bytes) (omega (arith, more, length-drop size bytes)))
 
-blocks_sized : (form : Form) (units : List (List ℕ)) → Sized (unit_size form) units → Sized 96 (map (block_of form) units)
+pub blocks_sized : (form : Form) (units : List (List ℕ)) → Sized (unit_size form) units → Sized 96 (map (block_of form) units)
 blocks_sized form [] sized = tt
 blocks_sized Raw (u ∷ units) sized = (sized.0, blocks_sized Raw units sized.1)
 blocks_sized Sector (u ∷ units) sized = (omega (arith, length-drop 2352 u, sized.0), blocks_sized Sector units sized.1)

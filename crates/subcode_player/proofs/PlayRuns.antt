@@ -37,11 +37,11 @@ give_few : {O : Type 0} (o : Option O) (rest : List O) → length (give o rest) 
 give_few None rest = omega arith
 give_few (Some x) rest = omega arith
 
-gives_few : {S I O : Type 0} (next : S → I → S) (gives : S → I → Option O) (s : S) (xs : List I) → length (run_gives next gives s xs) ≤ length xs
+pub gives_few : {S I O : Type 0} (next : S → I → S) (gives : S → I → Option O) (s : S) (xs : List I) → length (run_gives next gives s xs) ≤ length xs
 gives_few next gives s [] = omega arith
 gives_few next gives s (x ∷ xs) = omega (arith, give_few (gives s x) (run_gives next gives (next s x) xs), gives_few next gives (next s x) xs)
 
-block_words : (form : Form) (lead_in : ℕ) (b : BlockWords) (blocks : List (List ℕ)) → b ≡ begun form lead_in → all_items (run_gives words_next words_give b blocks) ≡ words_from form (flat_map slots_of (drop lead_in blocks))
+pub block_words : (form : Form) (lead_in : ℕ) (b : BlockWords) (blocks : List (List ℕ)) → b ≡ begun form lead_in → all_items (run_gives words_next words_give b blocks) ≡ words_from form (flat_map slots_of (drop lead_in blocks))
 block_words form lead_in b blocks start = ap (λ b. all_items (run_gives words_next words_give b blocks)) start ∙ words_run form lead_in [] blocks
 
 pub block_text : (form : Form) (lead_in : ℕ) (s : Blocks) (blocks : List (List ℕ)) → s.first ≡ begun form lead_in → concat (run_gives blocks_next blocks_give s blocks) ≡ cdg_bytes (found_in form (drop lead_in blocks))
@@ -59,7 +59,7 @@ block_bad form lead_in s blocks start none few =
 
 -- ---- bytes that are blocks
 
-plain_blocks : (form : Form) → unit_size form ≡ 96 → (units : List (List ℕ)) → map (block_of form) units ≡ units
+pub plain_blocks : (form : Form) → unit_size form ≡ 96 → (units : List (List ℕ)) → map (block_of form) units ≡ units
 plain_blocks form size [] = refl
 plain_blocks Raw size (u ∷ units) = ap (λ us. u ∷ us) (plain_blocks Raw size units)
 plain_blocks Sector size (u ∷ units) = absurd (omega (arith, size))
@@ -76,10 +76,10 @@ plays_blocks form lead_in s size start none =
 abbrev pub Sectors : Type 0
 Sectors = Then SectorBlocks Blocks
 
-abbrev cut_next : SectorBlocks → List ℕ → SectorBlocks
+abbrev pub cut_next : SectorBlocks → List ℕ → SectorBlocks
 cut_next s x = s
 
-abbrev cut_give : SectorBlocks → List ℕ → Option (List ℕ)
+abbrev pub cut_give : SectorBlocks → List ℕ → Option (List ℕ)
 cut_give s x = Some (drop 2352 x)
 
 abbrev pub sectors_next : Sectors → List ℕ → Sectors
@@ -88,7 +88,7 @@ sectors_next s x = joined cut_next cut_give blocks_next s x
 abbrev pub sectors_give : Sectors → List ℕ → Option (List ℕ)
 sectors_give s x = then_gives blocks_give s.second (cut_give s.first x)
 
-cut_all : (s : SectorBlocks) (units : List (List ℕ)) → run_gives cut_next cut_give s units ≡ map (block_of Sector) units
+pub cut_all : (s : SectorBlocks) (units : List (List ℕ)) → run_gives cut_next cut_give s units ≡ map (block_of Sector) units
 cut_all s [] = refl
 cut_all s (u ∷ units) = ap (λ us. drop 2352 u ∷ us) (cut_all s units)
 

@@ -22,7 +22,7 @@ pub record Plays {S : Type 0} (writes : List ℕ → List ℕ → ℕ → Type 0
       → writes bytes (given (unit_size form) next gives s bytes n) (bad_of (run_state next s (units_of (unit_size form) n bytes)))
 
 -- a unit has more than one byte
-unit_some : (form : Form) → 1 < unit_size form
+pub unit_some : (form : Form) → 1 < unit_size form
 unit_some Raw = omega arith
 unit_some Sector = omega arith
 unit_some Cooked = omega arith

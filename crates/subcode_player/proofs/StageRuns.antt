@@ -73,17 +73,17 @@ unfolding correction_next bad_after
 correction_counts c [] = refl
 correction_counts c (v ∷ vs) = correction_counts (record { bad = bad_after c.bad v.items }) vs ∙ sym (bad_append c.bad v.items (all_items vs))
 
-one_bad : (bad : ℕ) (found : Option (List ℕ)) → bad + 1 < 2 ^ 32 → cond (is_none found) (min (bad + 1) (2 ^ 32 - 1)) bad ≡ bad + bad_count (found ∷ [])
+pub one_bad : (bad : ℕ) (found : Option (List ℕ)) → bad + 1 < 2 ^ 32 → cond (is_none found) (min (bad + 1) (2 ^ 32 - 1)) bad ≡ bad + bad_count (found ∷ [])
 one_bad bad (Some w) fits = omega arith
 one_bad bad None fits = omega (arith, fits)
 
-count_more : (found : Option (List ℕ)) (rest : List (Option (List ℕ))) → bad_count (found ∷ rest) ≡ bad_count (found ∷ []) + bad_count rest
+pub count_more : (found : Option (List ℕ)) (rest : List (Option (List ℕ))) → bad_count (found ∷ rest) ≡ bad_count (found ∷ []) + bad_count rest
 count_more found rest =
     let whole : bad_count (found ∷ rest) ≡ cond (is_none found) 1 0 + bad_count rest = sum_by-cons (λ (x : Option (List ℕ)). cond (is_none x) 1 0) found rest in
     let one : bad_count (found ∷ []) ≡ cond (is_none found) 1 0 + 0 = sum_by-cons (λ (x : Option (List ℕ)). cond (is_none x) 1 0) found [] in
     omega (arith, whole, one)
 
-at_most_one : (found : Option (List ℕ)) → bad_count (found ∷ []) ≤ 1
+pub at_most_one : (found : Option (List ℕ)) → bad_count (found ∷ []) ≤ 1
 at_most_one (Some w) = omega arith
 at_most_one None = omega arith
 

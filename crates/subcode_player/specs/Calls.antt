@@ -9,7 +9,7 @@ use Rattle.raw_subcode.specs.Channels.{unit_size}
 use Rattle.raw_subcode.specs.declared.form.Form.{Form}
 use Rattle.subcode_player.specs.declared.player.Played.{Played}
 use Rattle.subcode_player.specs.declared.player.PlayStop.{PlayStop}
-use Rattle.subcode_player.specs.declared.player.PlayStop.TheVariants.{ReadFault, WriteFault, Torn, TooLong}
+use Rattle.subcode_player.specs.declared.player.PlayStop.TheVariants.{ReadFault, WriteFault, Torn, TooLong, PastEnd}
 
 -- the most units that are read
 abbrev pub most_units : ℕ
@@ -48,3 +48,4 @@ IsAnsweredBy (Err (Torn block)) size len = (len ≤ most_units * size) × (len %
 IsAnsweredBy (Err TooLong) size len = most_units * size < len
 IsAnsweredBy (Err ReadFault) size len = ⊤
 IsAnsweredBy (Err WriteFault) size len = ⊤
+IsAnsweredBy (Err (PastEnd blocks)) size len = ⊥

@@ -3,12 +3,18 @@
 
 mod converting;
 mod correction;
+mod drawing;
+mod picture;
 mod player;
 mod sectors;
+mod showing;
+mod watching;
 mod words;
 
 pub use correction::Correction;
 pub use raw_subcode::Form;
+pub use drawing::Drawing;
+pub use picture::Picture;
 pub use player::{PlayStop, Played, Player};
 pub use sectors::SectorBlocks;
 pub use words::BlockWords;

@@ -3,9 +3,8 @@ ghost use Rattle.std.specs.Prelude.{◌≡◌, ◌-◌, IfOk};
 ghost use Rattle.subcode_player.specs.Calls.{play_stop};
 ghost use Rattle.subcode_player.specs.Steps.{begun};
 
-use crate::{BlockWords, Correction, Form, SectorBlocks};
+use crate::{BlockWords, Correction, Drawing, Form, Picture, SectorBlocks};
 use cdg_io::{PumpStop, Pumped, Then};
-use rw_interleave::Gather;
 use std::alloc::{AllocError, Global};
 use thiserror::Error;
 
@@ -33,12 +32,18 @@ pub enum PlayStop {
     Torn { block: u32 },
     #[error("the input is too long")]
     TooLong,
+    /// The moment is later than the end of this many program blocks.
+    #[error("the program ends after {blocks} blocks")]
+    PastEnd { blocks: u32 },
 }
 
 /// Plays streams, one at a time. All its memory is taken at the start.
 #[derive(Drop)]
 pub struct Player {
+    /// The packs of a stream.
     pub stages: Then<SectorBlocks, Then<BlockWords, Correction>>,
+    /// The picture at a moment of a stream.
+    pub views: Then<SectorBlocks, Then<BlockWords, Drawing>>,
 }
 
 impl Player {
@@ -46,13 +51,14 @@ impl Player {
     pub fn start(alloc: Global) -> Result<Player, AllocError>
         ensures { IfOk result (λ p. (p.stages.second.first ≡ begun Form.Raw 0) × (p.stages.second.second.bad ≡ 0)) }
     {
-        let words = BlockWords {
-            form: Form::Raw,
-            lead_in: 0,
-            gather: Gather::start(alloc)?,
+        let drawing = Drawing {
+            picture: Picture::start(alloc)?,
+            left: 0,
+            bad: 0,
         };
         Ok(Player {
-            stages: Then::new(SectorBlocks, Then::new(words, Correction { bad: 0 })),
+            stages: Then::new(SectorBlocks, Then::new(BlockWords::start(alloc)?, Correction { bad: 0 })),
+            views: Then::new(SectorBlocks, Then::new(BlockWords::start(alloc)?, drawing)),
         })
     }
 
@@ -72,10 +78,7 @@ impl Player {
         ensures words { self.new.stages.second.first ≡ begun form lead_in }
         ensures bad { self.new.stages.second.second.bad ≡ 0 }
     {
-        let words = &mut self.stages.second.first;
-        words.form = form;
-        words.lead_in = lead_in;
-        words.gather.reset();
+        self.stages.second.first.begin(lead_in, form);
         self.stages.second.second.bad = 0;
     }
 }

@@ -1,15 +1,16 @@
 // From blocks to words.
-ghost use Rattle.std.specs.Prelude.{◌≡◌, ◌<◌, ◌≤◌, ◌+◌, ◌*◌, ◌++◌, [], length, take, drop};
+ghost use Rattle.std.specs.Prelude.{◌≡◌, ◌<◌, ◌≤◌, ◌+◌, ◌*◌, ◌++◌, [], length, take, drop, IfOk};
 ghost use Rattle.arrayvec.specs.ArrayVec.{array_vec_len};
 ghost use Rattle.cdg_io.specs.Run.{give, run_state, run_gives};
 ghost use Rattle.raw_subcode.specs.Channels.{symbols_of};
-ghost use Rattle.subcode_player.specs.Steps.{slot_of, slots_of, window_next, window_gives, words_next, words_give};
+ghost use Rattle.subcode_player.specs.Steps.{begun, slot_of, slots_of, window_next, window_gives, words_next, words_give};
 
 use crate::Form;
 use arrayvec::ArrayVec;
 use cdg_io::Stage;
 use rw_code::Word;
 use rw_interleave::{Gather, Slot};
+use std::alloc::{AllocError, Global};
 
 /// The bytes of a block.
 pub(crate) const BLOCK: usize = 96;
@@ -28,6 +29,26 @@ pub struct BlockWords {
 }
 
 impl BlockWords {
+    /// The words of no stream yet.
+    pub(crate) fn start(alloc: Global) -> Result<BlockWords, AllocError>
+        ensures { IfOk result (λ words. words ≡ begun Form.Raw 0) }
+    {
+        Ok(BlockWords {
+            form: Form::Raw,
+            lead_in: 0,
+            gather: Gather::start(alloc)?,
+        })
+    }
+
+    /// Begins with a stream of this form.
+    pub(crate) fn begin(&mut self, lead_in: u32, form: Form)
+        ensures { self.new ≡ begun form lead_in }
+    {
+        self.form = form;
+        self.lead_in = lead_in;
+        self.gather.reset();
+    }
+
     /// The word that comes with a slot, if any.
     #[tactic(auto, unfolding(crate::specs::Steps::window_next, crate::specs::Steps::window_gives))]
     fn push(&mut self, slot: &[u8; SLOT]) -> Option<Word>

@@ -1,0 +1,115 @@
+-- What is drawn for words, one after another.
+use Rattle.std.proofs.Common.{◌≡◌, ◌==◌, ℕ, zero, suc, ◌+◌, ◌-◌, ◌^◌, ◌<◌, true, false, cond, List, [], ◌∷◌, ◌++◌, length, get_or, map, take, refl, sym, ap, ◌∙◌, subst, arith, Some, None, inl, inr}
+use Rattle.std.specs.declared.option.Option.{Option}
+use Rattle.std.proofs.lemmas.Bool.Decides.{eqb_tells}
+use Rattle.std.proofs.lemmas.List.{take_more}
+use Rattle.arrayvec.specs.ArrayVec.{ArrayVec}
+use Rattle.cdg_io.specs.Run.{run_state}
+use Rattle.rw_code.specs.Finding.{finding}
+use Rattle.stream_words.specs.Stream.{bad_count}
+use Rattle.cdg_instructions.specs.Meaning.{meaning}
+use Rattle.cdg_instructions.proofs.Meaning.{meaning_means}
+use Rattle.cdg_instructions.specs.declared.instr.Instr.{Instr}
+use Rattle.cdg_screen.specs.Picture.{Display, Standing, SameStanding, standing_of, standing_after}
+use Rattle.cdg_screen.proofs.Turns.{same_after, same_then, same_back, in_turn}
+use Rattle.subcode_player.specs.Standings.{obeyed}
+use Rattle.subcode_player.specs.Steps.{bad_next}
+use Rattle.subcode_player.specs.Drawn.{entry_drawn, draw_next, draw_after, drawing_next, drawing_gives}
+use Rattle.subcode_player.specs.Shown.{AreMeant}
+use Rattle.subcode_player.specs.declared.drawing.Drawing.{Drawing}
+use Rattle.subcode_player.proofs.StandingLemmas.{obeyed_is}
+use Rattle.subcode_player.proofs.StageRuns.{all_items, one_bad, count_more, at_most_one}
+
+-- ---- a loop over words
+
+draw_append : (s : Drawing) (words others : List (List ℕ)) → draw_after s (words ++ others) ≡ draw_after (draw_after s words) others
+unfolding draw_after
+draw_append s [] others = refl
+draw_append s (w ∷ words) others = draw_append (draw_next s w) words others
+
+draw_more : (s : Drawing) (words : List (List ℕ)) (word : List ℕ) → draw_after s (words ++ word ∷ []) ≡ draw_next (draw_after s words) word
+unfolding draw_after
+draw_more s [] word = refl
+draw_more s (w ∷ words) word = draw_more (draw_next s w) words word
+
+pub draw_step : (words : List (List ℕ)) (i : ℕ) (word : List ℕ) (start old new : Drawing) → i < length words → word ≡ get_or words i word → old ≡ draw_after start (take i words) → new ≡ draw_next old word → new ≡ draw_after start (take (i + 1) words)
+draw_step words i word start old new lt is done step =
+    step ∙ ap (λ (s : Drawing). draw_next s word) done ∙ sym (draw_more start (take i words) word) ∙ ap (draw_after start) (sym (take_more words i word lt ∙ ap (λ w. take i words ++ w ∷ []) (sym is)))
+
+pub drawn_none_yet : (start : Drawing) → start ≡ draw_after start []
+unfolding draw_after
+drawn_none_yet start = refl
+
+pub drawing_runs : (s : Drawing) (vs : List (ArrayVec (List ℕ))) → run_state drawing_next s vs ≡ draw_after s (all_items vs)
+unfolding drawing_next draw_after
+drawing_runs s [] = refl
+drawing_runs s (v ∷ vs) = drawing_runs (draw_after s v.items) vs ∙ sym (draw_append s v.items (all_items vs))
+
+-- ---- what stands
+
+-- what the found codewords mean
+abbrev pub instrs_of : List (Option (List ℕ)) → List Instr
+instrs_of [] = []
+instrs_of (None ∷ rest) = instrs_of rest
+instrs_of (Some word ∷ rest) = meaning word ∷ instrs_of rest
+
+pub are_meant : (found : List (Option (List ℕ))) → AreMeant found (instrs_of found)
+are_meant [] = refl
+are_meant (None ∷ rest) = are_meant rest
+are_meant (Some word ∷ rest) = (meaning_means word, are_meant rest)
+
+-- nothing more was drawn
+pub nothing_more : (now : Standing) → SameStanding now (standing_after now [])
+nothing_more now = record { memory = λ x y _ _. refl; border = refl; colour = λ k _. refl; level = λ k _. refl; h = refl; v = refl }
+
+-- an entry was drawn before the rest
+entry_before : (picture : Display) (entry : Option (List ℕ)) (rest : List (Option (List ℕ))) (end : Display) → SameStanding (standing_of end) (standing_after (standing_of (entry_drawn picture entry)) (instrs_of rest))
+    → SameStanding (standing_of end) (standing_after (standing_of picture) (instrs_of (entry ∷ rest)))
+entry_before picture None rest end same = same
+entry_before picture (Some word) rest end same =
+    let old : Standing = standing_of picture in
+    let instr : Instr = meaning word in
+    let between : Standing = standing_after old (instr ∷ []) in
+    same_then (standing_of end) (standing_after (standing_of (obeyed picture instr)) (instrs_of rest)) (standing_after old (instr ∷ instrs_of rest)) same
+    (same_then (standing_after (standing_of (obeyed picture instr)) (instrs_of rest)) (standing_after between (instrs_of rest)) (standing_after old (instr ∷ instrs_of rest))
+      (same_after (standing_of (obeyed picture instr)) between (instrs_of rest) (obeyed_is picture instr))
+      (same_back (standing_after old (instr ∷ instrs_of rest)) (standing_after between (instrs_of rest)) (in_turn old (instr ∷ []) (instrs_of rest))))
+
+abbrev state : Display → ℕ → ℕ → Drawing
+state picture left bad = record { picture = picture; left = left; bad = bad }
+
+next_of : (picture : Display) (left bad : ℕ) (word : List ℕ) → draw_next (state picture (suc left) bad) word ≡ state (entry_drawn picture (finding word)) left (bad_next bad word)
+unfolding draw_next
+next_of picture left bad word =
+    let less : suc left - 1 ≡ left = omega arith in
+    let more : (suc left == 0) ≡ false = elim (eqb_tells (suc left) 0) [ inl none ↦ absurd (omega (arith, none.1)) | inr some ↦ some.0 ] in
+    ap (λ t. cond t (state picture (suc left) bad) (state (entry_drawn picture (finding word)) (suc left - 1) (bad_next bad word))) more ∙ ap (λ n. state (entry_drawn picture (finding word)) n (bad_next bad word)) less
+
+none_left : (picture : Display) (bad : ℕ) (words : List (List ℕ)) → draw_after (state picture 0 bad) words ≡ state picture 0 bad
+unfolding draw_after draw_next
+none_left picture bad [] = refl
+none_left picture bad (w ∷ words) = none_left picture bad words
+
+-- The words were drawn from this state: what stands, and how many of them are bad.
+pub record AreDrawn (picture : Display) (left bad : ℕ) (words : List (List ℕ)) (end : Drawing) : Type 0 where
+  pub stands : SameStanding (standing_of end.picture) (standing_after (standing_of picture) (instrs_of (take left (map finding words))))
+  pub counted : end.bad ≡ bad + bad_count (take left (map finding words))
+
+one_counted : (bad : ℕ) (word : List ℕ) → bad + 1 < 2 ^ 32 → bad_next bad word ≡ bad + bad_count (finding word ∷ [])
+unfolding bad_next
+one_counted bad word fits = one_bad bad (finding word) fits
+
+first_drawn : (picture : Display) (left bad : ℕ) (w : List ℕ) (words : List (List ℕ)) → draw_after (state picture (suc left) bad) (w ∷ words) ≡ draw_after (state (entry_drawn picture (finding w)) left (bad_next bad w)) words
+unfolding draw_after
+first_drawn picture left bad w words = ap (λ (s : Drawing). draw_after s words) (next_of picture left bad w)
+
+pub are_drawn : (picture : Display) (left bad : ℕ) (words : List (List ℕ)) → bad + length words < 2 ^ 32 → AreDrawn picture left bad words (draw_after (state picture left bad) words)
+are_drawn picture zero bad words fits = subst (AreDrawn picture 0 bad words) (sym (none_left picture bad words)) (record { stands = nothing_more (standing_of picture); counted = omega arith })
+are_drawn picture (suc left) bad [] fits = subst (AreDrawn picture (suc left) bad []) (drawn_none_yet (state picture (suc left) bad)) (record { stands = nothing_more (standing_of picture); counted = omega arith })
+are_drawn picture (suc left) bad (w ∷ words) fits =
+    let step : bad_next bad w ≡ bad + bad_count (finding w ∷ []) = one_counted bad w (omega (arith, fits)) in
+    let later = are_drawn (entry_drawn picture (finding w)) left (bad_next bad w) words (omega (arith, fits, step, at_most_one (finding w))) in
+    subst (AreDrawn picture (suc left) bad (w ∷ words)) (sym (first_drawn picture left bad w words)) (record {
+      stands = entry_before picture (finding w) (take left (map finding words)) (draw_after (state (entry_drawn picture (finding w)) left (bad_next bad w)) words).picture later.stands;
+      counted = later.counted ∙ omega (arith, step, count_more (finding w) (take left (map finding words)));
+    })

@@ -1,0 +1,20 @@
+use Rattle.std.proofs.Common.{refl}
+use Rattle.cdg_screen.specs.Picture.{standing_of}
+use Rattle.cdg_screen.specs.Texts.{pixmap}
+use Rattle.subcode_player.proofs.Views.{shows_done, shows_cut, shows_stop}
+use Rattle.subcode_player.proofs.player.Player.screen_at.Goals as goal
+
+pub returns-in-Ok-write_ppm-clause-shows : goal.returns-in-Ok-write_ppm-clause-shows
+returns-in-Ok-write_ppm-clause-shows g c =
+    let (taken, v) = c.in-Ok.ensures.views in
+    (taken, shows_done c.args.form c.args.lead_in c.args.at _ _ taken pixmap (standing_of c.view.new.self.views.second.second.picture) _ _ _ v c.in-Ok-write_ppm.ensures.ok)
+
+pub returns-in-Err-write_ppm-clause-shows : goal.returns-in-Err-write_ppm-clause-shows
+returns-in-Err-write_ppm-clause-shows g c =
+    let (taken, v) = c.in-Ok.ensures.views in
+    (taken, shows_cut c.args.form c.args.lead_in c.args.at _ _ taken pixmap (standing_of c.view.new.self.views.second.second.picture) _ _ _ v c.in-Err-write_ppm.ensures.part)
+
+pub returns-in-Err-clause-shows : goal.returns-in-Err-clause-shows
+returns-in-Err-clause-shows g c =
+    let (taken, v) = c.in-Err.ensures.views in
+    (taken, shows_stop c.args.form c.args.lead_in c.args.at _ _ taken pixmap (standing_of c.view.new.self.views.second.second.picture) _ _ _ v refl)

@@ -1,0 +1,61 @@
+// From words to what stands on a screen.
+ghost use Rattle.std.specs.Prelude.{◌≡◌};
+ghost use Rattle.rw_code.specs.Finding.{finding};
+ghost use Rattle.subcode_player.specs.Steps.{bad_next};
+ghost use Rattle.subcode_player.specs.Drawn.{entry_drawn, draw_next, drawing_next, drawing_gives};
+
+use crate::Picture;
+use arrayvec::ArrayVec;
+use cdg_io::{Piece, Stage};
+use rw_code::{Word, correct};
+
+/// Draws the corrected packs up to a number of them, and counts the words with no codeword near among these.
+#[derive(Drop)]
+pub struct Drawing {
+    pub picture: Picture,
+    /// The packs that are still to be drawn.
+    pub left: u32,
+    pub bad: u32,
+}
+
+impl Drawing {
+    /// Draws what is found for a word, if a pack is left to be drawn.
+    #[tactic(auto, unfolding(crate::specs::Drawn::draw_next))]
+    fn draw(&mut self, word: &Word)
+        ensures { self.new ≡ draw_next self.old word.now }
+    {
+        if self.left > 0 {
+            self.left -= 1;
+            self.take(word);
+        }
+    }
+
+    /// Draws the codeword near a word, or counts the word.
+    fn take(&mut self, word: &Word)
+        ensures picture { self.new.picture ≡ entry_drawn self.old.picture (finding word.now) }
+        ensures bad { self.new.bad ≡ bad_next self.old.bad word.now }
+        ensures left { self.new.left ≡ self.old.left }
+    {
+        match correct(word) {
+            Some(fixed) => self.picture.obey(&fixed.pack),
+            None => self.bad = self.bad.saturating_add(1),
+        }
+    }
+}
+
+impl Stage for Drawing {
+    type Item = ArrayVec<Word, 4>;
+
+    type Out = Piece;
+
+    ghost next = { drawing_next };
+
+    ghost gives = { drawing_gives };
+
+    fn feed(&mut self, words: &ArrayVec<Word, 4>) -> Option<Piece> {
+        for word in words.as_slice() {
+            self.draw(word);
+        }
+        None
+    }
+}

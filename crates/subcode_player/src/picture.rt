@@ -1,0 +1,76 @@
+// The screen that the packs of a stream draw on.
+ghost use Rattle.std.specs.Prelude.{◌≡◌, ◌<◌, OnOk, OnErr, IfOk};
+ghost use Rattle.std.specs.Io.KnownBytes.{Appends};
+ghost use Rattle.cdg_io.specs.Causes.{HasCause};
+ghost use Rattle.cdg_io.specs.Moves.{AppendsPrefix};
+ghost use Rattle.cdg_instructions.specs.Meaning.{meaning};
+ghost use Rattle.cdg_screen.specs.Picture.{Standing, SameStanding, blank, standing_of};
+ghost use Rattle.cdg_screen.specs.Texts.{pixmap, state_text};
+ghost use Rattle.subcode_player.specs.Standings.{obeyed};
+
+use cdg_instructions::read;
+use cdg_io::{Failed, Sink};
+use cdg_screen::Screen;
+use rw_code::Pack;
+use std::alloc::{AllocError, Global};
+use std::marker::Model;
+
+/// A screen, seen as what stands on it.
+#[derive(Drop)]
+pub struct Picture {
+    pub screen: Screen,
+}
+
+impl Model for Picture {
+    ghost use Rattle.cdg_screen.specs.Picture.{Display, standing_of};
+    ghost use Rattle.subcode_player.specs.Standings.{display_of};
+
+    ghost Value = { Display };
+
+    ghost view = { λ p. display_of (standing_of p.screen) };
+}
+
+impl Picture {
+    /// A screen on which all is zero.
+    pub fn start(alloc: Global) -> Result<Picture, AllocError>
+        ensures { IfOk result (λ p. SameStanding (standing_of p) blank) }
+    {
+        Ok(Picture {
+            screen: Screen::start(alloc)?,
+        })
+    }
+
+    /// Makes all zero again.
+    pub fn reset(&mut self)
+        ensures { SameStanding (standing_of self.new) blank }
+    {
+        self.screen.reset();
+    }
+
+    /// Carries out the instruction of a pack.
+    pub fn obey(&mut self, pack: &Pack)
+        ensures { self.new ≡ obeyed self.old (meaning pack.now) }
+    {
+        self.screen.obey(&read(pack));
+    }
+
+    /// Writes the picture as a pixmap. After `Failed` a prefix was written.
+    pub fn write_ppm<K: Sink>(&self, out: &mut K) -> Result<(), Failed>
+        ensures ok { OnOk result ((now : Standing) → SameStanding (standing_of self.now) now → Appends (K.held out.old) (K.held out.new) (pixmap now)) }
+        ensures part { OnErr result ((now : Standing) → SameStanding (standing_of self.now) now → AppendsPrefix (K.held out.old) (K.held out.new) (pixmap now)) }
+        ensures cause { HasCause (K.faults out.old) (K.faults out.new) result }
+    {
+        self.screen.is_written_as_it_stands();
+        self.screen.write_ppm(out)
+    }
+
+    /// Writes the border, the offsets, and the colours with their levels. After `Failed` a prefix was written.
+    pub fn write_state<K: Sink>(&self, out: &mut K) -> Result<(), Failed>
+        ensures ok { OnOk result ((now : Standing) → SameStanding (standing_of self.now) now → Appends (K.held out.old) (K.held out.new) (state_text now)) }
+        ensures part { OnErr result ((now : Standing) → SameStanding (standing_of self.now) now → AppendsPrefix (K.held out.old) (K.held out.new) (state_text now)) }
+        ensures cause { HasCause (K.faults out.old) (K.faults out.new) result }
+    {
+        self.screen.is_written_as_it_stands();
+        self.screen.write_state(out)
+    }
+}
