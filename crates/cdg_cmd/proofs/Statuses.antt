@@ -32,6 +32,7 @@ given_back (Err play.ReadFault) held held' text r = tt
 given_back (Err play.WriteFault) held held' text r = tt
 given_back (Err (play.Torn block)) held held' text r = absurd r
 given_back (Err play.TooLong) held held' text r = absurd r
+given_back (Err (play.PastEnd blocks)) held held' text r = absurd r
 
 pub given_back_all : (left : Option (List ℕ)) (form : Form) (lead_in : ℕ) (answer : Result Played PlayStop) (status : Status) (held held' : Option (List ℕ))
     → status ≡ play_status answer

@@ -15,7 +15,7 @@ use Rattle.cdg_cmd.specs.Line.{error_line}
 use Rattle.cdg_cmd.specs.declared.command.Command.{Command}
 use Rattle.cdg_cmd.specs.declared.command.Command.TheVariants.{Convert}
 use Rattle.cdg_cmd.specs.declared.status.Which.TheVariants.{First, Second}
-use Rattle.cdg_cmd.specs.declared.status.Refusal.TheVariants.{Torn, TooLong}
+use Rattle.cdg_cmd.specs.declared.status.Refusal.TheVariants.{Torn, TooLong, PastEnd}
 use Rattle.cdg_cmd.specs.declared.status.Status.{Status}
 use Rattle.cdg_cmd.specs.declared.status.Status.TheVariants.{Done, Damaged, Usage, Refused, ReadFault, WriteFault, NoMemory}
 
@@ -26,6 +26,7 @@ play_status (Err play.ReadFault) = ReadFault First
 play_status (Err play.WriteFault) = WriteFault
 play_status (Err (play.Torn block)) = Refused (Torn block)
 play_status (Err play.TooLong) = Refused TooLong
+play_status (Err (play.PastEnd blocks)) = Refused (PastEnd blocks)
 
 -- A conversion ended with this status: what it took and put, and the exact answer where no fault is told.
 pub record ConvertsWith (form : Form) (lead_in : ℕ) (left left' held held' : Option (List ℕ)) (status : Status) : Type 0 where

@@ -4,7 +4,7 @@ use Rattle.bit_lists.specs.Digits.{line_feed}
 use Rattle.cdg_cmd.specs.declared.status.Which.{Which}
 use Rattle.cdg_cmd.specs.declared.status.Which.TheVariants.{First, Second}
 use Rattle.cdg_cmd.specs.declared.status.Refusal.{Refusal}
-use Rattle.cdg_cmd.specs.declared.status.Refusal.TheVariants.{Torn, TooLong}
+use Rattle.cdg_cmd.specs.declared.status.Refusal.TheVariants.{Torn, TooLong, PastEnd}
 use Rattle.cdg_cmd.specs.declared.status.Status.{Status}
 use Rattle.cdg_cmd.specs.declared.status.Status.TheVariants.{Done, Damaged, Usage, Refused, ReadFault, WriteFault, NoMemory}
 
@@ -24,6 +24,7 @@ with words n = words ++ codes " " ++ decimal n
 abbrev pub refusal_words : Refusal → List ℕ
 refusal_words (Torn block) = with (codes "torn") block
 refusal_words TooLong = codes "too-long"
+refusal_words (PastEnd blocks) = with (codes "past-end") blocks
 
 abbrev pub input_words : Which → List ℕ
 input_words First = codes "read fault first"

@@ -35,6 +35,10 @@ fn push_refusal(text: &mut Line, refusal: Refusal)
             push_number(text, block);
         }
         Refusal::TooLong => text.push_str("too-long"),
+        Refusal::PastEnd { blocks } => {
+            text.push_str("past-end");
+            push_number(text, blocks);
+        }
     }
 }
 

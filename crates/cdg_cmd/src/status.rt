@@ -15,6 +15,8 @@ pub enum Refusal {
     /// The input ended within the block of this number.
     Torn { block: u32 },
     TooLong,
+    /// The moment is later than the end of this many program blocks.
+    PastEnd { blocks: u32 },
 }
 
 /// How a run ended.

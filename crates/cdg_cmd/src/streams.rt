@@ -22,6 +22,7 @@ fn play_status(answer: Result<Played, PlayStop>) -> Status
         Err(PlayStop::WriteFault) => Status::WriteFault,
         Err(PlayStop::Torn { block }) => Status::Refused(Refusal::Torn { block }),
         Err(PlayStop::TooLong) => Status::Refused(Refusal::TooLong),
+        Err(PlayStop::PastEnd { blocks }) => Status::Refused(Refusal::PastEnd { blocks }),
     }
 }
 

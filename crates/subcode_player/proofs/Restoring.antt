@@ -13,7 +13,7 @@ use Rattle.subcode_player.specs.Calls.{IsAnsweredBy}
 use Rattle.subcode_player.specs.Convert.{Converts, IsConverted, IsDamagedStream, Restores}
 use Rattle.subcode_player.specs.declared.player.Played.{Played}
 use Rattle.subcode_player.specs.declared.player.PlayStop.{PlayStop}
-use Rattle.subcode_player.specs.declared.player.PlayStop.TheVariants.{ReadFault, WriteFault, Torn, TooLong}
+use Rattle.subcode_player.specs.declared.player.PlayStop.TheVariants.{ReadFault, WriteFault, Torn, TooLong, PastEnd}
 use Rattle.subcode_player.proofs.Slots.{symbols_small}
 
 -- the laws on recovered packs
@@ -52,6 +52,7 @@ restores form lead_in (Some all) left' held held' (Err ReadFault) taken gives no
 restores form lead_in (Some all) left' held held' (Err WriteFault) taken gives none_bad converts answer = λ blocks packs stream. tt
 restores form lead_in (Some all) left' held held' (Err (Torn block)) taken gives none_bad converts answer = λ blocks packs stream. absurd (answer.1 stream.whole)
 restores form lead_in (Some all) left' held held' (Err TooLong) taken gives none_bad converts answer = λ blocks packs stream. absurd (omega (arith, answer, stream.few))
+restores form lead_in (Some all) left' held held' (Err (PastEnd ended)) taken gives none_bad converts answer = λ blocks packs stream. absurd answer
 
 -- the same for sectors
 pub restores_sectors : (form : Form) (lead_in : ℕ) (left left' held held' : Option (List ℕ)) (result : Result Played PlayStop) (taken : List ℕ) → form ≡ Sector → GivesPacks → GivesNoneBad → Converts Sector lead_in left left' held held' result taken
