@@ -4,3 +4,4 @@ pub mod KeptPacks
 pub mod Slots
 pub mod Cuts
 pub mod Steps
+pub mod SheetStrings

@@ -5,3 +5,4 @@ pub mod Writing
 pub mod Map
 pub mod Reading
 pub mod LeadIn
+pub mod SheetTexts

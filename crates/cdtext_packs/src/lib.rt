@@ -7,6 +7,7 @@ mod map;
 mod pack;
 mod reader;
 mod reading;
+mod sheet;
 mod strings;
 mod writer;
 

@@ -2,10 +2,13 @@
 ghost use Rattle.std.specs.Prelude.{◌≡◌, ◌≤◌, ◌+◌, ◌-◌, length, None, IfOk};
 ghost use Rattle.cdtext_packs.specs.Texts.{no_texts, strings_of, text_of, has_no_text, AreTexts};
 ghost use Rattle.cdtext_packs.specs.Reading.{first_short, all_texts};
+ghost use Rattle.cdtext_packs.specs.SheetTexts.{texts_of_sheet};
 
 use crate::kinds::TextKind;
-use crate::reading::kind_texts;
+use crate::reading::{empty_strings, kind_texts};
+use crate::sheet::{sheet_codes, sheet_strings};
 use crate::strings::Strings;
+use cue_sheet::{CueText, Sheet};
 use std::alloc::{AllocError, Global};
 use std::marker::Model;
 
@@ -51,6 +54,29 @@ impl TextMap {
             message: Strings::new(alloc),
             code: Strings::new(alloc),
         }
+    }
+
+    /// The texts of a sheet: its titles, performers and songwriters, and as codes its catalogue number and its tracks'
+    /// ISRC. It is the empty map where all of them are empty.
+    pub fn from_sheet(alloc: Global, sheet: &Sheet) -> Result<TextMap, AllocError>
+        ensures { IfOk result (λ map. map ≡ texts_of_sheet sheet.now) }
+    {
+        let tracks = sheet.tracks();
+        let map = TextMap {
+            first: sheet.first(),
+            last: sheet.first() + (tracks - 1) as u8,
+            title: sheet_strings(alloc, sheet, CueText::Title)?,
+            performer: sheet_strings(alloc, sheet, CueText::Performer)?,
+            songwriter: sheet_strings(alloc, sheet, CueText::Songwriter)?,
+            composer: empty_strings(alloc, tracks + 1)?,
+            arranger: empty_strings(alloc, tracks + 1)?,
+            message: empty_strings(alloc, tracks + 1)?,
+            code: sheet_codes(alloc, sheet)?,
+        };
+        if map.has_no_text() {
+            return Ok(TextMap::empty(alloc));
+        }
+        Ok(map)
     }
 
     /// The texts of kept packs, for the album and each track from the first to the last.

@@ -130,7 +130,8 @@ fn kind_bytes(
     Ok(bytes)
 }
 
-fn empty_strings(alloc: Global, count: usize) -> Result<Strings, AllocError>
+/// So many empty strings.
+pub fn empty_strings(alloc: Global, count: usize) -> Result<Strings, AllocError>
     ensures strings { IfOk result (λ strings. strings ≡ replicate count []) }
     ensures count { IfOk result (λ strings. length strings ≡ count) }
     ensures each { IfOk result (All IsString) }
