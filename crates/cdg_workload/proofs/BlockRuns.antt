@@ -1,0 +1,151 @@
+-- The run of the stage over the blocks of a stream.
+use Rattle.std.proofs.Common.{◌≡◌, ℕ, zero, suc, ◌+◌, ◌-◌, ◌*◌, ◌/◌, ◌%◌, ◌^◌, ◌<◌, ◌≤◌, ◌==◌, cond, Bool, true, false, List, [], ◌∷◌, ◌++◌, length, get_or, set, take, drop, map, bit_xor, Some, Result, Ok, Err, refl, sym, ap, ap₂, ◌∙◌, subst, length-drop, append_assoc, lit<, arith}
+use Rattle.std.proofs.Math.Seq.{take-nil, drop-nil, take-add, take-append-add, drop-append-add}
+use Rattle.std.proofs.lemmas.Bool.{ne_eqb}
+use Rattle.std.proofs.lemmas.List.{take_more, take_more_set, length-take}
+use Rattle.std.proofs.lemmas.Nat.{xor_block}
+use Rattle.std.specs.Int.Bits.{xor_zero_r}
+use Rattle.std.specs.List.{concat, enumerate_from, AllByRecursion}
+use Rattle.std.specs.declared.option.Option.{Option}
+use Rattle.rand_pcg.specs.Lcg.{Lcg}
+use Rattle.rand_pcg.specs.Pcg.{pcg32}
+use Rattle.cdg_io.specs.Pump.{units_of, given, Pumps}
+use Rattle.cdg_io.specs.Run.{give, run_state, run_gives}
+use Rattle.cdg_io.specs.Streams.{Streams}
+use Rattle.cdg_io.specs.declared.pumping.Pumped.{Pumped}
+use Rattle.cdg_io.specs.declared.pumping.PumpStop.{PumpStop}
+use Rattle.cdg_io.specs.declared.pumping.PumpStop.TheVariants.{WriteFault, Torn}
+use Rattle.cdg_io.proofs.Runs.{run_state-append, run_gives-append}
+use Rattle.cdg_io.proofs.Streaming.{IsWhole, streams_done, streams_stop}
+use Rattle.cdg_workload.specs.Generator.{generator}
+use Rattle.cdg_workload.specs.Scratches.{Burst, bursts, change_at, scratched_byte, scratched, IsScratched, gap_of, size_of, change_of}
+use Rattle.cdg_workload.specs.Steps.{byte_next, byte_gives, block_next, block_gives, begun}
+use Rattle.cdg_workload.specs.declared.needle.Needle.{Needle}
+use Rattle.cdg_workload.specs.declared.scratching.Scratches.{Scratches}
+use Rattle.cdg_workload.proofs.Needles.{at, run, changed_from, scratches_all}
+
+-- ---- One block, byte by byte.
+
+abbrev state : Needle → List ℕ → Needle
+state needle xs = run_state byte_next needle xs
+
+pub byte_more : (s t t' : Needle) (block old new : List ℕ) (i y : ℕ) → i < length block → i < length old → t ≡ state s (take i block) → take i old ≡ run s (take i block)
+    → t' ≡ byte_next t (get_or block i 0) → Some y ≡ byte_gives t (get_or block i 0) → new ≡ set old i y
+    → (t' ≡ state s (take (i + 1) block)) × (take (i + 1) new ≡ run s (take (i + 1) block))
+byte_more s t t' block old new i y lt fits now done next gives write =
+    let x = get_or block i 0 in
+    let more = take_more block i 0 lt in (
+      next ∙ ap (λ u. byte_next u x) now ∙ sym (ap (state s) more ∙ run_state-append byte_next s (take i block) (x ∷ [])),
+      ap (take (i + 1)) write ∙ take_more_set old i y fits
+          ∙ ap₂ (λ (l m : List ℕ). l ++ m) done (ap (λ o. give o []) (gives ∙ ap (λ u. byte_gives u x) now))
+          ∙ sym (ap (run s) more ∙ run_gives-append byte_next byte_gives s (take i block) (x ∷ [])),
+    )
+
+-- ---- All blocks.
+
+abbrev stage : ℕ → Needle → Scratches
+stage l needle = record { lead_in = l; needle = needle }
+
+abbrev texts : Scratches → List (List ℕ) → List (List ℕ)
+texts s blocks = run_gives block_next block_gives s blocks
+
+program_blocks : (h : Needle) (blocks : List (List ℕ)) → concat (texts (stage 0 h) blocks) ≡ run h (concat blocks)
+unfolding block_next block_gives
+program_blocks h [] = refl
+program_blocks h (b ∷ bs) = ap (λ l. run h b ++ l) (program_blocks (state h b) bs) ∙ sym (run_gives-append byte_next byte_gives h b (concat bs))
+
+lead_in_block : (l : ℕ) (h : Needle) (b : List ℕ) (bs : List (List ℕ)) → texts (stage (suc l) h) (b ∷ bs) ≡ b ∷ texts (stage l h) bs
+unfolding block_next block_gives
+lead_in_block l h b bs =
+    let more : (suc l == 0) ≡ false = ne_eqb (suc l) 0 (λ e. omega arith) in
+    let less : suc l - 1 ≡ l = omega arith in
+    ap₂ (λ (t u : Bool). give (cond t (Some (run h b)) (Some b)) (texts (cond u (stage (suc l) (state h b)) (stage (suc l - 1) h)) bs)) more more
+    ∙ ap (λ n. b ∷ texts (stage n h) bs) less
+
+stream_blocks : (l k : ℕ) (h : Needle) (blocks : List (List ℕ)) → k ≡ 96 * l → AllByRecursion (λ (b : List ℕ). length b ≡ 96) blocks
+    → concat (texts (stage l h) blocks) ≡ take k (concat blocks) ++ run h (drop k (concat blocks))
+stream_blocks zero k h blocks at all =
+    let none : 0 ≡ k = omega arith in
+    program_blocks h blocks ∙ ap (λ n. take n (concat blocks) ++ run h (drop n (concat blocks))) none
+stream_blocks (suc l) k h [] at all = sym (ap₂ (λ (a b : List ℕ). a ++ run h b) (take-nil k) (drop-nil k))
+stream_blocks (suc l) k h (b ∷ bs) at all =
+    let size : length b + 96 * l ≡ k = omega (arith, all.0) in
+    ap concat (lead_in_block l h b bs)
+    ∙ ap (λ t. b ++ t) (stream_blocks l (96 * l) h bs refl all.1)
+    ∙ sym (append_assoc b (take (96 * l) (concat bs)) (run h (drop (96 * l) (concat bs))))
+    ∙ ap₂ (λ (a c : List ℕ). a ++ run h c) (sym (take-append-add b (concat bs) (96 * l))) (sym (drop-append-add b (concat bs) (96 * l)))
+    ∙ ap (λ n. take n (b ++ concat bs) ++ run h (drop n (b ++ concat bs))) size
+
+units_joined : (n k : ℕ) (bytes : List ℕ) → k ≡ n * 96 → concat (units_of 96 n bytes) ≡ take k bytes
+units_joined zero k bytes at = let none : 0 ≡ k = omega arith in ap (λ m. take m bytes) none
+units_joined (suc n) k bytes at =
+    let more : 96 + n * 96 ≡ k = omega arith in
+    ap (λ t. take 96 bytes ++ t) (units_joined n (n * 96) (drop 96 bytes) refl) ∙ sym (take-add 96 (n * 96) bytes) ∙ ap (λ m. take m bytes) more
+
+units_sized : (n : ℕ) (bytes : List ℕ) → n * 96 ≤ length bytes → AllByRecursion (λ (b : List ℕ). length b ≡ 96) (units_of 96 n bytes)
+units_sized zero bytes fits = tt
+units_sized (suc n) bytes fits = (length-take 96 bytes ∙ omega arith, units_sized n (drop 96 bytes) (omega (arith, length-drop 96 bytes)))
+
+-- ---- Changes keep the P and Q bits.
+
+one_of : (t : Bool) (a b : ℕ) → a < 64 → b < 64 → cond t a b < 64
+one_of true a b a_lt b_lt = a_lt
+one_of false a b a_lt b_lt = b_lt
+
+pub change_at-lt : (n e : ℕ) (w : Lcg) (q : ℕ) → change_at (bursts n e w) q < 64
+unfolding bursts change_at
+change_at-lt zero e w q = lit< tt
+change_at-lt (suc n) e w q =
+    let word = (pcg32 w).0 in
+    let first = e + gap_of word in
+    let rest : change_at (bursts n (first + size_of word) (pcg32 w).1) q < 64 = change_at-lt n (first + size_of word) (pcg32 w).1 q in
+    one_of _ (change_of word) _ (omega arith) rest
+
+-- one byte
+changed_byte : (x c : ℕ) → c < 64 → bit_xor x c ≡ 64 * (x / 64) + bit_xor (x % 64) c
+changed_byte x c lt =
+    let low : x % 64 < 64 = omega arith in
+    let split : x ≡ x / 64 * 2 ^ 6 + x % 64 = omega arith in
+    let none : c ≡ 0 * 2 ^ 6 + c = omega arith in
+    let turned : x / 64 * 2 ^ 6 + bit_xor (x % 64) c ≡ 64 * (x / 64) + bit_xor (x % 64) c = omega arith in
+    ap₂ bit_xor split none ∙ xor_block 6 (x / 64) 0 (x % 64) c low lt ∙ ap (λ h. h * 2 ^ 6 + bit_xor (x % 64) c) (xor_zero_r (x / 64)) ∙ turned
+
+pub changed_is : (those : List Burst) (p : ℕ) (xs : List ℕ) → ((q : ℕ) → change_at those q < 64) → changed_from those p xs ≡ map (scratched_byte those) (enumerate_from p xs)
+unfolding changed_from
+changed_is those p [] lt = refl
+changed_is those p (x ∷ xs) lt = ap₂ (λ (a : ℕ) (l : List ℕ). a ∷ l) (changed_byte x (change_at those p) (lt p)) (changed_is those (p + 1) xs lt)
+
+-- ---- The text.
+
+pub blocks_text : (lead_in seed n : ℕ) (bytes : List ℕ) → n * 96 ≤ length bytes → given 96 block_next block_gives (begun lead_in seed) bytes n ≡ scratched lead_in seed (take (n * 96) bytes)
+unfolding scratched
+blocks_text lead_in seed n bytes fits =
+    let all : List ℕ = take (n * 96) bytes in
+    let program : List ℕ = drop (96 * lead_in) all in
+    let w = generator seed in
+    let count : ℕ = length program / 192 + 1 in
+    stream_blocks lead_in (96 * lead_in) (at 0 0 0 w) (units_of 96 n bytes) refl (units_sized n bytes fits)
+    ∙ ap (λ (l : List ℕ). take (96 * lead_in) l ++ run (at 0 0 0 w) (drop (96 * lead_in) l)) (units_joined n (n * 96) bytes refl)
+    ∙ ap (λ l. take (96 * lead_in) all ++ l)
+    (scratches_all program count w (omega arith) ∙ changed_is (bursts count 0 w) 0 program (change_at-lt count 0 w))
+
+text_of : (lead_in seed n : ℕ) (bytes : List ℕ) → IsWhole 96 n bytes → IsScratched lead_in seed bytes (record { units = n }) (given 96 block_next block_gives (begun lead_in seed) bytes n)
+text_of lead_in seed n bytes whole =
+    let count : n ≡ length bytes / 96 = omega (arith, whole.fits, whole.rest) in
+    record { blocks = count; text_is = blocks_text lead_in seed n bytes whole.fits ∙ ap (λ k. scratched lead_in seed (take (k * 96) bytes)) count }
+
+streams_from : (lead_in seed : ℕ) (left left' held held' : Option (List ℕ)) (s' : Scratches) (result : Result Pumped PumpStop) (taken : List ℕ)
+    → Pumps 96 1000000 block_next block_gives left left' (begun lead_in seed) s' held held' result taken → Streams 96 1000000 Torn WriteFault (IsScratched lead_in seed) left left' held held' result taken
+streams_from lead_in seed left left' held held' s' (Ok pumped) taken pumps =
+    streams_done 96 1000000 block_next block_gives Torn WriteFault (IsScratched lead_in seed) left left' (begun lead_in seed) s' held held' taken pumped pumped (lit< tt)
+    (λ bytes n few whole. (record { units = n }, text_of lead_in seed n bytes whole)) pumps (λ whole. text_of lead_in seed pumped.units taken whole)
+streams_from lead_in seed left left' held held' s' (Err stop) taken pumps =
+    streams_stop 96 1000000 block_next block_gives Torn WriteFault (IsScratched lead_in seed) left left' (begun lead_in seed) s' held held' taken stop stop (lit< tt)
+    (record { fault_kept = λ e. e; fault_only = λ e. e; torn_only = λ unit e. e })
+    (λ bytes n few whole. (record { units = n }, text_of lead_in seed n bytes whole)) pumps
+
+-- what a pump of the stage does is what the call promises
+pub streams : (lead_in seed : ℕ) (left left' held held' : Option (List ℕ)) (s s' : Scratches) (result : Result Pumped PumpStop) (taken : List ℕ) → s ≡ begun lead_in seed
+    → Pumps 96 1000000 block_next block_gives left left' s s' held held' result taken → Streams 96 1000000 Torn WriteFault (IsScratched lead_in seed) left left' held held' result taken
+streams lead_in seed left left' held held' s s' result taken begins pumps =
+    streams_from lead_in seed left left' held held' s' result taken (subst (λ t. Pumps 96 1000000 block_next block_gives left left' t s' held held' result taken) begins pumps)

@@ -1,0 +1,6 @@
+pub mod Pieces
+pub mod GeneratorLemmas
+pub mod Needles
+pub mod BlockRuns
+pub mod BurstLaws
+pub mod ScriptTexts

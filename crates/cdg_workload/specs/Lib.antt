@@ -1,0 +1,5 @@
+pub mod Generator
+pub mod Script
+pub mod Pictures
+pub mod Scratches
+pub mod Steps

@@ -1,0 +1,55 @@
+-- Scratches of a stream: bursts of neighbouring symbols that are changed alike.
+use Rattle.std.specs.Prelude.{◌≡◌, ℕ, zero, suc, ◌+◌, ◌*◌, ◌/◌, ◌%◌, Bool, List, [], ◌∷◌, ◌++◌, length, map, nat_le, nat_lt, ◌&&◌, if◌then◌else◌, bit_xor, take, drop}
+use Rattle.std.specs.List.{enumerate_from}
+use Rattle.rand_pcg.specs.Lcg.{Lcg}
+use Rattle.rand_pcg.specs.Pcg.{pcg32}
+use Rattle.cdg_io.specs.declared.pumping.Pumped.{Pumped}
+use Rattle.cdg_workload.specs.Generator.{generator, high_half}
+
+-- a burst by its first place, how many symbols it has, and what they are combined with
+pub record Burst : Type 0 where
+  pub first : ℕ
+  pub size : ℕ
+  pub change : ℕ
+
+-- the symbols before the burst that a word makes, counted from the end of the one before, its size and its change
+abbrev pub gap_of : ℕ → ℕ
+gap_of word = 192 + word % 64
+
+abbrev pub size_of : ℕ → ℕ
+size_of word = 1 + word / 256 % 16
+
+abbrev pub change_of : ℕ → ℕ
+change_of word = 1 + high_half word % 63
+
+-- the first bursts that a generator makes from a place on, as many as are wanted
+unfoldable pub bursts : ℕ → ℕ → Lcg → List Burst
+bursts zero place words = []
+bursts (suc n) place words =
+    let word = (pcg32 words).0 in
+    let first = place + gap_of word in
+    record { first = first; size = size_of word; change = change_of word } ∷ bursts n (first + size_of word) (pcg32 words).1
+
+abbrev pub holds_place : ℕ → Burst → Bool
+holds_place place burst = nat_le burst.first place && nat_lt place (burst.first + burst.size)
+
+-- what the symbol at a place is combined with
+unfoldable pub change_at : List Burst → ℕ → ℕ
+change_at [] place = 0
+change_at (burst ∷ rest) place = if holds_place place burst then burst.change else change_at rest place
+
+-- a byte with the symbol of its low six bits changed as at a place; the P and Q bits stay
+abbrev pub scratched_byte : List Burst → ℕ × ℕ → ℕ
+scratched_byte those (place, byte) = 64 * (byte / 64) + bit_xor (byte % 64) (change_at those place)
+
+-- The bytes of a raw stream with the scratches of a seed: the blocks of the lead-in stay, and places count from the first symbol after
+-- them. There are enough bursts for all places, since each ends at least 193 places after the one before.
+unfoldable pub scratched : ℕ → ℕ → List ℕ → List ℕ
+scratched lead_in seed bytes =
+    let program = drop (96 * lead_in) bytes in
+    take (96 * lead_in) bytes ++ map (scratched_byte (bursts (length program / 192 + 1) 0 (generator seed))) (enumerate_from 0 program)
+
+-- the answer to some bytes, and the text that is written: their whole blocks with the scratches
+pub record IsScratched (lead_in seed : ℕ) (bytes : List ℕ) (pumped : Pumped) (text : List ℕ) : Type 0 where
+  pub blocks : pumped.units ≡ length bytes / 96
+  pub text_is : text ≡ scratched lead_in seed (take (length bytes / 96 * 96) bytes)

@@ -1,0 +1,43 @@
+-- The steps of the stage that scratches a stream.
+use Rattle.std.specs.Prelude.{ℕ, ◌-◌, ◌==◌, ◌&&◌, if◌then◌else◌, List, bit_xor, Option, Some}
+use Rattle.rand_pcg.specs.Lcg.{Lcg}
+use Rattle.rand_pcg.specs.Pcg.{pcg32}
+use Rattle.cdg_io.specs.Run.{run_state, run_gives}
+use Rattle.cdg_workload.specs.Generator.{generator}
+use Rattle.cdg_workload.specs.Scratches.{gap_of, size_of, change_of}
+use Rattle.cdg_workload.specs.declared.needle.Needle.{Needle}
+use Rattle.cdg_workload.specs.declared.scratching.Scratches.{Scratches}
+
+-- before the next burst
+unfoldable pub drawn : Lcg → Needle
+drawn words = record { gap = gap_of (pcg32 words).0; left = size_of (pcg32 words).0; change = change_of (pcg32 words).0; words = (pcg32 words).1 }
+
+-- the same where a burst has ended
+unfoldable pub ready : Needle → Needle
+ready needle = if (needle.gap == 0) && (needle.left == 0) then drawn needle.words else needle
+
+-- what a needle that is ready changes
+unfoldable pub change_now : Needle → ℕ
+change_now needle = if needle.gap == 0 then needle.change else 0
+
+-- one symbol on
+unfoldable pub moved : Needle → Needle
+moved needle = if needle.gap == 0 then record needle { left = needle.left - 1 } else record needle { gap = needle.gap - 1 }
+
+-- a byte of the program
+unfoldable pub byte_next : Needle → ℕ → Needle
+byte_next needle byte = moved (ready needle)
+
+unfoldable pub byte_gives : Needle → ℕ → Option ℕ
+byte_gives needle byte = Some (bit_xor byte (change_now (ready needle)))
+
+-- a block of the lead-in stays, and one of the program is taken byte by byte
+unfoldable pub block_next : Scratches → List ℕ → Scratches
+block_next s block = if s.lead_in == 0 then record s { needle = run_state byte_next s.needle block } else record s { lead_in = s.lead_in - 1 }
+
+unfoldable pub block_gives : Scratches → List ℕ → Option (List ℕ)
+block_gives s block = if s.lead_in == 0 then Some (run_gives byte_next byte_gives s.needle block) else Some block
+
+-- before the first block
+abbrev pub begun : ℕ → ℕ → Scratches
+begun lead_in seed = record { lead_in = lead_in; needle = record { gap = 0; left = 0; change = 0; words = generator seed } }

@@ -1,0 +1,71 @@
+// The changes of neighbouring symbols, by the words of a generator.
+ghost use Rattle.std.specs.Prelude.{◌≡◌, Some};
+ghost use Rattle.rand_pcg.specs.Pcg.{pcg32};
+ghost use Rattle.cdg_io.specs.Run.{run_state, run_gives};
+ghost use Rattle.cdg_workload.specs.Steps.{drawn, ready, change_now, moved, byte_next, byte_gives};
+
+use rand_core::utils::NextWord;
+use rand_pcg::Pcg32;
+
+/// Goes over symbols, and changes them in bursts.
+#[derive(Drop)]
+pub struct Needle {
+    /// How many symbols come before the next one that is changed.
+    pub gap: u32,
+    /// How many symbols are then changed.
+    pub left: u32,
+    /// What they are combined with.
+    pub change: u8,
+    pub words: Pcg32,
+}
+
+impl Needle {
+    /// The byte with its symbol changed, if it is the turn of one.
+    #[tactic(auto, unfolding(crate::specs::Steps::byte_next, crate::specs::Steps::byte_gives))]
+    fn push(&mut self, byte: u8) -> u8
+        ensures next { self.new ≡ byte_next self.old byte }
+        ensures gives { Some result ≡ byte_gives self.old byte }
+    {
+        self.make_ready();
+        byte ^ self.step()
+    }
+
+    /// Where a burst has ended, takes a word for the next one.
+    #[tactic(auto, unfolding(crate::specs::Steps::ready, crate::specs::Steps::drawn))]
+    fn make_ready(&mut self)
+        ensures { self.new ≡ ready self.old }
+    {
+        if self.gap == 0 && self.left == 0 {
+            let word = self.words.next_word();
+            self.gap = 192 + word % 64;
+            self.left = 1 + word / 256 % 16;
+            self.change = (1 + (word >> 16) % 63) as u8;
+        }
+    }
+
+    /// One symbol on: what it is combined with.
+    #[tactic(auto, unfolding(crate::specs::Steps::moved, crate::specs::Steps::change_now))]
+    fn step(&mut self) -> u8
+        ensures next { self.new ≡ moved self.old }
+        ensures change { result ≡ change_now self.old }
+    {
+        if self.gap > 0 {
+            self.gap -= 1;
+            return 0;
+        }
+        self.left = self.left.saturating_sub(1);
+        self.change
+    }
+
+    /// The bytes of a block with their symbols changed.
+    pub(crate) fn scratch(&mut self, block: &[u8; 96]) -> [u8; 96]
+        ensures next { self.new ≡ run_state byte_next self.old block.now }
+        ensures gives { result ≡ run_gives byte_next byte_gives self.old block.now }
+    {
+        let mut scratched = [0; 96];
+        for i in 0..96 {
+            scratched[i] = self.push(block[i]);
+        }
+        scratched
+    }
+}

@@ -1,0 +1,99 @@
+// Scratches of a raw stream.
+ghost use Rattle.std.specs.Prelude.{◌≡◌, ◌≤◌, ◌*◌, ◌/◌, List, ℕ, length, map, take, drop, IfSome, IsErrOf};
+ghost use Rattle.cdg_io.specs.Causes.{Rose};
+ghost use Rattle.cdg_io.specs.Pump.{IsUnlessFault, answer_of};
+ghost use Rattle.cdg_io.specs.Streams.{Streams};
+ghost use Rattle.cdg_io.specs.declared.pumping.PumpStop.TheVariants.{Torn, WriteFault};
+ghost use Rattle.raw_subcode.specs.Channels.{symbols_of};
+ghost use Rattle.stream_words.specs.Stream.{DiffersInBursts};
+ghost use Rattle.cdg_workload.specs.Scratches.{IsScratched, scratched};
+ghost use Rattle.cdg_workload.specs.Steps.{begun, block_next, block_gives};
+
+use crate::needle::Needle;
+use cdg_io::{Piece, PumpStop, Pumped, Sink, Source, Stage, pump};
+use rand_pcg::Pcg32;
+
+/// The most blocks that are read.
+const MOST_BLOCKS: u32 = 1_000_000;
+
+/// Passes the blocks of the lead-in on, and scratches those of the program.
+#[derive(Drop)]
+pub struct Scratches {
+    /// The blocks of the lead-in that are still to come.
+    pub lead_in: u32,
+    pub needle: Needle,
+}
+
+impl Scratches {
+    #[tactic(auto, unfolding(crate::specs::Generator::generator))]
+    fn start(lead_in: u32, seed: u64) -> Scratches
+        ensures { result ≡ begun lead_in seed }
+    {
+        Scratches {
+            lead_in,
+            needle: Needle {
+                gap: 0,
+                left: 0,
+                change: 0,
+                words: Pcg32::new(seed, 54),
+            },
+        }
+    }
+}
+
+impl Stage for Scratches {
+    type Item = [u8; 96];
+
+    type Out = Piece;
+
+    ghost next = { block_next };
+
+    ghost gives = { block_gives };
+
+    #[tactic(auto, unfolding(crate::specs::Steps::block_next, crate::specs::Steps::block_gives))]
+    fn feed(&mut self, block: &[u8; 96]) -> Option<Piece> {
+        let mut piece = Piece::new();
+        if self.lead_in > 0 {
+            self.lead_in -= 1;
+            piece.add(block);
+            return Some(piece);
+        }
+        piece.add(&self.needle.scratch(block));
+        Some(piece)
+    }
+}
+
+/// Writes a raw stream with the scratches of a seed, as its blocks are read: bursts of up to sixteen neighbouring symbols, at
+/// least 192 symbols apart, after so many blocks of lead-in.
+pub fn scratch<S: Source, K: Sink>(
+    lead_in: u32,
+    seed: u64,
+    source: &mut S,
+    out: &mut K,
+) -> Result<Pumped, PumpStop>
+    requires { lead_in ≤ 450000 }
+    ensures scratches { (taken : List ℕ) × Streams 96 1000000 Torn WriteFault (IsScratched lead_in seed)
+        (S.left source.old) (S.left source.new) (K.held out.old) (K.held out.new) result taken }
+    // Where nothing failed, the answer is that of the whole input's length.
+    ensures answer { IfSome (S.left source.old) (λ all. IsUnlessFault result (answer_of 96 1000000 (length all))) }
+    ensures source_later { S.faults source.old ≤ S.faults source.new }
+    ensures out_later { K.faults out.old ≤ K.faults out.new }
+    ensures read_fault { IsErrOf result PumpStop.ReadFault → Rose (S.faults source.old) (S.faults source.new) }
+    ensures write_fault { IsErrOf result PumpStop.WriteFault → Rose (K.faults out.old) (K.faults out.new) }
+{
+    pump(
+        source,
+        MOST_BLOCKS,
+        &mut Scratches::start(lead_in, seed),
+        out,
+    )
+}
+
+/// A law: what scratches change of a stream are bursts of symbols of the program: up to sixteen, and at least 192 apart. The
+/// lead-in and the P and Q bits stay.
+pub fn scratches_are_bursts()
+    ensures bursts { (lead_in seed : ℕ) (bytes : List ℕ) → DiffersInBursts (symbols_of (drop (96 * lead_in) bytes))
+        (symbols_of (drop (96 * lead_in) (scratched lead_in seed bytes))) }
+    ensures lead_in { (lead_in seed : ℕ) (bytes : List ℕ) → take (96 * lead_in) (scratched lead_in seed bytes) ≡ take (96 * lead_in) bytes }
+    ensures channels { (lead_in seed : ℕ) (bytes : List ℕ) → map (λ byte. byte / 64) (scratched lead_in seed bytes) ≡ map (λ byte. byte / 64) bytes }
+{}

@@ -1,0 +1,110 @@
+// The script of a seed.
+ghost use Rattle.std.specs.Prelude.{◌≡◌, ◌<◌, ◌≤◌, ◌+◌, ◌/◌, ◌%◌, ◌++◌, length, OnOk, OnErr};
+ghost use Rattle.std.specs.Io.KnownBytes.{Appends};
+ghost use Rattle.cdg_io.specs.Causes.{HasCause};
+ghost use Rattle.cdg_io.specs.Moves.{AppendsPrefix};
+ghost use Rattle.cdg_workload.specs.Script.{show_line, generated_script};
+ghost use Rattle.cdg_workload.specs.Pictures.{after_two, rect_from, picture_from};
+
+use cdg_io::{Failed, Piece, Sink, put_all};
+use disc_time::Msf;
+use itoa::{Buffer, Integer};
+use rand_core::utils::NextWord;
+use rand_pcg::Pcg32;
+
+/// Sixteen greys, a line for each colour.
+static GREYS: [u8; 230] =
+    *b"colour 0 0000\ncolour 1 0111\ncolour 2 0222\ncolour 3 0333\ncolour 4 0444\ncolour 5 0555\ncolour 6 0666\ncolour 7 0777\ncolour 8 0888\ncolour 9 0999\ncolour 10 0aaa\ncolour 11 0bbb\ncolour 12 0ccc\ncolour 13 0ddd\ncolour 14 0eee\ncolour 15 0fff\n";
+
+/// Writes a script of so many pictures, each of three more rectangles, that a seed determines. After `Failed` a prefix of the
+/// script was appended.
+pub fn write_script<K: Sink>(seed: u64, pictures: u32, out: &mut K) -> Result<(), Failed>
+    requires { (1 ≤ pictures) × (pictures ≤ 500) }
+    ensures ok { OnOk result (Appends (K.held out.old) (K.held out.new) (generated_script seed pictures)) }
+    ensures part { OnErr result (AppendsPrefix (K.held out.old) (K.held out.new) (generated_script seed pictures)) }
+    ensures cause { HasCause (K.faults out.old) (K.faults out.new) result }
+{
+    put_all(out, &GREYS)?;
+    let mut words = Pcg32::new(seed, 54);
+    for k in 0..pictures {
+        put_all(out, picture(&mut words, k).bytes())?;
+    }
+    Ok(())
+}
+
+/// The lines of a picture, by the next six words.
+#[tactic(auto, unfolding(crate::specs::Pictures::picture_from))]
+fn picture(words: &mut Pcg32, k: u32) -> Piece
+    requires { k < 500 }
+    ensures words { words.new ≡ after_two (after_two (after_two words.old)) }
+    ensures lines { result ≡ picture_from words.old k }
+{
+    let mut lines = Piece::new();
+    add_rect(&mut lines, words);
+    add_rect(&mut lines, words);
+    add_rect(&mut lines, words);
+    add_show(&mut lines, k);
+    lines
+}
+
+/// Appends the line of a rectangle, by the next two words.
+#[tactic(auto, unfolding(crate::specs::Pictures::after_two, crate::specs::Pictures::rect_from, crate::specs::Script::rect_line))]
+fn add_rect(lines: &mut Piece, words: &mut Pcg32)
+    requires { length lines.old ≤ 95 }
+    ensures words { words.new ≡ after_two words.old }
+    ensures line { lines.new ≡ lines.old ++ rect_from words.old }
+    ensures size { length lines.new ≤ length lines.old + 33 }
+{
+    let place = words.next_word();
+    let size = words.next_word();
+    let x = low_half(place) % 288;
+    let y = high_half(place) % 192;
+    lines.add(b"rect ");
+    add_number(lines, x);
+    lines.add(b" ");
+    add_number(lines, y);
+    lines.add(b" ");
+    add_number(lines, 1 + low_half(size) % (288 - x));
+    lines.add(b" ");
+    add_number(lines, 1 + high_half(size) % (192 - y));
+    lines.add(b" ");
+    add_number(lines, (size / 256 % 16) as u8);
+    lines.add(b"\n");
+}
+
+fn low_half(word: u32) -> u16
+    ensures { result ≡ word % 65536 }
+{
+    (word % 65536) as u16
+}
+
+fn high_half(word: u32) -> u16
+    ensures { result ≡ word / 65536 }
+{
+    (word >> 16) as u16
+}
+
+/// Appends a number in decimal.
+fn add_number<I: Integer>(lines: &mut Piece, n: I)
+    requires { length lines.old + I.MAX_STR_LEN ≤ 128 }
+    ensures text { lines.new ≡ lines.old ++ I.text n }
+    ensures size { length lines.new ≤ length lines.old + I.MAX_STR_LEN }
+{
+    let mut buffer = Buffer::new();
+    lines.add(buffer.format(n).as_bytes());
+}
+
+/// Appends the line of the times of picture k.
+#[tactic(auto, unfolding(crate::specs::Script::show_line))]
+fn add_show(lines: &mut Piece, k: u32)
+    requires number { k < 500 }
+    requires room { length lines.old ≤ 105 }
+    ensures { lines.new ≡ lines.old ++ show_line k }
+{
+    let ready = 800 * (k + 1);
+    lines.add(b"show ");
+    lines.add(&Msf::of_block(ready).text());
+    lines.add(b" ");
+    lines.add(&Msf::of_block(ready + 20).text());
+    lines.add(b"\n");
+}

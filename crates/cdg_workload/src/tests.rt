@@ -1,0 +1,55 @@
+use super::*;
+use cdg_io::{MemSink, MemSource, Pumped};
+use std::test::Fail;
+
+const SCRIPT: &[u8] =
+    b"colour 0 0000\ncolour 1 0111\ncolour 2 0222\ncolour 3 0333\ncolour 4 0444\ncolour 5 0555\ncolour 6 0666\ncolour 7 0777\ncolour 8 0888\ncolour 9 0999\ncolour 10 0aaa\ncolour 11 0bbb\ncolour 12 0ccc\ncolour 13 0ddd\ncolour 14 0eee\ncolour 15 0fff\nrect 119 28 113 72 4\nrect 144 29 36 6 2\nrect 267 100 12 42 0\nshow 00:10:50 00:10:70\n";
+
+#[test]
+fn writes_the_script_of_a_seed(rt: HostRuntime) -> Result<(), Fail> {
+    let alloc = rt.alloc();
+    let mut sink = MemSink::new(alloc, 1000, Vec::new(alloc), Vec::new(alloc))?;
+    assert_eq!(rt; write_script(42, 1, &mut sink), Ok(()));
+    assert_eq!(rt; sink.bytes(), SCRIPT);
+
+    // The next picture has the next six words.
+    let mut sink = MemSink::new(alloc, 1000, Vec::new(alloc), Vec::new(alloc))?;
+    assert_eq!(rt; write_script(42, 2, &mut sink), Ok(()));
+    assert!(rt; sink.bytes().starts_with(SCRIPT));
+    assert!(rt; sink.bytes().ends_with(b"show 00:21:25 00:21:45\n"));
+    Ok(())
+}
+
+// Three symbols from 247 on and five from 451 on.
+#[test]
+fn scratches_the_program(rt: HostRuntime) -> Result<(), Fail> {
+    let alloc = rt.alloc();
+    let cuts = vec![in alloc; 95usize, 1]?;
+    let mut source = MemSource::new(vec![in alloc; 0u8; 480]?, cuts, Vec::new(alloc));
+    let mut sink = MemSink::new(alloc, 480, Vec::new(alloc), Vec::new(alloc))?;
+    assert_eq!(rt;
+        scratch(0, 42, &mut source, &mut sink),
+        Ok(Pumped { units: 5 })
+    );
+    let mut wanted = [0; 480];
+    wanted[247..250].copy_from_slice(&[0x2c; 3]);
+    wanted[451..456].copy_from_slice(&[0x3c; 5]);
+    assert_eq!(rt; sink.bytes(), wanted.as_slice());
+    Ok(())
+}
+
+// The places count from the end of the lead-in.
+#[test]
+fn leaves_the_lead_in(rt: HostRuntime) -> Result<(), Fail> {
+    let alloc = rt.alloc();
+    let mut source = MemSource::new(vec![in alloc; 0u8; 480]?, Vec::new(alloc), Vec::new(alloc));
+    let mut sink = MemSink::new(alloc, 480, Vec::new(alloc), Vec::new(alloc))?;
+    assert_eq!(rt;
+        scratch(1, 42, &mut source, &mut sink),
+        Ok(Pumped { units: 5 })
+    );
+    let mut wanted = [0; 480];
+    wanted[343..346].copy_from_slice(&[0x2c; 3]);
+    assert_eq!(rt; sink.bytes(), wanted.as_slice());
+    Ok(())
+}
