@@ -1,3 +1,7 @@
 pub mod Windows
 pub mod Scripts
 pub mod Drawn
+pub mod Numbers
+pub mod Drafts
+pub mod WordCounts
+pub mod Refusals

@@ -1,10 +1,14 @@
 -- How the lines of a script are kept.
-use Rattle.std.specs.Prelude.{◌≡◌, ℕ, ◌+◌, ◌<◌, ◌≤◌, Bool, true, ◌&&◌, nat_le, nat_lt, List, length, map, take, drop, slice_index_or, All}
+use Rattle.std.specs.Prelude.{◌≡◌, ℕ, ◌+◌, ◌<◌, ◌≤◌, ⊤, Bool, true, false, ◌&&◌, nat_le, nat_lt, List, [], ◌∷◌, ◌++◌, length, map, take, drop, slice_index_or, All, Result, Ok, Err, MatchResult}
 use Rattle.picture_script.specs.Script.{Drawing, Colour, Border, Fill, Rect, Row, Show, shows, lines_before}
 use Rattle.picture_script.specs.Board.{AreColours}
 use Rattle.picture_script.specs.declared.line.Line.{Line}
 use Rattle.picture_script.specs.declared.line.Line.TheVariants.{TableColour, BorderColour, Filled, Rectangle, PixelRow, ShowLine}
 use Rattle.picture_script.specs.declared.line.Shown.{Shown}
+use Rattle.picture_script.specs.declared.draft.Draft.{Draft}
+use Rattle.picture_script.specs.declared.draft.LineStop.{LineStop}
+use Rattle.picture_script.specs.declared.draft.LineStop.TheVariants.{Refused, NoRoom}
+use Rattle.picture_script.specs.declared.reasons.ScriptWhy.{ScriptWhy}
 
 -- what a line says; a row's colours stand among those of all rows
 abbrev pub said : List ℕ → Line → Drawing
@@ -43,3 +47,34 @@ pub record IsIndexed (pixels : List ℕ) (lines : List Line) (shown : List Shown
   pub ending : (k : ℕ) → k < length shown → (slice_index_or shown k no_show).hold < 450000
   pub ordered : (k : ℕ) → k + 1 < length shown → (slice_index_or shown k no_show).hold < (slice_index_or shown (k + 1) no_show).ready
   pub most : length shown ≤ 20000
+
+-- what the lines of a draft say
+abbrev pub said_in : Draft → List Drawing
+said_in draft = all_said draft.pixels.items draft.lines.items
+
+abbrev pub IsSound : Draft → Type 0
+IsSound draft = IsIndexed draft.pixels.items draft.lines.items draft.shown.items
+
+-- a draft with one more line
+pub record Adds (old new : Draft) (line : Drawing) : Type 0 where
+  pub sound : IsSound new
+  pub lines_are : said_in new ≡ said_in old ++ line ∷ []
+
+-- lines with one more, where it is accepted
+abbrev pub grown : List Drawing → Result Drawing ScriptWhy → Result (List Drawing) ScriptWhy
+grown before (Ok line) = Ok (before ++ line ∷ [])
+grown before (Err why) = Err why
+
+-- why a line was not taken
+abbrev pub Stops : Result Drawing ScriptWhy → LineStop → Type 0
+Stops checked (Refused why) = checked ≡ Err why
+Stops checked NoRoom = ⊤
+
+-- a draft takes a line where it is accepted, and else the reason is told
+abbrev pub Takes : Result Drawing ScriptWhy → Draft → Draft → Result (Unit {0}) LineStop → Type 0
+Takes checked old new result = MatchResult result (λ _. IsSound new × (grown (said_in old) checked ≡ Ok (said_in new))) (Stops checked)
+
+-- whether a line draws
+abbrev pub is_drawing : Line → Bool
+is_drawing (ShowLine ready hold) = false
+is_drawing _ = true

@@ -2,9 +2,15 @@
 #![tactic(auto)]
 
 mod canvas;
+mod draft;
+mod grammar;
 mod line;
+mod parse;
+mod reasons;
 mod script;
 mod window;
+mod words;
 
 pub use canvas::Canvas;
+pub use reasons::{ScriptStop, ScriptWhy};
 pub use script::Script;

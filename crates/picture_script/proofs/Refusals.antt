@@ -1,0 +1,222 @@
+-- Why a line is refused, and what a draft is once it takes one.
+use Rattle.std.proofs.Common.{◌≡◌, ℕ, ◌+◌, ◌<◌, ◌≤◌, Bool, true, false, List, [], ◌∷◌, ◌++◌, length, refl, ap, sym, subst, ◌∙◌, arith}
+use Rattle.std.specs.Prelude.{Option, Some, None, Result, Ok, Err, OnOk, IfErr, if◌then◌else◌, not, ◌||◌, nat_le, nat_lt, slice_index, codes}
+use Rattle.std.specs.Str.{bytes_eq}
+use Rattle.std.proofs.lemmas.Bool.Decides.{nat_tests}
+use Rattle.text_lines.specs.Text.{words_in, lines_in, without_mark}
+use Rattle.picture_script.specs.Script.{Drawing, Colour, Border, Fill, Rect, Row, Show, pictures}
+use Rattle.picture_script.specs.ScriptGrammar.{read_script, checked_lines, checked_words, is_passed_over, checked_command, colour_line, row_line, show_line, checked_line, is_in_range, is_after_hold, unless_refused, numbers_in, border_line, fill_line, rect_line, border_of, fill_of, rect_of}
+use Rattle.picture_script.specs.Stops.{IsRead, IsRefused}
+use Rattle.picture_script.specs.Lines.{said_in, IsSound, Adds, grown, Stops, Takes}
+use Rattle.picture_script.specs.declared.draft.Draft.{Draft}
+use Rattle.picture_script.specs.declared.draft.LineStop.{LineStop}
+use Rattle.picture_script.specs.declared.draft.LineStop.TheVariants.{Refused, NoRoom}
+use Rattle.picture_script.specs.declared.reasons.ScriptWhy.{ScriptWhy}
+use Rattle.picture_script.specs.declared.reasons.ScriptWhy.TheVariants.{UnknownCommand, BadArgument, OutOfRange, TimeOrder, TooMany}
+
+pub bad_line : (before : List Drawing) (said : Option Drawing) → said ≡ None → checked_line before said ≡ Err BadArgument
+unfolding checked_line
+bad_line before said h = ap (checked_line before) h
+
+-- whether a line is not that of a picture
+abbrev pub draws : Drawing → Bool
+draws (Show ready hold) = false
+draws _ = true
+
+by_range : Drawing → Bool → Result Drawing ScriptWhy
+by_range line b = unless_refused line (if b then None else Some OutOfRange)
+
+checked_drawing : (before : List Drawing) (line : Drawing) → draws line ≡ true → checked_line before (Some line) ≡ by_range line (is_in_range line)
+unfolding checked_line by_range
+checked_drawing before (Colour number value) h = refl
+checked_drawing before (Border colour) h = refl
+checked_drawing before (Fill colour) h = refl
+checked_drawing before (Rect x y width height colour) h = refl
+checked_drawing before (Row x y pixels) h = refl
+checked_drawing before (Show ready hold) h = absurd (cc)
+
+pub out_of_range : (before : List Drawing) (said : Option Drawing) (line : Drawing) → said ≡ Some line → draws line ≡ true → is_in_range line ≡ false → checked_line before said ≡ Err OutOfRange
+unfolding by_range
+out_of_range before said line h d range = ap (checked_line before) h ∙ checked_drawing before line d ∙ ap (by_range line) range
+
+pub in_range : (before : List Drawing) (said : Option Drawing) (line : Drawing) → said ≡ Some line → draws line ≡ true → is_in_range line ≡ true → checked_line before said ≡ Ok line
+unfolding by_range
+in_range before said line h d range = ap (checked_line before) h ∙ checked_drawing before line d ∙ ap (by_range line) range
+
+by_order : ℕ → ℕ → Bool → Bool → Bool → Result Drawing ScriptWhy
+by_order ready hold early after full =
+    unless_refused (Show ready hold) (if early || not after then Some TimeOrder else (if full then Some TooMany else None))
+
+checked_show : (before : List Drawing) (said : Option Drawing) (ready hold : ℕ) (early after full : Bool) → said ≡ Some (Show ready hold)
+    → nat_lt hold ready ≡ early → is_after_hold before ready ≡ after → nat_le 20000 (pictures before) ≡ full → checked_line before said ≡ by_order ready hold early after full
+unfolding checked_line by_order
+checked_show before said ready hold early after full h e a f =
+    ap (checked_line before) h
+    ∙ ap (λ b. by_order ready hold b (is_after_hold before ready) (nat_le 20000 (pictures before))) e
+    ∙ ap (λ b. by_order ready hold early b (nat_le 20000 (pictures before))) a
+    ∙ ap (λ b. by_order ready hold early after b) f
+
+pub test_true : (a b : ℕ) → a < b → nat_lt a b ≡ true
+test_true a b h = grind (arith, nat_tests)
+
+pub test_false : (a b : ℕ) → b ≤ a → nat_lt a b ≡ false
+test_false a b h = grind (arith, nat_tests)
+
+le_true : (a b : ℕ) → a ≤ b → nat_le a b ≡ true
+le_true a b h = grind (arith, nat_tests)
+
+le_false : (a b : ℕ) → b < a → nat_le a b ≡ false
+le_false a b h = grind (arith, nat_tests)
+
+pub held_short : (before : List Drawing) (said : Option Drawing) (ready hold : ℕ) → said ≡ Some (Show ready hold) → hold < ready → checked_line before said ≡ Err TimeOrder
+unfolding by_order
+held_short before said ready hold h lt = checked_show before said ready hold true (is_after_hold before ready) (nat_le 20000 (pictures before)) h (test_true hold ready lt) refl refl
+
+pub ready_early : (before : List Drawing) (said : Option Drawing) (ready hold : ℕ) → said ≡ Some (Show ready hold) → ready ≤ hold → is_after_hold before ready ≡ false → checked_line before said ≡ Err TimeOrder
+unfolding by_order
+ready_early before said ready hold h le after = checked_show before said ready hold false false (nat_le 20000 (pictures before)) h (test_false hold ready le) after refl
+
+pub too_many : (before : List Drawing) (said : Option Drawing) (ready hold : ℕ) → said ≡ Some (Show ready hold) → ready ≤ hold → is_after_hold before ready ≡ true → 20000 ≤ pictures before → checked_line before said ≡ Err TooMany
+unfolding by_order
+too_many before said ready hold h le after full = checked_show before said ready hold false true true h (test_false hold ready le) after (le_true 20000 (pictures before) full)
+
+pub shown_line : (before : List Drawing) (said : Option Drawing) (ready hold : ℕ) → said ≡ Some (Show ready hold) → ready ≤ hold → is_after_hold before ready ≡ true → pictures before < 20000
+    → checked_line before said ≡ Ok (Show ready hold)
+unfolding by_order
+shown_line before said ready hold h le after room = checked_show before said ready hold false true false h (test_false hold ready le) after (le_false 20000 (pictures before) room)
+
+-- a line is taken, unless there is no room
+pub taken : (checked : Result Drawing ScriptWhy) (old new : Draft) (line : Drawing) (result : Result (Unit {0}) LineStop) → checked ≡ Ok line → OnOk result (Adds old new line) → IfErr result (λ stop. stop ≡ NoRoom)
+    → Takes checked old new result
+taken checked old new line (Ok u) h adds err = (adds.sound, ap (grown (said_in old)) h ∙ ap Ok (sym adds.lines_are))
+taken checked old new line (Err stop) h adds err = subst (Stops checked) (sym err) tt
+
+-- numbers of words, one and five
+pub one_border : (words : List (List ℕ)) (numbers : List ℕ) → Some numbers ≡ numbers_in 1 words → length numbers ≡ 1 → border_line words ≡ Some (Border (slice_index numbers 0))
+unfolding border_line
+one_border words [] h size = absurd (omega arith)
+one_border words (a ∷ []) h size = ap border_of (sym h)
+one_border words (a ∷ b ∷ numbers) h size = absurd (omega arith)
+
+pub one_fill : (words : List (List ℕ)) (numbers : List ℕ) → Some numbers ≡ numbers_in 1 words → length numbers ≡ 1 → fill_line words ≡ Some (Fill (slice_index numbers 0))
+unfolding fill_line
+one_fill words [] h size = absurd (omega arith)
+one_fill words (a ∷ []) h size = ap fill_of (sym h)
+one_fill words (a ∷ b ∷ numbers) h size = absurd (omega arith)
+
+pub five_rect : (words : List (List ℕ)) (numbers : List ℕ) → Some numbers ≡ numbers_in 5 words → length numbers ≡ 5
+    → rect_line words ≡ Some (Rect (slice_index numbers 0) (slice_index numbers 1) (slice_index numbers 2) (slice_index numbers 3) (slice_index numbers 4))
+unfolding rect_line
+five_rect words [] h size = absurd (omega arith)
+five_rect words (a ∷ []) h size = absurd (omega arith)
+five_rect words (a ∷ b ∷ []) h size = absurd (omega arith)
+five_rect words (a ∷ b ∷ c ∷ []) h size = absurd (omega arith)
+five_rect words (a ∷ b ∷ c ∷ d ∷ []) h size = absurd (omega arith)
+five_rect words (a ∷ b ∷ c ∷ d ∷ e ∷ []) h size = ap rect_of (sym h)
+five_rect words (a ∷ b ∷ c ∷ d ∷ e ∷ f ∷ numbers) h size = absurd (omega arith)
+
+pub no_border : (words : List (List ℕ)) → None ≡ numbers_in 1 words → border_line words ≡ None
+unfolding border_line
+no_border words h = ap border_of (sym h)
+
+pub no_fill : (words : List (List ℕ)) → None ≡ numbers_in 1 words → fill_line words ≡ None
+unfolding fill_line
+no_fill words h = ap fill_of (sym h)
+
+pub no_rect : (words : List (List ℕ)) → None ≡ numbers_in 5 words → rect_line words ≡ None
+unfolding rect_line
+no_rect words h = ap rect_of (sym h)
+
+-- the command that a word is
+pub command_is : (before : List Drawing) (command : List ℕ) (words : List (List ℕ)) (colour border fill rect row show : Bool)
+    → bytes_eq command (codes "colour") ≡ colour → bytes_eq command (codes "border") ≡ border → bytes_eq command (codes "fill") ≡ fill
+    → bytes_eq command (codes "rect") ≡ rect → bytes_eq command (codes "row") ≡ row → bytes_eq command (codes "show") ≡ show
+    → checked_command before command words ≡ (
+    if colour then checked_line before (colour_line words)
+    else (if border then checked_line before (border_line words)
+    else (if fill then checked_line before (fill_line words)
+    else (if rect then checked_line before (rect_line words)
+    else (if row then checked_line before (row_line words)
+    else (if show then checked_line before (show_line words)
+    else Err UnknownCommand))))))
+unfolding checked_command
+command_is before command words colour border fill rect row show c b f r w s =
+    subst (λ colour. checked_command before command words ≡ (
+    if colour then checked_line before (colour_line words)
+    else (if border then checked_line before (border_line words)
+    else (if fill then checked_line before (fill_line words)
+    else (if rect then checked_line before (rect_line words)
+    else (if row then checked_line before (row_line words)
+    else (if show then checked_line before (show_line words)
+    else Err UnknownCommand))))))) c (rw (← b, ← f, ← r, ← w, ← s) refl)
+
+-- what the comparison of a word with a text tells
+pub test_is : (command text slice : List ℕ) (found b : Bool) → slice ≡ text → found ≡ bytes_eq command slice → found ≡ b → bytes_eq command text ≡ b
+test_is command text slice found b same test h = ap (bytes_eq command) (sym same) ∙ sym test ∙ h
+
+-- The lines in turn.
+
+after_line : ℕ → List Drawing → List (List ℕ) → Result Drawing ScriptWhy → Result (List Drawing) (ℕ × ScriptWhy)
+after_line number before rest (Ok said) = checked_lines (number + 1) (before ++ said ∷ []) rest
+after_line number before rest (Err why) = Err (number, why)
+
+by_line : ℕ → List Drawing → List (List ℕ) → Result Drawing ScriptWhy → Bool → Result (List Drawing) (ℕ × ScriptWhy)
+by_line number before rest said true = checked_lines (number + 1) before rest
+by_line number before rest said false = after_line number before rest said
+
+next_line : (number : ℕ) (before : List Drawing) (line : List ℕ) (rest : List (List ℕ)) → checked_lines number before (line ∷ rest) ≡ by_line number before rest (checked_words before (words_in line)) (is_passed_over line)
+unfolding checked_lines by_line after_line
+next_line number before line rest = refl
+
+pub passed : (number : ℕ) (before : List Drawing) (line : List ℕ) (rest : List (List ℕ)) → is_passed_over line ≡ true → checked_lines number before (line ∷ rest) ≡ checked_lines (number + 1) before rest
+unfolding by_line
+passed number before line rest h = next_line number before line rest ∙ ap (by_line number before rest (checked_words before (words_in line))) h
+
+grows : (number : ℕ) (old new : List Drawing) (rest : List (List ℕ)) (said : Result Drawing ScriptWhy) → grown old said ≡ Ok new → after_line number old rest said ≡ checked_lines (number + 1) new rest
+unfolding after_line
+grows number old new rest (Ok said) h = ap (λ lines. checked_lines (number + 1) lines rest) (cc)
+grows number old new rest (Err why) h = absurd (cc)
+
+pub accepted : (number : ℕ) (old new : List Drawing) (line : List ℕ) (rest : List (List ℕ)) → is_passed_over line ≡ false → grown old (checked_words old (words_in line)) ≡ Ok new
+    → checked_lines number old (line ∷ rest) ≡ checked_lines (number + 1) new rest
+unfolding by_line
+accepted number old new line rest h grow =
+    next_line number old line rest ∙ ap (by_line number old rest (checked_words old (words_in line))) h ∙ grows number old new rest (checked_words old (words_in line)) grow
+
+pub refused : (number : ℕ) (old : List Drawing) (line : List ℕ) (rest : List (List ℕ)) (why : ScriptWhy) → is_passed_over line ≡ false → checked_words old (words_in line) ≡ Err why
+    → checked_lines number old (line ∷ rest) ≡ Err (number, why)
+unfolding by_line after_line
+refused number old line rest why h stops =
+    next_line number old line rest ∙ ap (by_line number old rest (checked_words old (words_in line))) h ∙ ap (after_line number old rest) stops
+
+-- A line is read.
+
+pub blank-read : (draft : Draft) (line : List ℕ) → IsSound draft → is_passed_over line ≡ true → IsRead draft draft line
+blank-read draft line sound h = record { sound = sound; lines_are = λ number rest. passed number (said_in draft) line rest h }
+
+pub taken-read : (old new : Draft) (line : List ℕ) (result : Result (Unit {0}) LineStop) → is_passed_over line ≡ false → Takes (checked_words (said_in old) (words_in line)) old new result → OnOk result (IsRead old new line)
+taken-read old new line (Ok u) h takes = record { sound = takes.0; lines_are = λ number rest. accepted number (said_in old) (said_in new) line rest h takes.1 }
+taken-read old new line (Err stop) h takes = tt
+
+pub taken-refused : (old new : Draft) (line : List ℕ) (result : Result (Unit {0}) LineStop) → is_passed_over line ≡ false → Takes (checked_words (said_in old) (words_in line)) old new result → IfErr result (IsRefused (said_in old) line)
+taken-refused old new line (Ok u) h takes = tt
+taken-refused old new line (Err (Refused why)) h takes = λ number rest. refused number (said_in old) line rest why h takes
+taken-refused old new line (Err NoRoom) h takes = tt
+
+pub words_command : (before : List Drawing) (all words : List (List ℕ)) (command : List ℕ) → all ≡ command ∷ words → checked_words before all ≡ checked_command before command words
+unfolding checked_words
+words_command before all words command h = ap (checked_words before) h
+
+pub words_none : (before : List Drawing) (all : List (List ℕ)) → all ≡ [] → checked_words before all ≡ Err UnknownCommand
+unfolding checked_words
+words_none before all h = ap (checked_words before) h
+
+-- The whole text.
+
+pub reading_begins : (text : List ℕ) (draft : Draft) → said_in draft ≡ [] → checked_lines 1 (said_in draft) (lines_in (without_mark text)) ≡ read_script text
+unfolding read_script
+reading_begins text draft h = ap (λ before. checked_lines 1 before (lines_in (without_mark text))) h
+
+pub reading_ends : (number : ℕ) (before : List Drawing) (lines : List (List ℕ)) → lines ≡ [] → checked_lines number before lines ≡ Ok before
+unfolding checked_lines
+reading_ends number before lines h = ap (checked_lines number before) h

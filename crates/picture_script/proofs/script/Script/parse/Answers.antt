@@ -1,0 +1,17 @@
+use Rattle.std.proofs.Common.{sym, ap, ◌∙◌, arith}
+use Rattle.text_lines.specs.Text.{lines_in}
+use Rattle.picture_script.specs.ScriptGrammar.{checked_lines}
+use Rattle.picture_script.specs.Lines.{said_in}
+use Rattle.picture_script.proofs.Refusals.{reading_begins, reading_ends}
+use Rattle.picture_script.proofs.script.Script.parse.Goals as goal
+
+pub loop-line-init : goal.loop-line-init
+loop-line-init c = (
+  c.new-draft.ensures.sound,
+  ap (λ rest. checked_lines 1 (said_in c.new-draft.result) (lines_in rest)) c.without_mark-rest.ensures.rest ∙ reading_begins c.args.text.now c.new-draft.result c.new-draft.ensures.lines,
+  omega (arith, c.without_mark-rest.ensures.length),
+)
+
+pub returns-clause-ok : goal.returns-clause-ok
+returns-clause-ok c =
+    sym c.loop-line.invariant.1 ∙ reading_ends c.loop-line.number (said_in c.loop-line.draft) (lines_in c.loop-line.rest.now) c.in_default.ensures.lines

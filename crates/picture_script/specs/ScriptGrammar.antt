@@ -1,0 +1,145 @@
+-- The lines of a picture script, and the first one that is refused.
+use Rattle.std.specs.Prelude.{ℕ, zero, suc, ◌+◌, ◌-◌, ◌*◌, Bool, true, false, not, ◌&&◌, ◌||◌, List, [], ◌∷◌, ◌++◌, length, map, slice_index, Option, Some, None, codes, Result, Ok, Err, ◌==◌, nat_le, nat_lt, if◌then◌else◌}
+use Rattle.std.specs.List.{list_all}
+use Rattle.std.specs.Str.{bytes_eq}
+use Rattle.std.specs.Char.{is_ascii_hexdigit, digit_value}
+use Rattle.text_lines.specs.Text.{lines_of, without_blanks, words_in, is_some_bytes, number_in, parsed_time}
+use Rattle.picture_script.specs.Script.{Drawing, Colour, Border, Fill, Rect, Row, Show, pictures, hold_time}
+use Rattle.picture_script.specs.declared.reasons.ScriptWhy.{ScriptWhy}
+use Rattle.picture_script.specs.declared.reasons.ScriptWhy.TheVariants.{UnknownCommand, BadArgument, OutOfRange, TimeOrder, TooMany}
+
+-- a number: one to three decimal digits
+abbrev pub small_number : List ℕ → Option ℕ
+small_number word = number_in 1 3 word
+
+-- a number before others
+abbrev pub joined : Option ℕ → Option (List ℕ) → Option (List ℕ)
+joined (Some number) (Some numbers) = Some (number ∷ numbers)
+joined _ _ = None
+
+-- the numbers of words, if there are so many words and each is a number
+unfoldable pub numbers_in : ℕ → List (List ℕ) → Option (List ℕ)
+numbers_in zero [] = Some []
+numbers_in zero (word ∷ words) = None
+numbers_in (suc count) [] = None
+numbers_in (suc count) (word ∷ words) = joined (small_number word) (numbers_in count words)
+
+-- a colour: four hexadecimal digits of either case, the first of them 0
+unfoldable pub colour_in : List ℕ → Option ℕ
+colour_in word =
+    if length word == 4 && slice_index word 0 == 48 && is_ascii_hexdigit (slice_index word 1) && is_ascii_hexdigit (slice_index word 2) && is_ascii_hexdigit (slice_index word 3)
+    then Some (256 * digit_value (slice_index word 1) + 16 * digit_value (slice_index word 2) + digit_value (slice_index word 3)) else None
+
+-- pixels: one or more hexadecimal digits
+unfoldable pub pixels_in : List ℕ → Option (List ℕ)
+pixels_in word = if is_some_bytes word && list_all is_ascii_hexdigit word then Some (map digit_value word) else None
+
+-- What the words after each command say if they are spelled as they must be, whatever the size of their numbers.
+
+abbrev pub colour_of : Option ℕ → Option ℕ → Option Drawing
+colour_of (Some number) (Some value) = Some (Colour number value)
+colour_of _ _ = None
+
+unfoldable pub colour_line : List (List ℕ) → Option Drawing
+colour_line (number ∷ value ∷ []) = colour_of (small_number number) (colour_in value)
+colour_line _ = None
+
+abbrev pub border_of : Option (List ℕ) → Option Drawing
+border_of (Some (colour ∷ [])) = Some (Border colour)
+border_of _ = None
+
+unfoldable pub border_line : List (List ℕ) → Option Drawing
+border_line words = border_of (numbers_in 1 words)
+
+abbrev pub fill_of : Option (List ℕ) → Option Drawing
+fill_of (Some (colour ∷ [])) = Some (Fill colour)
+fill_of _ = None
+
+unfoldable pub fill_line : List (List ℕ) → Option Drawing
+fill_line words = fill_of (numbers_in 1 words)
+
+abbrev pub rect_of : Option (List ℕ) → Option Drawing
+rect_of (Some (x ∷ y ∷ width ∷ height ∷ colour ∷ [])) = Some (Rect x y width height colour)
+rect_of _ = None
+
+unfoldable pub rect_line : List (List ℕ) → Option Drawing
+rect_line words = rect_of (numbers_in 5 words)
+
+abbrev pub row_of : Option ℕ → Option ℕ → Option (List ℕ) → Option Drawing
+row_of (Some x) (Some y) (Some pixels) = Some (Row x y pixels)
+row_of _ _ _ = None
+
+unfoldable pub row_line : List (List ℕ) → Option Drawing
+row_line (x ∷ y ∷ pixels ∷ []) = row_of (small_number x) (small_number y) (pixels_in pixels)
+row_line _ = None
+
+abbrev pub show_of : Option ℕ → Option ℕ → Option Drawing
+show_of (Some ready) (Some hold) = Some (Show ready hold)
+show_of _ _ = None
+
+unfoldable pub show_line : List (List ℕ) → Option Drawing
+show_line (ready ∷ hold ∷ []) = show_of (parsed_time ready) (parsed_time hold)
+show_line _ = None
+
+-- whether the numbers of a line are in their ranges, and its pixels in the window
+abbrev pub is_in_range : Drawing → Bool
+is_in_range (Colour number value) = nat_lt number 16
+is_in_range (Border colour) = nat_lt colour 16
+is_in_range (Fill colour) = nat_lt colour 16
+is_in_range (Rect x y width height colour) = nat_le 1 width && nat_le 1 height && nat_le (x + width) 288 && nat_le (y + height) 192 && nat_lt colour 16
+is_in_range (Row x y pixels) = nat_le (x + length pixels) 288 && nat_le y 191
+is_in_range (Show ready hold) = true
+
+-- whether a picture is ready after the picture before it was held
+abbrev pub is_after_hold : List Drawing → ℕ → Bool
+is_after_hold before ready = pictures before == 0 || nat_lt (hold_time before (pictures before - 1)) ready
+
+-- the reason for which a well spelled line is refused after the lines before it
+abbrev pub later_reason : List Drawing → Drawing → Option ScriptWhy
+later_reason before (Show ready hold) =
+    if nat_lt hold ready || not (is_after_hold before ready) then Some TimeOrder
+    else (if nat_le 20000 (pictures before) then Some TooMany else None)
+later_reason before line = if is_in_range line then None else Some OutOfRange
+
+abbrev pub unless_refused : Drawing → Option ScriptWhy → Result Drawing ScriptWhy
+unless_refused line None = Ok line
+unless_refused line (Some why) = Err why
+
+unfoldable pub checked_line : List Drawing → Option Drawing → Result Drawing ScriptWhy
+checked_line before None = Err BadArgument
+checked_line before (Some line) = unless_refused line (later_reason before line)
+
+-- what a command and the words after it say after the lines before, or the first reason for which they are refused
+unfoldable pub checked_command : List Drawing → List ℕ → List (List ℕ) → Result Drawing ScriptWhy
+checked_command before command words =
+    if bytes_eq command (codes "colour") then checked_line before (colour_line words)
+    else (if bytes_eq command (codes "border") then checked_line before (border_line words)
+    else (if bytes_eq command (codes "fill") then checked_line before (fill_line words)
+    else (if bytes_eq command (codes "rect") then checked_line before (rect_line words)
+    else (if bytes_eq command (codes "row") then checked_line before (row_line words)
+    else (if bytes_eq command (codes "show") then checked_line before (show_line words)
+    else Err UnknownCommand)))))
+
+unfoldable pub checked_words : List Drawing → List (List ℕ) → Result Drawing ScriptWhy
+checked_words before [] = Err UnknownCommand
+checked_words before (command ∷ words) = checked_command before command words
+
+-- a line that says nothing: empty, or a remark
+abbrev pub is_passed_over : List ℕ → Bool
+is_passed_over line = length (without_blanks line) == 0 || slice_index (without_blanks line) 0 == 35
+
+-- the lines of a script from a number on, or the first that is refused, with its reason
+unfoldable pub checked_lines : ℕ → List Drawing → List (List ℕ) → Result (List Drawing) (ℕ × ScriptWhy)
+checked_lines number before [] = Ok before
+checked_lines number before (line ∷ rest) =
+    elim (is_passed_over line) [
+      | true ↦ checked_lines (number + 1) before rest
+      | false ↦ elim (checked_words before (words_in line)) [
+        | Ok said ↦ checked_lines (number + 1) (before ++ said ∷ []) rest
+        | Err why ↦ Err (number, why)
+      ]
+    ]
+
+-- what a text is read as: what the lines of its script say, or its first refused line with the first reason
+unfoldable pub read_script : List ℕ → Result (List Drawing) (ℕ × ScriptWhy)
+read_script text = checked_lines 1 [] (lines_of text)

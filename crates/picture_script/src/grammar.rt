@@ -1,0 +1,162 @@
+// The grammar of scripts: the lines in turn, or the first that is refused.
+use crate::draft::{Draft, LineStop};
+use crate::line::Line;
+use crate::reasons::ScriptWhy;
+use crate::words::{colour_words, numbers, row_words, show_words};
+
+impl Draft {
+    ghost use Rattle.std.specs.Prelude.{◌≡◌, ◌<◌, ◌≤◌, ◌+◌, ◌&&◌, nat_le, nat_lt};
+    ghost use Rattle.picture_script.specs.Script.{Rect};
+    ghost use Rattle.picture_script.specs.ScriptGrammar.{is_in_range};
+    ghost use Rattle.text_lines.specs.Text.{words_in};
+    ghost use Rattle.picture_script.specs.ScriptGrammar.{checked_line, checked_command, checked_words, colour_line, border_line, fill_line, rect_line, row_line, show_line};
+    ghost use Rattle.picture_script.specs.Lines.{said_in, IsSound, Takes};
+
+    // Takes the words after `colour`.
+    fn take_colour(&mut self, words: &[u8]) -> Result<(), LineStop>
+        requires { IsSound self.old }
+        ensures { Takes (checked_line (said_in self.old) (colour_line (words_in words.now))) self.old self.new result }
+    {
+        let Some((number, value)) = colour_words(words) else {
+            return Err(LineStop::Refused(ScriptWhy::BadArgument));
+        };
+        if number > 15 {
+            return Err(LineStop::Refused(ScriptWhy::OutOfRange));
+        }
+        self.push_line(Line::TableColour {
+            number: number as u8,
+            value,
+        })
+    }
+
+    // Takes the words after `border`.
+    fn take_border(&mut self, words: &[u8]) -> Result<(), LineStop>
+        requires { IsSound self.old }
+        ensures { Takes (checked_line (said_in self.old) (border_line (words_in words.now))) self.old self.new result }
+    {
+        let Some(numbers) = numbers::<1>(words) else {
+            return Err(LineStop::Refused(ScriptWhy::BadArgument));
+        };
+        let colour = numbers[0];
+        if colour > 15 {
+            return Err(LineStop::Refused(ScriptWhy::OutOfRange));
+        }
+        self.push_line(Line::BorderColour {
+            colour: colour as u8,
+        })
+    }
+
+    // Takes the words after `fill`.
+    fn take_fill(&mut self, words: &[u8]) -> Result<(), LineStop>
+        requires { IsSound self.old }
+        ensures { Takes (checked_line (said_in self.old) (fill_line (words_in words.now))) self.old self.new result }
+    {
+        let Some(numbers) = numbers::<1>(words) else {
+            return Err(LineStop::Refused(ScriptWhy::BadArgument));
+        };
+        let colour = numbers[0];
+        if colour > 15 {
+            return Err(LineStop::Refused(ScriptWhy::OutOfRange));
+        }
+        self.push_line(Line::Filled {
+            colour: colour as u8,
+        })
+    }
+
+    // Takes the words after `rect`.
+    fn take_rect(&mut self, words: &[u8]) -> Result<(), LineStop>
+        requires { IsSound self.old }
+        ensures { Takes (checked_line (said_in self.old) (rect_line (words_in words.now))) self.old self.new result }
+    {
+        let Some(numbers) = numbers::<5>(words) else {
+            return Err(LineStop::Refused(ScriptWhy::BadArgument));
+        };
+        let (x, y) = (numbers[0], numbers[1]);
+        let (width, height) = (numbers[2], numbers[3]);
+        let colour = numbers[4];
+        if !Draft::is_rect(x, y, width, height, colour) {
+            return Err(LineStop::Refused(ScriptWhy::OutOfRange));
+        }
+        self.push_line(Line::Rectangle {
+            x,
+            y: y as u8,
+            width,
+            height: height as u8,
+            colour: colour as u8,
+        })
+    }
+
+    // Takes the words after `row`.
+    fn take_row(&mut self, words: &[u8]) -> Result<(), LineStop>
+        requires { IsSound self.old }
+        ensures { Takes (checked_line (said_in self.old) (row_line (words_in words.now))) self.old self.new result }
+    {
+        let Some((x, y, digits)) = row_words(words) else {
+            return Err(LineStop::Refused(ScriptWhy::BadArgument));
+        };
+        if !Draft::is_row(x, y, digits.len()) {
+            return Err(LineStop::Refused(ScriptWhy::OutOfRange));
+        }
+        self.push_row(x, y as u8, digits)
+    }
+
+    // Takes the words after `show`.
+    fn take_show(&mut self, words: &[u8]) -> Result<(), LineStop>
+        requires { IsSound self.old }
+        ensures { Takes (checked_line (said_in self.old) (show_line (words_in words.now))) self.old self.new result }
+    {
+        let Some((ready, hold)) = show_words(words) else {
+            return Err(LineStop::Refused(ScriptWhy::BadArgument));
+        };
+        if hold < ready {
+            return Err(LineStop::Refused(ScriptWhy::TimeOrder));
+        }
+        if !self.is_after_hold(ready) {
+            return Err(LineStop::Refused(ScriptWhy::TimeOrder));
+        }
+        if self.shown.len() >= 20_000 {
+            return Err(LineStop::Refused(ScriptWhy::TooMany));
+        }
+        self.push_show(ready, hold)
+    }
+
+    // Takes a command with the words after it.
+    pub(crate) fn take_command(&mut self, command: &[u8], words: &[u8]) -> Result<(), LineStop>
+        requires { IsSound self.old }
+        ensures { Takes (checked_command (said_in self.old) command.now (words_in words.now)) self.old self.new result }
+    {
+        if command == b"colour".as_slice() {
+            self.take_colour(words)
+        } else if command == b"border".as_slice() {
+            self.take_border(words)
+        } else if command == b"fill".as_slice() {
+            self.take_fill(words)
+        } else if command == b"rect".as_slice() {
+            self.take_rect(words)
+        } else if command == b"row".as_slice() {
+            self.take_row(words)
+        } else if command == b"show".as_slice() {
+            self.take_show(words)
+        } else {
+            Err(LineStop::Refused(ScriptWhy::UnknownCommand))
+        }
+    }
+
+    // Whether the numbers of a `rect` line are in their ranges.
+    fn is_rect(x: u16, y: u16, width: u16, height: u16, colour: u16) -> bool
+        requires x { x < 1000 }
+        requires y { y < 1000 }
+        requires width { width < 1000 }
+        requires height { height < 1000 }
+        ensures { result ≡ is_in_range (Rect x y width height colour) }
+    {
+        width >= 1 && height >= 1 && x + width <= 288 && y + height <= 192 && colour < 16
+    }
+
+    // Whether a row of so many pixels is in the window.
+    fn is_row(x: u16, y: u16, count: usize) -> bool
+        ensures { result ≡ (nat_le (x + count) 288 && nat_le y 191) }
+    {
+        count <= 288 && usize::from(x) + count <= 288 && y <= 191
+    }
+}

@@ -1,0 +1,91 @@
+// Reading a script from its text.
+use crate::draft::{Draft, LineStop};
+use crate::reasons::{ScriptStop, ScriptWhy};
+use crate::script::Script;
+use std::alloc::Global;
+use text_lines::{next_line, next_word, trim_start, without_mark};
+
+impl Draft {
+    ghost use Rattle.std.specs.Prelude.{◌≡◌, OnOk, IfErr};
+    ghost use Rattle.picture_script.specs.Stops.{IsRead, IsRefused};
+    ghost use Rattle.text_lines.specs.Text.{words_in};
+    ghost use Rattle.picture_script.specs.ScriptGrammar.{checked_words, is_passed_over};
+    ghost use Rattle.picture_script.specs.Lines.{said_in, IsSound, Takes};
+
+    // Takes a line that is not passed over.
+    fn take_line(&mut self, line: &[u8]) -> Result<(), LineStop>
+        requires { IsSound self.old }
+        ensures { Takes (checked_words (said_in self.old) (words_in line.now)) self.old self.new result }
+    {
+        match next_word(line) {
+            Some((command, words)) => self.take_command(command, words),
+            None => Err(LineStop::Refused(ScriptWhy::UnknownCommand)),
+        }
+    }
+
+    // Whether a line says nothing: it is empty, or a remark.
+    fn is_passed_over(line: &[u8]) -> bool
+        ensures { result ≡ is_passed_over line.now }
+    {
+        let rest = trim_start(line);
+        rest.is_empty() || rest[0] == b'#'
+    }
+
+    // Reads a line.
+    fn read_line(&mut self, line: &[u8]) -> Result<(), LineStop>
+        requires { IsSound self.old }
+        ensures ok { OnOk result (IsRead self.old self.new line.now) }
+        ensures err { IfErr result (IsRefused (said_in self.old) line.now) }
+    {
+        if Draft::is_passed_over(line) {
+            return Ok(());
+        }
+        self.take_line(line)
+    }
+}
+
+impl Script {
+    ghost use Rattle.std.specs.Prelude.{◌≡◌, ◌≤◌, length, Ok, IfOk, IfErr};
+    ghost use Rattle.picture_script.specs.ScriptGrammar.{read_script};
+    ghost use Rattle.picture_script.specs.Stops.{StopsAt};
+
+    /// Reads a script of at most 67,108,864 bytes.
+    ///
+    /// A line ends with a line feed, before which a carriage return is left out, and the bytes EF BB BF may stand in front.
+    /// Lines that are empty or begin with `#` are passed over. The commands are `colour K 0RGB`, `border K`, `fill K`,
+    /// `rect X Y W H K`, `row X Y DIGITS` and `show READY HOLD`.
+    ///
+    /// # Errors
+    ///
+    /// `Fault` at the first line that is refused, with its first reason. `NoMemory` where there is no memory for the script.
+    pub fn parse(alloc: Global, text: &[u8]) -> Result<Script, ScriptStop>
+        requires { length text.now ≤ 67108864 }
+        ensures ok { IfOk result (λ script. read_script text.now ≡ Ok script) }
+        ensures err { IfErr result (StopsAt (read_script text.now)) }
+    {
+        let mut draft = Draft::new(alloc);
+        let mut rest = without_mark(text);
+        let mut number = 1u32;
+        while let Some((line, after)) = next_line(rest) {
+            match draft.read_line(line) {
+                Ok(()) => {}
+                Err(LineStop::Refused(why)) => {
+                    return Err(ScriptStop::Fault { line: number, why });
+                }
+                Err(LineStop::NoRoom) => return Err(ScriptStop::NoMemory),
+            }
+            number += 1;
+            rest = after;
+        }
+        let Draft {
+            lines,
+            pixels,
+            shown,
+        } = draft;
+        Ok(Script {
+            lines,
+            pixels,
+            shown,
+        })
+    }
+}
