@@ -13,8 +13,23 @@ use rand_core::utils::NextWord;
 use rand_pcg::Pcg32;
 
 /// Sixteen greys, a line for each colour.
-static GREYS: [u8; 230] =
-    *b"colour 0 0000\ncolour 1 0111\ncolour 2 0222\ncolour 3 0333\ncolour 4 0444\ncolour 5 0555\ncolour 6 0666\ncolour 7 0777\ncolour 8 0888\ncolour 9 0999\ncolour 10 0aaa\ncolour 11 0bbb\ncolour 12 0ccc\ncolour 13 0ddd\ncolour 14 0eee\ncolour 15 0fff\n";
+static GREYS: [u8; 230] = *b"\
+    colour 0 0000\n\
+    colour 1 0111\n\
+    colour 2 0222\n\
+    colour 3 0333\n\
+    colour 4 0444\n\
+    colour 5 0555\n\
+    colour 6 0666\n\
+    colour 7 0777\n\
+    colour 8 0888\n\
+    colour 9 0999\n\
+    colour 10 0aaa\n\
+    colour 11 0bbb\n\
+    colour 12 0ccc\n\
+    colour 13 0ddd\n\
+    colour 14 0eee\n\
+    colour 15 0fff\n";
 
 /// Writes a script of so many pictures, each of three more rectangles, that a seed determines. After `Failed` a prefix of the
 /// script was appended.

@@ -2,8 +2,27 @@ use super::*;
 use cdg_io::{MemSink, MemSource, Pumped};
 use std::test::Fail;
 
-const SCRIPT: &[u8] =
-    b"colour 0 0000\ncolour 1 0111\ncolour 2 0222\ncolour 3 0333\ncolour 4 0444\ncolour 5 0555\ncolour 6 0666\ncolour 7 0777\ncolour 8 0888\ncolour 9 0999\ncolour 10 0aaa\ncolour 11 0bbb\ncolour 12 0ccc\ncolour 13 0ddd\ncolour 14 0eee\ncolour 15 0fff\nrect 119 28 113 72 4\nrect 144 29 36 6 2\nrect 267 100 12 42 0\nshow 00:10:50 00:10:70\n";
+const SCRIPT: &[u8] = b"\
+    colour 0 0000\n\
+    colour 1 0111\n\
+    colour 2 0222\n\
+    colour 3 0333\n\
+    colour 4 0444\n\
+    colour 5 0555\n\
+    colour 6 0666\n\
+    colour 7 0777\n\
+    colour 8 0888\n\
+    colour 9 0999\n\
+    colour 10 0aaa\n\
+    colour 11 0bbb\n\
+    colour 12 0ccc\n\
+    colour 13 0ddd\n\
+    colour 14 0eee\n\
+    colour 15 0fff\n\
+    rect 119 28 113 72 4\n\
+    rect 144 29 36 6 2\n\
+    rect 267 100 12 42 0\n\
+    show 00:10:50 00:10:70\n";
 
 #[test]
 fn writes_the_script_of_a_seed(rt: HostRuntime) -> Result<(), Fail> {
