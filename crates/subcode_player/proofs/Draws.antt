@@ -72,8 +72,8 @@ entry_before picture (Some word) rest end same =
     let between : Standing = standing_after old (instr ∷ []) in
     same_then (standing_of end) (standing_after (standing_of (obeyed picture instr)) (instrs_of rest)) (standing_after old (instr ∷ instrs_of rest)) same
     (same_then (standing_after (standing_of (obeyed picture instr)) (instrs_of rest)) (standing_after between (instrs_of rest)) (standing_after old (instr ∷ instrs_of rest))
-      (same_after (standing_of (obeyed picture instr)) between (instrs_of rest) (obeyed_is picture instr))
-      (same_back (standing_after old (instr ∷ instrs_of rest)) (standing_after between (instrs_of rest)) (in_turn old (instr ∷ []) (instrs_of rest))))
+    (same_after (standing_of (obeyed picture instr)) between (instrs_of rest) (obeyed_is picture instr))
+    (same_back (standing_after old (instr ∷ instrs_of rest)) (standing_after between (instrs_of rest)) (in_turn old (instr ∷ []) (instrs_of rest))))
 
 abbrev state : Display → ℕ → ℕ → Drawing
 state picture left bad = record { picture = picture; left = left; bad = bad }

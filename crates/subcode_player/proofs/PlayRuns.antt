@@ -68,8 +68,8 @@ plain_blocks Cooked size (u ∷ units) = ap (λ us. u ∷ us) (plain_blocks Cook
 pub plays_blocks : (form : Form) (lead_in : ℕ) (s : Blocks) → unit_size form ≡ 96 → s.first ≡ begun form lead_in → s.second.bad ≡ 0 → Plays (IsConverted form lead_in) form blocks_next blocks_give s (λ (t : Blocks). t.second.bad)
 plays_blocks form lead_in s size start none =
     converts_by form lead_in blocks_next blocks_give s (λ (t : Blocks). t.second.bad)
-      (λ units. block_text form lead_in s units start ∙ ap (λ us. cdg_bytes (found_in form (drop lead_in us))) (sym (plain_blocks form size units)))
-      (λ units few. block_bad form lead_in s units start none few ∙ ap (λ us. bad_count (found_in form (drop lead_in us))) (sym (plain_blocks form size units)))
+    (λ units. block_text form lead_in s units start ∙ ap (λ us. cdg_bytes (found_in form (drop lead_in us))) (sym (plain_blocks form size units)))
+    (λ units few. block_bad form lead_in s units start none few ∙ ap (λ us. bad_count (found_in form (drop lead_in us))) (sym (plain_blocks form size units)))
 
 -- ---- bytes that are sectors
 
@@ -95,7 +95,7 @@ cut_all s (u ∷ units) = ap (λ us. drop 2352 u ∷ us) (cut_all s units)
 pub plays_sectors : (lead_in : ℕ) (s : Sectors) → s.second.first ≡ begun Sector lead_in → s.second.second.bad ≡ 0 → Plays (IsConverted Sector lead_in) Sector sectors_next sectors_give s (λ (t : Sectors). t.second.second.bad)
 plays_sectors lead_in s start none =
     converts_by Sector lead_in sectors_next sectors_give s (λ (t : Sectors). t.second.second.bad)
-      (λ units. ap concat (joined_gives cut_next cut_give blocks_next blocks_give s units) ∙ ap (λ us. concat (run_gives blocks_next blocks_give s.second us)) (cut_all s.first units)
-      ∙ block_text Sector lead_in s.second (map (block_of Sector) units) start)
-      (λ units few. ap (λ (t : Blocks). t.second.bad) (joined_second cut_next cut_give blocks_next s units) ∙ ap (λ us. (run_state blocks_next s.second us).second.bad) (cut_all s.first units)
-      ∙ block_bad Sector lead_in s.second (map (block_of Sector) units) start none (omega (arith, few, length-map units (block_of Sector))))
+    (λ units. ap concat (joined_gives cut_next cut_give blocks_next blocks_give s units) ∙ ap (λ us. concat (run_gives blocks_next blocks_give s.second us)) (cut_all s.first units)
+    ∙ block_text Sector lead_in s.second (map (block_of Sector) units) start)
+    (λ units few. ap (λ (t : Blocks). t.second.bad) (joined_second cut_next cut_give blocks_next s units) ∙ ap (λ us. (run_state blocks_next s.second us).second.bad) (cut_all s.first units)
+    ∙ block_bad Sector lead_in s.second (map (block_of Sector) units) start none (omega (arith, few, length-map units (block_of Sector))))

@@ -55,13 +55,13 @@ module _ {S : Type 0} (writes : List ℕ → List ℕ → ℕ → Type 0) (form 
   plays_done : (pumped : Pumped) (played : Played) → Plays writes form next gives s bad_of → RunsAt (unit_size form) (Ok pumped) → played.blocks ≡ pumped.units - lead_in → played.bad ≡ bad_of s' → Calls (Ok played)
   plays_done pumped played plays p blocks bad =
       streams_done (unit_size form) most_units next gives Torn WriteFault (IsPlayed writes form lead_in) left left' s s' held held' taken pumped played (unit_some form) (says_text plays) p (λ whole_units.
-        let count : whole (unit_size form) most_units (length taken) ≡ pumped.units =
-        ap (whole (unit_size form) most_units) (p.done.1 ∙ omega arith) ∙ whole_within (unit_size form) most_units pumped.units 0 (omega (arith, unit_some form)) p.done.2 in
-        let counted : played.bad ≡ bad_of (run_state next s (units_of (unit_size form) pumped.units taken)) = bad ∙ ap bad_of (p.state ∙ ap (λ k. run_state next s (units_of (unit_size form) k taken)) count) in
-        record {
-          blocks = blocks ∙ ap (λ n. n - lead_in) (sym (units_in form pumped.units taken whole_units));
-          written = subst (writes taken (given (unit_size form) next gives s taken pumped.units)) (sym counted) (plays.says taken pumped.units p.done.2 whole_units);
-        })
+      let count : whole (unit_size form) most_units (length taken) ≡ pumped.units =
+      ap (whole (unit_size form) most_units) (p.done.1 ∙ omega arith) ∙ whole_within (unit_size form) most_units pumped.units 0 (omega (arith, unit_some form)) p.done.2 in
+      let counted : played.bad ≡ bad_of (run_state next s (units_of (unit_size form) pumped.units taken)) = bad ∙ ap bad_of (p.state ∙ ap (λ k. run_state next s (units_of (unit_size form) k taken)) count) in
+      record {
+        blocks = blocks ∙ ap (λ n. n - lead_in) (sym (units_in form pumped.units taken whole_units));
+        written = subst (writes taken (given (unit_size form) next gives s taken pumped.units)) (sym counted) (plays.says taken pumped.units p.done.2 whole_units);
+      })
 
   plays_stop : (stop : PumpStop) → Plays writes form next gives s bad_of → RunsAt (unit_size form) (Err stop) → Calls (Err (play_stop stop))
   plays_stop stop plays p =

@@ -29,7 +29,7 @@ module _ (form : Form) (lead_in blocks : ℕ) (packs : List (List ℕ)) (bytes t
   found_packs = law form blocks stream.symbols (program_symbols form bytes lead_in) packs converted.found stream.carries (program_small form bytes lead_in) stream.damaged converted.recovered
 
 -- what was taken to the end is all
-taken_all : (all : List ℕ) (left : Option (List ℕ)) (taken : List ℕ) → Consumes (Some all) left taken → IsAtEnd left → taken ≡ all
+pub taken_all : (all : List ℕ) (left : Option (List ℕ)) (taken : List ℕ) → Consumes (Some all) left taken → IsAtEnd left → taken ≡ all
 taken_all all None taken takes end = absurd takes
 taken_all all (Some rest) taken takes end = sym (takes ∙ ap (λ l. taken ++ l) end ∙ append-nil taken)
 

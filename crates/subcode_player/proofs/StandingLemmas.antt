@@ -19,7 +19,7 @@ rows_of now = map (λ y. map (λ x. now.memory x y) (below 300)) (below 216)
 rows_same : (a b : Standing) → SameStanding a b → rows_of a ≡ rows_of b
 unfolding rows_of
 rows_same a b same = map_same (λ y. map (λ x. a.memory x y) (below 300)) (λ y. map (λ x. b.memory x y) (below 300)) 0 216 (λ y y_lt.
-  map_same (λ x. a.memory x y) (λ x. b.memory x y) 0 300 (λ x x_lt. same.memory x y (omega arith) (omega arith)))
+    map_same (λ x. a.memory x y) (λ x. b.memory x y) 0 300 (λ x x_lt. same.memory x y (omega arith) (omega arith)))
 
 -- the same stands in both: they are one value
 pub display_same : (a b : Standing) → SameStanding a b → display_of a ≡ display_of b
@@ -61,7 +61,7 @@ unfolding obeyed
 display_after old new instr same =
     let before : Standing = standing_of (display_of old) in
     display_same new (standing_after before (instr ∷ [])) (same_then new (standing_after old (instr ∷ [])) (standing_after before (instr ∷ [])) same
-      (same_back (standing_after before (instr ∷ [])) (standing_after old (instr ∷ [])) (same_after before old (instr ∷ []) (display_is old))))
+    (same_back (standing_after before (instr ∷ [])) (standing_after old (instr ∷ [])) (same_after before old (instr ∷ []) (display_is old))))
 
 -- what is seen of a screen is what stands on it
 pub seen_as : (s now : Standing) (d : Display) → display_of s ≡ d → SameStanding (standing_of d) now → SameStanding s now

@@ -80,7 +80,7 @@ recovered_units : (form : Form) (lead_in : ℕ) (bytes : List ℕ) (units : List
     → IsRecovered form (program_symbols form bytes lead_in) (found_in form (program form lead_in units))
 recovered_units form lead_in bytes units same sized =
     subst (λ (us : List (List ℕ)). IsRecovered form (flat_map symbols_of (program form lead_in us)) (found_in form (program form lead_in units))) (sym same)
-      (recovered form (program form lead_in units) (sized_drop 96 lead_in _ (blocks_sized form units sized)))
+    (recovered form (program form lead_in units) (sized_drop 96 lead_in _ (blocks_sized form units sized)))
 
 -- the same by the bytes
 pub viewed_bytes : (form : Form) (lead_in time : ℕ) (s : Drawings) (bytes : List ℕ) (n : ℕ) (end : Drawing) → IsReady form lead_in time s → n ≤ most_units → IsWhole (unit_size form) n bytes
@@ -89,7 +89,7 @@ viewed_bytes form lead_in time s bytes n end ready few whole_units e =
     let size : ℕ = unit_size form in
     let units : List (List ℕ) = units_of size n bytes in
     let drawn : IsDrawn form lead_in time (map (block_of form) units) end = subst (IsDrawn form lead_in time (map (block_of form) units)) (sym e)
-      (drawn_blocks form lead_in time s (map (block_of form) units) ready (omega (arith, few, length-map units (block_of form), length-units_of size n bytes))) in
+    (drawn_blocks form lead_in time s (map (block_of form) units) ready (omega (arith, few, length-map units (block_of form), length-units_of size n bytes))) in
     record {
       found = found_in form (program form lead_in units);
       recovered = recovered_units form lead_in bytes units (ap (λ k. units_of size k bytes) (units_in form n bytes whole_units)) (units_sized size n bytes whole_units.fits);

@@ -33,8 +33,12 @@ module _ {T S : Type 0} (form : Form) (size : ℕ) (whole_next : T → List ℕ 
       record {
         taken_from = p.taken_from;
         within = subst (λ n. length taken ≤ most_units * n + 1) (sym e) p.within;
-        done = (p.done.0, p.done.1 ∙ ap (λ n. pumped.units * n) (sym e), p.done.2,
-          ap inner (p.state ∙ ap (λ n. run_state whole_next t (units_of size n taken)) count) ∙ runs.state t (units_of size pumped.units taken) ∙ ap (λ n. run_state next (inner t) (map (block_of form) (units_of n pumped.units taken))) (sym e));
+        done = (
+          p.done.0,
+          p.done.1 ∙ ap (λ n. pumped.units * n) (sym e),
+          p.done.2,
+          ap inner (p.state ∙ ap (λ n. run_state whole_next t (units_of size n taken)) count) ∙ runs.state t (units_of size pumped.units taken) ∙ ap (λ n. run_state next (inner t) (map (block_of form) (units_of n pumped.units taken))) (sym e),
+        );
         torn = λ unit h. (cc);
         no_write = λ h. (cc);
       }

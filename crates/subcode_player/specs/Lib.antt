@@ -6,3 +6,4 @@ pub mod Standings
 pub mod Drawn
 pub mod Shown
 pub mod Watch
+pub mod Pictured

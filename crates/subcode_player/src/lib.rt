@@ -5,6 +5,7 @@ mod converting;
 mod correction;
 mod drawing;
 mod picture;
+mod pictures;
 mod player;
 mod sectors;
 mod showing;
@@ -12,10 +13,11 @@ mod watching;
 mod words;
 
 pub use correction::Correction;
-pub use raw_subcode::Form;
 pub use drawing::Drawing;
 pub use picture::Picture;
+pub use pictures::screens_show_pictures;
 pub use player::{PlayStop, Played, Player};
+pub use raw_subcode::Form;
 pub use sectors::SectorBlocks;
 pub use words::BlockWords;
 

@@ -57,7 +57,10 @@ impl Player {
             bad: 0,
         };
         Ok(Player {
-            stages: Then::new(SectorBlocks, Then::new(BlockWords::start(alloc)?, Correction { bad: 0 })),
+            stages: Then::new(
+                SectorBlocks,
+                Then::new(BlockWords::start(alloc)?, Correction { bad: 0 }),
+            ),
             views: Then::new(SectorBlocks, Then::new(BlockWords::start(alloc)?, drawing)),
         })
     }

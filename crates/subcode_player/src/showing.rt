@@ -4,9 +4,12 @@ ghost use Rattle.cdg_io.specs.Causes.{Rose};
 ghost use Rattle.raw_subcode.specs.Channels.{unit_size};
 ghost use Rattle.rw_interleave.specs.Interleave.{whole_packs};
 ghost use Rattle.cdg_screen.specs.Picture.{SameStanding, blank, standing_of};
+ghost use Rattle.picture_script.specs.Script.{Drawing};
 ghost use Rattle.subcode_player.specs.Steps.{begun};
+ghost use Rattle.subcode_player.specs.Pictured.{GivesPicture, IsHeldAt, IsScheduledStream};
 ghost use Rattle.subcode_player.specs.Shown.{IsScreenAt, IsStateAt, IsShownBy, Shows, Views, viewed};
 
+use crate::pictures::screens_show_pictures;
 use crate::player::play_stop;
 use crate::watching::watch;
 use crate::{Form, PlayStop, Played, Player};
@@ -27,6 +30,10 @@ impl Player {
         requires at { at ≤ 449999 }
         ensures shows { (taken : List ℕ) × Shows (IsScreenAt form lead_in at) form lead_in at
             (S.left source.old) (S.left source.new) (K.held out.old) (K.held out.new) result taken }
+        // From its ready time to its hold time each picture of a script is shown, whatever damage of at most two symbols a word does.
+        ensures pictures { IfSome (S.left source.old) (λ all. (script : List Drawing) (k : ℕ)
+            → IsScheduledStream form lead_in script all → IsHeldAt script k at
+            → GivesPicture script k result (K.held out.old) (K.held out.new)) }
         // Where nothing failed, the answer is that of the whole input's length.
         ensures answer { IfSome (S.left source.old) (λ all. IsShownBy result lead_in at (unit_size form) (length all)) }
         ensures source_later { S.faults source.old ≤ S.faults source.new }
@@ -34,6 +41,7 @@ impl Player {
         ensures read_fault { IsErrOf result PlayStop.ReadFault → Rose (S.faults source.old) (S.faults source.new) }
         ensures write_fault { IsErrOf result PlayStop.WriteFault → Rose (K.faults out.old) (K.faults out.new) }
     {
+        screens_show_pictures();
         match self.view(lead_in, form, at, source) {
             Ok(played) => match self.views.second.second.picture.write_ppm(out) {
                 Ok(()) => Ok(played),

@@ -9,4 +9,4 @@ pub returns : goal.returns
 returns c =
     let old = standing_of c.self.inside.screen in
     rw (← c.self.view_is) (display_after old (standing_of c.obey.new.self) _
-      (subst (λ (i : Instr). SameStanding (standing_of c.obey.new.self) (standing_after old (i ∷ []))) (only_meaning c.args.pack.now c.read.result c.read.ensures.meaning) c.obey.ensures))
+    (subst (λ (i : Instr). SameStanding (standing_of c.obey.new.self) (standing_after old (i ∷ []))) (only_meaning c.args.pack.now c.read.result c.read.ensures.meaning) c.obey.ensures))

@@ -5,9 +5,11 @@ use Rattle.subcode_player.proofs.player.Player.view.Goals as goal
 
 pub returns-in-Ok-clause-views : goal.returns-in-Ok-clause-views
 returns-in-Ok-clause-views g c =
-    let (taken, w) = c.in-Ok.ensures.watches in
-    (taken, view_done c.args.form c.args.lead_in c.args.at _ _ taken c.begin_view.new.self.views.second c.watch.new.stages.second _ _
-      (record { words = c.begin_view.ensures.words; left = c.begin_view.ensures.left; bad = c.begin_view.ensures.bad; blank = c.begin_view.ensures.blank }) w c.viewed.ensures)
+    let (taken, w) = c.in-Ok.ensures.watches in (
+      taken,
+      view_done c.args.form c.args.lead_in c.args.at _ _ taken c.begin_view.new.self.views.second c.watch.new.stages.second _ _
+          (record { words = c.begin_view.ensures.words; left = c.begin_view.ensures.left; bad = c.begin_view.ensures.bad; blank = c.begin_view.ensures.blank }) w c.viewed.ensures,
+    )
 
 pub returns-in-Ok-clause-answer : goal.returns-in-Ok-clause-answer
 returns-in-Ok-clause-answer g c = shown_done c.args.lead_in c.args.at (unit_size c.args.form) _ _ _ _ c.viewed.ensures c.in-Ok.ensures.answer
