@@ -4,3 +4,4 @@ pub mod Needles
 pub mod BlockRuns
 pub mod BurstLaws
 pub mod ScriptTexts
+pub mod DamageLaws

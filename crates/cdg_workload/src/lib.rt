@@ -5,7 +5,7 @@ mod needle;
 mod scratching;
 mod script;
 
-pub use scratching::{scratch, scratches_are_bursts};
+pub use scratching::{scratch, scratches_are_bursts, scratches_are_damage};
 pub use script::write_script;
 
 #[cfg(test)]

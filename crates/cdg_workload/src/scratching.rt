@@ -4,14 +4,16 @@ ghost use Rattle.cdg_io.specs.Causes.{Rose};
 ghost use Rattle.cdg_io.specs.Pump.{IsUnlessFault, answer_of};
 ghost use Rattle.cdg_io.specs.Streams.{Streams};
 ghost use Rattle.cdg_io.specs.declared.pumping.PumpStop.TheVariants.{Torn, WriteFault};
-ghost use Rattle.raw_subcode.specs.Channels.{symbols_of};
-ghost use Rattle.stream_words.specs.Stream.{DiffersInBursts};
+ghost use Rattle.raw_subcode.specs.Channels.{symbols_of, program_symbols};
+ghost use Rattle.stream_words.specs.Stream.{DiffersInBursts, IsDamaged};
 ghost use Rattle.cdg_workload.specs.Scratches.{IsScratched, scratched};
 ghost use Rattle.cdg_workload.specs.Steps.{begun, block_next, block_gives};
 
 use crate::needle::Needle;
 use cdg_io::{Piece, PumpStop, Pumped, Sink, Source, Stage, pump};
 use rand_pcg::Pcg32;
+use raw_subcode::Form;
+use stream_words::bursts_are_damage;
 
 /// The most blocks that are read.
 const MOST_BLOCKS: u32 = 1_000_000;
@@ -97,3 +99,11 @@ pub fn scratches_are_bursts()
     ensures lead_in { (lead_in seed : ℕ) (bytes : List ℕ) → take (96 * lead_in) (scratched lead_in seed bytes) ≡ take (96 * lead_in) bytes }
     ensures channels { (lead_in seed : ℕ) (bytes : List ℕ) → map (λ byte. byte / 64) (scratched lead_in seed bytes) ≡ map (λ byte. byte / 64) bytes }
 {}
+
+/// A law: in a stream of whole blocks, scratches change at most two symbols of each word.
+pub fn scratches_are_damage()
+    ensures { (lead_in seed blocks : ℕ) (bytes : List ℕ) → length bytes ≡ 96 * blocks
+        → IsDamaged (program_symbols Form.Raw bytes lead_in) Form.Raw (program_symbols Form.Raw (scratched lead_in seed bytes) lead_in) }
+{
+    bursts_are_damage();
+}
