@@ -7,6 +7,7 @@ mod drawing;
 mod picture;
 mod pictures;
 mod player;
+mod q_listing;
 mod sectors;
 mod showing;
 mod watching;
