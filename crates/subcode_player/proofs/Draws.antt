@@ -1,5 +1,5 @@
 -- What is drawn for words, one after another.
-use Rattle.std.proofs.Common.{◌≡◌, ◌==◌, ℕ, zero, suc, ◌+◌, ◌-◌, ◌^◌, ◌<◌, true, false, cond, List, [], ◌∷◌, ◌++◌, length, get_or, map, take, refl, sym, ap, ◌∙◌, subst, arith, Some, None, inl, inr}
+use Rattle.std.proofs.Common.{◌≡◌, ◌==◌, ℕ, zero, suc, ◌+◌, ◌-◌, ◌^◌, ◌<◌, false, cond, List, [], ◌∷◌, ◌++◌, length, get_or, map, take, refl, sym, ap, ◌∙◌, subst, arith, Some, None, inl, inr}
 use Rattle.std.specs.declared.option.Option.{Option}
 use Rattle.std.proofs.lemmas.Bool.Decides.{eqb_tells}
 use Rattle.std.proofs.lemmas.List.{take_more}
@@ -14,7 +14,7 @@ use Rattle.cdg_screen.specs.Picture.{Display, Standing, SameStanding, standing_o
 use Rattle.cdg_screen.proofs.Turns.{same_after, same_then, same_back, in_turn}
 use Rattle.subcode_player.specs.Standings.{obeyed}
 use Rattle.subcode_player.specs.Steps.{bad_next}
-use Rattle.subcode_player.specs.Drawn.{entry_drawn, draw_next, draw_after, drawing_next, drawing_gives}
+use Rattle.subcode_player.specs.Drawn.{entry_drawn, draw_next, draw_after, drawing_next}
 use Rattle.subcode_player.specs.Shown.{AreMeant}
 use Rattle.subcode_player.specs.declared.drawing.Drawing.{Drawing}
 use Rattle.subcode_player.proofs.StandingLemmas.{obeyed_is}

@@ -1,5 +1,5 @@
 -- The lines of the Q channel of a stream, from the runs of their stage.
-use Rattle.std.proofs.Common.{◌≡◌, ℕ, ◌+◌, ◌*◌, ◌/◌, ◌≤◌, List, [], ◌∷◌, length, map, drop, refl, sym, ap, ap₂, ◌∙◌, subst, arith, Some}
+use Rattle.std.proofs.Common.{◌≡◌, ℕ, List, [], ◌∷◌, length, map, refl, sym, ap, ap₂, ◌∙◌, subst, arith}
 use Rattle.std.specs.Prelude.{is_err, count_by}
 use Rattle.std.specs.declared.option.Option.{Option}
 use Rattle.std.specs.List.{concat}
@@ -15,8 +15,7 @@ use Rattle.block_stages.specs.QList.{q_blocks, q_lines, AreReadings, IsQListed}
 use Rattle.block_stages.specs.declared.q_lines.QLines.{QLines}
 use Rattle.block_stages.proofs.QRuns.{reading_at, lines_run, counts_run, readings_are}
 use Rattle.raw_subcode.specs.declared.form.Form.{Form}
-use Rattle.raw_subcode.specs.declared.form.Form.TheVariants.{Raw, Sector, Cooked}
-use Rattle.subcode_player.specs.Calls.{most_units}
+use Rattle.raw_subcode.specs.declared.form.Form.TheVariants.{Raw, Sector}
 use Rattle.subcode_player.specs.declared.sectors.SectorBlocks.{SectorBlocks}
 use Rattle.subcode_player.proofs.Slots.{Sized}
 use Rattle.subcode_player.proofs.Playing.{Plays, units_in}
@@ -50,9 +49,9 @@ plays_blocks = record {
       let units : List (List ℕ) = units_of 96 n bytes in
       let size : length units ≡ n = length-units_of 96 n bytes in
       listed Raw bytes (given 96 q_next q_give start bytes n) (run_state q_next start units).bad units (blocks_in Raw n bytes whole ∙ plain units)
-        (units_sized 96 n bytes whole.fits)
-        (lines_run 0 0 units (omega (arith, few, size)))
-        (counts_run 0 0 units (omega (arith, few, size)) ∙ omega arith);
+      (units_sized 96 n bytes whole.fits)
+      (lines_run 0 0 units (omega (arith, few, size)))
+      (counts_run 0 0 units (omega (arith, few, size)) ∙ omega arith);
 }
 
 abbrev pub Sectors : Type 0
@@ -71,9 +70,9 @@ plays_sectors s begin = record {
       let blocks : List (List ℕ) = map (block_of Sector) units in
       let size : length blocks ≡ n = length-map units (block_of Sector) ∙ length-units_of 2448 n bytes in
       listed Sector bytes (given 2448 sectors_next sectors_give s bytes n) (run_state sectors_next s units).second.bad blocks (blocks_in Sector n bytes whole)
-        (blocks_sized Sector units (units_sized 2448 n bytes whole.fits))
-        (ap concat (joined_gives cut_next cut_give q_next q_give s units) ∙ ap₂ (λ (t : QLines) us. concat (run_gives q_next q_give t us)) begin (cut_all s.first units)
-        ∙ lines_run 0 0 blocks (omega (arith, few, size)))
-        (ap (λ (t : QLines). t.bad) (joined_second cut_next cut_give q_next s units) ∙ ap₂ (λ (t : QLines) us. (run_state q_next t us).bad) begin (cut_all s.first units)
-        ∙ counts_run 0 0 blocks (omega (arith, few, size)) ∙ omega arith);
+      (blocks_sized Sector units (units_sized 2448 n bytes whole.fits))
+      (ap concat (joined_gives cut_next cut_give q_next q_give s units) ∙ ap₂ (λ (t : QLines) us. concat (run_gives q_next q_give t us)) begin (cut_all s.first units)
+      ∙ lines_run 0 0 blocks (omega (arith, few, size)))
+      (ap (λ (t : QLines). t.bad) (joined_second cut_next cut_give q_next s units) ∙ ap₂ (λ (t : QLines) us. (run_state q_next t us).bad) begin (cut_all s.first units)
+      ∙ counts_run 0 0 blocks (omega (arith, few, size)) ∙ omega arith);
 }

@@ -1,11 +1,10 @@
 -- From a stage at work on blocks to what a call shows.
-use Rattle.std.proofs.Common.{◌≡◌, ◌≢◌, ℕ, ◌+◌, ◌-◌, ◌*◌, ◌/◌, ◌%◌, ◌^◌, ◌<◌, ◌≤◌, Bool, true, false, ◌==◌, if◌then◌else◌, Some, None, IfSome, List, [], length, map, take, drop, refl, sym, ap, ap₂, ◌∙◌, subst, arith, inl, inr, length-drop, Result, Ok, Err, OnOk}
+use Rattle.std.proofs.Common.{◌≡◌, ◌≢◌, ℕ, ◌+◌, ◌-◌, ◌*◌, ◌/◌, ◌%◌, ◌^◌, ◌<◌, ◌≤◌, Bool, true, false, ◌==◌, if◌then◌else◌, Some, None, IfSome, List, [], length, map, take, drop, refl, sym, ap, ap₂, ◌∙◌, subst, arith, length-drop, Result, Ok, Err}
 use Rattle.std.specs.declared.option.Option.{Option}
 use Rattle.std.specs.Prelude.{nat_lt}
 use Rattle.std.specs.List.{flat_map}
-use Rattle.std.specs.Io.KnownBytes.{Appends, IsAtEnd}
+use Rattle.std.specs.Io.KnownBytes.{Appends}
 use Rattle.std.proofs.KnownBytes.{Appends-nil}
-use Rattle.std.proofs.lemmas.Bool.{cases_Bool}
 use Rattle.std.proofs.lemmas.Bool.Decides.{nat_tests}
 use Rattle.std.proofs.lemmas.List.{length-map}
 use Rattle.cdg_io.specs.Moves.{AppendsPrefix}
@@ -23,18 +22,18 @@ use Rattle.rw_interleave.specs.Interleave.{whole_packs}
 use Rattle.raw_subcode.specs.Channels.{unit_size, block_of, symbols_of, program_symbols}
 use Rattle.raw_subcode.specs.declared.form.Form.{Form}
 use Rattle.stream_words.specs.Stream.{IsRecovered, bad_count}
-use Rattle.cdg_screen.specs.Picture.{Display, Standing, SameStanding, blank, standing_of, standing_after}
+use Rattle.cdg_screen.specs.Picture.{Standing, SameStanding, blank, standing_of, standing_after}
 use Rattle.cdg_screen.proofs.Turns.{same_after, same_then}
-use Rattle.subcode_player.specs.Calls.{most_units, IsEarly, IsPlayed, play_stop}
+use Rattle.subcode_player.specs.Calls.{most_units, IsEarly, play_stop}
 use Rattle.subcode_player.specs.Steps.{begun, slots_of, window_next, window_gives, words_next, words_give}
-use Rattle.subcode_player.specs.Drawn.{draw_after, drawing_next, drawing_gives}
+use Rattle.subcode_player.specs.Drawn.{draw_after, drawing_next}
 use Rattle.subcode_player.specs.Watch.{Watches}
 use Rattle.subcode_player.specs.Shown.{IsWrittenAt, IsViewed, IsShownBy, Shows, Views, viewed}
 use Rattle.subcode_player.specs.declared.words.BlockWords.{BlockWords}
 use Rattle.subcode_player.specs.declared.drawing.Drawing.{Drawing}
 use Rattle.subcode_player.specs.declared.player.Played.{Played}
 use Rattle.subcode_player.specs.declared.player.PlayStop.{PlayStop}
-use Rattle.subcode_player.specs.declared.player.PlayStop.TheVariants.{ReadFault, WriteFault, Torn, TooLong, PastEnd}
+use Rattle.subcode_player.specs.declared.player.PlayStop.TheVariants.{ReadFault, WriteFault, TooLong, PastEnd}
 use Rattle.subcode_player.proofs.Slots.{Sized, sized_drop, length-all_slots}
 use Rattle.subcode_player.proofs.FormWords.{words_from, found_in, recovered}
 use Rattle.subcode_player.proofs.PlayRuns.{block_words, gives_few}

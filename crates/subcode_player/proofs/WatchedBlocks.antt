@@ -6,13 +6,13 @@ use Rattle.cdg_io.specs.Run.{run_state}
 use Rattle.cdg_io.specs.Pump.{units_of, whole, Pumps}
 use Rattle.cdg_io.specs.declared.pumping.Pumped.{Pumped}
 use Rattle.cdg_io.specs.declared.pumping.PumpStop.{PumpStop}
-use Rattle.cdg_io.specs.declared.pumping.PumpStop.TheVariants.{WriteFault, Torn}
+use Rattle.cdg_io.specs.declared.pumping.PumpStop.TheVariants.{WriteFault}
 use Rattle.cdg_io.specs.declared.stage.Then.{Then}
 use Rattle.cdg_io.proofs.Units.{whole_within}
 use Rattle.cdg_io.proofs.Runs.{joined, joined_second}
 use Rattle.raw_subcode.specs.Channels.{unit_size, block_of}
 use Rattle.raw_subcode.specs.declared.form.Form.{Form}
-use Rattle.raw_subcode.specs.declared.form.Form.TheVariants.{Raw, Sector, Cooked}
+use Rattle.raw_subcode.specs.declared.form.Form.TheVariants.{Sector}
 use Rattle.subcode_player.specs.Calls.{most_units}
 use Rattle.subcode_player.specs.Watch.{Watches}
 use Rattle.subcode_player.specs.declared.sectors.SectorBlocks.{SectorBlocks}

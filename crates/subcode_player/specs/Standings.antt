@@ -1,5 +1,5 @@
 -- What stands on a screen as one value, whatever the origin of its memory.
-use Rattle.std.specs.Prelude.{ℕ, ◌∷◌, [], map}
+use Rattle.std.specs.Prelude.{◌∷◌, [], map}
 use Rattle.bit_lists.specs.Counting.{below}
 use Rattle.cdg_screen.specs.Picture.{Display, Standing, standing_of, standing_after}
 use Rattle.cdg_instructions.specs.declared.instr.Instr.{Instr}
