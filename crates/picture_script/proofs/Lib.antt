@@ -5,3 +5,4 @@ pub mod Numbers
 pub mod Drafts
 pub mod WordCounts
 pub mod Refusals
+pub mod Ranges

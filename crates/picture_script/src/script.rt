@@ -27,13 +27,23 @@ impl Model for Script {
 
 impl Script {
     ghost use Rattle.std.specs.Prelude.{◌≡◌, ◌<◌, ◌≤◌, ◌+◌, ◌++◌, ◌-◌, ℕ, List, [], ◌∷◌, length, take, slice_index, IfOk, OnOk, IsTrue};
-    ghost use Rattle.picture_script.specs.Script.{pictures, ready_time, hold_time, lines_before, Drawing, Show, Row};
+    ghost use Rattle.picture_script.specs.Script.{pictures, ready_time, hold_time, picture_pixel, picture_border, picture_colour, lines_before, Drawing, Show, Row};
     ghost use Rattle.picture_script.specs.Lines.{said};
 
     /// How many pictures it shows.
     pub fn pictures(&self) -> u32
         ensures value { result ≡ pictures self.now }
         ensures most { result ≤ 20000 }
+
+        // Each picture is held from its ready time on, and the next one is ready later.
+        ensures held { (k : ℕ) → k < pictures self.now → ready_time self.now k ≤ hold_time self.now k }
+        ensures later { (k : ℕ) → k + 1 < pictures self.now → hold_time self.now k < ready_time self.now (k + 1) }
+        ensures ends { (k : ℕ) → k < pictures self.now → hold_time self.now k < 450000 }
+
+        // The numbers of colours are below 16, and the colours of the table have twelve bits.
+        ensures pixels { (k x y : ℕ) → picture_pixel self.now k x y < 16 }
+        ensures borders { (k : ℕ) → picture_border self.now k < 16 }
+        ensures colours { (k n : ℕ) → picture_colour self.now k n < 4096 }
     {
         self.shown.len() as u32
     }

@@ -113,3 +113,10 @@ pub fn selections_are_the_only_ones()
     ensures makes { (pixels : List ℕ) (p : ℕ) → p < length pixels → let d = bit_xor (slice_index pixels 0) (slice_index pixels p) in combination (basis pixels) (selection (basis pixels) d) ≡ d }
     ensures only { (pixels : List ℕ) (chosen : ℕ) → chosen < 2 ^ length (basis pixels) → selection (basis pixels) (combination (basis pixels) chosen) ≡ chosen }
 {}
+
+/// The plan of each two tiles turns the one into the other, and no list of instructions of their place is shorter.
+pub fn plans_are_shortest()
+    ensures turns { (row column : ℕ) (old new : List ℕ) → row < 18 → column < 50 → IsTilePixels old → IsTilePixels new → Turns row column old new (plan row column old new) }
+    ensures count { (row column : ℕ) (old new : List ℕ) → row < 18 → column < 50 → IsTilePixels old → IsTilePixels new → length (plan row column old new) ≡ steps old new }
+    ensures least { (row column : ℕ) (old new : List ℕ) → row < 32 → column < 64 → IsTilePixels old → IsTilePixels new → IsLeast row column old new (steps old new) }
+{}
