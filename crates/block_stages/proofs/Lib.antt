@@ -1,1 +1,2 @@
 pub mod QRuns
+pub mod TurnRuns
