@@ -54,7 +54,7 @@ pub record IsReady (form : Form) (lead_in time : ℕ) (s : Drawings) : Type 0 wh
   pub bad : s.second.bad ≡ 0
   pub blank : SameStanding (standing_of s.second.picture) blank
 
-few_words : (form : Form) (lead_in : ℕ) (blocks : List (List ℕ)) → length blocks ≤ 1000000 → 0 + length (words_from form (flat_map slots_of (drop lead_in blocks))) < 2 ^ 32
+pub few_words : (form : Form) (lead_in : ℕ) (blocks : List (List ℕ)) → length blocks ≤ 1000000 → 0 + length (words_from form (flat_map slots_of (drop lead_in blocks))) < 2 ^ 32
 few_words form lead_in blocks few =
     omega (arith, few, gives_few (window_next form) (window_gives form) [] (flat_map slots_of (drop lead_in blocks)), length-all_slots (drop lead_in blocks), length-drop lead_in blocks)
 
@@ -75,7 +75,7 @@ drawn_blocks form lead_in time s blocks ready few =
       counted = drawn.counted ∙ omega arith;
     })
 
-recovered_units : (form : Form) (lead_in : ℕ) (bytes : List ℕ) (units : List (List ℕ)) → units_of (unit_size form) (length bytes / unit_size form) bytes ≡ units → Sized (unit_size form) units
+pub recovered_units : (form : Form) (lead_in : ℕ) (bytes : List ℕ) (units : List (List ℕ)) → units_of (unit_size form) (length bytes / unit_size form) bytes ≡ units → Sized (unit_size form) units
     → IsRecovered form (program_symbols form bytes lead_in) (found_in form (program form lead_in units))
 recovered_units form lead_in bytes units same sized =
     subst (λ (us : List (List ℕ)). IsRecovered form (flat_map symbols_of (program form lead_in us)) (found_in form (program form lead_in units))) (sym same)
@@ -100,7 +100,7 @@ viewed_bytes form lead_in time s bytes n end ready few whole_units e =
 
 -- ---- the answers
 
-whole_taken : (form : Form) (n : ℕ) (bytes : List ℕ) → length bytes ≡ n * unit_size form → IsWhole (unit_size form) n bytes
+pub whole_taken : (form : Form) (n : ℕ) (bytes : List ℕ) → length bytes ≡ n * unit_size form → IsWhole (unit_size form) n bytes
 whole_taken form n bytes e = record { fits = omega (arith, e); rest = omega (arith, e, unit_some form) }
 
 module _ (form : Form) (lead_in time : ℕ) (left left' : Option (List ℕ)) (taken : List ℕ) where
@@ -232,31 +232,31 @@ done_result pumped = Ok pumped
 abbrev stop_result : PumpStop → Result Pumped PumpStop
 stop_result stop = Err stop
 
-done_tests : (over whole : Bool) (n : ℕ) (pumped : Pumped) → done_result pumped ≡ by_tests over whole n → (over ≡ false) × (whole ≡ true) × (pumped.units ≡ n)
+pub done_tests : (over whole : Bool) (n : ℕ) (pumped : Pumped) → done_result pumped ≡ by_tests over whole n → (over ≡ false) × (whole ≡ true) × (pumped.units ≡ n)
 done_tests true whole n pumped e = absurd (cc)
 done_tests false true n pumped e = let same : pumped ≡ record { units = n } = cc in (refl, refl, ap (λ (p : Pumped). p.units) same)
 done_tests false false n pumped e = absurd (cc)
 
-torn_tests : (over whole : Bool) (n unit : ℕ) → stop_result (pump_stop.Torn unit) ≡ by_tests over whole n → (over ≡ false) × (whole ≡ false) × (unit ≡ n)
+pub torn_tests : (over whole : Bool) (n unit : ℕ) → stop_result (pump_stop.Torn unit) ≡ by_tests over whole n → (over ≡ false) × (whole ≡ false) × (unit ≡ n)
 torn_tests true whole n unit e = absurd (cc)
 torn_tests false true n unit e = absurd (cc)
 torn_tests false false n unit e = (refl, refl, (cc))
 
-long_tests : (over whole : Bool) (n : ℕ) → stop_result pump_stop.TooLong ≡ by_tests over whole n → over ≡ true
+pub long_tests : (over whole : Bool) (n : ℕ) → stop_result pump_stop.TooLong ≡ by_tests over whole n → over ≡ true
 long_tests true whole n e = refl
 long_tests false true n e = absurd (cc)
 long_tests false false n e = absurd (cc)
 
-not_over : (a b : ℕ) → nat_lt a b ≡ false → b ≤ a
+pub not_over : (a b : ℕ) → nat_lt a b ≡ false → b ≤ a
 not_over a b e = grind (arith, nat_tests)
 
-is_over : (a b : ℕ) → nat_lt a b ≡ true → a < b
+pub is_over : (a b : ℕ) → nat_lt a b ≡ true → a < b
 is_over a b e = grind (arith, nat_tests)
 
-zero_rest : (n : ℕ) → (n == 0) ≡ true → n ≡ 0
+pub zero_rest : (n : ℕ) → (n == 0) ≡ true → n ≡ 0
 zero_rest n e = grind (arith, nat_tests)
 
-some_rest : (n : ℕ) → (n == 0) ≡ false → n ≢ 0
+pub some_rest : (n : ℕ) → (n == 0) ≡ false → n ≢ 0
 some_rest n e = grind (arith, nat_tests)
 
 shown_by : (past : Bool) (lead_in time size len units bad : ℕ) → nat_lt (units - lead_in) time ≡ past → len ≤ most_units * size → len % size ≡ 0 → units ≡ len / size

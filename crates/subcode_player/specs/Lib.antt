@@ -7,3 +7,5 @@ pub mod Drawn
 pub mod Shown
 pub mod Watch
 pub mod Pictured
+pub mod Counts
+pub mod CountSteps

@@ -1,8 +1,10 @@
 //! A player of subcode streams: it reads blocks, gathers and corrects packs, and writes them.
 #![tactic(auto)]
 
+mod checking;
 mod converting;
 mod correction;
+mod counting;
 mod drawing;
 mod picture;
 mod pictures;
@@ -14,6 +16,7 @@ mod watching;
 mod words;
 
 pub use correction::Correction;
+pub use counting::{Counting, FrameCounts, WordCounts};
 pub use drawing::Drawing;
 pub use picture::Picture;
 pub use pictures::screens_show_pictures;

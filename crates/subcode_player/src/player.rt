@@ -3,7 +3,7 @@ ghost use Rattle.std.specs.Prelude.{◌≡◌, ◌-◌, IfOk};
 ghost use Rattle.subcode_player.specs.Calls.{play_stop};
 ghost use Rattle.subcode_player.specs.Steps.{begun};
 
-use crate::{BlockWords, Correction, Drawing, Form, Picture, SectorBlocks};
+use crate::{BlockWords, Correction, Counting, Drawing, Form, Picture, SectorBlocks};
 use cdg_io::{PumpStop, Pumped, Then};
 use std::alloc::{AllocError, Global};
 use thiserror::Error;
@@ -44,6 +44,8 @@ pub struct Player {
     pub stages: Then<SectorBlocks, Then<BlockWords, Correction>>,
     /// The picture at a moment of a stream.
     pub views: Then<SectorBlocks, Then<BlockWords, Drawing>>,
+    /// The counts of a stream.
+    pub checks: Then<SectorBlocks, Counting>,
 }
 
 impl Player {
@@ -62,6 +64,7 @@ impl Player {
                 Then::new(BlockWords::start(alloc)?, Correction { bad: 0 }),
             ),
             views: Then::new(SectorBlocks, Then::new(BlockWords::start(alloc)?, drawing)),
+            checks: Then::new(SectorBlocks, Counting::start(alloc)?),
         })
     }
 

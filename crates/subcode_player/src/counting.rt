@@ -1,0 +1,171 @@
+// Counts of words, packs and frames.
+ghost use Rattle.std.specs.Prelude.{◌≡◌, ◌≤◌, ◌+◌, ◌++◌, ◌==◌, length, Some, None, IfOk};
+ghost use Rattle.rw_code.specs.Codeword.{IsWord, differences};
+ghost use Rattle.subcode_player.specs.Steps.{begun};
+ghost use Rattle.subcode_player.specs.Counts.{is_known};
+ghost use Rattle.subcode_player.specs.CountSteps.{tick, wrong_counted, kind_counted, count_found, count_next, counts_next, counts_give, frames_next, counting_next, counting_gives};
+
+use crate::words::BLOCK;
+use crate::{BlockWords, Form};
+use arrayvec::ArrayVec;
+use cdg_io::{Piece, Stage, Then};
+use q_channel::decode;
+use raw_subcode::Block;
+use rw_code::{Fixed, Word, correct};
+use std::alloc::{AllocError, Global};
+
+/// The words of a stream by their wrong symbols, and those that are not bad by their kind.
+#[derive(Clone, Copy, Debug, PartialEq, Eq, Default)]
+pub struct WordCounts {
+    pub clean: u32,
+    pub one: u32,
+    pub two: u32,
+    pub bad: u32,
+    pub idle: u32,
+    pub graphics: u32,
+    pub unknown: u32,
+    pub foreign: u32,
+}
+
+/// The frames of the Q channel, where they are read.
+#[derive(Clone, Copy, Debug, PartialEq, Eq, Default)]
+pub struct FrameCounts {
+    pub read: bool,
+    pub good: u32,
+    pub bad: u32,
+}
+
+/// Counts the frames of all blocks, and the words of those of the program.
+#[derive(Drop)]
+pub struct Counting {
+    pub frames: FrameCounts,
+    pub words: Then<BlockWords, WordCounts>,
+}
+
+/// Counts one more, up to the last value.
+#[tactic(auto, unfolding(crate::specs::CountSteps::tick))]
+fn tick(count: &mut u32, hit: bool)
+    ensures { count.new ≡ tick hit count.old }
+{
+    if hit {
+        *count = count.saturating_add(1);
+    }
+}
+
+/// Whether this number names a graphics instruction.
+fn is_known(code: u8) -> bool
+    ensures { result ≡ is_known code }
+{
+    [1, 2, 6, 20, 24, 28, 30, 31, 38]
+        .iter()
+        .any(|known| *known == code)
+}
+
+impl WordCounts {
+    /// Counts a word by what is found for it.
+    fn count(&mut self, word: &Word)
+        ensures { self.new ≡ count_next self.old word.now }
+    {
+        match correct(word) {
+            Some(fixed) => self.count_fixed(&fixed, word),
+            None => self.count_bad(word),
+        }
+    }
+
+    /// Counts a word that is near a codeword.
+    fn count_fixed(&mut self, fixed: &Fixed, word: &Word)
+        requires { fixed.now.wrong ≡ differences word.now fixed.now.pack }
+        ensures { self.new ≡ count_found self.old word.now (Some fixed.now.pack) }
+    {
+        let symbols = fixed.pack.word();
+        self.count_wrong(fixed.wrong);
+        self.count_kind(symbols.get(0).value(), symbols.get(1).value());
+    }
+
+    /// Counts a word by the number of its wrong symbols.
+    fn count_wrong(&mut self, wrong: u8)
+        ensures { self.new ≡ wrong_counted self.old wrong }
+    {
+        tick(&mut self.clean, wrong == 0);
+        tick(&mut self.one, wrong == 1);
+        tick(&mut self.two, wrong == 2);
+    }
+
+    /// Counts a pack by its first two symbols.
+    fn count_kind(&mut self, mode: u8, code: u8)
+        ensures { self.new ≡ kind_counted self.old mode code }
+    {
+        let known = is_known(code);
+        tick(&mut self.idle, mode == 0);
+        tick(&mut self.graphics, mode == 9 && known);
+        tick(&mut self.unknown, mode == 9 && !known);
+        tick(&mut self.foreign, !(mode == 0 || mode == 9));
+    }
+
+    /// Counts a word with no codeword near.
+    #[tactic(auto, unfolding(crate::specs::CountSteps::count_found, crate::specs::CountSteps::tick))]
+    fn count_bad(&mut self, word: &Word)
+        ensures { self.new ≡ count_found self.old word.now None }
+    {
+        self.bad = self.bad.saturating_add(1);
+    }
+}
+
+impl Stage for WordCounts {
+    type Item = ArrayVec<Word, 4>;
+
+    type Out = Piece;
+
+    ghost next = { counts_next };
+
+    ghost gives = { counts_give };
+
+    fn feed(&mut self, words: &ArrayVec<Word, 4>) -> Option<Piece> {
+        for word in words.as_slice() {
+            self.count(word);
+        }
+        None
+    }
+}
+
+impl FrameCounts {
+    /// Counts the frame of a block, where frames are read.
+    #[tactic(auto, unfolding(crate::specs::CountSteps::frames_next))]
+    fn count(&mut self, block: &[u8; BLOCK])
+        ensures { self.new ≡ frames_next self.old block.now }
+    {
+        if self.read {
+            let is_good = decode(&Block::from_bytes(block).q_frame()).is_ok();
+            tick(&mut self.good, is_good);
+            tick(&mut self.bad, !is_good);
+        }
+    }
+}
+
+impl Counting {
+    /// Counts of no stream yet.
+    pub(crate) fn start(alloc: Global) -> Result<Counting, AllocError>
+        ensures { IfOk result (λ c. c.words.first ≡ begun Form.Raw 0) }
+    {
+        Ok(Counting {
+            frames: FrameCounts::default(),
+            words: Then::new(BlockWords::start(alloc)?, WordCounts::default()),
+        })
+    }
+}
+
+impl Stage for Counting {
+    type Item = [u8; BLOCK];
+
+    type Out = Piece;
+
+    ghost next = { counting_next };
+
+    ghost gives = { counting_gives };
+
+    #[tactic(auto, unfolding(crate::specs::CountSteps::counting_next, crate::specs::CountSteps::counting_gives))]
+    fn feed(&mut self, block: &[u8; BLOCK]) -> Option<Piece> {
+        self.frames.count(block);
+        self.words.feed(block)
+    }
+}
