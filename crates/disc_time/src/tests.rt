@@ -1,6 +1,6 @@
 use super::*;
 
-// The check of the ASCII digits 1 to 9 is that of the catalogue of checks (CRC-16/GENIBUS).
+// The check of the ASCII digits 1 to 9 is that of the catalogue of checks (CRC-16/GSM).
 #[test]
 fn checks(rt: HostRuntime) {
     assert_eq!(rt; crc16(b"123456789"), 0xce3c);
