@@ -1,1 +1,3 @@
 pub mod Readers
+pub mod Good
+pub mod Reading

@@ -97,4 +97,4 @@ pub record IsSheet (sheet : CueSheet) : Type 0 where
   pub tracks : (k : ℕ) → k < length sheet.tracks → IsTrack (track_of sheet k)
   pub next : (k : ℕ) → k < length sheet.tracks → (track_of sheet k).number ≡ (track_of sheet 0).number + k
   pub order : (j k i : ℕ) → j < k → k < length sheet.tracks → i < length (track_of sheet j).indices
-    → (index_line_of (track_of sheet j) i).1 ≤ (index_line_of (track_of sheet k) 0).1
+      → (index_line_of (track_of sheet j) i).1 ≤ (index_line_of (track_of sheet k) 0).1

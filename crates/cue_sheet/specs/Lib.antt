@@ -1,2 +1,5 @@
 pub mod CueSheet
 pub mod Views
+pub mod Lines
+pub mod Grammar
+pub mod Steps

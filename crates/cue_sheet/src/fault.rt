@@ -42,6 +42,17 @@ pub enum CueStop {
     NoMemory,
 }
 
+impl From<AllocError> for CueStop {
+    ghost use Rattle.std.specs.Prelude.{◌≡◌};
+    ghost use Rattle.cue_sheet.specs.declared.fault.CueStop.TheVariants.{NoMemory};
+
+    ghost from_gives = { λ _ e. e ≡ NoMemory };
+
+    fn from(_error: AllocError) -> CueStop {
+        CueStop::NoMemory
+    }
+}
+
 /// The kinds of texts of a sheet.
 #[derive(Clone, Copy, PartialEq, Eq, Debug)]
 pub enum CueText {

@@ -1,7 +1,11 @@
 //! Cue sheets of Compact Discs: what a sheet says of the album and its tracks, or its first line that is refused and why.
 #![tactic(auto)]
 
+mod argument;
+mod command;
+mod draft;
 mod fault;
+mod line;
 mod section;
 mod sheet;
 

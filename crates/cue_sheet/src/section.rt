@@ -3,6 +3,8 @@ ghost use Rattle.std.specs.Prelude.{◌≡◌, [], unwrap_or};
 ghost use Rattle.std.specs.Option.{option_map};
 
 use crate::fault::CueText;
+use crate::line::Line;
+use std::alloc::Global;
 
 /// What the lines of one track say, or those before the first track. A line that may stand once is kept in an `Option`.
 #[derive(Drop)]
@@ -27,6 +29,59 @@ pub(crate) struct Track {
 
 impl Section {
     ghost use Rattle.cue_sheet.specs.Views.{section_of, section_text};
+    ghost use Rattle.cue_sheet.specs.Grammar.{section_said, has_index_one, follows_index, is_repeated};
+    ghost use Rattle.cue_sheet.specs.Steps.{said};
+
+    /// Nothing said.
+    pub(crate) fn new(alloc: Global) -> Section
+        ensures { section_of result ≡ section_said [] }
+    {
+        Section {
+            catalogue: None,
+            title: None,
+            performer: None,
+            songwriter: None,
+            control: None,
+            isrc: None,
+            pregap: None,
+            postgap: None,
+            indices: Vec::new(alloc),
+        }
+    }
+
+    /// Whether there is an index line of number 1.
+    pub(crate) fn has_index_one(&self) -> bool
+        ensures { result ≡ has_index_one (section_of self.now) }
+    {
+        self.indices.iter().any(|line| line.0 == 1)
+    }
+
+    /// Whether an index line of that number may come next.
+    pub(crate) fn follows(&self, number: u8) -> bool
+        ensures { result ≡ follows_index self.now.indices.items number }
+    {
+        match self.indices.first() {
+            Some(first) => usize::from(number) == usize::from(first.0) + self.indices.len(),
+            None => number <= 1,
+        }
+    }
+
+    /// Whether a line that may stand once stands here already.
+    pub(crate) fn is_repeated(&self, line: &Line<'_>) -> bool
+        ensures { result ≡ is_repeated (section_of self.now) (said line.now) }
+    {
+        match line {
+            Line::Catalogue(_) => self.catalogue.is_some(),
+            Line::Title(_) => self.title.is_some(),
+            Line::Performer(_) => self.performer.is_some(),
+            Line::Songwriter(_) => self.songwriter.is_some(),
+            Line::Flags(_) => self.control.is_some(),
+            Line::Isrc(_) => self.isrc.is_some(),
+            Line::Pregap(_) => self.pregap.is_some(),
+            Line::Postgap(_) => self.postgap.is_some(),
+            _ => false,
+        }
+    }
 
     /// A text, empty where it is not given.
     pub(crate) fn text(&self, kind: CueText) -> &[u8]

@@ -3,9 +3,12 @@ ghost use Rattle.std.specs.Prelude.{◌≡◌, ◌≤◌, ◌<◌, length, optio
 ghost use Rattle.cue_sheet.specs.CueSheet.{CueSheet, IsSheet, track_of, text_at, index_line_of};
 ghost use Rattle.cue_sheet.specs.Views.{sheet_value};
 
-use crate::fault::CueText;
+use crate::draft::Draft;
+use crate::fault::{CueStop, CueText};
 use crate::section::{Section, Track};
+use std::alloc::Global;
 use std::marker::Model;
+use text_lines::{next_line, without_mark};
 
 /// What a cue sheet says of an album and its tracks, of which there are 1 to 99.
 #[derive(Drop)]
@@ -23,6 +26,36 @@ impl Model for Sheet {
 }
 
 impl Sheet {
+    ghost use Rattle.cue_sheet.specs.Grammar.{read_cue};
+    ghost use Rattle.cue_sheet.specs.Steps.{IsCueAnswer};
+
+    /// What the text of a cue sheet says, or its first line that is refused. The text is read once, from front to
+    /// end, and nothing is copied but the texts that the sheet keeps.
+    pub fn parse(alloc: Global, text: &[u8]) -> Result<Sheet, CueStop>
+        requires { length text.now ≤ 67108864 }
+        ensures { IsCueAnswer (read_cue text.now) result }
+    {
+        let mut draft = Draft::new(alloc);
+        let mut rest = without_mark(text);
+        let mut number = 1u32;
+        while let Some((line, after)) = next_line(rest) {
+            draft.take(alloc, number, line)?;
+            number += 1;
+            rest = after;
+        }
+        if let Some(why) = draft.end_reason() {
+            return Err(CueStop::Fault { line: number, why });
+        }
+        Ok(draft.finish()?)
+    }
+
+    pub(crate) fn new(album: Section, tracks: Vec<Track>) -> Sheet
+        requires { IsSheet (sheet_value album tracks.items) }
+        ensures { result ≡ sheet_value album tracks.items }
+    {
+        Sheet { album, tracks }
+    }
+
     /// The number of tracks, 1 to 99.
     pub fn tracks(&self) -> usize
         ensures count { result ≡ length self.now.tracks }

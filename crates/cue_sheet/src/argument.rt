@@ -1,0 +1,299 @@
+// The arguments of commands.
+ghost use Rattle.std.specs.Prelude.{◌≡◌, ◌≤◌, ◌<◌, ◌||◌, ℕ, IfSome, IsTrue, length, option_map, option_copied};
+ghost use Rattle.std.specs.List.{list_all, position};
+ghost use Rattle.std.specs.Char.{is_ascii_digit, is_ascii_uppercase};
+ghost use Rattle.text_lines.specs.Text.{words_in};
+ghost use Rattle.cue_sheet.specs.CueSheet.{IsText, is_catalogue_number, is_capital_code};
+ghost use Rattle.cue_sheet.specs.Lines.{IsInRange, begins_quoted, catalogue_argument, code_argument, flags_argument, index_argument, is_file, is_flag, is_plain, is_quote, names_flag, plain, quoted, said_by, text_argument, track_argument};
+ghost use Rattle.cue_sheet.specs.Steps.{said};
+
+use crate::command::{Command, is_word};
+use crate::line::Line;
+use text_lines::{next_word, time, two_digits};
+
+/// What a command says with its argument, if that is spelled as it must be.
+pub(crate) fn spelled(command: Command, argument: &[u8]) -> Option<Line<'_>>
+    requires { length argument.now ≤ 67108864 }
+    ensures line { option_map said result ≡ said_by command argument.now }
+    ensures range { IfSome result (λ line. IsInRange (said line)) }
+{
+    match command {
+        Command::Remark => Some(Line::Remark),
+        Command::Catalogue => Some(Line::Catalogue(catalogue(argument)?)),
+        Command::File => {
+            if !is_file(argument) {
+                return None;
+            }
+            Some(Line::File)
+        }
+        Command::Title => Some(Line::Title(text(argument)?)),
+        Command::Performer => Some(Line::Performer(text(argument)?)),
+        Command::Songwriter => Some(Line::Songwriter(text(argument)?)),
+        Command::Track => {
+            let (number, audio) = track(argument)?;
+            Some(Line::Track { number, audio })
+        }
+        Command::Flags => Some(Line::Flags(flags(argument)?)),
+        Command::Isrc => Some(Line::Isrc(code(argument)?)),
+        Command::Pregap => Some(Line::Pregap(time(argument)?)),
+        Command::Index => {
+            let (number, time) = index(argument)?;
+            Some(Line::Index { number, time })
+        }
+        Command::Postgap => Some(Line::Postgap(time(argument)?)),
+    }
+}
+
+// The bytes, if they hold no control byte.
+#[tactic(auto, unfolding(crate::specs::Lines::plain))]
+fn plain(text: &[u8]) -> Option<&[u8]>
+    requires { length text.now ≤ 67108864 }
+    ensures text { option_copied result ≡ plain text.now }
+    ensures range { IfSome result (λ s. IsText s.now) }
+{
+    if !are_plain(text) {
+        return None;
+    }
+    Some(text)
+}
+
+fn are_plain(text: &[u8]) -> bool
+    ensures { result ≡ list_all is_plain text.now }
+{
+    text.iter().all(|byte| is_plain(*byte))
+}
+
+fn is_plain(byte: u8) -> bool
+    ensures { result ≡ is_plain byte }
+{
+    byte >= 32 && byte != 127
+}
+
+fn begins_quoted(argument: &[u8]) -> bool
+    ensures { result ≡ begins_quoted argument.now }
+{
+    !argument.is_empty() && argument[0] == b'"'
+}
+
+// Of an argument that begins with a quote, what stands up to the next one, and what follows that.
+#[tactic(auto, unfolding(crate::specs::Lines::quoted))]
+fn quoted(argument: &[u8]) -> Option<(&[u8], &[u8])>
+    requires { 0 < length argument.now }
+    ensures parts { option_map (λ parts. (parts.0.now, parts.1.now)) result ≡ quoted argument.now }
+    ensures length { IfSome result (λ parts. length parts.0.now ≤ length argument.now) }
+{
+    let (_, rest) = argument.split_at(1);
+    let end = closing_quote(rest)?;
+    let (inside, _) = rest.split_at(end);
+    let (_, after) = rest.split_at(end + 1);
+    Some((inside, after))
+}
+
+fn closing_quote(text: &[u8]) -> Option<usize>
+    ensures place { result ≡ position is_quote text.now }
+    ensures bound { IfSome result (λ end. end < length text.now) }
+{
+    text.iter().position(|byte| *byte == b'"')
+}
+
+// A text: in quotes, with nothing after them, or as it stands and not empty.
+#[tactic(auto, unfolding(crate::specs::Lines::text_argument))]
+fn text(argument: &[u8]) -> Option<&[u8]>
+    requires { length argument.now ≤ 67108864 }
+    ensures text { option_copied result ≡ text_argument argument.now }
+    ensures range { IfSome result (λ s. IsText s.now) }
+{
+    if begins_quoted(argument) {
+        let (inside, after) = quoted(argument)?;
+        if !after.is_empty() {
+            return None;
+        }
+        return plain(inside);
+    }
+    if argument.is_empty() {
+        return None;
+    }
+    plain(argument)
+}
+
+// A file: a name in quotes and then one word, or two or more words.
+#[tactic(auto, unfolding(crate::specs::Lines::is_file))]
+fn is_file(argument: &[u8]) -> bool
+    ensures { result ≡ is_file argument.now }
+{
+    if begins_quoted(argument) {
+        return match quoted(argument) {
+            Some((_, after)) => word_count(after) == 1,
+            None => false,
+        };
+    }
+    word_count(argument) >= 2
+}
+
+// The number of words.
+fn word_count(line: &[u8]) -> usize
+    ensures { result ≡ length (words_in line.now) }
+{
+    let mut rest = line;
+    let mut count = 0;
+    while let Some((_, after)) = next_word(rest) {
+        count += 1;
+        rest = after;
+    }
+    count
+}
+
+// A catalogue number, 13 digits.
+#[tactic(auto, unfolding(crate::specs::Lines::catalogue_argument))]
+fn catalogue(argument: &[u8]) -> Option<[u8; 13]>
+    ensures number { result ≡ catalogue_argument argument.now }
+    ensures range { IfSome result (λ digits. IsTrue (is_catalogue_number digits)) }
+{
+    if argument.len() != 13 || !are_digits(argument) {
+        return None;
+    }
+    let mut digits = [0; 13];
+    digits.copy_from_slice(argument);
+    Some(digits)
+}
+
+// A track's code, its letters as capital ones.
+#[tactic(auto, unfolding(crate::specs::Lines::code_argument))]
+fn code(argument: &[u8]) -> Option<[u8; 12]>
+    ensures code { result ≡ code_argument argument.now }
+    ensures range { IfSome result (λ code. IsTrue (is_capital_code code)) }
+{
+    if argument.len() != 12 {
+        return None;
+    }
+    let mut code = [0; 12];
+    code.copy_from_slice(argument);
+    code.make_ascii_uppercase();
+    if !is_code(&code) {
+        return None;
+    }
+    Some(code)
+}
+
+fn is_code(code: &[u8; 12]) -> bool
+    ensures { result ≡ is_capital_code code.now }
+{
+    let (letters, rest) = code.split_at(2);
+    let (owner, _) = rest.split_at(3);
+    let (_, digits) = code.split_at(5);
+    if !are_capitals(letters) {
+        return false;
+    }
+    if !are_capitals_or_digits(owner) {
+        return false;
+    }
+    are_digits(digits)
+}
+
+fn are_digits(text: &[u8]) -> bool
+    ensures { result ≡ list_all is_ascii_digit text.now }
+{
+    text.iter().all(|byte| byte.is_ascii_digit())
+}
+
+fn are_capitals(text: &[u8]) -> bool
+    ensures { result ≡ list_all is_ascii_uppercase text.now }
+{
+    text.iter().all(|byte| byte.is_ascii_uppercase())
+}
+
+fn are_capitals_or_digits(text: &[u8]) -> bool
+    ensures { result ≡ list_all (λ c. is_ascii_digit c || is_ascii_uppercase c) text.now }
+{
+    text.iter().all(|byte| is_capital_or_digit(*byte))
+}
+
+fn is_capital_or_digit(byte: u8) -> bool
+    ensures { result ≡ is_ascii_digit byte || is_ascii_uppercase byte }
+{
+    byte.is_ascii_digit() || byte.is_ascii_uppercase()
+}
+
+// A track's number, and whether its type is AUDIO.
+fn track(argument: &[u8]) -> Option<(u8, bool)>
+    ensures track { result ≡ track_argument (words_in argument.now) }
+    ensures range { IfSome result (λ t. (1 ≤ t.0) × (t.0 ≤ 99)) }
+{
+    let (number, rest) = next_word(argument)?;
+    let (kind, rest) = next_word(rest)?;
+    if next_word(rest).is_some() {
+        return None;
+    }
+    let number = two_digits(number)?;
+    if number == 0 {
+        return None;
+    }
+    Some((number, is_word(kind, b"AUDIO")))
+}
+
+// An index line's number and time.
+fn index(argument: &[u8]) -> Option<(u8, u32)>
+    ensures line { result ≡ index_argument (words_in argument.now) }
+    ensures range { IfSome result (λ line. (line.0 ≤ 99) × (line.1 < 450000)) }
+{
+    let (number, rest) = next_word(argument)?;
+    let (at, rest) = next_word(rest)?;
+    if next_word(rest).is_some() {
+        return None;
+    }
+    let number = two_digits(number)?;
+    let at = time(at)?;
+    Some((number, at))
+}
+
+// The control bits of flags.
+#[tactic(auto, unfolding(crate::specs::Lines::flags_argument))]
+fn flags(argument: &[u8]) -> Option<u8>
+    ensures control { result ≡ flags_argument (words_in argument.now) }
+    ensures range { IfSome result (λ control. control < 16) }
+{
+    if next_word(argument).is_none() {
+        return None;
+    }
+    if !are_flags(argument) {
+        return None;
+    }
+    let four_channels = 8 * u8::from(names_flag(argument, b"4CH"));
+    let copy = 2 * u8::from(names_flag(argument, b"DCP"));
+    Some(four_channels + copy + u8::from(names_flag(argument, b"PRE")))
+}
+
+fn are_flags(argument: &[u8]) -> bool
+    ensures { result ≡ list_all is_flag (words_in argument.now) }
+{
+    let mut rest = argument;
+    while let Some((word, after)) = next_word(rest) {
+        if !is_flag(word) {
+            return false;
+        }
+        rest = after;
+    }
+    true
+}
+
+fn is_flag(word: &[u8]) -> bool
+    ensures { result ≡ is_flag word.now }
+{
+    word == b"4CH".as_slice()
+        || word == b"DCP".as_slice()
+        || word == b"PRE".as_slice()
+        || word == b"SCMS".as_slice()
+}
+
+fn names_flag(argument: &[u8], flag: &[u8]) -> bool
+    ensures { result ≡ names_flag flag.now (words_in argument.now) }
+{
+    let mut rest = argument;
+    while let Some((word, after)) = next_word(rest) {
+        if word == flag {
+            return true;
+        }
+        rest = after;
+    }
+    false
+}

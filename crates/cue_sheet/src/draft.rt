@@ -1,0 +1,249 @@
+// What the lines of a cue sheet so far say.
+ghost use Rattle.std.specs.Prelude.{◌≡◌, ◌≤◌, [], ◌++◌, true, length, IfOk, MatchResult};
+ghost use Rattle.cue_sheet.specs.Grammar.{CueState, track_with};
+ghost use Rattle.cue_sheet.specs.Views.{section_of, track_value};
+ghost use Rattle.std.specs.Prelude.{map};
+
+use crate::argument::spelled;
+use crate::command::Command;
+use crate::fault::{CueStop, CueWhy};
+use crate::line::Line;
+use crate::section::{Section, Track};
+use crate::sheet::Sheet;
+use std::alloc::{AllocError, Global};
+use std::marker::Model;
+use std::mem;
+use text_lines::{split_command, trim};
+
+/// What the lines so far say. `section` has the lines of the last track, or those before the first one.
+#[derive(Drop)]
+pub(crate) struct Draft {
+    has_file: bool,
+    latest: u32,
+    album: Section,
+    tracks: Vec<Track>,
+    number: Option<u8>,
+    section: Section,
+}
+
+impl Model for Draft {
+    ghost Value = { CueState };
+
+    ghost view = { λ d. record {
+      has_file = d.has_file;
+      latest = d.latest;
+      album = section_of d.album;
+      tracks = map track_value d.tracks.items;
+      number = d.number;
+      section = section_of d.section;
+    } };
+}
+
+impl Draft {
+    ghost use Rattle.cue_sheet.specs.Grammar.{state_of, is_second_file, is_placed, is_repeated, follows_number, follows_index, lacks_index, has_index_one, later_reason, end_reason, sheet_said};
+    ghost use Rattle.cue_sheet.specs.CueSheet.{IsSheet};
+    ghost use Rattle.cue_sheet.specs.Steps.{after, said, IsChecked, TakesLine, RefusesLine};
+    ghost use Rattle.cue_sheet.specs.Lines.{SaysTrack, SaysIndex, command_named};
+    ghost use Rattle.text_lines.specs.Text.{first_word, argument_of};
+
+    /// Nothing said yet.
+    pub(crate) fn new(alloc: Global) -> Draft
+        ensures { result ≡ state_of [] }
+    {
+        Draft {
+            has_file: false,
+            latest: 0,
+            album: Section::new(alloc),
+            tracks: Vec::new(alloc),
+            number: None,
+            section: Section::new(alloc),
+        }
+    }
+
+    /// Whether a command is a FILE after a FILE.
+    pub(crate) fn is_second_file(&self, command: Command) -> bool
+        ensures { result ≡ is_second_file self.now command }
+    {
+        match command {
+            Command::File => self.has_file,
+            _ => false,
+        }
+    }
+
+    /// Whether a command may stand here.
+    pub(crate) fn is_placed(&self, command: Command) -> bool
+        ensures { result ≡ is_placed self.now command }
+    {
+        match command {
+            Command::Catalogue => self.number.is_none(),
+            Command::Track => self.has_file,
+            Command::Flags | Command::Isrc => self.number.is_some(),
+            Command::Pregap => self.number.is_some() && self.section.indices.is_empty(),
+            Command::Index => self.number.is_some() && self.section.postgap.is_none(),
+            Command::Postgap => self.number.is_some() && self.section.has_index_one(),
+            _ => true,
+        }
+    }
+
+    /// Why a line that is spelled and placed well is refused.
+    #[tactic(auto, unfolding(crate::specs::Grammar::later_reason))]
+    pub(crate) fn later_reason(&self, line: &Line<'_>) -> Option<CueWhy>
+        ensures { result ≡ later_reason self.now (said line.now) }
+    {
+        match line {
+            Line::Track { number, audio } => self.track_reason(*number, *audio),
+            Line::Index { number, time } => self.index_reason(*number, *time),
+            _ if self.section.is_repeated(line) => Some(CueWhy::Repeated),
+            _ => None,
+        }
+    }
+
+    #[tactic(auto, unfolding(crate::specs::Grammar::later_reason))]
+    fn track_reason(&self, number: u8, audio: bool) -> Option<CueWhy>
+        ensures { result ≡ later_reason self.now (SaysTrack number audio) }
+    {
+        if self.number.is_some() && !self.section.has_index_one() {
+            return Some(CueWhy::NoIndex);
+        }
+        if !audio {
+            return Some(CueWhy::NotAudio);
+        }
+        match self.number {
+            Some(last) if usize::from(number) != usize::from(last) + 1 => Some(CueWhy::NumberOrder),
+            _ => None,
+        }
+    }
+
+    #[tactic(auto, unfolding(crate::specs::Grammar::later_reason))]
+    fn index_reason(&self, number: u8, time: u32) -> Option<CueWhy>
+        ensures { result ≡ later_reason self.now (SaysIndex number time) }
+    {
+        if !self.section.follows(number) {
+            return Some(CueWhy::IndexOrder);
+        }
+        if time < self.latest {
+            return Some(CueWhy::TimeOrder);
+        }
+        None
+    }
+
+    /// Why the sheet may not end here.
+    pub(crate) fn end_reason(&self) -> Option<CueWhy>
+        ensures { result ≡ end_reason self.now }
+    {
+        if !self.has_file {
+            Some(CueWhy::NoFile)
+        } else if self.number.is_none() {
+            Some(CueWhy::NoTrack)
+        } else if self.section.has_index_one() {
+            None
+        } else {
+            Some(CueWhy::NoIndex)
+        }
+    }
+
+    /// What a trimmed line says that is not empty, or the first reason for which it is refused.
+    pub(crate) fn checked<'a>(&self, line: &'a [u8]) -> Result<Line<'a>, CueWhy>
+        requires { length line.now ≤ 67108864 }
+        ensures { IsChecked self.now (command_named (first_word line.now)) (argument_of line.now) result }
+    {
+        let (word, argument) = split_command(line);
+        let Some(command) = Command::named(word) else {
+            return Err(CueWhy::UnknownCommand);
+        };
+        if self.is_second_file(command) {
+            return Err(CueWhy::SecondFile);
+        }
+        if !self.is_placed(command) {
+            return Err(CueWhy::Misplaced);
+        }
+        let Some(said) = spelled(command, argument) else {
+            return Err(CueWhy::BadArgument);
+        };
+        match self.later_reason(&said) {
+            Some(why) => Err(why),
+            None => Ok(said),
+        }
+    }
+
+    /// Takes a line that is in order. An error leaves the draft in a state of which nothing is said.
+    pub(crate) fn add(&mut self, alloc: Global, line: &Line<'_>) -> Result<(), AllocError>
+        ensures { IfOk result (λ _. self.new ≡ after self.old (said line.now)) }
+    {
+        match line {
+            Line::Remark => {}
+            Line::File => self.has_file = true,
+            Line::Catalogue(digits) => self.section.catalogue = Some(*digits),
+            Line::Title(text) => self.section.title = Some(Vec::from_slice(alloc, text)?),
+            Line::Performer(text) => self.section.performer = Some(Vec::from_slice(alloc, text)?),
+            Line::Songwriter(text) => self.section.songwriter = Some(Vec::from_slice(alloc, text)?),
+            Line::Flags(control) => self.section.control = Some(*control),
+            Line::Isrc(code) => self.section.isrc = Some(*code),
+            Line::Pregap(time) => self.section.pregap = Some(*time),
+            Line::Postgap(time) => self.section.postgap = Some(*time),
+            Line::Index { number, time } => {
+                self.section.indices.push((*number, *time))?;
+                self.latest = self.latest.max(*time);
+            }
+            Line::Track { number, .. } => self.begin_track(alloc, *number)?,
+        }
+        Ok(())
+    }
+
+    /// Takes a line, which has this number. An error leaves the draft in a state of which nothing is said.
+    pub(crate) fn take(&mut self, alloc: Global, number: u32, line: &[u8]) -> Result<(), CueStop>
+        requires { length line.now ≤ 67108864 }
+        ensures { MatchResult result (λ _. TakesLine self.old line.now self.new) (RefusesLine self.old number line.now) }
+    {
+        let line = trim(line);
+        if line.is_empty() {
+            return Ok(());
+        }
+        match self.checked(line) {
+            Ok(said) => {
+                self.add(alloc, &said)?;
+                Ok(())
+            }
+            Err(why) => Err(CueStop::Fault { line: number, why }),
+        }
+    }
+
+    /// The sheet that all lines say.
+    pub(crate) fn finish(self) -> Result<Sheet, AllocError>
+        requires { IsSheet (sheet_said self) }
+        ensures { IfOk result (λ sheet. sheet ≡ sheet_said self) }
+    {
+        let number = self.number;
+        let section = self.section;
+        let tracks = self.tracks;
+        Ok(Sheet::new(self.album, with_last(tracks, number, section)?))
+    }
+
+    fn begin_track(&mut self, alloc: Global, number: u8) -> Result<(), AllocError>
+        ensures { IfOk result (λ _. self.new ≡ after self.old (SaysTrack number true)) }
+    {
+        let ended = mem::replace(&mut self.section, Section::new(alloc));
+        match self.number {
+            Some(last) => self.tracks.push(Track {
+                number: last,
+                section: ended,
+            })?,
+            None => self.album = ended,
+        }
+        self.number = Some(number);
+        Ok(())
+    }
+}
+
+fn with_last(
+    mut tracks: Vec<Track>,
+    number: Option<u8>,
+    section: Section,
+) -> Result<Vec<Track>, AllocError>
+    ensures { IfOk result (λ all. map track_value all.items ≡ map track_value tracks.items ++ track_with number (section_of section)) }
+{
+    if let Some(number) = number {
+        tracks.push(Track { number, section })?;
+    }
+    Ok(tracks)
+}
