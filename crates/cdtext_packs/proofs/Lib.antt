@@ -5,3 +5,4 @@ pub mod Slots
 pub mod Cuts
 pub mod Steps
 pub mod SheetStrings
+pub mod Offers

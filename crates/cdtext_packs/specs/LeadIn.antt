@@ -1,6 +1,6 @@
 -- The packs in the symbols of the lead-in.
-use Rattle.std.specs.Prelude.{ℕ, ◌+◌, ◌*◌, ◌%◌, List, [], length, map, flat_map, replicate, slice_index_or, ◌==◌, if◌then◌else◌}
-use Rattle.bit_lists.specs.Counting.{below, whole_parts}
+use Rattle.std.specs.Prelude.{ℕ, ◌+◌, ◌*◌, ◌%◌, List, [], length, map, flat_map, take, drop, replicate, slice_index_or, ◌==◌, if◌then◌else◌}
+use Rattle.bit_lists.specs.Counting.{below}
 use Rattle.bit_lists.specs.Bits.{bits_of_bytes, numbers_of}
 use Rattle.raw_subcode.specs.Channels.{symbols_of, symbol_bits}
 
@@ -16,6 +16,10 @@ lead_in_slot packs j = if length packs == 0 then replicate 24 0 else pack_symbol
 abbrev pub lead_in_symbols : List (List ℕ) → ℕ → List ℕ
 lead_in_symbols packs block = flat_map (λ k. lead_in_slot packs (4 * block + k)) (below 4)
 
--- the packs of blocks of the lead-in: the bits of each 24 symbols
+-- pack k of the four of a block: the bits of 24 symbols
+abbrev pub pack_at : List ℕ → ℕ → List ℕ
+pack_at block k = numbers_of 8 (symbol_bits (take 24 (drop (24 * k) (symbols_of block))))
+
+-- the packs of blocks of the lead-in
 abbrev pub lead_in_packs : List (List ℕ) → List (List ℕ)
-lead_in_packs blocks = map (λ slot. numbers_of 8 (symbol_bits slot)) (whole_parts 24 (flat_map symbols_of blocks))
+lead_in_packs blocks = flat_map (λ block. map (pack_at block) (below 4)) blocks

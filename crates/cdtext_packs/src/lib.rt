@@ -2,6 +2,7 @@
 #![tactic(auto)]
 
 mod kinds;
+mod laws;
 mod lead_in;
 mod map;
 mod pack;
@@ -12,6 +13,7 @@ mod strings;
 mod writer;
 
 pub use kinds::{Offer, PackStop, TextFault, TextKind};
+pub use laws::offers_keep_the_first;
 pub use lead_in::lead_in_symbols;
 pub use map::TextMap;
 pub use pack::TextPack;
