@@ -1,0 +1,5 @@
+pub mod Splitting
+pub mod Numerals
+pub mod LineTexts
+pub mod Accepting
+pub mod Reading
