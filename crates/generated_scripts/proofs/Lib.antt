@@ -3,3 +3,4 @@ pub mod Numerals
 pub mod LineTexts
 pub mod Accepting
 pub mod Reading
+pub mod Times
