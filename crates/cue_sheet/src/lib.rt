@@ -11,3 +11,6 @@ mod sheet;
 
 pub use fault::{CueStop, CueText, CueWhy};
 pub use sheet::Sheet;
+
+#[cfg(test)]
+mod tests;
