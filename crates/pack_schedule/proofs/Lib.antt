@@ -1,0 +1,6 @@
+pub mod Least
+pub mod PlannedLaws
+pub mod Counting
+pub mod SettingLaws
+pub mod Choices
+pub mod Surveys

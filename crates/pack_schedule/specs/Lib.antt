@@ -1,2 +1,4 @@
 pub mod Change
 pub mod Schedule
+pub mod PlannedChange
+pub mod Survey

@@ -1,0 +1,91 @@
+-- Sums over tiles, from each start at once.
+use Rattle.std.proofs.Common.{◌≡◌, ◌≢◌, ℕ, ◌+◌, ◌-◌, ◌*◌, ◌/◌, ◌%◌, ◌<◌, ◌≤◌, List, length, get_or, set, replicate, ap, sym, ◌∙◌, inl, inr, arith}
+use Rattle.std.specs.Prelude.{Some, None, slice_index}
+use Rattle.std.proofs.lemmas.Bool.{cases_eq, cases_lt}
+use Rattle.std.proofs.lemmas.Grind.{same_number_lists}
+use Rattle.std.proofs.lemmas.List.{length-replicate, get_or-replicate, get_or-set_same, get_or-set_other, get_or_past}
+use Rattle.cdg_instructions.specs.Instruction.{IsTilePixels}
+use Rattle.cdg_instructions.specs.Drawing.{IsLeast}
+use Rattle.tile_author.specs.Plan.{steps}
+use Rattle.picture_script.specs.Script.{Drawing, picture_tile}
+use Rattle.pack_schedule.proofs.PlannedLaws.{PlansAreShortest, colour_steps, steps_so_far, none_so_far, one_more_tile}
+
+pub all_same : (pixels : List ℕ) (first : ℕ) → length pixels ≡ 72 → ((q : ℕ) → q < 72 → get_or pixels q 0 ≡ first) → pixels ≡ replicate 72 first
+all_same pixels first size all =
+    same_number_lists pixels (replicate 72 first) (size ∙ sym (length-replicate {A = ℕ} 72 first)) (λ q lt. all q (omega arith) ∙ sym (get_or-replicate {A = ℕ} 72 q first 0 (omega arith)))
+
+pub first_of : (c : ℕ) (pixels : List ℕ) (i : ℕ) → i < 72 → pixels ≡ replicate 72 c → get_or pixels i 0 ≡ c
+first_of c pixels i lt h = ap (λ xs. get_or xs i 0) h ∙ get_or-replicate {A = ℕ} 72 i c 0 lt
+
+pub not_same : (pixels : List ℕ) (i : ℕ) → i < 72 → get_or pixels i 0 ≢ get_or pixels 0 0 → (c : ℕ) → pixels ≢ replicate 72 c
+not_same pixels i lt differ c h = differ (first_of c pixels i lt h ∙ sym (first_of c pixels 0 (omega arith) h))
+
+-- a tile of one colour is counted
+pub single_step : PlansAreShortest → (new single : List ℕ) (c0 c w whole : ℕ) → length single ≡ 16 → c0 < 16 → c < 16 → IsTilePixels new → new ≡ replicate 72 c0
+    → ((row column d : ℕ) → row < 32 → column < 64 → d < 16 → new ≢ replicate 72 d → IsLeast row column (replicate 72 d) new w)
+    → ((row column d : ℕ) → row < 32 → column < 64 → d < 16 → new ≡ replicate 72 d → IsLeast row column (replicate 72 d) new 0)
+    → whole + w + slice_index single c ≡ whole + slice_index (set single c0 (get_or single c0 0 + w)) c + steps (replicate 72 c) new
+single_step plans new single c0 c w whole size c0_lt c_lt tile same least none = elim (cases_eq c c0) [
+  | inl is ↦
+      let here : new ≡ replicate 72 c = same ∙ ap (replicate 72) (sym is) in
+      let steps_are = colour_steps plans new c 0 c_lt tile (none 1 1 c (omega arith) (omega arith) c_lt here) in
+      let at : get_or (set single c0 (get_or single c0 0 + w)) c 0 ≡ get_or single c0 0 + w = ap (λ k. get_or (set single c0 (get_or single c0 0 + w)) k 0) is ∙ get_or-set_same single c0 (get_or single c0 0 + w) 0 (omega arith) in
+      let old : get_or single c 0 ≡ get_or single c0 0 = ap (λ k. get_or single k 0) is in
+      omega (arith, steps_are, at, old)
+  | inr apart ↦
+      let other : new ≢ replicate 72 c = λ h. apart (sym (first_of c new 0 (omega arith) h) ∙ first_of c0 new 0 (omega arith) same) in
+      let steps_are = colour_steps plans new c w c_lt tile (least 1 1 c (omega arith) (omega arith) c_lt other) in
+      let at : get_or (set single c0 (get_or single c0 0 + w)) c 0 ≡ get_or single c 0 = get_or-set_other single c0 c (get_or single c0 0 + w) 0 apart in
+      omega (arith, steps_are, at)
+]
+
+-- another tile
+pub mixed_step : PlansAreShortest → (new single : List ℕ) (c w whole : ℕ) → c < 16 → IsTilePixels new → ((d : ℕ) → new ≢ replicate 72 d)
+    → ((row column d : ℕ) → row < 32 → column < 64 → d < 16 → new ≢ replicate 72 d → IsLeast row column (replicate 72 d) new w)
+    → whole + w + slice_index single c ≡ whole + slice_index single c + steps (replicate 72 c) new
+mixed_step plans new single c w whole c_lt tile mixed least =
+    let steps_are = colour_steps plans new c w c_lt tile (least 1 1 c (omega arith) (omega arith) c_lt (mixed c)) in
+    omega (arith, steps_are)
+
+-- so many tiles have been counted
+pub record Counted (stands whole : ℕ) (single : List ℕ) (script : List Drawing) (k i : ℕ) : Type 0 where
+  pub stands_are : 0 < k → stands ≡ steps_so_far script k None i
+  pub colours_are : (c : ℕ) → c < 16 → whole ≡ slice_index single c + steps_so_far script k (Some c) i
+  pub few_stands : stands ≤ 4 * i
+  pub few_whole : whole ≤ 4 * i
+  pub few_single : (c : ℕ) → slice_index single c ≤ 4 * i
+
+pub none_counted : (single : List ℕ) (script : List Drawing) (k : ℕ) → ((c : ℕ) → slice_index single c ≡ 0) → Counted 0 0 single script k 0
+none_counted single script k zeros = record {
+  stands_are = λ pos. sym (none_so_far script k None);
+  colours_are = λ c c_lt. omega (arith, zeros c, none_so_far script k (Some c));
+  few_stands = omega arith;
+  few_whole = omega arith;
+  few_single = λ c. omega (arith, zeros c);
+}
+
+pub one_counted : (script : List Drawing) (k i stands whole stands' whole' : ℕ) (single single' old new : List ℕ) → Counted stands whole single script k i
+    → (0 < k → old ≡ picture_tile script (k - 1) (i / 48 + 1) (i % 48 + 1)) → new ≡ picture_tile script k (i / 48 + 1) (i % 48 + 1)
+    → stands' ≡ stands + steps old new → ((c : ℕ) → c < 16 → whole' + slice_index single c ≡ whole + slice_index single' c + steps (replicate 72 c) new)
+    → stands' ≤ stands + 4 → whole' ≤ whole + 4 → ((c : ℕ) → slice_index single' c ≤ slice_index single c + 4) → Counted stands' whole' single' script k (i + 1)
+one_counted script k i stands whole stands' whole' single single' old new h old_is new_is s w s_few w_few o_few = record {
+  stands_are = λ pos.
+      let more = one_more_tile script k None i in
+      let was = h.stands_are pos in
+      let tile : steps old new ≡ steps (picture_tile script (k - 1) (i / 48 + 1) (i % 48 + 1)) (picture_tile script k (i / 48 + 1) (i % 48 + 1)) = ap (λ o. steps o new) (old_is pos) ∙ ap (steps (picture_tile script (k - 1) (i / 48 + 1) (i % 48 + 1))) new_is in
+      omega (arith, more, was, tile, s);
+  colours_are = λ c c_lt.
+      let more = one_more_tile script k (Some c) i in
+      let was = h.colours_are c c_lt in
+      let tile : steps (replicate 72 c) new ≡ steps (replicate 72 c) (picture_tile script k (i / 48 + 1) (i % 48 + 1)) = ap (steps (replicate 72 c)) new_is in
+      omega (arith, more, was, tile, w c c_lt);
+  few_stands = omega (arith, h.few_stands);
+  few_whole = omega (arith, h.few_whole);
+  few_single = λ c. omega (arith, h.few_single c, o_few c);
+}
+
+pub all_zeros : (n i : ℕ) → get_or {A = ℕ} (replicate n 0) i 0 ≡ 0
+all_zeros n i = elim (cases_lt i n) [
+  | inl lt ↦ get_or-replicate {A = ℕ} n i 0 0 lt
+  | inr past ↦ get_or_past {X = ℕ} (replicate n 0) i 0 (omega (arith, length-replicate {A = ℕ} n 0))
+]

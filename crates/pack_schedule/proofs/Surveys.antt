@@ -1,0 +1,94 @@
+-- The pictures of a script in turn.
+use Rattle.std.proofs.Common.{◌≡◌, ℕ, zero, suc, ◌+◌, ◌-◌, ◌*◌, ◌<◌, ◌≤◌, true, false, List, [], ◌∷◌, ◌++◌, length, get_or, ap, sym, subst, ◌∙◌, inl, inr, arith, length-append}
+use Rattle.std.specs.Prelude.{Some, None, MatchOption, nat_le}
+use Rattle.std.proofs.lemmas.Bool.{cases_lt}
+use Rattle.std.proofs.lemmas.Bool.Decides.{leb_tells}
+use Rattle.std.proofs.lemmas.List.{get_or_append_left, get_or-append-add}
+use Rattle.picture_script.specs.Script.{Drawing, pictures, ready_time, hold_time, picture_pixel}
+use Rattle.picture_script.specs.Board.{Board, IsBlank, IsPicture, StandsBefore}
+use Rattle.pack_schedule.specs.Schedule.{start_of, IsInTime, IsLate, free_packs}
+use Rattle.pack_schedule.specs.PlannedChange.{planned_change}
+use Rattle.pack_schedule.specs.Survey.{nothing_planned, IsPlanned, ArePlanned, IsWithin}
+use Rattle.pack_schedule.specs.declared.planned.Planned.{Planned}
+use Rattle.pack_schedule.proofs.PlannedLaws.{PlansAreShortest, planned_is_shortest, planned_count, need_is}
+
+-- what stands before picture k is drawn
+abbrev pub StandsAt : List Drawing → ℕ → Board → Type 0
+StandsAt script zero board = (board.at ≡ None) × IsBlank board
+StandsAt script (suc k) board = (board.at ≡ Some k) × IsPicture script k board
+
+pub stands_before : (script : List Drawing) (k : ℕ) (board : Board) → StandsAt script k board → StandsBefore script k board
+stands_before script zero board h = subst (λ o. MatchOption o (IsBlank board) (λ j. (j ≤ zero) × IsPicture script j board)) (sym h.0) h.1
+stands_before script (suc k) board h = subst (λ o. MatchOption o (IsBlank board) (λ j. (j ≤ suc k) × IsPicture script j board)) (sym h.0) (omega arith, h.1)
+
+pub stands_next : (script : List Drawing) (k : ℕ) (board : Board) → board.at ≡ Some k → IsPicture script k board → StandsAt script (k + 1) board
+stands_next script k board at h =
+    let next : suc k ≡ k + 1 = omega arith in
+    let stands : StandsAt script (suc k) board = (at, h) in
+    subst (λ n. StandsAt script n board) next stands
+
+pub stands_picture : (script : List Drawing) (k : ℕ) (board : Board) → 0 < k → StandsAt script k board → IsPicture script (k - 1) board
+stands_picture script zero board pos h = absurd (omega arith)
+stands_picture script (suc k) board pos h =
+    let at : k ≡ suc k - 1 = omega arith in
+    subst (λ n. IsPicture script n board) at h.1
+
+pub stands_first : (script : List Drawing) (board : Board) → board.at ≡ None → IsBlank board → StandsAt script 0 board
+stands_first script board at h = (at, h)
+
+pub none_planned : (script : List Drawing) (planned : List Planned) → planned ≡ [] → ArePlanned script 0 planned
+none_planned script planned h = record { count_is = ap length h; each = λ k lt. absurd (omega arith) }
+
+pub one_planned : (script : List Drawing) (k : ℕ) (planned more : List Planned) (new : Planned) → ArePlanned script k planned → IsPlanned script k new → more ≡ planned ++ new ∷ [] → ArePlanned script (k + 1) more
+one_planned script k planned more new h is added =
+    let size = length-append planned (new ∷ []) in
+    subst (ArePlanned script (k + 1)) (sym added) (record {
+      count_is = omega (arith, size, h.count_is);
+      each = λ j lt. elim (cases_lt j k) [
+        | inl before ↦ subst (IsPlanned script j) (sym (get_or_append_left planned (new ∷ []) nothing_planned j (omega (arith, h.count_is)))) (h.each j before)
+        | inr past ↦
+            let last : j ≡ length planned + 0 = omega (arith, h.count_is) in
+            let here : k ≡ j = omega arith in
+            subst (IsPlanned script j) (sym (ap (λ n. get_or (planned ++ new ∷ []) n nothing_planned) last ∙ get_or-append-add planned (new ∷ []) 0 nothing_planned)) (subst (λ n. IsPlanned script n new) here is)
+      ];
+    })
+
+-- picture k is late
+pub is_late : PlansAreShortest → (script : List Drawing) (k need free : ℕ) (planned : List Planned) → ((k x y : ℕ) → picture_pixel script k x y < 16) → k < pictures script → ArePlanned script k planned
+    → need ≡ length (planned_change script k) → free ≡ free_packs script k → (IsInTime script k need → ⊥) → IsLate script k need free
+is_late plans script k need free planned small lt are need_is' free_is' late = record {
+  picture = lt;
+  need_is = (planned_change script k, planned_is_shortest plans script k small, sym need_is');
+  free_is = free_is';
+  late = late;
+  before = λ j n j_lt h.
+      let one = need_is plans script j n small h in
+      let two = planned_count plans script j small in
+      let planned_j = are.each j j_lt in
+      subst (λ m. IsInTime script j m) (planned_j.need_is ∙ two ∙ sym one) planned_j.in_time;
+}
+
+-- times of pictures rise
+pub holds_rise : (script : List Drawing) → ((k : ℕ) → k < pictures script → ready_time script k ≤ hold_time script k) → ((k : ℕ) → k + 1 < pictures script → hold_time script k < ready_time script (k + 1))
+    → (k n : ℕ) → k + n < pictures script → hold_time script k ≤ hold_time script (k + n)
+holds_rise script held later k zero lt =
+    let same : k ≡ k + 0 = omega arith in
+    subst (λ m. hold_time script k ≤ hold_time script m) same (omega arith)
+holds_rise script held later k (suc n) lt =
+    let before = holds_rise script held later k n (omega arith) in
+    let next : k + n + 1 ≡ k + suc n = omega arith in
+    subst (λ m. hold_time script k ≤ hold_time script m) next (omega (arith, before, later (k + n) (omega arith), held (k + n + 1) (omega arith)))
+
+pub is_within : (script : List Drawing) (blocks last : ℕ) → ((k : ℕ) → k < pictures script → ready_time script k ≤ hold_time script k) → ((k : ℕ) → k + 1 < pictures script → hold_time script k < ready_time script (k + 1))
+    → (0 < pictures script → last ≡ hold_time script (pictures script - 1)) → last ≤ blocks → IsWithin script blocks
+is_within script blocks last held later last_is le k lt =
+    let rise = holds_rise script held later k (pictures script - 1 - k) (omega arith) in
+    let end : k + (pictures script - 1 - k) ≡ pictures script - 1 = omega arith in
+    let same = ap (hold_time script) end in
+    omega (arith, rise, same, last_is (omega arith))
+
+pub not_in_time : (script : List Drawing) (k start need : ℕ) → start ≡ start_of script k → nat_le (start + need + 7) (4 * ready_time script k) ≡ false → IsInTime script k need → ⊥
+not_in_time script k start need is test h = elim (leb_tells (start + need + 7) (4 * ready_time script k)) [ inl less ↦ absurd (cc) | inr more ↦ omega (arith, more.1, is, h) ]
+
+pub in_time : (script : List Drawing) (k start need : ℕ) → start ≡ start_of script k → nat_le (start + need + 7) (4 * ready_time script k) ≡ true → IsInTime script k need
+in_time script k start need is test = elim (leb_tells (start + need + 7) (4 * ready_time script k)) [ inl less ↦ omega (arith, less.1, is) | inr more ↦ absurd (cc) ]

@@ -1,0 +1,41 @@
+-- When the change of each picture is sent, what it begins with, and how long it is.
+use Rattle.std.specs.Prelude.{◌≡◌, ℕ, ◌-◌, ◌<◌, ◌≤◌, ⊤, List, length, slice_index_or, None}
+use Rattle.picture_script.specs.Script.{Drawing, pictures, hold_time}
+use Rattle.pack_schedule.specs.Schedule.{start_of, IsInTime, IsLate}
+use Rattle.pack_schedule.specs.PlannedChange.{chosen_start, planned_change}
+use Rattle.pack_schedule.specs.declared.planned.Planned.{Planned}
+use Rattle.pack_schedule.specs.declared.planned.Stop.{Stop}
+use Rattle.pack_schedule.specs.declared.planned.Stop.TheVariants.{PastEnd, Late, NoMemory}
+
+abbrev pub nothing_planned : Planned
+nothing_planned = record { start = 0; need = 0; preset = None }
+
+-- where the planned change of picture k is sent, and that it is in time
+pub record IsPlanned (script : List Drawing) (k : ℕ) (planned : Planned) : Type 0 where
+  pub start_is : planned.start ≡ start_of script k
+  pub preset_is : planned.preset ≡ chosen_start script k
+  pub need_is : planned.need ≡ length (planned_change script k)
+  pub in_time : IsInTime script k planned.need
+
+-- the planned changes of the first pictures
+pub record ArePlanned (script : List Drawing) (count : ℕ) (planned : List Planned) : Type 0 where
+  pub count_is : length planned ≡ count
+  pub each : (k : ℕ) → k < count → IsPlanned script k (slice_index_or planned k nothing_planned)
+
+-- the planned changes of a script
+abbrev pub IsSurvey : List Drawing → List Planned → Type 0
+IsSurvey script planned = ArePlanned script (pictures script) planned
+
+-- every picture is held until so many blocks at most
+abbrev pub IsWithin : List Drawing → ℕ → Type 0
+IsWithin script blocks = (k : ℕ) → k < pictures script → hold_time script k ≤ blocks
+
+-- the last picture is held for longer
+abbrev pub IsPastEnd : List Drawing → ℕ → Type 0
+IsPastEnd script blocks = (0 < pictures script) × (blocks < hold_time script (pictures script - 1))
+
+-- why there is no schedule
+abbrev pub IsStop : List Drawing → ℕ → Stop → Type 0
+IsStop script blocks (PastEnd end) = (end ≡ blocks) × IsPastEnd script blocks
+IsStop script blocks (Late picture need free) = IsWithin script blocks × IsLate script picture need free
+IsStop script blocks NoMemory = ⊤

@@ -1,0 +1,101 @@
+// The start from which a picture takes the fewest instructions.
+ghost use Rattle.std.specs.Prelude.{◌≡◌, ◌<◌, ◌≤◌, ◌+◌, ◌-◌, ℕ, length, slice_index, Some, None, nat_lt, if◌then◌else◌};
+ghost use Rattle.picture_script.specs.Board.{IsPicture};
+ghost use Rattle.pack_schedule.specs.Change.{settings};
+ghost use Rattle.pack_schedule.specs.PlannedChange.{tile_steps, planned_length, preferred, chosen_start};
+
+use crate::counts::{Counts, count_tiles};
+use crate::settings::count_settings;
+use picture_script::{Canvas, Script};
+
+/// The colour of which all memory is set first, if one is, and how many instructions the change then has.
+#[derive(Clone, Copy)]
+pub(crate) struct Choice {
+    pub(crate) preset: Option<u8>,
+    pub(crate) need: u32,
+}
+
+impl Choice {
+    // The shorter one of two, and this one of two that are equal.
+    fn or_colour(self, colour: u8, need: u32) -> Choice
+        ensures preset { result.preset ≡ (if nat_lt need self.need then Some colour else self.preset) }
+        ensures need { result.need ≡ (if nat_lt need self.need then need else self.need) }
+    {
+        if need < self.need {
+            Choice {
+                preset: Some(colour),
+                need,
+            }
+        } else {
+            self
+        }
+    }
+}
+
+// The length of a change that begins with a colour.
+fn colour_length(script: &Script, k: u32, beside: u32, counts: &Counts, colour: u8) -> u32
+    requires beside { beside ≡ length (settings script.now k) }
+    requires few_beside { beside ≤ 3 }
+    requires colours { counts.now.whole ≡ slice_index counts.now.single colour + tile_steps script.now k (Some colour) }
+    requires few { counts.now.whole ≤ 3072 }
+    requires colour { colour < 16 }
+    ensures value { result ≡ planned_length script.now k (Some colour) }
+    ensures few { result ≤ 3076 }
+{
+    1 + beside + (counts.whole - counts.single[usize::from(colour)])
+}
+
+// The start that is preferred to all others.
+fn first_choice(script: &Script, k: u32, beside: u32, counts: &Counts) -> Choice
+    requires beside { beside ≡ length (settings script.now k) }
+    requires few_beside { beside ≤ 3 }
+    requires stands { 0 < k → counts.now.stands ≡ tile_steps script.now k None }
+    requires colours { (c : ℕ) → c < 16 → counts.now.whole ≡ slice_index counts.now.single c + tile_steps script.now k (Some c) }
+    requires few { (counts.now.stands ≤ 3072) × (counts.now.whole ≤ 3072) }
+    ensures preset { result.preset ≡ preferred k }
+    ensures need { result.need ≡ planned_length script.now k result.preset }
+    ensures few { result.need ≤ 3076 }
+{
+    if k == 0 {
+        Choice {
+            preset: Some(0),
+            need: colour_length(script, k, beside, counts, 0),
+        }
+    } else {
+        Choice {
+            preset: None,
+            need: beside + counts.stands,
+        }
+    }
+}
+
+// The first of the shortest starts.
+fn choose(script: &Script, k: u32, beside: u32, counts: &Counts) -> Choice
+    requires beside { beside ≡ length (settings script.now k) }
+    requires few_beside { beside ≤ 3 }
+    requires stands { 0 < k → counts.now.stands ≡ tile_steps script.now k None }
+    requires colours { (c : ℕ) → c < 16 → counts.now.whole ≡ slice_index counts.now.single c + tile_steps script.now k (Some c) }
+    requires few { (counts.now.stands ≤ 3072) × (counts.now.whole ≤ 3072) }
+    ensures preset { result.preset ≡ chosen_start script.now k }
+    ensures need { result.need ≡ planned_length script.now k result.preset }
+    ensures few { result.need ≤ 3076 }
+{
+    let mut choice = first_choice(script, k, beside, counts);
+    for colour in 0..16u8 {
+        choice = choice.or_colour(colour, colour_length(script, k, beside, counts, colour));
+    }
+    choice
+}
+
+/// The start of the change of picture `k`, which stands on `now`, while the picture before it stands on `before`.
+pub(crate) fn choose_start(script: &Script, k: u32, before: &Canvas, now: &Canvas) -> Choice
+    requires now { IsPicture script.now k now.now }
+    requires before { 0 < k → IsPicture script.now (k - 1) before.now }
+    ensures preset { result.preset ≡ chosen_start script.now k }
+    ensures need { result.need ≡ planned_length script.now k result.preset }
+    ensures few { result.need ≤ 3076 }
+{
+    let beside = count_settings(script, k, before, now);
+    let counts = count_tiles(script, k, before, now);
+    choose(script, k, beside, &counts)
+}
