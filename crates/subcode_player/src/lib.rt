@@ -26,4 +26,6 @@ pub use sectors::SectorBlocks;
 pub use words::BlockWords;
 
 #[cfg(test)]
+mod q_tests;
+#[cfg(test)]
 mod tests;
