@@ -1,3 +1,4 @@
 mod Numbers
 mod Statuses
+mod TurnRuns
 mod WordsLemmas

@@ -1,5 +1,5 @@
 -- The words of a command line and its options.
-use Rattle.std.proofs.Common.{◌≡◌, ◌≢◌, ◌≤◌, ℕ, List, [], ◌∷◌, String, string_bytes, codes, bytes_eq, false, refl, sym, ap, ◌∙◌, subst, Some, None, rules}
+use Rattle.std.proofs.Common.{◌≡◌, ◌≢◌, ◌≤◌, ℕ, List, [], ◌∷◌, String, string_bytes, codes, bytes_eq, false, true, refl, sym, ap, ◌∙◌, subst, Some, None, rules}
 use Rattle.std.specs.declared.option.Option.{Option}
 use Rattle.std.specs.Option.{option_map}
 use Rattle.raw_subcode.specs.declared.form.Form.{Form}
@@ -7,7 +7,7 @@ use Rattle.cdg_cmd.specs.declared.options.StreamOptions.{StreamOptions}
 use Rattle.cdg_cmd.specs.Words.{texts, SpellsStream}
 use Rattle.cdg_cmd.specs.Spelling.{Spells, command_name}
 use Rattle.cdg_cmd.specs.declared.command.Command.{Command}
-use Rattle.cdg_cmd.specs.declared.command.Command.TheVariants.{Convert}
+use Rattle.cdg_cmd.specs.declared.command.Command.TheVariants.{Convert, Planar, Raw}
 
 -- what holds of all words holds of the first and the rest
 pub texts-split : {A : Type 0} (P : List (List ℕ) → Type 0) (words : List (String A)) (x : String A) (rest : List (String A)) → words ≡ x ∷ rest → P (texts words) → P (string_bytes x ∷ texts rest)
@@ -22,8 +22,21 @@ no_form a e = (cc)
 pub no_command : (a : Command) → ◌≡◌ {A = Option Command} None (Some a) → ⊥
 no_command a e = (cc)
 
+untrue : false ≡ true → ⊥
+untrue e = (cc)
+
 -- `convert` and its options spell a conversion alone
 pub convert_all : (options : List (List ℕ)) (o : Option StreamOptions)
     → ((lead_in : ℕ) (form : Form) → lead_in ≤ 450000 → SpellsStream lead_in form options → o ≡ Some (record { lead_in = lead_in; form = form }))
     → (command : Command) → Spells command (codes "convert" ∷ options) → option_map (λ s. Convert s.lead_in s.form) o ≡ Some command
 convert_all options o all (Convert lead_in form) s = ap (option_map (λ (s : StreamOptions). Convert s.lead_in s.form)) (all lead_in form s.1 s.2)
+convert_all options o all command s = absurd (untrue (ap (λ l. bytes_eq l (command_name command)) s.0))
+
+-- `planar` and `raw` have no options
+pub planar_all : (options : List (List ℕ)) (command : Command) → Spells command (codes "planar" ∷ options) → (options ≡ []) × (Some Planar ≡ Some command)
+planar_all options Planar s = (s.2, refl)
+planar_all options command s = absurd (untrue (ap (λ l. bytes_eq l (command_name command)) s.0))
+
+pub raw_all : (options : List (List ℕ)) (command : Command) → Spells command (codes "raw" ∷ options) → (options ≡ []) × (Some Raw ≡ Some command)
+raw_all options Raw s = (s.2, refl)
+raw_all options command s = absurd (untrue (ap (λ l. bytes_eq l (command_name command)) s.0))

@@ -11,9 +11,11 @@ use Rattle.subcode_player.specs.Convert.{Converts}
 use Rattle.subcode_player.specs.declared.player.Played.{Played}
 use Rattle.subcode_player.specs.declared.player.PlayStop.{PlayStop}
 use Rattle.subcode_player.specs.declared.player.PlayStop.TheVariants as play
+use Rattle.block_stages.specs.PlanarStream.{IsBlockStream, IsPlanarStream}
 use Rattle.cdg_cmd.specs.Line.{error_line}
+use Rattle.cdg_cmd.specs.Turns.{TurnsWith}
 use Rattle.cdg_cmd.specs.declared.command.Command.{Command}
-use Rattle.cdg_cmd.specs.declared.command.Command.TheVariants.{Convert}
+use Rattle.cdg_cmd.specs.declared.command.Command.TheVariants.{Convert, Planar, Raw}
 use Rattle.cdg_cmd.specs.declared.status.Which.TheVariants.{First, Second}
 use Rattle.cdg_cmd.specs.declared.status.Refusal.TheVariants.{Torn, TooLong, PastEnd}
 use Rattle.cdg_cmd.specs.declared.status.Status.{Status}
@@ -39,6 +41,14 @@ pub record ConvertsWith (form : Form) (lead_in : ℕ) (left left' held held' : O
 -- what a command does with its input and its output, where memory is found
 abbrev pub Does : Command → Option (List ℕ) → Option (List ℕ) → Option (List ℕ) → Option (List ℕ) → Status → Type 0
 Does (Convert lead_in form) left left' held held' status = ConvertsWith form lead_in left left' held held' status
+Does Planar left left' held held' status = TurnsWith IsPlanarStream left left' held held' status
+Does Raw left left' held held' status = TurnsWith IsBlockStream left left' held held' status
+
+-- it takes no memory
+abbrev pub TakesNone : Command → Type 0
+TakesNone (Convert lead_in form) = ⊥
+TakesNone Planar = ⊤
+TakesNone Raw = ⊤
 
 -- this text was put and nothing was bad, unless a read or a write failed or no memory was found
 abbrev pub GivesBack : List ℕ → Option (List ℕ) → Option (List ℕ) → Status → Type 0

@@ -1,20 +1,26 @@
 -- How each command is spelled.
-use Rattle.std.specs.Prelude.{◌≡◌, ◌≤◌, ℕ, List, [], ◌∷◌, codes}
+use Rattle.std.specs.Prelude.{◌≡◌, ◌≤◌, ℕ, List, [], ◌∷◌, codes, ⊤}
 use Rattle.cdg_cmd.specs.Words.{SpellsStream}
 use Rattle.cdg_cmd.specs.declared.command.Command.{Command}
-use Rattle.cdg_cmd.specs.declared.command.Command.TheVariants.{Convert}
+use Rattle.cdg_cmd.specs.declared.command.Command.TheVariants.{Convert, Planar, Raw}
 
 -- the numbers that a command may have
 abbrev pub IsAllowed : Command → Type 0
 IsAllowed (Convert lead_in form) = lead_in ≤ 450000
+IsAllowed Planar = ⊤
+IsAllowed Raw = ⊤
 
 -- the name of a command
 abbrev pub command_name : Command → List ℕ
 command_name (Convert lead_in form) = codes "convert"
+command_name Planar = codes "planar"
+command_name Raw = codes "raw"
 
 -- the words after its name spell the rest of a command
 abbrev pub SpellsOptions : Command → List (List ℕ) → Type 0
 SpellsOptions (Convert lead_in form) options = SpellsStream lead_in form options
+SpellsOptions Planar options = options ≡ []
+SpellsOptions Raw options = options ≡ []
 
 -- the words spell an allowed command
 abbrev pub Spells : Command → List (List ℕ) → Type 0

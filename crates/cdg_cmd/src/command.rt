@@ -11,6 +11,10 @@ use subcode_player::Form;
 pub enum Command {
     /// Writes the packs of a stream.
     Convert { lead_in: u32, form: Form },
+    /// Writes the planar form of each block.
+    Planar,
+    /// Writes the block of each planar form.
+    Raw,
 }
 
 /// The command that the words spell: `None` where they spell none.
@@ -21,6 +25,8 @@ pub fn read_words(words: &[String]) -> Option<Command>
     let (name, options) = words.split_first()?;
     match name.as_str() {
         "convert" => read_convert(options),
+        "planar" => read_planar(options),
+        "raw" => read_raw(options),
         _ => None,
     }
 }
@@ -35,5 +41,25 @@ fn read_convert(options: &[String]) -> Option<Command>
             form: stream.form,
         }),
         None => None,
+    }
+}
+
+fn read_planar(options: &[String]) -> Option<Command>
+    ensures spelled { IfSome result (λ command. Spells command (codes "planar" ∷ texts options.now)) }
+    ensures all { (command : Command) → Spells command (codes "planar" ∷ texts options.now) → result ≡ Some command }
+{
+    match options {
+        [] => Some(Command::Planar),
+        _ => None,
+    }
+}
+
+fn read_raw(options: &[String]) -> Option<Command>
+    ensures spelled { IfSome result (λ command. Spells command (codes "raw" ∷ texts options.now)) }
+    ensures all { (command : Command) → Spells command (codes "raw" ∷ texts options.now) → result ≡ Some command }
+{
+    match options {
+        [] => Some(Command::Raw),
+        _ => None,
     }
 }

@@ -9,6 +9,7 @@ mod splitting;
 mod status;
 mod streams;
 mod top;
+mod turning;
 
 pub use command::{Command, read_words};
 pub use line::tell;

@@ -7,10 +7,11 @@ ghost use Rattle.std.specs.List.{concat};
 ghost use Rattle.raw_subcode.specs.declared.form.Form.{Form};
 ghost use Rattle.stream_words.specs.Stream.{all_packs};
 ghost use Rattle.subcode_player.specs.Convert.{IsDamagedStream};
-ghost use Rattle.cdg_cmd.specs.Answer.{Does, GivesBack, IsAnswered, Tells};
+ghost use Rattle.cdg_cmd.specs.Answer.{Does, GivesBack, IsAnswered, TakesNone, Tells};
 
 use crate::line::tell;
 use crate::streams::run_convert;
+use crate::turning::{run_planar, run_raw};
 use crate::{Command, Status, Which, read_words};
 use cdg_io::{Sink, Source, SteadySink, SteadySource};
 use std::alloc::Global;
@@ -38,6 +39,8 @@ pub fn run<S: Source, T: Source, K: Sink, E: Sink>(
         → IfSome (S.left first.old) (λ all. (blocks : ℕ) (packs : List (List ℕ)) → IsDamagedStream form lead_in blocks packs all
         → GivesBack (concat (all_packs form blocks packs)) (K.held out.old) (K.held out.new) result) }
     ensures no_memory { result ≡ Status.NoMemory → (first.new ≡ first.old) × (out.new ≡ out.old) }
+    // These commands take no memory.
+    ensures takes_none { (command : Command) → Spells command (texts words.now) → TakesNone command → result ≢ Status.NoMemory }
 
     // Each fault has its cause.
     ensures first_later { S.faults first.old ≤ S.faults first.new }
@@ -71,6 +74,7 @@ fn answer<S: Source, K: Sink>(alloc: Global, words: &[String], first: &mut S, ou
         → IfSome (S.left first.old) (λ all. (blocks : ℕ) (packs : List (List ℕ)) → IsDamagedStream form lead_in blocks packs all
         → GivesBack (concat (all_packs form blocks packs)) (K.held out.old) (K.held out.new) result) }
     ensures no_memory { result ≡ Status.NoMemory → (first.new ≡ first.old) × (out.new ≡ out.old) }
+    ensures takes_none { (command : Command) → Spells command (texts words.now) → TakesNone command → result ≢ Status.NoMemory }
     ensures first_later { S.faults first.old ≤ S.faults first.new }
     ensures out_later { K.faults out.old ≤ K.faults out.new }
     ensures read_fault { result ≡ Status.ReadFault Which.First → Rose (S.faults first.old) (S.faults first.new) }
@@ -98,6 +102,7 @@ fn perform<S: Source, K: Sink>(
         → IfSome (S.left first.old) (λ all. (blocks : ℕ) (packs : List (List ℕ)) → IsDamagedStream form lead_in blocks packs all
         → GivesBack (concat (all_packs form blocks packs)) (K.held out.old) (K.held out.new) result) }
     ensures no_memory { result ≡ Status.NoMemory → (first.new ≡ first.old) × (out.new ≡ out.old) }
+    ensures takes_none { TakesNone command → result ≢ Status.NoMemory }
     ensures first_later { S.faults first.old ≤ S.faults first.new }
     ensures out_later { K.faults out.old ≤ K.faults out.new }
     ensures read_fault { result ≡ Status.ReadFault Which.First → Rose (S.faults first.old) (S.faults first.new) }
@@ -105,6 +110,8 @@ fn perform<S: Source, K: Sink>(
 {
     match command {
         Command::Convert { lead_in, form } => run_convert(alloc, lead_in, form, first, out),
+        Command::Planar => run_planar(first, out),
+        Command::Raw => run_raw(first, out),
     }
 }
 

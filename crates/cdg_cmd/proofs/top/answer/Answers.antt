@@ -1,5 +1,5 @@
-use Rattle.std.proofs.Common.{rules, refl, subst}
-use Rattle.cdg_cmd.specs.Answer.{Does}
+use Rattle.std.proofs.Common.{rules, refl, subst, sym}
+use Rattle.cdg_cmd.specs.Answer.{Does, TakesNone}
 use Rattle.cdg_cmd.specs.declared.command.Command.{Command}
 use Rattle.cdg_cmd.specs.declared.command.Command.TheVariants.{Convert}
 use Rattle.cdg_cmd.proofs.WordsLemmas.{no_command, same_command}
@@ -31,3 +31,7 @@ returns-in-Some-clause-restores g c = λ lead_in form spelled.
 pub returns-in-None-clause-restores : goal.returns-in-None-clause-restores
 returns-in-None-clause-restores g c = λ lead_in form spelled.
     absurd (no_command _ (c.in-None.ensures.all (Convert lead_in form) spelled))
+
+pub returns-in-Some-clause-takes_none : goal.returns-in-Some-clause-takes_none
+returns-in-Some-clause-takes_none g c = λ command spelled none.
+    c.perform.ensures.takes_none (subst (λ (k : Command). TakesNone k) (sym (same_command _ _ (c.in-Some.ensures.all command spelled))) none)

@@ -1,0 +1,36 @@
+-- What a command that turns each block of a stream takes, writes and answers.
+use Rattle.std.specs.Prelude.{◌≡◌, ℕ, ◌/◌, List, length, Option, Result, Ok, Err, IfSome}
+use Rattle.cdg_io.specs.Pump.{IsUnlessFault, answer_of}
+use Rattle.cdg_io.specs.Streams.{Streams}
+use Rattle.cdg_io.specs.declared.pumping.Pumped.{Pumped}
+use Rattle.cdg_io.specs.declared.pumping.PumpStop.{PumpStop}
+use Rattle.cdg_io.specs.declared.pumping.PumpStop.TheVariants as pump
+use Rattle.cdg_cmd.specs.declared.status.Which.TheVariants.{First}
+use Rattle.cdg_cmd.specs.declared.status.Refusal.TheVariants.{Torn, TooLong}
+use Rattle.cdg_cmd.specs.declared.status.Status.{Status}
+use Rattle.cdg_cmd.specs.declared.status.Status.TheVariants.{Done, Refused, ReadFault, WriteFault}
+
+-- the status of what a pump answers
+abbrev pub pump_status : Result Pumped PumpStop → Status
+pump_status (Ok pumped) = Done
+pump_status (Err pump.ReadFault) = ReadFault First
+pump_status (Err pump.WriteFault) = WriteFault
+pump_status (Err (pump.Torn unit)) = Refused (Torn unit)
+pump_status (Err pump.TooLong) = Refused TooLong
+
+-- the number of blocks, and the text that is written for them
+pub record IsTurned (turned : List ℕ → List ℕ → Type 0) (bytes : List ℕ) (pumped : Pumped) (text : List ℕ) : Type 0 where
+  pub units : pumped.units ≡ length bytes / 96
+  pub written : turned bytes text
+
+-- blocks are turned and written as they are read
+abbrev pub Turns : (List ℕ → List ℕ → Type 0) → Option (List ℕ) → Option (List ℕ) → Option (List ℕ) → Option (List ℕ) → Result Pumped PumpStop → List ℕ → Type 0
+Turns turned left left' held held' answer taken = Streams 96 1000000 pump.Torn pump.WriteFault (IsTurned turned) left left' held held' answer taken
+
+-- It ended with this status: what it took and put, and the exact answer where no fault is told.
+pub record TurnsWith (turned : List ℕ → List ℕ → Type 0) (left left' held held' : Option (List ℕ)) (status : Status) : Type 0 where
+  pub answer : Result Pumped PumpStop
+  pub status_is : status ≡ pump_status answer
+  pub taken : List ℕ
+  pub turns : Turns turned left left' held held' answer taken
+  pub exactly : IfSome left (λ all. IsUnlessFault answer (answer_of 96 1000000 (length all)))

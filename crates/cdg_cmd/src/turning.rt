@@ -1,0 +1,82 @@
+// The commands that turn each block of a stream.
+ghost use Rattle.std.specs.Prelude.{◌≡◌, ◌≢◌, ◌≤◌, List, ℕ, length, IfSome, IsErrOf};
+ghost use Rattle.cdg_io.specs.Causes.{Rose};
+ghost use Rattle.cdg_io.specs.Pump.{IsUnlessFault, answer_of};
+ghost use Rattle.block_stages.specs.PlanarStream.{IsBlockStream, IsPlanarStream};
+ghost use Rattle.cdg_cmd.specs.Turns.{Turns, pump_status};
+ghost use Rattle.cdg_cmd.specs.Answer.{Does};
+
+use crate::{Command, Refusal, Status, Which};
+use block_stages::{BlockForms, PlanarForms};
+use cdg_io::{PumpStop, Pumped, Sink, Source, pump};
+
+const MOST_BLOCKS: u32 = 1_000_000;
+
+// The status of what a pump answers.
+fn pump_status(answer: Result<Pumped, PumpStop>) -> Status
+    ensures { result ≡ pump_status answer }
+{
+    match answer {
+        Ok(_) => Status::Done,
+        Err(PumpStop::ReadFault) => Status::ReadFault(Which::First),
+        Err(PumpStop::WriteFault) => Status::WriteFault,
+        Err(PumpStop::Torn { unit }) => Status::Refused(Refusal::Torn { block: unit }),
+        Err(PumpStop::TooLong) => Status::Refused(Refusal::TooLong),
+    }
+}
+
+/// Writes the planar form of each block as the blocks are read.
+fn planar_stream<S: Source, K: Sink>(source: &mut S, out: &mut K) -> Result<Pumped, PumpStop>
+    ensures turns { (taken : List ℕ) × Turns IsPlanarStream (S.left source.old) (S.left source.new)
+        (K.held out.old) (K.held out.new) result taken }
+    ensures answer { IfSome (S.left source.old) (λ all. IsUnlessFault result (answer_of 96 1000000 (length all))) }
+    ensures source_later { S.faults source.old ≤ S.faults source.new }
+    ensures out_later { K.faults out.old ≤ K.faults out.new }
+    ensures read_fault { IsErrOf result PumpStop.ReadFault → Rose (S.faults source.old) (S.faults source.new) }
+    ensures write_fault { IsErrOf result PumpStop.WriteFault → Rose (K.faults out.old) (K.faults out.new) }
+{
+    match pump(source, MOST_BLOCKS, &mut PlanarForms, out) {
+        Ok(pumped) => Ok(pumped),
+        Err(stop) => Err(stop),
+    }
+}
+
+/// Writes the block of each planar form as the blocks are read.
+fn raw_stream<S: Source, K: Sink>(source: &mut S, out: &mut K) -> Result<Pumped, PumpStop>
+    ensures turns { (taken : List ℕ) × Turns IsBlockStream (S.left source.old) (S.left source.new)
+        (K.held out.old) (K.held out.new) result taken }
+    ensures answer { IfSome (S.left source.old) (λ all. IsUnlessFault result (answer_of 96 1000000 (length all))) }
+    ensures source_later { S.faults source.old ≤ S.faults source.new }
+    ensures out_later { K.faults out.old ≤ K.faults out.new }
+    ensures read_fault { IsErrOf result PumpStop.ReadFault → Rose (S.faults source.old) (S.faults source.new) }
+    ensures write_fault { IsErrOf result PumpStop.WriteFault → Rose (K.faults out.old) (K.faults out.new) }
+{
+    match pump(source, MOST_BLOCKS, &mut BlockForms, out) {
+        Ok(pumped) => Ok(pumped),
+        Err(stop) => Err(stop),
+    }
+}
+
+/// Writes the planar form of each block as the blocks are read.
+pub(crate) fn run_planar<S: Source, K: Sink>(source: &mut S, out: &mut K) -> Status
+    ensures does { Does Command.Planar (S.left source.old) (S.left source.new) (K.held out.old) (K.held out.new) result }
+    ensures never { (result ≢ Status.Usage) × (result ≢ Status.ReadFault Which.Second) × (result ≢ Status.NoMemory) }
+    ensures source_later { S.faults source.old ≤ S.faults source.new }
+    ensures out_later { K.faults out.old ≤ K.faults out.new }
+    ensures read_fault { result ≡ Status.ReadFault Which.First → Rose (S.faults source.old) (S.faults source.new) }
+    ensures write_fault { result ≡ Status.WriteFault → Rose (K.faults out.old) (K.faults out.new) }
+{
+    pump_status(planar_stream(source, out))
+}
+
+/// Writes the block of each planar form as the blocks are read.
+pub(crate) fn run_raw<S: Source, K: Sink>(source: &mut S, out: &mut K) -> Status
+    ensures does { Does Command.Raw (S.left source.old) (S.left source.new) (K.held out.old) (K.held out.new) result }
+    ensures never { (result ≢ Status.Usage) × (result ≢ Status.ReadFault Which.Second) × (result ≢ Status.NoMemory) }
+    ensures source_later { S.faults source.old ≤ S.faults source.new }
+    ensures out_later { K.faults out.old ≤ K.faults out.new }
+    ensures read_fault { result ≡ Status.ReadFault Which.First → Rose (S.faults source.old) (S.faults source.new) }
+    ensures write_fault { result ≡ Status.WriteFault → Rose (K.faults out.old) (K.faults out.new) }
+{
+    pump_status(raw_stream(source, out))
+}
