@@ -1,4 +1,5 @@
 mod Numbers
 mod Statuses
+mod TimedWords
 mod TurnRuns
 mod WordsLemmas

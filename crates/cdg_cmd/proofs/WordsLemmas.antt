@@ -1,13 +1,15 @@
 -- The words of a command line and its options.
-use Rattle.std.proofs.Common.{◌≡◌, ◌≢◌, ◌≤◌, ℕ, List, [], ◌∷◌, String, string_bytes, codes, bytes_eq, false, true, refl, sym, ap, ◌∙◌, subst, Some, None, rules}
+use Rattle.std.proofs.Common.{◌≡◌, ◌≢◌, ◌≤◌, ◌<◌, ℕ, List, [], ◌∷◌, String, string_bytes, codes, bytes_eq, false, true, refl, sym, ap, ◌∙◌, subst, Some, None, rules}
 use Rattle.std.specs.declared.option.Option.{Option}
 use Rattle.std.specs.Option.{option_map}
 use Rattle.raw_subcode.specs.declared.form.Form.{Form}
+use Rattle.raw_subcode.specs.declared.form.Form.TheVariants.{Cooked}
 use Rattle.cdg_cmd.specs.declared.options.StreamOptions.{StreamOptions}
-use Rattle.cdg_cmd.specs.Words.{texts, SpellsStream}
+use Rattle.cdg_cmd.specs.declared.times.TimedOptions.{TimedOptions}
+use Rattle.cdg_cmd.specs.Words.{texts, SpellsStream, SpellsTimed}
 use Rattle.cdg_cmd.specs.Spelling.{Spells, command_name}
 use Rattle.cdg_cmd.specs.declared.command.Command.{Command}
-use Rattle.cdg_cmd.specs.declared.command.Command.TheVariants.{Convert, Planar, Raw}
+use Rattle.cdg_cmd.specs.declared.command.Command.TheVariants.{Convert, Screen, State, Q, Planar, Raw}
 
 -- what holds of all words holds of the first and the rest
 pub texts-split : {A : Type 0} (P : List (List ℕ) → Type 0) (words : List (String A)) (x : String A) (rest : List (String A)) → words ≡ x ∷ rest → P (texts words) → P (string_bytes x ∷ texts rest)
@@ -31,6 +33,24 @@ pub convert_all : (options : List (List ℕ)) (o : Option StreamOptions)
     → (command : Command) → Spells command (codes "convert" ∷ options) → option_map (λ s. Convert s.lead_in s.form) o ≡ Some command
 convert_all options o all (Convert lead_in form) s = ap (option_map (λ (s : StreamOptions). Convert s.lead_in s.form)) (all lead_in form s.1 s.2)
 convert_all options o all command s = absurd (untrue (ap (λ l. bytes_eq l (command_name command)) s.0))
+
+pub screen_all : (options : List (List ℕ)) (o : Option TimedOptions)
+    → ((lead_in : ℕ) (form : Form) (at : ℕ) → lead_in ≤ 450000 → at < 450000 → SpellsTimed lead_in form at options → o ≡ Some (record { lead_in = lead_in; form = form; at = at }))
+    → (command : Command) → Spells command (codes "screen" ∷ options) → option_map (λ s. Screen s.lead_in s.form s.at) o ≡ Some command
+screen_all options o all (Screen lead_in form at) s = ap (option_map (λ (s : TimedOptions). Screen s.lead_in s.form s.at)) (all lead_in form at s.1.0 s.1.1 s.2)
+screen_all options o all command s = absurd (untrue (ap (λ l. bytes_eq l (command_name command)) s.0))
+
+pub state_all : (options : List (List ℕ)) (o : Option TimedOptions)
+    → ((lead_in : ℕ) (form : Form) (at : ℕ) → lead_in ≤ 450000 → at < 450000 → SpellsTimed lead_in form at options → o ≡ Some (record { lead_in = lead_in; form = form; at = at }))
+    → (command : Command) → Spells command (codes "state" ∷ options) → option_map (λ s. State s.lead_in s.form s.at) o ≡ Some command
+state_all options o all (State lead_in form at) s = ap (option_map (λ (s : TimedOptions). State s.lead_in s.form s.at)) (all lead_in form at s.1.0 s.1.1 s.2)
+state_all options o all command s = absurd (untrue (ap (λ l. bytes_eq l (command_name command)) s.0))
+
+pub q_all : (options : List (List ℕ)) (o : Option StreamOptions)
+    → ((lead_in : ℕ) (form : Form) → lead_in ≤ 450000 → form ≢ Cooked → SpellsStream lead_in form options → o ≡ Some (record { lead_in = lead_in; form = form }))
+    → (command : Command) → Spells command (codes "q" ∷ options) → option_map (λ s. Q s.lead_in s.form) o ≡ Some command
+q_all options o all (Q lead_in form) s = ap (option_map (λ (s : StreamOptions). Q s.lead_in s.form)) (all lead_in form s.1.0 s.1.1 s.2)
+q_all options o all command s = absurd (untrue (ap (λ l. bytes_eq l (command_name command)) s.0))
 
 -- `planar` and `raw` have no options
 pub planar_all : (options : List (List ℕ)) (command : Command) → Spells command (codes "planar" ∷ options) → (options ≡ []) × (Some Planar ≡ Some command)

@@ -1,24 +1,34 @@
 -- How each command is spelled.
-use Rattle.std.specs.Prelude.{◌≡◌, ◌≤◌, ℕ, List, [], ◌∷◌, codes, ⊤}
-use Rattle.cdg_cmd.specs.Words.{SpellsStream}
+use Rattle.std.specs.Prelude.{◌≡◌, ◌≢◌, ◌≤◌, ◌<◌, ℕ, List, [], ◌∷◌, codes, ⊤}
+use Rattle.cdg_cmd.specs.Words.{SpellsStream, SpellsTimed}
+use Rattle.raw_subcode.specs.declared.form.Form.TheVariants.{Cooked}
 use Rattle.cdg_cmd.specs.declared.command.Command.{Command}
-use Rattle.cdg_cmd.specs.declared.command.Command.TheVariants.{Convert, Planar, Raw}
+use Rattle.cdg_cmd.specs.declared.command.Command.TheVariants.{Convert, Screen, State, Q, Planar, Raw}
 
--- the numbers that a command may have
+-- the numbers and forms that a command may have: cooked blocks have no Q channel
 abbrev pub IsAllowed : Command → Type 0
 IsAllowed (Convert lead_in form) = lead_in ≤ 450000
+IsAllowed (Screen lead_in form at) = (lead_in ≤ 450000) × (at < 450000)
+IsAllowed (State lead_in form at) = (lead_in ≤ 450000) × (at < 450000)
+IsAllowed (Q lead_in form) = (lead_in ≤ 450000) × (form ≢ Cooked)
 IsAllowed Planar = ⊤
 IsAllowed Raw = ⊤
 
 -- the name of a command
 abbrev pub command_name : Command → List ℕ
 command_name (Convert lead_in form) = codes "convert"
+command_name (Screen lead_in form at) = codes "screen"
+command_name (State lead_in form at) = codes "state"
+command_name (Q lead_in form) = codes "q"
 command_name Planar = codes "planar"
 command_name Raw = codes "raw"
 
 -- the words after its name spell the rest of a command
 abbrev pub SpellsOptions : Command → List (List ℕ) → Type 0
 SpellsOptions (Convert lead_in form) options = SpellsStream lead_in form options
+SpellsOptions (Screen lead_in form at) options = SpellsTimed lead_in form at options
+SpellsOptions (State lead_in form at) options = SpellsTimed lead_in form at options
+SpellsOptions (Q lead_in form) options = SpellsStream lead_in form options
 SpellsOptions Planar options = options ≡ []
 SpellsOptions Raw options = options ≡ []
 

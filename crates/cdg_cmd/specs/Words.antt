@@ -1,5 +1,6 @@
 -- The words of a command line, and the options that they spell.
-use Rattle.std.specs.Prelude.{◌≡◌, ℕ, List, [], ◌∷◌, map, String, string_bytes, codes, decimal}
+use Rattle.std.specs.Prelude.{◌≡◌, ℕ, ◌-◌, take, drop, length, List, [], ◌∷◌, map, String, string_bytes, codes, decimal}
+use Rattle.disc_time.specs.Time.{time_text}
 use Rattle.raw_subcode.specs.declared.form.Form.{Form}
 use Rattle.raw_subcode.specs.declared.form.Form.TheVariants.{Raw, Sector, Cooked}
 
@@ -32,3 +33,17 @@ SpellsValues lead_in form (number ∷ rest) = (number ≡ decimal lead_in) × Sp
 abbrev pub SpellsStream : ℕ → Form → List (List ℕ) → Type 0
 SpellsStream lead_in form [] = ⊥
 SpellsStream lead_in form (option ∷ rest) = (option ≡ codes "--lead-in") × SpellsValues lead_in form rest
+
+-- the only word is this time
+abbrev pub IsTimeWord : ℕ → List (List ℕ) → Type 0
+IsTimeWord time [] = ⊥
+IsTimeWord time (word ∷ rest) = (word ≡ time_text time) × (rest ≡ [])
+
+-- the words are an option of this name and a time
+abbrev pub SpellsTime : List ℕ → ℕ → List (List ℕ) → Type 0
+SpellsTime name time [] = ⊥
+SpellsTime name time (option ∷ rest) = (option ≡ name) × IsTimeWord time rest
+
+-- the words are the options of a stream, and then `--at` and a time
+abbrev pub SpellsTimed : ℕ → Form → ℕ → List (List ℕ) → Type 0
+SpellsTimed lead_in form at words = SpellsStream lead_in form (take (length words - 2) words) × SpellsTime (codes "--at") at (drop (length words - 2) words)

@@ -3,7 +3,8 @@ ghost use Rattle.std.specs.Prelude.{◌≡◌, ◌∷◌, codes, IfSome, Some};
 ghost use Rattle.cdg_cmd.specs.Words.{texts};
 ghost use Rattle.cdg_cmd.specs.Spelling.{Spells};
 
-use crate::options::read_stream;
+use crate::options::{read_blocks, read_stream};
+use crate::times::read_timed;
 use subcode_player::Form;
 
 /// A command with its numbers. A time is the number of its block.
@@ -11,6 +12,12 @@ use subcode_player::Form;
 pub enum Command {
     /// Writes the packs of a stream.
     Convert { lead_in: u32, form: Form },
+    /// Writes the picture at a moment of a stream.
+    Screen { lead_in: u32, form: Form, at: u32 },
+    /// Writes the state of the screen at a moment of a stream.
+    State { lead_in: u32, form: Form, at: u32 },
+    /// Writes the lines of the Q channel of a stream.
+    Q { lead_in: u32, form: Form },
     /// Writes the planar form of each block.
     Planar,
     /// Writes the block of each planar form.
@@ -25,6 +32,9 @@ pub fn read_words(words: &[String]) -> Option<Command>
     let (name, options) = words.split_first()?;
     match name.as_str() {
         "convert" => read_convert(options),
+        "screen" => read_screen(options),
+        "state" => read_state(options),
+        "q" => read_q(options),
         "planar" => read_planar(options),
         "raw" => read_raw(options),
         _ => None,
@@ -37,6 +47,47 @@ fn read_convert(options: &[String]) -> Option<Command>
 {
     match read_stream(options) {
         Some(stream) => Some(Command::Convert {
+            lead_in: stream.lead_in,
+            form: stream.form,
+        }),
+        None => None,
+    }
+}
+
+fn read_screen(options: &[String]) -> Option<Command>
+    ensures spelled { IfSome result (λ command. Spells command (codes "screen" ∷ texts options.now)) }
+    ensures all { (command : Command) → Spells command (codes "screen" ∷ texts options.now) → result ≡ Some command }
+{
+    match read_timed(options) {
+        Some(timed) => Some(Command::Screen {
+            lead_in: timed.lead_in,
+            form: timed.form,
+            at: timed.at,
+        }),
+        None => None,
+    }
+}
+
+fn read_state(options: &[String]) -> Option<Command>
+    ensures spelled { IfSome result (λ command. Spells command (codes "state" ∷ texts options.now)) }
+    ensures all { (command : Command) → Spells command (codes "state" ∷ texts options.now) → result ≡ Some command }
+{
+    match read_timed(options) {
+        Some(timed) => Some(Command::State {
+            lead_in: timed.lead_in,
+            form: timed.form,
+            at: timed.at,
+        }),
+        None => None,
+    }
+}
+
+fn read_q(options: &[String]) -> Option<Command>
+    ensures spelled { IfSome result (λ command. Spells command (codes "q" ∷ texts options.now)) }
+    ensures all { (command : Command) → Spells command (codes "q" ∷ texts options.now) → result ≡ Some command }
+{
+    match read_blocks(options) {
+        Some(stream) => Some(Command::Q {
             lead_in: stream.lead_in,
             form: stream.form,
         }),

@@ -3,11 +3,14 @@
 
 mod command;
 mod line;
+mod listing;
 mod options;
 mod parts;
+mod showing;
 mod splitting;
 mod status;
 mod streams;
+mod times;
 mod top;
 mod turning;
 

@@ -1,5 +1,5 @@
 // The options of a command.
-ghost use Rattle.std.specs.Prelude.{◌≡◌, ◌↔◌, ◌≤◌, ℕ, decimal, IfSome, IsTrue, Some};
+ghost use Rattle.std.specs.Prelude.{◌≡◌, ◌≢◌, ◌↔◌, ◌≤◌, ℕ, decimal, IfSome, IsTrue, Some};
 ghost use Rattle.cdg_cmd.specs.Words.{texts, form_name, NamesForm, SpellsForm, SpellsStream, SpellsValues};
 ghost use Rattle.raw_subcode.specs.declared.form.Form.{Form};
 
@@ -113,6 +113,23 @@ fn read_values(words: &[String]) -> Option<StreamOptions>
     let lead_in = read_lead_in(number)?;
     match read_form(rest) {
         Some(form) => Some(StreamOptions { lead_in, form }),
+        None => None,
+    }
+}
+
+/// The options of a stream whose blocks have a Q channel.
+pub(crate) fn read_blocks(words: &[String]) -> Option<StreamOptions>
+    ensures spelled { IfSome result (λ o. (o.lead_in ≤ 450000) × (o.form ≢ Form.Cooked) × SpellsStream o.lead_in o.form (texts words.now)) }
+    ensures all { (lead_in : ℕ) (form : Form) → lead_in ≤ 450000 → form ≢ Form.Cooked → SpellsStream lead_in form (texts words.now)
+        → result ≡ Some (record { lead_in = lead_in; form = form }) }
+{
+    match read_stream(words) {
+        Some(stream) => {
+            if stream.form == Form::Cooked {
+                return None;
+            }
+            Some(stream)
+        }
         None => None,
     }
 }

@@ -12,7 +12,7 @@ use std::alloc::Global;
 use subcode_player::{Form, PlayStop, Played, Player};
 
 // The status of what a player answers.
-fn play_status(answer: Result<Played, PlayStop>) -> Status
+pub(crate) fn play_status(answer: Result<Played, PlayStop>) -> Status
     ensures { result ≡ play_status answer }
 {
     match answer {

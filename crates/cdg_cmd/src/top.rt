@@ -10,6 +10,8 @@ ghost use Rattle.subcode_player.specs.Convert.{IsDamagedStream};
 ghost use Rattle.cdg_cmd.specs.Answer.{Does, GivesBack, IsAnswered, TakesNone, Tells};
 
 use crate::line::tell;
+use crate::listing::run_q;
+use crate::showing::{run_screen, run_state};
 use crate::streams::run_convert;
 use crate::turning::{run_planar, run_raw};
 use crate::{Command, Status, Which, read_words};
@@ -110,6 +112,9 @@ fn perform<S: Source, K: Sink>(
 {
     match command {
         Command::Convert { lead_in, form } => run_convert(alloc, lead_in, form, first, out),
+        Command::Screen { lead_in, form, at } => run_screen(alloc, lead_in, form, at, first, out),
+        Command::State { lead_in, form, at } => run_state(alloc, lead_in, form, at, first, out),
+        Command::Q { lead_in, form } => run_q(alloc, lead_in, form, first, out),
         Command::Planar => run_planar(first, out),
         Command::Raw => run_raw(first, out),
     }

@@ -21,7 +21,7 @@ fn a_failed_read_ends_the_run(rt: HostRuntime) -> Result<(), Fail> {
     for (line, call, status, count) in cases {
         let bytes = vec![in alloc; 0u8; 480]?;
         let first = MemSource::new(bytes, vec![in alloc; 96usize]?, vec![in alloc; call]?);
-        let ran = run_on(alloc, line, first, Vec::new(alloc))?;
+        let ran = run_on(alloc, line, first, 4096, Vec::new(alloc))?;
         assert_eq!(rt; ran.status, status, "{line} {call}");
         assert_eq!(rt; ran.out.bytes().len(), count, "{line} {call}");
         let told: &[u8] = if call < 6 { b"read fault first\n" } else { b"" };
@@ -38,7 +38,7 @@ fn a_failed_write_ends_the_run(rt: HostRuntime) -> Result<(), Fail> {
     for (call, count) in cases {
         let bytes = vec![in alloc; 0u8; 480]?;
         let first = MemSource::new(bytes, Vec::new(alloc), Vec::new(alloc));
-        let ran = run_on(alloc, "convert --lead-in 0", first, vec![in alloc; call]?)?;
+        let ran = run_on(alloc, "convert --lead-in 0", first, 4096, vec![in alloc; call]?)?;
         let status = if call < 4 {
             Status::WriteFault
         } else {

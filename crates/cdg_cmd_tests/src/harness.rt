@@ -20,16 +20,17 @@ pub fn words(alloc: Global, line: &str) -> Result<Vec<String>, AllocError> {
     Ok(words)
 }
 
-/// Runs a command on a source, into sinks with room.
+/// Runs a command on a source, into an output with this room that fails at these calls.
 pub fn run_on(
     alloc: Global,
     line: &str,
     mut first: MemSource,
-    out_fails: Vec<u32>,
+    room: usize,
+    fails: Vec<u32>,
 ) -> Result<Ran, AllocError> {
     let words = words(alloc, line)?;
     let mut second = SteadySource::new(&[]);
-    let mut out = MemSink::new(alloc, 4096, Vec::new(alloc), out_fails)?;
+    let mut out = MemSink::new(alloc, room, Vec::new(alloc), fails)?;
     let mut err = MemSink::new(alloc, 256, Vec::new(alloc), Vec::new(alloc))?;
     let status = run(alloc, &words, &mut first, &mut second, &mut out, &mut err);
     Ok(Ran { status, out, err })
@@ -38,12 +39,8 @@ pub fn run_on(
 /// Runs a command on bytes that come in pieces of several sizes.
 pub fn run_bytes(alloc: Global, line: &str, bytes: Vec<u8>) -> Result<Ran, AllocError> {
     let cuts = vec![in alloc; 95usize, 1, 97, 7]?;
-    run_on(
-        alloc,
-        line,
-        MemSource::new(bytes, cuts, Vec::new(alloc)),
-        Vec::new(alloc),
-    )
+    let first = MemSource::new(bytes, cuts, Vec::new(alloc));
+    run_on(alloc, line, first, 200_000, Vec::new(alloc))
 }
 
 /// Zero bytes but for ones at these places.

@@ -2,6 +2,8 @@
 #![tactic(auto)]
 
 #[cfg(test)]
+mod channels;
+#[cfg(test)]
 mod convert;
 #[cfg(test)]
 mod faults;
@@ -11,5 +13,7 @@ mod files;
 mod harness;
 #[cfg(test)]
 mod players;
+#[cfg(test)]
+mod screens;
 #[cfg(test)]
 mod words;

@@ -1,15 +1,40 @@
 use cdg_io::{MemSink, MemSource, Then};
+use cdg_screen::Screen;
 use rw_interleave::Gather;
 use std::test::Fail;
-use subcode_player::{BlockWords, Correction, Form, Played, Player, SectorBlocks};
+use subcode_player::{BlockWords, Correction, Drawing, Form, Picture, Played, Player, SectorBlocks};
 
 // A player has these fields and no others, so it can hold no stream.
 fn see_player(player: &Player) {
-    let Player { stages } = player;
-    let stages: &Then<SectorBlocks, Then<BlockWords, Correction>> = stages;
+    let Player { stages, views } = player;
+    see_all_stages(stages);
+    see_all_views(views);
+}
+
+fn see_all_stages(stages: &Then<SectorBlocks, Then<BlockWords, Correction>>) {
     let Then { first, second } = stages;
     let _sectors: &SectorBlocks = first;
     see_stages(second);
+}
+
+fn see_all_views(views: &Then<SectorBlocks, Then<BlockWords, Drawing>>) {
+    let Then { first, second } = views;
+    let _sectors: &SectorBlocks = first;
+    see_views(second);
+}
+
+fn see_views(views: &Then<BlockWords, Drawing>) {
+    let Then { first, second } = views;
+    see_words(first);
+    see_drawing(second);
+}
+
+fn see_drawing(drawing: &Drawing) {
+    let Drawing { picture, left, bad } = drawing;
+    let Picture { screen } = picture;
+    let _screen: &Screen = screen;
+    let _left: &u32 = left;
+    let _bad: &u32 = bad;
 }
 
 fn see_stages(stages: &Then<BlockWords, Correction>) {

@@ -19,6 +19,11 @@ fn words_that_spell_nothing_are_refused(rt: HostRuntime) -> Result<(), Fail> {
         "convert --lead-in 0 --form raw --form raw",
         "convert --lead-in 0 -- a b c",
         "Convert --lead-in 0",
+        "planar --lead-in 0",
+        "q --lead-in 0 --form cooked",
+        "screen --lead-in 0",
+        "screen --lead-in 0 --at 00:60:00",
+        "state --at 00:00:00 --lead-in 0",
     ];
     for line in lines {
         let ran = run_bytes(alloc, line, vec![in alloc; 0u8; 192]?)?;
