@@ -9,7 +9,7 @@ use Rattle.cdg_cmd.specs.declared.times.TimedOptions.{TimedOptions}
 use Rattle.cdg_cmd.specs.Words.{texts, SpellsStream, SpellsTimed}
 use Rattle.cdg_cmd.specs.Spelling.{Spells, command_name}
 use Rattle.cdg_cmd.specs.declared.command.Command.{Command}
-use Rattle.cdg_cmd.specs.declared.command.Command.TheVariants.{Convert, Screen, State, Q, Planar, Raw}
+use Rattle.cdg_cmd.specs.declared.command.Command.TheVariants.{Convert, Screen, State, Check, Q, Planar, Raw}
 
 -- what holds of all words holds of the first and the rest
 pub texts-split : {A : Type 0} (P : List (List ℕ) → Type 0) (words : List (String A)) (x : String A) (rest : List (String A)) → words ≡ x ∷ rest → P (texts words) → P (string_bytes x ∷ texts rest)
@@ -45,6 +45,12 @@ pub state_all : (options : List (List ℕ)) (o : Option TimedOptions)
     → (command : Command) → Spells command (codes "state" ∷ options) → option_map (λ s. State s.lead_in s.form s.at) o ≡ Some command
 state_all options o all (State lead_in form at) s = ap (option_map (λ (s : TimedOptions). State s.lead_in s.form s.at)) (all lead_in form at s.1.0 s.1.1 s.2)
 state_all options o all command s = absurd (untrue (ap (λ l. bytes_eq l (command_name command)) s.0))
+
+pub check_all : (options : List (List ℕ)) (o : Option StreamOptions)
+    → ((lead_in : ℕ) (form : Form) → lead_in ≤ 450000 → SpellsStream lead_in form options → o ≡ Some (record { lead_in = lead_in; form = form }))
+    → (command : Command) → Spells command (codes "check" ∷ options) → option_map (λ s. Check s.lead_in s.form) o ≡ Some command
+check_all options o all (Check lead_in form) s = ap (option_map (λ (s : StreamOptions). Check s.lead_in s.form)) (all lead_in form s.1 s.2)
+check_all options o all command s = absurd (untrue (ap (λ l. bytes_eq l (command_name command)) s.0))
 
 pub q_all : (options : List (List ℕ)) (o : Option StreamOptions)
     → ((lead_in : ℕ) (form : Form) → lead_in ≤ 450000 → form ≢ Cooked → SpellsStream lead_in form options → o ≡ Some (record { lead_in = lead_in; form = form }))

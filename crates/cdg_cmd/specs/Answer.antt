@@ -6,8 +6,9 @@ use Rattle.cdg_io.specs.Causes.{Rose}
 use Rattle.cdg_io.specs.Moves.{AppendsPrefix}
 use Rattle.raw_subcode.specs.Channels.{unit_size}
 use Rattle.raw_subcode.specs.declared.form.Form.{Form}
-use Rattle.subcode_player.specs.Calls.{IsAnsweredBy, PlaysInTurn}
+use Rattle.subcode_player.specs.Calls.{IsAnsweredBy, PlaysAtEnd, PlaysInTurn}
 use Rattle.subcode_player.specs.Convert.{Converts}
+use Rattle.subcode_player.specs.Counts.{IsChecked}
 use Rattle.subcode_player.specs.Shown.{IsScreenAt, IsShownBy, IsStateAt, Shows}
 use Rattle.subcode_player.specs.declared.player.Played.{Played}
 use Rattle.subcode_player.specs.declared.player.PlayStop.{PlayStop}
@@ -17,7 +18,7 @@ use Rattle.block_stages.specs.PlanarStream.{IsBlockStream, IsPlanarStream}
 use Rattle.cdg_cmd.specs.Line.{error_line}
 use Rattle.cdg_cmd.specs.Turns.{TurnsWith}
 use Rattle.cdg_cmd.specs.declared.command.Command.{Command}
-use Rattle.cdg_cmd.specs.declared.command.Command.TheVariants.{Convert, Screen, State, Q, Planar, Raw}
+use Rattle.cdg_cmd.specs.declared.command.Command.TheVariants.{Convert, Screen, State, Check, Q, Planar, Raw}
 use Rattle.cdg_cmd.specs.declared.status.Which.TheVariants.{First, Second}
 use Rattle.cdg_cmd.specs.declared.status.Refusal.TheVariants.{Torn, TooLong, PastEnd}
 use Rattle.cdg_cmd.specs.declared.status.Status.{Status}
@@ -48,6 +49,14 @@ pub record ShowsWith (writes : List ℕ → List ℕ → ℕ → Type 0) (form :
   pub shows : Shows writes form lead_in time left left' held held' answer taken
   pub exactly : IfSome left (λ all. IsShownBy answer lead_in time (unit_size form) (length all))
 
+-- The same of a call that counts.
+pub record ChecksWith (form : Form) (lead_in : ℕ) (left left' held held' : Option (List ℕ)) (status : Status) : Type 0 where
+  pub answer : Result Played PlayStop
+  pub status_is : status ≡ play_status answer
+  pub taken : List ℕ
+  pub checks : PlaysAtEnd (IsChecked form lead_in) form lead_in left left' held held' answer taken
+  pub exactly : IfSome left (λ all. IsAnsweredBy answer (unit_size form) (length all))
+
 -- The same of a call that lists the Q channel.
 pub record ListsWith (form : Form) (lead_in : ℕ) (left left' held held' : Option (List ℕ)) (status : Status) : Type 0 where
   pub answer : Result Played PlayStop
@@ -61,6 +70,7 @@ abbrev pub Does : Command → Option (List ℕ) → Option (List ℕ) → Option
 Does (Convert lead_in form) left left' held held' status = ConvertsWith form lead_in left left' held held' status
 Does (Screen lead_in form at) left left' held held' status = ShowsWith (IsScreenAt form lead_in at) form lead_in at left left' held held' status
 Does (State lead_in form at) left left' held held' status = ShowsWith (IsStateAt form lead_in at) form lead_in at left left' held held' status
+Does (Check lead_in form) left left' held held' status = ChecksWith form lead_in left left' held held' status
 Does (Q lead_in form) left left' held held' status = ListsWith form lead_in left left' held held' status
 Does Planar left left' held held' status = TurnsWith IsPlanarStream left left' held held' status
 Does Raw left left' held held' status = TurnsWith IsBlockStream left left' held held' status
@@ -70,6 +80,7 @@ abbrev pub TakesNone : Command → Type 0
 TakesNone (Convert lead_in form) = ⊥
 TakesNone (Screen lead_in form at) = ⊥
 TakesNone (State lead_in form at) = ⊥
+TakesNone (Check lead_in form) = ⊥
 TakesNone (Q lead_in form) = ⊥
 TakesNone Planar = ⊤
 TakesNone Raw = ⊤

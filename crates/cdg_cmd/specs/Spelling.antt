@@ -3,13 +3,14 @@ use Rattle.std.specs.Prelude.{◌≡◌, ◌≢◌, ◌≤◌, ◌<◌, ℕ, Lis
 use Rattle.cdg_cmd.specs.Words.{SpellsStream, SpellsTimed}
 use Rattle.raw_subcode.specs.declared.form.Form.TheVariants.{Cooked}
 use Rattle.cdg_cmd.specs.declared.command.Command.{Command}
-use Rattle.cdg_cmd.specs.declared.command.Command.TheVariants.{Convert, Screen, State, Q, Planar, Raw}
+use Rattle.cdg_cmd.specs.declared.command.Command.TheVariants.{Convert, Screen, State, Check, Q, Planar, Raw}
 
 -- the numbers and forms that a command may have: cooked blocks have no Q channel
 abbrev pub IsAllowed : Command → Type 0
 IsAllowed (Convert lead_in form) = lead_in ≤ 450000
 IsAllowed (Screen lead_in form at) = (lead_in ≤ 450000) × (at < 450000)
 IsAllowed (State lead_in form at) = (lead_in ≤ 450000) × (at < 450000)
+IsAllowed (Check lead_in form) = lead_in ≤ 450000
 IsAllowed (Q lead_in form) = (lead_in ≤ 450000) × (form ≢ Cooked)
 IsAllowed Planar = ⊤
 IsAllowed Raw = ⊤
@@ -19,6 +20,7 @@ abbrev pub command_name : Command → List ℕ
 command_name (Convert lead_in form) = codes "convert"
 command_name (Screen lead_in form at) = codes "screen"
 command_name (State lead_in form at) = codes "state"
+command_name (Check lead_in form) = codes "check"
 command_name (Q lead_in form) = codes "q"
 command_name Planar = codes "planar"
 command_name Raw = codes "raw"
@@ -28,6 +30,7 @@ abbrev pub SpellsOptions : Command → List (List ℕ) → Type 0
 SpellsOptions (Convert lead_in form) options = SpellsStream lead_in form options
 SpellsOptions (Screen lead_in form at) options = SpellsTimed lead_in form at options
 SpellsOptions (State lead_in form at) options = SpellsTimed lead_in form at options
+SpellsOptions (Check lead_in form) options = SpellsStream lead_in form options
 SpellsOptions (Q lead_in form) options = SpellsStream lead_in form options
 SpellsOptions Planar options = options ≡ []
 SpellsOptions Raw options = options ≡ []

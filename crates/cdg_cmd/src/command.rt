@@ -16,6 +16,8 @@ pub enum Command {
     Screen { lead_in: u32, form: Form, at: u32 },
     /// Writes the state of the screen at a moment of a stream.
     State { lead_in: u32, form: Form, at: u32 },
+    /// Writes the counts of a stream.
+    Check { lead_in: u32, form: Form },
     /// Writes the lines of the Q channel of a stream.
     Q { lead_in: u32, form: Form },
     /// Writes the planar form of each block.
@@ -34,6 +36,7 @@ pub fn read_words(words: &[String]) -> Option<Command>
         "convert" => read_convert(options),
         "screen" => read_screen(options),
         "state" => read_state(options),
+        "check" => read_check(options),
         "q" => read_q(options),
         "planar" => read_planar(options),
         "raw" => read_raw(options),
@@ -77,6 +80,19 @@ fn read_state(options: &[String]) -> Option<Command>
             lead_in: timed.lead_in,
             form: timed.form,
             at: timed.at,
+        }),
+        None => None,
+    }
+}
+
+fn read_check(options: &[String]) -> Option<Command>
+    ensures spelled { IfSome result (λ command. Spells command (codes "check" ∷ texts options.now)) }
+    ensures all { (command : Command) → Spells command (codes "check" ∷ texts options.now) → result ≡ Some command }
+{
+    match read_stream(options) {
+        Some(stream) => Some(Command::Check {
+            lead_in: stream.lead_in,
+            form: stream.form,
         }),
         None => None,
     }

@@ -2,6 +2,7 @@
 #![tactic(auto)]
 
 mod command;
+mod counting;
 mod line;
 mod listing;
 mod options;

@@ -9,6 +9,7 @@ ghost use Rattle.stream_words.specs.Stream.{all_packs};
 ghost use Rattle.subcode_player.specs.Convert.{IsDamagedStream};
 ghost use Rattle.cdg_cmd.specs.Answer.{Does, GivesBack, IsAnswered, TakesNone, Tells};
 
+use crate::counting::run_check;
 use crate::line::tell;
 use crate::listing::run_q;
 use crate::showing::{run_screen, run_state};
@@ -114,6 +115,7 @@ fn perform<S: Source, K: Sink>(
         Command::Convert { lead_in, form } => run_convert(alloc, lead_in, form, first, out),
         Command::Screen { lead_in, form, at } => run_screen(alloc, lead_in, form, at, first, out),
         Command::State { lead_in, form, at } => run_state(alloc, lead_in, form, at, first, out),
+        Command::Check { lead_in, form } => run_check(alloc, lead_in, form, first, out),
         Command::Q { lead_in, form } => run_q(alloc, lead_in, form, first, out),
         Command::Planar => run_planar(first, out),
         Command::Raw => run_raw(first, out),

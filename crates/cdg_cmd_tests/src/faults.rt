@@ -38,7 +38,13 @@ fn a_failed_write_ends_the_run(rt: HostRuntime) -> Result<(), Fail> {
     for (call, count) in cases {
         let bytes = vec![in alloc; 0u8; 480]?;
         let first = MemSource::new(bytes, Vec::new(alloc), Vec::new(alloc));
-        let ran = run_on(alloc, "convert --lead-in 0", first, 4096, vec![in alloc; call]?)?;
+        let ran = run_on(
+            alloc,
+            "convert --lead-in 0",
+            first,
+            4096,
+            vec![in alloc; call]?,
+        )?;
         let status = if call < 4 {
             Status::WriteFault
         } else {

@@ -2,13 +2,57 @@ use cdg_io::{MemSink, MemSource, Then};
 use cdg_screen::Screen;
 use rw_interleave::Gather;
 use std::test::Fail;
-use subcode_player::{BlockWords, Correction, Drawing, Form, Picture, Played, Player, SectorBlocks};
+use subcode_player::{
+    BlockWords, Correction, Counting, Drawing, Form, FrameCounts, Picture, Played, Player,
+    SectorBlocks, WordCounts,
+};
 
 // A player has these fields and no others, so it can hold no stream.
 fn see_player(player: &Player) {
-    let Player { stages, views } = player;
+    let Player {
+        stages,
+        views,
+        checks,
+    } = player;
     see_all_stages(stages);
     see_all_views(views);
+    see_checks(checks);
+}
+
+fn see_checks(checks: &Then<SectorBlocks, Counting>) {
+    let Then { first, second } = checks;
+    let _sectors: &SectorBlocks = first;
+    let Counting { frames, words } = second;
+    see_frames(frames);
+    see_counted_words(words);
+}
+
+fn see_frames(frames: &FrameCounts) {
+    let FrameCounts { read, good, bad } = frames;
+    let _read: &bool = read;
+    let _good: &u32 = good;
+    let _bad: &u32 = bad;
+}
+
+fn see_counted_words(words: &Then<BlockWords, WordCounts>) {
+    let Then { first, second } = words;
+    see_words(first);
+    see_counts(second);
+}
+
+fn see_counts(counts: &WordCounts) {
+    let WordCounts {
+        clean,
+        one,
+        two,
+        bad,
+        idle,
+        graphics,
+        unknown,
+        foreign,
+    } = counts;
+    let _wrong: [&u32; 4] = [clean, one, two, bad];
+    let _kinds: [&u32; 4] = [idle, graphics, unknown, foreign];
 }
 
 fn see_all_stages(stages: &Then<SectorBlocks, Then<BlockWords, Correction>>) {

@@ -27,10 +27,21 @@ fn nothing_stands_before_the_first_pack(rt: HostRuntime) -> Result<(), Fail> {
 #[test]
 fn a_moment_after_the_end_is_refused(rt: HostRuntime) -> Result<(), Fail> {
     let alloc = rt.alloc();
-    for line in ["state --lead-in 1 --at 00:00:02", "screen --lead-in 1 --form raw --at 00:00:02"] {
+    for line in [
+        "state --lead-in 1 --at 00:00:02",
+        "screen --lead-in 1 --form raw --at 00:00:02",
+    ] {
         let ran = run_bytes(alloc, line, vec![in alloc; 0u8; 192]?)?;
-        assert_eq!(rt; ran.status, Status::Refused(Refusal::PastEnd { blocks: 1 }), "{line}");
-        assert_eq!(rt; ran.err.bytes(), b"refused past-end 1\n".as_slice(), "{line}");
+        assert_eq!(rt;
+            ran.status,
+            Status::Refused(Refusal::PastEnd { blocks: 1 }),
+            "{line}"
+        );
+        assert_eq!(rt;
+            ran.err.bytes(),
+            b"refused past-end 1\n".as_slice(),
+            "{line}"
+        );
         assert!(rt; ran.out.bytes().is_empty(), "{line}");
     }
     Ok(())

@@ -1,0 +1,54 @@
+// The command that counts what a stream holds.
+ghost use Rattle.std.specs.Prelude.{◌≡◌, ◌≢◌, ◌≤◌};
+ghost use Rattle.cdg_io.specs.Causes.{Rose};
+ghost use Rattle.cdg_cmd.specs.Answer.{Does};
+
+use crate::streams::play_status;
+use crate::{Command, Status, Which};
+use cdg_io::{Sink, Source};
+use std::alloc::Global;
+use subcode_player::{Form, Player};
+
+/// Writes the counts of a stream.
+pub(crate) fn run_check<S: Source, K: Sink>(
+    alloc: Global,
+    lead_in: u32,
+    form: Form,
+    source: &mut S,
+    out: &mut K,
+) -> Status
+    requires { lead_in ≤ 450000 }
+    ensures does { result ≢ Status.NoMemory → Does (Command.Check lead_in form) (S.left source.old) (S.left source.new)
+        (K.held out.old) (K.held out.new) result }
+    ensures never { (result ≢ Status.Usage) × (result ≢ Status.ReadFault Which.Second) }
+    ensures no_memory { result ≡ Status.NoMemory → (source.new ≡ source.old) × (out.new ≡ out.old) }
+    ensures source_later { S.faults source.old ≤ S.faults source.new }
+    ensures out_later { K.faults out.old ≤ K.faults out.new }
+    ensures read_fault { result ≡ Status.ReadFault Which.First → Rose (S.faults source.old) (S.faults source.new) }
+    ensures write_fault { result ≡ Status.WriteFault → Rose (K.faults out.old) (K.faults out.new) }
+{
+    match Player::start(alloc) {
+        Ok(player) => check_with(player, lead_in, form, source, out),
+        Err(_) => Status::NoMemory,
+    }
+}
+
+// The same with a player, for which no memory is wanted.
+fn check_with<S: Source, K: Sink>(
+    mut player: Player,
+    lead_in: u32,
+    form: Form,
+    source: &mut S,
+    out: &mut K,
+) -> Status
+    requires { lead_in ≤ 450000 }
+    ensures does { Does (Command.Check lead_in form) (S.left source.old) (S.left source.new)
+        (K.held out.old) (K.held out.new) result }
+    ensures never { (result ≢ Status.Usage) × (result ≢ Status.ReadFault Which.Second) × (result ≢ Status.NoMemory) }
+    ensures source_later { S.faults source.old ≤ S.faults source.new }
+    ensures out_later { K.faults out.old ≤ K.faults out.new }
+    ensures read_fault { result ≡ Status.ReadFault Which.First → Rose (S.faults source.old) (S.faults source.new) }
+    ensures write_fault { result ≡ Status.WriteFault → Rose (K.faults out.old) (K.faults out.new) }
+{
+    play_status(player.check(lead_in, form, source, out))
+}
