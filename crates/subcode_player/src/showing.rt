@@ -9,6 +9,9 @@ ghost use Rattle.subcode_player.specs.Steps.{begun};
 ghost use Rattle.subcode_player.specs.Pictured.{GivesPicture, IsHeldAt, IsScheduledStream};
 ghost use Rattle.subcode_player.specs.Shown.{IsScreenAt, IsStateAt, IsShownBy, Shows, Views, viewed};
 
+#[cfg(test)]
+mod tests;
+
 use crate::pictures::screens_show_pictures;
 use crate::player::play_stop;
 use crate::watching::watch;
