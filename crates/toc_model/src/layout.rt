@@ -155,6 +155,7 @@ impl Layout {
         }
         let first = &self.tracks[0];
         let last = &self.tracks[count - 1];
+        let control = last.control();
         match k - count {
             0 => (
                 first.control(),
@@ -164,13 +165,13 @@ impl Layout {
                 },
             ),
             1 => (
-                last.control(),
+                control,
                 TocPoint::Last {
                     track: last.number(),
                 },
             ),
             _ => (
-                last.control(),
+                control,
                 TocPoint::LeadOut {
                     start: Msf::of_block(self.blocks),
                 },

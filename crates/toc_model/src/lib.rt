@@ -6,3 +6,6 @@ mod place;
 mod places;
 
 pub use layout::{Layout, LayoutStop};
+
+#[cfg(test)]
+mod tests;
