@@ -12,9 +12,9 @@ complain() {
 # No handle is allowed.
 [ "$(cat HANDLES)" = "Handles allowed: none." ] || complain "HANDLES is changed"
 
-# The repository stands alone: nothing is cited by the number of a task's paper.
+# The repository stands alone: no document outside of it is cited.
 cited=$(git grep -nIE '\b(paper|request|demand|rung) [0-9]+|\bpapers?/[0-9]' -- . ':!tools/check_repository.sh')
-[ -z "$cited" ] || complain "a paper is cited: $cited"
+[ -z "$cited" ] || complain "something outside is cited: $cited"
 
 # Each crate is listed, and each that is listed is there.
 listed=$(sed -n 's/^\([a-z0-9_]*\):.*/\1/p; s/^\([a-z0-9_]*\) staticlib:.*/\1/p' crates.txt | sort)
