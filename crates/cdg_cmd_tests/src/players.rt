@@ -51,8 +51,14 @@ fn see_counts(counts: &WordCounts) {
         unknown,
         foreign,
     } = counts;
-    let _wrong: [&u32; 4] = [clean, one, two, bad];
-    let _kinds: [&u32; 4] = [idle, graphics, unknown, foreign];
+    let _clean: &u32 = clean;
+    let _one: &u32 = one;
+    let _two: &u32 = two;
+    let _bad: &u32 = bad;
+    let _idle: &u32 = idle;
+    let _graphics: &u32 = graphics;
+    let _unknown: &u32 = unknown;
+    let _foreign: &u32 = foreign;
 }
 
 fn see_all_stages(stages: &Then<SectorBlocks, Then<BlockWords, Correction>>) {
