@@ -4,3 +4,6 @@ pub mod Counting
 pub mod SettingLaws
 pub mod Choices
 pub mod Surveys
+pub mod PlanLists
+pub mod Weaves
+pub mod Schedules

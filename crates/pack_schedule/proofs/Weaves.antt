@@ -1,0 +1,163 @@
+-- The changes of a script, one after another.
+use Rattle.std.proofs.Common.{◌≡◌, ℕ, suc, ◌+◌, ◌-◌, ◌*◌, ◌<◌, ◌≤◌, List, length, get_or, All, ap, sym, subst, ◌∙◌, inl, inr, arith}
+use Rattle.std.specs.Prelude.{Option, Some, None, MatchOption}
+use Rattle.std.proofs.lemmas.Bool.{cases_lt}
+use Rattle.std.proofs.lemmas.List.Elements.{All-get_or}
+use Rattle.cdg_instructions.specs.Instruction.{IsWritten}
+use Rattle.cdg_instructions.specs.declared.instr.Instr.{Instr}
+use Rattle.cdg_instructions.specs.declared.instr.Instr.TheVariants.{Idle}
+use Rattle.picture_script.specs.Script.{Drawing, pictures, ready_time, hold_time, picture_pixel, picture_border, picture_colour}
+use Rattle.picture_script.specs.Board.{Board, IsBlank, IsPicture, StandsBefore}
+use Rattle.pack_schedule.specs.Change.{IsStart}
+use Rattle.pack_schedule.specs.Schedule.{start_of, idle_pack}
+use Rattle.pack_schedule.specs.PlannedChange.{planned_from, planned_change}
+use Rattle.pack_schedule.specs.Survey.{nothing_planned, IsSurvey}
+use Rattle.pack_schedule.specs.Woven.{IsPackAt}
+use Rattle.pack_schedule.specs.Weaving.{Stands, IsWeaving}
+use Rattle.pack_schedule.specs.declared.loom.Loom.{Loom}
+use Rattle.pack_schedule.specs.declared.planned.Planned.{Planned}
+use Rattle.pack_schedule.proofs.PlannedLaws.{PlansAreShortest, chosen_is_start}
+use Rattle.pack_schedule.proofs.PlanLists.{IsFine, planned_fine}
+use Rattle.pack_schedule.proofs.Surveys.{holds_rise}
+
+pub stands_ready : (script : List Drawing) (k : ℕ) (board : Board) → Stands script k board → StandsBefore script k board
+stands_ready script k board h = elim (cases_lt 0 k) [
+  | inl pos ↦ subst (λ o. MatchOption o (IsBlank board) (λ j. (j ≤ k) × IsPicture script j board)) (sym (h.at_some pos)) (omega arith, h.drawn pos)
+  | inr none ↦ subst (λ o. MatchOption o (IsBlank board) (λ j. (j ≤ k) × IsPicture script j board)) (sym (h.at_none (omega arith))) (h.blank (omega arith))
+]
+
+pub stands_after : (script : List Drawing) (k : ℕ) (board : Board) → board.at ≡ Some k → IsPicture script k board → Stands script (k + 1) board
+stands_after script k board at h =
+    let here : k ≡ k + 1 - 1 = omega arith in
+    record {
+      at_none = λ e. absurd (omega (arith, e));
+      blank = λ e. absurd (omega (arith, e));
+      at_some = λ pos. at ∙ ap Some here;
+      drawn = λ pos. subst (λ n. IsPicture script n board) here h;
+    }
+
+pub stands_blank : (script : List Drawing) (board : Board) → board.at ≡ None → IsBlank board → Stands script 0 board
+stands_blank script board at h = record {
+  at_none = λ e. at;
+  blank = λ e. h;
+  at_some = λ pos. absurd (omega (arith, pos));
+  drawn = λ pos. absurd (omega (arith, pos));
+}
+
+-- what a survey says of a picture
+pub start_allowed : (script : List Drawing) (survey : List Planned) (k : ℕ) (preset : Option ℕ) → IsSurvey script survey → k < pictures script → preset ≡ (get_or survey k nothing_planned).preset → IsStart k preset
+start_allowed script survey k preset h lt is = subst (IsStart k) (sym (is ∙ (h.each k lt).preset_is)) (chosen_is_start script k)
+
+pub change_planned : (script : List Drawing) (survey : List Planned) (k : ℕ) (preset : Option ℕ) (change : List Instr) → IsSurvey script survey → k < pictures script → preset ≡ (get_or survey k nothing_planned).preset
+    → change ≡ planned_from script k preset → change ≡ planned_change script k
+unfolding planned_change
+change_planned script survey k preset change h lt is made = made ∙ ap (planned_from script k) (is ∙ (h.each k lt).preset_is)
+
+-- changes do not overlap
+starts_apart : (script : List Drawing) (survey : List Planned) → IsSurvey script survey
+    → ((k : ℕ) → k < pictures script → ready_time script k ≤ hold_time script k) → ((k : ℕ) → k + 1 < pictures script → hold_time script k < ready_time script (k + 1))
+    → (k n : ℕ) → k + suc n < pictures script → start_of script k + length (planned_change script k) ≤ start_of script (k + suc n)
+starts_apart script survey h held later k n lt =
+    let planned = h.each k (omega arith) in
+    let in_time = planned.in_time in
+    let rise = holds_rise script held later k n (omega arith) in
+    let next : k + suc n ≡ suc (k + n) = omega arith in
+    let start : start_of script (k + suc n) ≡ 4 * hold_time script (k + n) - 7 = ap (start_of script) next in
+    omega (arith, in_time, planned.need_is, rise, start, held k (omega arith))
+
+only_here : (script : List Drawing) (loom : Loom) (given : ℕ) → IsWeaving script loom given
+    → ((k : ℕ) → k < pictures script → ready_time script k ≤ hold_time script k) → ((k : ℕ) → k + 1 < pictures script → hold_time script k < ready_time script (k + 1))
+    → (loom.k < pictures script → given < start_of script loom.k + length (planned_change script loom.k))
+    → (j : ℕ) → j < pictures script → start_of script j ≤ given → given < start_of script j + length (planned_change script j) → j ≡ loom.k
+only_here script loom given h held later current j lt from to = elim (cases_lt j loom.k) [
+  | inl before ↦ absurd (omega (arith, h.sent j before, to))
+  | inr not_before ↦ elim (cases_lt loom.k j) [
+    | inl after ↦
+        let apart : loom.k + suc (j - loom.k - 1) ≡ j = omega arith in
+        let far = starts_apart script loom.survey h.surveyed held later loom.k (j - loom.k - 1) (omega arith) in
+        let same = ap (start_of script) apart in
+        absurd (omega (arith, far, same, current (omega arith), from))
+    | inr not_after ↦ omega arith
+  ]
+]
+
+-- a pack of the change at hand
+pub change_pack : (script : List Drawing) (loom : Loom) (given : ℕ) (pack : List ℕ) → IsWeaving script loom given
+    → ((k : ℕ) → k < pictures script → ready_time script k ≤ hold_time script k) → ((k : ℕ) → k + 1 < pictures script → hold_time script k < ready_time script (k + 1))
+    → (loom.k < pictures script → given < start_of script loom.k + length (planned_change script loom.k))
+    → loom.k < pictures script → start_of script loom.k ≤ given → IsWritten (get_or (planned_change script loom.k) (given - start_of script loom.k) Idle) pack → IsPackAt script given pack
+change_pack script loom given pack h held later current lt from written = record {
+  changed = λ j j_lt j_from j_to.
+      let here = only_here script loom given h held later current j j_lt j_from j_to in
+      subst (λ k. IsWritten (get_or (planned_change script k) (given - start_of script k) Idle) pack) (sym here) written;
+  idle = λ all. elim (all loom.k lt) [
+    | inl early ↦ absurd (omega (arith, early, from))
+    | inr late ↦ absurd (omega (arith, late, current lt))
+  ];
+}
+
+-- an idle pack
+pub no_pack : (script : List Drawing) (loom : Loom) (given : ℕ) (pack : List ℕ) → IsWeaving script loom given
+    → ((k : ℕ) → k < pictures script → ready_time script k ≤ hold_time script k) → ((k : ℕ) → k + 1 < pictures script → hold_time script k < ready_time script (k + 1))
+    → (loom.k < pictures script → given < start_of script loom.k + length (planned_change script loom.k))
+    → (loom.k < pictures script → given < start_of script loom.k) → pack ≡ idle_pack → IsPackAt script given pack
+no_pack script loom given pack h held later current early idle = record {
+  changed = λ j j_lt j_from j_to.
+      let here = only_here script loom given h held later current j j_lt j_from j_to in
+      let starts = ap (start_of script) here in
+      absurd (omega (arith, early (omega (arith, here, j_lt)), starts, j_from));
+  idle = λ all. idle;
+}
+
+-- the next picture
+pub advanced : (script : List Drawing) (old new : Loom) (given : ℕ) → IsWeaving script old given → old.k < pictures script → start_of script old.k + length (planned_change script old.k) ≤ given
+    → new.k ≡ old.k + 1 → new.survey ≡ old.survey → Stands script (old.k + 1) new.before → (old.k + 1 < pictures script → new.change ≡ planned_change script (old.k + 1))
+    → (old.k + 1 < pictures script → Stands script (old.k + 1 + 1) new.now) → IsWeaving script new given
+advanced script old new given h lt sent next survey before change now = record {
+  surveyed = subst (IsSurvey script) (sym survey) h.surveyed;
+  k_most = omega (arith, next);
+  change_is = λ more. subst (λ n. new.change ≡ planned_change script n) (sym next) (change (omega (arith, more, next)));
+  before_stands = subst (λ n. Stands script n new.before) (sym next) before;
+  now_stands = λ more. subst (λ n. Stands script (n + 1) new.now) (sym next) (now (omega (arith, more, next)));
+  sent = λ j j_lt. elim (cases_lt j old.k) [
+    | inl earlier ↦ h.sent j earlier
+    | inr not_earlier ↦
+        let here : old.k ≡ j = omega (arith, next, j_lt) in
+        subst (λ n. start_of script n + length (planned_change script n) ≤ given) here sent
+  ];
+}
+
+pub more_given : (script : List Drawing) (loom : Loom) (given more : ℕ) → given ≤ more → IsWeaving script loom given → IsWeaving script loom more
+more_given script loom given more le h = record {
+  surveyed = h.surveyed;
+  k_most = h.k_most;
+  change_is = h.change_is;
+  before_stands = h.before_stands;
+  now_stands = h.now_stands;
+  sent = λ j lt. omega (arith, h.sent j lt);
+}
+
+-- each instruction of the change at hand can be written
+pub fine_at : PlansAreShortest → (script : List Drawing) (change : List Instr) (k i : ℕ) → ((k x y : ℕ) → picture_pixel script k x y < 16) → ((k : ℕ) → picture_border script k < 16) → ((k n : ℕ) → picture_colour script k n < 4096)
+    → change ≡ planned_change script k → i < length change → IsFine (get_or change i Idle)
+fine_at plans script change k i small border colour is lt =
+    All-get_or IsFine change i Idle lt (subst (All IsFine) (sym is) (planned_fine plans script k small border colour))
+
+-- a change ends in time
+pub end_fits : (script : List Drawing) (survey : List Planned) (k start need : ℕ) → IsSurvey script survey → k < pictures script → ((k : ℕ) → k < pictures script → ready_time script k ≤ hold_time script k)
+    → ((k : ℕ) → k < pictures script → hold_time script k < 450000) → start ≡ (get_or survey k nothing_planned).start → need ≡ (get_or survey k nothing_planned).need
+    → (start ≡ start_of script k) × (need ≡ length (planned_change script k)) × (start + need < 1800000)
+end_fits script survey k start need h lt held ends start_is need_is =
+    let planned = h.each k lt in
+    let in_time = planned.in_time in
+    (start_is ∙ planned.start_is, need_is ∙ planned.need_is, omega (arith, in_time, start_is, need_is, planned.start_is, held k lt, ends k lt))
+
+-- the place of a pack in the change at hand
+pub at_hand : (script : List Drawing) (loom : Loom) (given start : ℕ) → IsWeaving script loom given → loom.k < pictures script
+    → (loom.k < pictures script → given < start_of script loom.k + length (planned_change script loom.k)) → start ≡ (get_or loom.survey loom.k nothing_planned).start → start ≤ given
+    → (start ≡ start_of script loom.k) × (given - start < length loom.change)
+at_hand script loom given start h lt current is le =
+    let starts : start ≡ start_of script loom.k = is ∙ (h.surveyed.each loom.k lt).start_is in
+    let size : length loom.change ≡ length (planned_change script loom.k) = ap length (h.change_is lt) in
+    let end = current lt in
+    (starts, omega (arith, starts, size, end, le))

@@ -1,0 +1,56 @@
+use Rattle.std.proofs.Common.{◌≡◌, ◌-◌, ◌<◌, ◌∙◌, ap₂, sym, subst, arith, get_or}
+use Rattle.cdg_instructions.specs.declared.instr.Instr.TheVariants.{Idle}
+use Rattle.cdg_instructions.specs.Instruction.{IsWritten, InRange, IsKnown}
+use Rattle.picture_script.specs.Script.{pictures}
+use Rattle.pack_schedule.specs.Schedule.{start_of}
+use Rattle.pack_schedule.specs.PlannedChange.{planned_change}
+use Rattle.pack_schedule.proofs.PlannedLaws.{PlansAreShortest}
+use Rattle.pack_schedule.proofs.PlanLists.{IsFine}
+use Rattle.pack_schedule.proofs.Weaves.{change_pack, no_pack, fine_at, at_hand}
+use Rattle.pack_schedule.proofs.loom.Loom.pack.Goals as goal
+use Rattle.pack_schedule.proofs.loom.Loom.pack.Goals.{then-self-pictures+else-given-start, else-self-pictures}
+
+pub write-requires-clause-range : goal.write-requires-clause-range
+write-requires-clause-range c =
+    let p = c.plans_are_shortest.ensures in
+    let plans : PlansAreShortest = record { turns = p.turns; count = p.count; least = p.least } in
+    let known = c.pictures.ensures in
+    let w = c.requires.weaving in
+    let lt : c.args.self.now.k < pictures c.args.script.now = omega (arith, known.value, c.if-self-pictures.true) in
+    let at = at_hand c.args.script.now c.args.self.now c.args.given c.start-start.result w lt c.requires.current c.start-start.ensures c.if-given-start.true in
+    let fine : IsFine (get_or c.args.self.now.change (c.args.given - c.start-start.result) Idle) =
+    fine_at plans c.args.script.now c.args.self.now.change c.args.self.now.k (c.args.given - c.start-start.result) known.pixels known.borders known.colours (w.change_is lt) at.1 in
+    subst InRange (sym c.get.ensures) fine.range
+
+pub write-requires-clause-known : goal.write-requires-clause-known
+write-requires-clause-known c =
+    let p = c.plans_are_shortest.ensures in
+    let plans : PlansAreShortest = record { turns = p.turns; count = p.count; least = p.least } in
+    let known = c.pictures.ensures in
+    let w = c.requires.weaving in
+    let lt : c.args.self.now.k < pictures c.args.script.now = omega (arith, known.value, c.if-self-pictures.true) in
+    let at = at_hand c.args.script.now c.args.self.now c.args.given c.start-start.result w lt c.requires.current c.start-start.ensures c.if-given-start.true in
+    let fine : IsFine (get_or c.args.self.now.change (c.args.given - c.start-start.result) Idle) =
+    fine_at plans c.args.script.now c.args.self.now.change c.args.self.now.k (c.args.given - c.start-start.result) known.pixels known.borders known.colours (w.change_is lt) at.1 in
+    subst IsKnown (sym c.get.ensures) fine.known
+
+pub returns-then-given-start : goal.returns-then-given-start
+returns-then-given-start c =
+    let known = c.pictures.ensures in
+    let w = c.requires.weaving in
+    let lt : c.args.self.now.k < pictures c.args.script.now = omega (arith, known.value, c.if-self-pictures.true) in
+    let at = at_hand c.args.script.now c.args.self.now c.args.given c.start-start.result w lt c.requires.current c.start-start.ensures c.if-given-start.true in
+    let instr : c.get.result ≡ get_or (planned_change c.args.script.now c.args.self.now.k) (c.args.given - start_of c.args.script.now c.args.self.now.k) Idle =
+    c.get.ensures ∙ ap₂ (λ n xs. get_or xs (c.args.given - n) Idle) at.0 (w.change_is lt) in
+    change_pack c.args.script.now c.args.self.now c.args.given c.write.result w known.held known.later c.requires.current lt (omega (arith, at.0, c.if-given-start.true))
+    (subst (λ i. IsWritten i c.write.result) instr c.write.ensures.written)
+
+pub returns : goal.returns
+returns c =
+    let known = c.pictures.ensures in
+    let w = c.requires.weaving in
+    no_pack c.args.script.now c.args.self.now c.args.given c.idle.result w known.held known.later c.requires.current
+    (λ lt. elim c.if-self-pictures.branch [
+      | then-self-pictures+else-given-start v ↦ omega (arith, (w.surveyed.each c.args.self.now.k lt).start_is, v.start-start.ensures, v.if-given-start.false)
+      | else-self-pictures v ↦ absurd (omega (arith, v.if-self-pictures.false, known.value, lt))
+    ]) c.idle.ensures

@@ -1,0 +1,22 @@
+-- The packs of a script, one after another.
+use Rattle.std.specs.Prelude.{◌≡◌, ℕ, ◌+◌, ◌-◌, ◌<◌, ◌≤◌, ◌⊎◌, List, [], length, slice_index_or}
+use Rattle.cdg_instructions.specs.Instruction.{IsWritten}
+use Rattle.cdg_instructions.specs.declared.instr.Instr.TheVariants.{Idle}
+use Rattle.picture_script.specs.Script.{Drawing, pictures}
+use Rattle.pack_schedule.specs.Schedule.{start_of, idle_pack}
+use Rattle.pack_schedule.specs.PlannedChange.{planned_change}
+
+-- a script, and how many of its packs were given
+pub record Woven : Type 0 where
+  pub script : List Drawing
+  pub given : ℕ
+
+-- pack n: the written instruction of the planned change that stands there, or an idle pack
+pub record IsPackAt (script : List Drawing) (n : ℕ) (pack : List ℕ) : Type 0 where
+  pub changed : (k : ℕ) → k < pictures script → start_of script k ≤ n → n < start_of script k + length (planned_change script k) →
+      IsWritten (slice_index_or (planned_change script k) (n - start_of script k) Idle) pack
+  pub idle : ((k : ℕ) → k < pictures script → (n < start_of script k) ⊎ (start_of script k + length (planned_change script k) ≤ n)) → pack ≡ idle_pack
+
+-- the packs, in order
+abbrev pub ArePacks : List Drawing → List (List ℕ) → Type 0
+ArePacks script packs = (n : ℕ) → n < length packs → IsPackAt script n (slice_index_or packs n [])

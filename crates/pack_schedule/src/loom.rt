@@ -1,0 +1,112 @@
+// The changes of a script, one after another.
+use crate::change::Change;
+use crate::plans::Survey;
+use cdg_instructions::write;
+use picture_script::{Canvas, Script};
+use rw_code::Pack;
+use std::alloc::{AllocError, Global};
+use tile_author::plans_are_shortest;
+
+/// The change of picture `k`, that picture, and the picture before it.
+#[derive(Drop)]
+pub(crate) struct Loom {
+    pub(crate) survey: Survey,
+    pub(crate) before: Canvas,
+    pub(crate) now: Canvas,
+    pub(crate) change: Change,
+    pub(crate) k: u32,
+}
+
+impl Loom {
+    ghost use Rattle.std.specs.Prelude.{◌≡◌, ◌<◌, ◌≤◌, ◌+◌, length, IfOk};
+    ghost use Rattle.picture_script.specs.Script.{pictures};
+    ghost use Rattle.pack_schedule.specs.Schedule.{start_of};
+    ghost use Rattle.pack_schedule.specs.PlannedChange.{planned_change};
+    ghost use Rattle.pack_schedule.specs.Survey.{IsSurvey};
+    ghost use Rattle.pack_schedule.specs.Woven.{IsPackAt};
+    ghost use Rattle.pack_schedule.specs.Weaving.{Stands, IsWeaving};
+
+    /// The change of the first picture, if there is one.
+    pub(crate) fn start(alloc: Global, script: &Script, survey: Survey) -> Result<Loom, AllocError>
+        requires { IsSurvey script.now survey }
+        ensures { IfOk result (λ loom. IsWeaving script.now loom 0) }
+    {
+        let mut loom = Loom {
+            survey,
+            before: Canvas::start(alloc)?,
+            now: Canvas::start(alloc)?,
+            change: Change::start(alloc)?,
+            k: 0,
+        };
+        if script.pictures() > 0 {
+            loom.prepare(script);
+        }
+        Ok(loom)
+    }
+
+    // Draws picture `k` and plans its change.
+    fn prepare(&mut self, script: &Script)
+        requires surveyed { IsSurvey script.now self.old.survey }
+        requires picture { self.old.k < pictures script.now }
+        requires before { Stands script.now self.old.k self.old.before }
+        requires now { Stands script.now self.old.k self.old.now }
+        ensures change { self.new.change ≡ planned_change script.now self.old.k }
+        ensures now { Stands script.now (self.old.k + 1) self.new.now }
+        ensures before { self.new.before ≡ self.old.before }
+        ensures survey { self.new.survey ≡ self.old.survey }
+        ensures k { self.new.k ≡ self.old.k }
+    {
+        self.now.draw_until(script, self.k);
+        let preset = self.survey.preset(self.k);
+        self.change
+            .plan(script, self.k, preset, &self.before, &self.now);
+    }
+
+    // Goes on to the change of the next picture.
+    fn advance(&mut self, script: &Script, given: u32)
+        requires weaving { IsWeaving script.now self.old given }
+        requires picture { self.old.k < pictures script.now }
+        requires sent { start_of script.now self.old.k + length (planned_change script.now self.old.k) ≤ given }
+        ensures weaving { IsWeaving script.now self.new given }
+        ensures next { self.new.k ≡ self.old.k + 1 }
+    {
+        let pictures = script.pictures();
+        self.before.draw_until(script, self.k);
+        self.k += 1;
+        if self.k < pictures {
+            self.prepare(script);
+        }
+    }
+
+    /// Goes on to the first change that is not in so many packs.
+    pub(crate) fn skip_sent(&mut self, script: &Script, given: u32)
+        requires { IsWeaving script.now self.old given }
+        ensures weaving { IsWeaving script.now self.new given }
+        ensures current { self.new.k < pictures script.now → given < start_of script.now self.new.k + length (planned_change script.now self.new.k) }
+    {
+        let pictures = script.pictures();
+        for _k in self.k..pictures {
+            let end = self.survey.start(self.k) + self.survey.need(self.k);
+            if given < end {
+                return;
+            }
+            self.advance(script, given);
+        }
+    }
+
+    /// The pack of this number: that of an instruction of the change, or an idle pack.
+    pub(crate) fn pack(&self, script: &Script, given: u32) -> Pack
+        requires weaving { IsWeaving script.now self.now given }
+        requires current { self.now.k < pictures script.now → given < start_of script.now self.now.k + length (planned_change script.now self.now.k) }
+        ensures { IsPackAt script.now given result }
+    {
+        plans_are_shortest();
+        if self.k < script.pictures() {
+            let start = self.survey.start(self.k);
+            if given >= start {
+                return write(&self.change.get((given - start) as usize));
+            }
+        }
+        Pack::idle()
+    }
+}

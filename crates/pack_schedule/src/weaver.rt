@@ -1,0 +1,64 @@
+// The packs of a script in turn.
+use crate::loom::Loom;
+use crate::plans::Survey;
+use picture_script::Script;
+use rw_code::Pack;
+use std::alloc::{AllocError, Global};
+use std::marker::Model;
+
+/// The packs of a script, one after another.
+///
+/// A contract sees the script, and how many packs were given.
+#[derive(Drop)]
+pub struct Weaver<'a> {
+    script: &'a Script,
+    loom: Loom,
+    given: u32,
+}
+
+impl<'a> Model for Weaver<'a> {
+    ghost use Rattle.pack_schedule.specs.Woven.{Woven};
+    ghost use Rattle.pack_schedule.specs.Weaving.{IsWeaving};
+
+    ghost Value = { Woven };
+
+    ghost view = { λ w. record { script = w.script.now; given = w.given } };
+
+    ghost invariant = { λ w. IsWeaving w.script.now w.loom w.given };
+}
+
+impl<'a> Weaver<'a> {
+    ghost use Rattle.std.specs.Prelude.{◌≡◌, ◌+◌, IfOk, min};
+    ghost use Rattle.pack_schedule.specs.Survey.{IsSurvey};
+    ghost use Rattle.pack_schedule.specs.Woven.{IsPackAt};
+
+    /// A weaver that has given no pack.
+    pub fn start(
+        alloc: Global,
+        script: &'a Script,
+        survey: Survey,
+    ) -> Result<Weaver<'a>, AllocError>
+        requires { IsSurvey script.now survey }
+        ensures script { IfOk result (λ w. w.script ≡ script.now) }
+        ensures given { IfOk result (λ w. w.given ≡ 0) }
+    {
+        let loom = Loom::start(alloc, script, survey)?;
+        Ok(Weaver {
+            script,
+            loom,
+            given: 0,
+        })
+    }
+
+    /// The next pack. After all changes the packs are idle. The number of packs given stays at the last value of its type.
+    pub fn next(&mut self) -> Pack
+        ensures pack { IsPackAt self.old.script self.old.given result }
+        ensures script { self.new.script ≡ self.old.script }
+        ensures given { self.new.given ≡ min (self.old.given + 1) 4294967295 }
+    {
+        self.loom.skip_sent(self.script, self.given);
+        let pack = self.loom.pack(self.script, self.given);
+        self.given = self.given.saturating_add(1);
+        pack
+    }
+}
