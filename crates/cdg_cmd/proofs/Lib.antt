@@ -1,5 +1,6 @@
-mod Numbers
+mod Decimals
 mod Statuses
 mod TimedWords
 mod TurnRuns
+mod TwoWords
 mod WordsLemmas

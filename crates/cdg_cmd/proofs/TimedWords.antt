@@ -8,12 +8,12 @@ use Rattle.cdg_cmd.specs.declared.options.StreamOptions.{StreamOptions}
 use Rattle.cdg_cmd.specs.declared.times.TimedOptions.{TimedOptions}
 
 -- the texts of the words before the last two, and of these
-front : {A : Type 0} (words options : List (String A)) (k : ℕ) → k ≡ length words - 2 → options ≡ take k words → take (length (texts words) - 2) (texts words) ≡ texts options
+pub front : {A : Type 0} (words options : List (String A)) (k : ℕ) → k ≡ length words - 2 → options ≡ take k words → take (length (texts words) - 2) (texts words) ≡ texts options
 front words options k is cut =
     ap (λ n. take (n - 2) (texts words)) (length-map words string_bytes) ∙ take-map string_bytes (length words - 2) words
     ∙ ap (λ n. texts (take n words)) (sym is) ∙ ap (λ (ws : List (String _)). texts ws) (sym cut)
 
-back : {A : Type 0} (words last : List (String A)) (k : ℕ) → k ≡ length words - 2 → last ≡ drop k words → drop (length (texts words) - 2) (texts words) ≡ texts last
+pub back : {A : Type 0} (words last : List (String A)) (k : ℕ) → k ≡ length words - 2 → last ≡ drop k words → drop (length (texts words) - 2) (texts words) ≡ texts last
 back words last k is cut =
     ap (λ n. drop (n - 2) (texts words)) (length-map words string_bytes) ∙ drop-map string_bytes (length words - 2) words
     ∙ ap (λ n. texts (drop n words)) (sym is) ∙ ap (λ (ws : List (String _)). texts ws) (sym cut)
@@ -37,7 +37,7 @@ no_time a e = (cc)
 same_stream : (a b : StreamOptions) → Some a ≡ Some b → a ≡ b
 same_stream a b e = (cc)
 
-same_time : (a b : ℕ) → Some a ≡ Some b → a ≡ b
+pub same_time : (a b : ℕ) → Some a ≡ Some b → a ≡ b
 same_time a b e = (cc)
 
 pub both : (s : StreamOptions) (time lead_in at : ℕ) (form : Form) → Some s ≡ Some (record { lead_in = lead_in; form = form }) → Some time ≡ Some at

@@ -1,15 +1,16 @@
 -- The words of a command line and its options.
-use Rattle.std.proofs.Common.{◌≡◌, ◌≢◌, ◌≤◌, ◌<◌, ℕ, List, [], ◌∷◌, String, string_bytes, codes, bytes_eq, false, true, refl, sym, ap, ◌∙◌, subst, Some, None, rules}
+use Rattle.std.proofs.Common.{◌≡◌, ◌≢◌, ◌≤◌, ◌<◌, ◌-◌, ◌^◌, ℕ, arith, List, [], ◌∷◌, String, string_bytes, codes, bytes_eq, false, true, refl, sym, ap, ◌∙◌, subst, Some, None, rules}
 use Rattle.std.specs.declared.option.Option.{Option}
 use Rattle.std.specs.Option.{option_map}
 use Rattle.raw_subcode.specs.declared.form.Form.{Form}
 use Rattle.raw_subcode.specs.declared.form.Form.TheVariants.{Cooked}
 use Rattle.cdg_cmd.specs.declared.options.StreamOptions.{StreamOptions}
+use Rattle.cdg_cmd.specs.declared.numbers.TwoNumbers.{TwoNumbers}
 use Rattle.cdg_cmd.specs.declared.times.TimedOptions.{TimedOptions}
-use Rattle.cdg_cmd.specs.Words.{texts, SpellsStream, SpellsTimed}
+use Rattle.cdg_cmd.specs.Words.{texts, SpellsStream, SpellsTimed, SpellsTwo}
 use Rattle.cdg_cmd.specs.Spelling.{Spells, command_name}
 use Rattle.cdg_cmd.specs.declared.command.Command.{Command}
-use Rattle.cdg_cmd.specs.declared.command.Command.TheVariants.{Convert, Screen, State, Check, Q, Planar, Raw}
+use Rattle.cdg_cmd.specs.declared.command.Command.TheVariants.{Convert, Screen, State, Check, Q, Planar, Raw, Scratch, Gen}
 
 -- what holds of all words holds of the first and the rest
 pub texts-split : {A : Type 0} (P : List (List ℕ) → Type 0) (words : List (String A)) (x : String A) (rest : List (String A)) → words ≡ x ∷ rest → P (texts words) → P (string_bytes x ∷ texts rest)
@@ -66,3 +67,23 @@ planar_all options command s = absurd (untrue (ap (λ l. bytes_eq l (command_nam
 pub raw_all : (options : List (List ℕ)) (command : Command) → Spells command (codes "raw" ∷ options) → (options ≡ []) × (Some Raw ≡ Some command)
 raw_all options Raw s = (s.2, refl)
 raw_all options command s = absurd (untrue (ap (λ l. bytes_eq l (command_name command)) s.0))
+
+pub scratch_all : (options : List (List ℕ)) (o : Option TwoNumbers)
+    → ((n m : ℕ) → n ≤ 450000 → m ≤ 2 ^ 64 - 1 → SpellsTwo (codes "--lead-in") n (codes "--seed") m options → o ≡ Some (record { first = n; second = m }))
+    → (command : Command) → Spells command (codes "scratch" ∷ options) → option_map (λ s. Scratch s.first s.second) o ≡ Some command
+scratch_all options o all (Scratch lead_in seed) s =
+    ap (option_map (λ (t : TwoNumbers). Scratch t.first t.second)) (all lead_in seed s.1.0 (omega (arith, s.1.1)) s.2)
+scratch_all options o all command s = absurd (untrue (ap (λ l. bytes_eq l (command_name command)) s.0))
+
+-- a generator's numbers, where some pictures are wanted
+pub gen_all : (options : List (List ℕ)) (o : Option TwoNumbers)
+    → ((n m : ℕ) → n ≤ 2 ^ 64 - 1 → m ≤ 500 → SpellsTwo (codes "--seed") n (codes "--pictures") m options → o ≡ Some (record { first = n; second = m }))
+    → (command : Command) → Spells command (codes "gen" ∷ options) → (seed pictures : ℕ) × (command ≡ Gen seed pictures) × (1 ≤ pictures) × (o ≡ Some (record { first = seed; second = pictures }))
+gen_all options o all (Gen seed pictures) s = (seed, pictures, refl, s.1.1, all seed pictures (omega (arith, s.1.0)) s.1.2 s.2)
+gen_all options o all command s = absurd (untrue (ap (λ l. bytes_eq l (command_name command)) s.0))
+
+pub same_two : (a b : TwoNumbers) → Some a ≡ Some b → a ≡ b
+same_two a b e = (cc)
+
+pub no_two : (a : TwoNumbers) → ◌≡◌ {A = Option TwoNumbers} None (Some a) → ⊥
+no_two a e = (cc)

@@ -16,9 +16,11 @@ use Rattle.subcode_player.specs.declared.player.PlayStop.TheVariants as play
 use Rattle.block_stages.specs.QList.{IsQListed}
 use Rattle.block_stages.specs.PlanarStream.{IsBlockStream, IsPlanarStream}
 use Rattle.cdg_cmd.specs.Line.{error_line}
-use Rattle.cdg_cmd.specs.Turns.{TurnsWith}
+use Rattle.cdg_cmd.specs.Turns.{IsTurned, TurnsWith}
+use Rattle.cdg_workload.specs.Scratches.{IsScratched}
+use Rattle.cdg_workload.specs.Script.{generated_script}
 use Rattle.cdg_cmd.specs.declared.command.Command.{Command}
-use Rattle.cdg_cmd.specs.declared.command.Command.TheVariants.{Convert, Screen, State, Check, Q, Planar, Raw}
+use Rattle.cdg_cmd.specs.declared.command.Command.TheVariants.{Convert, Screen, State, Check, Q, Planar, Raw, Scratch, Gen}
 use Rattle.cdg_cmd.specs.declared.status.Which.TheVariants.{First, Second}
 use Rattle.cdg_cmd.specs.declared.status.Refusal.TheVariants.{Torn, TooLong, PastEnd}
 use Rattle.cdg_cmd.specs.declared.status.Status.{Status}
@@ -65,6 +67,12 @@ pub record ListsWith (form : Form) (lead_in : ℕ) (left left' held held' : Opti
   pub lists : PlaysInTurn (IsQListed form) form lead_in left left' held held' answer taken
   pub exactly : IfSome left (λ all. IsAnsweredBy answer (unit_size form) (length all))
 
+-- a text was written, or a prefix of it where a write failed
+abbrev pub Generates : List ℕ → Option (List ℕ) → Option (List ℕ) → Status → Type 0
+Generates text held held' Done = Appends held held' text
+Generates text held held' WriteFault = AppendsPrefix held held' text
+Generates text held held' status = ⊥
+
 -- what a command does with its input and its output, where memory is found
 abbrev pub Does : Command → Option (List ℕ) → Option (List ℕ) → Option (List ℕ) → Option (List ℕ) → Status → Type 0
 Does (Convert lead_in form) left left' held held' status = ConvertsWith form lead_in left left' held held' status
@@ -72,8 +80,10 @@ Does (Screen lead_in form at) left left' held held' status = ShowsWith (IsScreen
 Does (State lead_in form at) left left' held held' status = ShowsWith (IsStateAt form lead_in at) form lead_in at left left' held held' status
 Does (Check lead_in form) left left' held held' status = ChecksWith form lead_in left left' held held' status
 Does (Q lead_in form) left left' held held' status = ListsWith form lead_in left left' held held' status
-Does Planar left left' held held' status = TurnsWith IsPlanarStream left left' held held' status
-Does Raw left left' held held' status = TurnsWith IsBlockStream left left' held held' status
+Does Planar left left' held held' status = TurnsWith (IsTurned IsPlanarStream) left left' held held' status
+Does Raw left left' held held' status = TurnsWith (IsTurned IsBlockStream) left left' held held' status
+Does (Scratch lead_in seed) left left' held held' status = TurnsWith (IsScratched lead_in seed) left left' held held' status
+Does (Gen seed pictures) left left' held held' status = Generates (generated_script seed pictures) held held' status
 
 -- it takes no memory
 abbrev pub TakesNone : Command → Type 0
@@ -84,6 +94,13 @@ TakesNone (Check lead_in form) = ⊥
 TakesNone (Q lead_in form) = ⊥
 TakesNone Planar = ⊤
 TakesNone Raw = ⊤
+TakesNone (Scratch lead_in seed) = ⊤
+TakesNone (Gen seed pictures) = ⊤
+
+-- it reads no input
+abbrev pub ReadsNone : Command → Type 0
+ReadsNone (Gen seed pictures) = ⊤
+ReadsNone command = ⊥
 
 -- this text was put and nothing was bad, unless a read or a write failed or no memory was found
 abbrev pub GivesBack : List ℕ → Option (List ℕ) → Option (List ℕ) → Status → Type 0

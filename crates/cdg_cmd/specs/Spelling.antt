@@ -1,9 +1,9 @@
 -- How each command is spelled.
-use Rattle.std.specs.Prelude.{◌≡◌, ◌≢◌, ◌≤◌, ◌<◌, ℕ, List, [], ◌∷◌, codes, ⊤}
-use Rattle.cdg_cmd.specs.Words.{SpellsStream, SpellsTimed}
+use Rattle.std.specs.Prelude.{◌≡◌, ◌≢◌, ◌≤◌, ◌<◌, ◌^◌, ℕ, List, [], ◌∷◌, codes, ⊤}
+use Rattle.cdg_cmd.specs.Words.{SpellsStream, SpellsTimed, SpellsTwo}
 use Rattle.raw_subcode.specs.declared.form.Form.TheVariants.{Cooked}
 use Rattle.cdg_cmd.specs.declared.command.Command.{Command}
-use Rattle.cdg_cmd.specs.declared.command.Command.TheVariants.{Convert, Screen, State, Check, Q, Planar, Raw}
+use Rattle.cdg_cmd.specs.declared.command.Command.TheVariants.{Convert, Screen, State, Check, Q, Planar, Raw, Scratch, Gen}
 
 -- the numbers and forms that a command may have: cooked blocks have no Q channel
 abbrev pub IsAllowed : Command → Type 0
@@ -14,6 +14,8 @@ IsAllowed (Check lead_in form) = lead_in ≤ 450000
 IsAllowed (Q lead_in form) = (lead_in ≤ 450000) × (form ≢ Cooked)
 IsAllowed Planar = ⊤
 IsAllowed Raw = ⊤
+IsAllowed (Scratch lead_in seed) = (lead_in ≤ 450000) × (seed < 2 ^ 64)
+IsAllowed (Gen seed pictures) = (seed < 2 ^ 64) × (1 ≤ pictures) × (pictures ≤ 500)
 
 -- the name of a command
 abbrev pub command_name : Command → List ℕ
@@ -24,6 +26,8 @@ command_name (Check lead_in form) = codes "check"
 command_name (Q lead_in form) = codes "q"
 command_name Planar = codes "planar"
 command_name Raw = codes "raw"
+command_name (Scratch lead_in seed) = codes "scratch"
+command_name (Gen seed pictures) = codes "gen"
 
 -- the words after its name spell the rest of a command
 abbrev pub SpellsOptions : Command → List (List ℕ) → Type 0
@@ -34,6 +38,8 @@ SpellsOptions (Check lead_in form) options = SpellsStream lead_in form options
 SpellsOptions (Q lead_in form) options = SpellsStream lead_in form options
 SpellsOptions Planar options = options ≡ []
 SpellsOptions Raw options = options ≡ []
+SpellsOptions (Scratch lead_in seed) options = SpellsTwo (codes "--lead-in") lead_in (codes "--seed") seed options
+SpellsOptions (Gen seed pictures) options = SpellsTwo (codes "--seed") seed (codes "--pictures") pictures options
 
 -- the words spell an allowed command
 abbrev pub Spells : Command → List (List ℕ) → Type 0

@@ -23,14 +23,14 @@ pub record IsTurned (turned : List ℕ → List ℕ → Type 0) (bytes : List �
   pub units : pumped.units ≡ length bytes / 96
   pub written : turned bytes text
 
--- blocks are turned and written as they are read
-abbrev pub Turns : (List ℕ → List ℕ → Type 0) → Option (List ℕ) → Option (List ℕ) → Option (List ℕ) → Option (List ℕ) → Result Pumped PumpStop → List ℕ → Type 0
-Turns turned left left' held held' answer taken = Streams 96 1000000 pump.Torn pump.WriteFault (IsTurned turned) left left' held held' answer taken
+-- blocks are changed and written as they are read
+abbrev pub Turns : (List ℕ → Pumped → List ℕ → Type 0) → Option (List ℕ) → Option (List ℕ) → Option (List ℕ) → Option (List ℕ) → Result Pumped PumpStop → List ℕ → Type 0
+Turns gives left left' held held' answer taken = Streams 96 1000000 pump.Torn pump.WriteFault gives left left' held held' answer taken
 
 -- It ended with this status: what it took and put, and the exact answer where no fault is told.
-pub record TurnsWith (turned : List ℕ → List ℕ → Type 0) (left left' held held' : Option (List ℕ)) (status : Status) : Type 0 where
+pub record TurnsWith (gives : List ℕ → Pumped → List ℕ → Type 0) (left left' held held' : Option (List ℕ)) (status : Status) : Type 0 where
   pub answer : Result Pumped PumpStop
   pub status_is : status ≡ pump_status answer
   pub taken : List ℕ
-  pub turns : Turns turned left left' held held' answer taken
+  pub turns : Turns gives left left' held held' answer taken
   pub exactly : IfSome left (λ all. IsUnlessFault answer (answer_of 96 1000000 (length all)))

@@ -3,6 +3,7 @@ ghost use Rattle.std.specs.Prelude.{◌≡◌, ◌∷◌, codes, IfSome, Some};
 ghost use Rattle.cdg_cmd.specs.Words.{texts};
 ghost use Rattle.cdg_cmd.specs.Spelling.{Spells};
 
+use crate::numbers::read_two;
 use crate::options::{read_blocks, read_stream};
 use crate::times::read_timed;
 use subcode_player::Form;
@@ -24,6 +25,10 @@ pub enum Command {
     Planar,
     /// Writes the block of each planar form.
     Raw,
+    /// Writes a stream with the scratches of a seed.
+    Scratch { lead_in: u32, seed: u64 },
+    /// Writes the script of a seed.
+    Gen { seed: u64, pictures: u32 },
 }
 
 /// The command that the words spell: `None` where they spell none.
@@ -40,6 +45,8 @@ pub fn read_words(words: &[String]) -> Option<Command>
         "q" => read_q(options),
         "planar" => read_planar(options),
         "raw" => read_raw(options),
+        "scratch" => read_scratch(options),
+        "gen" => read_gen(options),
         _ => None,
     }
 }
@@ -128,5 +135,36 @@ fn read_raw(options: &[String]) -> Option<Command>
     match options {
         [] => Some(Command::Raw),
         _ => None,
+    }
+}
+
+fn read_scratch(options: &[String]) -> Option<Command>
+    ensures spelled { IfSome result (λ command. Spells command (codes "scratch" ∷ texts options.now)) }
+    ensures all { (command : Command) → Spells command (codes "scratch" ∷ texts options.now) → result ≡ Some command }
+{
+    match read_two(options, "--lead-in", 450_000, "--seed", u64::MAX) {
+        Some(two) => Some(Command::Scratch {
+            lead_in: two.first as u32,
+            seed: two.second,
+        }),
+        None => None,
+    }
+}
+
+fn read_gen(options: &[String]) -> Option<Command>
+    ensures spelled { IfSome result (λ command. Spells command (codes "gen" ∷ texts options.now)) }
+    ensures all { (command : Command) → Spells command (codes "gen" ∷ texts options.now) → result ≡ Some command }
+{
+    match read_two(options, "--seed", u64::MAX, "--pictures", 500) {
+        Some(two) => {
+            if two.second == 0 {
+                return None;
+            }
+            Some(Command::Gen {
+                seed: two.first,
+                pictures: two.second as u32,
+            })
+        }
+        None => None,
     }
 }

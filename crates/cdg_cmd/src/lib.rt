@@ -3,8 +3,10 @@
 
 mod command;
 mod counting;
+mod generating;
 mod line;
 mod listing;
+mod numbers;
 mod options;
 mod parts;
 mod showing;

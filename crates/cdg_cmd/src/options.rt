@@ -16,7 +16,7 @@ fn is_decimal(word: &str, number: u64) -> bool
 }
 
 /// The number that a word writes in decimal, with no leading zero, where it is at most `most`.
-#[tactic(auto, using(crate::proofs::Numbers::parsed_back))]
+#[tactic(auto, using(crate::proofs::Decimals::parsed_back))]
 pub(crate) fn read_number(word: &str, most: u64) -> Option<u64>
     ensures written { IfSome result (λ n. (n ≤ most) × (word.now ≡ decimal n)) }
     ensures all { (n : ℕ) → n ≤ most → word.now ≡ decimal n → result ≡ Some n }

@@ -7,14 +7,15 @@ ghost use Rattle.std.specs.List.{concat};
 ghost use Rattle.raw_subcode.specs.declared.form.Form.{Form};
 ghost use Rattle.stream_words.specs.Stream.{all_packs};
 ghost use Rattle.subcode_player.specs.Convert.{IsDamagedStream};
-ghost use Rattle.cdg_cmd.specs.Answer.{Does, GivesBack, IsAnswered, TakesNone, Tells};
+ghost use Rattle.cdg_cmd.specs.Answer.{Does, GivesBack, IsAnswered, ReadsNone, TakesNone, Tells};
 
 use crate::counting::run_check;
+use crate::generating::run_gen;
 use crate::line::tell;
 use crate::listing::run_q;
 use crate::showing::{run_screen, run_state};
 use crate::streams::run_convert;
-use crate::turning::{run_planar, run_raw};
+use crate::turning::{run_planar, run_raw, run_scratch};
 use crate::{Command, Status, Which, read_words};
 use cdg_io::{Sink, Source, SteadySink, SteadySource};
 use std::alloc::Global;
@@ -44,6 +45,7 @@ pub fn run<S: Source, T: Source, K: Sink, E: Sink>(
     ensures no_memory { result ≡ Status.NoMemory → (first.new ≡ first.old) × (out.new ≡ out.old) }
     // These commands take no memory.
     ensures takes_none { (command : Command) → Spells command (texts words.now) → TakesNone command → result ≢ Status.NoMemory }
+    ensures reads_none { (command : Command) → Spells command (texts words.now) → ReadsNone command → first.new ≡ first.old }
 
     // Each fault has its cause.
     ensures first_later { S.faults first.old ≤ S.faults first.new }
@@ -78,6 +80,7 @@ fn answer<S: Source, K: Sink>(alloc: Global, words: &[String], first: &mut S, ou
         → GivesBack (concat (all_packs form blocks packs)) (K.held out.old) (K.held out.new) result) }
     ensures no_memory { result ≡ Status.NoMemory → (first.new ≡ first.old) × (out.new ≡ out.old) }
     ensures takes_none { (command : Command) → Spells command (texts words.now) → TakesNone command → result ≢ Status.NoMemory }
+    ensures reads_none { (command : Command) → Spells command (texts words.now) → ReadsNone command → first.new ≡ first.old }
     ensures first_later { S.faults first.old ≤ S.faults first.new }
     ensures out_later { K.faults out.old ≤ K.faults out.new }
     ensures read_fault { result ≡ Status.ReadFault Which.First → Rose (S.faults first.old) (S.faults first.new) }
@@ -106,6 +109,7 @@ fn perform<S: Source, K: Sink>(
         → GivesBack (concat (all_packs form blocks packs)) (K.held out.old) (K.held out.new) result) }
     ensures no_memory { result ≡ Status.NoMemory → (first.new ≡ first.old) × (out.new ≡ out.old) }
     ensures takes_none { TakesNone command → result ≢ Status.NoMemory }
+    ensures reads_none { ReadsNone command → first.new ≡ first.old }
     ensures first_later { S.faults first.old ≤ S.faults first.new }
     ensures out_later { K.faults out.old ≤ K.faults out.new }
     ensures read_fault { result ≡ Status.ReadFault Which.First → Rose (S.faults first.old) (S.faults first.new) }
@@ -119,6 +123,8 @@ fn perform<S: Source, K: Sink>(
         Command::Q { lead_in, form } => run_q(alloc, lead_in, form, first, out),
         Command::Planar => run_planar(first, out),
         Command::Raw => run_raw(first, out),
+        Command::Scratch { lead_in, seed } => run_scratch(lead_in, seed, first, out),
+        Command::Gen { seed, pictures } => run_gen(seed, pictures, out),
     }
 }
 

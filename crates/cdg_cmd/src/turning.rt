@@ -3,17 +3,18 @@ ghost use Rattle.std.specs.Prelude.{◌≡◌, ◌≢◌, ◌≤◌, List, ℕ, 
 ghost use Rattle.cdg_io.specs.Causes.{Rose};
 ghost use Rattle.cdg_io.specs.Pump.{IsUnlessFault, answer_of};
 ghost use Rattle.block_stages.specs.PlanarStream.{IsBlockStream, IsPlanarStream};
-ghost use Rattle.cdg_cmd.specs.Turns.{Turns, pump_status};
+ghost use Rattle.cdg_cmd.specs.Turns.{IsTurned, Turns, pump_status};
 ghost use Rattle.cdg_cmd.specs.Answer.{Does};
 
 use crate::{Command, Refusal, Status, Which};
 use block_stages::{BlockForms, PlanarForms};
 use cdg_io::{PumpStop, Pumped, Sink, Source, pump};
+use cdg_workload::scratch;
 
 const MOST_BLOCKS: u32 = 1_000_000;
 
 // The status of what a pump answers.
-fn pump_status(answer: Result<Pumped, PumpStop>) -> Status
+pub(crate) fn pump_status(answer: Result<Pumped, PumpStop>) -> Status
     ensures { result ≡ pump_status answer }
 {
     match answer {
@@ -27,7 +28,7 @@ fn pump_status(answer: Result<Pumped, PumpStop>) -> Status
 
 /// Writes the planar form of each block as the blocks are read.
 fn planar_stream<S: Source, K: Sink>(source: &mut S, out: &mut K) -> Result<Pumped, PumpStop>
-    ensures turns { (taken : List ℕ) × Turns IsPlanarStream (S.left source.old) (S.left source.new)
+    ensures turns { (taken : List ℕ) × Turns (IsTurned IsPlanarStream) (S.left source.old) (S.left source.new)
         (K.held out.old) (K.held out.new) result taken }
     ensures answer { IfSome (S.left source.old) (λ all. IsUnlessFault result (answer_of 96 1000000 (length all))) }
     ensures source_later { S.faults source.old ≤ S.faults source.new }
@@ -43,7 +44,7 @@ fn planar_stream<S: Source, K: Sink>(source: &mut S, out: &mut K) -> Result<Pump
 
 /// Writes the block of each planar form as the blocks are read.
 fn raw_stream<S: Source, K: Sink>(source: &mut S, out: &mut K) -> Result<Pumped, PumpStop>
-    ensures turns { (taken : List ℕ) × Turns IsBlockStream (S.left source.old) (S.left source.new)
+    ensures turns { (taken : List ℕ) × Turns (IsTurned IsBlockStream) (S.left source.old) (S.left source.new)
         (K.held out.old) (K.held out.new) result taken }
     ensures answer { IfSome (S.left source.old) (λ all. IsUnlessFault result (answer_of 96 1000000 (length all))) }
     ensures source_later { S.faults source.old ≤ S.faults source.new }
@@ -55,6 +56,24 @@ fn raw_stream<S: Source, K: Sink>(source: &mut S, out: &mut K) -> Result<Pumped,
         Ok(pumped) => Ok(pumped),
         Err(stop) => Err(stop),
     }
+}
+
+/// Writes a stream with the scratches of a seed as its blocks are read.
+pub(crate) fn run_scratch<S: Source, K: Sink>(
+    lead_in: u32,
+    seed: u64,
+    source: &mut S,
+    out: &mut K,
+) -> Status
+    requires { lead_in ≤ 450000 }
+    ensures does { Does (Command.Scratch lead_in seed) (S.left source.old) (S.left source.new) (K.held out.old) (K.held out.new) result }
+    ensures never { (result ≢ Status.Usage) × (result ≢ Status.ReadFault Which.Second) × (result ≢ Status.NoMemory) }
+    ensures source_later { S.faults source.old ≤ S.faults source.new }
+    ensures out_later { K.faults out.old ≤ K.faults out.new }
+    ensures read_fault { result ≡ Status.ReadFault Which.First → Rose (S.faults source.old) (S.faults source.new) }
+    ensures write_fault { result ≡ Status.WriteFault → Rose (K.faults out.old) (K.faults out.new) }
+{
+    pump_status(scratch(lead_in, seed, source, out))
 }
 
 /// Writes the planar form of each block as the blocks are read.

@@ -1,0 +1,23 @@
+// The command that writes a script.
+ghost use Rattle.std.specs.Prelude.{◌≡◌, ◌≢◌, ◌≤◌, ◌⊎◌};
+ghost use Rattle.cdg_io.specs.Causes.{Rose};
+ghost use Rattle.cdg_workload.specs.Script.{generated_script};
+ghost use Rattle.cdg_cmd.specs.Answer.{Generates};
+
+use crate::Status;
+use cdg_io::{Failed, Sink};
+use cdg_workload::write_script;
+
+/// Writes the script of a seed.
+pub(crate) fn run_gen<K: Sink>(seed: u64, pictures: u32, out: &mut K) -> Status
+    requires { (1 ≤ pictures) × (pictures ≤ 500) }
+    ensures does { Generates (generated_script seed pictures) (K.held out.old) (K.held out.new) result }
+    ensures never { (result ≡ Status.Done) ⊎ (result ≡ Status.WriteFault) }
+    ensures later { K.faults out.old ≤ K.faults out.new }
+    ensures write_fault { result ≡ Status.WriteFault → Rose (K.faults out.old) (K.faults out.new) }
+{
+    match write_script(seed, pictures, out) {
+        Ok(()) => Status::Done,
+        Err(Failed) => Status::WriteFault,
+    }
+}
