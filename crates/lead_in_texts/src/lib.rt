@@ -1,7 +1,7 @@
 //! The stage that reads the text packs of the lead-in.
 #![tactic(auto)]
 
-ghost use Rattle.std.specs.Prelude.{◌≡◌, ◌≤◌, ◌*◌, ◌<◌, ◌^◌, List, ℕ, None, length, take};
+ghost use Rattle.std.specs.Prelude.{◌≡◌, ◌≤◌, ◌*◌, ◌<◌, ◌^◌, List, ℕ, None, IfOk, length, take};
 ghost use Rattle.cdg_io.specs.Run.{run_state};
 ghost use Rattle.cdtext_packs.specs.Kept.{nothing_kept};
 ghost use Rattle.cdtext_packs.specs.LeadIn.{lead_in_packs};
@@ -10,6 +10,7 @@ ghost use Rattle.lead_in_texts.specs.TextSteps.{begun, offered, text_next, HasRe
 use cdg_io::{Piece, Stage};
 use cdtext_packs::{Offer, TextReader, offers_keep_the_first};
 use raw_subcode::Block;
+use std::alloc::{AllocError, Global};
 
 /// Offers the packs of the lead-in's blocks to a reader, four of each block, and counts what became of them.
 #[derive(Drop)]
@@ -26,6 +27,19 @@ pub struct LeadInTexts {
 }
 
 impl LeadInTexts {
+    /// A lead-in of no blocks, with room for all packs.
+    pub fn start(alloc: Global) -> Result<LeadInTexts, AllocError>
+        ensures { IfOk result (λ texts. texts ≡ begun 0) }
+    {
+        Ok(LeadInTexts {
+            left: 0,
+            reader: TextReader::start(alloc)?,
+            good: 0,
+            bad: 0,
+            other: 0,
+        })
+    }
+
     /// Begins with a lead-in of so many blocks.
     pub fn begin(&mut self, lead_in: u32)
         ensures { self.new ≡ begun lead_in }

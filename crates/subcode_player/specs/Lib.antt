@@ -9,3 +9,4 @@ pub mod Watch
 pub mod Pictured
 pub mod Counts
 pub mod CountSteps
+pub mod TextList

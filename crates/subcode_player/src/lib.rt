@@ -12,6 +12,7 @@ mod player;
 mod q_listing;
 mod sectors;
 mod showing;
+mod text_listing;
 mod watching;
 mod words;
 
@@ -23,6 +24,7 @@ pub use pictures::screens_show_pictures;
 pub use player::{PlayStop, Played, Player};
 pub use raw_subcode::Form;
 pub use sectors::SectorBlocks;
+pub use text_listing::TextStop;
 pub use words::BlockWords;
 
 #[cfg(test)]

@@ -5,6 +5,7 @@ ghost use Rattle.subcode_player.specs.Steps.{begun};
 
 use crate::{BlockWords, Correction, Counting, Drawing, Form, Picture, SectorBlocks};
 use cdg_io::{PumpStop, Pumped, Then};
+use lead_in_texts::LeadInTexts;
 use std::alloc::{AllocError, Global};
 use thiserror::Error;
 
@@ -46,6 +47,8 @@ pub struct Player {
     pub views: Then<SectorBlocks, Then<BlockWords, Drawing>>,
     /// The counts of a stream.
     pub checks: Then<SectorBlocks, Counting>,
+    /// The texts of a lead-in.
+    pub texts: Then<SectorBlocks, LeadInTexts>,
 }
 
 impl Player {
@@ -65,6 +68,7 @@ impl Player {
             ),
             views: Then::new(SectorBlocks, Then::new(BlockWords::start(alloc)?, drawing)),
             checks: Then::new(SectorBlocks, Counting::start(alloc)?),
+            texts: Then::new(SectorBlocks, LeadInTexts::start(alloc)?),
         })
     }
 

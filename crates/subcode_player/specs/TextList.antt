@@ -1,0 +1,69 @@
+-- The texts of a stream's lead-in.
+use Rattle.std.specs.Prelude.{◌≡◌, ℕ, ◌*◌, ◌%◌, ◌≤◌, ◌⊎◌, List, [], length, take, Option, Result, Ok, Err, IsOk}
+use Rattle.std.specs.Io.KnownBytes.{Appends}
+use Rattle.cdg_io.specs.Moves.{AppendsPrefix}
+use Rattle.raw_subcode.specs.Channels.{unit_size, blocks_of}
+use Rattle.raw_subcode.specs.declared.form.Form.{Form}
+use Rattle.cdtext_packs.specs.Kept.{kept_among}
+use Rattle.cdtext_packs.specs.LeadIn.{lead_in_packs}
+use Rattle.cdtext_packs.specs.Reading.{read_texts}
+use Rattle.cdtext_packs.specs.Texts.{Texts}
+use Rattle.cdtext_packs.specs.declared.kinds.TextFault.{TextFault}
+use Rattle.cdtext_packs.specs.declared.kinds.TextFault.TheVariants.{NoMemory}
+use Rattle.cdtext_lines.specs.Lines.{counted_lines, text_lines}
+use Rattle.lead_in_texts.specs.declared.LeadInTexts.{LeadInTexts}
+use Rattle.cdg_io.specs.Streams.{WritesAtEnd}
+use Rattle.subcode_player.specs.Calls.{most_units, IsEarly, IsPlayed, IsAnsweredBy}
+use Rattle.subcode_player.specs.declared.player.Played.{Played}
+use Rattle.subcode_player.specs.declared.player.PlayStop.TheVariants.{ReadFault, WriteFault, Torn, TooLong, PastEnd}
+use Rattle.subcode_player.specs.declared.text_listing.TextStop.{TextStop}
+use Rattle.subcode_player.specs.declared.text_listing.TextStop.TheVariants.{Play, Text}
+
+-- the text packs of the lead-in blocks of a stream, and what its texts are
+abbrev pub packs_in : Form → ℕ → List ℕ → List (List ℕ)
+packs_in form lead_in bytes = lead_in_packs (take lead_in (blocks_of form bytes))
+
+abbrev pub texts_in : Form → ℕ → List ℕ → Result Texts TextFault
+texts_in form lead_in bytes = read_texts (kept_among (packs_in form lead_in bytes))
+
+-- the lines of the texts of the lead-in; no word is looked at, so none is bad
+pub record IsTextListed (form : Form) (lead_in : ℕ) (bytes text : List ℕ) (bad : ℕ) : Type 0 where
+  pub texts : Texts
+  pub read : texts_in form lead_in bytes ≡ Ok texts
+  pub text_is : text ≡ text_lines texts (packs_in form lead_in bytes)
+  pub none_bad : bad ≡ 0
+
+-- the fault is that of the packs, or memory is short
+abbrev pub IsTextFault : TextFault → Result Texts TextFault → Type 0
+IsTextFault fault texts = (fault ≡ NoMemory) ⊎ (texts ≡ Err fault)
+
+-- it comes before the end of the input
+abbrev pub IsEarlyStop : TextStop → Type 0
+IsEarlyStop (Play stop) = IsEarly stop
+IsEarlyStop (Text fault) = ⊥
+
+-- A call that lists the texts took these bytes: it writes at the end, where the packs give texts.
+pub record ListsTexts (form : Form) (lead_in : ℕ) (left left' held held' : Option (List ℕ)) (result : Result Played TextStop) (taken : List ℕ) : Type 0 where
+  pub plays : WritesAtEnd (unit_size form) most_units IsEarlyStop (Play WriteFault) (IsPlayed (IsTextListed form lead_in) form lead_in) left left' held held' result taken
+  pub refused : (fault : TextFault) → result ≡ Err (Text fault) → (length taken % unit_size form ≡ 0) × IsTextFault fault (texts_in form lead_in taken)
+
+-- an input of whole units, not too many
+abbrev pub IsWholeInput : Form → List ℕ → Type 0
+IsWholeInput form all = (length all ≤ most_units * unit_size form) × (length all % unit_size form ≡ 0)
+
+-- the answer to an input that is read and written without a fault
+abbrev pub IsListedBy : Result Played TextStop → Form → ℕ → List ℕ → Type 0
+IsListedBy (Ok played) form lead_in all = IsWholeInput form all × IsOk (texts_in form lead_in all)
+IsListedBy (Err (Text fault)) form lead_in all = IsWholeInput form all × IsTextFault fault (texts_in form lead_in all)
+IsListedBy (Err (Play stop)) form lead_in all = IsAnsweredBy (Err stop) (unit_size form) (length all)
+
+-- what the packs that were read give, and what is written of it
+abbrev pub WritesTexts : LeadInTexts → ℕ → Option (List ℕ) → Option (List ℕ) → Result Played TextStop → Type 0
+WritesTexts s blocks held held' (Ok played) =
+    (played.blocks ≡ blocks) × (played.bad ≡ 0) × ((texts : Texts) × (read_texts s.reader ≡ Ok texts) × Appends held held' (counted_lines texts s.good s.bad s.other))
+WritesTexts s blocks held held' (Err (Play WriteFault)) = (texts : Texts) × (read_texts s.reader ≡ Ok texts) × AppendsPrefix held held' (counted_lines texts s.good s.bad s.other)
+WritesTexts s blocks held held' (Err (Text fault)) = IsTextFault fault (read_texts s.reader) × Appends held held' []
+WritesTexts s blocks held held' (Err (Play ReadFault)) = ⊥
+WritesTexts s blocks held held' (Err (Play (Torn block))) = ⊥
+WritesTexts s blocks held held' (Err (Play TooLong)) = ⊥
+WritesTexts s blocks held held' (Err (Play (PastEnd past))) = ⊥

@@ -1,0 +1,74 @@
+// The texts of a stream's lead-in.
+ghost use Rattle.std.specs.Prelude.{◌≡◌, ◌≤◌, ◌-◌, List, ℕ, IfSome, IsErrOf};
+ghost use Rattle.cdg_io.specs.Causes.{Rose};
+ghost use Rattle.lead_in_texts.specs.TextSteps.{begun};
+ghost use Rattle.subcode_player.specs.TextList.{ListsTexts, IsListedBy, WritesTexts};
+
+use crate::player::play_stop;
+use crate::watching::watch;
+use crate::{Form, PlayStop, Played, Player};
+use cdg_io::{Failed, Sink, Source};
+use cdtext_lines::write_lines;
+use cdtext_packs::TextFault;
+use lead_in_texts::lead_in_packs_are_read;
+use std::alloc::Global;
+
+/// Why a list of texts stopped before its end.
+#[derive(Clone, Copy, Debug, PartialEq, Eq)]
+pub enum TextStop {
+    /// The stream was not read or the text not written.
+    Play(PlayStop),
+    /// The text packs of the lead-in give no texts.
+    Text(TextFault),
+}
+
+impl Player {
+    /// Writes the texts of a stream's lead-in, after all of it is read: a line for each string that is not empty, and
+    /// one on the packs. Memory is taken for the texts alone, once all is read.
+    pub fn text_list<S: Source, K: Sink>(
+        &mut self,
+        alloc: Global,
+        lead_in: u32,
+        form: Form,
+        source: &mut S,
+        out: &mut K,
+    ) -> Result<Played, TextStop>
+        requires { lead_in ≤ 450000 }
+        ensures lists { (taken : List ℕ) × ListsTexts form lead_in
+            (S.left source.old) (S.left source.new) (K.held out.old) (K.held out.new) result taken }
+        // Where nothing failed, the answer is that of the whole input.
+        ensures answer { IfSome (S.left source.old) (λ all. IsListedBy result form lead_in all) }
+        ensures source_later { S.faults source.old ≤ S.faults source.new }
+        ensures out_later { K.faults out.old ≤ K.faults out.new }
+        ensures read_fault { IsErrOf result (TextStop.Play PlayStop.ReadFault) → Rose (S.faults source.old) (S.faults source.new) }
+        ensures write_fault { IsErrOf result (TextStop.Play PlayStop.WriteFault) → Rose (K.faults out.old) (K.faults out.new) }
+    {
+        lead_in_packs_are_read();
+        self.texts.second.begin(lead_in);
+        match watch(form, source, &mut self.texts) {
+            Ok(pumped) => self.write_texts(alloc, pumped.units.saturating_sub(lead_in), out),
+            Err(stop) => Err(TextStop::Play(play_stop(stop))),
+        }
+    }
+
+    /// Writes the texts of the packs that were read.
+    fn write_texts<K: Sink>(
+        &self,
+        alloc: Global,
+        blocks: u32,
+        out: &mut K,
+    ) -> Result<Played, TextStop>
+        ensures writes { WritesTexts self.now.texts.second blocks (K.held out.old) (K.held out.new) result }
+        ensures later { K.faults out.old ≤ K.faults out.new }
+        ensures write_fault { IsErrOf result (TextStop.Play PlayStop.WriteFault) → Rose (K.faults out.old) (K.faults out.new) }
+    {
+        let texts = &self.texts.second;
+        match texts.reader.finish(alloc) {
+            Ok(map) => match write_lines(&map, texts.good, texts.bad, texts.other, out) {
+                Ok(()) => Ok(Played { blocks, bad: 0 }),
+                Err(Failed) => Err(TextStop::Play(PlayStop::WriteFault)),
+            },
+            Err(fault) => Err(TextStop::Text(fault)),
+        }
+    }
+}
