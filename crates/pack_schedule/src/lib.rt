@@ -18,3 +18,6 @@ pub use planned::Stop;
 pub use plans::Survey;
 pub use timing::survey;
 pub use weaver::Weaver;
+
+#[cfg(test)]
+mod tests;

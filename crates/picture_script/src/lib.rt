@@ -14,3 +14,6 @@ mod words;
 pub use canvas::Canvas;
 pub use reasons::{ScriptStop, ScriptWhy};
 pub use script::Script;
+
+#[cfg(test)]
+mod tests;
