@@ -17,3 +17,5 @@ mod players;
 mod screens;
 #[cfg(test)]
 mod words;
+#[cfg(test)]
+mod workload;
