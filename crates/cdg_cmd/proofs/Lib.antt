@@ -1,5 +1,7 @@
 mod Decimals
+mod LineWords
 mod Statuses
+mod TextStatus
 mod TimedWords
 mod TurnRuns
 mod TwoWords

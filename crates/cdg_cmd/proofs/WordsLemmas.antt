@@ -10,7 +10,7 @@ use Rattle.cdg_cmd.specs.declared.times.TimedOptions.{TimedOptions}
 use Rattle.cdg_cmd.specs.Words.{texts, SpellsStream, SpellsTimed, SpellsTwo}
 use Rattle.cdg_cmd.specs.Spelling.{Spells, command_name}
 use Rattle.cdg_cmd.specs.declared.command.Command.{Command}
-use Rattle.cdg_cmd.specs.declared.command.Command.TheVariants.{Convert, Screen, State, Check, Q, Planar, Raw, Scratch, Gen}
+use Rattle.cdg_cmd.specs.declared.command.Command.TheVariants.{Convert, Screen, State, Check, Q, Text, Planar, Raw, Scratch, Gen}
 
 -- what holds of all words holds of the first and the rest
 pub texts-split : {A : Type 0} (P : List (List ℕ) → Type 0) (words : List (String A)) (x : String A) (rest : List (String A)) → words ≡ x ∷ rest → P (texts words) → P (string_bytes x ∷ texts rest)
@@ -58,6 +58,12 @@ pub q_all : (options : List (List ℕ)) (o : Option StreamOptions)
     → (command : Command) → Spells command (codes "q" ∷ options) → option_map (λ s. Q s.lead_in s.form) o ≡ Some command
 q_all options o all (Q lead_in form) s = ap (option_map (λ (s : StreamOptions). Q s.lead_in s.form)) (all lead_in form s.1.0 s.1.1 s.2)
 q_all options o all command s = absurd (untrue (ap (λ l. bytes_eq l (command_name command)) s.0))
+
+pub text_all : (options : List (List ℕ)) (o : Option StreamOptions)
+    → ((lead_in : ℕ) (form : Form) → lead_in ≤ 450000 → form ≢ Cooked → SpellsStream lead_in form options → o ≡ Some (record { lead_in = lead_in; form = form }))
+    → (command : Command) → Spells command (codes "text" ∷ options) → option_map (λ s. Text s.lead_in s.form) o ≡ Some command
+text_all options o all (Text lead_in form) s = ap (option_map (λ (s : StreamOptions). Text s.lead_in s.form)) (all lead_in form s.1.0 s.1.1 s.2)
+text_all options o all command s = absurd (untrue (ap (λ l. bytes_eq l (command_name command)) s.0))
 
 -- `planar` and `raw` have no options
 pub planar_all : (options : List (List ℕ)) (command : Command) → Spells command (codes "planar" ∷ options) → (options ≡ []) × (Some Planar ≡ Some command)

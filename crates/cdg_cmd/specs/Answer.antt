@@ -10,6 +10,10 @@ use Rattle.subcode_player.specs.Calls.{IsAnsweredBy, PlaysAtEnd, PlaysInTurn}
 use Rattle.subcode_player.specs.Convert.{Converts}
 use Rattle.subcode_player.specs.Counts.{IsChecked}
 use Rattle.subcode_player.specs.Shown.{IsScreenAt, IsShownBy, IsStateAt, Shows}
+use Rattle.subcode_player.specs.TextList.{IsListedBy, ListsTexts}
+use Rattle.subcode_player.specs.declared.text_listing.TextStop.{TextStop}
+use Rattle.subcode_player.specs.declared.text_listing.TextStop.TheVariants as texts
+use Rattle.cdtext_packs.specs.declared.kinds.TextFault.TheVariants as fault
 use Rattle.subcode_player.specs.declared.player.Played.{Played}
 use Rattle.subcode_player.specs.declared.player.PlayStop.{PlayStop}
 use Rattle.subcode_player.specs.declared.player.PlayStop.TheVariants as play
@@ -20,9 +24,9 @@ use Rattle.cdg_cmd.specs.Turns.{IsTurned, TurnsWith}
 use Rattle.cdg_workload.specs.Scratches.{IsScratched}
 use Rattle.cdg_workload.specs.Script.{generated_script}
 use Rattle.cdg_cmd.specs.declared.command.Command.{Command}
-use Rattle.cdg_cmd.specs.declared.command.Command.TheVariants.{Convert, Screen, State, Check, Q, Planar, Raw, Scratch, Gen}
+use Rattle.cdg_cmd.specs.declared.command.Command.TheVariants.{Convert, Screen, State, Check, Q, Text, Planar, Raw, Scratch, Gen}
 use Rattle.cdg_cmd.specs.declared.status.Which.TheVariants.{First, Second}
-use Rattle.cdg_cmd.specs.declared.status.Refusal.TheVariants.{Torn, TooLong, PastEnd}
+use Rattle.cdg_cmd.specs.declared.status.Refusal.TheVariants.{Torn, TooLong, PastEnd, TextMissing, TextNoSize, TextMalformed}
 use Rattle.cdg_cmd.specs.declared.status.Status.{Status}
 use Rattle.cdg_cmd.specs.declared.status.Status.TheVariants.{Done, Damaged, Usage, Refused, ReadFault, WriteFault, NoMemory}
 
@@ -67,6 +71,23 @@ pub record ListsWith (form : Form) (lead_in : ℕ) (left left' held held' : Opti
   pub lists : PlaysInTurn (IsQListed form) form lead_in left left' held held' answer taken
   pub exactly : IfSome left (λ all. IsAnsweredBy answer (unit_size form) (length all))
 
+-- the status of what a player answers that lists texts
+abbrev pub text_status : Result Played TextStop → Status
+text_status (Ok played) = Done
+text_status (Err (texts.Play stop)) = play_status (Err stop)
+text_status (Err (texts.Text (fault.Missing seq))) = Refused (TextMissing seq)
+text_status (Err (texts.Text fault.NoSize)) = Refused TextNoSize
+text_status (Err (texts.Text (fault.Malformed seq byte))) = Refused (TextMalformed seq byte)
+text_status (Err (texts.Text fault.NoMemory)) = NoMemory
+
+-- The same of a call that lists the texts of the lead-in.
+pub record TextsWith (form : Form) (lead_in : ℕ) (left left' held held' : Option (List ℕ)) (status : Status) : Type 0 where
+  pub answer : Result Played TextStop
+  pub status_is : status ≡ text_status answer
+  pub taken : List ℕ
+  pub lists : ListsTexts form lead_in left left' held held' answer taken
+  pub exactly : IfSome left (λ all. IsListedBy answer form lead_in all)
+
 -- a text was written, or a prefix of it where a write failed
 abbrev pub Generates : List ℕ → Option (List ℕ) → Option (List ℕ) → Status → Type 0
 Generates text held held' Done = Appends held held' text
@@ -80,6 +101,7 @@ Does (Screen lead_in form at) left left' held held' status = ShowsWith (IsScreen
 Does (State lead_in form at) left left' held held' status = ShowsWith (IsStateAt form lead_in at) form lead_in at left left' held held' status
 Does (Check lead_in form) left left' held held' status = ChecksWith form lead_in left left' held held' status
 Does (Q lead_in form) left left' held held' status = ListsWith form lead_in left left' held held' status
+Does (Text lead_in form) left left' held held' status = TextsWith form lead_in left left' held held' status
 Does Planar left left' held held' status = TurnsWith (IsTurned IsPlanarStream) left left' held held' status
 Does Raw left left' held held' status = TurnsWith (IsTurned IsBlockStream) left left' held held' status
 Does (Scratch lead_in seed) left left' held held' status = TurnsWith (IsScratched lead_in seed) left left' held held' status
@@ -92,10 +114,16 @@ TakesNone (Screen lead_in form at) = ⊥
 TakesNone (State lead_in form at) = ⊥
 TakesNone (Check lead_in form) = ⊥
 TakesNone (Q lead_in form) = ⊥
+TakesNone (Text lead_in form) = ⊥
 TakesNone Planar = ⊤
 TakesNone Raw = ⊤
 TakesNone (Scratch lead_in seed) = ⊤
 TakesNone (Gen seed pictures) = ⊤
+
+-- it takes all memory before it reads
+abbrev pub TakesFirst : Command → Type 0
+TakesFirst (Text lead_in form) = ⊥
+TakesFirst command = ⊤
 
 -- it reads no input
 abbrev pub ReadsNone : Command → Type 0

@@ -4,7 +4,7 @@ use Rattle.bit_lists.specs.Digits.{line_feed}
 use Rattle.cdg_cmd.specs.declared.status.Which.{Which}
 use Rattle.cdg_cmd.specs.declared.status.Which.TheVariants.{First, Second}
 use Rattle.cdg_cmd.specs.declared.status.Refusal.{Refusal}
-use Rattle.cdg_cmd.specs.declared.status.Refusal.TheVariants.{Torn, TooLong, PastEnd}
+use Rattle.cdg_cmd.specs.declared.status.Refusal.TheVariants.{Torn, TooLong, PastEnd, TextMissing, TextNoSize, TextMalformed}
 use Rattle.cdg_cmd.specs.declared.status.Status.{Status}
 use Rattle.cdg_cmd.specs.declared.status.Status.TheVariants.{Done, Damaged, Usage, Refused, ReadFault, WriteFault, NoMemory}
 
@@ -25,6 +25,9 @@ abbrev pub refusal_words : Refusal → List ℕ
 refusal_words (Torn block) = with (codes "torn") block
 refusal_words TooLong = codes "too-long"
 refusal_words (PastEnd blocks) = with (codes "past-end") blocks
+refusal_words (TextMissing seq) = with (codes "text-missing") seq
+refusal_words TextNoSize = codes "text-no-size"
+refusal_words (TextMalformed seq byte) = with (with (codes "text-malformed") seq) byte
 
 abbrev pub input_words : Which → List ℕ
 input_words First = codes "read fault first"

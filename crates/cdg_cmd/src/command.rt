@@ -21,6 +21,8 @@ pub enum Command {
     Check { lead_in: u32, form: Form },
     /// Writes the lines of the Q channel of a stream.
     Q { lead_in: u32, form: Form },
+    /// Writes the texts of the lead-in of a stream.
+    Text { lead_in: u32, form: Form },
     /// Writes the planar form of each block.
     Planar,
     /// Writes the block of each planar form.
@@ -43,6 +45,7 @@ pub fn read_words(words: &[String]) -> Option<Command>
         "state" => read_state(options),
         "check" => read_check(options),
         "q" => read_q(options),
+        "text" => read_text(options),
         "planar" => read_planar(options),
         "raw" => read_raw(options),
         "scratch" => read_scratch(options),
@@ -111,6 +114,19 @@ fn read_q(options: &[String]) -> Option<Command>
 {
     match read_blocks(options) {
         Some(stream) => Some(Command::Q {
+            lead_in: stream.lead_in,
+            form: stream.form,
+        }),
+        None => None,
+    }
+}
+
+fn read_text(options: &[String]) -> Option<Command>
+    ensures spelled { IfSome result (λ command. Spells command (codes "text" ∷ texts options.now)) }
+    ensures all { (command : Command) → Spells command (codes "text" ∷ texts options.now) → result ≡ Some command }
+{
+    match read_blocks(options) {
+        Some(stream) => Some(Command::Text {
             lead_in: stream.lead_in,
             form: stream.form,
         }),

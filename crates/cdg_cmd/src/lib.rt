@@ -13,6 +13,7 @@ mod showing;
 mod splitting;
 mod status;
 mod streams;
+mod texts;
 mod times;
 mod top;
 mod turning;

@@ -39,6 +39,16 @@ fn push_refusal(text: &mut Line, refusal: Refusal)
             text.push_str("past-end");
             push_number(text, blocks);
         }
+        Refusal::TextMissing { seq } => {
+            text.push_str("text-missing");
+            push_number(text, u32::from(seq));
+        }
+        Refusal::TextNoSize => text.push_str("text-no-size"),
+        Refusal::TextMalformed { seq, byte } => {
+            text.push_str("text-malformed");
+            push_number(text, u32::from(seq));
+            push_number(text, u32::from(byte));
+        }
     }
 }
 

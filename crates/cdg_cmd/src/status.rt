@@ -17,6 +17,12 @@ pub enum Refusal {
     TooLong,
     /// The moment is later than the end of this many program blocks.
     PastEnd { blocks: u32 },
+    /// The text pack of this number is wanted, and none is good.
+    TextMissing { seq: u8 },
+    /// There are text packs, but not all three that tell their sizes.
+    TextNoSize,
+    /// This byte of the text pack of this number contradicts the other packs.
+    TextMalformed { seq: u8, byte: u8 },
 }
 
 /// How a run ended.

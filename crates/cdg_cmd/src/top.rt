@@ -1,5 +1,6 @@
 // The top call.
-ghost use Rattle.std.specs.Prelude.{◌≡◌, ◌≢◌, ◌↔◌, ◌≤◌, ℕ, List, IfSome};
+ghost use Rattle.std.specs.Prelude.{◌≡◌, ◌≢◌, ◌↔◌, ◌≤◌, ℕ, List, [], IfSome};
+ghost use Rattle.std.specs.Io.KnownBytes.{Appends};
 ghost use Rattle.cdg_io.specs.Causes.{Rose};
 ghost use Rattle.cdg_cmd.specs.Words.{texts};
 ghost use Rattle.cdg_cmd.specs.Spelling.{IsAllowed, Spells};
@@ -7,7 +8,7 @@ ghost use Rattle.std.specs.List.{concat};
 ghost use Rattle.raw_subcode.specs.declared.form.Form.{Form};
 ghost use Rattle.stream_words.specs.Stream.{all_packs};
 ghost use Rattle.subcode_player.specs.Convert.{IsDamagedStream};
-ghost use Rattle.cdg_cmd.specs.Answer.{Does, GivesBack, IsAnswered, ReadsNone, TakesNone, Tells};
+ghost use Rattle.cdg_cmd.specs.Answer.{Does, GivesBack, IsAnswered, ReadsNone, TakesFirst, TakesNone, Tells};
 
 use crate::counting::run_check;
 use crate::generating::run_gen;
@@ -15,6 +16,7 @@ use crate::line::tell;
 use crate::listing::run_q;
 use crate::showing::{run_screen, run_state};
 use crate::streams::run_convert;
+use crate::texts::run_text;
 use crate::turning::{run_planar, run_raw, run_scratch};
 use crate::{Command, Status, Which, read_words};
 use cdg_io::{Sink, Source, SteadySink, SteadySource};
@@ -42,7 +44,10 @@ pub fn run<S: Source, T: Source, K: Sink, E: Sink>(
     ensures restores { (lead_in : ℕ) (form : Form) → Spells (Command.Convert lead_in form) (texts words.now)
         → IfSome (S.left first.old) (λ all. (blocks : ℕ) (packs : List (List ℕ)) → IsDamagedStream form lead_in blocks packs all
         → GivesBack (concat (all_packs form blocks packs)) (K.held out.old) (K.held out.new) result) }
-    ensures no_memory { result ≡ Status.NoMemory → (first.new ≡ first.old) × (out.new ≡ out.old) }
+    // Where no memory is found nothing was written, and nothing was read where all of it is taken first.
+    ensures no_memory { result ≡ Status.NoMemory → Appends (K.held out.old) (K.held out.new) [] }
+    ensures no_memory_first { (command : Command) → Spells command (texts words.now) → TakesFirst command
+        → result ≡ Status.NoMemory → (first.new ≡ first.old) × (out.new ≡ out.old) }
     // These commands take no memory.
     ensures takes_none { (command : Command) → Spells command (texts words.now) → TakesNone command → result ≢ Status.NoMemory }
     ensures reads_none { (command : Command) → Spells command (texts words.now) → ReadsNone command → first.new ≡ first.old }
@@ -78,7 +83,9 @@ fn answer<S: Source, K: Sink>(alloc: Global, words: &[String], first: &mut S, ou
     ensures restores { (lead_in : ℕ) (form : Form) → Spells (Command.Convert lead_in form) (texts words.now)
         → IfSome (S.left first.old) (λ all. (blocks : ℕ) (packs : List (List ℕ)) → IsDamagedStream form lead_in blocks packs all
         → GivesBack (concat (all_packs form blocks packs)) (K.held out.old) (K.held out.new) result) }
-    ensures no_memory { result ≡ Status.NoMemory → (first.new ≡ first.old) × (out.new ≡ out.old) }
+    ensures no_memory { result ≡ Status.NoMemory → Appends (K.held out.old) (K.held out.new) [] }
+    ensures no_memory_first { (command : Command) → Spells command (texts words.now) → TakesFirst command
+        → result ≡ Status.NoMemory → (first.new ≡ first.old) × (out.new ≡ out.old) }
     ensures takes_none { (command : Command) → Spells command (texts words.now) → TakesNone command → result ≢ Status.NoMemory }
     ensures reads_none { (command : Command) → Spells command (texts words.now) → ReadsNone command → first.new ≡ first.old }
     ensures first_later { S.faults first.old ≤ S.faults first.new }
@@ -107,7 +114,8 @@ fn perform<S: Source, K: Sink>(
     ensures restores { (lead_in : ℕ) (form : Form) → command ≡ Command.Convert lead_in form
         → IfSome (S.left first.old) (λ all. (blocks : ℕ) (packs : List (List ℕ)) → IsDamagedStream form lead_in blocks packs all
         → GivesBack (concat (all_packs form blocks packs)) (K.held out.old) (K.held out.new) result) }
-    ensures no_memory { result ≡ Status.NoMemory → (first.new ≡ first.old) × (out.new ≡ out.old) }
+    ensures no_memory { result ≡ Status.NoMemory → Appends (K.held out.old) (K.held out.new) [] }
+    ensures no_memory_first { TakesFirst command → result ≡ Status.NoMemory → (first.new ≡ first.old) × (out.new ≡ out.old) }
     ensures takes_none { TakesNone command → result ≢ Status.NoMemory }
     ensures reads_none { ReadsNone command → first.new ≡ first.old }
     ensures first_later { S.faults first.old ≤ S.faults first.new }
@@ -121,6 +129,7 @@ fn perform<S: Source, K: Sink>(
         Command::State { lead_in, form, at } => run_state(alloc, lead_in, form, at, first, out),
         Command::Check { lead_in, form } => run_check(alloc, lead_in, form, first, out),
         Command::Q { lead_in, form } => run_q(alloc, lead_in, form, first, out),
+        Command::Text { lead_in, form } => run_text(alloc, lead_in, form, first, out),
         Command::Planar => run_planar(first, out),
         Command::Raw => run_raw(first, out),
         Command::Scratch { lead_in, seed } => run_scratch(lead_in, seed, first, out),

@@ -17,5 +17,3 @@ mod players;
 mod screens;
 #[cfg(test)]
 mod words;
-#[cfg(test)]
-mod workload;

@@ -1,5 +1,7 @@
 use cdg_io::{MemSink, MemSource, Then};
 use cdg_screen::Screen;
+use cdtext_packs::TextReader;
+use lead_in_texts::LeadInTexts;
 use rw_interleave::Gather;
 use std::test::Fail;
 use subcode_player::{
@@ -13,10 +15,29 @@ fn see_player(player: &Player) {
         stages,
         views,
         checks,
+        texts,
     } = player;
     see_all_stages(stages);
     see_all_views(views);
     see_checks(checks);
+    see_texts(texts);
+}
+
+fn see_texts(texts: &Then<SectorBlocks, LeadInTexts>) {
+    let Then { first, second } = texts;
+    let _sectors: &SectorBlocks = first;
+    let LeadInTexts {
+        left,
+        reader,
+        good,
+        bad,
+        other,
+    } = second;
+    let _left: &u32 = left;
+    let _reader: &TextReader = reader;
+    let _good: &u32 = good;
+    let _bad: &u32 = bad;
+    let _other: &u32 = other;
 }
 
 fn see_checks(checks: &Then<SectorBlocks, Counting>) {

@@ -1,5 +1,5 @@
 use Rattle.std.proofs.Common.{rules, refl, subst, sym}
-use Rattle.cdg_cmd.specs.Answer.{Does, ReadsNone, TakesNone}
+use Rattle.cdg_cmd.specs.Answer.{Does, ReadsNone, TakesFirst, TakesNone}
 use Rattle.cdg_cmd.specs.declared.command.Command.{Command}
 use Rattle.cdg_cmd.specs.declared.command.Command.TheVariants.{Convert}
 use Rattle.cdg_cmd.proofs.WordsLemmas.{no_command, same_command}
@@ -39,3 +39,7 @@ returns-in-Some-clause-takes_none g c = λ command spelled none.
 pub returns-in-Some-clause-reads_none : goal.returns-in-Some-clause-reads_none
 returns-in-Some-clause-reads_none g c = λ command spelled none.
     c.perform.ensures.reads_none (subst (λ (k : Command). ReadsNone k) (sym (same_command _ _ (c.in-Some.ensures.all command spelled))) none)
+
+pub returns-in-Some-clause-no_memory_first : goal.returns-in-Some-clause-no_memory_first
+returns-in-Some-clause-no_memory_first g c = λ command spelled first.
+    c.perform.ensures.no_memory_first (subst (λ (k : Command). TakesFirst k) (sym (same_command _ _ (c.in-Some.ensures.all command spelled))) first)

@@ -1,0 +1,8 @@
+-- Words and numbers after what stands.
+use Rattle.std.proofs.Common.{◌≡◌, ℕ, List, ◌++◌, codes, decimal, ap, ap₂, ◌∙◌, append_assoc}
+use Rattle.cdg_cmd.specs.Line.{with}
+
+pub with_number : (old mid new word : List ℕ) (n k : ℕ) → mid ≡ old ++ word → k ≡ n → new ≡ with mid k → new ≡ old ++ with word n
+with_number old mid new word n k first same second =
+    second ∙ ap₂ (λ (m : List ℕ) (j : ℕ). with m j) first same
+    ∙ ap (λ (m : List ℕ). m ++ decimal n) (append_assoc old word (codes " ")) ∙ append_assoc old (word ++ codes " ") (decimal n)
