@@ -1,0 +1,4 @@
+pub mod Built
+pub mod Slots
+pub mod Pieces
+pub mod Framed

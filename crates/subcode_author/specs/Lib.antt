@@ -1,0 +1,3 @@
+pub mod Blocks
+pub mod PackRuns
+pub mod Framing

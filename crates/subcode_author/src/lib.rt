@@ -1,0 +1,7 @@
+//! Writes the subcode of a disc: the layout of a cue sheet, its texts, and the pictures of a script.
+#![tactic(auto)]
+
+mod blocks;
+mod packs;
+mod program;
+mod stream;
