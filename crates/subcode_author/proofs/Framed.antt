@@ -11,7 +11,7 @@ use Rattle.raw_subcode.specs.declared.form.Form.TheVariants.{Raw}
 use Rattle.toc_model.specs.Places.{DiscLayout}
 use Rattle.toc_model.specs.Layout.{p_bit, program_frame, toc_frame}
 use Rattle.cdtext_packs.specs.LeadIn.{lead_in_symbols}
-use Rattle.subcode_author.specs.Blocks.{lead_in_block, program_block, symbols_at, stream_bytes, HasChannels, IsBuilt}
+use Rattle.subcode_author.specs.Blocks.{carrying_block, lead_in_block, program_block, symbols_at, stream_bytes, HasChannels, IsBuilt}
 use Rattle.subcode_author.specs.Framing.{raw_block, HasFraming}
 
 -- each of them has 96 bytes
@@ -78,19 +78,19 @@ all_blocks layout texts lead_in symbols built =
     (blocks_in_range (program_block layout symbols) 0 layout.blocks (λ i low high. (built.program i (omega arith)).size))
 
 stream_is : (layout : DiscLayout) (texts : List (List ℕ)) (lead_in : ℕ) (symbols : List ℕ)
-    → stream_bytes layout texts lead_in symbols ≡ concat (lead_in_blocks layout texts lead_in ++ blocks_after layout symbols)
+    → stream_bytes layout texts lead_in layout.blocks symbols ≡ concat (lead_in_blocks layout texts lead_in ++ blocks_after layout symbols)
 unfolding stream_bytes
 stream_is layout texts lead_in symbols =
     ap₂ (λ xs ys. xs ++ ys) (flat_map-concat (lead_in_block layout texts lead_in) (below lead_in)) (flat_map-concat (program_block layout symbols) (below layout.blocks))
     ∙ sym (concat-append (lead_in_blocks layout texts lead_in) (blocks_after layout symbols))
 
 stream_blocks : (layout : DiscLayout) (texts : List (List ℕ)) (lead_in : ℕ) (symbols : List ℕ) → AreBuilt layout texts lead_in symbols
-    → blocks_of Raw (stream_bytes layout texts lead_in symbols) ≡ lead_in_blocks layout texts lead_in ++ blocks_after layout symbols
+    → blocks_of Raw (stream_bytes layout texts lead_in layout.blocks symbols) ≡ lead_in_blocks layout texts lead_in ++ blocks_after layout symbols
 stream_blocks layout texts lead_in symbols built =
     ap (blocks_of Raw) (stream_is layout texts lead_in symbols) ∙ blocks_are _ (all_blocks layout texts lead_in symbols built)
 
 lead_in_at : (layout : DiscLayout) (texts : List (List ℕ)) (lead_in : ℕ) (symbols : List ℕ) → AreBuilt layout texts lead_in symbols → (l : ℕ) → l < lead_in
-    → raw_block (stream_bytes layout texts lead_in symbols) l ≡ lead_in_block layout texts lead_in l
+    → raw_block (stream_bytes layout texts lead_in layout.blocks symbols) l ≡ lead_in_block layout texts lead_in l
 lead_in_at layout texts lead_in symbols built l lt =
     let f : ℕ → List ℕ = lead_in_block layout texts lead_in in
     let count : length (map f (below lead_in)) ≡ lead_in = length-map-range_with_len f 0 lead_in in
@@ -99,7 +99,7 @@ lead_in_at layout texts lead_in symbols built l lt =
     ∙ get_or-map-range_with_len f 0 lead_in l l [] lt (omega arith)
 
 program_at : (layout : DiscLayout) (texts : List (List ℕ)) (lead_in : ℕ) (symbols : List ℕ) → AreBuilt layout texts lead_in symbols → (b : ℕ) → b < layout.blocks
-    → raw_block (stream_bytes layout texts lead_in symbols) (lead_in + b) ≡ program_block layout symbols b
+    → raw_block (stream_bytes layout texts lead_in layout.blocks symbols) (lead_in + b) ≡ program_block layout symbols b
 program_at layout texts lead_in symbols built b lt =
     let f : ℕ → List ℕ = lead_in_block layout texts lead_in in
     let g : ℕ → List ℕ = program_block layout symbols in
@@ -111,7 +111,7 @@ program_at layout texts lead_in symbols built b lt =
     ∙ get_or-map-range_with_len g 0 layout.blocks b b [] lt (omega arith)
 
 pub framing : (layout : DiscLayout) (texts : List (List ℕ)) (lead_in : ℕ) (symbols : List ℕ) → AreBuilt layout texts lead_in symbols
-    → HasFraming layout texts lead_in (stream_bytes layout texts lead_in symbols)
+    → HasFraming layout texts lead_in (stream_bytes layout texts lead_in layout.blocks symbols)
 framing layout texts lead_in symbols built =
     let f : ℕ → List ℕ = lead_in_block layout texts lead_in in
     let g : ℕ → List ℕ = program_block layout symbols in
@@ -125,7 +125,7 @@ framing layout texts lead_in symbols built =
     }
 
 pub program_is : (layout : DiscLayout) (texts : List (List ℕ)) (lead_in : ℕ) (symbols : List ℕ) → AreBuilt layout texts lead_in symbols
-    → length symbols ≡ 96 * layout.blocks → program_symbols Raw (stream_bytes layout texts lead_in symbols) lead_in ≡ symbols
+    → length symbols ≡ 96 * layout.blocks → program_symbols Raw (stream_bytes layout texts lead_in layout.blocks symbols) lead_in ≡ symbols
 program_is layout texts lead_in symbols built size =
     let f : ℕ → List ℕ = lead_in_block layout texts lead_in in
     let g : ℕ → List ℕ = program_block layout symbols in

@@ -1,4 +1,6 @@
 pub mod Built
-pub mod Slots
 pub mod Pieces
+pub mod Slots
+pub mod Programs
 pub mod Framed
+pub mod Streams

@@ -1,16 +1,20 @@
--- The slots of a block, one after another.
-use Rattle.std.proofs.Common.{◌≡◌, ℕ, zero, suc, ◌+◌, ◌-◌, ◌*◌, ◌<◌, List, [], ◌∷◌, ◌++◌, length, take, drop, All, Some, refl, sym, ap, ap₂, subst, ◌∙◌, append_assoc, arith}
+-- The slots over which packs are spread, one after another.
+use Rattle.std.proofs.Common.{◌≡◌, ℕ, zero, suc, ◌+◌, ◌-◌, ◌*◌, ◌<◌, ◌≤◌, List, [], ◌∷◌, ◌++◌, length, get_or, take, drop, All, Some, inl, inr, refl, sym, ap, ap₂, subst, ◌∙◌, append_assoc, arith}
 use Rattle.std.specs.List.{concat}
 use Rattle.std.specs.declared.option.Option.{Option}
-use Rattle.std.proofs.lemmas.List.{length-append, length-take, length-drop, append-nil, take_all, drop-drop}
+use Rattle.std.proofs.lemmas.Bool.{cases_lt}
+use Rattle.std.proofs.lemmas.List.{length-append, length-take, length-drop, append-nil, take_all, take-append-le, drop-append-le, get_or_append_left, get_or-append_right}
 use Rattle.std.proofs.lemmas.List.Elements.{All-append}
 use Rattle.std.proofs.lemmas.Slice.{take-put_mid}
-use Rattle.std.proofs.Math.Seq.{take-append_seam, drop-append_seam}
+use Rattle.std.proofs.Math.Seq.{drop-append_seam}
 use borrow.Rule.Slice.PartMut.{put_mid}
 use Rattle.cdg_io.specs.Run.{give, run_state, run_gives}
+use Rattle.rw_code.specs.Codeword.{IsCodeword}
 use Rattle.rw_interleave.specs.Spreading.{spread_next, spread_gives, spread_over}
+use Rattle.picture_script.specs.Script.{Drawing}
+use Rattle.pack_schedule.specs.Woven.{IsPackAt}
 use Rattle.subcode_author.specs.Blocks.{symbols_at}
-use Rattle.subcode_author.specs.PackRuns.{packs_from, packs_after, symbols_from, run_symbols}
+use Rattle.subcode_author.specs.Given.{symbols_from, AreGiven, TakesPacks}
 
 slot_written : (symbols copied slot : List ℕ) (k : ℕ) → length symbols ≡ 96 → length slot ≡ 24 → copied ≡ slot → k < 4
     → take (24 * (k + 1)) (put_mid (24 * k) (24 * k + 24 - 24 * k) symbols copied) ≡ take (24 * k) symbols ++ slot
@@ -29,113 +33,124 @@ length-written symbols copied slot k size one same below =
     let outer = length-append (take (24 * k) symbols) (copied ++ drop (24 * k + 24 - 24 * k) (drop (24 * k) symbols)) in
     omega arith
 
--- The slots of the first k packs are written, and those of the others are still to come.
-pub record AreWritten {S : Type 0} (next : S → S) (gives : S → List ℕ) (before before' : List (List ℕ)) (s s' : S) (k : ℕ) (symbols : List ℕ) : Type 0 where
-  pub size : length symbols ≡ 96
-  pub slots : symbols_from before (packs_from next gives s 4) ≡ take (24 * k) symbols ++ symbols_from before' (packs_from next gives s' (4 - k))
-  pub bound : All (λ x. x < 64) (take (24 * k) symbols)
-  pub spread : run_state spread_next before (packs_from next gives s 4) ≡ run_state spread_next before' (packs_from next gives s' (4 - k))
-  pub packs : packs_after next s 4 ≡ packs_after next s' (4 - k)
+-- Packs that are given
 
--- one slot more
-pub slot_more : {S : Type 0} (next : S → S) (gives : S → List ℕ) (before t t' : List (List ℕ)) (s u u' : S) (k : ℕ) (symbols pack slot copied : List ℕ)
-    → AreWritten next gives before t s u k symbols → k < 4 → pack ≡ gives u → u' ≡ next u → t' ≡ spread_next t pack → Some slot ≡ spread_gives t pack
-    → copied ≡ slot → length slot ≡ 24 → All (λ x. x < 64) slot
-    → AreWritten next gives before t' s u' (k + 1) (put_mid (24 * k) (24 * k + 24 - 24 * k) symbols copied)
-slot_more next gives before t t' s u u' k symbols pack slot copied so_far lt given rest spread slotted same one small =
-    let m : ℕ = 4 - (k + 1) in
-    let left : 4 - k ≡ suc m = omega arith in
-    let window : spread_next t (gives u) ≡ t' = ap (spread_next t) (sym given) ∙ sym spread in
-    let written = slot_written symbols copied slot k so_far.size one same lt in
-    let given_slot : spread_gives t (gives u) ≡ Some slot = ap (spread_gives t) (sym given) ∙ sym slotted in
-    let here : symbols_from t (packs_from next gives u (4 - k)) ≡ slot ++ symbols_from t' (packs_from next gives u' m) =
-    ap (λ n. symbols_from t (packs_from next gives u n)) left
-    ∙ ap (λ (o : Option (List ℕ)). concat (give o (run_gives spread_next spread_gives (spread_next t (gives u)) (packs_from next gives (next u) m)))) given_slot
-    ∙ ap₂ (λ (w : List (List ℕ)) v. slot ++ symbols_from w (packs_from next gives v m)) window (sym rest) in
-    record {
-      size = length-written symbols copied slot k so_far.size one same lt;
-      slots = so_far.slots ∙ ap (λ xs. take (24 * k) symbols ++ xs) here
-          ∙ sym (append_assoc (take (24 * k) symbols) slot (symbols_from t' (packs_from next gives u' m)))
-          ∙ ap (λ xs. xs ++ symbols_from t' (packs_from next gives u' m)) (sym written);
-      bound = subst (All (λ x. x < 64)) (sym written) (All-append (λ x. x < 64) (take (24 * k) symbols) slot so_far.bound small);
-      spread = so_far.spread ∙ ap (λ n. run_state spread_next t (packs_from next gives u n)) left
-          ∙ ap₂ (λ (w : List (List ℕ)) v. run_state spread_next w (packs_from next gives v m)) window (sym rest);
-      packs = so_far.packs ∙ ap (packs_after next u) left ∙ ap (λ v. packs_after next v m) (sym rest);
-    }
+pub none_given : (script : List Drawing) (first : ℕ) → AreGiven script first 0 []
+none_given script first = record { count = refl; each = λ k lt. absurd (omega arith); codewords = λ k d lt. absurd (omega arith) }
 
--- all four are written
-pub all_slots : {S : Type 0} (next : S → S) (gives : S → List ℕ) (before t : List (List ℕ)) (s u : S) (k : ℕ) (symbols : List ℕ)
-    → AreWritten next gives before t s u k symbols → k ≡ 4 → AreWritten next gives before t s u 4 symbols
-all_slots next gives before t s u k symbols written all = subst (λ n. AreWritten next gives before t s u n symbols) all written
+one_given : (script : List Drawing) (first at : ℕ) (pack : List ℕ) → at ≡ first → IsPackAt script at pack → IsCodeword pack → AreGiven script first 1 (pack ∷ [])
+one_given script first at pack here is_pack codeword = record {
+  count = refl;
+  each = λ k lt.
+      let none : 0 ≡ k = omega arith in
+      let there : at ≡ first + k = omega arith in
+      subst (λ j. IsPackAt script (first + k) (get_or (pack ∷ []) j [])) none (subst (λ n. IsPackAt script n pack) there is_pack);
+  codewords = λ k d lt.
+      let none : 0 ≡ k = omega arith in
+      subst (λ j. IsCodeword (get_or (pack ∷ []) j d)) none codeword;
+}
 
-pub symbols_are : {S : Type 0} (next : S → S) (gives : S → List ℕ) (before t : List (List ℕ)) (s u : S) (symbols : List ℕ)
-    → AreWritten next gives before t s u 4 symbols → symbols ≡ symbols_from before (packs_from next gives s 4)
-symbols_are next gives before t s u symbols written =
-    sym (written.slots ∙ append-nil (take 96 symbols) ∙ take_all 96 symbols (omega (arith, written.size)))
+pub given_more : (script : List Drawing) (first m next n all : ℕ) (xs ys : List (List ℕ)) → AreGiven script first m xs → AreGiven script next n ys
+    → next ≡ first + m → all ≡ m + n → AreGiven script first all (xs ++ ys)
+given_more script first m next n all xs ys these those start sum = record {
+  count = length-append xs ys ∙ omega (arith, these.count, those.count);
+  each = λ k lt. elim (cases_lt k m) [
+    inl below ↦
+      subst (λ (pack : List ℕ). IsPackAt script (first + k) pack) (sym (get_or_append_left xs ys [] k (omega (arith, these.count)))) (these.each k below)
+    | inr past ↦
+      let place : next + (k - m) ≡ first + k = omega arith in
+      subst (λ (pack : List ℕ). IsPackAt script (first + k) pack) (sym (get_or-append_right xs ys m k [] these.count past))
+      (subst (λ i. IsPackAt script i (get_or ys (k - m) [])) place (those.each (k - m) (omega arith)))
+  ];
+  codewords = All-append IsCodeword xs ys these.codewords those.codewords;
+}
 
-pub symbols_small : {S : Type 0} (next : S → S) (gives : S → List ℕ) (before t : List (List ℕ)) (s u : S) (symbols : List ℕ)
-    → AreWritten next gives before t s u 4 symbols → All (λ x. x < 64) symbols
-symbols_small next gives before t s u symbols written =
-    subst (All (λ x. x < 64)) (take_all 96 symbols (omega (arith, written.size))) written.bound
+-- Their slots
 
 length-spread_over : (packs : List (List ℕ)) → length (spread_over packs) ≡ 24
 unfolding spread_over
 length-spread_over packs = refl
 
-four_in_front : (a b c d rest : List ℕ) → length a ≡ 24 → length b ≡ 24 → length c ≡ 24 → length d ≡ 24
-    → (take 96 (a ++ (b ++ (c ++ (d ++ rest)))) ≡ a ++ (b ++ (c ++ (d ++ [])))) × (drop 96 (a ++ (b ++ (c ++ (d ++ rest)))) ≡ rest)
-four_in_front a b c d rest first second third fourth =
-    let front : List ℕ = a ++ (b ++ (c ++ (d ++ []))) in
-    let none = append-nil d in
-    let size : length front ≡ 96 =
-    omega (arith, length-append a (b ++ (c ++ (d ++ []))), length-append b (c ++ (d ++ [])), length-append c (d ++ []), ap length none) in
-    let joined : front ++ rest ≡ a ++ (b ++ (c ++ (d ++ rest))) =
-    append_assoc a (b ++ (c ++ (d ++ []))) rest ∙ ap (λ xs. a ++ xs) (append_assoc b (c ++ (d ++ [])) rest
-    ∙ ap (λ xs. b ++ xs) (append_assoc c (d ++ []) rest ∙ ap (λ xs. c ++ xs) (append_assoc d [] rest))) in
-    (ap (take 96) (sym joined) ∙ ap (λ n. take n (front ++ rest)) (sym size) ∙ take-append_seam front rest,
-     ap (drop 96) (sym joined) ∙ ap (λ n. drop n (front ++ rest)) (sym size) ∙ drop-append_seam front rest)
-
-four_packs : {S : Type 0} (next : S → S) (gives : S → List ℕ) (before : List (List ℕ)) (s : S) (m : ℕ)
-    → (take 96 (symbols_from before (packs_from next gives s (suc (suc (suc (suc m)))))) ≡ symbols_from before (packs_from next gives s 4))
-    × (drop 96 (symbols_from before (packs_from next gives s (suc (suc (suc (suc m))))))
-      ≡ symbols_from (run_state spread_next before (packs_from next gives s 4)) (packs_from next gives (packs_after next s 4) m))
+pub length-symbols_from : (before packs : List (List ℕ)) → length (symbols_from before packs) ≡ 24 * length packs
 unfolding spread_gives
-four_packs next gives before s m =
-    let s1 = next s in
-    let s2 = next s1 in
-    let s3 = next s2 in
-    let t1 = spread_next before (gives s) in
-    let t2 = spread_next t1 (gives s1) in
-    let t3 = spread_next t2 (gives s2) in
-    four_in_front (spread_over (before ++ gives s ∷ [])) (spread_over (t1 ++ gives s1 ∷ [])) (spread_over (t2 ++ gives s2 ∷ [])) (spread_over (t3 ++ gives s3 ∷ []))
-    (symbols_from (spread_next t3 (gives s3)) (packs_from next gives (next s3) m))
-    (length-spread_over (before ++ gives s ∷ [])) (length-spread_over (t1 ++ gives s1 ∷ [])) (length-spread_over (t2 ++ gives s2 ∷ [])) (length-spread_over (t3 ++ gives s3 ∷ []))
+length-symbols_from before [] = refl
+length-symbols_from before (pack ∷ packs) =
+    length-append (spread_over (before ++ pack ∷ [])) (symbols_from (spread_next before pack) packs)
+    ∙ omega (arith, length-spread_over (before ++ pack ∷ []), length-symbols_from (spread_next before pack) packs)
 
--- The symbols of the blocks from b on are still to come.
-abbrev pub AreAhead : {S : Type 0} → (S → S) → (S → List ℕ) → List ℕ → ℕ → ℕ → List (List ℕ) → S → Type 0
-AreAhead next gives symbols blocks b before s = drop (96 * b) symbols ≡ symbols_from before (packs_from next gives s (4 * (blocks - b)))
+pub symbols_from-append : (before xs ys : List (List ℕ)) → symbols_from before (xs ++ ys) ≡ symbols_from before xs ++ symbols_from (run_state spread_next before xs) ys
+unfolding spread_gives
+symbols_from-append before [] ys = refl
+symbols_from-append before (x ∷ xs) ys =
+    ap (λ rest. spread_over (before ++ x ∷ []) ++ rest) (symbols_from-append (spread_next before x) xs ys)
+    ∙ sym (append_assoc (spread_over (before ++ x ∷ [])) (symbols_from (spread_next before x) xs) (symbols_from (run_state spread_next (spread_next before x) xs) ys))
 
-pub ahead_first : {S : Type 0} (next : S → S) (gives : S → List ℕ) (blocks : ℕ) (before : List (List ℕ)) (s : S) → before ≡ []
-    → AreAhead next gives (run_symbols next gives s blocks) blocks 0 before s
-unfolding run_symbols
-ahead_first next gives blocks before s none =
-    let all : blocks ≡ blocks - 0 = omega arith in
-    ap₂ (λ (t : List (List ℕ)) n. symbols_from t (packs_from next gives s (4 * n))) (sym none) all
+pub run_state-append : (before xs ys : List (List ℕ)) → run_state spread_next before (xs ++ ys) ≡ run_state spread_next (run_state spread_next before xs) ys
+run_state-append before [] ys = refl
+run_state-append before (x ∷ xs) ys = run_state-append (spread_next before x) xs ys
 
-pub block_symbols : {S : Type 0} (next : S → S) (gives : S → List ℕ) (symbols : List ℕ) (blocks b : ℕ) (before : List (List ℕ)) (s : S)
-    → AreAhead next gives symbols blocks b before s → b < blocks
-    → symbols_at symbols b ≡ symbols_from before (packs_from next gives s 4)
-block_symbols next gives symbols blocks b before s ahead lt =
-    let left : 4 * (blocks - b) ≡ suc (suc (suc (suc (4 * (blocks - (b + 1)))))) = omega arith in
-    ap (take 96) (ahead ∙ ap (λ n. symbols_from before (packs_from next gives s n)) left) ∙ (four_packs next gives before s (4 * (blocks - (b + 1)))).0
+-- The slots of k packs are written.
+pub record AreWritten (script : List Drawing) (given : ℕ) (before after : List (List ℕ)) (k : ℕ) (symbols : List ℕ) : Type 0 where
+  pub packs : List (List ℕ)
+  pub taken : TakesPacks script given k before after (take (24 * k) symbols) packs
+  pub size : length symbols ≡ 96
+  pub bound : All (λ x. x < 64) (take (24 * k) symbols)
 
-pub ahead_more : {S : Type 0} (next : S → S) (gives : S → List ℕ) (symbols : List ℕ) (blocks b : ℕ) (before before' : List (List ℕ)) (s s' : S)
-    → AreAhead next gives symbols blocks b before s → b < blocks → before' ≡ run_state spread_next before (packs_from next gives s 4)
-    → s' ≡ packs_after next s 4 → AreAhead next gives symbols blocks (b + 1) before' s'
-ahead_more next gives symbols blocks b before before' s s' ahead lt window rest =
-    let m : ℕ = 4 * (blocks - (b + 1)) in
-    let left : 4 * (blocks - b) ≡ suc (suc (suc (suc m))) = omega arith in
-    let at : 96 * (b + 1) ≡ 96 * b + 96 = omega arith in
-    ap (λ n. drop n symbols) at ∙ sym (drop-drop 96 (96 * b) symbols)
-    ∙ ap (drop 96) (ahead ∙ ap (λ n. symbols_from before (packs_from next gives s n)) left) ∙ (four_packs next gives before s m).1
-    ∙ ap₂ (λ (t : List (List ℕ)) u. symbols_from t (packs_from next gives u m)) (sym window) (sym rest)
+pub none_written : (script : List Drawing) (given : ℕ) (before : List (List ℕ)) (symbols : List ℕ) → length symbols ≡ 96 → AreWritten script given before before 0 symbols
+none_written script given before symbols size = record {
+  packs = [];
+  taken = record { given_are = none_given script given; symbols_are = refl; after_is = refl };
+  size = size;
+  bound = λ k d lt. absurd (omega arith);
+}
+
+-- one slot more
+pub slot_more : (script : List Drawing) (given at : ℕ) (before t t' : List (List ℕ)) (k : ℕ) (symbols pack slot copied : List ℕ)
+    → AreWritten script given before t k symbols → k < 4 → at ≡ given + k → IsPackAt script at pack → IsCodeword pack → t' ≡ spread_next t pack → Some slot ≡ spread_gives t pack
+    → copied ≡ slot → length slot ≡ 24 → All (λ x. x < 64) slot
+    → AreWritten script given before t' (k + 1) (put_mid (24 * k) (24 * k + 24 - 24 * k) symbols copied)
+slot_more script given at before t t' k symbols pack slot copied so_far lt here is_pack codeword window slotted same one small =
+    let packs = so_far.packs in
+    let written = slot_written symbols copied slot k so_far.size one same lt in
+    let one_slot : symbols_from t (pack ∷ []) ≡ slot = ap (λ (o : Option (List ℕ)). concat (give o [])) (sym slotted) ∙ append-nil slot in
+    record {
+      packs = packs ++ pack ∷ [];
+      taken = record {
+        given_are = given_more script given k (given + k) 1 (k + 1) packs (pack ∷ []) so_far.taken.given_are (one_given script (given + k) at pack here is_pack codeword) refl refl;
+        symbols_are = written ∙ ap₂ (λ xs ys. xs ++ ys) so_far.taken.symbols_are (sym one_slot)
+            ∙ ap (λ (w : List (List ℕ)). symbols_from before packs ++ symbols_from w (pack ∷ [])) so_far.taken.after_is
+            ∙ sym (symbols_from-append before packs (pack ∷ []));
+        after_is = window ∙ ap (λ (w : List (List ℕ)). spread_next w pack) so_far.taken.after_is ∙ sym (run_state-append before packs (pack ∷ []));
+      };
+      size = length-written symbols copied slot k so_far.size one same lt;
+      bound = subst (All (λ x. x < 64)) (sym written) (All-append (λ x. x < 64) (take (24 * k) symbols) slot so_far.bound small);
+    }
+
+-- all four are written
+all_of : (k : ℕ) (symbols : List ℕ) → k ≡ 4 → length symbols ≡ 96 → take (24 * k) symbols ≡ symbols
+all_of k symbols all size = take_all (24 * k) symbols (omega (arith, size))
+
+pub all_taken : (script : List Drawing) (given : ℕ) (before t : List (List ℕ)) (k : ℕ) (symbols : List ℕ)
+    → AreWritten script given before t k symbols → k ≡ 4 → (packs : List (List ℕ)) × TakesPacks script given 4 before t symbols packs
+all_taken script given before t k symbols written all =
+    let taken = written.taken in
+    (written.packs, record {
+      given_are = subst (λ n. AreGiven script given n written.packs) all taken.given_are;
+      symbols_are = sym (all_of k symbols all written.size) ∙ taken.symbols_are;
+      after_is = taken.after_is;
+    })
+
+pub all_small : (script : List Drawing) (given : ℕ) (before t : List (List ℕ)) (k : ℕ) (symbols : List ℕ)
+    → AreWritten script given before t k symbols → k ≡ 4 → All (λ x. x < 64) symbols
+all_small script given before t k symbols written all = subst (All (λ x. x < 64)) (all_of k symbols all written.size) written.bound
+
+-- The symbols of a block among those of all
+
+pub earlier_block : (symbols more : List ℕ) (n b : ℕ) → length symbols ≡ 96 * n → b < n → symbols_at (symbols ++ more) b ≡ symbols_at symbols b
+earlier_block symbols more n b size lt =
+    ap (take 96) (drop-append-le (96 * b) symbols more (omega (arith, size)))
+    ∙ take-append-le 96 (drop (96 * b) symbols) more (omega (arith, length-drop (96 * b) symbols, size))
+
+pub last_block : (symbols more : List ℕ) (n : ℕ) → length symbols ≡ 96 * n → length more ≡ 96 → symbols_at (symbols ++ more) n ≡ more
+last_block symbols more n size one =
+    ap (take 96) (ap (λ k. drop k (symbols ++ more)) (sym size) ∙ drop-append_seam symbols more) ∙ take_all 96 more (omega (arith, one))

@@ -31,13 +31,17 @@ lead_in_block layout texts lead_in l = built_block false (frame_bits (toc_frame 
 abbrev pub symbols_at : List ℕ → ℕ → List ℕ
 symbols_at symbols b = take 96 (drop (96 * b) symbols)
 
--- program block b, where these are the symbols of all program blocks
-unfoldable pub program_block : DiscLayout → List ℕ → ℕ → List ℕ
-program_block layout symbols b = built_block (p_bit layout b) (frame_bits (program_frame layout b)) (symbols_at symbols b)
+-- program block b with these symbols
+unfoldable pub carrying_block : DiscLayout → ℕ → List ℕ → List ℕ
+carrying_block layout b symbols = built_block (p_bit layout b) (frame_bits (program_frame layout b)) symbols
 
--- a stream: the lead-in blocks, and the program blocks of a disc, which have these symbols
-unfoldable pub stream_bytes : DiscLayout → List (List ℕ) → ℕ → List ℕ → List ℕ
-stream_bytes layout texts lead_in symbols = flat_map (lead_in_block layout texts lead_in) (below lead_in) ++ flat_map (program_block layout symbols) (below layout.blocks)
+-- program block b, where these are the symbols of all program blocks
+abbrev pub program_block : DiscLayout → List ℕ → ℕ → List ℕ
+program_block layout symbols b = carrying_block layout b (symbols_at symbols b)
+
+-- a stream: the lead-in blocks, and so many program blocks of a disc, which have these symbols
+unfoldable pub stream_bytes : DiscLayout → List (List ℕ) → ℕ → ℕ → List ℕ → List ℕ
+stream_bytes layout texts lead_in blocks symbols = flat_map (lead_in_block layout texts lead_in) (below lead_in) ++ flat_map (program_block layout symbols) (below blocks)
 
 -- a block with this P bit in all its bytes and this frame
 pub record HasChannels (block : List ℕ) (paused : Bool) (frame : QFrame) : Type 0 where

@@ -1,3 +1,3 @@
 pub mod Blocks
-pub mod PackRuns
 pub mod Framing
+pub mod Given

@@ -3,7 +3,7 @@ ghost use Rattle.std.specs.Prelude.{◌≡◌, ◌<◌, ◌≤◌, false, All};
 ghost use Rattle.q_frame.specs.QFrame.{IsValid};
 ghost use Rattle.toc_model.specs.Layout.{p_bit, program_frame, toc_frame};
 ghost use Rattle.cdtext_packs.specs.LeadIn.{lead_in_symbols};
-ghost use Rattle.subcode_author.specs.Blocks.{built_block, frame_bits, lead_in_block, IsBuilt};
+ghost use Rattle.subcode_author.specs.Blocks.{built_block, carrying_block, frame_bits, lead_in_block, IsBuilt};
 
 use cdtext_packs::{TextPack, lead_in_symbols};
 use q_frame::{QFrame, encode};
@@ -32,10 +32,11 @@ pub(crate) fn lead_in_block(layout: &Layout, packs: &[TextPack], l: u32, n: u32)
 }
 
 /// Program block `b`, which carries these symbols.
+#[tactic(auto, unfolding(crate::specs::Blocks::carrying_block))]
 pub(crate) fn program_block(layout: &Layout, b: u32, symbols: &[u8; 96]) -> [u8; 96]
     requires block { b < layout.now.blocks }
     requires symbols { All (λ s. s < 64) symbols.now }
-    ensures bytes { result ≡ built_block (p_bit layout.now b) (frame_bits (program_frame layout.now b)) symbols.now }
+    ensures bytes { result ≡ carrying_block layout.now b symbols.now }
     ensures built { IsBuilt result (p_bit layout.now b) (program_frame layout.now b) symbols.now }
 {
     built(layout.p_bit(b), &layout.program_frame(b), symbols)

@@ -2,6 +2,5 @@
 #![tactic(auto)]
 
 mod blocks;
-mod packs;
 mod program;
 mod stream;

@@ -1,22 +1,22 @@
 // The symbols of the program blocks.
-ghost use Rattle.std.specs.Prelude.{◌≡◌, ◌<◌, All};
-ghost use Rattle.cdg_io.specs.Run.{run_state};
-ghost use Rattle.rw_interleave.specs.Spreading.{spread_next};
-ghost use Rattle.subcode_author.specs.PackRuns.{packs_from, packs_after, symbols_from};
+ghost use Rattle.std.specs.Prelude.{◌≡◌, ◌+◌, ◌<◌, ◌≤◌, ℕ, List, All};
+ghost use Rattle.subcode_author.specs.Given.{TakesPacks};
 
-use crate::packs::PackRun;
+use pack_schedule::Weaver;
 use rw_interleave::Spread;
 
 /// The symbols of the next block, over which four more packs are spread.
-pub(crate) fn next_symbols<P: PackRun>(spread: &mut Spread, packs: &mut P) -> [u8; 96]
-    ensures symbols { result ≡ symbols_from spread.old (packs_from P.next P.gives packs.old 4) }
+pub(crate) fn next_symbols(weaver: &mut Weaver<'_>, spread: &mut Spread) -> [u8; 96]
+    requires { weaver.old.given ≤ 4000000000 }
+    ensures symbols { (packs : List (List ℕ)) × TakesPacks weaver.old.script weaver.old.given 4 spread.old spread.new result packs }
     ensures bound { All (λ s. s < 64) result }
-    ensures spread { spread.new ≡ run_state spread_next spread.old (packs_from P.next P.gives packs.old 4) }
-    ensures packs { packs.new ≡ packs_after P.next packs.old 4 }
+    ensures script { weaver.new.script ≡ weaver.old.script }
+    ensures given { weaver.new.given ≡ weaver.old.given + 4 }
 {
     let mut symbols = [0; 96];
     for k in 0..4 {
-        let pack = packs.next_pack();
+        let pack = weaver.next();
+        let _codeword = pack.word();
         let slot = spread.push(&pack);
         symbols[24 * k..24 * k + 24].copy_from_slice(&slot.bytes());
     }

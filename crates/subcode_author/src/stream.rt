@@ -1,22 +1,19 @@
 // The blocks of a stream, put one after another.
-ghost use Rattle.std.specs.Prelude.{◌≡◌, ◌<◌, ◌≤◌, ◌++◌, ◌*◌, ℕ, [], false, length, flat_map, OnOk, OnErr};
+ghost use Rattle.std.specs.Prelude.{◌≡◌, ◌<◌, ◌≤◌, ℕ, List, [], false, flat_map, OnOk, OnErr};
 ghost use Rattle.std.specs.Io.KnownBytes.{Appends};
 ghost use Rattle.bit_lists.specs.Counting.{below};
 ghost use Rattle.cdg_io.specs.Causes.{HasCause};
 ghost use Rattle.cdg_io.specs.Moves.{AppendsPrefix};
-ghost use Rattle.raw_subcode.specs.Channels.{program_symbols};
-ghost use Rattle.raw_subcode.specs.declared.form.Form.TheVariants.{Raw};
-ghost use Rattle.toc_model.specs.Layout.{p_bit, program_frame, toc_frame};
+ghost use Rattle.toc_model.specs.Layout.{toc_frame};
 ghost use Rattle.cdtext_packs.specs.LeadIn.{lead_in_symbols};
-ghost use Rattle.subcode_author.specs.Blocks.{lead_in_block, program_block, symbols_at, stream_bytes, IsBuilt};
-ghost use Rattle.subcode_author.specs.Framing.{HasFraming};
-ghost use Rattle.subcode_author.specs.PackRuns.{run_symbols};
+ghost use Rattle.subcode_author.specs.Blocks.{lead_in_block, IsBuilt};
+ghost use Rattle.subcode_author.specs.Given.{PutsPart, PutsProgram, PutsStream, PutsStreamPart};
 
 use crate::blocks::{lead_in_block, program_block};
-use crate::packs::PackRun;
 use crate::program::next_symbols;
 use cdg_io::{Failed, Sink, put_all};
 use cdtext_packs::TextPack;
+use pack_schedule::Weaver;
 use rw_interleave::Spread;
 use toc_model::Layout;
 
@@ -41,26 +38,24 @@ fn put_lead_in<K: Sink>(
     Ok(())
 }
 
-/// Puts the program blocks, over which packs are spread from the first one on.
-fn put_program<P: PackRun, K: Sink>(
+/// Puts the program blocks, over which the packs of a script are spread from the first one on.
+fn put_program<K: Sink>(
     layout: &Layout,
-    packs: &mut P,
+    weaver: &mut Weaver<'_>,
     spread: &mut Spread,
     out: &mut K,
 ) -> Result<(), Failed>
-    requires { spread.old ≡ [] }
-    ensures ok { OnOk result (Appends (K.held out.old) (K.held out.new)
-        (flat_map (program_block layout.now (run_symbols P.next P.gives packs.old layout.now.blocks)) (below layout.now.blocks))) }
-    ensures part { OnErr result (AppendsPrefix (K.held out.old) (K.held out.new)
-        (flat_map (program_block layout.now (run_symbols P.next P.gives packs.old layout.now.blocks)) (below layout.now.blocks))) }
-    ensures built { OnOk result ((b : ℕ) → b < layout.now.blocks
-        → IsBuilt (program_block layout.now (run_symbols P.next P.gives packs.old layout.now.blocks) b) (p_bit layout.now b) (program_frame layout.now b)
-        (symbols_at (run_symbols P.next P.gives packs.old layout.now.blocks) b)) }
+    requires first { weaver.old.given ≡ 0 }
+    requires start { spread.old ≡ [] }
+    ensures ok { OnOk result ((packs : List (List ℕ))
+        × PutsProgram layout.now weaver.old.script layout.now.blocks (K.held out.old) (K.held out.new) packs) }
+    ensures part { OnErr result ((n : ℕ) × (packs : List (List ℕ))
+        × PutsPart layout.now weaver.old.script layout.now.blocks (K.held out.old) (K.held out.new) n packs) }
     ensures cause { HasCause (K.faults out.old) (K.faults out.new) result }
 {
     let blocks = layout.blocks();
     for b in 0..blocks {
-        let symbols = next_symbols(spread, packs);
+        let symbols = next_symbols(weaver, spread);
         let block = program_block(layout, b, &symbols);
         put_all(out, &block)?;
     }
@@ -68,28 +63,24 @@ fn put_program<P: PackRun, K: Sink>(
 }
 
 /// Puts a whole stream. After `Failed` a prefix of it was put.
-pub(crate) fn put_stream<P: PackRun, K: Sink>(
+pub(crate) fn put_stream<K: Sink>(
     layout: &Layout,
     texts: &[TextPack],
     lead_in: u32,
-    packs: &mut P,
+    weaver: &mut Weaver<'_>,
     spread: &mut Spread,
     out: &mut K,
 ) -> Result<(), Failed>
     requires lead_in { lead_in ≤ 450000 }
+    requires first { weaver.old.given ≡ 0 }
     requires start { spread.old ≡ [] }
-    ensures ok { OnOk result (Appends (K.held out.old) (K.held out.new)
-        (stream_bytes layout.now texts.now lead_in (run_symbols P.next P.gives packs.old layout.now.blocks))) }
-    ensures part { OnErr result (AppendsPrefix (K.held out.old) (K.held out.new)
-        (stream_bytes layout.now texts.now lead_in (run_symbols P.next P.gives packs.old layout.now.blocks))) }
-    ensures framing { OnOk result (HasFraming layout.now texts.now lead_in
-        (stream_bytes layout.now texts.now lead_in (run_symbols P.next P.gives packs.old layout.now.blocks))) }
-    ensures symbols { OnOk result (length (run_symbols P.next P.gives packs.old layout.now.blocks) ≡ 96 * layout.now.blocks
-        → program_symbols Raw (stream_bytes layout.now texts.now lead_in (run_symbols P.next P.gives packs.old layout.now.blocks)) lead_in
-        ≡ run_symbols P.next P.gives packs.old layout.now.blocks) }
+    ensures ok { OnOk result ((packs : List (List ℕ))
+        × PutsStream layout.now weaver.old.script texts.now lead_in (K.held out.old) (K.held out.new) packs) }
+    ensures part { OnErr result ((n : ℕ) × (packs : List (List ℕ))
+        × PutsStreamPart layout.now weaver.old.script texts.now lead_in (K.held out.old) (K.held out.new) n packs) }
     ensures cause { HasCause (K.faults out.old) (K.faults out.new) result }
 {
     put_lead_in(layout, texts, lead_in, out)?;
-    put_program(layout, packs, spread, out)?;
+    put_program(layout, weaver, spread, out)?;
     Ok(())
 }

@@ -1,30 +1,34 @@
-use Rattle.std.proofs.Common.{◌≡◌, refl, rules, arith, sym, ◌∙◌, ap, Some}
-use Rattle.subcode_author.proofs.Slots.{slot_more, all_slots, symbols_are, symbols_small}
+use Rattle.std.proofs.Common.{◌≡◌, ℕ, List, length, refl, rules, arith, sym, ◌∙◌, ap, subst, Some}
+use Rattle.rw_code.specs.Codeword.{IsCodeword}
+use Rattle.pack_schedule.specs.Woven.{IsPackAt}
+use Rattle.picture_script.specs.Script.{Drawing}
+use Rattle.subcode_author.proofs.Slots.{none_written, slot_more, all_taken, all_small}
 use Rattle.subcode_author.proofs.program.next_symbols.Goals as goal
 
 pub loop-k-init : goal.loop-k-init
-loop-k-init g c = record { size = refl; slots = refl; bound = λ k d lt. absurd (omega arith); spread = refl; packs = refl }
+loop-k-init c = record {
+  written = none_written c.args.weaver.now.script c.args.weaver.now.given c.args.spread.now _ refl;
+  script = refl;
+  given = omega arith;
+}
 
 pub loop-k-preserved : goal.loop-k-preserved
-loop-k-preserved g c =
+loop-k-preserved c =
+    let so_far = c.loop-k.invariant in
     let copied : c.copy_from_slice.new.self ≡ c.bytes.result = search rules in
-    slot_more g.P.PackRun.next g.P.PackRun.gives c.args.spread.now c.loop-k.spread c.push-slot.new.self c.args.packs.now c.loop-k.packs c.next_pack-pack.new.self
-    c.loop-k.k c.loop-k.symbols c.next_pack-pack.result c.bytes.result c.copy_from_slice.new.self c.loop-k.invariant c.loop-k-test.true
-    c.next_pack-pack.ensures.gives c.next_pack-pack.ensures.next c.push-slot.ensures.next (ap Some c.bytes.ensures.same ∙ c.push-slot.ensures.gives)
-    copied c.bytes.ensures.word.size c.bytes.ensures.word.symbols
+    record {
+      written =
+          slot_more c.args.weaver.now.script c.args.weaver.now.given c.loop-k.weaver.given c.args.spread.now c.loop-k.spread c.push-slot.new.self
+          c.loop-k.k c.loop-k.symbols c.next-pack.result c.bytes.result c.copy_from_slice.new.self so_far.written c.loop-k-test.true so_far.given
+          (subst (λ (s : List Drawing). IsPackAt s c.loop-k.weaver.given c.next-pack.result) so_far.script c.next-pack.ensures.pack)
+          (subst IsCodeword c.word-codeword.ensures.same c.word-codeword.ensures.codeword)
+          c.push-slot.ensures.next (ap Some c.bytes.ensures.same ∙ c.push-slot.ensures.gives) copied c.bytes.ensures.word.size c.bytes.ensures.word.symbols;
+      script = c.next-pack.ensures.script ∙ so_far.script;
+      given = c.next-pack.ensures.given ∙ omega (arith, so_far.given);
+    }
 
 pub returns-clause-symbols : goal.returns-clause-symbols
-returns-clause-symbols g c =
-    symbols_are g.P.PackRun.next g.P.PackRun.gives _ _ _ _ _ (all_slots g.P.PackRun.next g.P.PackRun.gives _ _ _ _ _ _ c.loop-k.invariant (omega arith))
+returns-clause-symbols c = all_taken _ _ _ _ c.loop-k.k _ c.loop-k.invariant.written (omega arith)
 
 pub returns-clause-bound : goal.returns-clause-bound
-returns-clause-bound g c =
-    symbols_small g.P.PackRun.next g.P.PackRun.gives _ _ _ _ _ (all_slots g.P.PackRun.next g.P.PackRun.gives _ _ _ _ _ _ c.loop-k.invariant (omega arith))
-
-pub returns-clause-spread : goal.returns-clause-spread
-returns-clause-spread g c =
-    sym (all_slots g.P.PackRun.next g.P.PackRun.gives _ _ _ _ _ _ c.loop-k.invariant (omega arith)).spread
-
-pub returns-clause-packs : goal.returns-clause-packs
-returns-clause-packs g c =
-    sym (all_slots g.P.PackRun.next g.P.PackRun.gives _ _ _ _ _ _ c.loop-k.invariant (omega arith)).packs
+returns-clause-bound c = all_small _ _ _ _ c.loop-k.k _ c.loop-k.invariant.written (omega arith)
