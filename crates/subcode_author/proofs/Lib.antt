@@ -4,3 +4,6 @@ pub mod Slots
 pub mod Programs
 pub mod Framed
 pub mod Streams
+pub mod Texts
+pub mod Schedules
+pub mod Stops

@@ -1,0 +1,67 @@
+-- When a stream is written, and otherwise the first refusal that holds.
+use Rattle.std.specs.Prelude.{◌≡◌, ℕ, ◌<◌, ◌≤◌, ⊤, List, length}
+use Rattle.cue_sheet.specs.CueSheet.{CueSheet}
+use Rattle.toc_model.specs.Places.{audio_need, program_blocks}
+use Rattle.picture_script.specs.Script.{Drawing, pictures}
+use Rattle.pack_schedule.specs.Schedule.{IsInTime, IsLate}
+use Rattle.pack_schedule.specs.PlannedChange.{planned_change}
+use Rattle.pack_schedule.specs.Survey.{IsPastEnd}
+use Rattle.subcode_author.specs.Authored.{text_packs, lead_in_need}
+use Rattle.subcode_author.specs.declared.stops.AuthorStop.{AuthorStop}
+use Rattle.subcode_author.specs.declared.stops.AuthorStop.TheVariants.{LengthShort, DiscTooLong, PastEnd, TextTooLong, LeadInShort, Late, WriteFault, NoMemory}
+
+-- the sheet has a layout with this audio
+abbrev pub HasLayout : CueSheet → ℕ → Type 0
+HasLayout sheet audio = (audio_need sheet ≤ audio) × (program_blocks sheet audio ≤ 449999)
+
+-- and no picture is held past its end
+abbrev pub HoldsPictures : CueSheet → List Drawing → ℕ → Type 0
+HoldsPictures sheet script audio = HasLayout sheet audio × ¬ IsPastEnd script (program_blocks sheet audio)
+
+-- a lead-in, if there is one, has room for the texts and the table of contents
+abbrev pub HasRoom : CueSheet → ℕ → Type 0
+HasRoom sheet lead_in = 0 < lead_in → (length (text_packs sheet) ≤ 256) × (lead_in_need sheet ≤ lead_in)
+
+-- every picture is ready in time
+abbrev pub AreReady : List Drawing → Type 0
+AreReady script = (k : ℕ) → k < pictures script → IsInTime script k (length (planned_change script k))
+
+-- the texts need too many packs, or the lead-in is too short
+abbrev pub IsTextTooLong : CueSheet → ℕ → ℕ → Type 0
+IsTextTooLong sheet lead_in packs = (0 < lead_in) × (256 < packs) × (packs ≡ length (text_packs sheet))
+
+abbrev pub IsLeadInShort : CueSheet → ℕ → ℕ → Type 0
+IsLeadInShort sheet lead_in need = (0 < lead_in) × (length (text_packs sheet) ≤ 256) × (lead_in < need) × (need ≡ lead_in_need sheet)
+
+-- what is refused of the layout, of the lead-in, and of the pictures
+abbrev pub IsDiscStop : CueSheet → List Drawing → ℕ → AuthorStop → Type 0
+IsDiscStop sheet script audio (LengthShort need) = (need ≡ audio_need sheet) × (audio < audio_need sheet)
+IsDiscStop sheet script audio (DiscTooLong blocks) = (audio_need sheet ≤ audio) × (blocks ≡ program_blocks sheet audio) × (449999 < blocks)
+IsDiscStop sheet script audio (PastEnd blocks) = HasLayout sheet audio × (blocks ≡ program_blocks sheet audio) × IsPastEnd script blocks
+IsDiscStop sheet script audio NoMemory = HasLayout sheet audio
+IsDiscStop sheet script audio _ = ⊥
+
+abbrev pub IsLeadInStop : CueSheet → ℕ → AuthorStop → Type 0
+IsLeadInStop sheet lead_in (TextTooLong packs) = IsTextTooLong sheet lead_in packs
+IsLeadInStop sheet lead_in (LeadInShort need) = IsLeadInShort sheet lead_in need
+IsLeadInStop sheet lead_in NoMemory = ⊤
+IsLeadInStop sheet lead_in _ = ⊥
+
+abbrev pub IsPictureStop : List Drawing → AuthorStop → Type 0
+IsPictureStop script (Late picture need free) = IsLate script picture need free
+IsPictureStop script NoMemory = ⊤
+IsPictureStop script _ = ⊥
+
+-- all of it is good
+pub record IsAccepted (sheet : CueSheet) (script : List Drawing) (lead_in audio : ℕ) : Type 0 where
+  pub disc : HoldsPictures sheet script audio
+  pub room : HasRoom sheet lead_in
+  pub ready : AreReady script
+
+-- why a stream is not written: each refusal comes only where those before it do not hold
+abbrev pub IsAuthorStop : CueSheet → List Drawing → ℕ → ℕ → AuthorStop → Type 0
+IsAuthorStop sheet script lead_in audio (TextTooLong packs) = HoldsPictures sheet script audio × IsTextTooLong sheet lead_in packs
+IsAuthorStop sheet script lead_in audio (LeadInShort need) = HoldsPictures sheet script audio × IsLeadInShort sheet lead_in need
+IsAuthorStop sheet script lead_in audio (Late picture need free) = HoldsPictures sheet script audio × HasRoom sheet lead_in × IsLate script picture need free
+IsAuthorStop sheet script lead_in audio WriteFault = IsAccepted sheet script lead_in audio
+IsAuthorStop sheet script lead_in audio stop = IsDiscStop sheet script audio stop

@@ -1,0 +1,64 @@
+// Writing the stream of a sheet and a script.
+ghost use Rattle.std.specs.Prelude.{◌≡◌, ◌≢◌, ◌≤◌, List, ℕ, IfErr, OnOk, Err};
+ghost use Rattle.std.specs.Io.KnownBytes.{Appends};
+ghost use Rattle.cdg_io.specs.Causes.{Rose};
+ghost use Rattle.toc_model.specs.Places.{layout_of};
+ghost use Rattle.subcode_author.specs.Authored.{text_packs, IsAuthored};
+ghost use Rattle.subcode_author.specs.AuthorAnswer.{IsAccepted, IsAuthorStop};
+ghost use Rattle.subcode_author.specs.Given.{PutsStreamPart};
+
+use crate::parts::{disc, texts, weaver};
+use crate::stops::AuthorStop;
+use crate::stream::put_stream;
+use cdg_io::Sink;
+use cue_sheet::Sheet;
+use pack_schedule::packs_are_a_schedule;
+use picture_script::Script;
+use rw_interleave::{Spread, spread_carries};
+use std::alloc::Global;
+
+/// Writes the subcode of a disc with a lead-in of so many blocks and an audio of so many blocks: the lead-in with the table
+/// of contents and the texts, and the program with the frames of the sheet and the pictures of the script.
+///
+/// # Errors
+///
+/// In this order: `LengthShort` and `DiscTooLong` where the sheet has no layout with this audio; `PastEnd` where the last
+/// picture is held past the end; where there is a lead-in, `TextTooLong` where its texts need more than 256 packs, and
+/// `LeadInShort` where it has no room for them or for the table of contents; `Late` at the first picture that cannot be
+/// ready. Nothing is written before all of these are passed and all memory is taken. After `WriteFault` a prefix of the
+/// stream was written.
+pub fn author_stream<K: Sink>(
+    alloc: Global,
+    sheet: &Sheet,
+    script: &Script,
+    lead_in: u32,
+    length: u32,
+    out: &mut K,
+) -> Result<(), AuthorStop>
+    requires lead_in { lead_in ≤ 450000 }
+    requires length { length ≤ 449999 }
+    // An authored stream was written.
+    ensures authored { OnOk result ((bytes : List ℕ) × (packs : List (List ℕ))
+        × IsAuthored sheet.now script.now lead_in length bytes packs × Appends (K.held out.old) (K.held out.new) bytes) }
+    ensures accepted { OnOk result (IsAccepted sheet.now script.now lead_in length) }
+
+    // Why none was written, and then nothing was.
+    ensures stop { IfErr result (IsAuthorStop sheet.now script.now lead_in length) }
+    ensures untouched { IfErr result (λ stop. stop ≢ AuthorStop.WriteFault → out.new ≡ out.old) }
+
+    // A write failed, and a prefix of the lead-in and of program blocks with packs of the script was written.
+    ensures write_fault { result ≡ Err AuthorStop.WriteFault → Rose (K.faults out.old) (K.faults out.new) }
+    ensures part { result ≡ Err AuthorStop.WriteFault → (n : ℕ) × (packs : List (List ℕ))
+        × PutsStreamPart (layout_of sheet.now length) script.now (text_packs sheet.now) lead_in (K.held out.old) (K.held out.new) n packs }
+    ensures later { K.faults out.old ≤ K.faults out.new }
+{
+    spread_carries();
+    packs_are_a_schedule();
+    let _times = script.pictures();
+    let layout = disc(alloc, sheet, script, length)?;
+    let texts = texts(alloc, sheet, &layout, lead_in)?;
+    let mut weaver = weaver(alloc, script, layout.blocks())?;
+    let mut spread = Spread::start(alloc)?;
+    put_stream(&layout, &texts, lead_in, &mut weaver, &mut spread, out)?;
+    Ok(())
+}

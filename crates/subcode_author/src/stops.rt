@@ -1,0 +1,98 @@
+// Why no stream is written.
+ghost use Rattle.std.specs.Prelude.{◌≡◌};
+
+use cdg_io::Failed;
+use cdtext_packs::PackStop;
+use pack_schedule::Stop;
+use std::alloc::AllocError;
+use toc_model::LayoutStop;
+
+/// Why a stream was not written, or not whole.
+#[derive(Clone, Copy, PartialEq, Eq, Debug)]
+pub enum AuthorStop {
+    /// The audio is too short: the index lines need so many blocks.
+    LengthShort { need: u32 },
+    /// The program would have so many blocks.
+    DiscTooLong { blocks: u32 },
+    /// The last picture is held for longer than these program blocks.
+    PastEnd { blocks: u32 },
+    /// The texts need so many packs, and 256 are the most.
+    TextTooLong { packs: u32 },
+    /// The lead-in needs so many blocks.
+    LeadInShort { need: u32 },
+    /// The first picture that cannot be ready: it needs so many packs, and so many are free for it.
+    Late { picture: u32, need: u32, free: u32 },
+    /// A write failed.
+    WriteFault,
+    /// Memory ran out. Nothing was written.
+    NoMemory,
+}
+
+impl From<LayoutStop> for AuthorStop {
+    ghost use Rattle.subcode_author.specs.Stops.{of_layout};
+
+    ghost from_gives = { λ stop e. e ≡ of_layout stop };
+
+    fn from(stop: LayoutStop) -> AuthorStop {
+        match stop {
+            LayoutStop::LengthShort { need } => AuthorStop::LengthShort { need },
+            LayoutStop::DiscTooLong { blocks } => AuthorStop::DiscTooLong { blocks },
+            LayoutStop::NoMemory => AuthorStop::NoMemory,
+        }
+    }
+}
+
+impl From<PackStop> for AuthorStop {
+    ghost use Rattle.subcode_author.specs.Stops.{of_packs};
+
+    ghost from_gives = { λ stop e. e ≡ of_packs stop };
+
+    fn from(stop: PackStop) -> AuthorStop {
+        match stop {
+            PackStop::TooMany { packs } => AuthorStop::TextTooLong { packs },
+            PackStop::NoMemory => AuthorStop::NoMemory,
+        }
+    }
+}
+
+impl From<Stop> for AuthorStop {
+    ghost use Rattle.subcode_author.specs.Stops.{of_schedule};
+
+    ghost from_gives = { λ stop e. e ≡ of_schedule stop };
+
+    fn from(stop: Stop) -> AuthorStop {
+        match stop {
+            Stop::PastEnd { blocks } => AuthorStop::PastEnd { blocks },
+            Stop::Late {
+                picture,
+                need,
+                free,
+            } => AuthorStop::Late {
+                picture,
+                need,
+                free,
+            },
+            Stop::NoMemory => AuthorStop::NoMemory,
+        }
+    }
+}
+
+impl From<AllocError> for AuthorStop {
+    ghost use Rattle.subcode_author.specs.declared.stops.AuthorStop.TheVariants.{NoMemory};
+
+    ghost from_gives = { λ _ e. e ≡ NoMemory };
+
+    fn from(_: AllocError) -> AuthorStop {
+        AuthorStop::NoMemory
+    }
+}
+
+impl From<Failed> for AuthorStop {
+    ghost use Rattle.subcode_author.specs.declared.stops.AuthorStop.TheVariants.{WriteFault};
+
+    ghost from_gives = { λ _ e. e ≡ WriteFault };
+
+    fn from(_: Failed) -> AuthorStop {
+        AuthorStop::WriteFault
+    }
+}
