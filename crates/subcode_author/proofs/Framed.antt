@@ -1,7 +1,7 @@
 -- The blocks of a stream that is made of them.
 use Rattle.std.proofs.Common.{◌≡◌, ℕ, zero, suc, ◌+◌, ◌-◌, ◌*◌, ◌/◌, ◌<◌, ◌≤◌, false, List, [], ◌∷◌, ◌++◌, length, get_or, map, flat_map, take, drop, refl, sym, ap, ap₂, subst, ◌∙◌, arith}
 use Rattle.std.specs.List.{concat, range_with_len}
-use Rattle.std.proofs.lemmas.List.{length-append, length-map, map-id, drop-drop, take-append-drop, drop_all, get_or_append_left, get_or-append_right}
+use Rattle.std.proofs.lemmas.List.{length-append, map-id, drop-drop, take-append-drop, drop_all, get_or_append_left, get_or-append_right}
 use Rattle.std.proofs.lemmas.List.Folds.{concat-append}
 use Rattle.std.proofs.lemmas.List.FromFn.{length-map-range_with_len, get_or-map-range_with_len}
 use Rattle.std.proofs.Math.Seq.{take-append_seam, drop-append_seam}
@@ -11,7 +11,7 @@ use Rattle.raw_subcode.specs.declared.form.Form.TheVariants.{Raw}
 use Rattle.toc_model.specs.Places.{DiscLayout}
 use Rattle.toc_model.specs.Layout.{p_bit, program_frame, toc_frame}
 use Rattle.cdtext_packs.specs.LeadIn.{lead_in_symbols}
-use Rattle.subcode_author.specs.Blocks.{carrying_block, lead_in_block, program_block, symbols_at, stream_bytes, HasChannels, IsBuilt}
+use Rattle.subcode_author.specs.Blocks.{lead_in_block, program_block, symbols_at, stream_bytes, HasChannels, IsBuilt}
 use Rattle.subcode_author.specs.Framing.{raw_block, HasFraming}
 
 -- each of them has 96 bytes

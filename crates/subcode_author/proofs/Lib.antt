@@ -6,4 +6,4 @@ pub mod Framed
 pub mod Streams
 pub mod Texts
 pub mod Schedules
-pub mod Stops
+pub mod PictureStops

@@ -1,5 +1,5 @@
 -- The program blocks that were put, and one more.
-use Rattle.std.proofs.Common.{◌≡◌, ℕ, zero, suc, ◌+◌, ◌*◌, ◌<◌, ◌≤◌, List, [], ◌∷◌, ◌++◌, length, flat_map, inl, inr, refl, sym, ap, ap₂, subst, subst₂, ◌∙◌, arith}
+use Rattle.std.proofs.Common.{◌≡◌, ℕ, zero, suc, ◌+◌, ◌*◌, ◌<◌, List, [], ◌++◌, length, flat_map, inl, inr, refl, sym, ap, ap₂, subst, ◌∙◌, arith}
 use Rattle.std.specs.List.{range_with_len}
 use Rattle.std.specs.declared.option.Option.{Option}
 use Rattle.std.specs.Io.KnownBytes.{Appends}
@@ -83,13 +83,13 @@ block_more layout script n given held held' held'' before after symbols block do
         put = subst (Appends held held'') (ap (λ xs. flat_map (program_block layout (symbols_from [] packs)) (below n) ++ xs) bytes ∙ sym next.bytes)
             (Appends-trans held held' held'' _ _ puts.put put);
         built = λ b lt. elim (cases_lt b n) [
-          inl below_n ↦
-            subst (λ (s : List ℕ). IsBuilt (carrying_block layout b s) (p_bit layout b) (program_frame layout b) s) (sym (next.earlier b below_n)) (puts.built b below_n)
+          | inl below_n ↦
+              subst (λ (s : List ℕ). IsBuilt (carrying_block layout b s) (p_bit layout b) (program_frame layout b) s) (sym (next.earlier b below_n)) (puts.built b below_n)
           | inr past ↦
-            let here : n ≡ b = omega arith in
-            subst (λ (k : ℕ). IsBuilt (program_block layout all k) (p_bit layout k) (program_frame layout k) (symbols_at all k)) here
-            (subst (λ (s : List ℕ). IsBuilt (carrying_block layout n s) (p_bit layout n) (program_frame layout n) s) (sym next.last)
-            (subst (λ (x : List ℕ). IsBuilt x (p_bit layout n) (program_frame layout n) symbols) bytes built))
+              let here : n ≡ b = omega arith in
+              subst (λ (k : ℕ). IsBuilt (program_block layout all k) (p_bit layout k) (program_frame layout k) (symbols_at all k)) here
+              (subst (λ (s : List ℕ). IsBuilt (carrying_block layout n s) (p_bit layout n) (program_frame layout n) s) (sym next.last)
+              (subst (λ (x : List ℕ). IsBuilt x (p_bit layout n) (program_frame layout n) symbols) bytes built))
         ];
       };
       spread_is = taken.after_is ∙ ap (λ (w : List (List ℕ)). run_state spread_next w four) done.spread_is ∙ sym (run_state-append [] packs four);
@@ -106,12 +106,15 @@ part_more layout script n blocks given held held' held'' before after symbols bl
     let next = next_block layout script n given before after packs four symbols puts.given_are done.spread_is at taken in
     let first : List ℕ = flat_map (program_block layout (symbols_from [] packs)) (below n) in
     let whole : flat_map (program_block layout (symbols_from [] (packs ++ four))) (below (n + 1)) ≡ first ++ (block ++ []) =
-    next.bytes ∙ ap (λ xs. first ++ xs) (sym (append-nil block ∙ bytes)) in
-    (n + 1, packs ++ four, record {
-      within = omega arith;
-      given_are = next.given_are;
-      put = prefix_on held held' held'' first block [] _ puts.put part whole;
-    })
+    next.bytes ∙ ap (λ xs. first ++ xs) (sym (append-nil block ∙ bytes)) in (
+      n + 1,
+      packs ++ four,
+      record {
+        within = omega arith;
+        given_are = next.given_are;
+        put = prefix_on held held' held'' first block [] _ puts.put part whole;
+      },
+    )
 
 -- all blocks
 pub all_done : (layout : DiscLayout) (script : List Drawing) (n blocks : ℕ) (held held' : Option (List ℕ)) (spread : List (List ℕ))

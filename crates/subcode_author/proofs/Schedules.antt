@@ -1,11 +1,10 @@
 -- The packs that were given are a schedule, and their symbols carry it.
-use Rattle.std.proofs.Common.{◌≡◌, ℕ, zero, suc, ◌+◌, ◌-◌, ◌*◌, ◌<◌, ◌≤◌, List, [], ◌∷◌, ◌++◌, length, get_or, map, take, drop, replicate, All, inr, refl, sym, ap, subst, subst₂, ◌∙◌, arith}
+use Rattle.std.proofs.Common.{◌≡◌, ℕ, zero, suc, ◌+◌, ◌-◌, ◌*◌, ◌<◌, ◌≤◌, List, [], ◌∷◌, ◌++◌, length, get_or, take, drop, replicate, All, inr, refl, sym, ap, subst, subst₂, ◌∙◌, arith}
 use Rattle.std.specs.declared.option.Option.{Option}
 use Rattle.std.specs.Io.KnownBytes.{Appends}
 use Rattle.std.proofs.lemmas.List.{take-append-drop, length-take-le, length-drop, get_or-take, get_or-drop}
 use Rattle.std.proofs.lemmas.List.Elements.{All-take}
 use Rattle.std.proofs.lemmas.List.FromFn.{length-map-range_with_len}
-use Rattle.bit_lists.specs.Counting.{below}
 use Rattle.raw_subcode.specs.Channels.{program_symbols}
 use Rattle.raw_subcode.specs.declared.form.Form.TheVariants.{Raw}
 use Rattle.rw_code.specs.Codeword.{IsCodeword}
@@ -14,7 +13,7 @@ use Rattle.rw_interleave.specs.Spreading.{filled_with_idle}
 use Rattle.cue_sheet.specs.CueSheet.{CueSheet}
 use Rattle.toc_model.specs.Places.{DiscLayout, layout_of, place_of, program_blocks}
 use Rattle.picture_script.specs.Script.{Drawing, pictures, ready_time, hold_time, picture_pixel}
-use Rattle.pack_schedule.specs.Schedule.{start_of, idle_pack, IsInTime, IsSchedule}
+use Rattle.pack_schedule.specs.Schedule.{start_of, IsInTime, IsSchedule}
 use Rattle.pack_schedule.specs.PlannedChange.{planned_change}
 use Rattle.pack_schedule.specs.Survey.{IsSurvey, IsWithin}
 use Rattle.pack_schedule.specs.Woven.{IsPackAt, ArePacks}
@@ -22,7 +21,7 @@ use Rattle.pack_schedule.specs.declared.planned.Planned.{Planned}
 use Rattle.subcode_author.specs.Framing.{HasFraming}
 use Rattle.subcode_author.specs.Blocks.{stream_bytes}
 use Rattle.subcode_author.specs.Given.{symbols_from, AreGiven, PutsStream, PutsStreamPart}
-use Rattle.subcode_author.specs.Authored.{text_packs, lead_in_need, IsAuthored}
+use Rattle.subcode_author.specs.Authored.{text_packs, IsAuthored}
 use Rattle.subcode_author.specs.AuthorAnswer.{AreReady, HasRoom}
 
 -- what is known of a script that has a schedule
@@ -76,8 +75,8 @@ split script blocks packs known given =
     let rest : drop whole packs ≡ replicate (4 * blocks - length (take whole packs)) (replicate 24 0) =
     all_same (replicate 24 0) (drop whole packs) (4 * blocks - length (take whole packs)) (omega (arith, length-drop whole packs, given.count, count))
     (λ k lt.
-      get_or-drop whole packs k []
-      ∙ idle_after script blocks (whole + k) (get_or packs (whole + k) []) known (omega arith) (at_number script (4 * blocks) packs given (whole + k) (omega (arith, lt, count)))) in
+    get_or-drop whole packs k []
+    ∙ idle_after script blocks (whole + k) (get_or packs (whole + k) []) known (omega arith) (at_number script (4 * blocks) packs given (whole + k) (omega (arith, lt, count)))) in
     record {
       count = count;
       codewords = All-take IsCodeword whole packs given.codewords;
@@ -120,27 +119,55 @@ pub part_of : (layout layout' : DiscLayout) (script script' : List Drawing) (xs 
 part_of layout layout' script script' xs ys lead_in a b disc same texts (n, packs, puts) =
     (n, packs, with_texts_part layout' script' xs ys lead_in a b n packs texts (subst₂ (λ (l : DiscLayout) (s : List Drawing). PutsStreamPart l s xs lead_in a b n packs) disc same puts))
 
+-- a stream that was put, of whose packs these are the whole ones, is an authored one
+is_authored : SpreadCarries → PacksAreSchedule → (sheet : CueSheet) (script : List Drawing) (lead_in audio : ℕ) (bytes : List ℕ) (all packs : List (List ℕ))
+    → HasFraming (layout_of sheet audio) (text_packs sheet) lead_in bytes → program_symbols Raw bytes lead_in ≡ symbols_from [] all
+    → AreSplit script (program_blocks sheet audio) all packs → HasRoom sheet lead_in → IsPlannedScript script (program_blocks sheet audio)
+    → IsAuthored sheet script lead_in audio bytes packs
+is_authored carries schedule sheet script lead_in audio bytes all packs framing symbols_are parts room known = record {
+  schedule = schedule script (program_blocks sheet audio) known.survey packs known.pixels known.held known.within known.surveyed parts.count parts.in_turn;
+  written = parts.in_turn;
+  framing = framing;
+  carries = subst (λ (s : List ℕ). Carries (program_blocks sheet audio) s packs) (ap (symbols_from []) (sym parts.filled) ∙ sym symbols_are)
+      (carries (program_blocks sheet audio) packs parts.count parts.codewords);
+  enough = λ some. (room some).1;
+}
+
+on_sheet : (sheet : CueSheet) (script script' : List Drawing) (layout : DiscLayout) (texts : List (List ℕ)) (lead_in audio : ℕ) (a b : Option (List ℕ)) (all : List (List ℕ))
+    → layout ≡ layout_of sheet audio → script' ≡ script → (0 < lead_in → texts ≡ text_packs sheet)
+    → PutsStream layout script' texts lead_in a b all → PutsStream (layout_of sheet audio) script (text_packs sheet) lead_in a b all
+on_sheet sheet script script' layout texts lead_in audio a b all disc same texts_are puts =
+    with_texts (layout_of sheet audio) script texts (text_packs sheet) lead_in a b all texts_are
+    (subst₂ (λ (l : DiscLayout) (s : List Drawing). PutsStream l s texts lead_in a b all) disc same puts)
+
+authored_bytes : CueSheet → ℕ → ℕ → List (List ℕ) → List ℕ
+authored_bytes sheet lead_in audio all = stream_bytes (layout_of sheet audio) (text_packs sheet) lead_in (program_blocks sheet audio) (symbols_from [] all)
+
+stream_of_sheet : SpreadCarries → PacksAreSchedule → (sheet : CueSheet) (script : List Drawing) (lead_in audio : ℕ) (a b : Option (List ℕ)) (all : List (List ℕ))
+    → HasRoom sheet lead_in → IsPlannedScript script (program_blocks sheet audio) → PutsStream (layout_of sheet audio) script (text_packs sheet) lead_in a b all
+    → IsAuthored sheet script lead_in audio (authored_bytes sheet lead_in audio all) (take (whole_packs (program_blocks sheet audio)) all)
+unfolding authored_bytes
+stream_of_sheet carries schedule sheet script lead_in audio a b all room known stream =
+    is_authored carries schedule sheet script lead_in audio _ all (take (whole_packs (program_blocks sheet audio)) all) stream.framing stream.symbols_are
+    (split script (program_blocks sheet audio) all known stream.given_are) room known
+
+put_of_sheet : (sheet : CueSheet) (script : List Drawing) (lead_in audio : ℕ) (a b : Option (List ℕ)) (all : List (List ℕ))
+    → PutsStream (layout_of sheet audio) script (text_packs sheet) lead_in a b all → Appends a b (authored_bytes sheet lead_in audio all)
+unfolding authored_bytes
+put_of_sheet sheet script lead_in audio a b all stream = stream.put
+
 -- the stream that was put is an authored one
 pub authored : SpreadCarries → PacksAreSchedule → (sheet : CueSheet) (script script' : List Drawing) (layout : DiscLayout) (texts : List (List ℕ)) (lead_in audio : ℕ) (a b : Option (List ℕ))
     → layout ≡ layout_of sheet audio → script' ≡ script → (0 < lead_in → texts ≡ text_packs sheet) → HasRoom sheet lead_in → IsPlannedScript script (program_blocks sheet audio)
     → (packs : List (List ℕ)) × PutsStream layout script' texts lead_in a b packs
     → (bytes : List ℕ) × (packs : List (List ℕ)) × IsAuthored sheet script lead_in audio bytes packs × Appends a b bytes
-authored carries schedule sheet script script' layout texts lead_in audio a b disc same texts_are room known (all, puts) =
-    let blocks : ℕ = program_blocks sheet audio in
-    let stream : PutsStream (layout_of sheet audio) script (text_packs sheet) lead_in a b all =
-    with_texts (layout_of sheet audio) script texts (text_packs sheet) lead_in a b all texts_are
-    (subst₂ (λ (l : DiscLayout) (s : List Drawing). PutsStream l s texts lead_in a b all) disc same puts) in
-    let parts : AreSplit script blocks all (take (whole_packs blocks) all) = split script blocks all known stream.given_are in
-    let packs : List (List ℕ) = take (whole_packs blocks) all in
-    let bytes : List ℕ = stream_bytes (layout_of sheet audio) (text_packs sheet) lead_in blocks (symbols_from [] all) in
-    let symbols : symbols_from [] (filled_with_idle (4 * blocks) packs) ≡ program_symbols Raw bytes lead_in = ap (symbols_from []) (sym parts.filled) ∙ sym stream.symbols_are in
-    (bytes, packs, record {
-      schedule = schedule script blocks known.survey packs known.pixels known.held known.within known.surveyed parts.count parts.in_turn;
-      written = parts.in_turn;
-      framing = stream.framing;
-      carries = subst (λ (s : List ℕ). Carries blocks s packs) symbols (carries blocks packs parts.count parts.codewords);
-      enough = λ some. (room some).1;
-    }, stream.put)
+authored carries schedule sheet script script' layout texts lead_in audio a b disc same texts_are room known put =
+    let stream = on_sheet sheet script script' layout texts lead_in audio a b put.0 disc same texts_are put.1 in (
+      authored_bytes sheet lead_in audio put.0,
+      take (whole_packs (program_blocks sheet audio)) put.0,
+      stream_of_sheet carries schedule sheet script lead_in audio a b put.0 room known stream,
+      put_of_sheet sheet script lead_in audio a b put.0 stream,
+    )
 
 pub track_count : (sheet : CueSheet) (audio : ℕ) (layout : DiscLayout) → layout ≡ layout_of sheet audio → length layout.tracks ≡ length sheet.tracks
 track_count sheet audio layout same = ap (λ (l : DiscLayout). length l.tracks) same ∙ length-map-range_with_len (place_of sheet) 0 (length sheet.tracks)

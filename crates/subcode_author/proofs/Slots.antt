@@ -1,5 +1,5 @@
 -- The slots over which packs are spread, one after another.
-use Rattle.std.proofs.Common.{◌≡◌, ℕ, zero, suc, ◌+◌, ◌-◌, ◌*◌, ◌<◌, ◌≤◌, List, [], ◌∷◌, ◌++◌, length, get_or, take, drop, All, Some, inl, inr, refl, sym, ap, ap₂, subst, ◌∙◌, append_assoc, arith}
+use Rattle.std.proofs.Common.{◌≡◌, ℕ, ◌+◌, ◌-◌, ◌*◌, ◌<◌, List, [], ◌∷◌, ◌++◌, length, get_or, take, drop, All, Some, inl, inr, refl, sym, ap, ap₂, subst, ◌∙◌, append_assoc, arith}
 use Rattle.std.specs.List.{concat}
 use Rattle.std.specs.declared.option.Option.{Option}
 use Rattle.std.proofs.lemmas.Bool.{cases_lt}
@@ -8,7 +8,7 @@ use Rattle.std.proofs.lemmas.List.Elements.{All-append}
 use Rattle.std.proofs.lemmas.Slice.{take-put_mid}
 use Rattle.std.proofs.Math.Seq.{drop-append_seam}
 use borrow.Rule.Slice.PartMut.{put_mid}
-use Rattle.cdg_io.specs.Run.{give, run_state, run_gives}
+use Rattle.cdg_io.specs.Run.{give, run_state}
 use Rattle.rw_code.specs.Codeword.{IsCodeword}
 use Rattle.rw_interleave.specs.Spreading.{spread_next, spread_gives, spread_over}
 use Rattle.picture_script.specs.Script.{Drawing}
@@ -55,12 +55,12 @@ pub given_more : (script : List Drawing) (first m next n all : ℕ) (xs ys : Lis
 given_more script first m next n all xs ys these those start sum = record {
   count = length-append xs ys ∙ omega (arith, these.count, those.count);
   each = λ k lt. elim (cases_lt k m) [
-    inl below ↦
-      subst (λ (pack : List ℕ). IsPackAt script (first + k) pack) (sym (get_or_append_left xs ys [] k (omega (arith, these.count)))) (these.each k below)
+    | inl below ↦
+        subst (λ (pack : List ℕ). IsPackAt script (first + k) pack) (sym (get_or_append_left xs ys [] k (omega (arith, these.count)))) (these.each k below)
     | inr past ↦
-      let place : next + (k - m) ≡ first + k = omega arith in
-      subst (λ (pack : List ℕ). IsPackAt script (first + k) pack) (sym (get_or-append_right xs ys m k [] these.count past))
-      (subst (λ i. IsPackAt script i (get_or ys (k - m) [])) place (those.each (k - m) (omega arith)))
+        let place : next + (k - m) ≡ first + k = omega arith in
+        subst (λ (pack : List ℕ). IsPackAt script (first + k) pack) (sym (get_or-append_right xs ys m k [] these.count past))
+        (subst (λ i. IsPackAt script i (get_or ys (k - m) [])) place (those.each (k - m) (omega arith)))
   ];
   codewords = All-append IsCodeword xs ys these.codewords those.codewords;
 }
@@ -133,12 +133,14 @@ all_of k symbols all size = take_all (24 * k) symbols (omega (arith, size))
 pub all_taken : (script : List Drawing) (given : ℕ) (before t : List (List ℕ)) (k : ℕ) (symbols : List ℕ)
     → AreWritten script given before t k symbols → k ≡ 4 → (packs : List (List ℕ)) × TakesPacks script given 4 before t symbols packs
 all_taken script given before t k symbols written all =
-    let taken = written.taken in
-    (written.packs, record {
-      given_are = subst (λ n. AreGiven script given n written.packs) all taken.given_are;
-      symbols_are = sym (all_of k symbols all written.size) ∙ taken.symbols_are;
-      after_is = taken.after_is;
-    })
+    let taken = written.taken in (
+      written.packs,
+      record {
+        given_are = subst (λ n. AreGiven script given n written.packs) all taken.given_are;
+        symbols_are = sym (all_of k symbols all written.size) ∙ taken.symbols_are;
+        after_is = taken.after_is;
+      },
+    )
 
 pub all_small : (script : List Drawing) (given : ℕ) (before t : List (List ℕ)) (k : ℕ) (symbols : List ℕ)
     → AreWritten script given before t k symbols → k ≡ 4 → All (λ x. x < 64) symbols

@@ -1,5 +1,5 @@
 -- A whole stream that was put, or a prefix of one.
-use Rattle.std.proofs.Common.{◌≡◌, ℕ, ◌+◌, ◌*◌, ◌<◌, ◌≤◌, false, List, [], ◌++◌, length, flat_map, refl, sym, ap, ◌∙◌, arith}
+use Rattle.std.proofs.Common.{◌≡◌, ℕ, ◌*◌, ◌<◌, false, List, [], ◌++◌, length, flat_map, refl, sym, ap, ◌∙◌, arith}
 use Rattle.std.specs.declared.option.Option.{Option}
 use Rattle.std.specs.Io.KnownBytes.{Appends}
 use Rattle.std.proofs.KnownBytes.{Appends-trans}
@@ -29,24 +29,29 @@ unfolding stream_bytes
 stream_put layout script texts lead_in a b c put contents (packs, puts) =
     let symbols : List ℕ = symbols_from [] packs in
     let built : AreBuilt layout texts lead_in symbols = record { contents = contents; program = puts.built } in
-    let size : length symbols ≡ 96 * layout.blocks = length-symbols_from [] packs ∙ omega (arith, puts.given_are.count) in
-    (packs, record {
-      given_are = puts.given_are;
-      put = Appends-trans a b c _ _ put puts.put;
-      framing = framing layout texts lead_in symbols built;
-      symbols_are = program_is layout texts lead_in symbols built size;
-    })
+    let size : length symbols ≡ 96 * layout.blocks = length-symbols_from [] packs ∙ omega (arith, puts.given_are.count) in (
+      packs,
+      record {
+        given_are = puts.given_are;
+        put = Appends-trans a b c _ _ put puts.put;
+        framing = framing layout texts lead_in symbols built;
+        symbols_are = program_is layout texts lead_in symbols built size;
+      },
+    )
 
 pub part_of_lead_in : (layout : DiscLayout) (script : List Drawing) (texts : List (List ℕ)) (lead_in : ℕ) (a b : Option (List ℕ))
     → AppendsPrefix a b (flat_map (lead_in_block layout texts lead_in) (below lead_in))
     → (n : ℕ) × (packs : List (List ℕ)) × PutsStreamPart layout script texts lead_in a b n packs
 unfolding stream_bytes
-part_of_lead_in layout script texts lead_in a b part =
-    (0, [], record {
-      within = omega arith;
-      given_are = none_given script 0;
-      put = prefix_first a b (lead_in_bytes layout texts lead_in) [] _ part refl;
-    })
+part_of_lead_in layout script texts lead_in a b part = (
+  0,
+  [],
+  record {
+    within = omega arith;
+    given_are = none_given script 0;
+    put = prefix_first a b (lead_in_bytes layout texts lead_in) [] _ part refl;
+  },
+)
 
 pub part_of_program : (layout : DiscLayout) (script : List Drawing) (texts : List (List ℕ)) (lead_in : ℕ) (a b c : Option (List ℕ))
     → Appends a b (flat_map (lead_in_block layout texts lead_in) (below lead_in))
@@ -55,9 +60,12 @@ pub part_of_program : (layout : DiscLayout) (script : List Drawing) (texts : Lis
 unfolding stream_bytes
 part_of_program layout script texts lead_in a b c put (n, packs, puts) =
     let first : List ℕ = lead_in_bytes layout texts lead_in in
-    let second : List ℕ = flat_map (program_block layout (symbols_from [] packs)) (below n) in
-    (n, packs, record {
-      within = puts.within;
-      given_are = puts.given_are;
-      put = prefix_on a b c first second [] _ put puts.put (ap (λ xs. first ++ xs) (sym (append-nil second)));
-    })
+    let second : List ℕ = flat_map (program_block layout (symbols_from [] packs)) (below n) in (
+      n,
+      packs,
+      record {
+        within = puts.within;
+        given_are = puts.given_are;
+        put = prefix_on a b c first second [] _ put puts.put (ap (λ xs. first ++ xs) (sym (append-nil second)));
+      },
+    )

@@ -1,5 +1,5 @@
 -- The blocks of a stream, made of a P bit, a frame and symbols.
-use Rattle.std.specs.Prelude.{◌≡◌, ℕ, ◌+◌, ◌*◌, ◌<◌, Bool, false, List, [], ◌∷◌, ◌++◌, length, take, drop, flat_map, replicate, if◌then◌else◌}
+use Rattle.std.specs.Prelude.{◌≡◌, ℕ, ◌+◌, ◌*◌, Bool, false, List, [], ◌∷◌, ◌++◌, length, take, drop, flat_map, replicate, if◌then◌else◌}
 use Rattle.bit_lists.specs.Check.{check_bits}
 use Rattle.bit_lists.specs.Counting.{below}
 use Rattle.raw_subcode.specs.Channels.{p_bits, q_bits, symbols_of}

@@ -1,9 +1,9 @@
-use Rattle.std.proofs.Common.{ap, sym, subst, ◌∙◌}
+use Rattle.std.proofs.Common.{ap, subst, ◌∙◌}
 use Rattle.std.proofs.lemmas.Result.{err_from_is_err_and}
 use Rattle.toc_model.specs.Places.{DiscLayout}
 use Rattle.pack_schedule.specs.Survey.{IsWithin}
 use Rattle.subcode_author.proofs.Schedules.{authored, part_of, track_count}
-use Rattle.subcode_author.proofs.Stops.{picture_stop}
+use Rattle.subcode_author.proofs.PictureStops.{picture_stop}
 use Rattle.subcode_author.proofs.author.author_stream.Goals as goal
 
 pub texts-requires : goal.texts-requires

@@ -1,4 +1,4 @@
-use Rattle.std.proofs.Common.{◌≡◌, ℕ, List, length, refl, rules, arith, sym, ◌∙◌, ap, subst, Some}
+use Rattle.std.proofs.Common.{◌≡◌, List, refl, rules, arith, ◌∙◌, ap, subst, Some}
 use Rattle.rw_code.specs.Codeword.{IsCodeword}
 use Rattle.pack_schedule.specs.Woven.{IsPackAt}
 use Rattle.picture_script.specs.Script.{Drawing}

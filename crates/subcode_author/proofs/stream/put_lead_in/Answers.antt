@@ -1,6 +1,5 @@
-use Rattle.std.proofs.Common.{◌≡◌, ℕ, ◌<◌, List, [], flat_map, false, subst, arith, below_more}
+use Rattle.std.proofs.Common.{ℕ, List, [], false, subst, arith, below_more}
 use Rattle.std.specs.Io.KnownBytes.{Appends}
-use Rattle.bit_lists.specs.Counting.{below}
 use Rattle.cdg_io.specs.Moves.{AppendsPrefix}
 use Rattle.toc_model.specs.Layout.{toc_frame}
 use Rattle.cdtext_packs.specs.LeadIn.{lead_in_symbols}

@@ -1,4 +1,4 @@
-use Rattle.std.proofs.Common.{◌≡◌, ℕ, ◌*◌, ◌<◌, ◌≤◌, List, refl, subst, ◌∙◌, arith}
+use Rattle.std.proofs.Common.{ℕ, List, refl, subst, ◌∙◌, arith}
 use Rattle.picture_script.specs.Script.{Drawing}
 use Rattle.subcode_author.specs.Given.{TakesPacks}
 use Rattle.subcode_author.proofs.Pieces.{on_err}
