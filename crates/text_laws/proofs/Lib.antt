@@ -1,0 +1,6 @@
+pub mod Damaged
+pub mod Seals
+pub mod Copied
+pub mod Cutting
+pub mod KindBytes
+pub mod Back
