@@ -1,4 +1,4 @@
-use crate::harness::{run_on, words};
+use crate::harness::{run_bytes, run_on, words};
 use cdg_cmd::{Status, Which, run};
 use cdg_io::{MemSink, MemSource, SteadySource};
 use std::test::Fail;
@@ -52,6 +52,40 @@ fn a_failed_write_ends_the_run(rt: HostRuntime) -> Result<(), Fail> {
         };
         assert_eq!(rt; ran.status, status, "{call}");
         assert_eq!(rt; ran.out.bytes().len(), count, "{call}");
+    }
+    Ok(())
+}
+
+// What is held after a failed write is a beginning of what is held without one, and shorter.
+#[test]
+fn each_command_ends_at_a_failed_write(rt: HostRuntime) -> Result<(), Fail> {
+    let alloc = rt.alloc();
+    for line in [
+        "planar",
+        "raw",
+        "q --lead-in 0",
+        "screen --lead-in 0 --at 00:00:05",
+        "state --lead-in 0 --at 00:00:05",
+        "check --lead-in 0",
+        "text --lead-in 0",
+        "scratch --lead-in 0 --seed 42",
+    ] {
+        let whole = run_bytes(alloc, line, vec![in alloc; 0u8; 480]?)?;
+        for call in 0..6u32 {
+            let first = MemSource::new(vec![in alloc; 0u8; 480]?, Vec::new(alloc), Vec::new(alloc));
+            let ran = run_on(alloc, line, first, 200_000, vec![in alloc; call]?)?;
+            let is_shorter = ran.out.bytes().len() < whole.out.bytes().len();
+            assert_eq!(rt;
+                ran.status == Status::WriteFault,
+                is_shorter,
+                "{line} {call}"
+            );
+            assert!(rt;
+                whole.out.bytes().starts_with(ran.out.bytes()),
+                "{line} {call}"
+            );
+            assert!(rt; is_shorter || 0 < call, "{line} {call}");
+        }
     }
     Ok(())
 }
