@@ -1,0 +1,5 @@
+pub mod Short
+pub mod Pixels
+pub mod Ready
+pub mod Sheets
+pub mod Scratched

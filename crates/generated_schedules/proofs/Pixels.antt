@@ -1,0 +1,74 @@
+-- The pixels of generated scripts have numbers of colours.
+use Rattle.std.proofs.Common.{ℕ, ◌+◌, ◌*◌, ◌<◌, Bool, true, false, List, [], ◌∷◌, length, map, flat_map, All, reverse, sym, subst, arith, mod-lt, lit<}
+use Rattle.std.specs.Prelude.{if◌then◌else◌, ◌/◌}
+use Rattle.std.proofs.lemmas.List.Elements.{All-nil, All-cons, All-head, All-tail, All-take, All-append, All-map}
+use Rattle.bit_lists.specs.Counting.{below}
+use Rattle.tile_author.proofs.Lower.{All-reverse}
+use Rattle.picture_script.specs.Script.{Drawing, Colour, Border, Fill, Rect, Row, Show, lines_before, pixel_by, picture_pixel}
+use Rattle.picture_script.proofs.Scripts.{before_prefix}
+use Rattle.cdg_workload.specs.Generator.{word_of}
+use Rattle.generated_scripts.specs.Generated.{grey, rect, picture, generated_drawings}
+use Rattle.generated_schedules.proofs.Short.{every}
+
+-- a line that a generated script may have: it draws no pixels but those of a rectangle in a colour
+IsGenerated : Drawing → Type 0
+IsGenerated (Colour number value) = Unit {0}
+IsGenerated (Rect left top width height colour) = colour < 16
+IsGenerated (Show ready hold) = Unit {0}
+IsGenerated _ = ⊥
+
+either_small : (b : Bool) (m n : ℕ) → m < 16 → n < 16 → (if b then m else n) < 16
+either_small true m n p q = p
+either_small false m n p q = q
+
+drawn_small : (lines : List Drawing) (x y : ℕ) → All IsGenerated lines → pixel_by lines x y < 16
+unfolding IsGenerated
+drawn_small [] x y all = omega arith
+drawn_small (Colour number value ∷ lines) x y all = drawn_small lines x y (All-tail IsGenerated (Colour number value) lines all)
+drawn_small (Rect left top width height colour ∷ lines) x y all =
+    either_small _ colour (pixel_by lines x y) (All-head IsGenerated (Rect left top width height colour) lines all)
+    (drawn_small lines x y (All-tail IsGenerated (Rect left top width height colour) lines all))
+drawn_small (Show ready hold ∷ lines) x y all = drawn_small lines x y (All-tail IsGenerated (Show ready hold) lines all)
+drawn_small (Border colour ∷ lines) x y all = absurd (All-head IsGenerated (Border colour) lines all)
+drawn_small (Fill colour ∷ lines) x y all = absurd (All-head IsGenerated (Fill colour) lines all)
+drawn_small (Row left top colours ∷ lines) x y all = absurd (All-head IsGenerated (Row left top colours) lines all)
+
+rect_generated : (a b : ℕ) → IsGenerated (rect a b)
+unfolding IsGenerated
+rect_generated a b = mod-lt (b / 256) (lit< tt)
+
+four_generated : (a b c d : Drawing) → IsGenerated a → IsGenerated b → IsGenerated c → IsGenerated d → All IsGenerated (a ∷ b ∷ c ∷ d ∷ [])
+four_generated a b c d one two three four =
+    All-cons IsGenerated a (b ∷ c ∷ d ∷ []) one (All-cons IsGenerated b (c ∷ d ∷ []) two (All-cons IsGenerated c (d ∷ []) three (All-cons IsGenerated d [] four (All-nil IsGenerated))))
+
+shown_generated : (ready hold : ℕ) → IsGenerated (Show ready hold)
+unfolding IsGenerated
+shown_generated ready hold = tt
+
+picture_generated : (seed k : ℕ) → All IsGenerated (picture seed k)
+unfolding picture
+picture_generated seed k =
+    four_generated (rect (word_of seed (6 * k)) (word_of seed (6 * k + 1))) (rect (word_of seed (6 * k + 2)) (word_of seed (6 * k + 3)))
+    (rect (word_of seed (6 * k + 4)) (word_of seed (6 * k + 5))) (Show (800 * (k + 1)) (800 * (k + 1) + 20))
+    (rect_generated (word_of seed (6 * k)) (word_of seed (6 * k + 1))) (rect_generated (word_of seed (6 * k + 2)) (word_of seed (6 * k + 3)))
+    (rect_generated (word_of seed (6 * k + 4)) (word_of seed (6 * k + 5))) (shown_generated (800 * (k + 1)) (800 * (k + 1) + 20))
+
+pictures_generated : (seed : ℕ) (ks : List ℕ) → All IsGenerated (flat_map (picture seed) ks)
+pictures_generated seed [] = All-nil IsGenerated
+pictures_generated seed (k ∷ ks) = All-append IsGenerated (picture seed k) (flat_map (picture seed) ks) (picture_generated seed k) (pictures_generated seed ks)
+
+greys_generated : (ks : List ℕ) → All IsGenerated (map grey ks)
+unfolding IsGenerated
+greys_generated ks = All-map IsGenerated grey ks (every (λ k. IsGenerated (grey k)) ks (λ k. tt))
+
+script_generated : (seed count : ℕ) → All IsGenerated (generated_drawings seed count)
+unfolding generated_drawings
+script_generated seed count = All-append IsGenerated (map grey (below 16)) (flat_map (picture seed) (below count)) (greys_generated (below 16)) (pictures_generated seed (below count))
+
+pub pixels_small : (seed count k x y : ℕ) → picture_pixel (generated_drawings seed count) k x y < 16
+unfolding picture_pixel
+pixels_small seed count k x y =
+    let script = generated_drawings seed count in
+    let first = lines_before script k in
+    drawn_small (reverse first) x y
+    (All-reverse IsGenerated first (subst (All IsGenerated) (sym (before_prefix script k)) (All-take IsGenerated (length first) script (script_generated seed count))))

@@ -1,0 +1,54 @@
+// Generated scripts are in time.
+ghost use Rattle.std.specs.Prelude.{◌≡◌, ◌<◌, ◌≤◌, ◌+◌, ◌*◌, ◌⊎◌, List, ℕ, length};
+ghost use Rattle.cue_sheet.specs.CueSheet.{CueSheet};
+ghost use Rattle.toc_model.specs.Places.{program_blocks};
+ghost use Rattle.picture_script.specs.Script.{Drawing, picture_pixel};
+ghost use Rattle.pack_schedule.specs.Schedule.{free_packs};
+ghost use Rattle.pack_schedule.specs.PlannedChange.{planned_change};
+ghost use Rattle.pack_schedule.specs.Survey.{IsStop};
+ghost use Rattle.pack_schedule.specs.declared.planned.Stop.{Stop};
+ghost use Rattle.subcode_author.specs.AuthorAnswer.{AreReady, HasLayout, HasRoom, IsAccepted, IsAuthorStop};
+ghost use Rattle.subcode_author.specs.declared.stops.AuthorStop.{AuthorStop};
+ghost use Rattle.generated_scripts.specs.Generated.{generated_drawings};
+
+use generated_scripts::generated_scripts_have_times;
+use pack_schedule::Stop;
+use subcode_author::AuthorStop;
+use tile_author::plans_are_shortest;
+
+/// A law: the change that is written for a picture has at most 3,076 instructions, four that set all memory, the border and the
+/// colours, and four for each of 768 tiles.
+pub fn changes_are_short()
+    ensures { (script : List Drawing) (k : ℕ) → ((k x y : ℕ) → picture_pixel script k x y < 16) → length (planned_change script k) ≤ 3076 }
+{
+    plans_are_shortest();
+}
+
+/// A law: each picture of a generated script is ready in time, since at least 3,120 packs are free for it, so a survey refuses none in
+/// a program that lasts until the last one's hold time.
+pub fn generated_scripts_are_ready()
+    ensures pixels { (seed count k x y : ℕ) → picture_pixel (generated_drawings seed count) k x y < 16 }
+    ensures free { (seed count k : ℕ) → k < count → 3120 ≤ free_packs (generated_drawings seed count) k }
+    ensures ready { (seed count : ℕ) → AreReady (generated_drawings seed count) }
+    ensures survey { (seed count blocks : ℕ) (stop : Stop) → 800 * count + 20 ≤ blocks
+        → IsStop (generated_drawings seed count) blocks stop → stop ≡ Stop.NoMemory }
+{
+    changes_are_short();
+    generated_scripts_have_times();
+    plans_are_shortest();
+}
+
+/// A law: a generated script is written with each sheet that has a layout of so many blocks, and room for its texts in the lead-in.
+pub fn generated_scripts_are_authored()
+    ensures accepted { (sheet : CueSheet) (seed count lead_in audio : ℕ) → HasLayout sheet audio
+        → 800 * count + 20 ≤ program_blocks sheet audio → HasRoom sheet lead_in
+        → IsAccepted sheet (generated_drawings seed count) lead_in audio }
+    ensures stop { (sheet : CueSheet) (seed count lead_in audio : ℕ) (stop : AuthorStop) → HasLayout sheet audio
+        → 800 * count + 20 ≤ program_blocks sheet audio → HasRoom sheet lead_in
+        → IsAuthorStop sheet (generated_drawings seed count) lead_in audio stop
+        → (stop ≡ AuthorStop.NoMemory) ⊎ (stop ≡ AuthorStop.WriteFault) }
+{
+    generated_scripts_are_ready();
+    generated_scripts_have_times();
+    plans_are_shortest();
+}
