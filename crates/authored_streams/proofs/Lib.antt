@@ -1,3 +1,9 @@
 pub mod Ranges
 pub mod Times
 pub mod Accepted
+pub mod Packs
+pub mod Symbols
+pub mod Cuts
+pub mod Streams
+pub mod Ends
+pub mod Parts

@@ -1,10 +1,20 @@
-//! Laws on authored streams: accepted scripts are in order.
+//! Laws on authored streams: accepted scripts are in order, a sheet and a script have one stream, and what a failed write
+//! leaves is a prefix of it.
 #![tactic(auto)]
 
-ghost use Rattle.std.specs.Prelude.{◌≡◌, ◌<◌, List, ℕ, Ok};
+ghost use Rattle.std.specs.Prelude.{◌≡◌, ◌<◌, List, ℕ, Ok, All};
+ghost use Rattle.std.specs.declared.option.Option.{Option};
+ghost use Rattle.cdg_io.specs.Moves.{AppendsPrefix};
+ghost use Rattle.cue_sheet.specs.CueSheet.{CueSheet};
+ghost use Rattle.toc_model.specs.Places.{layout_of};
 ghost use Rattle.picture_script.specs.Script.{Drawing, picture_pixel};
 ghost use Rattle.picture_script.specs.ScriptGrammar.{read_script};
 ghost use Rattle.shown_pictures.specs.Shown.{AreColoursInRange, AreTimesInOrder};
+ghost use Rattle.subcode_author.specs.Authored.{IsAuthored, text_packs};
+ghost use Rattle.subcode_author.specs.AuthorAnswer.{IsAccepted};
+ghost use Rattle.subcode_author.specs.Given.{PutsStreamPart};
+
+use rw_interleave::spread_carries;
 
 /// A law: the pictures of every script that is accepted are shown in order, and all their colours are in range.
 pub fn accepted_scripts_are_in_order()
@@ -12,3 +22,22 @@ pub fn accepted_scripts_are_in_order()
     ensures colours { (text : List ℕ) (script : List Drawing) → read_script text ≡ Ok script → AreColoursInRange script }
     ensures pixels { (text : List ℕ) (script : List Drawing) → read_script text ≡ Ok script → (k x y : ℕ) → picture_pixel script k x y < 16 }
 {}
+
+/// A law: a sheet, a script, a lead-in and a length of the audio have one authored stream, which carries one list of packs.
+pub fn authored_streams_are_one()
+    ensures packs { (sheet : CueSheet) (script : List Drawing) (lead_in audio : ℕ) (one other : List ℕ) (packs others : List (List ℕ))
+        → IsAuthored sheet script lead_in audio one packs → IsAuthored sheet script lead_in audio other others → packs ≡ others }
+    ensures bytes { (sheet : CueSheet) (script : List Drawing) (lead_in audio : ℕ) (one other : List ℕ) (packs others : List (List ℕ))
+        → All (λ byte. byte < 256) one → All (λ byte. byte < 256) other
+        → IsAuthored sheet script lead_in audio one packs → IsAuthored sheet script lead_in audio other others → one ≡ other }
+{}
+
+/// A law: a part of a stream, which is all that stands after a failed write, is a prefix of the authored stream.
+pub fn parts_are_prefixes()
+    ensures { (sheet : CueSheet) (script : List Drawing) (lead_in audio n : ℕ) (bytes : List ℕ) (packs given : List (List ℕ)) (held after : Option (List ℕ))
+        → IsAccepted sheet script lead_in audio → AreTimesInOrder script
+        → All (λ byte. byte < 256) bytes → IsAuthored sheet script lead_in audio bytes packs
+        → PutsStreamPart (layout_of sheet audio) script (text_packs sheet) lead_in held after n given → AppendsPrefix held after bytes }
+{
+    spread_carries();
+}

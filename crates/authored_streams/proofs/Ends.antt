@@ -1,0 +1,31 @@
+-- The changes of an accepted script end before the packs that the end of the stream cuts.
+use Rattle.std.proofs.Common.{◌≡◌, ℕ, ◌+◌, ◌-◌, ◌*◌, ◌<◌, ◌≤◌, List, length, replicate, refl, inl, inr, arith}
+use Rattle.std.proofs.lemmas.Bool.{cases_lt}
+use Rattle.rw_interleave.specs.Interleave.{whole_packs}
+use Rattle.picture_script.specs.Script.{Drawing, pictures, ready_time, hold_time}
+use Rattle.pack_schedule.specs.Schedule.{start_of}
+use Rattle.pack_schedule.specs.PlannedChange.{planned_change}
+use Rattle.pack_schedule.specs.Survey.{IsPastEnd, IsWithin}
+use Rattle.pack_schedule.specs.Woven.{IsPackAt}
+use Rattle.pack_schedule.proofs.Surveys.{is_within}
+use Rattle.shown_pictures.specs.Shown.{AreTimesInOrder}
+use Rattle.subcode_author.specs.AuthorAnswer.{AreReady}
+
+module _ (script : List Drawing) (blocks : ℕ) (order : AreTimesInOrder script) (ready : AreReady script) (end : ¬ IsPastEnd script blocks) where
+  pub within : IsWithin script blocks
+  within k lt = elim (cases_lt blocks (hold_time script (pictures script - 1))) [
+    | inl past ↦ absurd (end (omega arith, past))
+    | inr le ↦ is_within script blocks (hold_time script (pictures script - 1)) order.held order.later (λ some. refl) le k lt
+  ]
+
+  pub change_ends : (k : ℕ) → k < pictures script → start_of script k + length (planned_change script k) + 7 ≤ 4 * blocks
+  change_ends k lt =
+      let in_time : start_of script k + length (planned_change script k) + 7 ≤ 4 * ready_time script k = ready k lt in
+      let held : ready_time script k ≤ hold_time script k = order.held k lt in
+      let last : hold_time script k ≤ blocks = within k lt in
+      omega (arith, in_time, held, last)
+
+  pub idle_past : (n : ℕ) (pack : List ℕ) → whole_packs blocks ≤ n → IsPackAt script n pack → pack ≡ replicate 24 0
+  idle_past n pack past is_pack = is_pack.idle (λ k lt.
+      let ends : start_of script k + length (planned_change script k) + 7 ≤ 4 * blocks = change_ends k lt in
+      inr (omega (arith, ends, past)))
