@@ -7,3 +7,11 @@ pub mod Cuts
 pub mod Streams
 pub mod Ends
 pub mod Parts
+pub mod Codewords
+pub mod Messages
+pub mod Frames
+pub mod LeadIns
+pub mod FrameBits
+pub mod Written
+pub mod Blocks
+pub mod Existing

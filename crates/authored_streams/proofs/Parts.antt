@@ -9,7 +9,6 @@ use Rattle.cdg_io.specs.Run.{run_state}
 use Rattle.cdg_io.specs.Moves.{AppendsPrefix}
 use Rattle.raw_subcode.specs.Channels.{program_symbols}
 use Rattle.raw_subcode.specs.declared.form.Form.TheVariants.{Raw}
-use Rattle.rw_code.specs.Codeword.{IsCodeword}
 use Rattle.rw_interleave.specs.Interleave.{whole_packs, Carries}
 use Rattle.rw_interleave.specs.Spreading.{filled_with_idle, spread_next}
 use Rattle.cue_sheet.specs.CueSheet.{CueSheet}
@@ -21,16 +20,13 @@ use Rattle.subcode_author.specs.Blocks.{carrying_block, lead_in_block, program_b
 use Rattle.subcode_author.specs.Given.{symbols_from, AreGiven, PutsStreamPart}
 use Rattle.subcode_author.specs.Authored.{text_packs, IsAuthored}
 use Rattle.subcode_author.specs.AuthorAnswer.{IsAccepted}
+use Rattle.subcode_author.proofs.Schedules.{SpreadCarries}
 use Rattle.subcode_author.proofs.Pieces.{pieces_front, prefix_first}
 use Rattle.subcode_author.proofs.Slots.{length-symbols_from, symbols_from-append, earlier_block}
 use Rattle.authored_streams.proofs.Ends.{idle_past}
 use Rattle.authored_streams.proofs.Packs.{one_pack}
 use Rattle.authored_streams.proofs.Symbols.{same_symbols}
 use Rattle.authored_streams.proofs.Streams.{stream_is}
-
--- what the law on spread packs says
-abbrev pub SpreadCarries : Type 0
-SpreadCarries = (blocks : ℕ) (packs : List (List ℕ)) → length packs ≡ whole_packs blocks → All IsCodeword packs → Carries blocks (symbols_from [] (filled_with_idle (4 * blocks) packs)) packs
 
 -- the packs of so many blocks, with idle packs at their end
 module _ (script : List Drawing) (blocks : ℕ) (packs : List (List ℕ)) (count : length packs ≡ whole_packs blocks) (written : ArePacks script packs)

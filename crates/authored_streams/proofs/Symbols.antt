@@ -11,7 +11,7 @@ unfolding swapped
 swapped_back i lt = grind arith
 
 -- symbol i of pack n
-symbol_of_pack : (symbols : List ℕ) (n i : ℕ) → i < 24 → get_or (word_of symbols n) i 0 ≡ get_or symbols (place n i) 0
+pub symbol_of_pack : (symbols : List ℕ) (n i : ℕ) → i < 24 → get_or (word_of symbols n) i 0 ≡ get_or symbols (place n i) 0
 unfolding word_of
 symbol_of_pack symbols n i lt = get_or-map-range_with_len (λ j. get_or symbols (place n j) 0) 0 24 i i 0 lt (omega arith)
 
@@ -26,7 +26,7 @@ no_pack n i p lt here =
     omega (arith, here, small, position)
 
 -- a place is one of a whole pack, or of none
-in_pack : (p whole : ℕ) → ((n : ℕ) × (i : ℕ) × (n < whole) × (i < 24) × (place n i ≡ p)) ⊎ ((n i : ℕ) → n < whole → i < 24 → place n i ≢ p)
+pub in_pack : (p whole : ℕ) → ((n : ℕ) × (i : ℕ) × (n < whole) × (i < 24) × (place n i ≡ p)) ⊎ ((n i : ℕ) → n < whole → i < 24 → place n i ≢ p)
 in_pack p whole =
     let q : ℕ = p % 24 in
     let small : q < 24 = omega arith in

@@ -1,11 +1,11 @@
-//! Laws on authored streams: accepted scripts are in order, a sheet and a script have one stream, and what a failed write
-//! leaves is a prefix of it.
+//! Laws on authored streams: accepted scripts are in order, an accepted sheet and script have one stream, and what a failed
+//! write leaves is a prefix of it.
 #![tactic(auto)]
 
-ghost use Rattle.std.specs.Prelude.{◌≡◌, ◌<◌, List, ℕ, Ok, All};
+ghost use Rattle.std.specs.Prelude.{◌≡◌, ◌<◌, ◌≤◌, List, ℕ, Ok, All};
 ghost use Rattle.std.specs.declared.option.Option.{Option};
 ghost use Rattle.cdg_io.specs.Moves.{AppendsPrefix};
-ghost use Rattle.cue_sheet.specs.CueSheet.{CueSheet};
+ghost use Rattle.cue_sheet.specs.CueSheet.{CueSheet, IsSheet};
 ghost use Rattle.toc_model.specs.Places.{layout_of};
 ghost use Rattle.picture_script.specs.Script.{Drawing, picture_pixel};
 ghost use Rattle.picture_script.specs.ScriptGrammar.{read_script};
@@ -14,7 +14,9 @@ ghost use Rattle.subcode_author.specs.Authored.{IsAuthored, text_packs};
 ghost use Rattle.subcode_author.specs.AuthorAnswer.{IsAccepted};
 ghost use Rattle.subcode_author.specs.Given.{PutsStreamPart};
 
+use pack_schedule::packs_are_a_schedule;
 use rw_interleave::spread_carries;
+use tile_author::plans_are_shortest;
 
 /// A law: the pictures of every script that is accepted are shown in order, and all their colours are in range.
 pub fn accepted_scripts_are_in_order()
@@ -39,5 +41,22 @@ pub fn parts_are_prefixes()
         → All (λ byte. byte < 256) bytes → IsAuthored sheet script lead_in audio bytes packs
         → PutsStreamPart (layout_of sheet audio) script (text_packs sheet) lead_in held after n given → AppendsPrefix held after bytes }
 {
+    spread_carries();
+}
+
+/// A law: every sheet and every script that are accepted have an authored stream, of which each part is a prefix.
+pub fn accepted_scripts_have_streams()
+    ensures stream { (sheet : CueSheet) (script : List Drawing) (lead_in audio : ℕ)
+        → IsSheet sheet → AreTimesInOrder script → AreColoursInRange script → ((k x y : ℕ) → picture_pixel script k x y < 16)
+        → lead_in ≤ 450000 → IsAccepted sheet script lead_in audio
+        → (bytes : List ℕ) × (packs : List (List ℕ)) × All (λ byte. byte < 256) bytes × IsAuthored sheet script lead_in audio bytes packs }
+    ensures part { (sheet : CueSheet) (script : List Drawing) (lead_in audio n : ℕ) (given : List (List ℕ)) (held after : Option (List ℕ))
+        → IsSheet sheet → AreTimesInOrder script → AreColoursInRange script → ((k x y : ℕ) → picture_pixel script k x y < 16)
+        → lead_in ≤ 450000 → IsAccepted sheet script lead_in audio
+        → PutsStreamPart (layout_of sheet audio) script (text_packs sheet) lead_in held after n given
+        → (bytes : List ℕ) × (packs : List (List ℕ)) × IsAuthored sheet script lead_in audio bytes packs × AppendsPrefix held after bytes }
+{
+    packs_are_a_schedule();
+    plans_are_shortest();
     spread_carries();
 }

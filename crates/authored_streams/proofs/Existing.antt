@@ -1,0 +1,114 @@
+-- An accepted sheet and script have an authored stream.
+use Rattle.std.proofs.Common.{◌≡◌, ℕ, zero, suc, ◌+◌, ◌*◌, ◌<◌, ◌≤◌, false, List, [], ◌∷◌, ◌++◌, length, get_or, flat_map, take, drop, All, sym, ap, subst, ◌∙◌, inl, inr, arith}
+use Rattle.std.specs.List.{AllByRecursion, range_with_len}
+use Rattle.std.proofs.lemmas.List.{length-take-le, length-drop}
+use Rattle.std.proofs.lemmas.List.Elements.{All-take, All-drop, All-get_or, All-from_get_or, All-from_recursion, recursion_from_All}
+use Rattle.bit_lists.specs.Counting.{below}
+use Rattle.rw_code.specs.Codeword.{IsCodeword}
+use Rattle.rw_interleave.specs.Interleave.{whole_packs, Carries}
+use Rattle.rw_interleave.specs.Spreading.{filled_with_idle}
+use Rattle.q_frame.specs.QFrame.{IsValid}
+use Rattle.cue_sheet.specs.CueSheet.{CueSheet, IsSheet}
+use Rattle.toc_model.specs.Places.{DiscLayout, layout_of, program_blocks}
+use Rattle.toc_model.specs.Layout.{p_bit, program_frame, toc_frame}
+use Rattle.cdtext_packs.specs.LeadIn.{lead_in_symbols}
+use Rattle.cdtext_packs.specs.SheetTexts.{texts_of_sheet}
+use Rattle.picture_script.specs.Script.{Drawing, picture_pixel}
+use Rattle.pack_schedule.proofs.PlannedLaws.{PlansAreShortest}
+use Rattle.shown_pictures.specs.Shown.{AreTimesInOrder, AreColoursInRange}
+use Rattle.subcode_author.specs.Blocks.{carrying_block, lead_in_block, program_block, stream_bytes, symbols_at, IsBuilt}
+use Rattle.subcode_author.specs.Given.{symbols_from}
+use Rattle.subcode_author.specs.Authored.{text_packs, IsAuthored}
+use Rattle.subcode_author.specs.AuthorAnswer.{IsAccepted}
+use Rattle.subcode_author.proofs.Framed.{AreBuilt, framing, program_is}
+use Rattle.subcode_author.proofs.Schedules.{SpreadCarries, PacksAreSchedule}
+use Rattle.authored_streams.proofs.Symbols.{in_pack, symbol_of_pack}
+use Rattle.authored_streams.proofs.Ends.{within}
+use Rattle.authored_streams.proofs.Frames.{sheet_program_valid, sheet_toc_valid}
+use Rattle.authored_streams.proofs.LeadIns.{IsSymbols, lead_in_is, packs_eighteen}
+use Rattle.authored_streams.proofs.Written.{packs_exist, survey_exists}
+use Rattle.authored_streams.proofs.Blocks.{AreBytes, is_built, are_bytes}
+
+-- the symbols that carry packs are symbols
+carried_small : (blocks : ℕ) (symbols : List ℕ) (packs : List (List ℕ)) → Carries blocks symbols packs → All (λ s. s < 64) symbols
+carried_small blocks symbols packs carries =
+    All-from_get_or (λ s. s < 64) symbols 0 (λ p lt. elim (in_pack p (whole_packs blocks)) [
+      | inl (n, i, n_lt, i_lt, here) ↦
+          let codeword : IsCodeword (get_or packs n []) = All-get_or IsCodeword packs n [] (omega (arith, n_lt, carries.count)) carries.codewords in
+          let is : get_or (get_or packs n []) i 0 ≡ get_or symbols p 0 =
+          ap (λ (w : List ℕ). get_or w i 0) (sym (carries.words n n_lt)) ∙ symbol_of_pack symbols n i i_lt ∙ ap (λ k. get_or symbols k 0) here in
+          subst (λ s. s < 64) is (All-get_or (λ s. s < 64) (get_or packs n []) i 0 (omega (arith, i_lt, codeword.is_word.size)) codeword.is_word.symbols)
+      | inr none ↦ subst (λ s. s < 64) (sym (carries.others p (omega (arith, lt, carries.size)) none)) (omega arith)
+    ])
+
+block_symbols : (symbols : List ℕ) (blocks b : ℕ) → length symbols ≡ 96 * blocks → b < blocks → All (λ s. s < 64) symbols → IsSymbols 96 (symbols_at symbols b)
+block_symbols symbols blocks b size lt small = (
+  length-take-le 96 (drop (96 * b) symbols) (omega (arith, size, lt, length-drop (96 * b) symbols)),
+  recursion_from_All (λ s. s < 64) (take 96 (drop (96 * b) symbols)) (All-take (λ s. s < 64) 96 (drop (96 * b) symbols) (All-drop (λ s. s < 64) (96 * b) symbols small)),
+)
+
+bytes-append : (xs ys : List ℕ) → AreBytes xs → AreBytes ys → AreBytes (xs ++ ys)
+bytes-append [] ys these those = those
+bytes-append (x ∷ xs) ys these those = (these.0, bytes-append xs ys these.1 those)
+
+bytes-joined : (f : ℕ → List ℕ) (a n : ℕ) → ((i : ℕ) → i < a + n → AreBytes (f i)) → AreBytes (flat_map f (range_with_len a n))
+bytes-joined f a zero each = tt
+bytes-joined f a (suc n) each = bytes-append (f a) (flat_map f (range_with_len (a + 1) n)) (each a (omega arith)) (bytes-joined f (a + 1) n (λ i lt. each i (omega arith)))
+
+module _ (layout : DiscLayout) (texts : List (List ℕ)) (lead_in : ℕ) (symbols : List ℕ) (size : length symbols ≡ 96 * layout.blocks) (small : All (λ s. s < 64) symbols)
+    (eighteen : AllByRecursion (λ (pack : List ℕ). length pack ≡ 18) texts)
+    (contents_valid : (l : ℕ) → l < lead_in → IsValid (toc_frame layout lead_in l)) (program_valid : (b : ℕ) → b < layout.blocks → IsValid (program_frame layout b)) where
+  contents_built : (l : ℕ) → l < lead_in → IsBuilt (lead_in_block layout texts lead_in l) false (toc_frame layout lead_in l) (lead_in_symbols texts l)
+  unfolding lead_in_block
+  contents_built l lt = is_built false (toc_frame layout lead_in l) (lead_in_symbols texts l) (contents_valid l lt) (lead_in_is texts l eighteen)
+
+  program_built : (b : ℕ) → b < layout.blocks → IsBuilt (program_block layout symbols b) (p_bit layout b) (program_frame layout b) (symbols_at symbols b)
+  unfolding carrying_block
+  program_built b lt = is_built (p_bit layout b) (program_frame layout b) (symbols_at symbols b) (program_valid b lt) (block_symbols symbols layout.blocks b size lt small)
+
+  blocks_are : AreBuilt layout texts lead_in symbols
+  blocks_are = record { contents = contents_built; program = program_built }
+
+  contents_bytes : (l : ℕ) → l < lead_in → AreBytes (lead_in_block layout texts lead_in l)
+  unfolding lead_in_block
+  contents_bytes l lt = are_bytes false (toc_frame layout lead_in l) (lead_in_symbols texts l) (contents_valid l lt) (lead_in_is texts l eighteen)
+
+  program_bytes : (b : ℕ) → b < layout.blocks → AreBytes (program_block layout symbols b)
+  unfolding carrying_block
+  program_bytes b lt = are_bytes (p_bit layout b) (program_frame layout b) (symbols_at symbols b) (program_valid b lt) (block_symbols symbols layout.blocks b size lt small)
+
+  stream_small : All (λ b. b < 256) (stream_bytes layout texts lead_in layout.blocks symbols)
+  unfolding stream_bytes
+  stream_small =
+      let f : ℕ → List ℕ = lead_in_block layout texts lead_in in
+      let g : ℕ → List ℕ = program_block layout symbols in
+      All-from_recursion (λ b. b < 256) (flat_map f (below lead_in) ++ flat_map g (below layout.blocks))
+      (bytes-append (flat_map f (below lead_in)) (flat_map g (below layout.blocks)) (bytes-joined f 0 lead_in (λ l lt. contents_bytes l (omega arith))) (bytes-joined g 0 layout.blocks (λ b lt. program_bytes b (omega arith))))
+
+pub has_stream : SpreadCarries → PacksAreSchedule → PlansAreShortest → (sheet : CueSheet) (script : List Drawing) (lead_in audio : ℕ)
+    → IsSheet sheet → AreTimesInOrder script → AreColoursInRange script → ((k x y : ℕ) → picture_pixel script k x y < 16) → lead_in ≤ 450000 → IsAccepted sheet script lead_in audio
+    → (bytes : List ℕ) × (packs : List (List ℕ)) × All (λ b. b < 256) bytes × IsAuthored sheet script lead_in audio bytes packs
+has_stream spread schedule plans sheet script lead_in audio is_sheet order colours pixels few accepted =
+    let layout : DiscLayout = layout_of sheet audio in
+    let blocks : ℕ = program_blocks sheet audio in
+    let texts : List (List ℕ) = text_packs sheet in
+    let (packs, count, written, codewords) = packs_exist script order accepted.ready plans colours pixels (whole_packs blocks) in
+    let (survey, surveyed) = survey_exists script order accepted.ready in
+    let symbols : List ℕ = symbols_from [] (filled_with_idle (4 * blocks) packs) in
+    let carries : Carries blocks symbols packs = spread blocks packs count codewords in
+    let small = carried_small blocks symbols packs carries in
+    let eighteen = packs_eighteen (texts_of_sheet sheet) in
+    let contents_valid = sheet_toc_valid sheet audio is_sheet accepted.disc.0.0 accepted.disc.0.1 lead_in in
+    let program_valid = sheet_program_valid sheet audio is_sheet accepted.disc.0.0 accepted.disc.0.1 in
+    let built = blocks_are layout texts lead_in symbols carries.size small eighteen (λ l lt. contents_valid l lt few) program_valid in (
+      stream_bytes layout texts lead_in blocks symbols,
+      packs,
+      stream_small layout texts lead_in symbols carries.size small eighteen (λ l lt. contents_valid l lt few) program_valid,
+      record {
+        schedule = schedule script blocks survey packs pixels order.held (within script blocks order accepted.ready accepted.disc.1) surveyed count written;
+        written = written;
+        framing = framing layout texts lead_in symbols built;
+        carries = subst (λ (s : List ℕ). Carries blocks s packs) (sym (program_is layout texts lead_in symbols built carries.size)) carries;
+        enough = λ some. (accepted.room some).1;
+      },
+    )
