@@ -1,0 +1,6 @@
+pub mod ListedFrames
+pub mod SlotPacks
+pub mod Found
+pub mod PackBytes
+pub mod SheetTracks
+pub mod ListedTexts

@@ -1,0 +1,4 @@
+pub mod FrameLines
+pub mod Slots
+pub mod SheetLines
+pub mod Damage

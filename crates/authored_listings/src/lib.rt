@@ -1,0 +1,11 @@
+//! Laws of authored streams: what is listed of their Q channel, and of the texts in their lead-in.
+#![tactic(auto)]
+
+mod frames;
+mod texts;
+
+pub use frames::authored_frames_are_listed;
+pub use texts::{
+    authored_lead_ins_hold_the_packs, authored_texts_are_listed, damaged_lead_ins_give_the_texts,
+    streams_without_texts_are_listed,
+};
