@@ -1,0 +1,271 @@
+-- What a replay and a gallery have after the first slots of a stream.
+use Rattle.std.proofs.Common.{◌≡◌, ◌≢◌, ℕ, zero, suc, ◌+◌, ◌-◌, ◌*◌, ◌/◌, ◌%◌, ◌<◌, ◌≤◌, ◌==◌, List, [], ◌∷◌, ◌++◌, length, get_or, take, inl, inr, refl, sym, ap, ap₂, ◌∙◌, subst, arith, Some, None}
+use Rattle.std.specs.Prelude.{count_by}
+use Rattle.std.specs.List.{range_with_len}
+use Rattle.std.proofs.lemmas.Bool.{cases_lt}
+use Rattle.std.proofs.lemmas.List.{take_more}
+use Rattle.std.proofs.lemmas.List.Sums.{sum_by_push}
+use Rattle.std.proofs.lemmas.List.Elements.{All-get_or}
+use Rattle.bit_lists.specs.Counting.{below}
+use Rattle.raw_subcode.specs.Channels.{symbols_of}
+use Rattle.raw_subcode.specs.declared.form.Form.TheVariants.{Raw}
+use Rattle.rw_code.specs.Codeword.{IsCodeword, IsNear, Reads, differences}
+use Rattle.rw_interleave.specs.Interleave.{word_of, whole_packs}
+use Rattle.rw_interleave.specs.Gathering.{gather_gives}
+use Rattle.stream_words.proofs.Recovery.{differences-turned, form_words}
+use Rattle.cdg_instructions.specs.Instruction.{Means}
+use Rattle.cdg_instructions.specs.declared.instr.Instr.{Instr}
+use Rattle.cdg_screen.specs.Picture.{Standing, blank, standing_of, standing_after, SameStanding}
+use Rattle.picture_script.specs.Script.{Drawing, pictures, ready_time, hold_time}
+use Rattle.pack_schedule.specs.Schedule.{IsSchedule}
+use Rattle.shown_pictures.specs.Shown.{ShowsPicture, AreTimesInOrder, AreColoursInRange, AreMeantBy}
+use Rattle.stream_trial.specs.Counts.{differing}
+use Rattle.stream_trial.specs.Replay.{one_where, TakesWord, TakesNothing, IsBelow, slot_of, IsDamagedSchedule, IsPlayedOut}
+use Rattle.stream_trial.specs.declared.replay.Replay.{Replay}
+use Rattle.stream_trial.specs.declared.gallery.Gallery.{Gallery}
+use Rattle.stream_trial.specs.declared.playing.Counts.{Counts}
+use Rattle.stream_trial.proofs.Slots.{GathersWords, gathered_before, gives_none, gives_word}
+
+-- the laws that this rests on
+abbrev pub ShowsScheduled : Type 0
+ShowsScheduled = (script : List Drawing) (blocks : ℕ) (packs : List (List ℕ)) (k time : ℕ) (instrs : List Instr) → AreTimesInOrder script → AreColoursInRange script → IsSchedule script blocks packs
+    → k < pictures script → ready_time script k ≤ time → time ≤ hold_time script k → AreMeantBy (take (whole_packs time) packs) instrs → ShowsPicture script k (standing_after blank instrs)
+
+abbrev pub OneMore : Type 0
+OneMore = (start mid end : Standing) (instrs : List Instr) (instr : Instr) → SameStanding mid (standing_after start instrs) → SameStanding end (standing_after mid (instr ∷ [])) → SameStanding end (standing_after start (instrs ++ instr ∷ []))
+
+-- ---- one word more
+
+range_more : (a n : ℕ) → range_with_len a (suc n) ≡ range_with_len a n ++ (a + n) ∷ []
+range_more a zero = ap (λ k. k ∷ []) (omega arith)
+range_more a (suc n) = ap (λ l. a ∷ l) (range_more (a + 1) n ∙ ap (λ k. range_with_len (a + 1) n ++ k ∷ []) (omega arith))
+
+pub below_more : (n : ℕ) → below (n + 1) ≡ below n ++ n ∷ []
+below_more n =
+    let next : n + 1 ≡ suc n = omega arith in
+    let last : 0 + n ≡ n = omega arith in
+    ap below next ∙ range_more 0 n ∙ ap (λ k. below n ++ k ∷ []) last
+
+differing_none : (wrong : ℕ) (symbols others : List ℕ) → 0 ≡ differing wrong 0 symbols others
+unfolding differing
+differing_none wrong symbols others = refl
+
+differing_more : (wrong n : ℕ) (symbols others : List ℕ) → differing wrong (n + 1) symbols others ≡ differing wrong n symbols others + one_where (differences (word_of others n) (word_of symbols n)) wrong
+unfolding differing
+differing_more wrong n symbols others =
+    let differ : ℕ → ℕ = λ k. one_where (differences (word_of others k) (word_of symbols k)) wrong in
+    ap (λ l. count_by (λ k. differences (word_of others k) (word_of symbols k) == wrong) l) (below_more n) ∙ sum_by_push differ (below n) n
+
+meant_more : (packs : List (List ℕ)) (instrs : List Instr) (pack : List ℕ) (instr : Instr) → AreMeantBy packs instrs → Means pack instr → AreMeantBy (packs ++ pack ∷ []) (instrs ++ instr ∷ [])
+meant_more [] [] pack instr meant means = (means, refl)
+meant_more [] (i ∷ instrs) pack instr meant means = absurd (cc)
+meant_more (p ∷ packs) [] pack instr meant means = absurd meant
+meant_more (p ∷ packs) (i ∷ instrs) pack instr meant means = (meant.0, meant_more packs instrs pack instr meant.1 means)
+
+-- ---- what n slots leave
+
+-- the first words were counted, and what their packs mean was carried out
+pub record AreTaken (symbols : List ℕ) (packs : List (List ℕ)) (others : List ℕ) (n : ℕ) (replay : Replay) : Type 0 where
+  pub one : replay.one ≡ differing 1 (n - 7) symbols others
+  pub two : replay.two ≡ differing 2 (n - 7) symbols others
+  pub bad : replay.bad ≡ 0
+  pub instrs : List Instr
+  pub meant : AreMeantBy (take (n - 7) packs) instrs
+  pub screen : SameStanding (standing_of replay.screen) (standing_after blank instrs)
+
+-- every picture that was ready was shown, and the next one is not ready yet
+pub record AreShown (script : List Drawing) (n : ℕ) (gallery : Gallery) : Type 0 where
+  pub equal : gallery.equal ≡ gallery.next
+  pub later : gallery.next < pictures script → n < 4 * ready_time script gallery.next
+
+-- both
+pub record ArePlayed (script : List Drawing) (symbols : List ℕ) (packs : List (List ℕ)) (others : List ℕ) (n : ℕ) (replay : Replay) (gallery : Gallery) : Type 0 where
+  pub taken : AreTaken symbols packs others n replay
+  pub shown : AreShown script n gallery
+
+-- so much of any damaged schedule was played
+abbrev pub IsPlayed : List Drawing → List ℕ → ℕ → Replay → Gallery → Type 0
+IsPlayed script bytes n replay gallery = (symbols : List ℕ) (packs : List (List ℕ)) → IsDamagedSchedule script (length bytes / 96) symbols packs (symbols_of bytes)
+    → ArePlayed script symbols packs (symbols_of bytes) n replay gallery
+
+nothing_taken : (symbols others : List ℕ) (packs : List (List ℕ)) (replay : Replay) → SameStanding (standing_of replay.screen) blank → (replay.one ≡ 0) × (replay.two ≡ 0) × (replay.bad ≡ 0) → AreTaken symbols packs others 0 replay
+nothing_taken symbols others packs replay screen counts = record {
+  one = counts.0 ∙ differing_none 1 symbols others;
+  two = counts.1 ∙ differing_none 2 symbols others;
+  bad = counts.2;
+  instrs = [];
+  meant = refl;
+  screen = record { memory = screen.memory; border = screen.border; colour = screen.colour; level = screen.level; h = screen.h; v = screen.v };
+}
+
+small_symbols : (bytes : List ℕ) (p : ℕ) → get_or (symbols_of bytes) p 0 < 64
+small_symbols [] p = omega arith
+small_symbols (byte ∷ bytes) zero = omega arith
+small_symbols (byte ∷ bytes) (suc p) = small_symbols bytes p
+
+module _ (script : List Drawing) (symbols : List ℕ) (packs : List (List ℕ)) (bytes : List ℕ) (damaged : IsDamagedSchedule script (length bytes / 96) symbols packs (symbols_of bytes)) where
+  blocks : ℕ
+  blocks = length bytes / 96
+
+  same_blocks : length symbols / 96 ≡ length bytes / 96
+  same_blocks = omega (arith, damaged.carries.size)
+
+  pack_is : (k : ℕ) → k < whole_packs (length bytes / 96) → word_of symbols k ≡ get_or packs k []
+  pack_is k lt = damaged.carries.words k lt
+
+  reads_pack : (k : ℕ) → k < whole_packs (length bytes / 96) → Reads (word_of (symbols_of bytes) k) (get_or packs k [])
+  reads_pack k lt =
+      let is_codeword : IsCodeword (get_or packs k []) = All-get_or IsCodeword packs k [] (omega (arith, lt, damaged.carries.count)) damaged.carries.codewords in
+      let near : IsNear (word_of symbols k) (word_of (symbols_of bytes) k) = damaged.damaged.words k (subst (λ b. k < whole_packs b) (sym same_blocks) lt) in
+      let turned : differences (get_or packs k []) (word_of (symbols_of bytes) k) ≡ differences (word_of (symbols_of bytes) k) (get_or packs k []) =
+      differences-turned (get_or packs k []) (word_of (symbols_of bytes) k) (is_codeword.is_word.size ∙ sym (form_words Raw (symbols_of bytes) k (small_symbols bytes)).size) in
+      record { is_codeword = is_codeword; is_near = subst (λ d. d ≤ 2) (ap (λ (w : List ℕ). differences w (word_of (symbols_of bytes) k)) (pack_is k lt) ∙ turned) near }
+
+  one_count : (wrong k : ℕ) (old new : ℕ) → k < whole_packs (length bytes / 96) → old ≡ differing wrong k symbols (symbols_of bytes)
+      → new ≡ old + one_where (differences (word_of (symbols_of bytes) k) (get_or packs k [])) wrong → new ≡ differing wrong (k + 1) symbols (symbols_of bytes)
+  one_count wrong k old new lt before step =
+      step ∙ ap₂ (λ (d : ℕ) (w : List ℕ). d + one_where (differences (word_of (symbols_of bytes) k) w) wrong) before (sym (pack_is k lt)) ∙ sym (differing_more wrong k symbols (symbols_of bytes))
+
+  -- a slot with which word k comes
+  one_taken : OneMore → (k n : ℕ) (old new : Replay) → k + 7 ≡ n → k < whole_packs (length bytes / 96) → AreTaken symbols packs (symbols_of bytes) n old → TakesWord (word_of (symbols_of bytes) k) (get_or packs k []) old new → AreTaken symbols packs (symbols_of bytes) (n + 1) new
+  one_taken more k n old new last lt before takes =
+      let next : k + 1 ≡ n + 1 - 7 = omega arith in
+      let now : n - 7 ≡ k = omega arith in
+      let within : k < length packs = omega (arith, lt, damaged.carries.count) in
+      record {
+        one = one_count 1 k old.one new.one lt (before.one ∙ ap (λ m. differing 1 m symbols (symbols_of bytes)) now) takes.one ∙ ap (λ m. differing 1 m symbols (symbols_of bytes)) next;
+        two = one_count 2 k old.two new.two lt (before.two ∙ ap (λ m. differing 2 m symbols (symbols_of bytes)) now) takes.two ∙ ap (λ m. differing 2 m symbols (symbols_of bytes)) next;
+        bad = takes.bad ∙ before.bad;
+        instrs = before.instrs ++ takes.instr ∷ [];
+        meant = subst (λ (l : List (List ℕ)). AreMeantBy l (before.instrs ++ takes.instr ∷ [])) (sym (take_more packs k [] within) ∙ ap (λ m. take m packs) next)
+            (meant_more (take k packs) before.instrs (get_or packs k []) takes.instr (subst (λ m. AreMeantBy (take m packs) before.instrs) now before.meant) takes.meant);
+        screen = more blank (standing_of old.screen) (standing_of new.screen) before.instrs takes.instr before.screen takes.screen;
+      }
+
+  -- one of the first slots, with which no word comes
+  none_taken : (n : ℕ) (old new : Replay) → n < 7 → AreTaken symbols packs (symbols_of bytes) n old → TakesNothing old new → AreTaken symbols packs (symbols_of bytes) (n + 1) new
+  none_taken n old new few before nothing =
+      let same : n - 7 ≡ n + 1 - 7 = omega arith in
+      record {
+        one = nothing.one ∙ before.one ∙ ap (λ m. differing 1 m symbols (symbols_of bytes)) same;
+        two = nothing.two ∙ before.two ∙ ap (λ m. differing 2 m symbols (symbols_of bytes)) same;
+        bad = nothing.bad ∙ before.bad;
+        instrs = before.instrs;
+        meant = subst (λ m. AreMeantBy (take m packs) before.instrs) same before.meant;
+        screen = subst (λ s. SameStanding (standing_of s) (standing_after blank before.instrs)) (sym nothing.screen) before.screen;
+      }
+
+  -- the next slot
+  slot_taken : GathersWords → OneMore → (n : ℕ) (old new : Replay) → 24 * n + 24 ≤ length bytes → n < 4 * (length bytes / 96) → old.gather ≡ gathered_before bytes n → AreTaken symbols packs (symbols_of bytes) n old
+      → (gather_gives old.gather (slot_of bytes n) ≡ None → TakesNothing old new)
+      → ((word codeword : List ℕ) → gather_gives old.gather (slot_of bytes n) ≡ Some word → Reads word codeword → TakesWord word codeword old new)
+      → AreTaken symbols packs (symbols_of bytes) (n + 1) new
+  slot_taken law more n old new fits within gather before none word =
+      elim (cases_lt n 7) [
+        | inl few ↦ none_taken n old new few before (none (ap (λ g. gather_gives g (slot_of bytes n)) gather ∙ gives_none law bytes n fits few))
+        | inr enough ↦
+            let last : n - 7 + 7 ≡ n = omega arith in
+            let lt : n - 7 < whole_packs (length bytes / 96) = omega arith in
+            one_taken more (n - 7) n old new last lt before (word (word_of (symbols_of bytes) (n - 7)) (get_or packs (n - 7) []) (ap (λ g. gather_gives g (slot_of bytes n)) gather ∙ gives_word law bytes (n - 7) n fits last) (reads_pack (n - 7) lt))
+      ]
+
+  -- a picture that is ready is shown
+  shown_now : ShowsScheduled → AreTimesInOrder script → AreColoursInRange script → (k n : ℕ) (replay : Replay) → k < pictures script → n ≡ 4 * ready_time script k → (taken : AreTaken symbols packs (symbols_of bytes) n replay) → ShowsPicture script k (standing_after blank taken.instrs)
+  shown_now law order ranges k n replay lt now taken =
+      let whole : n - 7 ≡ whole_packs (ready_time script k) = omega arith in
+      let held : ready_time script k ≤ hold_time script k = order.held k lt in
+      let same : ready_time script k ≤ ready_time script k = omega arith in
+      law script (length bytes / 96) packs k (ready_time script k) taken.instrs order ranges damaged.schedule lt same held (subst (λ m. AreMeantBy (take m packs) taken.instrs) whole taken.meant)
+
+  -- the gallery after one slot more
+  looked : AreTimesInOrder script → (n : ℕ) (old new : Gallery) → AreShown script n old
+      → ((old.next < pictures script → n + 1 ≢ 4 * ready_time script old.next) → (new.next ≡ old.next) × (new.equal ≡ old.equal))
+      → (old.next < pictures script → n + 1 ≡ 4 * ready_time script old.next → (new.next ≡ old.next + 1) × (new.equal ≡ old.equal + 1)) → AreShown script (n + 1) new
+  looked order n old new before waits looks =
+      elim (cases_lt old.next (pictures script)) [
+        | inr none ↦
+            let (next, equal) = waits (λ lt. absurd (omega arith)) in
+            record { equal = equal ∙ before.equal ∙ sym next; later = λ lt. absurd (omega (arith, next, none, lt)) }
+        | inl some ↦
+            let ahead : n < 4 * ready_time script old.next = before.later some in
+            elim (cases_lt (n + 1) (4 * ready_time script old.next)) [
+              | inl waiting ↦
+                  let (next, equal) = waits (λ lt is. absurd (omega arith)) in
+                  record { equal = equal ∙ before.equal ∙ sym next; later = λ lt. subst (λ k. n + 1 < 4 * ready_time script k) (sym next) waiting }
+              | inr due ↦
+                  let (next, equal) = looks some (omega arith) in
+                  record {
+                    equal = equal ∙ ap (λ k. k + 1) before.equal ∙ sym next;
+                    later = λ lt.
+                        let there : old.next + 1 < pictures script = subst (λ k. k < pictures script) next lt in
+                        let held : ready_time script old.next ≤ hold_time script old.next = order.held old.next some in
+                        let apart : hold_time script old.next < ready_time script (old.next + 1) = order.later old.next there in
+                        subst (λ k. n + 1 < 4 * ready_time script k) (sym next) (omega (arith, held, apart, due, ahead));
+                  }
+            ]
+      ]
+
+  first_ahead : (gallery : Gallery) → gallery.next ≡ 0 → gallery.equal ≡ 0 → AreShown script 0 gallery
+  first_ahead gallery next equal = record {
+    equal = equal ∙ sym next;
+    later = λ lt.
+        let picture : 0 < pictures script = subst (λ k. k < pictures script) next lt in
+        let time = damaged.schedule.fits 0 picture in
+        subst (λ k. 0 < 4 * ready_time script k) (sym next) (omega (arith, time));
+  }
+
+  -- all of it was played
+  all_out : AreTimesInOrder script → (n : ℕ) (replay : Replay) (gallery : Gallery) (counts : Counts) → n ≡ 4 * (length bytes / 96) → ArePlayed script symbols packs (symbols_of bytes) n replay gallery → gallery.next ≤ pictures script
+      → counts ≡ record { one = replay.one; two = replay.two; bad = replay.bad; equal = gallery.equal } → IsPlayedOut script (length bytes / 96) symbols (symbols_of bytes) counts
+  all_out order n replay gallery counts all played most is =
+      let whole : n - 7 ≡ whole_packs (length bytes / 96) = omega arith in
+      let last : gallery.next ≡ pictures script = elim (cases_lt gallery.next (pictures script)) [
+        | inl some ↦
+            let held : ready_time script gallery.next ≤ hold_time script gallery.next = order.held gallery.next some in
+            let within : hold_time script gallery.next ≤ length bytes / 96 = damaged.schedule.held gallery.next some in
+            absurd (omega (arith, played.shown.later some, held, within, all))
+        | inr none ↦ omega arith
+      ] in
+      record {
+        one = ap (λ (c : Counts). c.one) is ∙ played.taken.one ∙ ap (λ m. differing 1 m symbols (symbols_of bytes)) whole;
+        two = ap (λ (c : Counts). c.two) is ∙ played.taken.two ∙ ap (λ m. differing 2 m symbols (symbols_of bytes)) whole;
+        bad = ap (λ (c : Counts). c.bad) is ∙ played.taken.bad;
+        equal = ap (λ (c : Counts). c.equal) is ∙ played.shown.equal ∙ last;
+      }
+
+-- ---- the loop over slots
+
+pub begins : (script : List Drawing) (bytes : List ℕ) (replay : Replay) (gallery : Gallery) → SameStanding (standing_of replay.screen) blank → (replay.one ≡ 0) × (replay.two ≡ 0) × (replay.bad ≡ 0) → (gallery.next ≡ 0) × (gallery.equal ≡ 0) → IsPlayed script bytes 0 replay gallery
+begins script bytes replay gallery screen counts none = λ symbols packs damaged. record {
+  taken = nothing_taken symbols (symbols_of bytes) packs replay screen counts;
+  shown = first_ahead script symbols packs bytes damaged gallery none.0 none.1;
+}
+
+pub goes_on : GathersWords → OneMore → ShowsScheduled → (script : List Drawing) → AreTimesInOrder script → AreColoursInRange script → (bytes : List ℕ) (n : ℕ) (old new : Replay) (before after : Gallery) → length bytes % 96 ≡ 0 → n < length bytes / 24
+    → old.gather ≡ gathered_before bytes n → IsPlayed script bytes n old before
+    → (gather_gives old.gather (slot_of bytes n) ≡ None → TakesNothing old new)
+    → ((word codeword : List ℕ) → gather_gives old.gather (slot_of bytes n) ≡ Some word → Reads word codeword → TakesWord word codeword old new)
+    → ((before.next < pictures script → n + 1 ≢ 4 * ready_time script before.next) → (after.next ≡ before.next) × (after.equal ≡ before.equal))
+    → (before.next < pictures script → n + 1 ≡ 4 * ready_time script before.next → (after.next ≡ before.next + 1) × ((now : Standing) → SameStanding (standing_of new.screen) now → ShowsPicture script before.next now → after.equal ≡ before.equal + 1))
+    → IsPlayed script bytes (n + 1) new after
+goes_on law more shows script order ranges bytes n old new before after whole lt gather played none word waits looks = λ symbols packs damaged.
+    let so_far = played symbols packs damaged in
+    let taken : AreTaken symbols packs (symbols_of bytes) (n + 1) new =
+    slot_taken script symbols packs bytes damaged law more n old new (omega arith) (omega arith) gather so_far.taken none word in
+    record {
+      taken = taken;
+      shown = looked script symbols packs bytes damaged order n before after so_far.shown waits (λ some due.
+          let (next, equal) = looks some due in
+          (next, equal (standing_after blank taken.instrs) taken.screen (shown_now script symbols packs bytes damaged shows order ranges before.next (n + 1) new some due taken)));
+    }
+
+pub ends : (script : List Drawing) → AreTimesInOrder script → (bytes : List ℕ) (n : ℕ) (replay : Replay) (gallery : Gallery) (counts : Counts) → length bytes % 96 ≡ 0 → n ≡ length bytes / 24 → IsPlayed script bytes n replay gallery → gallery.next ≤ pictures script
+    → counts ≡ record { one = replay.one; two = replay.two; bad = replay.bad; equal = gallery.equal }
+    → (symbols : List ℕ) (packs : List (List ℕ)) → IsDamagedSchedule script (length bytes / 96) symbols packs (symbols_of bytes) → IsPlayedOut script (length bytes / 96) symbols (symbols_of bytes) counts
+ends script order bytes n replay gallery counts whole last played most is symbols packs damaged =
+    all_out script symbols packs bytes damaged order n replay gallery counts (omega arith) (played symbols packs damaged) most is
+
+-- ---- bounds
+
+pub still_below : (replay : Replay) (n most : ℕ) → n ≤ most → IsBelow n replay → IsBelow most replay
+still_below replay n most within small = record { one = omega (arith, small.one); two = omega (arith, small.two); bad = omega (arith, small.bad) }

@@ -1,0 +1,124 @@
+-- The text of a trial.
+use Rattle.std.proofs.Common.{◌≡◌, ℕ, zero, suc, ◌+◌, ◌*◌, ◌/◌, ◌%◌, ◌≤◌, List, [], ◌++◌, length, map, take, drop, flat_map, sym, ap, ap₂, ◌∙◌, subst, arith, length-drop, Ok}
+use Rattle.std.proofs.lemmas.List.{length-map, map-append, nil_from_length, take-append-drop}
+use Rattle.bit_lists.specs.Counting.{parts}
+use Rattle.raw_subcode.specs.Channels.{symbols_of, block_of, program_symbols}
+use Rattle.raw_subcode.specs.declared.form.Form.TheVariants.{Raw}
+use Rattle.rw_interleave.specs.Interleave.{whole_packs, Carries}
+use Rattle.stream_words.specs.Stream.{IsDamaged}
+use Rattle.cue_sheet.specs.CueSheet.{CueSheet}
+use Rattle.cue_sheet.specs.Grammar.{read_cue}
+use Rattle.toc_model.specs.Places.{program_blocks}
+use Rattle.picture_script.specs.Script.{Drawing, pictures}
+use Rattle.picture_script.specs.ScriptGrammar.{read_script}
+use Rattle.pack_schedule.specs.Schedule.{IsSchedule}
+use Rattle.cdg_workload.specs.Script.{generated_script}
+use Rattle.cdg_workload.specs.Scratches.{scratched}
+use Rattle.generated_scripts.specs.Generated.{generated_drawings}
+use Rattle.subcode_author.specs.Authored.{IsAuthored}
+use Rattle.stream_trial.specs.Counts.{differing}
+use Rattle.stream_trial.specs.Lines.{input_lines, output_lines}
+use Rattle.generated_schedules.specs.Trial.{trial_text, trial_sheet}
+use Rattle.stream_trial.specs.Trial.{trial_audio, trial_blocks, all_changes, IsTrial}
+use Rattle.stream_trial.specs.Told.{told}
+use Rattle.stream_trial.specs.Replay.{IsDamagedSchedule, IsPlayedOut}
+use Rattle.stream_trial.specs.declared.lines.Report.{Report}
+use Rattle.stream_trial.specs.declared.playing.Counts.{Counts}
+
+-- the laws that this rests on
+abbrev pub ScratchesDamage : Type 0
+ScratchesDamage = (lead_in seed blocks : ℕ) (bytes : List ℕ) → length bytes ≡ 96 * blocks → IsDamaged (program_symbols Raw bytes lead_in) Raw (program_symbols Raw (scratched lead_in seed bytes) lead_in)
+
+abbrev pub ChannelsStay : Type 0
+ChannelsStay = (lead_in seed : ℕ) (bytes : List ℕ) → map (λ byte. byte / 64) (scratched lead_in seed bytes) ≡ map (λ byte. byte / 64) bytes
+
+abbrev pub ScriptsAreRead : Type 0
+ScriptsAreRead = (seed count : ℕ) → count ≤ 500 → read_script (generated_script seed count) ≡ Ok (generated_drawings seed count)
+
+abbrev pub ScriptsHavePictures : Type 0
+ScriptsHavePictures = (seed count : ℕ) → pictures (generated_drawings seed count) ≡ count
+
+abbrev pub SheetIsRead : Type 0
+SheetIsRead = read_cue trial_text ≡ Ok trial_sheet
+
+abbrev pub HasBlocks : Type 0
+HasBlocks = (audio : ℕ) → program_blocks trial_sheet audio ≡ 150 + audio
+
+-- ---- streams with no lead-in
+
+same_length : ChannelsStay → (seed : ℕ) (bytes : List ℕ) → length (scratched 0 seed bytes) ≡ length bytes
+same_length stay seed bytes = sym (length-map (scratched 0 seed bytes) (λ byte. byte / 64)) ∙ ap length (stay 0 seed bytes) ∙ length-map bytes (λ byte. byte / 64)
+
+whole_symbols : (n : ℕ) (bytes : List ℕ) → length bytes ≡ n * 96 → flat_map symbols_of (map (block_of Raw) (parts n 96 bytes)) ≡ symbols_of bytes
+whole_symbols zero bytes size =
+    let none : bytes ≡ [] = nil_from_length bytes (omega (arith, size)) in
+    sym (ap symbols_of none)
+whole_symbols (suc n) bytes size =
+    ap (λ l. symbols_of (take 96 bytes) ++ l) (whole_symbols n (drop 96 bytes) (length-drop 96 bytes ∙ omega (arith, size)))
+    ∙ sym (map-append (λ byte. byte % 64) (take 96 bytes) (drop 96 bytes)) ∙ ap symbols_of (take-append-drop 96 bytes)
+
+program_is : (blocks : ℕ) (bytes : List ℕ) → length bytes ≡ 96 * blocks → program_symbols Raw bytes 0 ≡ symbols_of bytes
+program_is blocks bytes size =
+    let count : length bytes / 96 ≡ blocks = omega (arith, size) in
+    ap (λ n. flat_map symbols_of (map (block_of Raw) (parts n 96 bytes))) count ∙ whole_symbols blocks bytes (omega (arith, size))
+
+-- the size of the stream of a sheet
+stream_size : (sheet : CueSheet) (script : List Drawing) (audio : ℕ) (bytes : List ℕ) (packs : List (List ℕ)) → IsAuthored sheet script 0 audio bytes packs → length bytes ≡ 96 * program_blocks sheet audio
+stream_size sheet script audio bytes packs authored = authored.framing.size ∙ omega arith
+
+scratched_size : ChannelsStay → (sheet : CueSheet) (script : List Drawing) (audio seed : ℕ) (bytes others : List ℕ) (packs : List (List ℕ)) → others ≡ scratched 0 seed bytes → IsAuthored sheet script 0 audio bytes packs → length others ≡ 96 * program_blocks sheet audio
+scratched_size stay sheet script audio seed bytes others packs is authored = ap length is ∙ same_length stay seed bytes ∙ stream_size sheet script audio bytes packs authored
+
+-- the stream with scratches carries its schedule through them
+damaged_schedule : ScratchesDamage → ChannelsStay → (sheet : CueSheet) (script : List Drawing) (audio seed : ℕ) (bytes others : List ℕ) (packs : List (List ℕ)) → others ≡ scratched 0 seed bytes → IsAuthored sheet script 0 audio bytes packs
+    → IsDamagedSchedule script (length others / 96) (program_symbols Raw bytes 0) packs (symbols_of others)
+damaged_schedule damage stay sheet script audio seed bytes others packs is authored =
+    let blocks : ℕ = program_blocks sheet audio in
+    let size : length others ≡ 96 * program_blocks sheet audio = scratched_size stay sheet script audio seed bytes others packs is authored in
+    let count : program_blocks sheet audio ≡ length others / 96 = omega (arith, size) in
+    let symbols : program_symbols Raw (scratched 0 seed bytes) 0 ≡ symbols_of others = ap (λ (l : List ℕ). program_symbols Raw l 0) (sym is) ∙ program_is (program_blocks sheet audio) others size in
+    record {
+      schedule = subst (λ b. IsSchedule script b packs) count authored.schedule;
+      carries = subst (λ b. Carries b (program_symbols Raw bytes 0) packs) count authored.carries;
+      damaged = subst (λ (l : List ℕ). IsDamaged (program_symbols Raw bytes 0) Raw l) symbols (damage 0 seed (program_blocks sheet audio) bytes (stream_size sheet script audio bytes packs authored));
+    }
+
+-- ---- the stream of a trial
+
+trial_program : HasBlocks → (sheet : CueSheet) (count : ℕ) → sheet ≡ trial_sheet → program_blocks sheet (trial_audio count) ≡ trial_blocks count
+trial_program has sheet count is = ap (λ (s : CueSheet). program_blocks s (trial_audio count)) is ∙ has (trial_audio count) ∙ omega arith
+
+pub trial_size : HasBlocks → (sheet : CueSheet) (script : List Drawing) (count : ℕ) (bytes : List ℕ) (packs : List (List ℕ)) → sheet ≡ trial_sheet → IsAuthored sheet script 0 (trial_audio count) bytes packs → length bytes ≡ 96 * trial_blocks count
+trial_size has sheet script count bytes packs is authored = stream_size sheet script (trial_audio count) bytes packs authored ∙ ap (λ n. 96 * n) (trial_program has sheet count is)
+
+pub trial_scratched : HasBlocks → ChannelsStay → (sheet : CueSheet) (script : List Drawing) (count seed : ℕ) (bytes others : List ℕ) (packs : List (List ℕ)) → sheet ≡ trial_sheet → others ≡ scratched 0 seed bytes → IsAuthored sheet script 0 (trial_audio count) bytes packs → length others ≡ 96 * trial_blocks count
+trial_scratched has stay sheet script count seed bytes others packs is scratches authored = ap length scratches ∙ same_length stay seed bytes ∙ trial_size has sheet script count bytes packs is authored
+
+-- what is told of a stream that was played out is the text of a trial
+pub is_trial : SheetIsRead → HasBlocks → ScratchesDamage → ChannelsStay → ScriptsAreRead → ScriptsHavePictures → (seed count : ℕ) (sheet : CueSheet) (script : List Drawing) (bytes others : List ℕ) (packs : List (List ℕ)) (counts : Counts) (report : Report)
+    → count ≤ 500 → sheet ≡ trial_sheet → script ≡ generated_drawings seed count → IsAuthored sheet script 0 (trial_audio count) bytes packs → others ≡ scratched 0 seed bytes
+    → ((symbols : List ℕ) (packs : List (List ℕ)) → IsDamagedSchedule script (length others / 96) symbols packs (symbols_of others) → IsPlayedOut script (length others / 96) symbols (symbols_of others) counts)
+    → report.seed ≡ seed → report.pictures ≡ count → report.blocks ≡ trial_blocks count → report.packs ≡ whole_packs (trial_blocks count) → report.changes ≡ all_changes script
+    → report.one ≡ counts.one → report.two ≡ counts.two → report.bad ≡ counts.bad → report.equal ≡ counts.equal → IsTrial seed count (told report)
+is_trial read has damage stay reads have seed count sheet script bytes others packs counts report few sheet_is script_is authored is plays e_seed e_pictures e_blocks e_packs e_changes e_one e_two e_bad e_equal =
+    let size : length others ≡ 96 * trial_blocks count = trial_scratched has stay sheet script count seed bytes others packs sheet_is is authored in
+    let blocks : length others / 96 ≡ trial_blocks count = omega (arith, size) in
+    let played = plays (program_symbols Raw bytes 0) packs (damaged_schedule damage stay sheet script (trial_audio count) seed bytes others packs is authored) in
+    let symbols : symbols_of others ≡ program_symbols Raw (scratched 0 seed bytes) 0 = sym (ap (λ (l : List ℕ). program_symbols Raw l 0) (sym is) ∙ program_is (trial_blocks count) others size) in
+    let number : ℕ = whole_packs (trial_blocks count) in
+    let one : report.one ≡ differing 1 number (program_symbols Raw bytes 0) (program_symbols Raw (scratched 0 seed bytes) 0) =
+    e_one ∙ played.one ∙ ap₂ (λ b (l : List ℕ). differing 1 (whole_packs b) (program_symbols Raw bytes 0) l) blocks symbols in
+    let two : report.two ≡ differing 2 number (program_symbols Raw bytes 0) (program_symbols Raw (scratched 0 seed bytes) 0) =
+    e_two ∙ played.two ∙ ap₂ (λ b (l : List ℕ). differing 2 (whole_packs b) (program_symbols Raw bytes 0) l) blocks symbols in
+    let bad : report.bad ≡ 0 = e_bad ∙ played.bad in
+    let equal : report.equal ≡ count = e_equal ∙ played.equal ∙ ap pictures script_is ∙ have seed count in
+    record {
+      sheet = sheet;
+      sheet_is = read ∙ ap (λ (s : CueSheet). Ok s) (sym sheet_is);
+      script = script;
+      script_is = reads seed count few ∙ ap (λ (l : List Drawing). Ok l) (sym script_is);
+      bytes = bytes;
+      packs = packs;
+      authored = authored;
+      text_is = λ i. input_lines (e_seed i) (e_pictures i) (e_blocks i) (e_packs i) (e_changes i) ++ output_lines (one i) (two i) (bad i) (equal i);
+    }

@@ -1,0 +1,69 @@
+-- What is known while a stream is played again.
+use Rattle.std.specs.Prelude.{◌≡◌, ℕ, ◌+◌, ◌-◌, ◌*◌, ◌<◌, ◌≤◌, ◌==◌, ◌&&◌, nat_le, if◌then◌else◌, List, [], ◌∷◌, take, drop, slice_index}
+use Rattle.raw_subcode.specs.Channels.{symbols_of}
+use Rattle.raw_subcode.specs.declared.form.Form.TheVariants.{Raw}
+use Rattle.rw_code.specs.Codeword.{differences}
+use Rattle.rw_interleave.specs.Interleave.{whole_packs, Carries}
+use Rattle.stream_words.specs.Stream.{IsDamaged}
+use Rattle.cdg_instructions.specs.Instruction.{Means}
+use Rattle.cdg_instructions.specs.declared.instr.Instr.{Instr}
+use Rattle.cdg_screen.specs.Picture.{Standing, standing_of, standing_after, screen_pixel, SameStanding}
+use Rattle.picture_script.specs.Script.{Drawing, pictures}
+use Rattle.picture_script.specs.Board.{Board, pixel_of}
+use Rattle.pack_schedule.specs.Schedule.{IsSchedule}
+use Rattle.stream_trial.specs.Counts.{differing}
+use Rattle.stream_trial.specs.declared.replay.Replay.{Replay}
+use Rattle.stream_trial.specs.declared.playing.Counts.{Counts}
+
+-- the pixel that a screen is to show for a canvas: that of its window, and else the border
+abbrev pub wanted_pixel : Board → ℕ → ℕ → ℕ
+wanted_pixel board x y = if nat_le 6 x && nat_le x 293 && nat_le 12 y && nat_le y 203 then pixel_of board.pixels (x - 6) (y - 12) else board.border
+
+-- the screen shows what stands on the canvas
+pub record Agrees (now : Standing) (board : Board) : Type 0 where
+  pub border : now.border ≡ board.border
+  pub colours : (n : ℕ) → n < 16 → now.colour n ≡ slice_index board.colours n
+  pub pixels : (x y : ℕ) → x < 300 → y < 216 → screen_pixel now x y ≡ wanted_pixel board x y
+
+-- each count is at most so great
+pub record IsBelow (most : ℕ) (replay : Replay) : Type 0 where
+  pub one : replay.one ≤ most
+  pub two : replay.two ≤ most
+  pub bad : replay.bad ≤ most
+
+-- 1 where these are the same number
+abbrev pub one_where : ℕ → ℕ → ℕ
+one_where a b = if a == b then 1 else 0
+
+-- a word near this codeword was counted, and what the codeword means was carried out
+pub record TakesWord (word codeword : List ℕ) (old new : Replay) : Type 0 where
+  pub one : new.one ≡ old.one + one_where (differences word codeword) 1
+  pub two : new.two ≡ old.two + one_where (differences word codeword) 2
+  pub bad : new.bad ≡ old.bad
+  pub instr : Instr
+  pub meant : Means codeword instr
+  pub screen : SameStanding (standing_of new.screen) (standing_after (standing_of old.screen) (instr ∷ []))
+
+-- no word came
+pub record TakesNothing (old new : Replay) : Type 0 where
+  pub one : new.one ≡ old.one
+  pub two : new.two ≡ old.two
+  pub bad : new.bad ≡ old.bad
+  pub screen : new.screen ≡ old.screen
+
+-- the symbols of slot n of a stream
+unfoldable pub slot_of : List ℕ → ℕ → List ℕ
+slot_of bytes n = symbols_of (take 24 (drop (24 * n) bytes))
+
+-- program symbols that are damaged from those which carry a schedule of the script
+pub record IsDamagedSchedule (script : List Drawing) (blocks : ℕ) (symbols : List ℕ) (packs : List (List ℕ)) (others : List ℕ) : Type 0 where
+  pub schedule : IsSchedule script blocks packs
+  pub carries : Carries blocks symbols packs
+  pub damaged : IsDamaged symbols Raw others
+
+-- what was counted of such a stream
+pub record IsPlayedOut (script : List Drawing) (blocks : ℕ) (symbols others : List ℕ) (counts : Counts) : Type 0 where
+  pub one : counts.one ≡ differing 1 (whole_packs blocks) symbols others
+  pub two : counts.two ≡ differing 2 (whole_packs blocks) symbols others
+  pub bad : counts.bad ≡ 0
+  pub equal : counts.equal ≡ pictures script

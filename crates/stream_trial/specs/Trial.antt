@@ -1,0 +1,45 @@
+-- What a trial of a seed writes.
+use Rattle.std.specs.Prelude.{◌≡◌, ℕ, ◌+◌, ◌*◌, List, ◌++◌, length, sum_by, Ok}
+use Rattle.bit_lists.specs.Counting.{below}
+use Rattle.raw_subcode.specs.Channels.{program_symbols}
+use Rattle.raw_subcode.specs.declared.form.Form.TheVariants.{Raw}
+use Rattle.rw_interleave.specs.Interleave.{whole_packs}
+use Rattle.cue_sheet.specs.CueSheet.{CueSheet}
+use Rattle.cue_sheet.specs.Grammar.{read_cue}
+use Rattle.picture_script.specs.Script.{Drawing, pictures}
+use Rattle.picture_script.specs.ScriptGrammar.{read_script}
+use Rattle.pack_schedule.specs.PlannedChange.{planned_change}
+use Rattle.cdg_workload.specs.Script.{generated_script}
+use Rattle.cdg_workload.specs.Scratches.{scratched}
+use Rattle.generated_schedules.specs.Trial.{trial_text}
+use Rattle.subcode_author.specs.Authored.{IsAuthored}
+use Rattle.stream_trial.specs.Counts.{differing}
+use Rattle.stream_trial.specs.Lines.{input_lines, output_lines}
+
+-- the blocks of audio of a trial, and those of its program: the picture that is ready last is held to the end of the audio
+abbrev pub trial_audio : ℕ → ℕ
+trial_audio count = 800 * count + 20
+
+abbrev pub trial_blocks : ℕ → ℕ
+trial_blocks count = 800 * count + 170
+
+-- the instructions of all changes of a script
+unfoldable pub all_changes : List Drawing → ℕ
+all_changes script = sum_by (λ k. length (planned_change script k)) (below (pictures script))
+
+-- The text of a trial: from the stream of the generated script and the same stream with scratches, where no word is bad and every picture is
+-- shown when it is ready.
+pub record IsTrial (seed count : ℕ) (text : List ℕ) : Type 0 where
+  pub sheet : CueSheet
+  pub sheet_is : read_cue trial_text ≡ Ok sheet
+  pub script : List Drawing
+  pub script_is : read_script (generated_script seed count) ≡ Ok script
+  pub bytes : List ℕ
+  pub packs : List (List ℕ)
+  pub authored : IsAuthored sheet script 0 (trial_audio count) bytes packs
+  pub text_is :
+      let symbols = program_symbols Raw bytes 0 in
+      let others = program_symbols Raw (scratched 0 seed bytes) 0 in
+      let number = whole_packs (trial_blocks count) in
+      text ≡ input_lines seed count (trial_blocks count) number (all_changes script)
+      ++ output_lines (differing 1 number symbols others) (differing 2 number symbols others) 0 count

@@ -1,0 +1,73 @@
+// A screen beside a canvas.
+ghost use Rattle.std.specs.Prelude.{◌≡◌, ◌<◌, ◌≤◌, ◌↔◌, ℕ, slice_index, IsTrue};
+ghost use Rattle.cdg_screen.specs.Picture.{standing_of, screen_pixel};
+ghost use Rattle.stream_trial.specs.Replay.{Agrees, wanted_pixel};
+
+use cdg_screen::Screen;
+use picture_script::Canvas;
+
+/// The size of the screen.
+const WIDTH: u32 = 300;
+
+const HEIGHT: u32 = 216;
+
+/// Whether the screen shows what stands on the canvas: each pixel, the colours and the border.
+pub(crate) fn agrees(screen: &Screen, canvas: &Canvas) -> bool
+    ensures agrees { IsTrue result ↔ Agrees (standing_of screen.now) canvas.now }
+    ensures offsets { ((standing_of screen.now).h ≤ 5) × ((standing_of screen.now).v ≤ 11) }
+{
+    let _offsets = (screen.offset_h(), screen.offset_v());
+    screen.border() == canvas.border()
+        && colours_agree(screen, canvas)
+        && pixels_agree(screen, canvas)
+}
+
+/// Whether all sixteen colours agree.
+fn colours_agree(screen: &Screen, canvas: &Canvas) -> bool
+    ensures { IsTrue result ↔ ((n : ℕ) → n < 16 → (standing_of screen.now).colour n ≡ slice_index canvas.now.colours n) }
+{
+    for n in 0..16 {
+        if screen.colour(n) != canvas.colour(n) {
+            return false;
+        }
+    }
+    true
+}
+
+/// Whether all pixels agree.
+fn pixels_agree(screen: &Screen, canvas: &Canvas) -> bool
+    ensures { IsTrue result ↔ ((x y : ℕ) → x < 300 → y < 216 → screen_pixel (standing_of screen.now) x y ≡ wanted_pixel canvas.now x y) }
+{
+    for y in 0..HEIGHT {
+        if !row_agrees(screen, canvas, y) {
+            return false;
+        }
+    }
+    true
+}
+
+/// Whether the pixels of a row agree.
+fn row_agrees(screen: &Screen, canvas: &Canvas, y: u32) -> bool
+    requires { y < 216 }
+    ensures { IsTrue result ↔ ((x : ℕ) → x < 300 → screen_pixel (standing_of screen.now) x y ≡ wanted_pixel canvas.now x y) }
+{
+    for x in 0..WIDTH {
+        if screen.pixel(x, y) != wanted(canvas, x, y) {
+            return false;
+        }
+    }
+    true
+}
+
+/// The pixel that a screen is to show: that of the canvas in its window, and else the border.
+fn wanted(canvas: &Canvas, x: u32, y: u32) -> u8
+    requires x { x < 300 }
+    requires y { y < 216 }
+    ensures { result ≡ wanted_pixel canvas.now x y }
+{
+    if 6 <= x && x <= 293 && 12 <= y && y <= 203 {
+        canvas.pixel(x - 6, y - 12)
+    } else {
+        canvas.border()
+    }
+}

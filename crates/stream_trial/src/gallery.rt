@@ -1,0 +1,58 @@
+// The pictures of a script, one after another, beside a screen.
+ghost use Rattle.std.specs.Prelude.{◌≡◌, ◌≢◌, ◌<◌, ◌≤◌, ◌+◌, ◌*◌, List, IfOk};
+ghost use Rattle.cdg_screen.specs.Picture.{Standing, standing_of, SameStanding};
+ghost use Rattle.picture_script.specs.Script.{Drawing, pictures, ready_time};
+ghost use Rattle.picture_script.specs.Board.{StandsBefore};
+ghost use Rattle.shown_pictures.specs.Shown.{ShowsPicture};
+
+use crate::comparing::agrees;
+use cdg_screen::Screen;
+use picture_script::{Canvas, Script};
+use std::alloc::{AllocError, Global};
+
+/// The pictures that are still to be shown, and how many were shown when they were ready.
+#[derive(Drop)]
+pub(crate) struct Gallery {
+    pub(crate) canvas: Canvas,
+    pub(crate) next: u32,
+    pub(crate) equal: u32,
+}
+
+impl Gallery {
+    /// Before the first picture.
+    pub(crate) fn start(alloc: Global) -> Result<Gallery, AllocError>
+        ensures canvas { IfOk result (λ gallery. (script : List Drawing) → StandsBefore script 0 gallery.canvas) }
+        ensures counts { IfOk result (λ gallery. (gallery.next ≡ 0) × (gallery.equal ≡ 0)) }
+    {
+        Ok(Gallery {
+            canvas: Canvas::start(alloc)?,
+            next: 0,
+            equal: 0,
+        })
+    }
+
+    /// Looks at the screen after so many slots: where the next picture is ready, compares it.
+    pub(crate) fn look(&mut self, script: &Script, screen: &Screen, slots: u32)
+        requires canvas { StandsBefore script.now self.old.next self.old.canvas }
+        requires next { self.old.next ≤ pictures script.now }
+        requires equal { self.old.equal ≤ self.old.next }
+        ensures canvas { StandsBefore script.now self.new.next self.new.canvas }
+        ensures next { self.new.next ≤ pictures script.now }
+        ensures equal { self.new.equal ≤ self.new.next }
+        ensures waits { (self.old.next < pictures script.now → slots ≢ 4 * ready_time script.now self.old.next)
+            → (self.new.next ≡ self.old.next) × (self.new.equal ≡ self.old.equal) }
+        ensures looks { self.old.next < pictures script.now → slots ≡ 4 * ready_time script.now self.old.next
+            → (self.new.next ≡ self.old.next + 1)
+            × ((now : Standing) → SameStanding (standing_of screen.now) now → ShowsPicture script.now self.old.next now
+            → self.new.equal ≡ self.old.equal + 1) }
+    {
+        let pictures = script.pictures();
+        if self.next < pictures && slots == 4 * script.ready(self.next) {
+            self.canvas.draw_until(script, self.next);
+            if agrees(screen, &self.canvas) {
+                self.equal += 1;
+            }
+            self.next += 1;
+        }
+    }
+}

@@ -1,0 +1,60 @@
+// The script and the sheet of a trial.
+ghost use Rattle.std.specs.Prelude.{◌≡◌, ◌≤◌, IfOk, IfErr};
+ghost use Rattle.generated_scripts.specs.Generated.{generated_drawings};
+ghost use Rattle.generated_schedules.specs.Trial.{trial_sheet};
+ghost use Rattle.stream_trial.specs.declared.stops.TrialStop.TheVariants.{NoMemory};
+
+use crate::stops::TrialStop;
+use cdg_io::{Failed, MemSink};
+use cdg_workload::write_script;
+use cue_sheet::{CueStop, Sheet};
+use generated_schedules::trial_sheet_is_read;
+use generated_scripts::generated_scripts_are_read;
+use picture_script::{Script, ScriptStop};
+use std::alloc::Global;
+
+/// The most bytes of a text that is parsed.
+const MOST: usize = 67_108_864;
+
+/// The bytes that the colours of a generated script have at most, and those of each picture.
+const COLOURS: usize = 230;
+
+const PICTURE: usize = 128;
+
+/// A sheet with one track.
+const SHEET: &[u8] = b"\
+    FILE \"trial\" WAVE\n\
+    TRACK 01 AUDIO\n\
+    INDEX 01 00:00:00\n";
+
+/// The generated script of a seed.
+pub(crate) fn script(alloc: Global, seed: u64, pictures: u32) -> Result<Script, TrialStop>
+    requires { (1 ≤ pictures) × (pictures ≤ 500) }
+    ensures script { IfOk result (λ script. script ≡ generated_drawings seed pictures) }
+    ensures err { IfErr result (λ stop. stop ≡ NoMemory) }
+{
+    generated_scripts_are_read();
+    let room = COLOURS + PICTURE * pictures as usize;
+    let mut text = MemSink::new(alloc, room, Vec::new(alloc), Vec::new(alloc))?;
+    if write_script(seed, pictures, &mut text) == Err(Failed) || text.bytes().len() > MOST {
+        return Err(TrialStop::NoMemory);
+    }
+    match Script::parse(alloc, text.bytes()) {
+        Ok(script) => Ok(script),
+        Err(ScriptStop::NoMemory) => Err(TrialStop::NoMemory),
+        Err(ScriptStop::Fault { .. }) => unreachable!(),
+    }
+}
+
+/// The sheet with one track.
+pub(crate) fn sheet(alloc: Global) -> Result<Sheet, TrialStop>
+    ensures sheet { IfOk result (λ sheet. sheet ≡ trial_sheet) }
+    ensures err { IfErr result (λ stop. stop ≡ NoMemory) }
+{
+    trial_sheet_is_read();
+    match Sheet::parse(alloc, SHEET) {
+        Ok(sheet) => Ok(sheet),
+        Err(CueStop::NoMemory) => Err(TrialStop::NoMemory),
+        Err(CueStop::Fault { .. }) => unreachable!(),
+    }
+}

@@ -1,0 +1,80 @@
+// The nine lines of a trial.
+ghost use Rattle.std.specs.Prelude.{◌≡◌, ◌≤◌, ◌+◌, ◌++◌, length};
+ghost use Rattle.stream_trial.specs.Lines.{count_line, input_lines, output_lines};
+ghost use Rattle.stream_trial.specs.Told.{told};
+
+use arrayvec::ArrayString;
+use itoa::Buffer;
+
+pub(crate) type Lines = ArrayString<384>;
+
+/// What the lines of a trial say.
+#[derive(Clone, Copy)]
+pub(crate) struct Report {
+    pub(crate) seed: u64,
+    pub(crate) pictures: u64,
+    pub(crate) blocks: u64,
+    pub(crate) packs: u64,
+    /// The instructions of all changes.
+    pub(crate) changes: u64,
+    /// The words that were corrected in one symbol, and in two.
+    pub(crate) one: u64,
+    pub(crate) two: u64,
+    /// The words with no codeword near.
+    pub(crate) bad: u64,
+    /// The pictures that stood on the screen when they were ready.
+    pub(crate) equal: u64,
+}
+
+impl Report {
+    /// The nine lines.
+    pub(crate) fn lines(&self) -> Lines
+        ensures { result.bytes ≡ told self.now }
+    {
+        let mut text = Lines::new();
+        self.push_input(&mut text);
+        self.push_output(&mut text);
+        text
+    }
+
+    /// The lines on what was made.
+    #[tactic(auto, unfolding(crate::specs::Lines::input_lines))]
+    fn push_input(&self, text: &mut Lines)
+        requires { length text.old.bytes ≤ 0 }
+        ensures text { text.new.bytes ≡ text.old.bytes ++ input_lines self.now.seed self.now.pictures self.now.blocks self.now.packs self.now.changes }
+        ensures short { length text.new.bytes ≤ length text.old.bytes + 150 }
+    {
+        push_count(text, "seed", self.seed);
+        push_count(text, "pictures", self.pictures);
+        push_count(text, "blocks", self.blocks);
+        push_count(text, "packs", self.packs);
+        push_count(text, "changes", self.changes);
+    }
+
+    /// The lines on what was found.
+    #[tactic(auto, unfolding(crate::specs::Lines::output_lines))]
+    fn push_output(&self, text: &mut Lines)
+        requires { length text.old.bytes ≤ 150 }
+        ensures text { text.new.bytes ≡ text.old.bytes ++ output_lines self.now.one self.now.two self.now.bad self.now.equal }
+    {
+        push_count(text, "one", self.one);
+        push_count(text, "two", self.two);
+        push_count(text, "bad", self.bad);
+        push_count(text, "equal", self.equal);
+    }
+}
+
+/// A name and a count.
+#[tactic(auto, unfolding(crate::specs::Lines::count_line))]
+fn push_count(text: &mut Lines, name: &str, count: u64)
+    requires name { length name.now ≤ 8 }
+    requires room { length text.old.bytes ≤ 300 }
+    ensures text { text.new.bytes ≡ text.old.bytes ++ count_line name.now count }
+    ensures short { length text.new.bytes ≤ length text.old.bytes + length name.now + 22 }
+{
+    let mut digits = Buffer::new();
+    text.push_str(name);
+    text.push_str(" ");
+    text.push_str(digits.format(count));
+    text.push_str("\n");
+}

@@ -1,0 +1,31 @@
+// The instructions of all changes of a script.
+ghost use Rattle.std.specs.Prelude.{◌≡◌, ◌<◌, ◌≤◌, ◌+◌, ◌*◌, ℕ, IfOk, IfErr};
+ghost use Rattle.generated_scripts.specs.Generated.{generated_drawings};
+ghost use Rattle.stream_trial.specs.Trial.{all_changes};
+ghost use Rattle.stream_trial.specs.declared.stops.TrialStop.TheVariants.{NoMemory};
+
+use crate::stops::TrialStop;
+use generated_schedules::generated_scripts_are_ready;
+use pack_schedule::{Stop, survey};
+use picture_script::Script;
+use std::alloc::Global;
+
+/// How many instructions the changes of a generated script have, which fits in so many blocks.
+pub(crate) fn needs(alloc: Global, script: &Script, blocks: u32) -> Result<u64, TrialStop>
+    requires few { blocks < 450000 }
+    requires script { (seed count : ℕ) × (script.now ≡ generated_drawings seed count) × (800 * count + 20 ≤ blocks) }
+    ensures sum { IfOk result (λ sum. sum ≡ all_changes script.now) }
+    ensures err { IfErr result (λ stop. stop ≡ NoMemory) }
+{
+    generated_scripts_are_ready();
+    let planned = match survey(alloc, script, blocks) {
+        Ok(planned) => planned,
+        Err(Stop::NoMemory) => return Err(TrialStop::NoMemory),
+        Err(_) => unreachable!(),
+    };
+    let mut sum = 0u64;
+    for k in 0..script.pictures() {
+        sum += u64::from(planned.need(k));
+    }
+    Ok(sum)
+}

@@ -1,0 +1,60 @@
+// The stream of a trial, and the same with scratches.
+ghost use Rattle.std.specs.Prelude.{◌≡◌, ◌≤◌, ◌%◌, ℕ, List, length, IfOk, IfErr};
+ghost use Rattle.cdg_workload.specs.Scratches.{scratched};
+ghost use Rattle.generated_scripts.specs.Generated.{generated_drawings};
+ghost use Rattle.generated_schedules.specs.Trial.{trial_sheet};
+ghost use Rattle.subcode_author.specs.Authored.{IsAuthored};
+ghost use Rattle.stream_trial.specs.Trial.{trial_audio};
+ghost use Rattle.stream_trial.specs.declared.stops.TrialStop.TheVariants.{NoMemory};
+
+use crate::sizes::{audio, blocks};
+use crate::stops::TrialStop;
+use cdg_io::{MemSink, PumpStop, SteadySource};
+use cdg_workload::scratch;
+use cue_sheet::Sheet;
+use generated_schedules::trial_sheet_is_read;
+use picture_script::Script;
+use std::alloc::Global;
+use subcode_author::{AuthorStop, author_stream};
+
+/// The bytes of a block.
+const BLOCK: usize = 96;
+
+/// The stream of the sheet with one track and of a generated script of so many pictures, with no lead-in.
+pub(crate) fn authored(
+    alloc: Global,
+    sheet: &Sheet,
+    script: &Script,
+    pictures: u32,
+) -> Result<MemSink, TrialStop>
+    requires few { pictures ≤ 500 }
+    requires sheet { sheet.now ≡ trial_sheet }
+    requires script { (seed : ℕ) × (script.now ≡ generated_drawings seed pictures) }
+    ensures stream { IfOk result (λ stream. (packs : List (List ℕ))
+        × IsAuthored sheet.now script.now 0 (trial_audio pictures) stream.held packs) }
+    ensures err { IfErr result (λ stop. stop ≡ NoMemory) }
+{
+    trial_sheet_is_read();
+    let room = BLOCK * blocks(pictures) as usize;
+    let mut stream = MemSink::new(alloc, room, Vec::new(alloc), Vec::new(alloc))?;
+    match author_stream(alloc, sheet, script, 0, audio(pictures), &mut stream) {
+        Ok(()) => Ok(stream),
+        Err(AuthorStop::NoMemory | AuthorStop::WriteFault) => Err(TrialStop::NoMemory),
+        Err(_) => unreachable!(),
+    }
+}
+
+/// A stream of whole blocks with the scratches of a seed.
+pub(crate) fn scratched(alloc: Global, seed: u64, bytes: &[u8]) -> Result<MemSink, TrialStop>
+    requires whole { length bytes.now % 96 ≡ 0 }
+    requires few { length bytes.now ≤ 96000000 }
+    ensures stream { IfOk result (λ stream. stream.held ≡ scratched 0 seed bytes.now) }
+    ensures err { IfErr result (λ stop. stop ≡ NoMemory) }
+{
+    let mut stream = MemSink::new(alloc, bytes.len(), Vec::new(alloc), Vec::new(alloc))?;
+    match scratch(0, seed, &mut SteadySource::new(bytes), &mut stream) {
+        Ok(_) => Ok(stream),
+        Err(PumpStop::WriteFault) => Err(TrialStop::NoMemory),
+        Err(_) => unreachable!(),
+    }
+}

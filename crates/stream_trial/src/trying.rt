@@ -1,0 +1,80 @@
+// A trial of a seed.
+ghost use Rattle.std.specs.Prelude.{◌≡◌, ◌≤◌, ℕ, List, Err, OnOk, IfOk, IfErr};
+ghost use Rattle.std.specs.Io.KnownBytes.{Appends};
+ghost use Rattle.cdg_io.specs.Causes.{Rose};
+ghost use Rattle.cdg_io.specs.Moves.{AppendsPrefix};
+ghost use Rattle.stream_trial.specs.Trial.{IsTrial};
+ghost use Rattle.stream_trial.specs.Told.{told};
+ghost use Rattle.stream_trial.specs.declared.stops.TrialStop.TheVariants.{NoMemory};
+
+use crate::generating::{script, sheet};
+use crate::lines::Report;
+use crate::needs::needs;
+use crate::playing::play;
+use crate::sizes::blocks;
+use crate::stops::TrialStop;
+use crate::streams::{authored, scratched};
+use cdg_io::{Sink, put_all};
+use cdg_workload::{scratches_are_bursts, scratches_are_damage};
+use generated_schedules::trial_sheet_is_read;
+use generated_scripts::{generated_scripts_are_read, generated_scripts_have_times};
+use std::alloc::Global;
+
+/// Writes the stream of the generated script of a seed, scratches it with the same seed, corrects and plays it, and compares
+/// the screen with each picture when it is ready. Then writes nine lines: `seed`, `pictures`, `blocks`, `packs`, `changes`
+/// (the instructions of all changes), `one` and `two` (the words corrected in one symbol and in two), `bad` (the words with no
+/// codeword near) and `equal` (the pictures that stood on the screen), each with its number. The stream has 96 bytes for each
+/// of its 800 blocks a picture and 170 more, and is held twice.
+///
+/// # Errors
+///
+/// `NoMemory` before anything is written. After `WriteFault` a prefix of the lines was written.
+pub fn trial<K: Sink>(alloc: Global, seed: u64, pictures: u32, out: &mut K) -> Result<(), TrialStop>
+    requires { (1 ≤ pictures) × (pictures ≤ 500) }
+    // The lines were written.
+    ensures lines { OnOk result ((text : List ℕ) × IsTrial seed pictures text × Appends (K.held out.old) (K.held out.new) text) }
+
+    // A write failed, and a prefix of them was written.
+    ensures write_fault { result ≡ Err TrialStop.WriteFault → Rose (K.faults out.old) (K.faults out.new) }
+    ensures part { result ≡ Err TrialStop.WriteFault
+        → (text : List ℕ) × IsTrial seed pictures text × AppendsPrefix (K.held out.old) (K.held out.new) text }
+
+    // Memory ran out, and nothing was written.
+    ensures untouched { result ≡ Err TrialStop.NoMemory → out.new ≡ out.old }
+    ensures later { K.faults out.old ≤ K.faults out.new }
+{
+    let report = report(alloc, seed, pictures)?;
+    put_all(out, report.lines().as_str().as_bytes())?;
+    Ok(())
+}
+
+/// What the lines of a trial say.
+fn report(alloc: Global, seed: u64, pictures: u32) -> Result<Report, TrialStop>
+    requires { (1 ≤ pictures) × (pictures ≤ 500) }
+    ensures report { IfOk result (λ report. IsTrial seed pictures (told report)) }
+    ensures err { IfErr result (λ stop. stop ≡ NoMemory) }
+{
+    generated_scripts_are_read();
+    generated_scripts_have_times();
+    scratches_are_bursts();
+    scratches_are_damage();
+    trial_sheet_is_read();
+    let script = script(alloc, seed, pictures)?;
+    let sheet = sheet(alloc)?;
+    let stream = authored(alloc, &sheet, &script, pictures)?;
+    let blocks = blocks(pictures);
+    let changes = needs(alloc, &script, blocks)?;
+    let scratched = scratched(alloc, seed, stream.bytes())?;
+    let counts = play(alloc, &script, scratched.bytes())?;
+    Ok(Report {
+        seed,
+        pictures: u64::from(pictures),
+        blocks: u64::from(blocks),
+        packs: u64::from(4 * blocks - 7),
+        changes,
+        one: u64::from(counts.one),
+        two: u64::from(counts.two),
+        bad: u64::from(counts.bad),
+        equal: u64::from(counts.equal),
+    })
+}
