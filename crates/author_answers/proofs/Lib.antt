@@ -1,0 +1,3 @@
+pub mod Late
+pub mod Stages
+pub mod Some
