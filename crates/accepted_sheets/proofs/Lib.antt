@@ -1,0 +1,4 @@
+pub mod LineBytes
+pub mod SaidRanges
+pub mod AcceptedLines
+pub mod SheetTexts
