@@ -4,6 +4,8 @@
 #[cfg(test)]
 mod lines;
 #[cfg(test)]
+mod listing;
+#[cfg(test)]
 mod packs;
 #[cfg(test)]
 mod reading;
