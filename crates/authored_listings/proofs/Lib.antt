@@ -3,4 +3,5 @@ pub mod SlotPacks
 pub mod Found
 pub mod PackBytes
 pub mod SheetTracks
+pub mod StringBytes
 pub mod ListedTexts

@@ -17,10 +17,10 @@ use Rattle.cdtext_packs.specs.declared.kinds.TextKind.TheVariants.{Title, Perfor
 abbrev pub AreBytes : List ℕ → Type 0
 AreBytes xs = All (λ b. b < 256) xs
 
-no_bytes : AreBytes []
+pub no_bytes : AreBytes []
 no_bytes = λ k d less. absurd (omega arith)
 
-one_byte : (b : ℕ) (rest : List ℕ) → b < 256 → AreBytes rest → AreBytes (b ∷ rest)
+pub one_byte : (b : ℕ) (rest : List ℕ) → b < 256 → AreBytes rest → AreBytes (b ∷ rest)
 one_byte b rest small are zero d less = small
 one_byte b rest small are (suc k) d less = are k d (omega arith)
 

@@ -18,7 +18,7 @@ use Rattle.cdtext_packs.specs.SheetTexts.{code_at, for_each, sheet_texts}
 use Rattle.cdtext_packs.proofs.SheetStrings.{text_is_string, code_at_string, has_tracks}
 use Rattle.text_laws.specs.Copies.{HasNoTab}
 
-for_all : (P : List ℕ → Type 0) (sheet : CueSheet) (f : ℕ → List ℕ) → ((place : ℕ) → place ≤ length sheet.tracks → P (f place)) → All P (for_each sheet f)
+pub for_all : (P : List ℕ → Type 0) (sheet : CueSheet) (f : ℕ → List ℕ) → ((place : ℕ) → place ≤ length sheet.tracks → P (f place)) → All P (for_each sheet f)
 for_all P sheet f each =
     All-map P f (below (length sheet.tracks + 1)) (All-from_get_or (λ place. P (f place)) (below (length sheet.tracks + 1)) 0 (λ i inside.
     let count = length-range_with_len 0 (length sheet.tracks + 1) in

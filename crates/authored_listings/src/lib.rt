@@ -6,6 +6,6 @@ mod texts;
 
 pub use frames::authored_frames_are_listed;
 pub use texts::{
-    authored_lead_ins_hold_the_packs, authored_texts_are_listed, damaged_lead_ins_give_the_texts,
-    streams_without_texts_are_listed,
+    accepted_sheets_have_text_packs, authored_lead_ins_hold_the_packs, authored_texts_are_listed,
+    damaged_lead_ins_give_the_texts, streams_without_texts_are_listed,
 };

@@ -1,6 +1,7 @@
 // The texts in the lead-in of an authored stream.
-ghost use Rattle.std.specs.Prelude.{◌≡◌, ◌*◌, ◌<◌, ℕ, List, Bool, true, Ok};
+ghost use Rattle.std.specs.Prelude.{◌≡◌, ◌*◌, ◌<◌, ◌≤◌, ℕ, List, Bool, true, Ok, All, length};
 ghost use Rattle.cue_sheet.specs.CueSheet.{CueSheet};
+ghost use Rattle.cue_sheet.specs.Grammar.{read_cue};
 ghost use Rattle.picture_script.specs.Script.{Drawing};
 ghost use Rattle.raw_subcode.specs.declared.form.Form.TheVariants.{Raw};
 ghost use Rattle.cdtext_packs.specs.SheetTexts.{sheet_texts, texts_of_sheet};
@@ -12,7 +13,16 @@ ghost use Rattle.authored_listings.specs.Damage.{IsDamaged, count_whole, count_h
 ghost use Rattle.authored_listings.specs.SheetLines.{HasText, HasTextPacks, sheet_lines};
 ghost use Rattle.authored_listings.specs.Slots.{packs_in_slots};
 
+use accepted_sheets::accepted_sheets_are_in_order;
 use text_laws::texts_come_back;
+
+/// A law: the texts of every sheet that is accepted can be packed, where they fill no more packs than there may be.
+pub fn accepted_sheets_have_text_packs()
+    ensures { (text : List ℕ) (sheet : CueSheet) → All (λ byte. byte < 256) text → length text ≤ 67108864 → read_cue text ≡ Ok sheet
+        → length (text_packs sheet) ≤ 256 → HasTextPacks sheet }
+{
+    accepted_sheets_are_in_order();
+}
 
 /// A law: the slots of an authored lead-in hold the text packs of the sheet, over and over.
 pub fn authored_lead_ins_hold_the_packs()
