@@ -5,3 +5,4 @@ pub mod PackBytes
 pub mod SheetTracks
 pub mod StringBytes
 pub mod ListedTexts
+pub mod Answering

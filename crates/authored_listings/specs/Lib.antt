@@ -2,3 +2,4 @@ pub mod FrameLines
 pub mod Slots
 pub mod SheetLines
 pub mod Damage
+pub mod Answers

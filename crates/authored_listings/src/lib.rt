@@ -1,9 +1,13 @@
 //! Laws of authored streams: what is listed of their Q channel, and of the texts in their lead-in.
 #![tactic(auto)]
 
+mod answers;
 mod frames;
 mod texts;
 
+pub use answers::{
+    damaged_text_lists_are_answered, frame_lists_are_answered, text_lists_are_answered,
+};
 pub use frames::authored_frames_are_listed;
 pub use texts::{
     accepted_sheets_have_text_packs, authored_lead_ins_hold_the_packs, authored_texts_are_listed,
