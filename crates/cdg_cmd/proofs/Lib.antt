@@ -1,8 +1,12 @@
+mod AuthorStatus
 mod Decimals
+mod FirstHalf
 mod LineWords
+mod SecondHalf
 mod Statuses
 mod TextStatus
 mod TimedWords
 mod TurnRuns
 mod TwoWords
+mod WholeInputs
 mod WordsLemmas

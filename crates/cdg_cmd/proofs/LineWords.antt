@@ -6,3 +6,6 @@ pub with_number : (old mid new word : List ℕ) (n k : ℕ) → mid ≡ old ++ w
 with_number old mid new word n k first same second =
     second ∙ ap₂ (λ (m : List ℕ) (j : ℕ). with m j) first same
     ∙ ap (λ (m : List ℕ). m ++ decimal n) (append_assoc old word (codes " ")) ∙ append_assoc old (word ++ codes " ") (decimal n)
+
+pub counted_is : (old new word : List ℕ) (n k : ℕ) → k ≡ n → new ≡ old ++ with word k → new ≡ old ++ with word n
+counted_is old new word n k same is = is ∙ ap (λ (j : ℕ). old ++ with word j) same

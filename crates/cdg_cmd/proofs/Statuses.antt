@@ -1,7 +1,6 @@
 -- What no fault leaves.
-use Rattle.std.proofs.Common.{◌≡◌, ◌≢◌, ℕ, List, ◌==◌, Result, Ok, Err, refl, sym, ap, subst, IfSome, Some, None, if◌then◌else◌}
+use Rattle.std.proofs.Common.{◌≡◌, ◌≢◌, ℕ, List, ◌==◌, Result, Ok, Err, refl, sym, subst, IfSome, Some, None, if◌then◌else◌}
 use Rattle.std.specs.declared.option.Option.{Option}
-use Rattle.std.specs.Io.KnownBytes.{Appends}
 use Rattle.std.specs.List.{concat}
 use Rattle.raw_subcode.specs.declared.form.Form.{Form}
 use Rattle.stream_words.specs.Stream.{all_packs}
@@ -12,12 +11,13 @@ use Rattle.subcode_player.specs.declared.player.PlayStop.TheVariants as play
 use Rattle.cdg_cmd.specs.Answer.{GivesBack, IsAnswered, play_status}
 use Rattle.cdg_cmd.specs.declared.status.Which.TheVariants.{First, Second}
 use Rattle.cdg_cmd.specs.declared.status.Status.{Status}
-use Rattle.cdg_cmd.specs.declared.status.Status.TheVariants.{Done, Damaged, Usage, Refused, ReadFault, WriteFault, NoMemory}
+use Rattle.cdg_cmd.specs.declared.status.Status.TheVariants.{Done, Damaged, Usage, Refused, Late, ReadFault, WriteFault, NoMemory}
 
 pub answered : (status : Status) → status ≢ Usage → status ≢ ReadFault First → status ≢ ReadFault Second → status ≢ WriteFault → IsAnswered status
 answered Done usage first second write = tt
 answered (Damaged n) usage first second write = tt
 answered (Refused why) usage first second write = tt
+answered (Late picture need free) usage first second write = tt
 answered NoMemory usage first second write = tt
 answered Usage usage first second write = usage refl
 answered (ReadFault First) usage first second write = first refl

@@ -1,21 +1,18 @@
 -- The statuses of a player that lists texts.
-use Rattle.std.proofs.Common.{◌≡◌, ◌≢◌, ℕ, List, [], Result, Ok, Err, refl, sym, subst, ◌∙◌, ◌==◌, if◌then◌else◌}
+use Rattle.std.proofs.Common.{◌≡◌, ℕ, List, [], Result, Ok, Err, refl, sym, subst}
 use Rattle.std.specs.declared.option.Option.{Option}
 use Rattle.std.specs.Io.KnownBytes.{Appends}
 use Rattle.std.proofs.KnownBytes.{Appends-nil}
 use Rattle.raw_subcode.specs.declared.form.Form.{Form}
 use Rattle.subcode_player.specs.TextList.{ListsTexts}
 use Rattle.subcode_player.specs.declared.player.Played.{Played}
-use Rattle.subcode_player.specs.declared.player.PlayStop.{PlayStop}
 use Rattle.subcode_player.specs.declared.player.PlayStop.TheVariants as play
 use Rattle.subcode_player.specs.declared.text_listing.TextStop.{TextStop}
 use Rattle.subcode_player.specs.declared.text_listing.TextStop.TheVariants as texts
-use Rattle.cdtext_packs.specs.declared.kinds.TextFault.{TextFault}
 use Rattle.cdtext_packs.specs.declared.kinds.TextFault.TheVariants as fault
-use Rattle.cdg_cmd.specs.Answer.{play_status, text_status}
-use Rattle.cdg_cmd.specs.declared.status.Which.TheVariants.{First, Second}
-use Rattle.cdg_cmd.specs.declared.status.Status.{Status}
-use Rattle.cdg_cmd.specs.declared.status.Status.TheVariants.{Done, Usage, ReadFault, WriteFault, NoMemory}
+use Rattle.cdg_cmd.specs.Answer.{text_status}
+use Rattle.cdg_cmd.specs.declared.status.Which.TheVariants.{First}
+use Rattle.cdg_cmd.specs.declared.status.Status.TheVariants.{ReadFault, WriteFault, NoMemory}
 
 -- where no memory is found nothing is put
 pub nothing_put : (form : Form) (lead_in : ℕ) (left left' held held' : Option (List ℕ)) (answer : Result Played TextStop) (taken : List ℕ)

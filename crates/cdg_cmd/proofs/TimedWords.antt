@@ -1,5 +1,5 @@
 -- The options of a stream and a moment of it.
-use Rattle.std.proofs.Common.{◌≡◌, ◌≤◌, ◌<◌, ◌-◌, ℕ, List, length, take, drop, String, string_bytes, codes, refl, sym, ap, ◌∙◌, subst, Some, None}
+use Rattle.std.proofs.Common.{◌≡◌, ◌-◌, ℕ, List, length, take, drop, String, string_bytes, codes, sym, ap, ◌∙◌, subst, Some, None}
 use Rattle.std.specs.declared.option.Option.{Option}
 use Rattle.std.proofs.lemmas.List.{take-map, drop-map, length-map}
 use Rattle.raw_subcode.specs.declared.form.Form.{Form}

@@ -1,23 +1,21 @@
 -- A stage that turns each block, from the run of its pump.
-use Rattle.std.proofs.Common.{◌≡◌, ℕ, zero, suc, ◌+◌, ◌*◌, ◌/◌, ◌%◌, ◌<◌, ◌≤◌, List, [], ◌∷◌, ◌++◌, length, map, take, drop, get_or, refl, sym, ap, ap₂, ◌∙◌, subst, arith, Some, Result, Ok, Err}
-use Rattle.std.proofs.Math.Nat.{suc-mul}
+use Rattle.std.proofs.Common.{◌≡◌, ℕ, zero, suc, ◌+◌, ◌*◌, ◌/◌, ◌%◌, ◌<◌, ◌≤◌, List, [], ◌∷◌, ◌++◌, length, map, take, drop, refl, sym, ap, ap₂, ◌∙◌, subst, arith, Some, Ok, Err}
 use Rattle.std.specs.Prelude.{slice_index_or, slice_index}
 use Rattle.std.specs.declared.option.Option.{Option}
 use Rattle.std.specs.List.{concat, flat_map}
-use Rattle.std.proofs.lemmas.List.{length-append, length-drop, length-take-le, take-append-le}
+use Rattle.std.proofs.lemmas.List.{length-append, length-drop, length-take-le}
 use Rattle.std.proofs.lemmas.List.FromFn.{length-map-range_with_len, get_or-map-range_with_len}
 use Rattle.std.proofs.Math.Seq.{take-append_seam, drop-append_seam}
 use Rattle.bit_lists.specs.Counting.{below, parts, whole_parts}
-use Rattle.cdg_io.specs.Run.{run_state, run_gives}
+use Rattle.cdg_io.specs.Run.{run_gives}
 use Rattle.cdg_io.specs.Pump.{units_of, given, Pumps}
-use Rattle.cdg_io.specs.Streams.{GivesText, Streams}
 use Rattle.cdg_io.specs.declared.pumping.Pumped.{Pumped}
 use Rattle.cdg_io.specs.declared.pumping.PumpStop.{PumpStop}
 use Rattle.cdg_io.specs.declared.pumping.PumpStop.TheVariants as pump
 use Rattle.cdg_io.proofs.Streaming.{IsWhole, IsTold, streams_done, streams_stop}
 use Rattle.raw_subcode.specs.Channels.{block_from_planar, gathered_at, packed_at, planar_form, IsPlanarForm}
 use Rattle.raw_subcode.proofs.Eight.{from_planar_is, to_planar_is}
-use Rattle.block_stages.specs.PlanarStream.{IsBlockStream, IsPlanarStream, TurnsBlocks}
+use Rattle.block_stages.specs.PlanarStream.{TurnsBlocks}
 use Rattle.cdg_cmd.specs.Turns.{IsTurned, Turns}
 
 -- the run of a stage that maps each unit

@@ -1,16 +1,18 @@
 -- The words of a command line and its options.
-use Rattle.std.proofs.Common.{◌≡◌, ◌≢◌, ◌≤◌, ◌<◌, ◌-◌, ◌^◌, ℕ, arith, List, [], ◌∷◌, String, string_bytes, codes, bytes_eq, false, true, refl, sym, ap, ◌∙◌, subst, Some, None, rules}
+use Rattle.std.proofs.Common.{◌≡◌, ◌≢◌, ◌≤◌, ◌<◌, ◌-◌, ◌^◌, ℕ, arith, List, [], ◌∷◌, String, string_bytes, codes, bytes_eq, false, true, refl, sym, ap, subst, Some, None}
+use Rattle.std.specs.Prelude.{⊤}
 use Rattle.std.specs.declared.option.Option.{Option}
 use Rattle.std.specs.Option.{option_map}
 use Rattle.raw_subcode.specs.declared.form.Form.{Form}
 use Rattle.raw_subcode.specs.declared.form.Form.TheVariants.{Cooked}
 use Rattle.cdg_cmd.specs.declared.options.StreamOptions.{StreamOptions}
+use Rattle.cdg_cmd.specs.declared.lengths.Lengths.{Lengths}
 use Rattle.cdg_cmd.specs.declared.numbers.TwoNumbers.{TwoNumbers}
 use Rattle.cdg_cmd.specs.declared.times.TimedOptions.{TimedOptions}
-use Rattle.cdg_cmd.specs.Words.{texts, SpellsStream, SpellsTimed, SpellsTwo}
+use Rattle.cdg_cmd.specs.Words.{texts, SpellsLengths, SpellsStream, SpellsTimed, SpellsTwo}
 use Rattle.cdg_cmd.specs.Spelling.{Spells, command_name}
 use Rattle.cdg_cmd.specs.declared.command.Command.{Command}
-use Rattle.cdg_cmd.specs.declared.command.Command.TheVariants.{Convert, Screen, State, Check, Q, Text, Planar, Raw, Scratch, Gen}
+use Rattle.cdg_cmd.specs.declared.command.Command.TheVariants.{Convert, Screen, State, Check, Q, Text, Author, Planar, Raw, Scratch, Gen}
 
 -- what holds of all words holds of the first and the rest
 pub texts-split : {A : Type 0} (P : List (List ℕ) → Type 0) (words : List (String A)) (x : String A) (rest : List (String A)) → words ≡ x ∷ rest → P (texts words) → P (string_bytes x ∷ texts rest)
@@ -18,6 +20,15 @@ texts-split P words x rest e p = subst (λ (ws : List (String _)). P (texts ws))
 
 pub same_command : (a b : Command) → Some a ≡ Some b → a ≡ b
 same_command a b e = (cc)
+
+-- what holds of the options of a screen
+abbrev OfScreen : (ℕ → Form → ℕ → Type 0) → Command → Type 0
+OfScreen P (Screen lead_in form at) = P lead_in form at
+OfScreen P command = ⊤
+
+pub same_screen : (P : ℕ → Form → ℕ → Type 0) (command : Command) (a : ℕ) (f : Form) (t : ℕ) → command ≡ Screen a f t → P a f t
+    → (lead_in : ℕ) (form : Form) (at : ℕ) → command ≡ Screen lead_in form at → P lead_in form at
+same_screen P command a f t is holds lead_in form at same = subst (OfScreen P) same (subst (OfScreen P) (sym is) holds)
 
 pub no_form : (a : Form) → ◌≡◌ {A = Option Form} None (Some a) → ⊥
 no_form a e = (cc)
@@ -64,6 +75,12 @@ pub text_all : (options : List (List ℕ)) (o : Option StreamOptions)
     → (command : Command) → Spells command (codes "text" ∷ options) → option_map (λ s. Text s.lead_in s.form) o ≡ Some command
 text_all options o all (Text lead_in form) s = ap (option_map (λ (s : StreamOptions). Text s.lead_in s.form)) (all lead_in form s.1.0 s.1.1 s.2)
 text_all options o all command s = absurd (untrue (ap (λ l. bytes_eq l (command_name command)) s.0))
+
+pub author_all : (options : List (List ℕ)) (o : Option Lengths)
+    → ((lead_in audio : ℕ) → lead_in ≤ 450000 → audio < 450000 → SpellsLengths lead_in audio options → o ≡ Some (record { lead_in = lead_in; audio = audio }))
+    → (command : Command) → Spells command (codes "author" ∷ options) → option_map (λ s. Author s.lead_in s.audio) o ≡ Some command
+author_all options o all (Author lead_in audio) s = ap (option_map (λ (s : Lengths). Author s.lead_in s.audio)) (all lead_in audio s.1.0 s.1.1 s.2)
+author_all options o all command s = absurd (untrue (ap (λ l. bytes_eq l (command_name command)) s.0))
 
 -- `planar` and `raw` have no options
 pub planar_all : (options : List (List ℕ)) (command : Command) → Spells command (codes "planar" ∷ options) → (options ≡ []) × (Some Planar ≡ Some command)

@@ -1,5 +1,5 @@
 -- What a command answers and writes.
-use Rattle.std.specs.Prelude.{◌≡◌, ◌≢◌, IfSome, ℕ, ◌==◌, ◌⊎◌, ⊤, List, length, Result, Ok, Err, if◌then◌else◌}
+use Rattle.std.specs.Prelude.{◌≡◌, IfSome, ℕ, ◌==◌, ◌⊎◌, ⊤, List, length, Result, Ok, Err, if◌then◌else◌}
 use Rattle.std.specs.declared.option.Option.{Option}
 use Rattle.std.specs.Io.KnownBytes.{Appends}
 use Rattle.cdg_io.specs.Causes.{Rose}
@@ -19,16 +19,18 @@ use Rattle.subcode_player.specs.declared.player.PlayStop.{PlayStop}
 use Rattle.subcode_player.specs.declared.player.PlayStop.TheVariants as play
 use Rattle.block_stages.specs.QList.{IsQListed}
 use Rattle.block_stages.specs.PlanarStream.{IsBlockStream, IsPlanarStream}
+use Rattle.cue_sheet.specs.CueSheet.{CueSheet}
+use Rattle.cdg_cmd.specs.Authors.{AuthorsWith, ReadsSheet}
 use Rattle.cdg_cmd.specs.Line.{error_line}
 use Rattle.cdg_cmd.specs.Turns.{IsTurned, TurnsWith}
 use Rattle.cdg_workload.specs.Scratches.{IsScratched}
 use Rattle.cdg_workload.specs.Script.{generated_script}
 use Rattle.cdg_cmd.specs.declared.command.Command.{Command}
-use Rattle.cdg_cmd.specs.declared.command.Command.TheVariants.{Convert, Screen, State, Check, Q, Text, Planar, Raw, Scratch, Gen}
-use Rattle.cdg_cmd.specs.declared.status.Which.TheVariants.{First, Second}
+use Rattle.cdg_cmd.specs.declared.command.Command.TheVariants.{Convert, Screen, State, Check, Q, Text, Author, Planar, Raw, Scratch, Gen}
+use Rattle.cdg_cmd.specs.declared.status.Which.TheVariants.{First}
 use Rattle.cdg_cmd.specs.declared.status.Refusal.TheVariants.{Torn, TooLong, PastEnd, TextMissing, TextNoSize, TextMalformed}
 use Rattle.cdg_cmd.specs.declared.status.Status.{Status}
-use Rattle.cdg_cmd.specs.declared.status.Status.TheVariants.{Done, Damaged, Usage, Refused, ReadFault, WriteFault, NoMemory}
+use Rattle.cdg_cmd.specs.declared.status.Status.TheVariants.{Done, Damaged, Usage, Refused, Late, ReadFault, WriteFault, NoMemory}
 
 -- the status of what a player answers
 abbrev pub play_status : Result Played PlayStop → Status
@@ -94,18 +96,19 @@ Generates text held held' Done = Appends held held' text
 Generates text held held' WriteFault = AppendsPrefix held held' text
 Generates text held held' status = ⊥
 
--- what a command does with its input and its output, where memory is found
-abbrev pub Does : Command → Option (List ℕ) → Option (List ℕ) → Option (List ℕ) → Option (List ℕ) → Status → Type 0
-Does (Convert lead_in form) left left' held held' status = ConvertsWith form lead_in left left' held held' status
-Does (Screen lead_in form at) left left' held held' status = ShowsWith (IsScreenAt form lead_in at) form lead_in at left left' held held' status
-Does (State lead_in form at) left left' held held' status = ShowsWith (IsStateAt form lead_in at) form lead_in at left left' held held' status
-Does (Check lead_in form) left left' held held' status = ChecksWith form lead_in left left' held held' status
-Does (Q lead_in form) left left' held held' status = ListsWith form lead_in left left' held held' status
-Does (Text lead_in form) left left' held held' status = TextsWith form lead_in left left' held held' status
-Does Planar left left' held held' status = TurnsWith (IsTurned IsPlanarStream) left left' held held' status
-Does Raw left left' held held' status = TurnsWith (IsTurned IsBlockStream) left left' held held' status
-Does (Scratch lead_in seed) left left' held held' status = TurnsWith (IsScratched lead_in seed) left left' held held' status
-Does (Gen seed pictures) left left' held held' status = Generates (generated_script seed pictures) held held' status
+-- what a command does with its two inputs and its output, where memory is found
+abbrev pub Does : Command → Option (List ℕ) → Option (List ℕ) → Option (List ℕ) → Option (List ℕ) → Option (List ℕ) → Option (List ℕ) → Status → Type 0
+Does (Convert lead_in form) left left' more more' held held' status = ConvertsWith form lead_in left left' held held' status
+Does (Screen lead_in form at) left left' more more' held held' status = ShowsWith (IsScreenAt form lead_in at) form lead_in at left left' held held' status
+Does (State lead_in form at) left left' more more' held held' status = ShowsWith (IsStateAt form lead_in at) form lead_in at left left' held held' status
+Does (Check lead_in form) left left' more more' held held' status = ChecksWith form lead_in left left' held held' status
+Does (Q lead_in form) left left' more more' held held' status = ListsWith form lead_in left left' held held' status
+Does (Text lead_in form) left left' more more' held held' status = TextsWith form lead_in left left' held held' status
+Does (Author lead_in length) left left' more more' held held' status = AuthorsWith lead_in length left left' more more' held held' status
+Does Planar left left' more more' held held' status = TurnsWith (IsTurned IsPlanarStream) left left' held held' status
+Does Raw left left' more more' held held' status = TurnsWith (IsTurned IsBlockStream) left left' held held' status
+Does (Scratch lead_in seed) left left' more more' held held' status = TurnsWith (IsScratched lead_in seed) left left' held held' status
+Does (Gen seed pictures) left left' more more' held held' status = Generates (generated_script seed pictures) held held' status
 
 -- it takes no memory
 abbrev pub TakesNone : Command → Type 0
@@ -115,6 +118,7 @@ TakesNone (State lead_in form at) = ⊥
 TakesNone (Check lead_in form) = ⊥
 TakesNone (Q lead_in form) = ⊥
 TakesNone (Text lead_in form) = ⊥
+TakesNone (Author lead_in length) = ⊥
 TakesNone Planar = ⊤
 TakesNone Raw = ⊤
 TakesNone (Scratch lead_in seed) = ⊤
@@ -123,12 +127,23 @@ TakesNone (Gen seed pictures) = ⊤
 -- it takes all memory before it reads
 abbrev pub TakesFirst : Command → Type 0
 TakesFirst (Text lead_in form) = ⊥
+TakesFirst (Author lead_in length) = ⊥
 TakesFirst command = ⊤
 
 -- it reads no input
 abbrev pub ReadsNone : Command → Type 0
 ReadsNone (Gen seed pictures) = ⊤
 ReadsNone command = ⊥
+
+-- it writes nothing but where its work is whole or a write fails
+abbrev pub WritesLast : Command → Type 0
+WritesLast (Author lead_in length) = ⊤
+WritesLast command = ⊥
+
+-- it reads its second input: only after the first was read to its end, and its grammar accepted it
+abbrev pub ReadsSecond : Command → Option (List ℕ) → Option (List ℕ) → Type 0
+ReadsSecond (Author lead_in length) left left' = (sheet : CueSheet) × ReadsSheet left left' sheet
+ReadsSecond command left left' = ⊥
 
 -- this text was put and nothing was bad, unless a read or a write failed or no memory was found
 abbrev pub GivesBack : List ℕ → Option (List ℕ) → Option (List ℕ) → Status → Type 0
@@ -139,12 +154,14 @@ GivesBack text held held' NoMemory = ⊤
 GivesBack text held held' (Damaged n) = ⊥
 GivesBack text held held' Usage = ⊥
 GivesBack text held held' (Refused why) = ⊥
+GivesBack text held held' (Late picture need free) = ⊥
 
 -- no fault is told, and the words were a form
 abbrev pub IsAnswered : Status → Type 0
 IsAnswered Done = ⊤
 IsAnswered (Damaged n) = ⊤
 IsAnswered (Refused why) = ⊤
+IsAnswered (Late picture need free) = ⊤
 IsAnswered NoMemory = ⊤
 IsAnswered Usage = ⊥
 IsAnswered (ReadFault which) = ⊥

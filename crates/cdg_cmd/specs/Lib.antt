@@ -1,6 +1,9 @@
 pub mod Answer
+pub mod Authors
+pub mod Headline
 pub mod Line
 pub mod Spelling
 pub mod Splitting
 pub mod Turns
+pub mod Undamaged
 pub mod Words

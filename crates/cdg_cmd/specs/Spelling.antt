@@ -1,9 +1,9 @@
 -- How each command is spelled.
 use Rattle.std.specs.Prelude.{◌≡◌, ◌≢◌, ◌≤◌, ◌<◌, ◌^◌, ℕ, List, [], ◌∷◌, codes, ⊤}
-use Rattle.cdg_cmd.specs.Words.{SpellsStream, SpellsTimed, SpellsTwo}
+use Rattle.cdg_cmd.specs.Words.{SpellsLengths, SpellsStream, SpellsTimed, SpellsTwo}
 use Rattle.raw_subcode.specs.declared.form.Form.TheVariants.{Cooked}
 use Rattle.cdg_cmd.specs.declared.command.Command.{Command}
-use Rattle.cdg_cmd.specs.declared.command.Command.TheVariants.{Convert, Screen, State, Check, Q, Text, Planar, Raw, Scratch, Gen}
+use Rattle.cdg_cmd.specs.declared.command.Command.TheVariants.{Convert, Screen, State, Check, Q, Text, Author, Planar, Raw, Scratch, Gen}
 
 -- the numbers and forms that a command may have: cooked blocks have no Q channel and no text packs
 abbrev pub IsAllowed : Command → Type 0
@@ -13,6 +13,7 @@ IsAllowed (State lead_in form at) = (lead_in ≤ 450000) × (at < 450000)
 IsAllowed (Check lead_in form) = lead_in ≤ 450000
 IsAllowed (Q lead_in form) = (lead_in ≤ 450000) × (form ≢ Cooked)
 IsAllowed (Text lead_in form) = (lead_in ≤ 450000) × (form ≢ Cooked)
+IsAllowed (Author lead_in length) = (lead_in ≤ 450000) × (length < 450000)
 IsAllowed Planar = ⊤
 IsAllowed Raw = ⊤
 IsAllowed (Scratch lead_in seed) = (lead_in ≤ 450000) × (seed < 2 ^ 64)
@@ -26,6 +27,7 @@ command_name (State lead_in form at) = codes "state"
 command_name (Check lead_in form) = codes "check"
 command_name (Q lead_in form) = codes "q"
 command_name (Text lead_in form) = codes "text"
+command_name (Author lead_in length) = codes "author"
 command_name Planar = codes "planar"
 command_name Raw = codes "raw"
 command_name (Scratch lead_in seed) = codes "scratch"
@@ -39,6 +41,7 @@ SpellsOptions (State lead_in form at) options = SpellsTimed lead_in form at opti
 SpellsOptions (Check lead_in form) options = SpellsStream lead_in form options
 SpellsOptions (Q lead_in form) options = SpellsStream lead_in form options
 SpellsOptions (Text lead_in form) options = SpellsStream lead_in form options
+SpellsOptions (Author lead_in length) options = SpellsLengths lead_in length options
 SpellsOptions Planar options = options ≡ []
 SpellsOptions Raw options = options ≡ []
 SpellsOptions (Scratch lead_in seed) options = SpellsTwo (codes "--lead-in") lead_in (codes "--seed") seed options

@@ -61,3 +61,7 @@ SpellsNumber name n (option ∷ rest) = (option ≡ name) × IsNumberWord n rest
 -- the words are two options, each with a number
 abbrev pub SpellsTwo : List ℕ → ℕ → List ℕ → ℕ → List (List ℕ) → Type 0
 SpellsTwo first n second m words = SpellsNumber first n (take (length words - 2) words) × SpellsNumber second m (drop (length words - 2) words)
+
+-- the words are `--lead-in` and a number, and then `--length` and a time
+abbrev pub SpellsLengths : ℕ → ℕ → List (List ℕ) → Type 0
+SpellsLengths lead_in time words = SpellsNumber (codes "--lead-in") lead_in (take (length words - 2) words) × SpellsTime (codes "--length") time (drop (length words - 2) words)

@@ -3,6 +3,7 @@ ghost use Rattle.std.specs.Prelude.{◌≡◌, ◌∷◌, codes, IfSome, Some};
 ghost use Rattle.cdg_cmd.specs.Words.{texts};
 ghost use Rattle.cdg_cmd.specs.Spelling.{Spells};
 
+use crate::lengths::read_lengths;
 use crate::numbers::read_two;
 use crate::options::{read_blocks, read_stream};
 use crate::times::read_timed;
@@ -23,6 +24,8 @@ pub enum Command {
     Q { lead_in: u32, form: Form },
     /// Writes the texts of the lead-in of a stream.
     Text { lead_in: u32, form: Form },
+    /// Writes the stream of a cue sheet and a picture script. The length is that of the audio, in blocks.
+    Author { lead_in: u32, length: u32 },
     /// Writes the planar form of each block.
     Planar,
     /// Writes the block of each planar form.
@@ -46,6 +49,7 @@ pub fn read_words(words: &[String]) -> Option<Command>
         "check" => read_check(options),
         "q" => read_q(options),
         "text" => read_text(options),
+        "author" => read_author(options),
         "planar" => read_planar(options),
         "raw" => read_raw(options),
         "scratch" => read_scratch(options),
@@ -129,6 +133,19 @@ fn read_text(options: &[String]) -> Option<Command>
         Some(stream) => Some(Command::Text {
             lead_in: stream.lead_in,
             form: stream.form,
+        }),
+        None => None,
+    }
+}
+
+fn read_author(options: &[String]) -> Option<Command>
+    ensures spelled { IfSome result (λ command. Spells command (codes "author" ∷ texts options.now)) }
+    ensures all { (command : Command) → Spells command (codes "author" ∷ texts options.now) → result ≡ Some command }
+{
+    match read_lengths(options) {
+        Some(lengths) => Some(Command::Author {
+            lead_in: lengths.lead_in,
+            length: lengths.audio,
         }),
         None => None,
     }

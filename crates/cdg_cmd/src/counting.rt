@@ -1,10 +1,10 @@
 // The command that counts what a stream holds.
 ghost use Rattle.std.specs.Prelude.{◌≡◌, ◌≢◌, ◌≤◌};
 ghost use Rattle.cdg_io.specs.Causes.{Rose};
-ghost use Rattle.cdg_cmd.specs.Answer.{Does};
+ghost use Rattle.cdg_cmd.specs.Answer.{ChecksWith};
 
 use crate::streams::play_status;
-use crate::{Command, Status, Which};
+use crate::{Status, Which};
 use cdg_io::{Sink, Source};
 use std::alloc::Global;
 use subcode_player::{Form, Player};
@@ -18,7 +18,7 @@ pub(crate) fn run_check<S: Source, K: Sink>(
     out: &mut K,
 ) -> Status
     requires { lead_in ≤ 450000 }
-    ensures does { result ≢ Status.NoMemory → Does (Command.Check lead_in form) (S.left source.old) (S.left source.new)
+    ensures does { result ≢ Status.NoMemory → ChecksWith form lead_in (S.left source.old) (S.left source.new)
         (K.held out.old) (K.held out.new) result }
     ensures never { (result ≢ Status.Usage) × (result ≢ Status.ReadFault Which.Second) }
     ensures no_memory { result ≡ Status.NoMemory → (source.new ≡ source.old) × (out.new ≡ out.old) }
@@ -42,7 +42,7 @@ fn check_with<S: Source, K: Sink>(
     out: &mut K,
 ) -> Status
     requires { lead_in ≤ 450000 }
-    ensures does { Does (Command.Check lead_in form) (S.left source.old) (S.left source.new)
+    ensures does { ChecksWith form lead_in (S.left source.old) (S.left source.new)
         (K.held out.old) (K.held out.new) result }
     ensures never { (result ≢ Status.Usage) × (result ≢ Status.ReadFault Which.Second) × (result ≢ Status.NoMemory) }
     ensures source_later { S.faults source.old ≤ S.faults source.new }

@@ -1,14 +1,17 @@
 //! The commands of the workshop over sources and sinks: their words, what they answer, and the line that says it.
 #![tactic(auto)]
 
+mod authoring;
 mod command;
 mod counting;
 mod generating;
+mod lengths;
 mod line;
 mod listing;
 mod numbers;
 mod options;
 mod parts;
+mod reasons;
 mod showing;
 mod splitting;
 mod status;

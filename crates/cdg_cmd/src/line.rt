@@ -1,10 +1,11 @@
 // The line that says a status.
-ghost use Rattle.std.specs.Prelude.{◌≡◌, ◌≤◌, ◌++◌, ◌+◌, length, codes, decimal, OnOk, OnErr};
+ghost use Rattle.std.specs.Prelude.{◌≡◌, ◌≤◌, ◌++◌, ◌+◌, length, [], codes, decimal, OnOk, OnErr};
 ghost use Rattle.std.specs.Io.KnownBytes.{Appends};
 ghost use Rattle.cdg_io.specs.Causes.{HasCause};
 ghost use Rattle.cdg_io.specs.Moves.{AppendsPrefix};
-ghost use Rattle.cdg_cmd.specs.Line.{error_line, refusal_words, with};
+ghost use Rattle.cdg_cmd.specs.Line.{error_line, late_words, line_words, refusal_words, with};
 
+use crate::reasons::{cue_words, script_words};
 use crate::{Refusal, Status, Which};
 use arrayvec::ArrayString;
 use cdg_io::{Failed, Sink, put_all};
@@ -23,6 +24,28 @@ fn push_number(text: &mut Line, number: u32)
     text.push_str(digits.format(number));
 }
 
+// Words and a number.
+fn push_counted(text: &mut Line, words: &str, number: u32)
+    requires { length text.old.bytes + length words.now ≤ 80 }
+    ensures text { text.new.bytes ≡ text.old.bytes ++ with words.now number }
+    ensures short { length text.new.bytes ≤ length text.old.bytes + length words.now + 11 }
+{
+    text.push_str(words);
+    push_number(text, number);
+}
+
+// The name of an input, the number of a line of it, and why it is refused.
+fn push_line(text: &mut Line, name: &str, line: u32, why: &str)
+    requires room { length text.old.bytes + length name.now ≤ 40 }
+    requires why { length why.now ≤ 20 }
+    ensures text { text.new.bytes ≡ text.old.bytes ++ line_words name.now line why.now }
+    ensures short { length text.new.bytes ≤ 80 }
+{
+    push_counted(text, name, line);
+    text.push_str(" ");
+    text.push_str(why);
+}
+
 // The words of a refusal.
 fn push_refusal(text: &mut Line, refusal: Refusal)
     requires { length text.old.bytes ≤ 20 }
@@ -30,26 +53,36 @@ fn push_refusal(text: &mut Line, refusal: Refusal)
     ensures short { length text.new.bytes ≤ 100 }
 {
     match refusal {
-        Refusal::Torn { block } => {
-            text.push_str("torn");
-            push_number(text, block);
-        }
+        Refusal::Torn { block } => push_counted(text, "torn", block),
         Refusal::TooLong => text.push_str("too-long"),
-        Refusal::PastEnd { blocks } => {
-            text.push_str("past-end");
-            push_number(text, blocks);
-        }
-        Refusal::TextMissing { seq } => {
-            text.push_str("text-missing");
-            push_number(text, u32::from(seq));
-        }
+        Refusal::PastEnd { blocks } => push_counted(text, "past-end", blocks),
+        Refusal::Cue { line, why } => push_line(text, "cue", line, cue_words(why)),
+        Refusal::Script { line, why } => push_line(text, "script", line, script_words(why)),
+        Refusal::LengthShort { need } => push_counted(text, "length-short", need),
+        Refusal::DiscTooLong { blocks } => push_counted(text, "disc-too-long", blocks),
+        Refusal::LeadInShort { need } => push_counted(text, "lead-in-short", need),
+        Refusal::TextTooLong { packs } => push_counted(text, "text-too-long", packs),
+        Refusal::TextMissing { seq } => push_counted(text, "text-missing", u32::from(seq)),
         Refusal::TextNoSize => text.push_str("text-no-size"),
         Refusal::TextMalformed { seq, byte } => {
-            text.push_str("text-malformed");
-            push_number(text, u32::from(seq));
+            push_counted(text, "text-malformed", u32::from(seq));
             push_number(text, u32::from(byte));
         }
     }
+}
+
+// The words of a picture that is late.
+fn push_late(text: &mut Line, picture: u32, need: u32, free: u32)
+    requires { text.old.bytes ≡ [] }
+    ensures text { text.new.bytes ≡ late_words picture need free }
+    ensures short { length text.new.bytes ≤ 100 }
+{
+    text.push_str("late");
+    push_number(text, picture);
+    text.push_str(" need");
+    push_number(text, need);
+    text.push_str(" free");
+    push_number(text, free);
 }
 
 // The line of a status, with its line feed.
@@ -68,6 +101,11 @@ fn line(status: Status) -> Line
             text.push_str("refused ");
             push_refusal(&mut text, refusal);
         }
+        Status::Late {
+            picture,
+            need,
+            free,
+        } => push_late(&mut text, picture, need, free),
         Status::ReadFault(Which::First) => text.push_str("read fault first"),
         Status::ReadFault(Which::Second) => text.push_str("read fault second"),
         Status::WriteFault => text.push_str("write fault"),

@@ -1,10 +1,10 @@
 // The command that lists the Q channel of a stream.
 ghost use Rattle.std.specs.Prelude.{◌≡◌, ◌≢◌, ◌≤◌};
 ghost use Rattle.cdg_io.specs.Causes.{Rose};
-ghost use Rattle.cdg_cmd.specs.Answer.{Does};
+ghost use Rattle.cdg_cmd.specs.Answer.{ListsWith};
 
 use crate::streams::play_status;
-use crate::{Command, Status, Which};
+use crate::{Status, Which};
 use cdg_io::{Sink, Source};
 use std::alloc::Global;
 use subcode_player::{Form, Player};
@@ -19,7 +19,7 @@ pub(crate) fn run_q<S: Source, K: Sink>(
 ) -> Status
     requires lead_in { lead_in ≤ 450000 }
     requires form { form ≢ Form.Cooked }
-    ensures does { result ≢ Status.NoMemory → Does (Command.Q lead_in form) (S.left source.old) (S.left source.new)
+    ensures does { result ≢ Status.NoMemory → ListsWith form lead_in (S.left source.old) (S.left source.new)
         (K.held out.old) (K.held out.new) result }
     ensures never { (result ≢ Status.Usage) × (result ≢ Status.ReadFault Which.Second) }
     ensures no_memory { result ≡ Status.NoMemory → (source.new ≡ source.old) × (out.new ≡ out.old) }
@@ -44,7 +44,7 @@ fn q_with<S: Source, K: Sink>(
 ) -> Status
     requires lead_in { lead_in ≤ 450000 }
     requires form { form ≢ Form.Cooked }
-    ensures does { Does (Command.Q lead_in form) (S.left source.old) (S.left source.new)
+    ensures does { ListsWith form lead_in (S.left source.old) (S.left source.new)
         (K.held out.old) (K.held out.new) result }
     ensures never { (result ≢ Status.Usage) × (result ≢ Status.ReadFault Which.Second) × (result ≢ Status.NoMemory) }
     ensures source_later { S.faults source.old ≤ S.faults source.new }

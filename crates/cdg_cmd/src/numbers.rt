@@ -17,7 +17,7 @@ fn only_number(words: &[String], most: u64) -> Option<u64>
 }
 
 // The number that the option of this name has, where it is at most `most`.
-fn read_option(words: &[String], name: &str, most: u64) -> Option<u64>
+pub(crate) fn read_option(words: &[String], name: &str, most: u64) -> Option<u64>
     ensures spelled { IfSome result (λ n. (n ≤ most) × SpellsNumber name.now n (texts words.now)) }
     ensures all { (n : ℕ) → n ≤ most → SpellsNumber name.now n (texts words.now) → result ≡ Some n }
 {

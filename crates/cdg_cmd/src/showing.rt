@@ -1,10 +1,14 @@
 // The commands that show a moment of a stream.
-ghost use Rattle.std.specs.Prelude.{◌≡◌, ◌≢◌, ◌≤◌, ◌<◌};
+ghost use Rattle.std.specs.Prelude.{◌≡◌, ◌≢◌, ◌≤◌, ◌<◌, ℕ, List, IfSome};
 ghost use Rattle.cdg_io.specs.Causes.{Rose};
-ghost use Rattle.cdg_cmd.specs.Answer.{Does};
+ghost use Rattle.subcode_player.specs.Shown.{IsScreenAt, IsStateAt};
+ghost use Rattle.picture_script.specs.Script.{Drawing};
+ghost use Rattle.subcode_player.specs.Pictured.{IsHeldAt, IsScheduledStream};
+ghost use Rattle.cdg_cmd.specs.Answer.{ShowsWith};
+ghost use Rattle.cdg_cmd.specs.Headline.{PutsPicture};
 
 use crate::streams::play_status;
-use crate::{Command, Status, Which};
+use crate::{Status, Which};
 use cdg_io::{Sink, Source};
 use std::alloc::Global;
 use subcode_player::{Form, Player};
@@ -20,8 +24,12 @@ pub(crate) fn run_screen<S: Source, K: Sink>(
 ) -> Status
     requires lead_in { lead_in ≤ 450000 }
     requires at { at < 450000 }
-    ensures does { result ≢ Status.NoMemory → Does (Command.Screen lead_in form at) (S.left source.old) (S.left source.new)
+    ensures does { result ≢ Status.NoMemory → ShowsWith (IsScreenAt form lead_in at) form lead_in at (S.left source.old) (S.left source.new)
         (K.held out.old) (K.held out.new) result }
+    // From its ready time to its hold time each picture of a script is shown.
+    ensures pictures { IfSome (S.left source.old) (λ all. (script : List Drawing) (k : ℕ)
+        → IsScheduledStream form lead_in script all → IsHeldAt script k at
+        → PutsPicture script k (K.held out.old) (K.held out.new) result) }
     ensures never { (result ≢ Status.Usage) × (result ≢ Status.ReadFault Which.Second) }
     ensures no_memory { result ≡ Status.NoMemory → (source.new ≡ source.old) × (out.new ≡ out.old) }
     ensures source_later { S.faults source.old ≤ S.faults source.new }
@@ -46,8 +54,12 @@ fn screen_with<S: Source, K: Sink>(
 ) -> Status
     requires lead_in { lead_in ≤ 450000 }
     requires at { at < 450000 }
-    ensures does { Does (Command.Screen lead_in form at) (S.left source.old) (S.left source.new)
+    ensures does { ShowsWith (IsScreenAt form lead_in at) form lead_in at (S.left source.old) (S.left source.new)
         (K.held out.old) (K.held out.new) result }
+    // From its ready time to its hold time each picture of a script is shown.
+    ensures pictures { IfSome (S.left source.old) (λ all. (script : List Drawing) (k : ℕ)
+        → IsScheduledStream form lead_in script all → IsHeldAt script k at
+        → PutsPicture script k (K.held out.old) (K.held out.new) result) }
     ensures never { (result ≢ Status.Usage) × (result ≢ Status.ReadFault Which.Second) × (result ≢ Status.NoMemory) }
     ensures source_later { S.faults source.old ≤ S.faults source.new }
     ensures out_later { K.faults out.old ≤ K.faults out.new }
@@ -68,7 +80,7 @@ pub(crate) fn run_state<S: Source, K: Sink>(
 ) -> Status
     requires lead_in { lead_in ≤ 450000 }
     requires at { at < 450000 }
-    ensures does { result ≢ Status.NoMemory → Does (Command.State lead_in form at) (S.left source.old) (S.left source.new)
+    ensures does { result ≢ Status.NoMemory → ShowsWith (IsStateAt form lead_in at) form lead_in at (S.left source.old) (S.left source.new)
         (K.held out.old) (K.held out.new) result }
     ensures never { (result ≢ Status.Usage) × (result ≢ Status.ReadFault Which.Second) }
     ensures no_memory { result ≡ Status.NoMemory → (source.new ≡ source.old) × (out.new ≡ out.old) }
@@ -94,7 +106,7 @@ fn state_with<S: Source, K: Sink>(
 ) -> Status
     requires lead_in { lead_in ≤ 450000 }
     requires at { at < 450000 }
-    ensures does { Does (Command.State lead_in form at) (S.left source.old) (S.left source.new)
+    ensures does { ShowsWith (IsStateAt form lead_in at) form lead_in at (S.left source.old) (S.left source.new)
         (K.held out.old) (K.held out.new) result }
     ensures never { (result ≢ Status.Usage) × (result ≢ Status.ReadFault Which.Second) × (result ≢ Status.NoMemory) }
     ensures source_later { S.faults source.old ≤ S.faults source.new }

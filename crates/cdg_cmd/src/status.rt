@@ -2,6 +2,9 @@
 ghost use Rattle.std.specs.Prelude.{◌≡◌};
 ghost use Rattle.cdg_cmd.specs.Line.{exit_of};
 
+use cue_sheet::CueWhy;
+use picture_script::ScriptWhy;
+
 /// One of the two inputs.
 #[derive(Clone, Copy, Debug, PartialEq, Eq)]
 pub enum Which {
@@ -15,8 +18,20 @@ pub enum Refusal {
     /// The input ended within the block of this number.
     Torn { block: u32 },
     TooLong,
-    /// The moment is later than the end of this many program blocks.
+    /// The moment, or the last hold time of a script, is later than the end of this many program blocks.
     PastEnd { blocks: u32 },
+    /// This line of the cue sheet, counted from 1.
+    Cue { line: u32, why: CueWhy },
+    /// This line of the picture script, counted from 1.
+    Script { line: u32, why: ScriptWhy },
+    /// The audio is too short: the index lines need so many blocks.
+    LengthShort { need: u32 },
+    /// The program would have so many blocks.
+    DiscTooLong { blocks: u32 },
+    /// The lead-in needs so many blocks.
+    LeadInShort { need: u32 },
+    /// The texts need so many packs.
+    TextTooLong { packs: u32 },
     /// The text pack of this number is wanted, and none is good.
     TextMissing { seq: u8 },
     /// There are text packs, but not all three that tell their sizes.
@@ -34,6 +49,8 @@ pub enum Status {
     /// The words are none of the forms.
     Usage,
     Refused(Refusal),
+    /// The first picture that cannot be ready: it needs so many packs, and so many are free for it.
+    Late { picture: u32, need: u32, free: u32 },
     ReadFault(Which),
     WriteFault,
     NoMemory,
@@ -49,6 +66,7 @@ impl Status {
             Status::Damaged(_) => 1,
             Status::Usage => 2,
             Status::Refused(_) => 3,
+            Status::Late { .. } => 4,
             Status::ReadFault(_) => 5,
             Status::WriteFault => 6,
             Status::NoMemory => 7,

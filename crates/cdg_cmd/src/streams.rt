@@ -4,9 +4,9 @@ ghost use Rattle.cdg_io.specs.Causes.{Rose};
 ghost use Rattle.std.specs.List.{concat};
 ghost use Rattle.stream_words.specs.Stream.{all_packs};
 ghost use Rattle.subcode_player.specs.Convert.{IsDamagedStream};
-ghost use Rattle.cdg_cmd.specs.Answer.{Does, GivesBack, play_status};
+ghost use Rattle.cdg_cmd.specs.Answer.{ConvertsWith, GivesBack, play_status};
 
-use crate::{Command, Refusal, Status, Which};
+use crate::{Refusal, Status, Which};
 use cdg_io::{Sink, Source};
 use std::alloc::Global;
 use subcode_player::{Form, PlayStop, Played, Player};
@@ -35,7 +35,7 @@ pub(crate) fn run_convert<S: Source, K: Sink>(
     out: &mut K,
 ) -> Status
     requires { lead_in ≤ 450000 }
-    ensures does { result ≢ Status.NoMemory → Does (Command.Convert lead_in form) (S.left source.old) (S.left source.new)
+    ensures does { result ≢ Status.NoMemory → ConvertsWith form lead_in (S.left source.old) (S.left source.new)
         (K.held out.old) (K.held out.new) result }
     // From damage of at most two symbols a word every pack comes back.
     ensures restores { IfSome (S.left source.old) (λ all. (blocks : ℕ) (packs : List (List ℕ))
@@ -63,7 +63,7 @@ fn convert_with<S: Source, K: Sink>(
     out: &mut K,
 ) -> Status
     requires { lead_in ≤ 450000 }
-    ensures does { Does (Command.Convert lead_in form) (S.left source.old) (S.left source.new)
+    ensures does { ConvertsWith form lead_in (S.left source.old) (S.left source.new)
         (K.held out.old) (K.held out.new) result }
     // From damage of at most two symbols a word every pack comes back.
     ensures restores { IfSome (S.left source.old) (λ all. (blocks : ℕ) (packs : List (List ℕ))

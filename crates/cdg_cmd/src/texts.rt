@@ -2,10 +2,10 @@
 ghost use Rattle.std.specs.Prelude.{◌≡◌, ◌≢◌, ◌≤◌, []};
 ghost use Rattle.std.specs.Io.KnownBytes.{Appends};
 ghost use Rattle.cdg_io.specs.Causes.{Rose};
-ghost use Rattle.cdg_cmd.specs.Answer.{Does, text_status};
+ghost use Rattle.cdg_cmd.specs.Answer.{TextsWith, text_status};
 
 use crate::streams::play_status;
-use crate::{Command, Refusal, Status, Which};
+use crate::{Refusal, Status, Which};
 use cdg_io::{Sink, Source};
 use cdtext_packs::TextFault;
 use std::alloc::Global;
@@ -38,7 +38,7 @@ pub(crate) fn run_text<S: Source, K: Sink>(
     out: &mut K,
 ) -> Status
     requires { lead_in ≤ 450000 }
-    ensures does { result ≢ Status.NoMemory → Does (Command.Text lead_in form) (S.left source.old) (S.left source.new)
+    ensures does { result ≢ Status.NoMemory → TextsWith form lead_in (S.left source.old) (S.left source.new)
         (K.held out.old) (K.held out.new) result }
     ensures never { (result ≢ Status.Usage) × (result ≢ Status.ReadFault Which.Second) }
     ensures no_memory { result ≡ Status.NoMemory → Appends (K.held out.old) (K.held out.new) [] }
@@ -63,7 +63,7 @@ fn text_with<S: Source, K: Sink>(
     out: &mut K,
 ) -> Status
     requires { lead_in ≤ 450000 }
-    ensures does { Does (Command.Text lead_in form) (S.left source.old) (S.left source.new)
+    ensures does { TextsWith form lead_in (S.left source.old) (S.left source.new)
         (K.held out.old) (K.held out.new) result }
     ensures never { (result ≢ Status.Usage) × (result ≢ Status.ReadFault Which.Second) }
     ensures no_memory { result ≡ Status.NoMemory → Appends (K.held out.old) (K.held out.new) [] }

@@ -1,5 +1,5 @@
 // The top call.
-ghost use Rattle.std.specs.Prelude.{◌≡◌, ◌≢◌, ◌↔◌, ◌≤◌, ℕ, List, [], IfSome};
+ghost use Rattle.std.specs.Prelude.{◌≡◌, ◌≢◌, ◌↔◌, ◌≤◌, ◌⊎◌, ℕ, List, [], IfSome};
 ghost use Rattle.std.specs.Io.KnownBytes.{Appends};
 ghost use Rattle.cdg_io.specs.Causes.{Rose};
 ghost use Rattle.cdg_cmd.specs.Words.{texts};
@@ -8,8 +8,16 @@ ghost use Rattle.std.specs.List.{concat};
 ghost use Rattle.raw_subcode.specs.declared.form.Form.{Form};
 ghost use Rattle.stream_words.specs.Stream.{all_packs};
 ghost use Rattle.subcode_player.specs.Convert.{IsDamagedStream};
-ghost use Rattle.cdg_cmd.specs.Answer.{Does, GivesBack, IsAnswered, ReadsNone, TakesFirst, TakesNone, Tells};
+ghost use Rattle.subcode_player.specs.Pictured.{IsHeldAt, IsScheduledStream};
+ghost use Rattle.raw_subcode.specs.Channels.{program_symbols};
+ghost use Rattle.cue_sheet.specs.CueSheet.{CueSheet};
+ghost use Rattle.picture_script.specs.Script.{Drawing};
+ghost use Rattle.cdg_cmd.specs.Authors.{IsScriptText};
+ghost use Rattle.cdg_cmd.specs.Headline.{AreTexts, IsDamagedAuthored, PutsPicture, WritesOrIsLate, written_packs};
+ghost use Rattle.cdg_cmd.specs.Undamaged.{IsCleanStream, words_of};
+ghost use Rattle.cdg_cmd.specs.Answer.{Does, GivesBack, IsAnswered, ReadsNone, ReadsSecond, TakesFirst, TakesNone, Tells, WritesLast};
 
+use crate::authoring::run_author;
 use crate::counting::run_check;
 use crate::generating::run_gen;
 use crate::line::tell;
@@ -19,8 +27,10 @@ use crate::streams::run_convert;
 use crate::texts::run_text;
 use crate::turning::{run_planar, run_raw, run_scratch};
 use crate::{Command, Status, Which, read_words};
+use authored_streams::accepted_scripts_are_in_order;
 use cdg_io::{Sink, Source, SteadySink, SteadySource};
 use std::alloc::Global;
+use stream_words::{clean_words_are_found, text_of_packs};
 
 /// Runs the command of the words over its inputs, its output and the error output.
 pub fn run<S: Source, T: Source, K: Sink, E: Sink>(
@@ -34,16 +44,44 @@ pub fn run<S: Source, T: Source, K: Sink, E: Sink>(
     // Usage comes exactly where the words spell no command, and then nothing was touched.
     ensures usage { (result ≡ Status.Usage) ↔ ((command : Command) → ¬ (Spells command (texts words.now))) }
     ensures untouched { result ≡ Status.Usage → (first.new ≡ first.old) × (out.new ≡ out.old) }
-    // No form reads a second input.
-    ensures second { second.new ≡ second.old }
+    // The second input is unchanged, unless the command reads it and the first was read to its end and accepted.
+    ensures second { (second.new ≡ second.old)
+        ⊎ ((command : Command) × Spells command (texts words.now) × ReadsSecond command (S.left first.old) (S.left first.new)) }
 
     // What the command answers and writes.
     ensures does { (command : Command) → Spells command (texts words.now) → result ≢ Status.NoMemory
-        → Does command (S.left first.old) (S.left first.new) (K.held out.old) (K.held out.new) result }
+        → Does command (S.left first.old) (S.left first.new) (T.left second.old) (T.left second.new) (K.held out.old) (K.held out.new) result }
     // From damage of at most two symbols a word a conversion gives back every pack.
     ensures restores { (lead_in : ℕ) (form : Form) → Spells (Command.Convert lead_in form) (texts words.now)
         → IfSome (S.left first.old) (λ all. (blocks : ℕ) (packs : List (List ℕ)) → IsDamagedStream form lead_in blocks packs all
         → GivesBack (concat (all_packs form blocks packs)) (K.held out.old) (K.held out.new) result) }
+    // From its ready time to its hold time each picture of a script is shown, whatever damage of at most two symbols a word does.
+    ensures pictures { (lead_in : ℕ) (form : Form) (at : ℕ) → Spells (Command.Screen lead_in form at) (texts words.now)
+        → IfSome (S.left first.old) (λ all. (script : List Drawing) (k : ℕ) → IsScheduledStream form lead_in script all → IsHeldAt script k at
+        → PutsPicture script k (K.held out.old) (K.held out.new) result) }
+
+    // Of a sheet and a script of which only a picture can be refused an authored stream is written, or the first picture that cannot be ready is told.
+    ensures authors { (lead_in audio : ℕ) (sheet : CueSheet) (script : List Drawing) → Spells (Command.Author lead_in audio) (texts words.now)
+        → IfSome (S.left first.old) (λ cue. IfSome (T.left second.old) (λ text. AreTexts cue text sheet script lead_in audio
+        → WritesOrIsLate sheet script lead_in audio (K.held out.old) (K.held out.new) result)) }
+    // From an authored stream, after damage of at most two symbols a word, a conversion gives back every scheduled pack,
+    ensures gives_back { (lead_in audio : ℕ) (form : Form) (sheet : CueSheet) (script : List Drawing) (packs : List (List ℕ))
+        → Spells (Command.Convert lead_in form) (texts words.now)
+        → IfSome (S.left first.old) (λ all. IsDamagedAuthored sheet script lead_in audio packs form all
+        → GivesBack (concat (written_packs form packs)) (K.held out.old) (K.held out.new) result) }
+    // and the screen shows each picture of an accepted script at every time from its ready time to its hold time.
+    ensures shows { (lead_in audio at k : ℕ) (form : Form) (sheet : CueSheet) (script : List Drawing) (packs : List (List ℕ)) (text : List ℕ)
+        → Spells (Command.Screen lead_in form at) (texts words.now) → IsScriptText text script
+        → IfSome (S.left first.old) (λ all. IsDamagedAuthored sheet script lead_in audio packs form all → IsHeldAt script k at
+        → PutsPicture script k (K.held out.old) (K.held out.new) result) }
+    // Of a stream whose words are all codewords a conversion writes these words.
+    ensures clean { (lead_in : ℕ) (form : Form) → Spells (Command.Convert lead_in form) (texts words.now)
+        → IfSome (S.left first.old) (λ all. IsCleanStream form lead_in all
+        → GivesBack (concat (words_of form (program_symbols form all lead_in))) (K.held out.old) (K.held out.new) result) }
+
+    // These commands touch the output only where their work is whole or a write fails.
+    ensures writes_last { (command : Command) → Spells command (texts words.now) → WritesLast command
+        → result ≢ Status.Done → result ≢ Status.WriteFault → out.new ≡ out.old }
     // Where no memory is found nothing was written, and nothing was read where all of it is taken first.
     ensures no_memory { result ≡ Status.NoMemory → Appends (K.held out.old) (K.held out.new) [] }
     ensures no_memory_first { (command : Command) → Spells command (texts words.now) → TakesFirst command
@@ -54,73 +92,101 @@ pub fn run<S: Source, T: Source, K: Sink, E: Sink>(
 
     // Each fault has its cause.
     ensures first_later { S.faults first.old ≤ S.faults first.new }
+    ensures second_later { T.faults second.old ≤ T.faults second.new }
     ensures out_later { K.faults out.old ≤ K.faults out.new }
     ensures read_fault { result ≡ Status.ReadFault Which.First → Rose (S.faults first.old) (S.faults first.new) }
-    ensures second_fault { result ≢ Status.ReadFault Which.Second }
+    ensures second_fault { result ≡ Status.ReadFault Which.Second → Rose (T.faults second.old) (T.faults second.new)
+        × ((command : Command) × Spells command (texts words.now) × ReadsSecond command (S.left first.old) (S.left first.new)) }
     ensures write_fault { result ≡ Status.WriteFault → Rose (K.faults out.old) (K.faults out.new) }
 
     // Where the words spell a command and no count rose, no fault is told: `does` then says the exact answer.
-    ensures complete { (command : Command) → Spells command (texts words.now)
-        → ¬ (Rose (S.faults first.old) (S.faults first.new)) → ¬ (Rose (K.faults out.old) (K.faults out.new)) → IsAnswered result }
+    ensures complete { (command : Command) → Spells command (texts words.now) → ¬ (Rose (S.faults first.old) (S.faults first.new))
+        → ¬ (Rose (T.faults second.old) (T.faults second.new)) → ¬ (Rose (K.faults out.old) (K.faults out.new)) → IsAnswered result }
 
     // The error output took the line of the status, or a prefix of it where its count rose.
     ensures told { Tells (E.held err.old) (E.held err.new) (E.faults err.old) (E.faults err.new) result }
     ensures silent { result ≡ Status.Done → err.new ≡ err.old }
 {
-    let status = answer(alloc, words, first, out);
+    accepted_scripts_are_in_order();
+    clean_words_are_found();
+    text_of_packs();
+    let status = answer(alloc, words, first, second, out);
     // A failure there changes nothing.
     let _told = tell(err, status);
     status
 }
 
 // The same without the error output.
-fn answer<S: Source, K: Sink>(alloc: Global, words: &[String], first: &mut S, out: &mut K) -> Status
+fn answer<S: Source, T: Source, K: Sink>(
+    alloc: Global,
+    words: &[String],
+    first: &mut S,
+    second: &mut T,
+    out: &mut K,
+) -> Status
     ensures usage { (result ≡ Status.Usage) ↔ ((command : Command) → ¬ (Spells command (texts words.now))) }
     ensures untouched { result ≡ Status.Usage → (first.new ≡ first.old) × (out.new ≡ out.old) }
+    ensures second { (second.new ≡ second.old)
+        ⊎ ((command : Command) × Spells command (texts words.now) × ReadsSecond command (S.left first.old) (S.left first.new)) }
     ensures does { (command : Command) → Spells command (texts words.now) → result ≢ Status.NoMemory
-        → Does command (S.left first.old) (S.left first.new) (K.held out.old) (K.held out.new) result }
-    // From damage of at most two symbols a word a conversion gives back every pack.
+        → Does command (S.left first.old) (S.left first.new) (T.left second.old) (T.left second.new) (K.held out.old) (K.held out.new) result }
     ensures restores { (lead_in : ℕ) (form : Form) → Spells (Command.Convert lead_in form) (texts words.now)
         → IfSome (S.left first.old) (λ all. (blocks : ℕ) (packs : List (List ℕ)) → IsDamagedStream form lead_in blocks packs all
         → GivesBack (concat (all_packs form blocks packs)) (K.held out.old) (K.held out.new) result) }
+    ensures pictures { (lead_in : ℕ) (form : Form) (at : ℕ) → Spells (Command.Screen lead_in form at) (texts words.now)
+        → IfSome (S.left first.old) (λ all. (script : List Drawing) (k : ℕ) → IsScheduledStream form lead_in script all → IsHeldAt script k at
+        → PutsPicture script k (K.held out.old) (K.held out.new) result) }
+    ensures writes_last { (command : Command) → Spells command (texts words.now) → WritesLast command
+        → result ≢ Status.Done → result ≢ Status.WriteFault → out.new ≡ out.old }
     ensures no_memory { result ≡ Status.NoMemory → Appends (K.held out.old) (K.held out.new) [] }
     ensures no_memory_first { (command : Command) → Spells command (texts words.now) → TakesFirst command
         → result ≡ Status.NoMemory → (first.new ≡ first.old) × (out.new ≡ out.old) }
     ensures takes_none { (command : Command) → Spells command (texts words.now) → TakesNone command → result ≢ Status.NoMemory }
     ensures reads_none { (command : Command) → Spells command (texts words.now) → ReadsNone command → first.new ≡ first.old }
     ensures first_later { S.faults first.old ≤ S.faults first.new }
+    ensures second_later { T.faults second.old ≤ T.faults second.new }
     ensures out_later { K.faults out.old ≤ K.faults out.new }
     ensures read_fault { result ≡ Status.ReadFault Which.First → Rose (S.faults first.old) (S.faults first.new) }
-    ensures second_fault { result ≢ Status.ReadFault Which.Second }
+    ensures second_fault { result ≡ Status.ReadFault Which.Second → Rose (T.faults second.old) (T.faults second.new)
+        × ((command : Command) × Spells command (texts words.now) × ReadsSecond command (S.left first.old) (S.left first.new)) }
     ensures write_fault { result ≡ Status.WriteFault → Rose (K.faults out.old) (K.faults out.new) }
 {
     match read_words(words) {
-        Some(command) => perform(alloc, command, first, out),
+        Some(command) => perform(alloc, command, first, second, out),
         None => Status::Usage,
     }
 }
 
 // Performs a command.
-fn perform<S: Source, K: Sink>(
+fn perform<S: Source, T: Source, K: Sink>(
     alloc: Global,
     command: Command,
     first: &mut S,
+    second: &mut T,
     out: &mut K,
 ) -> Status
     requires { IsAllowed command }
-    ensures never { (result ≢ Status.Usage) × (result ≢ Status.ReadFault Which.Second) }
+    ensures never { result ≢ Status.Usage }
+    ensures second { (second.new ≡ second.old) ⊎ ReadsSecond command (S.left first.old) (S.left first.new) }
     ensures does { result ≢ Status.NoMemory
-        → Does command (S.left first.old) (S.left first.new) (K.held out.old) (K.held out.new) result }
+        → Does command (S.left first.old) (S.left first.new) (T.left second.old) (T.left second.new) (K.held out.old) (K.held out.new) result }
     ensures restores { (lead_in : ℕ) (form : Form) → command ≡ Command.Convert lead_in form
         → IfSome (S.left first.old) (λ all. (blocks : ℕ) (packs : List (List ℕ)) → IsDamagedStream form lead_in blocks packs all
         → GivesBack (concat (all_packs form blocks packs)) (K.held out.old) (K.held out.new) result) }
+    ensures pictures { (lead_in : ℕ) (form : Form) (at : ℕ) → command ≡ Command.Screen lead_in form at
+        → IfSome (S.left first.old) (λ all. (script : List Drawing) (k : ℕ) → IsScheduledStream form lead_in script all → IsHeldAt script k at
+        → PutsPicture script k (K.held out.old) (K.held out.new) result) }
+    ensures writes_last { WritesLast command → result ≢ Status.Done → result ≢ Status.WriteFault → out.new ≡ out.old }
     ensures no_memory { result ≡ Status.NoMemory → Appends (K.held out.old) (K.held out.new) [] }
     ensures no_memory_first { TakesFirst command → result ≡ Status.NoMemory → (first.new ≡ first.old) × (out.new ≡ out.old) }
     ensures takes_none { TakesNone command → result ≢ Status.NoMemory }
     ensures reads_none { ReadsNone command → first.new ≡ first.old }
     ensures first_later { S.faults first.old ≤ S.faults first.new }
+    ensures second_later { T.faults second.old ≤ T.faults second.new }
     ensures out_later { K.faults out.old ≤ K.faults out.new }
     ensures read_fault { result ≡ Status.ReadFault Which.First → Rose (S.faults first.old) (S.faults first.new) }
+    ensures second_fault { result ≡ Status.ReadFault Which.Second → Rose (T.faults second.old) (T.faults second.new)
+        × ReadsSecond command (S.left first.old) (S.left first.new) }
     ensures write_fault { result ≡ Status.WriteFault → Rose (K.faults out.old) (K.faults out.new) }
 {
     match command {
@@ -130,6 +196,9 @@ fn perform<S: Source, K: Sink>(
         Command::Check { lead_in, form } => run_check(alloc, lead_in, form, first, out),
         Command::Q { lead_in, form } => run_q(alloc, lead_in, form, first, out),
         Command::Text { lead_in, form } => run_text(alloc, lead_in, form, first, out),
+        Command::Author { lead_in, length } => {
+            run_author(alloc, lead_in, length, first, second, out)
+        }
         Command::Planar => run_planar(first, out),
         Command::Raw => run_raw(first, out),
         Command::Scratch { lead_in, seed } => run_scratch(lead_in, seed, first, out),
@@ -137,13 +206,13 @@ fn perform<S: Source, K: Sink>(
     }
 }
 
-/// What a run on these bytes answers where nothing fails.
-pub fn dry_run(alloc: Global, words: &[String], bytes: &[u8]) -> Status
+/// What a run on these bytes, as the first input and the second, answers where nothing fails.
+pub fn dry_run(alloc: Global, words: &[String], bytes: &[u8], more: &[u8]) -> Status
     ensures usage { (result ≡ Status.Usage) ↔ ((command : Command) → ¬ (Spells command (texts words.now))) }
     ensures answered { (command : Command) → Spells command (texts words.now) → IsAnswered result }
 {
     let mut first = SteadySource::new(bytes);
-    let mut second = SteadySource::new(&[]);
+    let mut second = SteadySource::new(more);
     let mut out = SteadySink::new();
     let mut err = SteadySink::new();
     run(alloc, words, &mut first, &mut second, &mut out, &mut err)

@@ -3,10 +3,10 @@ ghost use Rattle.std.specs.Prelude.{◌≡◌, ◌≢◌, ◌≤◌, List, ℕ, 
 ghost use Rattle.cdg_io.specs.Causes.{Rose};
 ghost use Rattle.cdg_io.specs.Pump.{IsUnlessFault, answer_of};
 ghost use Rattle.block_stages.specs.PlanarStream.{IsBlockStream, IsPlanarStream};
-ghost use Rattle.cdg_cmd.specs.Turns.{IsTurned, Turns, pump_status};
-ghost use Rattle.cdg_cmd.specs.Answer.{Does};
+ghost use Rattle.cdg_workload.specs.Scratches.{IsScratched};
+ghost use Rattle.cdg_cmd.specs.Turns.{IsTurned, Turns, TurnsWith, pump_status};
 
-use crate::{Command, Refusal, Status, Which};
+use crate::{Refusal, Status, Which};
 use block_stages::{BlockForms, PlanarForms};
 use cdg_io::{PumpStop, Pumped, Sink, Source, pump};
 use cdg_workload::scratch;
@@ -66,7 +66,7 @@ pub(crate) fn run_scratch<S: Source, K: Sink>(
     out: &mut K,
 ) -> Status
     requires { lead_in ≤ 450000 }
-    ensures does { Does (Command.Scratch lead_in seed) (S.left source.old) (S.left source.new) (K.held out.old) (K.held out.new) result }
+    ensures does { TurnsWith (IsScratched lead_in seed) (S.left source.old) (S.left source.new) (K.held out.old) (K.held out.new) result }
     ensures never { (result ≢ Status.Usage) × (result ≢ Status.ReadFault Which.Second) × (result ≢ Status.NoMemory) }
     ensures source_later { S.faults source.old ≤ S.faults source.new }
     ensures out_later { K.faults out.old ≤ K.faults out.new }
@@ -78,7 +78,7 @@ pub(crate) fn run_scratch<S: Source, K: Sink>(
 
 /// Writes the planar form of each block as the blocks are read.
 pub(crate) fn run_planar<S: Source, K: Sink>(source: &mut S, out: &mut K) -> Status
-    ensures does { Does Command.Planar (S.left source.old) (S.left source.new) (K.held out.old) (K.held out.new) result }
+    ensures does { TurnsWith (IsTurned IsPlanarStream) (S.left source.old) (S.left source.new) (K.held out.old) (K.held out.new) result }
     ensures never { (result ≢ Status.Usage) × (result ≢ Status.ReadFault Which.Second) × (result ≢ Status.NoMemory) }
     ensures source_later { S.faults source.old ≤ S.faults source.new }
     ensures out_later { K.faults out.old ≤ K.faults out.new }
@@ -90,7 +90,7 @@ pub(crate) fn run_planar<S: Source, K: Sink>(source: &mut S, out: &mut K) -> Sta
 
 /// Writes the block of each planar form as the blocks are read.
 pub(crate) fn run_raw<S: Source, K: Sink>(source: &mut S, out: &mut K) -> Status
-    ensures does { Does Command.Raw (S.left source.old) (S.left source.new) (K.held out.old) (K.held out.new) result }
+    ensures does { TurnsWith (IsTurned IsBlockStream) (S.left source.old) (S.left source.new) (K.held out.old) (K.held out.new) result }
     ensures never { (result ≢ Status.Usage) × (result ≢ Status.ReadFault Which.Second) × (result ≢ Status.NoMemory) }
     ensures source_later { S.faults source.old ≤ S.faults source.new }
     ensures out_later { K.faults out.old ≤ K.faults out.new }

@@ -1,5 +1,5 @@
 use Rattle.cdg_cmd.proofs.WordsLemmas.{gen_all, no_two, same_two}
-use Rattle.std.proofs.Common.{rules, ◌≡◌, arith, ap, sym, ◌∙◌, Some, None}
+use Rattle.std.proofs.Common.{◌≡◌, arith, ap, sym, ◌∙◌, Some, None}
 use Rattle.cdg_cmd.specs.declared.command.Command.{Command}
 use Rattle.cdg_cmd.specs.declared.command.Command.TheVariants.{Gen}
 use Rattle.cdg_cmd.specs.declared.numbers.TwoNumbers.{TwoNumbers}

@@ -1,4 +1,3 @@
-use Rattle.std.proofs.Common.{rules}
 use Rattle.cdg_cmd.proofs.WordsLemmas.{planar_all}
 use Rattle.cdg_cmd.proofs.command.read_planar.Goals as goal
 

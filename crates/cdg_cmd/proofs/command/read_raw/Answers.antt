@@ -1,4 +1,3 @@
-use Rattle.std.proofs.Common.{rules}
 use Rattle.cdg_cmd.proofs.WordsLemmas.{raw_all}
 use Rattle.cdg_cmd.proofs.command.read_raw.Goals as goal
 

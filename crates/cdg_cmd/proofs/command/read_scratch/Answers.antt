@@ -1,5 +1,5 @@
 use Rattle.cdg_cmd.proofs.WordsLemmas.{scratch_all}
-use Rattle.std.proofs.Common.{rules, Some, None}
+use Rattle.std.proofs.Common.{Some, None}
 use Rattle.cdg_cmd.proofs.command.read_scratch.Goals as goal
 
 pub returns-in-Some-clause-all : goal.returns-in-Some-clause-all

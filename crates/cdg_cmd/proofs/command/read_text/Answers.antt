@@ -1,5 +1,5 @@
 use Rattle.cdg_cmd.proofs.WordsLemmas.{text_all}
-use Rattle.std.proofs.Common.{rules, Some, None}
+use Rattle.std.proofs.Common.{Some, None}
 use Rattle.cdg_cmd.proofs.command.read_text.Goals as goal
 
 pub returns-in-Some-clause-all : goal.returns-in-Some-clause-all

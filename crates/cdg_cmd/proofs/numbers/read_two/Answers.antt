@@ -1,4 +1,3 @@
-use Rattle.std.proofs.Common.{rules}
 use Rattle.cdg_cmd.proofs.TwoWords.{two_numbers, two_parts}
 use Rattle.cdg_cmd.proofs.TimedWords.{no_time}
 use Rattle.cdg_cmd.proofs.numbers.read_two.Goals as goal

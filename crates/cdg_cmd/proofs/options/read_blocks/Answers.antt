@@ -1,4 +1,3 @@
-use Rattle.std.proofs.Common.{rules}
 use Rattle.cdg_cmd.proofs.options.read_blocks.Goals as goal
 
 pub returns-else-eq-clause-all : goal.returns-else-eq-clause-all

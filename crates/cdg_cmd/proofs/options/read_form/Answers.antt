@@ -1,4 +1,3 @@
-use Rattle.std.proofs.Common.{rules}
 use Rattle.cdg_cmd.specs.Words.{SpellsForm}
 use Rattle.cdg_cmd.proofs.WordsLemmas.{texts-split}
 use Rattle.cdg_cmd.proofs.options.read_form.Goals as goal

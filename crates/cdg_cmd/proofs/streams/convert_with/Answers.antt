@@ -1,4 +1,3 @@
-use Rattle.std.proofs.Common.{rules}
 use Rattle.cdg_cmd.proofs.Statuses.{given_back_all}
 use Rattle.cdg_cmd.proofs.streams.convert_with.Goals as goal
 

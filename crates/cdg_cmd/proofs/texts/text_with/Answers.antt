@@ -1,4 +1,4 @@
-use Rattle.std.proofs.Common.{rules, sym, ◌∙◌}
+use Rattle.std.proofs.Common.{sym, ◌∙◌}
 use Rattle.cdg_cmd.proofs.TextStatus.{nothing_put}
 use Rattle.cdg_cmd.proofs.texts.text_with.Goals as goal
 

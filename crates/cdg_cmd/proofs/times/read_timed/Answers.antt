@@ -1,4 +1,3 @@
-use Rattle.std.proofs.Common.{rules}
 use Rattle.cdg_cmd.proofs.TimedWords.{both, no_stream, no_time, timed_parts}
 use Rattle.cdg_cmd.proofs.times.read_timed.Goals as goal
 

@@ -1,4 +1,9 @@
-use Rattle.std.proofs.Common.{rules, subst, sym}
+use Rattle.std.proofs.Common.{subst, sym, ℕ, List, IfSome}
+use Rattle.raw_subcode.specs.declared.form.Form.{Form}
+use Rattle.picture_script.specs.Script.{Drawing}
+use Rattle.subcode_player.specs.Pictured.{IsHeldAt, IsScheduledStream}
+use Rattle.cdg_cmd.specs.Headline.{PutsPicture}
+use Rattle.cdg_cmd.proofs.WordsLemmas.{same_screen}
 use Rattle.cdg_cmd.specs.Answer.{Does}
 use Rattle.cdg_cmd.specs.declared.command.Command.{Command}
 use Rattle.cdg_cmd.proofs.TextStatus.{unchanged}
@@ -21,5 +26,19 @@ returns-in-Q-clause-no_memory g c = λ e. unchanged g.K.Sink.held _ _ (c.run_q.e
 
 pub returns-in-Text-clause-does : goal.returns-in-Text-clause-does
 returns-in-Text-clause-does g c = λ found.
-    subst (λ (k : Command). Does k (g.S.Source.left c.args.first.now) (g.S.Source.left c.run_text.new.source)
+    subst (λ (k : Command). Does k (g.S.Source.left c.args.first.now) (g.S.Source.left c.run_text.new.source) (g.T.Source.left c.args.second.now) (g.T.Source.left c.args.second.now)
     (g.K.Sink.held c.args.out.now) (g.K.Sink.held c.run_text.new.out) c.run_text.result) (sym c.in-Text.is) (c.run_text.ensures.does found)
+
+pub returns-in-Author-clause-no_memory : goal.returns-in-Author-clause-no_memory
+returns-in-Author-clause-no_memory g c = λ e. unchanged g.K.Sink.held _ _ (c.run_author.ensures.untouched (λ d. cc) (λ d. cc))
+
+pub returns-in-Author-clause-does : goal.returns-in-Author-clause-does
+returns-in-Author-clause-does g c = λ found.
+    subst (λ (k : Command). Does k (g.S.Source.left c.args.first.now) (g.S.Source.left c.run_author.new.first) (g.T.Source.left c.args.second.now) (g.T.Source.left c.run_author.new.second)
+    (g.K.Sink.held c.args.out.now) (g.K.Sink.held c.run_author.new.out) c.run_author.result) (sym c.in-Author.is) c.run_author.ensures.does
+
+pub returns-in-Screen-clause-pictures : goal.returns-in-Screen-clause-pictures
+returns-in-Screen-clause-pictures g c =
+    same_screen (λ (lead_in : ℕ) (form : Form) (at : ℕ). IfSome (g.S.Source.left c.args.first.now) (λ all. (script : List Drawing) (k : ℕ) → IsScheduledStream form lead_in script all → IsHeldAt script k at
+    → PutsPicture script k (g.K.Sink.held c.args.out.now) (g.K.Sink.held c.run_screen.new.out) c.run_screen.result))
+    c.args.command c.in-Screen.lead_in c.in-Screen.form c.in-Screen.at c.in-Screen.is c.run_screen.ensures.pictures
