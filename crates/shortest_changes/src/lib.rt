@@ -1,0 +1,35 @@
+//! The change of a picture is a shortest list of instructions, among all that do not scroll.
+#![tactic(auto)]
+
+ghost use Rattle.std.specs.Prelude.{◌≡◌, ◌<◌, ◌≤◌, List, ℕ, length};
+ghost use Rattle.cdg_instructions.specs.declared.instr.Instr.{Instr};
+ghost use Rattle.cdg_screen.specs.Picture.{Standing};
+ghost use Rattle.picture_script.specs.Script.{Drawing, picture_pixel};
+ghost use Rattle.pack_schedule.specs.Change.{IsChange, IsNeed};
+ghost use Rattle.pack_schedule.specs.Schedule.{IsLate};
+ghost use Rattle.shown_pictures.specs.Shown.{AreColoursInRange, AreTimesInOrder};
+ghost use Rattle.shortest_changes.specs.Brings.{Brings, IsBefore};
+
+use cdg_screen::instructions_in_turn;
+use tile_author::plans_are_shortest;
+
+/// A law: every change for a picture brings it, whatever may stand before.
+pub fn changes_bring_pictures()
+    ensures { (script : List Drawing) (k : ℕ) (now : Standing) (instrs : List Instr) → AreColoursInRange script
+        → IsChange script k instrs → IsBefore script k now → Brings script k now instrs }
+{
+    instructions_in_turn();
+}
+
+/// A law: no list of instructions without scrolls brings a picture, from anything that may stand before it, with fewer instructions
+/// than its change. So where a picture is late, each list that brings it has more instructions than packs are free.
+pub fn no_shorter_list_brings()
+    ensures shortest { (script : List Drawing) (k need : ℕ) (now : Standing) (instrs : List Instr)
+        → ((k x y : ℕ) → picture_pixel script k x y < 16) → IsNeed script k need → IsBefore script k now
+        → Brings script k now instrs → need ≤ length instrs }
+    ensures late { (script : List Drawing) (k need free : ℕ) (now : Standing) (instrs : List Instr)
+        → ((k x y : ℕ) → picture_pixel script k x y < 16) → AreTimesInOrder script → IsLate script k need free
+        → IsBefore script k now → Brings script k now instrs → free < length instrs }
+{
+    plans_are_shortest();
+}
