@@ -15,6 +15,19 @@ fn writes_nine_lines(rt: HostRuntime) -> Result<(), Fail> {
     Ok(())
 }
 
+// Three pictures of seed 7: all but the sum of the changes is known, the counts as above.
+#[test]
+fn tries_three_pictures(rt: HostRuntime) -> Result<(), Fail> {
+    let alloc = rt.alloc();
+    let mut sink = MemSink::new(alloc, 200, Vec::new(alloc), Vec::new(alloc))?;
+    assert_eq!(rt; trial(alloc, 7, 3, &mut sink), Ok(()));
+    let first = b"seed 7\npictures 3\nblocks 2570\npacks 10273\nchanges ";
+    let last = b"\none 4748\ntwo 2218\nbad 0\nequal 3\n";
+    assert!(rt; sink.bytes().starts_with(first));
+    assert!(rt; sink.bytes().ends_with(last));
+    Ok(())
+}
+
 // A sink with room for a part of the lines.
 #[test]
 fn stops_where_a_write_fails(rt: HostRuntime) -> Result<(), Fail> {
