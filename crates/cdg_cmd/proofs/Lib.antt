@@ -2,6 +2,7 @@ mod AuthorStatus
 mod Decimals
 mod FirstHalf
 mod LineWords
+mod Listings
 mod SecondHalf
 mod Statuses
 mod TextStatus

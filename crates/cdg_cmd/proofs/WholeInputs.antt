@@ -1,5 +1,5 @@
 -- What calls of a player give of a whole input whose text is known.
-use Rattle.std.proofs.Common.{◌≡◌, ◌≢◌, ◌<◌, ℕ, ◌/◌, List, length, map, Result, Ok, Err, Some, None, IfSome, ◌==◌, if◌then◌else◌, sym, ap, subst, ◌∙◌, arith, inl, inr}
+use Rattle.std.proofs.Common.{◌≡◌, ◌≢◌, ◌<◌, ℕ, ◌/◌, List, length, map, Result, Ok, Err, Some, None, IfSome, ◌==◌, if◌then◌else◌, sym, ap, subst, ◌∙◌, arith}
 use Rattle.std.specs.declared.option.Option.{Option}
 use Rattle.std.specs.List.{concat}
 use Rattle.std.specs.Io.KnownBytes.{Appends}
@@ -13,16 +13,11 @@ use Rattle.stream_words.specs.Stream.{IsRecovered, bad_count, form_word, word_co
 use Rattle.stream_words.specs.Texts.{cdg_bytes}
 use Rattle.subcode_player.specs.Calls.{IsAnsweredBy, IsPlayed, PlaysInTurn}
 use Rattle.subcode_player.specs.Convert.{IsConverted}
-use Rattle.subcode_player.specs.TextList.{IsListedBy, IsTextFault, IsTextListed, IsWholeInput, ListsTexts, texts_in}
+use Rattle.subcode_player.specs.TextList.{IsWholeInput}
 use Rattle.subcode_player.specs.declared.player.Played.{Played}
 use Rattle.subcode_player.specs.declared.player.PlayStop.{PlayStop}
 use Rattle.subcode_player.specs.declared.player.PlayStop.TheVariants as play
-use Rattle.subcode_player.specs.declared.text_listing.TextStop.{TextStop}
-use Rattle.subcode_player.specs.declared.text_listing.TextStop.TheVariants as texts
-use Rattle.cdtext_packs.specs.Texts.{Texts}
-use Rattle.cdtext_packs.specs.declared.kinds.TextFault.{TextFault}
-use Rattle.cdtext_packs.specs.declared.kinds.TextFault.TheVariants as fault
-use Rattle.cdg_cmd.specs.Answer.{ConvertsWith, GivesBack, play_status, text_status}
+use Rattle.cdg_cmd.specs.Answer.{ConvertsWith, GivesBack, play_status}
 use Rattle.cdg_cmd.specs.Undamaged.{IsCleanStream, words_of}
 use Rattle.cdg_cmd.specs.declared.status.Status.{Status}
 use Rattle.cdg_cmd.specs.declared.status.Status.TheVariants.{Done, Damaged, Usage, Refused, Late, ReadFault, WriteFault, NoMemory}
@@ -53,35 +48,6 @@ module _ (writes : List ℕ → List ℕ → ℕ → Type 0) (form : Form) (lead
   in_turn_given (Err play.TooLong) plays exactly input known = absurd (omega (arith, exactly, input.0))
   in_turn_given (Err (play.PastEnd blocks)) plays exactly input known = absurd exactly
 
--- the faults of texts where the texts are good
-no_fault : (why : TextFault) (texts : Result Texts TextFault) (good : Texts) → texts ≡ Ok good → IsTextFault why texts → why ≡ fault.NoMemory
-no_fault why texts good is (inl memory) = memory
-no_fault why texts good is (inr other) = absurd (cc)
-
--- the text that a listing of texts puts
-text_put : (form : Form) (lead_in : ℕ) (held held' : Option (List ℕ)) (played : Played) (all t : List ℕ)
-    → ((text : List ℕ) (bad : ℕ) → IsTextListed form lead_in all text bad → text ≡ t) → IsGiven (IsTextListed form lead_in) form lead_in held held' played all
-    → Appends held held' t
-text_put form lead_in held held' played all t known given =
-    let (text, is, put) = given in subst (λ (x : List ℕ). Appends held held' x) (known text played.bad is.written) put
-
-module _ (form : Form) (lead_in : ℕ) (all : List ℕ) (left' held held' : Option (List ℕ)) (taken t : List ℕ) (good : Texts) where
-  pub texts_given : (answer : Result Played TextStop) → ListsTexts form lead_in (Some all) left' held held' answer taken
-      → IsListedBy answer form lead_in all → IsWholeInput form all → texts_in form lead_in all ≡ Ok good
-      → ((text : List ℕ) (bad : ℕ) → IsTextListed form lead_in all text bad → text ≡ t) → GivesBack t held held' (text_status answer)
-  texts_given (Ok played) lists exactly input is known =
-      let given : IsGiven (IsTextListed form lead_in) form lead_in held held' played all =
-      Consumes-whole (Some all) left' taken (IsGiven (IsTextListed form lead_in) form lead_in held held' played) lists.plays.taken_from lists.plays.done.0 lists.plays.done.1 in
-      text_put form lead_in held held' played all t known given
-  texts_given (Err (texts.Play play.ReadFault)) lists exactly input is known = tt
-  texts_given (Err (texts.Play play.WriteFault)) lists exactly input is known = tt
-  texts_given (Err (texts.Play (play.Torn block))) lists exactly input is known = absurd (exactly.1 input.1)
-  texts_given (Err (texts.Play play.TooLong)) lists exactly input is known = absurd (omega (arith, exactly, input.0))
-  texts_given (Err (texts.Play (play.PastEnd blocks))) lists exactly input is known = absurd exactly
-  texts_given (Err (texts.Text why)) lists exactly input is known =
-      let memory : why ≡ fault.NoMemory = no_fault why (texts_in form lead_in all) good is exactly.1 in
-      subst (λ (w : TextFault). GivesBack t held held' (text_status (Err (texts.Text w)))) (sym memory) tt
-
 -- the words of a clean stream are what a conversion writes
 clean_text : (form : Form) (symbols : List ℕ) (found : List (Option (List ℕ))) (text : List ℕ) (bad : ℕ)
     → found ≡ map (λ n. Some (form_word form symbols n)) (below (word_count form (length symbols / 96)))
@@ -93,7 +59,7 @@ clean_text form symbols found text bad all written none text_is bad_is =
     (text_is ∙ ap cdg_bytes words ∙ written (words_of form symbols), bad_is ∙ ap bad_count words ∙ none (words_of form symbols))
 
 -- where memory may be wanting
-unless_memory : (t : List ℕ) (held held' : Option (List ℕ)) (status : Status) → (status ≢ NoMemory → GivesBack t held held' status) → GivesBack t held held' status
+pub unless_memory : (t : List ℕ) (held held' : Option (List ℕ)) (status : Status) → (status ≢ NoMemory → GivesBack t held held' status) → GivesBack t held held' status
 unless_memory t held held' Done gives = gives (λ e. cc)
 unless_memory t held held' (Damaged n) gives = gives (λ e. cc)
 unless_memory t held held' Usage gives = gives (λ e. cc)

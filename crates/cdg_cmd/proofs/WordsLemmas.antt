@@ -12,7 +12,7 @@ use Rattle.cdg_cmd.specs.declared.times.TimedOptions.{TimedOptions}
 use Rattle.cdg_cmd.specs.Words.{texts, SpellsLengths, SpellsStream, SpellsTimed, SpellsTwo}
 use Rattle.cdg_cmd.specs.Spelling.{Spells, command_name}
 use Rattle.cdg_cmd.specs.declared.command.Command.{Command}
-use Rattle.cdg_cmd.specs.declared.command.Command.TheVariants.{Convert, Screen, State, Check, Q, Text, Author, Planar, Raw, Scratch, Gen}
+use Rattle.cdg_cmd.specs.declared.command.Command.TheVariants.{Convert, Screen, State, Check, Q, Text, Author, Planar, Raw, Scratch, Gen, Trial}
 
 -- what holds of all words holds of the first and the rest
 pub texts-split : {A : Type 0} (P : List (List ℕ) → Type 0) (words : List (String A)) (x : String A) (rest : List (String A)) → words ≡ x ∷ rest → P (texts words) → P (string_bytes x ∷ texts rest)
@@ -98,12 +98,20 @@ scratch_all options o all (Scratch lead_in seed) s =
     ap (option_map (λ (t : TwoNumbers). Scratch t.first t.second)) (all lead_in seed s.1.0 (omega (arith, s.1.1)) s.2)
 scratch_all options o all command s = absurd (untrue (ap (λ l. bytes_eq l (command_name command)) s.0))
 
--- a generator's numbers, where some pictures are wanted
+-- a seed and a number of pictures
 pub gen_all : (options : List (List ℕ)) (o : Option TwoNumbers)
-    → ((n m : ℕ) → n ≤ 2 ^ 64 - 1 → m ≤ 500 → SpellsTwo (codes "--seed") n (codes "--pictures") m options → o ≡ Some (record { first = n; second = m }))
-    → (command : Command) → Spells command (codes "gen" ∷ options) → (seed pictures : ℕ) × (command ≡ Gen seed pictures) × (1 ≤ pictures) × (o ≡ Some (record { first = seed; second = pictures }))
-gen_all options o all (Gen seed pictures) s = (seed, pictures, refl, s.1.1, all seed pictures (omega (arith, s.1.0)) s.1.2 s.2)
+    → ((seed pictures : ℕ) → seed < 2 ^ 64 → 1 ≤ pictures → pictures ≤ 500 → SpellsTwo (codes "--seed") seed (codes "--pictures") pictures options
+    → o ≡ Some (record { first = seed; second = pictures }))
+    → (command : Command) → Spells command (codes "gen" ∷ options) → option_map (λ s. Gen s.first s.second) o ≡ Some command
+gen_all options o all (Gen seed pictures) s = ap (option_map (λ (t : TwoNumbers). Gen t.first t.second)) (all seed pictures s.1.0 s.1.1 s.1.2 s.2)
 gen_all options o all command s = absurd (untrue (ap (λ l. bytes_eq l (command_name command)) s.0))
+
+pub trial_all : (options : List (List ℕ)) (o : Option TwoNumbers)
+    → ((seed pictures : ℕ) → seed < 2 ^ 64 → 1 ≤ pictures → pictures ≤ 500 → SpellsTwo (codes "--seed") seed (codes "--pictures") pictures options
+    → o ≡ Some (record { first = seed; second = pictures }))
+    → (command : Command) → Spells command (codes "trial" ∷ options) → option_map (λ s. Trial s.first s.second) o ≡ Some command
+trial_all options o all (Trial seed pictures) s = ap (option_map (λ (t : TwoNumbers). Trial t.first t.second)) (all seed pictures s.1.0 s.1.1 s.1.2 s.2)
+trial_all options o all command s = absurd (untrue (ap (λ l. bytes_eq l (command_name command)) s.0))
 
 pub same_two : (a b : TwoNumbers) → Some a ≡ Some b → a ≡ b
 same_two a b e = (cc)

@@ -25,8 +25,9 @@ use Rattle.cdg_cmd.specs.Line.{error_line}
 use Rattle.cdg_cmd.specs.Turns.{IsTurned, TurnsWith}
 use Rattle.cdg_workload.specs.Scratches.{IsScratched}
 use Rattle.cdg_workload.specs.Script.{generated_script}
+use Rattle.stream_trial.specs.Trial.{IsTrial}
 use Rattle.cdg_cmd.specs.declared.command.Command.{Command}
-use Rattle.cdg_cmd.specs.declared.command.Command.TheVariants.{Convert, Screen, State, Check, Q, Text, Author, Planar, Raw, Scratch, Gen}
+use Rattle.cdg_cmd.specs.declared.command.Command.TheVariants.{Convert, Screen, State, Check, Q, Text, Author, Planar, Raw, Scratch, Gen, Trial}
 use Rattle.cdg_cmd.specs.declared.status.Which.TheVariants.{First}
 use Rattle.cdg_cmd.specs.declared.status.Refusal.TheVariants.{Torn, TooLong, PastEnd, TextMissing, TextNoSize, TextMalformed}
 use Rattle.cdg_cmd.specs.declared.status.Status.{Status}
@@ -96,6 +97,12 @@ Generates text held held' Done = Appends held held' text
 Generates text held held' WriteFault = AppendsPrefix held held' text
 Generates text held held' status = ⊥
 
+-- the text of a trial was written, or a prefix of it where a write failed
+abbrev pub Tries : ℕ → ℕ → Option (List ℕ) → Option (List ℕ) → Status → Type 0
+Tries seed pictures held held' Done = (text : List ℕ) × IsTrial seed pictures text × Appends held held' text
+Tries seed pictures held held' WriteFault = (text : List ℕ) × IsTrial seed pictures text × AppendsPrefix held held' text
+Tries seed pictures held held' status = ⊥
+
 -- what a command does with its two inputs and its output, where memory is found
 abbrev pub Does : Command → Option (List ℕ) → Option (List ℕ) → Option (List ℕ) → Option (List ℕ) → Option (List ℕ) → Option (List ℕ) → Status → Type 0
 Does (Convert lead_in form) left left' more more' held held' status = ConvertsWith form lead_in left left' held held' status
@@ -109,6 +116,7 @@ Does Planar left left' more more' held held' status = TurnsWith (IsTurned IsPlan
 Does Raw left left' more more' held held' status = TurnsWith (IsTurned IsBlockStream) left left' held held' status
 Does (Scratch lead_in seed) left left' more more' held held' status = TurnsWith (IsScratched lead_in seed) left left' held held' status
 Does (Gen seed pictures) left left' more more' held held' status = Generates (generated_script seed pictures) held held' status
+Does (Trial seed pictures) left left' more more' held held' status = Tries seed pictures held held' status
 
 -- it takes no memory
 abbrev pub TakesNone : Command → Type 0
@@ -123,6 +131,7 @@ TakesNone Planar = ⊤
 TakesNone Raw = ⊤
 TakesNone (Scratch lead_in seed) = ⊤
 TakesNone (Gen seed pictures) = ⊤
+TakesNone (Trial seed pictures) = ⊥
 
 -- it takes all memory before it reads
 abbrev pub TakesFirst : Command → Type 0
@@ -133,11 +142,13 @@ TakesFirst command = ⊤
 -- it reads no input
 abbrev pub ReadsNone : Command → Type 0
 ReadsNone (Gen seed pictures) = ⊤
+ReadsNone (Trial seed pictures) = ⊤
 ReadsNone command = ⊥
 
 -- it writes nothing but where its work is whole or a write fails
 abbrev pub WritesLast : Command → Type 0
 WritesLast (Author lead_in length) = ⊤
+WritesLast (Trial seed pictures) = ⊤
 WritesLast command = ⊥
 
 -- it reads its second input: only after the first was read to its end, and its grammar accepted it

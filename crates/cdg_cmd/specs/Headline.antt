@@ -1,5 +1,5 @@
 -- What is written of a cue sheet and a picture script, and what damage of at most two symbols a word leaves of it.
-use Rattle.std.specs.Prelude.{◌≡◌, ℕ, ◌*◌, ◌%◌, ◌≤◌, ⊤, List, [], ◌++◌, length, replicate}
+use Rattle.std.specs.Prelude.{◌≡◌, ℕ, ◌*◌, ◌%◌, ◌≤◌, ⊤, Bool, List, [], ◌++◌, length, replicate}
 use Rattle.std.specs.declared.option.Option.{Option}
 use Rattle.std.specs.Io.KnownBytes.{Appends}
 use Rattle.raw_subcode.specs.Channels.{unit_size, program_symbols}
@@ -9,10 +9,12 @@ use Rattle.cue_sheet.specs.CueSheet.{CueSheet}
 use Rattle.picture_script.specs.Script.{Drawing}
 use Rattle.pack_schedule.specs.Schedule.{IsLate}
 use Rattle.stream_words.specs.Stream.{IsDamaged}
-use Rattle.subcode_author.specs.Authored.{IsAuthored}
+use Rattle.subcode_author.specs.Authored.{IsAuthored, text_packs}
 use Rattle.subcode_author.specs.AuthorAnswer.{AreReady, HasRoom, HoldsPictures}
 use Rattle.subcode_player.specs.Calls.{most_units}
 use Rattle.subcode_player.specs.Pictured.{IsPictureText}
+use Rattle.subcode_player.specs.TextList.{IsWholeInput, packs_in}
+use Rattle.authored_listings.specs.Damage.{IsDamaged as IsHurt}
 use Rattle.cdg_cmd.specs.Authors.{IsScriptText, IsSheetText, PutsAuthored}
 use Rattle.cdg_cmd.specs.declared.status.Status.{Status}
 use Rattle.cdg_cmd.specs.declared.status.Status.TheVariants.{Done, Damaged, Usage, Refused, Late, ReadFault, WriteFault, NoMemory}
@@ -42,6 +44,11 @@ pub record IsDamagedAuthored (sheet : CueSheet) (script : List Drawing) (lead_in
   pub authored : List ℕ
   pub is_authored : IsAuthored sheet script lead_in audio authored packs
   pub damaged : IsDamaged (program_symbols Raw authored lead_in) form (program_symbols form bytes lead_in)
+
+-- Whole raw blocks, whose lead-in slots hold the packs of an authored stream but for damage that leaves each of them whole in some slot.
+pub record HasDamagedTexts (sheet : CueSheet) (lead_in : ℕ) (whole : List Bool) (authored bytes : List ℕ) : Type 0 where
+  pub input : IsWholeInput Raw bytes
+  pub slots : IsHurt (text_packs sheet) whole (packs_in Raw lead_in authored) (packs_in Raw lead_in bytes)
 
 -- scheduled packs as a conversion writes them: in a cooked stream seven packs of zeros follow them
 abbrev pub written_packs : Form → List (List ℕ) → List (List ℕ)

@@ -3,7 +3,7 @@ use Rattle.std.specs.Prelude.{◌≡◌, ◌≢◌, ◌≤◌, ◌<◌, ◌^◌,
 use Rattle.cdg_cmd.specs.Words.{SpellsLengths, SpellsStream, SpellsTimed, SpellsTwo}
 use Rattle.raw_subcode.specs.declared.form.Form.TheVariants.{Cooked}
 use Rattle.cdg_cmd.specs.declared.command.Command.{Command}
-use Rattle.cdg_cmd.specs.declared.command.Command.TheVariants.{Convert, Screen, State, Check, Q, Text, Author, Planar, Raw, Scratch, Gen}
+use Rattle.cdg_cmd.specs.declared.command.Command.TheVariants.{Convert, Screen, State, Check, Q, Text, Author, Planar, Raw, Scratch, Gen, Trial}
 
 -- the numbers and forms that a command may have: cooked blocks have no Q channel and no text packs
 abbrev pub IsAllowed : Command → Type 0
@@ -18,6 +18,7 @@ IsAllowed Planar = ⊤
 IsAllowed Raw = ⊤
 IsAllowed (Scratch lead_in seed) = (lead_in ≤ 450000) × (seed < 2 ^ 64)
 IsAllowed (Gen seed pictures) = (seed < 2 ^ 64) × (1 ≤ pictures) × (pictures ≤ 500)
+IsAllowed (Trial seed pictures) = (seed < 2 ^ 64) × (1 ≤ pictures) × (pictures ≤ 500)
 
 -- the name of a command
 abbrev pub command_name : Command → List ℕ
@@ -32,6 +33,7 @@ command_name Planar = codes "planar"
 command_name Raw = codes "raw"
 command_name (Scratch lead_in seed) = codes "scratch"
 command_name (Gen seed pictures) = codes "gen"
+command_name (Trial seed pictures) = codes "trial"
 
 -- the words after its name spell the rest of a command
 abbrev pub SpellsOptions : Command → List (List ℕ) → Type 0
@@ -46,6 +48,7 @@ SpellsOptions Planar options = options ≡ []
 SpellsOptions Raw options = options ≡ []
 SpellsOptions (Scratch lead_in seed) options = SpellsTwo (codes "--lead-in") lead_in (codes "--seed") seed options
 SpellsOptions (Gen seed pictures) options = SpellsTwo (codes "--seed") seed (codes "--pictures") pictures options
+SpellsOptions (Trial seed pictures) options = SpellsTwo (codes "--seed") seed (codes "--pictures") pictures options
 
 -- the words spell an allowed command
 abbrev pub Spells : Command → List (List ℕ) → Type 0

@@ -4,7 +4,7 @@ ghost use Rattle.cdg_cmd.specs.Words.{texts};
 ghost use Rattle.cdg_cmd.specs.Spelling.{Spells};
 
 use crate::lengths::read_lengths;
-use crate::numbers::read_two;
+use crate::numbers::{read_seeded, read_two};
 use crate::options::{read_blocks, read_stream};
 use crate::times::read_timed;
 use subcode_player::Form;
@@ -34,6 +34,8 @@ pub enum Command {
     Scratch { lead_in: u32, seed: u64 },
     /// Writes the script of a seed.
     Gen { seed: u64, pictures: u32 },
+    /// Writes what a trial of a seed gives.
+    Trial { seed: u64, pictures: u32 },
 }
 
 /// The command that the words spell: `None` where they spell none.
@@ -54,6 +56,7 @@ pub fn read_words(words: &[String]) -> Option<Command>
         "raw" => read_raw(options),
         "scratch" => read_scratch(options),
         "gen" => read_gen(options),
+        "trial" => read_trial(options),
         _ => None,
     }
 }
@@ -188,16 +191,24 @@ fn read_gen(options: &[String]) -> Option<Command>
     ensures spelled { IfSome result (λ command. Spells command (codes "gen" ∷ texts options.now)) }
     ensures all { (command : Command) → Spells command (codes "gen" ∷ texts options.now) → result ≡ Some command }
 {
-    match read_two(options, "--seed", u64::MAX, "--pictures", 500) {
-        Some(two) => {
-            if two.second == 0 {
-                return None;
-            }
-            Some(Command::Gen {
-                seed: two.first,
-                pictures: two.second as u32,
-            })
-        }
+    match read_seeded(options) {
+        Some(two) => Some(Command::Gen {
+            seed: two.first,
+            pictures: two.second as u32,
+        }),
+        None => None,
+    }
+}
+
+fn read_trial(options: &[String]) -> Option<Command>
+    ensures spelled { IfSome result (λ command. Spells command (codes "trial" ∷ texts options.now)) }
+    ensures all { (command : Command) → Spells command (codes "trial" ∷ texts options.now) → result ≡ Some command }
+{
+    match read_seeded(options) {
+        Some(two) => Some(Command::Trial {
+            seed: two.first,
+            pictures: two.second as u32,
+        }),
         None => None,
     }
 }

@@ -1,5 +1,5 @@
 // Options with a number.
-ghost use Rattle.std.specs.Prelude.{◌≡◌, ◌≤◌, ℕ, codes, IfSome, Some};
+ghost use Rattle.std.specs.Prelude.{◌≡◌, ◌≤◌, ◌<◌, ◌^◌, ℕ, codes, IfSome, Some};
 ghost use Rattle.cdg_cmd.specs.Words.{texts, IsNumberWord, SpellsNumber, SpellsTwo};
 
 use crate::options::read_number;
@@ -57,6 +57,24 @@ pub(crate) fn read_two(
             }),
             None => None,
         },
+        None => None,
+    }
+}
+
+/// A seed and a number of pictures, which is 1 to 500.
+pub(crate) fn read_seeded(words: &[String]) -> Option<TwoNumbers>
+    ensures spelled { IfSome result (λ o. (o.first < 2 ^ 64) × (1 ≤ o.second) × (o.second ≤ 500)
+        × SpellsTwo (codes "--seed") o.first (codes "--pictures") o.second (texts words.now)) }
+    ensures all { (seed pictures : ℕ) → seed < 2 ^ 64 → 1 ≤ pictures → pictures ≤ 500
+        → SpellsTwo (codes "--seed") seed (codes "--pictures") pictures (texts words.now) → result ≡ Some (record { first = seed; second = pictures }) }
+{
+    match read_two(words, "--seed", u64::MAX, "--pictures", 500) {
+        Some(two) => {
+            if two.second == 0 {
+                return None;
+            }
+            Some(two)
+        }
         None => None,
     }
 }

@@ -1,5 +1,5 @@
 // The top call.
-ghost use Rattle.std.specs.Prelude.{◌≡◌, ◌≢◌, ◌↔◌, ◌≤◌, ◌⊎◌, ℕ, List, [], IfSome};
+ghost use Rattle.std.specs.Prelude.{◌≡◌, ◌≢◌, ◌↔◌, ◌≤◌, ◌<◌, ◌*◌, ◌⊎◌, ℕ, List, [], Bool, true, IfSome};
 ghost use Rattle.std.specs.Io.KnownBytes.{Appends};
 ghost use Rattle.cdg_io.specs.Causes.{Rose};
 ghost use Rattle.cdg_cmd.specs.Words.{texts};
@@ -14,12 +14,22 @@ ghost use Rattle.cue_sheet.specs.CueSheet.{CueSheet};
 ghost use Rattle.picture_script.specs.Script.{Drawing};
 ghost use Rattle.cdg_cmd.specs.Authors.{IsScriptText};
 ghost use Rattle.cdg_cmd.specs.Headline.{AreTexts, IsDamagedAuthored, PutsPicture, WritesOrIsLate, written_packs};
+ghost use Rattle.toc_model.specs.Places.{layout_of, program_blocks};
+ghost use Rattle.cdg_workload.specs.Scratches.{scratched};
+ghost use Rattle.cdtext_packs.specs.SheetTexts.{sheet_texts};
+ghost use Rattle.cdtext_packs.specs.Texts.{has_no_text};
+ghost use Rattle.cdtext_lines.specs.Lines.{count_line};
+ghost use Rattle.subcode_author.specs.Authored.{IsAuthored};
+ghost use Rattle.authored_listings.specs.Damage.{count_hurt, count_whole};
+ghost use Rattle.authored_listings.specs.FrameLines.{frame_lines};
+ghost use Rattle.authored_listings.specs.SheetLines.{HasText, HasTextPacks, sheet_lines};
+ghost use Rattle.cdg_cmd.specs.Headline.{HasDamagedTexts};
 ghost use Rattle.cdg_cmd.specs.Undamaged.{IsCleanStream, words_of};
 ghost use Rattle.cdg_cmd.specs.Answer.{Does, GivesBack, IsAnswered, ReadsNone, ReadsSecond, TakesFirst, TakesNone, Tells, WritesLast};
 
 use crate::authoring::run_author;
 use crate::counting::run_check;
-use crate::generating::run_gen;
+use crate::generating::{run_gen, run_trial};
 use crate::line::tell;
 use crate::listing::run_q;
 use crate::showing::{run_screen, run_state};
@@ -27,8 +37,12 @@ use crate::streams::run_convert;
 use crate::texts::run_text;
 use crate::turning::{run_planar, run_raw, run_scratch};
 use crate::{Command, Status, Which, read_words};
+use authored_listings::{
+    damaged_text_lists_are_answered, frame_lists_are_answered, text_lists_are_answered,
+};
 use authored_streams::accepted_scripts_are_in_order;
 use cdg_io::{Sink, Source, SteadySink, SteadySource};
+use scratched_streams::scratched_streams_are_damaged;
 use std::alloc::Global;
 use stream_words::{clean_words_are_found, text_of_packs};
 
@@ -82,6 +96,35 @@ pub fn run<S: Source, T: Source, K: Sink, E: Sink>(
     // These commands touch the output only where their work is whole or a write fails.
     ensures writes_last { (command : Command) → Spells command (texts words.now) → WritesLast command
         → result ≢ Status.Done → result ≢ Status.WriteFault → out.new ≡ out.old }
+    // Of a scratched authored stream a conversion gives back every scheduled pack.
+    ensures scratches { (lead_in audio seed : ℕ) (sheet : CueSheet) (script : List Drawing) (bytes : List ℕ) (packs : List (List ℕ))
+        → Spells (Command.Convert lead_in Form.Raw) (texts words.now) → program_blocks sheet audio ≤ 449999
+        → IsAuthored sheet script lead_in audio bytes packs
+        → IfSome (S.left first.old) (λ all. all ≡ scratched lead_in seed bytes → GivesBack (concat packs) (K.held out.old) (K.held out.new) result) }
+    // Of an authored stream the frame of each block is listed,
+    ensures frames { (lead_in audio : ℕ) (sheet : CueSheet) (script : List Drawing) (packs : List (List ℕ))
+        → Spells (Command.Q lead_in Form.Raw) (texts words.now) → program_blocks sheet audio ≤ 449999
+        → IfSome (S.left first.old) (λ all. IsAuthored sheet script lead_in audio all packs
+        → GivesBack (frame_lines (layout_of sheet audio) lead_in) (K.held out.old) (K.held out.new) result) }
+    // each string of the sheet that is not empty, where there is a lead-in,
+    ensures strings { (lead_in audio : ℕ) (sheet : CueSheet) (script : List Drawing) (packs : List (List ℕ))
+        → Spells (Command.Text lead_in Form.Raw) (texts words.now) → program_blocks sheet audio ≤ 449999
+        → HasTextPacks sheet → HasText sheet → 0 < lead_in
+        → IfSome (S.left first.old) (λ all. IsAuthored sheet script lead_in audio all packs
+        → GivesBack (sheet_lines sheet (4 * lead_in) 0) (K.held out.old) (K.held out.new) result) }
+    // or none where the sheet has no text,
+    ensures no_strings { (lead_in audio : ℕ) (sheet : CueSheet) (script : List Drawing) (packs : List (List ℕ))
+        → Spells (Command.Text lead_in Form.Raw) (texts words.now) → program_blocks sheet audio ≤ 449999
+        → has_no_text (sheet_texts sheet) ≡ true
+        → IfSome (S.left first.old) (λ all. IsAuthored sheet script lead_in audio all packs
+        → GivesBack (count_line 0 (4 * lead_in) 0) (K.held out.old) (K.held out.new) result) }
+    // and the strings also where packs of the lead-in are damaged, and each is left whole in some slot.
+    ensures damaged_strings { (lead_in audio : ℕ) (sheet : CueSheet) (script : List Drawing) (bytes : List ℕ) (packs : List (List ℕ)) (whole : List Bool)
+        → Spells (Command.Text lead_in Form.Raw) (texts words.now) → HasTextPacks sheet → HasText sheet
+        → IsAuthored sheet script lead_in audio bytes packs
+        → IfSome (S.left first.old) (λ all. HasDamagedTexts sheet lead_in whole bytes all
+        → GivesBack (sheet_lines sheet (count_whole whole) (count_hurt whole)) (K.held out.old) (K.held out.new) result) }
+
     // Where no memory is found nothing was written, and nothing was read where all of it is taken first.
     ensures no_memory { result ≡ Status.NoMemory → Appends (K.held out.old) (K.held out.new) [] }
     ensures no_memory_first { (command : Command) → Spells command (texts words.now) → TakesFirst command
@@ -107,6 +150,10 @@ pub fn run<S: Source, T: Source, K: Sink, E: Sink>(
     ensures told { Tells (E.held err.old) (E.held err.new) (E.faults err.old) (E.faults err.new) result }
     ensures silent { result ≡ Status.Done → err.new ≡ err.old }
 {
+    scratched_streams_are_damaged();
+    frame_lists_are_answered();
+    text_lists_are_answered();
+    damaged_text_lists_are_answered();
     accepted_scripts_are_in_order();
     clean_words_are_found();
     text_of_packs();
@@ -203,6 +250,7 @@ fn perform<S: Source, T: Source, K: Sink>(
         Command::Raw => run_raw(first, out),
         Command::Scratch { lead_in, seed } => run_scratch(lead_in, seed, first, out),
         Command::Gen { seed, pictures } => run_gen(seed, pictures, out),
+        Command::Trial { seed, pictures } => run_trial(alloc, seed, pictures, out),
     }
 }
 

@@ -1,6 +1,10 @@
-use Rattle.cdg_cmd.specs.declared.command.Command.TheVariants.{Author, Convert}
+use Rattle.cdg_cmd.specs.declared.command.Command.TheVariants.{Author, Convert, Q, Text}
 use Rattle.cdg_cmd.proofs.FirstHalf.{first_half}
 use Rattle.cdg_cmd.proofs.SecondHalf.{packs_back, pictures_shown}
+use Rattle.raw_subcode.specs.declared.form.Form.TheVariants.{Raw}
+use Rattle.subcode_author.specs.Authored.{IsAuthored}
+use Rattle.cdg_cmd.specs.Headline.{HasDamagedTexts}
+use Rattle.cdg_cmd.proofs.Listings.{authored_size, frames_given, scratched_back, spells_allowed, strings_given}
 use Rattle.cdg_cmd.proofs.Statuses.{answered}
 use Rattle.cdg_cmd.proofs.WholeInputs.{clean_given}
 use Rattle.cdg_cmd.proofs.top.run.Goals as goal
@@ -27,3 +31,36 @@ pub returns-clause-clean : goal.returns-clause-clean
 returns-clause-clean g c = λ lead_in form spelled.
     clean_given form lead_in _ _ _ _ (λ symbols found. c.clean_words_are_found.ensures form symbols found) c.text_of_packs.ensures.text c.text_of_packs.ensures.bad _
     (c.answer-status.ensures.does (Convert lead_in form) spelled)
+
+pub returns-clause-scratches : goal.returns-clause-scratches
+returns-clause-scratches g c = λ lead_in audio seed sheet script bytes packs spelled few authored.
+    scratched_back lead_in _ seed bytes packs _ _ _ _
+    (c.scratched_streams_are_damaged.ensures.damaged sheet script lead_in audio seed bytes packs (spells_allowed (Convert lead_in Raw) _ spelled) few authored)
+    (c.scratched_streams_are_damaged.ensures.packs sheet script lead_in audio bytes packs authored) (c.answer-status.ensures.restores lead_in Raw spelled)
+
+pub returns-clause-frames : goal.returns-clause-frames
+returns-clause-frames g c = λ lead_in audio sheet script packs spelled few.
+    frames_given lead_in _ _ _ _ _ (λ all. IsAuthored sheet script lead_in audio all packs) _ (c.answer-status.ensures.does (Q lead_in Raw) spelled)
+    (λ all authored answer taken plays answered.
+    c.frame_lists_are_answered.ensures sheet script lead_in audio all packs lead_in _ _ _ answer taken authored
+    (authored_size sheet script lead_in audio all packs (spells_allowed (Q lead_in Raw) _ spelled).0 few authored) plays answered)
+
+pub returns-clause-strings : goal.returns-clause-strings
+returns-clause-strings g c = λ lead_in audio sheet script packs spelled few fits some long.
+    strings_given lead_in _ _ _ _ _ (λ all. IsAuthored sheet script lead_in audio all packs) _ (c.answer-status.ensures.does (Text lead_in Raw) spelled)
+    (λ all authored answer taken lists listed.
+    c.text_lists_are_answered.ensures.texts sheet script lead_in audio all packs _ _ _ answer taken fits some long authored
+    (authored_size sheet script lead_in audio all packs (spells_allowed (Text lead_in Raw) _ spelled).0 few authored) lists listed)
+
+pub returns-clause-no_strings : goal.returns-clause-no_strings
+returns-clause-no_strings g c = λ lead_in audio sheet script packs spelled few none.
+    strings_given lead_in _ _ _ _ _ (λ all. IsAuthored sheet script lead_in audio all packs) _ (c.answer-status.ensures.does (Text lead_in Raw) spelled)
+    (λ all authored answer taken lists listed.
+    c.text_lists_are_answered.ensures.none sheet script lead_in audio all packs _ _ _ answer taken none authored
+    (authored_size sheet script lead_in audio all packs (spells_allowed (Text lead_in Raw) _ spelled).0 few authored) lists listed)
+
+pub returns-clause-damaged_strings : goal.returns-clause-damaged_strings
+returns-clause-damaged_strings g c = λ lead_in audio sheet script bytes packs whole spelled fits some authored.
+    strings_given lead_in _ _ _ _ _ (λ all. HasDamagedTexts sheet lead_in whole bytes all) _ (c.answer-status.ensures.does (Text lead_in Raw) spelled)
+    (λ all hurt answer taken lists listed.
+    c.damaged_text_lists_are_answered.ensures sheet script lead_in audio bytes packs whole all _ _ _ answer taken fits some authored hurt.slots hurt.input lists listed)
