@@ -7,60 +7,25 @@ use Rattle.pack_schedule.specs.Survey.{IsPastEnd}
 use Rattle.subcode_author.specs.AuthorAnswer.{HasRoom, HoldsPictures}
 use Rattle.subcode_author.specs.declared.stops.AuthorStop.{AuthorStop}
 use Rattle.subcode_author.specs.declared.stops.AuthorStop.TheVariants as stop
-use Rattle.cdg_cmd.specs.Authors.{author_status, AuthorsWith, IsPutFor, IsScriptStop, IsScriptText, IsSheetStop, IsSheetText, StopsAtSheet, StopsAtScript, Answers}
-use Rattle.cdg_cmd.specs.Headline.{AreTexts, WritesOrIsLate}
-use Rattle.cdg_cmd.specs.declared.status.Refusal.TheVariants.{Torn, TooLong, PastEnd, Cue, Script, LengthShort, DiscTooLong, LeadInShort, TextTooLong, TextMissing, TextNoSize, TextMalformed}
+use Rattle.cdg_cmd.specs.Authors.{author_status, AuthorsWith, IsPutFor, StopsAtSheet, StopsAtScript, Answers}
+use Rattle.cdg_cmd.specs.Headline.{AreTexts, IsStopped, WritesOrIsLate}
 use Rattle.cdg_cmd.specs.declared.status.Status.{Status}
 use Rattle.cdg_cmd.specs.declared.status.Status.TheVariants.{Done, Damaged, Usage, Refused, Late, ReadFault, WriteFault, NoMemory}
+use Rattle.cdg_cmd.proofs.TextStops.{script_stopped, sheet_stopped}
 
-both_answers : {A E : Type 0} (r : Result A E) (a : A) (e : E) → r ≡ Ok a → r ≡ Err e → ⊥
-both_answers r a e ok err = (cc)
-
-same_answer : {A E : Type 0} (r : Result A E) (a b : A) → r ≡ Ok a → r ≡ Ok b → a ≡ b
+pub same_answer : {A E : Type 0} (r : Result A E) (a b : A) → r ≡ Ok a → r ≡ Ok b → a ≡ b
 same_answer r a b first second = (cc)
 
 module _ (sheet : CueSheet) (script : List Drawing) (lead_in audio : ℕ) (held held' : Option (List ℕ)) where
-  at_sheet : (cue : List ℕ) (status : Status) → IsSheetText cue sheet → IsSheetStop (Some cue) status → WritesOrIsLate sheet script lead_in audio held held' status
-  at_sheet cue Done text why = absurd why
-  at_sheet cue (Damaged n) text why = absurd why
-  at_sheet cue Usage text why = absurd why
-  at_sheet cue (Refused TooLong) text why = absurd (omega (arith, why, text.within))
-  at_sheet cue (Refused (Cue line reason)) text why = absurd (both_answers _ sheet _ text.reads why.1)
-  at_sheet cue (Refused (Torn block)) text why = absurd why
-  at_sheet cue (Refused (PastEnd blocks)) text why = absurd why
-  at_sheet cue (Refused (Script line reason)) text why = absurd why
-  at_sheet cue (Refused (LengthShort need)) text why = absurd why
-  at_sheet cue (Refused (DiscTooLong blocks)) text why = absurd why
-  at_sheet cue (Refused (LeadInShort need)) text why = absurd why
-  at_sheet cue (Refused (TextTooLong packs)) text why = absurd why
-  at_sheet cue (Refused (TextMissing seq)) text why = absurd why
-  at_sheet cue (Refused TextNoSize) text why = absurd why
-  at_sheet cue (Refused (TextMalformed seq byte)) text why = absurd why
-  at_sheet cue (Late picture need free) text why = absurd why
-  at_sheet cue (ReadFault which) text why = tt
-  at_sheet cue WriteFault text why = tt
-  at_sheet cue NoMemory text why = tt
-
-  at_script : (more : List ℕ) (status : Status) → IsScriptText more script → IsScriptStop (Some more) status → WritesOrIsLate sheet script lead_in audio held held' status
-  at_script more Done text why = absurd why
-  at_script more (Damaged n) text why = absurd why
-  at_script more Usage text why = absurd why
-  at_script more (Refused TooLong) text why = absurd (omega (arith, why, text.within))
-  at_script more (Refused (Script line reason)) text why = absurd (both_answers _ script _ text.reads why.1)
-  at_script more (Refused (Torn block)) text why = absurd why
-  at_script more (Refused (PastEnd blocks)) text why = absurd why
-  at_script more (Refused (Cue line reason)) text why = absurd why
-  at_script more (Refused (LengthShort need)) text why = absurd why
-  at_script more (Refused (DiscTooLong blocks)) text why = absurd why
-  at_script more (Refused (LeadInShort need)) text why = absurd why
-  at_script more (Refused (TextTooLong packs)) text why = absurd why
-  at_script more (Refused (TextMissing seq)) text why = absurd why
-  at_script more (Refused TextNoSize) text why = absurd why
-  at_script more (Refused (TextMalformed seq byte)) text why = absurd why
-  at_script more (Late picture need free) text why = absurd why
-  at_script more (ReadFault which) text why = tt
-  at_script more WriteFault text why = tt
-  at_script more NoMemory text why = tt
+  of_stopped : (status : Status) → IsStopped status → WritesOrIsLate sheet script lead_in audio held held' status
+  of_stopped Done stopped = absurd stopped
+  of_stopped (Damaged n) stopped = absurd stopped
+  of_stopped Usage stopped = absurd stopped
+  of_stopped (Refused why) stopped = absurd stopped
+  of_stopped (Late picture need free) stopped = absurd stopped
+  of_stopped (ReadFault which) stopped = tt
+  of_stopped WriteFault stopped = absurd stopped
+  of_stopped NoMemory stopped = tt
 
   of_answer : (answer : Result (Unit {0}) AuthorStop) → IsPutFor sheet script lead_in audio held held' answer → HoldsPictures sheet script audio → HasRoom sheet lead_in
       → WritesOrIsLate sheet script lead_in audio held held' (author_status answer)
@@ -88,8 +53,8 @@ module _ (sheet : CueSheet) (script : List Drawing) (lead_in audio : ℕ) (held 
 
   of_texts : (cue more : List ℕ) (left' more' : Option (List ℕ)) (status : Status) → AuthorsWith lead_in audio (Some cue) left' (Some more) more' held held' status
       → AreTexts cue more sheet script lead_in audio → WritesOrIsLate sheet script lead_in audio held held' status
-  of_texts cue more left' more' status (StopsAtSheet why nothing) texts = at_sheet cue status texts.sheet_text why
-  of_texts cue more left' more' status (StopsAtScript other reads why nothing) texts = at_script more status texts.script_text why
+  of_texts cue more left' more' status (StopsAtSheet why nothing) texts = of_stopped status (sheet_stopped cue sheet status texts.sheet_text why)
+  of_texts cue more left' more' status (StopsAtScript other reads why nothing) texts = of_stopped status (script_stopped more script status texts.script_text why)
   of_texts cue more left' more' status (Answers other lines answer reads_sheet reads_script is put) texts =
       let same_sheet : other ≡ sheet = same_answer _ other sheet reads_sheet.1.reads texts.sheet_text.reads in
       let same_script : lines ≡ script = same_answer _ lines script reads_script.1.reads texts.script_text.reads in

@@ -3,9 +3,11 @@ mod Decimals
 mod FirstHalf
 mod LineWords
 mod Listings
+mod Refusals
 mod SecondHalf
 mod Statuses
 mod TextStatus
+mod TextStops
 mod TimedWords
 mod TurnRuns
 mod TwoWords

@@ -1,5 +1,5 @@
 -- What is written of a cue sheet and a picture script, and what damage of at most two symbols a word leaves of it.
-use Rattle.std.specs.Prelude.{◌≡◌, ℕ, ◌*◌, ◌%◌, ◌≤◌, ⊤, Bool, List, [], ◌++◌, length, replicate}
+use Rattle.std.specs.Prelude.{◌≡◌, ℕ, ◌*◌, ◌%◌, ◌≤◌, ◌⊎◌, ⊤, Bool, List, [], ◌++◌, length, replicate}
 use Rattle.std.specs.declared.option.Option.{Option}
 use Rattle.std.specs.Io.KnownBytes.{Appends}
 use Rattle.raw_subcode.specs.Channels.{unit_size, program_symbols}
@@ -36,6 +36,16 @@ WritesOrIsLate sheet script lead_in audio held held' NoMemory = ⊤
 WritesOrIsLate sheet script lead_in audio held held' (Damaged n) = ⊥
 WritesOrIsLate sheet script lead_in audio held held' Usage = ⊥
 WritesOrIsLate sheet script lead_in audio held held' (Refused why) = ⊥
+
+-- a read failed or no memory was found
+abbrev pub IsStopped : Status → Type 0
+IsStopped (ReadFault which) = ⊤
+IsStopped NoMemory = ⊤
+IsStopped status = ⊥
+
+-- nothing was put, and the status is this one, unless a read failed or no memory was found
+abbrev pub RefusesWith : Status → Option (List ℕ) → Option (List ℕ) → Status → Type 0
+RefusesWith why held held' status = Appends held held' [] × ((status ≡ why) ⊎ IsStopped status)
 
 -- Whole units of a form, whose program symbols are those of an authored stream with these packs but for at most two in each word.
 pub record IsDamagedAuthored (sheet : CueSheet) (script : List Drawing) (lead_in audio : ℕ) (packs : List (List ℕ)) (form : Form) (bytes : List ℕ) : Type 0 where

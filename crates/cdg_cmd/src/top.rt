@@ -1,5 +1,5 @@
 // The top call.
-ghost use Rattle.std.specs.Prelude.{◌≡◌, ◌≢◌, ◌↔◌, ◌≤◌, ◌<◌, ◌*◌, ◌⊎◌, ℕ, List, [], Bool, true, IfSome};
+ghost use Rattle.std.specs.Prelude.{◌≡◌, ◌≢◌, ◌↔◌, ◌≤◌, ◌<◌, ◌*◌, ◌⊎◌, ℕ, List, [], Bool, true, Some, Err, IfSome};
 ghost use Rattle.std.specs.Io.KnownBytes.{Appends};
 ghost use Rattle.cdg_io.specs.Causes.{Rose};
 ghost use Rattle.cdg_cmd.specs.Words.{texts};
@@ -12,7 +12,7 @@ ghost use Rattle.subcode_player.specs.Pictured.{IsHeldAt, IsScheduledStream};
 ghost use Rattle.raw_subcode.specs.Channels.{program_symbols};
 ghost use Rattle.cue_sheet.specs.CueSheet.{CueSheet};
 ghost use Rattle.picture_script.specs.Script.{Drawing};
-ghost use Rattle.cdg_cmd.specs.Authors.{IsScriptText};
+ghost use Rattle.cdg_cmd.specs.Authors.{IsScriptStop, IsScriptText, IsSheetStop, IsSheetText, author_status};
 ghost use Rattle.cdg_cmd.specs.Headline.{AreTexts, IsDamagedAuthored, PutsPicture, WritesOrIsLate, written_packs};
 ghost use Rattle.toc_model.specs.Places.{layout_of, program_blocks};
 ghost use Rattle.cdg_workload.specs.Scratches.{scratched};
@@ -20,10 +20,11 @@ ghost use Rattle.cdtext_packs.specs.SheetTexts.{sheet_texts};
 ghost use Rattle.cdtext_packs.specs.Texts.{has_no_text};
 ghost use Rattle.cdtext_lines.specs.Lines.{count_line};
 ghost use Rattle.subcode_author.specs.Authored.{IsAuthored};
+ghost use Rattle.subcode_author.specs.AuthorAnswer.{IsAuthorStop};
 ghost use Rattle.authored_listings.specs.Damage.{count_hurt, count_whole};
 ghost use Rattle.authored_listings.specs.FrameLines.{frame_lines};
 ghost use Rattle.authored_listings.specs.SheetLines.{HasText, HasTextPacks, sheet_lines};
-ghost use Rattle.cdg_cmd.specs.Headline.{HasDamagedTexts};
+ghost use Rattle.cdg_cmd.specs.Headline.{HasDamagedTexts, RefusesWith};
 ghost use Rattle.cdg_cmd.specs.Undamaged.{IsCleanStream, words_of};
 ghost use Rattle.cdg_cmd.specs.Answer.{Does, GivesBack, IsAnswered, ReadsNone, ReadsSecond, TakesFirst, TakesNone, Tells, WritesLast};
 
@@ -36,7 +37,8 @@ use crate::showing::{run_screen, run_state};
 use crate::streams::run_convert;
 use crate::texts::run_text;
 use crate::turning::{run_planar, run_raw, run_scratch};
-use crate::{Command, Status, Which, read_words};
+use crate::{Command, Refusal, Status, Which, read_words};
+use author_answers::each_disc_has_one_answer;
 use authored_listings::{
     damaged_text_lists_are_answered, frame_lists_are_answered, text_lists_are_answered,
 };
@@ -45,6 +47,7 @@ use cdg_io::{Sink, Source, SteadySink, SteadySource};
 use scratched_streams::scratched_streams_are_damaged;
 use std::alloc::Global;
 use stream_words::{clean_words_are_found, text_of_packs};
+use subcode_author::AuthorStop;
 
 /// Runs the command of the words over its inputs, its output and the error output.
 pub fn run<S: Source, T: Source, K: Sink, E: Sink>(
@@ -78,6 +81,20 @@ pub fn run<S: Source, T: Source, K: Sink, E: Sink>(
     ensures authors { (lead_in audio : ℕ) (sheet : CueSheet) (script : List Drawing) → Spells (Command.Author lead_in audio) (texts words.now)
         → IfSome (S.left first.old) (λ cue. IfSome (T.left second.old) (λ text. AreTexts cue text sheet script lead_in audio
         → WritesOrIsLate sheet script lead_in audio (K.held out.old) (K.held out.new) result)) }
+    // Each refusal of `author` is the answer where its reason is the first that holds: of the cue sheet,
+    ensures refuses_sheet { (lead_in audio : ℕ) (why : Refusal) → Spells (Command.Author lead_in audio) (texts words.now)
+        → IfSome (S.left first.old) (λ cue. IsSheetStop (Some cue) (Status.Refused why)
+        → RefusesWith (Status.Refused why) (K.held out.old) (K.held out.new) result) }
+    // of the script,
+    ensures refuses_script { (lead_in audio : ℕ) (sheet : CueSheet) (why : Refusal) → Spells (Command.Author lead_in audio) (texts words.now)
+        → IfSome (S.left first.old) (λ cue. IfSome (T.left second.old) (λ text. IsSheetText cue sheet → IsScriptStop (Some text) (Status.Refused why)
+        → RefusesWith (Status.Refused why) (K.held out.old) (K.held out.new) result)) }
+    // and of the disc that both ask for.
+    ensures refuses_disc { (lead_in audio : ℕ) (sheet : CueSheet) (script : List Drawing) (stop : AuthorStop)
+        → Spells (Command.Author lead_in audio) (texts words.now) → stop ≢ AuthorStop.NoMemory → stop ≢ AuthorStop.WriteFault
+        → IsAuthorStop sheet script lead_in audio stop
+        → IfSome (S.left first.old) (λ cue. IfSome (T.left second.old) (λ text. IsSheetText cue sheet → IsScriptText text script
+        → RefusesWith (author_status (Err stop)) (K.held out.old) (K.held out.new) result)) }
     // From an authored stream, after damage of at most two symbols a word, a conversion gives back every scheduled pack,
     ensures gives_back { (lead_in audio : ℕ) (form : Form) (sheet : CueSheet) (script : List Drawing) (packs : List (List ℕ))
         → Spells (Command.Convert lead_in form) (texts words.now)
@@ -154,6 +171,7 @@ pub fn run<S: Source, T: Source, K: Sink, E: Sink>(
     frame_lists_are_answered();
     text_lists_are_answered();
     damaged_text_lists_are_answered();
+    each_disc_has_one_answer();
     accepted_scripts_are_in_order();
     clean_words_are_found();
     text_of_packs();

@@ -1,3 +1,5 @@
+use Rattle.std.proofs.Common.{◌<◌, ℕ}
+use Rattle.picture_script.specs.Script.{picture_pixel}
 use Rattle.cdg_cmd.specs.declared.command.Command.TheVariants.{Author, Convert, Q, Text}
 use Rattle.cdg_cmd.proofs.FirstHalf.{first_half}
 use Rattle.cdg_cmd.proofs.SecondHalf.{packs_back, pictures_shown}
@@ -5,6 +7,7 @@ use Rattle.raw_subcode.specs.declared.form.Form.TheVariants.{Raw}
 use Rattle.subcode_author.specs.Authored.{IsAuthored}
 use Rattle.cdg_cmd.specs.Headline.{HasDamagedTexts}
 use Rattle.cdg_cmd.proofs.Listings.{authored_size, frames_given, scratched_back, spells_allowed, strings_given}
+use Rattle.cdg_cmd.proofs.Refusals.{disc_refused, script_refused, sheet_refused}
 use Rattle.cdg_cmd.proofs.Statuses.{answered}
 use Rattle.cdg_cmd.proofs.WholeInputs.{clean_given}
 use Rattle.cdg_cmd.proofs.top.run.Goals as goal
@@ -64,3 +67,19 @@ returns-clause-damaged_strings g c = λ lead_in audio sheet script bytes packs w
     strings_given lead_in _ _ _ _ _ (λ all. HasDamagedTexts sheet lead_in whole bytes all) _ (c.answer-status.ensures.does (Text lead_in Raw) spelled)
     (λ all hurt answer taken lists listed.
     c.damaged_text_lists_are_answered.ensures sheet script lead_in audio bytes packs whole all _ _ _ answer taken fits some authored hurt.slots hurt.input lists listed)
+
+pub returns-clause-refuses_sheet : goal.returns-clause-refuses_sheet
+returns-clause-refuses_sheet g c = λ lead_in audio why spelled.
+    sheet_refused lead_in audio _ _ _ _ _ _ why _ c.answer-status.ensures.no_memory (c.answer-status.ensures.does (Author lead_in audio) spelled)
+
+pub returns-clause-refuses_script : goal.returns-clause-refuses_script
+returns-clause-refuses_script g c = λ lead_in audio sheet why spelled.
+    script_refused lead_in audio _ _ _ _ _ _ sheet why _ c.answer-status.ensures.no_memory (c.answer-status.ensures.does (Author lead_in audio) spelled)
+
+pub returns-clause-refuses_disc : goal.returns-clause-refuses_disc
+returns-clause-refuses_disc g c = λ lead_in audio sheet script why spelled some early is.
+    disc_refused lead_in audio _ _ sheet script why some early is ((k x y : ℕ) → picture_pixel script k x y < 16)
+    (λ text read. c.accepted_scripts_are_in_order.ensures.pixels text script read)
+    (λ pixels w accepted other. c.each_disc_has_one_answer.ensures.not_both sheet script lead_in audio w pixels accepted other)
+    (λ pixels w other memory. c.each_disc_has_one_answer.ensures.one sheet script lead_in audio w why pixels other is memory some)
+    _ _ _ _ _ c.answer-status.ensures.no_memory (c.answer-status.ensures.does (Author lead_in audio) spelled)
