@@ -13,7 +13,7 @@ use Rattle.cdg_cmd.specs.Headline.{RefusesWith}
 use Rattle.cdg_cmd.specs.declared.status.Refusal.{Refusal}
 use Rattle.cdg_cmd.specs.declared.status.Status.{Status}
 use Rattle.cdg_cmd.specs.declared.status.Status.TheVariants.{Done, Damaged, Usage, Refused, Late, ReadFault, WriteFault, NoMemory}
-use Rattle.cdg_cmd.proofs.FirstHalf.{same_answer}
+use Rattle.cdg_cmd.proofs.FirstHalf.{put_for_texts}
 use Rattle.cdg_cmd.proofs.TextStops.{no_script_stop, no_sheet_stop, one_script_stop, one_sheet_stop, script_status, script_stopped, sheet_status, sheet_stopped}
 
 module _ (lead_in audio : ℕ) (held held' : Option (List ℕ)) where
@@ -80,11 +80,7 @@ module _ (lead_in audio : ℕ) (held held' : Option (List ℕ)) where
       at_disc cue text left' more' status sheet_is script_is (StopsAtScript other reads reason nothing) = (nothing, inr (script_stopped text script status script_is reason))
       at_disc cue text left' more' status sheet_is script_is (Answers other lines answer reads_sheet reads_script same put) =
           let in_range : Pixels = pixels text script_is.reads in
-          let same_sheet : other ≡ sheet = same_answer _ other sheet reads_sheet.1.reads sheet_is.reads in
-          let same_script : lines ≡ script = same_answer _ lines script reads_script.1.reads script_is.reads in
-          let put_same : IsPutFor sheet script lead_in audio held held' answer =
-          subst (λ (s : CueSheet). IsPutFor s script lead_in audio held held' answer) same_sheet
-          (subst (λ (l : List Drawing). IsPutFor other l lead_in audio held held' answer) same_script put) in
+          let put_same : IsPutFor sheet script lead_in audio held held' answer = put_for_texts sheet script lead_in audio held held' cue text other lines answer sheet_is script_is reads_sheet.1 reads_script.1 put in
           subst (λ (k : Status). RefusesWith (author_status (Err why)) held held' k) (sym same) (of_answer (not_both in_range) (one in_range) answer put_same)
 
       pub disc_refused : (left left' more more' : Option (List ℕ)) (status : Status) → (status ≡ NoMemory → Appends held held' [])

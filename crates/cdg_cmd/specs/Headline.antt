@@ -37,6 +37,17 @@ WritesOrIsLate sheet script lead_in audio held held' (Damaged n) = ⊥
 WritesOrIsLate sheet script lead_in audio held held' Usage = ⊥
 WritesOrIsLate sheet script lead_in audio held held' (Refused why) = ⊥
 
+-- an authored stream was put; unless a read or a write failed or no memory was found
+abbrev pub Writes : CueSheet → List Drawing → ℕ → ℕ → Option (List ℕ) → Option (List ℕ) → Status → Type 0
+Writes sheet script lead_in audio held held' Done = PutsAuthored sheet script lead_in audio held held'
+Writes sheet script lead_in audio held held' (ReadFault which) = ⊤
+Writes sheet script lead_in audio held held' WriteFault = ⊤
+Writes sheet script lead_in audio held held' NoMemory = ⊤
+Writes sheet script lead_in audio held held' (Late picture need free) = ⊥
+Writes sheet script lead_in audio held held' (Damaged n) = ⊥
+Writes sheet script lead_in audio held held' Usage = ⊥
+Writes sheet script lead_in audio held held' (Refused why) = ⊥
+
 -- a read failed or no memory was found
 abbrev pub IsStopped : Status → Type 0
 IsStopped (ReadFault which) = ⊤

@@ -13,18 +13,17 @@ ghost use Rattle.raw_subcode.specs.Channels.{program_symbols};
 ghost use Rattle.cue_sheet.specs.CueSheet.{CueSheet};
 ghost use Rattle.picture_script.specs.Script.{Drawing};
 ghost use Rattle.cdg_cmd.specs.Authors.{IsScriptStop, IsScriptText, IsSheetStop, IsSheetText, author_status};
-ghost use Rattle.cdg_cmd.specs.Headline.{AreTexts, IsDamagedAuthored, PutsPicture, WritesOrIsLate, written_packs};
+ghost use Rattle.cdg_cmd.specs.Headline.{AreTexts, HasDamagedTexts, IsDamagedAuthored, PutsPicture, RefusesWith, Writes, WritesOrIsLate, written_packs};
 ghost use Rattle.toc_model.specs.Places.{layout_of, program_blocks};
 ghost use Rattle.cdg_workload.specs.Scratches.{scratched};
 ghost use Rattle.cdtext_packs.specs.SheetTexts.{sheet_texts};
 ghost use Rattle.cdtext_packs.specs.Texts.{has_no_text};
 ghost use Rattle.cdtext_lines.specs.Lines.{count_line};
 ghost use Rattle.subcode_author.specs.Authored.{IsAuthored};
-ghost use Rattle.subcode_author.specs.AuthorAnswer.{IsAuthorStop};
+ghost use Rattle.subcode_author.specs.AuthorAnswer.{IsAccepted, IsAuthorStop};
 ghost use Rattle.authored_listings.specs.Damage.{count_hurt, count_whole};
 ghost use Rattle.authored_listings.specs.FrameLines.{frame_lines};
 ghost use Rattle.authored_listings.specs.SheetLines.{HasText, HasTextPacks, sheet_lines};
-ghost use Rattle.cdg_cmd.specs.Headline.{HasDamagedTexts, RefusesWith};
 ghost use Rattle.cdg_cmd.specs.Undamaged.{IsCleanStream, words_of};
 ghost use Rattle.cdg_cmd.specs.Answer.{Does, GivesBack, IsAnswered, ReadsNone, ReadsSecond, TakesFirst, TakesNone, Tells, WritesLast};
 
@@ -81,6 +80,11 @@ pub fn run<S: Source, T: Source, K: Sink, E: Sink>(
     ensures authors { (lead_in audio : ℕ) (sheet : CueSheet) (script : List Drawing) → Spells (Command.Author lead_in audio) (texts words.now)
         → IfSome (S.left first.old) (λ cue. IfSome (T.left second.old) (λ text. AreTexts cue text sheet script lead_in audio
         → WritesOrIsLate sheet script lead_in audio (K.held out.old) (K.held out.new) result)) }
+    // Where all of both is accepted it is written.
+    ensures writes { (lead_in audio : ℕ) (sheet : CueSheet) (script : List Drawing) → Spells (Command.Author lead_in audio) (texts words.now)
+        → IsAccepted sheet script lead_in audio
+        → IfSome (S.left first.old) (λ cue. IfSome (T.left second.old) (λ text. IsSheetText cue sheet → IsScriptText text script
+        → Writes sheet script lead_in audio (K.held out.old) (K.held out.new) result)) }
     // Each refusal of `author` is the answer where its reason is the first that holds: of the cue sheet,
     ensures refuses_sheet { (lead_in audio : ℕ) (why : Refusal) → Spells (Command.Author lead_in audio) (texts words.now)
         → IfSome (S.left first.old) (λ cue. IsSheetStop (Some cue) (Status.Refused why)

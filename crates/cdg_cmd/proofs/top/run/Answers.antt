@@ -1,7 +1,7 @@
 use Rattle.std.proofs.Common.{◌<◌, ℕ}
 use Rattle.picture_script.specs.Script.{picture_pixel}
 use Rattle.cdg_cmd.specs.declared.command.Command.TheVariants.{Author, Convert, Q, Text}
-use Rattle.cdg_cmd.proofs.FirstHalf.{first_half}
+use Rattle.cdg_cmd.proofs.FirstHalf.{accepted_written, first_half}
 use Rattle.cdg_cmd.proofs.SecondHalf.{packs_back, pictures_shown}
 use Rattle.raw_subcode.specs.declared.form.Form.TheVariants.{Raw}
 use Rattle.subcode_author.specs.Authored.{IsAuthored}
@@ -83,3 +83,10 @@ returns-clause-refuses_disc g c = λ lead_in audio sheet script why spelled some
     (λ pixels w accepted other. c.each_disc_has_one_answer.ensures.not_both sheet script lead_in audio w pixels accepted other)
     (λ pixels w other memory. c.each_disc_has_one_answer.ensures.one sheet script lead_in audio w why pixels other is memory some)
     _ _ _ _ _ c.answer-status.ensures.no_memory (c.answer-status.ensures.does (Author lead_in audio) spelled)
+
+pub returns-clause-writes : goal.returns-clause-writes
+returns-clause-writes g c = λ lead_in audio sheet script spelled accepted.
+    accepted_written sheet script lead_in audio _ _ accepted ((k x y : ℕ) → picture_pixel script k x y < 16)
+    (λ text read. c.accepted_scripts_are_in_order.ensures.pixels text script read)
+    (λ pixels why is. c.each_disc_has_one_answer.ensures.not_both sheet script lead_in audio why pixels accepted is) _ _ _
+    (first_half sheet script lead_in audio _ _ _ _ _ _ _ (c.answer-status.ensures.does (Author lead_in audio) spelled))
