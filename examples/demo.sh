@@ -1,52 +1,75 @@
 #!/bin/sh
-# A tour: a small dump of subcode is made, and its packs are recovered from it.
+# A tour: the stream of a cue sheet and a picture script is authored, and its texts, a picture and its
+# packs are got back from it, also from a stream with scratches. The files are left in demo/.
 set -e
 cd "$(dirname "$0")/.."
-work=$(mktemp -d)
-trap 'rm -rf "$work"' EXIT
+mkdir -p demo
+cp examples/hello.cue examples/hello.script demo
+lead_in=30
 
 if [ -x bin/ribjasper ]; then
     echo "This is bin/ribjasper, which make built."
-    ribjasper() { bin/ribjasper "$@"; }
+    built=yes
+    ribjasper() { (cd demo && ../bin/ribjasper "$@"); }
 else
     echo "No bin/ribjasper stands yet: the commands run through 'rt try', which proves nothing ('make' does)."
-    ribjasper() { (cd crates/ribjasper && rt try -- "$@" 2>/dev/null); }
+    echo "Each of the three takes some half a minute so."
+    built=no
+    ribjasper() {
+        (cd crates/ribjasper && rt try --seconds 110 --data hello.cue=../../demo/hello.cue \
+            --data hello.script=../../demo/hello.script -- "$@" 2>/dev/null)
+    }
 fi
 
-# Puts bytes at a place of a file: put FILE PLACE HEX..
-put() {
-    file=$1
-    place=$2
-    shift 2
-    for byte in "$@"; do
-        printf "\\$(printf '%03o' "0x$byte")" | dd of="$file" bs=1 seek="$place" conv=notrunc 2>/dev/null
-        place=$((place + 1))
-    done
+# A pixmap of 300 by 216 pixels as text: a character for each tile of 6 by 12.
+draw() {
+    tail -c 194400 "$1" | od -An -v -tu1 -w900 | awk 'NR % 12 == 7 {
+        line = ""
+        for (x = 3; x < 300; x += 6)
+            line = line substr(" .:+#", 1 + int(4.99 * (3 * $(3 * x + 1) + 6 * $(3 * x + 2) + $(3 * x + 3)) / 2551), 1)
+        print "    |" line "|"
+    }'
 }
 
-# Two blocks: one pack of graphics, a memory preset, whose symbols are spread over eight slots.
-dump=$work/two_blocks.raw
-dd if=/dev/zero of="$dump" bs=96 count=2 2>/dev/null
-put "$dump" 0 09
-put "$dump" 66 01
-put "$dump" 125 3C
-put "$dump" 191 34
-put "$dump" 116 0D
-put "$dump" 141 07
-put "$dump" 166 2A
-put "$dump" 75 20
+echo
+echo "1. author: the subcode of examples/hello.cue with the pictures of examples/hello.script"
+ribjasper author --lead-in $lead_in --length 00:22:00 -- hello.cue hello.script >demo/hello.raw
+echo "   demo/hello.raw: $(($(wc -c <demo/hello.raw) / 96)) blocks"
 
 echo
-echo "convert --lead-in 0: the pack that two raw blocks carry"
-ribjasper convert --lead-in 0 <"$dump" | od -An -tx1
+echo "2. text: the CD-TEXT of its lead-in"
+ribjasper text --lead-in $lead_in <demo/hello.raw | sed 's/^/   /'
 
-echo "The same after two of its symbols were damaged:"
-put "$dump" 50 3F
-put "$dump" 100 15
-ribjasper convert --lead-in 0 <"$dump" | od -An -tx1
+echo
+echo "3. screen: the picture at 00:07:10, the third letter"
+ribjasper screen --lead-in $lead_in --at 00:07:10 <demo/hello.raw >demo/hello.ppm
+draw demo/hello.ppm
 
-echo "And after a third: no pack is near, and the status tells it."
-put "$dump" 150 2A
-ribjasper convert --lead-in 0 <"$dump" >"$work/packs.cdg" && status=0 || status=$?
-od -An -tx1 "$work/packs.cdg"
-echo "status $status"
+if [ $built = no ]; then
+    echo
+    echo "After 'make' this tour goes on with scratches and with damage that cannot be undone."
+    exit 0
+fi
+
+echo
+echo "4. scratch and check: bursts of wrong symbols, as a scratched disc has them"
+ribjasper scratch --lead-in $lead_in --seed 7 <demo/hello.raw >demo/scratched.raw
+ribjasper check --lead-in $lead_in <demo/scratched.raw | sed 's/^/   /'
+
+echo
+echo "5. convert: the packs of the scratched stream, as a .cdg file for a player"
+ribjasper convert --lead-in $lead_in <demo/scratched.raw >demo/hello.cdg
+ribjasper convert --lead-in $lead_in <demo/hello.raw | cmp - demo/hello.cdg
+echo "   demo/hello.cdg: the same packs as those of the stream without scratches"
+
+echo
+echo "6. The picture at 00:17:00 of the scratched stream, the test card"
+ribjasper screen --lead-in $lead_in --at 00:17:00 <demo/scratched.raw >demo/card.ppm
+draw demo/card.ppm
+
+echo
+echo "7. Three equal wrong symbols in one word are too many: the word is told and written as zeros"
+head -c 192 /dev/zero | tr '\000' '\001' | head -c 17 >demo/short.raw
+head -c 175 /dev/zero >>demo/short.raw
+ribjasper convert --lead-in 0 <demo/short.raw >demo/short.cdg && status=0 || status=$?
+echo "   status $status"

@@ -1,0 +1,56 @@
+#!/bin/sh
+# Runs bin/ribjasper with each of its requests for memory refused in turn, on some small inputs. Each
+# run has to end as it does with ample memory, or with 'no memory' (7) and nothing written. Not part of
+# the gate; it needs a C compiler for the small library that refuses.
+set -e
+cd "$(dirname "$0")/.."
+[ -x bin/ribjasper ] || tools/build.sh
+command -v cc >/dev/null || { echo "no C compiler: skipped"; exit 0; }
+work=$(mktemp -d)
+trap 'rm -rf "$work"' EXIT
+cc -O1 -shared -fPIC -o "$work/refuse.so" tools/refuse.c -ldl
+
+one_track='FILE "a.wav" WAVE\nTRACK 01 AUDIO\nINDEX 01 00:00:00\n'
+printf "$one_track" >"$work/sheet"
+printf "TITLE \"Demo\"\n$one_track" >"$work/titled"
+printf 'show 00:00:02 00:00:02\n' >"$work/late"
+: >"$work/empty"
+head -c 192 /dev/zero >"$work/blocks"
+bin/ribjasper author --lead-in 12 --length 00:00:01 -- "$work/titled" "$work/empty" >"$work/texts"
+
+failures=0
+# Runs a command with a request refused, and says what came of it: run NUMBER OUT ERR WORDS..
+run() {
+    number=$1 out=$2 err=$3
+    shift 3
+    status=0
+    REFUSE=$number COUNT=$work/count LD_PRELOAD=$work/refuse.so bin/ribjasper "$@" >"$out" 2>"$err" || status=$?
+    echo "$status"
+}
+
+# Tries a command with each request refused.
+try() {
+    ample=$(run -1 "$work/ample.out" "$work/ample.err" "$@")
+    requests=$(cat "$work/count")
+    kept=0 refused=0 number=0
+    while [ "$number" -lt "$requests" ]; do
+        status=$(run "$number" "$work/out" "$work/err" "$@")
+        if [ "$status" = 7 ] && [ ! -s "$work/out" ] && [ "$(cat "$work/err")" = "no memory" ]; then
+            refused=$((refused + 1))
+        elif [ "$status" = "$ample" ] && cmp -s "$work/out" "$work/ample.out" && cmp -s "$work/err" "$work/ample.err"; then
+            kept=$((kept + 1))
+        else
+            failures=$((failures + 1))
+            echo "request $number of '$*': status $status"
+        fi
+        number=$((number + 1))
+    done
+    echo "$1 (status $ample): $requests requests, $refused end with no memory, $kept as with ample memory"
+}
+
+try convert --lead-in 0 -- "$work/blocks"
+try author --lead-in 0 --length 00:00:01 -- "$work/sheet" "$work/late"
+try author --lead-in 0 --length 00:00:01 -- "$work/sheet" "$work/empty"
+try text --lead-in 12 -- "$work/texts"
+try trial --seed 42 --pictures 1
+[ "$failures" = 0 ] || { echo "$failures runs ended in another way"; exit 1; }
