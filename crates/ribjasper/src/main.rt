@@ -7,7 +7,7 @@ use cdg_cmd::{Status, run, split, tell};
 use cdg_io::{ReadSource, SteadySink, WriteSink};
 use input::Input;
 use std::fs::File;
-use std::io::{BufReader, BufWriter, Write};
+use std::io::{BufReader, BufWriter, ErrorKind, Write};
 use std::process::ExitCode;
 use std::{env, io};
 
@@ -16,10 +16,14 @@ const BUFFER: usize = 65_536;
 // All words after the program's own name. Where they are no text, there are none.
 fn words(rt: &HostRuntime) -> io::Result<Vec<String>> {
     let mut words = Vec::new(rt.alloc());
-    if let Ok(args) = env::args(rt) {
-        for word in args.skip(1) {
-            words.push(word)?;
+    match env::args(rt) {
+        Ok(args) => {
+            for word in args.skip(1) {
+                words.push(word)?;
+            }
         }
+        Err(error) if error.kind() == ErrorKind::InvalidData => {}
+        Err(error) => return Err(error),
     }
     Ok(words)
 }

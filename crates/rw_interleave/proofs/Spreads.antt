@@ -13,10 +13,7 @@ use Rattle.rw_interleave.specs.Gathering.{last_seven}
 use Rattle.rw_interleave.specs.Spreading.{spread_symbol, spread_over, spread_next, spread_gives, filled_with_idle}
 use Rattle.rw_interleave.proofs.Ranges.{map_range}
 use Rattle.rw_interleave.proofs.Places.{concat_at, swapped-lt}
-
-swapped_back : (i : ℕ) → i < 24 → swapped (swapped i) ≡ i
-unfolding swapped
-swapped_back i lt = grind arith
+use Rattle.rw_interleave.proofs.Eighths.{swapped_back}
 
 -- the symbol at a position of slot k of some packs
 abbrev slot_symbol : List (List ℕ) → ℕ → ℕ → ℕ

@@ -1,16 +1,16 @@
 // From slots to words.
-ghost use Rattle.std.specs.Prelude.{◌≡◌, ◌-◌, ◌≤◌, ◌<◌, [], ◌∷◌, ◌++◌, All, List, ℕ, length, map, IfOk};
+ghost use Rattle.std.specs.Prelude.{◌≡◌, ◌-◌, ◌≤◌, ◌<◌, [], ◌∷◌, ◌++◌, All, List, ℕ, length, map, slice_index, slice_index_or, slice_set, IfOk};
 ghost use Rattle.std.specs.List.{concat};
 ghost use Rattle.cdg_io.specs.Run.{run_gives};
 ghost use Rattle.bit_lists.specs.Counting.{below};
-ghost use Rattle.rw_interleave.specs.Gathering.{gathered, symbol_at, gather_gives, gather_next};
-ghost use Rattle.rw_interleave.specs.Interleave.{word_of, whole_of_slots};
+ghost use Rattle.rw_code.specs.Codeword.{IsWord};
+ghost use Rattle.rw_interleave.specs.Gathering.{gathered, gather_gives, gather_next};
+ghost use Rattle.rw_interleave.specs.Interleave.{swapped, word_of, whole_of_slots};
 
 use crate::Slot;
 use crate::slot::swapped;
 use cdg_io::Stage;
 use circular_buffer::HeapCircularBuffer;
-use gf64::Sym;
 use rw_code::Word;
 use std::alloc::{AllocError, Global};
 use std::marker::Model;
@@ -87,19 +87,31 @@ fn gathered(slots: &HeapCircularBuffer<Slot>) -> Word
     ensures { result ≡ gathered slots.now.items }
 {
     let mut bytes = [0; 24];
-    for i in 0..24 {
-        bytes[i] = symbol_at(slots, swapped(i)).value();
+    for k in 0..SPAN {
+        let slot = slot_at(slots, k);
+        bring(&mut bytes, &slot, k);
+        bring(&mut bytes, &slot, k + 8);
+        bring(&mut bytes, &slot, k + 16);
     }
     Word::new(&bytes)
 }
 
-/// The symbol at a position, of the slot in which this position of the word stands.
-fn symbol_at(slots: &HeapCircularBuffer<Slot>, position: usize) -> Sym
+/// The symbols of one of eight slots.
+fn slot_at(slots: &HeapCircularBuffer<Slot>, k: usize) -> [u8; 24]
     requires slots { length slots.now.items ≡ 8 }
-    requires position { position < 24 }
-    ensures { result ≡ symbol_at slots.now.items position }
+    requires k { k < 8 }
+    ensures same { result ≡ slice_index_or slots.now.items k [] }
+    ensures word { IsWord result }
 {
-    slots.get(position % SPAN).unwrap().get(position)
+    slots.get(k).unwrap().bytes()
+}
+
+/// Brings the symbol at a position of a slot to where it stands in a word.
+fn bring(word: &mut [u8; 24], slot: &[u8; 24], position: usize)
+    requires { position < 24 }
+    ensures { word.new ≡ slice_set word.old (swapped position) (slice_index slot.now position) }
+{
+    word[swapped(position)] = slot[position];
 }
 
 /// A law: for any slots since the start, the words given are those by places, each as soon as its last symbol has come.

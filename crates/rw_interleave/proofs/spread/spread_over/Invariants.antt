@@ -1,10 +1,10 @@
-use Rattle.std.proofs.Common.{◌≡◌, length, map, take}
-use Rattle.bit_lists.specs.Counting.{below}
+use Rattle.std.proofs.Common.{◌≡◌, length}
 use Rattle.rw_interleave.specs.Spreading.{spread_symbol}
+use Rattle.rw_interleave.proofs.Eighths.{HasEighths}
 use Rattle.rw_interleave.proofs.spread.spread_over.Given as goal
 
-abbrev pub invariant-loop-position : goal.invariant-loop-position
-invariant-loop-position l = record {
-  size : length l.word ≡ 24;
-  done : take l.position l.word ≡ map (spread_symbol l.packs.items) (below l.position);
+abbrev pub invariant-loop-back : goal.invariant-loop-back
+invariant-loop-back l = record {
+  size : length l.bytes ≡ 24;
+  done : HasEighths (λ p. p) (spread_symbol l.packs.items) l.bytes l.back;
 }

@@ -1,0 +1,127 @@
+#!/usr/bin/env python3
+"""Works out the nine lines of `ribjasper trial` by other means: reckon_trial.py SEED PICTURES
+
+No stream is made here. The changes are counted tile by tile by the rank of the differences of their
+colours, over every start that a change may have, and the words that scratches touch by the places
+of their symbols alone. It shares no code with the program, so the two check each other."""
+import sys
+
+# Symbol i of a pack goes to position i, but for three pairs that are exchanged; position p comes p mod 8
+# slots later.
+EXCHANGED = {1: 18, 18: 1, 2: 5, 5: 2, 3: 23, 23: 3}
+PLACES = [24 * (EXCHANGED.get(i, i) % 8) + EXCHANGED.get(i, i) for i in range(24)]
+
+
+class Pcg32:
+    """The generator pcg32 of the PCG family (XSH RR, 64 bits of state)."""
+
+    MULTIPLIER = 6364136223846793005
+    MASK = 2**64 - 1
+
+    def __init__(self, seed):
+        self.increment = (54 << 1) | 1
+        self.state = (seed + self.increment) & self.MASK
+        self.step()
+
+    def step(self):
+        self.state = (self.state * self.MULTIPLIER + self.increment) & self.MASK
+
+    def word(self):
+        old = self.state
+        self.step()
+        mixed = (((old >> 18) ^ old) >> 27) & 0xFFFFFFFF
+        turn = old >> 59
+        return ((mixed >> turn) | (mixed << (-turn & 31))) & 0xFFFFFFFF
+
+
+def rank(values):
+    """The number of independent ones among numbers, as lists of bits under exclusive or."""
+    basis = []
+    for value in values:
+        for member in basis:
+            value = min(value, value ^ member)
+        if value:
+            basis.append(value)
+    return len(basis)
+
+
+def planes(tile):
+    """How many instructions set a tile, or combine it with what stands there."""
+    return max(1, rank(colour ^ tile[0] for colour in set(tile)))
+
+
+def steps(old, new):
+    if old == new:
+        return 0
+    return min(planes(new), planes([a ^ b for a, b in zip(old, new)]))
+
+
+def tiles(window):
+    return [
+        [window[12 * row + j][6 * column + i] for j in range(12) for i in range(6)]
+        for row in range(16)
+        for column in range(48)
+    ]
+
+
+def changes(seed, pictures):
+    """The instructions of all changes of the generated script."""
+    words = Pcg32(seed)
+    window = [[0] * 288 for _ in range(192)]
+    before = None
+    total = 0
+    for _ in range(pictures):
+        for _ in range(3):
+            a, b = words.word(), words.word()
+            x, y = (a & 0xFFFF) % 288, (a >> 16) % 192
+            width, height = 1 + (b & 0xFFFF) % (288 - x), 1 + (b >> 16) % (192 - y)
+            for line in window[y : y + height]:
+                line[x : x + width] = [b // 256 % 16] * width
+        now = tiles(window)
+        # A preset of any colour, with the border and both halves of the colours in front of the first picture.
+        settings = 4 if before is None else 1
+        costs = [settings + sum(steps([colour] * 72, tile) for tile in now) for colour in range(16)]
+        if before is not None:
+            costs.append(sum(steps(old, new) for old, new in zip(before, now)))
+        total += min(costs)
+        before = now
+    return total
+
+
+def touched(seed, blocks):
+    """How many words have none, one, two .. symbols in the bursts of the seed."""
+    symbols = 96 * blocks
+    hit = bytearray(symbols)
+    words = Pcg32(seed)
+    place = 0
+    while place < symbols:
+        word = words.word()
+        first = place + 192 + word % 64
+        place = first + 1 + word // 256 % 16
+        for k in range(first, min(place, symbols)):
+            hit[k] = 1
+    counts = [0] * 25
+    for n in range(4 * blocks - 7):
+        counts[sum(hit[24 * n + k] for k in PLACES)] += 1
+    return counts
+
+
+def main():
+    seed, pictures = int(sys.argv[1]), int(sys.argv[2])
+    blocks = 800 * pictures + 170
+    counts = touched(seed, blocks)
+    for name, number in [
+        ("seed", seed),
+        ("pictures", pictures),
+        ("blocks", blocks),
+        ("packs", 4 * blocks - 7),
+        ("changes", changes(seed, pictures)),
+        ("one", counts[1]),
+        ("two", counts[2]),
+        ("bad", sum(counts[3:])),
+        ("equal", pictures),
+    ]:
+        print(name, number)
+
+
+main()
