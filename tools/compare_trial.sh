@@ -1,6 +1,7 @@
 #!/bin/sh
 # Compares the lines of `ribjasper trial` for several seeds with those that tools/reckon_trial.py works out
-# by other means. Not part of the gate; skipped where python3 is missing.
+# by other means, and its counts with those of `gen`, `author`, `scratch` and `check` one after the other.
+# Not part of the gate; skipped where python3 is missing.
 set -e
 cd "$(dirname "$0")/.."
 command -v python3 >/dev/null || { echo "no python3: skipped"; exit 0; }
@@ -14,3 +15,12 @@ for trial in "42 1" "7 40" "0 3" "18446744073709551615 5"; do
     cmp "$work/ours" "$work/reckoned" || { echo "seed $1: the lines differ"; exit 1; }
     echo "seed $1, $2 pictures: the same nine lines"
 done
+
+printf 'FILE "trial" WAVE\nTRACK 01 AUDIO\nINDEX 01 00:00:00\n' >"$work/sheet"
+bin/ribjasper gen --seed 42 --pictures 1 >"$work/script"
+bin/ribjasper author --lead-in 0 --length 00:10:70 -- "$work/sheet" "$work/script" >"$work/stream"
+bin/ribjasper scratch --lead-in 0 --seed 42 <"$work/stream" >"$work/scratched"
+bin/ribjasper check --lead-in 0 <"$work/scratched" | grep -E '^(packs|one|two|bad) ' >"$work/checked"
+bin/ribjasper trial --seed 42 --pictures 1 | grep -E '^(packs|one|two|bad) ' >"$work/tried"
+cmp "$work/checked" "$work/tried" || { echo "step by step the counts differ"; exit 1; }
+echo "step by step: the same counts"
