@@ -1,110 +1,89 @@
 use crate::harness::{Ran, run_bytes, zeros_but};
 use cdg_cmd::{Refusal, Status};
+use std::alloc::{AllocError, Global};
 use std::test::Fail;
 
-// Zero bytes with these ones give so many zero bytes.
+// A stream of zero bytes gives so many zero bytes.
 #[test]
 fn zero_bytes_are_converted(rt: HostRuntime) -> Result<(), Fail> {
     let alloc = rt.alloc();
-    let torn = |block: u32| Status::Refused(Refusal::Torn { block });
-    let first: [usize; 17] = [0, 1, 2, 3, 4, 5, 6, 7, 8, 9, 10, 11, 12, 13, 14, 15, 16];
-    let cases: [(&str, usize, &[usize], Status, usize, &str); 16] = [
-        ("convert --lead-in 0", 0, &[], Status::Done, 0, ""),
-        ("convert --lead-in 0", 96, &[], Status::Done, 0, ""),
-        ("convert --lead-in 0", 192, &[], Status::Done, 24, ""),
-        ("convert --lead-in 1", 192, &[], Status::Done, 0, ""),
-        ("convert --lead-in 3", 192, &[], Status::Done, 0, ""),
-        ("convert --lead-in 0", 192, &[50, 100], Status::Done, 24, ""),
-        (
-            "convert --lead-in 0",
-            192,
-            &[50, 100, 150],
-            Status::Damaged(1),
-            24,
-            "damaged 1\n",
-        ),
-        (
-            "convert --lead-in 0",
-            192,
-            &first[..16],
-            Status::Done,
-            24,
-            "",
-        ),
-        (
-            "convert --lead-in 0",
-            192,
-            &first,
-            Status::Damaged(1),
-            24,
-            "damaged 1\n",
-        ),
-        (
-            "convert --lead-in 0",
-            100,
-            &[],
-            torn(1),
-            0,
-            "refused torn 1\n",
-        ),
-        (
-            "convert --lead-in 0",
-            193,
-            &[],
-            torn(2),
-            24,
-            "refused torn 2\n",
-        ),
-        (
-            "convert --lead-in 0",
-            287,
-            &[],
-            torn(2),
-            24,
-            "refused torn 2\n",
-        ),
-        (
-            "convert --lead-in 0 --form raw",
-            192,
-            &[],
-            Status::Done,
-            24,
-            "",
-        ),
-        (
-            "convert --lead-in 0 --form cooked",
-            96,
-            &[],
-            Status::Done,
-            96,
-            "",
-        ),
-        (
-            "convert --lead-in 0 --form cooked",
-            96,
-            &[4, 5],
-            Status::Done,
-            96,
-            "",
-        ),
-        (
-            "convert --lead-in 0 --form cooked",
-            96,
-            &[4, 5, 6],
-            Status::Damaged(1),
-            96,
-            "damaged 1\n",
-        ),
+    let cases = [
+        ("convert --lead-in 0", 0usize, 0usize),
+        ("convert --lead-in 0", 96, 0),
+        ("convert --lead-in 0", 192, 24),
+        ("convert --lead-in 1", 192, 0),
+        ("convert --lead-in 3", 192, 0),
+        ("convert --lead-in 0 --form raw", 192, 24),
+        ("convert --lead-in 0 --form cooked", 96, 96),
     ];
-    for (line, len, ones, status, count, told) in cases {
-        let ran = run_bytes(alloc, line, zeros_but(alloc, len, ones)?)?;
-        assert_eq!(rt; ran.status, status, "{line} {len}");
+    for (line, len, count) in cases {
+        let ran = run_bytes(alloc, line, zeros_but(alloc, len, &[])?)?;
+        assert_eq!(rt; ran.status, Status::Done, "{line} {len}");
+        assert!(rt; is_zeros(ran.out.bytes(), count), "{line} {len}");
+        assert!(rt; ran.err.bytes().is_empty(), "{line} {len}");
+    }
+    Ok(())
+}
+
+fn is_zeros(bytes: &[u8], count: usize) -> bool {
+    bytes.len() == count && bytes.iter().all(|byte| *byte == 0)
+}
+
+// Whether zero bytes with these ones give so many zero bytes and no more is told than how many packs are damaged.
+fn gives(
+    alloc: Global,
+    line: &str,
+    (len, count): (usize, usize),
+    ones: &[usize],
+    damaged: u32,
+) -> Result<bool, AllocError> {
+    let ran = run_bytes(alloc, line, zeros_but(alloc, len, ones)?)?;
+    let is_told = if damaged == 0 {
+        ran.status == Status::Done && ran.err.bytes().is_empty()
+    } else {
+        let told = format!(in alloc; "damaged {damaged}\n")?;
+        ran.status == Status::Damaged(damaged) && ran.err.bytes() == told.as_bytes()
+    };
+    Ok(is_told && is_zeros(ran.out.bytes(), count))
+}
+
+// Three equal changes of a codeword are never near a codeword.
+#[test]
+fn two_wrong_symbols_are_corrected(rt: HostRuntime) -> Result<(), Fail> {
+    let alloc = rt.alloc();
+    let raw = "convert --lead-in 0";
+    assert!(rt; gives(alloc, raw, (192, 24), &[50, 100], 0)?);
+    assert!(rt; gives(alloc, raw, (192, 24), &[50, 100, 150], 1)?);
+    let cooked = "convert --lead-in 0 --form cooked";
+    assert!(rt; gives(alloc, cooked, (96, 96), &[4, 5], 0)?);
+    assert!(rt; gives(alloc, cooked, (96, 96), &[4, 5, 6], 1)?);
+    Ok(())
+}
+
+// The first sixteen symbols have two of a pack, and the first seventeen have three.
+#[test]
+fn a_burst_of_sixteen_symbols_is_corrected(rt: HostRuntime) -> Result<(), Fail> {
+    let alloc = rt.alloc();
+    let first: [usize; 17] = [0, 1, 2, 3, 4, 5, 6, 7, 8, 9, 10, 11, 12, 13, 14, 15, 16];
+    let line = "convert --lead-in 0";
+    assert!(rt; gives(alloc, line, (192, 24), &first[..16], 0)?);
+    assert!(rt; gives(alloc, line, (192, 24), &first, 1)?);
+    Ok(())
+}
+
+#[test]
+fn torn_streams_are_refused(rt: HostRuntime) -> Result<(), Fail> {
+    let alloc = rt.alloc();
+    for (len, block, count) in [(100usize, 1u32, 0usize), (193, 2, 24), (287, 2, 24)] {
+        let ran = run_bytes(alloc, "convert --lead-in 0", zeros_but(alloc, len, &[])?)?;
         assert_eq!(rt;
-            ran.out.bytes(),
-            vec![in alloc; 0u8; count]?.as_slice(),
-            "{line} {len}"
+            ran.status,
+            Status::Refused(Refusal::Torn { block }),
+            "{len}"
         );
-        assert_eq!(rt; ran.err.bytes(), told.as_bytes(), "{line} {len}");
+        assert!(rt; is_zeros(ran.out.bytes(), count), "{len}");
+        let told = format!(in alloc; "refused torn {block}\n")?;
+        assert_eq!(rt; ran.err.bytes(), told.as_bytes(), "{len}");
     }
     Ok(())
 }

@@ -1,6 +1,7 @@
-use crate::harness::{run_bytes, run_on, words};
-use cdg_cmd::{Status, Which, run};
-use cdg_io::{MemSink, MemSource, SteadySource};
+use crate::harness::{run_bytes, run_on, words, zeros_but};
+use cdg_cmd::{Refusal, Status, Which, run};
+use cdg_io::{MemSink, MemSource, SteadySink, SteadySource};
+use std::alloc::{AllocError, Global};
 use std::test::Fail;
 
 // A source that gives a block at a call fails at its call number c: what the whole blocks give is written.
@@ -90,16 +91,52 @@ fn each_command_ends_at_a_failed_write(rt: HostRuntime) -> Result<(), Fail> {
     Ok(())
 }
 
-#[test]
-fn a_failed_line_leaves_the_status(rt: HostRuntime) -> Result<(), Fail> {
-    let alloc = rt.alloc();
-    let words = words(alloc, "convert --lead-in 0")?;
-    let mut first = SteadySource::new(&[0; 100]);
+// The error output fails at its first call.
+fn untold(alloc: Global, line: &str, bytes: &[u8]) -> Result<Status, AllocError> {
+    let words = words(alloc, line)?;
+    let mut first = MemSource::new(bytes.to_vec(alloc)?, Vec::new(alloc), Vec::new(alloc));
     let mut second = SteadySource::new(&[]);
     let mut out = MemSink::new(alloc, 96, Vec::new(alloc), Vec::new(alloc))?;
     let mut err = MemSink::new(alloc, 96, Vec::new(alloc), vec![in alloc; 0u32]?)?;
-    let status = run(alloc, &words, &mut first, &mut second, &mut out, &mut err);
-    assert_eq!(rt; status.exit(), 3);
-    assert!(rt; err.bytes().is_empty());
+    Ok(run(alloc, &words, &mut first, &mut second, &mut out, &mut err))
+}
+
+#[test]
+fn a_failed_line_leaves_the_status(rt: HostRuntime) -> Result<(), Fail> {
+    let alloc = rt.alloc();
+    let torn = Status::Refused(Refusal::Torn { block: 1 });
+    assert_eq!(rt; untold(alloc, "convert --lead-in 0", &[0; 100])?, torn);
+    let damaged = zeros_but(alloc, 192, &[50, 100, 150])?;
+    assert_eq!(rt;
+        untold(alloc, "convert --lead-in 0", &damaged)?,
+        Status::Damaged(1)
+    );
     Ok(())
+}
+
+// Three of five blocks are taken before the read that fails, with a lead-in and without.
+#[test]
+fn what_was_read_before_a_fault_is_taken(rt: HostRuntime) -> Result<(), Fail> {
+    let alloc = rt.alloc();
+    assert_eq!(rt; left_after_fault(alloc, "convert --lead-in 0")?, 192);
+    assert_eq!(rt; left_after_fault(alloc, "convert --lead-in 1")?, 192);
+    Ok(())
+}
+
+// How many of 480 bytes are left after a read that fails at call number 3.
+fn left_after_fault(alloc: Global, line: &str) -> Result<usize, AllocError> {
+    let words = words(alloc, line)?;
+    let bytes = vec![in alloc; 0u8; 480]?;
+    let mut first = MemSource::new(bytes, vec![in alloc; 96usize]?, vec![in alloc; 3u32]?);
+    let mut second = SteadySource::new(&[]);
+    let mut err = SteadySink::new();
+    let _ = run(
+        alloc,
+        &words,
+        &mut first,
+        &mut second,
+        &mut SteadySink::new(),
+        &mut err,
+    );
+    Ok(first.rest().len())
 }

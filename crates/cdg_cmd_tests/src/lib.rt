@@ -16,4 +16,8 @@ mod players;
 #[cfg(test)]
 mod screens;
 #[cfg(test)]
+mod stopped;
+#[cfg(test)]
 mod words;
+#[cfg(test)]
+mod workload;
