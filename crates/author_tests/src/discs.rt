@@ -7,14 +7,14 @@ use std::test::Fail;
 use subcode_author::{AuthorStop, author_stream};
 
 /// One track, and no text.
-pub const ONE_TRACK: &[u8] = b"FILE \"a.wav\" WAVE\nTRACK 01 AUDIO\nINDEX 01 00:00:00\n";
+pub(crate) const ONE_TRACK: &[u8] = b"FILE \"a.wav\" WAVE\nTRACK 01 AUDIO\nINDEX 01 00:00:00\n";
 
 /// Three tracks with titles, a pause, and codes: ten text packs.
-pub const THREE_TRACKS: &[u8] =
+pub(crate) const THREE_TRACKS: &[u8] =
     b"CATALOG 0000000000000\nPERFORMER \"Demo Band\"\nTITLE \"Demo\"\nFILE \"demo.wav\" WAVE\n  TRACK 01 AUDIO\n    TITLE \"One\"\n    INDEX 01 00:00:00\n  TRACK 02 AUDIO\n    TITLE \"Two\"\n    INDEX 00 01:18:00\n    INDEX 01 01:20:00\n  TRACK 03 AUDIO\n    TITLE \"Three\"\n    ISRC GBAAA2400003\n    INDEX 01 02:40:00\n";
 
 /// Writes a stream, and gives the reason why it could not.
-pub fn author<K: Sink>(
+pub(crate) fn author<K: Sink>(
     alloc: Global,
     cue: &[u8],
     pictures: &[u8],
@@ -34,7 +34,7 @@ pub fn author<K: Sink>(
 }
 
 /// Why a stream cannot be written, or nothing.
-pub fn stop_of(
+pub(crate) fn stop_of(
     alloc: Global,
     cue: &[u8],
     pictures: &[u8],

@@ -3,7 +3,7 @@ use std::alloc::{AllocError, Global};
 
 /// A picture whose tiles each show all sixteen colours, ready and held for so many frames after ten seconds: in three
 /// lines of pixels of each tile the colour goes up by one from pixel to pixel.
-pub fn colourful(alloc: Global, frames: u32) -> Result<String, AllocError> {
+pub(crate) fn colourful(alloc: Global, frames: u32) -> Result<String, AllocError> {
     let mut text = String::new(alloc);
     for row in 0..16u32 {
         for line in 0..3u32 {
@@ -25,7 +25,7 @@ pub fn colourful(alloc: Global, frames: u32) -> Result<String, AllocError> {
 
 /// Forty pictures over grey colours, each with a further stripe: one in six seconds, ready after three and held to the
 /// eighth.
-pub fn stripes(alloc: Global) -> Result<String, AllocError> {
+pub(crate) fn stripes(alloc: Global) -> Result<String, AllocError> {
     let mut text = String::new(alloc);
     for colour in 0..16u32 {
         text.push_str(&format!(in alloc; "colour {colour} 0{colour:x}{colour:x}{colour:x}\n")?)?;

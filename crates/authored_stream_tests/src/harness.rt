@@ -4,23 +4,23 @@ use cdg_io::{MemSink, MemSource};
 use std::alloc::{AllocError, Global};
 
 /// One track, and no text.
-pub const ONE_TRACK: &[u8] = b"FILE \"a.wav\" WAVE\nTRACK 01 AUDIO\nINDEX 01 00:00:00\n";
+pub(crate) const ONE_TRACK: &[u8] = b"FILE \"a.wav\" WAVE\nTRACK 01 AUDIO\nINDEX 01 00:00:00\n";
 
 /// What a run ended with, held and told.
 #[derive(Drop)]
-pub struct Ran {
-    pub status: Status,
-    pub out: MemSink,
-    pub err: MemSink,
+pub(crate) struct Ran {
+    pub(crate) status: Status,
+    pub(crate) out: MemSink,
+    pub(crate) err: MemSink,
 }
 
 /// A source of these bytes that gives them all at once and does not fail.
-pub fn source(alloc: Global, bytes: &[u8]) -> Result<MemSource, AllocError> {
+pub(crate) fn source(alloc: Global, bytes: &[u8]) -> Result<MemSource, AllocError> {
     Ok(MemSource::new(bytes.to_vec(alloc)?, Vec::new(alloc), Vec::new(alloc)))
 }
 
 /// Runs the words of a line, which blanks part, on two inputs, into an output that fails at these calls.
-pub fn run_on(
+pub(crate) fn run_on(
     alloc: Global,
     line: &str,
     mut first: MemSource,
@@ -38,7 +38,12 @@ pub fn run_on(
 }
 
 /// Runs a line on two inputs that do not fail.
-pub fn run_two(alloc: Global, line: &str, first: &[u8], second: &[u8]) -> Result<Ran, AllocError> {
+pub(crate) fn run_two(
+    alloc: Global,
+    line: &str,
+    first: &[u8],
+    second: &[u8],
+) -> Result<Ran, AllocError> {
     run_on(
         alloc,
         line,
@@ -49,6 +54,6 @@ pub fn run_two(alloc: Global, line: &str, first: &[u8], second: &[u8]) -> Result
 }
 
 /// Runs a line on one input that does not fail.
-pub fn run_one(alloc: Global, line: &str, first: &[u8]) -> Result<Ran, AllocError> {
+pub(crate) fn run_one(alloc: Global, line: &str, first: &[u8]) -> Result<Ran, AllocError> {
     run_two(alloc, line, first, &[])
 }

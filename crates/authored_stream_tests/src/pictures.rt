@@ -6,7 +6,7 @@ const SHEET: &[u8] =
     b"CATALOG 0000000000000\nPERFORMER \"Demo Band\"\nTITLE \"Demo\"\nFILE \"demo.wav\" WAVE\n  TRACK 01 AUDIO\n    TITLE \"One\"\n    INDEX 01 00:00:00\n  TRACK 02 AUDIO\n    TITLE \"Two\"\n    INDEX 00 01:18:00\n    INDEX 01 01:20:00\n  TRACK 03 AUDIO\n    TITLE \"Three\"\n    ISRC GBAAA2400003\n    INDEX 01 02:40:00\n";
 
 /// The stream of the disc, with a lead-in of two seconds and four minutes of music.
-pub fn disc(alloc: Global) -> Result<Ran, AllocError> {
+pub(crate) fn disc(alloc: Global) -> Result<Ran, AllocError> {
     let script = script(alloc)?;
     run_two(
         alloc,
@@ -35,14 +35,14 @@ fn script(alloc: Global) -> Result<String, AllocError> {
 }
 
 /// The time of a second.
-pub fn time(alloc: Global, second: u32) -> Result<String, AllocError> {
+pub(crate) fn time(alloc: Global, second: u32) -> Result<String, AllocError> {
     let (minutes, seconds) = (second / 60, second % 60);
     format!(in alloc; "{minutes:02}:{seconds:02}:00")
 }
 
 /// The pixmap of picture k: a black border of six pixels and twelve lines, and in it the stripes that were drawn so far,
 /// each of the picture that drew it last.
-pub fn pixmap(alloc: Global, k: u32) -> Result<Vec<u8>, AllocError> {
+pub(crate) fn pixmap(alloc: Global, k: u32) -> Result<Vec<u8>, AllocError> {
     let mut bytes = b"P6\n300 216\n255\n".to_vec(alloc)?;
     bytes.resize(15 + 12 * 900, 0)?;
     for stripe in 0..8 {

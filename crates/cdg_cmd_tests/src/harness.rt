@@ -5,14 +5,14 @@ use std::alloc::{AllocError, Global};
 
 /// What a run ended with, held and told.
 #[derive(Drop)]
-pub struct Ran {
-    pub status: Status,
-    pub out: MemSink,
-    pub err: MemSink,
+pub(crate) struct Ran {
+    pub(crate) status: Status,
+    pub(crate) out: MemSink,
+    pub(crate) err: MemSink,
 }
 
 /// The words of a line, which blanks part.
-pub fn words(alloc: Global, line: &str) -> Result<Vec<String>, AllocError> {
+pub(crate) fn words(alloc: Global, line: &str) -> Result<Vec<String>, AllocError> {
     let mut words = Vec::new(alloc);
     for word in line.split(' ') {
         words.push(String::from_str(alloc, word)?)?;
@@ -21,7 +21,7 @@ pub fn words(alloc: Global, line: &str) -> Result<Vec<String>, AllocError> {
 }
 
 /// Runs a command on a source, into an output with this room that fails at these calls.
-pub fn run_on(
+pub(crate) fn run_on(
     alloc: Global,
     line: &str,
     mut first: MemSource,
@@ -37,14 +37,14 @@ pub fn run_on(
 }
 
 /// Runs a command on bytes that come in pieces of several sizes.
-pub fn run_bytes(alloc: Global, line: &str, bytes: Vec<u8>) -> Result<Ran, AllocError> {
+pub(crate) fn run_bytes(alloc: Global, line: &str, bytes: Vec<u8>) -> Result<Ran, AllocError> {
     let cuts = vec![in alloc; 95usize, 1, 97, 7]?;
     let first = MemSource::new(bytes, cuts, Vec::new(alloc));
     run_on(alloc, line, first, 200_000, Vec::new(alloc))
 }
 
 /// Zero bytes but for ones at these places.
-pub fn zeros_but(alloc: Global, len: usize, ones: &[usize]) -> Result<Vec<u8>, AllocError> {
+pub(crate) fn zeros_but(alloc: Global, len: usize, ones: &[usize]) -> Result<Vec<u8>, AllocError> {
     let mut bytes = vec![in alloc; 0u8; len]?;
     for place in ones {
         if let Some(byte) = bytes.get_mut(*place) {
