@@ -12,6 +12,10 @@ if [ -x bin/ribjasper ]; then
     built=yes
     ribjasper() { (cd demo && ../bin/ribjasper "$@"); }
 else
+    command -v rt >/dev/null || {
+        echo "Neither bin/ribjasper nor the command rt of the Rattle kit is here." >&2
+        exit 1
+    }
     echo "No bin/ribjasper stands yet: the commands run through 'rt try', which proves nothing ('make' does)."
     echo "Each of the three takes some half a minute so."
     built=no
@@ -38,7 +42,8 @@ echo "   demo/hello.raw: $(($(wc -c <demo/hello.raw) / 96)) blocks"
 
 echo
 echo "2. text: the CD-TEXT of its lead-in"
-ribjasper text --lead-in $lead_in <demo/hello.raw | sed 's/^/   /'
+ribjasper text --lead-in $lead_in <demo/hello.raw >demo/hello.txt
+sed 's/^/   /' demo/hello.txt
 
 echo
 echo "3. screen: the picture at 00:07:10, the third letter"
@@ -54,12 +59,14 @@ fi
 echo
 echo "4. scratch and check: bursts of wrong symbols, as a scratched disc has them"
 ribjasper scratch --lead-in $lead_in --seed 7 <demo/hello.raw >demo/scratched.raw
-ribjasper check --lead-in $lead_in <demo/scratched.raw | sed 's/^/   /'
+ribjasper check --lead-in $lead_in <demo/scratched.raw >demo/check.txt
+sed 's/^/   /' demo/check.txt
 
 echo
 echo "5. convert: the packs of the scratched stream, as a .cdg file for a player"
 ribjasper convert --lead-in $lead_in <demo/scratched.raw >demo/hello.cdg
-ribjasper convert --lead-in $lead_in <demo/hello.raw | cmp - demo/hello.cdg
+ribjasper convert --lead-in $lead_in <demo/hello.raw >demo/clean.cdg
+cmp demo/clean.cdg demo/hello.cdg
 echo "   demo/hello.cdg: the same packs as those of the stream without scratches"
 
 echo
@@ -72,4 +79,5 @@ echo "7. Three equal wrong symbols in one word are too many: the word is told an
 head -c 192 /dev/zero | tr '\000' '\001' | head -c 17 >demo/short.raw
 head -c 175 /dev/zero >>demo/short.raw
 ribjasper convert --lead-in 0 <demo/short.raw >demo/short.cdg && status=0 || status=$?
+[ "$status" = 1 ]
 echo "   status $status"

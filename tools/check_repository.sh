@@ -21,6 +21,12 @@ listed=$(sed -n 's/^\([a-z0-9_]*\):.*/\1/p; s/^\([a-z0-9_]*\) staticlib:.*/\1/p'
 present=$(ls crates | sort)
 [ "$listed" = "$present" ] || complain "crates.txt and crates/ differ"
 
+# The definitions are listed as they stand, and each crate is on the map.
+tools/list_definitions.py --check || complain "docs/DEFINITIONS.md is not what tools/list_definitions.py writes"
+for crate in $present; do
+    grep -qw "$crate" docs/ARCHITECTURE.md || complain "docs/ARCHITECTURE.md leaves out $crate"
+done
+
 # Each file that a document links to is there.
 for document in $(git ls-files '*.md'); do
     folder=$(dirname "$document")
@@ -40,7 +46,7 @@ if [ -f README.md ]; then
 fi
 
 # Scripts are programs.
-for script in .ci/run tools/*.sh bench/*.sh examples/*.sh; do
+for script in .ci/run tools/*.sh tools/list_definitions.py bench/*.sh examples/*.sh; do
     [ -x "$script" ] || complain "$script cannot be run"
 done
 
