@@ -9,7 +9,8 @@ use Rattle.bit_lists.specs.Counting.{parts, whole_parts}
 use Rattle.cdg_io.specs.Run.{run_gives}
 use Rattle.cdg_io.specs.Pump.{units_of, given}
 use Rattle.cdg_io.proofs.Streaming.{IsWhole}
-use Rattle.raw_subcode.specs.Channels.{packed_at, gathered_at, planar_form, block_from_planar, IsPlanarForm}
+use Rattle.raw_subcode.specs.Channels.{IsPlanarForm}
+use Rattle.raw_subcode.specs.PlanarBytes.{packed_at, gathered_at, planar_form, block_from_planar}
 use Rattle.raw_subcode.proofs.Eight.{to_planar_is, from_planar_is}
 use Rattle.block_stages.specs.PlanarStream.{TurnsBlocks, IsPlanarStream, IsBlockStream}
 use Rattle.block_stages.proofs.QRuns.{Sized}

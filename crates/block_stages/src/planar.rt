@@ -1,6 +1,6 @@
 // From blocks to their planar forms, and back.
 ghost use Rattle.std.specs.Prelude.{Some};
-ghost use Rattle.raw_subcode.specs.Channels.{block_from_planar, planar_form};
+ghost use Rattle.raw_subcode.specs.PlanarBytes.{block_from_planar, planar_form};
 
 use cdg_io::{Piece, Stage};
 use raw_subcode::Block;
@@ -19,9 +19,7 @@ impl Stage for PlanarForms {
     ghost gives = { λ _ block. Some (planar_form block) };
 
     fn feed(&mut self, block: &[u8; 96]) -> Option<Piece> {
-        let mut piece = Piece::new();
-        piece.add(&Block::from_bytes(block).to_planar());
-        Some(piece)
+        Some(Piece::new().with(&Block::from_bytes(block).to_planar()))
     }
 }
 
@@ -39,8 +37,6 @@ impl Stage for BlockForms {
     ghost gives = { λ _ planar. Some (block_from_planar planar) };
 
     fn feed(&mut self, planar: &[u8; 96]) -> Option<Piece> {
-        let mut piece = Piece::new();
-        piece.add(&Block::from_planar(planar).bytes());
-        Some(piece)
+        Some(Piece::new().with(&Block::from_planar(planar).bytes()))
     }
 }

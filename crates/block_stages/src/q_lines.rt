@@ -13,6 +13,7 @@ const LAST: u32 = 999_999;
 pub struct QLines {
     /// The number of the next block.
     pub block: u32,
+    /// How many frames were refused.
     pub bad: u32,
 }
 

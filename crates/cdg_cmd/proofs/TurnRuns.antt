@@ -13,7 +13,8 @@ use Rattle.cdg_io.specs.declared.pumping.Pumped.{Pumped}
 use Rattle.cdg_io.specs.declared.pumping.PumpStop.{PumpStop}
 use Rattle.cdg_io.specs.declared.pumping.PumpStop.TheVariants as pump
 use Rattle.cdg_io.proofs.Streaming.{IsWhole, IsTold, streams_done, streams_stop}
-use Rattle.raw_subcode.specs.Channels.{block_from_planar, gathered_at, packed_at, planar_form, IsPlanarForm}
+use Rattle.raw_subcode.specs.Channels.{IsPlanarForm}
+use Rattle.raw_subcode.specs.PlanarBytes.{block_from_planar, gathered_at, packed_at, planar_form}
 use Rattle.raw_subcode.proofs.Eight.{from_planar_is, to_planar_is}
 use Rattle.block_stages.specs.PlanarStream.{TurnsBlocks}
 use Rattle.cdg_cmd.specs.Turns.{IsTurned, Turns}

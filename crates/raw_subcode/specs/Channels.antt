@@ -1,7 +1,7 @@
 -- Blocks of 96 bytes: eight channels of 96 bits, P to W, one bit of each in a byte.
-use Rattle.std.specs.Prelude.{◌≡◌, ℕ, ◌+◌, ◌-◌, ◌*◌, ◌%◌, ◌/◌, ◌<◌, Bool, List, length, map, flat_map, drop, slice_index}
-use Rattle.bit_lists.specs.Counting.{below, whole_parts}
-use Rattle.bit_lists.specs.Bits.{has_bit, bits_of, number_of}
+use Rattle.std.specs.Prelude.{◌≡◌, ℕ, ◌+◌, ◌-◌, ◌*◌, ◌%◌, ◌<◌, Bool, List, length, map, flat_map, drop, slice_index}
+use Rattle.bit_lists.specs.Counting.{whole_parts}
+use Rattle.bit_lists.specs.Bits.{has_bit, bits_of}
 use Rattle.raw_subcode.specs.declared.form.Form.{Form}
 use Rattle.raw_subcode.specs.declared.form.Form.TheVariants.{Raw, Sector, Cooked}
 
@@ -9,10 +9,11 @@ use Rattle.raw_subcode.specs.declared.form.Form.TheVariants.{Raw, Sector, Cooked
 abbrev pub channel_bit : ℕ → ℕ → Bool
 channel_bit channel byte = has_bit (7 - channel) byte
 
--- the P bits of a block, and its Q bits
+-- the P bits of a block
 abbrev pub p_bits : List ℕ → List Bool
 p_bits block = map (channel_bit 0) block
 
+-- the Q bits of a block
 abbrev pub q_bits : List ℕ → List Bool
 q_bits block = map (channel_bit 1) block
 
@@ -47,19 +48,3 @@ blocks_of form bytes = map (block_of form) (whole_parts (unit_size form) bytes)
 -- the symbols of the program blocks, which follow the lead-in blocks
 abbrev pub program_symbols : Form → List ℕ → ℕ → List ℕ
 program_symbols form bytes lead_in = flat_map symbols_of (drop lead_in (blocks_of form bytes))
-
--- the byte of a channel's bits at eight bytes
-abbrev pub packed_at : List ℕ → ℕ → ℕ → ℕ
-packed_at block channel first =
-    number_of (map (λ j. channel_bit channel (slice_index block (first + j))) (below 8))
-
--- the byte of the bits at one place of the eight channels of a planar form
-abbrev pub gathered_at : List ℕ → ℕ → ℕ
-gathered_at planar i = number_of (map (λ c. has_bit (7 - i % 8) (slice_index planar (12 * c + i / 8))) (below 8))
-
--- the planar form of a block, byte by byte, and the block of a planar form
-abbrev pub planar_form : List ℕ → List ℕ
-planar_form block = map (λ i. packed_at block (i / 12) (8 * (i % 12))) (below 96)
-
-abbrev pub block_from_planar : List ℕ → List ℕ
-block_from_planar planar = map (gathered_at planar) (below 96)

@@ -24,7 +24,7 @@ pub fn correct(received: &Word) -> Option<Fixed>
         (λ fixed. Reads received.now fixed.pack × (fixed.wrong ≡ differences received.now fixed.pack)) }
     ensures word { IsWord received.now }
 {
-    let _ = received.bytes();
+    received.is_word();
     let syndromes = Syndromes::of(received);
     if let Some(pack) = Pack::check_syndromes(received, syndromes) {
         return Some(Fixed { pack, wrong: 0 });
@@ -91,7 +91,7 @@ fn candidate_at(received: &Word, sums: &Sums, i: usize) -> Option<Word>
         (λ candidate. (w : List ℕ) → Reads received.now w
         → slice_index received.now i ≢ slice_index w i → w ≡ candidate) }
 {
-    let _ = received.bytes();
+    received.is_word();
     let without = sums_without(received, sums, i);
     if without.zeroth.is_zero() {
         return Some(received.plus(i, sums.zeroth));

@@ -53,9 +53,9 @@ impl Pack {
         ensures only { (w : List ℕ) → IsCodeword w → HasSymbols w head body → w ≡ result }
     {
         let headed = with_head(head);
-        let _ = headed.bytes();
+        headed.is_word();
         let word = with_whole_parity(&with_body(headed, &body));
-        let _ = word.bytes();
+        word.is_word();
         Pack { word }
     }
 

@@ -1,6 +1,7 @@
 // The parity symbols of a codeword.
 ghost use Rattle.std.specs.Prelude.{◌≡◌, ◌∷◌, [], ◌++◌, ◌+◌, ◌<◌, ℕ, take, slice_index};
-ghost use Rattle.rw_code.specs.Codeword.{weighted_sum, ContinuesTo};
+ghost use Rattle.rw_code.specs.Codeword.{weighted_sum};
+ghost use Rattle.rw_code.specs.Syndromes.{ContinuesTo};
 
 use crate::Word;
 use gf64::Sym;
@@ -88,7 +89,7 @@ fn whole_parity(word: &Word) -> WholeParity
     ensures { (j : ℕ) → j < 4 → weighted_sum j (take 20 word.now
         ++ result.first ∷ result.second ∷ result.third ∷ result.fourth ∷ []) ≡ 0 }
 {
-    let _ = word.bytes();
+    word.is_word();
     let zero = Sym::default();
     let mut parity = WholeParity {
         first: zero,
@@ -107,7 +108,7 @@ pub(crate) fn with_whole_parity(word: &Word) -> Word
     ensures kept { (k : ℕ) → k < 20 → slice_index result k ≡ slice_index word.now k }
     ensures whole { (j : ℕ) → j < 4 → weighted_sum j result ≡ 0 }
 {
-    let _ = word.bytes();
+    word.is_word();
     let parity = whole_parity(word);
     word.with(20, parity.first)
         .with(21, parity.second)

@@ -42,7 +42,7 @@ impl Syndromes {
         requires { AreSyndromes word.now self.lanes }
         ensures { IsTrue result ↔ IsCodeword word.now }
     {
-        let _ = word.bytes();
+        word.is_word();
         self.lanes == 0
     }
 

@@ -36,7 +36,7 @@ impl Default for Word {
 
 impl Word {
     /// The word of the low six bits of the bytes.
-    pub fn new(bytes: &[u8; 24]) -> Word
+    pub fn new(bytes: &[u8; SYMBOLS]) -> Word
         ensures { result ≡ map (λ byte. byte % 64) bytes.now }
     {
         let mut low = [0; SYMBOLS];
@@ -57,11 +57,19 @@ impl Word {
 
     /// The symbols, a byte each.
     #[inline]
-    pub fn bytes(&self) -> [u8; 24]
+    pub fn bytes(&self) -> [u8; SYMBOLS]
         ensures same { result ≡ self.now }
         ensures word { IsWord result }
     {
         self.bytes
+    }
+
+    /// A law: each word has 24 symbols below 64.
+    pub(crate) fn is_word(&self)
+        ensures { IsWord self.now }
+    {
+        // A proof knows the invariant where a field is named.
+        let _ = &self.bytes;
     }
 
     /// The word with another symbol at a position.
@@ -88,11 +96,11 @@ impl Word {
     pub(crate) fn differences(&self, other: &Word) -> u8
         ensures { result ≡ differences self.now other.now }
     {
-        let _ = &self.bytes;
-        let _ = &other.bytes;
+        let mine = self.bytes();
+        let others = other.bytes();
         let mut count = 0;
         for i in 0..SYMBOLS {
-            if self.bytes[i] != other.bytes[i] {
+            if mine[i] != others[i] {
                 count += 1;
             }
         }

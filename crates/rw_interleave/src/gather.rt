@@ -8,15 +8,12 @@ ghost use Rattle.rw_interleave.specs.Gathering.{gathered, gather_gives, gather_n
 ghost use Rattle.rw_interleave.specs.Interleave.{swapped, word_of, whole_of_slots};
 
 use crate::Slot;
-use crate::slot::swapped;
+use crate::slot::{SPAN, swapped};
 use cdg_io::Stage;
 use circular_buffer::HeapCircularBuffer;
 use rw_code::Word;
 use std::alloc::{AllocError, Global};
 use std::marker::Model;
-
-/// How many slots the symbols of a word are spread over.
-const SPAN: usize = 8;
 
 /// Gathers words from slots. Seen as the last slots, at most seven.
 #[derive(Drop)]

@@ -94,6 +94,32 @@ pub clean_found : (form : Form) (symbols : List ℕ) (found : List (Option (List
 clean_found form symbols found one codewords recovered =
     found_is form symbols found (form_word form symbols) one recovered (λ n lt. ((codewords n lt).is_word, itself _ (codewords n lt)))
 
+-- what is found for a word is this function of it, and nothing else is
+abbrev pub IsFound : (List ℕ → Option (List ℕ)) → Type 0
+IsFound finds = (received : List ℕ) → IsWord received → IsFinding received (finds received)
+
+abbrev pub OnlyFound : (List ℕ → Option (List ℕ)) → Type 0
+OnlyFound finds = (received : List ℕ) (found : Option (List ℕ)) → IsWord received → IsFinding received found → found ≡ finds received
+
+pub some_recovered : (finds : List ℕ → Option (List ℕ)) → IsFound finds → (form : Form) (symbols : List ℕ) → ((p : ℕ) → get_or symbols p 0 < 64)
+    → IsRecovered form symbols (map (λ n. finds (form_word form symbols n)) (below (word_count form (length symbols / 96))))
+some_recovered finds is form symbols small =
+    let count : ℕ = word_count form (length symbols / 96) in
+    let each : ℕ → Option (List ℕ) = λ n. finds (form_word form symbols n) in
+    record {
+      count = length-map-range_with_len each 0 count;
+      each = λ n lt. subst (IsFinding (form_word form symbols n)) (sym (get_or-map-range_with_len each 0 count n n None lt (omega arith)))
+          (is (form_word form symbols n) (form_words form symbols n small));
+    }
+
+pub one_recovered : (finds : List ℕ → Option (List ℕ)) → OnlyFound finds → (form : Form) (symbols : List ℕ) → ((p : ℕ) → get_or symbols p 0 < 64)
+    → (found other : List (Option (List ℕ))) → IsRecovered form symbols found → IsRecovered form symbols other → found ≡ other
+one_recovered finds only form symbols small found other recovered again =
+    ext_get_or None found other (recovered.count ∙ sym again.count) (λ n lt.
+    let within : n < word_count form (length symbols / 96) = omega (arith, lt, recovered.count) in
+    let word : IsWord (form_word form symbols n) = form_words form symbols n small in
+    only _ _ word (recovered.each n within) ∙ sym (only _ _ word (again.each n within)))
+
 -- ---- packs through damage
 
 -- there are at least as many words as packs

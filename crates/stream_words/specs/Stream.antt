@@ -45,7 +45,7 @@ pub record IsDamaged (symbols : List ℕ) (form : Form) (others : List ℕ) : Ty
 
 -- Symbols that differ in bursts
 
--- bursts by their first place and size, from a place on: each has at most sixteen symbols, and each but the first comes at least 192 places after the one before
+-- bursts by their first place and size, from a place on: each has at most sixteen symbols, and each but the first begins at least 192 places after the one before has ended
 abbrev pub AreBurstsFrom : ℕ → List (ℕ × ℕ) → Type 0
 AreBurstsFrom place [] = ⊤
 AreBurstsFrom place (burst ∷ rest) = (place ≤ burst.0) × (burst.1 ≤ 16) × AreBurstsFrom (burst.0 + burst.1 + 192) rest

@@ -9,7 +9,18 @@ ghost use Rattle.stream_words.specs.Stream.{DiffersInBursts, IsDamaged, IsRecove
 ghost use Rattle.stream_words.specs.Texts.{cdg_bytes};
 
 use raw_subcode::Form;
-use rw_code::{Pack, only_one_codeword_is_near};
+use rw_code::{Pack, each_word_has_one_finding, only_one_codeword_is_near};
+
+/// A law: something is recovered from any symbols below 64, and nothing else is, so what is recovered depends on the form
+/// and the symbols alone.
+pub fn one_list_is_recovered()
+    ensures some { (form : Form) (symbols : List ℕ) → All (λ symbol. symbol < 64) symbols
+        → (found : List (Option (List ℕ))) × IsRecovered form symbols found }
+    ensures one { (form : Form) (symbols : List ℕ) (found other : List (Option (List ℕ))) → All (λ symbol. symbol < 64) symbols
+        → IsRecovered form symbols found → IsRecovered form symbols other → found ≡ other }
+{
+    each_word_has_one_finding();
+}
 
 /// A law: from damage of at most two symbols a word every pack is recovered.
 pub fn packs_are_recovered()
@@ -18,7 +29,8 @@ pub fn packs_are_recovered()
         → IsRecovered form others found → found ≡ map (λ pack. Some pack) (all_packs form blocks packs) }
 {
     only_one_codeword_is_near();
-    let _idle = Pack::idle().word();
+    // The word of zeros is a codeword.
+    Pack::idle().word();
 }
 
 /// A law: where every word is a codeword, these are what is found.

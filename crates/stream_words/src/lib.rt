@@ -3,4 +3,7 @@
 
 mod laws;
 
-pub use laws::{bursts_are_damage, clean_words_are_found, packs_are_recovered, text_of_packs};
+pub use laws::{
+    bursts_are_damage, clean_words_are_found, one_list_is_recovered, packs_are_recovered,
+    text_of_packs,
+};

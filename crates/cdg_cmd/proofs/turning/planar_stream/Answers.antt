@@ -1,4 +1,5 @@
-use Rattle.raw_subcode.specs.Channels.{planar_form, IsPlanarForm}
+use Rattle.raw_subcode.specs.Channels.{IsPlanarForm}
+use Rattle.raw_subcode.specs.PlanarBytes.{planar_form}
 use Rattle.cdg_cmd.proofs.TurnRuns.{planar_turn, turns_done, turns_stop}
 use Rattle.cdg_cmd.proofs.turning.planar_stream.Goals as goal
 

@@ -1,4 +1,5 @@
-use Rattle.raw_subcode.specs.Channels.{block_from_planar, IsPlanarForm}
+use Rattle.raw_subcode.specs.Channels.{IsPlanarForm}
+use Rattle.raw_subcode.specs.PlanarBytes.{block_from_planar}
 use Rattle.cdg_cmd.proofs.TurnRuns.{block_turn, turns_done, turns_stop}
 use Rattle.cdg_cmd.proofs.turning.raw_stream.Goals as goal
 

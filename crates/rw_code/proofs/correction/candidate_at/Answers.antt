@@ -1,4 +1,4 @@
-use Rattle.std.proofs.Common.{◌≡◌, ◌∙◌, true, not, eqb, eq-eqb, refl, sym, ap, ap₂, subst, bit_xor, set, get_or}
+use Rattle.std.proofs.Common.{◌≡◌, ◌∙◌, true, not, eqb, eq-eqb, refl, sym, ap, ap₂, bit_xor, set, get_or}
 use Rattle.std.proofs.lemmas.Bool.{false≢true}
 use Rattle.gf64.specs.Field.{product}
 use Rattle.rw_code.specs.Codeword.{IsWord}
@@ -8,7 +8,7 @@ use Rattle.rw_code.proofs.correction.candidate_at.Goals as goal
 pub returns-then-is_zero : goal.returns-then-is_zero
 returns-then-is_zero c =
     let t = c.sums_without-without.result in
-    let is_word : IsWord c.args.received.now = subst IsWord c.bytes.ensures.same c.bytes.ensures.word in
+    let is_word : IsWord c.args.received.now = c.is_word.ensures in
     let are : AreWithout c.args.received.now c.args.i t.zeroth t.first t.second =
     record { zeroth = c.sums_without-without.ensures.zeroth; first = c.sums_without-without.ensures.first; second = c.sums_without-without.ensures.second } in
     single_found _ _ _ _ _ _ _ is_word c.requires.place are c.requires.sums.zeroth (c.if-is_zero.ensures.0 refl) c.plus.ensures
@@ -16,7 +16,7 @@ returns-then-is_zero c =
 pub returns-then-ne : goal.returns-then-ne
 returns-then-ne c =
     let t = c.sums_without-without.result in
-    let is_word : IsWord c.args.received.now = subst IsWord c.bytes.ensures.same c.bytes.ensures.word in
+    let is_word : IsWord c.args.received.now = c.is_word.ensures in
     let are : AreWithout c.args.received.now c.args.i t.zeroth t.first t.second =
     record { zeroth = c.sums_without-without.ensures.zeroth; first = c.sums_without-without.ensures.first; second = c.sums_without-without.ensures.second } in
     right_by_test _ _ _ _ _ is_word c.requires.place are
@@ -29,7 +29,7 @@ returns-then-ne c =
 pub returns-in_default : goal.returns-in_default
 returns-in_default c =
     let t = c.sums_without-without.result in
-    let is_word : IsWord c.args.received.now = subst IsWord c.bytes.ensures.same c.bytes.ensures.word in
+    let is_word : IsWord c.args.received.now = c.is_word.ensures in
     let are : AreWithout c.args.received.now c.args.i t.zeroth t.first t.second =
     record { zeroth = c.sums_without-without.ensures.zeroth; first = c.sums_without-without.ensures.first; second = c.sums_without-without.ensures.second } in
     right_by_search _ _ _ _ _ is_word c.requires.place are (λ none. false≢true (c.if-is_zero.ensures.1 none)) c.in_default.ensures
@@ -37,7 +37,7 @@ returns-in_default c =
 pub returns-then-j-i : goal.returns-then-j-i
 returns-then-j-i c =
     let t = c.sums_without-without.result in
-    let is_word : IsWord c.args.received.now = subst IsWord c.bytes.ensures.same c.bytes.ensures.word in
+    let is_word : IsWord c.args.received.now = c.is_word.ensures in
     let are : AreWithout c.args.received.now c.args.i t.zeroth t.first t.second =
     record { zeroth = c.sums_without-without.ensures.zeroth; first = c.sums_without-without.ensures.first; second = c.sums_without-without.ensures.second } in
     right_by_position _ _ _ _ _ _ is_word c.requires.place are (λ none. false≢true (c.if-is_zero.ensures.1 none)) c.in-Some.ensures.1 c.if-j-i.true
@@ -50,7 +50,7 @@ inv-requires c = λ none.
 pub returns : goal.returns
 returns c =
     let t = c.sums_without-without.result in
-    let is_word : IsWord c.args.received.now = subst IsWord c.bytes.ensures.same c.bytes.ensures.word in
+    let is_word : IsWord c.args.received.now = c.is_word.ensures in
     let are : AreWithout c.args.received.now c.args.i t.zeroth t.first t.second =
     record { zeroth = c.sums_without-without.ensures.zeroth; first = c.sums_without-without.ensures.first; second = c.sums_without-without.ensures.second } in
     let sum_is = c.add.ensures.sum ∙ ap₂ bit_xor c.power_at.ensures c.power_at-2.ensures in

@@ -1,5 +1,4 @@
-use Rattle.std.proofs.Common.{subst, arith}
-use Rattle.rw_code.specs.Codeword.{IsWord}
+use Rattle.std.proofs.Common.{arith}
 use Rattle.rw_code.proofs.Errors.{itself, none_near}
 use Rattle.rw_code.proofs.correction.correct.Goals as goal
 
@@ -8,5 +7,5 @@ returns-in-Some-clause-reads c = itself _ _ c.in-Some.ensures.0 c.in-Some.ensure
 
 pub returns-clause-reads : goal.returns-clause-reads
 returns-clause-reads c =
-    none_near _ (subst IsWord c.bytes.ensures.same c.bytes.ensures.word) c.in_default.ensures
+    none_near _ c.is_word.ensures c.in_default.ensures
     (λ k lt. c.loop-i.invariant k (omega arith))

@@ -1,9 +1,7 @@
-use Rattle.std.proofs.Common.{subst}
-use Rattle.rw_code.specs.Codeword.{IsWord}
 use Rattle.rw_code.proofs.Parity.{tail_sums}
 use Rattle.rw_code.proofs.sealing.with_whole_parity.Goals as goal
 
 pub returns-clause-whole : goal.returns-clause-whole
 returns-clause-whole c =
-    tail_sums c.args.word.now _ _ _ _ _ _ _ _ (subst IsWord c.bytes.ensures.same c.bytes.ensures.word) c.whole_parity-parity.ensures
+    tail_sums c.args.word.now _ _ _ _ _ _ _ _ c.is_word.ensures c.whole_parity-parity.ensures
     c.with.ensures c.with-2.ensures c.with-3.ensures c.with-4.ensures

@@ -1,6 +1,6 @@
 use Rattle.std.proofs.Common.{◌≡◌, ℕ, Bool, true, ◌==◌, get_or, refl}
 use Rattle.std.proofs.lemmas.Bool.{eqb-true}
-use Rattle.gf64.proofs.Tables.{all_below, all_below-at}
+use Rattle.bit_lists.proofs.Tests.{all_below, all_below-at}
 use Rattle.rw_interleave.specs.declared.slot.TheConstants.{SWAPPED}
 use Rattle.rw_interleave.specs.Interleave.{swapped}
 use Rattle.rw_interleave.proofs.slot.swapped.Goals as goal

@@ -1,6 +1,6 @@
 use Rattle.std.proofs.Common.{◌≡◌, [], ◌∷◌, subst, bit_xor}
 use Rattle.gf64.specs.Field.{product, alpha_power}
-use Rattle.rw_code.specs.Codeword.{ContinuesTo}
+use Rattle.rw_code.specs.Syndromes.{ContinuesTo}
 use Rattle.rw_code.proofs.Parity.{first_continues}
 use Rattle.rw_code.proofs.sealing.FirstParity.push.Goals as goal
 

@@ -1,0 +1,22 @@
+-- The bytes of a planar form, and of the block that has one, as the code makes them.
+use Rattle.std.specs.Prelude.{ℕ, ◌+◌, ◌-◌, ◌*◌, ◌%◌, ◌/◌, List, map, slice_index}
+use Rattle.bit_lists.specs.Counting.{below}
+use Rattle.bit_lists.specs.Bits.{has_bit, number_of}
+use Rattle.raw_subcode.specs.Channels.{channel_bit}
+
+-- the byte of a channel's bits at eight bytes
+abbrev pub packed_at : List ℕ → ℕ → ℕ → ℕ
+packed_at block channel first =
+    number_of (map (λ j. channel_bit channel (slice_index block (first + j))) (below 8))
+
+-- the byte of the bits at one place of the eight channels of a planar form
+abbrev pub gathered_at : List ℕ → ℕ → ℕ
+gathered_at planar i = number_of (map (λ c. has_bit (7 - i % 8) (slice_index planar (12 * c + i / 8))) (below 8))
+
+-- the planar form of a block, byte by byte
+abbrev pub planar_form : List ℕ → List ℕ
+planar_form block = map (λ i. packed_at block (i / 12) (8 * (i % 12))) (below 96)
+
+-- the block of a planar form, byte by byte
+abbrev pub block_from_planar : List ℕ → List ℕ
+block_from_planar planar = map (gathered_at planar) (below 96)
