@@ -1,5 +1,5 @@
 use Rattle.std.proofs.Common.{arith}
-use Rattle.cue_sheet.proofs.Readers.{text_of_place, track_text_is, album_text_is}
+use Rattle.cue_sheet.proofs.Readers.{text_of_place, track_text_is}
 use Rattle.cue_sheet.proofs.sheet.Sheet.text.Goals as goal
 
 pub returns-clause-text : goal.returns-clause-text
