@@ -51,7 +51,7 @@ impl From<AllocError> for CueStop {
     }
 }
 
-/// The kinds of texts of a sheet.
+/// The kinds of texts of a sheet, each of the album or of a track, by the command that gives them.
 #[derive(Clone, Copy, PartialEq, Eq, Debug)]
 pub enum CueText {
     Title,
