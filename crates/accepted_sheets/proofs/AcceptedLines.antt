@@ -4,8 +4,7 @@ use Rattle.std.specs.Prelude.{is_some, unwrap_or, Result, Ok, Err}
 use Rattle.std.proofs.lemmas.Bool.{cond_both}
 use Rattle.std.proofs.lemmas.List.Elements.{All-append}
 use Rattle.text_lines.specs.Text.{trimmed, first_word, argument_of, lines_of}
-use Rattle.cue_sheet.specs.CueSheet.{CueTrack, CueSheet, IsSheet}
-use Rattle.cue_sheet.specs.Views.{CueSection, track_from, sheet_from}
+use Rattle.cue_sheet.specs.CueSheet.{CueTrack, CueSheet, CueSection, track_from, sheet_from, IsSheet}
 use Rattle.cue_sheet.specs.Lines.{CueLine, SaysNothing, SaysCatalogue, SaysFile, SaysTitle, SaysPerformer, SaysSongwriter, SaysTrack, SaysFlags, SaysIsrc, SaysPregap, SaysIndex, SaysPostgap, command_named}
 use Rattle.cue_sheet.specs.Grammar.{CueState, state_of, section_said, track_with, checked_command, has_index_one, end_reason, checked_end, sheet_said, read_lines, read_cue}
 use Rattle.cue_sheet.specs.Steps.{after}

@@ -1,12 +1,12 @@
 -- What the lines of a cue sheet say is in its ranges, and made of the bytes of the text.
-use Rattle.std.proofs.Common.{◌≡◌, ℕ, zero, suc, ◌+◌, ◌*◌, ◌^◌, ◌<◌, ◌≤◌, Bool, true, false, not, ◌&&◌, ◌==◌, if◌then◌else◌, List, [], ◌∷◌, length, take, drop, Option, Some, None, All, IsTrue, refl, sym, ap, subst, ◌∙◌, arith}
+use Rattle.std.proofs.Common.{◌≡◌, ◌≢◌, ℕ, zero, suc, ◌+◌, ◌*◌, ◌^◌, ◌<◌, ◌≤◌, Bool, true, false, not, ◌&&◌, ◌==◌, if◌then◌else◌, List, [], ◌∷◌, length, take, drop, Option, Some, None, All, IsTrue, refl, sym, ap, subst, ◌∙◌, arith}
 use Rattle.std.specs.Prelude.{nat_le, option_map, find, is_some, Result, Ok, Err}
 use Rattle.std.specs.List.{list_all, position}
 use Rattle.std.specs.Str.{str_to_ascii_uppercase, str_eq_ignore_ascii_case}
 use Rattle.std.specs.Str.Parse.{digits_value, AllDigits}
 use Rattle.std.specs.Char.{is_ascii_digit, digit_value}
 use Rattle.std.proofs.lemmas.Int.Digits.{digits_value-lt}
-use Rattle.std.proofs.lemmas.Bool.{and_parts, cond_both, leb-true}
+use Rattle.std.proofs.lemmas.Bool.{and_parts, cond_both, false≢true, leb-true}
 use Rattle.text_lines.specs.Text.{words_in, number_in, two_digit_number, time_of, parsed_time, is_some_bytes}
 use Rattle.cue_sheet.specs.CueSheet.{IsText, is_catalogue_number, is_capital_code}
 use Rattle.cue_sheet.specs.Lines.{CueLine, SaysNothing, SaysCatalogue, SaysFile, SaysTitle, SaysPerformer, SaysSongwriter, SaysTrack, SaysFlags, SaysIsrc, SaysPregap, SaysIndex, SaysPostgap, is_plain, is_quote, begins_quoted, plain, quoted, quoted_text, text_argument, is_file, catalogue_argument, code_argument, is_flag, control_of, flags_argument, track_argument, track_of_words, index_argument, index_of_words, command_words, command_named, IsInRange}
@@ -125,14 +125,17 @@ code_is s code e = let is = chosen (is_capital_code (str_to_ascii_uppercase s)) 
 
 -- Texts
 
-plain_all : (s : List ℕ) → list_all is_plain s ≡ true → All (λ b. 32 ≤ b) s
+plain_all : (s : List ℕ) → list_all is_plain s ≡ true → All (λ b. (32 ≤ b) × (b ≢ 127)) s
 plain_all [] all = λ k d less. absurd (omega arith)
 plain_all (b ∷ s) all =
     let parts = and_parts (is_plain b) (list_all is_plain s) all in
     let first = and_parts (nat_le 32 b) (not (b == 127)) parts.0 in
-    more b s (leb-true 32 b first.0) (plain_all s parts.1)
+    more b s (leb-true 32 b first.0, other b first.1) (plain_all s parts.1)
   where
-    more : (b : ℕ) (s : List ℕ) → 32 ≤ b → All (λ b. 32 ≤ b) s → All (λ b. 32 ≤ b) (b ∷ s)
+    other : (b : ℕ) → not (b == 127) ≡ true → b ≢ 127
+    other b is e = false≢true (subst (λ (n : ℕ). not (n == 127) ≡ true) e is)
+
+    more : (b : ℕ) (s : List ℕ) → (32 ≤ b) × (b ≢ 127) → All (λ b. (32 ≤ b) × (b ≢ 127)) s → All (λ b. (32 ≤ b) × (b ≢ 127)) (b ∷ s)
     more b s le rest zero d less = le
     more b s le rest (suc k) d less = rest k d (omega arith)
 

@@ -62,8 +62,8 @@ track sheet Songwriter k is inside = (is.tracks k inside).songwriter
 
 plain_text : (s : List ℕ) → IsText s → s ≢ 9 ∷ []
 plain_text s is = λ e.
-    let plain : All (λ b. 32 ≤ b) (9 ∷ []) = subst (All (λ b. 32 ≤ b)) e is.plain in
-    let byte : 32 ≤ 9 = plain 0 0 (omega arith) in
+    let plain : All (λ b. (32 ≤ b) × (b ≢ 127)) (9 ∷ []) = subst (All (λ b. (32 ≤ b) × (b ≢ 127))) e is.plain in
+    let byte : 32 ≤ 9 = (plain 0 0 (omega arith)).0 in
     absurd (omega arith)
 
 text_no_tab : (sheet : CueSheet) (kind : CueText) (place : ℕ) → IsSheet sheet → place ≤ length sheet.tracks → text_at kind sheet place ≢ 9 ∷ []

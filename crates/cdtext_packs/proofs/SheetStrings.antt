@@ -19,7 +19,7 @@ use Rattle.cdtext_packs.specs.SheetTexts.{code_at, for_each}
 text_string : (s : List ℕ) → IsText s → IsString s
 text_string s text = record {
   size = text.short;
-  nonzero = All-from_get_or (λ b. b ≢ 0) s 0 (λ i inside e. let plain = All-get_or (λ b. 32 ≤ b) s i 0 inside text.plain in omega arith);
+  nonzero = All-from_get_or (λ b. b ≢ 0) s 0 (λ i inside e. let plain = All-get_or (λ b. (32 ≤ b) × (b ≢ 127)) s i 0 inside text.plain in omega (arith, plain.0));
 }
 
 album : (sheet : CueSheet) (kind : CueText) → IsSheet sheet → IsText (album_text kind sheet)

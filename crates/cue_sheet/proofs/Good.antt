@@ -1,13 +1,12 @@
 -- What holds of all that lines say.
-use Rattle.std.proofs.Common.{rules, ◌≡◌, ℕ, suc, ◌+◌, ◌≤◌, ◌<◌, ◌⊎◌, true, false, Bool, List, [], ◌∷◌, ◌++◌, length, get_or, Option, Some, None, refl, ap, sym, ◌∙◌, arith, inl, inr, subst}
+use Rattle.std.proofs.Common.{rules, ◌≡◌, ℕ, suc, ◌+◌, ◌-◌, ◌≤◌, ◌<◌, ◌⊎◌, true, false, Bool, List, [], ◌∷◌, ◌++◌, length, get_or, Option, Some, None, refl, ap, sym, ◌∙◌, arith, inl, inr, subst}
 use Rattle.std.specs.Prelude.{IfSome, IfNone, IsTrue, is_some, max, not, ◌&&◌, ◌||◌, ◌==◌, nat_lt, nat_le, unwrap_or, if◌then◌else◌}
 use Rattle.std.specs.Option.{ForSome}
 use Rattle.std.specs.List.{list_any}
 use Rattle.std.proofs.lemmas.Bool.{cases_lt, cases_Bool, eqb-true, false≢true, not-false}
 use Rattle.std.proofs.lemmas.List.{get_or_append_left, length-append}
 use Rattle.std.proofs.Math.Seq.{get_or-append_seam}
-use Rattle.cue_sheet.specs.CueSheet.{CueTrack, IsText, IsTrack, IsSheet, is_catalogue_number, is_capital_code, no_track}
-use Rattle.cue_sheet.specs.Views.{CueSection, track_from, sheet_from}
+use Rattle.cue_sheet.specs.CueSheet.{CueTrack, IsText, IsTrack, IsSheet, CueSection, track_from, sheet_from, is_catalogue_number, is_capital_code, no_track}
 use Rattle.cue_sheet.specs.Lines.{CueLine, SaysNothing, SaysCatalogue, SaysFile, SaysTitle, SaysPerformer, SaysSongwriter, SaysTrack, SaysFlags, SaysIsrc, SaysPregap, SaysIndex, SaysPostgap, IsInRange}
 use Rattle.cue_sheet.specs.Grammar.{CueState, state_of, later_reason, follows_index, follows_number, has_index_one, lacks_index, track_with}
 use Rattle.cue_sheet.specs.Steps.{after}
@@ -34,13 +33,13 @@ pub record AreSoFar (lines : List (ℕ × ℕ)) (latest : ℕ) : Type 0 where
   pub past : (j : ℕ) → j < length lines → time_at lines j ≤ latest
 
 -- one more index line
-index_follows : (lines : List (ℕ × ℕ)) (number : ℕ) → follows_index lines number ≡ true → ((0 < length lines) × (number ≡ number_at lines 0 + length lines)) ⊎ ((length lines ≡ 0) × (number ≤ 1))
-index_follows lines number follows = elim (cases_lt 0 (length lines)) [
+index_follows : (lines : List (ℕ × ℕ)) (latest number : ℕ) → AreSoFar lines latest → follows_index lines number ≡ true → ((0 < length lines) × (number ≡ number_at lines 0 + length lines)) ⊎ ((length lines ≡ 0) × (number ≤ 1))
+index_follows lines latest number good follows = elim (cases_lt 0 (length lines)) [
   | inl some ↦ let none : (length lines == 0) ≡ false = grind arith in
-      let at : (number == number_at lines 0 + length lines) ≡ true = subst (λ b. (if b then nat_le number 1 else number == number_at lines 0 + length lines) ≡ true) none follows in
-      inl (some, eqb-true number (number_at lines 0 + length lines) at)
+      let at : (number == number_at lines (length lines - 1) + 1) ≡ true = subst (λ b. (if b then nat_le number 1 else number == number_at lines (length lines - 1) + 1) ≡ true) none follows in
+      inl (some, omega (arith, eqb-true number (number_at lines (length lines - 1) + 1) at, good.next (length lines - 1) (omega arith)))
   | inr few ↦ let none : (length lines == 0) ≡ true = grind arith in
-      let low : nat_le number 1 ≡ true = subst (λ b. (if b then nat_le number 1 else number == number_at lines 0 + length lines) ≡ true) none follows in
+      let low : nat_le number 1 ≡ true = subst (λ b. (if b then nat_le number 1 else number == number_at lines (length lines - 1) + 1) ≡ true) none follows in
       inr (omega arith, grind (arith, low))
 ]
 
@@ -64,7 +63,7 @@ AreSoFar-pushed : (lines : List (ℕ × ℕ)) (latest number time : ℕ) → Are
 AreSoFar-pushed lines latest number time good follows late small short =
     let line : ℕ × ℕ = (number, time) in
     let size = length-pushed lines line in
-    let case = index_follows lines number follows in
+    let case = index_follows lines latest number good follows in
     let zero_at = pushed_line lines number time 0 (omega arith) in
     record {
       first = elim case [ inl c ↦ elim zero_at [ inl z ↦ omega (arith, z.1, good.first) | inr z ↦ omega (arith, z.0, c.0) ] | inr c ↦ elim zero_at [ inl z ↦ omega (arith, z.0, c.0) | inr z ↦ omega (arith, z.1, c.1) ] ];

@@ -1,10 +1,10 @@
--- A track's texts are those of its section.
-use Rattle.std.proofs.Common.{◌≡◌, ℕ, ◌-◌, ◌≤◌, ◌<◌, List, length, get_or, refl, ap, sym, ◌∙◌, arith}
+-- A track in memory: its place in the sheet, and what holds of it and of its texts.
+use Rattle.std.proofs.Common.{◌≡◌, ℕ, ◌-◌, ◌≤◌, ◌<◌, List, length, get_or, refl, ap, sym, subst, ◌∙◌, arith}
 use Rattle.std.proofs.lemmas.List.{get_or-map, length-map}
 use Rattle.std.specs.Prelude.{◌==◌}
 use Rattle.std.proofs.Math.Bool.{false}
 use Rattle.std.proofs.lemmas.Bool.{cond-false}
-use Rattle.cue_sheet.specs.CueSheet.{CueSheet, no_track, track_text, text_at}
+use Rattle.cue_sheet.specs.CueSheet.{CueSheet, IsSheet, IsText, IsTrack, no_track, track_of, track_text, text_at}
 use Rattle.cue_sheet.specs.Views.{section_of, section_text, track_value, sheet_value}
 use Rattle.cue_sheet.specs.declared.section.Section.{Section}
 use Rattle.cue_sheet.specs.declared.section.Track.{Track}
@@ -16,13 +16,38 @@ text_of_track Title t = refl
 text_of_track Performer t = refl
 text_of_track Songwriter t = refl
 
-pub text_of_place : (kind : CueText) (album : Section) (tracks : List Track) (sheet : CueSheet) (place : ℕ) (t : Track) (text : List ℕ)
-    → sheet_value album tracks ≡ sheet → 0 < place → place ≤ length sheet.tracks → t ≡ get_or tracks (place - 1) t
+-- a track in memory is the track of its place
+pub track_of_place : (album : Section) (tracks : List Track) (sheet : CueSheet) (k : ℕ) (t : Track)
+    → sheet_value album tracks ≡ sheet → k < length sheet.tracks → t ≡ get_or tracks k t → track_value t ≡ track_of sheet k
+track_of_place album tracks sheet k t is lt at =
+    let size : k < length tracks = omega (arith, lt, ap (λ (s : CueSheet). length s.tracks) is, length-map tracks track_value) in
+    let found : get_or (sheet_value album tracks).tracks k no_track ≡ track_value t = get_or-map track_value tracks k t no_track size ∙ ap track_value (sym at) in
+    sym found ∙ ap (λ s. track_of s k) is
+
+pub good_place : (album : Section) (tracks : List Track) (sheet : CueSheet) (k : ℕ) (t : Track)
+    → sheet_value album tracks ≡ sheet → k < length sheet.tracks → t ≡ get_or tracks k t → IsSheet (sheet_value album tracks) → IsTrack (track_value t)
+good_place album tracks sheet k t is lt at good =
+    let whole : IsSheet sheet = subst IsSheet is good in
+    subst IsTrack (sym (track_of_place album tracks sheet k t is lt at)) (whole.tracks k lt)
+
+pub first_range : (album : Section) (tracks : List Track) (t : Track)
+    → t ≡ get_or tracks 0 t → IsSheet (sheet_value album tracks) → (1 ≤ t.number) × (t.number ≤ 99)
+first_range album tracks t at good = (good_place album tracks (sheet_value album tracks) 0 t refl good.count.0 at good).number
+
+pub text_of_place : (kind : CueText) (sheet : CueSheet) (place : ℕ) (t : Track) (text : List ℕ)
+    → 0 < place → track_value t ≡ track_of sheet (place - 1)
     → text ≡ section_text kind (section_of t.section) → text ≡ text_at kind sheet place
-text_of_place kind album tracks sheet place t text is low high at spelled =
-    let size : place ≤ length tracks = omega (arith, high, ap (λ (s : CueSheet). length s.tracks) is, length-map tracks track_value) in
+text_of_place kind sheet place t text low same spelled =
     let other : (place == 0) ≡ false = grind arith in
-    let found : get_or (sheet_value album tracks).tracks (place - 1) no_track ≡ track_value t =
-    get_or-map track_value tracks (place - 1) t no_track (omega arith) ∙ ap track_value (sym at) in
-    let here : text_at kind (sheet_value album tracks) place ≡ track_text kind (get_or (sheet_value album tracks).tracks (place - 1) no_track) = cond-false _ _ _ other in
-    spelled ∙ (text_of_track kind t ∙ (ap (track_text kind) (sym found) ∙ (sym here ∙ ap (λ s. text_at kind s place) is)))
+    let here : text_at kind sheet place ≡ track_text kind (track_of sheet (place - 1)) = cond-false _ _ _ other in
+    spelled ∙ (text_of_track kind t ∙ (ap (track_text kind) same ∙ sym here))
+
+pub track_text_is : (kind : CueText) (t : Track) (text : List ℕ) → IsTrack (track_value t) → text ≡ section_text kind (section_of t.section) → IsText text
+track_text_is Title t text good is = subst IsText (sym is) good.title
+track_text_is Performer t text good is = subst IsText (sym is) good.performer
+track_text_is Songwriter t text good is = subst IsText (sym is) good.songwriter
+
+pub album_text_is : (kind : CueText) (album : Section) (tracks : List Track) (text : List ℕ) → IsSheet (sheet_value album tracks) → text ≡ section_text kind (section_of album) → IsText text
+album_text_is Title album tracks text good is = subst IsText (sym is) good.title
+album_text_is Performer album tracks text good is = subst IsText (sym is) good.performer
+album_text_is Songwriter album tracks text good is = subst IsText (sym is) good.songwriter

@@ -4,11 +4,11 @@ use Rattle.std.specs.Prelude.{Result, Ok, Err}
 use Rattle.text_lines.specs.Text.{lines_in, without_mark, trimmed, first_word, argument_of}
 use Rattle.std.specs.Prelude.{is_some, not, if◌then◌else◌, Bool, true, false}
 use Rattle.std.proofs.lemmas.Bool.{cases_Bool}
-use Rattle.cue_sheet.specs.Views.{sheet_from}
-use Rattle.cue_sheet.specs.CueSheet.{CueSheet, IsSheet}
+use Rattle.cue_sheet.specs.CueSheet.{CueSheet, IsSheet, sheet_from}
 use Rattle.cue_sheet.specs.Lines.{CueLine, SaysNothing, SaysCatalogue, SaysFile, SaysTitle, SaysPerformer, SaysSongwriter, SaysTrack, SaysFlags, SaysIsrc, SaysPregap, SaysIndex, SaysPostgap, command_named}
 use Rattle.cue_sheet.specs.Grammar.{CueState, state_of, checked_command, read_lines, read_cue, checked_end, end_reason, has_index_one, track_with, sheet_said}
-use Rattle.cue_sheet.specs.Steps.{after, TakesLine, IsEmpty, Says, RefusesLine, IsCueAnswer}
+use Rattle.cue_sheet.specs.Answers.{IsCueAnswer}
+use Rattle.cue_sheet.specs.Steps.{after, TakesLine, IsEmpty, Says, RefusesLine}
 use Rattle.cue_sheet.specs.declared.fault.CueWhy.{CueWhy}
 use Rattle.cue_sheet.specs.declared.fault.CueWhy.TheVariants.{NoFile, NoTrack, NoIndex}
 use Rattle.cue_sheet.specs.declared.fault.CueStop.{CueStop}

@@ -1,5 +1,5 @@
 -- What a cue sheet says.
-use Rattle.std.specs.Prelude.{◌≡◌, ◌≤◌, ◌<◌, ◌+◌, ◌&&◌, ◌||◌, ℕ, Bool, IsTrue, List, [], length, take, drop, All, Option, None, slice_index_or, ◌==◌, if◌then◌else◌, ◌-◌}
+use Rattle.std.specs.Prelude.{◌≡◌, ◌≢◌, ◌≤◌, ◌<◌, ◌+◌, ◌&&◌, ◌||◌, ℕ, Bool, IsTrue, List, [], length, take, drop, All, Option, None, unwrap_or, slice_index_or, ◌==◌, if◌then◌else◌, ◌-◌}
 use Rattle.std.specs.Option.{ForSome}
 use Rattle.std.specs.List.{list_all}
 use Rattle.std.specs.Char.{is_ascii_digit, is_ascii_uppercase}
@@ -26,7 +26,43 @@ pub record CueSheet : Type 0 where
   pub songwriter : List ℕ
   pub tracks : List CueTrack
 
--- no track
+-- what the lines of one track say, or those before the first track
+pub record CueSection : Type 0 where
+  pub catalogue : Option (List ℕ)
+  pub title : Option (List ℕ)
+  pub performer : Option (List ℕ)
+  pub songwriter : Option (List ℕ)
+  pub control : Option ℕ
+  pub isrc : Option (List ℕ)
+  pub pregap : Option ℕ
+  pub postgap : Option ℕ
+  pub indices : List (ℕ × ℕ)
+
+-- the track of that number with such a section: what is not said is control 0, gaps of 0 and empty texts
+abbrev pub track_from : ℕ → CueSection → CueTrack
+track_from number s = record {
+  number = number;
+  control = unwrap_or s.control 0;
+  isrc = s.isrc;
+  pregap = unwrap_or s.pregap 0;
+  postgap = unwrap_or s.postgap 0;
+  indices = s.indices;
+  title = unwrap_or s.title [];
+  performer = unwrap_or s.performer [];
+  songwriter = unwrap_or s.songwriter [];
+}
+
+-- the sheet with such a section before its first track, and these tracks: a text that is not said is empty
+abbrev pub sheet_from : CueSection → List CueTrack → CueSheet
+sheet_from s tracks = record {
+  catalogue = s.catalogue;
+  title = unwrap_or s.title [];
+  performer = unwrap_or s.performer [];
+  songwriter = unwrap_or s.songwriter [];
+  tracks = tracks;
+}
+
+-- no track, for a place where there is none
 abbrev pub no_track : CueTrack
 no_track = record { number = 0; control = 0; isrc = None; pregap = 0; postgap = 0; indices = []; title = []; performer = []; songwriter = [] }
 
@@ -38,27 +74,28 @@ track_of sheet k = slice_index_or sheet.tracks k no_track
 abbrev pub index_line_of : CueTrack → ℕ → ℕ × ℕ
 index_line_of track j = slice_index_or track.indices j (0, 0)
 
--- the texts of a sheet: at place 0 those of the album, at place k + 1 those of track k
+-- the text of a kind that the album has
 abbrev pub album_text : CueText → CueSheet → List ℕ
 album_text Title sheet = sheet.title
 album_text Performer sheet = sheet.performer
 album_text Songwriter sheet = sheet.songwriter
 
+-- the text of a kind that a track has
 abbrev pub track_text : CueText → CueTrack → List ℕ
 track_text Title track = track.title
 track_text Performer track = track.performer
 track_text Songwriter track = track.songwriter
 
+-- the texts of a sheet: at place 0 those of the album, at place k + 1 those of track k
 abbrev pub text_at : CueText → CueSheet → ℕ → List ℕ
 text_at kind sheet place = if place == 0 then album_text kind sheet else track_text kind (track_of sheet (place - 1))
 
--- What holds of every sheet
-
--- a text has no byte below 20 hexadecimal, and is no longer than a sheet
+-- a text has no byte below 20 hexadecimal and no byte 7F, and is no longer than a sheet
 pub record IsText (s : List ℕ) : Type 0 where
   pub short : length s ≤ 67108864
-  pub plain : All (λ b. 32 ≤ b) s
+  pub plain : All (λ b. (32 ≤ b) × (b ≢ 127)) s
 
+-- a catalogue number: thirteen digits
 abbrev pub is_catalogue_number : List ℕ → Bool
 is_catalogue_number s = length s == 13 && list_all is_ascii_digit s
 
@@ -77,6 +114,7 @@ pub record AreIndices (indices : List (ℕ × ℕ)) : Type 0 where
   pub times : (j : ℕ) → j < length indices → (slice_index_or indices j (0, 0)).1 < 450000
   pub order : (i j : ℕ) → i ≤ j → j < length indices → (slice_index_or indices i (0, 0)).1 ≤ (slice_index_or indices j (0, 0)).1
 
+-- a track: its number 1 to 99, its control below 16, its gaps below 100 minutes, its index lines in order, its code and its texts in form
 pub record IsTrack (track : CueTrack) : Type 0 where
   pub number : (1 ≤ track.number) × (track.number ≤ 99)
   pub control : track.control < 16

@@ -1,58 +1,66 @@
 -- The lines of a cue sheet in their order: the first one that is refused, and what the sheet says.
-use Rattle.std.specs.Prelude.{ℕ, zero, suc, ◌+◌, Bool, true, false, not, ◌&&◌, List, [], ◌∷◌, ◌++◌, length, max, Option, Some, None, Result, Ok, Err, ◌==◌, nat_le, nat_lt, is_some, if◌then◌else◌, slice_index_or}
+-- In the definitions of this file lists of lines have the last line first.
+use Rattle.std.specs.Prelude.{ℕ, zero, suc, ◌+◌, ◌-◌, Bool, true, false, not, ◌&&◌, List, [], ◌∷◌, ◌++◌, length, max, Option, Some, None, Result, Ok, Err, ◌==◌, nat_le, nat_lt, is_some, if◌then◌else◌, slice_index_or}
 use Rattle.std.specs.List.{list_any}
 use Rattle.text_lines.specs.Text.{lines_of, trimmed, first_word, argument_of}
-use Rattle.cue_sheet.specs.CueSheet.{CueTrack, CueSheet}
-use Rattle.cue_sheet.specs.Views.{CueSection, track_from, sheet_from}
+use Rattle.cue_sheet.specs.CueSheet.{CueTrack, CueSheet, CueSection, track_from, sheet_from}
 use Rattle.cue_sheet.specs.Lines.{CueLine, SaysCatalogue, SaysFile, SaysTitle, SaysPerformer, SaysSongwriter, SaysTrack, SaysFlags, SaysIsrc, SaysPregap, SaysIndex, SaysPostgap, command_named, said_by}
 use Rattle.cue_sheet.specs.declared.command.Command.{Command}
 use Rattle.cue_sheet.specs.declared.command.Command.TheVariants.{Catalogue, File, Track, Flags, Isrc, Pregap, Index, Postgap}
 use Rattle.cue_sheet.specs.declared.fault.CueWhy.{CueWhy}
 use Rattle.cue_sheet.specs.declared.fault.CueWhy.TheVariants.{UnknownCommand, SecondFile, Misplaced, BadArgument, Repeated, NoIndex, NotAudio, NumberOrder, IndexOrder, TimeOrder, NoFile, NoTrack}
 
--- In the definitions of this file lists of lines have the last line first.
-
--- the first thing of its kind that such lines say
+-- the latest thing of its kind that the lines say
 abbrev pub said_in : {X : Type 0} → (CueLine → Option X) → List CueLine → Option X
 said_in said [] = None
 said_in said (line ∷ before) = elim (said line) [ None ↦ said_in said before | Some x ↦ Some x ]
 
+-- the catalogue number, where a line says it
 abbrev pub catalogue_said : CueLine → Option (List ℕ)
 catalogue_said (SaysCatalogue s) = Some s
 catalogue_said _ = None
 
+-- the title, where a line says it
 abbrev pub title_said : CueLine → Option (List ℕ)
 title_said (SaysTitle s) = Some s
 title_said _ = None
 
+-- the performer, where a line says it
 abbrev pub performer_said : CueLine → Option (List ℕ)
 performer_said (SaysPerformer s) = Some s
 performer_said _ = None
 
+-- the songwriter, where a line says it
 abbrev pub songwriter_said : CueLine → Option (List ℕ)
 songwriter_said (SaysSongwriter s) = Some s
 songwriter_said _ = None
 
+-- the control bits, where a line says it
 abbrev pub flags_said : CueLine → Option ℕ
 flags_said (SaysFlags n) = Some n
 flags_said _ = None
 
+-- the code, where a line says it
 abbrev pub isrc_said : CueLine → Option (List ℕ)
 isrc_said (SaysIsrc s) = Some s
 isrc_said _ = None
 
+-- the gap before, where a line says it
 abbrev pub pregap_said : CueLine → Option ℕ
 pregap_said (SaysPregap time) = Some time
 pregap_said _ = None
 
+-- the gap after, where a line says it
 abbrev pub postgap_said : CueLine → Option ℕ
 postgap_said (SaysPostgap time) = Some time
 postgap_said _ = None
 
+-- the track number, where a line says it
 abbrev pub number_said : CueLine → Option ℕ
 number_said (SaysTrack number audio) = Some number
 number_said _ = None
 
+-- whether a line is a FILE line
 abbrev pub is_file_line : CueLine → Bool
 is_file_line SaysFile = true
 is_file_line _ = false
@@ -75,6 +83,7 @@ last_section [] = []
 last_section (SaysTrack number audio ∷ before) = []
 last_section (line ∷ before) = line ∷ last_section before
 
+-- what the lines of a section say
 abbrev pub section_said : List CueLine → CueSection
 section_said lines = record {
   catalogue = said_in catalogue_said lines;
@@ -88,7 +97,7 @@ section_said lines = record {
   indices = indices_said lines;
 }
 
--- the last track, if there is one
+-- the track with this number and section, if there is a number
 abbrev pub track_with : Option ℕ → CueSection → List CueTrack
 track_with None section = []
 track_with (Some number) section = track_from number section ∷ []
@@ -114,6 +123,7 @@ pub record CueState : Type 0 where
   pub number : Option ℕ
   pub section : CueSection
 
+-- what these lines say
 abbrev pub state_of : List CueLine → CueState
 state_of lines = record {
   has_file = list_any is_file_line lines;
@@ -139,6 +149,7 @@ is_placed s Index = is_some s.number && not (is_some s.section.postgap)
 is_placed s Postgap = is_some s.number && has_index_one s.section
 is_placed s _ = true
 
+-- whether a command is a FILE after a FILE
 abbrev pub is_second_file : CueState → Command → Bool
 is_second_file s File = s.has_file
 is_second_file s _ = false
@@ -160,9 +171,9 @@ abbrev pub follows_number : Option ℕ → ℕ → Bool
 follows_number None number = true
 follows_number (Some last) number = number == last + 1
 
--- whether an index line's number is one more than that of the line before, or that of a first line
+-- whether an index line's number is one more than that of the line before; that of a first line is 0 or 1
 abbrev pub follows_index : List (ℕ × ℕ) → ℕ → Bool
-follows_index lines number = if length lines == 0 then nat_le number 1 else number == (slice_index_or lines 0 (0, 0)).0 + length lines
+follows_index lines number = if length lines == 0 then nat_le number 1 else number == (slice_index_or lines (length lines - 1) (0, 0)).0 + 1
 
 -- whether the last track has no index 01
 abbrev pub lacks_index : CueState → Bool
@@ -178,10 +189,12 @@ later_reason s (SaysIndex number time) =
     if follows_index s.section.indices number then (if nat_lt time s.latest then Some TimeOrder else None) else Some IndexOrder
 later_reason s line = if is_repeated s.section line then Some Repeated else None
 
+-- the line, or the reason for which it is refused
 abbrev pub checked_reason : CueLine → Option CueWhy → Result CueLine CueWhy
 checked_reason line None = Ok line
 checked_reason line (Some why) = Err why
 
+-- what a line that is placed well says, or why it is refused
 abbrev pub checked_line : CueState → Option CueLine → Result CueLine CueWhy
 checked_line s None = Err BadArgument
 checked_line s (Some line) = checked_reason line (later_reason s line)
@@ -205,6 +218,7 @@ end_reason s =
 abbrev pub sheet_said : CueState → CueSheet
 sheet_said s = sheet_from s.album (s.tracks ++ track_with s.number s.section)
 
+-- the sheet, or the reason for which its end is refused
 abbrev pub checked_end : ℕ → CueState → Option CueWhy → Result CueSheet (ℕ × CueWhy)
 checked_end number s (Some why) = Err (number, why)
 checked_end number s None = Ok (sheet_said s)

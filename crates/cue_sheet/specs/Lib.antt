@@ -3,3 +3,4 @@ pub mod Views
 pub mod Lines
 pub mod Grammar
 pub mod Steps
+pub mod Answers

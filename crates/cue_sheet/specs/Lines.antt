@@ -30,19 +30,23 @@ command_words =
     ∷ (codes "TRACK", Track) ∷ (codes "FLAGS", Flags) ∷ (codes "ISRC", Isrc)
     ∷ (codes "PREGAP", Pregap) ∷ (codes "INDEX", Index) ∷ (codes "POSTGAP", Postgap) ∷ []
 
+-- the command of a word
 unfoldable pub command_named : List ℕ → Option Command
 command_named word = option_map (λ (entry : List ℕ × Command). entry.1) (find (λ (entry : List ℕ × Command). str_eq_ignore_ascii_case word entry.0) command_words)
 
--- a text that holds no control bytes
+-- a byte that is no control byte
 abbrev pub is_plain : ℕ → Bool
 is_plain b = nat_le 32 b && not (b == 127)
 
+-- a text, if it holds no control bytes
 unfoldable pub plain : List ℕ → Option (List ℕ)
 plain s = if list_all is_plain s then Some s else None
 
+-- the quotation mark
 abbrev pub is_quote : ℕ → Bool
 is_quote b = b == 34
 
+-- whether a text begins with a quotation mark
 abbrev pub begins_quoted : List ℕ → Bool
 begins_quoted s = is_some_bytes s && is_quote (slice_index s 0)
 
@@ -50,6 +54,7 @@ begins_quoted s = is_some_bytes s && is_quote (slice_index s 0)
 unfoldable pub quoted : List ℕ → Option (List ℕ × List ℕ)
 quoted s = option_map (λ (end : ℕ). (take end (drop 1 s), drop (end + 1) (drop 1 s))) (position is_quote (drop 1 s))
 
+-- the text of what stands in quotes, if nothing follows it
 abbrev pub quoted_text : Option (List ℕ × List ℕ) → Option (List ℕ)
 quoted_text (Some (inside, after)) = if length after == 0 then plain inside else None
 quoted_text None = None
@@ -58,6 +63,7 @@ quoted_text None = None
 unfoldable pub text_argument : List ℕ → Option (List ℕ)
 text_argument s = if begins_quoted s then quoted_text (quoted s) else (if is_some_bytes s then plain s else None)
 
+-- whether one word follows what stands in quotes
 abbrev pub is_quoted_file : Option (List ℕ × List ℕ) → Bool
 is_quoted_file (Some (name, after)) = length (words_in after) == 1
 is_quoted_file None = false
@@ -66,6 +72,7 @@ is_quoted_file None = false
 unfoldable pub is_file : List ℕ → Bool
 is_file s = if begins_quoted s then is_quoted_file (quoted s) else nat_le 2 (length (words_in s))
 
+-- a catalogue number
 unfoldable pub catalogue_argument : List ℕ → Option (List ℕ)
 catalogue_argument s = if is_catalogue_number s then Some s else None
 
@@ -73,6 +80,7 @@ catalogue_argument s = if is_catalogue_number s then Some s else None
 unfoldable pub code_argument : List ℕ → Option (List ℕ)
 code_argument s = if is_capital_code (str_to_ascii_uppercase s) then Some (str_to_ascii_uppercase s) else None
 
+-- whether some word is this flag
 abbrev pub names_flag : List ℕ → List (List ℕ) → Bool
 names_flag flag words = list_any (λ word. bytes_eq word flag) words
 
@@ -80,9 +88,11 @@ names_flag flag words = list_any (λ word. bytes_eq word flag) words
 abbrev pub control_of : List (List ℕ) → ℕ
 control_of words = (if names_flag (codes "4CH") words then 8 else 0) + (if names_flag (codes "DCP") words then 2 else 0) + (if names_flag (codes "PRE") words then 1 else 0)
 
+-- the words that are flags
 abbrev pub is_flag : List ℕ → Bool
 is_flag word = bytes_eq word (codes "4CH") || bytes_eq word (codes "DCP") || bytes_eq word (codes "PRE") || bytes_eq word (codes "SCMS")
 
+-- flags: one word or more, each of them a flag
 unfoldable pub flags_argument : List (List ℕ) → Option ℕ
 flags_argument words = if nat_le 1 (length words) && list_all is_flag words then Some (control_of words) else None
 
@@ -91,6 +101,7 @@ abbrev pub track_of_words : Option ℕ → List ℕ → Option (ℕ × Bool)
 track_of_words (Some number) type = if nat_le 1 number then Some (number, str_eq_ignore_ascii_case type (codes "AUDIO")) else None
 track_of_words None type = None
 
+-- a track: two words, its number and its type
 abbrev pub track_argument : List (List ℕ) → Option (ℕ × Bool)
 track_argument (number ∷ type ∷ []) = track_of_words (two_digit_number number) type
 track_argument _ = None
@@ -100,6 +111,7 @@ abbrev pub index_of_words : Option ℕ → Option ℕ → Option (ℕ × ℕ)
 index_of_words (Some number) (Some time) = Some (number, time)
 index_of_words _ _ = None
 
+-- an index line: two words, its number and its time
 abbrev pub index_argument : List (List ℕ) → Option (ℕ × ℕ)
 index_argument (number ∷ time ∷ []) = index_of_words (two_digit_number number) (parsed_time time)
 index_argument _ = None

@@ -1,8 +1,7 @@
 -- What one more line says.
 use Rattle.std.specs.Prelude.{◌≡◌, ◌<◌, Result, Ok, Err, ℕ, length, List, [], ◌∷◌, ◌++◌, max, Option, Some, None, is_some, true, if◌then◌else◌}
 use Rattle.text_lines.specs.Text.{trimmed, first_word, argument_of}
-use Rattle.cue_sheet.specs.CueSheet.{CueSheet}
-use Rattle.cue_sheet.specs.Views.{CueSection}
+use Rattle.cue_sheet.specs.CueSheet.{CueSection}
 use Rattle.cue_sheet.specs.Lines.{CueLine, SaysNothing, SaysCatalogue, SaysFile, SaysTitle, SaysPerformer, SaysSongwriter, SaysTrack, SaysFlags, SaysIsrc, SaysPregap, SaysIndex, SaysPostgap, IsInRange, command_named}
 use Rattle.cue_sheet.specs.Grammar.{CueState, section_said, track_with, checked_command, later_reason}
 use Rattle.cue_sheet.specs.declared.command.Command.{Command}
@@ -27,6 +26,7 @@ said (Pregap time) = SaysPregap time
 said (Index number time) = SaysIndex number time
 said (Postgap time) = SaysPostgap time
 
+-- the same with another section of the last track
 abbrev pub in_section : CueState → CueSection → CueState
 in_section s section = record s { section = section }
 
@@ -66,9 +66,3 @@ abbrev pub RefusesLine : CueState → ℕ → List ℕ → CueStop → Type 0
 RefusesLine old number line (Fault at why) =
     (at ≡ number) × (0 < length (trimmed line)) × (checked_command old (command_named (first_word (trimmed line))) (argument_of (trimmed line)) ≡ Err why)
 RefusesLine old number line NoMemory = Unit {0}
-
--- what a parse answers, unless memory runs out
-abbrev pub IsCueAnswer : Result CueSheet (ℕ × CueWhy) → Result CueSheet CueStop → Type 0
-IsCueAnswer read (Ok sheet) = read ≡ Ok sheet
-IsCueAnswer read (Err (Fault line why)) = read ≡ Err (line, why)
-IsCueAnswer read (Err NoMemory) = Unit {0}

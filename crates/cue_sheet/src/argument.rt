@@ -72,7 +72,7 @@ fn is_plain(byte: u8) -> bool
 fn begins_quoted(argument: &[u8]) -> bool
     ensures { result ≡ begins_quoted argument.now }
 {
-    !argument.is_empty() && argument[0] == b'"'
+    matches!(argument, [b'"', ..])
 }
 
 // Of an argument that begins with a quote, what stands up to the next one, and what follows that.
@@ -82,11 +82,9 @@ fn quoted(argument: &[u8]) -> Option<(&[u8], &[u8])>
     ensures parts { option_map (λ parts. (parts.0.now, parts.1.now)) result ≡ quoted argument.now }
     ensures length { IfSome result (λ parts. length parts.0.now ≤ length argument.now) }
 {
-    let (_, rest) = argument.split_at(1);
+    let rest = &argument[1..];
     let end = closing_quote(rest)?;
-    let (inside, _) = rest.split_at(end);
-    let (_, after) = rest.split_at(end + 1);
-    Some((inside, after))
+    Some((&rest[..end], &rest[end + 1..]))
 }
 
 fn closing_quote(text: &[u8]) -> Option<usize>
@@ -178,16 +176,8 @@ fn code(argument: &[u8]) -> Option<[u8; 12]>
 fn is_code(code: &[u8; 12]) -> bool
     ensures { result ≡ is_capital_code code.now }
 {
-    let (letters, rest) = code.split_at(2);
-    let (owner, _) = rest.split_at(3);
     let (_, digits) = code.split_at(5);
-    if !are_capitals(letters) {
-        return false;
-    }
-    if !are_capitals_or_digits(owner) {
-        return false;
-    }
-    are_digits(digits)
+    are_capitals(&code[..2]) && are_capitals_or_digits(&code[2..5]) && are_digits(digits)
 }
 
 fn are_digits(text: &[u8]) -> bool

@@ -61,7 +61,7 @@ impl Draft {
     }
 
     /// Whether a command is a FILE after a FILE.
-    pub(crate) fn is_second_file(&self, command: Command) -> bool
+    fn is_second_file(&self, command: Command) -> bool
         ensures { result ≡ is_second_file self.now command }
     {
         match command {
@@ -71,7 +71,7 @@ impl Draft {
     }
 
     /// Whether a command may stand here.
-    pub(crate) fn is_placed(&self, command: Command) -> bool
+    fn is_placed(&self, command: Command) -> bool
         ensures { result ≡ is_placed self.now command }
     {
         match command {
@@ -87,7 +87,7 @@ impl Draft {
 
     /// Why a line that is spelled and placed well is refused.
     #[tactic(auto, unfolding(crate::specs::Grammar::later_reason))]
-    pub(crate) fn later_reason(&self, line: &Line<'_>) -> Option<CueWhy>
+    fn later_reason(&self, line: &Line<'_>) -> Option<CueWhy>
         ensures { result ≡ later_reason self.now (said line.now) }
     {
         match line {
@@ -143,7 +143,7 @@ impl Draft {
     }
 
     /// What a trimmed line says that is not empty, or the first reason for which it is refused.
-    pub(crate) fn checked<'a>(&self, line: &'a [u8]) -> Result<Line<'a>, CueWhy>
+    fn checked<'a>(&self, line: &'a [u8]) -> Result<Line<'a>, CueWhy>
         requires { length line.now ≤ 67108864 }
         ensures { IsChecked self.now (command_named (first_word line.now)) (argument_of line.now) result }
     {
@@ -167,7 +167,7 @@ impl Draft {
     }
 
     /// Takes a line that is in order. An error leaves the draft in a state of which nothing is said.
-    pub(crate) fn add(&mut self, alloc: Global, line: &Line<'_>) -> Result<(), AllocError>
+    fn add(&mut self, alloc: Global, line: &Line<'_>) -> Result<(), AllocError>
         ensures { IfOk result (λ _. self.new ≡ after self.old (said line.now)) }
     {
         match line {

@@ -31,14 +31,12 @@ pub enum CueWhy {
 }
 
 /// Why a cue sheet is not read.
-#[derive(PartialEq, Eq, Debug, Drop, thiserror::Error)]
+#[derive(PartialEq, Eq, Debug, Drop)]
 pub enum CueStop {
     /// The first line that is refused, counted from 1, with the first reason. The end of a sheet counts as the line
     /// after its last one.
-    #[error("line {line} of the cue sheet is refused")]
     Fault { line: u32, why: CueWhy },
     /// Memory ran out.
-    #[error("out of memory")]
     NoMemory,
 }
 
@@ -53,7 +51,7 @@ impl From<AllocError> for CueStop {
     }
 }
 
-/// The kinds of texts of a sheet.
+/// The kinds of texts of a sheet, each of the album or of a track, by the command that gives them.
 #[derive(Clone, Copy, PartialEq, Eq, Debug)]
 pub enum CueText {
     Title,

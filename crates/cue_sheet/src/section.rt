@@ -56,12 +56,12 @@ impl Section {
         self.indices.iter().any(|line| line.0 == 1)
     }
 
-    /// Whether an index line of that number may come next.
+    /// Whether an index line of that number may come next: one more than the last, or 0 or 1 where there is none.
     pub(crate) fn follows(&self, number: u8) -> bool
         ensures { result ≡ follows_index self.now.indices.items number }
     {
-        match self.indices.first() {
-            Some(first) => usize::from(number) == usize::from(first.0) + self.indices.len(),
+        match self.indices.last() {
+            Some(last) => usize::from(number) == usize::from(last.0) + 1,
             None => number <= 1,
         }
     }

@@ -1,7 +1,7 @@
 // A cue sheet and its readers.
-ghost use Rattle.std.specs.Prelude.{◌≡◌, ◌≤◌, ◌<◌, length, option_copied};
-ghost use Rattle.cue_sheet.specs.CueSheet.{CueSheet, IsSheet, track_of, text_at, index_line_of};
-ghost use Rattle.cue_sheet.specs.Views.{sheet_value};
+ghost use Rattle.std.specs.Prelude.{◌≡◌, ◌≤◌, ◌<◌, IfSome, IsTrue, length, option_copied};
+ghost use Rattle.cue_sheet.specs.CueSheet.{CueSheet, IsSheet, IsText, IsTrack, is_capital_code, is_catalogue_number, track_of, text_at, index_line_of};
+ghost use Rattle.cue_sheet.specs.Views.{sheet_value, track_value};
 
 use crate::draft::Draft;
 use crate::fault::{CueStop, CueText};
@@ -27,7 +27,7 @@ impl Model for Sheet {
 
 impl Sheet {
     ghost use Rattle.cue_sheet.specs.Grammar.{read_cue};
-    ghost use Rattle.cue_sheet.specs.Steps.{IsCueAnswer};
+    ghost use Rattle.cue_sheet.specs.Answers.{IsCueAnswer};
 
     /// What the text of a cue sheet says, or its first line that is refused. The text is read once, from front to
     /// end, and nothing is copied but the texts that the sheet keeps.
@@ -64,16 +64,27 @@ impl Sheet {
         self.tracks.len()
     }
 
-    /// The first track's number.
+    /// Track k, counted from 0.
+    fn track(&self, k: usize) -> &Track
+        requires { k < length self.now.tracks }
+        ensures track { track_value result.now ≡ track_of self.now k }
+        ensures good { IsTrack (track_value result.now) }
+    {
+        &self.tracks[k]
+    }
+
+    /// The first track's number, 1 to 99.
     pub fn first(&self) -> u8
         ensures number { result ≡ (track_of self.now 0).number }
+        ensures bound { (1 ≤ result) × (result ≤ 99) }
     {
         self.tracks[0].number
     }
 
     /// The catalogue number, 13 ASCII digits.
     pub fn catalogue(&self) -> Option<&[u8]>
-        ensures { option_copied result ≡ self.now.catalogue }
+        ensures number { option_copied result ≡ self.now.catalogue }
+        ensures digits { IfSome result (λ number. IsTrue (is_catalogue_number number.now)) }
     {
         match &self.album.catalogue {
             Some(digits) => Some(digits),
@@ -81,66 +92,75 @@ impl Sheet {
         }
     }
 
-    /// A text: at place 0 the album's, at place k that of the k-th track, counted from 1. It is empty where none is given.
+    /// A text: at place 0 the album's, at place k that of the k-th track, counted from 1. It is empty where none is given,
+    /// has no byte below 20 hexadecimal and no byte 7F, and at most 64 MiB.
     pub fn text(&self, kind: CueText, place: usize) -> &[u8]
         requires { place ≤ length self.now.tracks }
-        ensures { result.now ≡ text_at kind self.now place }
+        ensures text { result.now ≡ text_at kind self.now place }
+        ensures plain { IsText result.now }
     {
         if place == 0 {
             return self.album.text(kind);
         }
-        self.tracks[place - 1].section.text(kind)
+        self.track(place - 1).section.text(kind)
     }
 
-    /// The code of track k, counted from 0: 12 ASCII characters.
+    /// The code of track k, counted from 0: two capital letters, three capital letters or digits, and seven digits, in ASCII.
     pub fn isrc(&self, k: usize) -> Option<&[u8]>
         requires { k < length self.now.tracks }
-        ensures { option_copied result ≡ (track_of self.now k).isrc }
+        ensures code { option_copied result ≡ (track_of self.now k).isrc }
+        ensures characters { IfSome result (λ code. IsTrue (is_capital_code code.now)) }
     {
-        match &self.tracks[k].section.isrc {
+        match &self.track(k).section.isrc {
             Some(code) => Some(code),
             None => None,
         }
     }
 
-    /// The control bits of track k, counted from 0.
+    /// The control bits of track k, counted from 0: 8 four channels, 2 copying permitted, 1 pre-emphasis.
     pub fn control(&self, k: usize) -> u8
         requires { k < length self.now.tracks }
-        ensures { result ≡ (track_of self.now k).control }
+        ensures control { result ≡ (track_of self.now k).control }
+        ensures bound { result < 16 }
     {
-        self.tracks[k].section.control.unwrap_or(0)
+        self.track(k).section.control.unwrap_or(0)
     }
 
-    /// The length of the gap before track k, counted from 0, in blocks.
+    /// The length of the gap before track k, counted from 0, in blocks, 75 a second: below 450,000.
     pub fn pregap(&self, k: usize) -> u32
         requires { k < length self.now.tracks }
-        ensures { result ≡ (track_of self.now k).pregap }
+        ensures gap { result ≡ (track_of self.now k).pregap }
+        ensures bound { result < 450000 }
     {
-        self.tracks[k].section.pregap.unwrap_or(0)
+        self.track(k).section.pregap.unwrap_or(0)
     }
 
-    /// The length of the gap after track k, counted from 0, in blocks.
+    /// The length of the gap after track k, counted from 0, in blocks, 75 a second: below 450,000.
     pub fn postgap(&self, k: usize) -> u32
         requires { k < length self.now.tracks }
-        ensures { result ≡ (track_of self.now k).postgap }
+        ensures gap { result ≡ (track_of self.now k).postgap }
+        ensures bound { result < 450000 }
     {
-        self.tracks[k].section.postgap.unwrap_or(0)
+        self.track(k).section.postgap.unwrap_or(0)
     }
 
-    /// The number of index lines of track k, counted from 0.
+    /// The number of index lines of track k, counted from 0: 1 to 100.
     pub fn indices(&self, k: usize) -> usize
         requires { k < length self.now.tracks }
-        ensures { result ≡ length (track_of self.now k).indices }
+        ensures count { result ≡ length (track_of self.now k).indices }
+        ensures some { 1 ≤ result }
     {
-        self.tracks[k].section.indices.len()
+        self.track(k).section.indices.len()
     }
 
-    /// The number and the file time of index line j of track k, both counted from 0. The time is that of a block.
+    /// The number, 0 to 99, and the file time of index line j of track k, both counted from 0. The time is in blocks,
+    /// 75 a second, below 450,000.
     pub fn index(&self, k: usize, j: usize) -> (u8, u32)
         requires track { k < length self.now.tracks }
         requires line { j < length (track_of self.now k).indices }
-        ensures { result ≡ index_line_of (track_of self.now k) j }
+        ensures line { result ≡ index_line_of (track_of self.now k) j }
+        ensures bound { (result.0 ≤ 99) × (result.1 < 450000) }
     {
-        self.tracks[k].section.indices[j]
+        self.track(k).section.indices[j]
     }
 }

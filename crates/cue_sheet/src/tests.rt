@@ -1,6 +1,7 @@
 // Sheets that are refused, by line and reason, and sheets that are read.
 use crate::{CueStop, CueText, CueWhy, Sheet};
 use std::alloc::Global;
+use std::test::Fail;
 
 const COMMANDS_AND_PLACES: [(&str, u32, CueWhy); 22] = [
     ("XYZ", 1, CueWhy::UnknownCommand),
@@ -249,51 +250,77 @@ const ONE_TRACK: &str = "FILE \"a.wav\" WAVE\nTRACK 01 AUDIO\nINDEX 01 00:00:00\
 const TITLES: &str =
     "TITLE \"Demo\"\nFILE \"a.wav\" WAVE\nTRACK 01 AUDIO\nTITLE \"One\"\nINDEX 01 00:00:00\n";
 
-fn sheet(alloc: Global, text: &str) -> Result<Sheet, CueStop> {
-    let text = text.as_bytes();
+/// The lines of a track, what its flags and gaps are read as, and its code.
+const TRACKS: [(&str, (u8, u32, u32), Option<&[u8]>); 7] = [
+    ("INDEX 01 00:00:00", (0, 0, 0), None),
+    ("FLAGS DCP\nINDEX 01 00:00:00", (2, 0, 0), None),
+    ("FLAGS 4CH PRE\nINDEX 01 00:00:00", (9, 0, 0), None),
+    ("FLAGS SCMS\nINDEX 01 00:00:00", (0, 0, 0), None),
+    ("FLAGS DCP DCP\nINDEX 01 00:00:00", (2, 0, 0), None),
+    (
+        "FLAGS PRE DCP 4CH SCMS\nPREGAP 00:02:00\nINDEX 01 00:00:00\nPOSTGAP 01:00:10",
+        (11, 150, 4510),
+        None,
+    ),
+    (
+        "TITLE \"\"\nISRC gbaaa2400003\nINDEX 01 00:00:00",
+        (0, 0, 0),
+        Some(b"GBAAA2400003"),
+    ),
+];
+
+fn parsed(alloc: Global, text: &[u8]) -> Result<Result<Sheet, CueStop>, Fail> {
     if text.len() > 67_108_864 {
-        return Err(CueStop::NoMemory);
+        return Err("a long text".into());
     }
-    Sheet::parse(alloc, text)
+    Ok(Sheet::parse(alloc, text))
 }
 
-fn refusal(alloc: Global, text: &str) -> Option<(u32, CueWhy)> {
-    match sheet(alloc, text) {
-        Err(CueStop::Fault { line, why }) => Some((line, why)),
-        _ => None,
+fn sheet(alloc: Global, text: &str) -> Result<Sheet, Fail> {
+    Ok(parsed(alloc, text.as_bytes())?.map_err(|_| "a sheet that is refused")?)
+}
+
+fn refusal(alloc: Global, text: &str) -> Result<Option<(u32, CueWhy)>, Fail> {
+    match parsed(alloc, text.as_bytes())? {
+        Err(CueStop::Fault { line, why }) => Ok(Some((line, why))),
+        _ => Ok(None),
     }
 }
 
 #[test]
-fn refuses_commands_and_places(rt: HostRuntime) {
+fn refuses_commands_and_places(rt: HostRuntime) -> Result<(), Fail> {
     for (text, line, why) in COMMANDS_AND_PLACES {
-        assert_eq!(rt; refusal(rt.alloc(), text), Some((line, why)), "{text}");
+        assert_eq!(rt; refusal(rt.alloc(), text)?, Some((line, why)), "{text}");
     }
+    Ok(())
 }
 
 #[test]
-fn refuses_arguments(rt: HostRuntime) {
+fn refuses_arguments(rt: HostRuntime) -> Result<(), Fail> {
     for (text, line, why) in ARGUMENTS {
-        assert_eq!(rt; refusal(rt.alloc(), text), Some((line, why)), "{text}");
+        assert_eq!(rt; refusal(rt.alloc(), text)?, Some((line, why)), "{text}");
     }
+    Ok(())
 }
 
 #[test]
-fn refuses_repeats_and_ends(rt: HostRuntime) {
+fn refuses_repeats_and_ends(rt: HostRuntime) -> Result<(), Fail> {
     for (text, line, why) in REPEATS_AND_ENDS {
-        assert_eq!(rt; refusal(rt.alloc(), text), Some((line, why)), "{text}");
+        assert_eq!(rt; refusal(rt.alloc(), text)?, Some((line, why)), "{text}");
     }
+    Ok(())
 }
 
 #[test]
-fn refuses_orders(rt: HostRuntime) {
+fn refuses_orders(rt: HostRuntime) -> Result<(), Fail> {
     for (text, line, why) in ORDERS {
-        assert_eq!(rt; refusal(rt.alloc(), text), Some((line, why)), "{text}");
+        assert_eq!(rt; refusal(rt.alloc(), text)?, Some((line, why)), "{text}");
     }
+    Ok(())
 }
 
 #[test]
-fn reads_three_tracks(rt: HostRuntime) -> Result<(), CueStop> {
+fn reads_three_tracks(rt: HostRuntime) -> Result<(), Fail> {
     let sheet = sheet(rt.alloc(), THREE_TRACKS)?;
     assert_eq!(rt; (sheet.tracks(), sheet.first()), (3, 1));
     assert_eq!(rt; sheet.catalogue(), Some(b"0000000000000".as_slice()));
@@ -302,10 +329,10 @@ fn reads_three_tracks(rt: HostRuntime) -> Result<(), CueStop> {
 }
 
 #[test]
-fn reads_the_last_track(rt: HostRuntime) -> Result<(), CueStop> {
+fn reads_the_last_track(rt: HostRuntime) -> Result<(), Fail> {
     let sheet = sheet(rt.alloc(), THREE_TRACKS)?;
     if sheet.tracks() != 3 {
-        return Err(CueStop::NoMemory);
+        return Err("not three tracks".into());
     }
     assert_eq!(rt; sheet.isrc(2), Some(b"GBAAA2400003".as_slice()));
     assert_eq!(rt; sheet.text(CueText::Title, 3), b"Three".as_slice());
@@ -317,10 +344,10 @@ fn reads_the_last_track(rt: HostRuntime) -> Result<(), CueStop> {
 }
 
 #[test]
-fn reads_index_lines(rt: HostRuntime) -> Result<(), CueStop> {
+fn reads_index_lines(rt: HostRuntime) -> Result<(), Fail> {
     let sheet = sheet(rt.alloc(), THREE_TRACKS)?;
     if sheet.tracks() != 3 || sheet.indices(1) != 2 {
-        return Err(CueStop::NoMemory);
+        return Err("not two index lines in the second of three tracks".into());
     }
     assert_eq!(rt; sheet.index(1, 0), (0, 5850));
     assert_eq!(rt; sheet.index(1, 1), (1, 6000));
@@ -328,10 +355,27 @@ fn reads_index_lines(rt: HostRuntime) -> Result<(), CueStop> {
 }
 
 #[test]
-fn reads_short_sheets(rt: HostRuntime) -> Result<(), CueStop> {
+fn reads_short_sheets(rt: HostRuntime) -> Result<(), Fail> {
     let one = sheet(rt.alloc(), ONE_TRACK)?;
     assert_eq!(rt; (one.tracks(), one.first()), (1, 1));
     let titles = sheet(rt.alloc(), TITLES)?;
     assert_eq!(rt; titles.text(CueText::Title, 0), b"Demo".as_slice());
+    Ok(())
+}
+
+// Flags in bits, gaps in blocks, letters of a code as capital ones, and a text that is empty.
+#[test]
+fn reads_what_tracks_say(rt: HostRuntime) -> Result<(), Fail> {
+    for (lines, numbers, code) in TRACKS {
+        let text = format!(in rt.alloc(); "FILE a b\nTRACK 01 AUDIO\n{lines}\n")?;
+        let sheet = sheet(rt.alloc(), &text)?;
+        assert_eq!(rt;
+            (sheet.control(0), sheet.pregap(0), sheet.postgap(0)),
+            numbers,
+            "{lines}"
+        );
+        assert_eq!(rt; sheet.isrc(0), code, "{lines}");
+        assert_eq!(rt; sheet.text(CueText::Title, 1), b"".as_slice());
+    }
     Ok(())
 }

@@ -8,7 +8,8 @@ use Rattle.std.specs.Char.{digit_char}
 use Rattle.bit_lists.specs.Digits.{digits, line_feed}
 use Rattle.disc_time.specs.Time.{time_text, minute_of, second_of, frame_of}
 use Rattle.gf64.proofs.Tables.{all_below, all_below-at}
-use Rattle.text_lines.specs.Text.{words_in, without_blanks, number_in, time_of, parsed_time}
+use Rattle.text_lines.specs.Text.{words_in, without_blanks}
+use Rattle.text_lines.proofs.Times.{time_is}
 use Rattle.picture_script.specs.Script.{Drawing, Rect, Show, pictures}
 use Rattle.picture_script.specs.ScriptGrammar.{small_number, numbers_in, joined, colour_in, colour_of, rect_of, show_of, colour_line, rect_line as read_rect, show_line as read_show, is_in_range, is_after_hold, unless_refused, checked_line, checked_command, checked_words, is_passed_over}
 use Rattle.picture_script.specs.declared.reasons.ScriptWhy.TheVariants.{OutOfRange, TimeOrder, TooMany}
@@ -201,19 +202,15 @@ grey_accepted before k lt =
 -- ---- Times.
 
 is_two : ℕ → Bool
-is_two n = is_value (number_in 2 2 (digits 2 n)) n && all_from 33 (digits 2 n)
+is_two n = all_from 33 (digits 2 n)
 
 test_twos : all_below is_two 100 ≡ true
-unfolding all_below is_two is_value number_in
+unfolding all_below is_two
 test_twos = refl
-
-two_is : (n : ℕ) → n < 100 → number_in 2 2 (digits 2 n) ≡ Some n
-unfolding is_two
-two_is n lt = value_is _ _ (and_parts (is_value (number_in 2 2 (digits 2 n)) n) (all_from 33 (digits 2 n)) (all_below-at is_two 100 n test_twos lt)).0
 
 two_graphic : (n : ℕ) → n < 100 → all_from 33 (digits 2 n) ≡ true
 unfolding is_two
-two_graphic n lt = (and_parts (is_value (number_in 2 2 (digits 2 n)) n) (all_from 33 (digits 2 n)) (all_below-at is_two 100 n test_twos lt)).1
+two_graphic n lt = all_below-at is_two 100 n test_twos lt
 
 time_graphic : (t : ℕ) → t < 450000 → all_from 33 (time_text t) ≡ true
 time_graphic t lt =
@@ -225,18 +222,6 @@ time_graphic t lt =
     ∙ and_from _ _ (list_all-append (λ b. nat_le 33 b) (digits 2 (minute_of t)) (codes ":") ∙ and_from _ _ (two_graphic (minute_of t) (omega arith)) refl) (two_graphic (second_of t) (omega arith)))
     refl)
     (two_graphic (frame_of t) (omega arith))
-
-time_is : (t : ℕ) → t < 450000 → parsed_time (time_text t) ≡ Some t
-unfolding parsed_time
-time_is t lt =
-    let m = minute_of t in
-    let s = second_of t in
-    let f = frame_of t in
-    let whole : 4500 * m + 75 * s + f ≡ t = omega arith in
-    ap (λ o. time_of o (number_in 2 2 (digits 2 s)) (number_in 2 2 (digits 2 f))) (two_is m (omega arith))
-    ∙ ap₂ (λ (o p : Option ℕ). time_of (Some m) o p) (two_is s (omega arith)) (two_is f (omega arith))
-    ∙ ap (λ b. cond b (Some (4500 * m + 75 * s + f)) None) (and_from (nat_le s 59) (nat_le f 74) (le-leb s 59 (omega arith)) (le-leb f 74 (omega arith)))
-    ∙ ap (λ n. Some n) whole
 
 unfoldable pub show_text : ℕ → List ℕ
 show_text k = codes "show" ++ 32 ∷ (time_text (800 * (k + 1)) ++ 32 ∷ time_text (800 * (k + 1) + 20))

@@ -8,14 +8,16 @@ use Rattle.q_frame.specs.declared.frame.QFrame.{QFrame}
 use Rattle.q_frame.specs.declared.frame.QFault.{QFault}
 use Rattle.q_frame.specs.declared.frame.QFault.TheVariants.{BadCrc, BadField}
 
--- by whether the check matches, and the first bit of the first field out of its range
+-- the reading by whether the check matches, and the first bit of the first field out of its range
 abbrev pub reading_by : Bool → Option ℕ → QFrame → Result QFrame QFault
 reading_by false bad frame = Err BadCrc
 reading_by true (Some bit) frame = Err (BadField bit)
 reading_by true None frame = Ok frame
 
+-- whether the last sixteen bits are the check of the first eighty
 abbrev pub check_matches : List Bool → Bool
 check_matches message = number_of (drop 80 message) == number_of (check_bits (take 80 message))
 
+-- what the bits are read as
 unfoldable pub reading_of : List Bool → Result QFrame QFault
 reading_of message = reading_by (check_matches message) (first_bad_field message) (frame_at (kind_of message) message)

@@ -2,3 +2,4 @@ pub mod Places
 pub mod LineSteps
 pub mod WordSteps
 pub mod NumberSteps
+pub mod Times

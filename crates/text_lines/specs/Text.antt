@@ -25,6 +25,7 @@ lines_of text = lines_in (without_mark text)
 abbrev pub is_blank : ℕ → Bool
 is_blank b = b == 32 || b == 9
 
+-- a line without the blanks at its front
 unfoldable pub without_blanks : List ℕ → List ℕ
 without_blanks [] = []
 without_blanks (b ∷ rest) = if is_blank b then without_blanks rest else b ∷ rest
@@ -33,13 +34,15 @@ without_blanks (b ∷ rest) = if is_blank b then without_blanks rest else b ∷ 
 unfoldable pub trimmed : List ℕ → List ℕ
 trimmed line = reverse (without_blanks (reverse (without_blanks line)))
 
+-- the words of a line: what stands between its blanks
 unfoldable pub words_in : List ℕ → List (List ℕ)
 words_in line = filter is_some_bytes (slice_split is_blank line)
 
--- the first word of a trimmed line, and what follows the blanks after it
+-- the first word of a trimmed line
 unfoldable pub first_word : List ℕ → List ℕ
 first_word line = before_first is_blank line
 
+-- what follows the blanks after the first word
 unfoldable pub argument_of : List ℕ → List ℕ
 argument_of line = without_blanks (drop (length (first_word line)) line)
 

@@ -1,6 +1,9 @@
 // Words that are numbers or times.
-ghost use Rattle.std.specs.Prelude.{◌≡◌, ◌<◌, ◌≤◌, ◌^◌, length, IfSome};
+ghost use Rattle.std.specs.Prelude.{◌≡◌, ◌<◌, ◌≤◌, ◌^◌, ℕ, length, IfSome, Some};
+ghost use Rattle.disc_time.specs.Time.{time_text};
 ghost use Rattle.text_lines.specs.Text.{number_in, two_digit_number, parsed_time};
+
+use disc_time::parse_time;
 
 /// The number that a word writes, if it has at least and at most so many decimal digits and nothing else.
 #[tactic(auto, unfolding(crate::specs::Text::number_in))]
@@ -33,19 +36,11 @@ pub fn two_digits(word: &[u8]) -> Option<u8>
 }
 
 /// The block of a time that is written `MM:SS:FF`, each part in its range: below 450,000.
-#[tactic(auto, unfolding(crate::specs::Text::parsed_time))]
 pub fn time(word: &[u8]) -> Option<u32>
     ensures value { result ≡ parsed_time word.now }
+    ensures written { IfSome result (λ block. word.now ≡ time_text block) }
+    ensures all { (block : ℕ) → block < 450000 → word.now ≡ time_text block → result ≡ Some block }
     ensures bound { IfSome result (λ block. block < 450000) }
 {
-    if word.len() != 8 || word[2] != b':' || word[5] != b':' {
-        return None;
-    }
-    let min = two_digits(&word[..2])?;
-    let sec = two_digits(&word[3..5])?;
-    let frame = two_digits(&word[6..])?;
-    if sec > 59 || frame > 74 {
-        return None;
-    }
-    Some(4500 * u32::from(min) + 75 * u32::from(sec) + u32::from(frame))
+    parse_time(word)
 }

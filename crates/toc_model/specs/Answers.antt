@@ -11,6 +11,7 @@ IsLayoutRefusal sheet audio (LengthShort need) = (need ≡ audio_need sheet) × 
 IsLayoutRefusal sheet audio (DiscTooLong blocks) = (audio_need sheet ≤ audio) × (blocks ≡ program_blocks sheet audio) × (449999 < blocks)
 IsLayoutRefusal sheet audio NoMemory = (audio_need sheet ≤ audio) × (program_blocks sheet audio ≤ 449999)
 
+-- the layout of a sheet and an audio of so many blocks, or why there is none
 abbrev pub IsLayoutAnswer : CueSheet → ℕ → Result DiscLayout LayoutStop → Type 0
 IsLayoutAnswer sheet audio (Ok layout) = (audio_need sheet ≤ audio) × (program_blocks sheet audio ≤ 449999) × (layout ≡ layout_of sheet audio)
 IsLayoutAnswer sheet audio (Err stop) = IsLayoutRefusal sheet audio stop

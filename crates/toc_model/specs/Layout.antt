@@ -31,6 +31,7 @@ time_in_track place block = if nat_lt block (music_begin place) then music_begin
 abbrev pub is_paused_for : ℕ → TrackPlace → Bool
 is_paused_for block place = nat_le (music_begin place - max 150 (music_begin place - place.begin)) block && nat_lt block (music_begin place)
 
+-- whether the P bit of a block is set: the block lies in the pause of some track
 unfoldable pub p_bit : DiscLayout → ℕ → Bool
 p_bit layout block = list_any (is_paused_for block) layout.tracks
 
@@ -38,10 +39,12 @@ p_bit layout block = list_any (is_paused_for block) layout.tracks
 abbrev pub time_frame : TrackPlace → ℕ → QFrame
 time_frame place block = Program place.control place.number (index_at place block) (time_in_track place block) block
 
+-- the frame of a block that may carry the catalogue number: it does where there is one
 abbrev pub catalogue_frame : TrackPlace → ℕ → Option (List ℕ) → QFrame
 catalogue_frame place block None = time_frame place block
 catalogue_frame place block (Some number) = Catalogue place.control number (frame_of block)
 
+-- the frame of a block that may carry its track's code: it does where there is one, but in the pause
 abbrev pub isrc_frame : TrackPlace → ℕ → Option (List ℕ) → QFrame
 isrc_frame place block None = time_frame place block
 isrc_frame place block (Some code) = if index_at place block == 0 then time_frame place block else Isrc place.control code (frame_of block)
@@ -54,6 +57,7 @@ program_frame layout block =
     else (if block % 100 == 99 then isrc_frame place block place.isrc
     else time_frame place block)
 
+-- track k of a layout, counted from 0
 abbrev pub place_at : DiscLayout → ℕ → TrackPlace
 place_at layout k = slice_index_or layout.tracks k no_place
 
@@ -71,8 +75,7 @@ toc_frame layout lead_in l =
     let entry = slice_index_or (toc_entries layout) (l / 3 % (length layout.tracks + 3)) (0, First 0 0) in
     Toc entry.0 entry.1 (450000 - lead_in + l)
 
--- What holds of every place and of every layout
-
+-- a place: its numbers in range, its pause before its music, at least two seconds into the disc
 pub record IsPlace (place : TrackPlace) : Type 0 where
   pub number : (1 ≤ place.number) × (place.number ≤ 99)
   pub control : place.control < 16
@@ -81,6 +84,7 @@ pub record IsPlace (place : TrackPlace) : Type 0 where
   pub begins : place.begin ≤ music_begin place
   pub late : 150 ≤ music_begin place
 
+-- a layout: 1 to 99 tracks in order, the first from block 0, each with its music inside the disc
 pub record IsLayout (layout : DiscLayout) : Type 0 where
   pub catalogue : ForSome layout.catalogue (λ number. IsTrue (is_catalogue_number number))
   pub count : (1 ≤ length layout.tracks) × (length layout.tracks ≤ 99)

@@ -17,17 +17,19 @@ pub record DiscLayout : Type 0 where
   pub tracks : List TrackPlace
   pub blocks : ℕ
 
+-- no track, for a place where there is none
 abbrev pub no_place : TrackPlace
 no_place = record { number = 0; control = 0; isrc = None; begin = 0; lines = [] }
 
--- the pregaps and the postgaps of so many tracks
+-- the pregaps of so many tracks
 unfoldable pub pregaps_to : CueSheet → ℕ → ℕ
 pregaps_to sheet count = sum_by (λ (t : CueTrack). t.pregap) (take count sheet.tracks)
 
+-- the postgaps of so many tracks
 unfoldable pub postgaps_to : CueSheet → ℕ → ℕ
 postgaps_to sheet count = sum_by (λ (t : CueTrack). t.postgap) (take count sheet.tracks)
 
--- the block at which file time 0 would lie, seen from track k: two seconds, the gaps of the tracks before, and the track's own pregap come first
+-- the block at which file time 0 would lie, seen from track k, counted from 0: two seconds, the gaps of the tracks before, and the track's own pregap come first
 abbrev pub blocks_before : CueSheet → ℕ → ℕ
 blocks_before sheet k = 150 + pregaps_to sheet (k + 1) + postgaps_to sheet k
 
@@ -39,6 +41,7 @@ first_index_time track = (index_line_of track 0).1
 abbrev pub track_begin : CueSheet → ℕ → ℕ
 track_begin sheet k = if k == 0 then 0 else 150 + pregaps_to sheet k + postgaps_to sheet k + first_index_time (track_of sheet k)
 
+-- the place of track k, counted from 0
 abbrev pub place_of : CueSheet → ℕ → TrackPlace
 place_of sheet k =
     let track = track_of sheet k in
@@ -50,7 +53,7 @@ place_of sheet k =
       lines = map (λ (line : ℕ × ℕ). (line.0, blocks_before sheet k + line.1)) track.indices;
     }
 
--- the number of program blocks
+-- the number of program blocks: two seconds, the audio and all gaps
 abbrev pub program_blocks : CueSheet → ℕ → ℕ
 program_blocks sheet audio = 150 + audio + (pregaps_to sheet (length sheet.tracks) + postgaps_to sheet (length sheet.tracks))
 

@@ -15,16 +15,13 @@ use std::alloc::{AllocError, Global};
 use std::marker::Model;
 
 /// Why a sheet has no layout with an audio of some length.
-#[derive(PartialEq, Eq, Debug, Drop, thiserror::Error)]
+#[derive(PartialEq, Eq, Debug, Drop)]
 pub enum LayoutStop {
     /// The audio is too short: the index lines need so many blocks.
-    #[error("the index lines need {need} blocks of audio")]
     LengthShort { need: u32 },
     /// The program would have so many blocks.
-    #[error("the program has {blocks} blocks")]
     DiscTooLong { blocks: u32 },
     /// Memory ran out.
-    #[error("out of memory")]
     NoMemory,
 }
 
@@ -57,7 +54,12 @@ impl Model for Layout {
 impl Layout {
     ghost use Rattle.toc_model.specs.Answers.{IsLayoutAnswer};
 
-    /// The layout of a sheet whose audio has so many blocks.
+    /// The layout of a sheet whose audio file has `length` blocks, 75 a second, at most 449,999.
+    ///
+    /// # Errors
+    ///
+    /// `LengthShort` where an index time is not inside the audio; then `DiscTooLong` where the program has more than
+    /// 449,999 blocks; then `NoMemory`.
     pub fn from_cue(alloc: Global, sheet: &Sheet, length: u32) -> Result<Layout, LayoutStop>
         requires { length ≤ 449999 }
         ensures { IsLayoutAnswer sheet.now length result }
@@ -77,7 +79,7 @@ impl Layout {
         })
     }
 
-    /// The number of program blocks.
+    /// The number of program blocks, which is where the lead-out begins.
     pub fn blocks(&self) -> u32
         ensures blocks { result ≡ self.now.blocks }
         ensures bound { result ≤ 449999 }
@@ -107,7 +109,7 @@ impl Layout {
         &self.tracks[begun - 1]
     }
 
-    /// The P bit of a program block.
+    /// The P bit of a program block: set in the pause before the music of a track, at least two seconds.
     pub fn p_bit(&self, block: u32) -> bool
         requires { block < self.now.blocks }
         ensures { result ≡ p_bit self.now block }
@@ -161,7 +163,7 @@ impl Layout {
                 first.control(),
                 TocPoint::First {
                     track: first.number(),
-                    kind: 0,
+                    kind: 0, // CD-DA
                 },
             ),
             1 => (

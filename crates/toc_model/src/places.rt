@@ -35,7 +35,6 @@ pub(crate) fn gaps(sheet: &Sheet) -> u32
 pub(crate) fn catalogue(sheet: &Sheet) -> Option<[u8; 13]>
     ensures { result ≡ sheet.now.catalogue }
 {
-    let _tracks = sheet.tracks();
     let number = sheet.catalogue()?;
     let mut digits = [0; 13];
     digits.copy_from_slice(number);
@@ -46,7 +45,6 @@ fn isrc(sheet: &Sheet, k: usize) -> Option<[u8; 12]>
     requires { k < length sheet.now.tracks }
     ensures { result ≡ (track_of sheet.now k).isrc }
 {
-    let _tracks = sheet.tracks();
     let code = sheet.isrc(k)?;
     let mut characters = [0; 12];
     characters.copy_from_slice(code);
@@ -59,7 +57,6 @@ fn lines(alloc: Global, sheet: &Sheet, k: usize, before: u32) -> Result<Vec<(u8,
     requires fits { before ≤ 4000000000 }
     ensures { IfOk result (λ v. v.items ≡ map (λ (line : ℕ × ℕ). (line.0, before + line.1)) (track_of sheet.now k).indices) }
 {
-    let _tracks = sheet.tracks();
     let count = sheet.indices(k);
     let mut lines = Vec::with_capacity(alloc, count)?;
     for j in 0..count {
@@ -79,6 +76,7 @@ fn begin(sheet: &Sheet, k: usize, gaps: u32) -> u32
     if k == 0 {
         return 0;
     }
+    // What holds of every sheet: a track has an index line.
     let _tracks = sheet.tracks();
     150 + gaps + sheet.index(k, 0).1
 }
@@ -91,6 +89,7 @@ fn place(alloc: Global, sheet: &Sheet, k: usize, gaps: u32) -> Result<Place, All
     requires small { gaps ≤ 449999 }
     ensures { IfOk result (λ p. p ≡ place_of sheet.now k) }
 {
+    // What holds of every sheet: its tracks are in order, and their numbers at most 99.
     let _tracks = sheet.tracks();
     Ok(Place {
         number: sheet.first() + k as u8,

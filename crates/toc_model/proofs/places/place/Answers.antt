@@ -15,9 +15,9 @@ same c =
     let sheet = c.args.sheet.now in
     let k = c.args.k in
     let number : c.first.result + c.args.k ≡ (track_of c.args.sheet.now c.args.k).number = omega (arith, c.first.ensures.number, c.tracks-tracks.ensures.sheet.next k c.requires.track) in
-    let before : 150 + c.args.gaps + c.pregap.result ≡ blocks_before c.args.sheet.now c.args.k = omega (arith, pregaps_to-more sheet k c.requires.track, c.requires.gaps, c.pregap.ensures) in
+    let before : 150 + c.args.gaps + c.pregap.result ≡ blocks_before c.args.sheet.now c.args.k = omega (arith, pregaps_to-more sheet k c.requires.track, c.requires.gaps, c.pregap.ensures.gap) in
     same_place sheet k _ c.control.result c.isrc.result c.begin.result c.in_ok-lines.field-0.items
-    number c.control.ensures c.isrc.ensures c.begin.ensures
+    number c.control.ensures.control c.isrc.ensures c.begin.ensures
     (c.in_ok-lines.ensures ∙ ap (λ (b : ℕ). map (λ (line : ℕ × ℕ). (line.0, b + line.1)) (track_of c.args.sheet.now c.args.k).indices) before)
 
 pub returns : goal.returns

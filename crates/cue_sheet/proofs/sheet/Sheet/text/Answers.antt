@@ -1,8 +1,9 @@
 use Rattle.std.proofs.Common.{arith}
-use Rattle.cue_sheet.proofs.Readers.{text_of_place}
+use Rattle.cue_sheet.proofs.Readers.{text_of_place, track_text_is}
 use Rattle.cue_sheet.proofs.sheet.Sheet.text.Goals as goal
 
-pub returns : goal.returns
-returns c =
-    text_of_place c.args.kind c.self.inside.album c.self.inside.tracks.items c.args.self.now c.args.place c.index.result.now _
-    c.self.view_is (omega arith) c.requires c.index.ensures c.text-2.ensures
+pub returns-clause-text : goal.returns-clause-text
+returns-clause-text c = text_of_place c.args.kind c.args.self.now c.args.place c.track.result.now _ (omega arith) c.track.ensures.track c.text-2.ensures
+
+pub returns-clause-plain : goal.returns-clause-plain
+returns-clause-plain c = track_text_is c.args.kind c.track.result.now _ c.track.ensures.good c.text-2.ensures

@@ -1,0 +1,12 @@
+-- What the parse of a text answers.
+use Rattle.std.specs.Prelude.{◌≡◌, ℕ, Result, Ok, Err}
+use Rattle.cue_sheet.specs.CueSheet.{CueSheet}
+use Rattle.cue_sheet.specs.declared.fault.CueWhy.{CueWhy}
+use Rattle.cue_sheet.specs.declared.fault.CueStop.{CueStop}
+use Rattle.cue_sheet.specs.declared.fault.CueStop.TheVariants.{Fault, NoMemory}
+
+-- the answer for a text that is read as this, unless memory runs out
+abbrev pub IsCueAnswer : Result CueSheet (ℕ × CueWhy) → Result CueSheet CueStop → Type 0
+IsCueAnswer read (Ok sheet) = read ≡ Ok sheet
+IsCueAnswer read (Err (Fault line why)) = read ≡ Err (line, why)
+IsCueAnswer read (Err NoMemory) = Unit {0}
