@@ -1,9 +1,9 @@
 // The grammar of scripts: the lines in turn, or the first that is refused.
-ghost use Rattle.std.specs.Prelude.{◌≡◌, ◌<◌, ◌≤◌, ◌+◌, ◌&&◌, nat_le, nat_lt};
-ghost use Rattle.picture_script.specs.Script.{Rect};
+ghost use Rattle.std.specs.Prelude.{◌≡◌, ◌<◌, ◌≤◌, ◌+◌, ◌∷◌, ◌&&◌, [], List, Some, IfOk, IfErr, nat_le, nat_lt};
+ghost use Rattle.picture_script.specs.Script.{Drawing, Rect};
 ghost use Rattle.text_lines.specs.Text.{words_in};
-ghost use Rattle.picture_script.specs.ScriptGrammar.{is_in_range, checked_line, checked_command, colour_line, border_line, fill_line, rect_line, row_line, show_line};
-ghost use Rattle.picture_script.specs.Lines.{said_in, IsSound, Takes};
+ghost use Rattle.picture_script.specs.ScriptGrammar.{is_in_range, numbers_in, checked_line, checked_command, colour_line, border_line, fill_line, rect_line, row_line, show_line};
+ghost use Rattle.picture_script.specs.Lines.{said_in, IsSound, Stops, Takes};
 
 use crate::draft::{Draft, LineStop};
 use crate::line::Line;
@@ -33,16 +33,8 @@ impl Draft {
         requires { IsSound self.old }
         ensures { Takes (checked_line (said_in self.old) (border_line (words_in words.now))) self.old self.new result }
     {
-        let Some(numbers) = numbers::<1>(words) else {
-            return Err(LineStop::Refused(ScriptWhy::BadArgument));
-        };
-        let colour = numbers[0];
-        if colour > 15 {
-            return Err(LineStop::Refused(ScriptWhy::OutOfRange));
-        }
-        self.push_line(Line::BorderColour {
-            colour: colour as u8,
-        })
+        let colour = colour_number(words)?;
+        self.push_line(Line::BorderColour { colour })
     }
 
     // Takes the words after `fill`.
@@ -50,16 +42,8 @@ impl Draft {
         requires { IsSound self.old }
         ensures { Takes (checked_line (said_in self.old) (fill_line (words_in words.now))) self.old self.new result }
     {
-        let Some(numbers) = numbers::<1>(words) else {
-            return Err(LineStop::Refused(ScriptWhy::BadArgument));
-        };
-        let colour = numbers[0];
-        if colour > 15 {
-            return Err(LineStop::Refused(ScriptWhy::OutOfRange));
-        }
-        self.push_line(Line::Filled {
-            colour: colour as u8,
-        })
+        let colour = colour_number(words)?;
+        self.push_line(Line::Filled { colour })
     }
 
     // Takes the words after `rect`.
@@ -156,4 +140,20 @@ fn is_row(x: u16, y: u16, count: usize) -> bool
     ensures { result ≡ (nat_le (x + count) 288 && nat_le y 191) }
 {
     count <= 288 && usize::from(x) + count <= 288 && y <= 191
+}
+
+// The number of a colour, which the words after `border` and `fill` are.
+fn colour_number(words: &[u8]) -> Result<u8, LineStop>
+    ensures ok { IfOk result (λ colour. (numbers_in 1 (words_in words.now) ≡ Some (colour ∷ [])) × (colour < 16)) }
+    ensures border { IfErr result (λ stop. (before : List Drawing) → Stops (checked_line before (border_line (words_in words.now))) stop) }
+    ensures fill { IfErr result (λ stop. (before : List Drawing) → Stops (checked_line before (fill_line (words_in words.now))) stop) }
+{
+    let Some(numbers) = numbers::<1>(words) else {
+        return Err(LineStop::Refused(ScriptWhy::BadArgument));
+    };
+    let colour = numbers[0];
+    if colour > 15 {
+        return Err(LineStop::Refused(ScriptWhy::OutOfRange));
+    }
+    Ok(colour as u8)
 }
