@@ -1,6 +1,7 @@
-//! The graphics instructions that packs hold, read and written.
+//! The graphics instructions that packs hold, read and written (CD+G, IEC 60908).
 #![tactic(auto)]
 
+mod codes;
 mod instr;
 mod reading;
 mod tile;

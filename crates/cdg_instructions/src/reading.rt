@@ -1,73 +1,122 @@
 // What a pack means.
-ghost use Rattle.std.specs.Prelude.{◌≡◌, ◌<◌, ◌≤◌, ℕ, List, drop, length, All};
+ghost use Rattle.std.specs.Prelude.{◌≡◌, ◌<◌, ◌≤◌, ◌⊎◌, ℕ, List, drop, length, map, slice_index, All};
 ghost use Rattle.rw_code.specs.Codeword.{IsWord};
 ghost use Rattle.cdg_instructions.specs.Instruction.{Means, InRange, IsScroll, IsTile, InScrollRange, InTileRange, content_of, move, table_colour};
 ghost use Rattle.cdg_instructions.specs.Meaning.{meaning};
 ghost use Rattle.bit_lists.specs.Counting.{below};
 ghost use Rattle.cdg_instructions.specs.declared.instr.Instr.{Instr};
-ghost use Rattle.std.specs.Prelude.{map};
 
 use crate::Instr;
+use crate::codes::{self, CONTENT};
 use rw_code::Pack;
 
 /// The instruction that a pack holds.
+///
+/// Bits that an instruction does not use are passed over, a move of 3 is read as none, and an offset that is too
+/// great is cut off at the greatest.
 pub fn read(pack: &Pack) -> Instr
     ensures meaning { Means pack.now result }
     ensures range { InRange result }
 {
     let symbols = pack.word().bytes();
-    if symbols[0] == 0 {
-        return Instr::Idle;
+    match symbols[0] {
+        0 => Instr::Idle,
+        codes::GRAPHICS => graphics(&symbols),
+        _ => Instr::Foreign,
     }
-    if symbols[0] != 9 {
-        return Instr::Foreign;
-    }
+}
+
+// The instruction that the symbols of a graphics pack say.
+fn graphics(symbols: &[u8; 24]) -> Instr
+    requires symbols { IsWord symbols.now }
+    requires mode { slice_index symbols.now 0 ≡ 9 }
+    ensures meaning { Means symbols.now result }
+    ensures range { InRange result }
+{
     match symbols[1] {
-        1 => Instr::MemoryPreset {
-            colour: symbols[4] % 16,
-            repeat: symbols[5] % 16,
+        codes::MEMORY_PRESET => Instr::MemoryPreset {
+            colour: symbols[CONTENT] % 16,
+            repeat: symbols[CONTENT + 1] % 16,
         },
-        2 => Instr::BorderPreset {
-            colour: symbols[4] % 16,
+        codes::BORDER_PRESET => Instr::BorderPreset {
+            colour: symbols[CONTENT] % 16,
         },
-        6 => Instr::SetTile {
-            colour0: symbols[4] % 16,
-            colour1: symbols[5] % 16,
-            row: symbols[6] % 32,
-            column: symbols[7],
-            lines: lines(&symbols),
+        codes::SET_TILE | codes::XOR_TILE => tile(symbols),
+        codes::SCROLL_PRESET | codes::SCROLL_COPY => scroll(symbols),
+        codes::TRANSPARENCY => Instr::Transparency {
+            levels: levels(symbols),
         },
-        20 => Instr::ScrollPreset {
-            colour: symbols[4] % 16,
-            across: moved(symbols[5]),
-            h: (symbols[5] % 8).min(5),
-            down: moved(symbols[6]),
-            v: (symbols[6] % 16).min(11),
+        codes::COLOURS_LOW => Instr::ColoursLow {
+            colours: colours(symbols),
         },
-        24 => Instr::ScrollCopy {
-            colour: symbols[4] % 16,
-            across: moved(symbols[5]),
-            h: (symbols[5] % 8).min(5),
-            down: moved(symbols[6]),
-            v: (symbols[6] % 16).min(11),
-        },
-        28 => Instr::Transparency {
-            levels: levels(&symbols),
-        },
-        30 => Instr::ColoursLow {
-            colours: colours(&symbols),
-        },
-        31 => Instr::ColoursHigh {
-            colours: colours(&symbols),
-        },
-        38 => Instr::XorTile {
-            colour0: symbols[4] % 16,
-            colour1: symbols[5] % 16,
-            row: symbols[6] % 32,
-            column: symbols[7],
-            lines: lines(&symbols),
+        codes::COLOURS_HIGH => Instr::ColoursHigh {
+            colours: colours(symbols),
         },
         _ => Instr::Unknown,
+    }
+}
+
+// The instruction of a pack that sets or combines a tile.
+fn tile(symbols: &[u8; 24]) -> Instr
+    requires symbols { IsWord symbols.now }
+    requires mode { slice_index symbols.now 0 ≡ 9 }
+    requires code { (slice_index symbols.now 1 ≡ 6) ⊎ (slice_index symbols.now 1 ≡ 38) }
+    ensures meaning { Means symbols.now result }
+    ensures range { InRange result }
+{
+    let colour0 = symbols[CONTENT] % 16;
+    let colour1 = symbols[CONTENT + 1] % 16;
+    let row = symbols[CONTENT + 2] % 32;
+    let column = symbols[CONTENT + 3];
+    let lines = lines(symbols);
+    if symbols[1] == codes::SET_TILE {
+        Instr::SetTile {
+            colour0,
+            colour1,
+            row,
+            column,
+            lines,
+        }
+    } else {
+        Instr::XorTile {
+            colour0,
+            colour1,
+            row,
+            column,
+            lines,
+        }
+    }
+}
+
+// The instruction of a pack that scrolls.
+fn scroll(symbols: &[u8; 24]) -> Instr
+    requires symbols { IsWord symbols.now }
+    requires mode { slice_index symbols.now 0 ≡ 9 }
+    requires code { (slice_index symbols.now 1 ≡ 20) ⊎ (slice_index symbols.now 1 ≡ 24) }
+    ensures meaning { Means symbols.now result }
+    ensures range { InRange result }
+{
+    let colour = symbols[CONTENT] % 16;
+    let across = moved(symbols[CONTENT + 1]);
+    let h = (symbols[CONTENT + 1] % 8).min(5);
+    let down = moved(symbols[CONTENT + 2]);
+    let v = (symbols[CONTENT + 2] % 16).min(11);
+    if symbols[1] == codes::SCROLL_PRESET {
+        Instr::ScrollPreset {
+            colour,
+            across,
+            h,
+            down,
+            v,
+        }
+    } else {
+        Instr::ScrollCopy {
+            colour,
+            across,
+            h,
+            down,
+            v,
+        }
     }
 }
 
@@ -88,7 +137,7 @@ fn lines(symbols: &[u8; 24]) -> [u8; 12]
     ensures range { All (λ line. line < 64) result }
 {
     let mut lines = [0; 12];
-    lines.copy_from_slice(&symbols[8..20]);
+    lines.copy_from_slice(&symbols[CONTENT + 4..CONTENT + 16]);
     lines
 }
 
@@ -100,7 +149,7 @@ fn levels(symbols: &[u8; 24]) -> [u8; 16]
     ensures range { All (λ level. level < 64) result }
 {
     let mut levels = [0; 16];
-    levels.copy_from_slice(&symbols[4..20]);
+    levels.copy_from_slice(&symbols[CONTENT..CONTENT + 16]);
     levels
 }
 
@@ -111,16 +160,11 @@ fn colours(symbols: &[u8; 24]) -> [u16; 8]
     ensures count { length result ≡ 8 }
     ensures range { All (λ colour. colour < 4096) result }
 {
-    [
-        colour(symbols, 0),
-        colour(symbols, 1),
-        colour(symbols, 2),
-        colour(symbols, 3),
-        colour(symbols, 4),
-        colour(symbols, 5),
-        colour(symbols, 6),
-        colour(symbols, 7),
-    ]
+    let mut colours = [0; 8];
+    for k in 0..8 {
+        colours[k] = colour(symbols, k);
+    }
+    colours
 }
 
 // Colour k of a table.
@@ -130,7 +174,7 @@ fn colour(symbols: &[u8; 24], k: usize) -> u16
     ensures colour { result ≡ table_colour symbols.now k }
     ensures range { result < 4096 }
 {
-    64 * u16::from(symbols[4 + 2 * k]) + u16::from(symbols[5 + 2 * k])
+    64 * u16::from(symbols[CONTENT + 2 * k]) + u16::from(symbols[CONTENT + 2 * k + 1])
 }
 
 /// A pack means one instruction.

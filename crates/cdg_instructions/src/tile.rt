@@ -1,5 +1,5 @@
 // A tile: 6 by 12 numbers of colours.
-ghost use Rattle.std.specs.Prelude.{◌≡◌, ◌<◌, ℕ, List, length, slice_index, All, MatchOption};
+ghost use Rattle.std.specs.Prelude.{◌≡◌, ◌<◌, ℕ, List, length, slice_index, All, MatchOption, replicate};
 ghost use Rattle.cdg_instructions.specs.Instruction.{IsTilePixels};
 
 use std::marker::Model;
@@ -8,7 +8,7 @@ use std::marker::Model;
 pub const PIXELS: usize = 72;
 
 /// 72 numbers below 16, line by line from the left.
-#[derive(Clone, Copy)]
+#[derive(Clone, Copy, PartialEq, Eq, Debug)]
 pub struct Tile {
     pixels: [u8; PIXELS],
 }
@@ -34,6 +34,16 @@ impl Tile {
             Some(Tile { pixels: *pixels })
         } else {
             None
+        }
+    }
+
+    /// The tile whose pixels all have the colour number `colour`, which is below 16.
+    pub fn solid(colour: u8) -> Tile
+        requires { colour < 16 }
+        ensures { result ≡ replicate 72 colour }
+    {
+        Tile {
+            pixels: [colour; PIXELS],
         }
     }
 

@@ -6,7 +6,7 @@ use Rattle.std.proofs.lemmas.List.Elements.{All-nil, All-cons}
 use Rattle.std.proofs.lemmas.List.Sums.{sum_by-le}
 use Rattle.cdg_instructions.specs.Instruction.{IsTilePixels}
 use Rattle.cdg_instructions.specs.declared.instr.Instr.TheVariants.{BorderPreset, ColoursLow, ColoursHigh}
-use Rattle.tile_author.specs.Span.{Free}
+use Rattle.tile_author.proofs.Span.{Free}
 use Rattle.tile_author.specs.Plan.{basis, differences, weight, delta, are_equal, steps}
 use Rattle.tile_author.proofs.BasisLaws.{basis-free}
 use Rattle.tile_author.proofs.Capacity.{at_most_four}

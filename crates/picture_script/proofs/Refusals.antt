@@ -92,6 +92,19 @@ taken checked old new line (Ok u) h adds err = (adds.sound, ap (grown (said_in o
 taken checked old new line (Err stop) h adds err = subst (Stops checked) (sym err) tt
 
 -- numbers of words, one and five
+pub one_number : (words : List (List ℕ)) (numbers : List ℕ) → Some numbers ≡ numbers_in 1 words → length numbers ≡ 1 → numbers_in 1 words ≡ Some (slice_index numbers 0 ∷ [])
+one_number words [] h size = absurd (omega arith)
+one_number words (a ∷ []) h size = sym h
+one_number words (a ∷ b ∷ numbers) h size = absurd (omega arith)
+
+pub border_taken : (words : List (List ℕ)) (colour : ℕ) → numbers_in 1 words ≡ Some (colour ∷ []) → border_line words ≡ Some (Border colour)
+unfolding border_line
+border_taken words colour h = ap border_of h
+
+pub fill_taken : (words : List (List ℕ)) (colour : ℕ) → numbers_in 1 words ≡ Some (colour ∷ []) → fill_line words ≡ Some (Fill colour)
+unfolding fill_line
+fill_taken words colour h = ap fill_of h
+
 pub one_border : (words : List (List ℕ)) (numbers : List ℕ) → Some numbers ≡ numbers_in 1 words → length numbers ≡ 1 → border_line words ≡ Some (Border (slice_index numbers 0))
 unfolding border_line
 one_border words [] h size = absurd (omega arith)

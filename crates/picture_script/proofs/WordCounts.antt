@@ -1,41 +1,37 @@
 -- Lines of a wrong number of words.
-use Rattle.std.proofs.Common.{◌≡◌, ℕ, List, [], ◌∷◌, refl, ap}
+use Rattle.std.proofs.Common.{◌≡◌, ◌≢◌, ℕ, suc, List, [], ◌∷◌, length, refl, ap, arith}
 use Rattle.std.specs.Prelude.{Some, None, Bool, true, false, ◌&&◌, if◌then◌else◌, map}
 use Rattle.std.specs.List.{list_all}
 use Rattle.std.specs.Char.{is_ascii_hexdigit, digit_value}
 use Rattle.text_lines.specs.Text.{parsed_time, is_some_bytes}
 use Rattle.picture_script.specs.ScriptGrammar.{small_number, colour_in, pixels_in, colour_line, row_line, show_line, colour_of, row_of, show_of}
 use Rattle.picture_script.proofs.Drafts.{and_true}
-use Rattle.picture_script.specs.Words.{two_of, three_of}
 
-pub colour_none : (words : List (List ℕ)) → two_of words ≡ None → colour_line words ≡ None
+pub colour_none : (words : List (List ℕ)) → length words ≢ 2 → colour_line words ≡ None
 unfolding colour_line
 colour_none [] h = refl
 colour_none (a ∷ []) h = refl
-colour_none (a ∷ b ∷ []) h = absurd (cc)
+colour_none (a ∷ b ∷ []) h = absurd (h refl)
 colour_none (a ∷ b ∷ c ∷ words) h = refl
 
-pub show_none : (words : List (List ℕ)) → two_of words ≡ None → show_line words ≡ None
+pub show_none : (words : List (List ℕ)) → length words ≢ 2 → show_line words ≡ None
 unfolding show_line
 show_none [] h = refl
 show_none (a ∷ []) h = refl
-show_none (a ∷ b ∷ []) h = absurd (cc)
+show_none (a ∷ b ∷ []) h = absurd (h refl)
 show_none (a ∷ b ∷ c ∷ words) h = refl
 
-pub row_none : (words : List (List ℕ)) → three_of words ≡ None → row_line words ≡ None
+pub row_none : (words : List (List ℕ)) → length words ≢ 3 → row_line words ≡ None
 unfolding row_line
 row_none [] h = refl
 row_none (a ∷ []) h = refl
 row_none (a ∷ b ∷ []) h = refl
-row_none (a ∷ b ∷ c ∷ []) h = absurd (cc)
+row_none (a ∷ b ∷ c ∷ []) h = absurd (h refl)
 row_none (a ∷ b ∷ c ∷ d ∷ words) h = refl
 
 -- two words are those of a line, once another one stands before them
-pub three_none : (words rest : List (List ℕ)) (first : List ℕ) → words ≡ first ∷ rest → two_of rest ≡ None → three_of words ≡ None
-three_none words [] first split h = ap three_of split
-three_none words (a ∷ []) first split h = ap three_of split
-three_none words (a ∷ b ∷ []) first split h = absurd (cc)
-three_none words (a ∷ b ∷ c ∷ rest) first split h = ap three_of split
+pub three_none : (words rest : List (List ℕ)) (first : List ℕ) → words ≡ first ∷ rest → length rest ≢ 2 → length words ≢ 3
+three_none words rest first split other three = let size : length words ≡ suc (length rest) = ap length split in other (omega arith)
 
 pub colour_two : (words : List (List ℕ)) (a b : List ℕ) → words ≡ a ∷ b ∷ [] → colour_line words ≡ colour_of (small_number a) (colour_in b)
 unfolding colour_line

@@ -2,5 +2,4 @@ pub mod Script
 pub mod Board
 pub mod Lines
 pub mod ScriptGrammar
-pub mod Words
 pub mod Stops

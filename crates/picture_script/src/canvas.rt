@@ -94,7 +94,9 @@ impl Canvas {
         }
     }
 
-    /// Draws the lines before the show line of picture `k`, from those on that have been drawn.
+    /// Draws picture `k` of a script: the lines before its show line, from those on that have been drawn.
+    ///
+    /// The canvas is as after `start` and `reset`, or a picture of this script stands there that is not after `k`.
     pub fn draw_until(&mut self, script: &Script, k: u32)
         requires picture { k < pictures script.now }
         requires before { StandsBefore script.now k self.old }
@@ -111,7 +113,7 @@ impl Canvas {
         self.at = Some(k);
     }
 
-    /// The colour number of a pixel of the window.
+    /// The colour number of a pixel of the window, `x` below 288 from the left and `y` below 192 from the top.
     pub fn pixel(&self, x: u32, y: u32) -> u8
         requires width { x < 288 }
         requires height { y < 192 }
@@ -142,7 +144,7 @@ impl Canvas {
         }
     }
 
-    /// Colour `k` of the table, as a number of four bits each for red, green and blue.
+    /// Colour `k` of the table, as 0xRGB: four bits each of red, green and blue. `k` is below 16.
     pub fn colour(&self, k: u8) -> u16
         requires { k < 16 }
         ensures value { result ≡ slice_index self.now.colours k }

@@ -1,4 +1,9 @@
 // The lines of a script while it is read.
+ghost use Rattle.std.specs.Prelude.{◌≡◌, ◌++◌, map, true, OnOk, IfErr};
+ghost use Rattle.std.specs.List.{list_all};
+ghost use Rattle.std.specs.Char.{is_ascii_hexdigit, digit_value};
+ghost use Rattle.picture_script.specs.declared.draft.LineStop;
+
 use crate::line::{Line, Shown};
 use crate::reasons::ScriptWhy;
 use crate::words::hex_digit;
@@ -31,13 +36,10 @@ impl<T: Drop> From<AllocFailed<T>> for LineStop {
 }
 
 impl Draft {
-    ghost use Rattle.std.specs.Prelude.{◌≡◌, ◌<◌, ◌≤◌, ◌+◌, ◌++◌, ℕ, List, [], ◌∷◌, length, take, map, true, OnOk, IfErr};
-    ghost use Rattle.std.specs.List.{list_all};
-    ghost use Rattle.std.specs.Char.{is_ascii_hexdigit, digit_value};
+    ghost use Rattle.std.specs.Prelude.{◌<◌, ◌≤◌, ◌+◌, [], length};
     ghost use Rattle.picture_script.specs.Script.{pictures, Row, Show};
     ghost use Rattle.picture_script.specs.ScriptGrammar.{is_after_hold};
     ghost use Rattle.picture_script.specs.Lines.{said, said_in, IsSound, Adds, is_kept, is_drawing};
-    ghost use Rattle.picture_script.specs.declared.draft.LineStop;
 
     /// No lines.
     pub(crate) fn new(alloc: Global) -> Draft
@@ -73,7 +75,7 @@ impl Draft {
         ensures err { IfErr result (λ stop. stop ≡ LineStop.NoRoom) }
     {
         let first = self.pixels.len();
-        Draft::push_pixels(&mut self.pixels, digits)?;
+        push_pixels(&mut self.pixels, digits)?;
         self.push_line(Line::PixelRow {
             x,
             y,
@@ -109,19 +111,19 @@ impl Draft {
         self.shown.push(Shown { place, ready, hold })?;
         Ok(())
     }
+}
 
-    // Puts the colours of a row behind those of the rows before.
-    fn push_pixels(pixels: &mut Vec<u8>, digits: &[u8]) -> Result<(), LineStop>
-        requires digits { list_all is_ascii_hexdigit digits.now ≡ true }
-        ensures ok { OnOk result (pixels.new.items ≡ pixels.old.items ++ map digit_value digits.now) }
-        ensures err { IfErr result (λ stop. stop ≡ LineStop.NoRoom) }
-    {
-        for digit in digits {
-            let Some(colour) = hex_digit(*digit) else {
-                unreachable!();
-            };
-            pixels.push(colour)?;
-        }
-        Ok(())
+// Puts the colours of a row behind those of the rows before.
+fn push_pixels(pixels: &mut Vec<u8>, digits: &[u8]) -> Result<(), LineStop>
+    requires digits { list_all is_ascii_hexdigit digits.now ≡ true }
+    ensures ok { OnOk result (pixels.new.items ≡ pixels.old.items ++ map digit_value digits.now) }
+    ensures err { IfErr result (λ stop. stop ≡ LineStop.NoRoom) }
+{
+    for digit in digits {
+        let Some(colour) = hex_digit(*digit) else {
+            unreachable!();
+        };
+        pixels.push(colour)?;
     }
+    Ok(())
 }

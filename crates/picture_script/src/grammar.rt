@@ -1,17 +1,16 @@
 // The grammar of scripts: the lines in turn, or the first that is refused.
+ghost use Rattle.std.specs.Prelude.{◌≡◌, ◌<◌, ◌≤◌, ◌+◌, ◌∷◌, ◌&&◌, [], List, Some, IfOk, IfErr, nat_le, nat_lt};
+ghost use Rattle.picture_script.specs.Script.{Drawing, Rect};
+ghost use Rattle.text_lines.specs.Text.{words_in};
+ghost use Rattle.picture_script.specs.ScriptGrammar.{is_in_range, numbers_in, checked_line, checked_command, colour_line, border_line, fill_line, rect_line, row_line, show_line};
+ghost use Rattle.picture_script.specs.Lines.{said_in, IsSound, Stops, Takes};
+
 use crate::draft::{Draft, LineStop};
 use crate::line::Line;
 use crate::reasons::ScriptWhy;
 use crate::words::{colour_words, numbers, row_words, show_words};
 
 impl Draft {
-    ghost use Rattle.std.specs.Prelude.{◌≡◌, ◌<◌, ◌≤◌, ◌+◌, ◌&&◌, nat_le, nat_lt};
-    ghost use Rattle.picture_script.specs.Script.{Rect};
-    ghost use Rattle.picture_script.specs.ScriptGrammar.{is_in_range};
-    ghost use Rattle.text_lines.specs.Text.{words_in};
-    ghost use Rattle.picture_script.specs.ScriptGrammar.{checked_line, checked_command, checked_words, colour_line, border_line, fill_line, rect_line, row_line, show_line};
-    ghost use Rattle.picture_script.specs.Lines.{said_in, IsSound, Takes};
-
     // Takes the words after `colour`.
     fn take_colour(&mut self, words: &[u8]) -> Result<(), LineStop>
         requires { IsSound self.old }
@@ -34,16 +33,8 @@ impl Draft {
         requires { IsSound self.old }
         ensures { Takes (checked_line (said_in self.old) (border_line (words_in words.now))) self.old self.new result }
     {
-        let Some(numbers) = numbers::<1>(words) else {
-            return Err(LineStop::Refused(ScriptWhy::BadArgument));
-        };
-        let colour = numbers[0];
-        if colour > 15 {
-            return Err(LineStop::Refused(ScriptWhy::OutOfRange));
-        }
-        self.push_line(Line::BorderColour {
-            colour: colour as u8,
-        })
+        let colour = colour_number(words)?;
+        self.push_line(Line::BorderColour { colour })
     }
 
     // Takes the words after `fill`.
@@ -51,16 +42,8 @@ impl Draft {
         requires { IsSound self.old }
         ensures { Takes (checked_line (said_in self.old) (fill_line (words_in words.now))) self.old self.new result }
     {
-        let Some(numbers) = numbers::<1>(words) else {
-            return Err(LineStop::Refused(ScriptWhy::BadArgument));
-        };
-        let colour = numbers[0];
-        if colour > 15 {
-            return Err(LineStop::Refused(ScriptWhy::OutOfRange));
-        }
-        self.push_line(Line::Filled {
-            colour: colour as u8,
-        })
+        let colour = colour_number(words)?;
+        self.push_line(Line::Filled { colour })
     }
 
     // Takes the words after `rect`.
@@ -71,10 +54,8 @@ impl Draft {
         let Some(numbers) = numbers::<5>(words) else {
             return Err(LineStop::Refused(ScriptWhy::BadArgument));
         };
-        let (x, y) = (numbers[0], numbers[1]);
-        let (width, height) = (numbers[2], numbers[3]);
-        let colour = numbers[4];
-        if !Draft::is_rect(x, y, width, height, colour) {
+        let [x, y, width, height, colour] = numbers;
+        if !is_rect(x, y, width, height, colour) {
             return Err(LineStop::Refused(ScriptWhy::OutOfRange));
         }
         self.push_line(Line::Rectangle {
@@ -94,7 +75,7 @@ impl Draft {
         let Some((x, y, digits)) = row_words(words) else {
             return Err(LineStop::Refused(ScriptWhy::BadArgument));
         };
-        if !Draft::is_row(x, y, digits.len()) {
+        if !is_row(x, y, digits.len()) {
             return Err(LineStop::Refused(ScriptWhy::OutOfRange));
         }
         self.push_row(x, y as u8, digits)
@@ -141,22 +122,38 @@ impl Draft {
             Err(LineStop::Refused(ScriptWhy::UnknownCommand))
         }
     }
+}
 
-    // Whether the numbers of a `rect` line are in their ranges.
-    fn is_rect(x: u16, y: u16, width: u16, height: u16, colour: u16) -> bool
-        requires x { x < 1000 }
-        requires y { y < 1000 }
-        requires width { width < 1000 }
-        requires height { height < 1000 }
-        ensures { result ≡ is_in_range (Rect x y width height colour) }
-    {
-        width >= 1 && height >= 1 && x + width <= 288 && y + height <= 192 && colour < 16
-    }
+// Whether the numbers of a `rect` line are in their ranges.
+fn is_rect(x: u16, y: u16, width: u16, height: u16, colour: u16) -> bool
+    requires x { x < 1000 }
+    requires y { y < 1000 }
+    requires width { width < 1000 }
+    requires height { height < 1000 }
+    ensures { result ≡ is_in_range (Rect x y width height colour) }
+{
+    width >= 1 && height >= 1 && x + width <= 288 && y + height <= 192 && colour < 16
+}
 
-    // Whether a row of so many pixels is in the window.
-    fn is_row(x: u16, y: u16, count: usize) -> bool
-        ensures { result ≡ (nat_le (x + count) 288 && nat_le y 191) }
-    {
-        count <= 288 && usize::from(x) + count <= 288 && y <= 191
+// Whether a row of so many pixels is in the window. The first test keeps the sum from overflowing.
+fn is_row(x: u16, y: u16, count: usize) -> bool
+    ensures { result ≡ (nat_le (x + count) 288 && nat_le y 191) }
+{
+    count <= 288 && usize::from(x) + count <= 288 && y <= 191
+}
+
+// The number of a colour, which the words after `border` and `fill` are.
+fn colour_number(words: &[u8]) -> Result<u8, LineStop>
+    ensures ok { IfOk result (λ colour. (numbers_in 1 (words_in words.now) ≡ Some (colour ∷ [])) × (colour < 16)) }
+    ensures border { IfErr result (λ stop. (before : List Drawing) → Stops (checked_line before (border_line (words_in words.now))) stop) }
+    ensures fill { IfErr result (λ stop. (before : List Drawing) → Stops (checked_line before (fill_line (words_in words.now))) stop) }
+{
+    let Some(numbers) = numbers::<1>(words) else {
+        return Err(LineStop::Refused(ScriptWhy::BadArgument));
+    };
+    let colour = numbers[0];
+    if colour > 15 {
+        return Err(LineStop::Refused(ScriptWhy::OutOfRange));
     }
+    Ok(colour as u8)
 }

@@ -1,4 +1,7 @@
 // Reading a script from its text.
+ghost use Rattle.std.specs.Prelude.{◌≡◌};
+ghost use Rattle.picture_script.specs.ScriptGrammar.{is_passed_over};
+
 use crate::draft::{Draft, LineStop};
 use crate::reasons::{ScriptStop, ScriptWhy};
 use crate::script::Script;
@@ -6,10 +9,10 @@ use std::alloc::Global;
 use text_lines::{next_line, next_word, trim_start, without_mark};
 
 impl Draft {
-    ghost use Rattle.std.specs.Prelude.{◌≡◌, OnOk, IfErr};
+    ghost use Rattle.std.specs.Prelude.{OnOk, IfErr};
     ghost use Rattle.picture_script.specs.Stops.{IsRead, IsRefused};
     ghost use Rattle.text_lines.specs.Text.{words_in};
-    ghost use Rattle.picture_script.specs.ScriptGrammar.{checked_words, is_passed_over};
+    ghost use Rattle.picture_script.specs.ScriptGrammar.{checked_words};
     ghost use Rattle.picture_script.specs.Lines.{said_in, IsSound, Takes};
 
     // Takes a line that is not passed over.
@@ -23,21 +26,13 @@ impl Draft {
         }
     }
 
-    // Whether a line says nothing: it is empty, or a remark.
-    fn is_passed_over(line: &[u8]) -> bool
-        ensures { result ≡ is_passed_over line.now }
-    {
-        let rest = trim_start(line);
-        rest.is_empty() || rest[0] == b'#'
-    }
-
     // Reads a line.
     fn read_line(&mut self, line: &[u8]) -> Result<(), LineStop>
         requires { IsSound self.old }
         ensures ok { OnOk result (IsRead self.old self.new line.now) }
         ensures err { IfErr result (IsRefused (said_in self.old) line.now) }
     {
-        if Draft::is_passed_over(line) {
+        if is_passed_over(line) {
             return Ok(());
         }
         self.take_line(line)
@@ -45,7 +40,7 @@ impl Draft {
 }
 
 impl Script {
-    ghost use Rattle.std.specs.Prelude.{◌≡◌, ◌≤◌, length, Ok, IfOk, IfErr};
+    ghost use Rattle.std.specs.Prelude.{◌≤◌, length, Ok, IfOk, IfErr};
     ghost use Rattle.picture_script.specs.ScriptGrammar.{read_script};
     ghost use Rattle.picture_script.specs.Stops.{StopsAt};
 
@@ -53,7 +48,10 @@ impl Script {
     ///
     /// A line ends with a line feed, before which a carriage return is left out, and the bytes EF BB BF may stand in front.
     /// Lines that are empty or begin with `#` are passed over. The commands are `colour K 0RGB`, `border K`, `fill K`,
-    /// `rect X Y W H K`, `row X Y DIGITS` and `show READY HOLD`.
+    /// `rect X Y W H K`, `row X Y DIGITS` and `show READY HOLD`. Numbers have one to three decimal digits: K is 0 to 15,
+    /// W and H are at least 1, and what is drawn is within the window of 288 by 192 pixels, whose first pixel is (0, 0).
+    /// The digits of a colour and of pixels are hexadecimal ones of either case. The times are `MM:SS:FF` below 100
+    /// minutes, and each picture is ready after the one before was held. There are at most 20,000 pictures.
     ///
     /// # Errors
     ///
@@ -88,4 +86,12 @@ impl Script {
             shown,
         })
     }
+}
+
+// Whether a line says nothing: it is empty, or a remark.
+fn is_passed_over(line: &[u8]) -> bool
+    ensures { result ≡ is_passed_over line.now }
+{
+    let rest = trim_start(line);
+    rest.is_empty() || rest[0] == b'#'
 }

@@ -48,7 +48,7 @@ impl Script {
         self.shown.len() as u32
     }
 
-    /// The block number at which picture `k` is ready. The pictures are counted from 0.
+    /// The block number at which picture `k` is ready, counted from the absolute time 00:00:00. The pictures are counted from 0.
     pub fn ready(&self, k: u32) -> u32
         requires { k < pictures self.now }
         ensures value { result ≡ ready_time self.now k }

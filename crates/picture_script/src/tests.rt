@@ -1,6 +1,7 @@
 // Scripts that are refused, by line and reason, and scripts that are drawn.
 use crate::{Canvas, Script, ScriptStop, ScriptWhy};
 use std::alloc::Global;
+use std::test::Fail;
 
 const COMMANDS: [(&str, u32, ScriptWhy); 7] = [
     ("Fill 1", 1, ScriptWhy::UnknownCommand),
@@ -76,105 +77,6 @@ const RANGES_AND_TIMES: [(&str, u32, ScriptWhy); 16] = [
     ),
 ];
 
-// Forty pictures, each with a further stripe.
-const STRIPES: &str = "colour 0 0000
-colour 1 0111
-colour 2 0222
-colour 3 0333
-colour 4 0444
-colour 5 0555
-colour 6 0666
-colour 7 0777
-colour 8 0888
-colour 9 0999
-colour 10 0aaa
-colour 11 0bbb
-colour 12 0ccc
-colour 13 0ddd
-colour 14 0eee
-colour 15 0fff
-rect 0 0 288 24 1
-show 00:03:00 00:08:00
-rect 0 24 288 24 2
-show 00:09:00 00:14:00
-rect 0 48 288 24 3
-show 00:15:00 00:20:00
-rect 0 72 288 24 4
-show 00:21:00 00:26:00
-rect 0 96 288 24 5
-show 00:27:00 00:32:00
-rect 0 120 288 24 6
-show 00:33:00 00:38:00
-rect 0 144 288 24 7
-show 00:39:00 00:44:00
-rect 0 168 288 24 8
-show 00:45:00 00:50:00
-rect 0 0 288 24 9
-show 00:51:00 00:56:00
-rect 0 24 288 24 10
-show 00:57:00 01:02:00
-rect 0 48 288 24 11
-show 01:03:00 01:08:00
-rect 0 72 288 24 12
-show 01:09:00 01:14:00
-rect 0 96 288 24 13
-show 01:15:00 01:20:00
-rect 0 120 288 24 14
-show 01:21:00 01:26:00
-rect 0 144 288 24 15
-show 01:27:00 01:32:00
-rect 0 168 288 24 1
-show 01:33:00 01:38:00
-rect 0 0 288 24 2
-show 01:39:00 01:44:00
-rect 0 24 288 24 3
-show 01:45:00 01:50:00
-rect 0 48 288 24 4
-show 01:51:00 01:56:00
-rect 0 72 288 24 5
-show 01:57:00 02:02:00
-rect 0 96 288 24 6
-show 02:03:00 02:08:00
-rect 0 120 288 24 7
-show 02:09:00 02:14:00
-rect 0 144 288 24 8
-show 02:15:00 02:20:00
-rect 0 168 288 24 9
-show 02:21:00 02:26:00
-rect 0 0 288 24 10
-show 02:27:00 02:32:00
-rect 0 24 288 24 11
-show 02:33:00 02:38:00
-rect 0 48 288 24 12
-show 02:39:00 02:44:00
-rect 0 72 288 24 13
-show 02:45:00 02:50:00
-rect 0 96 288 24 14
-show 02:51:00 02:56:00
-rect 0 120 288 24 15
-show 02:57:00 03:02:00
-rect 0 144 288 24 1
-show 03:03:00 03:08:00
-rect 0 168 288 24 2
-show 03:09:00 03:14:00
-rect 0 0 288 24 3
-show 03:15:00 03:20:00
-rect 0 24 288 24 4
-show 03:21:00 03:26:00
-rect 0 48 288 24 5
-show 03:27:00 03:32:00
-rect 0 72 288 24 6
-show 03:33:00 03:38:00
-rect 0 96 288 24 7
-show 03:39:00 03:44:00
-rect 0 120 288 24 8
-show 03:45:00 03:50:00
-rect 0 144 288 24 9
-show 03:51:00 03:56:00
-rect 0 168 288 24 10
-show 03:57:00 04:02:00
-";
-
 const ALL_COMMANDS: &str =
     "# a picture\n\ncolour 1 0Abc\n border 2\nfill 3\t\r\nrect 0 0 288 192 015\nrow 286 191 aF\nshow 00:00:00 00:00:00\nborder 9\nrect 6 12 1 2 4\nshow 00:00:02 00:01:00";
 
@@ -214,7 +116,7 @@ fn refuses_ranges_and_times(rt: HostRuntime) {
 }
 
 #[test]
-fn refuses_one_picture_more(rt: HostRuntime) -> Result<(), ScriptStop> {
+fn refuses_one_picture_more(rt: HostRuntime) -> Result<(), Fail> {
     let mut text = Vec::new(rt.alloc());
     for k in 0..20_001u32 {
         let mut line = *b"show 00:00:00 00:00:00\n";
@@ -223,9 +125,7 @@ fn refuses_one_picture_more(rt: HostRuntime) -> Result<(), ScriptStop> {
             line[place] = b'0' + (digit % 10) as u8;
             line[place + 9] = b'0' + (digit % 10) as u8;
         }
-        if text.extend_from_slice(&line).is_err() {
-            return Err(ScriptStop::NoMemory);
-        }
+        text.extend_from_slice(&line)?;
     }
     match script(rt.alloc(), &text) {
         Err(ScriptStop::Fault { line, why }) => {
@@ -237,13 +137,11 @@ fn refuses_one_picture_more(rt: HostRuntime) -> Result<(), ScriptStop> {
 }
 
 #[test]
-fn draws_each_command(rt: HostRuntime) -> Result<(), ScriptStop> {
+fn draws_each_command(rt: HostRuntime) -> Result<(), Fail> {
     let script = script(rt.alloc(), ALL_COMMANDS.as_bytes())?;
-    let Ok(mut canvas) = Canvas::start(rt.alloc()) else {
-        return Err(ScriptStop::NoMemory);
-    };
+    let mut canvas = Canvas::start(rt.alloc())?;
     if script.pictures() != 2 {
-        return Err(ScriptStop::NoMemory);
+        return Err(Fail::new("not two pictures"));
     }
     canvas.draw_until(&script, 0);
     assert_eq!(rt; canvas.at(), Some(0));
@@ -277,13 +175,15 @@ fn draws_each_command(rt: HostRuntime) -> Result<(), ScriptStop> {
     Ok(())
 }
 
+// Minutes, seconds and blocks of a second, counted from the absolute time 00:00:00.
 #[test]
-fn reads_forty_pictures(rt: HostRuntime) -> Result<(), ScriptStop> {
-    let script = script(rt.alloc(), STRIPES.as_bytes())?;
-    if script.pictures() != 40 {
-        return Err(ScriptStop::NoMemory);
+fn reads_times(rt: HostRuntime) -> Result<(), Fail> {
+    let text = "show 00:03:00 00:08:00\nshow 01:09:74 04:02:00\n";
+    let script = script(rt.alloc(), text.as_bytes())?;
+    if script.pictures() != 2 {
+        return Err(Fail::new("not two pictures"));
     }
     assert_eq!(rt; (script.ready(0), script.hold(0)), (225, 600));
-    assert_eq!(rt; (script.ready(39), script.hold(39)), (17_775, 18_150));
+    assert_eq!(rt; (script.ready(1), script.hold(1)), (5249, 18_150));
     Ok(())
 }

@@ -6,8 +6,8 @@ ghost use Rattle.picture_script.specs.Board.{pixel_of, Becomes, IsWindow, AreCol
 use std::alloc::{AllocError, Global};
 use std::marker::Model;
 
-/// How many pixels a window has across and down.
-pub(crate) const WIDTH: usize = 288;
+// How many pixels a window has across and down.
+const WIDTH: usize = 288;
 
 const HEIGHT: usize = 192;
 
@@ -43,23 +43,12 @@ impl Window {
         self.pixels[WIDTH * y + x]
     }
 
-    fn set(&mut self, x: usize, y: usize, colour: u8)
-        requires width { x < 288 }
-        requires height { y < 192 }
-        requires range { colour < 16 }
-        ensures { Becomes self.new (λ x' y'. if x' == x && y' == y then colour else pixel_of self.old x' y') }
-    {
-        self.pixels[WIDTH * y + x] = colour;
-    }
-
     /// Sets all pixels.
     pub(crate) fn clear(&mut self, colour: u8)
         requires { colour < 16 }
         ensures { Becomes self.new (λ x y. colour) }
     {
-        for i in 0..self.pixels.len() {
-            self.pixels[i] = colour;
-        }
+        self.pixels.fill(colour);
     }
 
     // Sets pixels of a row to one colour.
@@ -70,9 +59,8 @@ impl Window {
         ensures { Becomes self.new (λ x' y'.
             if y' == y && is_within x width x' then colour else pixel_of self.old x' y') }
     {
-        for i in 0..width {
-            self.set(x + i, y, colour);
-        }
+        let start = WIDTH * y + x;
+        self.pixels[start..start + width].fill(colour);
     }
 
     /// Sets the pixels of a rectangle to one colour.
@@ -96,8 +84,7 @@ impl Window {
         ensures { Becomes self.new (λ x' y'.
             if is_within x (length colours.now) x' && y' == y then slice_index colours.now (x' - x) else pixel_of self.old x' y') }
     {
-        for i in 0..colours.len() {
-            self.set(x + i, y, colours[i]);
-        }
+        let start = WIDTH * y + x;
+        self.pixels[start..start + colours.len()].copy_from_slice(colours);
     }
 }

@@ -1,16 +1,15 @@
 // The words of a line.
-ghost use Rattle.std.specs.Prelude.{◌≡◌, ◌<◌, ◌≤◌, ◌+◌, ◌∷◌, [], length, MatchOption, Some, None, if◌then◌else◌, IfSome, All, ℕ, List, ◌&&◌, map, true};
+ghost use Rattle.std.specs.Prelude.{◌≡◌, ◌≢◌, ◌<◌, ◌≤◌, ◌+◌, ◌∷◌, [], length, MatchOption, Some, None, if◌then◌else◌, IfSome, All, ℕ, List, ◌&&◌, map, true};
 ghost use Rattle.std.specs.Char.{is_ascii_hexdigit, digit_value};
 ghost use Rattle.std.specs.List.{list_all};
 ghost use Rattle.text_lines.specs.Text.{words_in, is_some_bytes};
 ghost use Rattle.picture_script.specs.ScriptGrammar.{small_number, numbers_in, colour_in, colour_line, row_line, show_line};
 ghost use Rattle.picture_script.specs.Script.{Colour, Row, Show};
-ghost use Rattle.picture_script.specs.Words.{two_of, three_of};
 
 use text_lines::{next_word, number, time};
 
-/// The number of one to three decimal digits that a word is.
-pub(crate) fn small_number(word: &[u8]) -> Option<u16>
+// The number of one to three decimal digits that a word is.
+fn small_number(word: &[u8]) -> Option<u16>
     ensures value { result ≡ small_number word.now }
     ensures below { IfSome result (λ n. n < 1000) }
 {
@@ -50,9 +49,9 @@ pub(crate) fn hex_digit(byte: u8) -> Option<u8>
     }
 }
 
-/// The colour that a word of four hexadecimal digits is, the first of them 0.
+// The colour that a word of four hexadecimal digits is, the first of them 0.
 #[tactic(auto, unfolding(crate::specs::ScriptGrammar::colour_in))]
-pub(crate) fn colour(word: &[u8]) -> Option<u16>
+fn colour(word: &[u8]) -> Option<u16>
     ensures value { result ≡ colour_in word.now }
     ensures below { IfSome result (λ value. value < 4096) }
 {
@@ -65,8 +64,8 @@ pub(crate) fn colour(word: &[u8]) -> Option<u16>
     Some(256 * u16::from(red) + 16 * u16::from(green) + u16::from(blue))
 }
 
-/// Whether a word is one or more hexadecimal digits.
-pub(crate) fn is_pixels(word: &[u8]) -> bool
+// Whether a word is one or more hexadecimal digits.
+fn is_pixels(word: &[u8]) -> bool
     ensures { result ≡ (is_some_bytes word.now && list_all is_ascii_hexdigit word.now) }
 {
     !word.is_empty() && are_hex_digits(word)
@@ -117,7 +116,7 @@ pub(crate) fn show_words(words: &[u8]) -> Option<(u32, u32)>
 
 // The words of a line, if there are two.
 fn two_words(line: &[u8]) -> Option<(&[u8], &[u8])>
-    ensures { MatchOption result (two_of (words_in line.now) ≡ None) (λ found. words_in line.now ≡ found.0.now ∷ found.1.now ∷ []) }
+    ensures { MatchOption result (length (words_in line.now) ≢ 2) (λ found. words_in line.now ≡ found.0.now ∷ found.1.now ∷ []) }
 {
     let (first, rest) = next_word(line)?;
     let (second, rest) = next_word(rest)?;
@@ -129,7 +128,7 @@ fn two_words(line: &[u8]) -> Option<(&[u8], &[u8])>
 
 // The words of a line, if there are three.
 fn three_words(line: &[u8]) -> Option<(&[u8], &[u8], &[u8])>
-    ensures { MatchOption result (three_of (words_in line.now) ≡ None) (λ found. words_in line.now ≡ found.0.now ∷ found.1.now ∷ found.2.now ∷ []) }
+    ensures { MatchOption result (length (words_in line.now) ≢ 3) (λ found. words_in line.now ≡ found.0.now ∷ found.1.now ∷ found.2.now ∷ []) }
 {
     let (first, rest) = next_word(line)?;
     let (second, third) = two_words(rest)?;

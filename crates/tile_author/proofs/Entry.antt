@@ -7,7 +7,7 @@ use Rattle.std.proofs.lemmas.Nat.{xor_comm}
 use Rattle.std.proofs.lemmas.Nat.Bits.{bit_at_cat_low, bit_at_cat_high, bit_at_above}
 use Rattle.std.proofs.lemmas.Bool.Decides.{eqb_tells}
 use Rattle.bit_lists.specs.Bits.{has_bit}
-use Rattle.tile_author.specs.Span.{Spans, Free}
+use Rattle.tile_author.proofs.Span.{Spans, Free}
 use Rattle.tile_author.specs.Plan.{is_combination, selection, combination, basis, differences}
 use Rattle.tile_author.specs.Table.{entry}
 use Rattle.tile_author.proofs.Combine.{twice}

@@ -10,7 +10,7 @@ use Rattle.bit_lists.specs.Bits.{has_bit}
 use Rattle.cdg_instructions.specs.Drawing.{IsOfPlace, drawn, tile_from}
 use Rattle.cdg_instructions.specs.declared.instr.Instr.{Instr}
 use Rattle.cdg_instructions.specs.declared.instr.Instr.TheVariants.{Idle, Foreign, Unknown, MemoryPreset, BorderPreset, SetTile, XorTile, ScrollPreset, ScrollCopy, Transparency, ColoursLow, ColoursHigh}
-use Rattle.tile_author.specs.Span.{Spans, Spanned}
+use Rattle.tile_author.proofs.Span.{Spans, Spanned}
 use Rattle.tile_author.specs.Plan.{differences, basis}
 use Rattle.tile_author.proofs.Combine.{twice, swap, middle, both}
 use Rattle.tile_author.proofs.Exchange.{Spans-same, Spans-sum}

@@ -13,7 +13,7 @@ use Rattle.bit_lists.specs.Bits.{has_bit}
 use Rattle.cdg_instructions.specs.Drawing.{drawn, tile_from, tile_after}
 use Rattle.cdg_instructions.specs.declared.instr.Instr.{Instr}
 use Rattle.cdg_instructions.specs.declared.instr.Instr.TheVariants.{Idle, Foreign, Unknown, MemoryPreset, BorderPreset, SetTile, XorTile, ScrollPreset, ScrollCopy, Transparency, ColoursLow, ColoursHigh}
-use Rattle.tile_author.specs.Span.{Spans}
+use Rattle.tile_author.proofs.Span.{Spans}
 use Rattle.tile_author.specs.Plan.{is_combination, basis, selection, lines_of, planned, weight, delta}
 use Rattle.tile_author.proofs.Combine.{twice, swap, both}
 use Rattle.tile_author.proofs.BasisLaws.{spans_tells, spans_difference}

@@ -5,29 +5,38 @@ ghost use Rattle.bit_lists.specs.Bits.{has_bit};
 ghost use Rattle.bit_lists.specs.Counting.{below};
 ghost use Rattle.tile_author.specs.Plan.{is_combination, selection, basis, lines_of, planned, weight};
 ghost use Rattle.tile_author.specs.Table.{entry, IsBasis};
-ghost use Rattle.arrayvec.specs.ArrayVec.{array_vec_len};
 
 use arrayvec::ArrayVec;
 use cdg_instructions::{Instr, PIXELS};
+use std::marker::Model;
 
-/// How many numbers below 16 can be independent.
+// How many numbers below 16 can be independent.
 const MOST: usize = 4;
 
-/// How many numbers there are of four bits.
+// How many numbers there are of four bits.
 const NUMBERS: usize = 16;
 
 /// Independent numbers of four bits, in the order in which they came, with the selection of them that makes each number.
+///
+/// A contract sees the members.
 #[derive(Drop)]
-pub struct Basis {
+pub(crate) struct Basis {
     members: ArrayVec<u8, MOST>,
     selections: [Option<u8>; NUMBERS],
-    ghost is_basis: { IsBasis members.items selections },
+}
+
+impl Model for Basis {
+    ghost Value = { List ℕ };
+
+    ghost view = { λ b. b.members.items };
+
+    ghost invariant = { λ b. IsBasis b.members.items b.selections };
 }
 
 impl Basis {
-    /// No members, which make 0 alone.
+    // No members, which make 0 alone.
     fn new() -> Basis
-        ensures { result.members.items ≡ [] }
+        ensures { result ≡ [] }
     {
         let mut selections = [None; NUMBERS];
         selections[0] = Some(0);
@@ -38,9 +47,9 @@ impl Basis {
     }
 
     /// The basis of the differences of these pixels from the first one.
-    pub fn of(pixels: &[u8; PIXELS]) -> Basis
+    pub(crate) fn of(pixels: &[u8; PIXELS]) -> Basis
         requires { IsTilePixels pixels.now }
-        ensures { result.members.items ≡ basis pixels.now }
+        ensures { result ≡ basis pixels.now }
     {
         let first = pixels[0];
         let mut basis = Basis::new();
@@ -55,56 +64,57 @@ impl Basis {
 
     /// The least number of instructions that draw pixels with this basis where everywhere the same stands.
     #[inline]
-    pub fn weight(&self) -> usize
-        ensures value { result ≡ max 1 (length self.now.members.items) }
+    pub(crate) fn weight(&self) -> usize
+        ensures value { result ≡ max 1 (length self.now) }
         ensures some { 0 < result }
         ensures most { result ≤ 4 }
     {
         self.members.len().max(1)
     }
 
-    /// The selection of members that makes a number; its bit j is for member j.
+    // The selection of members that makes a number; its bit j is for member j.
     #[inline]
     fn selection(&self, number: u8) -> Option<u8>
         requires { number < 16 }
-        ensures { result ≡ entry self.now.members.items number }
+        ensures { result ≡ entry self.now number }
     {
         self.selections[number as usize]
     }
 
-    /// Whether members make a number.
+    // Whether members make a number.
     #[inline]
     fn makes(&self, number: u8) -> bool
         requires { number < 16 }
-        ensures { result ≡ is_combination self.now.members.items number }
+        ensures { result ≡ is_combination self.now number }
     {
         self.selection(number).is_some()
     }
 
-    /// The selection that makes a number once a further one is a member.
+    // The selection that makes a number once a further one is a member.
     fn grown(&self, member: u8, number: u8) -> Option<u8>
         requires member { member < 16 }
         requires number { number < 16 }
-        requires room { array_vec_len self.now.members < 4 }
-        requires independent { is_combination self.now.members.items member ≡ false }
-        ensures { result ≡ entry (self.now.members.items ++ member ∷ []) number }
+        requires room { length self.now < 4 }
+        requires independent { is_combination self.now member ≡ false }
+        ensures { result ≡ entry (self.now ++ member ∷ []) number }
     {
+        let bit = 1 << self.members.len();
         match self.selection(number) {
             Some(selection) => Some(selection),
             None => match self.selection(member ^ number) {
-                Some(selection) => Some((1 << self.members.len()) + selection),
+                Some(selection) => Some(bit + selection),
                 None => None,
             },
         }
     }
 
-    /// Takes a number as a member where it is no combination of those that it has.
+    // Takes a number as a member where it is no combination of those that it has.
     fn offer(&mut self, number: u8)
         requires { number < 16 }
-        ensures { self.new.members.items ≡ (if is_combination self.old.members.items number then self.old.members.items else self.old.members.items ++ number ∷ []) }
+        ensures { self.new ≡ (if is_combination self.old number then self.old else self.old ++ number ∷ []) }
     {
         if !self.makes(number) {
-            let mut selections = [None; NUMBERS];
+            let mut selections = self.selections;
             for i in 0..NUMBERS {
                 selections[i] = self.grown(number, i as u8);
             }
@@ -113,9 +123,9 @@ impl Basis {
         }
     }
 
-    /// A member, or 0 where there are not so many.
+    // A member, or 0 where there are not so many.
     fn member(&self, j: usize) -> u8
-        ensures { result ≡ slice_index self.now.members.items j }
+        ensures { result ≡ slice_index self.now j }
     {
         if j < self.members.len() {
             self.members[j]
@@ -124,13 +134,13 @@ impl Basis {
         }
     }
 
-    /// Whether member j has a part in a number that the members make: 1 if so, and else 0.
+    // Whether member j has a part in a number that the members make: 1 if so, and else 0.
     #[inline]
     fn bit(&self, number: u8, j: usize) -> u8
         requires number { number < 16 }
-        requires made { is_combination self.now.members.items number ≡ true }
+        requires made { is_combination self.now number ≡ true }
         requires member { j < 4 }
-        ensures value { result ≡ (if has_bit j (selection self.now.members.items number) then 1 else 0) }
+        ensures value { result ≡ (if has_bit j (selection self.now number) then 1 else 0) }
         ensures below { result < 2 }
     {
         match self.selection(number) {
@@ -139,10 +149,10 @@ impl Basis {
         }
     }
 
-    /// The six bits of a line of the instruction for member j.
+    // The six bits of a line of the instruction for member j.
     fn line(&self, pixels: &[u8; PIXELS], line: usize, j: usize) -> u8
         requires tile { IsTilePixels pixels.now }
-        requires members { self.now.members.items ≡ basis pixels.now }
+        requires members { self.now ≡ basis pixels.now }
         requires line { line < 12 }
         requires member { j < 4 }
         ensures { result ≡ slice_index (lines_of pixels.now j) line }
@@ -154,10 +164,10 @@ impl Basis {
         bits
     }
 
-    /// The twelve lines of the instruction for member j.
+    // The twelve lines of the instruction for member j.
     fn lines(&self, pixels: &[u8; PIXELS], j: usize) -> [u8; 12]
         requires tile { IsTilePixels pixels.now }
-        requires members { self.now.members.items ≡ basis pixels.now }
+        requires members { self.now ≡ basis pixels.now }
         requires member { j < 4 }
         ensures { result ≡ lines_of pixels.now j }
     {
@@ -168,7 +178,7 @@ impl Basis {
         lines
     }
 
-    /// Instruction j of those that draw the pixels, or that combine them with what stands.
+    // Instruction j of those that draw the pixels, or that combine them with what stands.
     fn instruction(
         &self,
         pixels: &[u8; PIXELS],
@@ -178,7 +188,7 @@ impl Basis {
         j: usize,
     ) -> Instr
         requires tile { IsTilePixels pixels.now }
-        requires members { self.now.members.items ≡ basis pixels.now }
+        requires members { self.now ≡ basis pixels.now }
         requires member { j < 4 }
         ensures { result ≡ planned draws row column pixels.now j }
     {
@@ -205,7 +215,7 @@ impl Basis {
     }
 
     /// The instructions that draw the pixels, or that combine them with what stands.
-    pub fn instructions(
+    pub(crate) fn instructions(
         &self,
         pixels: &[u8; PIXELS],
         draws: bool,
@@ -213,7 +223,7 @@ impl Basis {
         column: u8,
     ) -> ArrayVec<Instr, MOST>
         requires tile { IsTilePixels pixels.now }
-        requires members { self.now.members.items ≡ basis pixels.now }
+        requires members { self.now ≡ basis pixels.now }
         ensures { result.items ≡ map (planned draws row column pixels.now) (below (weight pixels.now)) }
     {
         let mut instrs = ArrayVec::new();
@@ -224,7 +234,7 @@ impl Basis {
     }
 }
 
-/// The first colour of instruction j: the first pixel, and 0 in all but the first instruction.
+// The first colour of instruction j: the first pixel, and 0 in all but the first instruction.
 fn ground(pixels: &[u8; PIXELS], j: usize) -> u8
     ensures { result ≡ (if j == 0 then slice_index pixels.now 0 else 0) }
 {

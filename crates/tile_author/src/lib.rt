@@ -1,13 +1,12 @@
-// Shortest lists of instructions that turn one tile into another.
+//! Shortest lists of instructions that turn one tile into another.
 #![tactic(auto)]
 
-ghost use Rattle.std.specs.Prelude.{◌≡◌, ◌≢◌, ℕ, ◌<◌, ◌≤◌, List, length, replicate, slice_index, bit_xor, ◌^◌};
+ghost use Rattle.std.specs.Prelude.{◌≡◌, ◌≢◌, ◌==◌, ℕ, ◌<◌, ◌≤◌, List, length, replicate, slice_index, bit_xor, ◌^◌, true};
 ghost use Rattle.std.specs.List.{list_all};
-ghost use Rattle.std.specs.Prelude.{◌==◌};
 ghost use Rattle.cdg_instructions.specs.Instruction.{IsTilePixels};
 ghost use Rattle.cdg_instructions.specs.Drawing.{Turns, IsLeast};
-ghost use Rattle.tile_author.specs.Span.{Spanned, Free};
-ghost use Rattle.tile_author.specs.Plan.{basis, combination, selection, delta, plan, steps, weight};
+ghost use Rattle.tile_author.specs.Plan.{basis, combination, delta, is_combination, plan, selection, steps, weight};
+ghost use Rattle.tile_author.specs.Table.{are_independent};
 
 mod basis;
 #[cfg(test)]
@@ -47,7 +46,7 @@ pub fn weight(new: &Tile) -> u8
     Basis::of(new.pixels()).weight() as u8
 }
 
-/// The length of the plan for these pixels.
+// The length of the plan for these pixels.
 fn count(old: &[u8; PIXELS], new: &[u8; PIXELS]) -> u8
     requires old { IsTilePixels old.now }
     requires new { IsTilePixels new.now }
@@ -63,7 +62,7 @@ fn count(old: &[u8; PIXELS], new: &[u8; PIXELS]) -> u8
     drawn.min(combined) as u8
 }
 
-/// The plan for these pixels.
+// The plan for these pixels.
 fn list(old: &[u8; PIXELS], new: &[u8; PIXELS], row: u8, column: u8) -> ArrayVec<Instr, 4>
     requires old { IsTilePixels old.now }
     requires new { IsTilePixels new.now }
@@ -82,7 +81,7 @@ fn list(old: &[u8; PIXELS], new: &[u8; PIXELS], row: u8, column: u8) -> ArrayVec
     }
 }
 
-/// What is to be combined with the old pixels.
+// What is to be combined with the old pixels.
 fn changes(old: &[u8; PIXELS], new: &[u8; PIXELS]) -> [u8; PIXELS]
     requires old { IsTilePixels old.now }
     requires new { IsTilePixels new.now }
@@ -96,7 +95,7 @@ fn changes(old: &[u8; PIXELS], new: &[u8; PIXELS]) -> [u8; PIXELS]
     changes
 }
 
-/// Whether nothing is to be combined.
+// Whether nothing is to be combined.
 fn is_blank(changes: &[u8; PIXELS]) -> bool
     ensures { result ≡ list_all (λ d. d == 0) changes.now }
 {
@@ -105,7 +104,7 @@ fn is_blank(changes: &[u8; PIXELS]) -> bool
 
 /// Where each of some independent numbers is a combination of others, these are at least as many.
 pub fn independent_are_few()
-    ensures { (given independent : List ℕ) → Spanned given independent → Free independent → length independent ≤ length given }
+    ensures { (given independent : List ℕ) → list_all (is_combination given) independent ≡ true → are_independent independent ≡ true → length independent ≤ length given }
 {}
 
 /// Each pixel's difference is the combination of the basis that its selection tells, and each combination has one selection.

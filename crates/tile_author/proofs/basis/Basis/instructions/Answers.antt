@@ -18,6 +18,6 @@ pub returns : goal.returns
 returns c =
     let ps = c.args.pixels.now in
     let f = planned c.args.draws c.args.row c.args.column ps in
-    let whole = whole_weight c.args.self.now.members.items ps c.weight-j-end.result c.requires.members c.weight-j-end.ensures.value in
+    let whole = whole_weight c.args.self.now ps c.weight-j-end.result c.requires.members c.weight-j-end.ensures.value in
     let end : c.loop-j.j ≡ c.weight-j-end.result = omega arith in
     c.loop-j.invariant ∙ ap (λ n. map f (below n)) (end ∙ whole)
