@@ -1,5 +1,5 @@
 -- The steps of reading, where each answer is known.
-use Rattle.std.proofs.Common.{◌≡◌, ℕ, zero, suc, ◌+◌, ◌-◌, ◌<◌, ◌≤◌, Bool, true, false, ◌||◌, nat_lt, if◌then◌else◌, List, [], ◌∷◌, length, get_or, slice_index, take, drop, find, Option, Some, None, Result, Ok, Err, inl, inr, ◌⊎◌, is_none, unwrap_or, refl, sym, ap, ◌∙◌, arith}
+use Rattle.std.proofs.Common.{◌≡◌, ℕ, zero, suc, ◌+◌, ◌-◌, ◌<◌, ◌≤◌, Bool, true, false, ◌||◌, nat_lt, if◌then◌else◌, List, [], ◌∷◌, length, get_or, slice_index, take, drop, find, Option, Some, None, Result, Ok, Err, IfErr, inl, inr, ◌⊎◌, is_none, unwrap_or, refl, sym, ap, ◌∙◌, arith}
 use Rattle.std.specs.Option.{option_map}
 use Rattle.std.proofs.lemmas.List.{get_or-take, get_or-drop}
 use Rattle.std.proofs.lemmas.Bool.{cases_Bool, cond-true, cond-false, lt-ltb, le-ltb, or_left, or_right, or_from, true≢false}
@@ -129,3 +129,13 @@ sizes_read kept size0 size1 third some first second last is =
     there : (third : Option (List ℕ)) → is_none third ≡ false → read_sizes kept (Some size0) (Some size1) third ≡ read_sized kept size0 size1
     there None e = absurd (true≢false e)
     there (Some size2) e = refl
+
+-- Where the packs give texts none are refused, and where they do not the answer is their reason
+
+pub given_texts : (read answer : Result Texts TextFault) (texts : Texts) → read ≡ Ok texts → IfErr read (λ fault. answer ≡ Err fault)
+given_texts (Ok t) answer texts is = tt
+given_texts (Err fault) answer texts is = absurd (cc)
+
+pub given_reason : (read answer : Result Texts TextFault) (reason : TextFault) → read ≡ Err reason → answer ≡ Err reason → IfErr read (λ fault. answer ≡ Err fault)
+given_reason (Ok t) answer reason is same = tt
+given_reason (Err fault) answer reason is same = same ∙ sym is

@@ -16,8 +16,8 @@ pub enum TextKind {
     Code,
 }
 
-/// All kinds, in this order.
-pub(crate) const KINDS: [TextKind; 7] = [
+/// All kinds, in the order of their packs' types and of their lines.
+pub const KINDS: [TextKind; 7] = [
     TextKind::Title,
     TextKind::Performer,
     TextKind::Songwriter,
@@ -64,7 +64,9 @@ pub enum TextFault {
     Missing { seq: u8 },
     /// One of the three size packs is not kept.
     NoSize,
-    /// Byte `byte` of the kept pack `seq` contradicts the rest.
+    /// A number or a text that cannot be. In size pack 0, byte 5: the first track is not 1 to 99; byte 6: the last track
+    /// is below the first or above 99. Byte 15: a kind ends with fewer strings than the album and the tracks need; `seq`
+    /// is its last pack.
     Malformed { seq: u8, byte: u8 },
     NoMemory,
 }

@@ -1,8 +1,8 @@
 // The reader of packs in any order, with any repeats.
-ghost use Rattle.std.specs.Prelude.{◌≡◌, ◌⊎◌, List, ℕ, Option, length, vec_len, IfOk, IfErr, Ok, Err};
+ghost use Rattle.std.specs.Prelude.{◌≡◌, ◌⊎◌, List, ℕ, Option, true, length, vec_len, IsOk, IfOk, IfErr, Ok, Err};
 ghost use Rattle.cdtext_packs.specs.Packs.{check_matches};
 ghost use Rattle.cdtext_packs.specs.Kept.{nothing_kept, offer_of, kept_by};
-ghost use Rattle.cdtext_packs.specs.Reading.{read_sized, read_texts};
+ghost use Rattle.cdtext_packs.specs.Reading.{keeps_nothing, read_sized, read_texts};
 
 use crate::kinds::{Offer, TextFault};
 use crate::map::TextMap;
@@ -60,10 +60,13 @@ impl TextReader {
         Offer::Kept
     }
 
-    /// The texts of the kept packs, in any order of their offers. Without memory the answer is `NoMemory`.
+    /// The texts of the kept packs, in any order of their offers, or the first reason that they give none. `NoMemory`
+    /// comes only where they give texts; where nothing is kept no memory is taken.
     pub fn finish(&self, alloc: Global) -> Result<TextMap, TextFault>
         ensures texts { IfOk result (λ map. read_texts self.now ≡ Ok map) }
         ensures fault { IfErr result (λ fault. (fault ≡ TextFault.NoMemory) ⊎ (read_texts self.now ≡ Err fault)) }
+        ensures refused { IfErr (read_texts self.now) (λ fault. result ≡ Err fault) }
+        ensures memory { keeps_nothing self.now ≡ true → IsOk result }
     {
         let kept = &self.kept[..];
         if keeps_nothing(kept) {
@@ -92,6 +95,7 @@ fn read_sized(
     requires { length kept.now ≡ 256 }
     ensures texts { IfOk result (λ map. read_sized kept.now tracks.now counts.now ≡ Ok map) }
     ensures fault { IfErr result (λ fault. (fault ≡ TextFault.NoMemory) ⊎ (read_sized kept.now tracks.now counts.now ≡ Err fault)) }
+    ensures refused { IfErr (read_sized kept.now tracks.now counts.now) (λ fault. result ≡ Err fault) }
 {
     let (seq, first, last) = (tracks[2], tracks[5], tracks[6]);
     if first < 1 || first > 99 {
