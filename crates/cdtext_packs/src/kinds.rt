@@ -4,7 +4,8 @@ ghost use Rattle.cdtext_packs.specs.Writing.{type_of};
 
 use std::alloc::AllocError;
 
-/// The kinds of strings, in the order of their packs' types.
+/// The kinds of strings, in the order of their packs' types: 80 to 85 and 8E in hexadecimal. A code is the album's
+/// catalogue number, or a track's ISRC.
 #[derive(Clone, Copy, PartialEq, Eq, Debug)]
 pub enum TextKind {
     Title,
@@ -26,6 +27,21 @@ pub const KINDS: [TextKind; 7] = [
     TextKind::Message,
     TextKind::Code,
 ];
+
+/// The type of the three size packs.
+pub(crate) const SIZE_TYPE: u8 = 0x8f;
+
+/// Which of the 36 size bytes is the first track.
+pub(crate) const FIRST_TRACK: usize = 1;
+
+/// Which of the 36 size bytes is the last track.
+pub(crate) const LAST_TRACK: usize = 2;
+
+/// Which of the 36 size bytes is the number of the last pack.
+pub(crate) const LAST_NUMBER: usize = 20;
+
+/// Which of the 36 size bytes is the language.
+pub(crate) const LANGUAGE: usize = 28;
 
 impl TextKind {
     /// The type of its packs.
