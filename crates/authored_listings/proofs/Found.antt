@@ -2,8 +2,7 @@
 use Rattle.std.proofs.Common.{◌≡◌, ℕ, zero, suc, ◌+◌, ◌<◌, ◌⊎◌, Bool, true, false, not, cond, List, [], ◌∷◌, length, get_or, replicate, count_by, inl, inr, refl, sym, ap, subst, ◌∙◌, arith}
 use Rattle.std.proofs.lemmas.Bool.{and_parts, and_left, and_right, not_from_true, not_from_false}
 use Rattle.std.proofs.lemmas.List.Sums.{sum_by-cons}
-use Rattle.cdtext_packs.specs.Packs.{check_matches, is_first_block, is_good}
-use Rattle.cdtext_lines.specs.Lines.{is_of_other_block}
+use Rattle.cdtext_packs.specs.Packs.{check_matches, is_first_block, is_good, is_of_other_block}
 use Rattle.authored_listings.specs.Damage.{AreFound, count_whole, count_hurt}
 
 -- the packs of whole slots are good, and the checks of the others do not match

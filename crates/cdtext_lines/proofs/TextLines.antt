@@ -1,6 +1,7 @@
 -- The lines of texts.
-use Rattle.std.proofs.Common.{◌≡◌, ℕ, zero, suc, ◌+◌, ◌-◌, ◌<◌, true, false, not, ◌&&◌, ◌==◌, ◌⊎◌, inl, inr, [], ◌∷◌, ◌++◌, length, get_or, flat_map, sym, ap, ◌∙◌, arith}
+use Rattle.std.proofs.Common.{◌≡◌, ℕ, suc, ◌+◌, ◌-◌, ◌<◌, ◌≤◌, true, false, not, ◌&&◌, ◌==◌, ◌⊎◌, inl, inr, [], ◌∷◌, ◌++◌, length, get_or, flat_map, refl, ap, ◌∙◌, arith}
 use Rattle.std.specs.Prelude.{nat_le}
+use Rattle.std.specs.List.{range_with_len}
 use Rattle.std.proofs.lemmas.Bool.{cond-true, cond-false, and_left, and_right, eq-eqb, not_from_true, lt-leb}
 use Rattle.std.proofs.lemmas.List.FromFn.{get_or-range_with_len, length-range_with_len}
 use Rattle.bit_lists.specs.Digits.{hex_digits, line_feed}
@@ -32,14 +33,14 @@ pub length-tracks_of : (texts : Texts) → length (tracks_of texts) ≡ texts.la
 unfolding tracks_of
 length-tracks_of texts = let size = length-range_with_len texts.first (texts.last - texts.first + 1) in omega arith
 
-pub track_at : (texts : Texts) (place track : ℕ) → place < texts.last - texts.first + 2 → ((place ≡ 0) × (track ≡ 0)) ⊎ ((place ≡ 0 → ⊥) × (track ≡ texts.first + (place - 1)))
-    → track ≡ get_or (tracks_of texts) place 0
+pub album_at : (texts : Texts) → get_or (tracks_of texts) 0 0 ≡ 0
 unfolding tracks_of
-track_at texts zero track inside (inl first) = first.1
-track_at texts zero track inside (inr later) = absurd (later.0 (omega arith))
-track_at texts (suc k) track inside (inl first) = absurd (let e = first.0 in omega arith)
-track_at texts (suc k) track inside (inr later) =
-    let at = get_or-range_with_len texts.first (texts.last - texts.first + 1) k 0 (omega arith) in
-    let is = later.1 in
-    let here : suc k - 1 ≡ k = omega arith in
-    later.1 ∙ ap (λ (n : ℕ). texts.first + n) here ∙ sym at
+album_at texts = refl
+
+pub track_at : (texts : Texts) (track : ℕ) → texts.first ≤ track → track ≤ texts.last → get_or (tracks_of texts) (track - texts.first + 1) 0 ≡ track
+unfolding tracks_of
+track_at texts track from to =
+    let k = track - texts.first in
+    let next : k + 1 ≡ suc k = omega arith in
+    let at = get_or-range_with_len texts.first (texts.last - texts.first + 1) (track - texts.first) 0 (omega arith) in
+    ap (λ (n : ℕ). get_or (0 ∷ range_with_len texts.first (texts.last - texts.first + 1)) n 0) next ∙ at ∙ omega arith

@@ -1,12 +1,13 @@
 -- Texts as lines.
-use Rattle.std.specs.Prelude.{ℕ, ◌+◌, ◌-◌, Bool, not, ◌&&◌, List, [], ◌∷◌, ◌++◌, flat_map, count_by, codes, decimal, ◌==◌, nat_le, if◌then◌else◌}
+use Rattle.std.specs.Prelude.{ℕ, ◌+◌, ◌-◌, not, ◌&&◌, List, [], ◌∷◌, ◌++◌, flat_map, count_by, codes, decimal, ◌==◌, nat_le, if◌then◌else◌}
 use Rattle.std.specs.List.{range_with_len}
 use Rattle.bit_lists.specs.Digits.{digits, hex_digits, line_feed}
-use Rattle.cdtext_packs.specs.Packs.{check_matches, is_first_block, is_good}
+use Rattle.cdtext_packs.specs.Packs.{check_matches, is_good, is_of_other_block}
 use Rattle.cdtext_packs.specs.Texts.{Texts, kinds, text_of, is_empty}
 use Rattle.cdtext_packs.specs.declared.kinds.TextKind.{TextKind}
 use Rattle.cdtext_packs.specs.declared.kinds.TextKind.TheVariants.{Title, Performer, Songwriter, Composer, Arranger, Message, Code}
 
+-- the name of a kind
 abbrev pub kind_name : TextKind → List ℕ
 kind_name Title = codes "title"
 kind_name Performer = codes "performer"
@@ -34,6 +35,7 @@ text_line texts kind track =
 unfoldable pub tracks_of : Texts → List ℕ
 tracks_of texts = 0 ∷ range_with_len texts.first (texts.last - texts.first + 1)
 
+-- the lines of a kind
 unfoldable pub kind_lines : Texts → TextKind → List ℕ
 kind_lines texts kind = flat_map (text_line texts kind) (tracks_of texts)
 
@@ -41,12 +43,9 @@ kind_lines texts kind = flat_map (text_line texts kind) (tracks_of texts)
 unfoldable pub count_line : ℕ → ℕ → ℕ → List ℕ
 count_line good bad other = codes "packs good " ++ decimal good ++ codes " bad " ++ decimal bad ++ codes " other " ++ decimal other ++ line_feed
 
+-- the lines of texts, kind by kind, and the line on offered packs
 abbrev pub counted_lines : Texts → ℕ → ℕ → ℕ → List ℕ
 counted_lines texts good bad other = flat_map (kind_lines texts) kinds ++ count_line good bad other
-
--- a pack whose check matches, but of another block
-abbrev pub is_of_other_block : List ℕ → Bool
-is_of_other_block pack = check_matches pack && not (is_first_block pack)
 
 -- the lines of texts, and the line on the packs that they were read from
 abbrev pub text_lines : Texts → List (List ℕ) → List ℕ

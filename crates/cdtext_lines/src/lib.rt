@@ -2,26 +2,16 @@
 #![tactic(auto)]
 
 ghost use Rattle.std.specs.Prelude.{◌≡◌, ◌+◌, ◌++◌, ◌<◌, ◌≤◌, OnOk, OnErr, flat_map, length, decimal};
-ghost use Rattle.std.specs.Char.{digit_char};
+ghost use Rattle.bit_lists.specs.Digits.{hex_digits};
 ghost use Rattle.std.specs.Io.KnownBytes.{Appends};
 ghost use Rattle.cdg_io.specs.Causes.{HasCause};
 ghost use Rattle.cdg_io.specs.Moves.{AppendsPrefix};
 ghost use Rattle.cdtext_lines.specs.Lines.{kind_name, printed, line_head, text_line, kind_lines, count_line, counted_lines};
 
 use cdg_io::{Failed, Piece, Sink, put_all};
-use cdtext_packs::{TextKind, TextMap};
+use cdtext_packs::{KINDS, TextKind, TextMap};
+use disc_time::two_digits;
 use itoa::Buffer;
-
-/// The kinds in the order of their lines.
-const KINDS: [TextKind; 7] = [
-    TextKind::Title,
-    TextKind::Performer,
-    TextKind::Songwriter,
-    TextKind::Composer,
-    TextKind::Arranger,
-    TextKind::Message,
-    TextKind::Code,
-];
 
 /// Writes a line for each string that is not empty, and one on the packs that were offered: how many could be kept,
 /// how many have a check that does not match, and how many are of other blocks. After `Failed` a prefix was written.
@@ -43,19 +33,14 @@ pub fn write_lines<K: Sink>(
     put_all(out, counts.bytes())
 }
 
-/// Writes the lines of a kind.
+/// Writes the lines of a kind: the album's, then the tracks'.
 fn write_kind<K: Sink>(map: &TextMap, kind: TextKind, out: &mut K) -> Result<(), Failed>
     ensures ok { OnOk result (Appends (K.held out.old) (K.held out.new) (kind_lines map.now kind)) }
     ensures part { OnErr result (AppendsPrefix (K.held out.old) (K.held out.new) (kind_lines map.now kind)) }
     ensures cause { HasCause (K.faults out.old) (K.faults out.new) result }
 {
-    let first = map.first();
-    for place in 0..usize::from(map.last() - first) + 2 {
-        let track = if place == 0 {
-            0
-        } else {
-            first + (place - 1) as u8
-        };
+    write_line(map, kind, 0, out)?;
+    for track in map.first()..=map.last() {
         write_line(map, kind, track, out)?;
     }
     Ok(())
@@ -97,17 +82,20 @@ fn printed(byte: u8) -> Piece
     if byte >= 0x20 && byte <= 0x7e && byte != b'\\' {
         piece.add(&[byte]);
     } else {
-        piece.add(&[b'\\', hex_digit(byte / 16), hex_digit(byte % 16)]);
+        piece.add(b"\\");
+        piece.add(&hex_byte(byte));
     }
     piece
 }
 
-/// A hexadecimal digit.
-fn hex_digit(n: u8) -> u8
-    requires { n < 16 }
-    ensures { result ≡ digit_char n }
+/// The two hexadecimal digits of a byte.
+fn hex_byte(byte: u8) -> [u8; 2]
+    ensures { result ≡ hex_digits 2 byte }
 {
-    if n < 10 { b'0' + n } else { b'a' + (n - 10) }
+    let mut digits = [0; 2];
+    // Two digits are room for a byte.
+    let _ = hex::encode_to_slice([byte], &mut digits);
+    digits
 }
 
 /// What stands in a line before its string.
@@ -117,7 +105,9 @@ fn line_head(kind: TextKind, track: u8) -> Piece
 {
     let mut piece = Piece::new();
     piece.add(kind_name(kind));
-    piece.add(&[b' ', b'0' + track / 10, b'0' + track % 10, b' ']);
+    piece.add(b" ");
+    piece.add(&two_digits(track));
+    piece.add(b" ");
     piece
 }
 

@@ -1,10 +1,10 @@
 -- Bytes that are cut at their zero bytes.
-use Rattle.std.proofs.Common.{◌≡◌, ◌≢◌, ℕ, ◌+◌, ◌-◌, ◌<◌, ◌≤◌, Bool, false, not, ◌&&◌, ◌==◌, nat_lt, if◌then◌else◌, List, [], ◌∷◌, ◌++◌, length, get_or, take, drop, flat_map, count_by, replicate, Option, All, inl, inr, refl, sym, ap, ◌∙◌, subst, arith}
+use Rattle.std.proofs.Common.{◌≡◌, ◌≢◌, ℕ, ◌+◌, ◌-◌, ◌<◌, ◌≤◌, Bool, false, not, ◌&&◌, ◌==◌, nat_lt, if◌then◌else◌, List, [], ◌∷◌, ◌++◌, length, get_or, take, drop, flat_map, count_by, replicate, cond, unwrap_or, Option, Some, None, All, inl, inr, refl, sym, ap, ◌∙◌, subst, arith}
 use Rattle.std.specs.List.{sum_by, slice_split, position_or_len, before_first, after_first}
 use Rattle.std.proofs.lemmas.List.{drop_more, get_or_past, length-drop, length-take, get_or-take, length_push, nil_from_length}
 use Rattle.std.proofs.lemmas.List.Elements.{All-get_or, All-from_get_or, All-push}
 use Rattle.std.proofs.lemmas.List.Splits.{slice_split_first, length-slice_split}
-use Rattle.std.proofs.lemmas.List.Sums.{fold_more, fails_before_first, sum_by-append}
+use Rattle.std.proofs.lemmas.List.Sums.{fold_more, fails_before_first, prefix_len-le-length, sum_by-append}
 use Rattle.std.proofs.lemmas.Bool.{cases_Bool, cases_lt, cond-true, cond-false, cond_both, eqb-false, ltb-false, eq-eqb, ne_eqb}
 use Rattle.cdtext_packs.specs.Packs.{pack_text}
 use Rattle.cdtext_packs.specs.Texts.{IsString}
@@ -25,6 +25,16 @@ pub record IsCut (bytes rest : List ℕ) (strings : List (List ℕ)) (n : ℕ) :
 pub cut_none : (bytes : List ℕ) → length bytes ≤ 67108864 → IsCut bytes bytes [] 0
 unfolding resolved
 cut_none bytes size = record { done = refl; left = refl; count = refl; each = λ k d less. absurd (omega arith); size = size }
+
+-- a place that is not within the list is its length
+pub place_from : (p : ℕ → Bool) (xs : List ℕ) (r : Option ℕ) (result : ℕ)
+    → r ≡ cond (nat_lt (position_or_len p xs) (length xs)) (Some (position_or_len p xs)) None → result ≡ unwrap_or r (length xs)
+    → result ≡ position_or_len p xs
+place_from p xs r result is gives =
+    gives ∙ ap (λ (o : Option ℕ). unwrap_or o (length xs)) is ∙ or_len (position_or_len p xs) (length xs) (prefix_len-le-length (λ x. not (p x)) xs)
+  where
+    or_len : (n size : ℕ) → n ≤ size → unwrap_or (cond (nat_lt n size) (Some n) None) size ≡ n
+    or_len n size le = grind arith
 
 position_below : (p : ℕ → Bool) (xs : List ℕ) → 1 ≤ count_by p xs → position_or_len p xs < length xs
 position_below p [] some = absurd (omega arith)

@@ -1,16 +1,20 @@
 -- The kept packs, as loops meet them.
-use Rattle.std.proofs.Common.{◌≡◌, ℕ, zero, suc, ◌+◌, ◌-◌, ◌*◌, ◌<◌, ◌≤◌, Bool, true, false, cond, not, ◌&&◌, ◌==◌, nat_lt, if◌then◌else◌, List, [], ◌∷◌, ◌++◌, length, get_or, take, drop, find, filter, flat_map, Option, Some, None, refl, sym, ap, ◌∙◌, arith}
-use Rattle.std.specs.List.{range_with_len}
-use Rattle.std.proofs.lemmas.List.{take_more, drop_more, drop_all, append-nil, length-append, get_or_at}
+use Rattle.std.proofs.Common.{◌≡◌, ℕ, zero, suc, ◌+◌, ◌-◌, ◌*◌, ◌<◌, ◌≤◌, Bool, true, false, cond, not, ◌&&◌, ◌==◌, nat_lt, if◌then◌else◌, List, [], ◌∷◌, ◌++◌, length, get_or, take, drop, find, filter, flat_map, Option, Some, None, is_none, refl, sym, ap, ◌∙◌, arith}
+use Rattle.std.specs.List.{range_with_len, list_all}
+use Rattle.std.proofs.lemmas.List.{get_or_default, take_more, drop_more, drop_all, append-nil, length-append, get_or_at}
 use Rattle.std.proofs.lemmas.List.Elements.{filter-append, filter_map-append}
 use Rattle.std.proofs.lemmas.Grind.{flat_map-append}
 use Rattle.std.proofs.lemmas.List.Sums.{sum_by-append}
-use Rattle.std.proofs.lemmas.Bool.{cond-true, cond-false, eq-eqb, ne_eqb, and_from, and_left, and_right, lt-ltb, le-ltb}
+use Rattle.std.proofs.lemmas.Bool.{cond-true, cond-false, eq-eqb, ne_eqb, and_right, lt-ltb, le-ltb}
 use Rattle.bit_lists.specs.Counting.{below}
-use Rattle.cdtext_packs.specs.Packs.{pack_number, pack_type, pack_track, pack_text}
+use Rattle.cdtext_packs.specs.Packs.{pack_number, pack_type, pack_text}
 use Rattle.cdtext_packs.specs.Writing.{type_of}
-use Rattle.cdtext_packs.specs.Reading.{in_order, is_size_pack, size_pack, kind_packs, kind_bytes, ends_in, is_zero, last_number, is_short}
+use Rattle.cdtext_packs.specs.Reading.{in_order, keeps_nothing, is_size_pack, size_pack, kind_packs, kind_bytes, ends_in, is_zero, last_number, is_short}
 use Rattle.cdtext_packs.specs.declared.kinds.TextKind.{TextKind}
+
+-- what stands at a place, as a loop over the slots meets it
+pub slot_is : (kept : List (Option (List ℕ))) (i : ℕ) (item slot : Option (List ℕ)) → i < length kept → item ≡ get_or kept i item → item ≡ slot → get_or kept i None ≡ slot
+slot_is kept i item slot inside at is = get_or_default kept i None item inside ∙ sym at ∙ is
 
 -- Searches from the front
 
@@ -35,14 +39,10 @@ size_pack_found kept d i pack inside is here =
     ap (λ (k : List (Option (List ℕ))). find (is_size_pack d) (in_order k)) (rest_at kept i (Some pack) inside is)
     ∙ cond-true (is_size_pack d pack) (Some pack) (find (is_size_pack d) (in_order (drop (i + 1) kept))) here
 
-pub is_size : (d : ℕ) (pack : List ℕ) → pack_type pack ≡ 143 → pack_track pack ≡ d → is_size_pack d pack ≡ true
-is_size d pack type track = and_from (pack_type pack == 143) (pack_track pack == d) (eq-eqb (pack_type pack) 143 type) (eq-eqb (pack_track pack) d track)
-
-pub other_type : (d : ℕ) (pack : List ℕ) → (pack_type pack ≡ 143 → ⊥) → is_size_pack d pack ≡ false
-other_type d pack type = and_left (pack_type pack == 143) (pack_track pack == d) (ne_eqb (pack_type pack) 143 type)
-
-pub other_track : (d : ℕ) (pack : List ℕ) → (pack_track pack ≡ d → ⊥) → is_size_pack d pack ≡ false
-other_track d pack track = and_right (pack_type pack == 143) (pack_track pack == d) (ne_eqb (pack_track pack) d track)
+pub none_kept : (kept : List (Option (List ℕ))) → list_all is_none kept ≡ keeps_nothing kept
+none_kept [] = refl
+none_kept (None ∷ kept) = none_kept kept
+none_kept (Some pack ∷ kept) = sym (ne_eqb (length (in_order (Some pack ∷ kept))) 0 (λ e. omega arith))
 
 -- the first number that passes
 pub find_range : (p : ℕ → Bool) (a n i : ℕ) → i < n → ((k : ℕ) → k < i → p (a + k) ≡ false) → p (a + i) ≡ true → find p (range_with_len a n) ≡ Some (a + i)

@@ -1,5 +1,5 @@
 -- The steps of reading, where each answer is known.
-use Rattle.std.proofs.Common.{◌≡◌, ℕ, zero, suc, ◌+◌, ◌-◌, ◌<◌, ◌≤◌, Bool, true, false, ◌||◌, nat_lt, if◌then◌else◌, List, [], ◌∷◌, length, get_or, slice_index, take, drop, find, Option, Some, None, Result, Ok, Err, inl, inr, ◌⊎◌, is_none, unwrap_or, refl, sym, ap, ◌∙◌, arith}
+use Rattle.std.proofs.Common.{◌≡◌, ℕ, zero, suc, ◌+◌, ◌-◌, ◌<◌, ◌≤◌, Bool, true, false, ◌||◌, nat_lt, if◌then◌else◌, List, [], ◌∷◌, length, get_or, slice_index, take, drop, find, Option, Some, None, Result, Ok, Err, IfErr, inl, inr, ◌⊎◌, is_none, unwrap_or, refl, sym, ap, ◌∙◌, arith}
 use Rattle.std.specs.Option.{option_map}
 use Rattle.std.proofs.lemmas.List.{get_or-take, get_or-drop}
 use Rattle.std.proofs.lemmas.Bool.{cases_Bool, cond-true, cond-false, lt-ltb, le-ltb, or_left, or_right, or_from, true≢false}
@@ -41,6 +41,10 @@ none_short kept count kind none = elim kind as (λ kind. is_short kept count kin
 text_at : (pack : List ℕ) (i : ℕ) → i < 12 → slice_index (pack_text pack) i ≡ slice_index pack (4 + i)
 text_at pack i below = get_or-take 12 (drop 4 pack) i 0 below ∙ get_or-drop 4 pack i 0
 
+-- a byte of text of a pack, as one of the pack
+pub size_at : (pack text : List ℕ) (i : ℕ) → text ≡ pack_text pack → i < 12 → get_or text i 0 ≡ get_or pack (4 + i) 0
+size_at pack text i is below = ap (λ (bytes : List ℕ). get_or bytes i 0) is ∙ text_at pack i below
+
 after_sizes : (kept : List (Option (List ℕ))) (size0 : List ℕ) (first last count : ℕ) → Result Texts TextFault
 after_sizes kept size0 first last count =
     if nat_lt first 1 || nat_lt 99 first then Err (Malformed (pack_number size0) 5)
@@ -79,6 +83,15 @@ unfolding after_sizes
 sizes_pass kept size0 size1 least order most =
     sized kept size0 size1 ∙ cond-false (nat_lt (get_or size0 5 0) 1 || nat_lt 99 (get_or size0 5 0)) _ _ (within 1 99 (get_or size0 5 0) least (omega arith))
     ∙ cond-false (nat_lt (get_or size0 6 0) (get_or size0 5 0) || nat_lt 99 (get_or size0 6 0)) _ _ (within (get_or size0 5 0) 99 (get_or size0 6 0) order most)
+
+-- the same with what was read of the size packs
+pub all_pass : (kept : List (Option (List ℕ))) (size0 size1 : List ℕ) (first last n : ℕ) → first ≡ get_or size0 5 0 → last ≡ get_or size0 6 0 → n ≡ get_or size1 12 0
+    → 1 ≤ first → first ≤ last → last ≤ 99 → read_sized kept size0 size1 ≡ read_numbers kept (n + 1) first last (first_missing kept (n + 1))
+all_pass kept size0 size1 first last n a b d least order most =
+    sizes_pass kept size0 size1 (omega arith) (omega arith) (omega arith)
+    ∙ ap (λ (k : ℕ). read_numbers kept (k + 1) (get_or size0 5 0) (get_or size0 6 0) (first_missing kept (k + 1))) (sym d)
+    ∙ ap (λ (k : ℕ). read_numbers kept (n + 1) k (get_or size0 6 0) (first_missing kept (n + 1))) (sym a)
+    ∙ ap (λ (k : ℕ). read_numbers kept (n + 1) first k (first_missing kept (n + 1))) (sym b)
 
 pub one_missing : (kept : List (Option (List ℕ))) (count first last : ℕ) (seq : ℕ) → first_missing kept count ≡ Some seq → read_numbers kept count first last (first_missing kept count) ≡ Err (Missing seq)
 one_missing kept count first last seq is = ap (read_numbers kept count first last) is
@@ -129,3 +142,13 @@ sizes_read kept size0 size1 third some first second last is =
     there : (third : Option (List ℕ)) → is_none third ≡ false → read_sizes kept (Some size0) (Some size1) third ≡ read_sized kept size0 size1
     there None e = absurd (true≢false e)
     there (Some size2) e = refl
+
+-- Where the packs give texts none are refused, and where they do not the answer is their reason
+
+pub given_texts : (read answer : Result Texts TextFault) (texts : Texts) → read ≡ Ok texts → IfErr read (λ fault. answer ≡ Err fault)
+given_texts (Ok t) answer texts is = tt
+given_texts (Err fault) answer texts is = absurd (cc)
+
+pub given_reason : (read answer : Result Texts TextFault) (reason : TextFault) → read ≡ Err reason → answer ≡ Err reason → IfErr read (λ fault. answer ≡ Err fault)
+given_reason (Ok t) answer reason is same = tt
+given_reason (Err fault) answer reason is same = same ∙ sym is

@@ -5,9 +5,11 @@ use Rattle.cdtext_packs.specs.Packs.{pack_number, check_matches, is_first_block,
 use Rattle.cdtext_packs.specs.declared.kinds.Offer.{Offer}
 use Rattle.cdtext_packs.specs.declared.kinds.Offer.TheVariants.{Kept, Again, BadCrc, OtherBlock}
 
+-- no pack is kept
 unfoldable pub nothing_kept : List (Option (List ℕ))
 nothing_kept = replicate 256 None
 
+-- the kept pack with a number
 abbrev pub with_number : List (Option (List ℕ)) → ℕ → Option (List ℕ)
 with_number kept n = slice_index_or kept n None
 
@@ -19,6 +21,7 @@ offer_of kept pack =
     else (if is_some (with_number kept (pack_number pack)) then Again
     else Kept))
 
+-- what is kept after an offer with this answer: a kept pack stands at its number, else nothing changes
 abbrev pub kept_by : Offer → List (Option (List ℕ)) → List ℕ → List (Option (List ℕ))
 kept_by Kept kept pack = set kept (pack_number pack) (Some pack)
 kept_by Again kept pack = kept

@@ -2,6 +2,7 @@
 use Rattle.cdtext_packs.specs.Texts.{Texts, AreTexts}
 use Rattle.cdtext_packs.specs.declared.map.TextMap.TheInside.{Inside}
 
+-- what the fields of a map say
 abbrev pub texts_in : Inside → Texts
 texts_in m = record {
   first = m.first;
@@ -15,5 +16,6 @@ texts_in m = record {
   code = m.code;
 }
 
+-- what holds of every map
 abbrev pub HoldsTexts : Inside → Type 0
 HoldsTexts m = AreTexts (texts_in m)

@@ -1,16 +1,20 @@
--- Packs of eighteen bytes: type, track, number, place, twelve bytes of text, check.
-use Rattle.std.specs.Prelude.{ℕ, ◌+◌, ◌*◌, ◌/◌, ◌%◌, Bool, ◌&&◌, List, [], ◌∷◌, ◌++◌, take, drop, slice_index, ◌==◌, nat_lt}
+-- Packs of eighteen bytes: type, track, number, position, twelve bytes of text, check.
+use Rattle.std.specs.Prelude.{ℕ, ◌+◌, ◌*◌, ◌/◌, ◌%◌, Bool, not, ◌&&◌, List, [], ◌∷◌, ◌++◌, take, drop, slice_index, ◌==◌, nat_lt}
 use Rattle.bit_lists.specs.Check.{check_of}
 
+-- the type: 80 to 85 and 8E of the kinds of strings, 8F of the size packs, in hexadecimal
 abbrev pub pack_type : List ℕ → ℕ
 pack_type pack = slice_index pack 0
 
+-- the track of the string with which its text begins, 0 for the album; of a size pack, which of the three it is
 abbrev pub pack_track : List ℕ → ℕ
 pack_track pack = slice_index pack 1
 
+-- the number, by which the packs are in order
 abbrev pub pack_number : List ℕ → ℕ
 pack_number pack = slice_index pack 2
 
+-- the twelve bytes of text
 abbrev pub pack_text : List ℕ → List ℕ
 pack_text pack = take 12 (drop 4 pack)
 
@@ -25,6 +29,10 @@ is_first_block pack = nat_lt (slice_index pack 3) 16
 -- whether a pack can be kept
 abbrev pub is_good : List ℕ → Bool
 is_good pack = check_matches pack && is_first_block pack
+
+-- whether a pack's check matches, but it is of another block or of double-byte text
+abbrev pub is_of_other_block : List ℕ → Bool
+is_of_other_block pack = check_matches pack && not (is_first_block pack)
 
 -- sixteen bytes and their check, its high byte first
 unfoldable pub sealed : List ℕ → List ℕ

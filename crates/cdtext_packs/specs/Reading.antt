@@ -15,6 +15,7 @@ use Rattle.cdtext_packs.specs.declared.kinds.TextFault.TheVariants.{Missing, NoS
 abbrev pub in_order : List (Option (List ℕ)) → List (List ℕ)
 in_order kept = filter_map (λ pack. pack) kept
 
+-- whether a pack is size pack d of the three
 abbrev pub is_size_pack : ℕ → List ℕ → Bool
 is_size_pack d pack = pack_type pack == size_type && pack_track pack == d
 
@@ -30,6 +31,7 @@ kind_packs kept kind = filter (λ pack. pack_type pack == type_of kind) (in_orde
 abbrev pub kind_bytes : List (Option (List ℕ)) → TextKind → List ℕ
 kind_bytes kept kind = flat_map pack_text (kind_packs kept kind)
 
+-- whether a byte is zero
 abbrev pub is_zero : ℕ → Bool
 is_zero byte = byte == 0
 
@@ -61,6 +63,7 @@ is_short kept count kind = not (length (kind_packs kept kind) == 0) && nat_lt (e
 abbrev pub last_number : List (List ℕ) → ℕ
 last_number packs = pack_number (slice_index_or packs (length packs - 1) [])
 
+-- the texts of the kinds for these tracks
 abbrev pub all_texts : List (Option (List ℕ)) → ℕ → ℕ → Texts
 all_texts kept first_track last_track =
     let strings = kind_texts kept (last_track - first_track + 2) in
@@ -85,6 +88,7 @@ read_kinds kept first_track last_track None = Ok (all_texts kept first_track las
 abbrev pub first_missing : List (Option (List ℕ)) → ℕ → Option ℕ
 first_missing kept count = find (λ n. is_none (with_number kept n)) (below count)
 
+-- the first kind that is short
 abbrev pub first_short : List (Option (List ℕ)) → ℕ → Option TextKind
 first_short kept count = find (is_short kept count) kinds
 
@@ -109,6 +113,7 @@ abbrev pub read_sizes : List (Option (List ℕ)) → Option (List ℕ) → Optio
 read_sizes kept (Some size0) (Some size1) (Some size2) = read_sized kept size0 size1
 read_sizes kept size0 size1 size2 = Err NoSize
 
+-- whether no pack is kept
 abbrev pub keeps_nothing : List (Option (List ℕ)) → Bool
 keeps_nothing kept = length (in_order kept) == 0
 

@@ -16,12 +16,15 @@ pub record Texts : Type 0 where
   pub message : List (List ℕ)
   pub code : List (List ℕ)
 
+-- no tracks and no strings
 abbrev pub no_texts : Texts
 no_texts = record { first = 0; last = 0; title = []; performer = []; songwriter = []; composer = []; arranger = []; message = []; code = [] }
 
+-- all kinds, in the order of the types of their packs
 abbrev pub kinds : List TextKind
 kinds = Title ∷ Performer ∷ Songwriter ∷ Composer ∷ Arranger ∷ Message ∷ Code ∷ []
 
+-- the strings of a kind
 abbrev pub strings_of : TextKind → Texts → List (List ℕ)
 strings_of Title texts = texts.title
 strings_of Performer texts = texts.performer
@@ -38,9 +41,11 @@ text_of kind track texts =
     else (if nat_lt track texts.first then []
     else slice_index_or (strings_of kind texts) (track - texts.first + 1) [])
 
+-- whether a string is empty
 abbrev pub is_empty : List ℕ → Bool
 is_empty s = length s == 0
 
+-- whether all of these strings are empty
 abbrev pub are_empty : List (List ℕ) → Bool
 are_empty strings = list_all is_empty strings
 
@@ -48,7 +53,7 @@ are_empty strings = list_all is_empty strings
 abbrev pub has_no_text : Texts → Bool
 has_no_text texts = list_all (λ kind. are_empty (strings_of kind texts)) kinds
 
--- a string has no zero byte, and as many bytes as the largest sheet
+-- a string has no zero byte, and no more bytes than the largest sheet
 pub record IsString (s : List ℕ) : Type 0 where
   pub size : length s ≤ 67108864
   pub nonzero : All (λ byte. byte ≢ 0) s
@@ -61,5 +66,6 @@ pub record HasTracks (texts : Texts) : Type 0 where
   pub count : (kind : TextKind) → length (strings_of kind texts) ≡ texts.last - texts.first + 2
   pub strings : (kind : TextKind) → All IsString (strings_of kind texts)
 
+-- no texts at all, or those of tracks
 abbrev pub AreTexts : Texts → Type 0
 AreTexts texts = (texts ≡ no_texts) ⊎ HasTracks texts

@@ -1,5 +1,5 @@
 -- The packs of texts.
-use Rattle.std.specs.Prelude.{ℕ, ◌+◌, ◌-◌, ◌*◌, ◌/◌, ◌≡◌, ◌<◌, List, [], ◌∷◌, ◌++◌, length, map, flat_map, take, drop, replicate, slice_index_or, min, ◌==◌, if◌then◌else◌}
+use Rattle.std.specs.Prelude.{ℕ, ◌+◌, ◌-◌, ◌*◌, ◌/◌, ◌≡◌, ◌<◌, ◌≤◌, List, [], ◌∷◌, ◌++◌, length, map, flat_map, take, drop, replicate, slice_index_or, min, ◌==◌, if◌then◌else◌}
 use Rattle.std.specs.List.{enumerate_from}
 use Rattle.bit_lists.specs.Counting.{below}
 use Rattle.cdtext_packs.specs.Packs.{sealed}
@@ -9,7 +9,7 @@ use Rattle.cdtext_packs.specs.declared.kinds.TextKind.TheVariants.{Title, Perfor
 use Rattle.cdtext_packs.specs.declared.kinds.PackStop.{PackStop}
 use Rattle.cdtext_packs.specs.declared.kinds.PackStop.TheVariants.{TooMany, NoMemory}
 
--- the type of the packs of a kind, and of the packs that tell how many packs there are
+-- the type of the packs of a kind
 abbrev pub type_of : TextKind → ℕ
 type_of Title = 0x80
 type_of Performer = 0x81
@@ -19,6 +19,7 @@ type_of Arranger = 0x84
 type_of Message = 0x85
 type_of Code = 0x8e
 
+-- the type of the size packs
 abbrev pub size_type : ℕ
 size_type = 0x8f
 
@@ -53,10 +54,11 @@ text_content first type strings k =
       text = twelve (joined strings) k;
     }
 
--- how many packs the strings of a kind fill
+-- how many packs the strings of a kind fill: none where every string is empty
 abbrev pub pack_count : List (List ℕ) → ℕ
 pack_count strings = if are_empty strings then 0 else (length (joined strings) + 11) / 12
 
+-- what the packs of a kind hold, in order
 unfoldable pub kind_contents : Texts → TextKind → List Content
 kind_contents texts kind =
     let strings = strings_of kind texts in
@@ -70,9 +72,11 @@ size_bytes texts =
     ∷ (map count (take 6 kinds) ++ replicate 8 0 ++ count Code ∷ 3
     ∷ (length (flat_map (kind_contents texts) kinds) + 2) ∷ (replicate 7 0 ++ 9 ∷ replicate 7 0))
 
+-- what size pack d of the three holds
 abbrev pub size_content : Texts → ℕ → Content
 size_content texts d = record { type = size_type; track = d; position = 0; text = twelve (size_bytes texts) d }
 
+-- what the three size packs hold
 abbrev pub size_contents : Texts → List Content
 size_contents texts = map (size_content texts) (below 3)
 
@@ -92,7 +96,7 @@ numbered first holding = map (λ n. sealed (content_bytes n.0 n.1)) (enumerate_f
 abbrev pub packs_of : Texts → List (List ℕ)
 packs_of texts = numbered 0 (contents texts)
 
--- why texts have no packs: there would be too many, or memory is short
+-- why texts have no packs: there would be too many, or, where there would not, memory is short
 abbrev pub IsPackStop : Texts → PackStop → Type 0
 IsPackStop texts (TooMany packs) = (256 < packs) × (packs ≡ length (contents texts))
-IsPackStop texts NoMemory = Unit {0}
+IsPackStop texts NoMemory = length (contents texts) ≤ 256

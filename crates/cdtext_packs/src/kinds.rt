@@ -4,7 +4,8 @@ ghost use Rattle.cdtext_packs.specs.Writing.{type_of};
 
 use std::alloc::AllocError;
 
-/// The kinds of strings, in the order of their packs' types.
+/// The kinds of strings, in the order of their packs' types: 80 to 85 and 8E in hexadecimal. A code is the album's
+/// catalogue number, or a track's ISRC.
 #[derive(Clone, Copy, PartialEq, Eq, Debug)]
 pub enum TextKind {
     Title,
@@ -16,8 +17,8 @@ pub enum TextKind {
     Code,
 }
 
-/// All kinds, in this order.
-pub(crate) const KINDS: [TextKind; 7] = [
+/// All kinds, in the order of their packs' types and of their lines.
+pub const KINDS: [TextKind; 7] = [
     TextKind::Title,
     TextKind::Performer,
     TextKind::Songwriter,
@@ -26,6 +27,21 @@ pub(crate) const KINDS: [TextKind; 7] = [
     TextKind::Message,
     TextKind::Code,
 ];
+
+/// The type of the three size packs.
+pub(crate) const SIZE_TYPE: u8 = 0x8f;
+
+/// Which of the 36 size bytes is the first track.
+pub(crate) const FIRST_TRACK: usize = 1;
+
+/// Which of the 36 size bytes is the last track.
+pub(crate) const LAST_TRACK: usize = 2;
+
+/// Which of the 36 size bytes is the number of the last pack.
+pub(crate) const LAST_NUMBER: usize = 20;
+
+/// Which of the 36 size bytes is the language.
+pub(crate) const LANGUAGE: usize = 28;
 
 impl TextKind {
     /// The type of its packs.
@@ -64,7 +80,9 @@ pub enum TextFault {
     Missing { seq: u8 },
     /// One of the three size packs is not kept.
     NoSize,
-    /// Byte `byte` of the kept pack `seq` contradicts the rest.
+    /// A number or a text that cannot be. In size pack 0, byte 5: the first track is not 1 to 99; byte 6: the last track
+    /// is below the first or above 99. Byte 15: a kind ends with fewer strings than the album and the tracks need; `seq`
+    /// is its last pack.
     Malformed { seq: u8, byte: u8 },
     NoMemory,
 }

@@ -12,7 +12,7 @@ mod sheet;
 mod strings;
 mod writer;
 
-pub use kinds::{Offer, PackStop, TextFault, TextKind};
+pub use kinds::{KINDS, Offer, PackStop, TextFault, TextKind};
 pub use laws::offers_keep_the_first;
 pub use lead_in::lead_in_symbols;
 pub use map::TextMap;

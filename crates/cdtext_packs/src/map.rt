@@ -2,9 +2,10 @@
 ghost use Rattle.std.specs.Prelude.{◌≡◌, ◌≤◌, ◌+◌, ◌-◌, length, None, IfOk};
 ghost use Rattle.cdtext_packs.specs.Texts.{no_texts, strings_of, text_of, has_no_text, AreTexts};
 ghost use Rattle.cdtext_packs.specs.Reading.{first_short, all_texts};
-ghost use Rattle.cdtext_packs.specs.SheetTexts.{texts_of_sheet};
+ghost use Rattle.cdtext_packs.specs.SheetTexts.{sheet_texts, texts_of_sheet};
 
 use crate::kinds::TextKind;
+use crate::pack::TextPack;
 use crate::reading::{empty_strings, kind_texts};
 use crate::sheet::{sheet_codes, sheet_strings};
 use crate::strings::Strings;
@@ -61,8 +62,19 @@ impl TextMap {
     pub fn from_sheet(alloc: Global, sheet: &Sheet) -> Result<TextMap, AllocError>
         ensures { IfOk result (λ map. map ≡ texts_of_sheet sheet.now) }
     {
+        let map = TextMap::of_sheet(alloc, sheet)?;
+        if map.has_no_text() {
+            return Ok(TextMap::empty(alloc));
+        }
+        Ok(map)
+    }
+
+    /// The same, where all of them may be empty.
+    fn of_sheet(alloc: Global, sheet: &Sheet) -> Result<TextMap, AllocError>
+        ensures { IfOk result (λ map. map ≡ sheet_texts sheet.now) }
+    {
         let tracks = sheet.tracks();
-        let map = TextMap {
+        Ok(TextMap {
             first: sheet.first(),
             last: sheet.first() + (tracks - 1) as u8,
             title: sheet_strings(alloc, sheet, CueText::Title)?,
@@ -72,17 +84,13 @@ impl TextMap {
             arranger: empty_strings(alloc, tracks + 1)?,
             message: empty_strings(alloc, tracks + 1)?,
             code: sheet_codes(alloc, sheet)?,
-        };
-        if map.has_no_text() {
-            return Ok(TextMap::empty(alloc));
-        }
-        Ok(map)
+        })
     }
 
     /// The texts of kept packs, for the album and each track from the first to the last.
     pub(crate) fn of_packs(
         alloc: Global,
-        kept: &[Option<[u8; 18]>],
+        kept: &[Option<TextPack>],
         first: u8,
         last: u8,
     ) -> Result<TextMap, AllocError>

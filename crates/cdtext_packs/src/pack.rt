@@ -1,11 +1,11 @@
 // A pack of eighteen bytes.
-ghost use Rattle.std.specs.Prelude.{◌≡◌, ◌∷◌, List, ℕ};
-ghost use Rattle.cdtext_packs.specs.Packs.{sealed};
+ghost use Rattle.std.specs.Prelude.{◌≡◌, ◌∷◌, List, ℕ, length};
+ghost use Rattle.cdtext_packs.specs.Packs.{pack_type, pack_track, pack_number, pack_text, check_matches, is_first_block, sealed};
 
 use disc_time::crc16;
 use std::marker::Model;
 
-/// A pack: its type, track, number and place, twelve bytes of text, and the check of these sixteen.
+/// A pack: its type, track, number and position, twelve bytes of text, and the check of these sixteen.
 #[derive(Clone, Copy, PartialEq, Eq)]
 pub struct TextPack {
     bytes: [u8; 18],
@@ -25,6 +25,54 @@ impl TextPack {
         ensures { result ≡ self.now }
     {
         self.bytes
+    }
+
+    /// A pack of any bytes.
+    pub(crate) fn from_bytes(bytes: &[u8; 18]) -> TextPack
+        ensures { result ≡ bytes.now }
+    {
+        TextPack { bytes: *bytes }
+    }
+
+    /// Its type.
+    pub(crate) fn kind(&self) -> u8
+        ensures { result ≡ pack_type self.now }
+    {
+        self.bytes[0]
+    }
+
+    pub(crate) fn track(&self) -> u8
+        ensures { result ≡ pack_track self.now }
+    {
+        self.bytes[1]
+    }
+
+    pub(crate) fn number(&self) -> u8
+        ensures { result ≡ pack_number self.now }
+    {
+        self.bytes[2]
+    }
+
+    /// Its twelve bytes of text.
+    pub(crate) fn text(&self) -> &[u8]
+        ensures text { result.now ≡ pack_text self.now }
+        ensures size { length result.now ≡ 12 }
+    {
+        &self.bytes[4..16]
+    }
+
+    /// Whether the last two bytes are the check of the others.
+    pub(crate) fn check_matches(&self) -> bool
+        ensures { result ≡ check_matches self.now }
+    {
+        crc16(&self.bytes[..16]) == 256 * u16::from(self.bytes[16]) + u16::from(self.bytes[17])
+    }
+
+    /// Whether it is of the first block, with single bytes as its characters.
+    pub(crate) fn is_first_block(&self) -> bool
+        ensures { result ≡ is_first_block self.now }
+    {
+        self.bytes[3] < 16
     }
 
     /// The pack of these bytes and their check.

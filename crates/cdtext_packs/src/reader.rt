@@ -1,20 +1,19 @@
 // The reader of packs in any order, with any repeats.
-ghost use Rattle.std.specs.Prelude.{◌≡◌, ◌⊎◌, List, ℕ, Option, length, vec_len, IfOk, IfErr, Ok, Err};
-ghost use Rattle.cdtext_packs.specs.Packs.{check_matches};
+ghost use Rattle.std.specs.Prelude.{◌≡◌, ◌⊎◌, List, ℕ, Option, true, length, vec_len, IsOk, IfOk, IfErr, Ok, Err};
 ghost use Rattle.cdtext_packs.specs.Kept.{nothing_kept, offer_of, kept_by};
-ghost use Rattle.cdtext_packs.specs.Reading.{read_sized, read_texts};
+ghost use Rattle.cdtext_packs.specs.Reading.{keeps_nothing, read_sized, read_texts};
 
-use crate::kinds::{Offer, TextFault};
+use crate::kinds::{FIRST_TRACK, LAST_NUMBER, LAST_TRACK, Offer, TextFault};
 use crate::map::TextMap;
+use crate::pack::TextPack;
 use crate::reading::{first_missing, first_short, keeps_nothing, size_pack};
-use disc_time::crc16;
 use std::alloc::{AllocError, Global};
 use std::marker::Model;
 
 /// The packs that are kept: at most one of each number.
 #[derive(Drop)]
 pub struct TextReader {
-    kept: Vec<Option<[u8; 18]>>,
+    kept: Vec<Option<TextPack>>,
 }
 
 impl Model for TextReader {
@@ -46,24 +45,28 @@ impl TextReader {
         ensures answer { result ≡ offer_of self.old pack.now }
         ensures kept { self.new ≡ kept_by result self.old pack.now }
     {
-        if !has_check(pack) {
+        let pack = TextPack::from_bytes(pack);
+        if !pack.check_matches() {
             return Offer::BadCrc;
         }
-        if pack[3] >= 16 {
+        if !pack.is_first_block() {
             return Offer::OtherBlock;
         }
-        let number = usize::from(pack[2]);
+        let number = usize::from(pack.number());
         if self.kept[number].is_some() {
             return Offer::Again;
         }
-        self.kept[number] = Some(*pack);
+        self.kept[number] = Some(pack);
         Offer::Kept
     }
 
-    /// The texts of the kept packs, in any order of their offers. Without memory the answer is `NoMemory`.
+    /// The texts of the kept packs, in any order of their offers, or the first reason that they give none. `NoMemory`
+    /// comes only where they give texts; where nothing is kept no memory is taken.
     pub fn finish(&self, alloc: Global) -> Result<TextMap, TextFault>
         ensures texts { IfOk result (λ map. read_texts self.now ≡ Ok map) }
         ensures fault { IfErr result (λ fault. (fault ≡ TextFault.NoMemory) ⊎ (read_texts self.now ≡ Err fault)) }
+        ensures refused { IfErr (read_texts self.now) (λ fault. result ≡ Err fault) }
+        ensures memory { keeps_nothing self.now ≡ true → IsOk result }
     {
         let kept = &self.kept[..];
         if keeps_nothing(kept) {
@@ -85,22 +88,26 @@ impl TextReader {
 /// The texts of kept packs by the first two size packs.
 fn read_sized(
     alloc: Global,
-    kept: &[Option<[u8; 18]>],
-    tracks: &[u8; 18],
-    counts: &[u8; 18],
+    kept: &[Option<TextPack>],
+    tracks: &TextPack,
+    counts: &TextPack,
 ) -> Result<TextMap, TextFault>
     requires { length kept.now ≡ 256 }
     ensures texts { IfOk result (λ map. read_sized kept.now tracks.now counts.now ≡ Ok map) }
     ensures fault { IfErr result (λ fault. (fault ≡ TextFault.NoMemory) ⊎ (read_sized kept.now tracks.now counts.now ≡ Err fault)) }
+    ensures refused { IfErr (read_sized kept.now tracks.now counts.now) (λ fault. result ≡ Err fault) }
 {
-    let (seq, first, last) = (tracks[2], tracks[5], tracks[6]);
+    let seq = tracks.number();
+    let first = tracks.text()[FIRST_TRACK];
+    let last = tracks.text()[LAST_TRACK];
     if first < 1 || first > 99 {
         return Err(TextFault::Malformed { seq, byte: 5 });
     }
     if last < first || last > 99 {
         return Err(TextFault::Malformed { seq, byte: 6 });
     }
-    let count = usize::from(counts[12]) + 1;
+    // The second of the size packs begins with byte 12 of the size bytes.
+    let count = usize::from(counts.text()[LAST_NUMBER - 12]) + 1;
     if let Some(seq) = first_missing(kept, count) {
         return Err(TextFault::Missing { seq });
     }
@@ -109,11 +116,4 @@ fn read_sized(
         return Err(TextFault::Malformed { seq, byte: 15 });
     }
     Ok(TextMap::of_packs(alloc, used, first, last)?)
-}
-
-/// Whether the last two bytes are the check of the others.
-fn has_check(pack: &[u8; 18]) -> bool
-    ensures { result ≡ check_matches pack.now }
-{
-    crc16(&pack[..16]) == 256 * u16::from(pack[16]) + u16::from(pack[17])
 }

@@ -3,31 +3,27 @@ ghost use Rattle.std.specs.Prelude.{◌≡◌, ◌≤◌, ◌*◌, false, [], le
 ghost use Rattle.std.specs.List.{position_or_len};
 ghost use Rattle.std.specs.Option.{option_map};
 ghost use Rattle.cdtext_packs.specs.Texts.{IsString};
-ghost use Rattle.cdtext_packs.specs.Reading.{keeps_nothing, size_pack, first_missing, first_short, kind_packs, last_number, is_short, is_zero, ends_in, kind_texts, kind_bytes, strings_in, resolved};
+ghost use Rattle.cdtext_packs.specs.Reading.{keeps_nothing, is_size_pack, size_pack, first_missing, first_short, kind_packs, last_number, is_short, is_zero, ends_in, kind_texts, kind_bytes, strings_in, resolved};
 
-use crate::kinds::{KINDS, TextKind};
+use crate::kinds::{KINDS, SIZE_TYPE, TextKind};
+use crate::pack::TextPack;
 use crate::strings::Strings;
 use std::alloc::{AllocError, Global};
 
 /// Whether no pack is kept.
-pub fn keeps_nothing(kept: &[Option<[u8; 18]>]) -> bool
+pub(crate) fn keeps_nothing(kept: &[Option<TextPack>]) -> bool
     ensures { result ≡ keeps_nothing kept.now }
 {
-    for slot in kept {
-        if slot.is_some() {
-            return false;
-        }
-    }
-    true
+    kept.iter().all(|slot| slot.is_none())
 }
 
 /// The size pack of a place, and of several the one with the least number.
-pub fn size_pack(kept: &[Option<[u8; 18]>], d: u8) -> Option<[u8; 18]>
+pub(crate) fn size_pack(kept: &[Option<TextPack>], d: u8) -> Option<TextPack>
     ensures { result ≡ size_pack kept.now d }
 {
     for slot in kept {
         if let Some(pack) = slot {
-            if pack[0] == 0x8f && pack[1] == d {
+            if is_size_pack(pack, d) {
                 return Some(*pack);
             }
         }
@@ -35,8 +31,14 @@ pub fn size_pack(kept: &[Option<[u8; 18]>], d: u8) -> Option<[u8; 18]>
     None
 }
 
+fn is_size_pack(pack: &TextPack, d: u8) -> bool
+    ensures { result ≡ is_size_pack d pack.now }
+{
+    pack.kind() == SIZE_TYPE && pack.track() == d
+}
+
 /// The least number below `count` that is not kept.
-pub fn first_missing(kept: &[Option<[u8; 18]>], count: usize) -> Option<u8>
+pub(crate) fn first_missing(kept: &[Option<TextPack>], count: usize) -> Option<u8>
     requires kept { count ≤ length kept.now }
     requires count { count ≤ 256 }
     ensures { result ≡ first_missing kept.now count }
@@ -50,7 +52,7 @@ pub fn first_missing(kept: &[Option<[u8; 18]>], count: usize) -> Option<u8>
 }
 
 /// The number of the last pack of the first kind with fewer strings than are wanted.
-pub fn first_short(kept: &[Option<[u8; 18]>], count: usize) -> Option<u8>
+pub(crate) fn first_short(kept: &[Option<TextPack>], count: usize) -> Option<u8>
     requires { length kept.now ≤ 256 }
     ensures { result ≡ option_map (λ kind. last_number (kind_packs kept.now kind)) (first_short kept.now count) }
 {
@@ -64,7 +66,7 @@ pub fn first_short(kept: &[Option<[u8; 18]>], count: usize) -> Option<u8>
 }
 
 /// The number of the last pack of a kind, if it has fewer strings than are wanted.
-fn short_at(kept: &[Option<[u8; 18]>], count: usize, kind: TextKind) -> Option<u8>
+fn short_at(kept: &[Option<TextPack>], count: usize, kind: TextKind) -> Option<u8>
     requires { length kept.now ≤ 256 }
     ensures { result ≡ (if is_short kept.now count kind then Some (last_number (kind_packs kept.now kind)) else None) }
 {
@@ -72,9 +74,9 @@ fn short_at(kept: &[Option<[u8; 18]>], count: usize, kind: TextKind) -> Option<u
     let mut last = None;
     for slot in kept {
         if let Some(pack) = slot {
-            if pack[0] == kind.pack_type() {
-                ends += zeros_in(&pack[4..16]);
-                last = Some(pack[2]);
+            if pack.kind() == kind.pack_type() {
+                ends += zeros_in(pack.text());
+                last = Some(pack.number());
             }
         }
     }
@@ -90,9 +92,9 @@ fn zeros_in(bytes: &[u8]) -> usize
 }
 
 /// The strings of a kind, one for the album and each track.
-pub fn kind_texts(
+pub(crate) fn kind_texts(
     alloc: Global,
-    kept: &[Option<[u8; 18]>],
+    kept: &[Option<TextPack>],
     count: usize,
     kind: TextKind,
 ) -> Result<Strings, AllocError>
@@ -113,7 +115,7 @@ pub fn kind_texts(
 /// The bytes of text of a kind.
 fn kind_bytes(
     alloc: Global,
-    kept: &[Option<[u8; 18]>],
+    kept: &[Option<TextPack>],
     kind: TextKind,
 ) -> Result<Vec<u8>, AllocError>
     ensures bytes { IfOk result (λ bytes. bytes.items ≡ kind_bytes kept.now kind) }
@@ -122,8 +124,8 @@ fn kind_bytes(
     let mut bytes = Vec::new(alloc);
     for slot in kept {
         if let Some(pack) = slot {
-            if pack[0] == kind.pack_type() {
-                bytes.extend_from_slice(&pack[4..16])?;
+            if pack.kind() == kind.pack_type() {
+                bytes.extend_from_slice(pack.text())?;
             }
         }
     }
@@ -131,7 +133,7 @@ fn kind_bytes(
 }
 
 /// So many empty strings.
-pub fn empty_strings(alloc: Global, count: usize) -> Result<Strings, AllocError>
+pub(crate) fn empty_strings(alloc: Global, count: usize) -> Result<Strings, AllocError>
     ensures strings { IfOk result (λ strings. strings ≡ replicate count []) }
     ensures count { IfOk result (λ strings. length strings ≡ count) }
     ensures each { IfOk result (All IsString) }
@@ -168,10 +170,8 @@ fn string_end(bytes: &[u8]) -> usize
     ensures end { result ≡ position_or_len is_zero bytes.now }
     ensures bound { result ≤ length bytes.now }
 {
-    for (place, byte) in bytes.iter().enumerate() {
-        if *byte == 0 {
-            return place;
-        }
-    }
-    bytes.len()
+    bytes
+        .iter()
+        .position(|byte| *byte == 0)
+        .unwrap_or(bytes.len())
 }

@@ -9,7 +9,11 @@ use cue_sheet::{CueText, Sheet};
 use std::alloc::{AllocError, Global};
 
 /// The texts of a kind.
-pub fn sheet_strings(alloc: Global, sheet: &Sheet, kind: CueText) -> Result<Strings, AllocError>
+pub(crate) fn sheet_strings(
+    alloc: Global,
+    sheet: &Sheet,
+    kind: CueText,
+) -> Result<Strings, AllocError>
     ensures strings { IfOk result (λ strings. strings ≡ for_each sheet.now (text_at kind sheet.now)) }
     ensures each { IfOk result (All IsString) }
 {
@@ -21,7 +25,7 @@ pub fn sheet_strings(alloc: Global, sheet: &Sheet, kind: CueText) -> Result<Stri
 }
 
 /// The catalogue number and the codes of the tracks.
-pub fn sheet_codes(alloc: Global, sheet: &Sheet) -> Result<Strings, AllocError>
+pub(crate) fn sheet_codes(alloc: Global, sheet: &Sheet) -> Result<Strings, AllocError>
     ensures strings { IfOk result (λ strings. strings ≡ for_each sheet.now (code_at sheet.now)) }
     ensures each { IfOk result (All IsString) }
 {

@@ -9,7 +9,7 @@ use std::marker::Model;
 
 /// The album's string and each track's.
 #[derive(Drop)]
-pub struct Strings {
+pub(crate) struct Strings {
     items: Vec<Vec<u8>>,
 }
 
@@ -20,7 +20,7 @@ impl Model for Strings {
 }
 
 impl Strings {
-    pub fn new(alloc: Global) -> Strings
+    pub(crate) fn new(alloc: Global) -> Strings
         ensures { result ≡ [] }
     {
         Strings {
@@ -28,21 +28,21 @@ impl Strings {
         }
     }
 
-    pub fn push(&mut self, string: Vec<u8>) -> Result<(), AllocError>
+    pub(crate) fn push(&mut self, string: Vec<u8>) -> Result<(), AllocError>
         ensures pushed { MatchResult result (λ _. self.new ≡ self.old ++ string.items ∷ []) (λ _. self.new ≡ self.old) }
     {
         self.items.push(string)?;
         Ok(())
     }
 
-    pub fn len(&self) -> usize
+    pub(crate) fn len(&self) -> usize
         ensures { result ≡ length self.now }
     {
         self.items.len()
     }
 
     /// An empty string where there is none at this place.
-    pub fn get(&self, place: usize) -> &[u8]
+    pub(crate) fn get(&self, place: usize) -> &[u8]
         ensures { result.now ≡ slice_index_or self.now place [] }
     {
         match self.items.get(place) {
@@ -52,7 +52,7 @@ impl Strings {
     }
 
     /// What a string means after these: a single tab means the one before it.
-    pub fn meant<'a>(&'a self, string: &'a [u8]) -> &'a [u8]
+    pub(crate) fn meant<'a>(&'a self, string: &'a [u8]) -> &'a [u8]
         ensures { result.now ≡ meant self.now string.now }
     {
         if string.len() == 1 && string[0] == 9 && self.len() > 0 {
@@ -62,19 +62,14 @@ impl Strings {
         }
     }
 
-    pub fn are_empty(&self) -> bool
+    pub(crate) fn are_empty(&self) -> bool
         ensures { result ≡ are_empty self.now }
     {
-        for place in 0..self.len() {
-            if !self.get(place).is_empty() {
-                return false;
-            }
-        }
-        true
+        self.items.iter().all(|string| string.is_empty())
     }
 
     /// How many bytes the strings have with a zero byte after each.
-    pub fn joined_len(&self) -> usize
+    pub(crate) fn joined_len(&self) -> usize
         requires count { length self.now ≤ 100 }
         requires strings { All IsString self.now }
         ensures value { result ≡ length (joined self.now) }
@@ -88,7 +83,7 @@ impl Strings {
     }
 
     /// These bytes.
-    pub fn joined(&self, alloc: Global) -> Result<Vec<u8>, AllocError>
+    pub(crate) fn joined(&self, alloc: Global) -> Result<Vec<u8>, AllocError>
         ensures { IfOk result (λ bytes. bytes.items ≡ joined self.now) }
     {
         let mut bytes = Vec::new(alloc);
@@ -100,7 +95,7 @@ impl Strings {
     }
 
     /// The place of the string that has byte `at` of them, and how many of its bytes stand before that.
-    pub fn holder(&self, at: usize) -> (usize, usize)
+    pub(crate) fn holder(&self, at: usize) -> (usize, usize)
         requires { at < length (joined self.now) }
         ensures holder { slice_index_or (holders 0 self.now) at (0, 0) ≡ result }
         ensures place { result.0 < length self.now }

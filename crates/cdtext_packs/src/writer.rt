@@ -4,7 +4,9 @@ ghost use Rattle.cdtext_packs.specs.Packs.{sealed};
 ghost use Rattle.cdtext_packs.specs.Texts.{kinds};
 ghost use Rattle.cdtext_packs.specs.Writing.{joined, twelve, text_content, kind_contents, contents, content_bytes, numbered, packs_of, type_of, size_bytes, size_contents, IsPackStop};
 
-use crate::kinds::{KINDS, PackStop, TextKind};
+use crate::kinds::{
+    FIRST_TRACK, KINDS, LANGUAGE, LAST_NUMBER, LAST_TRACK, PackStop, SIZE_TYPE, TextKind,
+};
 use crate::map::TextMap;
 use crate::pack::TextPack;
 use crate::strings::Strings;
@@ -47,6 +49,7 @@ fn kind_packs(map: &TextMap, kind: TextKind) -> u32
     ensures value { result ≡ length (kind_contents map.now kind) }
     ensures bound { result ≤ 559240542 }
 {
+    // What holds of every map.
     let _texts = map.first();
     let strings = map.strings(kind);
     if strings.are_empty() {
@@ -85,7 +88,7 @@ fn push_sizes(packs: &mut Vec<TextPack>, map: &TextMap) -> Result<(), AllocError
     let count = packs.len() as u8;
     let bytes = size_bytes(map, count + 2);
     for d in 0..3 {
-        packs.push(TextPack::new(0x8f, d, count + d, 0, &twelve(&bytes, usize::from(d))))?;
+        packs.push(TextPack::new(SIZE_TYPE, d, count + d, 0, &twelve(&bytes, usize::from(d))))?;
     }
     Ok(())
 }
@@ -96,8 +99,9 @@ fn size_bytes(map: &TextMap, last: u8) -> [u8; 36]
     ensures { result ≡ size_bytes map.now }
 {
     let mut bytes = [0; 36];
-    bytes[1] = map.first();
-    bytes[2] = map.last();
+    bytes[FIRST_TRACK] = map.first();
+    bytes[LAST_TRACK] = map.last();
+    // From byte 4 on, how many packs the types 80 to 8F have.
     bytes[4] = count_of(map, TextKind::Title);
     bytes[5] = count_of(map, TextKind::Performer);
     bytes[6] = count_of(map, TextKind::Songwriter);
@@ -106,8 +110,9 @@ fn size_bytes(map: &TextMap, last: u8) -> [u8; 36]
     bytes[9] = count_of(map, TextKind::Message);
     bytes[18] = count_of(map, TextKind::Code);
     bytes[19] = 3;
-    bytes[20] = last;
-    bytes[28] = 9;
+    bytes[LAST_NUMBER] = last;
+    // English.
+    bytes[LANGUAGE] = 9;
     bytes
 }
 

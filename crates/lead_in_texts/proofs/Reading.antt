@@ -5,14 +5,14 @@ use Rattle.std.proofs.lemmas.Bool.{cases_Bool, cond-true, cond-false, and_from, 
 use Rattle.std.proofs.lemmas.List.{length-append, append_assoc, append-nil}
 use Rattle.std.proofs.lemmas.List.Sums.{sum_by-append, count_by-le-length}
 use Rattle.cdg_io.specs.Run.{run_state}
-use Rattle.cdtext_packs.specs.Packs.{check_matches, is_first_block, is_good, pack_number}
+use Rattle.cdtext_packs.specs.Packs.{check_matches, is_first_block, is_good, is_of_other_block, pack_number}
 use Rattle.cdtext_packs.specs.Kept.{with_number, offer_of, kept_by, kept_among}
 use Rattle.cdtext_packs.specs.LeadIn.{pack_at, lead_in_packs}
 use Rattle.cdtext_packs.specs.declared.kinds.Offer.{Offer}
 use Rattle.cdtext_packs.specs.declared.kinds.Offer.TheVariants.{Kept, Again, BadCrc, OtherBlock}
 use Rattle.cdtext_packs.proofs.Offers.{bad_offer, other_offer, again_offer, kept_offer, kept_none, kept_more}
 use Rattle.lead_in_texts.specs.declared.LeadInTexts.{LeadInTexts}
-use Rattle.lead_in_texts.specs.TextSteps.{begun, counted, answered, offered, text_next, is_of_other_block, HasRead}
+use Rattle.lead_in_texts.specs.TextSteps.{begun, counted, answered, offered, text_next, HasRead}
 
 count-push : (p : List ℕ → Bool) (packs : List (List ℕ)) (pack : List ℕ) → count_by p (packs ++ pack ∷ []) ≡ count_by p packs + (0 + cond (p pack) 1 0)
 count-push p packs pack = sum_by-append (λ (x : List ℕ). cond (p x) 1 0) packs (pack ∷ [])

@@ -1,6 +1,6 @@
 -- The steps of the stage that reads the text packs of the lead-in.
-use Rattle.std.specs.Prelude.{◌≡◌, ℕ, ◌+◌, ◌-◌, ◌^◌, min, Bool, not, ◌&&◌, List, count_by, ◌==◌, if◌then◌else◌}
-use Rattle.cdtext_packs.specs.Packs.{check_matches, is_first_block, is_good}
+use Rattle.std.specs.Prelude.{◌≡◌, ℕ, ◌+◌, ◌-◌, ◌^◌, min, not, List, count_by, ◌==◌, if◌then◌else◌}
+use Rattle.cdtext_packs.specs.Packs.{check_matches, is_good, is_of_other_block}
 use Rattle.cdtext_packs.specs.Kept.{nothing_kept, offer_of, kept_by, kept_among}
 use Rattle.cdtext_packs.specs.LeadIn.{pack_at}
 use Rattle.cdtext_packs.specs.declared.kinds.Offer.{Offer}
@@ -22,6 +22,7 @@ answered Again s pack = record s { good = counted s.good }
 answered BadCrc s pack = record s { bad = counted s.bad }
 answered OtherBlock s pack = record s { other = counted s.other }
 
+-- after a pack was offered
 unfoldable pub offered : LeadInTexts → List ℕ → LeadInTexts
 offered s pack = answered (offer_of s.reader pack) s pack
 
@@ -30,10 +31,6 @@ unfoldable pub text_next : LeadInTexts → List ℕ → LeadInTexts
 text_next s block =
     if s.left == 0 then s
     else offered (offered (offered (offered (record s { left = s.left - 1 }) (pack_at block 0)) (pack_at block 1)) (pack_at block 2)) (pack_at block 3)
-
--- a pack whose check matches, but of another block of text
-abbrev pub is_of_other_block : List ℕ → Bool
-is_of_other_block pack = check_matches pack && not (is_first_block pack)
 
 -- the packs were offered one after another to a reader that kept nothing, and counted
 pub record HasRead (packs : List (List ℕ)) (s : LeadInTexts) : Type 0 where

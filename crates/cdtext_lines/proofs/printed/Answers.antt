@@ -12,5 +12,5 @@ returns-else-byte-ge32 c =
       | else-byte-ge32-via-then-byte-ge32+else-byte-le126 w ↦ inr (inl (omega (arith, w.if-byte-le126.false)))
       | else-byte-ge32-via-else-byte-ge32 w ↦ inr (inr (omega (arith, w.if-byte-ge32.false)))
     ]) in
-    let hex : c.add-else-byte-ge32.new.self ≡ 92 ∷ hex_digits 2 c.args.byte = search rules in
+    let hex : c.add-else-byte-ge32-2.new.self ≡ 92 ∷ hex_digits 2 c.args.byte = search rules in
     hex ∙ sym other

@@ -1,11 +1,12 @@
-use Rattle.std.proofs.Common.{◌≡◌, ◌+◌, ◌∙◌, drop, arith, rules}
-use Rattle.std.proofs.lemmas.List.{length-take, take_all}
+use Rattle.std.proofs.Common.{Some, None, ◌≡◌, ◌+◌, ◌∙◌, sym, ap, arith, rules}
+use Rattle.std.proofs.lemmas.List.{take_all}
 use Rattle.std.proofs.Common.{take, subst, List, Option, ℕ}
 use Rattle.cdtext_packs.specs.Writing.{type_of}
 use Rattle.cdtext_packs.specs.Packs.{pack_type}
-use Rattle.cdtext_packs.proofs.KeptPacks.{SeenPacks, seen_none, seen_same, seen_more, packs_skip, packs_pass, short_is, long_is}
+use Rattle.cdtext_packs.specs.Reading.{ends_in}
+use Rattle.cdtext_packs.proofs.KeptPacks.{slot_is, SeenPacks, seen_none, seen_same, seen_more, packs_skip, packs_pass, short_is, long_is}
 use Rattle.cdtext_packs.proofs.reading.short_at.Goals as goal
-use Rattle.cdtext_packs.proofs.reading.short_at.Goals.{in-Some+then-pack-pack_type, in-Some+else-pack-pack_type, in_default}
+use Rattle.cdtext_packs.proofs.reading.short_at.Goals.{in-Some+then-kind-pack_type, in-Some+else-kind-pack_type, in_default}
 
 pub loop-slot-init : goal.loop-slot-init
 loop-slot-init c = seen_none c.args.kind
@@ -13,7 +14,7 @@ loop-slot-init c = seen_none c.args.kind
 pub overflow_add-ends : goal.overflow_add-ends
 overflow_add-ends c =
     let few = c.loop-slot.invariant.few in
-    let size = length-take 12 (drop 4 c.in-Some.pack) in
+    let size = c.text.ensures.size in
     let bound = c.zeros_in-ends.ensures.bound in
     search (rules, few, size, bound)
 
@@ -23,15 +24,15 @@ loop-slot-preserved c =
     let i = c.loop-slot.slot-index in
     let kind = c.args.kind in
     elim c.match-slot.branch [
-      | in-Some+then-pack-pack_type w ↦
-          let size = length-take 12 (drop 4 w.in-Some.pack) in
-          rw (w.ends-is, w.last-is) (seen_more kept i w.in-Some.pack kind c.loop-slot.ends w.zeros_in-ends.result c.loop-slot.last c.loop-slot-test.true w.in-Some.is
-          (w.if-pack-pack_type.true ∙ w.pack_type.ensures) w.zeros_in-ends.ensures.count (omega (arith, w.zeros_in-ends.ensures.bound, size)) c.loop-slot.invariant)
-      | in-Some+else-pack-pack_type w ↦
-          let other : pack_type w.in-Some.pack ≡ type_of kind → ⊥ = λ e. w.if-pack-pack_type.false (rw w.pack_type.ensures e) in
-          rw (w.ends-is, w.last-is) (seen_same (take i kept) (take (i + 1) kept) kind c.loop-slot.ends i c.loop-slot.last (packs_pass kept i w.in-Some.pack kind c.loop-slot-test.true w.in-Some.is other) c.loop-slot.invariant)
+      | in-Some+then-kind-pack_type w ↦
+          let size = w.text.ensures.size in
+          rw (w.ends-is, w.last-is, w.number.ensures) (seen_more kept i w.in-Some.pack kind c.loop-slot.ends w.zeros_in-ends.result c.loop-slot.last c.loop-slot-test.true (slot_is c.args.kept.now c.loop-slot.slot-index c.slot-item.result (Some w.in-Some.pack) c.loop-slot-test.true c.slot-item.is w.in-Some.is)
+          (sym w.kind.ensures ∙ w.if-kind-pack_type.true ∙ w.pack_type.ensures) (w.zeros_in-ends.ensures.count ∙ ap ends_in w.text.ensures.text) (omega (arith, w.zeros_in-ends.ensures.bound, size)) c.loop-slot.invariant)
+      | in-Some+else-kind-pack_type w ↦
+          let other : pack_type w.in-Some.pack ≡ type_of kind → ⊥ = λ e. w.if-kind-pack_type.false (w.kind.ensures ∙ e ∙ sym w.pack_type.ensures) in
+          rw (w.ends-is, w.last-is) (seen_same (take i kept) (take (i + 1) kept) kind c.loop-slot.ends i c.loop-slot.last (packs_pass kept i w.in-Some.pack kind c.loop-slot-test.true (slot_is c.args.kept.now c.loop-slot.slot-index c.slot-item.result (Some w.in-Some.pack) c.loop-slot-test.true c.slot-item.is w.in-Some.is) other) c.loop-slot.invariant)
       | in_default w ↦
-          rw (w.ends-is, w.last-is) (seen_same (take i kept) (take (i + 1) kept) kind c.loop-slot.ends i c.loop-slot.last (packs_skip kept i kind c.loop-slot-test.true w.in_default.is) c.loop-slot.invariant)
+          rw (w.ends-is, w.last-is) (seen_same (take i kept) (take (i + 1) kept) kind c.loop-slot.ends i c.loop-slot.last (packs_skip kept i kind c.loop-slot-test.true (slot_is c.args.kept.now c.loop-slot.slot-index c.slot-item.result None c.loop-slot-test.true c.slot-item.is w.in_default.is)) c.loop-slot.invariant)
     ]
 
 pub returns-then-ends-count : goal.returns-then-ends-count

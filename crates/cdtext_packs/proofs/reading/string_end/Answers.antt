@@ -1,13 +1,12 @@
-use Rattle.std.proofs.Common.{sym, arith}
-use Rattle.std.proofs.lemmas.Bool.{eq-eqb}
-use Rattle.std.proofs.lemmas.List.Sums.{position_or_len_is}
+use Rattle.std.proofs.Common.{rules, tests}
+use Rattle.std.proofs.lemmas.Iterator.{YieldsList-from_slice}
+use Rattle.std.proofs.lemmas.Iterator.Search.{position_from_yields_List}
 use Rattle.cdtext_packs.specs.Reading.{is_zero}
+use Rattle.cdtext_packs.proofs.Cuts.{place_from}
 use Rattle.cdtext_packs.proofs.reading.string_end.Goals as goal
-
-pub returns-then-byte-eq0-clause-end : goal.returns-then-byte-eq0-clause-end
-returns-then-byte-eq0-clause-end c =
-    sym (position_or_len_is is_zero c.args.bytes.now c.loop-place.place 0 (omega arith) c.loop-place.invariant (λ _. eq-eqb _ 0 c.if-byte-eq0.true))
 
 pub returns-clause-end : goal.returns-clause-end
 returns-clause-end c =
-    sym (position_or_len_is is_zero c.args.bytes.now _ 0 (omega arith) (λ k less. c.loop-place.invariant k (omega arith)) (λ h. absurd (omega arith)))
+    place_from is_zero c.args.bytes.now c.position.result _
+    (position_from_yields_List is_zero _ _ c.position.result c.position.ensures.ran (YieldsList-from_slice _ c.iter.ensures.rest) (λ x b q k. search (rules, tests)))
+    c.unwrap_or.ensures

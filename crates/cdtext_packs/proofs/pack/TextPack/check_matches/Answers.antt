@@ -1,6 +1,6 @@
 use Rattle.std.proofs.Common.{rules}
 use Rattle.cdtext_packs.specs.Packs.{check_matches}
-use Rattle.cdtext_packs.proofs.reader.has_check.Goals as goal
+use Rattle.cdtext_packs.proofs.pack.TextPack.check_matches.Goals as goal
 
 pub returns : goal.returns
 unfolding check_matches
