@@ -12,11 +12,11 @@ pub returns-in_err-put_all-clause-part : goal.returns-in_err-put_all-clause-part
 returns-in_err-put_all-clause-part g c = on_err c.from_residual.result _ (script_first c.args.seed c.args.pictures _ _ c.in_err-put_all.ensures.part)
 
 pub loop-k-init : goal.loop-k-init
-unfolding generator state_after
+unfolding state_after
 loop-k-init g c = record {
   put = script_begun c.args.seed _ _ c.in_ok-put_all.ensures.ok;
   later = c.in_ok-put_all.ensures.cause.later;
-  words = c.new-words.ensures;
+  words = c.generator-words.ensures;
 }
 
 pub loop-k-preserved : goal.loop-k-preserved
