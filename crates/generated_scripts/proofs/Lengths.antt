@@ -1,6 +1,7 @@
 -- How long a generated script is.
 use Rattle.std.proofs.Common.{◌≡◌, ℕ, zero, suc, ◌+◌, ◌*◌, ◌<◌, ◌≤◌, List, [], ◌∷◌, ◌++◌, length, flat_map, refl, ap, ◌∙◌, decimal, codes, length-append, arith}
 use Rattle.std.proofs.lemmas.Grind.{flat_map-append}
+use Rattle.std.specs.Char.{digit_char}
 use Rattle.std.specs.List.{range_with_len}
 use Rattle.bit_lists.specs.Counting.{below}
 use Rattle.cdg_workload.specs.Generator.{word_of}
@@ -37,7 +38,7 @@ show_short k = ap length (show_line_is k) ∙ line_size (show_text k) ∙ ap (λ
 
 grey_size : (k : ℕ) → length (grey_line k) ≡ 13 + length (decimal k)
 unfolding grey_text
-grey_size k = omega (arith, ap length (grey_line_is k), line_size (grey_text k), length-append (decimal k) (32 ∷ (48 ∷ 48 ∷ 48 ∷ 48 ∷ [])))
+grey_size k = omega (arith, ap length (grey_line_is k), line_size (grey_text k), length-append (decimal k) (32 ∷ (48 ∷ digit_char k ∷ digit_char k ∷ digit_char k ∷ [])))
 
 first_greys : (m a : ℕ) → a + m ≤ 10 → length (flat_map grey_line (range_with_len a m)) ≤ 14 * m
 first_greys zero a within = omega arith
