@@ -1,5 +1,5 @@
 -- How long a generated script is.
-use Rattle.std.proofs.Common.{◌≡◌, ℕ, zero, suc, ◌+◌, ◌*◌, ◌<◌, ◌≤◌, List, [], ◌∷◌, ◌++◌, length, flat_map, refl, ap, ◌∙◌, decimal, codes, length-append, arith}
+use Rattle.std.proofs.Common.{◌≡◌, ℕ, zero, suc, ◌+◌, ◌*◌, ◌≤◌, List, [], ◌∷◌, ◌++◌, length, flat_map, refl, ap, ◌∙◌, decimal, length-append, arith}
 use Rattle.std.proofs.lemmas.Grind.{flat_map-append}
 use Rattle.std.specs.Char.{digit_char}
 use Rattle.std.specs.List.{range_with_len}

@@ -2,7 +2,6 @@ use Rattle.std.proofs.Common.{◌≡◌, ◌∙◌, subst, arith}
 use Rattle.std.specs.Io.KnownBytes.{Appends}
 use Rattle.cdg_io.specs.Moves.{AppendsPrefix}
 use Rattle.rand_pcg.specs.Lcg.{state_after}
-use Rattle.cdg_workload.specs.Generator.{generator}
 use Rattle.cdg_workload.specs.Script.{picture_lines, generated_script}
 use Rattle.cdg_workload.proofs.GeneratorLemmas.{picture_is, words_after}
 use Rattle.cdg_workload.proofs.ScriptTexts.{on_err, script_first, script_begun, script_next, script_more}
