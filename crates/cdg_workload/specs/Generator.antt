@@ -11,9 +11,10 @@ generator seed = started 64 multiplier_64 seed (increment_of 64 54)
 unfoldable pub word_of : ℕ → ℕ → ℕ
 word_of seed n = (pcg32 (advance 64 multiplier_64 n (generator seed))).0
 
--- the low and the high sixteen bits of a word
+-- the low sixteen bits of a word
 abbrev pub low_half : ℕ → ℕ
 low_half word = word % 65536
 
+-- the high sixteen bits of a word
 abbrev pub high_half : ℕ → ℕ
 high_half word = word / 65536

@@ -12,13 +12,15 @@ pub record Burst : Type 0 where
   pub size : ℕ
   pub change : ℕ
 
--- the symbols before the burst that a word makes, counted from the end of the one before, its size and its change
+-- how many symbols come between the burst before and the one that a word makes
 abbrev pub gap_of : ℕ → ℕ
 gap_of word = 192 + word % 64
 
+-- how many symbols the burst has that a word makes
 abbrev pub size_of : ℕ → ℕ
 size_of word = 1 + word / 256 % 16
 
+-- what the symbols of the burst that a word makes are combined with
 abbrev pub change_of : ℕ → ℕ
 change_of word = 1 + high_half word % 63
 
@@ -30,6 +32,7 @@ bursts (suc n) place words =
     let first = place + gap_of word in
     record { first = first; size = size_of word; change = change_of word } ∷ bursts n (first + size_of word) (pcg32 words).1
 
+-- whether a burst has the symbol at a place
 abbrev pub holds_place : ℕ → Burst → Bool
 holds_place place burst = nat_le burst.first place && nat_lt place (burst.first + burst.size)
 

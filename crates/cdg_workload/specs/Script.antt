@@ -6,14 +6,34 @@ use Rattle.bit_lists.specs.Digits.{line_feed}
 use Rattle.disc_time.specs.Time.{time_text}
 use Rattle.cdg_workload.specs.Generator.{word_of, low_half, high_half}
 
--- the line of a rectangle that two words make
+-- a rectangle of the window: its place, its size and the number of its colour
+pub record Rectangle : Type 0 where
+  pub x : ℕ
+  pub y : ℕ
+  pub width : ℕ
+  pub height : ℕ
+  pub colour : ℕ
+
+-- the rectangle that two words make
+abbrev pub rectangle_of : ℕ → ℕ → Rectangle
+rectangle_of a b =
+    let x = low_half a % 288 in
+    let y = high_half a % 192 in record { x = x; y = y; width = 1 + low_half b % (288 - x); height = 1 + high_half b % (192 - y); colour = b / 256 % 16 }
+
+-- its line
 unfoldable pub rect_line : ℕ → ℕ → List ℕ
 rect_line a b =
-    let x = low_half a % 288 in
-    let y = high_half a % 192 in
-    codes "rect " ++ decimal x ++ codes " " ++ decimal y
-    ++ codes " " ++ decimal (1 + low_half b % (288 - x)) ++ codes " " ++ decimal (1 + high_half b % (192 - y))
-    ++ codes " " ++ decimal (b / 256 % 16) ++ line_feed
+    let rect = rectangle_of a b in
+    codes "rect " ++ decimal rect.x ++ codes " " ++ decimal rect.y ++ codes " " ++ decimal rect.width ++ codes " " ++ decimal rect.height
+    ++ codes " " ++ decimal rect.colour ++ line_feed
+
+-- the block at which picture k is ready
+abbrev pub ready_block : ℕ → ℕ
+ready_block k = 800 * (k + 1)
+
+-- the block until which it is held
+abbrev pub hold_block : ℕ → ℕ
+hold_block k = ready_block k + 20
 
 -- colour k is the grey of that level
 unfoldable pub grey_line : ℕ → List ℕ
@@ -21,7 +41,7 @@ grey_line k = codes "colour " ++ decimal k ++ codes " 0" ++ digit_char k ∷ dig
 
 -- the line with the times at which picture k is ready and until which it is held
 unfoldable pub show_line : ℕ → List ℕ
-show_line k = codes "show " ++ time_text (800 * (k + 1)) ++ codes " " ++ time_text (800 * (k + 1) + 20) ++ line_feed
+show_line k = codes "show " ++ time_text (ready_block k) ++ codes " " ++ time_text (hold_block k) ++ line_feed
 
 -- the lines of picture k: three rectangles, and its times
 unfoldable pub picture_lines : ℕ → ℕ → List ℕ

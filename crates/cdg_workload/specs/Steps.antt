@@ -24,17 +24,19 @@ change_now needle = if needle.gap == 0 then needle.change else 0
 unfoldable pub moved : Needle → Needle
 moved needle = if needle.gap == 0 then record needle { left = needle.left - 1 } else record needle { gap = needle.gap - 1 }
 
--- a byte of the program
+-- the needle after a byte of the program
 unfoldable pub byte_next : Needle → ℕ → Needle
 byte_next needle byte = moved (ready needle)
 
+-- what is given for a byte of the program
 unfoldable pub byte_gives : Needle → ℕ → Option ℕ
 byte_gives needle byte = Some (bit_xor byte (change_now (ready needle)))
 
--- a block of the lead-in stays, and one of the program is taken byte by byte
+-- the stage after a block: one less of the lead-in to come, or the needle after each byte of the program's
 unfoldable pub block_next : Scratches → List ℕ → Scratches
 block_next s block = if s.lead_in == 0 then record s { needle = run_state byte_next s.needle block } else record s { lead_in = s.lead_in - 1 }
 
+-- what is given for a block: one of the lead-in stays, and one of the program is taken byte by byte
 unfoldable pub block_gives : Scratches → List ℕ → Option (List ℕ)
 block_gives s block = if s.lead_in == 0 then Some (run_gives byte_next byte_gives s.needle block) else Some block
 

@@ -4,9 +4,10 @@
 mod needle;
 mod scratching;
 mod script;
+mod words;
 
 pub use scratching::{scratch, scratches_are_bursts, scratches_are_damage};
-pub use script::write_script;
+pub use script::{BLOCKS_A_PICTURE, BLOCKS_HELD, write_script};
 
 #[cfg(test)]
 mod tests;

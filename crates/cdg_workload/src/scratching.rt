@@ -10,8 +10,8 @@ ghost use Rattle.cdg_workload.specs.Scratches.{IsScratched, scratched};
 ghost use Rattle.cdg_workload.specs.Steps.{begun, block_next, block_gives};
 
 use crate::needle::Needle;
+use crate::words::generator;
 use cdg_io::{Piece, PumpStop, Pumped, Sink, Source, Stage, pump};
-use rand_pcg::Pcg32;
 use raw_subcode::Form;
 use stream_words::bursts_are_damage;
 
@@ -27,7 +27,6 @@ pub struct Scratches {
 }
 
 impl Scratches {
-    #[tactic(auto, unfolding(crate::specs::Generator::generator))]
     fn start(lead_in: u32, seed: u64) -> Scratches
         ensures { result ≡ begun lead_in seed }
     {
@@ -37,7 +36,7 @@ impl Scratches {
                 gap: 0,
                 left: 0,
                 change: 0,
-                words: Pcg32::new(seed, 54),
+                words: generator(seed),
             },
         }
     }
@@ -66,7 +65,13 @@ impl Stage for Scratches {
 }
 
 /// Writes a raw stream with the scratches of a seed, as its blocks are read: bursts of up to sixteen neighbouring symbols, at
-/// least 192 symbols apart, after so many blocks of lead-in.
+/// least 192 symbols apart, after so many blocks of lead-in. The lead-in and the P and Q bits stay. Blocks have 96 bytes, and at
+/// most 1,000,000 are read. The answer counts them, those of the lead-in included.
+///
+/// # Errors
+///
+/// `Torn` where a rest of a block follows the last whole one: it is not written. `TooLong` where a byte follows the last block
+/// that may be read. `ReadFault` after the blocks before it. After `WriteFault` a prefix of the stream was written.
 pub fn scratch<S: Source, K: Sink>(
     lead_in: u32,
     seed: u64,

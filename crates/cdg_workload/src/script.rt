@@ -6,11 +6,18 @@ ghost use Rattle.cdg_io.specs.Moves.{AppendsPrefix};
 ghost use Rattle.cdg_workload.specs.Script.{show_line, generated_script};
 ghost use Rattle.cdg_workload.specs.Pictures.{after_two, rect_from, picture_from};
 
+use crate::words::generator;
 use cdg_io::{Failed, Piece, Sink, put_all};
 use disc_time::Msf;
 use itoa::{Buffer, Integer};
 use rand_core::utils::NextWord;
 use rand_pcg::Pcg32;
+
+/// How many blocks a picture is ready after the one before it, the first one after the beginning.
+pub const BLOCKS_A_PICTURE: u32 = 800;
+
+/// How many blocks a picture is held.
+pub const BLOCKS_HELD: u32 = 20;
 
 /// Sixteen greys, a line for each colour.
 static GREYS: [u8; 230] = *b"\
@@ -31,8 +38,12 @@ static GREYS: [u8; 230] = *b"\
     colour 14 0eee\n\
     colour 15 0fff\n";
 
-/// Writes a script of so many pictures, each of three more rectangles, that a seed determines. After `Failed` a prefix of the
-/// script was appended.
+/// Writes a script of 1 to 500 pictures that a seed determines: a line for each of sixteen greys, and for each picture those of
+/// three more rectangles and of its times. Picture k, from 0, is ready at block 800 (k + 1) and held for twenty blocks.
+///
+/// # Errors
+///
+/// After `Failed` a prefix of the script was written.
 pub fn write_script<K: Sink>(seed: u64, pictures: u32, out: &mut K) -> Result<(), Failed>
     requires { (1 ≤ pictures) × (pictures ≤ 500) }
     ensures ok { OnOk result (Appends (K.held out.old) (K.held out.new) (generated_script seed pictures)) }
@@ -40,7 +51,7 @@ pub fn write_script<K: Sink>(seed: u64, pictures: u32, out: &mut K) -> Result<()
     ensures cause { HasCause (K.faults out.old) (K.faults out.new) result }
 {
     put_all(out, &GREYS)?;
-    let mut words = Pcg32::new(seed, 54);
+    let mut words = generator(seed);
     for k in 0..pictures {
         put_all(out, picture(&mut words, k).bytes())?;
     }
@@ -116,10 +127,10 @@ fn add_show(lines: &mut Piece, k: u32)
     requires room { length lines.old ≤ 105 }
     ensures { lines.new ≡ lines.old ++ show_line k }
 {
-    let ready = 800 * (k + 1);
+    let ready = BLOCKS_A_PICTURE * (k + 1);
     lines.add(b"show ");
     lines.add(&Msf::of_block(ready).text());
     lines.add(b" ");
-    lines.add(&Msf::of_block(ready + 20).text());
+    lines.add(&Msf::of_block(ready + BLOCKS_HELD).text());
     lines.add(b"\n");
 }

@@ -24,6 +24,12 @@ const SCRIPT: &[u8] = b"\
     rect 267 100 12 42 0\n\
     show 00:10:50 00:10:70\n";
 
+const SECOND: &[u8] = b"\
+    rect 141 134 122 12 15\n\
+    rect 282 159 1 12 11\n\
+    rect 286 155 2 32 5\n\
+    show 00:21:25 00:21:45\n";
+
 #[test]
 fn writes_the_script_of_a_seed(rt: HostRuntime) -> Result<(), Fail> {
     let alloc = rt.alloc();
@@ -35,7 +41,7 @@ fn writes_the_script_of_a_seed(rt: HostRuntime) -> Result<(), Fail> {
     let mut sink = MemSink::new(alloc, 1000, Vec::new(alloc), Vec::new(alloc))?;
     assert_eq!(rt; write_script(42, 2, &mut sink), Ok(()));
     assert!(rt; sink.bytes().starts_with(SCRIPT));
-    assert!(rt; sink.bytes().ends_with(b"show 00:21:25 00:21:45\n"));
+    assert_eq!(rt; &sink.bytes()[SCRIPT.len()..], SECOND);
     Ok(())
 }
 

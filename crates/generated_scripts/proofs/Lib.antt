@@ -4,3 +4,4 @@ pub mod LineTexts
 pub mod Accepting
 pub mod Reading
 pub mod Times
+pub mod Lengths

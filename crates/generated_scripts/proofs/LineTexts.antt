@@ -133,7 +133,7 @@ rect_accepted_at before x y w h k small = record {
   read = ap (checked_words before) (rect_words x y w h k small) ∙ rect_read before x y w h k small;
 }
 
-small_rect : (a b : ℕ) → AreSmall (low_half a % 288) (high_half a % 192) (1 + low_half b % (288 - low_half a % 288)) (1 + high_half b % (192 - high_half a % 192)) (b / 256 % 16)
+pub small_rect : (a b : ℕ) → AreSmall (low_half a % 288) (high_half a % 192) (1 + low_half b % (288 - low_half a % 288)) (1 + high_half b % (192 - high_half a % 192)) (b / 256 % 16)
 small_rect a b =
     let x = low_half a % 288 in
     let y = high_half a % 192 in

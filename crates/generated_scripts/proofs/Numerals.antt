@@ -37,6 +37,15 @@ decimal_graphic n lt = graphic_digits (decimal n) (digits_are n (small n lt))
 pub decimal_some : (n : ℕ) → n < 1000 → 0 < length (decimal n)
 decimal_some n lt = decimal_nonempty n (small n lt)
 
+pub decimal_short : (n : ℕ) → n < 1000 → length (decimal n) ≤ 3
+decimal_short n lt = length-decimal-le 3 n (lit< tt) lt (small n lt)
+
+pub decimal_of_two : (n : ℕ) → n < 100 → length (decimal n) ≤ 2
+decimal_of_two n lt = length-decimal-le 2 n (lit< tt) lt (small n (omega (arith, lt)))
+
+pub decimal_of_one : (n : ℕ) → n < 10 → length (decimal n) ≤ 1
+decimal_of_one n lt = length-decimal-le 1 n (lit< tt) lt (small n (omega (arith, lt)))
+
 pub number_of_decimal : (n : ℕ) → n < 1000 → number_in 1 3 (decimal n) ≡ Some n
 unfolding number_in
 number_of_decimal n lt =

@@ -17,7 +17,8 @@ use generated_schedules::scratched_streams_are_recovered;
 use raw_subcode::Form;
 
 /// A law: an authored stream with scratches differs from one that carries its packs, a schedule of the script, in at most two
-/// symbols of each word. From such a stream `Player::convert` gives back every pack, and `Player::screen_at` each picture.
+/// symbols of each word. From such a stream `Player::convert` gives back every pack, and `Player::screen_at` each picture. What it
+/// gives of a raw stream is the packs alone: no zeros follow those of the program.
 pub fn scratched_streams_are_damaged()
     ensures damaged { (sheet : CueSheet) (script : List Drawing) (lead_in audio seed : ℕ) (bytes : List ℕ) (packs : List (List ℕ))
         → lead_in ≤ 450000 → program_blocks sheet audio ≤ 449999 → IsAuthored sheet script lead_in audio bytes packs

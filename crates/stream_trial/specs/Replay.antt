@@ -44,6 +44,13 @@ pub record TakesWord (word codeword : List ℕ) (old new : Replay) : Type 0 wher
   pub meant : Means codeword instr
   pub screen : SameStanding (standing_of new.screen) (standing_after (standing_of old.screen) (instr ∷ []))
 
+-- a word with no codeword near was counted, and the screen stays
+pub record TakesBad (old new : Replay) : Type 0 where
+  pub one : new.one ≡ old.one
+  pub two : new.two ≡ old.two
+  pub bad : new.bad ≡ old.bad + 1
+  pub screen : new.screen ≡ old.screen
+
 -- no word came
 pub record TakesNothing (old new : Replay) : Type 0 where
   pub one : new.one ≡ old.one

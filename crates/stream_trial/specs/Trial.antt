@@ -16,10 +16,11 @@ use Rattle.subcode_author.specs.Authored.{IsAuthored}
 use Rattle.stream_trial.specs.Counts.{differing}
 use Rattle.stream_trial.specs.Lines.{input_lines, output_lines}
 
--- the blocks of audio of a trial, and those of its program: the picture that is ready last is held to the end of the audio
+-- the blocks of audio of a trial of so many pictures: the one that is ready last is held for twenty more
 abbrev pub trial_audio : ℕ → ℕ
 trial_audio count = 800 * count + 20
 
+-- the blocks of its program: a pause of 150 comes before the audio
 abbrev pub trial_blocks : ℕ → ℕ
 trial_blocks count = 800 * count + 170
 

@@ -45,7 +45,12 @@ impl Gallery {
             → (self.new.next ≡ self.old.next + 1)
             × ((now : Standing) → SameStanding (standing_of screen.now) now → ShowsPicture script.now self.old.next now
             → self.new.equal ≡ self.old.equal + 1) }
+        ensures differs { self.old.next < pictures script.now → slots ≡ 4 * ready_time script.now self.old.next
+            → (now : Standing) → SameStanding (standing_of screen.now) now → ¬ ShowsPicture script.now self.old.next now
+            → self.new.equal ≡ self.old.equal }
     {
+        // What holds of every screen: its offsets are less than a tile.
+        let _offsets = (screen.offset_h(), screen.offset_v());
         let pictures = script.pictures();
         if self.next < pictures && slots == 4 * script.ready(self.next) {
             self.canvas.draw_until(script, self.next);

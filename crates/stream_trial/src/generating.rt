@@ -9,17 +9,15 @@ use cdg_io::{Failed, MemSink};
 use cdg_workload::write_script;
 use cue_sheet::{CueStop, Sheet};
 use generated_schedules::trial_sheet_is_read;
-use generated_scripts::generated_scripts_are_read;
+use generated_scripts::{generated_scripts_are_read, generated_scripts_are_short};
 use picture_script::{Script, ScriptStop};
 use std::alloc::Global;
 
-/// The most bytes of a text that is parsed.
-const MOST: usize = 67_108_864;
+/// The most bytes of the lines of colours in a generated script.
+const COLOURS_BYTES: usize = 230;
 
-/// The bytes that the colours of a generated script have at most, and those of each picture.
-const COLOURS: usize = 230;
-
-const PICTURE: usize = 128;
+/// The most bytes of the lines of each picture.
+const PICTURE_BYTES: usize = 95;
 
 /// A sheet with one track.
 const SHEET: &[u8] = b"\
@@ -28,15 +26,16 @@ const SHEET: &[u8] = b"\
     INDEX 01 00:00:00\n";
 
 /// The generated script of a seed.
-pub(crate) fn script(alloc: Global, seed: u64, pictures: u32) -> Result<Script, TrialStop>
+pub(crate) fn parse_script(alloc: Global, seed: u64, pictures: u32) -> Result<Script, TrialStop>
     requires { (1 ≤ pictures) × (pictures ≤ 500) }
     ensures script { IfOk result (λ script. script ≡ generated_drawings seed pictures) }
     ensures err { IfErr result (λ stop. stop ≡ NoMemory) }
 {
     generated_scripts_are_read();
-    let room = COLOURS + PICTURE * pictures as usize;
+    generated_scripts_are_short();
+    let room = COLOURS_BYTES + PICTURE_BYTES * pictures as usize;
     let mut text = MemSink::new(alloc, room, Vec::new(alloc), Vec::new(alloc))?;
-    if write_script(seed, pictures, &mut text) == Err(Failed) || text.bytes().len() > MOST {
+    if write_script(seed, pictures, &mut text) == Err(Failed) {
         return Err(TrialStop::NoMemory);
     }
     match Script::parse(alloc, text.bytes()) {
@@ -47,7 +46,7 @@ pub(crate) fn script(alloc: Global, seed: u64, pictures: u32) -> Result<Script, 
 }
 
 /// The sheet with one track.
-pub(crate) fn sheet(alloc: Global) -> Result<Sheet, TrialStop>
+pub(crate) fn parse_sheet(alloc: Global) -> Result<Sheet, TrialStop>
     ensures sheet { IfOk result (λ sheet. sheet ≡ trial_sheet) }
     ensures err { IfErr result (λ stop. stop ≡ NoMemory) }
 {

@@ -11,7 +11,7 @@ use picture_script::Script;
 use std::alloc::Global;
 
 /// How many instructions the changes of a generated script have, which fits in so many blocks.
-pub(crate) fn needs(alloc: Global, script: &Script, blocks: u32) -> Result<u64, TrialStop>
+pub(crate) fn count_changes(alloc: Global, script: &Script, blocks: u32) -> Result<u64, TrialStop>
     requires few { blocks < 450000 }
     requires script { (seed count : ℕ) × (script.now ≡ generated_drawings seed count) × (800 * count + 20 ≤ blocks) }
     ensures sum { IfOk result (λ sum. sum ≡ all_changes script.now) }

@@ -12,7 +12,7 @@ use shown_pictures::scheduled_pictures_are_shown;
 use std::alloc::{AllocError, Global};
 
 /// The bytes of a slot.
-const SLOT: usize = 24;
+const SLOT_BYTES: usize = 24;
 
 /// What was counted of a stream.
 #[derive(Clone, Copy)]
@@ -37,10 +37,11 @@ pub(crate) fn play(alloc: Global, script: &Script, bytes: &[u8]) -> Result<Count
     gather_gives_words();
     instructions_in_turn();
     scheduled_pictures_are_shown();
+    // What holds of every script: its pictures are in order.
     let _times = script.pictures();
     let mut replay = Replay::start(alloc)?;
     let mut gallery = Gallery::start(alloc)?;
-    let slots = (bytes.len() / SLOT) as u32;
+    let slots = (bytes.len() / SLOT_BYTES) as u32;
     for n in 0..slots {
         replay.take_slot(&slot(bytes, n as usize));
         gallery.look(script, &replay.screen, n + 1);
@@ -59,7 +60,7 @@ fn slot(bytes: &[u8], n: usize) -> Slot
     requires { 24 * n + 24 ≤ length bytes.now }
     ensures { result ≡ slot_of bytes.now n }
 {
-    let mut slot = [0; SLOT];
-    slot.copy_from_slice(&bytes[SLOT * n..SLOT * n + SLOT]);
+    let mut slot = [0; SLOT_BYTES];
+    slot.copy_from_slice(&bytes[SLOT_BYTES * n..SLOT_BYTES * (n + 1)]);
     Slot::new(&slot)
 }

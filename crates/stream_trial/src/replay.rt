@@ -3,7 +3,7 @@ ghost use Rattle.std.specs.Prelude.{◌≡◌, ◌<◌, ◌≤◌, ◌+◌, [], 
 ghost use Rattle.rw_code.specs.Codeword.{Reads};
 ghost use Rattle.rw_interleave.specs.Gathering.{gather_next, gather_gives};
 ghost use Rattle.cdg_screen.specs.Picture.{blank, standing_of, SameStanding};
-ghost use Rattle.stream_trial.specs.Replay.{IsBelow, TakesWord, TakesNothing, one_where};
+ghost use Rattle.stream_trial.specs.Replay.{IsBelow, TakesWord, TakesBad, TakesNothing, one_where};
 
 use cdg_instructions::read;
 use cdg_screen::Screen;
@@ -47,6 +47,8 @@ impl Replay {
         ensures none { gather_gives self.old.gather slot.now ≡ None → TakesNothing self.old self.new }
         ensures word { (word codeword : List ℕ) → gather_gives self.old.gather slot.now ≡ Some word → Reads word codeword
             → TakesWord word codeword self.old self.new }
+        ensures far { (word : List ℕ) → gather_gives self.old.gather slot.now ≡ Some word → ((codeword : List ℕ) → ¬ Reads word codeword)
+            → TakesBad self.old self.new }
         ensures more { (most : ℕ) → IsBelow most self.old → IsBelow (most + 1) self.new }
     {
         if let Some(word) = self.gather.push(slot) {
@@ -59,6 +61,7 @@ impl Replay {
         requires { IsBelow 4000000000 self.old }
         ensures gather { self.new.gather ≡ self.old.gather }
         ensures near { (codeword : List ℕ) → Reads word.now codeword → TakesWord word.now codeword self.old self.new }
+        ensures far { ((codeword : List ℕ) → ¬ Reads word.now codeword) → TakesBad self.old self.new }
         ensures more { (most : ℕ) → IsBelow most self.old → IsBelow (most + 1) self.new }
     {
         only_one_codeword_is_near();

@@ -2,26 +2,23 @@
 ghost use Rattle.std.specs.Prelude.{◌≡◌, ◌≤◌};
 ghost use Rattle.stream_trial.specs.Trial.{trial_audio, trial_blocks};
 
-/// The blocks of audio for each picture, and those after the last one is ready.
-const PICTURE: u32 = 800;
-
-const REST: u32 = 20;
+use cdg_workload::{BLOCKS_A_PICTURE, BLOCKS_HELD};
 
 /// The blocks before the audio.
-const PAUSE: u32 = 150;
+const PAUSE_BLOCKS: u32 = 150;
 
-/// The blocks of audio.
-pub(crate) fn audio(pictures: u32) -> u32
+/// How many blocks the audio has.
+pub(crate) fn count_audio(pictures: u32) -> u32
     requires { pictures ≤ 500 }
     ensures { result ≡ trial_audio pictures }
 {
-    PICTURE * pictures + REST
+    BLOCKS_A_PICTURE * pictures + BLOCKS_HELD
 }
 
-/// All blocks.
-pub(crate) fn blocks(pictures: u32) -> u32
+/// How many blocks the program has.
+pub(crate) fn count_blocks(pictures: u32) -> u32
     requires { pictures ≤ 500 }
     ensures { result ≡ trial_blocks pictures }
 {
-    audio(pictures) + PAUSE
+    count_audio(pictures) + PAUSE_BLOCKS
 }

@@ -7,7 +7,7 @@ ghost use Rattle.subcode_author.specs.Authored.{IsAuthored};
 ghost use Rattle.stream_trial.specs.Trial.{trial_audio};
 ghost use Rattle.stream_trial.specs.declared.stops.TrialStop.TheVariants.{NoMemory};
 
-use crate::sizes::{audio, blocks};
+use crate::sizes::{count_audio, count_blocks};
 use crate::stops::TrialStop;
 use cdg_io::{MemSink, PumpStop, SteadySource};
 use cdg_workload::scratch;
@@ -18,10 +18,10 @@ use std::alloc::Global;
 use subcode_author::{AuthorStop, author_stream};
 
 /// The bytes of a block.
-const BLOCK: usize = 96;
+const BLOCK_BYTES: usize = 96;
 
 /// The stream of the sheet with one track and of a generated script of so many pictures, with no lead-in.
-pub(crate) fn authored(
+pub(crate) fn make_stream(
     alloc: Global,
     sheet: &Sheet,
     script: &Script,
@@ -35,9 +35,9 @@ pub(crate) fn authored(
     ensures err { IfErr result (λ stop. stop ≡ NoMemory) }
 {
     trial_sheet_is_read();
-    let room = BLOCK * blocks(pictures) as usize;
+    let room = BLOCK_BYTES * count_blocks(pictures) as usize;
     let mut stream = MemSink::new(alloc, room, Vec::new(alloc), Vec::new(alloc))?;
-    match author_stream(alloc, sheet, script, 0, audio(pictures), &mut stream) {
+    match author_stream(alloc, sheet, script, 0, count_audio(pictures), &mut stream) {
         Ok(()) => Ok(stream),
         Err(AuthorStop::NoMemory | AuthorStop::WriteFault) => Err(TrialStop::NoMemory),
         Err(_) => unreachable!(),
@@ -45,7 +45,7 @@ pub(crate) fn authored(
 }
 
 /// A stream of whole blocks with the scratches of a seed.
-pub(crate) fn scratched(alloc: Global, seed: u64, bytes: &[u8]) -> Result<MemSink, TrialStop>
+pub(crate) fn scratch_stream(alloc: Global, seed: u64, bytes: &[u8]) -> Result<MemSink, TrialStop>
     requires whole { length bytes.now % 96 ≡ 0 }
     requires few { length bytes.now ≤ 96000000 }
     ensures stream { IfOk result (λ stream. stream.held ≡ scratched 0 seed bytes.now) }

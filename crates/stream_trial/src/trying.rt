@@ -7,13 +7,13 @@ ghost use Rattle.stream_trial.specs.Trial.{IsTrial};
 ghost use Rattle.stream_trial.specs.Told.{told};
 ghost use Rattle.stream_trial.specs.declared.stops.TrialStop.TheVariants.{NoMemory};
 
-use crate::generating::{script, sheet};
+use crate::generating::{parse_script, parse_sheet};
 use crate::lines::Report;
-use crate::needs::needs;
+use crate::needs::count_changes;
 use crate::playing::play;
-use crate::sizes::blocks;
+use crate::sizes::count_blocks;
 use crate::stops::TrialStop;
-use crate::streams::{authored, scratched};
+use crate::streams::{make_stream, scratch_stream};
 use cdg_io::{Sink, put_all};
 use cdg_workload::{scratches_are_bursts, scratches_are_damage};
 use generated_schedules::trial_sheet_is_read;
@@ -23,8 +23,8 @@ use std::alloc::Global;
 /// Writes the stream of the generated script of a seed, scratches it with the same seed, corrects and plays it, and compares
 /// the screen with each picture when it is ready. Then writes nine lines: `seed`, `pictures`, `blocks`, `packs`, `changes`
 /// (the instructions of all changes), `one` and `two` (the words corrected in one symbol and in two), `bad` (the words with no
-/// codeword near) and `equal` (the pictures that stood on the screen), each with its number. The stream has 96 bytes for each
-/// of its 800 blocks a picture and 170 more, and is held twice.
+/// codeword near) and `equal` (the pictures that stood on the screen), each with its number. There are 1 to 500 pictures. The
+/// stream has 96 bytes for each of its 800 blocks a picture and 170 more, and is held twice.
 ///
 /// # Errors
 ///
@@ -43,13 +43,13 @@ pub fn trial<K: Sink>(alloc: Global, seed: u64, pictures: u32, out: &mut K) -> R
     ensures untouched { result ≡ Err TrialStop.NoMemory → out.new ≡ out.old }
     ensures later { K.faults out.old ≤ K.faults out.new }
 {
-    let report = report(alloc, seed, pictures)?;
+    let report = make_report(alloc, seed, pictures)?;
     put_all(out, report.lines().as_str().as_bytes())?;
     Ok(())
 }
 
 /// What the lines of a trial say.
-fn report(alloc: Global, seed: u64, pictures: u32) -> Result<Report, TrialStop>
+fn make_report(alloc: Global, seed: u64, pictures: u32) -> Result<Report, TrialStop>
     requires { (1 ≤ pictures) × (pictures ≤ 500) }
     ensures report { IfOk result (λ report. IsTrial seed pictures (told report)) }
     ensures err { IfErr result (λ stop. stop ≡ NoMemory) }
@@ -59,12 +59,12 @@ fn report(alloc: Global, seed: u64, pictures: u32) -> Result<Report, TrialStop>
     scratches_are_bursts();
     scratches_are_damage();
     trial_sheet_is_read();
-    let script = script(alloc, seed, pictures)?;
-    let sheet = sheet(alloc)?;
-    let stream = authored(alloc, &sheet, &script, pictures)?;
-    let blocks = blocks(pictures);
-    let changes = needs(alloc, &script, blocks)?;
-    let scratched = scratched(alloc, seed, stream.bytes())?;
+    let script = parse_script(alloc, seed, pictures)?;
+    let sheet = parse_sheet(alloc)?;
+    let stream = make_stream(alloc, &sheet, &script, pictures)?;
+    let blocks = count_blocks(pictures);
+    let changes = count_changes(alloc, &script, blocks)?;
+    let scratched = scratch_stream(alloc, seed, stream.bytes())?;
     let counts = play(alloc, &script, scratched.bytes())?;
     Ok(Report {
         seed,

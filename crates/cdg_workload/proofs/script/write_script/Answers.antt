@@ -2,7 +2,6 @@ use Rattle.std.proofs.Common.{◌≡◌, ◌∙◌, subst, arith}
 use Rattle.std.specs.Io.KnownBytes.{Appends}
 use Rattle.cdg_io.specs.Moves.{AppendsPrefix}
 use Rattle.rand_pcg.specs.Lcg.{state_after}
-use Rattle.cdg_workload.specs.Generator.{generator}
 use Rattle.cdg_workload.specs.Script.{picture_lines, generated_script}
 use Rattle.cdg_workload.proofs.GeneratorLemmas.{picture_is, words_after}
 use Rattle.cdg_workload.proofs.ScriptTexts.{on_err, script_first, script_begun, script_next, script_more}
@@ -12,11 +11,11 @@ pub returns-in_err-put_all-clause-part : goal.returns-in_err-put_all-clause-part
 returns-in_err-put_all-clause-part g c = on_err c.from_residual.result _ (script_first c.args.seed c.args.pictures _ _ c.in_err-put_all.ensures.part)
 
 pub loop-k-init : goal.loop-k-init
-unfolding generator state_after
+unfolding state_after
 loop-k-init g c = record {
   put = script_begun c.args.seed _ _ c.in_ok-put_all.ensures.ok;
   later = c.in_ok-put_all.ensures.cause.later;
-  words = c.new-words.ensures;
+  words = c.generator-words.ensures;
 }
 
 pub loop-k-preserved : goal.loop-k-preserved

@@ -8,7 +8,7 @@ use Rattle.pack_schedule.specs.Survey.{IsSurvey, nothing_planned}
 use Rattle.pack_schedule.specs.declared.planned.Planned.{Planned}
 use Rattle.stream_trial.specs.Trial.{all_changes}
 use Rattle.stream_trial.proofs.Plays.{below_more}
-use Rattle.stream_trial.proofs.needs.needs.Goals as goal
+use Rattle.stream_trial.proofs.needs.count_changes.Goals as goal
 
 -- the change of one picture more
 one_need : (script : List Drawing) (planned : List Planned) (k sum need : ℕ) → IsSurvey script planned → k < pictures script → sum ≡ sum_by (λ k. length (planned_change script k)) (below k)
