@@ -1,19 +1,16 @@
 -- The lists that make up a planned change.
-use Rattle.std.proofs.Common.{◌≡◌, ℕ, zero, suc, ◌+◌, ◌-◌, ◌/◌, ◌%◌, ◌<◌, Bool, true, false, List, [], ◌∷◌, ◌++◌, map, get_or, All, replicate, refl, ap, ap₂, sym, subst, ◌∙◌, arith, append_assoc, append-nil}
-use Rattle.std.specs.Prelude.{Option, Some, None, flat_map, ◌==◌, if◌then◌else◌, slice_index}
-use Rattle.std.proofs.lemmas.List.FromFn.{map-range_with_len_more, length-map-range_with_len}
-use Rattle.std.proofs.lemmas.List.Elements.{All-nil, All-cons, All-append, All-map, All-head, All-tail, All-from_get_or}
+use Rattle.std.proofs.Common.{◌≡◌, ℕ, zero, suc, ◌+◌, ◌-◌, ◌/◌, ◌%◌, ◌<◌, Bool, List, [], ◌∷◌, ◌++◌, map, All, replicate, refl, ap, ap₂, sym, subst, ◌∙◌, arith, append_assoc, append-nil}
+use Rattle.std.specs.Prelude.{Option, Some, flat_map, ◌==◌, if◌then◌else◌, slice_index}
+use Rattle.std.proofs.lemmas.List.FromFn.{map-range_with_len_more}
 use Rattle.std.proofs.lemmas.Grind.{flat_map-append}
 use Rattle.bit_lists.specs.Counting.{below}
-use Rattle.cdg_instructions.specs.Instruction.{InRange, IsKnown}
-use Rattle.cdg_instructions.specs.Drawing.{IsOfPlace}
 use Rattle.cdg_instructions.specs.declared.instr.Instr.{Instr}
-use Rattle.cdg_instructions.specs.declared.instr.Instr.TheVariants.{Idle, Foreign, Unknown, MemoryPreset, BorderPreset, SetTile, XorTile, ScrollPreset, ScrollCopy, Transparency, ColoursLow, ColoursHigh}
+use Rattle.cdg_instructions.specs.declared.instr.Instr.TheVariants.{BorderPreset, ColoursLow, ColoursHigh}
 use Rattle.tile_author.specs.Plan.{plan, are_equal}
-use Rattle.picture_script.specs.Script.{Drawing, picture_pixel, picture_border, picture_colour, picture_tile, low_colours, high_colours}
+use Rattle.picture_script.specs.Script.{Drawing, picture_border, picture_colour, picture_tile, low_colours, high_colours}
 use Rattle.picture_script.specs.Board.{Board, IsPicture}
-use Rattle.picture_changes.specs.Change.{settings, window_places, preset_of, tiles_before, AreTileChanges, IsStart, IsChangeFrom}
-use Rattle.picture_changes.specs.PlannedChange.{planned_tiles, planned_from, planned_change, chosen_start}
+use Rattle.picture_changes.specs.Change.{settings, preset_of, tiles_before, IsStart}
+use Rattle.picture_changes.specs.PlannedChange.{planned_tiles, planned_from}
 use Rattle.picture_changes.proofs.Places.{place_of, places_in_order, colour_is_tile, start_small}
 use Rattle.pack_schedule.proofs.SettingLaws.{same_eight}
 

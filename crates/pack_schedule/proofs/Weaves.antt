@@ -6,7 +6,7 @@ use Rattle.std.proofs.lemmas.List.Elements.{All-get_or}
 use Rattle.cdg_instructions.specs.Instruction.{InRange, IsKnown, IsWritten}
 use Rattle.cdg_instructions.specs.declared.instr.Instr.{Instr}
 use Rattle.cdg_instructions.specs.declared.instr.Instr.TheVariants.{Idle}
-use Rattle.picture_script.specs.Script.{Drawing, pictures, ready_time, hold_time, picture_pixel, picture_border, picture_colour}
+use Rattle.picture_script.specs.Script.{Drawing, pictures, ready_time, hold_time}
 use Rattle.picture_script.specs.Board.{Board, IsBlank, IsPicture, StandsBefore}
 use Rattle.picture_changes.specs.Change.{IsStart}
 use Rattle.picture_changes.specs.Schedule.{start_of, idle_pack}

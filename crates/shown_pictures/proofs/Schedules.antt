@@ -5,9 +5,9 @@ use Rattle.std.specs.List.{AllByRecursion}
 use Rattle.std.proofs.Math.Seq.{take-add}
 use Rattle.std.proofs.lemmas.Bool.Decides.{leb_tells}
 use Rattle.std.proofs.lemmas.List.{ext_get_or, get_or-take, get_or-drop, length-take-le}
-use Rattle.std.proofs.lemmas.List.Elements.{All-from_recursion, All-from_get_or, All-get_or, recursion_from_All}
+use Rattle.std.proofs.lemmas.List.Elements.{All-from_get_or, All-get_or, recursion_from_All}
 use Rattle.rw_interleave.specs.Interleave.{whole_packs}
-use Rattle.picture_script.specs.Script.{Drawing, pictures, ready_time, hold_time}
+use Rattle.picture_script.specs.Script.{Drawing, pictures, hold_time}
 use Rattle.cdg_instructions.specs.Instruction.{Means, InRange, IsKnown, IsWritten}
 use Rattle.cdg_instructions.specs.declared.instr.Instr.{Instr}
 use Rattle.cdg_instructions.specs.declared.instr.Instr.TheVariants.{Idle}

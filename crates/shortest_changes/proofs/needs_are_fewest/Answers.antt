@@ -1,7 +1,5 @@
-use Rattle.std.proofs.Common.{ℕ, ◌<◌, List}
-use Rattle.picture_script.specs.Script.{Drawing, picture_pixel}
+use Rattle.std.proofs.Common.{ℕ}
 use Rattle.picture_changes.specs.Change.{IsNeed}
-use Rattle.picture_changes.specs.Shown.{AreColoursInRange}
 use Rattle.picture_changes.specs.Brings.{IsFewest}
 use Rattle.shortest_changes.proofs.Shortest.{late_needs_more}
 use Rattle.shortest_changes.proofs.needs_are_fewest.Goals as goal

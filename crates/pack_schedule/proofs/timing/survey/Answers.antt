@@ -1,4 +1,4 @@
-use Rattle.std.proofs.Common.{◌≡◌, [], ◌∷◌, ◌++◌, sym, ◌∙◌, arith}
+use Rattle.std.proofs.Common.{sym, ◌∙◌, arith}
 use Rattle.pack_schedule.specs.declared.planned.Stop.TheVariants.{Late}
 use Rattle.pack_schedule.proofs.Surveys.{PlannedAreChanges, NeedsAreFewest, all_fewest, in_time, is_late, is_within, late_told, not_in_time, one_planned, stands_next}
 use Rattle.pack_schedule.proofs.timing.survey.Goals as goal
