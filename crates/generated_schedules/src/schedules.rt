@@ -1,8 +1,8 @@
 // Generated scripts are in time.
-ghost use Rattle.std.specs.Prelude.{◌≡◌, ◌<◌, ◌≤◌, ◌+◌, ◌*◌, ◌⊎◌, List, ℕ, length};
+ghost use Rattle.std.specs.Prelude.{◌≡◌, ◌<◌, ◌≤◌, ◌+◌, ◌*◌, ◌⊎◌, ℕ};
 ghost use Rattle.cue_sheet.specs.CueSheet.{CueSheet};
 ghost use Rattle.toc_model.specs.Places.{program_blocks};
-ghost use Rattle.picture_script.specs.Script.{Drawing, picture_pixel};
+ghost use Rattle.picture_script.specs.Script.{picture_pixel};
 ghost use Rattle.picture_changes.specs.Schedule.{free_packs};
 ghost use Rattle.pack_schedule.specs.Survey.{IsStop};
 ghost use Rattle.pack_schedule.specs.declared.planned.Stop.{Stop};
