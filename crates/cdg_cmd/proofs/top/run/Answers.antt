@@ -24,7 +24,7 @@ returns-clause-authors g c = λ lead_in audio sheet script spelled.
 
 pub returns-clause-late : goal.returns-clause-late
 returns-clause-late g c = λ lead_in audio picture need free script spelled told.
-    late_cannot lead_in audio _ _ picture need free script
+    late_cannot lead_in audio _ _ script picture need free
     (λ text read. c.needs_are_fewest.ensures.late script picture need free (c.accepted_scripts_are_in_order.ensures.times text script read) (c.accepted_scripts_are_in_order.ensures.colours text script read)
     (c.accepted_scripts_are_in_order.ensures.pixels text script read))
     _ _ _ _ _ told (c.answer-status.ensures.does (Author lead_in audio) spelled (λ e. cc))
