@@ -1,11 +1,10 @@
 -- The first picture that is late.
-use Rattle.std.proofs.Common.{◌≡◌, ℕ, zero, suc, ◌+◌, ◌*◌, ◌<◌, ◌⊎◌, List, length, refl, inl, inr, sym, subst, ◌∙◌, arith}
+use Rattle.std.proofs.Common.{◌≡◌, ℕ, zero, suc, ◌+◌, ◌*◌, ◌<◌, ◌⊎◌, List, length, refl, inl, inr, sym, subst, arith}
 use Rattle.std.proofs.lemmas.Bool.{cases_lt}
 use Rattle.picture_script.specs.Script.{Drawing, pictures, ready_time, picture_pixel}
-use Rattle.pack_schedule.specs.Change.{IsNeed}
-use Rattle.pack_schedule.specs.Schedule.{start_of, IsInTime, free_packs, IsLate}
-use Rattle.pack_schedule.specs.PlannedChange.{planned_change}
-use Rattle.pack_schedule.proofs.PlannedLaws.{PlansAreShortest, planned_is_shortest, planned_count, need_is}
+use Rattle.picture_changes.specs.Change.{IsChange, IsNeed}
+use Rattle.picture_changes.specs.Schedule.{start_of, IsInTime, free_packs, IsLate}
+use Rattle.picture_changes.specs.PlannedChange.{planned_change}
 
 -- picture k is in time with its planned change
 abbrev pub IsPrompt : List Drawing → ℕ → Type 0
@@ -33,33 +32,34 @@ first_late script (suc n) =
       | inr found ↦ inr (found.0, omega (arith, found.1), found.2, found.3)
     ]
 
--- each need is the length of the planned change
-pub same_need : PlansAreShortest → (script : List Drawing) (k need : ℕ) → ((k x y : ℕ) → picture_pixel script k x y < 16) → IsNeed script k need → need ≡ length (planned_change script k)
-same_need plans script k need small h = need_is plans script k need small h ∙ sym (planned_count plans script k small)
+-- the planned change of a picture is a change for it, and each need is its length
+pub record PlannedAreChanges : Type 0 where
+  pub change : (script : List Drawing) (k : ℕ) → ((k x y : ℕ) → picture_pixel script k x y < 16) → IsChange script k (planned_change script k)
+  pub need : (script : List Drawing) (k need : ℕ) → ((k x y : ℕ) → picture_pixel script k x y < 16) → IsNeed script k need → need ≡ length (planned_change script k)
 
-pub is_late : PlansAreShortest → (script : List Drawing) (k : ℕ) → ((k x y : ℕ) → picture_pixel script k x y < 16) → k < pictures script → ¬ IsPrompt script k → ((j : ℕ) → j < k → IsPrompt script j)
+pub is_late : PlannedAreChanges → (script : List Drawing) (k : ℕ) → ((k x y : ℕ) → picture_pixel script k x y < 16) → k < pictures script → ¬ IsPrompt script k → ((j : ℕ) → j < k → IsPrompt script j)
     → IsLate script k (length (planned_change script k)) (free_packs script k)
-is_late plans script k small lt late before = record {
+is_late planned script k small lt late before = record {
   picture = lt;
-  need_is = (planned_change script k, planned_is_shortest plans script k small, refl);
+  need_is = (planned_change script k, planned.change script k small, refl);
   free_is = refl;
   late = late;
-  before = λ j n j_lt h. subst (λ m. IsInTime script j m) (sym (same_need plans script j n small h)) (before j j_lt);
+  before = λ j n j_lt h. subst (λ m. IsInTime script j m) (sym (planned.need script j n small h)) (before j j_lt);
 }
 
 -- a late picture is not in time, and all before it are
-pub late_here : PlansAreShortest → (script : List Drawing) (k need free : ℕ) → ((k x y : ℕ) → picture_pixel script k x y < 16) → IsLate script k need free → ¬ IsPrompt script k
-late_here plans script k need free small is = λ prompt. is.late (subst (λ m. IsInTime script k m) (sym (same_need plans script k need small is.need_is)) prompt)
+pub late_here : PlannedAreChanges → (script : List Drawing) (k need free : ℕ) → ((k x y : ℕ) → picture_pixel script k x y < 16) → IsLate script k need free → ¬ IsPrompt script k
+late_here planned script k need free small is = λ prompt. is.late (subst (λ m. IsInTime script k m) (sym (planned.need script k need small is.need_is)) prompt)
 
-pub prompt_before : PlansAreShortest → (script : List Drawing) (k need free j : ℕ) → ((k x y : ℕ) → picture_pixel script k x y < 16) → IsLate script k need free → j < k → IsPrompt script j
-prompt_before plans script k need free j small is lt = is.before j (length (planned_change script j)) lt (planned_change script j, planned_is_shortest plans script j small, refl)
+pub prompt_before : PlannedAreChanges → (script : List Drawing) (k need free j : ℕ) → ((k x y : ℕ) → picture_pixel script k x y < 16) → IsLate script k need free → j < k → IsPrompt script j
+prompt_before planned script k need free j small is lt = is.before j (length (planned_change script j)) lt (planned_change script j, planned.change script j small, refl)
 
 -- so it is one picture
-pub one_is_late : PlansAreShortest → (script : List Drawing) (k need free k' need' free' : ℕ) → ((k x y : ℕ) → picture_pixel script k x y < 16) → IsLate script k need free → IsLate script k' need' free' → k ≡ k'
-one_is_late plans script k need free k' need' free' small is is' = elim (cases_lt k k') [
-  | inl less ↦ absurd (late_here plans script k need free small is (prompt_before plans script k' need' free' k small is' less))
+pub one_is_late : PlannedAreChanges → (script : List Drawing) (k need free k' need' free' : ℕ) → ((k x y : ℕ) → picture_pixel script k x y < 16) → IsLate script k need free → IsLate script k' need' free' → k ≡ k'
+one_is_late planned script k need free k' need' free' small is is' = elim (cases_lt k k') [
+  | inl less ↦ absurd (late_here planned script k need free small is (prompt_before planned script k' need' free' k small is' less))
   | inr from ↦ elim (cases_lt k' k) [
-    | inl less ↦ absurd (late_here plans script k' need' free' small is' (prompt_before plans script k need free k' small is less))
+    | inl less ↦ absurd (late_here planned script k' need' free' small is' (prompt_before planned script k need free k' small is less))
     | inr other ↦ omega (arith, from, other)
   ]
 ]

@@ -7,8 +7,8 @@ ghost use Rattle.picture_script.specs.Script.{Drawing, picture_pixel};
 ghost use Rattle.subcode_author.specs.AuthorAnswer.{IsAccepted, IsAuthorStop};
 ghost use Rattle.subcode_author.specs.declared.stops.AuthorStop.{AuthorStop};
 
+use picture_changes::planned_changes_are_changes;
 use subcode_author::AuthorStop;
-use tile_author::plans_are_shortest;
 
 /// A law: each sheet and script, with their lead-in and audio, are accepted or refused, and not both, and they are refused for one
 /// reason alone, with one set of numbers. So `author_stream` answers a refusal exactly where its reason holds, but for want of memory.
@@ -23,5 +23,5 @@ pub fn each_disc_has_one_answer()
         → ((k x y : ℕ) → picture_pixel script k x y < 16) → IsAuthorStop sheet script lead_in audio stop
         → IsAuthorStop sheet script lead_in audio other → stop ≢ AuthorStop.NoMemory → other ≢ AuthorStop.NoMemory → stop ≡ other }
 {
-    plans_are_shortest();
+    planned_changes_are_changes();
 }

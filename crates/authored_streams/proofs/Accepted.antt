@@ -12,7 +12,7 @@ use Rattle.picture_script.specs.Script.{Drawing, Colour, Border, Fill, Rect, Row
 use Rattle.picture_script.specs.ScriptGrammar.{small_number, numbers_in, colour_in, pixels_in, colour_of, border_of, fill_of, rect_of, row_of, show_of, colour_line, border_line, fill_line, rect_line, row_line, show_line, is_in_range, is_after_hold, later_reason, unless_refused, checked_line, checked_command, checked_words, checked_lines, is_passed_over, read_script}
 use Rattle.picture_script.specs.declared.reasons.ScriptWhy.{ScriptWhy}
 use Rattle.picture_script.specs.declared.reasons.ScriptWhy.TheVariants.{UnknownCommand, OutOfRange, TimeOrder, TooMany}
-use Rattle.shown_pictures.specs.Shown.{AreTimesInOrder, AreColoursInRange}
+use Rattle.picture_changes.specs.Shown.{AreTimesInOrder, AreColoursInRange}
 use Rattle.authored_streams.proofs.Ranges.{InColours, AllInColours, in_colours-append, pixels_in_range, colours_in_range}
 use Rattle.authored_streams.proofs.Times.{InOrder, none_in_order, one_more, shows_more, times_in_order}
 

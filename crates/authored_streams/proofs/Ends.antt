@@ -1,21 +1,21 @@
 -- The changes of an accepted script end before the packs that the end of the stream cuts.
-use Rattle.std.proofs.Common.{◌≡◌, ℕ, ◌+◌, ◌-◌, ◌*◌, ◌<◌, ◌≤◌, List, length, replicate, refl, inl, inr, arith}
+use Rattle.std.proofs.Common.{◌≡◌, ℕ, ◌+◌, ◌-◌, ◌*◌, ◌<◌, ◌≤◌, List, length, replicate, inl, inr, arith}
 use Rattle.std.proofs.lemmas.Bool.{cases_lt}
 use Rattle.rw_interleave.specs.Interleave.{whole_packs}
 use Rattle.picture_script.specs.Script.{Drawing, pictures, ready_time, hold_time}
-use Rattle.pack_schedule.specs.Schedule.{start_of}
-use Rattle.pack_schedule.specs.PlannedChange.{planned_change}
+use Rattle.picture_changes.specs.Schedule.{start_of}
+use Rattle.picture_changes.specs.PlannedChange.{planned_change}
 use Rattle.pack_schedule.specs.Survey.{IsPastEnd, IsWithin}
 use Rattle.pack_schedule.specs.Woven.{IsPackAt}
-use Rattle.pack_schedule.proofs.Surveys.{is_within}
-use Rattle.shown_pictures.specs.Shown.{AreTimesInOrder}
+use Rattle.picture_changes.proofs.Times.{hold_order}
+use Rattle.picture_changes.specs.Shown.{AreTimesInOrder}
 use Rattle.subcode_author.specs.AuthorAnswer.{AreReady}
 
 module _ (script : List Drawing) (blocks : ℕ) (order : AreTimesInOrder script) (ready : AreReady script) (end : ¬ IsPastEnd script blocks) where
   pub within : IsWithin script blocks
   within k lt = elim (cases_lt blocks (hold_time script (pictures script - 1))) [
     | inl past ↦ absurd (end (omega arith, past))
-    | inr le ↦ is_within script blocks (hold_time script (pictures script - 1)) order.held order.later (λ some. refl) le k lt
+    | inr le ↦ omega (arith, hold_order script order k (pictures script - 1) (omega (arith, lt)) (omega (arith, lt)), le)
   ]
 
   pub change_ends : (k : ℕ) → k < pictures script → start_of script k + length (planned_change script k) + 7 ≤ 4 * blocks

@@ -14,8 +14,7 @@ use Rattle.toc_model.specs.Layout.{p_bit, program_frame, toc_frame}
 use Rattle.cdtext_packs.specs.LeadIn.{lead_in_symbols}
 use Rattle.cdtext_packs.specs.SheetTexts.{texts_of_sheet}
 use Rattle.picture_script.specs.Script.{Drawing, picture_pixel}
-use Rattle.pack_schedule.proofs.PlannedLaws.{PlansAreShortest}
-use Rattle.shown_pictures.specs.Shown.{AreTimesInOrder, AreColoursInRange}
+use Rattle.picture_changes.specs.Shown.{AreTimesInOrder, AreColoursInRange}
 use Rattle.subcode_author.specs.Blocks.{carrying_block, lead_in_block, program_block, stream_bytes, symbols_at, IsBuilt}
 use Rattle.subcode_author.specs.Given.{symbols_from}
 use Rattle.subcode_author.specs.Authored.{text_packs, IsAuthored}
@@ -26,7 +25,7 @@ use Rattle.authored_streams.proofs.Symbols.{in_pack, symbol_of_pack}
 use Rattle.authored_streams.proofs.Ends.{within}
 use Rattle.authored_streams.proofs.Frames.{sheet_program_valid, sheet_toc_valid}
 use Rattle.authored_streams.proofs.LeadIns.{IsSymbols, lead_in_is, packs_eighteen}
-use Rattle.authored_streams.proofs.Written.{packs_exist, survey_exists}
+use Rattle.authored_streams.proofs.Written.{ChangesAreWritten, packs_exist, survey_exists}
 use Rattle.authored_streams.proofs.Blocks.{AreBytes, is_built, are_bytes}
 
 -- the symbols that carry packs are symbols
@@ -85,14 +84,14 @@ module _ (layout : DiscLayout) (texts : List (List ℕ)) (lead_in : ℕ) (symbol
       All-from_recursion (λ b. b < 256) (flat_map f (below lead_in) ++ flat_map g (below layout.blocks))
       (bytes-append (flat_map f (below lead_in)) (flat_map g (below layout.blocks)) (bytes-joined f 0 lead_in (λ l lt. contents_bytes l (omega arith))) (bytes-joined g 0 layout.blocks (λ b lt. program_bytes b (omega arith))))
 
-pub has_stream : SpreadCarries → PacksAreSchedule → PlansAreShortest → (sheet : CueSheet) (script : List Drawing) (lead_in audio : ℕ)
+pub has_stream : SpreadCarries → PacksAreSchedule → ChangesAreWritten → (sheet : CueSheet) (script : List Drawing) (lead_in audio : ℕ)
     → IsSheet sheet → AreTimesInOrder script → AreColoursInRange script → ((k x y : ℕ) → picture_pixel script k x y < 16) → lead_in ≤ 450000 → IsAccepted sheet script lead_in audio
     → (bytes : List ℕ) × (packs : List (List ℕ)) × All (λ b. b < 256) bytes × IsAuthored sheet script lead_in audio bytes packs
-has_stream spread schedule plans sheet script lead_in audio is_sheet order colours pixels few accepted =
+has_stream spread schedule known sheet script lead_in audio is_sheet order colours pixels few accepted =
     let layout : DiscLayout = layout_of sheet audio in
     let blocks : ℕ = program_blocks sheet audio in
     let texts : List (List ℕ) = text_packs sheet in
-    let (packs, count, written, codewords) = packs_exist script order accepted.ready plans colours pixels (whole_packs blocks) in
+    let (packs, count, written, codewords) = packs_exist script order accepted.ready known colours pixels (whole_packs blocks) in
     let (survey, surveyed) = survey_exists script order accepted.ready in
     let symbols : List ℕ = symbols_from [] (filled_with_idle (4 * blocks) packs) in
     let carries : Carries blocks symbols packs = spread blocks packs count codewords in

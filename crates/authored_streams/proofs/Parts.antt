@@ -15,7 +15,7 @@ use Rattle.cue_sheet.specs.CueSheet.{CueSheet}
 use Rattle.toc_model.specs.Places.{DiscLayout, layout_of, program_blocks}
 use Rattle.picture_script.specs.Script.{Drawing}
 use Rattle.pack_schedule.specs.Woven.{IsPackAt, ArePacks}
-use Rattle.shown_pictures.specs.Shown.{AreTimesInOrder}
+use Rattle.picture_changes.specs.Shown.{AreTimesInOrder}
 use Rattle.subcode_author.specs.Blocks.{carrying_block, lead_in_block, program_block, stream_bytes}
 use Rattle.subcode_author.specs.Given.{symbols_from, AreGiven, PutsStreamPart}
 use Rattle.subcode_author.specs.Authored.{text_packs, IsAuthored}

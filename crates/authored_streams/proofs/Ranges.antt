@@ -4,7 +4,7 @@ use Rattle.std.specs.Prelude.{◌==◌, if◌then◌else◌}
 use Rattle.std.specs.List.{AllByRecursion}
 use Rattle.std.proofs.lemmas.List.{reverse-append}
 use Rattle.picture_script.specs.Script.{Drawing, Colour, Border, Fill, Rect, Row, Show, lines_before, pixel_by, border_by, colour_by, picture_pixel, picture_border, picture_colour}
-use Rattle.shown_pictures.specs.Shown.{AreColoursInRange}
+use Rattle.picture_changes.specs.Shown.{AreColoursInRange}
 
 -- the colours of a line are in their ranges
 abbrev pub InColours : Drawing → Type 0

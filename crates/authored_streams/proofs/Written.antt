@@ -6,21 +6,30 @@ use Rattle.std.proofs.lemmas.List.FromFn.{length-map-range_with_len, get_or-map-
 use Rattle.bit_lists.specs.Counting.{below}
 use Rattle.rw_code.specs.Codeword.{IsCodeword}
 use Rattle.rw_code.proofs.CodewordLemmas.{idle_is_codeword}
-use Rattle.cdg_instructions.specs.Instruction.{IsWritten}
+use Rattle.std.specs.declared.option.Option.{Option}
+use Rattle.cdg_instructions.specs.Instruction.{InRange, IsKnown, IsWritten}
+use Rattle.cdg_instructions.specs.declared.instr.Instr.{Instr}
 use Rattle.cdg_instructions.specs.declared.instr.Instr.TheVariants.{Idle}
 use Rattle.picture_script.specs.Script.{Drawing, pictures, ready_time, hold_time, picture_pixel}
-use Rattle.pack_schedule.specs.Schedule.{start_of}
-use Rattle.pack_schedule.specs.PlannedChange.{chosen_start, planned_change}
+use Rattle.picture_changes.specs.Schedule.{start_of}
+use Rattle.picture_changes.specs.Change.{IsChangeFrom}
+use Rattle.picture_changes.specs.PlannedChange.{chosen_start, planned_change}
 use Rattle.pack_schedule.specs.Survey.{nothing_planned, IsPlanned, IsSurvey}
 use Rattle.pack_schedule.specs.Woven.{IsPackAt, ArePacks}
 use Rattle.pack_schedule.specs.declared.planned.Planned.{Planned}
-use Rattle.pack_schedule.proofs.PlannedLaws.{PlansAreShortest}
-use Rattle.pack_schedule.proofs.PlanLists.{IsFine, planned_fine}
-use Rattle.pack_schedule.proofs.Surveys.{holds_rise}
-use Rattle.shown_pictures.specs.Shown.{AreTimesInOrder, AreColoursInRange}
+use Rattle.picture_changes.proofs.Times.{hold_order}
+use Rattle.picture_changes.specs.Shown.{AreTimesInOrder, AreColoursInRange}
 use Rattle.subcode_author.specs.AuthorAnswer.{AreReady}
 use Rattle.authored_streams.proofs.Packs.{in_change}
 use Rattle.authored_streams.proofs.Messages.{has_word}
+
+-- what is known of the change that is written
+abbrev IsFine : Instr → Type 0
+IsFine instr = InRange instr × IsKnown instr
+
+pub record ChangesAreWritten : Type 0 where
+  pub planned : (script : List Drawing) (k : ℕ) → ((k x y : ℕ) → picture_pixel script k x y < 16) → IsChangeFrom script k (chosen_start script k) (planned_change script k)
+  pub written : (script : List Drawing) (k : ℕ) (start : Option ℕ) (instrs : List Instr) → AreColoursInRange script → IsChangeFrom script k start instrs → All IsFine instrs
 
 module _ (script : List Drawing) (order : AreTimesInOrder script) (ready : AreReady script) where
   -- a change ends before the next one begins
@@ -29,9 +38,7 @@ module _ (script : List Drawing) (order : AreTimesInOrder script) (ready : AreRe
   ends_before k (suc i) lt within =
       let in_time : start_of script k + length (planned_change script k) + 7 ≤ 4 * ready_time script k = ready k (omega arith) in
       let held : ready_time script k ≤ hold_time script k = order.held k (omega arith) in
-      let there : k + (i - k) ≡ i = omega (arith, lt) in
-      let rise : hold_time script k ≤ hold_time script (k + (i - k)) = holds_rise script order.held order.later k (i - k) (omega (arith, lt, within)) in
-      let last : hold_time script k ≤ hold_time script i = subst (λ m. hold_time script k ≤ hold_time script m) there rise in
+      let last : hold_time script k ≤ hold_time script i = hold_order script order k i (omega (arith, lt)) (omega (arith, within)) in
       omega (arith, in_time, held, last)
 
   abbrev IsInside : ℕ → ℕ → Type 0
@@ -56,15 +63,15 @@ module _ (script : List Drawing) (order : AreTimesInOrder script) (ready : AreRe
     ];
   }
 
-  module _ (plans : PlansAreShortest) (colours : AreColoursInRange script) (pixels : (k x y : ℕ) → picture_pixel script k x y < 16) where
+  module _ (known : ChangesAreWritten) (colours : AreColoursInRange script) (pixels : (k x y : ℕ) → picture_pixel script k x y < 16) where
     instruction_fine : (n k : ℕ) → IsInside n k → IsFine (get_or (planned_change script k) (n - start_of script k) Idle)
-    instruction_fine n k inside = All-get_or IsFine (planned_change script k) (n - start_of script k) Idle (omega (arith, inside.1, inside.2)) (planned_fine plans script k pixels colours.border colours.colour)
+    instruction_fine n k inside = All-get_or IsFine (planned_change script k) (n - start_of script k) Idle (omega (arith, inside.1, inside.2)) (known.written script k (chosen_start script k) (planned_change script k) colours (known.planned script k pixels))
 
     pack_exists : (n : ℕ) → (pack : List ℕ) × IsPackAt script n pack × IsCodeword pack
     pack_exists n = elim (in_change script n (pictures script)) [
       | inl (k, lt, from, end) ↦
           let fine = instruction_fine n k (lt, from, end) in
-          let (word, written) = has_word (get_or (planned_change script k) (n - start_of script k) Idle) fine.range fine.known in
+          let (word, written) = has_word (get_or (planned_change script k) (n - start_of script k) Idle) fine.0 fine.1 in
           (word, pack_of_change n k word (lt, from, end) written, written.codeword)
       | inr none ↦ (
         replicate 24 0,

@@ -9,14 +9,14 @@ ghost use Rattle.cue_sheet.specs.CueSheet.{CueSheet, IsSheet};
 ghost use Rattle.toc_model.specs.Places.{layout_of};
 ghost use Rattle.picture_script.specs.Script.{Drawing, picture_pixel};
 ghost use Rattle.picture_script.specs.ScriptGrammar.{read_script};
-ghost use Rattle.shown_pictures.specs.Shown.{AreColoursInRange, AreTimesInOrder};
+ghost use Rattle.picture_changes.specs.Shown.{AreColoursInRange, AreTimesInOrder};
 ghost use Rattle.subcode_author.specs.Authored.{IsAuthored, text_packs};
 ghost use Rattle.subcode_author.specs.AuthorAnswer.{IsAccepted};
 ghost use Rattle.subcode_author.specs.Given.{PutsStreamPart};
 
 use pack_schedule::packs_are_a_schedule;
+use picture_changes::{changes_can_be_written, planned_changes_are_changes};
 use rw_interleave::spread_carries;
-use tile_author::plans_are_shortest;
 
 /// A law: the pictures of every script that is accepted are shown in order, and all their colours are in range.
 pub fn accepted_scripts_are_in_order()
@@ -57,6 +57,7 @@ pub fn accepted_scripts_have_streams()
         → (bytes : List ℕ) × (packs : List (List ℕ)) × IsAuthored sheet script lead_in audio bytes packs × AppendsPrefix held after bytes }
 {
     packs_are_a_schedule();
-    plans_are_shortest();
+    planned_changes_are_changes();
+    changes_can_be_written();
     spread_carries();
 }

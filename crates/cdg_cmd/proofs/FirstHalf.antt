@@ -5,7 +5,7 @@ use Rattle.cue_sheet.specs.CueSheet.{CueSheet}
 use Rattle.cue_sheet.specs.Grammar.{read_cue}
 use Rattle.picture_script.specs.Script.{Drawing}
 use Rattle.picture_script.specs.ScriptGrammar.{read_script}
-use Rattle.pack_schedule.specs.Schedule.{IsLate}
+use Rattle.picture_changes.specs.Schedule.{IsLate}
 use Rattle.pack_schedule.specs.Survey.{IsPastEnd}
 use Rattle.subcode_author.specs.AuthorAnswer.{HasRoom, HoldsPictures, IsAccepted, IsAuthorStop}
 use Rattle.subcode_author.specs.declared.stops.AuthorStop.{AuthorStop}

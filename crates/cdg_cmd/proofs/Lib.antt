@@ -1,6 +1,7 @@
 mod AuthorStatus
 mod Decimals
 mod FirstHalf
+mod LateTold
 mod LineWords
 mod Listings
 mod Refusals

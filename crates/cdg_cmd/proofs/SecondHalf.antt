@@ -9,7 +9,7 @@ use Rattle.raw_subcode.specs.declared.form.Form.TheVariants.{Raw, Sector, Cooked
 use Rattle.rw_interleave.specs.Interleave.{whole_packs}
 use Rattle.cue_sheet.specs.CueSheet.{CueSheet}
 use Rattle.picture_script.specs.Script.{Drawing}
-use Rattle.shown_pictures.specs.Shown.{AreColoursInRange, AreTimesInOrder}
+use Rattle.picture_changes.specs.Shown.{AreColoursInRange, AreTimesInOrder}
 use Rattle.stream_words.specs.Stream.{all_packs}
 use Rattle.toc_model.specs.Places.{program_blocks}
 use Rattle.subcode_player.specs.Convert.{IsDamagedStream}

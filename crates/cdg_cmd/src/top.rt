@@ -12,6 +12,7 @@ ghost use Rattle.subcode_player.specs.Pictured.{IsHeldAt, IsScheduledStream};
 ghost use Rattle.raw_subcode.specs.Channels.{program_symbols};
 ghost use Rattle.cue_sheet.specs.CueSheet.{CueSheet};
 ghost use Rattle.picture_script.specs.Script.{Drawing};
+ghost use Rattle.picture_changes.specs.Brings.{CannotBeReady};
 ghost use Rattle.cdg_cmd.specs.Authors.{IsScriptStop, IsScriptText, IsSheetStop, IsSheetText, author_status};
 ghost use Rattle.cdg_cmd.specs.Headline.{AreTexts, HasDamagedTexts, IsDamagedAuthored, PutsPicture, RefusesWith, Writes, WritesOrIsLate, written_packs};
 ghost use Rattle.toc_model.specs.Places.{layout_of, program_blocks};
@@ -44,6 +45,7 @@ use authored_listings::{
 use authored_streams::accepted_scripts_are_in_order;
 use cdg_io::{Sink, Source, SteadySink, SteadySource};
 use scratched_streams::scratched_streams_are_damaged;
+use shortest_changes::needs_are_fewest;
 use std::alloc::Global;
 use stream_words::{clean_words_are_found, text_of_packs};
 use subcode_author::AuthorStop;
@@ -80,6 +82,10 @@ pub fn run<S: Source, T: Source, K: Sink, E: Sink>(
     ensures authors { (lead_in audio : ℕ) (sheet : CueSheet) (script : List Drawing) → Spells (Command.Author lead_in audio) (texts words.now)
         → IfSome (S.left first.old) (λ cue. IfSome (T.left second.old) (λ text. AreTexts cue text sheet script lead_in audio
         → WritesOrIsLate sheet script lead_in audio (K.held out.old) (K.held out.new) result)) }
+    // A picture that is told late cannot be ready: no list of instructions without scrolls brings it in the packs that are free for it.
+    ensures late { (lead_in audio picture need free : ℕ) (script : List Drawing) → Spells (Command.Author lead_in audio) (texts words.now)
+        → result ≡ Status.Late picture need free
+        → IfSome (T.left second.old) (λ text. IsScriptText text script → CannotBeReady script picture need free) }
     // Where all of both is accepted it is written.
     ensures writes { (lead_in audio : ℕ) (sheet : CueSheet) (script : List Drawing) → Spells (Command.Author lead_in audio) (texts words.now)
         → IsAccepted sheet script lead_in audio
@@ -177,6 +183,7 @@ pub fn run<S: Source, T: Source, K: Sink, E: Sink>(
     damaged_text_lists_are_answered();
     each_disc_has_one_answer();
     accepted_scripts_are_in_order();
+    needs_are_fewest();
     clean_words_are_found();
     text_of_packs();
     let status = answer(alloc, words, first, second, out);

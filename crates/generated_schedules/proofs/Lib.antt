@@ -1,4 +1,3 @@
-pub mod Short
 pub mod Pixels
 pub mod Ready
 pub mod Sheets

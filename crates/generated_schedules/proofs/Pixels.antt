@@ -8,7 +8,10 @@ use Rattle.picture_script.specs.Script.{Drawing, Colour, Border, Fill, Rect, Row
 use Rattle.picture_script.proofs.Scripts.{before_prefix}
 use Rattle.cdg_workload.specs.Generator.{word_of}
 use Rattle.generated_scripts.specs.Generated.{grey, rect, picture, generated_drawings}
-use Rattle.generated_schedules.proofs.Short.{every}
+
+pub every : {X : Type 0} (P : X → Type 0) (xs : List X) → ((x : X) → P x) → All P xs
+every P [] h = All-nil P
+every P (x ∷ xs) h = All-cons P x xs (h x) (every P xs h)
 
 -- a line that a generated script may have: it draws no pixels but those of a rectangle in a colour
 IsGenerated : Drawing → Type 0

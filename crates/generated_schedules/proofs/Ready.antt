@@ -1,14 +1,14 @@
 -- The pictures of a generated script are in time.
-use Rattle.std.proofs.Common.{◌≡◌, ℕ, zero, suc, ◌+◌, ◌-◌, ◌*◌, ◌<◌, ◌≤◌, ◌⊎◌, List, length, refl, inl, inr, sym, subst, ◌∙◌, arith}
+use Rattle.std.proofs.Common.{◌≡◌, ℕ, zero, suc, ◌+◌, ◌-◌, ◌*◌, ◌<◌, ◌≤◌, ◌⊎◌, List, length, refl, inl, inr, sym, subst, arith}
 use Rattle.cue_sheet.specs.CueSheet.{CueSheet}
 use Rattle.toc_model.specs.Places.{program_blocks}
 use Rattle.picture_script.specs.Script.{Drawing, pictures, ready_time, hold_time, picture_pixel}
-use Rattle.pack_schedule.specs.Schedule.{IsInTime, free_packs, IsLate}
-use Rattle.pack_schedule.specs.PlannedChange.{planned_change}
+use Rattle.picture_changes.specs.Schedule.{IsInTime, free_packs, IsLate}
+use Rattle.picture_changes.specs.Change.{IsNeed}
+use Rattle.picture_changes.specs.PlannedChange.{planned_change}
 use Rattle.pack_schedule.specs.Survey.{IsPastEnd, IsStop}
 use Rattle.pack_schedule.specs.declared.planned.Stop.{Stop}
 use Rattle.pack_schedule.specs.declared.planned.Stop.TheVariants.{PastEnd as past_end, Late as late, NoMemory as no_memory}
-use Rattle.pack_schedule.proofs.PlannedLaws.{PlansAreShortest, planned_count, need_is}
 use Rattle.subcode_author.specs.AuthorAnswer.{AreReady, HasLayout, HasRoom, IsAccepted, IsAuthorStop}
 use Rattle.subcode_author.specs.declared.stops.AuthorStop.{AuthorStop}
 use Rattle.subcode_author.specs.declared.stops.AuthorStop.TheVariants.{LengthShort, DiscTooLong, PastEnd, TextTooLong, LeadInShort, Late, WriteFault, NoMemory}
@@ -19,6 +19,10 @@ pub record TimesAreKnown : Type 0 where
   pub count : (seed count : ℕ) → pictures (generated_drawings seed count) ≡ count
   pub ready : (seed count k : ℕ) → k < count → ready_time (generated_drawings seed count) k ≡ 800 * (k + 1)
   pub hold : (seed count k : ℕ) → k < count → hold_time (generated_drawings seed count) k ≡ 800 * (k + 1) + 20
+
+-- each need of a picture is the length of its planned change
+abbrev pub NeedsArePlanned : Type 0
+NeedsArePlanned = (script : List Drawing) (k need : ℕ) → ((k x y : ℕ) → picture_pixel script k x y < 16) → IsNeed script k need → need ≡ length (planned_change script k)
 
 -- a change of so many instructions fits between two pictures
 in_time : TimesAreKnown → (seed count k need : ℕ) → k < count → need ≤ 3076 → IsInTime (generated_drawings seed count) k need
@@ -34,10 +38,9 @@ pub all_ready : TimesAreKnown → (seed count : ℕ) → ((k : ℕ) → length (
 all_ready times seed count few k lt = in_time times seed count k (length (planned_change (generated_drawings seed count) k)) (omega (arith, lt, times.count seed count)) (few k)
 
 -- where all are ready none is late
-not_late : PlansAreShortest → (script : List Drawing) (k need free : ℕ) → ((k x y : ℕ) → picture_pixel script k x y < 16) → AreReady script → IsLate script k need free → ⊥
-not_late plans script k need free small ready is =
-    let same = need_is plans script k need small is.need_is ∙ sym (planned_count plans script k small) in
-    is.late (subst (λ n. IsInTime script k n) (sym same) (ready k is.picture))
+not_late : NeedsArePlanned → (script : List Drawing) (k need free : ℕ) → ((k x y : ℕ) → picture_pixel script k x y < 16) → AreReady script → IsLate script k need free → ⊥
+not_late needs script k need free small ready is =
+    is.late (subst (λ n. IsInTime script k n) (sym (needs script k need small is.need_is)) (ready k is.picture))
 
 -- no picture is held past the last hold time
 not_past_end : TimesAreKnown → (seed count blocks : ℕ) → 800 * count + 20 ≤ blocks → IsPastEnd (generated_drawings seed count) blocks → ⊥
@@ -47,11 +50,11 @@ not_past_end times seed count blocks enough (some, past) =
     let held = times.hold seed count last (omega (arith, some, number)) in
     omega (arith, enough, some, past, number, held)
 
-pub survey_stop : TimesAreKnown → PlansAreShortest → (seed count blocks : ℕ) (stop : Stop) → ((k x y : ℕ) → picture_pixel (generated_drawings seed count) k x y < 16) → AreReady (generated_drawings seed count)
+pub survey_stop : TimesAreKnown → NeedsArePlanned → (seed count blocks : ℕ) (stop : Stop) → ((k x y : ℕ) → picture_pixel (generated_drawings seed count) k x y < 16) → AreReady (generated_drawings seed count)
     → 800 * count + 20 ≤ blocks → IsStop (generated_drawings seed count) blocks stop → stop ≡ no_memory
-survey_stop times plans seed count blocks (past_end end) small ready enough h = absurd (not_past_end times seed count blocks enough h.1)
-survey_stop times plans seed count blocks (late picture need free) small ready enough h = absurd (not_late plans (generated_drawings seed count) picture need free small ready h.1)
-survey_stop times plans seed count blocks no_memory small ready enough h = refl
+survey_stop times needs seed count blocks (past_end end) small ready enough h = absurd (not_past_end times seed count blocks enough h.1)
+survey_stop times needs seed count blocks (late picture need free) small ready enough h = absurd (not_late needs (generated_drawings seed count) picture need free small ready h.1)
+survey_stop times needs seed count blocks no_memory small ready enough h = refl
 
 pub accepted : TimesAreKnown → (sheet : CueSheet) (seed count lead_in audio : ℕ) → AreReady (generated_drawings seed count) → HasLayout sheet audio
     → 800 * count + 20 ≤ program_blocks sheet audio → HasRoom sheet lead_in → IsAccepted sheet (generated_drawings seed count) lead_in audio
@@ -62,13 +65,13 @@ accepted times sheet seed count lead_in audio ready layout enough room = record 
 }
 
 -- what is refused of a stream that is accepted
-pub author_stop : PlansAreShortest → (sheet : CueSheet) (script : List Drawing) (lead_in audio : ℕ) (stop : AuthorStop) → ((k x y : ℕ) → picture_pixel script k x y < 16)
+pub author_stop : NeedsArePlanned → (sheet : CueSheet) (script : List Drawing) (lead_in audio : ℕ) (stop : AuthorStop) → ((k x y : ℕ) → picture_pixel script k x y < 16)
     → IsAccepted sheet script lead_in audio → IsAuthorStop sheet script lead_in audio stop → (stop ≡ NoMemory) ⊎ (stop ≡ WriteFault)
-author_stop plans sheet script lead_in audio (LengthShort need) small is h = absurd (omega (arith, h.1, is.disc.0.0))
-author_stop plans sheet script lead_in audio (DiscTooLong blocks) small is h = absurd (omega (arith, h.1, h.2, is.disc.0.1))
-author_stop plans sheet script lead_in audio (PastEnd blocks) small is h = absurd (is.disc.1 (subst (IsPastEnd script) h.1 h.2))
-author_stop plans sheet script lead_in audio (TextTooLong packs) small is h = absurd (omega (arith, h.1.1, h.1.2, (is.room h.1.0).0))
-author_stop plans sheet script lead_in audio (LeadInShort need) small is h = absurd (omega (arith, h.1.2, h.1.3, (is.room h.1.0).1))
-author_stop plans sheet script lead_in audio (Late picture need free) small is h = absurd (not_late plans script picture need free small is.ready h.2)
-author_stop plans sheet script lead_in audio WriteFault small is h = inr refl
-author_stop plans sheet script lead_in audio NoMemory small is h = inl refl
+author_stop needs sheet script lead_in audio (LengthShort need) small is h = absurd (omega (arith, h.1, is.disc.0.0))
+author_stop needs sheet script lead_in audio (DiscTooLong blocks) small is h = absurd (omega (arith, h.1, h.2, is.disc.0.1))
+author_stop needs sheet script lead_in audio (PastEnd blocks) small is h = absurd (is.disc.1 (subst (IsPastEnd script) h.1 h.2))
+author_stop needs sheet script lead_in audio (TextTooLong packs) small is h = absurd (omega (arith, h.1.1, h.1.2, (is.room h.1.0).0))
+author_stop needs sheet script lead_in audio (LeadInShort need) small is h = absurd (omega (arith, h.1.2, h.1.3, (is.room h.1.0).1))
+author_stop needs sheet script lead_in audio (Late picture need free) small is h = absurd (not_late needs script picture need free small is.ready h.2)
+author_stop needs sheet script lead_in audio WriteFault small is h = inr refl
+author_stop needs sheet script lead_in audio NoMemory small is h = inl refl

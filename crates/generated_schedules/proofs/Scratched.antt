@@ -15,7 +15,7 @@ use Rattle.cdg_workload.specs.Scratches.{scratched}
 use Rattle.picture_script.specs.Script.{Drawing}
 use Rattle.toc_model.specs.Places.{program_blocks}
 use Rattle.subcode_author.specs.Authored.{IsAuthored}
-use Rattle.generated_schedules.proofs.Short.{every}
+use Rattle.generated_schedules.proofs.Pixels.{every}
 
 pub same_size : (lead_in seed : ℕ) (bytes : List ℕ) → map (λ byte. byte / 64) (scratched lead_in seed bytes) ≡ map (λ byte. byte / 64) bytes → length (scratched lead_in seed bytes) ≡ length bytes
 same_size lead_in seed bytes same = sym (length-map (scratched lead_in seed bytes) (λ byte. byte / 64)) ∙ ap length same ∙ length-map bytes (λ byte. byte / 64)

@@ -1,10 +1,9 @@
 // Generated scripts are in time.
-ghost use Rattle.std.specs.Prelude.{◌≡◌, ◌<◌, ◌≤◌, ◌+◌, ◌*◌, ◌⊎◌, List, ℕ, length};
+ghost use Rattle.std.specs.Prelude.{◌≡◌, ◌<◌, ◌≤◌, ◌+◌, ◌*◌, ◌⊎◌, ℕ};
 ghost use Rattle.cue_sheet.specs.CueSheet.{CueSheet};
 ghost use Rattle.toc_model.specs.Places.{program_blocks};
-ghost use Rattle.picture_script.specs.Script.{Drawing, picture_pixel};
-ghost use Rattle.pack_schedule.specs.Schedule.{free_packs};
-ghost use Rattle.pack_schedule.specs.PlannedChange.{planned_change};
+ghost use Rattle.picture_script.specs.Script.{picture_pixel};
+ghost use Rattle.picture_changes.specs.Schedule.{free_packs};
 ghost use Rattle.pack_schedule.specs.Survey.{IsStop};
 ghost use Rattle.pack_schedule.specs.declared.planned.Stop.{Stop};
 ghost use Rattle.subcode_author.specs.AuthorAnswer.{AreReady, HasLayout, HasRoom, IsAccepted, IsAuthorStop};
@@ -13,16 +12,8 @@ ghost use Rattle.generated_scripts.specs.Generated.{generated_drawings};
 
 use generated_scripts::generated_scripts_have_times;
 use pack_schedule::Stop;
+use picture_changes::planned_changes_are_changes;
 use subcode_author::AuthorStop;
-use tile_author::plans_are_shortest;
-
-/// A law: the change that is written for a picture has at most 3,076 instructions, four that set all memory, the border and the
-/// colours, and four for each of 768 tiles.
-pub fn changes_are_short()
-    ensures { (script : List Drawing) (k : ℕ) → ((k x y : ℕ) → picture_pixel script k x y < 16) → length (planned_change script k) ≤ 3076 }
-{
-    plans_are_shortest();
-}
 
 /// A law: each picture of a generated script is ready in time, since at least 3,120 packs are free for it, so a survey refuses none in
 /// a program that lasts until the last one's hold time.
@@ -33,9 +24,8 @@ pub fn generated_scripts_are_ready()
     ensures survey { (seed count blocks : ℕ) (stop : Stop) → 800 * count + 20 ≤ blocks
         → IsStop (generated_drawings seed count) blocks stop → stop ≡ Stop.NoMemory }
 {
-    changes_are_short();
     generated_scripts_have_times();
-    plans_are_shortest();
+    planned_changes_are_changes();
 }
 
 /// A law: a generated script is written with each sheet that has a layout of so many blocks, and room for its texts in the lead-in.
@@ -50,5 +40,5 @@ pub fn generated_scripts_are_authored()
 {
     generated_scripts_are_ready();
     generated_scripts_have_times();
-    plans_are_shortest();
+    planned_changes_are_changes();
 }

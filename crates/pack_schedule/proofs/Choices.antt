@@ -1,12 +1,18 @@
 -- The choice of a start.
-use Rattle.std.proofs.Common.{◌≡◌, ℕ, zero, suc, ◌+◌, ◌<◌, ◌≤◌, Bool, true, false, List, map, length, refl, ap, ap₂, sym, ◌∙◌, arith}
+use Rattle.std.proofs.Common.{◌≡◌, ℕ, zero, suc, ◌+◌, ◌<◌, ◌≤◌, Bool, true, false, List, [], ◌∷◌, ◌++◌, map, length, refl, ap, ap₂, sym, ◌∙◌, arith}
 use Rattle.std.specs.Prelude.{Option, Some, None, if◌then◌else◌, nat_lt}
 use Rattle.std.proofs.lemmas.List.FromFn.{map-range_with_len_more}
 use Rattle.bit_lists.specs.Counting.{below}
 use Rattle.picture_script.specs.Script.{Drawing}
-use Rattle.pack_schedule.specs.Change.{settings}
-use Rattle.pack_schedule.specs.PlannedChange.{planned_length, tile_steps, preferred, first_least, chosen_start}
-use Rattle.pack_schedule.proofs.Least.{least-snoc}
+use Rattle.picture_changes.specs.Change.{settings}
+use Rattle.picture_changes.specs.PlannedChange.{planned_length, tile_steps, preferred, first_least, chosen_start}
+
+-- one more at the end
+least-snoc : {X : Type 0} (number : X → ℕ) (best : X) (xs : List X) (x : X)
+    → first_least number best (xs ++ x ∷ []) ≡ (if nat_lt (number x) (number (first_least number best xs)) then x else first_least number best xs)
+unfolding first_least
+least-snoc number best [] x = refl
+least-snoc number best (y ∷ xs) x = least-snoc number (if nat_lt (number y) (number best) then y else best) xs x
 
 one_sum : (n : ℕ) → 0 + n ≡ n
 one_sum n = omega arith

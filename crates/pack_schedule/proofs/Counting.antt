@@ -1,14 +1,50 @@
 -- Sums over tiles, from each start at once.
-use Rattle.std.proofs.Common.{◌≡◌, ◌≢◌, ℕ, ◌+◌, ◌-◌, ◌*◌, ◌/◌, ◌%◌, ◌<◌, ◌≤◌, List, length, get_or, set, replicate, ap, sym, ◌∙◌, inl, inr, arith}
-use Rattle.std.specs.Prelude.{Some, None, slice_index}
+use Rattle.std.proofs.Common.{◌≡◌, ◌≢◌, ℕ, ◌+◌, ◌-◌, ◌*◌, ◌/◌, ◌%◌, ◌<◌, ◌≤◌, List, [], ◌∷◌, length, map, get_or, set, replicate, refl, ap, sym, ◌∙◌, inl, inr, arith}
+use Rattle.std.specs.Prelude.{Option, Some, None, slice_index, sum_by}
 use Rattle.std.proofs.lemmas.Bool.{cases_eq, cases_lt}
 use Rattle.std.proofs.lemmas.Grind.{same_number_lists}
 use Rattle.std.proofs.lemmas.List.{length-replicate, get_or-replicate, get_or-set_same, get_or-set_other, get_or_past}
+use Rattle.std.proofs.lemmas.List.FromFn.{map-range_with_len_more}
+use Rattle.std.proofs.lemmas.List.Sums.{sum_by-append}
+use Rattle.bit_lists.specs.Counting.{below}
 use Rattle.cdg_instructions.specs.Instruction.{IsTilePixels}
 use Rattle.cdg_instructions.specs.Drawing.{IsLeast}
 use Rattle.tile_author.specs.Plan.{steps}
 use Rattle.picture_script.specs.Script.{Drawing, picture_tile}
-use Rattle.pack_schedule.proofs.PlannedLaws.{PlansAreShortest, colour_steps, steps_so_far, none_so_far, one_more_tile}
+use Rattle.picture_changes.specs.Change.{tiles_before}
+use Rattle.picture_changes.specs.PlannedChange.{tile_steps}
+use Rattle.picture_changes.proofs.Places.{place_of, places_in_order, colour_is_tile}
+use Rattle.picture_changes.proofs.PlannedLaws.{PlansAreShortest, least-unique}
+
+-- tiles counted one after another
+one_sum : (n : ℕ) → 0 + n ≡ n
+one_sum n = omega arith
+
+unfoldable pub steps_so_far : List Drawing → ℕ → Option ℕ → ℕ → ℕ
+steps_so_far script k start i = sum_by (λ p. steps (tiles_before script k start p.0 p.1) (picture_tile script k p.0 p.1)) (map place_of (below i))
+
+pub none_so_far : (script : List Drawing) (k : ℕ) (start : Option ℕ) → steps_so_far script k start 0 ≡ 0
+unfolding steps_so_far
+none_so_far script k start = refl
+
+pub one_more_tile : (script : List Drawing) (k : ℕ) (start : Option ℕ) (i : ℕ)
+    → steps_so_far script k start (i + 1) ≡ steps_so_far script k start i + steps (tiles_before script k start (i / 48 + 1) (i % 48 + 1)) (picture_tile script k (i / 48 + 1) (i % 48 + 1))
+unfolding steps_so_far
+one_more_tile script k start i =
+    let f : ℕ × ℕ → ℕ = λ p. steps (tiles_before script k start p.0 p.1) (picture_tile script k p.0 p.1) in
+    ap (sum_by f) (map-range_with_len_more place_of 0 i i (one_sum i)) ∙ sum_by-append f (map place_of (below i)) (place_of i ∷ [])
+    ∙ ap (λ n. sum_by f (map place_of (below i)) + n) (one_sum (f (place_of i)))
+
+pub all_tiles : (script : List Drawing) (k : ℕ) (start : Option ℕ) (i : ℕ) → i ≡ 768 → steps_so_far script k start i ≡ tile_steps script k start
+unfolding steps_so_far tile_steps
+all_tiles script k start i h =
+    ap (λ n. sum_by (λ (p : ℕ × ℕ). steps (tiles_before script k start p.0 p.1) (picture_tile script k p.0 p.1)) (map place_of (below n))) h
+    ∙ ap (sum_by (λ (p : ℕ × ℕ). steps (tiles_before script k start p.0 p.1) (picture_tile script k p.0 p.1))) (sym places_in_order)
+
+-- the steps from a tile of one colour
+pub colour_steps : PlansAreShortest → (new : List ℕ) (c w : ℕ) → c < 16 → IsTilePixels new → IsLeast 1 1 (replicate 72 c) new w → steps (replicate 72 c) new ≡ w
+colour_steps plans new c w small tile least =
+    least-unique 1 1 (replicate 72 c) new (steps (replicate 72 c) new) w (plans.least 1 1 (replicate 72 c) new (omega arith) (omega arith) (colour_is_tile c small) tile) least
 
 pub all_same : (pixels : List ℕ) (first : ℕ) → length pixels ≡ 72 → ((q : ℕ) → q < 72 → get_or pixels q 0 ≡ first) → pixels ≡ replicate 72 first
 all_same pixels first size all =

@@ -1,5 +1,3 @@
-pub mod Least
-pub mod PlannedLaws
 pub mod Counting
 pub mod SettingLaws
 pub mod Choices

@@ -1,20 +1,17 @@
 -- The lists that make up a planned change.
-use Rattle.std.proofs.Common.{◌≡◌, ℕ, zero, suc, ◌+◌, ◌-◌, ◌/◌, ◌%◌, ◌<◌, Bool, true, false, List, [], ◌∷◌, ◌++◌, map, get_or, All, replicate, refl, ap, ap₂, sym, subst, ◌∙◌, arith, append_assoc, append-nil}
-use Rattle.std.specs.Prelude.{Option, Some, None, flat_map, ◌==◌, if◌then◌else◌, slice_index}
-use Rattle.std.proofs.lemmas.List.FromFn.{map-range_with_len_more, length-map-range_with_len}
-use Rattle.std.proofs.lemmas.List.Elements.{All-nil, All-cons, All-append, All-map, All-head, All-tail, All-from_get_or}
+use Rattle.std.proofs.Common.{◌≡◌, ℕ, zero, suc, ◌+◌, ◌-◌, ◌/◌, ◌%◌, ◌<◌, Bool, List, [], ◌∷◌, ◌++◌, map, All, replicate, refl, ap, ap₂, sym, subst, ◌∙◌, arith, append_assoc, append-nil}
+use Rattle.std.specs.Prelude.{Option, Some, flat_map, ◌==◌, if◌then◌else◌, slice_index}
+use Rattle.std.proofs.lemmas.List.FromFn.{map-range_with_len_more}
 use Rattle.std.proofs.lemmas.Grind.{flat_map-append}
 use Rattle.bit_lists.specs.Counting.{below}
-use Rattle.cdg_instructions.specs.Instruction.{InRange, IsKnown}
-use Rattle.cdg_instructions.specs.Drawing.{IsOfPlace}
 use Rattle.cdg_instructions.specs.declared.instr.Instr.{Instr}
-use Rattle.cdg_instructions.specs.declared.instr.Instr.TheVariants.{Idle, Foreign, Unknown, MemoryPreset, BorderPreset, SetTile, XorTile, ScrollPreset, ScrollCopy, Transparency, ColoursLow, ColoursHigh}
+use Rattle.cdg_instructions.specs.declared.instr.Instr.TheVariants.{BorderPreset, ColoursLow, ColoursHigh}
 use Rattle.tile_author.specs.Plan.{plan, are_equal}
-use Rattle.picture_script.specs.Script.{Drawing, picture_pixel, picture_border, picture_colour, picture_tile, low_colours, high_colours}
+use Rattle.picture_script.specs.Script.{Drawing, picture_border, picture_colour, picture_tile, low_colours, high_colours}
 use Rattle.picture_script.specs.Board.{Board, IsPicture}
-use Rattle.pack_schedule.specs.Change.{settings, window_places, preset_of, tiles_before, AreTileChanges, IsStart, IsChangeFrom}
-use Rattle.pack_schedule.specs.PlannedChange.{planned_tiles, planned_from, planned_change, chosen_start}
-use Rattle.pack_schedule.proofs.PlannedLaws.{PlansAreShortest, place_of, places_in_order, planned_is_change, chosen_is_start, colour_is_tile}
+use Rattle.picture_changes.specs.Change.{settings, preset_of, tiles_before, IsStart}
+use Rattle.picture_changes.specs.PlannedChange.{planned_tiles, planned_from}
+use Rattle.picture_changes.proofs.Places.{place_of, places_in_order, colour_is_tile, start_small}
 use Rattle.pack_schedule.proofs.SettingLaws.{same_eight}
 
 -- Tiles in turn.
@@ -82,88 +79,6 @@ low_are script k board h = same_eight (λ n. slice_index board.colours (0 + n)) 
 pub high_are : (script : List Drawing) (k : ℕ) (board : Board) → IsPicture script k board → map (λ n. slice_index board.colours (8 + n)) (below 8) ≡ high_colours script k
 unfolding high_colours
 high_are script k board h = same_eight (λ n. slice_index board.colours (8 + n)) (λ n. picture_colour script k (8 + n)) (λ n lt. h.colours_are (8 + n) (omega arith))
-
--- Ranges.
-
-pub record IsFine (instr : Instr) : Type 0 where
-  pub range : InRange instr
-  pub known : IsKnown instr
-
-of_place_fine : (row column : ℕ) (instr : Instr) → IsOfPlace row column instr → IsFine instr
-of_place_fine row column (SetTile colour0 colour1 r c lines) h = record { range = h.2; known = ((λ e. cc), (λ e. cc)) }
-of_place_fine row column (XorTile colour0 colour1 r c lines) h = record { range = h.2; known = ((λ e. cc), (λ e. cc)) }
-of_place_fine row column Idle h = absurd h
-of_place_fine row column Foreign h = absurd h
-of_place_fine row column Unknown h = absurd h
-of_place_fine row column (MemoryPreset colour repeat) h = absurd h
-of_place_fine row column (BorderPreset colour) h = absurd h
-of_place_fine row column (ScrollPreset colour across hh down v) h = absurd h
-of_place_fine row column (ScrollCopy colour across hh down v) h = absurd h
-of_place_fine row column (Transparency levels) h = absurd h
-of_place_fine row column (ColoursLow colours) h = absurd h
-of_place_fine row column (ColoursHigh colours) h = absurd h
-
-all_of_place : (row column : ℕ) (instrs : List Instr) → All (IsOfPlace row column) instrs → All IsFine instrs
-all_of_place row column [] all = All-nil IsFine
-all_of_place row column (instr ∷ instrs) all =
-    All-cons IsFine instr instrs (of_place_fine row column instr (All-head (IsOfPlace row column) instr instrs all)) (all_of_place row column instrs (All-tail (IsOfPlace row column) instr instrs all))
-
-tiles_fine : (old new : ℕ → ℕ → List ℕ) (places : List (ℕ × ℕ)) (instrs : List Instr) → AreTileChanges old new places instrs → All IsFine instrs
-tiles_fine old new [] instrs h = subst (All IsFine) (sym h) (All-nil IsFine)
-tiles_fine old new (place ∷ places) instrs h =
-    subst (All IsFine) (sym h.2) (All-append IsFine h.0 h.1 (all_of_place place.0 place.1 h.0 h.3.of_place) (tiles_fine old new places h.1 h.5))
-
-border_fine : (colour : ℕ) → colour < 16 → IsFine (BorderPreset colour)
-border_fine colour h = record { range = h; known = ((λ e. cc), (λ e. cc)) }
-
-eight_small : (f : ℕ → ℕ) → ((n : ℕ) → f n < 4096) → All (λ c. c < 4096) (map f (below 8))
-eight_small f small = All-map (λ c. c < 4096) f (below 8) (All-from_get_or (λ n. f n < 4096) (below 8) 0 (λ i lt. small (get_or (below 8) i 0)))
-
-low_fine : (script : List Drawing) (k : ℕ) → ((k n : ℕ) → picture_colour script k n < 4096) → IsFine (ColoursLow (low_colours script k))
-unfolding low_colours
-low_fine script k small = record { range = (length-map-range_with_len (picture_colour script k) 0 8, eight_small (picture_colour script k) (small k)); known = ((λ e. cc), (λ e. cc)) }
-
-high_fine : (script : List Drawing) (k : ℕ) → ((k n : ℕ) → picture_colour script k n < 4096) → IsFine (ColoursHigh (high_colours script k))
-unfolding high_colours
-high_fine script k small =
-    record { range = (length-map-range_with_len (λ n. picture_colour script k (8 + n)) 0 8, eight_small (λ n. picture_colour script k (8 + n)) (λ n. small k (8 + n))); known = ((λ e. cc), (λ e. cc)) }
-
-one_fine : (b : Bool) (instr : Instr) → IsFine instr → All IsFine (if b then [] else instr ∷ [])
-one_fine true instr h = All-nil IsFine
-one_fine false instr h = All-cons IsFine instr [] h (All-nil IsFine)
-
-settings_fine : (script : List Drawing) (k : ℕ) → ((k : ℕ) → picture_border script k < 16) → ((k n : ℕ) → picture_colour script k n < 4096) → All IsFine (settings script k)
-settings_fine script zero border colour =
-    All-cons IsFine (BorderPreset (picture_border script 0)) (ColoursLow (low_colours script 0) ∷ ColoursHigh (high_colours script 0) ∷ []) (border_fine (picture_border script 0) (border 0))
-    (All-cons IsFine (ColoursLow (low_colours script 0)) (ColoursHigh (high_colours script 0) ∷ []) (low_fine script 0 colour) (All-cons IsFine (ColoursHigh (high_colours script 0)) [] (high_fine script 0 colour) (All-nil IsFine)))
-settings_fine script (suc k) border colour =
-    let b = picture_border script k == picture_border script (suc k) in
-    let l = are_equal (low_colours script k) (low_colours script (suc k)) in
-    let h = are_equal (high_colours script k) (high_colours script (suc k)) in
-    All-append IsFine ((if b then [] else BorderPreset (picture_border script (suc k)) ∷ []) ++ (if l then [] else ColoursLow (low_colours script (suc k)) ∷ [])) (if h then [] else ColoursHigh (high_colours script (suc k)) ∷ [])
-    (All-append IsFine (if b then [] else BorderPreset (picture_border script (suc k)) ∷ []) (if l then [] else ColoursLow (low_colours script (suc k)) ∷ [])
-    (one_fine b (BorderPreset (picture_border script (suc k))) (border_fine (picture_border script (suc k)) (border (suc k)))) (one_fine l (ColoursLow (low_colours script (suc k))) (low_fine script (suc k) colour)))
-    (one_fine h (ColoursHigh (high_colours script (suc k))) (high_fine script (suc k) colour))
-
-pub start_small : (k colour : ℕ) → IsStart k (Some colour) → colour < 16
-start_small zero colour h = h
-start_small (suc k) colour h = h
-
-preset_fine : (k : ℕ) (start : Option ℕ) → IsStart k start → All IsFine (preset_of start)
-preset_fine k (Some colour) h = All-cons IsFine (MemoryPreset colour 0) [] (record { range = (start_small k colour h, omega arith); known = ((λ e. cc), (λ e. cc)) }) (All-nil IsFine)
-preset_fine k None h = All-nil IsFine
-
-change_fine : (script : List Drawing) (k : ℕ) (start : Option ℕ) (instrs : List Instr) → ((k : ℕ) → picture_border script k < 16) → ((k n : ℕ) → picture_colour script k n < 4096) → IsChangeFrom script k start instrs → All IsFine instrs
-change_fine script k start instrs border colour h =
-    subst (All IsFine) (sym h.whole) (All-append IsFine (preset_of start ++ settings script k) h.tiles
-    (All-append IsFine (preset_of start) (settings script k) (preset_fine k start h.allowed) (settings_fine script k border colour))
-    (tiles_fine (tiles_before script k start) (picture_tile script k) window_places h.tiles h.tile_changes))
-
--- each instruction of a planned change can be written
-pub planned_fine : PlansAreShortest → (script : List Drawing) (k : ℕ) → ((k x y : ℕ) → picture_pixel script k x y < 16) → ((k : ℕ) → picture_border script k < 16) → ((k n : ℕ) → picture_colour script k n < 4096) → All IsFine (planned_change script k)
-unfolding planned_change
-planned_fine plans script k small border colour =
-    change_fine script k (chosen_start script k) (planned_from script k (chosen_start script k)) border colour (planned_is_change plans script k (chosen_start script k) small (chosen_is_start script k))
 
 pub planned_whole : (script : List Drawing) (k : ℕ) (start : Option ℕ) (one two new : List Instr) → one ≡ preset_of start → two ≡ one ++ settings script k → new ≡ two ++ planned_tiles script k start → new ≡ planned_from script k start
 unfolding planned_from

@@ -6,11 +6,16 @@ use Rattle.std.proofs.lemmas.Bool.Decides.{leb_tells}
 use Rattle.std.proofs.lemmas.List.{get_or_append_left, get_or-append-add}
 use Rattle.picture_script.specs.Script.{Drawing, pictures, ready_time, hold_time, picture_pixel}
 use Rattle.picture_script.specs.Board.{Board, IsBlank, IsPicture, StandsBefore}
-use Rattle.pack_schedule.specs.Schedule.{start_of, IsInTime, IsLate, free_packs}
-use Rattle.pack_schedule.specs.PlannedChange.{planned_change}
-use Rattle.pack_schedule.specs.Survey.{nothing_planned, IsPlanned, ArePlanned, IsWithin}
+use Rattle.picture_changes.specs.Schedule.{start_of, IsInTime, IsLate, free_packs}
+use Rattle.picture_changes.specs.PlannedChange.{planned_change}
+use Rattle.picture_changes.specs.Change.{IsChange, IsNeed}
+use Rattle.picture_changes.specs.Shown.{AreTimesInOrder, AreColoursInRange}
+use Rattle.picture_changes.specs.Brings.{CannotBeReady, IsFewest}
+use Rattle.pack_schedule.specs.Survey.{nothing_planned, IsPlanned, ArePlanned, IsStop, IsSurvey, IsWithin}
 use Rattle.pack_schedule.specs.declared.planned.Planned.{Planned}
-use Rattle.pack_schedule.proofs.PlannedLaws.{PlansAreShortest, planned_is_shortest, planned_count, need_is}
+use Rattle.pack_schedule.specs.declared.planned.Stop.{Stop}
+use Rattle.pack_schedule.specs.declared.planned.Stop.TheVariants.{Late}
+use Rattle.picture_changes.proofs.Times.{hold_order}
 
 -- what stands before picture k is drawn
 abbrev pub StandsAt : List Drawing → ℕ → Board → Type 0
@@ -53,39 +58,41 @@ one_planned script k planned more new h is added =
       ];
     })
 
+-- the planned change is a change, and each need is its length
+pub record PlannedAreChanges : Type 0 where
+  pub change : (script : List Drawing) (k : ℕ) → ((k x y : ℕ) → picture_pixel script k x y < 16) → IsChange script k (planned_change script k)
+  pub need : (script : List Drawing) (k need : ℕ) → ((k x y : ℕ) → picture_pixel script k x y < 16) → IsNeed script k need → need ≡ length (planned_change script k)
+
 -- picture k is late
-pub is_late : PlansAreShortest → (script : List Drawing) (k need free : ℕ) (planned : List Planned) → ((k x y : ℕ) → picture_pixel script k x y < 16) → k < pictures script → ArePlanned script k planned
+pub is_late : PlannedAreChanges → (script : List Drawing) (k need free : ℕ) (planned : List Planned) → ((k x y : ℕ) → picture_pixel script k x y < 16) → k < pictures script → ArePlanned script k planned
     → need ≡ length (planned_change script k) → free ≡ free_packs script k → (IsInTime script k need → ⊥) → IsLate script k need free
-is_late plans script k need free planned small lt are need_is' free_is' late = record {
+is_late known script k need free planned small lt are need_is' free_is' late = record {
   picture = lt;
-  need_is = (planned_change script k, planned_is_shortest plans script k small, sym need_is');
+  need_is = (planned_change script k, known.change script k small, sym need_is');
   free_is = free_is';
   late = late;
   before = λ j n j_lt h.
-      let one = need_is plans script j n small h in
-      let two = planned_count plans script j small in
       let planned_j = are.each j j_lt in
-      subst (λ m. IsInTime script j m) (planned_j.need_is ∙ two ∙ sym one) planned_j.in_time;
+      subst (λ m. IsInTime script j m) (planned_j.need_is ∙ sym (known.need script j n small h)) planned_j.in_time;
 }
 
--- times of pictures rise
-pub holds_rise : (script : List Drawing) → ((k : ℕ) → k < pictures script → ready_time script k ≤ hold_time script k) → ((k : ℕ) → k + 1 < pictures script → hold_time script k < ready_time script (k + 1))
-    → (k n : ℕ) → k + n < pictures script → hold_time script k ≤ hold_time script (k + n)
-holds_rise script held later k zero lt =
-    let same : k ≡ k + 0 = omega arith in
-    subst (λ m. hold_time script k ≤ hold_time script m) same (omega arith)
-holds_rise script held later k (suc n) lt =
-    let before = holds_rise script held later k n (omega arith) in
-    let next : k + n + 1 ≡ k + suc n = omega arith in
-    subst (λ m. hold_time script k ≤ hold_time script m) next (omega (arith, before, later (k + n) (omega arith), held (k + n + 1) (omega arith)))
+-- each need is the fewest, and a late picture cannot be ready
+pub record NeedsAreFewest : Type 0 where
+  pub fewest : (script : List Drawing) (k need : ℕ) → AreColoursInRange script → ((k x y : ℕ) → picture_pixel script k x y < 16) → IsNeed script k need → IsFewest script k need
+  pub late : (script : List Drawing) (k need free : ℕ) → AreTimesInOrder script → AreColoursInRange script → ((k x y : ℕ) → picture_pixel script k x y < 16) → IsLate script k need free → CannotBeReady script k need free
 
-pub is_within : (script : List Drawing) (blocks last : ℕ) → ((k : ℕ) → k < pictures script → ready_time script k ≤ hold_time script k) → ((k : ℕ) → k + 1 < pictures script → hold_time script k < ready_time script (k + 1))
-    → (0 < pictures script → last ≡ hold_time script (pictures script - 1)) → last ≤ blocks → IsWithin script blocks
-is_within script blocks last held later last_is le k lt =
-    let rise = holds_rise script held later k (pictures script - 1 - k) (omega arith) in
-    let end : k + (pictures script - 1 - k) ≡ pictures script - 1 = omega arith in
-    let same = ap (hold_time script) end in
-    omega (arith, rise, same, last_is (omega arith))
+pub all_fewest : PlannedAreChanges → NeedsAreFewest → (script : List Drawing) (planned : List Planned) → AreColoursInRange script → ((k x y : ℕ) → picture_pixel script k x y < 16) → IsSurvey script planned
+    → (k : ℕ) → k < pictures script → IsFewest script k (get_or planned k nothing_planned).need
+all_fewest known needs script planned ranges small surveyed k lt =
+    needs.fewest script k (get_or planned k nothing_planned).need ranges small (planned_change script k, known.change script k small, sym (surveyed.each k lt).need_is)
+
+pub late_told : NeedsAreFewest → (script : List Drawing) (blocks : ℕ) (stop : Stop) → AreTimesInOrder script → AreColoursInRange script → ((k x y : ℕ) → picture_pixel script k x y < 16) → IsStop script blocks stop
+    → (picture need free : ℕ) → stop ≡ Late picture need free → CannotBeReady script picture need free
+late_told needs script blocks stop order ranges small is picture need free late = needs.late script picture need free order ranges small (subst (IsStop script blocks) late is).1
+
+-- all pictures are held until the last one at most
+pub is_within : (script : List Drawing) (blocks last : ℕ) → AreTimesInOrder script → (0 < pictures script → last ≡ hold_time script (pictures script - 1)) → last ≤ blocks → IsWithin script blocks
+is_within script blocks last order last_is le k lt = omega (arith, hold_order script order k (pictures script - 1) (omega (arith, lt)) (omega (arith, lt)), last_is (omega (arith, lt)), le)
 
 pub not_in_time : (script : List Drawing) (k start need : ℕ) → start ≡ start_of script k → nat_le (start + need + 7) (4 * ready_time script k) ≡ false → IsInTime script k need → ⊥
 not_in_time script k start need is test h = elim (leb_tells (start + need + 7) (4 * ready_time script k)) [ inl less ↦ absurd (cc) | inr more ↦ omega (arith, more.1, is, h) ]

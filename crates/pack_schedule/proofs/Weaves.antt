@@ -3,22 +3,20 @@ use Rattle.std.proofs.Common.{◌≡◌, ℕ, suc, ◌+◌, ◌-◌, ◌*◌, �
 use Rattle.std.specs.Prelude.{Option, Some, None, MatchOption}
 use Rattle.std.proofs.lemmas.Bool.{cases_lt}
 use Rattle.std.proofs.lemmas.List.Elements.{All-get_or}
-use Rattle.cdg_instructions.specs.Instruction.{IsWritten}
+use Rattle.cdg_instructions.specs.Instruction.{InRange, IsKnown, IsWritten}
 use Rattle.cdg_instructions.specs.declared.instr.Instr.{Instr}
 use Rattle.cdg_instructions.specs.declared.instr.Instr.TheVariants.{Idle}
-use Rattle.picture_script.specs.Script.{Drawing, pictures, ready_time, hold_time, picture_pixel, picture_border, picture_colour}
+use Rattle.picture_script.specs.Script.{Drawing, pictures, ready_time, hold_time}
 use Rattle.picture_script.specs.Board.{Board, IsBlank, IsPicture, StandsBefore}
-use Rattle.pack_schedule.specs.Change.{IsStart}
-use Rattle.pack_schedule.specs.Schedule.{start_of, idle_pack}
-use Rattle.pack_schedule.specs.PlannedChange.{planned_from, planned_change}
+use Rattle.picture_changes.specs.Change.{IsStart}
+use Rattle.picture_changes.specs.Schedule.{start_of, idle_pack}
+use Rattle.picture_changes.specs.PlannedChange.{chosen_start, planned_from, planned_change}
 use Rattle.pack_schedule.specs.Survey.{nothing_planned, IsSurvey}
 use Rattle.pack_schedule.specs.Woven.{IsPackAt}
 use Rattle.pack_schedule.specs.Weaving.{Stands, IsWeaving}
 use Rattle.pack_schedule.specs.declared.loom.Loom.{Loom}
 use Rattle.pack_schedule.specs.declared.planned.Planned.{Planned}
-use Rattle.pack_schedule.proofs.PlannedLaws.{PlansAreShortest, chosen_is_start}
-use Rattle.pack_schedule.proofs.PlanLists.{IsFine, planned_fine}
-use Rattle.pack_schedule.proofs.Surveys.{holds_rise}
+use Rattle.picture_changes.proofs.Times.{hold_order}
 
 pub stands_ready : (script : List Drawing) (k : ℕ) (board : Board) → Stands script k board → StandsBefore script k board
 stands_ready script k board h = elim (cases_lt 0 k) [
@@ -45,8 +43,11 @@ stands_blank script board at h = record {
 }
 
 -- what a survey says of a picture
-pub start_allowed : (script : List Drawing) (survey : List Planned) (k : ℕ) (preset : Option ℕ) → IsSurvey script survey → k < pictures script → preset ≡ (get_or survey k nothing_planned).preset → IsStart k preset
-start_allowed script survey k preset h lt is = subst (IsStart k) (sym (is ∙ (h.each k lt).preset_is)) (chosen_is_start script k)
+abbrev pub ChosenIsStart : Type 0
+ChosenIsStart = (script : List Drawing) (k : ℕ) → IsStart k (chosen_start script k)
+
+pub start_allowed : ChosenIsStart → (script : List Drawing) (survey : List Planned) (k : ℕ) (preset : Option ℕ) → IsSurvey script survey → k < pictures script → preset ≡ (get_or survey k nothing_planned).preset → IsStart k preset
+start_allowed chosen script survey k preset h lt is = subst (IsStart k) (sym (is ∙ (h.each k lt).preset_is)) (chosen script k)
 
 pub change_planned : (script : List Drawing) (survey : List Planned) (k : ℕ) (preset : Option ℕ) (change : List Instr) → IsSurvey script survey → k < pictures script → preset ≡ (get_or survey k nothing_planned).preset
     → change ≡ planned_from script k preset → change ≡ planned_change script k
@@ -60,7 +61,7 @@ starts_apart : (script : List Drawing) (survey : List Planned) → IsSurvey scri
 starts_apart script survey h held later k n lt =
     let planned = h.each k (omega arith) in
     let in_time = planned.in_time in
-    let rise = holds_rise script held later k n (omega arith) in
+    let rise = hold_order script (record { held = held; later = later }) k (k + n) (omega arith) (omega (arith, lt)) in
     let next : k + suc n ≡ suc (k + n) = omega arith in
     let start : start_of script (k + suc n) ≡ 4 * hold_time script (k + n) - 7 = ap (start_of script) next in
     omega (arith, in_time, planned.need_is, rise, start, held k (omega arith))
@@ -138,10 +139,11 @@ more_given script loom given more le h = record {
 }
 
 -- each instruction of the change at hand can be written
-pub fine_at : PlansAreShortest → (script : List Drawing) (change : List Instr) (k i : ℕ) → ((k x y : ℕ) → picture_pixel script k x y < 16) → ((k : ℕ) → picture_border script k < 16) → ((k n : ℕ) → picture_colour script k n < 4096)
-    → change ≡ planned_change script k → i < length change → IsFine (get_or change i Idle)
-fine_at plans script change k i small border colour is lt =
-    All-get_or IsFine change i Idle lt (subst (All IsFine) (sym is) (planned_fine plans script k small border colour))
+abbrev pub IsFine : Instr → Type 0
+IsFine instr = InRange instr × IsKnown instr
+
+pub fine_at : (script : List Drawing) (change : List Instr) (k i : ℕ) → All IsFine (planned_change script k) → change ≡ planned_change script k → i < length change → IsFine (get_or change i Idle)
+fine_at script change k i fine is lt = All-get_or IsFine change i Idle lt (subst (All IsFine) (sym is) fine)
 
 -- a change ends in time
 pub end_fits : (script : List Drawing) (survey : List Planned) (k start need : ℕ) → IsSurvey script survey → k < pictures script → ((k : ℕ) → k < pictures script → ready_time script k ≤ hold_time script k)

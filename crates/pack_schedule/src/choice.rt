@@ -1,8 +1,8 @@
 // The start from which a picture takes the fewest instructions.
 ghost use Rattle.std.specs.Prelude.{◌≡◌, ◌<◌, ◌≤◌, ◌+◌, ◌-◌, ℕ, length, slice_index, Some, None, nat_lt, if◌then◌else◌};
 ghost use Rattle.picture_script.specs.Board.{IsPicture};
-ghost use Rattle.pack_schedule.specs.Change.{settings};
-ghost use Rattle.pack_schedule.specs.PlannedChange.{tile_steps, planned_length, preferred, chosen_start};
+ghost use Rattle.picture_changes.specs.Change.{settings};
+ghost use Rattle.picture_changes.specs.PlannedChange.{tile_steps, planned_length, preferred, chosen_start};
 
 use crate::counts::{Counts, count_tiles};
 use crate::settings::count_settings;

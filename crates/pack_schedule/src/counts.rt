@@ -4,7 +4,7 @@ ghost use Rattle.tile_author.specs.Plan.{steps};
 ghost use Rattle.cdg_instructions.specs.Instruction.{IsTilePixels};
 ghost use Rattle.picture_script.specs.Script.{pictures, picture_pixel};
 ghost use Rattle.picture_script.specs.Board.{IsPicture};
-ghost use Rattle.pack_schedule.specs.PlannedChange.{tile_steps};
+ghost use Rattle.picture_changes.specs.PlannedChange.{tile_steps};
 
 use cdg_instructions::{PIXELS, Tile};
 use picture_script::{Canvas, Script};

@@ -2,12 +2,12 @@
 ghost use Rattle.std.specs.Prelude.{◌≡◌, ◌<◌, ◌≤◌, ℕ, List, length};
 ghost use Rattle.rw_interleave.specs.Interleave.{whole_packs};
 ghost use Rattle.picture_script.specs.Script.{Drawing, pictures, ready_time, hold_time, picture_pixel};
-ghost use Rattle.pack_schedule.specs.Schedule.{IsSchedule};
+ghost use Rattle.picture_changes.specs.Schedule.{IsSchedule};
 ghost use Rattle.pack_schedule.specs.Survey.{IsSurvey, IsWithin};
 ghost use Rattle.pack_schedule.specs.Woven.{ArePacks};
 ghost use Rattle.pack_schedule.specs.declared.planned.Planned.{Planned};
 
-use tile_author::plans_are_shortest;
+use picture_changes::planned_changes_are_changes;
 
 /// A law: the packs that a weaver gives, as many as are whole in a program of so many blocks, are a schedule.
 pub fn packs_are_a_schedule()
@@ -16,5 +16,5 @@ pub fn packs_are_a_schedule()
         → IsWithin script blocks → IsSurvey script survey → length packs ≡ whole_packs blocks → ArePacks script packs
         → IsSchedule script blocks packs }
 {
-    plans_are_shortest();
+    planned_changes_are_changes();
 }

@@ -2,10 +2,10 @@
 use crate::change::Change;
 use crate::plans::Survey;
 use cdg_instructions::write;
+use picture_changes::{changes_can_be_written, planned_changes_are_changes};
 use picture_script::{Canvas, Script};
 use rw_code::Pack;
 use std::alloc::{AllocError, Global};
-use tile_author::plans_are_shortest;
 
 /// The change of picture `k`, that picture, and the picture before it.
 #[derive(Drop)]
@@ -20,8 +20,8 @@ pub(crate) struct Loom {
 impl Loom {
     ghost use Rattle.std.specs.Prelude.{◌≡◌, ◌<◌, ◌≤◌, ◌+◌, length, IfOk};
     ghost use Rattle.picture_script.specs.Script.{pictures};
-    ghost use Rattle.pack_schedule.specs.Schedule.{start_of};
-    ghost use Rattle.pack_schedule.specs.PlannedChange.{planned_change};
+    ghost use Rattle.picture_changes.specs.Schedule.{start_of};
+    ghost use Rattle.picture_changes.specs.PlannedChange.{planned_change};
     ghost use Rattle.pack_schedule.specs.Survey.{IsSurvey};
     ghost use Rattle.pack_schedule.specs.Woven.{IsPackAt};
     ghost use Rattle.pack_schedule.specs.Weaving.{Stands, IsWeaving};
@@ -56,6 +56,7 @@ impl Loom {
         ensures survey { self.new.survey ≡ self.old.survey }
         ensures k { self.new.k ≡ self.old.k }
     {
+        planned_changes_are_changes();
         self.now.draw_until(script, self.k);
         let preset = self.survey.preset(self.k);
         self.change
@@ -100,7 +101,8 @@ impl Loom {
         requires current { self.now.k < pictures script.now → given < start_of script.now self.now.k + length (planned_change script.now self.now.k) }
         ensures { IsPackAt script.now given result }
     {
-        plans_are_shortest();
+        planned_changes_are_changes();
+        changes_can_be_written();
         if self.k < script.pictures() {
             let start = self.survey.start(self.k);
             if given >= start {

@@ -1,17 +1,19 @@
 // The pictures of a script in turn: what each needs, and whether it is in time.
-ghost use Rattle.std.specs.Prelude.{◌≡◌, ◌<◌, ◌≤◌, ◌+◌, ◌-◌, ◌*◌, ℕ, length, IfOk, IfErr, Err, nat_le};
+ghost use Rattle.std.specs.Prelude.{◌≡◌, ◌<◌, ◌≤◌, ◌+◌, ◌-◌, ◌*◌, ℕ, length, slice_index_or, IfOk, IfErr, Err, nat_le};
 ghost use Rattle.picture_script.specs.Script.{pictures, hold_time, ready_time};
 ghost use Rattle.picture_script.specs.Board.{IsPicture};
-ghost use Rattle.pack_schedule.specs.Schedule.{start_of, free_packs};
-ghost use Rattle.pack_schedule.specs.PlannedChange.{chosen_start, planned_change};
-ghost use Rattle.pack_schedule.specs.Survey.{IsSurvey, IsWithin, IsPastEnd, IsStop};
+ghost use Rattle.picture_changes.specs.Schedule.{start_of, free_packs};
+ghost use Rattle.picture_changes.specs.PlannedChange.{chosen_start, planned_change};
+ghost use Rattle.picture_changes.specs.Brings.{CannotBeReady, IsFewest};
+ghost use Rattle.pack_schedule.specs.Survey.{nothing_planned, IsSurvey, IsWithin, IsPastEnd, IsStop};
 
 use crate::choice::choose_start;
 use crate::planned::{Planned, Stop};
 use crate::plans::Survey;
+use picture_changes::{changes_have_planned_lengths, planned_changes_are_changes};
 use picture_script::{Canvas, Script};
+use shortest_changes::needs_are_fewest;
 use std::alloc::Global;
-use tile_author::plans_are_shortest;
 
 /// Plans the change of each picture, for a program of so many blocks, which are below 450,000.
 ///
@@ -28,8 +30,13 @@ pub fn survey(alloc: Global, script: &Script, blocks: u32) -> Result<Survey, Sto
     ensures planned { IfOk result (IsSurvey script.now) }
     ensures err { IfErr result (IsStop script.now blocks) }
     ensures past_end { IsPastEnd script.now blocks → result ≡ Err (Stop.PastEnd blocks) }
+
+    // What a picture needs is the fewest instructions that bring it, of whatever form without scrolls; and a late picture cannot be ready.
+    ensures fewest { IfOk result (λ planned. (k : ℕ) → k < pictures script.now → IsFewest script.now k (slice_index_or planned k nothing_planned).need) }
+    ensures late { (picture need free : ℕ) → result ≡ Err (Stop.Late picture need free) → CannotBeReady script.now picture need free }
 {
-    plans_are_shortest();
+    planned_changes_are_changes();
+    needs_are_fewest();
     let pictures = script.pictures();
     if last_hold(script) > blocks {
         return Err(Stop::PastEnd { blocks });
@@ -97,7 +104,8 @@ fn plan_picture(script: &Script, k: u32, before: &Canvas, now: &Canvas) -> Plann
     ensures need { result.need ≡ length (planned_change script.now k) }
     ensures below { (result.start < 1800000) × (result.need ≤ 3076) }
 {
-    plans_are_shortest();
+    planned_changes_are_changes();
+    changes_have_planned_lengths();
     let _ranges = script.pictures();
     let choice = choose_start(script, k, before, now);
     Planned {

@@ -2,8 +2,8 @@
 ghost use Rattle.std.specs.Prelude.{◌≡◌, ◌<◌, ◌≤◌, ◌+◌, ◌-◌, ◌++◌, [], ◌∷◌, length, map, slice_index, if◌then◌else◌};
 ghost use Rattle.bit_lists.specs.Counting.{below};
 ghost use Rattle.picture_script.specs.Board.{IsPicture};
-ghost use Rattle.pack_schedule.specs.Change.{settings, preset_of, tiles_before, IsStart};
-ghost use Rattle.pack_schedule.specs.PlannedChange.{planned_tiles, planned_from};
+ghost use Rattle.picture_changes.specs.Change.{settings, preset_of, tiles_before, IsStart};
+ghost use Rattle.picture_changes.specs.PlannedChange.{planned_tiles, planned_from};
 
 use crate::change::Change;
 use crate::settings::has_colours;

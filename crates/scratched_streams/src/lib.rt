@@ -7,7 +7,7 @@ ghost use Rattle.stream_words.specs.Stream.{all_packs};
 ghost use Rattle.cue_sheet.specs.CueSheet.{CueSheet};
 ghost use Rattle.toc_model.specs.Places.{program_blocks};
 ghost use Rattle.picture_script.specs.Script.{Drawing};
-ghost use Rattle.shown_pictures.specs.Shown.{AreColoursInRange, AreTimesInOrder};
+ghost use Rattle.picture_changes.specs.Shown.{AreColoursInRange, AreTimesInOrder};
 ghost use Rattle.cdg_workload.specs.Scratches.{scratched};
 ghost use Rattle.subcode_author.specs.Authored.{IsAuthored};
 ghost use Rattle.subcode_player.specs.Convert.{IsDamagedStream};

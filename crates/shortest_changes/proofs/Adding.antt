@@ -6,8 +6,8 @@ use Rattle.std.proofs.lemmas.List.Elements.{All-head, All-tail}
 use Rattle.std.proofs.lemmas.List.Sums.{sum_by-cons}
 use Rattle.cdg_instructions.specs.declared.instr.Instr.{Instr}
 use Rattle.cdg_instructions.specs.declared.instr.Instr.TheVariants.{MemoryPreset, SetTile, XorTile}
-use Rattle.pack_schedule.specs.Change.{window_places}
-use Rattle.pack_schedule.proofs.PlannedLaws.{place_of, places_in_order}
+use Rattle.picture_changes.specs.Change.{window_places}
+use Rattle.picture_changes.proofs.Places.{place_of, places_in_order}
 use Rattle.shortest_changes.proofs.Tests.{by_test, and_both, eq_of}
 use Rattle.shortest_changes.proofs.Own.{is_here, own}
 

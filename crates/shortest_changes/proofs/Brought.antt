@@ -12,13 +12,13 @@ use Rattle.cdg_instructions.specs.Drawing.{IsOfPlace}
 use Rattle.cdg_screen.specs.Picture.{Standing, standing_after}
 use Rattle.picture_script.specs.Script.{Drawing, low_colours, high_colours, picture_border, picture_tile}
 use Rattle.tile_author.specs.Plan.{are_equal}
-use Rattle.pack_schedule.specs.Change.{settings, preset_of, tiles_before, AreTileChanges, window_places, IsChange, IsChangeFrom}
-use Rattle.shown_pictures.specs.Shown.{AreColoursInRange}
+use Rattle.picture_changes.specs.Change.{settings, preset_of, tiles_before, AreTileChanges, window_places, IsChange, IsChangeFrom}
+use Rattle.picture_changes.specs.Shown.{AreColoursInRange}
 use Rattle.shown_pictures.proofs.Tiles.{InTurn}
 use Rattle.shown_pictures.proofs.Changes.{IsReady, change_stands}
-use Rattle.shown_pictures.proofs.Known.{IsSound, change_sound}
+use Rattle.shown_pictures.proofs.Schedules.{ChangesAreSound, IsSound}
 use Rattle.shown_pictures.proofs.Pictures.{shown}
-use Rattle.shortest_changes.specs.Brings.{IsBefore, IsStill, SetsAll, Brings, sets_memory, sets_border, sets_low, sets_high}
+use Rattle.picture_changes.specs.Brings.{IsBefore, IsStill, SetsAll, Brings, sets_memory, sets_border, sets_low, sets_high}
 use Rattle.shortest_changes.proofs.Places.{tile_shown}
 
 -- ---- no instruction of a change scrolls
@@ -116,9 +116,9 @@ is_ready script (suc k) now is = record {
   v = is.1.1;
 }
 
-pub brings : InTurn → (script : List Drawing) (k : ℕ) (now : Standing) (instrs : List Instr) → AreColoursInRange script → IsChange script k instrs → IsBefore script k now → Brings script k now instrs
-brings in_turn script k now instrs ranges change is = record {
-  still = All-from_recursion IsStill instrs (all_still instrs (none_change script k change.start instrs change.change) (change_sound script ranges k change.start instrs change.change));
+pub brings : InTurn → ChangesAreSound → (script : List Drawing) (k : ℕ) (now : Standing) (instrs : List Instr) → AreColoursInRange script → IsChange script k instrs → IsBefore script k now → Brings script k now instrs
+brings in_turn sound_changes script k now instrs ranges change is = record {
+  still = All-from_recursion IsStill instrs (all_still instrs (none_change script k change.start instrs change.change) (recursion_from_All IsSound instrs (sound_changes script k change.start instrs ranges change.change)));
   shows = shown script k (standing_after now instrs) (change_stands in_turn script k change.start instrs now change.change (is_ready script k now is));
   sets = sets_if_first script k change.start instrs change.change;
 }

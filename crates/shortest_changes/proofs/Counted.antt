@@ -6,8 +6,8 @@ use Rattle.std.proofs.lemmas.List.{reverse-append}
 use Rattle.std.proofs.lemmas.List.Sums.{sum_by-cons, sum_by-append}
 use Rattle.cdg_instructions.specs.declared.instr.Instr.{Instr}
 use Rattle.cdg_instructions.specs.declared.instr.Instr.TheVariants.{MemoryPreset, ScrollPreset, ScrollCopy}
-use Rattle.pack_schedule.specs.Change.{preset_of, IsStart}
-use Rattle.shortest_changes.specs.Brings.{IsStill, sets_memory, sets_border, sets_low, sets_high}
+use Rattle.picture_changes.specs.Change.{preset_of, IsStart}
+use Rattle.picture_changes.specs.Brings.{IsStill, sets_memory, sets_border, sets_low, sets_high}
 use Rattle.shortest_changes.proofs.Own.{preset_in}
 use Rattle.shortest_changes.proofs.Adding.{tiles_in}
 

@@ -9,7 +9,7 @@ use Rattle.cdg_instructions.specs.declared.instr.Instr.{Instr}
 use Rattle.cdg_instructions.specs.declared.instr.Instr.TheVariants.{MemoryPreset, SetTile, XorTile, ScrollPreset, ScrollCopy}
 use Rattle.cdg_screen.specs.Picture.{Standing, covers, memory_from}
 use Rattle.shown_pictures.proofs.Tiles.{tile_x, tile_y, HoldsTile}
-use Rattle.shortest_changes.specs.Brings.{IsStill}
+use Rattle.picture_changes.specs.Brings.{IsStill}
 use Rattle.shortest_changes.proofs.Tests.{by_test, and_both, eq_of, are_eq, covers_here, covers_only}
 
 abbrev pub is_here : ℕ → ℕ → ℕ → ℕ → Bool

@@ -13,12 +13,13 @@ use Rattle.cdg_instructions.specs.declared.instr.Instr.{Instr}
 use Rattle.cdg_screen.specs.Picture.{Standing, memory_from, standing_after}
 use Rattle.tile_author.specs.Plan.{steps}
 use Rattle.picture_script.specs.Script.{Drawing, picture_pixel, picture_tile}
-use Rattle.pack_schedule.specs.Change.{window_places, tiles_before, IsStart}
-use Rattle.pack_schedule.specs.PlannedChange.{tile_steps}
-use Rattle.pack_schedule.proofs.PlannedLaws.{PlansAreShortest, place_of, places_in_order, picture_is_tile, colour_is_tile}
-use Rattle.shown_pictures.specs.Shown.{ShowsPicture}
+use Rattle.picture_changes.specs.Change.{window_places, tiles_before, IsStart}
+use Rattle.picture_changes.specs.PlannedChange.{tile_steps}
+use Rattle.picture_changes.proofs.Places.{place_of, places_in_order, picture_is_tile, colour_is_tile, start_small}
+use Rattle.picture_changes.proofs.PlannedLaws.{PlansAreShortest}
+use Rattle.picture_changes.specs.Shown.{ShowsPicture}
 use Rattle.shown_pictures.proofs.Tiles.{and_four, is_le, each_reverse, place_row, place_column, tile_x, tile_y, HoldsTile}
-use Rattle.shortest_changes.specs.Brings.{IsUnmoved, IsBefore, IsStill, Brings}
+use Rattle.picture_changes.specs.Brings.{IsUnmoved, IsBefore, IsStill, Brings}
 use Rattle.shortest_changes.proofs.Own.{own, own_tile, own_placed, preset_in, tile_since, length-tile_from}
 use Rattle.shortest_changes.proofs.Adding.{tiles_in, sum_le, owned_few, window_few}
 use Rattle.shortest_changes.proofs.Settings.{offsets_kept}
@@ -67,10 +68,6 @@ tile_of_memory memory row column p lt = sym (get_or-map-range_with_len (λ p. me
 in_turn : (a b c : ℕ) → a ≤ b → b ≤ c → a ≤ c
 in_turn a b c one two = omega (arith, one, two)
 
-small_start : (k colour : ℕ) → IsStart k (Some colour) → colour < 16
-small_start zero colour allowed = allowed
-small_start (suc k) colour allowed = allowed
-
 module _ (plans : PlansAreShortest) (script : List Drawing) (k : ℕ) (small : (k x y : ℕ) → picture_pixel script k x y < 16) (now : Standing) (instrs : List Instr) (is : IsBefore script k now) (brings : Brings script k now instrs) where
   pub still : AllByRecursion IsStill (reverse instrs)
   still = each_reverse IsStill instrs (recursion_from_All IsStill instrs brings.still)
@@ -109,7 +106,7 @@ module _ (plans : PlansAreShortest) (script : List Drawing) (k : ℕ) (small : (
       → steps (tiles_before script j start (place_row i) (place_column i)) (picture_tile script k (place_row i) (place_column i)) ≤ length (own (place_row i) (place_column i) (reverse instrs))
   by_start j (Some colour) same h preset allowed i bound =
       at_place i (map (λ p. now.memory (tile_x (place_column i) p) (tile_y (place_row i) p)) (below 72)) (replicate 72 colour) bound (tile_of_memory now.memory (place_row i) (place_column i))
-      (ap (λ o. tile_since o (map (λ p. now.memory (tile_x (place_column i) p) (tile_y (place_row i) p)) (below 72))) preset) (colour_is_tile colour (small_start j colour allowed))
+      (ap (λ o. tile_since o (map (λ p. now.memory (tile_x (place_column i) p) (tile_y (place_row i) p)) (below 72))) preset) (colour_is_tile colour (start_small j colour allowed))
   by_start zero None same h preset allowed i bound = absurd allowed
   by_start (suc j) None same h preset allowed i bound =
       let first : j ≡ suc j - 1 = omega arith in

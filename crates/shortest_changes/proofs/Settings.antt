@@ -12,8 +12,8 @@ use Rattle.cdg_instructions.specs.declared.instr.Instr.{Instr}
 use Rattle.cdg_instructions.specs.declared.instr.Instr.TheVariants.{BorderPreset, ColoursLow, ColoursHigh, ScrollPreset, ScrollCopy}
 use Rattle.cdg_screen.specs.Picture.{Standing, border_from, colour_from, offsets_from}
 use Rattle.picture_script.specs.Script.{Drawing, picture_border, picture_colour, low_colours, high_colours}
-use Rattle.pack_schedule.specs.Change.{settings}
-use Rattle.shortest_changes.specs.Brings.{IsBefore, IsStill, Brings, sets_border, sets_low, sets_high}
+use Rattle.picture_changes.specs.Change.{settings}
+use Rattle.picture_changes.specs.Brings.{IsBefore, IsStill, Brings, sets_border, sets_low, sets_high}
 use Rattle.shortest_changes.proofs.Tests.{is_eq, is_low, is_high}
 use Rattle.shortest_changes.proofs.Counted.{count-reverse, counted}
 

@@ -1,23 +1,30 @@
 -- No list that brings a picture is shorter than its change.
-use Rattle.std.proofs.Common.{◌≡◌, ℕ, zero, suc, ◌+◌, ◌-◌, ◌*◌, ◌<◌, ◌≤◌, List, length, refl, inl, inr, sym, subst, arith}
+use Rattle.std.proofs.Common.{◌≡◌, ℕ, zero, suc, ◌+◌, ◌-◌, ◌*◌, ◌<◌, ◌≤◌, List, ◌++◌, length, length-append, refl, inl, inr, ap, sym, ◌∙◌, subst, arith}
 use Rattle.std.proofs.lemmas.Bool.{cases_lt}
 use Rattle.std.specs.Prelude.{reverse}
 use Rattle.std.specs.declared.option.Option.{Option}
 use Rattle.std.proofs.lemmas.List.{length-reverse}
-use Rattle.std.proofs.lemmas.List.Sums.{count_by-le-length}
 use Rattle.cdg_instructions.specs.declared.instr.Instr.{Instr}
 use Rattle.cdg_screen.specs.Picture.{Standing}
 use Rattle.picture_script.specs.Script.{Drawing, pictures, ready_time, hold_time, picture_pixel}
-use Rattle.pack_schedule.specs.Change.{IsNeed, IsStart}
-use Rattle.pack_schedule.specs.Schedule.{IsLate, start_of}
-use Rattle.pack_schedule.specs.PlannedChange.{planned_from, planned_length, planned_change}
-use Rattle.pack_schedule.proofs.PlannedLaws.{PlansAreShortest, planned_is_change, planned_is_shortest, change_length}
-use Rattle.shown_pictures.specs.Shown.{AreTimesInOrder}
-use Rattle.shortest_changes.specs.Brings.{IsBefore, Brings, sets_memory}
+use Rattle.picture_changes.specs.Change.{settings, preset_of, IsChange, IsChangeFrom, IsNeed, IsStart}
+use Rattle.picture_changes.specs.Schedule.{IsLate, start_of}
+use Rattle.picture_changes.specs.PlannedChange.{planned_from, planned_length, planned_change}
+use Rattle.picture_changes.proofs.PlannedLaws.{PlansAreShortest}
+use Rattle.picture_changes.specs.Shown.{AreTimesInOrder}
+use Rattle.picture_changes.specs.Brings.{IsBefore, Brings, sets_memory}
 use Rattle.shortest_changes.proofs.Own.{preset_in}
 use Rattle.shortest_changes.proofs.Counted.{count-reverse, total, start_allowed}
 use Rattle.shortest_changes.proofs.Settings.{settings_needed}
 use Rattle.shortest_changes.proofs.Places.{still, tiles_needed}
+
+-- what is known of changes with a start, and of the change that is written
+pub record ChangesAreKnown : Type 0 where
+  pub planned : (script : List Drawing) (k : ℕ) (start : Option ℕ) → ((k x y : ℕ) → picture_pixel script k x y < 16) → IsStart k start → IsChangeFrom script k start (planned_from script k start)
+  pub length : (script : List Drawing) (k : ℕ) (start : Option ℕ) (instrs : List Instr) → ((k x y : ℕ) → picture_pixel script k x y < 16) → IsChangeFrom script k start instrs → length instrs ≡ planned_length script k start
+
+abbrev pub WritesChanges : Type 0
+WritesChanges = (script : List Drawing) (k : ℕ) → ((k x y : ℕ) → picture_pixel script k x y < 16) → IsChange script k (planned_change script k)
 
 module _ (plans : PlansAreShortest) (script : List Drawing) (k : ℕ) (small : (k x y : ℕ) → picture_pixel script k x y < 16) (now : Standing) (instrs : List Instr) (is : IsBefore script k now) (brings : Brings script k now instrs) where
   abbrev start : Option ℕ
@@ -32,37 +39,40 @@ module _ (plans : PlansAreShortest) (script : List Drawing) (k : ℕ) (small : (
   as_long =
       omega (arith, total (reverse instrs), settings_needed script k now instrs is brings, tiles_needed plans script k small now instrs is brings start refl allowed, length-reverse instrs)
 
-  pub not_shorter : (need : ℕ) → IsNeed script k need → need ≤ length instrs
-  not_shorter need (change, shortest, count) =
-      let planned = planned_is_change plans script k start small allowed in
+  pub not_shorter : ChangesAreKnown → (need : ℕ) → IsNeed script k need → need ≤ length instrs
+  not_shorter known need (change, shortest, count) =
+      let planned = known.planned script k start small allowed in
       let one = shortest.shortest start (planned_from script k start) planned in
-      let two = change_length plans script k start (planned_from script k start) small planned in
+      let two = known.length script k start (planned_from script k start) small planned in
       omega (arith, one, two, count, as_long)
 
--- so many packs are free for a picture that is late
-free_few : (start ready need size : ℕ) → (start + need + 7 ≤ 4 * ready → ⊥) → start + 7 ≤ 4 * ready → need ≤ size → 4 * ready - 7 - start < size
-free_few start ready need size late room enough = elim (cases_lt (4 * ready) (start + need + 7)) [
-  | inl less ↦ omega (arith, less, room, enough)
+-- more than the packs that are free are needed for a picture that is late
+free_few : (start ready need : ℕ) → (start + need + 7 ≤ 4 * ready → ⊥) → start + 7 ≤ 4 * ready → 4 * ready - 7 - start < need
+free_few start ready need late room = elim (cases_lt (4 * ready) (start + need + 7)) [
+  | inl less ↦ omega (arith, less, room)
   | inr in_time ↦ absurd (late in_time)
 ]
 
-first_few : (ready need size : ℕ) → (0 + need + 7 ≤ 4 * ready → ⊥) → 0 < size → need ≤ size → 4 * ready - 7 - 0 < size
-first_few ready need size late some enough = elim (cases_lt (4 * ready) (0 + need + 7)) [
-  | inl less ↦ omega (arith, less, some, enough)
+first_few : (ready need : ℕ) → (0 + need + 7 ≤ 4 * ready → ⊥) → 0 < need → 4 * ready - 7 - 0 < need
+first_few ready need late some = elim (cases_lt (4 * ready) (0 + need + 7)) [
+  | inl less ↦ omega (arith, less, some)
   | inr in_time ↦ absurd (late in_time)
 ]
 
-pub longer_than_free : PlansAreShortest → (script : List Drawing) (k need free : ℕ) (now : Standing) (instrs : List Instr) → ((k x y : ℕ) → picture_pixel script k x y < 16) → AreTimesInOrder script → IsLate script k need free
-    → IsBefore script k now → Brings script k now instrs → free < length instrs
-longer_than_free plans script zero need free now instrs small order late is brings =
-    let enough = not_shorter plans script zero small now instrs is brings need late.need_is in
-    let some : 0 < length instrs = omega (arith, (brings.sets refl).memory, count_by-le-length sets_memory instrs) in
-    omega (arith, late.free_is, first_few (ready_time script 0) need (length instrs) late.late some enough)
-longer_than_free plans script (suc k) need free now instrs small order late is brings =
-    let enough = not_shorter plans script (suc k) small now instrs is brings need late.need_is in
-    let earlier = late.before k (length (planned_change script k)) (omega arith) (planned_change script k, planned_is_shortest plans script k small, refl) in
+first_needs : (script : List Drawing) (need : ℕ) → IsNeed script 0 need → 0 < need
+first_needs script need (instrs, change, count) =
+    let whole = ap length change.change.whole ∙ length-append (preset_of change.start ++ settings script 0) change.change.tiles in
+    let first = length-append (preset_of change.start) (settings script 0) in
+    let three : length (settings script 0) ≡ 3 = refl in
+    omega (arith, whole, first, three, count)
+
+pub late_needs_more : WritesChanges → (script : List Drawing) (k need free : ℕ) → ((k x y : ℕ) → picture_pixel script k x y < 16) → AreTimesInOrder script → IsLate script k need free → free < need
+late_needs_more writes script zero need free small order late =
+    omega (arith, late.free_is, first_few (ready_time script 0) need late.late (first_needs script need late.need_is))
+late_needs_more writes script (suc k) need free small order late =
+    let earlier = late.before k (length (planned_change script k)) (omega arith) (planned_change script k, writes script k small, refl) in
     let held = order.held k (omega (arith, late.picture)) in
     let next : suc k ≡ k + 1 = omega arith in
     let later : hold_time script k < ready_time script (suc k) = subst (λ n. hold_time script k < ready_time script n) (sym next) (order.later k (subst (λ n. n < pictures script) next late.picture)) in
     let room : start_of script (suc k) + 7 ≤ 4 * ready_time script (suc k) = omega (arith, earlier, held, later) in
-    omega (arith, late.free_is, free_few (start_of script (suc k)) (ready_time script (suc k)) need (length instrs) late.late room enough)
+    omega (arith, late.free_is, free_few (start_of script (suc k)) (ready_time script (suc k)) need late.late room)

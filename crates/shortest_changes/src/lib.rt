@@ -5,12 +5,15 @@ ghost use Rattle.std.specs.Prelude.{◌≡◌, ◌<◌, ◌≤◌, List, ℕ, le
 ghost use Rattle.cdg_instructions.specs.declared.instr.Instr.{Instr};
 ghost use Rattle.cdg_screen.specs.Picture.{Standing};
 ghost use Rattle.picture_script.specs.Script.{Drawing, picture_pixel};
-ghost use Rattle.pack_schedule.specs.Change.{IsChange, IsNeed};
-ghost use Rattle.pack_schedule.specs.Schedule.{IsLate};
-ghost use Rattle.shown_pictures.specs.Shown.{AreColoursInRange, AreTimesInOrder};
-ghost use Rattle.shortest_changes.specs.Brings.{Brings, IsBefore};
+ghost use Rattle.picture_changes.specs.Change.{IsChange, IsNeed};
+ghost use Rattle.picture_changes.specs.Schedule.{IsLate};
+ghost use Rattle.picture_changes.specs.Shown.{AreColoursInRange, AreTimesInOrder};
+ghost use Rattle.picture_changes.specs.Brings.{Brings, CannotBeReady, IsBefore, IsFewest};
 
 use cdg_screen::instructions_in_turn;
+use picture_changes::{
+    changes_can_be_written, changes_have_planned_lengths, planned_changes_are_changes,
+};
 use tile_author::plans_are_shortest;
 
 /// A law: every change for a picture brings it, whatever may stand before.
@@ -19,6 +22,7 @@ pub fn changes_bring_pictures()
         → IsChange script k instrs → IsBefore script k now → Brings script k now instrs }
 {
     instructions_in_turn();
+    changes_can_be_written();
 }
 
 /// A law: no list of instructions without scrolls brings a picture, from anything that may stand before it, with fewer instructions
@@ -32,4 +36,18 @@ pub fn no_shorter_list_brings()
         → IsBefore script k now → Brings script k now instrs → free < length instrs }
 {
     plans_are_shortest();
+    changes_have_planned_lengths();
+    planned_changes_are_changes();
+}
+
+/// A law: what a picture needs is the fewest instructions that bring it, and a late picture cannot be ready.
+pub fn needs_are_fewest()
+    ensures fewest { (script : List Drawing) (k need : ℕ) → AreColoursInRange script → ((k x y : ℕ) → picture_pixel script k x y < 16)
+        → IsNeed script k need → IsFewest script k need }
+    ensures late { (script : List Drawing) (k need free : ℕ) → AreTimesInOrder script → AreColoursInRange script
+        → ((k x y : ℕ) → picture_pixel script k x y < 16) → IsLate script k need free → CannotBeReady script k need free }
+{
+    changes_bring_pictures();
+    no_shorter_list_brings();
+    planned_changes_are_changes();
 }

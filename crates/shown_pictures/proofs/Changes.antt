@@ -5,7 +5,7 @@ use Rattle.std.proofs.lemmas.List.{get_or-replicate}
 use Rattle.picture_script.specs.Script.{Drawing, picture_border, picture_colour, picture_tile}
 use Rattle.cdg_instructions.specs.declared.instr.Instr.{Instr}
 use Rattle.cdg_screen.specs.Picture.{Standing, SameStanding, standing_after}
-use Rattle.pack_schedule.specs.Change.{settings, preset_of, tiles_before, IsStart, IsChangeFrom}
+use Rattle.picture_changes.specs.Change.{settings, preset_of, tiles_before, IsStart, IsChangeFrom}
 use Rattle.shown_pictures.proofs.Tiles.{InTurn, HoldsAt, Changed, place_row, place_column, tile_x, tile_y, window_changes}
 use Rattle.shown_pictures.proofs.Settings.{IsSet, first_settings, later_settings}
 

@@ -1,6 +1,5 @@
 pub mod Tiles
 pub mod Settings
 pub mod Changes
-pub mod Known
 pub mod Schedules
 pub mod Pictures

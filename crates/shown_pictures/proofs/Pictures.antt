@@ -6,11 +6,12 @@ use Rattle.rw_interleave.specs.Interleave.{whole_packs}
 use Rattle.picture_script.specs.Script.{Drawing, pictures, ready_time, hold_time, picture_pixel, picture_tile}
 use Rattle.cdg_instructions.specs.declared.instr.Instr.{Instr}
 use Rattle.cdg_screen.specs.Picture.{Standing, blank, standing_after}
-use Rattle.pack_schedule.specs.Schedule.{IsSchedule}
-use Rattle.shown_pictures.specs.Shown.{AreTimesInOrder, AreColoursInRange, AreMeantBy, ShowsPicture}
+use Rattle.picture_changes.specs.Schedule.{IsSchedule}
+use Rattle.picture_changes.specs.Shown.{AreTimesInOrder, AreColoursInRange, ShowsPicture}
+use Rattle.shown_pictures.specs.Shown.{AreMeantBy}
 use Rattle.shown_pictures.proofs.Tiles.{InTurn, and_four, is_le, place_row, place_column, tile_x, tile_y}
 use Rattle.shown_pictures.proofs.Changes.{Stands}
-use Rattle.shown_pictures.proofs.Schedules.{OneMeaning, ReadAsWritten, means_each, stands_at}
+use Rattle.shown_pictures.proofs.Schedules.{ChangesAreSound, OneMeaning, ReadAsWritten, means_each, stands_at}
 
 -- the tile of a pixel of the window, and its number in that tile
 abbrev tile_number : ℕ → ℕ → ℕ
@@ -44,11 +45,11 @@ shown script k s stands = record {
   colours = stands.colours;
 }
 
-pub pictures_shown : InTurn → OneMeaning → ReadAsWritten → (script : List Drawing) (blocks : ℕ) (packs : List (List ℕ)) (k time : ℕ) (instrs : List Instr) → AreTimesInOrder script → AreColoursInRange script → IsSchedule script blocks packs
+pub pictures_shown : InTurn → OneMeaning → ReadAsWritten → ChangesAreSound → (script : List Drawing) (blocks : ℕ) (packs : List (List ℕ)) (k time : ℕ) (instrs : List Instr) → AreTimesInOrder script → AreColoursInRange script → IsSchedule script blocks packs
     → k < pictures script → ready_time script k ≤ time → time ≤ hold_time script k → AreMeantBy (take (whole_packs time) packs) instrs → ShowsPicture script k (standing_after blank instrs)
-pictures_shown in_turn one_meaning read_back script blocks packs k time instrs order ranges schedule picture ready held meant =
+pictures_shown in_turn one_meaning read_back sound_changes script blocks packs k time instrs order ranges schedule picture ready held meant =
     let some : whole_packs time ≤ length packs = omega (arith, held, schedule.held k picture, schedule.count) in
     let means = means_each (take (whole_packs time) packs) instrs meant in
-    let stands = stands_at in_turn one_meaning read_back script blocks packs order ranges schedule (whole_packs time) some instrs means k picture (whole_packs time) (omega (arith, schedule.fits k picture, ready)) (omega (arith, held)) (omega arith) in
+    let stands = stands_at in_turn one_meaning read_back sound_changes script blocks packs order ranges schedule (whole_packs time) some instrs means k picture (whole_packs time) (omega (arith, schedule.fits k picture, ready)) (omega (arith, held)) (omega arith) in
     let all : take (whole_packs time) instrs ≡ instrs = take_all (whole_packs time) instrs (omega (arith, means.count, length-take-le (whole_packs time) packs some)) in
     shown script k (standing_after blank instrs) (subst (λ (is : List Instr). Stands script k (standing_after blank is)) all stands)

@@ -1,22 +1,24 @@
 -- What stands while the packs of a schedule come.
-use Rattle.std.proofs.Common.{◌≡◌, ℕ, zero, suc, ◌+◌, ◌-◌, ◌<◌, ◌≤◌, inl, inr, List, [], ◌∷◌, length, get_or, take, drop, refl, sym, ap, ◌∙◌, subst, arith, length-drop}
-use Rattle.std.specs.Prelude.{reverse}
+use Rattle.std.proofs.Common.{◌≡◌, ℕ, zero, suc, ◌+◌, ◌-◌, ◌<◌, ◌≤◌, inl, inr, List, [], ◌∷◌, length, get_or, take, drop, All, refl, sym, ap, ◌∙◌, subst, arith, length-drop}
+use Rattle.std.specs.Prelude.{Option, reverse}
 use Rattle.std.specs.List.{AllByRecursion}
 use Rattle.std.proofs.Math.Seq.{take-add}
 use Rattle.std.proofs.lemmas.Bool.Decides.{leb_tells}
 use Rattle.std.proofs.lemmas.List.{ext_get_or, get_or-take, get_or-drop, length-take-le}
-use Rattle.std.proofs.lemmas.List.Elements.{All-from_recursion, All-from_get_or, All-get_or, recursion_from_All}
+use Rattle.std.proofs.lemmas.List.Elements.{All-from_get_or, All-get_or, recursion_from_All}
 use Rattle.rw_interleave.specs.Interleave.{whole_packs}
-use Rattle.picture_script.specs.Script.{Drawing, pictures, ready_time, hold_time}
+use Rattle.picture_script.specs.Script.{Drawing, pictures, hold_time}
 use Rattle.cdg_instructions.specs.Instruction.{Means, InRange, IsKnown, IsWritten}
 use Rattle.cdg_instructions.specs.declared.instr.Instr.{Instr}
 use Rattle.cdg_instructions.specs.declared.instr.Instr.TheVariants.{Idle}
 use Rattle.cdg_screen.specs.Picture.{Standing, SameStanding, blank, memory_from, border_from, colour_from, level_from, offsets_from, standing_after}
-use Rattle.pack_schedule.specs.Schedule.{start_of, idle_pack, IsSchedule}
-use Rattle.shown_pictures.specs.Shown.{AreTimesInOrder, AreColoursInRange, AreMeantBy}
+use Rattle.picture_changes.specs.Schedule.{start_of, idle_pack, IsSchedule}
+use Rattle.picture_changes.specs.Change.{IsChangeFrom}
+use Rattle.picture_changes.specs.Shown.{AreTimesInOrder, AreColoursInRange}
+use Rattle.picture_changes.proofs.Times.{hold_order}
+use Rattle.shown_pictures.specs.Shown.{AreMeantBy}
 use Rattle.shown_pictures.proofs.Tiles.{InTurn, each_reverse}
 use Rattle.shown_pictures.proofs.Changes.{Stands, IsReady, stands_same, change_stands}
-use Rattle.shown_pictures.proofs.Known.{IsSound, change_sound}
 
 -- the laws of the instructions
 abbrev pub OneMeaning : Type 0
@@ -24,6 +26,12 @@ OneMeaning = (word : List ℕ) (one other : Instr) → Means word one → Means 
 
 abbrev pub ReadAsWritten : Type 0
 ReadAsWritten = (instr read : Instr) (word : List ℕ) → InRange instr → IsKnown instr → IsWritten instr word → Means word read → read ≡ instr
+
+abbrev pub IsSound : Instr → Type 0
+IsSound instr = InRange instr × IsKnown instr
+
+abbrev pub ChangesAreSound : Type 0
+ChangesAreSound = (script : List Drawing) (k : ℕ) (start : Option ℕ) (instrs : List Instr) → AreColoursInRange script → IsChangeFrom script k start instrs → All IsSound instrs
 
 -- ---- packs by their numbers
 
@@ -65,19 +73,6 @@ same_trans a b c one two = record {
 
 -- ---- times in order
 
-hold_order : (script : List Drawing) → AreTimesInOrder script → (i j : ℕ) → i ≤ j → j < pictures script → hold_time script i ≤ hold_time script j
-hold_order script order i zero le lt = let is : i ≡ 0 = omega (arith, le) in omega (arith, ap (hold_time script) is)
-hold_order script order i (suc j) le lt =
-    let next : suc j ≡ j + 1 = omega arith in
-    elim (leb_tells i j) [
-      | inl before ↦
-          let one = hold_order script order i j before.1 (omega (arith, lt)) in
-          let two = order.later j (omega (arith, lt)) in
-          let three = subst (λ (k : ℕ). ready_time script k ≤ hold_time script k) next (order.held (suc j) lt) in
-          omega (arith, one, two, three, ap (hold_time script) next)
-      | inr same ↦ let is : i ≡ suc j = omega (arith, same.1, le) in omega (arith, ap (hold_time script) is)
-    ]
-
 start_order : (script : List Drawing) → AreTimesInOrder script → (i j : ℕ) → i ≤ j → j < pictures script → start_of script i ≤ start_of script j
 start_order script order zero j le lt = omega arith
 start_order script order (suc i) zero le lt = absurd (omega (arith, le))
@@ -85,7 +80,7 @@ start_order script order (suc i) (suc j) le lt = omega (arith, hold_order script
 
 -- ---- the packs of a schedule as they come
 
-module _ (in_turn : InTurn) (one_meaning : OneMeaning) (read_back : ReadAsWritten) (script : List Drawing) (blocks : ℕ) (packs : List (List ℕ)) (order : AreTimesInOrder script) (ranges : AreColoursInRange script) (schedule : IsSchedule script blocks packs)
+module _ (in_turn : InTurn) (one_meaning : OneMeaning) (read_back : ReadAsWritten) (sound_changes : ChangesAreSound) (script : List Drawing) (blocks : ℕ) (packs : List (List ℕ)) (order : AreTimesInOrder script) (ranges : AreColoursInRange script) (schedule : IsSchedule script blocks packs)
     (many : ℕ) (some : many ≤ length packs) (instrs : List Instr) (means : MeansEach (take many packs) instrs) where
   total : length instrs ≡ many
   total = means.count ∙ length-take-le many packs some
@@ -119,7 +114,7 @@ module _ (in_turn : InTurn) (one_meaning : OneMeaning) (read_back : ReadAsWritte
   change_segment : (k : ℕ) → k < pictures script → start_of script k + length (change_of k) ≤ many → take (length (change_of k)) (drop (start_of script k) instrs) ≡ change_of k
   change_segment k picture fits =
       let change = schedule.change k picture in
-      let sound = All-from_recursion IsSound (change_of k) (change_sound script ranges k change.start (change_of k) change.change) in
+      let sound = sound_changes script k change.start (change_of k) ranges change.change in
       ext_get_or Idle (take (length (change_of k)) (drop (start_of script k) instrs)) (change_of k) (segment (start_of script k) (length (change_of k)) fits) (λ j lt.
       let small : j < length (change_of k) = omega (arith, lt, segment (start_of script k) (length (change_of k)) fits) in
       let fine = All-get_or IsSound (change_of k) j Idle small sound in

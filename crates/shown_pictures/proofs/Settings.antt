@@ -9,7 +9,7 @@ use Rattle.picture_script.specs.Script.{Drawing, picture_border, picture_colour,
 use Rattle.cdg_instructions.specs.declared.instr.Instr.{Instr}
 use Rattle.cdg_instructions.specs.declared.instr.Instr.TheVariants.{BorderPreset, ColoursLow, ColoursHigh}
 use Rattle.cdg_screen.specs.Picture.{Standing, standing_after}
-use Rattle.pack_schedule.specs.Change.{settings}
+use Rattle.picture_changes.specs.Change.{settings}
 use Rattle.shown_pictures.proofs.Tiles.{InTurn}
 
 -- ---- equal lists

@@ -11,7 +11,7 @@ use Rattle.cdg_instructions.specs.Drawing.{IsOfPlace, drawn, tile_colour, tile_f
 use Rattle.cdg_instructions.specs.declared.instr.Instr.{Instr}
 use Rattle.cdg_instructions.specs.declared.instr.Instr.TheVariants.{SetTile, XorTile}
 use Rattle.cdg_screen.specs.Picture.{Standing, SameStanding, covers, memory_from, border_from, colour_from, offsets_from, standing_after}
-use Rattle.pack_schedule.specs.Change.{AreTileChanges, window_places}
+use Rattle.picture_changes.specs.Change.{AreTileChanges, window_places}
 
 -- ---- tests
 

@@ -17,8 +17,9 @@ use Rattle.cdg_instructions.specs.Instruction.{Means}
 use Rattle.cdg_instructions.specs.declared.instr.Instr.{Instr}
 use Rattle.cdg_screen.specs.Picture.{Standing, blank, standing_of, standing_after, SameStanding}
 use Rattle.picture_script.specs.Script.{Drawing, pictures, ready_time, hold_time}
-use Rattle.pack_schedule.specs.Schedule.{IsSchedule}
-use Rattle.shown_pictures.specs.Shown.{ShowsPicture, AreTimesInOrder, AreColoursInRange, AreMeantBy}
+use Rattle.picture_changes.specs.Schedule.{IsSchedule}
+use Rattle.picture_changes.specs.Shown.{ShowsPicture, AreTimesInOrder, AreColoursInRange}
+use Rattle.shown_pictures.specs.Shown.{AreMeantBy}
 use Rattle.stream_trial.specs.Counts.{differing}
 use Rattle.stream_trial.specs.Replay.{one_where, TakesWord, TakesNothing, IsBelow, slot_of, IsDamagedSchedule, IsPlayedOut}
 use Rattle.stream_trial.specs.declared.replay.Replay.{Replay}

@@ -10,7 +10,7 @@ use Rattle.cdg_instructions.specs.declared.instr.Instr.{Instr}
 use Rattle.cdg_screen.specs.Picture.{Standing, standing_of, standing_after, screen_pixel, SameStanding}
 use Rattle.picture_script.specs.Script.{Drawing, pictures}
 use Rattle.picture_script.specs.Board.{Board, pixel_of}
-use Rattle.pack_schedule.specs.Schedule.{IsSchedule}
+use Rattle.picture_changes.specs.Schedule.{IsSchedule}
 use Rattle.stream_trial.specs.Counts.{differing}
 use Rattle.stream_trial.specs.declared.replay.Replay.{Replay}
 use Rattle.stream_trial.specs.declared.playing.Counts.{Counts}

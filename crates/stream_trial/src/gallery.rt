@@ -3,7 +3,7 @@ ghost use Rattle.std.specs.Prelude.{◌≡◌, ◌≢◌, ◌<◌, ◌≤◌, �
 ghost use Rattle.cdg_screen.specs.Picture.{Standing, standing_of, SameStanding};
 ghost use Rattle.picture_script.specs.Script.{Drawing, pictures, ready_time};
 ghost use Rattle.picture_script.specs.Board.{StandsBefore};
-ghost use Rattle.shown_pictures.specs.Shown.{ShowsPicture};
+ghost use Rattle.picture_changes.specs.Shown.{ShowsPicture};
 
 use crate::comparing::agrees;
 use cdg_screen::Screen;

@@ -1,7 +1,10 @@
 -- What a stop of the pictures is for the whole.
 use Rattle.cue_sheet.specs.CueSheet.{CueSheet}
-use Rattle.std.proofs.Common.{ℕ, List}
-use Rattle.picture_script.specs.Script.{Drawing}
+use Rattle.std.proofs.Common.{◌≡◌, ℕ, ◌<◌, List, subst}
+use Rattle.picture_script.specs.Script.{Drawing, picture_pixel}
+use Rattle.picture_changes.specs.Schedule.{IsLate}
+use Rattle.picture_changes.specs.Shown.{AreColoursInRange, AreTimesInOrder}
+use Rattle.picture_changes.specs.Brings.{CannotBeReady}
 use Rattle.subcode_author.specs.AuthorAnswer.{HoldsPictures, HasRoom, IsPictureStop, IsAuthorStop}
 use Rattle.subcode_author.specs.declared.stops.AuthorStop.{AuthorStop}
 use Rattle.subcode_author.specs.declared.stops.AuthorStop.TheVariants.{Late, NoMemory}
@@ -11,3 +14,12 @@ pub picture_stop : (sheet : CueSheet) (script : List Drawing) (lead_in audio : �
 picture_stop sheet script lead_in audio (Late picture need free) disc room late = (disc, room, late)
 picture_stop sheet script lead_in audio NoMemory disc room none = disc.0
 picture_stop sheet script lead_in audio stop disc room none = absurd none
+
+-- a late picture cannot be ready
+abbrev pub LateCannotBeReady : Type 0
+LateCannotBeReady = (script : List Drawing) (k need free : ℕ) → AreTimesInOrder script → AreColoursInRange script → ((k x y : ℕ) → picture_pixel script k x y < 16) → IsLate script k need free → CannotBeReady script k need free
+
+pub late_told : LateCannotBeReady → (sheet : CueSheet) (script : List Drawing) (lead_in audio : ℕ) (stop : AuthorStop) → AreTimesInOrder script → AreColoursInRange script → ((k x y : ℕ) → picture_pixel script k x y < 16)
+    → IsAuthorStop sheet script lead_in audio stop → (picture need free : ℕ) → stop ≡ Late picture need free → CannotBeReady script picture need free
+late_told law sheet script lead_in audio stop order ranges pixels is picture need free told =
+    law script picture need free order ranges pixels (subst (IsAuthorStop sheet script lead_in audio) told is).2

@@ -13,8 +13,8 @@ use Rattle.rw_interleave.specs.Spreading.{filled_with_idle}
 use Rattle.cue_sheet.specs.CueSheet.{CueSheet}
 use Rattle.toc_model.specs.Places.{DiscLayout, layout_of, place_of, program_blocks}
 use Rattle.picture_script.specs.Script.{Drawing, pictures, ready_time, hold_time, picture_pixel}
-use Rattle.pack_schedule.specs.Schedule.{start_of, IsInTime, IsSchedule}
-use Rattle.pack_schedule.specs.PlannedChange.{planned_change}
+use Rattle.picture_changes.specs.Schedule.{start_of, IsInTime, IsSchedule}
+use Rattle.picture_changes.specs.PlannedChange.{planned_change}
 use Rattle.pack_schedule.specs.Survey.{IsSurvey, IsWithin}
 use Rattle.pack_schedule.specs.Woven.{IsPackAt, ArePacks}
 use Rattle.pack_schedule.specs.declared.planned.Planned.{Planned}

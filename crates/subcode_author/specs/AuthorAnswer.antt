@@ -3,8 +3,8 @@ use Rattle.std.specs.Prelude.{◌≡◌, ℕ, ◌<◌, ◌≤◌, ⊤, List, len
 use Rattle.cue_sheet.specs.CueSheet.{CueSheet}
 use Rattle.toc_model.specs.Places.{audio_need, program_blocks}
 use Rattle.picture_script.specs.Script.{Drawing, pictures}
-use Rattle.pack_schedule.specs.Schedule.{IsInTime, IsLate}
-use Rattle.pack_schedule.specs.PlannedChange.{planned_change}
+use Rattle.picture_changes.specs.Schedule.{IsInTime, IsLate}
+use Rattle.picture_changes.specs.PlannedChange.{planned_change}
 use Rattle.pack_schedule.specs.Survey.{IsPastEnd}
 use Rattle.subcode_author.specs.Authored.{text_packs, lead_in_need}
 use Rattle.subcode_author.specs.declared.stops.AuthorStop.{AuthorStop}

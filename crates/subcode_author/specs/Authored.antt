@@ -8,7 +8,7 @@ use Rattle.toc_model.specs.Places.{layout_of, program_blocks}
 use Rattle.cdtext_packs.specs.SheetTexts.{texts_of_sheet}
 use Rattle.cdtext_packs.specs.Writing.{packs_of}
 use Rattle.picture_script.specs.Script.{Drawing}
-use Rattle.pack_schedule.specs.Schedule.{IsSchedule}
+use Rattle.picture_changes.specs.Schedule.{IsSchedule}
 use Rattle.pack_schedule.specs.Woven.{ArePacks}
 use Rattle.subcode_author.specs.Framing.{HasFraming}
 

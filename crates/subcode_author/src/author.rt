@@ -3,6 +3,7 @@ ghost use Rattle.std.specs.Prelude.{◌≡◌, ◌≢◌, ◌≤◌, List, ℕ, 
 ghost use Rattle.std.specs.Io.KnownBytes.{Appends};
 ghost use Rattle.cdg_io.specs.Causes.{Rose};
 ghost use Rattle.toc_model.specs.Places.{layout_of};
+ghost use Rattle.picture_changes.specs.Brings.{CannotBeReady};
 ghost use Rattle.subcode_author.specs.Authored.{text_packs, IsAuthored};
 ghost use Rattle.subcode_author.specs.AuthorAnswer.{IsAccepted, IsAuthorStop};
 ghost use Rattle.subcode_author.specs.Given.{PutsStreamPart};
@@ -15,6 +16,7 @@ use cue_sheet::Sheet;
 use pack_schedule::packs_are_a_schedule;
 use picture_script::Script;
 use rw_interleave::{Spread, spread_carries};
+use shortest_changes::needs_are_fewest;
 use std::alloc::Global;
 
 /// Writes the subcode of a disc with a lead-in of so many blocks and an audio of so many blocks: the lead-in with the table
@@ -46,6 +48,9 @@ pub fn author_stream<K: Sink>(
     ensures stop { IfErr result (IsAuthorStop sheet.now script.now lead_in length) }
     ensures untouched { IfErr result (λ stop. stop ≢ AuthorStop.WriteFault → out.new ≡ out.old) }
 
+    // A late picture cannot be ready, whatever instructions without scrolls are sent.
+    ensures late { (picture need free : ℕ) → result ≡ Err (AuthorStop.Late picture need free) → CannotBeReady script.now picture need free }
+
     // A write failed, and a prefix of the lead-in and of program blocks with packs of the script was written.
     ensures write_fault { result ≡ Err AuthorStop.WriteFault → Rose (K.faults out.old) (K.faults out.new) }
     ensures part { result ≡ Err AuthorStop.WriteFault → (n : ℕ) × (packs : List (List ℕ))
@@ -54,6 +59,7 @@ pub fn author_stream<K: Sink>(
 {
     spread_carries();
     packs_are_a_schedule();
+    needs_are_fewest();
     let _times = script.pictures();
     let layout = disc(alloc, sheet, script, length)?;
     let texts = texts(alloc, sheet, &layout, lead_in)?;

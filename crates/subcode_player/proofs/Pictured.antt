@@ -11,8 +11,9 @@ use Rattle.stream_words.specs.Stream.{all_packs, word_count, bad_count}
 use Rattle.cdg_instructions.specs.declared.instr.Instr.{Instr}
 use Rattle.cdg_screen.specs.Picture.{blank, standing_after}
 use Rattle.picture_script.specs.Script.{Drawing, pictures, ready_time, hold_time}
-use Rattle.pack_schedule.specs.Schedule.{IsSchedule}
-use Rattle.shown_pictures.specs.Shown.{ShowsPicture, AreTimesInOrder, AreColoursInRange, AreMeantBy}
+use Rattle.picture_changes.specs.Schedule.{IsSchedule}
+use Rattle.picture_changes.specs.Shown.{ShowsPicture, AreTimesInOrder, AreColoursInRange}
+use Rattle.shown_pictures.specs.Shown.{AreMeantBy}
 use Rattle.subcode_player.specs.Convert.{IsDamagedStream}
 use Rattle.subcode_player.specs.Shown.{AreMeant, IsScreenAt, IsShownBy, Shows}
 use Rattle.subcode_player.specs.Pictured.{IsScheduledStream, IsHeldAt, IsPictureText, GivesPicture}

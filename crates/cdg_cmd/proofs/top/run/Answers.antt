@@ -2,6 +2,7 @@ use Rattle.std.proofs.Common.{◌<◌, ℕ}
 use Rattle.picture_script.specs.Script.{picture_pixel}
 use Rattle.cdg_cmd.specs.declared.command.Command.TheVariants.{Author, Convert, Q, Text}
 use Rattle.cdg_cmd.proofs.FirstHalf.{accepted_written, first_half}
+use Rattle.cdg_cmd.proofs.LateTold.{late_cannot}
 use Rattle.cdg_cmd.proofs.SecondHalf.{packs_back, pictures_shown}
 use Rattle.raw_subcode.specs.declared.form.Form.TheVariants.{Raw}
 use Rattle.subcode_author.specs.Authored.{IsAuthored}
@@ -20,6 +21,13 @@ returns-clause-complete g c = λ command spelled first second out.
 pub returns-clause-authors : goal.returns-clause-authors
 returns-clause-authors g c = λ lead_in audio sheet script spelled.
     first_half sheet script lead_in audio _ _ _ _ _ _ _ (c.answer-status.ensures.does (Author lead_in audio) spelled)
+
+pub returns-clause-late : goal.returns-clause-late
+returns-clause-late g c = λ lead_in audio picture need free script spelled told.
+    late_cannot lead_in audio _ _ script picture need free
+    (λ text read. c.needs_are_fewest.ensures.late script picture need free (c.accepted_scripts_are_in_order.ensures.times text script read) (c.accepted_scripts_are_in_order.ensures.colours text script read)
+    (c.accepted_scripts_are_in_order.ensures.pixels text script read))
+    _ _ _ _ _ told (c.answer-status.ensures.does (Author lead_in audio) spelled (λ e. cc))
 
 pub returns-clause-gives_back : goal.returns-clause-gives_back
 returns-clause-gives_back g c = λ lead_in audio form sheet script packs spelled.

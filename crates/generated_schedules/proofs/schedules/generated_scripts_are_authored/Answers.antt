@@ -1,4 +1,3 @@
-use Rattle.pack_schedule.proofs.PlannedLaws.{PlansAreShortest}
 use Rattle.generated_scripts.specs.Generated.{generated_drawings}
 use Rattle.generated_schedules.proofs.Ready.{TimesAreKnown, accepted, author_stop}
 use Rattle.generated_schedules.proofs.schedules.generated_scripts_are_authored.Goals as goal
@@ -13,7 +12,5 @@ pub returns-clause-stop : goal.returns-clause-stop
 returns-clause-stop c sheet seed count lead_in audio stop layout enough room is =
     let t = c.generated_scripts_have_times.ensures in
     let times : TimesAreKnown = record { count = t.pictures; ready = t.ready; hold = t.hold } in
-    let p = c.plans_are_shortest.ensures in
-    let plans : PlansAreShortest = record { turns = p.turns; count = p.count; least = p.least } in
     let good = accepted times sheet seed count lead_in audio (c.generated_scripts_are_ready.ensures.ready seed count) layout enough room in
-    author_stop plans sheet (generated_drawings seed count) lead_in audio stop (c.generated_scripts_are_ready.ensures.pixels seed count) good is
+    author_stop c.planned_changes_are_changes.ensures.need sheet (generated_drawings seed count) lead_in audio stop (c.generated_scripts_are_ready.ensures.pixels seed count) good is

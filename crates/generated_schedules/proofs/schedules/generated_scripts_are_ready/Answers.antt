@@ -1,4 +1,3 @@
-use Rattle.pack_schedule.proofs.PlannedLaws.{PlansAreShortest}
 use Rattle.generated_scripts.specs.Generated.{generated_drawings}
 use Rattle.generated_schedules.proofs.Pixels.{pixels_small}
 use Rattle.generated_schedules.proofs.Ready.{TimesAreKnown, enough_free, all_ready, survey_stop}
@@ -17,13 +16,11 @@ pub returns-clause-ready : goal.returns-clause-ready
 returns-clause-ready c seed count =
     let t = c.generated_scripts_have_times.ensures in
     let times : TimesAreKnown = record { count = t.pictures; ready = t.ready; hold = t.hold } in
-    all_ready times seed count (λ k. c.changes_are_short.ensures (generated_drawings seed count) k (pixels_small seed count))
+    all_ready times seed count (λ k. c.planned_changes_are_changes.ensures.few (generated_drawings seed count) k (pixels_small seed count))
 
 pub returns-clause-survey : goal.returns-clause-survey
 returns-clause-survey c seed count blocks stop enough is =
     let t = c.generated_scripts_have_times.ensures in
     let times : TimesAreKnown = record { count = t.pictures; ready = t.ready; hold = t.hold } in
-    let p = c.plans_are_shortest.ensures in
-    let plans : PlansAreShortest = record { turns = p.turns; count = p.count; least = p.least } in
-    let ready = all_ready times seed count (λ k. c.changes_are_short.ensures (generated_drawings seed count) k (pixels_small seed count)) in
-    survey_stop times plans seed count blocks stop (pixels_small seed count) ready enough is
+    let ready = all_ready times seed count (λ k. c.planned_changes_are_changes.ensures.few (generated_drawings seed count) k (pixels_small seed count)) in
+    survey_stop times c.planned_changes_are_changes.ensures.need seed count blocks stop (pixels_small seed count) ready enough is

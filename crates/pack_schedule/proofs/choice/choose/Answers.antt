@@ -1,5 +1,5 @@
 use Rattle.std.proofs.Common.{arith}
-use Rattle.pack_schedule.specs.PlannedChange.{planned_length, preferred}
+use Rattle.picture_changes.specs.PlannedChange.{planned_length, preferred}
 use Rattle.pack_schedule.proofs.Choices.{better_choice, is_chosen, none_better, shorter}
 use Rattle.pack_schedule.proofs.choice.choose.Goals as goal
 

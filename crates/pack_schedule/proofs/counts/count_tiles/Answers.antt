@@ -1,7 +1,6 @@
 use Rattle.std.proofs.Common.{◌∙◌, ap, ◌+◌, arith}
 use Rattle.std.specs.Prelude.{Some, None, slice_index}
-use Rattle.pack_schedule.proofs.PlannedLaws.{all_tiles}
-use Rattle.pack_schedule.proofs.Counting.{none_counted, one_counted, all_zeros}
+use Rattle.pack_schedule.proofs.Counting.{all_tiles, none_counted, one_counted, all_zeros}
 use Rattle.pack_schedule.proofs.counts.count_tiles.Goals as goal
 
 pub loop-i-init : goal.loop-i-init

@@ -1,11 +1,11 @@
 use Rattle.std.proofs.Common.{sym, ap, ◌∙◌}
-use Rattle.pack_schedule.specs.PlannedChange.{planned_length}
-use Rattle.pack_schedule.proofs.PlannedLaws.{PlansAreShortest, planned_count}
+use Rattle.picture_changes.specs.PlannedChange.{chosen_start, planned_change, planned_length}
 use Rattle.pack_schedule.proofs.timing.plan_picture.Goals as goal
 
 pub returns-clause-need : goal.returns-clause-need
 returns-clause-need c =
-    let p = c.plans_are_shortest.ensures in
-    let plans : PlansAreShortest = record { turns = p.turns; count = p.count; least = p.least } in
-    c.choose_start-choice.ensures.need ∙ ap (planned_length c.args.script.now c.args.k) c.choose_start-choice.ensures.preset
-    ∙ sym (planned_count plans c.args.script.now c.args.k c.pictures-ranges.ensures.pixels)
+    let script = c.args.script.now in
+    let k = c.args.k in
+    let small = c.pictures-ranges.ensures.pixels in
+    c.choose_start-choice.ensures.need ∙ ap (planned_length script k) c.choose_start-choice.ensures.preset
+    ∙ sym (c.changes_have_planned_lengths.ensures.length script k (chosen_start script k) (planned_change script k) small (c.planned_changes_are_changes.ensures.planned script k small))

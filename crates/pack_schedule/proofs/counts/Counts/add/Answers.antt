@@ -1,5 +1,5 @@
 use Rattle.std.proofs.Common.{arith}
-use Rattle.pack_schedule.proofs.PlannedLaws.{PlansAreShortest}
+use Rattle.picture_changes.proofs.PlannedLaws.{PlansAreShortest}
 use Rattle.pack_schedule.proofs.Counting.{single_step, mixed_step}
 use Rattle.pack_schedule.proofs.counts.Counts.add.Goals as goal
 

@@ -2,37 +2,37 @@ use Rattle.std.proofs.Common.{◌≡◌, ◌-◌, ◌<◌, ◌∙◌, ap₂, sym
 use Rattle.cdg_instructions.specs.declared.instr.Instr.TheVariants.{Idle}
 use Rattle.cdg_instructions.specs.Instruction.{IsWritten, InRange, IsKnown}
 use Rattle.picture_script.specs.Script.{pictures}
-use Rattle.pack_schedule.specs.Schedule.{start_of}
-use Rattle.pack_schedule.specs.PlannedChange.{planned_change}
-use Rattle.pack_schedule.proofs.PlannedLaws.{PlansAreShortest}
-use Rattle.pack_schedule.proofs.PlanLists.{IsFine}
-use Rattle.pack_schedule.proofs.Weaves.{change_pack, no_pack, fine_at, at_hand}
+use Rattle.picture_changes.specs.Schedule.{start_of}
+use Rattle.picture_changes.specs.PlannedChange.{planned_change}
+use Rattle.pack_schedule.proofs.Weaves.{IsFine, change_pack, no_pack, fine_at, at_hand}
 use Rattle.pack_schedule.proofs.loom.Loom.pack.Goals as goal
 use Rattle.pack_schedule.proofs.loom.Loom.pack.Goals.{then-self-pictures+else-given-start, else-self-pictures}
 
 pub write-requires-clause-range : goal.write-requires-clause-range
 write-requires-clause-range c =
-    let p = c.plans_are_shortest.ensures in
-    let plans : PlansAreShortest = record { turns = p.turns; count = p.count; least = p.least } in
     let known = c.pictures.ensures in
     let w = c.requires.weaving in
     let lt : c.args.self.now.k < pictures c.args.script.now = omega (arith, known.value, c.if-self-pictures.true) in
     let at = at_hand c.args.script.now c.args.self.now c.args.given c.start-start.result w lt c.requires.current c.start-start.ensures c.if-given-start.true in
     let fine : IsFine (get_or c.args.self.now.change (c.args.given - c.start-start.result) Idle) =
-    fine_at plans c.args.script.now c.args.self.now.change c.args.self.now.k (c.args.given - c.start-start.result) known.pixels known.borders known.colours (w.change_is lt) at.1 in
-    subst InRange (sym c.get.ensures) fine.range
+    fine_at c.args.script.now c.args.self.now.change c.args.self.now.k (c.args.given - c.start-start.result)
+    (c.changes_can_be_written.ensures c.args.script.now c.args.self.now.k _ _ (record { border = known.borders; colour = known.colours })
+    (c.planned_changes_are_changes.ensures.planned c.args.script.now c.args.self.now.k known.pixels))
+    (w.change_is lt) at.1 in
+    subst InRange (sym c.get.ensures) fine.0
 
 pub write-requires-clause-known : goal.write-requires-clause-known
 write-requires-clause-known c =
-    let p = c.plans_are_shortest.ensures in
-    let plans : PlansAreShortest = record { turns = p.turns; count = p.count; least = p.least } in
     let known = c.pictures.ensures in
     let w = c.requires.weaving in
     let lt : c.args.self.now.k < pictures c.args.script.now = omega (arith, known.value, c.if-self-pictures.true) in
     let at = at_hand c.args.script.now c.args.self.now c.args.given c.start-start.result w lt c.requires.current c.start-start.ensures c.if-given-start.true in
     let fine : IsFine (get_or c.args.self.now.change (c.args.given - c.start-start.result) Idle) =
-    fine_at plans c.args.script.now c.args.self.now.change c.args.self.now.k (c.args.given - c.start-start.result) known.pixels known.borders known.colours (w.change_is lt) at.1 in
-    subst IsKnown (sym c.get.ensures) fine.known
+    fine_at c.args.script.now c.args.self.now.change c.args.self.now.k (c.args.given - c.start-start.result)
+    (c.changes_can_be_written.ensures c.args.script.now c.args.self.now.k _ _ (record { border = known.borders; colour = known.colours })
+    (c.planned_changes_are_changes.ensures.planned c.args.script.now c.args.self.now.k known.pixels))
+    (w.change_is lt) at.1 in
+    subst IsKnown (sym c.get.ensures) fine.1
 
 pub returns-then-given-start : goal.returns-then-given-start
 returns-then-given-start c =

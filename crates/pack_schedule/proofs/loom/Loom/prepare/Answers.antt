@@ -2,7 +2,7 @@ use Rattle.pack_schedule.proofs.Weaves.{start_allowed, change_planned}
 use Rattle.pack_schedule.proofs.loom.Loom.prepare.Goals as goal
 
 pub plan-requires-clause-start : goal.plan-requires-clause-start
-plan-requires-clause-start c = start_allowed c.args.script.now c.args.self.now.survey c.args.self.now.k c.preset-preset.result c.requires.surveyed c.requires.picture c.preset-preset.ensures
+plan-requires-clause-start c = start_allowed c.planned_changes_are_changes.ensures.start c.args.script.now c.args.self.now.survey c.args.self.now.k c.preset-preset.result c.requires.surveyed c.requires.picture c.preset-preset.ensures
 
 pub returns-clause-change : goal.returns-clause-change
 returns-clause-change c =

@@ -1,11 +1,12 @@
--- Lists of instructions that bring a picture of a script, of whatever form, but without scrolls.
-use Rattle.std.specs.Prelude.{◌≡◌, ℕ, zero, suc, ◌<◌, Bool, true, false, List, count_by, All}
+-- Lists of instructions that bring a picture of a script, of whatever form, but without scrolls, and the fewest that do.
+use Rattle.std.specs.Prelude.{◌≡◌, ℕ, zero, suc, ◌<◌, ◌≤◌, Bool, true, false, List, length, count_by, All}
 use Rattle.cdg_instructions.specs.Instruction.{InRange}
 use Rattle.cdg_instructions.specs.declared.instr.Instr.{Instr}
 use Rattle.cdg_instructions.specs.declared.instr.Instr.TheVariants.{MemoryPreset, BorderPreset, ScrollPreset, ScrollCopy, ColoursLow, ColoursHigh}
 use Rattle.cdg_screen.specs.Picture.{Standing, standing_after}
 use Rattle.picture_script.specs.Script.{Drawing}
-use Rattle.shown_pictures.specs.Shown.{ShowsPicture}
+use Rattle.picture_changes.specs.Change.{IsChange, IsNeed}
+use Rattle.picture_changes.specs.Shown.{ShowsPicture}
 
 -- the screen is not moved
 abbrev pub IsUnmoved : Standing → Type 0
@@ -51,3 +52,15 @@ pub record Brings (script : List Drawing) (k : ℕ) (now : Standing) (instrs : L
   pub still : All IsStill instrs
   pub shows : ShowsPicture script k (standing_after now instrs)
   pub sets : k ≡ 0 → SetsAll instrs
+
+-- so many instructions are the fewest that bring picture k: a change for it has so many, every change for it brings it from whatever may stand before, and no list brings it from any of that with fewer
+pub record IsFewest (script : List Drawing) (k need : ℕ) : Type 0 where
+  pub change : IsNeed script k need
+  pub brings : (now : Standing) (instrs : List Instr) → IsBefore script k now → IsChange script k instrs → Brings script k now instrs
+  pub needed : (now : Standing) (instrs : List Instr) → IsBefore script k now → Brings script k now instrs → need ≤ length instrs
+
+-- picture k cannot be ready: the packs that are free for it are fewer than the fewest instructions that bring it; and what each picture before it needs is the fewest too
+pub record CannotBeReady (script : List Drawing) (k need free : ℕ) : Type 0 where
+  pub fewest : IsFewest script k need
+  pub more : free < need
+  pub before : (j n : ℕ) → j < k → IsNeed script j n → IsFewest script j n

@@ -2,7 +2,7 @@
 use Rattle.std.proofs.Common.{◌≡◌, ℕ, zero, suc, ◌+◌, ◌<◌, ◌==◌, Bool, true, false, cond, List, [], ◌∷◌, ◌++◌, length, map, sym, subst, arith, lit<, All, Some, None}
 use Rattle.std.specs.declared.option.Option.{Option}
 use Rattle.std.specs.List.{AllByRecursion}
-use Rattle.std.proofs.lemmas.List.Elements.{recursion_from_All, All-from_get_or}
+use Rattle.std.proofs.lemmas.List.Elements.{All-from_recursion, recursion_from_All, All-from_get_or}
 use Rattle.std.proofs.lemmas.List.FromFn.{length-map-range_with_len, get_or-map-range_with_len}
 use Rattle.bit_lists.specs.Counting.{below}
 use Rattle.tile_author.specs.Plan.{are_equal}
@@ -11,10 +11,10 @@ use Rattle.cdg_instructions.specs.Instruction.{InRange, IsKnown}
 use Rattle.cdg_instructions.specs.Drawing.{IsOfPlace}
 use Rattle.cdg_instructions.specs.declared.instr.Instr.{Instr}
 use Rattle.cdg_instructions.specs.declared.instr.Instr.TheVariants.{BorderPreset, ColoursLow, ColoursHigh, SetTile, XorTile}
-use Rattle.pack_schedule.specs.Change.{settings, preset_of, IsStart, tiles_before, AreTileChanges, window_places, IsChangeFrom}
-use Rattle.shown_pictures.specs.Shown.{AreColoursInRange}
+use Rattle.picture_changes.specs.Change.{settings, preset_of, IsStart, tiles_before, AreTileChanges, window_places, IsChangeFrom}
+use Rattle.picture_changes.specs.Shown.{AreColoursInRange}
 
-abbrev pub IsSound : Instr → Type 0
+abbrev IsSound : Instr → Type 0
 IsSound instr = InRange instr × IsKnown instr
 
 sound_append : (xs ys : List Instr) → AllByRecursion IsSound xs → AllByRecursion IsSound ys → AllByRecursion IsSound (xs ++ ys)
@@ -71,6 +71,6 @@ module _ (script : List Drawing) (ranges : AreColoursInRange script) where
   preset_sound k (Some colour) allowed = (((allowed, lit< tt), ((λ e. cc), (λ e. cc))), tt)
   preset_sound k None allowed = tt
 
-  pub change_sound : (k : ℕ) (start : Option ℕ) (instrs : List Instr) → IsChangeFrom script k start instrs → AllByRecursion IsSound instrs
-  change_sound k start instrs change =
-      subst (AllByRecursion IsSound) (sym change.whole) (sound_append _ _ (sound_append _ _ (preset_sound k start change.allowed) (settings_sound k)) (sound_changes (tiles_before script k start) (picture_tile script k) window_places change.tiles change.tile_changes))
+  pub change_sound : (k : ℕ) (start : Option ℕ) (instrs : List Instr) → IsChangeFrom script k start instrs → All IsSound instrs
+  change_sound k start instrs change = All-from_recursion IsSound instrs (
+      subst (AllByRecursion IsSound) (sym change.whole) (sound_append _ _ (sound_append _ _ (preset_sound k start change.allowed) (settings_sound k)) (sound_changes (tiles_before script k start) (picture_tile script k) window_places change.tiles change.tile_changes)))

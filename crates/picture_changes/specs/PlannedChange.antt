@@ -3,7 +3,7 @@ use Rattle.std.specs.Prelude.{ℕ, zero, suc, ◌+◌, List, [], ◌∷◌, ◌+
 use Rattle.bit_lists.specs.Counting.{below}
 use Rattle.tile_author.specs.Plan.{plan, steps}
 use Rattle.picture_script.specs.Script.{Drawing, picture_tile}
-use Rattle.pack_schedule.specs.Change.{settings, window_places, preset_of, tiles_before}
+use Rattle.picture_changes.specs.Change.{settings, window_places, preset_of, tiles_before}
 use Rattle.cdg_instructions.specs.declared.instr.Instr.{Instr}
 
 -- the plans of all tiles of the window, and how many instructions they are

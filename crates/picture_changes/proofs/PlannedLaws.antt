@@ -1,9 +1,8 @@
 -- The length of each change, and that the planned one is a change.
-use Rattle.std.proofs.Common.{◌≡◌, ℕ, zero, suc, ◌+◌, ◌-◌, ◌*◌, ◌/◌, ◌%◌, ◌<◌, ◌≤◌, Bool, true, false, List, [], ◌∷◌, ◌++◌, length, map, get_or, All, refl, ap, ap₂, sym, subst, ◌∙◌, arith, length-append, replicate}
+use Rattle.std.proofs.Common.{◌≡◌, ℕ, zero, suc, ◌+◌, ◌-◌, ◌<◌, ◌≤◌, Bool, true, false, List, [], ◌∷◌, ◌++◌, length, map, get_or, All, refl, ap, ap₂, sym, subst, ◌∙◌, arith, length-append}
 use Rattle.std.specs.Prelude.{Option, Some, None, sum_by, flat_map, if◌then◌else◌, nat_lt}
-use Rattle.std.proofs.lemmas.List.{length-replicate, get_or-replicate}
 use Rattle.std.proofs.lemmas.List.Elements.{All-head, All-tail, All-map, All-from_get_or, All-get_or}
-use Rattle.std.proofs.lemmas.List.FromFn.{map-range_with_len_more, get_or-range_with_len, length-map-range_with_len, get_or-map-range_with_len}
+use Rattle.std.proofs.lemmas.List.FromFn.{get_or-range_with_len, get_or-map-range_with_len}
 use Rattle.std.proofs.lemmas.List.Sums.{sum_by-append}
 use Rattle.bit_lists.specs.Counting.{below}
 use Rattle.cdg_instructions.specs.Instruction.{IsTilePixels}
@@ -11,9 +10,10 @@ use Rattle.cdg_instructions.specs.Drawing.{Turns, IsLeast}
 use Rattle.cdg_instructions.specs.declared.instr.Instr.{Instr}
 use Rattle.tile_author.specs.Plan.{plan, steps}
 use Rattle.picture_script.specs.Script.{Drawing, picture_tile, picture_pixel}
-use Rattle.pack_schedule.specs.Change.{settings, window_places, preset_of, tiles_before, AreTileChanges, IsStart, IsChangeFrom, IsChange, IsNeed}
-use Rattle.pack_schedule.specs.PlannedChange.{planned_tiles, tile_steps, planned_from, planned_length, preferred, first_least, chosen_start, planned_change}
-use Rattle.pack_schedule.proofs.Least.{least-best, least-all}
+use Rattle.picture_changes.specs.Change.{settings, window_places, preset_of, tiles_before, AreTileChanges, IsStart, IsChangeFrom, IsChange, IsNeed}
+use Rattle.picture_changes.specs.PlannedChange.{planned_tiles, tile_steps, planned_from, planned_length, preferred, first_least, chosen_start, planned_change}
+use Rattle.picture_changes.proofs.Least.{least-best, least-all}
+use Rattle.picture_changes.proofs.Places.{AreInside, inside, picture_is_tile, colour_is_tile, start_small}
 
 one_sum : (n : ℕ) → 0 + n ≡ n
 one_sum n = omega arith
@@ -30,22 +30,6 @@ least-unique row column old new m n one other =
     let first = one.needed other.enough.0 other.enough.1 in
     let second = other.needed one.enough.0 one.enough.1 in
     omega (arith, first, second, one.enough.2, other.enough.2)
-
-abbrev pub place_of : ℕ → ℕ × ℕ
-place_of i = (i / 48 + 1, i % 48 + 1)
-
-pub places_in_order : window_places ≡ map place_of (below 768)
-places_in_order = refl
-
-abbrev AreInside : List (ℕ × ℕ) → Type 0
-AreInside places = All (λ p. (p.0 < 18) × (p.1 < 50)) places
-
-inside_places : (i : ℕ) → i < 768 → (i / 48 + 1 < 18) × (i % 48 + 1 < 50)
-inside_places i lt = (omega arith, omega arith)
-
-inside : AreInside window_places
-inside = subst AreInside (sym places_in_order) (All-map (λ p. (p.0 < 18) × (p.1 < 50)) place_of (below 768)
-    (All-from_get_or (λ i. (i / 48 + 1 < 18) × (i % 48 + 1 < 50)) (below 768) 0 (λ i lt. subst (λ j. (j / 48 + 1 < 18) × (j % 48 + 1 < 50)) (sym (get_or-range_with_len 0 768 i 0 lt ∙ one_sum i)) (inside_places i lt))))
 
 -- changes of tiles are as many as the steps of all tiles
 changes_count : PlansAreShortest → (old new : ℕ → ℕ → List ℕ) (places : List (ℕ × ℕ)) (instrs : List Instr) → AreInside places
@@ -77,22 +61,6 @@ plans_change plans old new (place ∷ places) all o n =
       plans_change plans old new places (All-tail (λ p. (p.0 < 18) × (p.1 < 50)) place places all) o n,
     )
 
--- tiles of pictures and of one colour
-pub picture_is_tile : (script : List Drawing) (k row column : ℕ) → ((k x y : ℕ) → picture_pixel script k x y < 16) → IsTilePixels (picture_tile script k row column)
-unfolding picture_tile
-picture_is_tile script k row column small =
-    let f : ℕ → ℕ = λ p. picture_pixel script k (6 * (column - 1) + p % 6) (12 * (row - 1) + p / 6) in
-    record {
-      count = length-map-range_with_len f 0 72;
-      below = All-map (λ n. n < 16) f (below 72) (All-from_get_or (λ p. f p < 16) (below 72) 0 (λ i lt. small k (6 * (column - 1) + get_or (below 72) i 0 % 6) (12 * (row - 1) + get_or (below 72) i 0 / 6)));
-    }
-
-pub colour_is_tile : (colour : ℕ) → colour < 16 → IsTilePixels (replicate 72 colour)
-colour_is_tile colour small = record {
-  count = length-replicate {A = ℕ} 72 colour;
-  below = All-from_get_or (λ n. n < 16) (replicate 72 colour) 0 (λ i lt. subst (λ n. n < 16) (sym (get_or-replicate {A = ℕ} 72 i colour 0 (omega (arith, length-replicate {A = ℕ} 72 colour)))) small);
-}
-
 before_is_tile : (script : List Drawing) (k : ℕ) (start : Option ℕ) (row column : ℕ) → ((k x y : ℕ) → picture_pixel script k x y < 16) → IsStart k start → IsTilePixels (tiles_before script k start row column)
 before_is_tile script k (Some colour) row column small allowed = colour_is_tile colour allowed
 before_is_tile script k None row column small allowed = picture_is_tile script (k - 1) row column small
@@ -123,10 +91,6 @@ preferred_is_start : (k : ℕ) → IsStart k (preferred k)
 preferred_is_start zero = omega arith
 preferred_is_start (suc k) = tt
 
-colour_small : (k colour : ℕ) → IsStart k (Some colour) → colour < 16
-colour_small zero colour h = h
-colour_small (suc k) colour h = h
-
 starts_allowed : (k colour : ℕ) → colour < 16 → IsStart k (Some colour)
 starts_allowed zero colour h = h
 starts_allowed (suc k) colour h = h
@@ -152,8 +116,8 @@ least_of_all : (script : List Drawing) (k : ℕ) (other : Option ℕ) → IsStar
 unfolding chosen_start
 least_of_all script k (Some colour) allowed =
     let all = least-all (planned_length script k) (preferred k) (map Some (below 16)) in
-    subst (λ (o : Option ℕ). planned_length script k (chosen_start script k) ≤ planned_length script k o) (get_or-map-range_with_len Some 0 16 colour colour None (colour_small k colour allowed) (one_sum colour))
-    (All-get_or (λ (o : Option ℕ). planned_length script k (chosen_start script k) ≤ planned_length script k o) (map Some (below 16)) colour None (colour_small k colour allowed) all)
+    subst (λ (o : Option ℕ). planned_length script k (chosen_start script k) ≤ planned_length script k o) (get_or-map-range_with_len Some 0 16 colour colour None (start_small k colour allowed) (one_sum colour))
+    (All-get_or (λ (o : Option ℕ). planned_length script k (chosen_start script k) ≤ planned_length script k o) (map Some (below 16)) colour None (start_small k colour allowed) all)
 least_of_all script zero None allowed = absurd allowed
 least_of_all script (suc k) None allowed = least-best (planned_length script (suc k)) (preferred (suc k)) (map Some (below 16))
 
@@ -170,47 +134,22 @@ planned_is_shortest plans script k small =
           omega (arith, one, two, least_of_all script k other h.allowed);
     }
 
+pub chosen_change : PlansAreShortest → (script : List Drawing) (k : ℕ) → ((k x y : ℕ) → picture_pixel script k x y < 16) → IsChangeFrom script k (chosen_start script k) (planned_change script k)
+unfolding planned_change
+chosen_change plans script k small = planned_is_change plans script k (chosen_start script k) small (chosen_is_start script k)
+
 pub planned_count : PlansAreShortest → (script : List Drawing) (k : ℕ) → ((k x y : ℕ) → picture_pixel script k x y < 16) → length (planned_change script k) ≡ planned_length script k (chosen_start script k)
 unfolding planned_change
 planned_count plans script k small =
     change_length plans script k (chosen_start script k) (planned_from script k (chosen_start script k)) small (planned_is_change plans script k (chosen_start script k) small (chosen_is_start script k))
 
--- each need is the planned length
-pub need_is : PlansAreShortest → (script : List Drawing) (k need : ℕ) → ((k x y : ℕ) → picture_pixel script k x y < 16) → IsNeed script k need → need ≡ planned_length script k (chosen_start script k)
+-- each need is the length of the planned change
+pub need_is : PlansAreShortest → (script : List Drawing) (k need : ℕ) → ((k x y : ℕ) → picture_pixel script k x y < 16) → IsNeed script k need → need ≡ length (planned_change script k)
+unfolding planned_change
 need_is plans script k need small h =
     let instrs = h.0 in
     let change = h.1 in
     let planned = planned_is_shortest plans script k small in
-    let count = planned_count plans script k small in
     let one = change.shortest (chosen_start script k) (planned_from script k (chosen_start script k)) (planned_is_change plans script k (chosen_start script k) small (chosen_is_start script k)) in
     let two = planned.shortest change.start instrs change.change in
-    let three = change_length plans script k (chosen_start script k) (planned_from script k (chosen_start script k)) small (planned_is_change plans script k (chosen_start script k) small (chosen_is_start script k)) in
-    omega (arith, one, two, three, count, h.2)
-
--- Tiles counted one after another.
-
-unfoldable pub steps_so_far : List Drawing → ℕ → Option ℕ → ℕ → ℕ
-steps_so_far script k start i = sum_by (λ p. steps (tiles_before script k start p.0 p.1) (picture_tile script k p.0 p.1)) (map place_of (below i))
-
-pub none_so_far : (script : List Drawing) (k : ℕ) (start : Option ℕ) → steps_so_far script k start 0 ≡ 0
-unfolding steps_so_far
-none_so_far script k start = refl
-
-pub one_more_tile : (script : List Drawing) (k : ℕ) (start : Option ℕ) (i : ℕ)
-    → steps_so_far script k start (i + 1) ≡ steps_so_far script k start i + steps (tiles_before script k start (i / 48 + 1) (i % 48 + 1)) (picture_tile script k (i / 48 + 1) (i % 48 + 1))
-unfolding steps_so_far
-one_more_tile script k start i =
-    let f : ℕ × ℕ → ℕ = λ p. steps (tiles_before script k start p.0 p.1) (picture_tile script k p.0 p.1) in
-    ap (sum_by f) (map-range_with_len_more place_of 0 i i (one_sum i)) ∙ sum_by-append f (map place_of (below i)) (place_of i ∷ [])
-    ∙ ap (λ n. sum_by f (map place_of (below i)) + n) (one_sum (f (place_of i)))
-
-pub all_tiles : (script : List Drawing) (k : ℕ) (start : Option ℕ) (i : ℕ) → i ≡ 768 → steps_so_far script k start i ≡ tile_steps script k start
-unfolding steps_so_far tile_steps
-all_tiles script k start i h =
-    ap (λ n. sum_by (λ (p : ℕ × ℕ). steps (tiles_before script k start p.0 p.1) (picture_tile script k p.0 p.1)) (map place_of (below n))) h
-    ∙ ap (sum_by (λ (p : ℕ × ℕ). steps (tiles_before script k start p.0 p.1) (picture_tile script k p.0 p.1))) (sym places_in_order)
-
--- the steps from a tile of one colour
-pub colour_steps : PlansAreShortest → (new : List ℕ) (c w : ℕ) → c < 16 → IsTilePixels new → IsLeast 1 1 (replicate 72 c) new w → steps (replicate 72 c) new ≡ w
-colour_steps plans new c w small tile least =
-    least-unique 1 1 (replicate 72 c) new (steps (replicate 72 c) new) w (plans.least 1 1 (replicate 72 c) new (omega arith) (omega arith) (colour_is_tile c small) tile) least
+    omega (arith, one, two, h.2)

@@ -12,9 +12,10 @@ use Rattle.tile_author.proofs.BasisLaws.{basis-free}
 use Rattle.tile_author.proofs.Capacity.{at_most_four}
 use Rattle.tile_author.proofs.Shortest.{basis-small}
 use Rattle.picture_script.specs.Script.{Drawing, picture_tile, picture_pixel, picture_border, low_colours, high_colours}
-use Rattle.pack_schedule.specs.Change.{settings, window_places, preset_of, tiles_before}
-use Rattle.pack_schedule.specs.PlannedChange.{tile_steps, planned_length, chosen_start, planned_change}
-use Rattle.pack_schedule.proofs.PlannedLaws.{PlansAreShortest, picture_is_tile, planned_count}
+use Rattle.picture_changes.specs.Change.{settings, window_places, preset_of, tiles_before}
+use Rattle.picture_changes.specs.PlannedChange.{tile_steps, planned_length, chosen_start, planned_change}
+use Rattle.picture_changes.proofs.Places.{picture_is_tile}
+use Rattle.picture_changes.proofs.PlannedLaws.{PlansAreShortest, planned_count}
 
 -- four instructions draw any tile
 basis_few : (pixels : List ℕ) → All (λ n. n < 16) pixels → length (basis pixels) ≤ 4
@@ -34,7 +35,7 @@ unfolding steps
 steps_few old new tile = unless (are_equal old new) (min (weight new) (weight (delta old new))) (omega (arith, weight_few new tile.below, min-le_left (weight new) (weight (delta old new))))
 
 -- all tiles of the window
-pub every : {X : Type 0} (P : X → Type 0) (xs : List X) → ((x : X) → P x) → All P xs
+every : {X : Type 0} (P : X → Type 0) (xs : List X) → ((x : X) → P x) → All P xs
 every P [] h = All-nil P
 every P (x ∷ xs) h = All-cons P x xs (h x) (every P xs h)
 

@@ -1,16 +1,9 @@
 -- The first of several that has the least number.
-use Rattle.std.proofs.Common.{◌≡◌, ℕ, suc, ◌≤◌, List, [], ◌∷◌, ◌++◌, refl, inl, inr, arith}
+use Rattle.std.proofs.Common.{ℕ, suc, ◌≤◌, List, [], ◌∷◌, inl, inr, arith}
 use Rattle.std.specs.Prelude.{if◌then◌else◌, nat_lt, All}
 use Rattle.std.proofs.lemmas.List.Elements.{All-nil, All-cons}
 use Rattle.std.proofs.lemmas.Bool.Decides.{leb_tells}
-use Rattle.pack_schedule.specs.PlannedChange.{first_least}
-
--- one more at the end
-pub least-snoc : {X : Type 0} (number : X → ℕ) (best : X) (xs : List X) (x : X)
-    → first_least number best (xs ++ x ∷ []) ≡ (if nat_lt (number x) (number (first_least number best xs)) then x else first_least number best xs)
-unfolding first_least
-least-snoc number best [] x = refl
-least-snoc number best (y ∷ xs) x = least-snoc number (if nat_lt (number y) (number best) then y else best) xs x
+use Rattle.picture_changes.specs.PlannedChange.{first_least}
 
 better : {X : Type 0} (number : X → ℕ) (best x : X) → (number (if nat_lt (number x) (number best) then x else best) ≤ number best) × (number (if nat_lt (number x) (number best) then x else best) ≤ number x)
 better number best x = elim (leb_tells (suc (number x)) (number best)) [

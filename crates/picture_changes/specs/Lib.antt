@@ -1,0 +1,5 @@
+pub mod Change
+pub mod PlannedChange
+pub mod Schedule
+pub mod Shown
+pub mod Brings

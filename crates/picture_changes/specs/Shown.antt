@@ -1,0 +1,20 @@
+-- What it is that a picture of a script stands on the screen, and what the scripts that are accepted keep.
+use Rattle.std.specs.Prelude.{◌≡◌, ℕ, ◌+◌, ◌<◌, ◌≤◌, List}
+use Rattle.cdg_screen.specs.Picture.{Standing, screen_pixel}
+use Rattle.picture_script.specs.Script.{Drawing, pictures, ready_time, hold_time, picture_pixel, picture_border, picture_colour}
+
+-- picture k of the script stands on the screen: its pixels in the window, its border and its colours
+pub record ShowsPicture (script : List Drawing) (k : ℕ) (now : Standing) : Type 0 where
+  pub pixels : (x y : ℕ) → x < 288 → y < 192 → screen_pixel now (x + 6) (y + 12) ≡ picture_pixel script k x y
+  pub border : now.border ≡ picture_border script k
+  pub colours : (n : ℕ) → n < 16 → now.colour n ≡ picture_colour script k n
+
+-- each picture is held from its ready time to its hold time, and the next one is ready later
+pub record AreTimesInOrder (script : List Drawing) : Type 0 where
+  pub held : (k : ℕ) → k < pictures script → ready_time script k ≤ hold_time script k
+  pub later : (k : ℕ) → k + 1 < pictures script → hold_time script k < ready_time script (k + 1)
+
+-- the border of each picture is a number of a colour, and its colours have twelve bits
+pub record AreColoursInRange (script : List Drawing) : Type 0 where
+  pub border : (k : ℕ) → picture_border script k < 16
+  pub colour : (k n : ℕ) → picture_colour script k n < 4096
