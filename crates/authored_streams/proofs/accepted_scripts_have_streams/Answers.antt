@@ -13,5 +13,5 @@ pub returns-clause-part : goal.returns-clause-part
 returns-clause-part c sheet script lead_in audio n given held after is_sheet order colours pixels few accepted part =
     let p = c.plans_are_shortest.ensures in
     let plans : PlansAreShortest = record { turns = p.turns; count = p.count; least = p.least } in
-    let (bytes, packs, small, authored) = has_stream c.spread_carries.ensures c.packs_are_a_schedule.ensures plans sheet script lead_in audio is_sheet order colours pixels few accepted in
-    (bytes, packs, authored, part_is_prefix c.spread_carries.ensures sheet script lead_in audio n bytes packs given held after accepted order small authored part)
+    let (bytes, packs, authored) = has_stream c.spread_carries.ensures c.packs_are_a_schedule.ensures plans sheet script lead_in audio is_sheet order colours pixels few accepted in
+    (bytes, packs, authored, part_is_prefix c.spread_carries.ensures sheet script lead_in audio n bytes packs given held after accepted order authored part)
