@@ -50,8 +50,13 @@ fn a_length_that_fits_no_disc_is_refused(rt: HostRuntime) -> Result<(), Fail> {
     let alloc = rt.alloc();
     let stop = stop_of(alloc, THREE_TRACKS, b"", 0, 12_000)?;
     assert_eq!(rt; stop, Some(AuthorStop::LengthShort { need: 12_001 }));
-    let stop = stop_of(alloc, ONE_TRACK, b"", 0, 449_999)?;
-    assert_eq!(rt; stop, Some(AuthorStop::DiscTooLong { blocks: 450_149 }));
+    let stop = stop_of(alloc, THREE_TRACKS, b"", 0, 12_001)?;
+    assert_eq!(rt; stop, None);
+    let stop = stop_of(alloc, ONE_TRACK, b"", 0, 449_850)?;
+    assert_eq!(rt; stop, Some(AuthorStop::DiscTooLong { blocks: 450_000 }));
+    // One block less is a disc, whose lead-in is looked at.
+    let stop = stop_of(alloc, ONE_TRACK, b"", 1, 449_849)?;
+    assert_eq!(rt; stop, Some(AuthorStop::LeadInShort { need: 12 }));
     Ok(())
 }
 
@@ -64,6 +69,8 @@ fn the_end_comes_first(rt: HostRuntime) -> Result<(), Fail> {
     assert_eq!(rt; stop, past_end);
     let stop = stop_of(alloc, ONE_TRACK, b"show 00:01:00 00:02:02", 1, 1)?;
     assert_eq!(rt; stop, past_end);
+    let stop = stop_of(alloc, ONE_TRACK, b"show 00:01:00 00:02:01", 0, 1)?;
+    assert_eq!(rt; stop, None);
     let stop = stop_of(alloc, ONE_TRACK, b"show 00:00:02 00:00:02", 1, 1)?;
     assert_eq!(rt; stop, Some(AuthorStop::LeadInShort { need: 12 }));
     Ok(())

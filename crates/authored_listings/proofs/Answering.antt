@@ -1,6 +1,7 @@
 -- What a player answers where it is known what is listed.
 use Rattle.std.proofs.Common.{◌≡◌, ℕ, ◌*◌, ◌≤◌, List, length, Option, Some, Result, Ok, Err, inl, inr, subst, arith}
 use Rattle.std.specs.Io.KnownBytes.{Appends}
+use Rattle.raw_subcode.specs.declared.form.Form.{Form}
 use Rattle.raw_subcode.specs.declared.form.Form.TheVariants.{Raw}
 use Rattle.cue_sheet.specs.CueSheet.{CueSheet}
 use Rattle.picture_script.specs.Script.{Drawing}
@@ -41,19 +42,19 @@ lists_frames bytes expected given left held held' (Err (PastEnd ended)) taken wh
 not_both : (texts : Texts) (fault : TextFault) (read : Result Texts TextFault) → read ≡ Ok texts → read ≡ Err fault → ⊥
 not_both texts fault read one other = cc
 
-pub lists_texts : (bytes expected : List ℕ) (lead_in : ℕ) (texts : Texts) (left held held' : Option (List ℕ)) (result : Result Played TextStop) (taken : List ℕ)
-    → IsWholeInput Raw bytes → texts_in Raw lead_in bytes ≡ Ok texts → ((text : List ℕ) (bad : ℕ) → IsTextListed Raw lead_in bytes text bad → text ≡ expected)
-    → ListsTexts Raw lead_in (Some bytes) left held held' result taken → IsListedBy result Raw lead_in bytes → PutsTexts result held held' expected
-lists_texts bytes expected lead_in texts left held held' (Ok played) taken whole read lines lists answer =
+pub lists_texts : (form : Form) (bytes expected : List ℕ) (lead_in : ℕ) (texts : Texts) (left held held' : Option (List ℕ)) (result : Result Played TextStop) (taken : List ℕ)
+    → IsWholeInput form bytes → texts_in form lead_in bytes ≡ Ok texts → ((text : List ℕ) (bad : ℕ) → IsTextListed form lead_in bytes text bad → text ≡ expected)
+    → ListsTexts form lead_in (Some bytes) left held held' result taken → IsListedBy result form lead_in bytes → PutsTexts result held held' expected
+lists_texts form bytes expected lead_in texts left held held' (Ok played) taken whole read lines lists answer =
     let (end, (text, is_played, put)) = lists.plays.done in
     let same : taken ≡ bytes = taken_all bytes left taken lists.plays.taken_from end in
-    subst (Appends held held') (lines text played.bad (subst (λ (b : List ℕ). IsTextListed Raw lead_in b text played.bad) same is_played.written)) put
-lists_texts bytes expected lead_in texts left held held' (Err (Play ReadFault)) taken whole read lines lists answer = tt
-lists_texts bytes expected lead_in texts left held held' (Err (Play WriteFault)) taken whole read lines lists answer = tt
-lists_texts bytes expected lead_in texts left held held' (Err (Play (Torn block))) taken whole read lines lists answer = absurd (answer.1 whole.1)
-lists_texts bytes expected lead_in texts left held held' (Err (Play TooLong)) taken whole read lines lists answer = absurd (omega (arith, answer, whole.0))
-lists_texts bytes expected lead_in texts left held held' (Err (Play (PastEnd ended))) taken whole read lines lists answer = absurd answer
-lists_texts bytes expected lead_in texts left held held' (Err (Text fault)) taken whole read lines lists answer = elim answer.1 [
+    subst (Appends held held') (lines text played.bad (subst (λ (b : List ℕ). IsTextListed form lead_in b text played.bad) same is_played.written)) put
+lists_texts form bytes expected lead_in texts left held held' (Err (Play ReadFault)) taken whole read lines lists answer = tt
+lists_texts form bytes expected lead_in texts left held held' (Err (Play WriteFault)) taken whole read lines lists answer = tt
+lists_texts form bytes expected lead_in texts left held held' (Err (Play (Torn block))) taken whole read lines lists answer = absurd (answer.1 whole.1)
+lists_texts form bytes expected lead_in texts left held held' (Err (Play TooLong)) taken whole read lines lists answer = absurd (omega (arith, answer, whole.0))
+lists_texts form bytes expected lead_in texts left held held' (Err (Play (PastEnd ended))) taken whole read lines lists answer = absurd answer
+lists_texts form bytes expected lead_in texts left held held' (Err (Text fault)) taken whole read lines lists answer = elim answer.1 [
   | inl short ↦ short
-  | inr other ↦ absurd (not_both texts fault (texts_in Raw lead_in bytes) read other)
+  | inr other ↦ absurd (not_both texts fault (texts_in form lead_in bytes) read other)
 ]

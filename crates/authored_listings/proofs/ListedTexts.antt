@@ -9,6 +9,7 @@ use Rattle.bit_lists.specs.Counting.{below}
 use Rattle.bit_lists.specs.Bits.{bits_of, number_of, bits_of_bytes}
 use Rattle.bit_lists.specs.Check.{check_of, check_bits}
 use Rattle.bit_lists.specs.Polynomial.{remainder, division_steps, division_step}
+use Rattle.raw_subcode.specs.declared.form.Form.{Form}
 use Rattle.raw_subcode.specs.declared.form.Form.TheVariants.{Raw}
 use Rattle.cue_sheet.specs.CueSheet.{CueSheet}
 use Rattle.toc_model.specs.Places.{layout_of}
@@ -21,14 +22,14 @@ use Rattle.cdtext_packs.specs.SheetTexts.{sheet_texts, texts_of_sheet}
 use Rattle.cdtext_packs.specs.declared.kinds.TextFault.{TextFault}
 use Rattle.cdtext_packs.specs.declared.kinds.TextKind.{TextKind}
 use Rattle.cdtext_packs.proofs.Numbered.{length-numbered}
-use Rattle.cdtext_lines.specs.Lines.{text_line, tracks_of, kind_lines, count_line, counted_lines}
+use Rattle.cdtext_lines.specs.Lines.{text_line, tracks_of, kind_lines, count_line, counted_lines, text_lines}
 use Rattle.text_laws.specs.Copies.{IsPack, StandsIn, AreCopies, HasNoTab}
 use Rattle.text_laws.proofs.Back.{contents_are, count_is}
 use Rattle.text_laws.proofs.Seals.{IsContent, numbered_at, seal_good}
 use Rattle.picture_script.specs.Script.{Drawing}
 use Rattle.subcode_author.specs.Authored.{IsAuthored, text_packs}
 use Rattle.subcode_player.specs.TextList.{IsTextListed, packs_in, texts_in}
-use Rattle.authored_listings.specs.Damage.{IsDamaged, count_whole, count_hurt}
+use Rattle.authored_listings.specs.Damage.{HasHurtSlots, count_whole, count_hurt}
 use Rattle.authored_listings.specs.SheetLines.{HasText, HasTextPacks, sheet_lines}
 use Rattle.authored_listings.specs.Slots.{pack_in_slot, packs_in_slots}
 use Rattle.authored_listings.proofs.SlotPacks.{lead_in_holds}
@@ -49,12 +50,12 @@ counted_same : (texts texts' : Texts) (good bad other good' bad' other' : ℕ) �
 counted_same texts texts' good bad other good' bad' other' t e f g = λ i. counted_lines (t i) (e i) (f i) (g i)
 
 -- what is listed of packs by their marks
-lines_of : (texts : Texts) (whole : List Bool) (lead_in : ℕ) (bytes text : List ℕ) (bad : ℕ) → AreMarked whole (packs_in Raw lead_in bytes) → texts_in Raw lead_in bytes ≡ Ok texts
-    → IsTextListed Raw lead_in bytes text bad → text ≡ counted_lines texts (count_whole whole) (count_hurt whole) 0
-lines_of texts whole lead_in bytes text bad are read listed =
+lines_of : (texts : Texts) (whole : List Bool) (form : Form) (lead_in : ℕ) (bytes text : List ℕ) (bad : ℕ) → AreMarked whole (packs_in form lead_in bytes) → texts_in form lead_in bytes ≡ Ok texts
+    → IsTextListed form lead_in bytes text bad → text ≡ counted_lines texts (count_whole whole) (count_hurt whole) 0
+lines_of texts whole form lead_in bytes text bad are read listed =
     let same : listed.texts ≡ texts = ap the_texts (sym listed.read ∙ read) in
     listed.text_is
-    ∙ counted_same listed.texts texts _ _ _ _ _ _ same (count_good whole (packs_in Raw lead_in bytes) are) (count_bad whole (packs_in Raw lead_in bytes) are) (count_other whole (packs_in Raw lead_in bytes) are)
+    ∙ counted_same listed.texts texts _ _ _ _ _ _ same (count_good whole (packs_in form lead_in bytes) are) (count_bad whole (packs_in form lead_in bytes) are) (count_other whole (packs_in form lead_in bytes) are)
 
 module _ (sheet : CueSheet) (has : HasTextPacks sheet) (some : HasText sheet) where
   texts_are : texts_of_sheet sheet ≡ sheet_texts sheet
@@ -127,16 +128,16 @@ module _ (sheet : CueSheet) (has : HasTextPacks sheet) (some : HasText sheet) wh
 
     -- all slots are whole
     pub undamaged : length (text_packs sheet) ≤ count
-        → IsDamaged (text_packs sheet) (replicate (length (packs_in_slots (text_packs sheet) count)) true) (packs_in_slots (text_packs sheet) count) (packs_in_slots (text_packs sheet) count)
+        → HasHurtSlots (text_packs sheet) (replicate (length (packs_in_slots (text_packs sheet) count)) true) (packs_in_slots (text_packs sheet) count) (packs_in_slots (text_packs sheet) count)
     undamaged enough = record {
       slots = all_whole (packs_in_slots (text_packs sheet) count);
       left = All-from_get_or (λ (pack : List ℕ). StandsIn pack (packs_in_slots (text_packs sheet) count)) (text_packs sheet) [] (pack_stands enough);
     }
 
-    pub marks_are : (whole : List Bool) (found : List (List ℕ)) → IsDamaged (text_packs sheet) whole (packs_in_slots (text_packs sheet) count) found → AreMarked whole found
+    pub marks_are : (whole : List Bool) (found : List (List ℕ)) → HasHurtSlots (text_packs sheet) whole (packs_in_slots (text_packs sheet) count) found → AreMarked whole found
     marks_are whole found damaged = marked whole (packs_in_slots (text_packs sheet) count) found damaged.slots slot_good
 
-    pub texts_found : ComeBack → (whole : List Bool) (found : List (List ℕ)) → IsDamaged (text_packs sheet) whole (packs_in_slots (text_packs sheet) count) found
+    pub texts_found : ComeBack → (whole : List Bool) (found : List (List ℕ)) → HasHurtSlots (text_packs sheet) whole (packs_in_slots (text_packs sheet) count) found
         → read_texts (kept_among found) ≡ Ok (texts_of_sheet sheet)
     texts_found law whole found damaged = law (texts_of_sheet sheet) found tracks some_text no_tab has.few (record {
       each = found_each (λ (pack : List ℕ). StandsIn pack (text_packs sheet)) whole (packs_in_slots (text_packs sheet) count) found damaged.slots slot_stands;
@@ -185,22 +186,22 @@ pub packs_held : (sheet : CueSheet) (script : List Drawing) (lead_in audio : ℕ
     → HasTextPacks sheet → IsAuthored sheet script lead_in audio bytes packs → packs_in Raw lead_in bytes ≡ packs_in_slots (text_packs sheet) (4 * lead_in)
 packs_held sheet script lead_in audio bytes packs has authored = lead_in_holds (text_packs sheet) (packs_are sheet has) (layout_of sheet audio) lead_in bytes authored.framing
 
-pub damaged_texts : ComeBack → (sheet : CueSheet) (script : List Drawing) (lead_in audio : ℕ) (bytes : List ℕ) (packs : List (List ℕ)) (whole : List Bool) (changed : List ℕ)
+pub damaged_texts : ComeBack → (sheet : CueSheet) (script : List Drawing) (lead_in audio : ℕ) (bytes : List ℕ) (packs : List (List ℕ)) (whole : List Bool) (form : Form) (changed : List ℕ)
     → HasTextPacks sheet → HasText sheet → IsAuthored sheet script lead_in audio bytes packs
-    → IsDamaged (text_packs sheet) whole (packs_in Raw lead_in bytes) (packs_in Raw lead_in changed) → texts_in Raw lead_in changed ≡ Ok (texts_of_sheet sheet)
-damaged_texts law sheet script lead_in audio bytes packs whole changed has some authored damaged =
-    texts_found sheet has some (4 * lead_in) law whole (packs_in Raw lead_in changed)
-    (subst (λ (written : List (List ℕ)). IsDamaged (text_packs sheet) whole written (packs_in Raw lead_in changed)) (packs_held sheet script lead_in audio bytes packs has authored) damaged)
+    → HasHurtSlots (text_packs sheet) whole (packs_in Raw lead_in bytes) (packs_in form lead_in changed) → texts_in form lead_in changed ≡ Ok (texts_of_sheet sheet)
+damaged_texts law sheet script lead_in audio bytes packs whole form changed has some authored damaged =
+    texts_found sheet has some (4 * lead_in) law whole (packs_in form lead_in changed)
+    (subst (λ (written : List (List ℕ)). HasHurtSlots (text_packs sheet) whole written (packs_in form lead_in changed)) (packs_held sheet script lead_in audio bytes packs has authored) damaged)
 
-pub damaged_lines : ComeBack → (sheet : CueSheet) (script : List Drawing) (lead_in audio : ℕ) (bytes : List ℕ) (packs : List (List ℕ)) (whole : List Bool) (changed text : List ℕ) (bad : ℕ)
+pub damaged_lines : ComeBack → (sheet : CueSheet) (script : List Drawing) (lead_in audio : ℕ) (bytes : List ℕ) (packs : List (List ℕ)) (whole : List Bool) (form : Form) (changed text : List ℕ) (bad : ℕ)
     → HasTextPacks sheet → HasText sheet → IsAuthored sheet script lead_in audio bytes packs
-    → IsDamaged (text_packs sheet) whole (packs_in Raw lead_in bytes) (packs_in Raw lead_in changed)
-    → IsTextListed Raw lead_in changed text bad → text ≡ sheet_lines sheet (count_whole whole) (count_hurt whole)
-damaged_lines law sheet script lead_in audio bytes packs whole changed text bad has some authored damaged listed =
+    → HasHurtSlots (text_packs sheet) whole (packs_in Raw lead_in bytes) (packs_in form lead_in changed)
+    → IsTextListed form lead_in changed text bad → text ≡ sheet_lines sheet (count_whole whole) (count_hurt whole)
+damaged_lines law sheet script lead_in audio bytes packs whole form changed text bad has some authored damaged listed =
     let held = packs_held sheet script lead_in audio bytes packs has authored in
-    let are = subst (λ (written : List (List ℕ)). IsDamaged (text_packs sheet) whole written (packs_in Raw lead_in changed)) held damaged in
-    lines_of (texts_of_sheet sheet) whole lead_in changed text bad (marks_are sheet has some (4 * lead_in) whole (packs_in Raw lead_in changed) are)
-    (damaged_texts law sheet script lead_in audio bytes packs whole changed has some authored damaged) listed
+    let are = subst (λ (written : List (List ℕ)). HasHurtSlots (text_packs sheet) whole written (packs_in form lead_in changed)) held damaged in
+    lines_of (texts_of_sheet sheet) whole form lead_in changed text bad (marks_are sheet has some (4 * lead_in) whole (packs_in form lead_in changed) are)
+    (damaged_texts law sheet script lead_in audio bytes packs whole form changed has some authored damaged) listed
 
 -- an authored lead-in is one in which all slots are whole
 all_slots : ℕ → CueSheet → List Bool
@@ -208,18 +209,18 @@ all_slots lead_in sheet = replicate (length (packs_in_slots (text_packs sheet) (
 
 whole_lead_in : (sheet : CueSheet) (script : List Drawing) (lead_in audio : ℕ) (bytes : List ℕ) (packs : List (List ℕ))
     → HasTextPacks sheet → HasText sheet → 0 < lead_in → IsAuthored sheet script lead_in audio bytes packs
-    → IsDamaged (text_packs sheet) (all_slots lead_in sheet) (packs_in Raw lead_in bytes) (packs_in Raw lead_in bytes)
+    → HasHurtSlots (text_packs sheet) (all_slots lead_in sheet) (packs_in Raw lead_in bytes) (packs_in Raw lead_in bytes)
 unfolding all_slots
 whole_lead_in sheet script lead_in audio bytes packs has some begun authored =
     let held = packs_held sheet script lead_in audio bytes packs has authored in
     let enough : length (text_packs sheet) ≤ 4 * lead_in = omega (arith, authored.enough begun) in
-    subst (λ (slots : List (List ℕ)). IsDamaged (text_packs sheet) (replicate (length (packs_in_slots (text_packs sheet) (4 * lead_in))) true) slots slots) (sym held)
+    subst (λ (slots : List (List ℕ)). HasHurtSlots (text_packs sheet) (replicate (length (packs_in_slots (text_packs sheet) (4 * lead_in))) true) slots slots) (sym held)
     (undamaged sheet has some (4 * lead_in) enough)
 
 pub authored_texts : ComeBack → (sheet : CueSheet) (script : List Drawing) (lead_in audio : ℕ) (bytes : List ℕ) (packs : List (List ℕ))
     → HasTextPacks sheet → HasText sheet → 0 < lead_in → IsAuthored sheet script lead_in audio bytes packs → texts_in Raw lead_in bytes ≡ Ok (texts_of_sheet sheet)
 authored_texts law sheet script lead_in audio bytes packs has some begun authored =
-    damaged_texts law sheet script lead_in audio bytes packs (all_slots lead_in sheet) bytes has some authored (whole_lead_in sheet script lead_in audio bytes packs has some begun authored)
+    damaged_texts law sheet script lead_in audio bytes packs (all_slots lead_in sheet) Raw bytes has some authored (whole_lead_in sheet script lead_in audio bytes packs has some begun authored)
 
 pub authored_lines : ComeBack → (sheet : CueSheet) (script : List Drawing) (lead_in audio : ℕ) (bytes : List ℕ) (packs : List (List ℕ)) (text : List ℕ) (bad : ℕ)
     → HasTextPacks sheet → HasText sheet → 0 < lead_in → IsAuthored sheet script lead_in audio bytes packs
@@ -227,7 +228,7 @@ pub authored_lines : ComeBack → (sheet : CueSheet) (script : List Drawing) (le
 unfolding all_slots
 authored_lines law sheet script lead_in audio bytes packs text bad has some begun authored listed =
     let size : length (packs_in_slots (text_packs sheet) (4 * lead_in)) ≡ 4 * lead_in = length-map-range_with_len (pack_in_slot (text_packs sheet)) 0 (4 * lead_in) in
-    damaged_lines law sheet script lead_in audio bytes packs (all_slots lead_in sheet) bytes text bad has some authored
+    damaged_lines law sheet script lead_in audio bytes packs (all_slots lead_in sheet) Raw bytes text bad has some authored
     (whole_lead_in sheet script lead_in audio bytes packs has some begun authored) listed
     ∙ counted_same (texts_of_sheet sheet) (texts_of_sheet sheet) _ _ 0 _ _ 0 refl (all_are_whole (length (packs_in_slots (text_packs sheet) (4 * lead_in))) ∙ size)
     (none_is_hurt (length (packs_in_slots (text_packs sheet) (4 * lead_in)))) refl
@@ -254,6 +255,21 @@ no_text_lines sheet script lead_in audio bytes packs text bad none authored list
     let size : count ≡ 4 * lead_in = length-map-range_with_len (pack_in_slot []) 0 (4 * lead_in) in
     let are : AreMarked (replicate count false) (packs_in Raw lead_in bytes) =
     subst (AreMarked (replicate count false)) (sym held) (all_hurt (packs_in_slots [] (4 * lead_in)) (zero_slot (4 * lead_in))) in
-    lines_of no_texts (replicate count false) lead_in bytes text bad are (no_texts_read sheet script lead_in audio bytes packs none authored) listed
+    lines_of no_texts (replicate count false) Raw lead_in bytes text bad are (no_texts_read sheet script lead_in audio bytes packs none authored) listed
     ∙ counted_same no_texts no_texts _ _ 0 _ _ 0 refl (none_is_whole count) (all_are_hurt count ∙ size) refl
     ∙ no_lines (4 * lead_in)
+
+-- Copies of a lead-in
+
+pub copied_texts : (form : Form) (lead_in : ℕ) (bytes copy : List ℕ) (texts : Texts) → packs_in form lead_in copy ≡ packs_in Raw lead_in bytes
+    → texts_in Raw lead_in bytes ≡ Ok texts → texts_in form lead_in copy ≡ Ok texts
+copied_texts form lead_in bytes copy texts same read = ap (λ (ps : List (List ℕ)). read_texts (kept_among ps)) same ∙ read
+
+pub copied_listing : (form : Form) (lead_in : ℕ) (bytes copy text : List ℕ) (bad : ℕ) → packs_in form lead_in copy ≡ packs_in Raw lead_in bytes
+    → IsTextListed form lead_in copy text bad → IsTextListed Raw lead_in bytes text bad
+copied_listing form lead_in bytes copy text bad same listed = record {
+  texts = listed.texts;
+  read = ap (λ (ps : List (List ℕ)). read_texts (kept_among ps)) (sym same) ∙ listed.read;
+  text_is = listed.text_is ∙ ap (text_lines listed.texts) same;
+  none_bad = listed.none_bad;
+}

@@ -10,14 +10,15 @@ AreFound (true ∷ whole) (pack ∷ written) (found ∷ rest) = (found ≡ pack)
 AreFound (false ∷ whole) (pack ∷ written) (found ∷ rest) = (check_matches found ≡ false) × AreFound whole written rest
 AreFound whole written rest = ⊥
 
--- how many slots are whole, and how many are not
+-- how many slots are whole
 abbrev pub count_whole : List Bool → ℕ
 count_whole whole = count_by (λ (is : Bool). is) whole
 
+-- how many slots are not whole
 abbrev pub count_hurt : List Bool → ℕ
 count_hurt whole = count_by (λ (is : Bool). not is) whole
 
 -- the slots are found in this state, and each of the packs still stands in some slot
-pub record IsDamaged (packs : List (List ℕ)) (whole : List Bool) (written found : List (List ℕ)) : Type 0 where
+pub record HasHurtSlots (packs : List (List ℕ)) (whole : List Bool) (written found : List (List ℕ)) : Type 0 where
   pub slots : AreFound whole written found
   pub left : All (λ (pack : List ℕ). StandsIn pack found) packs

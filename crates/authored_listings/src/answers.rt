@@ -4,6 +4,7 @@ ghost use Rattle.std.specs.declared.option.Option.{Option};
 ghost use Rattle.block_stages.specs.QList.{IsQListed};
 ghost use Rattle.cue_sheet.specs.CueSheet.{CueSheet};
 ghost use Rattle.picture_script.specs.Script.{Drawing};
+ghost use Rattle.raw_subcode.specs.declared.form.Form.{Form};
 ghost use Rattle.raw_subcode.specs.declared.form.Form.TheVariants.{Raw};
 ghost use Rattle.toc_model.specs.Places.{layout_of};
 ghost use Rattle.cdtext_packs.specs.SheetTexts.{sheet_texts};
@@ -17,7 +18,7 @@ ghost use Rattle.subcode_player.specs.declared.player.Played.{Played};
 ghost use Rattle.subcode_player.specs.declared.player.PlayStop.{PlayStop};
 ghost use Rattle.subcode_player.specs.declared.text_listing.TextStop.{TextStop};
 ghost use Rattle.authored_listings.specs.Answers.{PutsTexts};
-ghost use Rattle.authored_listings.specs.Damage.{IsDamaged, count_whole, count_hurt};
+ghost use Rattle.authored_listings.specs.Damage.{HasHurtSlots, count_whole, count_hurt};
 ghost use Rattle.authored_listings.specs.FrameLines.{frame_lines};
 ghost use Rattle.authored_listings.specs.SheetLines.{HasText, HasTextPacks, sheet_lines};
 
@@ -57,13 +58,32 @@ pub fn text_lists_are_answered()
     streams_without_texts_are_listed();
 }
 
-/// A law: the same of a stream whose lead-in is damaged, where each text pack is left whole in some slot.
+/// A law: the same of units of any form, in whose lead-in the text packs of an authored stream stand.
+pub fn copied_text_lists_are_answered()
+    ensures texts { (sheet : CueSheet) (script : List Drawing) (lead_in audio : ℕ) (bytes : List ℕ) (packs : List (List ℕ)) (form : Form) (copy : List ℕ)
+        (left held held' : Option (List ℕ)) (result : Result Played TextStop) (taken : List ℕ)
+        → HasTextPacks sheet → HasText sheet → 0 < lead_in → IsAuthored sheet script lead_in audio bytes packs
+        → packs_in form lead_in copy ≡ packs_in Raw lead_in bytes → IsWholeInput form copy
+        → ListsTexts form lead_in (Some copy) left held held' result taken → IsListedBy result form lead_in copy
+        → PutsTexts result held held' (sheet_lines sheet (4 * lead_in) 0) }
+    ensures none { (sheet : CueSheet) (script : List Drawing) (lead_in audio : ℕ) (bytes : List ℕ) (packs : List (List ℕ)) (form : Form) (copy : List ℕ)
+        (left held held' : Option (List ℕ)) (result : Result Played TextStop) (taken : List ℕ)
+        → has_no_text (sheet_texts sheet) ≡ true → IsAuthored sheet script lead_in audio bytes packs
+        → packs_in form lead_in copy ≡ packs_in Raw lead_in bytes → IsWholeInput form copy
+        → ListsTexts form lead_in (Some copy) left held held' result taken → IsListedBy result form lead_in copy
+        → PutsTexts result held held' (count_line 0 (4 * lead_in) 0) }
+{
+    authored_texts_are_listed();
+    streams_without_texts_are_listed();
+}
+
+/// A law: the same of units of any form whose lead-in is damaged, where each text pack is left whole in some slot.
 pub fn damaged_text_lists_are_answered()
-    ensures { (sheet : CueSheet) (script : List Drawing) (lead_in audio : ℕ) (bytes : List ℕ) (packs : List (List ℕ)) (whole : List Bool) (changed : List ℕ)
+    ensures { (sheet : CueSheet) (script : List Drawing) (lead_in audio : ℕ) (bytes : List ℕ) (packs : List (List ℕ)) (whole : List Bool) (form : Form) (changed : List ℕ)
         (left held held' : Option (List ℕ)) (result : Result Played TextStop) (taken : List ℕ)
         → HasTextPacks sheet → HasText sheet → IsAuthored sheet script lead_in audio bytes packs
-        → IsDamaged (text_packs sheet) whole (packs_in Raw lead_in bytes) (packs_in Raw lead_in changed) → IsWholeInput Raw changed
-        → ListsTexts Raw lead_in (Some changed) left held held' result taken → IsListedBy result Raw lead_in changed
+        → HasHurtSlots (text_packs sheet) whole (packs_in Raw lead_in bytes) (packs_in form lead_in changed) → IsWholeInput form changed
+        → ListsTexts form lead_in (Some changed) left held held' result taken → IsListedBy result form lead_in changed
         → PutsTexts result held held' (sheet_lines sheet (count_whole whole) (count_hurt whole)) }
 {
     damaged_lead_ins_give_the_texts();

@@ -6,7 +6,8 @@ mod frames;
 mod texts;
 
 pub use answers::{
-    damaged_text_lists_are_answered, frame_lists_are_answered, text_lists_are_answered,
+    copied_text_lists_are_answered, damaged_text_lists_are_answered, frame_lists_are_answered,
+    text_lists_are_answered,
 };
 pub use frames::authored_frames_are_listed;
 pub use texts::{

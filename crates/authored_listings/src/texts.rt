@@ -3,13 +3,14 @@ ghost use Rattle.std.specs.Prelude.{◌≡◌, ◌*◌, ◌<◌, ◌≤◌, ℕ,
 ghost use Rattle.cue_sheet.specs.CueSheet.{CueSheet};
 ghost use Rattle.cue_sheet.specs.Grammar.{read_cue};
 ghost use Rattle.picture_script.specs.Script.{Drawing};
+ghost use Rattle.raw_subcode.specs.declared.form.Form.{Form};
 ghost use Rattle.raw_subcode.specs.declared.form.Form.TheVariants.{Raw};
 ghost use Rattle.cdtext_packs.specs.SheetTexts.{sheet_texts, texts_of_sheet};
 ghost use Rattle.cdtext_packs.specs.Texts.{has_no_text, no_texts};
 ghost use Rattle.cdtext_lines.specs.Lines.{count_line};
 ghost use Rattle.subcode_author.specs.Authored.{IsAuthored, text_packs};
 ghost use Rattle.subcode_player.specs.TextList.{IsTextListed, packs_in, texts_in};
-ghost use Rattle.authored_listings.specs.Damage.{IsDamaged, count_whole, count_hurt};
+ghost use Rattle.authored_listings.specs.Damage.{HasHurtSlots, count_whole, count_hurt};
 ghost use Rattle.authored_listings.specs.SheetLines.{HasText, HasTextPacks, sheet_lines};
 ghost use Rattle.authored_listings.specs.Slots.{packs_in_slots};
 
@@ -53,16 +54,17 @@ pub fn streams_without_texts_are_listed()
 {}
 
 /// A law: where slots of an authored lead-in are damaged, and each text pack is left whole in some slot, the strings of the
-/// sheet are listed all the same, and the count of good packs is that of the whole slots.
+/// sheet are listed all the same, and the count of good packs is that of the whole slots. The damaged blocks may stand in
+/// units of another form.
 pub fn damaged_lead_ins_give_the_texts()
-    ensures texts { (sheet : CueSheet) (script : List Drawing) (lead_in audio : ℕ) (bytes : List ℕ) (packs : List (List ℕ)) (whole : List Bool) (changed : List ℕ)
+    ensures texts { (sheet : CueSheet) (script : List Drawing) (lead_in audio : ℕ) (bytes : List ℕ) (packs : List (List ℕ)) (whole : List Bool) (form : Form) (changed : List ℕ)
         → HasTextPacks sheet → HasText sheet → IsAuthored sheet script lead_in audio bytes packs
-        → IsDamaged (text_packs sheet) whole (packs_in Raw lead_in bytes) (packs_in Raw lead_in changed)
-        → texts_in Raw lead_in changed ≡ Ok (texts_of_sheet sheet) }
-    ensures lines { (sheet : CueSheet) (script : List Drawing) (lead_in audio : ℕ) (bytes : List ℕ) (packs : List (List ℕ)) (whole : List Bool) (changed text : List ℕ) (bad : ℕ)
+        → HasHurtSlots (text_packs sheet) whole (packs_in Raw lead_in bytes) (packs_in form lead_in changed)
+        → texts_in form lead_in changed ≡ Ok (texts_of_sheet sheet) }
+    ensures lines { (sheet : CueSheet) (script : List Drawing) (lead_in audio : ℕ) (bytes : List ℕ) (packs : List (List ℕ)) (whole : List Bool) (form : Form) (changed text : List ℕ) (bad : ℕ)
         → HasTextPacks sheet → HasText sheet → IsAuthored sheet script lead_in audio bytes packs
-        → IsDamaged (text_packs sheet) whole (packs_in Raw lead_in bytes) (packs_in Raw lead_in changed)
-        → IsTextListed Raw lead_in changed text bad → text ≡ sheet_lines sheet (count_whole whole) (count_hurt whole) }
+        → HasHurtSlots (text_packs sheet) whole (packs_in Raw lead_in bytes) (packs_in form lead_in changed)
+        → IsTextListed form lead_in changed text bad → text ≡ sheet_lines sheet (count_whole whole) (count_hurt whole) }
 {
     texts_come_back();
 }

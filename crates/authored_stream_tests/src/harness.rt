@@ -23,16 +23,28 @@ pub(crate) fn source(alloc: Global, bytes: &[u8]) -> Result<MemSource, AllocErro
 pub(crate) fn run_on(
     alloc: Global,
     line: &str,
+    first: MemSource,
+    second: MemSource,
+    fails: Vec<u32>,
+) -> Result<Ran, AllocError> {
+    let err = MemSink::new(alloc, 256, Vec::new(alloc), Vec::new(alloc))?;
+    run_telling(alloc, line, first, second, fails, err)
+}
+
+/// The same with this error output.
+pub(crate) fn run_telling(
+    alloc: Global,
+    line: &str,
     mut first: MemSource,
     mut second: MemSource,
     fails: Vec<u32>,
+    mut err: MemSink,
 ) -> Result<Ran, AllocError> {
     let mut words = Vec::new(alloc);
     for word in line.split(' ') {
         words.push(String::from_str(alloc, word)?)?;
     }
     let mut out = MemSink::new(alloc, 2_000_000, Vec::new(alloc), fails)?;
-    let mut err = MemSink::new(alloc, 256, Vec::new(alloc), Vec::new(alloc))?;
     let status = run(alloc, &words, &mut first, &mut second, &mut out, &mut err);
     Ok(Ran { status, out, err })
 }

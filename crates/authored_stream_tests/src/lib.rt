@@ -13,3 +13,5 @@ mod pictures;
 mod refused;
 #[cfg(test)]
 mod texts;
+#[cfg(test)]
+mod workload;

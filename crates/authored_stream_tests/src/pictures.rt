@@ -59,10 +59,7 @@ pub(crate) fn pixmap(alloc: Global, k: u32) -> Result<Vec<u8>, AllocError> {
 
 // Adds so many equal bytes.
 fn add(bytes: &mut Vec<u8>, count: usize, byte: u8) -> Result<(), AllocError> {
-    for _ in 0..count {
-        bytes.push(byte)?;
-    }
-    Ok(())
+    bytes.resize(bytes.len().saturating_add(count), byte)
 }
 
 // The colour of a stripe in picture k.

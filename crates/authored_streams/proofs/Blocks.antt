@@ -1,6 +1,7 @@
 -- Blocks that are built of a P bit, bits of Q and symbols.
 use Rattle.std.proofs.Common.{◌≡◌, ℕ, zero, suc, ◌+◌, ◌/◌, ◌%◌, ◌<◌, Bool, true, false, List, [], ◌∷◌, length, replicate, refl, ap, ap₂, ne_eqb, eq-eqb, arith}
 use Rattle.std.specs.List.{AllByRecursion}
+use Rattle.std.proofs.lemmas.List.Elements.{All-from_recursion}
 use Rattle.raw_subcode.specs.Channels.{channel_bit, p_bits, q_bits, symbols_of}
 use Rattle.q_frame.specs.QFrame.{IsValid}
 use Rattle.q_frame.specs.declared.frame.QFrame.{QFrame}
@@ -9,7 +10,7 @@ use Rattle.authored_streams.proofs.Codewords.{AreSymbols}
 use Rattle.authored_streams.proofs.FrameBits.{frame_size}
 use Rattle.authored_streams.proofs.LeadIns.{IsSymbols}
 
-abbrev pub AreBytes : List ℕ → Type 0
+abbrev AreBytes : List ℕ → Type 0
 AreBytes bytes = AllByRecursion (λ b. b < 256) bytes
 
 record IsByte (p q : Bool) (symbol byte : ℕ) : Type 0 where
@@ -53,8 +54,4 @@ pub is_built : (p : Bool) (frame : QFrame) (symbols : List ℕ) → IsValid fram
 unfolding frame_bits
 is_built p frame symbols valid are =
     let block = made 96 p (frame_bits frame) symbols (frame_size frame valid) are.0 are.1 in
-    record { size = block.size; channels = record { p = block.p_are; q = record { valid = valid; spelling = block.q_are } }; carried = block.symbols_are }
-
-pub are_bytes : (p : Bool) (frame : QFrame) (symbols : List ℕ) → IsValid frame → IsSymbols 96 symbols → AreBytes (built_block p (frame_bits frame) symbols)
-unfolding frame_bits
-are_bytes p frame symbols valid are = (made 96 p (frame_bits frame) symbols (frame_size frame valid) are.0 are.1).small
+    record { size = block.size; are_bytes = All-from_recursion (λ b. b < 256) (built_block p (frame_bits frame) symbols) block.small; channels = record { p = block.p_are; q = record { valid = valid; spelling = block.q_are } }; carried = block.symbols_are }

@@ -1,9 +1,8 @@
 -- An accepted sheet and script have an authored stream.
-use Rattle.std.proofs.Common.{◌≡◌, ℕ, zero, suc, ◌+◌, ◌*◌, ◌<◌, ◌≤◌, false, List, [], ◌∷◌, ◌++◌, length, get_or, flat_map, take, drop, All, sym, ap, subst, ◌∙◌, inl, inr, arith}
-use Rattle.std.specs.List.{AllByRecursion, range_with_len}
+use Rattle.std.proofs.Common.{◌≡◌, ℕ, ◌*◌, ◌<◌, ◌≤◌, false, List, [], length, get_or, take, drop, All, sym, ap, subst, ◌∙◌, inl, inr, arith}
+use Rattle.std.specs.List.{AllByRecursion}
 use Rattle.std.proofs.lemmas.List.{length-take-le, length-drop}
-use Rattle.std.proofs.lemmas.List.Elements.{All-take, All-drop, All-get_or, All-from_get_or, All-from_recursion, recursion_from_All}
-use Rattle.bit_lists.specs.Counting.{below}
+use Rattle.std.proofs.lemmas.List.Elements.{All-take, All-drop, All-get_or, All-from_get_or, recursion_from_All}
 use Rattle.rw_code.specs.Codeword.{IsCodeword}
 use Rattle.rw_interleave.specs.Interleave.{whole_packs, Carries}
 use Rattle.rw_interleave.specs.Spreading.{filled_with_idle}
@@ -26,7 +25,7 @@ use Rattle.authored_streams.proofs.Ends.{within}
 use Rattle.authored_streams.proofs.Frames.{sheet_program_valid, sheet_toc_valid}
 use Rattle.authored_streams.proofs.LeadIns.{IsSymbols, lead_in_is, packs_eighteen}
 use Rattle.authored_streams.proofs.Written.{ChangesAreWritten, packs_exist, survey_exists}
-use Rattle.authored_streams.proofs.Blocks.{AreBytes, is_built, are_bytes}
+use Rattle.authored_streams.proofs.Blocks.{is_built}
 
 -- the symbols that carry packs are symbols
 carried_small : (blocks : ℕ) (symbols : List ℕ) (packs : List (List ℕ)) → Carries blocks symbols packs → All (λ s. s < 64) symbols
@@ -46,14 +45,6 @@ block_symbols symbols blocks b size lt small = (
   recursion_from_All (λ s. s < 64) (take 96 (drop (96 * b) symbols)) (All-take (λ s. s < 64) 96 (drop (96 * b) symbols) (All-drop (λ s. s < 64) (96 * b) symbols small)),
 )
 
-bytes-append : (xs ys : List ℕ) → AreBytes xs → AreBytes ys → AreBytes (xs ++ ys)
-bytes-append [] ys these those = those
-bytes-append (x ∷ xs) ys these those = (these.0, bytes-append xs ys these.1 those)
-
-bytes-joined : (f : ℕ → List ℕ) (a n : ℕ) → ((i : ℕ) → i < a + n → AreBytes (f i)) → AreBytes (flat_map f (range_with_len a n))
-bytes-joined f a zero each = tt
-bytes-joined f a (suc n) each = bytes-append (f a) (flat_map f (range_with_len (a + 1) n)) (each a (omega arith)) (bytes-joined f (a + 1) n (λ i lt. each i (omega arith)))
-
 module _ (layout : DiscLayout) (texts : List (List ℕ)) (lead_in : ℕ) (symbols : List ℕ) (size : length symbols ≡ 96 * layout.blocks) (small : All (λ s. s < 64) symbols)
     (eighteen : AllByRecursion (λ (pack : List ℕ). length pack ≡ 18) texts)
     (contents_valid : (l : ℕ) → l < lead_in → IsValid (toc_frame layout lead_in l)) (program_valid : (b : ℕ) → b < layout.blocks → IsValid (program_frame layout b)) where
@@ -68,25 +59,9 @@ module _ (layout : DiscLayout) (texts : List (List ℕ)) (lead_in : ℕ) (symbol
   blocks_are : AreBuilt layout texts lead_in symbols
   blocks_are = record { contents = contents_built; program = program_built }
 
-  contents_bytes : (l : ℕ) → l < lead_in → AreBytes (lead_in_block layout texts lead_in l)
-  unfolding lead_in_block
-  contents_bytes l lt = are_bytes false (toc_frame layout lead_in l) (lead_in_symbols texts l) (contents_valid l lt) (lead_in_is texts l eighteen)
-
-  program_bytes : (b : ℕ) → b < layout.blocks → AreBytes (program_block layout symbols b)
-  unfolding carrying_block
-  program_bytes b lt = are_bytes (p_bit layout b) (program_frame layout b) (symbols_at symbols b) (program_valid b lt) (block_symbols symbols layout.blocks b size lt small)
-
-  stream_small : All (λ b. b < 256) (stream_bytes layout texts lead_in layout.blocks symbols)
-  unfolding stream_bytes
-  stream_small =
-      let f : ℕ → List ℕ = lead_in_block layout texts lead_in in
-      let g : ℕ → List ℕ = program_block layout symbols in
-      All-from_recursion (λ b. b < 256) (flat_map f (below lead_in) ++ flat_map g (below layout.blocks))
-      (bytes-append (flat_map f (below lead_in)) (flat_map g (below layout.blocks)) (bytes-joined f 0 lead_in (λ l lt. contents_bytes l (omega arith))) (bytes-joined g 0 layout.blocks (λ b lt. program_bytes b (omega arith))))
-
 pub has_stream : SpreadCarries → PacksAreSchedule → ChangesAreWritten → (sheet : CueSheet) (script : List Drawing) (lead_in audio : ℕ)
     → IsSheet sheet → AreTimesInOrder script → AreColoursInRange script → ((k x y : ℕ) → picture_pixel script k x y < 16) → lead_in ≤ 450000 → IsAccepted sheet script lead_in audio
-    → (bytes : List ℕ) × (packs : List (List ℕ)) × All (λ b. b < 256) bytes × IsAuthored sheet script lead_in audio bytes packs
+    → (bytes : List ℕ) × (packs : List (List ℕ)) × IsAuthored sheet script lead_in audio bytes packs
 has_stream spread schedule known sheet script lead_in audio is_sheet order colours pixels few accepted =
     let layout : DiscLayout = layout_of sheet audio in
     let blocks : ℕ = program_blocks sheet audio in
@@ -102,7 +77,6 @@ has_stream spread schedule known sheet script lead_in audio is_sheet order colou
     let built = blocks_are layout texts lead_in symbols carries.size small eighteen (λ l lt. contents_valid l lt few) program_valid in (
       stream_bytes layout texts lead_in blocks symbols,
       packs,
-      stream_small layout texts lead_in symbols carries.size small eighteen (λ l lt. contents_valid l lt few) program_valid,
       record {
         schedule = schedule script blocks survey packs pixels order.held (within script blocks order accepted.ready accepted.disc.1) surveyed count written;
         written = written;

@@ -1,5 +1,5 @@
 -- The first blocks of a stream, with the packs that were given, are a prefix of the authored stream.
-use Rattle.std.proofs.Common.{◌≡◌, ℕ, zero, suc, ◌+◌, ◌-◌, ◌*◌, ◌<◌, ◌≤◌, List, [], ◌++◌, length, get_or, flat_map, take, drop, replicate, All, append_assoc, refl, sym, ap, ap₂, subst, ◌∙◌, inl, inr, arith}
+use Rattle.std.proofs.Common.{◌≡◌, ℕ, zero, suc, ◌+◌, ◌-◌, ◌*◌, ◌<◌, ◌≤◌, List, [], ◌++◌, length, get_or, flat_map, take, drop, replicate, append_assoc, refl, sym, ap, ap₂, subst, ◌∙◌, inl, inr, arith}
 use Rattle.std.specs.List.{range_with_len}
 use Rattle.std.specs.declared.option.Option.{Option}
 use Rattle.std.proofs.lemmas.Bool.{cases_lt}
@@ -86,9 +86,9 @@ stream_front layout texts lead_in n blocks symbols more all le size joined =
     (rest, ap (λ xs. start ++ xs) (e ∙ ap (λ xs. xs ++ rest) same) ∙ sym (append_assoc start (flat_map g (below n)) rest))
 
 pub part_is_prefix : SpreadCarries → (sheet : CueSheet) (script : List Drawing) (lead_in audio n : ℕ) (bytes : List ℕ) (packs given : List (List ℕ)) (held held' : Option (List ℕ))
-    → IsAccepted sheet script lead_in audio → AreTimesInOrder script → All (λ byte. byte < 256) bytes → IsAuthored sheet script lead_in audio bytes packs
+    → IsAccepted sheet script lead_in audio → AreTimesInOrder script → IsAuthored sheet script lead_in audio bytes packs
     → PutsStreamPart (layout_of sheet audio) script (text_packs sheet) lead_in held held' n given → AppendsPrefix held held' bytes
-part_is_prefix spread sheet script lead_in audio n bytes packs given held held' accepted order small authored part =
+part_is_prefix spread sheet script lead_in audio n bytes packs given held held' accepted order authored part =
     let layout : DiscLayout = layout_of sheet audio in
     let blocks : ℕ = program_blocks sheet audio in
     let texts : List (List ℕ) = text_packs sheet in
@@ -98,4 +98,4 @@ part_is_prefix spread sheet script lead_in audio n bytes packs given held held' 
     let (more, front) = symbols_front script blocks packs carries.count authored.written (idle_past script blocks order accepted.ready accepted.disc.1) n given part.within part.given_are in
     let size : length (symbols_from [] given) ≡ 96 * n = length-symbols_from [] given ∙ omega (arith, part.given_are.count) in
     let (rest, whole) = stream_front layout texts lead_in n blocks (symbols_from [] given) more (program_symbols Raw bytes lead_in) part.within size (symbols ∙ front) in
-    prefix_first held held' (stream_bytes layout texts lead_in n (symbols_from [] given)) rest bytes part.put (sym (stream_is layout texts lead_in bytes authored.framing small) ∙ whole)
+    prefix_first held held' (stream_bytes layout texts lead_in n (symbols_from [] given)) rest bytes part.put (sym (stream_is layout texts lead_in bytes authored.framing) ∙ whole)

@@ -25,12 +25,12 @@ block_is : (paused : Bool) (frame : QFrame) (symbols block : List ℕ) → lengt
 unfolding frame_bits
 block_is paused frame symbols block size small channels carried = sym (made_of paused (frame_bits frame) symbols block size small channels.p channels.q.spelling carried)
 
-module _ (layout : DiscLayout) (texts : List (List ℕ)) (lead_in : ℕ) (bytes : List ℕ) (framing : HasFraming layout texts lead_in bytes) (small : All (λ b. b < 256) bytes) where
+module _ (layout : DiscLayout) (texts : List (List ℕ)) (lead_in : ℕ) (bytes : List ℕ) (framing : HasFraming layout texts lead_in bytes) where
   size_at : (k : ℕ) → k < lead_in + layout.blocks → length (bytes_at bytes k) ≡ 96
   size_at k lt = length-take-le 96 (drop (96 * k) bytes) (omega (arith, lt, framing.size, length-drop (96 * k) bytes))
 
   small_at : (k : ℕ) → All (λ b. b < 256) (bytes_at bytes k)
-  small_at k = All-take (λ b. b < 256) 96 (drop (96 * k) bytes) (All-drop (λ b. b < 256) (96 * k) bytes small)
+  small_at k = All-take (λ b. b < 256) 96 (drop (96 * k) bytes) (All-drop (λ b. b < 256) (96 * k) bytes framing.are_bytes)
 
   lead_in_is : (l : ℕ) → l < lead_in → lead_in_block layout texts lead_in l ≡ bytes_at bytes l
   unfolding lead_in_block
@@ -56,13 +56,13 @@ pub same_authored_packs : (sheet : CueSheet) (script : List Drawing) (lead_in au
 same_authored_packs sheet script lead_in audio bytes bytes' packs packs' one other = same_packs script packs packs' (one.carries.count ∙ sym other.carries.count) one.written other.written
 
 pub same_authored_bytes : (sheet : CueSheet) (script : List Drawing) (lead_in audio : ℕ) (bytes bytes' : List ℕ) (packs packs' : List (List ℕ))
-    → All (λ b. b < 256) bytes → All (λ b. b < 256) bytes' → IsAuthored sheet script lead_in audio bytes packs → IsAuthored sheet script lead_in audio bytes' packs' → bytes ≡ bytes'
-same_authored_bytes sheet script lead_in audio bytes bytes' packs packs' small small' one other =
+    → IsAuthored sheet script lead_in audio bytes packs → IsAuthored sheet script lead_in audio bytes' packs' → bytes ≡ bytes'
+same_authored_bytes sheet script lead_in audio bytes bytes' packs packs' one other =
     let layout : DiscLayout = layout_of sheet audio in
     let blocks : ℕ = program_blocks sheet audio in
     let packs_same = same_authored_packs sheet script lead_in audio bytes bytes' packs packs' one other in
     let symbols : program_symbols Raw bytes lead_in ≡ program_symbols Raw bytes' lead_in =
     same_symbols blocks (program_symbols Raw bytes lead_in) (program_symbols Raw bytes' lead_in) packs' (subst (λ (ps : List (List ℕ)). Carries blocks (program_symbols Raw bytes lead_in) ps) packs_same one.carries) other.carries in
-    sym (stream_is layout (text_packs sheet) lead_in bytes one.framing small)
+    sym (stream_is layout (text_packs sheet) lead_in bytes one.framing)
     ∙ ap (stream_bytes layout (text_packs sheet) lead_in blocks) symbols
-    ∙ stream_is layout (text_packs sheet) lead_in bytes' other.framing small'
+    ∙ stream_is layout (text_packs sheet) lead_in bytes' other.framing

@@ -2,7 +2,7 @@
 //! write leaves is a prefix of it.
 #![tactic(auto)]
 
-ghost use Rattle.std.specs.Prelude.{◌≡◌, ◌<◌, ◌≤◌, List, ℕ, Ok, All};
+ghost use Rattle.std.specs.Prelude.{◌≡◌, ◌<◌, ◌≤◌, List, ℕ, Ok};
 ghost use Rattle.std.specs.declared.option.Option.{Option};
 ghost use Rattle.cdg_io.specs.Moves.{AppendsPrefix};
 ghost use Rattle.cue_sheet.specs.CueSheet.{CueSheet, IsSheet};
@@ -26,11 +26,11 @@ pub fn accepted_scripts_are_in_order()
 {}
 
 /// A law: a sheet, a script, a lead-in and a length of the audio have one authored stream, which carries one list of packs.
+/// So what `author_stream` writes is one function of them: no two of its calls write different bytes for the same four.
 pub fn authored_streams_are_one()
     ensures packs { (sheet : CueSheet) (script : List Drawing) (lead_in audio : ℕ) (one other : List ℕ) (packs others : List (List ℕ))
         → IsAuthored sheet script lead_in audio one packs → IsAuthored sheet script lead_in audio other others → packs ≡ others }
     ensures bytes { (sheet : CueSheet) (script : List Drawing) (lead_in audio : ℕ) (one other : List ℕ) (packs others : List (List ℕ))
-        → All (λ byte. byte < 256) one → All (λ byte. byte < 256) other
         → IsAuthored sheet script lead_in audio one packs → IsAuthored sheet script lead_in audio other others → one ≡ other }
 {}
 
@@ -38,7 +38,7 @@ pub fn authored_streams_are_one()
 pub fn parts_are_prefixes()
     ensures { (sheet : CueSheet) (script : List Drawing) (lead_in audio n : ℕ) (bytes : List ℕ) (packs given : List (List ℕ)) (held after : Option (List ℕ))
         → IsAccepted sheet script lead_in audio → AreTimesInOrder script
-        → All (λ byte. byte < 256) bytes → IsAuthored sheet script lead_in audio bytes packs
+        → IsAuthored sheet script lead_in audio bytes packs
         → PutsStreamPart (layout_of sheet audio) script (text_packs sheet) lead_in held after n given → AppendsPrefix held after bytes }
 {
     spread_carries();
@@ -49,7 +49,7 @@ pub fn accepted_scripts_have_streams()
     ensures stream { (sheet : CueSheet) (script : List Drawing) (lead_in audio : ℕ)
         → IsSheet sheet → AreTimesInOrder script → AreColoursInRange script → ((k x y : ℕ) → picture_pixel script k x y < 16)
         → lead_in ≤ 450000 → IsAccepted sheet script lead_in audio
-        → (bytes : List ℕ) × (packs : List (List ℕ)) × All (λ byte. byte < 256) bytes × IsAuthored sheet script lead_in audio bytes packs }
+        → (bytes : List ℕ) × (packs : List (List ℕ)) × IsAuthored sheet script lead_in audio bytes packs }
     ensures part { (sheet : CueSheet) (script : List Drawing) (lead_in audio n : ℕ) (given : List (List ℕ)) (held after : Option (List ℕ))
         → IsSheet sheet → AreTimesInOrder script → AreColoursInRange script → ((k x y : ℕ) → picture_pixel script k x y < 16)
         → lead_in ≤ 450000 → IsAccepted sheet script lead_in audio

@@ -2,6 +2,7 @@
 use Rattle.std.proofs.Common.{◌≡◌, ◌≢◌, ◌≤◌, ◌*◌, ℕ, List, [], ◌∷◌, length, Result, Ok, Err, Some, None, IfSome, sym, subst, arith}
 use Rattle.std.specs.declared.option.Option.{Option}
 use Rattle.std.specs.List.{concat}
+use Rattle.raw_subcode.specs.declared.form.Form.{Form}
 use Rattle.raw_subcode.specs.declared.form.Form.TheVariants.{Raw}
 use Rattle.authored_listings.specs.Answers.{PutsTexts}
 use Rattle.block_stages.specs.QList.{IsQListed}
@@ -61,18 +62,18 @@ module _ (lead_in : ℕ) (left' held held' : Option (List ℕ)) (status : Status
   frames_given None lists restores = tt
   frames_given (Some all) lists restores = λ is. unless_memory t held held' status (λ found. frames_of all (lists found) (restores all is))
 
-  texts_of : (all : List ℕ) → TextsWith Raw lead_in (Some all) left' held held' status
-      → ((answer : Result Played TextStop) (taken : List ℕ) → ListsTexts Raw lead_in (Some all) left' held held' answer taken → IsListedBy answer Raw lead_in all
+  texts_of : (form : Form) (all : List ℕ) → TextsWith form lead_in (Some all) left' held held' status
+      → ((answer : Result Played TextStop) (taken : List ℕ) → ListsTexts form lead_in (Some all) left' held held' answer taken → IsListedBy answer form lead_in all
       → PutsTexts answer held held' t) → GivesBack t held held' status
-  texts_of all l puts =
+  texts_of form all l puts =
       subst (λ (s : Status). GivesBack t held held' s) (sym l.status_is) (texts_back l.answer held held' t (puts l.answer l.taken l.lists l.exactly))
 
   -- the texts of streams of some kind
-  pub strings_given : (left : Option (List ℕ)) → (status ≢ NoMemory → TextsWith Raw lead_in left left' held held' status)
-      → ((all : List ℕ) → A all → (answer : Result Played TextStop) (taken : List ℕ) → ListsTexts Raw lead_in (Some all) left' held held' answer taken → IsListedBy answer Raw lead_in all
+  pub strings_given : (form : Form) (left : Option (List ℕ)) → (status ≢ NoMemory → TextsWith form lead_in left left' held held' status)
+      → ((all : List ℕ) → A all → (answer : Result Played TextStop) (taken : List ℕ) → ListsTexts form lead_in (Some all) left' held held' answer taken → IsListedBy answer form lead_in all
       → PutsTexts answer held held' t) → IfSome left (λ all. A all → GivesBack t held held' status)
-  strings_given None lists puts = tt
-  strings_given (Some all) lists puts = λ is. unless_memory t held held' status (λ found. texts_of all (lists found) (puts all is))
+  strings_given form None lists puts = tt
+  strings_given form (Some all) lists puts = λ is. unless_memory t held held' status (λ found. texts_of form all (lists found) (puts all is))
 
 -- packs come back from scratches
 pub scratched_back : (lead_in blocks seed : ℕ) (bytes : List ℕ) (packs : List (List ℕ)) (left held held' : Option (List ℕ)) (status : Status)

@@ -14,7 +14,7 @@ use Rattle.subcode_author.specs.AuthorAnswer.{AreReady, HasRoom, HoldsPictures}
 use Rattle.subcode_player.specs.Calls.{most_units}
 use Rattle.subcode_player.specs.Pictured.{IsPictureText}
 use Rattle.subcode_player.specs.TextList.{IsWholeInput, packs_in}
-use Rattle.authored_listings.specs.Damage.{IsDamaged as IsHurt}
+use Rattle.authored_listings.specs.Damage.{HasHurtSlots}
 use Rattle.cdg_cmd.specs.Authors.{IsScriptText, IsSheetText, PutsAuthored}
 use Rattle.cdg_cmd.specs.declared.status.Status.{Status}
 use Rattle.cdg_cmd.specs.declared.status.Status.TheVariants.{Done, Damaged, Usage, Refused, Late, ReadFault, WriteFault, NoMemory}
@@ -66,10 +66,15 @@ pub record IsDamagedAuthored (sheet : CueSheet) (script : List Drawing) (lead_in
   pub is_authored : IsAuthored sheet script lead_in audio authored packs
   pub damaged : IsDamaged (program_symbols Raw authored lead_in) form (program_symbols form bytes lead_in)
 
--- Whole raw blocks, whose lead-in slots hold the packs of an authored stream but for damage that leaves each of them whole in some slot.
-pub record HasDamagedTexts (sheet : CueSheet) (lead_in : ℕ) (whole : List Bool) (authored bytes : List ℕ) : Type 0 where
-  pub input : IsWholeInput Raw bytes
-  pub slots : IsHurt (text_packs sheet) whole (packs_in Raw lead_in authored) (packs_in Raw lead_in bytes)
+-- Whole units of a form, whose lead-in slots hold the packs of an authored stream.
+pub record HasTextsOf (form : Form) (lead_in : ℕ) (authored bytes : List ℕ) : Type 0 where
+  pub input : IsWholeInput form bytes
+  pub slots : packs_in form lead_in bytes ≡ packs_in Raw lead_in authored
+
+-- Whole units of a form, whose lead-in slots hold them but for damage that leaves each pack whole in some slot.
+pub record HasDamagedTexts (sheet : CueSheet) (form : Form) (lead_in : ℕ) (whole : List Bool) (authored bytes : List ℕ) : Type 0 where
+  pub input : IsWholeInput form bytes
+  pub slots : HasHurtSlots (text_packs sheet) whole (packs_in Raw lead_in authored) (packs_in form lead_in bytes)
 
 -- scheduled packs as a conversion writes them: in a cooked stream seven packs of zeros follow them
 abbrev pub written_packs : Form → List (List ℕ) → List (List ℕ)

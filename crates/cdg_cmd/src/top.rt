@@ -14,7 +14,7 @@ ghost use Rattle.cue_sheet.specs.CueSheet.{CueSheet};
 ghost use Rattle.picture_script.specs.Script.{Drawing};
 ghost use Rattle.picture_changes.specs.Brings.{CannotBeReady};
 ghost use Rattle.cdg_cmd.specs.Authors.{IsScriptStop, IsScriptText, IsSheetStop, IsSheetText, author_status};
-ghost use Rattle.cdg_cmd.specs.Headline.{AreTexts, HasDamagedTexts, IsDamagedAuthored, PutsPicture, RefusesWith, Writes, WritesOrIsLate, written_packs};
+ghost use Rattle.cdg_cmd.specs.Headline.{AreTexts, HasDamagedTexts, HasTextsOf, IsDamagedAuthored, PutsPicture, RefusesWith, Writes, WritesOrIsLate, written_packs};
 ghost use Rattle.toc_model.specs.Places.{layout_of, program_blocks};
 ghost use Rattle.cdg_workload.specs.Scratches.{scratched};
 ghost use Rattle.cdtext_packs.specs.SheetTexts.{sheet_texts};
@@ -40,7 +40,8 @@ use crate::turning::{run_planar, run_raw, run_scratch};
 use crate::{Command, Refusal, Status, Which, read_words};
 use author_answers::each_disc_has_one_answer;
 use authored_listings::{
-    damaged_text_lists_are_answered, frame_lists_are_answered, text_lists_are_answered,
+    copied_text_lists_are_answered, damaged_text_lists_are_answered, frame_lists_are_answered,
+    text_lists_are_answered,
 };
 use authored_streams::accepted_scripts_are_in_order;
 use cdg_io::{Sink, Source, SteadySink, SteadySource};
@@ -145,11 +146,22 @@ pub fn run<S: Source, T: Source, K: Sink, E: Sink>(
         → has_no_text (sheet_texts sheet) ≡ true
         → IfSome (S.left first.old) (λ all. IsAuthored sheet script lead_in audio all packs
         → GivesBack (count_line 0 (4 * lead_in) 0) (K.held out.old) (K.held out.new) result) }
-    // and the strings also where packs of the lead-in are damaged, and each is left whole in some slot.
-    ensures damaged_strings { (lead_in audio : ℕ) (sheet : CueSheet) (script : List Drawing) (bytes : List ℕ) (packs : List (List ℕ)) (whole : List Bool)
-        → Spells (Command.Text lead_in Form.Raw) (texts words.now) → HasTextPacks sheet → HasText sheet
+    // the same of sectors with this lead-in,
+    ensures copied_strings { (lead_in audio : ℕ) (form : Form) (sheet : CueSheet) (script : List Drawing) (bytes : List ℕ) (packs : List (List ℕ))
+        → Spells (Command.Text lead_in form) (texts words.now) → HasTextPacks sheet → HasText sheet → 0 < lead_in
         → IsAuthored sheet script lead_in audio bytes packs
-        → IfSome (S.left first.old) (λ all. HasDamagedTexts sheet lead_in whole bytes all
+        → IfSome (S.left first.old) (λ all. HasTextsOf form lead_in bytes all
+        → GivesBack (sheet_lines sheet (4 * lead_in) 0) (K.held out.old) (K.held out.new) result) }
+    ensures copied_no_strings { (lead_in audio : ℕ) (form : Form) (sheet : CueSheet) (script : List Drawing) (bytes : List ℕ) (packs : List (List ℕ))
+        → Spells (Command.Text lead_in form) (texts words.now) → has_no_text (sheet_texts sheet) ≡ true
+        → IsAuthored sheet script lead_in audio bytes packs
+        → IfSome (S.left first.old) (λ all. HasTextsOf form lead_in bytes all
+        → GivesBack (count_line 0 (4 * lead_in) 0) (K.held out.old) (K.held out.new) result) }
+    // and the strings also where packs of the lead-in are damaged, and each is left whole in some slot.
+    ensures damaged_strings { (lead_in audio : ℕ) (form : Form) (sheet : CueSheet) (script : List Drawing) (bytes : List ℕ) (packs : List (List ℕ)) (whole : List Bool)
+        → Spells (Command.Text lead_in form) (texts words.now) → HasTextPacks sheet → HasText sheet
+        → IsAuthored sheet script lead_in audio bytes packs
+        → IfSome (S.left first.old) (λ all. HasDamagedTexts sheet form lead_in whole bytes all
         → GivesBack (sheet_lines sheet (count_whole whole) (count_hurt whole)) (K.held out.old) (K.held out.new) result) }
 
     // Where no memory is found nothing was written, and nothing was read where all of it is taken first.
@@ -180,6 +192,7 @@ pub fn run<S: Source, T: Source, K: Sink, E: Sink>(
     scratched_streams_are_damaged();
     frame_lists_are_answered();
     text_lists_are_answered();
+    copied_text_lists_are_answered();
     damaged_text_lists_are_answered();
     each_disc_has_one_answer();
     accepted_scripts_are_in_order();

@@ -1,7 +1,8 @@
 -- The blocks of a stream that is made of them.
-use Rattle.std.proofs.Common.{◌≡◌, ℕ, zero, suc, ◌+◌, ◌-◌, ◌*◌, ◌/◌, ◌<◌, ◌≤◌, false, List, [], ◌∷◌, ◌++◌, length, get_or, map, flat_map, take, drop, refl, sym, ap, ap₂, subst, ◌∙◌, arith}
+use Rattle.std.proofs.Common.{◌≡◌, ℕ, zero, suc, ◌+◌, ◌-◌, ◌*◌, ◌/◌, ◌<◌, ◌≤◌, false, List, [], ◌∷◌, ◌++◌, length, get_or, map, flat_map, take, drop, All, refl, sym, ap, ap₂, subst, ◌∙◌, arith}
 use Rattle.std.specs.List.{concat, range_with_len}
 use Rattle.std.proofs.lemmas.List.{length-append, map-id, drop-drop, take-append-drop, drop_all, get_or_append_left, get_or-append_right}
+use Rattle.std.proofs.lemmas.List.Elements.{All-append}
 use Rattle.std.proofs.lemmas.List.Folds.{concat-append}
 use Rattle.std.proofs.lemmas.List.FromFn.{length-map-range_with_len, get_or-map-range_with_len}
 use Rattle.std.proofs.Math.Seq.{take-append_seam, drop-append_seam}
@@ -14,28 +15,37 @@ use Rattle.cdtext_packs.specs.LeadIn.{lead_in_symbols}
 use Rattle.subcode_author.specs.Blocks.{lead_in_block, program_block, symbols_at, stream_bytes, HasChannels, IsBuilt}
 use Rattle.subcode_author.specs.Framing.{raw_block, HasFraming}
 
+-- 96 bytes
+record IsBlock (block : List ℕ) : Type 0 where
+  size : length block ≡ 96
+  are_bytes : All (λ byte. byte < 256) block
+
 -- each of them has 96 bytes
 abbrev AreBlocks : List (List ℕ) → Type 0
 AreBlocks [] = Unit {0}
-AreBlocks (block ∷ blocks) = (length block ≡ 96) × AreBlocks blocks
+AreBlocks (block ∷ blocks) = IsBlock block × AreBlocks blocks
 
 AreBlocks-append : (xs ys : List (List ℕ)) → AreBlocks xs → AreBlocks ys → AreBlocks (xs ++ ys)
 AreBlocks-append [] ys these those = those
 AreBlocks-append (x ∷ xs) ys these those = (these.0, AreBlocks-append xs ys these.1 those)
 
-blocks_in_range : (f : ℕ → List ℕ) (a n : ℕ) → ((i : ℕ) → a ≤ i → i < a + n → length (f i) ≡ 96) → AreBlocks (map f (range_with_len a n))
+blocks_in_range : (f : ℕ → List ℕ) (a n : ℕ) → ((i : ℕ) → a ≤ i → i < a + n → IsBlock (f i)) → AreBlocks (map f (range_with_len a n))
 blocks_in_range f a zero each = tt
 blocks_in_range f a (suc n) each = (each a (omega arith) (omega arith), blocks_in_range f (a + 1) n (λ i low high. each i (omega arith) (omega arith)))
 
 length-joined : (xs : List (List ℕ)) → AreBlocks xs → length (concat xs) ≡ 96 * length xs
 length-joined [] sized = refl
-length-joined (x ∷ xs) sized = length-append x (concat xs) ∙ omega (arith, length-joined xs sized.1, sized.0)
+length-joined (x ∷ xs) sized = length-append x (concat xs) ∙ omega (arith, length-joined xs sized.1, sized.0.size)
+
+bytes-joined : (xs : List (List ℕ)) → AreBlocks xs → All (λ byte. byte < 256) (concat xs)
+bytes-joined [] sized = λ k d lt. absurd (omega arith)
+bytes-joined (x ∷ xs) sized = All-append (λ byte. byte < 256) x (concat xs) sized.0.are_bytes (bytes-joined xs sized.1)
 
 parts-joined : (xs : List (List ℕ)) → AreBlocks xs → parts (length xs) 96 (concat xs) ≡ xs
 parts-joined [] sized = refl
 parts-joined (x ∷ xs) sized =
-    let front : take 96 (x ++ concat xs) ≡ x = ap (λ k. take k (x ++ concat xs)) (sym sized.0) ∙ take-append_seam x (concat xs) in
-    let back : drop 96 (x ++ concat xs) ≡ concat xs = ap (λ k. drop k (x ++ concat xs)) (sym sized.0) ∙ drop-append_seam x (concat xs) in
+    let front : take 96 (x ++ concat xs) ≡ x = ap (λ k. take k (x ++ concat xs)) (sym sized.0.size) ∙ take-append_seam x (concat xs) in
+    let back : drop 96 (x ++ concat xs) ≡ concat xs = ap (λ k. drop k (x ++ concat xs)) (sym sized.0.size) ∙ drop-append_seam x (concat xs) in
     ap₂ (λ y ys. y ∷ ys) front (ap (parts (length xs) 96) back ∙ parts-joined xs sized.1)
 
 blocks_are : (xs : List (List ℕ)) → AreBlocks xs → blocks_of Raw (concat xs) ≡ xs
@@ -74,8 +84,8 @@ all_blocks : (layout : DiscLayout) (texts : List (List ℕ)) (lead_in : ℕ) (sy
     → AreBlocks (lead_in_blocks layout texts lead_in ++ blocks_after layout symbols)
 all_blocks layout texts lead_in symbols built =
     AreBlocks-append (lead_in_blocks layout texts lead_in) (blocks_after layout symbols)
-    (blocks_in_range (lead_in_block layout texts lead_in) 0 lead_in (λ i low high. (built.contents i (omega arith)).size))
-    (blocks_in_range (program_block layout symbols) 0 layout.blocks (λ i low high. (built.program i (omega arith)).size))
+    (blocks_in_range (lead_in_block layout texts lead_in) 0 lead_in (λ i low high. let is = built.contents i (omega arith) in record { size = is.size; are_bytes = is.are_bytes }))
+    (blocks_in_range (program_block layout symbols) 0 layout.blocks (λ i low high. let is = built.program i (omega arith) in record { size = is.size; are_bytes = is.are_bytes }))
 
 stream_is : (layout : DiscLayout) (texts : List (List ℕ)) (lead_in : ℕ) (symbols : List ℕ)
     → stream_bytes layout texts lead_in layout.blocks symbols ≡ concat (lead_in_blocks layout texts lead_in ++ blocks_after layout symbols)
@@ -119,6 +129,7 @@ framing layout texts lead_in symbols built =
       size = ap length (stream_is layout texts lead_in symbols) ∙ length-joined _ (all_blocks layout texts lead_in symbols built)
           ∙ ap (λ n. 96 * n) (length-append (map f (below lead_in)) (map g (below layout.blocks))
           ∙ ap₂ (λ m n. m + n) (length-map-range_with_len f 0 lead_in) (length-map-range_with_len g 0 layout.blocks));
+      are_bytes = subst (All (λ byte. byte < 256)) (sym (stream_is layout texts lead_in symbols)) (bytes-joined _ (all_blocks layout texts lead_in symbols built));
       program = λ b lt. subst (λ block. HasChannels block (p_bit layout b) (program_frame layout b)) (sym (program_at layout texts lead_in symbols built b lt)) (built.program b lt).channels;
       contents = λ l lt. subst (λ block. HasChannels block false (toc_frame layout lead_in l)) (sym (lead_in_at layout texts lead_in symbols built l lt)) (built.contents l lt).channels;
       texts = λ l lt. ap symbols_of (lead_in_at layout texts lead_in symbols built l lt) ∙ (built.contents l lt).carried;

@@ -102,7 +102,7 @@ unfolding stream_bytes
 with_texts layout script xs ys zero a b packs same puts = record {
   given_are = puts.given_are;
   put = puts.put;
-  framing = record { size = puts.framing.size; program = puts.framing.program; contents = λ l lt. absurd (omega arith); texts = λ l lt. absurd (omega arith) };
+  framing = record { size = puts.framing.size; are_bytes = puts.framing.are_bytes; program = puts.framing.program; contents = λ l lt. absurd (omega arith); texts = λ l lt. absurd (omega arith) };
   symbols_are = puts.symbols_are;
 }
 with_texts layout script xs ys (suc l) a b packs same puts = subst (λ (t : List (List ℕ)). PutsStream layout script t (suc l) a b packs) (same (omega arith)) puts

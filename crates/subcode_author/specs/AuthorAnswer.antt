@@ -14,7 +14,7 @@ use Rattle.subcode_author.specs.declared.stops.AuthorStop.TheVariants.{LengthSho
 abbrev pub HasLayout : CueSheet → ℕ → Type 0
 HasLayout sheet audio = (audio_need sheet ≤ audio) × (program_blocks sheet audio ≤ 449999)
 
--- and no picture is held past its end
+-- it has, and no picture is held past the end of the program
 abbrev pub HoldsPictures : CueSheet → List Drawing → ℕ → Type 0
 HoldsPictures sheet script audio = HasLayout sheet audio × ¬ IsPastEnd script (program_blocks sheet audio)
 
@@ -26,14 +26,15 @@ HasRoom sheet lead_in = 0 < lead_in → (length (text_packs sheet) ≤ 256) × (
 abbrev pub AreReady : List Drawing → Type 0
 AreReady script = (k : ℕ) → k < pictures script → IsInTime script k (length (planned_change script k))
 
--- the texts need too many packs, or the lead-in is too short
+-- a lead-in was asked for, and its texts need so many packs, which are more than 256
 abbrev pub IsTextTooLong : CueSheet → ℕ → ℕ → Type 0
 IsTextTooLong sheet lead_in packs = (0 < lead_in) × (256 < packs) × (packs ≡ length (text_packs sheet))
 
+-- a lead-in was asked for, its texts have at most 256 packs, and it has fewer blocks than these and the table of contents need
 abbrev pub IsLeadInShort : CueSheet → ℕ → ℕ → Type 0
 IsLeadInShort sheet lead_in need = (0 < lead_in) × (length (text_packs sheet) ≤ 256) × (lead_in < need) × (need ≡ lead_in_need sheet)
 
--- what is refused of the layout, of the lead-in, and of the pictures
+-- why a sheet, with its audio and the last picture, has no place on a disc; want of memory comes only where it has a layout
 abbrev pub IsDiscStop : CueSheet → List Drawing → ℕ → AuthorStop → Type 0
 IsDiscStop sheet script audio (LengthShort need) = (need ≡ audio_need sheet) × (audio < audio_need sheet)
 IsDiscStop sheet script audio (DiscTooLong blocks) = (audio_need sheet ≤ audio) × (blocks ≡ program_blocks sheet audio) × (449999 < blocks)
@@ -41,18 +42,20 @@ IsDiscStop sheet script audio (PastEnd blocks) = HasLayout sheet audio × (block
 IsDiscStop sheet script audio NoMemory = HasLayout sheet audio
 IsDiscStop sheet script audio _ = ⊥
 
+-- why a lead-in cannot be filled
 abbrev pub IsLeadInStop : CueSheet → ℕ → AuthorStop → Type 0
 IsLeadInStop sheet lead_in (TextTooLong packs) = IsTextTooLong sheet lead_in packs
 IsLeadInStop sheet lead_in (LeadInShort need) = IsLeadInShort sheet lead_in need
 IsLeadInStop sheet lead_in NoMemory = ⊤
 IsLeadInStop sheet lead_in _ = ⊥
 
+-- why the pictures cannot be sent in time
 abbrev pub IsPictureStop : List Drawing → AuthorStop → Type 0
 IsPictureStop script (Late picture need free) = IsLate script picture need free
 IsPictureStop script NoMemory = ⊤
 IsPictureStop script _ = ⊥
 
--- all of it is good
+-- nothing is refused
 pub record IsAccepted (sheet : CueSheet) (script : List Drawing) (lead_in audio : ℕ) : Type 0 where
   pub disc : HoldsPictures sheet script audio
   pub room : HasRoom sheet lead_in

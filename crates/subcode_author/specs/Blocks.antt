@@ -1,5 +1,5 @@
 -- The blocks of a stream, made of a P bit, a frame and symbols.
-use Rattle.std.specs.Prelude.{◌≡◌, ℕ, ◌+◌, ◌*◌, Bool, false, List, [], ◌∷◌, ◌++◌, length, take, drop, flat_map, replicate, if◌then◌else◌}
+use Rattle.std.specs.Prelude.{◌≡◌, ℕ, ◌+◌, ◌*◌, ◌<◌, Bool, false, List, [], ◌∷◌, ◌++◌, length, take, drop, flat_map, replicate, All, if◌then◌else◌}
 use Rattle.bit_lists.specs.Check.{check_bits}
 use Rattle.bit_lists.specs.Counting.{below}
 use Rattle.raw_subcode.specs.Channels.{p_bits, q_bits, symbols_of}
@@ -48,8 +48,9 @@ pub record HasChannels (block : List ℕ) (paused : Bool) (frame : QFrame) : Typ
   pub p : p_bits block ≡ replicate 96 paused
   pub q : IsFrame frame (q_bits block)
 
--- a block with these channels and these symbols
+-- a block of 96 bytes with these channels and these symbols
 pub record IsBuilt (block : List ℕ) (paused : Bool) (frame : QFrame) (symbols : List ℕ) : Type 0 where
   pub size : length block ≡ 96
+  pub are_bytes : All (λ byte. byte < 256) block
   pub channels : HasChannels block paused frame
   pub carried : symbols_of block ≡ symbols

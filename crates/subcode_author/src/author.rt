@@ -8,7 +8,7 @@ ghost use Rattle.subcode_author.specs.Authored.{text_packs, IsAuthored};
 ghost use Rattle.subcode_author.specs.AuthorAnswer.{IsAccepted, IsAuthorStop};
 ghost use Rattle.subcode_author.specs.Given.{PutsStreamPart};
 
-use crate::parts::{disc, texts, weaver};
+use crate::parts::{lay_out, pack_texts, start_weaver};
 use crate::stops::AuthorStop;
 use crate::stream::put_stream;
 use cdg_io::Sink;
@@ -28,7 +28,7 @@ use std::alloc::Global;
 /// picture is held past the end; where there is a lead-in, `TextTooLong` where its texts need more than 256 packs, and
 /// `LeadInShort` where it has no room for them or for the table of contents; `Late` at the first picture that cannot be
 /// ready. Nothing is written before all of these are passed and all memory is taken. After `WriteFault` a prefix of the
-/// stream was written.
+/// stream was written: that it is a prefix of the one authored stream is a law of the crate `authored_streams`.
 pub fn author_stream<K: Sink>(
     alloc: Global,
     sheet: &Sheet,
@@ -60,10 +60,11 @@ pub fn author_stream<K: Sink>(
     spread_carries();
     packs_are_a_schedule();
     needs_are_fewest();
+    // What holds of every script: its pictures are in order, and have sixteen colours.
     let _times = script.pictures();
-    let layout = disc(alloc, sheet, script, length)?;
-    let texts = texts(alloc, sheet, &layout, lead_in)?;
-    let mut weaver = weaver(alloc, script, layout.blocks())?;
+    let layout = lay_out(alloc, sheet, script, length)?;
+    let texts = pack_texts(alloc, sheet, &layout, lead_in)?;
+    let mut weaver = start_weaver(alloc, script, layout.blocks())?;
     let mut spread = Spread::start(alloc)?;
     put_stream(&layout, &texts, lead_in, &mut weaver, &mut spread, out)?;
     Ok(())

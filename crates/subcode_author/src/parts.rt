@@ -15,7 +15,7 @@ use std::alloc::Global;
 use toc_model::Layout;
 
 /// The layout of a sheet, in which no picture is held past the end.
-pub(crate) fn disc(
+pub(crate) fn lay_out(
     alloc: Global,
     sheet: &Sheet,
     script: &Script,
@@ -43,7 +43,7 @@ fn is_past_end(script: &Script, blocks: u32) -> bool
 }
 
 /// The text packs for a lead-in of so many blocks, which has room for them and for the table of contents.
-pub(crate) fn texts(
+pub(crate) fn pack_texts(
     alloc: Global,
     sheet: &Sheet,
     layout: &Layout,
@@ -67,7 +67,7 @@ pub(crate) fn texts(
 }
 
 /// The weaver of a script whose pictures are all ready in time.
-pub(crate) fn weaver<'a>(
+pub(crate) fn start_weaver<'a>(
     alloc: Global,
     script: &'a Script,
     blocks: u32,

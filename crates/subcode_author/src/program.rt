@@ -16,6 +16,7 @@ pub(crate) fn next_symbols(weaver: &mut Weaver<'_>, spread: &mut Spread) -> [u8;
     let mut symbols = [0; 96];
     for k in 0..4 {
         let pack = weaver.next();
+        // What holds of every pack: its symbols are a codeword.
         let _codeword = pack.word();
         let slot = spread.push(&pack);
         symbols[24 * k..24 * k + 24].copy_from_slice(&slot.bytes());

@@ -11,5 +11,5 @@ returns-clause-stream c sheet script lead_in audio is_sheet order colours pixels
 pub returns-clause-part : goal.returns-clause-part
 returns-clause-part c sheet script lead_in audio n given held after is_sheet order colours pixels few accepted part =
     let known : ChangesAreWritten = record { planned = c.planned_changes_are_changes.ensures.planned; written = c.changes_can_be_written.ensures } in
-    let (bytes, packs, small, authored) = has_stream c.spread_carries.ensures c.packs_are_a_schedule.ensures known sheet script lead_in audio is_sheet order colours pixels few accepted in
-    (bytes, packs, authored, part_is_prefix c.spread_carries.ensures sheet script lead_in audio n bytes packs given held after accepted order small authored part)
+    let (bytes, packs, authored) = has_stream c.spread_carries.ensures c.packs_are_a_schedule.ensures known sheet script lead_in audio is_sheet order colours pixels few accepted in
+    (bytes, packs, authored, part_is_prefix c.spread_carries.ensures sheet script lead_in audio n bytes packs given held after accepted order authored part)

@@ -1,4 +1,5 @@
 use Rattle.std.proofs.Common.{◌*◌}
+use Rattle.raw_subcode.specs.declared.form.Form.TheVariants.{Raw}
 use Rattle.cdtext_lines.specs.Lines.{count_line}
 use Rattle.cdtext_packs.specs.Texts.{no_texts}
 use Rattle.cdtext_packs.specs.SheetTexts.{texts_of_sheet}
@@ -9,7 +10,7 @@ use Rattle.authored_listings.proofs.answers.text_lists_are_answered.Goals as goa
 pub returns-clause-texts : goal.returns-clause-texts
 returns-clause-texts c = λ sheet script lead_in audio bytes packs left held held' result taken has some begun authored few lists answer.
     let law = c.authored_texts_are_listed.ensures in
-    lists_texts bytes (sheet_lines sheet (4 * lead_in) 0) lead_in (texts_of_sheet sheet) left held held' result taken
+    lists_texts Raw bytes (sheet_lines sheet (4 * lead_in) 0) lead_in (texts_of_sheet sheet) left held held' result taken
     (whole_blocks sheet script lead_in audio bytes packs authored few)
     (law.texts sheet script lead_in audio bytes packs has some begun authored)
     (λ text bad listed. law.lines sheet script lead_in audio bytes packs text bad has some begun authored listed) lists answer
@@ -17,7 +18,7 @@ returns-clause-texts c = λ sheet script lead_in audio bytes packs left held hel
 pub returns-clause-none : goal.returns-clause-none
 returns-clause-none c = λ sheet script lead_in audio bytes packs left held held' result taken none authored few lists answer.
     let law = c.streams_without_texts_are_listed.ensures in
-    lists_texts bytes (count_line 0 (4 * lead_in) 0) lead_in no_texts left held held' result taken
+    lists_texts Raw bytes (count_line 0 (4 * lead_in) 0) lead_in no_texts left held held' result taken
     (whole_blocks sheet script lead_in audio bytes packs authored few)
     (law.texts sheet script lead_in audio bytes packs none authored)
     (λ text bad listed. law.lines sheet script lead_in audio bytes packs text bad none authored listed) lists answer

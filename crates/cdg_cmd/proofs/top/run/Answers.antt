@@ -6,7 +6,7 @@ use Rattle.cdg_cmd.proofs.LateTold.{late_cannot}
 use Rattle.cdg_cmd.proofs.SecondHalf.{packs_back, pictures_shown}
 use Rattle.raw_subcode.specs.declared.form.Form.TheVariants.{Raw}
 use Rattle.subcode_author.specs.Authored.{IsAuthored}
-use Rattle.cdg_cmd.specs.Headline.{HasDamagedTexts}
+use Rattle.cdg_cmd.specs.Headline.{HasDamagedTexts, HasTextsOf}
 use Rattle.cdg_cmd.proofs.Listings.{authored_size, frames_given, scratched_back, spells_allowed, strings_given}
 use Rattle.cdg_cmd.proofs.Refusals.{disc_refused, script_refused, sheet_refused}
 use Rattle.cdg_cmd.proofs.Statuses.{answered}
@@ -58,23 +58,35 @@ returns-clause-frames g c = λ lead_in audio sheet script packs spelled few.
 
 pub returns-clause-strings : goal.returns-clause-strings
 returns-clause-strings g c = λ lead_in audio sheet script packs spelled few fits some long.
-    strings_given lead_in _ _ _ _ _ (λ all. IsAuthored sheet script lead_in audio all packs) _ (c.answer-status.ensures.does (Text lead_in Raw) spelled)
+    strings_given lead_in _ _ _ _ _ (λ all. IsAuthored sheet script lead_in audio all packs) Raw _ (c.answer-status.ensures.does (Text lead_in Raw) spelled)
     (λ all authored answer taken lists listed.
     c.text_lists_are_answered.ensures.texts sheet script lead_in audio all packs _ _ _ answer taken fits some long authored
     (authored_size sheet script lead_in audio all packs (spells_allowed (Text lead_in Raw) _ spelled).0 few authored) lists listed)
 
 pub returns-clause-no_strings : goal.returns-clause-no_strings
 returns-clause-no_strings g c = λ lead_in audio sheet script packs spelled few none.
-    strings_given lead_in _ _ _ _ _ (λ all. IsAuthored sheet script lead_in audio all packs) _ (c.answer-status.ensures.does (Text lead_in Raw) spelled)
+    strings_given lead_in _ _ _ _ _ (λ all. IsAuthored sheet script lead_in audio all packs) Raw _ (c.answer-status.ensures.does (Text lead_in Raw) spelled)
     (λ all authored answer taken lists listed.
     c.text_lists_are_answered.ensures.none sheet script lead_in audio all packs _ _ _ answer taken none authored
     (authored_size sheet script lead_in audio all packs (spells_allowed (Text lead_in Raw) _ spelled).0 few authored) lists listed)
 
+pub returns-clause-copied_strings : goal.returns-clause-copied_strings
+returns-clause-copied_strings g c = λ lead_in audio form sheet script bytes packs spelled fits some long authored.
+    strings_given lead_in _ _ _ _ _ (λ all. HasTextsOf form lead_in bytes all) form _ (c.answer-status.ensures.does (Text lead_in form) spelled)
+    (λ all copied answer taken lists listed.
+    c.copied_text_lists_are_answered.ensures.texts sheet script lead_in audio bytes packs form all _ _ _ answer taken fits some long authored copied.slots copied.input lists listed)
+
+pub returns-clause-copied_no_strings : goal.returns-clause-copied_no_strings
+returns-clause-copied_no_strings g c = λ lead_in audio form sheet script bytes packs spelled none authored.
+    strings_given lead_in _ _ _ _ _ (λ all. HasTextsOf form lead_in bytes all) form _ (c.answer-status.ensures.does (Text lead_in form) spelled)
+    (λ all copied answer taken lists listed.
+    c.copied_text_lists_are_answered.ensures.none sheet script lead_in audio bytes packs form all _ _ _ answer taken none authored copied.slots copied.input lists listed)
+
 pub returns-clause-damaged_strings : goal.returns-clause-damaged_strings
-returns-clause-damaged_strings g c = λ lead_in audio sheet script bytes packs whole spelled fits some authored.
-    strings_given lead_in _ _ _ _ _ (λ all. HasDamagedTexts sheet lead_in whole bytes all) _ (c.answer-status.ensures.does (Text lead_in Raw) spelled)
+returns-clause-damaged_strings g c = λ lead_in audio form sheet script bytes packs whole spelled fits some authored.
+    strings_given lead_in _ _ _ _ _ (λ all. HasDamagedTexts sheet form lead_in whole bytes all) form _ (c.answer-status.ensures.does (Text lead_in form) spelled)
     (λ all hurt answer taken lists listed.
-    c.damaged_text_lists_are_answered.ensures sheet script lead_in audio bytes packs whole all _ _ _ answer taken fits some authored hurt.slots hurt.input lists listed)
+    c.damaged_text_lists_are_answered.ensures sheet script lead_in audio bytes packs whole form all _ _ _ answer taken fits some authored hurt.slots hurt.input lists listed)
 
 pub returns-clause-refuses_sheet : goal.returns-clause-refuses_sheet
 returns-clause-refuses_sheet g c = λ lead_in audio why spelled.

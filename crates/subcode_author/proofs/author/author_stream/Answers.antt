@@ -6,8 +6,8 @@ use Rattle.subcode_author.proofs.Schedules.{authored, part_of, track_count}
 use Rattle.subcode_author.proofs.PictureStops.{late_told, picture_stop}
 use Rattle.subcode_author.proofs.author.author_stream.Goals as goal
 
-pub texts-requires : goal.texts-requires
-texts-requires g c = track_count c.args.sheet.now c.args.length c.in_ok-layout.layout c.in_ok-layout.ensures.layout
+pub pack_texts-requires : goal.pack_texts-requires
+pack_texts-requires g c = track_count c.args.sheet.now c.args.length c.in_ok-layout.layout c.in_ok-layout.ensures.layout
 
 pub returns-in_err-weaver-clause-stop : goal.returns-in_err-weaver-clause-stop
 returns-in_err-weaver-clause-stop g c =

@@ -15,6 +15,7 @@ returns-clause-built c =
     subst (λ block. IsBuilt block c.args.p c.args.frame.now c.args.symbols.now) (sym c.bytes.ensures.bytes)
     (record {
       size = c.bytes.ensures.size;
+      are_bytes = c.bytes.ensures.small;
       channels = record { p = c.build.ensures.p; q = subst (IsFrame c.args.frame.now) (sym c.build.ensures.q) c.encode.ensures };
       carried = c.build.ensures.symbols;
     })

@@ -2,7 +2,7 @@ use Rattle.std.proofs.Common.{◌≡◌, ◌+◌, ◌*◌, ◌/◌, length, max,
 use Rattle.std.proofs.lemmas.Result.{err_from_is_err_and}
 use Rattle.cdtext_packs.specs.Writing.{packs_of}
 use Rattle.subcode_author.proofs.Texts.{packs_stop, lead_in_short, has_room}
-use Rattle.subcode_author.proofs.parts.texts.Goals as goal
+use Rattle.subcode_author.proofs.parts.pack_texts.Goals as goal
 
 pub returns-in_err-packs-clause-err : goal.returns-in_err-packs-clause-err
 returns-in_err-packs-clause-err c =
