@@ -12,4 +12,5 @@ mod TimedWords
 mod TurnRuns
 mod TwoWords
 mod WholeInputs
+mod WordTables
 mod WordsLemmas
