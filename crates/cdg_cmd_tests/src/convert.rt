@@ -75,9 +75,11 @@ fn a_burst_of_sixteen_symbols_is_corrected(rt: HostRuntime) -> Result<(), Fail> 
 fn is_torn(alloc: Global, len: usize, block: u32, count: usize) -> Result<bool, AllocError> {
     let ran = run_bytes(alloc, "convert --lead-in 0", zeros_but(alloc, len, &[])?)?;
     let told = format!(in alloc; "refused torn {block}\n")?;
-    Ok(ran.status == Status::Refused(Refusal::Torn { block })
-        && ran.err.bytes() == told.as_bytes()
-        && is_zeros(ran.out.bytes(), count))
+    Ok(
+        ran.status == Status::Refused(Refusal::Torn { block })
+            && ran.err.bytes() == told.as_bytes()
+            && is_zeros(ran.out.bytes(), count),
+    )
 }
 
 // Two whole blocks give a pack, whatever rest of a third follows.

@@ -58,8 +58,14 @@ fn words_spell_a_command(rt: HostRuntime) -> Result<(), Fail> {
     let cases = [
         ("convert --lead-in 450000", convert(450_000, Form::Raw)),
         ("convert --lead-in 0 --form raw", convert(0, Form::Raw)),
-        ("convert --lead-in 10 --form sector", convert(10, Form::Sector)),
-        ("convert --lead-in 7 --form cooked", convert(7, Form::Cooked)),
+        (
+            "convert --lead-in 10 --form sector",
+            convert(10, Form::Sector),
+        ),
+        (
+            "convert --lead-in 7 --form cooked",
+            convert(7, Form::Cooked),
+        ),
         (
             "check --lead-in 1 --form cooked",
             Command::Check {
