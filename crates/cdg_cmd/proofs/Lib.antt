@@ -13,4 +13,5 @@ mod TimedWords
 mod TurnRuns
 mod TwoWords
 mod WholeInputs
+mod WordTables
 mod WordsLemmas

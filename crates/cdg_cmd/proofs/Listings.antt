@@ -53,7 +53,7 @@ module _ (lead_in : ℕ) (left' held held' : Option (List ℕ)) (status : Status
       → ((answer : Result Played PlayStop) (taken : List ℕ) → PlaysInTurn (IsQListed Raw) Raw lead_in (Some all) left' held held' answer taken
       → IsAnsweredBy answer 96 (length all) → Restores answer held held' t) → GivesBack t held held' status
   frames_of all l restores =
-      subst (λ (s : Status). GivesBack t held held' s) (sym l.status_is) (given_back l.answer held held' t (restores l.answer l.taken l.lists l.exactly))
+      subst (λ (s : Status). GivesBack t held held' s) (sym l.status_is) (given_back l.answer held held' t (restores l.answer l.taken l.did l.exactly))
 
   -- the frames of streams of some kind
   pub frames_given : (left : Option (List ℕ)) → (status ≢ NoMemory → ListsWith Raw lead_in left left' held held' status)
@@ -66,7 +66,7 @@ module _ (lead_in : ℕ) (left' held held' : Option (List ℕ)) (status : Status
       → ((answer : Result Played TextStop) (taken : List ℕ) → ListsTexts form lead_in (Some all) left' held held' answer taken → IsListedBy answer form lead_in all
       → PutsTexts answer held held' t) → GivesBack t held held' status
   texts_of form all l puts =
-      subst (λ (s : Status). GivesBack t held held' s) (sym l.status_is) (texts_back l.answer held held' t (puts l.answer l.taken l.lists l.exactly))
+      subst (λ (s : Status). GivesBack t held held' s) (sym l.status_is) (texts_back l.answer held held' t (puts l.answer l.taken l.did l.exactly))
 
   -- the texts of streams of some kind
   pub strings_given : (form : Form) (left : Option (List ℕ)) → (status ≢ NoMemory → TextsWith form lead_in left left' held held' status)

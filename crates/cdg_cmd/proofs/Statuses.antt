@@ -1,5 +1,5 @@
 -- What no fault leaves.
-use Rattle.std.proofs.Common.{◌≡◌, ◌≢◌, ℕ, List, ◌==◌, Result, Ok, Err, refl, sym, subst, IfSome, Some, None, if◌then◌else◌}
+use Rattle.std.proofs.Common.{◌≡◌, ◌≢◌, ℕ, List, ◌==◌, Result, Ok, Err, refl, sym, subst, IfSome, Some, None, IfErr, Bool, true, false, if◌then◌else◌}
 use Rattle.std.specs.declared.option.Option.{Option}
 use Rattle.std.specs.List.{concat}
 use Rattle.raw_subcode.specs.declared.form.Form.{Form}
@@ -8,7 +8,7 @@ use Rattle.subcode_player.specs.Convert.{IsDamagedStream, Restores}
 use Rattle.subcode_player.specs.declared.player.Played.{Played}
 use Rattle.subcode_player.specs.declared.player.PlayStop.{PlayStop}
 use Rattle.subcode_player.specs.declared.player.PlayStop.TheVariants as play
-use Rattle.cdg_cmd.specs.Answer.{GivesBack, IsAnswered, play_status}
+use Rattle.cdg_cmd.specs.Answer.{GivesBack, IsAnswered, MayWrite, play_status}
 use Rattle.cdg_cmd.specs.declared.status.Which.TheVariants.{First, Second}
 use Rattle.cdg_cmd.specs.declared.status.Status.{Status}
 use Rattle.cdg_cmd.specs.declared.status.Status.TheVariants.{Done, Damaged, Usage, Refused, Late, ReadFault, WriteFault, NoMemory}
@@ -42,3 +42,27 @@ given_back_all None form lead_in answer status held held' is restores = tt
 given_back_all (Some all) form lead_in answer status held held' is restores = λ blocks packs damaged.
     subst (λ (k : Status). GivesBack (concat (all_packs form blocks packs)) held held' k) (sym is)
     (given_back answer held held' (concat (all_packs form blocks packs)) (restores blocks packs damaged))
+
+-- where the output may not be written
+pub not_done : (status : Status) → ¬ (MayWrite status) → status ≢ Done
+not_done status none e = none (subst MayWrite (sym e) tt)
+
+pub not_cut : (status : Status) → ¬ (MayWrite status) → status ≢ WriteFault
+not_cut status none e = none (subst MayWrite (sym e) tt)
+
+may_write : (whole : Bool) (n : ℕ) → MayWrite (if whole then Done else Damaged n)
+may_write true n = tt
+may_write false n = tt
+
+untouched_at : {K : Type 0} (answer : Result Played PlayStop) (old new : K) → IfErr answer (λ stop. stop ≢ play.WriteFault → new ≡ old) → ¬ (MayWrite (play_status answer)) → new ≡ old
+untouched_at (Ok played) old new same none = absurd (none (may_write (played.bad == 0) played.bad))
+untouched_at (Err play.ReadFault) old new same none = same (λ e. cc)
+untouched_at (Err play.WriteFault) old new same none = absurd (none tt)
+untouched_at (Err (play.Torn block)) old new same none = same (λ e. cc)
+untouched_at (Err play.TooLong) old new same none = same (λ e. cc)
+untouched_at (Err (play.PastEnd blocks)) old new same none = same (λ e. cc)
+
+-- a player that did not write, as a status
+pub untouched : {K : Type 0} (answer : Result Played PlayStop) (status : Status) (old new : K) → status ≡ play_status answer
+    → IfErr answer (λ stop. stop ≢ play.WriteFault → new ≡ old) → ¬ (MayWrite status) → new ≡ old
+untouched answer status old new is same none = untouched_at answer old new same (subst (λ (s : Status). ¬ (MayWrite s)) is none)

@@ -1,29 +1,31 @@
 -- The statuses of a player that lists texts.
-use Rattle.std.proofs.Common.{◌≡◌, ℕ, List, [], Result, Ok, Err, refl, sym, subst}
+use Rattle.std.proofs.Common.{◌≡◌, ◌≢◌, ℕ, List, [], Result, Ok, Err, IfErr, refl, sym, subst}
 use Rattle.std.specs.declared.option.Option.{Option}
 use Rattle.std.specs.Io.KnownBytes.{Appends}
 use Rattle.std.proofs.KnownBytes.{Appends-nil}
-use Rattle.raw_subcode.specs.declared.form.Form.{Form}
-use Rattle.subcode_player.specs.TextList.{ListsTexts}
 use Rattle.subcode_player.specs.declared.player.Played.{Played}
 use Rattle.subcode_player.specs.declared.player.PlayStop.TheVariants as play
 use Rattle.subcode_player.specs.declared.text_listing.TextStop.{TextStop}
 use Rattle.subcode_player.specs.declared.text_listing.TextStop.TheVariants as texts
 use Rattle.cdtext_packs.specs.declared.kinds.TextFault.TheVariants as fault
-use Rattle.cdg_cmd.specs.Answer.{text_status}
+use Rattle.cdg_cmd.specs.Answer.{MayWrite, text_status}
 use Rattle.cdg_cmd.specs.declared.status.Which.TheVariants.{First}
-use Rattle.cdg_cmd.specs.declared.status.Status.TheVariants.{ReadFault, WriteFault, NoMemory}
+use Rattle.cdg_cmd.specs.declared.status.Status.{Status}
+use Rattle.cdg_cmd.specs.declared.status.Status.TheVariants.{ReadFault, WriteFault}
 
--- where no memory is found nothing is put
-pub nothing_put : (form : Form) (lead_in : ℕ) (left left' held held' : Option (List ℕ)) (answer : Result Played TextStop) (taken : List ℕ)
-    → ListsTexts form lead_in left left' held held' answer taken → text_status answer ≡ NoMemory → Appends held held' []
-nothing_put form lead_in left left' held held' (Ok played) taken l e = absurd (cc)
-nothing_put form lead_in left left' held held' (Err (texts.Play play.ReadFault)) taken l e = absurd (cc)
-nothing_put form lead_in left left' held held' (Err (texts.Play play.WriteFault)) taken l e = absurd (cc)
-nothing_put form lead_in left left' held held' (Err (texts.Play (play.Torn block))) taken l e = absurd (cc)
-nothing_put form lead_in left left' held held' (Err (texts.Play play.TooLong)) taken l e = absurd (cc)
-nothing_put form lead_in left left' held held' (Err (texts.Play (play.PastEnd blocks))) taken l e = absurd (cc)
-nothing_put form lead_in left left' held held' (Err (texts.Text why)) taken l e = l.plays.stopped (texts.Text why) refl (λ same. cc)
+texts_untouched_at : {K : Type 0} (answer : Result Played TextStop) (old new : K) → IfErr answer (λ stop. stop ≢ texts.Play play.WriteFault → new ≡ old) → ¬ (MayWrite (text_status answer)) → new ≡ old
+texts_untouched_at (Ok played) old new same none = absurd (none tt)
+texts_untouched_at (Err (texts.Play play.ReadFault)) old new same none = same (λ e. cc)
+texts_untouched_at (Err (texts.Play play.WriteFault)) old new same none = absurd (none tt)
+texts_untouched_at (Err (texts.Play (play.Torn block))) old new same none = same (λ e. cc)
+texts_untouched_at (Err (texts.Play play.TooLong)) old new same none = same (λ e. cc)
+texts_untouched_at (Err (texts.Play (play.PastEnd blocks))) old new same none = same (λ e. cc)
+texts_untouched_at (Err (texts.Text why)) old new same none = same (λ e. cc)
+
+-- a player that did not write texts, as a status
+pub texts_untouched : {K : Type 0} (answer : Result Played TextStop) (status : Status) (old new : K) → status ≡ text_status answer
+    → IfErr answer (λ stop. stop ≢ texts.Play play.WriteFault → new ≡ old) → ¬ (MayWrite status) → new ≡ old
+texts_untouched answer status old new is same none = texts_untouched_at answer old new same (subst (λ (s : Status). ¬ (MayWrite s)) is none)
 
 pub read_fault_is : (answer : Result Played TextStop) → text_status answer ≡ ReadFault First → answer ≡ Err (texts.Play play.ReadFault)
 read_fault_is (Ok played) e = absurd (cc)

@@ -3,7 +3,8 @@ use Rattle.std.proofs.Common.{◌≡◌, ◌-◌, ℕ, List, length, take, drop,
 use Rattle.std.specs.declared.option.Option.{Option}
 use Rattle.std.proofs.lemmas.List.{take-map, drop-map, length-map}
 use Rattle.raw_subcode.specs.declared.form.Form.{Form}
-use Rattle.cdg_cmd.specs.Words.{texts, SpellsStream, SpellsTime, SpellsTimed}
+use Rattle.cdg_cmd.specs.Words.{texts}
+use Rattle.cdg_cmd.specs.WordSteps.{SpellsStream, SpellsTime, SpellsTimed}
 use Rattle.cdg_cmd.specs.declared.options.StreamOptions.{StreamOptions}
 use Rattle.cdg_cmd.specs.declared.times.TimedOptions.{TimedOptions}
 

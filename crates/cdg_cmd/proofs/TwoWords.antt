@@ -1,7 +1,8 @@
 -- Two options with a number each.
 use Rattle.std.proofs.Common.{◌≡◌, ◌-◌, ℕ, List, length, take, drop, String, codes, ap, ◌∙◌, subst, Some}
 use Rattle.std.specs.declared.option.Option.{Option}
-use Rattle.cdg_cmd.specs.Words.{texts, SpellsLengths, SpellsNumber, SpellsTime, SpellsTwo}
+use Rattle.cdg_cmd.specs.Words.{texts}
+use Rattle.cdg_cmd.specs.WordSteps.{SpellsLengths, SpellsNumber, SpellsTime, SpellsTwo}
 use Rattle.cdg_cmd.specs.declared.lengths.Lengths.{Lengths}
 use Rattle.cdg_cmd.specs.declared.numbers.TwoNumbers.{TwoNumbers}
 use Rattle.cdg_cmd.proofs.TimedWords.{back, front, same_time}

@@ -82,7 +82,7 @@ module _ (form : Form) (lead_in : ℕ) (left' held held' : Option (List ℕ)) (s
   clean_converted all c clean =
       let symbols : List ℕ = program_symbols form all lead_in in
       subst (λ (s : Status). GivesBack (concat (words_of form symbols)) held held' s) (sym c.status_is)
-      (in_turn_given (IsConverted form lead_in) form lead_in all left' held held' c.taken (concat (words_of form symbols)) c.answer c.converts c.exactly clean.input
+      (in_turn_given (IsConverted form lead_in) form lead_in all left' held held' c.taken (concat (words_of form symbols)) c.answer c.did c.exactly clean.input
       (λ text bad converted. clean_text form symbols converted.found text bad (finds symbols converted.found clean.codewords converted.recovered) written none converted.text_is converted.bad_is))
 
   pub clean_given : (left : Option (List ℕ)) → (status ≢ NoMemory → ConvertsWith form lead_in left left' held held' status)

@@ -9,7 +9,9 @@ use Rattle.cdg_cmd.specs.declared.options.StreamOptions.{StreamOptions}
 use Rattle.cdg_cmd.specs.declared.lengths.Lengths.{Lengths}
 use Rattle.cdg_cmd.specs.declared.numbers.TwoNumbers.{TwoNumbers}
 use Rattle.cdg_cmd.specs.declared.times.TimedOptions.{TimedOptions}
-use Rattle.cdg_cmd.specs.Words.{texts, SpellsLengths, SpellsStream, SpellsTimed, SpellsTwo}
+use Rattle.cdg_cmd.specs.Words.{texts}
+use Rattle.cdg_cmd.specs.WordSteps.{SpellsLengths, SpellsStream, SpellsTimed, SpellsTwo}
+use Rattle.cdg_cmd.proofs.WordTables.{lengths_steps, stream_steps, timed_steps, two_steps}
 use Rattle.cdg_cmd.specs.Spelling.{Spells, command_name}
 use Rattle.cdg_cmd.specs.declared.command.Command.{Command}
 use Rattle.cdg_cmd.specs.declared.command.Command.TheVariants.{Convert, Screen, State, Check, Q, Text, Author, Planar, Raw, Scratch, Gen, Trial}
@@ -43,43 +45,43 @@ untrue e = (cc)
 pub convert_all : (options : List (List ℕ)) (o : Option StreamOptions)
     → ((lead_in : ℕ) (form : Form) → lead_in ≤ 450000 → SpellsStream lead_in form options → o ≡ Some (record { lead_in = lead_in; form = form }))
     → (command : Command) → Spells command (codes "convert" ∷ options) → option_map (λ s. Convert s.lead_in s.form) o ≡ Some command
-convert_all options o all (Convert lead_in form) s = ap (option_map (λ (s : StreamOptions). Convert s.lead_in s.form)) (all lead_in form s.1 s.2)
+convert_all options o all (Convert lead_in form) s = ap (option_map (λ (s : StreamOptions). Convert s.lead_in s.form)) (all lead_in form s.1 (stream_steps lead_in form options s.2))
 convert_all options o all command s = absurd (untrue (ap (λ l. bytes_eq l (command_name command)) s.0))
 
 pub screen_all : (options : List (List ℕ)) (o : Option TimedOptions)
     → ((lead_in : ℕ) (form : Form) (at : ℕ) → lead_in ≤ 450000 → at < 450000 → SpellsTimed lead_in form at options → o ≡ Some (record { lead_in = lead_in; form = form; at = at }))
     → (command : Command) → Spells command (codes "screen" ∷ options) → option_map (λ s. Screen s.lead_in s.form s.at) o ≡ Some command
-screen_all options o all (Screen lead_in form at) s = ap (option_map (λ (s : TimedOptions). Screen s.lead_in s.form s.at)) (all lead_in form at s.1.0 s.1.1 s.2)
+screen_all options o all (Screen lead_in form at) s = ap (option_map (λ (s : TimedOptions). Screen s.lead_in s.form s.at)) (all lead_in form at s.1.0 s.1.1 (timed_steps lead_in form at options s.2))
 screen_all options o all command s = absurd (untrue (ap (λ l. bytes_eq l (command_name command)) s.0))
 
 pub state_all : (options : List (List ℕ)) (o : Option TimedOptions)
     → ((lead_in : ℕ) (form : Form) (at : ℕ) → lead_in ≤ 450000 → at < 450000 → SpellsTimed lead_in form at options → o ≡ Some (record { lead_in = lead_in; form = form; at = at }))
     → (command : Command) → Spells command (codes "state" ∷ options) → option_map (λ s. State s.lead_in s.form s.at) o ≡ Some command
-state_all options o all (State lead_in form at) s = ap (option_map (λ (s : TimedOptions). State s.lead_in s.form s.at)) (all lead_in form at s.1.0 s.1.1 s.2)
+state_all options o all (State lead_in form at) s = ap (option_map (λ (s : TimedOptions). State s.lead_in s.form s.at)) (all lead_in form at s.1.0 s.1.1 (timed_steps lead_in form at options s.2))
 state_all options o all command s = absurd (untrue (ap (λ l. bytes_eq l (command_name command)) s.0))
 
 pub check_all : (options : List (List ℕ)) (o : Option StreamOptions)
     → ((lead_in : ℕ) (form : Form) → lead_in ≤ 450000 → SpellsStream lead_in form options → o ≡ Some (record { lead_in = lead_in; form = form }))
     → (command : Command) → Spells command (codes "check" ∷ options) → option_map (λ s. Check s.lead_in s.form) o ≡ Some command
-check_all options o all (Check lead_in form) s = ap (option_map (λ (s : StreamOptions). Check s.lead_in s.form)) (all lead_in form s.1 s.2)
+check_all options o all (Check lead_in form) s = ap (option_map (λ (s : StreamOptions). Check s.lead_in s.form)) (all lead_in form s.1 (stream_steps lead_in form options s.2))
 check_all options o all command s = absurd (untrue (ap (λ l. bytes_eq l (command_name command)) s.0))
 
 pub q_all : (options : List (List ℕ)) (o : Option StreamOptions)
     → ((lead_in : ℕ) (form : Form) → lead_in ≤ 450000 → form ≢ Cooked → SpellsStream lead_in form options → o ≡ Some (record { lead_in = lead_in; form = form }))
     → (command : Command) → Spells command (codes "q" ∷ options) → option_map (λ s. Q s.lead_in s.form) o ≡ Some command
-q_all options o all (Q lead_in form) s = ap (option_map (λ (s : StreamOptions). Q s.lead_in s.form)) (all lead_in form s.1.0 s.1.1 s.2)
+q_all options o all (Q lead_in form) s = ap (option_map (λ (s : StreamOptions). Q s.lead_in s.form)) (all lead_in form s.1.0 s.1.1 (stream_steps lead_in form options s.2))
 q_all options o all command s = absurd (untrue (ap (λ l. bytes_eq l (command_name command)) s.0))
 
 pub text_all : (options : List (List ℕ)) (o : Option StreamOptions)
     → ((lead_in : ℕ) (form : Form) → lead_in ≤ 450000 → form ≢ Cooked → SpellsStream lead_in form options → o ≡ Some (record { lead_in = lead_in; form = form }))
     → (command : Command) → Spells command (codes "text" ∷ options) → option_map (λ s. Text s.lead_in s.form) o ≡ Some command
-text_all options o all (Text lead_in form) s = ap (option_map (λ (s : StreamOptions). Text s.lead_in s.form)) (all lead_in form s.1.0 s.1.1 s.2)
+text_all options o all (Text lead_in form) s = ap (option_map (λ (s : StreamOptions). Text s.lead_in s.form)) (all lead_in form s.1.0 s.1.1 (stream_steps lead_in form options s.2))
 text_all options o all command s = absurd (untrue (ap (λ l. bytes_eq l (command_name command)) s.0))
 
 pub author_all : (options : List (List ℕ)) (o : Option Lengths)
     → ((lead_in audio : ℕ) → lead_in ≤ 450000 → audio < 450000 → SpellsLengths lead_in audio options → o ≡ Some (record { lead_in = lead_in; audio = audio }))
     → (command : Command) → Spells command (codes "author" ∷ options) → option_map (λ s. Author s.lead_in s.audio) o ≡ Some command
-author_all options o all (Author lead_in audio) s = ap (option_map (λ (s : Lengths). Author s.lead_in s.audio)) (all lead_in audio s.1.0 s.1.1 s.2)
+author_all options o all (Author lead_in audio) s = ap (option_map (λ (s : Lengths). Author s.lead_in s.audio)) (all lead_in audio s.1.0 s.1.1 (lengths_steps lead_in audio options s.2))
 author_all options o all command s = absurd (untrue (ap (λ l. bytes_eq l (command_name command)) s.0))
 
 -- `planar` and `raw` have no options
@@ -95,7 +97,7 @@ pub scratch_all : (options : List (List ℕ)) (o : Option TwoNumbers)
     → ((n m : ℕ) → n ≤ 450000 → m ≤ 2 ^ 64 - 1 → SpellsTwo (codes "--lead-in") n (codes "--seed") m options → o ≡ Some (record { first = n; second = m }))
     → (command : Command) → Spells command (codes "scratch" ∷ options) → option_map (λ s. Scratch s.first s.second) o ≡ Some command
 scratch_all options o all (Scratch lead_in seed) s =
-    ap (option_map (λ (t : TwoNumbers). Scratch t.first t.second)) (all lead_in seed s.1.0 (omega (arith, s.1.1)) s.2)
+    ap (option_map (λ (t : TwoNumbers). Scratch t.first t.second)) (all lead_in seed s.1.0 (omega (arith, s.1.1)) (two_steps (codes "--lead-in") lead_in (codes "--seed") seed options s.2))
 scratch_all options o all command s = absurd (untrue (ap (λ l. bytes_eq l (command_name command)) s.0))
 
 -- a seed and a number of pictures
@@ -103,14 +105,14 @@ pub gen_all : (options : List (List ℕ)) (o : Option TwoNumbers)
     → ((seed pictures : ℕ) → seed < 2 ^ 64 → 1 ≤ pictures → pictures ≤ 500 → SpellsTwo (codes "--seed") seed (codes "--pictures") pictures options
     → o ≡ Some (record { first = seed; second = pictures }))
     → (command : Command) → Spells command (codes "gen" ∷ options) → option_map (λ s. Gen s.first s.second) o ≡ Some command
-gen_all options o all (Gen seed pictures) s = ap (option_map (λ (t : TwoNumbers). Gen t.first t.second)) (all seed pictures s.1.0 s.1.1 s.1.2 s.2)
+gen_all options o all (Gen seed pictures) s = ap (option_map (λ (t : TwoNumbers). Gen t.first t.second)) (all seed pictures s.1.0 s.1.1 s.1.2 (two_steps (codes "--seed") seed (codes "--pictures") pictures options s.2))
 gen_all options o all command s = absurd (untrue (ap (λ l. bytes_eq l (command_name command)) s.0))
 
 pub trial_all : (options : List (List ℕ)) (o : Option TwoNumbers)
     → ((seed pictures : ℕ) → seed < 2 ^ 64 → 1 ≤ pictures → pictures ≤ 500 → SpellsTwo (codes "--seed") seed (codes "--pictures") pictures options
     → o ≡ Some (record { first = seed; second = pictures }))
     → (command : Command) → Spells command (codes "trial" ∷ options) → option_map (λ s. Trial s.first s.second) o ≡ Some command
-trial_all options o all (Trial seed pictures) s = ap (option_map (λ (t : TwoNumbers). Trial t.first t.second)) (all seed pictures s.1.0 s.1.1 s.1.2 s.2)
+trial_all options o all (Trial seed pictures) s = ap (option_map (λ (t : TwoNumbers). Trial t.first t.second)) (all seed pictures s.1.0 s.1.1 s.1.2 (two_steps (codes "--seed") seed (codes "--pictures") pictures options s.2))
 trial_all options o all command s = absurd (untrue (ap (λ l. bytes_eq l (command_name command)) s.0))
 
 pub same_two : (a b : TwoNumbers) → Some a ≡ Some b → a ≡ b

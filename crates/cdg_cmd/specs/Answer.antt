@@ -22,6 +22,7 @@ use Rattle.block_stages.specs.PlanarStream.{IsBlockStream, IsPlanarStream}
 use Rattle.cue_sheet.specs.CueSheet.{CueSheet}
 use Rattle.cdg_cmd.specs.Authors.{AuthorsWith, ReadsSheet}
 use Rattle.cdg_cmd.specs.Line.{error_line}
+use Rattle.cdg_cmd.specs.Endings.{EndsWith}
 use Rattle.cdg_cmd.specs.Turns.{IsTurned, TurnsWith}
 use Rattle.cdg_workload.specs.Scratches.{IsScratched}
 use Rattle.cdg_workload.specs.Script.{generated_script}
@@ -42,37 +43,25 @@ play_status (Err (play.Torn block)) = Refused (Torn block)
 play_status (Err play.TooLong) = Refused TooLong
 play_status (Err (play.PastEnd blocks)) = Refused (PastEnd blocks)
 
--- A conversion ended with this status: what it took and put, and the exact answer where no fault is told.
-pub record ConvertsWith (form : Form) (lead_in : ℕ) (left left' held held' : Option (List ℕ)) (status : Status) : Type 0 where
-  pub answer : Result Played PlayStop
-  pub status_is : status ≡ play_status answer
-  pub taken : List ℕ
-  pub converts : Converts form lead_in left left' held held' answer taken
-  pub exactly : IfSome left (λ all. IsAnsweredBy answer (unit_size form) (length all))
+-- a conversion ended with this status
+abbrev pub ConvertsWith : Form → ℕ → Option (List ℕ) → Option (List ℕ) → Option (List ℕ) → Option (List ℕ) → Status → Type 0
+ConvertsWith form lead_in left left' held held' status =
+    EndsWith play_status (Converts form lead_in left left' held held') (λ answer. IfSome left (λ all. IsAnsweredBy answer (unit_size form) (length all))) status
 
--- The same of a call that shows a time.
-pub record ShowsWith (writes : List ℕ → List ℕ → ℕ → Type 0) (form : Form) (lead_in time : ℕ) (left left' held held' : Option (List ℕ)) (status : Status) : Type 0 where
-  pub answer : Result Played PlayStop
-  pub status_is : status ≡ play_status answer
-  pub taken : List ℕ
-  pub shows : Shows writes form lead_in time left left' held held' answer taken
-  pub exactly : IfSome left (λ all. IsShownBy answer lead_in time (unit_size form) (length all))
+-- a call that shows a time ended with it
+abbrev pub ShowsWith : (List ℕ → List ℕ → ℕ → Type 0) → Form → ℕ → ℕ → Option (List ℕ) → Option (List ℕ) → Option (List ℕ) → Option (List ℕ) → Status → Type 0
+ShowsWith writes form lead_in time left left' held held' status =
+    EndsWith play_status (Shows writes form lead_in time left left' held held') (λ answer. IfSome left (λ all. IsShownBy answer lead_in time (unit_size form) (length all))) status
 
--- The same of a call that counts.
-pub record ChecksWith (form : Form) (lead_in : ℕ) (left left' held held' : Option (List ℕ)) (status : Status) : Type 0 where
-  pub answer : Result Played PlayStop
-  pub status_is : status ≡ play_status answer
-  pub taken : List ℕ
-  pub checks : PlaysAtEnd (IsChecked form lead_in) form lead_in left left' held held' answer taken
-  pub exactly : IfSome left (λ all. IsAnsweredBy answer (unit_size form) (length all))
+-- a call that counts
+abbrev pub ChecksWith : Form → ℕ → Option (List ℕ) → Option (List ℕ) → Option (List ℕ) → Option (List ℕ) → Status → Type 0
+ChecksWith form lead_in left left' held held' status =
+    EndsWith play_status (PlaysAtEnd (IsChecked form lead_in) form lead_in left left' held held') (λ answer. IfSome left (λ all. IsAnsweredBy answer (unit_size form) (length all))) status
 
--- The same of a call that lists the Q channel.
-pub record ListsWith (form : Form) (lead_in : ℕ) (left left' held held' : Option (List ℕ)) (status : Status) : Type 0 where
-  pub answer : Result Played PlayStop
-  pub status_is : status ≡ play_status answer
-  pub taken : List ℕ
-  pub lists : PlaysInTurn (IsQListed form) form lead_in left left' held held' answer taken
-  pub exactly : IfSome left (λ all. IsAnsweredBy answer (unit_size form) (length all))
+-- a call that lists the Q channel
+abbrev pub ListsWith : Form → ℕ → Option (List ℕ) → Option (List ℕ) → Option (List ℕ) → Option (List ℕ) → Status → Type 0
+ListsWith form lead_in left left' held held' status =
+    EndsWith play_status (PlaysInTurn (IsQListed form) form lead_in left left' held held') (λ answer. IfSome left (λ all. IsAnsweredBy answer (unit_size form) (length all))) status
 
 -- the status of what a player answers that lists texts
 abbrev pub text_status : Result Played TextStop → Status
@@ -83,13 +72,10 @@ text_status (Err (texts.Text fault.NoSize)) = Refused TextNoSize
 text_status (Err (texts.Text (fault.Malformed seq byte))) = Refused (TextMalformed seq byte)
 text_status (Err (texts.Text fault.NoMemory)) = NoMemory
 
--- The same of a call that lists the texts of the lead-in.
-pub record TextsWith (form : Form) (lead_in : ℕ) (left left' held held' : Option (List ℕ)) (status : Status) : Type 0 where
-  pub answer : Result Played TextStop
-  pub status_is : status ≡ text_status answer
-  pub taken : List ℕ
-  pub lists : ListsTexts form lead_in left left' held held' answer taken
-  pub exactly : IfSome left (λ all. IsListedBy answer form lead_in all)
+-- a call that lists the texts of the lead-in
+abbrev pub TextsWith : Form → ℕ → Option (List ℕ) → Option (List ℕ) → Option (List ℕ) → Option (List ℕ) → Status → Type 0
+TextsWith form lead_in left left' held held' status =
+    EndsWith text_status (ListsTexts form lead_in left left' held held') (λ answer. IfSome left (λ all. IsListedBy answer form lead_in all)) status
 
 -- a text was written, or a prefix of it where a write failed
 abbrev pub Generates : List ℕ → Option (List ℕ) → Option (List ℕ) → Status → Type 0
@@ -147,25 +133,40 @@ ReadsNone command = ⊥
 
 -- it writes nothing but where its work is whole or a write fails
 abbrev pub WritesLast : Command → Type 0
+WritesLast (Screen lead_in form at) = ⊤
+WritesLast (State lead_in form at) = ⊤
+WritesLast (Check lead_in form) = ⊤
+WritesLast (Text lead_in form) = ⊤
 WritesLast (Author lead_in length) = ⊤
 WritesLast (Trial seed pictures) = ⊤
 WritesLast command = ⊥
+
+-- the work is whole, or a write failed
+abbrev pub MayWrite : Status → Type 0
+MayWrite Done = ⊤
+MayWrite (Damaged n) = ⊤
+MayWrite WriteFault = ⊤
+MayWrite status = ⊥
 
 -- it reads its second input: only after the first was read to its end, and its grammar accepted it
 abbrev pub ReadsSecond : Command → Option (List ℕ) → Option (List ℕ) → Type 0
 ReadsSecond (Author lead_in length) left left' = (sheet : CueSheet) × ReadsSheet left left' sheet
 ReadsSecond command left left' = ⊥
 
+-- where the work is done and nothing is bad, this holds; else a read or a write failed or no memory was found
+abbrev pub OnDone : Type 0 → Status → Type 0
+OnDone holds Done = holds
+OnDone holds (ReadFault which) = ⊤
+OnDone holds WriteFault = ⊤
+OnDone holds NoMemory = ⊤
+OnDone holds (Damaged n) = ⊥
+OnDone holds Usage = ⊥
+OnDone holds (Refused why) = ⊥
+OnDone holds (Late picture need free) = ⊥
+
 -- this text was put and nothing was bad, unless a read or a write failed or no memory was found
 abbrev pub GivesBack : List ℕ → Option (List ℕ) → Option (List ℕ) → Status → Type 0
-GivesBack text held held' Done = Appends held held' text
-GivesBack text held held' (ReadFault which) = ⊤
-GivesBack text held held' WriteFault = ⊤
-GivesBack text held held' NoMemory = ⊤
-GivesBack text held held' (Damaged n) = ⊥
-GivesBack text held held' Usage = ⊥
-GivesBack text held held' (Refused why) = ⊥
-GivesBack text held held' (Late picture need free) = ⊥
+GivesBack text held held' status = OnDone (Appends held held' text) status
 
 -- no fault is told, and the words were a form
 abbrev pub IsAnswered : Status → Type 0

@@ -15,6 +15,7 @@ use Rattle.subcode_player.specs.Calls.{most_units}
 use Rattle.subcode_player.specs.Pictured.{IsPictureText}
 use Rattle.subcode_player.specs.TextList.{IsWholeInput, packs_in}
 use Rattle.authored_listings.specs.Damage.{HasHurtSlots}
+use Rattle.cdg_cmd.specs.Answer.{OnDone}
 use Rattle.cdg_cmd.specs.Authors.{IsScriptText, IsSheetText, PutsAuthored}
 use Rattle.cdg_cmd.specs.declared.status.Status.{Status}
 use Rattle.cdg_cmd.specs.declared.status.Status.TheVariants.{Done, Damaged, Usage, Refused, Late, ReadFault, WriteFault, NoMemory}
@@ -37,16 +38,9 @@ WritesOrIsLate sheet script lead_in audio held held' (Damaged n) = ⊥
 WritesOrIsLate sheet script lead_in audio held held' Usage = ⊥
 WritesOrIsLate sheet script lead_in audio held held' (Refused why) = ⊥
 
--- an authored stream was put; unless a read or a write failed or no memory was found
+-- an authored stream was put, unless a read or a write failed or no memory was found
 abbrev pub Writes : CueSheet → List Drawing → ℕ → ℕ → Option (List ℕ) → Option (List ℕ) → Status → Type 0
-Writes sheet script lead_in audio held held' Done = PutsAuthored sheet script lead_in audio held held'
-Writes sheet script lead_in audio held held' (ReadFault which) = ⊤
-Writes sheet script lead_in audio held held' WriteFault = ⊤
-Writes sheet script lead_in audio held held' NoMemory = ⊤
-Writes sheet script lead_in audio held held' (Late picture need free) = ⊥
-Writes sheet script lead_in audio held held' (Damaged n) = ⊥
-Writes sheet script lead_in audio held held' Usage = ⊥
-Writes sheet script lead_in audio held held' (Refused why) = ⊥
+Writes sheet script lead_in audio held held' status = OnDone (PutsAuthored sheet script lead_in audio held held') status
 
 -- a read failed or no memory was found
 abbrev pub IsStopped : Status → Type 0
@@ -84,11 +78,4 @@ written_packs Cooked packs = packs ++ replicate 7 (replicate 24 0)
 
 -- the pixmap of a screen that shows picture k was put, unless a read or a write failed or no memory was found
 abbrev pub PutsPicture : List Drawing → ℕ → Option (List ℕ) → Option (List ℕ) → Status → Type 0
-PutsPicture script k held held' Done = (text : List ℕ) × IsPictureText script k text × Appends held held' text
-PutsPicture script k held held' (ReadFault which) = ⊤
-PutsPicture script k held held' WriteFault = ⊤
-PutsPicture script k held held' NoMemory = ⊤
-PutsPicture script k held held' (Damaged n) = ⊥
-PutsPicture script k held held' Usage = ⊥
-PutsPicture script k held held' (Refused why) = ⊥
-PutsPicture script k held held' (Late picture need free) = ⊥
+PutsPicture script k held held' status = OnDone ((text : List ℕ) × IsPictureText script k text × Appends held held' text) status

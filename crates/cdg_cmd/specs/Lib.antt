@@ -1,9 +1,11 @@
 pub mod Answer
 pub mod Authors
+pub mod Endings
 pub mod Headline
 pub mod Line
 pub mod Spelling
 pub mod Splitting
 pub mod Turns
 pub mod Undamaged
+pub mod WordSteps
 pub mod Words

@@ -12,6 +12,7 @@ use Rattle.cue_sheet.specs.declared.fault.CueWhy.TheVariants as cue
 use Rattle.picture_script.specs.declared.reasons.ScriptWhy.{ScriptWhy}
 use Rattle.picture_script.specs.declared.reasons.ScriptWhy.TheVariants as script
 
+-- the number that the process ends with
 abbrev pub exit_of : Status → ℕ
 exit_of Done = 0
 exit_of (Damaged n) = 1
@@ -23,8 +24,8 @@ exit_of WriteFault = 6
 exit_of NoMemory = 7
 
 -- words, a blank and a number
-abbrev pub with : List ℕ → ℕ → List ℕ
-with words n = words ++ codes " " ++ decimal n
+abbrev pub counted : List ℕ → ℕ → List ℕ
+counted words n = words ++ codes " " ++ decimal n
 
 -- why a line of a cue sheet is refused
 abbrev pub cue_words : CueWhy → List ℕ
@@ -51,26 +52,28 @@ script_words script.TooMany = codes "too-many"
 
 -- the name of an input, the number of a line, and why it is refused
 abbrev pub line_words : List ℕ → ℕ → List ℕ → List ℕ
-line_words name line why = with name line ++ codes " " ++ why
+line_words name line why = counted name line ++ codes " " ++ why
 
+-- what is said of a refusal
 abbrev pub refusal_words : Refusal → List ℕ
-refusal_words (Torn block) = with (codes "torn") block
+refusal_words (Torn block) = counted (codes "torn") block
 refusal_words TooLong = codes "too-long"
-refusal_words (PastEnd blocks) = with (codes "past-end") blocks
+refusal_words (PastEnd blocks) = counted (codes "past-end") blocks
 refusal_words (Cue line why) = line_words (codes "cue") line (cue_words why)
 refusal_words (Script line why) = line_words (codes "script") line (script_words why)
-refusal_words (LengthShort need) = with (codes "length-short") need
-refusal_words (DiscTooLong blocks) = with (codes "disc-too-long") blocks
-refusal_words (LeadInShort need) = with (codes "lead-in-short") need
-refusal_words (TextTooLong packs) = with (codes "text-too-long") packs
-refusal_words (TextMissing seq) = with (codes "text-missing") seq
+refusal_words (LengthShort need) = counted (codes "length-short") need
+refusal_words (DiscTooLong blocks) = counted (codes "disc-too-long") blocks
+refusal_words (LeadInShort need) = counted (codes "lead-in-short") need
+refusal_words (TextTooLong packs) = counted (codes "text-too-long") packs
+refusal_words (TextMissing seq) = counted (codes "text-missing") seq
 refusal_words TextNoSize = codes "text-no-size"
-refusal_words (TextMalformed seq byte) = with (with (codes "text-malformed") seq) byte
+refusal_words (TextMalformed seq byte) = counted (counted (codes "text-malformed") seq) byte
 
 -- the words of a picture that is late: its number, the packs that it needs, and those that are free
 abbrev pub late_words : ℕ → ℕ → ℕ → List ℕ
-late_words picture need free = with (with (with (codes "late") picture ++ codes " need") need ++ codes " free") free
+late_words picture need free = counted (counted (counted (codes "late") picture ++ codes " need") need ++ codes " free") free
 
+-- the name of an input
 abbrev pub input_words : Which → List ℕ
 input_words First = codes "read fault first"
 input_words Second = codes "read fault second"
@@ -78,7 +81,7 @@ input_words Second = codes "read fault second"
 -- what is written on standard error: nothing where the work is done
 abbrev pub error_line : Status → List ℕ
 error_line Done = []
-error_line (Damaged n) = with (codes "damaged") n ++ line_feed
+error_line (Damaged n) = counted (codes "damaged") n ++ line_feed
 error_line Usage = codes "usage" ++ line_feed
 error_line (Refused why) = codes "refused " ++ refusal_words why ++ line_feed
 error_line (Late picture need free) = late_words picture need free ++ line_feed

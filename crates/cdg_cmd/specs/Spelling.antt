@@ -1,6 +1,7 @@
 -- How each command is spelled.
-use Rattle.std.specs.Prelude.{◌≡◌, ◌≢◌, ◌≤◌, ◌<◌, ◌^◌, ℕ, List, [], ◌∷◌, codes, ⊤}
-use Rattle.cdg_cmd.specs.Words.{SpellsLengths, SpellsStream, SpellsTimed, SpellsTwo}
+use Rattle.std.specs.Prelude.{◌≡◌, ◌≢◌, ◌≤◌, ◌<◌, ◌^◌, ℕ, List, [], ◌∷◌, codes, decimal, ⊤}
+use Rattle.disc_time.specs.Time.{time_text}
+use Rattle.cdg_cmd.specs.Words.{IsStreamOptions, IsTimedOptions}
 use Rattle.raw_subcode.specs.declared.form.Form.TheVariants.{Cooked}
 use Rattle.cdg_cmd.specs.declared.command.Command.{Command}
 use Rattle.cdg_cmd.specs.declared.command.Command.TheVariants.{Convert, Screen, State, Check, Q, Text, Author, Planar, Raw, Scratch, Gen, Trial}
@@ -35,20 +36,20 @@ command_name (Scratch lead_in seed) = codes "scratch"
 command_name (Gen seed pictures) = codes "gen"
 command_name (Trial seed pictures) = codes "trial"
 
--- the words after its name spell the rest of a command
+-- the words after its name: a number is in decimal without a leading zero
 abbrev pub SpellsOptions : Command → List (List ℕ) → Type 0
-SpellsOptions (Convert lead_in form) options = SpellsStream lead_in form options
-SpellsOptions (Screen lead_in form at) options = SpellsTimed lead_in form at options
-SpellsOptions (State lead_in form at) options = SpellsTimed lead_in form at options
-SpellsOptions (Check lead_in form) options = SpellsStream lead_in form options
-SpellsOptions (Q lead_in form) options = SpellsStream lead_in form options
-SpellsOptions (Text lead_in form) options = SpellsStream lead_in form options
-SpellsOptions (Author lead_in length) options = SpellsLengths lead_in length options
+SpellsOptions (Convert lead_in form) options = IsStreamOptions lead_in form options
+SpellsOptions (Screen lead_in form at) options = IsTimedOptions lead_in form at options
+SpellsOptions (State lead_in form at) options = IsTimedOptions lead_in form at options
+SpellsOptions (Check lead_in form) options = IsStreamOptions lead_in form options
+SpellsOptions (Q lead_in form) options = IsStreamOptions lead_in form options
+SpellsOptions (Text lead_in form) options = IsStreamOptions lead_in form options
+SpellsOptions (Author lead_in length) options = options ≡ codes "--lead-in" ∷ decimal lead_in ∷ codes "--length" ∷ time_text length ∷ []
 SpellsOptions Planar options = options ≡ []
 SpellsOptions Raw options = options ≡ []
-SpellsOptions (Scratch lead_in seed) options = SpellsTwo (codes "--lead-in") lead_in (codes "--seed") seed options
-SpellsOptions (Gen seed pictures) options = SpellsTwo (codes "--seed") seed (codes "--pictures") pictures options
-SpellsOptions (Trial seed pictures) options = SpellsTwo (codes "--seed") seed (codes "--pictures") pictures options
+SpellsOptions (Scratch lead_in seed) options = options ≡ codes "--lead-in" ∷ decimal lead_in ∷ codes "--seed" ∷ decimal seed ∷ []
+SpellsOptions (Gen seed pictures) options = options ≡ codes "--seed" ∷ decimal seed ∷ codes "--pictures" ∷ decimal pictures ∷ []
+SpellsOptions (Trial seed pictures) options = options ≡ codes "--seed" ∷ decimal seed ∷ codes "--pictures" ∷ decimal pictures ∷ []
 
 -- the words spell an allowed command
 abbrev pub Spells : Command → List (List ℕ) → Type 0

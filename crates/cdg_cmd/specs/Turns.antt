@@ -5,6 +5,7 @@ use Rattle.cdg_io.specs.Streams.{Streams}
 use Rattle.cdg_io.specs.declared.pumping.Pumped.{Pumped}
 use Rattle.cdg_io.specs.declared.pumping.PumpStop.{PumpStop}
 use Rattle.cdg_io.specs.declared.pumping.PumpStop.TheVariants as pump
+use Rattle.cdg_cmd.specs.Endings.{EndsWith}
 use Rattle.cdg_cmd.specs.declared.status.Which.TheVariants.{First}
 use Rattle.cdg_cmd.specs.declared.status.Refusal.TheVariants.{Torn, TooLong}
 use Rattle.cdg_cmd.specs.declared.status.Status.{Status}
@@ -27,10 +28,7 @@ pub record IsTurned (turned : List ℕ → List ℕ → Type 0) (bytes : List �
 abbrev pub Turns : (List ℕ → Pumped → List ℕ → Type 0) → Option (List ℕ) → Option (List ℕ) → Option (List ℕ) → Option (List ℕ) → Result Pumped PumpStop → List ℕ → Type 0
 Turns gives left left' held held' answer taken = Streams 96 1000000 pump.Torn pump.WriteFault gives left left' held held' answer taken
 
--- It ended with this status: what it took and put, and the exact answer where no fault is told.
-pub record TurnsWith (gives : List ℕ → Pumped → List ℕ → Type 0) (left left' held held' : Option (List ℕ)) (status : Status) : Type 0 where
-  pub answer : Result Pumped PumpStop
-  pub status_is : status ≡ pump_status answer
-  pub taken : List ℕ
-  pub turns : Turns gives left left' held held' answer taken
-  pub exactly : IfSome left (λ all. IsUnlessFault answer (answer_of 96 1000000 (length all)))
+-- it ended with this status
+abbrev pub TurnsWith : (List ℕ → Pumped → List ℕ → Type 0) → Option (List ℕ) → Option (List ℕ) → Option (List ℕ) → Option (List ℕ) → Status → Type 0
+TurnsWith gives left left' held held' status =
+    EndsWith pump_status (Turns gives left left' held held') (λ answer. IfSome left (λ all. IsUnlessFault answer (answer_of 96 1000000 (length all)))) status

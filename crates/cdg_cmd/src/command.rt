@@ -5,7 +5,7 @@ ghost use Rattle.cdg_cmd.specs.Spelling.{Spells};
 
 use crate::lengths::read_lengths;
 use crate::numbers::{read_seeded, read_two};
-use crate::options::{read_blocks, read_stream};
+use crate::options::{MOST_LEAD_IN, read_blocks, read_stream};
 use crate::times::read_timed;
 use subcode_player::Form;
 
@@ -178,7 +178,7 @@ fn read_scratch(options: &[String]) -> Option<Command>
     ensures spelled { IfSome result (λ command. Spells command (codes "scratch" ∷ texts options.now)) }
     ensures all { (command : Command) → Spells command (codes "scratch" ∷ texts options.now) → result ≡ Some command }
 {
-    match read_two(options, "--lead-in", 450_000, "--seed", u64::MAX) {
+    match read_two(options, "--lead-in", MOST_LEAD_IN, "--seed", u64::MAX) {
         Some(two) => Some(Command::Scratch {
             lead_in: two.first as u32,
             seed: two.second,

@@ -1,8 +1,10 @@
 // The lengths of the parts of a disc.
 ghost use Rattle.std.specs.Prelude.{◌≡◌, ◌≤◌, ◌<◌, ℕ, IfSome, Some};
-ghost use Rattle.cdg_cmd.specs.Words.{texts, SpellsLengths};
+ghost use Rattle.cdg_cmd.specs.Words.{texts};
+ghost use Rattle.cdg_cmd.specs.WordSteps.{SpellsLengths};
 
 use crate::numbers::read_option;
+use crate::options::MOST_LEAD_IN;
 use crate::times::read_time;
 
 /// How long a lead-in and an audio are, in blocks.
@@ -19,7 +21,7 @@ pub(crate) fn read_lengths(words: &[String]) -> Option<Lengths>
         → result ≡ Some (record { lead_in = lead_in; audio = audio }) }
 {
     let (options, last) = words.split_at(words.len().saturating_sub(2));
-    match read_option(options, "--lead-in", 450_000) {
+    match read_option(options, "--lead-in", MOST_LEAD_IN) {
         Some(lead_in) => match read_time(last, "--length") {
             Some(audio) => Some(Lengths {
                 lead_in: lead_in as u32,

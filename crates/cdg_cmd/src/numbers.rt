@@ -1,6 +1,7 @@
 // Options with a number.
 ghost use Rattle.std.specs.Prelude.{◌≡◌, ◌≤◌, ◌<◌, ◌^◌, ℕ, codes, IfSome, Some};
-ghost use Rattle.cdg_cmd.specs.Words.{texts, IsNumberWord, SpellsNumber, SpellsTwo};
+ghost use Rattle.cdg_cmd.specs.Words.{texts};
+ghost use Rattle.cdg_cmd.specs.WordSteps.{IsNumberWord, SpellsNumber, SpellsTwo};
 
 use crate::options::read_number;
 

@@ -1,12 +1,14 @@
 // The options of a command.
 ghost use Rattle.std.specs.Prelude.{◌≡◌, ◌≢◌, ◌↔◌, ◌≤◌, ℕ, decimal, IfSome, IsTrue, Some};
-ghost use Rattle.cdg_cmd.specs.Words.{texts, form_name, NamesForm, SpellsForm, SpellsStream, SpellsValues};
+ghost use Rattle.cdg_cmd.specs.Words.{texts, form_name};
+ghost use Rattle.cdg_cmd.specs.WordSteps.{NamesForm, SpellsForm, SpellsStream, SpellsValues};
 ghost use Rattle.raw_subcode.specs.declared.form.Form.{Form};
 
 use itoa::Buffer;
 use subcode_player::Form;
 
-const MOST_LEAD_IN: u64 = 450_000;
+/// The most blocks of a lead-in.
+pub(crate) const MOST_LEAD_IN: u64 = 450_000;
 
 // Is this the number in decimal, with no leading zero?
 fn is_decimal(word: &str, number: u64) -> bool

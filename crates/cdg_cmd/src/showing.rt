@@ -4,7 +4,7 @@ ghost use Rattle.cdg_io.specs.Causes.{Rose};
 ghost use Rattle.subcode_player.specs.Shown.{IsScreenAt, IsStateAt};
 ghost use Rattle.picture_script.specs.Script.{Drawing};
 ghost use Rattle.subcode_player.specs.Pictured.{IsHeldAt, IsScheduledStream};
-ghost use Rattle.cdg_cmd.specs.Answer.{ShowsWith};
+ghost use Rattle.cdg_cmd.specs.Answer.{MayWrite, ShowsWith};
 ghost use Rattle.cdg_cmd.specs.Headline.{PutsPicture};
 
 use crate::streams::play_status;
@@ -32,6 +32,7 @@ pub(crate) fn run_screen<S: Source, K: Sink>(
         → PutsPicture script k (K.held out.old) (K.held out.new) result) }
     ensures never { (result ≢ Status.Usage) × (result ≢ Status.ReadFault Which.Second) }
     ensures no_memory { result ≡ Status.NoMemory → (source.new ≡ source.old) × (out.new ≡ out.old) }
+    ensures untouched { ¬ (MayWrite result) → out.new ≡ out.old }
     ensures source_later { S.faults source.old ≤ S.faults source.new }
     ensures out_later { K.faults out.old ≤ K.faults out.new }
     ensures read_fault { result ≡ Status.ReadFault Which.First → Rose (S.faults source.old) (S.faults source.new) }
@@ -61,6 +62,7 @@ fn screen_with<S: Source, K: Sink>(
         → IsScheduledStream form lead_in script all → IsHeldAt script k at
         → PutsPicture script k (K.held out.old) (K.held out.new) result) }
     ensures never { (result ≢ Status.Usage) × (result ≢ Status.ReadFault Which.Second) × (result ≢ Status.NoMemory) }
+    ensures untouched { ¬ (MayWrite result) → out.new ≡ out.old }
     ensures source_later { S.faults source.old ≤ S.faults source.new }
     ensures out_later { K.faults out.old ≤ K.faults out.new }
     ensures read_fault { result ≡ Status.ReadFault Which.First → Rose (S.faults source.old) (S.faults source.new) }
@@ -84,6 +86,7 @@ pub(crate) fn run_state<S: Source, K: Sink>(
         (K.held out.old) (K.held out.new) result }
     ensures never { (result ≢ Status.Usage) × (result ≢ Status.ReadFault Which.Second) }
     ensures no_memory { result ≡ Status.NoMemory → (source.new ≡ source.old) × (out.new ≡ out.old) }
+    ensures untouched { ¬ (MayWrite result) → out.new ≡ out.old }
     ensures source_later { S.faults source.old ≤ S.faults source.new }
     ensures out_later { K.faults out.old ≤ K.faults out.new }
     ensures read_fault { result ≡ Status.ReadFault Which.First → Rose (S.faults source.old) (S.faults source.new) }
@@ -109,6 +112,7 @@ fn state_with<S: Source, K: Sink>(
     ensures does { ShowsWith (IsStateAt form lead_in at) form lead_in at (S.left source.old) (S.left source.new)
         (K.held out.old) (K.held out.new) result }
     ensures never { (result ≢ Status.Usage) × (result ≢ Status.ReadFault Which.Second) × (result ≢ Status.NoMemory) }
+    ensures untouched { ¬ (MayWrite result) → out.new ≡ out.old }
     ensures source_later { S.faults source.old ≤ S.faults source.new }
     ensures out_later { K.faults out.old ≤ K.faults out.new }
     ensures read_fault { result ≡ Status.ReadFault Which.First → Rose (S.faults source.old) (S.faults source.new) }

@@ -8,7 +8,9 @@ use picture_script::ScriptWhy;
 /// One of the two inputs.
 #[derive(Clone, Copy, Debug, PartialEq, Eq)]
 pub enum Which {
+    /// The stream, or the cue sheet.
     First,
+    /// The picture script.
     Second,
 }
 
@@ -17,6 +19,7 @@ pub enum Which {
 pub enum Refusal {
     /// The input ended within the block of this number.
     Torn { block: u32 },
+    /// The input has more than 1,000,000 blocks, or is a text of more than 67,108,864 bytes.
     TooLong,
     /// The moment, or the last hold time of a script, is later than the end of this many program blocks.
     PastEnd { blocks: u32 },
@@ -43,16 +46,21 @@ pub enum Refusal {
 /// How a run ended.
 #[derive(Clone, Copy, Debug, PartialEq, Eq)]
 pub enum Status {
+    /// The work is whole.
     Done,
-    /// The work is whole, but so many entries could not be recovered.
+    /// The work is whole, but so many packs or frames could not be recovered.
     Damaged(u32),
-    /// The words are none of the forms.
+    /// The words spell no command; nothing was read.
     Usage,
+    /// An input was refused.
     Refused(Refusal),
     /// The first picture that cannot be ready: it needs so many packs, and so many are free for it.
     Late { picture: u32, need: u32, free: u32 },
+    /// A read of this input failed.
     ReadFault(Which),
+    /// A write failed: the output holds a prefix.
     WriteFault,
+    /// No memory was found; nothing was written.
     NoMemory,
 }
 

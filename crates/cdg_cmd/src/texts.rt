@@ -1,8 +1,7 @@
 // The command that lists the texts of a lead-in.
-ghost use Rattle.std.specs.Prelude.{◌≡◌, ◌≢◌, ◌≤◌, []};
-ghost use Rattle.std.specs.Io.KnownBytes.{Appends};
+ghost use Rattle.std.specs.Prelude.{◌≡◌, ◌≢◌, ◌≤◌};
 ghost use Rattle.cdg_io.specs.Causes.{Rose};
-ghost use Rattle.cdg_cmd.specs.Answer.{TextsWith, text_status};
+ghost use Rattle.cdg_cmd.specs.Answer.{MayWrite, TextsWith, text_status};
 
 use crate::streams::play_status;
 use crate::{Refusal, Status, Which};
@@ -37,11 +36,13 @@ pub(crate) fn run_text<S: Source, K: Sink>(
     source: &mut S,
     out: &mut K,
 ) -> Status
-    requires { lead_in ≤ 450000 }
+    requires lead_in { lead_in ≤ 450000 }
+    requires form { form ≢ Form.Cooked }
     ensures does { result ≢ Status.NoMemory → TextsWith form lead_in (S.left source.old) (S.left source.new)
         (K.held out.old) (K.held out.new) result }
     ensures never { (result ≢ Status.Usage) × (result ≢ Status.ReadFault Which.Second) }
-    ensures no_memory { result ≡ Status.NoMemory → Appends (K.held out.old) (K.held out.new) [] }
+    ensures no_memory { result ≡ Status.NoMemory → out.new ≡ out.old }
+    ensures untouched { ¬ (MayWrite result) → out.new ≡ out.old }
     ensures source_later { S.faults source.old ≤ S.faults source.new }
     ensures out_later { K.faults out.old ≤ K.faults out.new }
     ensures read_fault { result ≡ Status.ReadFault Which.First → Rose (S.faults source.old) (S.faults source.new) }
@@ -62,11 +63,13 @@ fn text_with<S: Source, K: Sink>(
     source: &mut S,
     out: &mut K,
 ) -> Status
-    requires { lead_in ≤ 450000 }
+    requires lead_in { lead_in ≤ 450000 }
+    requires form { form ≢ Form.Cooked }
     ensures does { TextsWith form lead_in (S.left source.old) (S.left source.new)
         (K.held out.old) (K.held out.new) result }
     ensures never { (result ≢ Status.Usage) × (result ≢ Status.ReadFault Which.Second) }
-    ensures no_memory { result ≡ Status.NoMemory → Appends (K.held out.old) (K.held out.new) [] }
+    ensures no_memory { result ≡ Status.NoMemory → out.new ≡ out.old }
+    ensures untouched { ¬ (MayWrite result) → out.new ≡ out.old }
     ensures source_later { S.faults source.old ≤ S.faults source.new }
     ensures out_later { K.faults out.old ≤ K.faults out.new }
     ensures read_fault { result ≡ Status.ReadFault Which.First → Rose (S.faults source.old) (S.faults source.new) }

@@ -1,6 +1,7 @@
 // Options with a time.
 ghost use Rattle.std.specs.Prelude.{◌≡◌, ◌≤◌, ◌<◌, ℕ, codes, IfSome, Some};
-ghost use Rattle.cdg_cmd.specs.Words.{texts, IsTimeWord, SpellsTime, SpellsTimed};
+ghost use Rattle.cdg_cmd.specs.Words.{texts};
+ghost use Rattle.cdg_cmd.specs.WordSteps.{IsTimeWord, SpellsTime, SpellsTimed};
 ghost use Rattle.raw_subcode.specs.declared.form.Form.{Form};
 
 use crate::options::read_stream;

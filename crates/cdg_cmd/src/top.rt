@@ -1,6 +1,5 @@
 // The top call.
-ghost use Rattle.std.specs.Prelude.{◌≡◌, ◌≢◌, ◌↔◌, ◌≤◌, ◌<◌, ◌*◌, ◌⊎◌, ℕ, List, [], Bool, true, Some, Err, IfSome};
-ghost use Rattle.std.specs.Io.KnownBytes.{Appends};
+ghost use Rattle.std.specs.Prelude.{◌≡◌, ◌≢◌, ◌↔◌, ◌≤◌, ◌<◌, ◌*◌, ◌⊎◌, ℕ, List, Bool, true, Option, Some, None, Err, IfSome};
 ghost use Rattle.cdg_io.specs.Causes.{Rose};
 ghost use Rattle.cdg_cmd.specs.Words.{texts};
 ghost use Rattle.cdg_cmd.specs.Spelling.{IsAllowed, Spells};
@@ -26,7 +25,7 @@ ghost use Rattle.authored_listings.specs.Damage.{count_hurt, count_whole};
 ghost use Rattle.authored_listings.specs.FrameLines.{frame_lines};
 ghost use Rattle.authored_listings.specs.SheetLines.{HasText, HasTextPacks, sheet_lines};
 ghost use Rattle.cdg_cmd.specs.Undamaged.{IsCleanStream, words_of};
-ghost use Rattle.cdg_cmd.specs.Answer.{Does, GivesBack, IsAnswered, ReadsNone, ReadsSecond, TakesFirst, TakesNone, Tells, WritesLast};
+ghost use Rattle.cdg_cmd.specs.Answer.{Does, GivesBack, IsAnswered, MayWrite, ReadsNone, ReadsSecond, TakesFirst, TakesNone, Tells, WritesLast};
 
 use crate::authoring::run_author;
 use crate::counting::run_check;
@@ -52,6 +51,15 @@ use stream_words::{clean_words_are_found, text_of_packs};
 use subcode_author::AuthorStop;
 
 /// Runs the command of the words over its inputs, its output and the error output.
+///
+/// The first input is the stream of a command, or the cue sheet of `author`, whose picture script is the second; a command
+/// that needs neither reads neither. An input is read once, in order, and the output written in order. `err` takes the one
+/// line of the status, or nothing where it is `Done`; a failure there changes nothing.
+///
+/// # Errors
+///
+/// The status says what ended the run: `Usage` before anything is read, a refusal where its reason is the first that holds
+/// in the order of the inputs, a fault as the source or the sink failed, `NoMemory` with an untouched output.
 pub fn run<S: Source, T: Source, K: Sink, E: Sink>(
     alloc: Global,
     words: &[String],
@@ -123,7 +131,7 @@ pub fn run<S: Source, T: Source, K: Sink, E: Sink>(
 
     // These commands touch the output only where their work is whole or a write fails.
     ensures writes_last { (command : Command) → Spells command (texts words.now) → WritesLast command
-        → result ≢ Status.Done → result ≢ Status.WriteFault → out.new ≡ out.old }
+        → ¬ (MayWrite result) → out.new ≡ out.old }
     // Of a scratched authored stream a conversion gives back every scheduled pack.
     ensures scratches { (lead_in audio seed : ℕ) (sheet : CueSheet) (script : List Drawing) (bytes : List ℕ) (packs : List (List ℕ))
         → Spells (Command.Convert lead_in Form.Raw) (texts words.now) → program_blocks sheet audio ≤ 449999
@@ -164,8 +172,8 @@ pub fn run<S: Source, T: Source, K: Sink, E: Sink>(
         → IfSome (S.left first.old) (λ all. HasDamagedTexts sheet form lead_in whole bytes all
         → GivesBack (sheet_lines sheet (count_whole whole) (count_hurt whole)) (K.held out.old) (K.held out.new) result) }
 
-    // Where no memory is found nothing was written, and nothing was read where all of it is taken first.
-    ensures no_memory { result ≡ Status.NoMemory → Appends (K.held out.old) (K.held out.new) [] }
+    // Where no memory is found the output is untouched, and nothing was read where all memory is taken first.
+    ensures no_memory { result ≡ Status.NoMemory → out.new ≡ out.old }
     ensures no_memory_first { (command : Command) → Spells command (texts words.now) → TakesFirst command
         → result ≡ Status.NoMemory → (first.new ≡ first.old) × (out.new ≡ out.old) }
     // These commands take no memory.
@@ -226,8 +234,8 @@ fn answer<S: Source, T: Source, K: Sink>(
         → IfSome (S.left first.old) (λ all. (script : List Drawing) (k : ℕ) → IsScheduledStream form lead_in script all → IsHeldAt script k at
         → PutsPicture script k (K.held out.old) (K.held out.new) result) }
     ensures writes_last { (command : Command) → Spells command (texts words.now) → WritesLast command
-        → result ≢ Status.Done → result ≢ Status.WriteFault → out.new ≡ out.old }
-    ensures no_memory { result ≡ Status.NoMemory → Appends (K.held out.old) (K.held out.new) [] }
+        → ¬ (MayWrite result) → out.new ≡ out.old }
+    ensures no_memory { result ≡ Status.NoMemory → out.new ≡ out.old }
     ensures no_memory_first { (command : Command) → Spells command (texts words.now) → TakesFirst command
         → result ≡ Status.NoMemory → (first.new ≡ first.old) × (out.new ≡ out.old) }
     ensures takes_none { (command : Command) → Spells command (texts words.now) → TakesNone command → result ≢ Status.NoMemory }
@@ -265,8 +273,8 @@ fn perform<S: Source, T: Source, K: Sink>(
     ensures pictures { (lead_in : ℕ) (form : Form) (at : ℕ) → command ≡ Command.Screen lead_in form at
         → IfSome (S.left first.old) (λ all. (script : List Drawing) (k : ℕ) → IsScheduledStream form lead_in script all → IsHeldAt script k at
         → PutsPicture script k (K.held out.old) (K.held out.new) result) }
-    ensures writes_last { WritesLast command → result ≢ Status.Done → result ≢ Status.WriteFault → out.new ≡ out.old }
-    ensures no_memory { result ≡ Status.NoMemory → Appends (K.held out.old) (K.held out.new) [] }
+    ensures writes_last { WritesLast command → ¬ (MayWrite result) → out.new ≡ out.old }
+    ensures no_memory { result ≡ Status.NoMemory → out.new ≡ out.old }
     ensures no_memory_first { TakesFirst command → result ≡ Status.NoMemory → (first.new ≡ first.old) × (out.new ≡ out.old) }
     ensures takes_none { TakesNone command → result ≢ Status.NoMemory }
     ensures reads_none { ReadsNone command → first.new ≡ first.old }
@@ -299,7 +307,11 @@ fn perform<S: Source, T: Source, K: Sink>(
 /// What a run on these bytes, as the first input and the second, answers where nothing fails.
 pub fn dry_run(alloc: Global, words: &[String], bytes: &[u8], more: &[u8]) -> Status
     ensures usage { (result ≡ Status.Usage) ↔ ((command : Command) → ¬ (Spells command (texts words.now))) }
+    // It is what a command does with these bytes, whatever it writes.
+    ensures does { (command : Command) → Spells command (texts words.now) → result ≢ Status.NoMemory
+        → (left more_left : Option (List ℕ)) × Does command (Some bytes.now) left (Some more.now) more_left None None result }
     ensures answered { (command : Command) → Spells command (texts words.now) → IsAnswered result }
+    ensures takes_none { (command : Command) → Spells command (texts words.now) → TakesNone command → result ≢ Status.NoMemory }
 {
     let mut first = SteadySource::new(bytes);
     let mut second = SteadySource::new(more);

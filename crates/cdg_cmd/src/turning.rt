@@ -36,10 +36,7 @@ fn planar_stream<S: Source, K: Sink>(source: &mut S, out: &mut K) -> Result<Pump
     ensures read_fault { IsErrOf result PumpStop.ReadFault → Rose (S.faults source.old) (S.faults source.new) }
     ensures write_fault { IsErrOf result PumpStop.WriteFault → Rose (K.faults out.old) (K.faults out.new) }
 {
-    match pump(source, MOST_BLOCKS, &mut PlanarForms, out) {
-        Ok(pumped) => Ok(pumped),
-        Err(stop) => Err(stop),
-    }
+    pump(source, MOST_BLOCKS, &mut PlanarForms, out)
 }
 
 /// Writes the block of each planar form as the blocks are read.
@@ -52,10 +49,7 @@ fn raw_stream<S: Source, K: Sink>(source: &mut S, out: &mut K) -> Result<Pumped,
     ensures read_fault { IsErrOf result PumpStop.ReadFault → Rose (S.faults source.old) (S.faults source.new) }
     ensures write_fault { IsErrOf result PumpStop.WriteFault → Rose (K.faults out.old) (K.faults out.new) }
 {
-    match pump(source, MOST_BLOCKS, &mut BlockForms, out) {
-        Ok(pumped) => Ok(pumped),
-        Err(stop) => Err(stop),
-    }
+    pump(source, MOST_BLOCKS, &mut BlockForms, out)
 }
 
 /// Writes a stream with the scratches of a seed as its blocks are read.

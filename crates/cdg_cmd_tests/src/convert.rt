@@ -71,19 +71,24 @@ fn a_burst_of_sixteen_symbols_is_corrected(rt: HostRuntime) -> Result<(), Fail> 
     Ok(())
 }
 
+// Whether zero bytes that end within a block are refused, after so many zero bytes are written.
+fn is_torn(alloc: Global, len: usize, block: u32, count: usize) -> Result<bool, AllocError> {
+    let ran = run_bytes(alloc, "convert --lead-in 0", zeros_but(alloc, len, &[])?)?;
+    let told = format!(in alloc; "refused torn {block}\n")?;
+    Ok(
+        ran.status == Status::Refused(Refusal::Torn { block })
+            && ran.err.bytes() == told.as_bytes()
+            && is_zeros(ran.out.bytes(), count),
+    )
+}
+
+// Two whole blocks give a pack, whatever rest of a third follows.
 #[test]
 fn torn_streams_are_refused(rt: HostRuntime) -> Result<(), Fail> {
     let alloc = rt.alloc();
-    for (len, block, count) in [(100usize, 1u32, 0usize), (193, 2, 24), (287, 2, 24)] {
-        let ran = run_bytes(alloc, "convert --lead-in 0", zeros_but(alloc, len, &[])?)?;
-        assert_eq!(rt;
-            ran.status,
-            Status::Refused(Refusal::Torn { block }),
-            "{len}"
-        );
-        assert!(rt; is_zeros(ran.out.bytes(), count), "{len}");
-        let told = format!(in alloc; "refused torn {block}\n")?;
-        assert_eq!(rt; ran.err.bytes(), told.as_bytes(), "{len}");
+    assert!(rt; is_torn(alloc, 100, 1, 0)?);
+    for rest in 1..96usize {
+        assert!(rt; is_torn(alloc, 192 + rest, 2, 24)?, "{rest}");
     }
     Ok(())
 }

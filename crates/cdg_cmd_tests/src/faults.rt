@@ -1,6 +1,6 @@
 use crate::harness::{run_bytes, run_on, words, zeros_but};
 use cdg_cmd::{Refusal, Status, Which, run};
-use cdg_io::{MemSink, MemSource, SteadySink, SteadySource};
+use cdg_io::{MemSink, MemSource, SteadySource};
 use std::alloc::{AllocError, Global};
 use std::test::Fail;
 
@@ -118,25 +118,12 @@ fn a_failed_line_leaves_the_status(rt: HostRuntime) -> Result<(), Fail> {
 #[test]
 fn what_was_read_before_a_fault_is_taken(rt: HostRuntime) -> Result<(), Fail> {
     let alloc = rt.alloc();
-    assert_eq!(rt; left_after_fault(alloc, "convert --lead-in 0")?, 192);
-    assert_eq!(rt; left_after_fault(alloc, "convert --lead-in 1")?, 192);
+    for line in ["convert --lead-in 0", "convert --lead-in 1"] {
+        let bytes = vec![in alloc; 0u8; 480]?;
+        let first = MemSource::new(bytes, vec![in alloc; 96usize]?, vec![in alloc; 3u32]?);
+        let ran = run_on(alloc, line, first, 4096, Vec::new(alloc))?;
+        assert_eq!(rt; ran.status, Status::ReadFault(Which::First), "{line}");
+        assert_eq!(rt; ran.rest, 192, "{line}");
+    }
     Ok(())
-}
-
-// How many of 480 bytes are left after a read that fails at call number 3.
-fn left_after_fault(alloc: Global, line: &str) -> Result<usize, AllocError> {
-    let words = words(alloc, line)?;
-    let bytes = vec![in alloc; 0u8; 480]?;
-    let mut first = MemSource::new(bytes, vec![in alloc; 96usize]?, vec![in alloc; 3u32]?);
-    let mut second = SteadySource::new(&[]);
-    let mut err = SteadySink::new();
-    let _ = run(
-        alloc,
-        &words,
-        &mut first,
-        &mut second,
-        &mut SteadySink::new(),
-        &mut err,
-    );
-    Ok(first.rest().len())
 }

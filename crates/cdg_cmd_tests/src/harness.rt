@@ -3,12 +3,13 @@ use cdg_cmd::{Status, run};
 use cdg_io::{MemSink, MemSource, SteadySource};
 use std::alloc::{AllocError, Global};
 
-/// What a run ended with, held and told.
+/// What a run ended with, held and told, and how many bytes of its first input it left.
 #[derive(Drop)]
 pub(crate) struct Ran {
     pub(crate) status: Status,
     pub(crate) out: MemSink,
     pub(crate) err: MemSink,
+    pub(crate) rest: usize,
 }
 
 /// The words of a line, which blanks part.
@@ -33,7 +34,13 @@ pub(crate) fn run_on(
     let mut out = MemSink::new(alloc, room, Vec::new(alloc), fails)?;
     let mut err = MemSink::new(alloc, 256, Vec::new(alloc), Vec::new(alloc))?;
     let status = run(alloc, &words, &mut first, &mut second, &mut out, &mut err);
-    Ok(Ran { status, out, err })
+    let rest = first.rest().len();
+    Ok(Ran {
+        status,
+        out,
+        err,
+        rest,
+    })
 }
 
 /// Runs a command on bytes that come in pieces of several sizes.

@@ -50,8 +50,8 @@ fn run_on_streams(rt: &HostRuntime) -> io::Result<Status> {
     let alloc = rt.alloc();
     let line = words(rt)?;
     let split = split(&line);
-    let names = line.len() - split.names;
-    let (first, second) = inputs(rt, &line[names..]);
+    let first_name = line.len() - split.names;
+    let (first, second) = inputs(rt, &line[first_name..]);
     let mut first = ReadSource::new(BufReader::with_capacity(alloc, BUFFER, first)?);
     let mut second = ReadSource::new(BufReader::with_capacity(alloc, BUFFER, second)?);
     let mut writer = BufWriter::with_capacity(alloc, BUFFER, rt.stdout())?;

@@ -26,11 +26,11 @@ use Rattle.q_frame.specs.declared.frame.QFault.{QFault}
 use Rattle.block_stages.specs.QList.{q_blocks, AreReadings}
 use Rattle.block_stages.proofs.QRuns.{readings_are}
 use Rattle.block_stages.proofs.QRuns as q_runs
-use Rattle.subcode_player.specs.Calls.{most_units, IsEarly, IsPlayed, PlaysAtEnd, IsAnsweredBy, play_stop}
+use Rattle.subcode_player.specs.Calls.{most_units, IsEarly, IsPlayed, PlaysAtEnd, IsAnsweredBy}
 use Rattle.subcode_player.specs.Steps.{slots_of, words_next, words_give}
 use Rattle.subcode_player.specs.Counts.{stream_lines, wrong_lines, kind_lines, frame_lines, check_text, IsChecked}
 use Rattle.subcode_player.specs.CountSteps.{count_after, counts_next, frames_next, counting_next, lines_of, has_frames, IsFresh}
-use Rattle.subcode_player.specs.Watch.{Watches}
+use Rattle.subcode_player.specs.Watch.{play_stop, Watches}
 use Rattle.subcode_player.specs.declared.counting.WordCounts.{WordCounts}
 use Rattle.subcode_player.specs.declared.counting.FrameCounts.{FrameCounts}
 use Rattle.subcode_player.specs.declared.counting.Counting.{Counting}

@@ -8,7 +8,7 @@ use Rattle.cdg_io.specs.declared.stage.Then.{Then}
 use Rattle.cdg_io.proofs.Runs.{joined, joined_second, joined_gives}
 use Rattle.rw_code.specs.Finding.{finding}
 use Rattle.raw_subcode.specs.Channels.{unit_size, block_of}
-use Rattle.subcode_player.specs.Texts.{cdg_bytes}
+use Rattle.stream_words.specs.Texts.{cdg_bytes}
 use Rattle.stream_words.specs.Stream.{bad_count}
 use Rattle.subcode_player.specs.Steps.{begun, slots_of, window_next, window_gives, words_next, words_give, bad_after, correction_next, correction_gives}
 use Rattle.raw_subcode.specs.declared.form.Form.{Form}

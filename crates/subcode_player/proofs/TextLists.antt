@@ -19,9 +19,9 @@ use Rattle.cdtext_packs.specs.declared.kinds.TextFault.{TextFault}
 use Rattle.cdtext_lines.specs.Lines.{counted_lines, text_lines}
 use Rattle.lead_in_texts.specs.TextSteps.{begun, text_next, HasRead}
 use Rattle.lead_in_texts.specs.declared.LeadInTexts.{LeadInTexts}
-use Rattle.subcode_player.specs.Calls.{most_units, play_stop}
-use Rattle.subcode_player.specs.Watch.{Watches}
-use Rattle.subcode_player.specs.TextList.{packs_in, texts_in, IsTextListed, IsTextFault, IsEarlyStop, ListsTexts, IsWholeInput, IsListedBy, WritesTexts}
+use Rattle.subcode_player.specs.Calls.{most_units}
+use Rattle.subcode_player.specs.Watch.{Watches, WritesTexts, play_stop}
+use Rattle.subcode_player.specs.TextList.{packs_in, texts_in, IsTextListed, IsTextFault, IsEarlyStop, ListsTexts, IsWholeInput, IsListedBy}
 use Rattle.subcode_player.specs.declared.player.Played.{Played}
 use Rattle.subcode_player.specs.declared.player.PlayStop.{PlayStop}
 use Rattle.subcode_player.specs.declared.player.PlayStop.TheVariants.{ReadFault, WriteFault, Torn, TooLong, PastEnd}

@@ -24,11 +24,11 @@ use Rattle.raw_subcode.specs.declared.form.Form.{Form}
 use Rattle.stream_words.specs.Stream.{IsRecovered, bad_count}
 use Rattle.cdg_screen.specs.Picture.{Standing, SameStanding, blank, standing_of, standing_after}
 use Rattle.cdg_screen.proofs.Turns.{same_after, same_then}
-use Rattle.subcode_player.specs.Calls.{most_units, IsEarly, play_stop}
+use Rattle.subcode_player.specs.Calls.{most_units, IsEarly}
 use Rattle.subcode_player.specs.Steps.{begun, slots_of, window_next, window_gives, words_next, words_give}
 use Rattle.subcode_player.specs.Drawn.{draw_after, drawing_next}
-use Rattle.subcode_player.specs.Watch.{Watches}
-use Rattle.subcode_player.specs.Shown.{IsWrittenAt, IsViewed, IsShownBy, Shows, Views, viewed}
+use Rattle.subcode_player.specs.Watch.{IsViewed, Views, Watches, play_stop, viewed}
+use Rattle.subcode_player.specs.Shown.{IsWrittenAt, IsShownBy, Shows}
 use Rattle.subcode_player.specs.declared.words.BlockWords.{BlockWords}
 use Rattle.subcode_player.specs.declared.drawing.Drawing.{Drawing}
 use Rattle.subcode_player.specs.declared.player.Played.{Played}

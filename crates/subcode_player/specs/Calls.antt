@@ -3,8 +3,6 @@
 -- `writes bytes text bad` says of some bytes, whole units and maybe a rest of a unit, which text is written for the units, and how many words or frames are bad.
 use Rattle.std.specs.Prelude.{◌≡◌, ◌≢◌, ℕ, ◌-◌, ◌*◌, ◌/◌, ◌%◌, ◌<◌, ◌≤◌, ⊤, List, length, Option, Result, Ok, Err}
 use Rattle.cdg_io.specs.Streams.{Streams, WritesAtEnd}
-use Rattle.cdg_io.specs.declared.pumping.PumpStop.{PumpStop}
-use Rattle.cdg_io.specs.declared.pumping.PumpStop.TheVariants as pump_stop
 use Rattle.raw_subcode.specs.Channels.{unit_size}
 use Rattle.raw_subcode.specs.declared.form.Form.{Form}
 use Rattle.subcode_player.specs.declared.player.Played.{Played}
@@ -33,13 +31,6 @@ IsEarly stop = ⊥
 -- a call that writes nothing before it read all
 abbrev pub PlaysAtEnd : (List ℕ → List ℕ → ℕ → Type 0) → Form → ℕ → Option (List ℕ) → Option (List ℕ) → Option (List ℕ) → Option (List ℕ) → Result Played PlayStop → List ℕ → Type 0
 PlaysAtEnd writes form lead_in left left' held held' result taken = WritesAtEnd (unit_size form) most_units IsEarly WriteFault (IsPlayed writes form lead_in) left left' held held' result taken
-
--- the stop of a pump as that of a player
-abbrev pub play_stop : PumpStop → PlayStop
-play_stop pump_stop.ReadFault = ReadFault
-play_stop pump_stop.WriteFault = WriteFault
-play_stop (pump_stop.Torn unit) = Torn unit
-play_stop pump_stop.TooLong = TooLong
 
 -- the answer to an input of so many bytes that is read and written without a fault
 abbrev pub IsAnsweredBy : Result Played PlayStop → ℕ → ℕ → Type 0

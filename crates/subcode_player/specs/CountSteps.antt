@@ -18,10 +18,11 @@ use Rattle.subcode_player.specs.declared.counting.Counting.{Counting}
 unfoldable pub tick : Bool → ℕ → ℕ
 tick hit n = if hit then min (n + 1) (2 ^ 32 - 1) else n
 
--- after a word with so many wrong symbols, and after a pack of this mode and code
+-- after a word with so many wrong symbols
 abbrev pub wrong_counted : WordCounts → ℕ → WordCounts
 wrong_counted s wrong = record s { clean = tick (wrong == 0) s.clean; one = tick (wrong == 1) s.one; two = tick (wrong == 2) s.two }
 
+-- after a pack of this mode and code
 abbrev pub kind_counted : WordCounts → ℕ → ℕ → WordCounts
 kind_counted s mode code = record s {
   idle = tick (is_idle mode code) s.idle;
@@ -43,16 +44,20 @@ count_found s word found = record {
   foreign = tick (found_passes is_foreign found) s.foreign;
 }
 
+-- after a word
 abbrev pub count_next : WordCounts → List ℕ → WordCounts
 count_next s word = count_found s word (finding word)
 
+-- after some words
 unfoldable pub count_after : WordCounts → List (List ℕ) → WordCounts
 count_after s [] = s
 count_after s (word ∷ words) = count_after (count_next s word) words
 
+-- after the words of a block
 unfoldable pub counts_next : WordCounts → ArrayVec (List ℕ) → WordCounts
 counts_next s words = count_after s words.items
 
+-- nothing is given
 unfoldable pub counts_give : WordCounts → ArrayVec (List ℕ) → Option (List ℕ)
 counts_give s words = None
 
@@ -61,12 +66,14 @@ unfoldable pub frames_next : FrameCounts → List ℕ → FrameCounts
 frames_next s block =
     if s.read then record s { good = tick (is_ok (reading_of (q_bits block))) s.good; bad = tick (is_err (reading_of (q_bits block))) s.bad } else s
 
+-- after a block
 unfoldable pub counting_next : Counting → List ℕ → Counting
 counting_next s block = record {
   frames = frames_next s.frames block;
   words = record { first = words_next s.words.first block; second = then_second counts_next s.words.second (words_give s.words.first block) };
 }
 
+-- nothing is given for a block
 unfoldable pub counting_gives : Counting → List ℕ → Option (List ℕ)
 counting_gives s block = then_gives counts_give s.words.second (words_give s.words.first block)
 

@@ -22,35 +22,44 @@ abbrev pub found_passes : (ℕ → ℕ → Bool) → Option (List ℕ) → Bool
 found_passes test (Some codeword) = test (slice_index codeword 0) (slice_index codeword 1)
 found_passes test None = false
 
+-- whether a number names a graphics instruction
 abbrev pub is_known : ℕ → Bool
 is_known code = list_any (λ c. c == code) known_codes
 
--- the kinds of a pack by its first two symbols
+-- the kinds of a pack by its first two symbols: nothing is to be drawn
 abbrev pub is_idle : ℕ → ℕ → Bool
 is_idle mode code = mode == 0
 
+-- a graphics instruction
 abbrev pub is_graphics : ℕ → ℕ → Bool
 is_graphics mode code = mode == 9 && is_known code
 
+-- graphics, but none of its instructions
 abbrev pub is_unknown : ℕ → ℕ → Bool
 is_unknown mode code = mode == 9 && not (is_known code)
 
+-- of another mode
 abbrev pub is_foreign : ℕ → ℕ → Bool
 is_foreign mode code = not (mode == 0 || mode == 9)
 
+-- a name, a blank and a count
 unfoldable pub count_line : List ℕ → ℕ → List ℕ
 count_line name n = name ++ codes " " ++ decimal n ++ line_feed
 
+-- the lines on the blocks and the packs
 abbrev pub stream_lines : ℕ → ℕ → ℕ → List ℕ
 stream_lines lead_in program packs = count_line (codes "lead-in") lead_in ++ (count_line (codes "program") program ++ count_line (codes "packs") packs)
 
+-- the lines on wrong symbols
 abbrev pub wrong_lines : ℕ → ℕ → ℕ → ℕ → List ℕ
 wrong_lines clean one two bad = count_line (codes "clean") clean ++ (count_line (codes "one") one ++ (count_line (codes "two") two ++ count_line (codes "bad") bad))
 
+-- the lines on what packs hold
 abbrev pub kind_lines : ℕ → ℕ → ℕ → ℕ → List ℕ
 kind_lines idle graphics unknown foreign =
     count_line (codes "idle") idle ++ (count_line (codes "graphics") graphics ++ (count_line (codes "unknown") unknown ++ count_line (codes "foreign") foreign))
 
+-- the lines on frames
 abbrev pub frame_lines : ℕ → ℕ → List ℕ
 frame_lines good bad = count_line (codes "q-good") good ++ count_line (codes "q-bad") bad
 

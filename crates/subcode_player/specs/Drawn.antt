@@ -17,12 +17,15 @@ entry_drawn picture None = picture
 unfoldable pub draw_next : Drawing → List ℕ → Drawing
 draw_next s word = if s.left == 0 then s else record { picture = entry_drawn s.picture (finding word); left = s.left - 1; bad = bad_next s.bad word }
 
+-- after some words
 unfoldable pub draw_after : Drawing → List (List ℕ) → Drawing
 draw_after s [] = s
 draw_after s (word ∷ words) = draw_after (draw_next s word) words
 
+-- after the words of a block
 unfoldable pub drawing_next : Drawing → ArrayVec (List ℕ) → Drawing
 drawing_next s words = draw_after s words.items
 
+-- nothing is given
 unfoldable pub drawing_gives : Drawing → ArrayVec (List ℕ) → Option (List ℕ)
 drawing_gives s words = None

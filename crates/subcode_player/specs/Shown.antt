@@ -1,15 +1,14 @@
 -- The screen at a moment of a stream.
-use Rattle.std.specs.Prelude.{◌≡◌, ◌≢◌, ℕ, ◌-◌, ◌*◌, ◌/◌, ◌%◌, ◌<◌, ◌≤◌, ◌+◌, ⊤, nat_lt, if◌then◌else◌, List, [], ◌∷◌, length, take, Option, Some, None, Result, Ok, Err, IfOk}
-use Rattle.std.specs.Io.KnownBytes.{Consumes, IsAtEnd}
+use Rattle.std.specs.Prelude.{◌≡◌, ◌≢◌, ℕ, ◌-◌, ◌*◌, ◌/◌, ◌%◌, ◌<◌, ◌≤◌, ⊤, List, [], ◌∷◌, length, take, Option, Some, None, Result, Ok, Err, IfOk}
 use Rattle.rw_interleave.specs.Interleave.{whole_packs}
 use Rattle.raw_subcode.specs.Channels.{unit_size, program_symbols}
 use Rattle.raw_subcode.specs.declared.form.Form.{Form}
 use Rattle.stream_words.specs.Stream.{IsRecovered, bad_count}
 use Rattle.cdg_instructions.specs.Instruction.{Means}
 use Rattle.cdg_instructions.specs.declared.instr.Instr.{Instr}
-use Rattle.cdg_screen.specs.Picture.{Standing, SameStanding, blank, standing_after}
+use Rattle.cdg_screen.specs.Picture.{Standing, blank, standing_after}
 use Rattle.cdg_screen.specs.Texts.{pixmap, state_text}
-use Rattle.subcode_player.specs.Calls.{most_units, IsEarly, PlaysAtEnd}
+use Rattle.subcode_player.specs.Calls.{most_units, PlaysAtEnd}
 use Rattle.subcode_player.specs.declared.player.Played.{Played}
 use Rattle.subcode_player.specs.declared.player.PlayStop.{PlayStop}
 use Rattle.subcode_player.specs.declared.player.PlayStop.TheVariants.{ReadFault, WriteFault, Torn, TooLong, PastEnd}
@@ -34,9 +33,11 @@ pub record IsWrittenAt (write : Standing → List ℕ) (form : Form) (lead_in ti
   pub text_is : text ≡ write (standing_after blank instrs)
   pub bad_is : bad ≡ bad_count (take (whole_packs time) found)
 
+-- the pixmap of what stands
 abbrev pub IsScreenAt : Form → ℕ → ℕ → List ℕ → List ℕ → ℕ → Type 0
 IsScreenAt form lead_in time bytes text bad = IsWrittenAt pixmap form lead_in time bytes text bad
 
+-- the lines of its state
 abbrev pub IsStateAt : Form → ℕ → ℕ → List ℕ → List ℕ → ℕ → Type 0
 IsStateAt form lead_in time bytes text bad = IsWrittenAt state_text form lead_in time bytes text bad
 
@@ -54,25 +55,3 @@ IsShownBy (Err (Torn block)) lead_in time size len = (len ≤ most_units * size)
 IsShownBy (Err TooLong) lead_in time size len = most_units * size < len
 IsShownBy (Err ReadFault) lead_in time size len = ⊤
 IsShownBy (Err WriteFault) lead_in time size len = ⊤
-
--- what the drawing of some bytes up to a time leaves: what stands, and how many packs are bad
-pub record IsViewed (form : Form) (lead_in time : ℕ) (bytes : List ℕ) (now : Standing) (bad : ℕ) : Type 0 where
-  pub found : List (Option (List ℕ))
-  pub recovered : IsRecovered form (program_symbols form bytes lead_in) found
-  pub instrs : List Instr
-  pub shown : AreShown found time instrs
-  pub stands : SameStanding now (standing_after blank instrs)
-  pub bad_is : bad ≡ bad_count (take (whole_packs time) found)
-
--- a whole input was drawn up to a time, and nothing was written
-pub record Views (form : Form) (lead_in time : ℕ) (left left' : Option (List ℕ)) (now : Standing) (result : Result Played PlayStop) (taken : List ℕ) : Type 0 where
-  pub taken_from : Consumes left left' taken
-  pub within : length taken ≤ most_units * unit_size form + 1
-  pub done : IfOk result (λ played. IsAtEnd left' × (played.blocks ≡ length taken / unit_size form - lead_in) × (time ≤ played.blocks) × IsViewed form lead_in time taken now played.bad)
-  pub ended : (stop : PlayStop) → result ≡ Err stop → ¬ (IsEarly stop) → IsAtEnd left'
-  pub past_end : (blocks : ℕ) → result ≡ Err (PastEnd blocks) → (length taken % unit_size form ≡ 0) × (blocks ≡ length taken / unit_size form - lead_in) × (blocks < time)
-  pub no_write : result ≢ Err WriteFault
-
--- what is answered after so many program blocks
-abbrev pub viewed : ℕ → ℕ → ℕ → Result Played PlayStop
-viewed blocks time bad = if nat_lt blocks time then Err (PastEnd blocks) else Ok (record { blocks = blocks; bad = bad })

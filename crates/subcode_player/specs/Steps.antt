@@ -6,16 +6,17 @@ use Rattle.rw_code.specs.Finding.{finding}
 use Rattle.bit_lists.specs.Counting.{below}
 use Rattle.rw_interleave.specs.Gathering.{gather_next, gather_gives}
 use Rattle.raw_subcode.specs.Channels.{symbols_of}
-use Rattle.subcode_player.specs.Texts.{cdg_bytes}
+use Rattle.stream_words.specs.Texts.{cdg_bytes}
 use Rattle.raw_subcode.specs.declared.form.Form.{Form}
 use Rattle.raw_subcode.specs.declared.form.Form.TheVariants.{Raw, Sector, Cooked}
 use Rattle.subcode_player.specs.declared.words.BlockWords.{BlockWords}
 use Rattle.subcode_player.specs.declared.correction.Correction.{Correction}
 
--- slot i of a block, and its four slots
+-- slot i of a block
 unfoldable pub slot_of : List ℕ → ℕ → List ℕ
 slot_of block i = symbols_of (take 24 (drop (24 * i) block))
 
+-- the four slots of a block
 unfoldable pub slots_of : List ℕ → List (List ℕ)
 slots_of block = map (slot_of block) (below 4)
 
@@ -40,6 +41,7 @@ unfoldable pub words_next : BlockWords → List ℕ → BlockWords
 words_next s block =
     if s.lead_in == 0 then record s { gather = run_state (window_next s.form) s.gather (slots_of block) } else record s { lead_in = s.lead_in - 1 }
 
+-- the words that come with a block of the program
 unfoldable pub words_give : BlockWords → List ℕ → Option (ArrayVec (List ℕ))
 words_give s block =
     if s.lead_in == 0 then Some (record { items = run_gives (window_next s.form) (window_gives s.form) s.gather (slots_of block) }) else None
@@ -48,12 +50,15 @@ words_give s block =
 unfoldable pub bad_next : ℕ → List ℕ → ℕ
 bad_next bad word = if is_none (finding word) then min (bad + 1) (2 ^ 32 - 1) else bad
 
+-- the count after some words
 unfoldable pub bad_after : ℕ → List (List ℕ) → ℕ
 bad_after bad [] = bad
 bad_after bad (word ∷ words) = bad_after (bad_next bad word) words
 
+-- after the words of a block
 unfoldable pub correction_next : Correction → ArrayVec (List ℕ) → Correction
 correction_next s words = record { bad = bad_after s.bad words.items }
 
+-- the bytes of what is found for them
 unfoldable pub correction_gives : Correction → ArrayVec (List ℕ) → Option (List ℕ)
 correction_gives s words = Some (cdg_bytes (map finding words.items))

@@ -1,7 +1,5 @@
 -- The texts of a stream's lead-in.
-use Rattle.std.specs.Prelude.{◌≡◌, ℕ, ◌*◌, ◌%◌, ◌≤◌, ◌⊎◌, List, [], length, take, Option, Result, Ok, Err, IsOk}
-use Rattle.std.specs.Io.KnownBytes.{Appends}
-use Rattle.cdg_io.specs.Moves.{AppendsPrefix}
+use Rattle.std.specs.Prelude.{◌≡◌, ℕ, ◌*◌, ◌%◌, ◌≤◌, ◌⊎◌, List, length, take, Option, Result, Ok, Err, IsOk}
 use Rattle.raw_subcode.specs.Channels.{unit_size, blocks_of}
 use Rattle.raw_subcode.specs.declared.form.Form.{Form}
 use Rattle.cdtext_packs.specs.Kept.{kept_among}
@@ -10,19 +8,19 @@ use Rattle.cdtext_packs.specs.Reading.{read_texts}
 use Rattle.cdtext_packs.specs.Texts.{Texts}
 use Rattle.cdtext_packs.specs.declared.kinds.TextFault.{TextFault}
 use Rattle.cdtext_packs.specs.declared.kinds.TextFault.TheVariants.{NoMemory}
-use Rattle.cdtext_lines.specs.Lines.{counted_lines, text_lines}
-use Rattle.lead_in_texts.specs.declared.LeadInTexts.{LeadInTexts}
+use Rattle.cdtext_lines.specs.Lines.{text_lines}
 use Rattle.cdg_io.specs.Streams.{WritesAtEnd}
 use Rattle.subcode_player.specs.Calls.{most_units, IsEarly, IsPlayed, IsAnsweredBy}
 use Rattle.subcode_player.specs.declared.player.Played.{Played}
-use Rattle.subcode_player.specs.declared.player.PlayStop.TheVariants.{ReadFault, WriteFault, Torn, TooLong, PastEnd}
+use Rattle.subcode_player.specs.declared.player.PlayStop.TheVariants.{WriteFault}
 use Rattle.subcode_player.specs.declared.text_listing.TextStop.{TextStop}
 use Rattle.subcode_player.specs.declared.text_listing.TextStop.TheVariants.{Play, Text}
 
--- the text packs of the lead-in blocks of a stream, and what its texts are
+-- the text packs of the lead-in blocks of a stream
 abbrev pub packs_in : Form → ℕ → List ℕ → List (List ℕ)
 packs_in form lead_in bytes = lead_in_packs (take lead_in (blocks_of form bytes))
 
+-- what these packs are read as
 abbrev pub texts_in : Form → ℕ → List ℕ → Result Texts TextFault
 texts_in form lead_in bytes = read_texts (kept_among (packs_in form lead_in bytes))
 
@@ -56,14 +54,3 @@ abbrev pub IsListedBy : Result Played TextStop → Form → ℕ → List ℕ →
 IsListedBy (Ok played) form lead_in all = IsWholeInput form all × IsOk (texts_in form lead_in all)
 IsListedBy (Err (Text fault)) form lead_in all = IsWholeInput form all × IsTextFault fault (texts_in form lead_in all)
 IsListedBy (Err (Play stop)) form lead_in all = IsAnsweredBy (Err stop) (unit_size form) (length all)
-
--- what the packs that were read give, and what is written of it
-abbrev pub WritesTexts : LeadInTexts → ℕ → Option (List ℕ) → Option (List ℕ) → Result Played TextStop → Type 0
-WritesTexts s blocks held held' (Ok played) =
-    (played.blocks ≡ blocks) × (played.bad ≡ 0) × ((texts : Texts) × (read_texts s.reader ≡ Ok texts) × Appends held held' (counted_lines texts s.good s.bad s.other))
-WritesTexts s blocks held held' (Err (Play WriteFault)) = (texts : Texts) × (read_texts s.reader ≡ Ok texts) × AppendsPrefix held held' (counted_lines texts s.good s.bad s.other)
-WritesTexts s blocks held held' (Err (Text fault)) = IsTextFault fault (read_texts s.reader) × Appends held held' []
-WritesTexts s blocks held held' (Err (Play ReadFault)) = ⊥
-WritesTexts s blocks held held' (Err (Play (Torn block))) = ⊥
-WritesTexts s blocks held held' (Err (Play TooLong)) = ⊥
-WritesTexts s blocks held held' (Err (Play (PastEnd past))) = ⊥

@@ -1,14 +1,30 @@
--- A stage at work on the blocks of a whole input.
-use Rattle.std.specs.Prelude.{◌≡◌, ◌≢◌, ℕ, ◌+◌, ◌*◌, ◌≤◌, List, length, map, Option, Result, Err, IfOk}
-use Rattle.std.specs.Io.KnownBytes.{Consumes, IsAtEnd}
+-- A stage at work on the blocks of a whole input, and what it leaves for the call to write.
+use Rattle.std.specs.Prelude.{◌≡◌, ◌≢◌, ℕ, ◌+◌, ◌-◌, ◌*◌, ◌/◌, ◌%◌, ◌<◌, ◌≤◌, nat_lt, if◌then◌else◌, List, [], length, map, take, Option, Result, Ok, Err, IfOk}
+use Rattle.std.specs.Io.KnownBytes.{Appends, Consumes, IsAtEnd}
+use Rattle.cdg_io.specs.Moves.{AppendsPrefix}
 use Rattle.cdg_io.specs.Pump.{units_of}
 use Rattle.cdg_io.specs.Run.{run_state}
 use Rattle.cdg_io.specs.declared.pumping.Pumped.{Pumped}
 use Rattle.cdg_io.specs.declared.pumping.PumpStop.{PumpStop}
-use Rattle.cdg_io.specs.declared.pumping.PumpStop.TheVariants.{WriteFault, Torn}
-use Rattle.raw_subcode.specs.Channels.{unit_size, block_of}
+use Rattle.cdg_io.specs.declared.pumping.PumpStop.TheVariants as pump_stop
+use Rattle.rw_interleave.specs.Interleave.{whole_packs}
+use Rattle.raw_subcode.specs.Channels.{unit_size, block_of, program_symbols}
 use Rattle.raw_subcode.specs.declared.form.Form.{Form}
-use Rattle.subcode_player.specs.Calls.{most_units}
+use Rattle.stream_words.specs.Stream.{IsRecovered, bad_count}
+use Rattle.cdg_instructions.specs.declared.instr.Instr.{Instr}
+use Rattle.cdg_screen.specs.Picture.{Standing, SameStanding, blank, standing_after}
+use Rattle.cdtext_packs.specs.Reading.{read_texts}
+use Rattle.cdtext_packs.specs.Texts.{Texts}
+use Rattle.cdtext_lines.specs.Lines.{counted_lines}
+use Rattle.lead_in_texts.specs.declared.LeadInTexts.{LeadInTexts}
+use Rattle.subcode_player.specs.Calls.{most_units, IsEarly}
+use Rattle.subcode_player.specs.Shown.{AreShown}
+use Rattle.subcode_player.specs.TextList.{IsTextFault}
+use Rattle.subcode_player.specs.declared.player.Played.{Played}
+use Rattle.subcode_player.specs.declared.player.PlayStop.{PlayStop}
+use Rattle.subcode_player.specs.declared.player.PlayStop.TheVariants.{ReadFault, WriteFault, Torn, TooLong, PastEnd}
+use Rattle.subcode_player.specs.declared.text_listing.TextStop.{TextStop}
+use Rattle.subcode_player.specs.declared.text_listing.TextStop.TheVariants.{Play, Text}
 
 -- These bytes were taken, and where they are whole units to the end, the stage is in the last state of its run over their blocks.
 pub record Watches {S : Type 0} (form : Form) (next : S → List ℕ → S) (left left' : Option (List ℕ)) (s s' : S) (result : Result Pumped PumpStop) (taken : List ℕ) : Type 0 where
@@ -16,5 +32,45 @@ pub record Watches {S : Type 0} (form : Form) (next : S → List ℕ → S) (lef
   pub within : length taken ≤ most_units * unit_size form + 1
   pub done : IfOk result (λ p. IsAtEnd left' × (length taken ≡ p.units * unit_size form) × (p.units ≤ most_units)
       × (s' ≡ run_state next s (map (block_of form) (units_of (unit_size form) p.units taken))))
-  pub torn : (unit : ℕ) → result ≡ Err (Torn unit) → IsAtEnd left'
+  pub torn : (unit : ℕ) → result ≡ Err (pump_stop.Torn unit) → IsAtEnd left'
+  pub no_write : result ≢ Err pump_stop.WriteFault
+
+-- the stop of a pump as that of a player
+abbrev pub play_stop : PumpStop → PlayStop
+play_stop pump_stop.ReadFault = ReadFault
+play_stop pump_stop.WriteFault = WriteFault
+play_stop (pump_stop.Torn unit) = Torn unit
+play_stop pump_stop.TooLong = TooLong
+
+-- what the drawing of some bytes up to a time leaves: what stands, and how many packs are bad
+pub record IsViewed (form : Form) (lead_in time : ℕ) (bytes : List ℕ) (now : Standing) (bad : ℕ) : Type 0 where
+  pub found : List (Option (List ℕ))
+  pub recovered : IsRecovered form (program_symbols form bytes lead_in) found
+  pub instrs : List Instr
+  pub shown : AreShown found time instrs
+  pub stands : SameStanding now (standing_after blank instrs)
+  pub bad_is : bad ≡ bad_count (take (whole_packs time) found)
+
+-- a whole input was drawn up to a time, and nothing was written
+pub record Views (form : Form) (lead_in time : ℕ) (left left' : Option (List ℕ)) (now : Standing) (result : Result Played PlayStop) (taken : List ℕ) : Type 0 where
+  pub taken_from : Consumes left left' taken
+  pub within : length taken ≤ most_units * unit_size form + 1
+  pub done : IfOk result (λ played. IsAtEnd left' × (played.blocks ≡ length taken / unit_size form - lead_in) × (time ≤ played.blocks) × IsViewed form lead_in time taken now played.bad)
+  pub ended : (stop : PlayStop) → result ≡ Err stop → ¬ (IsEarly stop) → IsAtEnd left'
+  pub past_end : (blocks : ℕ) → result ≡ Err (PastEnd blocks) → (length taken % unit_size form ≡ 0) × (blocks ≡ length taken / unit_size form - lead_in) × (blocks < time)
   pub no_write : result ≢ Err WriteFault
+
+-- what is answered after so many program blocks
+abbrev pub viewed : ℕ → ℕ → ℕ → Result Played PlayStop
+viewed blocks time bad = if nat_lt blocks time then Err (PastEnd blocks) else Ok (record { blocks = blocks; bad = bad })
+
+-- what the packs that were read give, and what is written of it
+abbrev pub WritesTexts : LeadInTexts → ℕ → Option (List ℕ) → Option (List ℕ) → Result Played TextStop → Type 0
+WritesTexts s blocks held held' (Ok played) =
+    (played.blocks ≡ blocks) × (played.bad ≡ 0) × ((texts : Texts) × (read_texts s.reader ≡ Ok texts) × Appends held held' (counted_lines texts s.good s.bad s.other))
+WritesTexts s blocks held held' (Err (Play WriteFault)) = (texts : Texts) × (read_texts s.reader ≡ Ok texts) × AppendsPrefix held held' (counted_lines texts s.good s.bad s.other)
+WritesTexts s blocks held held' (Err (Text fault)) = IsTextFault fault (read_texts s.reader) × Appends held held' []
+WritesTexts s blocks held held' (Err (Play ReadFault)) = ⊥
+WritesTexts s blocks held held' (Err (Play (Torn block))) = ⊥
+WritesTexts s blocks held held' (Err (Play TooLong)) = ⊥
+WritesTexts s blocks held held' (Err (Play (PastEnd past))) = ⊥

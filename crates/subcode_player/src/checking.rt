@@ -1,5 +1,5 @@
 // The counts of a stream.
-ghost use Rattle.std.specs.Prelude.{◌≡◌, ◌≤◌, ◌-◌, ◌+◌, ◌++◌, min, List, ℕ, length, IfSome, IfOk, IfErr, IsErrOf};
+ghost use Rattle.std.specs.Prelude.{◌≡◌, ◌≢◌, ◌≤◌, ◌-◌, ◌+◌, ◌++◌, min, List, ℕ, length, IfSome, IfOk, IfErr, IsErrOf};
 ghost use Rattle.std.specs.Io.KnownBytes.{Appends};
 ghost use Rattle.cdg_io.specs.Causes.{HasCause, Rose};
 ghost use Rattle.cdg_io.specs.Moves.{AppendsPrefix};
@@ -25,6 +25,14 @@ type Lines = ArrayString<320>;
 impl Player {
     /// Writes the counts of a stream, after all of it is read: of its blocks, of its words by their wrong symbols and by
     /// what they hold, and of the frames of its Q channel. The packs of a cooked stream have no frames.
+    ///
+    /// `lead_in` is at most 450,000 blocks. `Played::bad` counts the words with no codeword within two symbols; a frame
+    /// that is refused counts in the lines alone.
+    ///
+    /// # Errors
+    ///
+    /// `Torn`, `TooLong` and `ReadFault` as the input says: then nothing is written. After `WriteFault` the sink holds a
+    /// prefix.
     pub fn check<S: Source, K: Sink>(
         &mut self,
         lead_in: u32,
@@ -37,6 +45,8 @@ impl Player {
             (S.left source.old) (S.left source.new) (K.held out.old) (K.held out.new) result taken }
         // Where nothing failed, the answer is that of the whole input's length.
         ensures answer { IfSome (S.left source.old) (λ all. IsAnsweredBy result (unit_size form) (length all)) }
+        // Where the output is not written it is as it was.
+        ensures untouched { IfErr result (λ stop. stop ≢ PlayStop.WriteFault → out.new ≡ out.old) }
         ensures source_later { S.faults source.old ≤ S.faults source.new }
         ensures out_later { K.faults out.old ≤ K.faults out.new }
         ensures read_fault { IsErrOf result PlayStop.ReadFault → Rose (S.faults source.old) (S.faults source.new) }
@@ -62,6 +72,7 @@ impl Player {
             × Appends (K.held out.old) (K.held out.new) (lines_of form lead_in blocks self.now.checks.second)) }
         ensures part { IfErr result (λ stop. (stop ≡ PlayStop.WriteFault)
             × AppendsPrefix (K.held out.old) (K.held out.new) (lines_of form lead_in blocks self.now.checks.second)) }
+        ensures untouched { IfErr result (λ stop. stop ≢ PlayStop.WriteFault → out.new ≡ out.old) }
         ensures cause { HasCause (K.faults out.old) (K.faults out.new) result }
     {
         let text = lines(lead_in, form, blocks, &self.checks.second);

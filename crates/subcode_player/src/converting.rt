@@ -27,7 +27,16 @@ pub fn damaged_streams_give_packs()
 }
 
 impl Player {
-    /// Writes the packs of a stream as its blocks are read.
+    /// Writes the packs of a stream as its blocks are read: 24 bytes each, every byte below 64.
+    ///
+    /// `lead_in` is at most 450,000 blocks, which are passed over. A word with no codeword within two symbols is written
+    /// as 24 zeros, and counted in `Played::bad`. Of B blocks of the program 4B - 7 packs are written, and 4B where they
+    /// are cooked.
+    ///
+    /// # Errors
+    ///
+    /// `Torn` and `TooLong` come after the packs of all whole blocks are written, `ReadFault` after those of the blocks
+    /// that were read. After `WriteFault` the sink holds a prefix, and no later block was read.
     pub fn convert<S: Source, K: Sink>(
         &mut self,
         lead_in: u32,

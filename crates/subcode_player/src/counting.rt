@@ -5,33 +5,44 @@ ghost use Rattle.subcode_player.specs.Steps.{begun};
 ghost use Rattle.subcode_player.specs.Counts.{is_known};
 ghost use Rattle.subcode_player.specs.CountSteps.{tick, wrong_counted, kind_counted, count_found, count_next, counts_next, counts_give, frames_next, counting_next, counting_gives};
 
-use crate::words::BLOCK;
+use crate::words::{BLOCK, BlockOfWords};
 use crate::{BlockWords, Form};
-use arrayvec::ArrayVec;
 use cdg_io::{Piece, Stage, Then};
 use q_channel::decode;
 use raw_subcode::Block;
 use rw_code::{Fixed, Word, correct};
 use std::alloc::{AllocError, Global};
 
-/// The words of a stream by their wrong symbols, and those that are not bad by their kind.
+/// The words of a stream by their wrong symbols, and those that are not bad by their kind: each word counts in one of the
+/// first four, and each that is not bad in one of the last four. A count stays at its last value.
 #[derive(Clone, Copy, Debug, PartialEq, Eq, Default)]
 pub struct WordCounts {
+    /// Codewords.
     pub clean: u32,
+    /// One symbol from a codeword.
     pub one: u32,
+    /// Two symbols from a codeword.
     pub two: u32,
+    /// No codeword within two symbols.
     pub bad: u32,
+    /// Mode 0.
     pub idle: u32,
+    /// Mode 9, with the number of an instruction.
     pub graphics: u32,
+    /// Mode 9, with another number.
     pub unknown: u32,
+    /// Any other mode.
     pub foreign: u32,
 }
 
 /// The frames of the Q channel, where they are read.
 #[derive(Clone, Copy, Debug, PartialEq, Eq, Default)]
 pub struct FrameCounts {
+    /// Whether the blocks have a Q channel.
     pub read: bool,
+    /// Frames that are read.
     pub good: u32,
+    /// Frames that are refused.
     pub bad: u32,
 }
 
@@ -112,7 +123,7 @@ impl WordCounts {
 }
 
 impl Stage for WordCounts {
-    type Item = ArrayVec<Word, 4>;
+    type Item = BlockOfWords;
 
     type Out = Piece;
 
@@ -120,7 +131,7 @@ impl Stage for WordCounts {
 
     ghost gives = { counts_give };
 
-    fn feed(&mut self, words: &ArrayVec<Word, 4>) -> Option<Piece> {
+    fn feed(&mut self, words: &BlockOfWords) -> Option<Piece> {
         for word in words.as_slice() {
             self.count(word);
         }

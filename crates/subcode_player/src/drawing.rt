@@ -5,7 +5,7 @@ ghost use Rattle.subcode_player.specs.Steps.{bad_next};
 ghost use Rattle.subcode_player.specs.Drawn.{entry_drawn, draw_next, drawing_next, drawing_gives};
 
 use crate::Picture;
-use arrayvec::ArrayVec;
+use crate::words::BlockOfWords;
 use cdg_io::{Piece, Stage};
 use rw_code::{Word, correct};
 
@@ -44,7 +44,7 @@ impl Drawing {
 }
 
 impl Stage for Drawing {
-    type Item = ArrayVec<Word, 4>;
+    type Item = BlockOfWords;
 
     type Out = Piece;
 
@@ -52,7 +52,7 @@ impl Stage for Drawing {
 
     ghost gives = { drawing_gives };
 
-    fn feed(&mut self, words: &ArrayVec<Word, 4>) -> Option<Piece> {
+    fn feed(&mut self, words: &BlockOfWords) -> Option<Piece> {
         for word in words.as_slice() {
             self.draw(word);
         }

@@ -1,44 +1,44 @@
 // A player, and what its calls share.
 ghost use Rattle.std.specs.Prelude.{◌≡◌, ◌-◌, IfOk};
-ghost use Rattle.subcode_player.specs.Calls.{play_stop};
+ghost use Rattle.subcode_player.specs.Watch.{play_stop};
 ghost use Rattle.subcode_player.specs.Steps.{begun};
 
 use crate::{BlockWords, Correction, Counting, Drawing, Form, Picture, SectorBlocks};
 use cdg_io::{PumpStop, Pumped, Then};
 use lead_in_texts::LeadInTexts;
 use std::alloc::{AllocError, Global};
-use thiserror::Error;
 
 /// The most units that a call reads.
 pub(crate) const MOST_UNITS: u32 = 1_000_000;
 
-/// What was played.
+/// What was played of a whole input.
 #[derive(Clone, Copy, Debug, PartialEq, Eq)]
 pub struct Played {
-    /// The program blocks.
+    /// The blocks of the program, which are those after the lead-in.
     pub blocks: u32,
-    /// The words with no codeword near.
+    /// The words with no codeword within two symbols, or what a call says that it counts in their place.
     pub bad: u32,
 }
 
 /// Why a call stopped before the end of a whole input.
-#[derive(Clone, Copy, Debug, PartialEq, Eq, Error)]
+#[derive(Clone, Copy, Debug, PartialEq, Eq)]
 pub enum PlayStop {
-    #[error("a read failed")]
+    /// A read failed.
     ReadFault,
-    #[error("a write failed")]
+    /// A write failed: the sink took a prefix of the text.
     WriteFault,
-    /// The input ended within the block of this number.
-    #[error("the input ends within block {block}")]
+    /// The input ended within the block of this number, counted from 0.
     Torn { block: u32 },
-    #[error("the input is too long")]
+    /// The input has more than 1,000,000 blocks or sectors.
     TooLong,
     /// The moment is later than the end of this many program blocks.
-    #[error("the program ends after {blocks} blocks")]
     PastEnd { blocks: u32 },
 }
 
-/// Plays streams, one at a time. All its memory is taken at the start.
+/// Plays streams, one at a time. All its memory is taken at the start; each call begins anew, whatever stopped the one before.
+///
+/// A call takes the blocks of a lead-in, at most 450,000, and the form of the units that it reads: blocks of 96 bytes, or
+/// sectors of 2,448. It reads at most one byte past 1,000,000 units.
 #[derive(Drop)]
 pub struct Player {
     /// The packs of a stream.
@@ -52,7 +52,7 @@ pub struct Player {
 }
 
 impl Player {
-    /// Takes the memory of all windows.
+    /// Takes the memory of all windows, and of the screen.
     pub fn start(alloc: Global) -> Result<Player, AllocError>
         ensures { IfOk result (λ p. (p.stages.second.first ≡ begun Form.Raw 0) × (p.stages.second.second.bad ≡ 0)) }
     {

@@ -14,7 +14,13 @@ use cdg_io::{Sink, Source, Then, pump};
 impl Player {
     /// Writes the line of the Q channel of each block, lead-in included, as the blocks are read.
     ///
-    /// `Played::bad` counts the frames that are refused.
+    /// `lead_in` is at most 450,000 blocks, and the form is raw or sector: cooked packs have no Q channel. `Played::bad`
+    /// counts the frames that are refused.
+    ///
+    /// # Errors
+    ///
+    /// `Torn` and `TooLong` come after the lines of all whole blocks are written, `ReadFault` after those of the blocks
+    /// that were read. After `WriteFault` the sink holds a prefix, and no later block was read.
     pub fn q_list<S: Source, K: Sink>(
         &mut self,
         lead_in: u32,

@@ -1,14 +1,12 @@
 // From sectors to blocks.
 ghost use Rattle.std.specs.Prelude.{◌≡◌, Some, drop};
-ghost use Rattle.raw_subcode.specs.Channels.{block_of};
 
 use crate::words::BLOCK;
 use cdg_io::Stage;
+use raw_subcode::Block;
 
 /// The bytes of a sector: its audio, and its block.
 pub(crate) const SECTOR: usize = 2448;
-
-const AUDIO: usize = SECTOR - BLOCK;
 
 /// Gives the block of each sector.
 #[derive(Clone, Copy, Debug, PartialEq, Eq)]
@@ -24,8 +22,6 @@ impl Stage for SectorBlocks {
     ghost gives = { λ _ sector. Some (drop 2352 sector) };
 
     fn feed(&mut self, sector: &[u8; SECTOR]) -> Option<[u8; BLOCK]> {
-        let mut block = [0; BLOCK];
-        block.copy_from_slice(&sector[AUDIO..]);
-        Some(block)
+        Some(Block::from_sector(sector).bytes())
     }
 }

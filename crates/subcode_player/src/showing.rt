@@ -1,5 +1,5 @@
 // The screen at a moment of a stream.
-ghost use Rattle.std.specs.Prelude.{◌≡◌, ◌≤◌, ◌-◌, List, ℕ, length, IfSome, IsErrOf};
+ghost use Rattle.std.specs.Prelude.{◌≡◌, ◌≢◌, ◌≤◌, ◌-◌, List, ℕ, length, IfSome, IfErr, IsErrOf};
 ghost use Rattle.cdg_io.specs.Causes.{Rose};
 ghost use Rattle.raw_subcode.specs.Channels.{unit_size};
 ghost use Rattle.rw_interleave.specs.Interleave.{whole_packs};
@@ -7,7 +7,8 @@ ghost use Rattle.cdg_screen.specs.Picture.{SameStanding, blank, standing_of};
 ghost use Rattle.picture_script.specs.Script.{Drawing};
 ghost use Rattle.subcode_player.specs.Steps.{begun};
 ghost use Rattle.subcode_player.specs.Pictured.{GivesPicture, IsHeldAt, IsScheduledStream};
-ghost use Rattle.subcode_player.specs.Shown.{IsScreenAt, IsStateAt, IsShownBy, Shows, Views, viewed};
+ghost use Rattle.subcode_player.specs.Shown.{IsScreenAt, IsStateAt, IsShownBy, Shows};
+ghost use Rattle.subcode_player.specs.Watch.{Views, viewed};
 
 #[cfg(test)]
 mod tests;
@@ -20,7 +21,15 @@ use cdg_io::{Failed, Pumped, Sink, Source};
 
 impl Player {
     /// Writes the picture at a moment, after all of the stream is read: a pixmap of what stands after the packs that are
-    /// whole at program block `at`. A word with no codeword near changes nothing.
+    /// whole at program block `at`, the first 4 * at - 7.
+    ///
+    /// `lead_in` is at most 450,000 blocks, and `at` at most 449,999. A word with no codeword within two symbols changes
+    /// nothing; `Played::bad` counts those among the packs that are drawn.
+    ///
+    /// # Errors
+    ///
+    /// `PastEnd` where the program has fewer than `at` blocks, and `Torn`, `TooLong` and `ReadFault` as the input says:
+    /// then nothing is written. After `WriteFault` the sink holds a prefix.
     pub fn screen_at<S: Source, K: Sink>(
         &mut self,
         lead_in: u32,
@@ -39,6 +48,8 @@ impl Player {
             → GivesPicture script k result (K.held out.old) (K.held out.new)) }
         // Where nothing failed, the answer is that of the whole input's length.
         ensures answer { IfSome (S.left source.old) (λ all. IsShownBy result lead_in at (unit_size form) (length all)) }
+        // Where the output is not written it is as it was.
+        ensures untouched { IfErr result (λ stop. stop ≢ PlayStop.WriteFault → out.new ≡ out.old) }
         ensures source_later { S.faults source.old ≤ S.faults source.new }
         ensures out_later { K.faults out.old ≤ K.faults out.new }
         ensures read_fault { IsErrOf result PlayStop.ReadFault → Rose (S.faults source.old) (S.faults source.new) }
@@ -54,7 +65,7 @@ impl Player {
         }
     }
 
-    /// Writes the state at a moment, as `screen_at` does the picture.
+    /// Writes the state at a moment: border, offsets, colours and levels of what `screen_at` shows, under the same conditions.
     pub fn state_at<S: Source, K: Sink>(
         &mut self,
         lead_in: u32,
@@ -69,6 +80,8 @@ impl Player {
             (S.left source.old) (S.left source.new) (K.held out.old) (K.held out.new) result taken }
         // Where nothing failed, the answer is that of the whole input's length.
         ensures answer { IfSome (S.left source.old) (λ all. IsShownBy result lead_in at (unit_size form) (length all)) }
+        // Where the output is not written it is as it was.
+        ensures untouched { IfErr result (λ stop. stop ≢ PlayStop.WriteFault → out.new ≡ out.old) }
         ensures source_later { S.faults source.old ≤ S.faults source.new }
         ensures out_later { K.faults out.old ≤ K.faults out.new }
         ensures read_fault { IsErrOf result PlayStop.ReadFault → Rose (S.faults source.old) (S.faults source.new) }

@@ -1,8 +1,9 @@
 // The texts of a stream's lead-in.
-ghost use Rattle.std.specs.Prelude.{◌≡◌, ◌≤◌, ◌-◌, List, ℕ, IfSome, IsErrOf};
+ghost use Rattle.std.specs.Prelude.{◌≡◌, ◌≢◌, ◌≤◌, ◌-◌, List, ℕ, IfSome, IfErr, IsErrOf};
 ghost use Rattle.cdg_io.specs.Causes.{Rose};
 ghost use Rattle.lead_in_texts.specs.TextSteps.{begun};
-ghost use Rattle.subcode_player.specs.TextList.{ListsTexts, IsListedBy, WritesTexts};
+ghost use Rattle.subcode_player.specs.TextList.{ListsTexts, IsListedBy};
+ghost use Rattle.subcode_player.specs.Watch.{WritesTexts};
 
 use crate::player::play_stop;
 use crate::watching::watch;
@@ -25,6 +26,13 @@ pub enum TextStop {
 impl Player {
     /// Writes the texts of a stream's lead-in, after all of it is read: a line for each string that is not empty, and
     /// one on the packs. Memory is taken for the texts alone, once all is read.
+    ///
+    /// `lead_in` is at most 450,000 blocks, and the form is raw or sector: cooked packs have no lead-in. `Played::bad` is 0.
+    ///
+    /// # Errors
+    ///
+    /// `Text` where the packs are no texts, or no memory is found for them, and `Play` as the input says: then nothing is
+    /// written, unless a write failed, after which the sink holds a prefix.
     pub fn text_list<S: Source, K: Sink>(
         &mut self,
         alloc: Global,
@@ -33,11 +41,14 @@ impl Player {
         source: &mut S,
         out: &mut K,
     ) -> Result<Played, TextStop>
-        requires { lead_in ≤ 450000 }
+        requires lead_in { lead_in ≤ 450000 }
+        requires form { form ≢ Form.Cooked }
         ensures lists { (taken : List ℕ) × ListsTexts form lead_in
             (S.left source.old) (S.left source.new) (K.held out.old) (K.held out.new) result taken }
         // Where nothing failed, the answer is that of the whole input.
         ensures answer { IfSome (S.left source.old) (λ all. IsListedBy result form lead_in all) }
+        // Where the output is not written it is as it was.
+        ensures untouched { IfErr result (λ stop. stop ≢ TextStop.Play PlayStop.WriteFault → out.new ≡ out.old) }
         ensures source_later { S.faults source.old ≤ S.faults source.new }
         ensures out_later { K.faults out.old ≤ K.faults out.new }
         ensures read_fault { IsErrOf result (TextStop.Play PlayStop.ReadFault) → Rose (S.faults source.old) (S.faults source.new) }
@@ -59,6 +70,7 @@ impl Player {
         out: &mut K,
     ) -> Result<Played, TextStop>
         ensures writes { WritesTexts self.now.texts.second blocks (K.held out.old) (K.held out.new) result }
+        ensures untouched { IfErr result (λ stop. stop ≢ TextStop.Play PlayStop.WriteFault → out.new ≡ out.old) }
         ensures later { K.faults out.old ≤ K.faults out.new }
         ensures write_fault { IsErrOf result (TextStop.Play PlayStop.WriteFault) → Rose (K.faults out.old) (K.faults out.new) }
     {

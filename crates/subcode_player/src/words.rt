@@ -19,12 +19,17 @@ const SLOT: usize = 24;
 
 const SLOTS: usize = 4;
 
+/// The words that come with a block, at most one with each slot.
+pub(crate) type BlockOfWords = ArrayVec<Word, SLOTS>;
+
 /// Passes over the lead-in blocks, and gives the words that come with each block of the program.
 #[derive(Drop)]
 pub struct BlockWords {
+    /// The form of the stream.
     pub form: Form,
     /// The blocks of the lead-in that are still to come.
     pub lead_in: u32,
+    /// The last slots, from which words are gathered.
     pub gather: Gather,
 }
 
@@ -62,7 +67,7 @@ impl BlockWords {
     }
 
     /// The words that come with a block of the program.
-    fn take(&mut self, block: &[u8; BLOCK]) -> ArrayVec<Word, SLOTS>
+    fn take(&mut self, block: &[u8; BLOCK]) -> BlockOfWords
         ensures next { self.new ≡ record self.old { gather = run_state (window_next self.old.form) self.old.gather (slots_of block.now) } }
         ensures gives { result.items ≡ run_gives (window_next self.old.form) (window_gives self.old.form) self.old.gather (slots_of block.now) }
     {
@@ -77,14 +82,14 @@ impl BlockWords {
 impl Stage for BlockWords {
     type Item = [u8; BLOCK];
 
-    type Out = ArrayVec<Word, SLOTS>;
+    type Out = BlockOfWords;
 
     ghost next = { words_next };
 
     ghost gives = { words_give };
 
     #[tactic(auto, unfolding(crate::specs::Steps::words_next, crate::specs::Steps::words_give))]
-    fn feed(&mut self, block: &[u8; BLOCK]) -> Option<ArrayVec<Word, SLOTS>> {
+    fn feed(&mut self, block: &[u8; BLOCK]) -> Option<BlockOfWords> {
         if self.lead_in > 0 {
             self.lead_in -= 1;
             return None;
@@ -104,7 +109,7 @@ fn slot_bytes(block: &[u8; BLOCK], i: usize) -> [u8; SLOT]
 }
 
 /// Appends a word, if there is one.
-fn add(words: &mut ArrayVec<Word, SLOTS>, word: Option<Word>)
+fn add(words: &mut BlockOfWords, word: Option<Word>)
     requires { array_vec_len words.old < 4 }
     ensures items { words.new.items ≡ words.old.items ++ give word [] }
     ensures len { array_vec_len words.new ≤ array_vec_len words.old + 1 }

@@ -1,5 +1,6 @@
+use Rattle.cdg_cmd.proofs.WordTables.{timed_table}
 use Rattle.cdg_cmd.proofs.WordsLemmas.{screen_all}
-use Rattle.std.proofs.Common.{Some, None}
+use Rattle.std.proofs.Common.{refl, Some, None}
 use Rattle.cdg_cmd.proofs.command.read_screen.Goals as goal
 
 pub returns-in-Some-clause-all : goal.returns-in-Some-clause-all
@@ -7,3 +8,6 @@ returns-in-Some-clause-all c = screen_all _ (Some c.in-Some.timed) c.in-Some.ens
 
 pub returns-in-None-clause-all : goal.returns-in-None-clause-all
 returns-in-None-clause-all c = screen_all _ None c.in-None.ensures.all
+
+pub returns-in-Some-clause-spelled : goal.returns-in-Some-clause-spelled
+returns-in-Some-clause-spelled c = (refl, (c.in-Some.ensures.spelled.0, c.in-Some.ensures.spelled.1), timed_table _ _ _ _ c.in-Some.ensures.spelled.2)

@@ -1,5 +1,5 @@
 use Rattle.std.proofs.Common.{codes, ◌++◌, ap, sym, ◌∙◌}
-use Rattle.cdg_cmd.specs.Line.{refusal_words, with}
+use Rattle.cdg_cmd.specs.Line.{refusal_words, counted}
 use Rattle.cdg_cmd.specs.declared.status.Refusal.{Refusal}
 use Rattle.cdg_cmd.proofs.LineWords.{counted_is, with_number}
 use Rattle.cdg_cmd.proofs.line.push_refusal.Goals as goal
@@ -15,7 +15,7 @@ returns-in-TextNoSize-clause-text c =
 
 pub returns-in-TextMalformed-clause-text : goal.returns-in-TextMalformed-clause-text
 returns-in-TextMalformed-clause-text c =
-    with_number c.args.text.now.bytes _ _ (with (codes "text-malformed") c.in-TextMalformed.seq) c.in-TextMalformed.byte _
+    with_number c.args.text.now.bytes _ _ (counted (codes "text-malformed") c.in-TextMalformed.seq) c.in-TextMalformed.byte _
     (counted_is c.args.text.now.bytes _ (codes "text-malformed") c.in-TextMalformed.seq _ c.from-in-TextMalformed.ensures c.push_counted-in-TextMalformed.ensures.text)
     c.from-in-TextMalformed-2.ensures c.push_number.ensures.text
     ∙ ap (λ (r : Refusal). c.args.text.now.bytes ++ refusal_words r) (sym c.in-TextMalformed.is)

@@ -1,4 +1,4 @@
-use Rattle.cdg_cmd.specs.Words.{SpellsNumber}
+use Rattle.cdg_cmd.specs.WordSteps.{SpellsNumber}
 use Rattle.cdg_cmd.proofs.WordsLemmas.{texts-split}
 use Rattle.cdg_cmd.proofs.numbers.read_option.Goals as goal
 

@@ -1,4 +1,4 @@
-use Rattle.cdg_cmd.specs.Words.{SpellsForm}
+use Rattle.cdg_cmd.specs.WordSteps.{SpellsForm}
 use Rattle.cdg_cmd.proofs.WordsLemmas.{texts-split}
 use Rattle.cdg_cmd.proofs.options.read_form.Goals as goal
 

@@ -1,4 +1,4 @@
-use Rattle.cdg_cmd.specs.Words.{SpellsStream}
+use Rattle.cdg_cmd.specs.WordSteps.{SpellsStream}
 use Rattle.cdg_cmd.proofs.WordsLemmas.{texts-split}
 use Rattle.cdg_cmd.proofs.options.read_stream.Goals as goal
 

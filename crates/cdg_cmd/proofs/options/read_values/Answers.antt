@@ -1,4 +1,4 @@
-use Rattle.cdg_cmd.specs.Words.{SpellsValues}
+use Rattle.cdg_cmd.specs.WordSteps.{SpellsValues}
 use Rattle.cdg_cmd.proofs.WordsLemmas.{no_form, texts-split}
 use Rattle.cdg_cmd.proofs.options.read_values.Goals as goal
 

@@ -1,4 +1,4 @@
-use Rattle.cdg_cmd.specs.Words.{SpellsTime}
+use Rattle.cdg_cmd.specs.WordSteps.{SpellsTime}
 use Rattle.cdg_cmd.proofs.WordsLemmas.{texts-split}
 use Rattle.cdg_cmd.proofs.times.read_time.Goals as goal
 

@@ -1,5 +1,15 @@
-use Rattle.std.proofs.Common.{arith}
+use Rattle.std.proofs.Common.{arith, ℕ, List, None, Some, subst}
+use Rattle.cdg_cmd.specs.Answer.{Does}
 use Rattle.cdg_cmd.proofs.top.dry_run.Goals as goal
 
 pub returns-clause-answered : goal.returns-clause-answered
 returns-clause-answered c = λ command spelled. c.run.ensures.complete command spelled (λ r. omega (arith, r)) (λ r. omega (arith, r)) (λ r. omega (arith, r))
+
+pub returns-clause-does : goal.returns-clause-does
+returns-clause-does c = λ command spelled found. (
+  Some c.run.new.first,
+  Some c.run.new.second,
+  subst (λ (b : List ℕ). Does command (Some b) (Some c.run.new.first) (Some c.args.more.now) (Some c.run.new.second) None None c.run.result) c.new-first.ensures
+      (subst (λ (b : List ℕ). Does command (Some c.new-first.result) (Some c.run.new.first) (Some b) (Some c.run.new.second) None None c.run.result) c.new-second.ensures
+      (c.run.ensures.does command spelled found)),
+)

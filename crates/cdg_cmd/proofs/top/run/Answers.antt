@@ -10,6 +10,7 @@ use Rattle.cdg_cmd.specs.Headline.{HasDamagedTexts, HasTextsOf}
 use Rattle.cdg_cmd.proofs.Listings.{authored_size, frames_given, scratched_back, spells_allowed, strings_given}
 use Rattle.cdg_cmd.proofs.Refusals.{disc_refused, script_refused, sheet_refused}
 use Rattle.cdg_cmd.proofs.Statuses.{answered}
+use Rattle.cdg_cmd.proofs.TextStatus.{unchanged}
 use Rattle.cdg_cmd.proofs.WholeInputs.{clean_given}
 use Rattle.cdg_cmd.proofs.top.run.Goals as goal
 
@@ -90,11 +91,11 @@ returns-clause-damaged_strings g c = λ lead_in audio form sheet script bytes pa
 
 pub returns-clause-refuses_sheet : goal.returns-clause-refuses_sheet
 returns-clause-refuses_sheet g c = λ lead_in audio why spelled.
-    sheet_refused lead_in audio _ _ _ _ _ _ why _ c.answer-status.ensures.no_memory (c.answer-status.ensures.does (Author lead_in audio) spelled)
+    sheet_refused lead_in audio _ _ _ _ _ _ why _ (λ e. unchanged g.K.Sink.held _ _ (c.answer-status.ensures.no_memory e)) (c.answer-status.ensures.does (Author lead_in audio) spelled)
 
 pub returns-clause-refuses_script : goal.returns-clause-refuses_script
 returns-clause-refuses_script g c = λ lead_in audio sheet why spelled.
-    script_refused lead_in audio _ _ _ _ _ _ sheet why _ c.answer-status.ensures.no_memory (c.answer-status.ensures.does (Author lead_in audio) spelled)
+    script_refused lead_in audio _ _ _ _ _ _ sheet why _ (λ e. unchanged g.K.Sink.held _ _ (c.answer-status.ensures.no_memory e)) (c.answer-status.ensures.does (Author lead_in audio) spelled)
 
 pub returns-clause-refuses_disc : goal.returns-clause-refuses_disc
 returns-clause-refuses_disc g c = λ lead_in audio sheet script why spelled some early is.
@@ -102,7 +103,7 @@ returns-clause-refuses_disc g c = λ lead_in audio sheet script why spelled some
     (λ text read. c.accepted_scripts_are_in_order.ensures.pixels text script read)
     (λ pixels w accepted other. c.each_disc_has_one_answer.ensures.not_both sheet script lead_in audio w pixels accepted other)
     (λ pixels w other memory. c.each_disc_has_one_answer.ensures.one sheet script lead_in audio w why pixels other is memory some)
-    _ _ _ _ _ c.answer-status.ensures.no_memory (c.answer-status.ensures.does (Author lead_in audio) spelled)
+    _ _ _ _ _ (λ e. unchanged g.K.Sink.held _ _ (c.answer-status.ensures.no_memory e)) (c.answer-status.ensures.does (Author lead_in audio) spelled)
 
 pub returns-clause-writes : goal.returns-clause-writes
 returns-clause-writes g c = λ lead_in audio sheet script spelled accepted.

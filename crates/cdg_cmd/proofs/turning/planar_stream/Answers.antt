@@ -1,14 +1,9 @@
 use Rattle.raw_subcode.specs.Channels.{IsPlanarForm}
 use Rattle.raw_subcode.specs.PlanarBytes.{planar_form}
-use Rattle.cdg_cmd.proofs.TurnRuns.{planar_turn, turns_done, turns_stop}
+use Rattle.cdg_cmd.proofs.TurnRuns.{planar_turn, turns}
 use Rattle.cdg_cmd.proofs.turning.planar_stream.Goals as goal
 
-pub returns-in-Ok-clause-turns : goal.returns-in-Ok-clause-turns
-returns-in-Ok-clause-turns g c =
-    let (taken, p) = c.in-Ok.ensures.pumps in
-    (taken, turns_done IsPlanarForm planar_form planar_turn _ _ _ _ _ _ taken _ p)
-
-pub returns-in-Err-clause-turns : goal.returns-in-Err-clause-turns
-returns-in-Err-clause-turns g c =
-    let (taken, p) = c.in-Err.ensures.pumps in
-    (taken, turns_stop IsPlanarForm planar_form planar_turn _ _ _ _ _ _ taken _ p)
+pub returns-clause-turns : goal.returns-clause-turns
+returns-clause-turns g c =
+    let (taken, p) = c.pump.ensures.pumps in
+    (taken, turns IsPlanarForm planar_form planar_turn _ _ _ _ _ _ taken c.pump.result p)
