@@ -36,12 +36,6 @@ impl Change {
         Ok(Change { instrs, len: 0 })
     }
 
-    pub(crate) fn len(&self) -> usize
-        ensures { result ≡ length self.now }
-    {
-        self.len
-    }
-
     pub(crate) fn get(&self, i: usize) -> Instr
         requires { i < length self.now }
         ensures { result ≡ slice_index_or self.now i Idle }

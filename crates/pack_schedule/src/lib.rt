@@ -14,7 +14,7 @@ mod weaver;
 mod writing;
 
 pub use laws::packs_are_a_schedule;
-pub use planned::Stop;
+pub use planned::{Planned, Stop};
 pub use plans::Survey;
 pub use timing::survey;
 pub use weaver::Weaver;

@@ -1,12 +1,15 @@
 // What is planned for a picture, and why there is no plan.
 use std::alloc::{AllocError, AllocFailed};
 
-/// The change of a picture: the pack at which it begins, how many packs it has, and the colour that it sets all memory to first.
+/// When the packs of a picture's change are sent.
 #[derive(Clone, Copy)]
-pub(crate) struct Planned {
-    pub(crate) start: u32,
-    pub(crate) need: u32,
-    pub(crate) preset: Option<u8>,
+pub struct Planned {
+    /// The number of the first pack, from 0.
+    pub start: u32,
+    /// How many packs the change has, at most 3,076.
+    pub need: u32,
+    /// The colour to which the change sets all memory first, or none where it begins with what stands.
+    pub preset: Option<u8>,
 }
 
 /// Why a script has no schedule.
