@@ -63,8 +63,8 @@ END
 : >"$work/empty.script"
 failed=0
 for sheet in titles kinds lengths; do
-    bin/ribjasper author --lead-in 150 --length 00:08:00 -- "$work/$sheet.cue" "$work/empty.script" |
-        head -c $((150 * 96)) | python3 tools/lead_in_packs.py >"$work/$sheet.ours"
+    bin/ribjasper author --lead-in 150 --length 00:08:00 -- "$work/$sheet.cue" "$work/empty.script" >"$work/$sheet.raw"
+    head -c $((150 * 96)) "$work/$sheet.raw" | python3 tools/lead_in_packs.py >"$work/$sheet.ours"
     python3 tools/libburn_packs.py "$work/$sheet.cue" >"$work/$sheet.theirs"
     if [ -s "$work/$sheet.ours" ] && cmp "$work/$sheet.ours" "$work/$sheet.theirs"; then
         echo "compare_cdrskin: the $(($(wc -c <"$work/$sheet.ours") / 18)) packs of $sheet are equal"
