@@ -1,5 +1,6 @@
 mod AuthorStatus
 mod Decimals
+mod EndTold
 mod FirstHalf
 mod LateTold
 mod LineWords

@@ -179,6 +179,6 @@ IsAnswered Usage = ⊥
 IsAnswered (ReadFault which) = ⊥
 IsAnswered WriteFault = ⊥
 
--- the line of the status was written, or a prefix of it where the count of faults rose
+-- the line of the status was written and no write failed, or one failed and a prefix of it was written
 abbrev pub Tells : Option (List ℕ) → Option (List ℕ) → ℕ → ℕ → Status → Type 0
-Tells held held' faults faults' status = Appends held held' (error_line status) ⊎ (Rose faults faults' × AppendsPrefix held held' (error_line status))
+Tells held held' faults faults' status = ((faults' ≡ faults) × Appends held held' (error_line status)) ⊎ (Rose faults faults' × AppendsPrefix held held' (error_line status))

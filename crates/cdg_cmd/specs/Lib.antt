@@ -1,6 +1,7 @@
 pub mod Answer
 pub mod Authors
 pub mod Endings
+pub mod Ends
 pub mod Headline
 pub mod Line
 pub mod Spelling

@@ -1,7 +1,8 @@
 // The command that writes the stream of a cue sheet and a picture script.
-ghost use Rattle.std.specs.Prelude.{◌≡◌, ◌≢◌, ◌≤◌, ◌<◌, ◌⊎◌, IfOk, IfErr, Err};
+ghost use Rattle.std.specs.Prelude.{◌≡◌, ◌≢◌, ◌≤◌, ◌<◌, ◌⊎◌, IfOk, IfErr, OnOk, Err};
 ghost use Rattle.cdg_io.specs.Causes.{Rose};
 ghost use Rattle.cue_sheet.specs.CueSheet.{CueSheet};
+ghost use Rattle.cdg_cmd.specs.Ends.{ScriptEnds, SheetEnds};
 ghost use Rattle.cdg_cmd.specs.Authors.{author_status, AuthorsWith, IsScriptStop, IsSheetStop, ReadsScript, ReadsSheet};
 
 use crate::{Refusal, Status, Which};
@@ -20,6 +21,9 @@ fn read_sheet<S: Source>(alloc: Global, first: &mut S) -> Result<Sheet, Status>
     ensures err { IfErr result (IsSheetStop (S.left first.old)) }
     ensures later { S.faults first.old ≤ S.faults first.new }
     ensures fault { result ≡ Err (Status.ReadFault Which.First) → Rose (S.faults first.old) (S.faults first.new) }
+    ensures no_fault { result ≢ Err (Status.ReadFault Which.First) → S.faults first.new ≡ S.faults first.old }
+    ensures told { OnOk result (Rose (S.ends first.old) (S.ends first.new)) }
+    ensures once { IfErr result (SheetEnds (S.ends first.old) (S.ends first.new)) }
 {
     let text = match read_whole(alloc, first, MOST_TEXT) {
         Ok(text) => text,
@@ -40,6 +44,9 @@ fn read_script<S: Source>(alloc: Global, second: &mut S) -> Result<Script, Statu
     ensures err { IfErr result (IsScriptStop (S.left second.old)) }
     ensures later { S.faults second.old ≤ S.faults second.new }
     ensures fault { result ≡ Err (Status.ReadFault Which.Second) → Rose (S.faults second.old) (S.faults second.new) }
+    ensures no_fault { result ≢ Err (Status.ReadFault Which.Second) → S.faults second.new ≡ S.faults second.old }
+    ensures told { OnOk result (Rose (S.ends second.old) (S.ends second.new)) }
+    ensures once { IfErr result (ScriptEnds (S.ends second.old) (S.ends second.new)) }
 {
     let text = match read_whole(alloc, second, MOST_TEXT) {
         Ok(text) => text,
@@ -86,6 +93,7 @@ fn author_status(answer: Result<(), AuthorStop>) -> Status
 }
 
 /// Writes the stream of a cue sheet, which is the first input, and a picture script, which is the second.
+#[tactic(auto, using(crate::proofs::EndTold::sheet_read, crate::proofs::EndTold::script_read, crate::proofs::EndTold::sheet_stopped, crate::proofs::EndTold::script_stopped))]
 pub(crate) fn run_author<S: Source, T: Source, K: Sink>(
     alloc: Global,
     lead_in: u32,
@@ -103,11 +111,16 @@ pub(crate) fn run_author<S: Source, T: Source, K: Sink>(
     ensures second { (second.new ≡ second.old) ⊎ ((sheet : CueSheet) × ReadsSheet (S.left first.old) (S.left first.new) sheet) }
     ensures first_later { S.faults first.old ≤ S.faults first.new }
     ensures second_later { T.faults second.old ≤ T.faults second.new }
+    ensures no_second_fault { result ≢ Status.ReadFault Which.Second → T.faults second.new ≡ T.faults second.old }
     ensures out_later { K.faults out.old ≤ K.faults out.new }
     ensures first_fault { result ≡ Status.ReadFault Which.First → Rose (S.faults first.old) (S.faults first.new) }
+    ensures first_ended { SheetEnds (S.ends first.old) (S.ends first.new) result }
+    ensures second_ended { ScriptEnds (T.ends second.old) (T.ends second.new) result }
+    ensures no_first_fault { result ≢ Status.ReadFault Which.First → S.faults first.new ≡ S.faults first.old }
     ensures second_fault { result ≡ Status.ReadFault Which.Second → Rose (T.faults second.old) (T.faults second.new)
         × ((sheet : CueSheet) × ReadsSheet (S.left first.old) (S.left first.new) sheet) }
     ensures write_fault { result ≡ Status.WriteFault → Rose (K.faults out.old) (K.faults out.new) }
+    ensures no_write_fault { result ≢ Status.WriteFault → K.faults out.new ≡ K.faults out.old }
 {
     let sheet = match read_sheet(alloc, first) {
         Ok(sheet) => sheet,

@@ -17,6 +17,7 @@ pub(crate) fn run_gen<K: Sink>(seed: u64, pictures: u32, out: &mut K) -> Status
     ensures never { (result ≡ Status.Done) ⊎ (result ≡ Status.WriteFault) }
     ensures later { K.faults out.old ≤ K.faults out.new }
     ensures write_fault { result ≡ Status.WriteFault → Rose (K.faults out.old) (K.faults out.new) }
+    ensures no_write_fault { result ≢ Status.WriteFault → K.faults out.new ≡ K.faults out.old }
 {
     match write_script(seed, pictures, out) {
         Ok(()) => Status::Done,
@@ -32,6 +33,7 @@ pub(crate) fn run_trial<K: Sink>(alloc: Global, seed: u64, pictures: u32, out: &
     ensures no_memory { result ≡ Status.NoMemory → out.new ≡ out.old }
     ensures later { K.faults out.old ≤ K.faults out.new }
     ensures write_fault { result ≡ Status.WriteFault → Rose (K.faults out.old) (K.faults out.new) }
+    ensures no_write_fault { result ≢ Status.WriteFault → K.faults out.new ≡ K.faults out.old }
 {
     match trial(alloc, seed, pictures, out) {
         Ok(()) => Status::Done,

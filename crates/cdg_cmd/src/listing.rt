@@ -2,6 +2,7 @@
 ghost use Rattle.std.specs.Prelude.{◌≡◌, ◌≢◌, ◌≤◌};
 ghost use Rattle.cdg_io.specs.Causes.{Rose};
 ghost use Rattle.cdg_cmd.specs.Answer.{ListsWith};
+ghost use Rattle.cdg_cmd.specs.Ends.{EndsInTurn};
 
 use crate::streams::play_status;
 use crate::{Status, Which};
@@ -26,7 +27,10 @@ pub(crate) fn run_q<S: Source, K: Sink>(
     ensures source_later { S.faults source.old ≤ S.faults source.new }
     ensures out_later { K.faults out.old ≤ K.faults out.new }
     ensures read_fault { result ≡ Status.ReadFault Which.First → Rose (S.faults source.old) (S.faults source.new) }
+    ensures no_read_fault { result ≢ Status.ReadFault Which.First → S.faults source.new ≡ S.faults source.old }
+    ensures ended { EndsInTurn (S.ends source.old) (S.ends source.new) result }
     ensures write_fault { result ≡ Status.WriteFault → Rose (K.faults out.old) (K.faults out.new) }
+    ensures no_write_fault { result ≢ Status.WriteFault → K.faults out.new ≡ K.faults out.old }
 {
     match Player::start(alloc) {
         Ok(player) => q_with(player, lead_in, form, source, out),
@@ -35,6 +39,7 @@ pub(crate) fn run_q<S: Source, K: Sink>(
 }
 
 // The same with a player, for which no memory is wanted.
+#[tactic(auto, using(crate::proofs::EndTold::play_in_turn))]
 fn q_with<S: Source, K: Sink>(
     mut player: Player,
     lead_in: u32,
@@ -50,7 +55,10 @@ fn q_with<S: Source, K: Sink>(
     ensures source_later { S.faults source.old ≤ S.faults source.new }
     ensures out_later { K.faults out.old ≤ K.faults out.new }
     ensures read_fault { result ≡ Status.ReadFault Which.First → Rose (S.faults source.old) (S.faults source.new) }
+    ensures no_read_fault { result ≢ Status.ReadFault Which.First → S.faults source.new ≡ S.faults source.old }
+    ensures ended { EndsInTurn (S.ends source.old) (S.ends source.new) result }
     ensures write_fault { result ≡ Status.WriteFault → Rose (K.faults out.old) (K.faults out.new) }
+    ensures no_write_fault { result ≢ Status.WriteFault → K.faults out.new ≡ K.faults out.old }
 {
     play_status(player.q_list(lead_in, form, source, out))
 }

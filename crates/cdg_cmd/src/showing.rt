@@ -6,6 +6,7 @@ ghost use Rattle.picture_script.specs.Script.{Drawing};
 ghost use Rattle.subcode_player.specs.Pictured.{IsHeldAt, IsScheduledStream};
 ghost use Rattle.cdg_cmd.specs.Answer.{MayWrite, ShowsWith};
 ghost use Rattle.cdg_cmd.specs.Headline.{PutsPicture};
+ghost use Rattle.cdg_cmd.specs.Ends.{EndsFirst};
 
 use crate::streams::play_status;
 use crate::{Status, Which};
@@ -36,7 +37,10 @@ pub(crate) fn run_screen<S: Source, K: Sink>(
     ensures source_later { S.faults source.old ≤ S.faults source.new }
     ensures out_later { K.faults out.old ≤ K.faults out.new }
     ensures read_fault { result ≡ Status.ReadFault Which.First → Rose (S.faults source.old) (S.faults source.new) }
+    ensures no_read_fault { result ≢ Status.ReadFault Which.First → S.faults source.new ≡ S.faults source.old }
+    ensures ended { EndsFirst (S.ends source.old) (S.ends source.new) result }
     ensures write_fault { result ≡ Status.WriteFault → Rose (K.faults out.old) (K.faults out.new) }
+    ensures no_write_fault { result ≢ Status.WriteFault → K.faults out.new ≡ K.faults out.old }
 {
     match Player::start(alloc) {
         Ok(player) => screen_with(player, lead_in, form, at, source, out),
@@ -45,6 +49,7 @@ pub(crate) fn run_screen<S: Source, K: Sink>(
 }
 
 // The same with a player, for which no memory is wanted.
+#[tactic(auto, using(crate::proofs::EndTold::play_first))]
 fn screen_with<S: Source, K: Sink>(
     mut player: Player,
     lead_in: u32,
@@ -66,7 +71,10 @@ fn screen_with<S: Source, K: Sink>(
     ensures source_later { S.faults source.old ≤ S.faults source.new }
     ensures out_later { K.faults out.old ≤ K.faults out.new }
     ensures read_fault { result ≡ Status.ReadFault Which.First → Rose (S.faults source.old) (S.faults source.new) }
+    ensures no_read_fault { result ≢ Status.ReadFault Which.First → S.faults source.new ≡ S.faults source.old }
+    ensures ended { EndsFirst (S.ends source.old) (S.ends source.new) result }
     ensures write_fault { result ≡ Status.WriteFault → Rose (K.faults out.old) (K.faults out.new) }
+    ensures no_write_fault { result ≢ Status.WriteFault → K.faults out.new ≡ K.faults out.old }
 {
     play_status(player.screen_at(lead_in, form, at, source, out))
 }
@@ -90,7 +98,10 @@ pub(crate) fn run_state<S: Source, K: Sink>(
     ensures source_later { S.faults source.old ≤ S.faults source.new }
     ensures out_later { K.faults out.old ≤ K.faults out.new }
     ensures read_fault { result ≡ Status.ReadFault Which.First → Rose (S.faults source.old) (S.faults source.new) }
+    ensures no_read_fault { result ≢ Status.ReadFault Which.First → S.faults source.new ≡ S.faults source.old }
+    ensures ended { EndsFirst (S.ends source.old) (S.ends source.new) result }
     ensures write_fault { result ≡ Status.WriteFault → Rose (K.faults out.old) (K.faults out.new) }
+    ensures no_write_fault { result ≢ Status.WriteFault → K.faults out.new ≡ K.faults out.old }
 {
     match Player::start(alloc) {
         Ok(player) => state_with(player, lead_in, form, at, source, out),
@@ -99,6 +110,7 @@ pub(crate) fn run_state<S: Source, K: Sink>(
 }
 
 // The same with a player, for which no memory is wanted.
+#[tactic(auto, using(crate::proofs::EndTold::play_first))]
 fn state_with<S: Source, K: Sink>(
     mut player: Player,
     lead_in: u32,
@@ -116,7 +128,10 @@ fn state_with<S: Source, K: Sink>(
     ensures source_later { S.faults source.old ≤ S.faults source.new }
     ensures out_later { K.faults out.old ≤ K.faults out.new }
     ensures read_fault { result ≡ Status.ReadFault Which.First → Rose (S.faults source.old) (S.faults source.new) }
+    ensures no_read_fault { result ≢ Status.ReadFault Which.First → S.faults source.new ≡ S.faults source.old }
+    ensures ended { EndsFirst (S.ends source.old) (S.ends source.new) result }
     ensures write_fault { result ≡ Status.WriteFault → Rose (K.faults out.old) (K.faults out.new) }
+    ensures no_write_fault { result ≢ Status.WriteFault → K.faults out.new ≡ K.faults out.old }
 {
     play_status(player.state_at(lead_in, form, at, source, out))
 }

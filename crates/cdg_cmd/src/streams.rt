@@ -5,6 +5,7 @@ ghost use Rattle.std.specs.List.{concat};
 ghost use Rattle.stream_words.specs.Stream.{all_packs};
 ghost use Rattle.subcode_player.specs.Convert.{IsDamagedStream};
 ghost use Rattle.cdg_cmd.specs.Answer.{ConvertsWith, GivesBack, play_status};
+ghost use Rattle.cdg_cmd.specs.Ends.{EndsInTurn};
 
 use crate::{Refusal, Status, Which};
 use cdg_io::{Sink, Source};
@@ -46,7 +47,10 @@ pub(crate) fn run_convert<S: Source, K: Sink>(
     ensures source_later { S.faults source.old ≤ S.faults source.new }
     ensures out_later { K.faults out.old ≤ K.faults out.new }
     ensures read_fault { result ≡ Status.ReadFault Which.First → Rose (S.faults source.old) (S.faults source.new) }
+    ensures no_read_fault { result ≢ Status.ReadFault Which.First → S.faults source.new ≡ S.faults source.old }
+    ensures ended { EndsInTurn (S.ends source.old) (S.ends source.new) result }
     ensures write_fault { result ≡ Status.WriteFault → Rose (K.faults out.old) (K.faults out.new) }
+    ensures no_write_fault { result ≢ Status.WriteFault → K.faults out.new ≡ K.faults out.old }
 {
     match Player::start(alloc) {
         Ok(player) => convert_with(player, lead_in, form, source, out),
@@ -55,6 +59,7 @@ pub(crate) fn run_convert<S: Source, K: Sink>(
 }
 
 // The same with a player, for which no memory is wanted.
+#[tactic(auto, using(crate::proofs::EndTold::play_in_turn))]
 fn convert_with<S: Source, K: Sink>(
     mut player: Player,
     lead_in: u32,
@@ -73,7 +78,10 @@ fn convert_with<S: Source, K: Sink>(
     ensures source_later { S.faults source.old ≤ S.faults source.new }
     ensures out_later { K.faults out.old ≤ K.faults out.new }
     ensures read_fault { result ≡ Status.ReadFault Which.First → Rose (S.faults source.old) (S.faults source.new) }
+    ensures no_read_fault { result ≢ Status.ReadFault Which.First → S.faults source.new ≡ S.faults source.old }
+    ensures ended { EndsInTurn (S.ends source.old) (S.ends source.new) result }
     ensures write_fault { result ≡ Status.WriteFault → Rose (K.faults out.old) (K.faults out.new) }
+    ensures no_write_fault { result ≢ Status.WriteFault → K.faults out.new ≡ K.faults out.old }
 {
     play_status(player.convert(lead_in, form, source, out))
 }

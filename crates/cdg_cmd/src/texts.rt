@@ -2,6 +2,7 @@
 ghost use Rattle.std.specs.Prelude.{◌≡◌, ◌≢◌, ◌≤◌};
 ghost use Rattle.cdg_io.specs.Causes.{Rose};
 ghost use Rattle.cdg_cmd.specs.Answer.{MayWrite, TextsWith, text_status};
+ghost use Rattle.cdg_cmd.specs.Ends.{EndsFirst};
 
 use crate::streams::play_status;
 use crate::{Refusal, Status, Which};
@@ -46,7 +47,10 @@ pub(crate) fn run_text<S: Source, K: Sink>(
     ensures source_later { S.faults source.old ≤ S.faults source.new }
     ensures out_later { K.faults out.old ≤ K.faults out.new }
     ensures read_fault { result ≡ Status.ReadFault Which.First → Rose (S.faults source.old) (S.faults source.new) }
+    ensures no_read_fault { result ≢ Status.ReadFault Which.First → S.faults source.new ≡ S.faults source.old }
+    ensures ended { EndsFirst (S.ends source.old) (S.ends source.new) result }
     ensures write_fault { result ≡ Status.WriteFault → Rose (K.faults out.old) (K.faults out.new) }
+    ensures no_write_fault { result ≢ Status.WriteFault → K.faults out.new ≡ K.faults out.old }
 {
     match Player::start(alloc) {
         Ok(player) => text_with(player, alloc, lead_in, form, source, out),
@@ -55,6 +59,7 @@ pub(crate) fn run_text<S: Source, K: Sink>(
 }
 
 // The same with a player.
+#[tactic(auto, using(crate::proofs::EndTold::texts_first))]
 fn text_with<S: Source, K: Sink>(
     mut player: Player,
     alloc: Global,
@@ -73,7 +78,10 @@ fn text_with<S: Source, K: Sink>(
     ensures source_later { S.faults source.old ≤ S.faults source.new }
     ensures out_later { K.faults out.old ≤ K.faults out.new }
     ensures read_fault { result ≡ Status.ReadFault Which.First → Rose (S.faults source.old) (S.faults source.new) }
+    ensures no_read_fault { result ≢ Status.ReadFault Which.First → S.faults source.new ≡ S.faults source.old }
+    ensures ended { EndsFirst (S.ends source.old) (S.ends source.new) result }
     ensures write_fault { result ≡ Status.WriteFault → Rose (K.faults out.old) (K.faults out.new) }
+    ensures no_write_fault { result ≢ Status.WriteFault → K.faults out.new ≡ K.faults out.old }
 {
     text_status(player.text_list(alloc, lead_in, form, source, out))
 }

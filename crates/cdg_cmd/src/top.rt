@@ -25,6 +25,7 @@ ghost use Rattle.authored_listings.specs.Damage.{count_hurt, count_whole};
 ghost use Rattle.authored_listings.specs.FrameLines.{frame_lines};
 ghost use Rattle.authored_listings.specs.SheetLines.{HasText, HasTextPacks, sheet_lines};
 ghost use Rattle.cdg_cmd.specs.Undamaged.{IsCleanStream, words_of};
+ghost use Rattle.cdg_cmd.specs.Ends.{FirstEnds, SecondEnds};
 ghost use Rattle.cdg_cmd.specs.Answer.{Does, GivesBack, IsAnswered, MayWrite, ReadsNone, ReadsSecond, TakesFirst, TakesNone, Tells, WritesLast};
 
 use crate::authoring::run_author;
@@ -181,13 +182,19 @@ pub fn run<S: Source, T: Source, K: Sink, E: Sink>(
     ensures reads_none { (command : Command) → Spells command (texts words.now) → ReadsNone command → first.new ≡ first.old }
 
     // Each fault has its cause.
+    // The end of an input is told at most once: once where it was read to its end.
+    ensures first_ended { (command : Command) → Spells command (texts words.now) → FirstEnds command (S.ends first.old) (S.ends first.new) result }
+    ensures second_ended { (command : Command) → Spells command (texts words.now) → SecondEnds command (T.ends second.old) (T.ends second.new) result }
     ensures first_later { S.faults first.old ≤ S.faults first.new }
     ensures second_later { T.faults second.old ≤ T.faults second.new }
+    ensures no_second_fault { result ≢ Status.ReadFault Which.Second → T.faults second.new ≡ T.faults second.old }
     ensures out_later { K.faults out.old ≤ K.faults out.new }
     ensures read_fault { result ≡ Status.ReadFault Which.First → Rose (S.faults first.old) (S.faults first.new) }
+    ensures no_read_fault { result ≢ Status.ReadFault Which.First → S.faults first.new ≡ S.faults first.old }
     ensures second_fault { result ≡ Status.ReadFault Which.Second → Rose (T.faults second.old) (T.faults second.new)
         × ((command : Command) × Spells command (texts words.now) × ReadsSecond command (S.left first.old) (S.left first.new)) }
     ensures write_fault { result ≡ Status.WriteFault → Rose (K.faults out.old) (K.faults out.new) }
+    ensures no_write_fault { result ≢ Status.WriteFault → K.faults out.new ≡ K.faults out.old }
 
     // Where the words spell a command and no count rose, no fault is told: `does` then says the exact answer.
     ensures complete { (command : Command) → Spells command (texts words.now) → ¬ (Rose (S.faults first.old) (S.faults first.new))
@@ -240,13 +247,18 @@ fn answer<S: Source, T: Source, K: Sink>(
         → result ≡ Status.NoMemory → (first.new ≡ first.old) × (out.new ≡ out.old) }
     ensures takes_none { (command : Command) → Spells command (texts words.now) → TakesNone command → result ≢ Status.NoMemory }
     ensures reads_none { (command : Command) → Spells command (texts words.now) → ReadsNone command → first.new ≡ first.old }
+    ensures first_ended { (command : Command) → Spells command (texts words.now) → FirstEnds command (S.ends first.old) (S.ends first.new) result }
+    ensures second_ended { (command : Command) → Spells command (texts words.now) → SecondEnds command (T.ends second.old) (T.ends second.new) result }
     ensures first_later { S.faults first.old ≤ S.faults first.new }
     ensures second_later { T.faults second.old ≤ T.faults second.new }
+    ensures no_second_fault { result ≢ Status.ReadFault Which.Second → T.faults second.new ≡ T.faults second.old }
     ensures out_later { K.faults out.old ≤ K.faults out.new }
     ensures read_fault { result ≡ Status.ReadFault Which.First → Rose (S.faults first.old) (S.faults first.new) }
+    ensures no_read_fault { result ≢ Status.ReadFault Which.First → S.faults first.new ≡ S.faults first.old }
     ensures second_fault { result ≡ Status.ReadFault Which.Second → Rose (T.faults second.old) (T.faults second.new)
         × ((command : Command) × Spells command (texts words.now) × ReadsSecond command (S.left first.old) (S.left first.new)) }
     ensures write_fault { result ≡ Status.WriteFault → Rose (K.faults out.old) (K.faults out.new) }
+    ensures no_write_fault { result ≢ Status.WriteFault → K.faults out.new ≡ K.faults out.old }
 {
     match read_words(words) {
         Some(command) => perform(alloc, command, first, second, out),
@@ -278,13 +290,18 @@ fn perform<S: Source, T: Source, K: Sink>(
     ensures no_memory_first { TakesFirst command → result ≡ Status.NoMemory → (first.new ≡ first.old) × (out.new ≡ out.old) }
     ensures takes_none { TakesNone command → result ≢ Status.NoMemory }
     ensures reads_none { ReadsNone command → first.new ≡ first.old }
+    ensures first_ended { FirstEnds command (S.ends first.old) (S.ends first.new) result }
+    ensures second_ended { SecondEnds command (T.ends second.old) (T.ends second.new) result }
     ensures first_later { S.faults first.old ≤ S.faults first.new }
     ensures second_later { T.faults second.old ≤ T.faults second.new }
+    ensures no_second_fault { result ≢ Status.ReadFault Which.Second → T.faults second.new ≡ T.faults second.old }
     ensures out_later { K.faults out.old ≤ K.faults out.new }
     ensures read_fault { result ≡ Status.ReadFault Which.First → Rose (S.faults first.old) (S.faults first.new) }
+    ensures no_read_fault { result ≢ Status.ReadFault Which.First → S.faults first.new ≡ S.faults first.old }
     ensures second_fault { result ≡ Status.ReadFault Which.Second → Rose (T.faults second.old) (T.faults second.new)
         × ReadsSecond command (S.left first.old) (S.left first.new) }
     ensures write_fault { result ≡ Status.WriteFault → Rose (K.faults out.old) (K.faults out.new) }
+    ensures no_write_fault { result ≢ Status.WriteFault → K.faults out.new ≡ K.faults out.old }
 {
     match command {
         Command::Convert { lead_in, form } => run_convert(alloc, lead_in, form, first, out),

@@ -1,9 +1,10 @@
 -- What a pump takes, puts and answers.
 use Rattle.bit_lists.specs.Counting.{parts}
-use Rattle.std.specs.Prelude.{◌≡◌, ◌≢◌, ◌<◌, ◌≤◌, ◌+◌, ◌*◌, ◌/◌, ◌%◌, ◌==◌, nat_lt, ℕ, ⊤, Some, None, min, List, [], length, Result, Ok, Err, IfOk, if◌then◌else◌}
+use Rattle.std.specs.Prelude.{◌≡◌, ◌≢◌, ◌<◌, ◌≤◌, ◌+◌, ◌*◌, ◌-◌, ◌^◌, ◌/◌, ◌%◌, ◌==◌, nat_lt, ℕ, ⊤, Some, None, min, List, [], length, Result, Ok, Err, IfOk, if◌then◌else◌}
 use Rattle.std.specs.List.{concat}
 use Rattle.std.specs.declared.option.Option.{Option}
 use Rattle.std.specs.Io.KnownBytes.{Appends, Consumes, IsAtEnd}
+use Rattle.cdg_io.specs.Causes.{Rose}
 use Rattle.cdg_io.specs.Moves.{AppendsBetween}
 use Rattle.cdg_io.specs.Run.{run_state, run_gives}
 use Rattle.cdg_io.specs.declared.pumping.Pumped.{Pumped}
@@ -36,6 +37,26 @@ abbrev pub IsUnlessFault : Result Pumped PumpStop → Result Pumped PumpStop →
 IsUnlessFault (Err ReadFault) answer = ⊤
 IsUnlessFault (Err WriteFault) answer = ⊤
 IsUnlessFault result answer = result ≡ answer
+
+-- The count of told ends rose where the input was read to its end, and nowhere else.
+abbrev pub TellsEndOf : Result Pumped PumpStop → ℕ → ℕ → Type 0
+TellsEndOf (Ok pumped) before now = Rose before now
+TellsEndOf (Err (Torn unit)) before now = Rose before now
+TellsEndOf (Err TooLong) before now = now ≡ before
+TellsEndOf (Err ReadFault) before now = now ≡ before
+TellsEndOf (Err WriteFault) before now = now ≡ before
+
+-- so many more, at most the last value of a counter
+abbrev pub RoseBy : ℕ → ℕ → ℕ → Type 0
+RoseBy n before now = (n ≡ 0 → now ≡ before) × (0 < n → now ≡ min (before + n) (2 ^ 64 - 1))
+
+-- One read filled each whole unit, and one the byte past the limit.
+abbrev pub FillsUnits : ℕ → Result Pumped PumpStop → ℕ → ℕ → Type 0
+FillsUnits limit (Ok pumped) before now = RoseBy pumped.units before now
+FillsUnits limit (Err (Torn unit)) before now = RoseBy unit before now
+FillsUnits limit (Err TooLong) before now = RoseBy (limit + 1) before now
+FillsUnits limit (Err ReadFault) before now = (n : ℕ) × (n ≤ limit) × RoseBy n before now
+FillsUnits limit (Err WriteFault) before now = (n : ℕ) × (n ≤ limit) × RoseBy n before now
 
 -- The pump is at work: these bytes were taken, they are n whole units, and what the stage gave for them was put.
 pub record Works {S : Type 0} (size : ℕ) (next : S → List ℕ → S) (gives : S → List ℕ → Option (List ℕ)) (left left' : Option (List ℕ)) (s s' : S) (held held' : Option (List ℕ)) (n : ℕ) (taken : List ℕ) : Type 0 where

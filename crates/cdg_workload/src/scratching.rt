@@ -1,7 +1,7 @@
 // Scratches of a raw stream.
-ghost use Rattle.std.specs.Prelude.{◌≡◌, ◌≤◌, ◌*◌, ◌/◌, List, ℕ, length, map, take, drop, IfSome, IsErrOf};
+ghost use Rattle.std.specs.Prelude.{◌≡◌, ◌≢◌, ◌≤◌, ◌*◌, ◌/◌, List, ℕ, length, map, take, drop, IfSome, IsErrOf, Err};
 ghost use Rattle.cdg_io.specs.Causes.{Rose};
-ghost use Rattle.cdg_io.specs.Pump.{IsUnlessFault, answer_of};
+ghost use Rattle.cdg_io.specs.Pump.{IsUnlessFault, TellsEndOf, answer_of};
 ghost use Rattle.cdg_io.specs.Streams.{Streams};
 ghost use Rattle.cdg_io.specs.declared.pumping.PumpStop.TheVariants.{Torn, WriteFault};
 ghost use Rattle.raw_subcode.specs.Channels.{symbols_of, program_symbols};
@@ -86,7 +86,10 @@ pub fn scratch<S: Source, K: Sink>(
     ensures source_later { S.faults source.old ≤ S.faults source.new }
     ensures out_later { K.faults out.old ≤ K.faults out.new }
     ensures read_fault { IsErrOf result PumpStop.ReadFault → Rose (S.faults source.old) (S.faults source.new) }
+    ensures no_read_fault { result ≢ Err PumpStop.ReadFault → S.faults source.new ≡ S.faults source.old }
+    ensures ended { TellsEndOf result (S.ends source.old) (S.ends source.new) }
     ensures write_fault { IsErrOf result PumpStop.WriteFault → Rose (K.faults out.old) (K.faults out.new) }
+    ensures no_write_fault { result ≢ Err PumpStop.WriteFault → K.faults out.new ≡ K.faults out.old }
 {
     pump(
         source,

@@ -1,5 +1,5 @@
 // A trial of a seed.
-ghost use Rattle.std.specs.Prelude.{◌≡◌, ◌≤◌, ℕ, List, Err, OnOk, IfOk, IfErr};
+ghost use Rattle.std.specs.Prelude.{◌≡◌, ◌≢◌, ◌≤◌, ℕ, List, Err, OnOk, IfOk, IfErr};
 ghost use Rattle.std.specs.Io.KnownBytes.{Appends};
 ghost use Rattle.cdg_io.specs.Causes.{Rose};
 ghost use Rattle.cdg_io.specs.Moves.{AppendsPrefix};
@@ -36,6 +36,7 @@ pub fn trial<K: Sink>(alloc: Global, seed: u64, pictures: u32, out: &mut K) -> R
 
     // A write failed, and a prefix of them was written.
     ensures write_fault { result ≡ Err TrialStop.WriteFault → Rose (K.faults out.old) (K.faults out.new) }
+    ensures no_write_fault { result ≢ Err TrialStop.WriteFault → K.faults out.new ≡ K.faults out.old }
     ensures part { result ≡ Err TrialStop.WriteFault
         → (text : List ℕ) × IsTrial seed pictures text × AppendsPrefix (K.held out.old) (K.held out.new) text }
 

@@ -53,6 +53,7 @@ pub fn author_stream<K: Sink>(
 
     // A write failed, and a prefix of the lead-in and of program blocks with packs of the script was written.
     ensures write_fault { result ≡ Err AuthorStop.WriteFault → Rose (K.faults out.old) (K.faults out.new) }
+    ensures no_write_fault { result ≢ Err AuthorStop.WriteFault → K.faults out.new ≡ K.faults out.old }
     ensures part { result ≡ Err AuthorStop.WriteFault → (n : ℕ) × (packs : List (List ℕ))
         × PutsStreamPart (layout_of sheet.now length) script.now (text_packs sheet.now) lead_in (K.held out.old) (K.held out.new) n packs }
     ensures later { K.faults out.old ≤ K.faults out.new }

@@ -9,8 +9,9 @@ use Rattle.cdtext_packs.specs.Texts.{Texts}
 use Rattle.cdtext_packs.specs.declared.kinds.TextFault.{TextFault}
 use Rattle.cdtext_packs.specs.declared.kinds.TextFault.TheVariants.{NoMemory}
 use Rattle.cdtext_lines.specs.Lines.{text_lines}
+use Rattle.cdg_io.specs.Causes.{Rose}
 use Rattle.cdg_io.specs.Streams.{WritesAtEnd}
-use Rattle.subcode_player.specs.Calls.{most_units, IsEarly, IsPlayed, IsAnsweredBy}
+use Rattle.subcode_player.specs.Calls.{most_units, EndFirst, IsEarly, IsPlayed, IsAnsweredBy}
 use Rattle.subcode_player.specs.declared.player.Played.{Played}
 use Rattle.subcode_player.specs.declared.player.PlayStop.TheVariants.{WriteFault}
 use Rattle.subcode_player.specs.declared.text_listing.TextStop.{TextStop}
@@ -44,6 +45,12 @@ IsEarlyStop (Text fault) = ⊥
 pub record ListsTexts (form : Form) (lead_in : ℕ) (left left' held held' : Option (List ℕ)) (result : Result Played TextStop) (taken : List ℕ) : Type 0 where
   pub plays : WritesAtEnd (unit_size form) most_units IsEarlyStop (Play WriteFault) (IsPlayed (IsTextListed form lead_in) form lead_in) left left' held held' result taken
   pub refused : (fault : TextFault) → result ≡ Err (Text fault) → (length taken % unit_size form ≡ 0) × IsTextFault fault (texts_in form lead_in taken)
+
+-- The count of told ends rose where the input was read to its end, and nowhere else.
+abbrev pub EndOfTexts : Result Played TextStop → ℕ → ℕ → Type 0
+EndOfTexts (Ok played) before now = Rose before now
+EndOfTexts (Err (Text fault)) before now = Rose before now
+EndOfTexts (Err (Play stop)) before now = EndFirst (Err stop) before now
 
 -- an input of whole units, not too many
 abbrev pub IsWholeInput : Form → List ℕ → Type 0

@@ -1,12 +1,12 @@
 // The counts of a stream.
-ghost use Rattle.std.specs.Prelude.{◌≡◌, ◌≢◌, ◌≤◌, ◌-◌, ◌+◌, ◌++◌, min, List, ℕ, length, IfSome, IfOk, IfErr, IsErrOf};
+ghost use Rattle.std.specs.Prelude.{◌≡◌, ◌≢◌, ◌≤◌, ◌-◌, ◌+◌, ◌++◌, min, List, ℕ, length, IfSome, IfOk, IfErr, IsErrOf, Err};
 ghost use Rattle.std.specs.Io.KnownBytes.{Appends};
 ghost use Rattle.cdg_io.specs.Causes.{HasCause, Rose};
 ghost use Rattle.cdg_io.specs.Moves.{AppendsPrefix};
 ghost use Rattle.raw_subcode.specs.Channels.{unit_size};
 ghost use Rattle.stream_words.specs.Stream.{word_count};
 ghost use Rattle.subcode_player.specs.Steps.{begun};
-ghost use Rattle.subcode_player.specs.Calls.{IsAnsweredBy, PlaysAtEnd};
+ghost use Rattle.subcode_player.specs.Calls.{EndFirst, IsAnsweredBy, PlaysAtEnd};
 ghost use Rattle.subcode_player.specs.Counts.{IsChecked, count_line, stream_lines, wrong_lines, kind_lines, frame_lines};
 ghost use Rattle.subcode_player.specs.CountSteps.{IsFresh, lines_of};
 
@@ -33,6 +33,7 @@ impl Player {
     ///
     /// `Torn`, `TooLong` and `ReadFault` as the input says: then nothing is written. After `WriteFault` the sink holds a
     /// prefix.
+    #[tactic(auto, using(crate::proofs::Ends::ends_first))]
     pub fn check<S: Source, K: Sink>(
         &mut self,
         lead_in: u32,
@@ -50,7 +51,10 @@ impl Player {
         ensures source_later { S.faults source.old ≤ S.faults source.new }
         ensures out_later { K.faults out.old ≤ K.faults out.new }
         ensures read_fault { IsErrOf result PlayStop.ReadFault → Rose (S.faults source.old) (S.faults source.new) }
+        ensures no_read_fault { result ≢ Err PlayStop.ReadFault → S.faults source.new ≡ S.faults source.old }
+        ensures ended { EndFirst result (S.ends source.old) (S.ends source.new) }
         ensures write_fault { IsErrOf result PlayStop.WriteFault → Rose (K.faults out.old) (K.faults out.new) }
+        ensures no_write_fault { result ≢ Err PlayStop.WriteFault → K.faults out.new ≡ K.faults out.old }
     {
         self.begin_check(lead_in, form);
         match watch(form, source, &mut self.checks) {

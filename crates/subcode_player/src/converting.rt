@@ -1,12 +1,12 @@
 // The conversion of a stream to packs.
-ghost use Rattle.std.specs.Prelude.{◌≡◌, ◌≢◌, ◌≤◌, List, ℕ, length, IfSome, IfOk, IsErrOf};
+ghost use Rattle.std.specs.Prelude.{◌≡◌, ◌≢◌, ◌≤◌, List, ℕ, length, IfSome, IfOk, IsErrOf, Err};
 ghost use Rattle.std.specs.List.{concat};
 ghost use Rattle.cdg_io.specs.Causes.{Rose};
 ghost use Rattle.raw_subcode.specs.Channels.{unit_size};
 ghost use Rattle.subcode_player.specs.Steps.{begun};
 ghost use Rattle.raw_subcode.specs.declared.form.Form.{Form};
 ghost use Rattle.stream_words.specs.Stream.{all_packs};
-ghost use Rattle.subcode_player.specs.Calls.{IsAnsweredBy};
+ghost use Rattle.subcode_player.specs.Calls.{EndInTurn, IsAnsweredBy};
 ghost use Rattle.subcode_player.specs.Convert.{Converts, IsConverted, IsDamagedStream, Restores};
 
 use crate::player::{MOST_UNITS, play_stop};
@@ -56,7 +56,10 @@ impl Player {
         ensures source_later { S.faults source.old ≤ S.faults source.new }
         ensures out_later { K.faults out.old ≤ K.faults out.new }
         ensures read_fault { IsErrOf result PlayStop.ReadFault → Rose (S.faults source.old) (S.faults source.new) }
+        ensures no_read_fault { result ≢ Err PlayStop.ReadFault → S.faults source.new ≡ S.faults source.old }
+        ensures ended { EndInTurn result (S.ends source.old) (S.ends source.new) }
         ensures write_fault { IsErrOf result PlayStop.WriteFault → Rose (K.faults out.old) (K.faults out.new) }
+        ensures no_write_fault { result ≢ Err PlayStop.WriteFault → K.faults out.new ≡ K.faults out.old }
     {
         damaged_streams_give_packs();
         self.begin(lead_in, form);
@@ -87,6 +90,7 @@ impl Player {
     }
 
     /// The same for bytes that are blocks, from the start on.
+    #[tactic(auto, using(crate::proofs::Ends::ends_in_turn))]
     fn convert_blocks<S: Source, K: Sink>(
         &mut self,
         lead_in: u32,
@@ -103,7 +107,10 @@ impl Player {
         ensures source_later { S.faults source.old ≤ S.faults source.new }
         ensures out_later { K.faults out.old ≤ K.faults out.new }
         ensures read_fault { IsErrOf result PlayStop.ReadFault → Rose (S.faults source.old) (S.faults source.new) }
+        ensures no_read_fault { result ≢ Err PlayStop.ReadFault → S.faults source.new ≡ S.faults source.old }
+        ensures ended { EndInTurn result (S.ends source.old) (S.ends source.new) }
         ensures write_fault { IsErrOf result PlayStop.WriteFault → Rose (K.faults out.old) (K.faults out.new) }
+        ensures no_write_fault { result ≢ Err PlayStop.WriteFault → K.faults out.new ≡ K.faults out.old }
     {
         match pump(source, MOST_UNITS, &mut self.stages.second, out) {
             Ok(pumped) => Ok(self.played(pumped, lead_in)),
@@ -112,6 +119,7 @@ impl Player {
     }
 
     /// The same for bytes that are sectors.
+    #[tactic(auto, using(crate::proofs::Ends::ends_in_turn))]
     fn convert_sectors<S: Source, K: Sink>(
         &mut self,
         lead_in: u32,
@@ -126,7 +134,10 @@ impl Player {
         ensures source_later { S.faults source.old ≤ S.faults source.new }
         ensures out_later { K.faults out.old ≤ K.faults out.new }
         ensures read_fault { IsErrOf result PlayStop.ReadFault → Rose (S.faults source.old) (S.faults source.new) }
+        ensures no_read_fault { result ≢ Err PlayStop.ReadFault → S.faults source.new ≡ S.faults source.old }
+        ensures ended { EndInTurn result (S.ends source.old) (S.ends source.new) }
         ensures write_fault { IsErrOf result PlayStop.WriteFault → Rose (K.faults out.old) (K.faults out.new) }
+        ensures no_write_fault { result ≢ Err PlayStop.WriteFault → K.faults out.new ≡ K.faults out.old }
     {
         match pump(source, MOST_UNITS, &mut self.stages, out) {
             Ok(pumped) => Ok(self.played(pumped, lead_in)),

@@ -1,10 +1,10 @@
 // The lines of the Q channel of a stream.
-ghost use Rattle.std.specs.Prelude.{◌≡◌, ◌≢◌, ◌≤◌, List, ℕ, length, IfSome, IsErrOf};
+ghost use Rattle.std.specs.Prelude.{◌≡◌, ◌≢◌, ◌≤◌, List, ℕ, length, IfSome, IsErrOf, Err};
 ghost use Rattle.cdg_io.specs.Causes.{Rose};
 ghost use Rattle.raw_subcode.specs.Channels.{unit_size};
 ghost use Rattle.block_stages.specs.QList.{IsQListed};
 ghost use Rattle.raw_subcode.specs.declared.form.Form.{Form};
-ghost use Rattle.subcode_player.specs.Calls.{IsAnsweredBy, PlaysInTurn};
+ghost use Rattle.subcode_player.specs.Calls.{EndInTurn, IsAnsweredBy, PlaysInTurn};
 
 use crate::player::{MOST_UNITS, play_stop};
 use crate::{Form, PlayStop, Played, Player, SectorBlocks};
@@ -37,7 +37,10 @@ impl Player {
         ensures source_later { S.faults source.old ≤ S.faults source.new }
         ensures out_later { K.faults out.old ≤ K.faults out.new }
         ensures read_fault { IsErrOf result PlayStop.ReadFault → Rose (S.faults source.old) (S.faults source.new) }
+        ensures no_read_fault { result ≢ Err PlayStop.ReadFault → S.faults source.new ≡ S.faults source.old }
+        ensures ended { EndInTurn result (S.ends source.old) (S.ends source.new) }
         ensures write_fault { IsErrOf result PlayStop.WriteFault → Rose (K.faults out.old) (K.faults out.new) }
+        ensures no_write_fault { result ≢ Err PlayStop.WriteFault → K.faults out.new ≡ K.faults out.old }
         ensures player { self.new ≡ self.old }
     {
         match form {
@@ -49,6 +52,7 @@ impl Player {
 }
 
 /// The same for bytes that are blocks.
+#[tactic(auto, using(crate::proofs::Ends::ends_in_turn))]
 fn list_blocks<S: Source, K: Sink>(
     lead_in: u32,
     source: &mut S,
@@ -60,7 +64,10 @@ fn list_blocks<S: Source, K: Sink>(
     ensures source_later { S.faults source.old ≤ S.faults source.new }
     ensures out_later { K.faults out.old ≤ K.faults out.new }
     ensures read_fault { IsErrOf result PlayStop.ReadFault → Rose (S.faults source.old) (S.faults source.new) }
+    ensures no_read_fault { result ≢ Err PlayStop.ReadFault → S.faults source.new ≡ S.faults source.old }
+    ensures ended { EndInTurn result (S.ends source.old) (S.ends source.new) }
     ensures write_fault { IsErrOf result PlayStop.WriteFault → Rose (K.faults out.old) (K.faults out.new) }
+    ensures no_write_fault { result ≢ Err PlayStop.WriteFault → K.faults out.new ≡ K.faults out.old }
 {
     let mut lines = QLines { block: 0, bad: 0 };
     match pump(source, MOST_UNITS, &mut lines, out) {
@@ -73,6 +80,7 @@ fn list_blocks<S: Source, K: Sink>(
 }
 
 /// The same for bytes that are sectors.
+#[tactic(auto, using(crate::proofs::Ends::ends_in_turn))]
 fn list_sectors<S: Source, K: Sink>(
     lead_in: u32,
     source: &mut S,
@@ -84,7 +92,10 @@ fn list_sectors<S: Source, K: Sink>(
     ensures source_later { S.faults source.old ≤ S.faults source.new }
     ensures out_later { K.faults out.old ≤ K.faults out.new }
     ensures read_fault { IsErrOf result PlayStop.ReadFault → Rose (S.faults source.old) (S.faults source.new) }
+    ensures no_read_fault { result ≢ Err PlayStop.ReadFault → S.faults source.new ≡ S.faults source.old }
+    ensures ended { EndInTurn result (S.ends source.old) (S.ends source.new) }
     ensures write_fault { IsErrOf result PlayStop.WriteFault → Rose (K.faults out.old) (K.faults out.new) }
+    ensures no_write_fault { result ≢ Err PlayStop.WriteFault → K.faults out.new ≡ K.faults out.old }
 {
     let mut lines = Then::new(SectorBlocks, QLines { block: 0, bad: 0 });
     match pump(source, MOST_UNITS, &mut lines, out) {

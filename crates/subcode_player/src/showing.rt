@@ -1,10 +1,11 @@
 // The screen at a moment of a stream.
-ghost use Rattle.std.specs.Prelude.{◌≡◌, ◌≢◌, ◌≤◌, ◌-◌, List, ℕ, length, IfSome, IfErr, IsErrOf};
+ghost use Rattle.std.specs.Prelude.{◌≡◌, ◌≢◌, ◌≤◌, ◌-◌, List, ℕ, length, IfSome, IfErr, IsErrOf, Err};
 ghost use Rattle.cdg_io.specs.Causes.{Rose};
 ghost use Rattle.raw_subcode.specs.Channels.{unit_size};
 ghost use Rattle.rw_interleave.specs.Interleave.{whole_packs};
 ghost use Rattle.cdg_screen.specs.Picture.{SameStanding, blank, standing_of};
 ghost use Rattle.picture_script.specs.Script.{Drawing};
+ghost use Rattle.subcode_player.specs.Calls.{EndFirst};
 ghost use Rattle.subcode_player.specs.Steps.{begun};
 ghost use Rattle.subcode_player.specs.Pictured.{GivesPicture, IsHeldAt, IsScheduledStream};
 ghost use Rattle.subcode_player.specs.Shown.{IsScreenAt, IsStateAt, IsShownBy, Shows};
@@ -53,7 +54,10 @@ impl Player {
         ensures source_later { S.faults source.old ≤ S.faults source.new }
         ensures out_later { K.faults out.old ≤ K.faults out.new }
         ensures read_fault { IsErrOf result PlayStop.ReadFault → Rose (S.faults source.old) (S.faults source.new) }
+        ensures no_read_fault { result ≢ Err PlayStop.ReadFault → S.faults source.new ≡ S.faults source.old }
+        ensures ended { EndFirst result (S.ends source.old) (S.ends source.new) }
         ensures write_fault { IsErrOf result PlayStop.WriteFault → Rose (K.faults out.old) (K.faults out.new) }
+        ensures no_write_fault { result ≢ Err PlayStop.WriteFault → K.faults out.new ≡ K.faults out.old }
     {
         screens_show_pictures();
         match self.view(lead_in, form, at, source) {
@@ -85,7 +89,10 @@ impl Player {
         ensures source_later { S.faults source.old ≤ S.faults source.new }
         ensures out_later { K.faults out.old ≤ K.faults out.new }
         ensures read_fault { IsErrOf result PlayStop.ReadFault → Rose (S.faults source.old) (S.faults source.new) }
+        ensures no_read_fault { result ≢ Err PlayStop.ReadFault → S.faults source.new ≡ S.faults source.old }
+        ensures ended { EndFirst result (S.ends source.old) (S.ends source.new) }
         ensures write_fault { IsErrOf result PlayStop.WriteFault → Rose (K.faults out.old) (K.faults out.new) }
+        ensures no_write_fault { result ≢ Err PlayStop.WriteFault → K.faults out.new ≡ K.faults out.old }
     {
         match self.view(lead_in, form, at, source) {
             Ok(played) => match self.views.second.second.picture.write_state(out) {
@@ -97,6 +104,7 @@ impl Player {
     }
 
     /// Draws the packs of a whole stream that are whole at a moment.
+    #[tactic(auto, using(crate::proofs::Ends::ends_first))]
     fn view<S: Source>(
         &mut self,
         lead_in: u32,
@@ -111,6 +119,8 @@ impl Player {
         ensures answer { IfSome (S.left source.old) (λ all. IsShownBy result lead_in at (unit_size form) (length all)) }
         ensures source_later { S.faults source.old ≤ S.faults source.new }
         ensures read_fault { IsErrOf result PlayStop.ReadFault → Rose (S.faults source.old) (S.faults source.new) }
+        ensures no_read_fault { result ≢ Err PlayStop.ReadFault → S.faults source.new ≡ S.faults source.old }
+        ensures ended { EndFirst result (S.ends source.old) (S.ends source.new) }
     {
         self.begin_view(lead_in, form, at);
         match watch(form, source, &mut self.views) {

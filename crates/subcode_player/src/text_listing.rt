@@ -1,8 +1,8 @@
 // The texts of a stream's lead-in.
-ghost use Rattle.std.specs.Prelude.{◌≡◌, ◌≢◌, ◌≤◌, ◌-◌, List, ℕ, IfSome, IfErr, IsErrOf};
+ghost use Rattle.std.specs.Prelude.{◌≡◌, ◌≢◌, ◌≤◌, ◌-◌, List, ℕ, IfSome, IfErr, IsErrOf, Err};
 ghost use Rattle.cdg_io.specs.Causes.{Rose};
 ghost use Rattle.lead_in_texts.specs.TextSteps.{begun};
-ghost use Rattle.subcode_player.specs.TextList.{ListsTexts, IsListedBy};
+ghost use Rattle.subcode_player.specs.TextList.{EndOfTexts, ListsTexts, IsListedBy};
 ghost use Rattle.subcode_player.specs.Watch.{WritesTexts};
 
 use crate::player::play_stop;
@@ -33,6 +33,7 @@ impl Player {
     ///
     /// `Text` where the packs are no texts, or no memory is found for them, and `Play` as the input says: then nothing is
     /// written, unless a write failed, after which the sink holds a prefix.
+    #[tactic(auto, using(crate::proofs::Ends::ends_first, crate::proofs::Ends::ends_texts))]
     pub fn text_list<S: Source, K: Sink>(
         &mut self,
         alloc: Global,
@@ -52,7 +53,10 @@ impl Player {
         ensures source_later { S.faults source.old ≤ S.faults source.new }
         ensures out_later { K.faults out.old ≤ K.faults out.new }
         ensures read_fault { IsErrOf result (TextStop.Play PlayStop.ReadFault) → Rose (S.faults source.old) (S.faults source.new) }
+        ensures no_read_fault { result ≢ Err (TextStop.Play PlayStop.ReadFault) → S.faults source.new ≡ S.faults source.old }
+        ensures ended { EndOfTexts result (S.ends source.old) (S.ends source.new) }
         ensures write_fault { IsErrOf result (TextStop.Play PlayStop.WriteFault) → Rose (K.faults out.old) (K.faults out.new) }
+        ensures no_write_fault { result ≢ Err (TextStop.Play PlayStop.WriteFault) → K.faults out.new ≡ K.faults out.old }
     {
         lead_in_packs_are_read();
         self.texts.second.begin(lead_in);
@@ -73,6 +77,7 @@ impl Player {
         ensures untouched { IfErr result (λ stop. stop ≢ TextStop.Play PlayStop.WriteFault → out.new ≡ out.old) }
         ensures later { K.faults out.old ≤ K.faults out.new }
         ensures write_fault { IsErrOf result (TextStop.Play PlayStop.WriteFault) → Rose (K.faults out.old) (K.faults out.new) }
+        ensures no_write_fault { result ≢ Err (TextStop.Play PlayStop.WriteFault) → K.faults out.new ≡ K.faults out.old }
     {
         let texts = &self.texts.second;
         match texts.reader.finish(alloc) {

@@ -1,7 +1,7 @@
 // A stage at work on the blocks of a whole input, of which nothing is written.
-ghost use Rattle.std.specs.Prelude.{◌≡◌, ◌≤◌, List, ℕ, length, IfSome, IsErrOf};
+ghost use Rattle.std.specs.Prelude.{◌≡◌, ◌≢◌, ◌≤◌, List, ℕ, length, IfSome, IsErrOf, Err};
 ghost use Rattle.cdg_io.specs.Causes.{Rose};
-ghost use Rattle.cdg_io.specs.Pump.{IsUnlessFault, answer_of};
+ghost use Rattle.cdg_io.specs.Pump.{IsUnlessFault, TellsEndOf, answer_of};
 ghost use Rattle.raw_subcode.specs.Channels.{unit_size};
 ghost use Rattle.subcode_player.specs.Calls.{most_units};
 ghost use Rattle.subcode_player.specs.Watch.{Watches};
@@ -23,6 +23,8 @@ pub(crate) fn watch<S: Source, G: Stage<Item = [u8; BLOCK], Out = Piece>>(
     ensures answer { IfSome (S.left source.old) (λ all. IsUnlessFault result (answer_of (unit_size form) most_units (length all))) }
     ensures source_later { S.faults source.old ≤ S.faults source.new }
     ensures read_fault { IsErrOf result PumpStop.ReadFault → Rose (S.faults source.old) (S.faults source.new) }
+    ensures no_read_fault { result ≢ Err PumpStop.ReadFault → S.faults source.new ≡ S.faults source.old }
+    ensures ended { TellsEndOf result (S.ends source.old) (S.ends source.new) }
 {
     match form {
         Form::Sector => watch_sectors(source, stages),
@@ -41,6 +43,8 @@ fn watch_blocks<S: Source, G: Stage<Item = [u8; BLOCK], Out = Piece>>(
     ensures answer { IfSome (S.left source.old) (λ all. IsUnlessFault result (answer_of (unit_size form) most_units (length all))) }
     ensures source_later { S.faults source.old ≤ S.faults source.new }
     ensures read_fault { IsErrOf result PumpStop.ReadFault → Rose (S.faults source.old) (S.faults source.new) }
+    ensures no_read_fault { result ≢ Err PumpStop.ReadFault → S.faults source.new ≡ S.faults source.old }
+    ensures ended { TellsEndOf result (S.ends source.old) (S.ends source.new) }
 {
     pump(source, MOST_UNITS, stage, &mut SteadySink::new())
 }
@@ -55,6 +59,8 @@ fn watch_sectors<S: Source, G: Stage<Item = [u8; BLOCK], Out = Piece>>(
     ensures answer { IfSome (S.left source.old) (λ all. IsUnlessFault result (answer_of 2448 most_units (length all))) }
     ensures source_later { S.faults source.old ≤ S.faults source.new }
     ensures read_fault { IsErrOf result PumpStop.ReadFault → Rose (S.faults source.old) (S.faults source.new) }
+    ensures no_read_fault { result ≢ Err PumpStop.ReadFault → S.faults source.new ≡ S.faults source.old }
+    ensures ended { TellsEndOf result (S.ends source.old) (S.ends source.new) }
 {
     pump(source, MOST_UNITS, stages, &mut SteadySink::new())
 }

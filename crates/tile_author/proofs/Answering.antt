@@ -1,5 +1,5 @@
 -- What the calls answer, from what they computed.
-use Rattle.std.proofs.Common.{◌≡◌, ◌≢◌, ℕ, ◌<◌, ◌≤◌, Bool, true, false, List, [], length, map, sym, ap, ap₂, ◌∙◌, subst, arith, bit_xor, replicate}
+use Rattle.std.proofs.Common.{◌≡◌, ◌≢◌, ℕ, ◌<◌, ◌≤◌, Bool, true, false, List, [], length, map, refl, sym, ap, ap₂, ◌∙◌, subst, arith, bit_xor, replicate}
 use Rattle.std.specs.Prelude.{slice_index, ◌==◌, if◌then◌else◌, min, max}
 use Rattle.std.specs.List.{list_all}
 use Rattle.std.proofs.lemmas.List.{ext_get_or}
@@ -68,3 +68,17 @@ weight_least new n row column c tile h row_lt column_lt c_lt differ =
 pub weight_none : (new : List ℕ) (row column c : ℕ) → row < 32 → column < 64 → c < 16 → new ≡ replicate 72 c → IsLeast row column (replicate 72 c) new 0
 weight_none new row column c row_lt column_lt c_lt same =
     subst (λ w. IsLeast row column (replicate 72 c) w 0) (sym same) (least_same row column c row_lt column_lt c_lt)
+
+-- a tile that one instruction draws is drawn, whatever differs
+some_weight : (pixels : List ℕ) → 1 ≤ weight pixels
+unfolding weight
+some_weight pixels = omega arith
+
+pub one_step : (old new : List ℕ) → are_equal old new ≡ false → 1 ≡ weight new → 1 ≡ steps old new
+one_step old new h one =
+    let least : min 1 (weight (delta old new)) ≡ 1 = omega (arith, some_weight (delta old new)) in
+    sym least ∙ some_steps old new 1 (weight (delta old new)) h one refl
+
+pub list_draws_one : (row column : ℕ) (old new : List ℕ) (items : List Instr) → are_equal old new ≡ false → 1 ≡ weight new → items ≡ map (planned true row column new) (below (weight new)) → items ≡ plan row column old new
+list_draws_one row column old new items h one is =
+    list_draws row column old new items 1 (weight (delta old new)) h one refl (some_weight (delta old new)) is

@@ -54,6 +54,9 @@ impl Basis {
         let first = pixels[0];
         let mut basis = Basis::new();
         for pixel in pixels {
+            if *pixel == first {
+                continue;
+            }
             if basis.members.is_full() {
                 return basis;
             }

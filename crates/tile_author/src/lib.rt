@@ -58,6 +58,9 @@ fn count(old: &[u8; PIXELS], new: &[u8; PIXELS]) -> u8
         return 0;
     }
     let drawn = Basis::of(new).weight();
+    if drawn == 1 {
+        return 1;
+    }
     let combined = Basis::of(&changes).weight();
     drawn.min(combined) as u8
 }
@@ -73,6 +76,9 @@ fn list(old: &[u8; PIXELS], new: &[u8; PIXELS], row: u8, column: u8) -> ArrayVec
         return ArrayVec::new();
     }
     let drawn = Basis::of(new);
+    if drawn.weight() == 1 {
+        return drawn.instructions(new, true, row, column);
+    }
     let combined = Basis::of(&changes);
     if drawn.weight() <= combined.weight() {
         drawn.instructions(new, true, row, column)

@@ -1,4 +1,4 @@
-use Rattle.std.proofs.Common.{◌≡◌, ◌+◌, ◌-◌, ℕ, flat_map, take, sym, subst, ap, arith}
+use Rattle.std.proofs.Common.{◌≡◌, ◌∙◌, ◌+◌, ◌-◌, ℕ, flat_map, take, sym, subst, ap, arith}
 use Rattle.std.specs.Io.KnownBytes.{Appends}
 use Rattle.std.proofs.KnownBytes.{Appends-nil}
 use Rattle.cdg_io.specs.Moves.{AppendsPrefix}
@@ -25,7 +25,7 @@ loop-track-init g c =
       put = subst (λ (n : ℕ). Appends (g.K.Sink.held c.args.out.now) (g.K.Sink.held c.write_line.new.out) (flat_map (text_line texts c.args.kind) (take n (tracks_of texts)))) none
           (piece_more (g.K.Sink.held c.args.out.now) (g.K.Sink.held c.args.out.now) (g.K.Sink.held c.write_line.new.out) (text_line texts c.args.kind) (tracks_of texts) 0 0 (omega arith) (Appends-nil (g.K.Sink.held c.args.out.now))
           (subst (Appends (g.K.Sink.held c.args.out.now) (g.K.Sink.held c.write_line.new.out)) (ap (text_line texts c.args.kind) (sym (album_at texts))) c.in_ok-write_line.ensures.ok));
-      later = c.in_ok-write_line.ensures.cause.later;
+      same = c.in_ok-write_line.ensures.cause.same;
     }
 
 pub returns-in_err-write_line-2-clause-part : goal.returns-in_err-write_line-2-clause-part
@@ -51,7 +51,7 @@ loop-track-preserved g c =
       put = subst (λ (n : ℕ). Appends (g.K.Sink.held c.args.out.now) (g.K.Sink.held c.write_line-in-loop-track.new.out) (flat_map (text_line texts c.args.kind) (take n (tracks_of texts)))) more
           (piece_more (g.K.Sink.held c.args.out.now) (g.K.Sink.held c.loop-track.out) (g.K.Sink.held c.write_line-in-loop-track.new.out) (text_line texts c.args.kind) (tracks_of texts) (c.loop-track.track - texts.first + 1) 0 (omega arith) c.loop-track.invariant.put
           (subst (Appends (g.K.Sink.held c.loop-track.out) (g.K.Sink.held c.write_line-in-loop-track.new.out)) (ap (text_line texts c.args.kind) (sym at)) c.in_ok-write_line-2.ensures.ok));
-      later = omega (arith, c.loop-track.invariant.later, c.in_ok-write_line-2.ensures.cause.later);
+      same = c.in_ok-write_line-2.ensures.cause.same ∙ c.loop-track.invariant.same;
     }
 
 pub returns-in_ok-write_line-2-clause-ok : goal.returns-in_ok-write_line-2-clause-ok

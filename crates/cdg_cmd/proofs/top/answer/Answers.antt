@@ -1,5 +1,6 @@
 use Rattle.std.proofs.Common.{refl, subst, sym, inl, inr}
 use Rattle.cdg_cmd.specs.Answer.{Does, ReadsNone, TakesFirst, TakesNone, WritesLast}
+use Rattle.cdg_cmd.specs.Ends.{FirstEnds, SecondEnds}
 use Rattle.cdg_cmd.specs.declared.command.Command.{Command}
 use Rattle.cdg_cmd.specs.declared.command.Command.TheVariants.{Convert, Screen}
 use Rattle.cdg_cmd.proofs.WordsLemmas.{no_command, same_command}
@@ -66,3 +67,17 @@ returns-in-Some-clause-pictures g c = λ lead_in form at spelled.
 pub returns-in-None-clause-pictures : goal.returns-in-None-clause-pictures
 returns-in-None-clause-pictures g c = λ lead_in form at spelled.
     absurd (no_command _ (c.in-None.ensures.all (Screen lead_in form at) spelled))
+
+pub returns-in-Some-clause-first_ended : goal.returns-in-Some-clause-first_ended
+returns-in-Some-clause-first_ended g c = λ command spelled.
+    subst (λ (k : Command). FirstEnds k (g.S.Source.ends c.args.first.now) (g.S.Source.ends c.perform.new.first) c.perform.result) (same_command _ _ (c.in-Some.ensures.all command spelled)) c.perform.ensures.first_ended
+
+pub returns-in-None-clause-first_ended : goal.returns-in-None-clause-first_ended
+returns-in-None-clause-first_ended g c = λ command spelled. absurd (no_command command (c.in-None.ensures.all command spelled))
+
+pub returns-in-Some-clause-second_ended : goal.returns-in-Some-clause-second_ended
+returns-in-Some-clause-second_ended g c = λ command spelled.
+    subst (λ (k : Command). SecondEnds k (g.T.Source.ends c.args.second.now) (g.T.Source.ends c.perform.new.second) c.perform.result) (same_command _ _ (c.in-Some.ensures.all command spelled)) c.perform.ensures.second_ended
+
+pub returns-in-None-clause-second_ended : goal.returns-in-None-clause-second_ended
+returns-in-None-clause-second_ended g c = λ command spelled. absurd (no_command command (c.in-None.ensures.all command spelled))

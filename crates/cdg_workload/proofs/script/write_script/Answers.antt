@@ -14,7 +14,7 @@ pub loop-k-init : goal.loop-k-init
 unfolding state_after
 loop-k-init g c = record {
   put = script_begun c.args.seed _ _ c.in_ok-put_all.ensures.ok;
-  later = c.in_ok-put_all.ensures.cause.later;
+  same = c.in_ok-put_all.ensures.cause.same;
   words = c.generator-words.ensures;
 }
 
@@ -24,7 +24,7 @@ loop-k-preserved g c =
     let lines : c.bytes.result.now ≡ picture_lines c.args.seed c.loop-k.k = c.bytes.ensures.bytes ∙ c.picture.ensures.lines ∙ picture_is c.args.seed c.loop-k.k c.loop-k.words so_far.words in
     record {
       put = script_more c.args.seed c.loop-k.k _ _ _ so_far.put (subst (Appends _ _) lines c.in_ok-put_all-2.ensures.ok);
-      later = omega (arith, so_far.later, c.in_ok-put_all-2.ensures.cause.later);
+      same = c.in_ok-put_all-2.ensures.cause.same ∙ so_far.same;
       words = c.picture.ensures.words ∙ words_after c.args.seed c.loop-k.k c.loop-k.words so_far.words;
     }
 

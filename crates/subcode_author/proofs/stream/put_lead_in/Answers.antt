@@ -1,4 +1,4 @@
-use Rattle.std.proofs.Common.{ℕ, List, [], false, subst, arith, below_more}
+use Rattle.std.proofs.Common.{ℕ, List, [], false, ◌∙◌, subst, arith, below_more}
 use Rattle.std.specs.Io.KnownBytes.{Appends}
 use Rattle.cdg_io.specs.Moves.{AppendsPrefix}
 use Rattle.toc_model.specs.Layout.{toc_frame}
@@ -22,5 +22,5 @@ loop-l-preserved g c =
       built = below_more _ _ c.loop-l.invariant.built
           (subst (λ block. IsBuilt block false (toc_frame c.args.layout.now c.args.lead_in c.loop-l.l) (lead_in_symbols c.args.texts.now c.loop-l.l))
           c.lead_in_block-block.ensures.bytes c.lead_in_block-block.ensures.built);
-      later = omega (arith, c.loop-l.invariant.later, c.in_ok-put_all.ensures.cause.later);
+      same = c.in_ok-put_all.ensures.cause.same ∙ c.loop-l.invariant.same;
     }

@@ -10,7 +10,7 @@ loop-b-init g c = record {
   done = none_done c.args.layout.now c.args.weaver.now.script (g.K.Sink.held c.args.out.now) c.args.spread.now c.requires.start;
   script = refl;
   given = omega (arith, c.requires.first);
-  later = omega arith;
+  same = refl;
 }
 
 pub returns-in_err-put_all-clause-part : goal.returns-in_err-put_all-clause-part
@@ -35,7 +35,7 @@ loop-b-preserved g c =
           c.program_block-block.ensures.bytes c.program_block-block.ensures.built c.in_ok-put_all.ensures.ok;
       script = c.next_symbols-symbols.ensures.script ∙ so_far.script;
       given = omega (arith, so_far.given, c.next_symbols-symbols.ensures.given);
-      later = omega (arith, so_far.later, c.in_ok-put_all.ensures.cause.later);
+      same = c.in_ok-put_all.ensures.cause.same ∙ so_far.same;
     }
 
 pub returns-clause-ok : goal.returns-clause-ok

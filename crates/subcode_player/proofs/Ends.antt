@@ -1,0 +1,46 @@
+-- How the end of an input is told by a player.
+use Rattle.std.proofs.Common.{◌≡◌, ◌≢◌, ℕ, List, Result, Ok, Err, refl}
+use Rattle.cdg_io.specs.Pump.{TellsEndOf}
+use Rattle.cdg_io.specs.declared.pumping.Pumped.{Pumped}
+use Rattle.cdg_io.specs.declared.pumping.PumpStop.{PumpStop}
+use Rattle.cdg_io.specs.declared.pumping.PumpStop.TheVariants as pump
+use Rattle.subcode_player.specs.Calls.{EndFirst, EndInTurn}
+use Rattle.cdg_io.specs.Causes.{Rose}
+use Rattle.lead_in_texts.specs.declared.LeadInTexts.{LeadInTexts}
+use Rattle.std.specs.declared.option.Option.{Option}
+use Rattle.subcode_player.specs.TextList.{EndOfTexts}
+use Rattle.subcode_player.specs.Watch.{WritesTexts, play_stop}
+use Rattle.subcode_player.specs.declared.player.Played.{Played}
+use Rattle.subcode_player.specs.declared.player.PlayStop.{PlayStop}
+use Rattle.subcode_player.specs.declared.player.PlayStop.TheVariants.{ReadFault, WriteFault, Torn, TooLong, PastEnd}
+use Rattle.subcode_player.specs.declared.text_listing.TextStop.{TextStop}
+use Rattle.subcode_player.specs.declared.text_listing.TextStop.TheVariants.{Play, Text}
+
+abbrev pump_error : PumpStop → Result Pumped PumpStop
+pump_error stop = Err stop
+
+abbrev play_error : PlayStop → Result Played PlayStop
+play_error stop = Err stop
+
+pub ends_in_turn : (stop : PumpStop) (before now : ℕ) → TellsEndOf (pump_error stop) before now → EndInTurn (play_error (play_stop stop)) before now
+ends_in_turn pump.ReadFault before now told = told
+ends_in_turn pump.WriteFault before now told = told
+ends_in_turn (pump.Torn unit) before now told = told
+ends_in_turn pump.TooLong before now told = told
+
+pub ends_first : (stop : PumpStop) (before now : ℕ) → pump_error stop ≢ pump_error pump.WriteFault → TellsEndOf (pump_error stop) before now → EndFirst (play_error (play_stop stop)) before now
+ends_first pump.ReadFault before now other told = told
+ends_first pump.WriteFault before now other told = absurd (other refl)
+ends_first (pump.Torn unit) before now other told = told
+ends_first pump.TooLong before now other told = told
+
+-- once all was read
+pub ends_texts : (s : LeadInTexts) (blocks : ℕ) (held held' : Option (List ℕ)) (result : Result Played TextStop) (before now : ℕ)
+    → WritesTexts s blocks held held' result → Rose before now → EndOfTexts result before now
+ends_texts s blocks held held' (Ok played) before now writes told = told
+ends_texts s blocks held held' (Err (Text fault)) before now writes told = told
+ends_texts s blocks held held' (Err (Play WriteFault)) before now writes told = told
+ends_texts s blocks held held' (Err (Play ReadFault)) before now writes told = absurd writes
+ends_texts s blocks held held' (Err (Play (Torn block))) before now writes told = absurd writes
+ends_texts s blocks held held' (Err (Play TooLong)) before now writes told = absurd writes
+ends_texts s blocks held held' (Err (Play (PastEnd past))) before now writes told = absurd writes
