@@ -1,5 +1,5 @@
 -- From the run of the pump to the call.
-use Rattle.std.proofs.Common.{◌≡◌, ℕ, ◌+◌, ◌*◌, ◌/◌, ◌≤◌, List, length, refl, sym, ap, ◌∙◌, subst, arith, ◌++◌, Result, Ok, Err, Some, None, IfSome}
+use Rattle.std.proofs.Common.{◌≡◌, ℕ, ◌/◌, ◌≤◌, List, length, refl, sym, ap, ◌∙◌, subst, arith, ◌++◌, Result, Ok, Err, Some, None, IfSome}
 use Rattle.std.specs.declared.option.Option.{Option}
 use Rattle.std.proofs.lemmas.List.{append-nil}
 use Rattle.cdg_io.specs.Pump.{given, Pumps}

@@ -1,10 +1,8 @@
 -- The run of the stage is the thin form.
-use Rattle.std.proofs.Common.{◌≡◌, ◌⊎◌, ℕ, zero, suc, ◌+◌, ◌*◌, ◌/◌, ◌<◌, ◌≤◌, Bool, true, false, true≢false, List, [], ◌∷◌, ◌++◌, length, get_or, take, drop, map, refl, sym, ap, ap₂, ◌∙◌, subst, inl, inr, arith, append_assoc, length-drop, Result, Ok, Err}
+use Rattle.std.proofs.Common.{◌≡◌, ℕ, zero, suc, ◌*◌, ◌/◌, ◌<◌, ◌≤◌, true, false, true≢false, List, [], ◌∷◌, ◌++◌, length, get_or, take, drop, refl, sym, ap, ◌∙◌, subst, inl, inr, arith, append_assoc, length-drop}
 use Rattle.std.specs.Prelude.{if◌then◌else◌}
-use Rattle.std.specs.List.{concat}
 use Rattle.std.proofs.lemmas.Bool.{cases_Bool}
 use Rattle.std.proofs.lemmas.List.{append-nil, length-take-le}
-use Rattle.bit_lists.specs.Counting.{whole_parts}
 use Rattle.cdg_io.specs.Run.{run_gives}
 use Rattle.cdg_io.specs.Pump.{given, units_of}
 use Rattle.cdg_io.proofs.Streaming.{IsWhole}
@@ -13,12 +11,11 @@ use Rattle.cdg_screen.specs.Standings.{display_of, obeyed}
 use Rattle.cdg_screen.proofs.StandingLemmas.{display_after, display_is, obeyed_is}
 use Rattle.cdg_screen.proofs.Turns.{in_turn, same_after, same_back, same_then}
 use Rattle.cdg_instructions.specs.declared.instr.Instr.{Instr}
-use Rattle.cdg_instructions.specs.declared.instr.Instr.TheVariants.{Idle}
 use Rattle.cdg_thin.specs.Thin.{IsNeedless, IsThinned, IsThinForm, IsThinText, idle_pack, is_graphic}
 use Rattle.cdg_thin.specs.Steps.{instruction_of, is_needless, thin_next, thin_gives}
 use Rattle.cdg_thin.proofs.Forms.{after, instructions_at, instructions_of, read_each}
 use Rattle.cdg_thin.proofs.Meanings.{has_instruction}
-use Rattle.cdg_thin.proofs.Tests.{if_needless, needless_as_graphic, needless_if, not_needless}
+use Rattle.cdg_thin.proofs.Sameness.{if_needless, needless_as_graphic, needless_if, not_needless}
 
 -- ---- what stands, seen as one value
 

@@ -1,12 +1,12 @@
 -- For all symbols there is a codeword.
-use Rattle.std.proofs.Common.{◌≡◌, ℕ, zero, suc, ◌+◌, ◌*◌, ◌<◌, ◌≤◌, List, [], ◌∷◌, ◌++◌, length, get_or, take, drop, bit_xor, refl, sym, ap, ap₂, ◌∙◌, subst, append_assoc, length-append, arith, All}
+use Rattle.std.proofs.Common.{◌≡◌, ℕ, suc, ◌<◌, List, [], ◌∷◌, ◌++◌, length, take, bit_xor, refl, sym, ap, ◌∙◌, subst, append_assoc, length-append, arith, All}
 use Rattle.std.proofs.lemmas.Nat.{xor_lt}
 use Rattle.std.proofs.lemmas.List.{append-nil}
 use Rattle.std.proofs.lemmas.List.Elements.{All-cons, All-nil, All-append}
 use Rattle.std.proofs.Math.Seq.{take-append_seam}
 use Rattle.gf64.specs.Field.{product, alpha_power}
 use Rattle.gf64.proofs.FieldLaws.{product-lt}
-use Rattle.rw_code.specs.Codeword.{IsWord, IsCodeword, weighted_sum}
+use Rattle.rw_code.specs.Codeword.{IsCodeword, weighted_sum}
 use Rattle.rw_code.proofs.CodewordLemmas.{zero_sums}
 use Rattle.rw_code.proofs.Parity.{first_continues, whole_continues}
 use Rattle.cdg_instructions.specs.Instruction.{message_of}
@@ -87,8 +87,7 @@ sealed_word a b body a_lt b_lt size small =
     let most_small : All Symbol most = All-append Symbol front body front_small small in
     let four : HasFour most = four_after [] most most_small record { first = 0; second = 0; third = 0; fourth = 0; first_below = omega arith; second_below = omega arith; third_below = omega arith; fourth_below = omega arith; sums = λ j lt. zero_sums j 4 } in
     let tail : List ℕ = four.first ∷ four.second ∷ four.third ∷ four.fourth ∷ [] in
-    let tail_small : All Symbol tail = four_small four.first four.second four.third four.fourth four.first_below four.second_below four.third_below four.fourth_below in
-    (
+    let tail_small : All Symbol tail = four_small four.first four.second four.third four.fourth four.first_below four.second_below four.third_below four.fourth_below in (
       most ++ tail,
       record {
         is_word = record { size = omega (arith, length-append most tail, length-append front body); symbols = All-append Symbol most tail most_small tail_small };

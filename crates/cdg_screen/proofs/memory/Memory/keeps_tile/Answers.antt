@@ -1,5 +1,5 @@
-use Rattle.std.proofs.Common.{◌≡◌, true, Bool, List, ℕ, arith, sym, ◌∙◌}
-use Rattle.std.specs.Prelude.{IsTrue, slice_index}
+use Rattle.std.proofs.Common.{arith, sym, ◌∙◌}
+use Rattle.std.specs.Prelude.{slice_index}
 use Rattle.cdg_screen.proofs.Tiles.{line_of_tile}
 use Rattle.cdg_screen.proofs.memory.Memory.keeps_tile.Goals as goal
 
