@@ -12,19 +12,7 @@ impl Memory {
         ensures { IsTrue result ↔ Becomes self.now (λ x y. colour) }
     {
         for y in 0..HEIGHT {
-            if !self.is_row_filled(y, colour) {
-                return false;
-            }
-        }
-        true
-    }
-
-    fn is_row_filled(&self, y: usize, colour: u8) -> bool
-        requires { y < 216 }
-        ensures { IsTrue result ↔ ((x : ℕ) → x < 300 → at self.now x y ≡ colour) }
-    {
-        for x in 0..WIDTH {
-            if self.get(x, y) != colour {
+            if !is_row_filled(&self.rows[y], colour) {
                 return false;
             }
         }
@@ -167,6 +155,17 @@ impl Memory {
             colour
         }
     }
+}
+
+// Whether all pixels of a row have a colour. It looks at all of them, so that many can be compared at once.
+fn is_row_filled(row: &[u8; WIDTH], colour: u8) -> bool
+    ensures { IsTrue result ↔ ((k : ℕ) → k < 300 → slice_index row.now k ≡ colour) }
+{
+    let mut filled = true;
+    for pixel in row {
+        filled &= *pixel == colour;
+    }
+    filled
 }
 
 // Where a pixel comes from in a scroll, plus the size in that direction.

@@ -3,12 +3,11 @@ use Rattle.std.proofs.Common.{◌≡◌, ℕ, suc, ◌+◌, ◌*◌, ◌<◌, �
 use Rattle.std.proofs.lemmas.List.{length-map, get_or-map, length-take-le, length-drop}
 use Rattle.std.proofs.lemmas.List.Elements.{All-take, All-drop}
 use Rattle.bit_lists.specs.Counting.{below}
-use Rattle.rw_code.specs.Codeword.{HasSymbols, IsCodeword}
 use Rattle.rw_code.proofs.CodewordLemmas.{idle_is_codeword}
 use Rattle.cdg_instructions.specs.Instruction.{Means, IsGraphics, IsTile, IsScroll, known_codes, content, content_of, message_of, table_colour, move, offset_across, offset_down}
 use Rattle.cdg_instructions.specs.Meaning.{meaning}
 use Rattle.cdg_instructions.proofs.Meaning.{meaning_means, only_meaning}
-use Rattle.cdg_instructions.proofs.Symbols.{has-message_of, message_of-has, head_of_message, body_of_message, content_of-message}
+use Rattle.cdg_instructions.proofs.Symbols.{message_of-has, head_of_message, body_of_message, content_of-message}
 use Rattle.cdg_instructions.specs.declared.instr.Instr.{Instr}
 use Rattle.cdg_instructions.specs.declared.instr.Instr.TheVariants.{Idle, Foreign, Unknown, MemoryPreset, BorderPreset, SetTile, XorTile, ScrollPreset, ScrollCopy, Transparency, ColoursLow, ColoursHigh}
 use Rattle.cdg_thin.specs.Thin.{IsInstructionOf, IsMadeGood, idle_pack, low_bits}
@@ -117,21 +116,3 @@ has_instruction pack size =
 -- an idle pack says nothing
 pub idle_instruction : IsInstructionOf idle_pack Idle
 idle_instruction = (idle_pack, record { size = refl; codeword = idle_is_codeword; message = refl }, refl)
-
-length-message : (word : List ℕ) → length word ≡ 24 → length (message_of word) ≡ 18
-length-message word size =
-    ap length (split_message word size) ∙ ap (λ n. suc (suc n)) (length-take-le 16 (drop 4 word) (omega (arith, length-drop 4 word)))
-
--- the codeword with the symbols of a pack is the one that is made good
-pub made_good_by : (pack word head body : List ℕ) → length pack ≡ 24 → IsCodeword word → HasSymbols word head body
-    → ((k : ℕ) → k < 2 → get_or head k 0 ≡ get_or (low_bits pack) k 0) → ((k : ℕ) → k < 16 → get_or body k 0 ≡ get_or (low_bits pack) (4 + k) 0) → IsMadeGood pack word
-made_good_by pack word head body size is_codeword has at_head at_body =
-    let count : length (low_bits pack) ≡ 24 = length-low_bits pack ∙ size in
-    record {
-      size = size;
-      codeword = is_codeword;
-      message = has-message_of word (message_of (low_bits pack)) is_codeword.is_word.size (length-message (low_bits pack) count) record {
-        head = λ k lt. has.at_head k lt ∙ at_head k lt ∙ sym (head_of_message (low_bits pack) k count lt);
-        body = λ k lt. has.at_body k lt ∙ at_body k lt ∙ sym (body_of_message (low_bits pack) k count lt);
-      };
-    }

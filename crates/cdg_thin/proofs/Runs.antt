@@ -5,7 +5,7 @@ use Rattle.std.proofs.lemmas.Bool.{cases_Bool}
 use Rattle.std.proofs.lemmas.List.{append-nil, length-take-le}
 use Rattle.cdg_io.specs.Run.{run_gives}
 use Rattle.cdg_io.specs.Pump.{given, units_of}
-use Rattle.cdg_io.proofs.Streaming.{IsWhole}
+use Rattle.cdg_io.proofs.Streaming.{IsWhole, whole_units}
 use Rattle.cdg_screen.specs.Picture.{Display, Standing, blank, standing_of, standing_after, SameStanding}
 use Rattle.cdg_screen.specs.Standings.{display_of, obeyed}
 use Rattle.cdg_screen.proofs.StandingLemmas.{display_after, display_is, obeyed_is}
@@ -124,3 +124,7 @@ given_is_thin now bytes n same whole =
       form = subst (λ k. IsThinForm (units_of 24 k bytes) (run_of now (units_of 24 n bytes))) (sym count) (run_is_thin now (units_of 24 n bytes) same (unit_sized n bytes whole.fits));
       text_is = refl;
     }
+
+-- so each list of bytes has one
+pub some_text : (bytes : List ℕ) → (text : List ℕ) × IsThinText bytes text
+some_text bytes = (_, given_is_thin (display_of blank) bytes (length bytes / 24) (display_is blank) (whole_units 24 bytes (omega arith)))
