@@ -8,7 +8,7 @@ ghost use Rattle.cdg_instructions.specs.declared.instr.Instr.{Instr};
 
 use crate::Instr;
 use crate::codes::{self, CONTENT};
-use rw_code::Pack;
+use rw_code::{Pack, Word};
 
 /// The instruction that a pack holds.
 ///
@@ -18,7 +18,15 @@ pub fn read(pack: &Pack) -> Instr
     ensures meaning { Means pack.now result }
     ensures range { InRange result }
 {
-    let symbols = pack.word().bytes();
+    read_word(&pack.word())
+}
+
+/// The same of any word: the parity has no part in it.
+pub fn read_word(word: &Word) -> Instr
+    ensures meaning { Means word.now result }
+    ensures range { InRange result }
+{
+    let symbols = word.bytes();
     match symbols[0] {
         0 => Instr::Idle,
         codes::GRAPHICS => graphics(&symbols),

@@ -1,0 +1,183 @@
+// Whether a change of the memory would leave it as it is.
+ghost use Rattle.std.specs.Prelude.{◌≡◌, ◌<◌, ◌≤◌, ◌+◌, ◌-◌, ◌*◌, ◌%◌, ◌↔◌, ◌==◌, ◌&&◌, nat_le, nat_lt, if◌then◌else◌, ℕ, All, IsTrue, slice_index};
+ghost use Rattle.cdg_instructions.specs.Drawing.{tile_colour};
+ghost use Rattle.cdg_screen.specs.Picture.{at, covers, is_inside, source, source_x, source_y};
+ghost use Rattle.cdg_screen.specs.Memory.{Becomes, drawn_over, line_colour};
+
+use crate::memory::{HEIGHT, Memory, TILE_HEIGHT, TILE_WIDTH, WIDTH, colour_of};
+
+impl Memory {
+    /// Whether all pixels have a colour.
+    pub(crate) fn is_filled(&self, colour: u8) -> bool
+        ensures { IsTrue result ↔ Becomes self.now (λ x y. colour) }
+    {
+        for y in 0..HEIGHT {
+            if !is_row_filled(&self.rows[y], colour) {
+                return false;
+            }
+        }
+        true
+    }
+
+    /// Whether a tile that is drawn, if it is on the memory, leaves each pixel as it is.
+    pub(crate) fn keeps_tile(
+        &self,
+        row: u8,
+        column: u8,
+        colours: [u8; 2],
+        lines: &[u8; 12],
+        exclusive: bool,
+    ) -> bool
+        requires { All (λ colour. colour < 16) colours }
+        ensures { IsTrue result ↔ Becomes self.now (λ x y.
+            if covers row column x y
+            then drawn_over exclusive (tile_colour (slice_index colours 0) (slice_index colours 1) lines.now (x % 6) (y % 12)) (at self.now x y)
+            else at self.now x y) }
+    {
+        if row > 17 || column > 49 {
+            return true;
+        }
+        let x = TILE_WIDTH * usize::from(column);
+        let y = TILE_HEIGHT * usize::from(row);
+        for j in 0..TILE_HEIGHT {
+            if !self.keeps_line(x, y + j, colours, lines[j], exclusive) {
+                return false;
+            }
+        }
+        true
+    }
+
+    // Whether a line of a tile that is drawn leaves its pixels as they are.
+    fn keeps_line(&self, x: usize, y: usize, colours: [u8; 2], line: u8, exclusive: bool) -> bool
+        requires width { x + 6 ≤ 300 }
+        requires height { y < 216 }
+        requires range { All (λ colour. colour < 16) colours }
+        ensures { IsTrue result ↔ Becomes self.now (λ x' y'.
+            if y' == y && nat_le x x' && nat_lt x' (x + 6)
+            then drawn_over exclusive (line_colour (slice_index colours 0) (slice_index colours 1) line (x' - x)) (at self.now x' y')
+            else at self.now x' y') }
+    {
+        for i in 0..TILE_WIDTH {
+            let drawn = self.drawn(x + i, y, colour_of(colours, line, i), exclusive);
+            if self.get(x + i, y) != drawn {
+                return false;
+            }
+        }
+        true
+    }
+
+    /// Whether a scroll by which what leaves at an end comes in at the other leaves each pixel as it is.
+    pub(crate) fn keeps_scrolled_round(&self, across: u8, down: u8) -> bool
+        requires across { across ≤ 2 }
+        requires down { down ≤ 2 }
+        ensures { IsTrue result ↔ Becomes self.now (λ x y. at self.now (source_x across x % 300) (source_y down y % 216)) }
+    {
+        if across == 0 && down == 0 {
+            return true;
+        }
+        for y in 0..HEIGHT {
+            let from = source(HEIGHT, TILE_HEIGHT, down, y) % HEIGHT;
+            if !self.keeps_row_round(across, y, from) {
+                return false;
+            }
+        }
+        true
+    }
+
+    // Whether a row is another one moved round.
+    fn keeps_row_round(&self, across: u8, y: usize, from: usize) -> bool
+        requires across { across ≤ 2 }
+        requires height { y < 216 }
+        requires from { from < 216 }
+        ensures { IsTrue result ↔ ((x : ℕ) → x < 300 → at self.now x y ≡ at self.now (source_x across x % 300) from) }
+    {
+        for x in 0..WIDTH {
+            if self.get(x, y) != self.get(source(WIDTH, TILE_WIDTH, across, x) % WIDTH, from) {
+                return false;
+            }
+        }
+        true
+    }
+
+    /// Whether a scroll by which a colour comes in leaves each pixel as it is.
+    pub(crate) fn keeps_scrolled_in(&self, across: u8, down: u8, colour: u8) -> bool
+        requires across { across ≤ 2 }
+        requires down { down ≤ 2 }
+        ensures { IsTrue result ↔ Becomes self.now (λ x y.
+            if is_inside 300 (source_x across x) && is_inside 216 (source_y down y)
+            then at self.now (source_x across x - 300) (source_y down y - 216)
+            else colour) }
+    {
+        if across == 0 && down == 0 {
+            return true;
+        }
+        for y in 0..HEIGHT {
+            if !self.keeps_row_in(across, down, colour, y) {
+                return false;
+            }
+        }
+        true
+    }
+
+    // Whether a row is the one that comes to its place.
+    fn keeps_row_in(&self, across: u8, down: u8, colour: u8, y: usize) -> bool
+        requires across { across ≤ 2 }
+        requires down { down ≤ 2 }
+        requires height { y < 216 }
+        ensures { IsTrue result ↔ ((x : ℕ) → x < 300 → at self.now x y
+            ≡ (if is_inside 300 (source_x across x) && is_inside 216 (source_y down y)
+            then at self.now (source_x across x - 300) (source_y down y - 216)
+            else colour)) }
+    {
+        for x in 0..WIDTH {
+            if self.get(x, y) != self.scrolled_in(across, down, colour, x, y) {
+                return false;
+            }
+        }
+        true
+    }
+
+    // The pixel at a place after a scroll by which a colour comes in.
+    fn scrolled_in(&self, across: u8, down: u8, colour: u8, x: usize, y: usize) -> u8
+        requires across { across ≤ 2 }
+        requires down { down ≤ 2 }
+        requires width { x < 300 }
+        requires height { y < 216 }
+        ensures { result ≡ (if is_inside 300 (source_x across x) && is_inside 216 (source_y down y)
+            then at self.now (source_x across x - 300) (source_y down y - 216)
+            else colour) }
+    {
+        let from_x = source(WIDTH, TILE_WIDTH, across, x);
+        let from_y = source(HEIGHT, TILE_HEIGHT, down, y);
+        if (WIDTH..2 * WIDTH).contains(&from_x) && (HEIGHT..2 * HEIGHT).contains(&from_y) {
+            self.get(from_x - WIDTH, from_y - HEIGHT)
+        } else {
+            colour
+        }
+    }
+}
+
+// Whether all pixels of a row have a colour. It looks at all of them, so that many can be compared at once.
+fn is_row_filled(row: &[u8; WIDTH], colour: u8) -> bool
+    ensures { IsTrue result ↔ ((k : ℕ) → k < 300 → slice_index row.now k ≡ colour) }
+{
+    let mut filled = true;
+    for pixel in row {
+        filled &= *pixel == colour;
+    }
+    filled
+}
+
+// Where a pixel comes from in a scroll, plus the size in that direction.
+fn source(size: usize, step: usize, direction: u8, x: usize) -> usize
+    requires size { size ≤ 300 }
+    requires step { step ≤ size }
+    requires within { x < size }
+    ensures { result ≡ source size step direction x }
+{
+    match direction {
+        1 => x + size - step,
+        2 => x + size + step,
+        _ => x + size,
+    }
+}

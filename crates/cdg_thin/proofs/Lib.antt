@@ -1,0 +1,6 @@
+pub mod Sealing
+pub mod Meanings
+pub mod Forms
+pub mod Sameness
+pub mod Runs
+pub mod Calls

@@ -1,0 +1,39 @@
+-- The steps of the stage that makes needless packs idle.
+use Rattle.std.specs.Prelude.{ℕ, ◌==◌, ◌&&◌, Bool, if◌then◌else◌, List, [], ◌∷◌, Option, Some}
+use Rattle.std.specs.List.{list_all}
+use Rattle.bit_lists.specs.Counting.{below}
+use Rattle.cdg_instructions.specs.Meaning.{meaning}
+use Rattle.cdg_screen.specs.Picture.{Display, Standing, standing_of, standing_after}
+use Rattle.cdg_screen.specs.Standings.{obeyed}
+use Rattle.cdg_thin.specs.Thin.{idle_pack, is_graphic, low_bits}
+use Rattle.cdg_instructions.specs.declared.instr.Instr.{Instr}
+
+-- the instruction of 24 bytes, as a function: the parity has no part in it
+unfoldable pub instruction_of : List ℕ → Instr
+instruction_of pack = meaning (low_bits pack)
+
+-- whether a test passes at all numbers below n
+unfoldable pub passes_below : ℕ → (ℕ → Bool) → Bool
+passes_below n test = list_all test (below n)
+
+-- whether the same stands in both
+unfoldable pub is_same : Standing → Standing → Bool
+is_same a b =
+    passes_below 216 (λ y. passes_below 300 (λ x. a.memory x y == b.memory x y))
+    && a.border == b.border
+    && passes_below 16 (λ k. a.colour k == b.colour k)
+    && passes_below 16 (λ k. a.level k == b.level k)
+    && a.h == b.h
+    && a.v == b.v
+
+-- whether it is a graphics instruction after which the same stands as before
+unfoldable pub is_needless : Display → Instr → Bool
+is_needless now instr = is_graphic instr && is_same (standing_after (standing_of now) (instr ∷ [])) (standing_of now)
+
+-- what stands after a pack
+unfoldable pub thin_next : Display → List ℕ → Display
+thin_next now pack = obeyed now (instruction_of pack)
+
+-- the pack, or an idle one in its place
+unfoldable pub thin_gives : Display → List ℕ → Option (List ℕ)
+thin_gives now pack = Some (if is_needless now (instruction_of pack) then idle_pack else pack)

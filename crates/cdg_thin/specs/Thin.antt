@@ -1,0 +1,69 @@
+-- The thin form of a file of packs, in which those that change nothing are idle.
+use Rattle.std.specs.Prelude.{◌≡◌, ℕ, ◌%◌, ◌<◌, ◌⊎◌, Bool, true, false, IsTrue, List, [], ◌∷◌, ◌++◌, length, map, take, replicate, slice_index_or}
+use Rattle.std.specs.List.{concat}
+use Rattle.bit_lists.specs.Counting.{whole_parts}
+use Rattle.rw_code.specs.Codeword.{IsCodeword}
+use Rattle.cdg_instructions.specs.Instruction.{Means, message_of}
+use Rattle.cdg_screen.specs.Picture.{blank, standing_after, SameStanding}
+use Rattle.cdg_instructions.specs.declared.instr.Instr.{Instr}
+use Rattle.cdg_instructions.specs.declared.instr.Instr.TheVariants.{Idle, Foreign, Unknown}
+
+-- the low six bits of each byte
+abbrev pub low_bits : List ℕ → List ℕ
+low_bits bytes = map (λ byte. byte % 64) bytes
+
+-- the codeword that 24 bytes make: their low six bits but for the parity, which is made good
+pub record IsMadeGood (pack word : List ℕ) : Type 0 where
+  pub size : length pack ≡ 24
+  pub codeword : IsCodeword word
+  pub message : message_of word ≡ message_of (low_bits pack)
+
+-- the instruction of 24 bytes
+abbrev pub IsInstructionOf : List ℕ → Instr → Type 0
+IsInstructionOf pack instr = (word : List ℕ) × IsMadeGood pack word × Means word instr
+
+-- these are the instructions of the packs, one by one
+pub record AreInstructionsOf (packs : List (List ℕ)) (instrs : List Instr) : Type 0 where
+  pub count : length instrs ≡ length packs
+  pub each : (n : ℕ) → n < length packs → IsInstructionOf (slice_index_or packs n []) (slice_index_or instrs n Idle)
+
+-- whether it is one of the nine graphics instructions
+abbrev pub is_graphic : Instr → Bool
+is_graphic Idle = false
+is_graphic Foreign = false
+is_graphic Unknown = false
+is_graphic instr = true
+
+-- A graphics instruction that changes nothing after these: the same stands with it and without it.
+pub record IsNeedless (before : List Instr) (instr : Instr) : Type 0 where
+  pub graphic : IsTrue (is_graphic instr)
+  pub nothing : SameStanding (standing_after blank (before ++ instr ∷ [])) (standing_after blank before)
+
+-- the pack that says nothing
+abbrev pub idle_pack : List ℕ
+idle_pack = replicate 24 0
+
+-- what stands for a pack in the thin form: an idle one where its instruction is needless after those before it, and else the pack as it is
+abbrev pub IsThinned : List Instr → Instr → List ℕ → List ℕ → Type 0
+IsThinned before instr pack thin = (IsNeedless before instr × (thin ≡ idle_pack)) ⊎ (¬ IsNeedless before instr × (thin ≡ pack))
+
+-- the thin form of a list of packs
+pub record IsThinForm (packs thins : List (List ℕ)) : Type 0 where
+  pub instrs : List Instr
+  pub read : AreInstructionsOf packs instrs
+  pub count : length thins ≡ length packs
+  pub each : (n : ℕ) → n < length packs → IsThinned (take n instrs) (slice_index_or instrs n Idle) (slice_index_or packs n []) (slice_index_or thins n [])
+
+-- the thin form of the whole packs of some bytes, as bytes
+pub record IsThinText (bytes text : List ℕ) : Type 0 where
+  pub thins : List (List ℕ)
+  pub form : IsThinForm (whole_parts 24 bytes) thins
+  pub text_is : text ≡ concat thins
+
+-- the same stands after the first m packs of both
+pub record StandAlike (m : ℕ) (packs others : List (List ℕ)) : Type 0 where
+  pub instrs : List Instr
+  pub other_instrs : List Instr
+  pub read : AreInstructionsOf (take m packs) instrs
+  pub other_read : AreInstructionsOf (take m others) other_instrs
+  pub same : SameStanding (standing_after blank instrs) (standing_after blank other_instrs)

@@ -1,0 +1,23 @@
+// The instruction of a pack of a file, whose parity may be anything.
+ghost use Rattle.std.specs.Prelude.{◌≡◌};
+ghost use Rattle.cdg_instructions.specs.Instruction.{InRange};
+ghost use Rattle.cdg_thin.specs.Steps.{instruction_of};
+ghost use Rattle.cdg_thin.specs.Thin.{is_graphic};
+
+use cdg_instructions::{Instr, read_word};
+use rw_code::Word;
+
+/// The instruction of 24 bytes. The codeword that they make, whose parity is made good, has the same.
+pub(crate) fn instruction(bytes: &[u8; 24]) -> Instr
+    ensures meaning { result ≡ instruction_of bytes.now }
+    ensures range { InRange result }
+{
+    read_word(&Word::new(bytes))
+}
+
+/// Whether it is one of the nine graphics instructions.
+pub(crate) fn is_graphic(instr: &Instr) -> bool
+    ensures { result ≡ is_graphic instr.now }
+{
+    !matches!(instr, Instr::Idle | Instr::Foreign | Instr::Unknown)
+}

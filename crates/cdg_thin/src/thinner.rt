@@ -1,0 +1,121 @@
+// From packs to those of the thin form.
+ghost use Rattle.std.specs.Prelude.{◌≡◌, ◌≢◌, ◌≤◌, List, ℕ, length, Err, IfOk, IfSome, IsErrOf};
+ghost use Rattle.cdg_instructions.specs.Instruction.{InRange};
+ghost use Rattle.cdg_io.specs.Causes.{Rose};
+ghost use Rattle.cdg_io.specs.Pump.{FillsUnits, IsUnlessFault, TellsEndOf, answer_of};
+ghost use Rattle.cdg_screen.specs.Picture.{SameStanding, blank, standing_of};
+ghost use Rattle.cdg_screen.specs.Standings.{obeyed};
+ghost use Rattle.cdg_thin.specs.Calls.{Thins, ThinsAll};
+ghost use Rattle.cdg_thin.specs.Steps.{is_needless, thin_next, thin_gives};
+
+use crate::instruction::{instruction, is_graphic};
+use crate::laws::thin_forms_stand_alike;
+use cdg_instructions::Instr;
+use cdg_io::{Piece, PumpStop, Pumped, Sink, Source, Stage, pump};
+use cdg_screen::Screen;
+use std::alloc::{AllocError, Global};
+use std::marker::Model;
+
+/// The most packs that are read.
+const MOST_PACKS: u32 = 4_000_000;
+
+/// Makes packs that change nothing idle. All its memory is taken at the start.
+#[derive(Drop)]
+pub struct Thinner {
+    screen: Screen,
+}
+
+impl Model for Thinner {
+    ghost use Rattle.cdg_screen.specs.Picture.{Display, standing_of};
+    ghost use Rattle.cdg_screen.specs.Standings.{display_of};
+
+    ghost Value = { Display };
+
+    ghost view = { λ t. display_of (standing_of t.screen) };
+}
+
+impl Thinner {
+    /// Takes the memory of a screen.
+    pub fn start(alloc: Global) -> Result<Thinner, AllocError>
+        ensures { IfOk result (λ t. SameStanding (standing_of t) blank) }
+    {
+        Ok(Thinner {
+            screen: Screen::start(alloc)?,
+        })
+    }
+
+    /// Writes the thin form of a file of packs as it is read: 24 zeros for each pack with a graphics instruction that
+    /// changes nothing where it stands, and every other pack as it is. `Ok` tells how many packs there are.
+    ///
+    /// A pack is 24 bytes, and at most 4,000,000 are read. Their parity is not looked at. Each call begins anew, with all
+    /// zero, whatever stopped the one before.
+    ///
+    /// # Errors
+    ///
+    /// `Torn` where the file ends within a pack, `TooLong` where a byte follows the last pack that is read, `ReadFault`
+    /// where a read failed: these come after all is written for the whole packs read. After `WriteFault` the sink holds a
+    /// prefix, and no later pack was read.
+    pub fn run<S: Source, K: Sink>(
+        &mut self,
+        source: &mut S,
+        out: &mut K,
+    ) -> Result<Pumped, PumpStop>
+        ensures thins { (taken : List ℕ) × Thins (S.left source.old) (S.left source.new)
+            (K.held out.old) (K.held out.new) result taken }
+        // What stands after each number of packs is the same in what was put, and nothing in it can be left out.
+        ensures whole { IfSome (S.left source.old) (λ all. ThinsAll all (K.held out.old) (K.held out.new) result) }
+        // Where nothing failed, the answer is that of the whole input's length.
+        ensures answer { IfSome (S.left source.old) (λ all. IsUnlessFault result (answer_of 24 4000000 (length all))) }
+        ensures source_later { S.faults source.old ≤ S.faults source.new }
+        ensures out_later { K.faults out.old ≤ K.faults out.new }
+        ensures read_fault { IsErrOf result PumpStop.ReadFault → Rose (S.faults source.old) (S.faults source.new) }
+        ensures no_read_fault { result ≢ Err PumpStop.ReadFault → S.faults source.new ≡ S.faults source.old }
+        ensures ended { TellsEndOf result (S.ends source.old) (S.ends source.new) }
+        ensures rooms { FillsUnits 4000000 result (S.fills source.old) (S.fills source.new) }
+        ensures write_fault { IsErrOf result PumpStop.WriteFault → Rose (K.faults out.old) (K.faults out.new) }
+        ensures no_write_fault { result ≢ Err PumpStop.WriteFault → K.faults out.new ≡ K.faults out.old }
+    {
+        thin_forms_stand_alike();
+        self.reset();
+        pump(source, MOST_PACKS, self, out)
+    }
+
+    // Makes all zero again.
+    fn reset(&mut self)
+        ensures { SameStanding (standing_of self.new) blank }
+    {
+        self.screen.reset();
+    }
+
+    // Carries out an instruction, and tells whether it was needless.
+    fn passes_over(&mut self, instr: &Instr) -> bool
+        requires { InRange instr.now }
+        ensures next { self.new ≡ obeyed self.old instr.now }
+        ensures needless { result ≡ is_needless self.old instr.now }
+    {
+        if self.screen.changes(instr) {
+            self.screen.obey(instr);
+            return false;
+        }
+        is_graphic(instr)
+    }
+}
+
+impl Stage for Thinner {
+    type Item = [u8; 24];
+
+    type Out = Piece;
+
+    ghost next = { thin_next };
+
+    ghost gives = { thin_gives };
+
+    fn feed(&mut self, pack: &[u8; 24]) -> Option<Piece> {
+        let piece = Piece::new();
+        if self.passes_over(&instruction(pack)) {
+            Some(piece.with(&[0; 24]))
+        } else {
+            Some(piece.with(pack))
+        }
+    }
+}
