@@ -1,9 +1,10 @@
 -- The text packs of a lead-in and the blocks that it needs.
 use Rattle.std.proofs.Common.{◌≡◌, ℕ, ◌+◌, ◌*◌, ◌/◌, ◌<◌, ◌≤◌, List, length, max, sym, ap, subst, ◌∙◌}
 use Rattle.std.proofs.lemmas.List.{length-map}
-use Rattle.std.proofs.lemmas.List.FromFn.{length-enumerate_from}
+use Rattle.std.proofs.lemmas.List.FromFn.{length-enumerate_from, length-map-range_with_len}
 use Rattle.std.specs.List.{enumerate_from}
 use Rattle.cue_sheet.specs.CueSheet.{CueSheet}
+use Rattle.toc_model.specs.Places.{DiscLayout, layout_of, place_of}
 use Rattle.cdtext_packs.specs.Packs.{sealed}
 use Rattle.cdtext_packs.specs.Texts.{Texts}
 use Rattle.cdtext_packs.specs.Writing.{Content, contents, content_bytes, packs_of, IsPackStop}
@@ -40,3 +41,6 @@ lead_in_short sheet lead_in packs need packed some short = (some, few_packs shee
 
 pub has_room : (sheet : CueSheet) (lead_in : ℕ) (packs : List (List ℕ)) (need : ℕ) → ArePacked sheet packs need → need ≤ lead_in → HasRoom sheet lead_in
 has_room sheet lead_in packs need packed fits some = (few_packs sheet packs need packed, subst (λ n. n ≤ lead_in) (need_of sheet packs need packed) fits)
+
+pub track_count : (sheet : CueSheet) (audio : ℕ) (layout : DiscLayout) → layout ≡ layout_of sheet audio → length layout.tracks ≡ length sheet.tracks
+track_count sheet audio layout same = ap (λ (l : DiscLayout). length l.tracks) same ∙ length-map-range_with_len (place_of sheet) 0 (length sheet.tracks)

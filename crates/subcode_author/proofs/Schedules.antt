@@ -2,10 +2,9 @@
 use Rattle.std.proofs.Common.{◌≡◌, ℕ, ◌+◌, ◌*◌, ◌<◌, ◌≤◌, List, [], length, get_or, inr, ap, subst, ◌∙◌, arith}
 use Rattle.std.specs.declared.option.Option.{Option}
 use Rattle.std.specs.Io.KnownBytes.{Appends}
-use Rattle.std.proofs.lemmas.List.FromFn.{length-map-range_with_len}
 use Rattle.rw_interleave.specs.Interleave.{whole_packs}
 use Rattle.cue_sheet.specs.CueSheet.{CueSheet}
-use Rattle.toc_model.specs.Places.{DiscLayout, layout_of, place_of, program_blocks}
+use Rattle.toc_model.specs.Places.{DiscLayout, layout_of, program_blocks}
 use Rattle.picture_script.specs.Script.{Drawing, pictures, ready_time, hold_time, picture_pixel}
 use Rattle.picture_changes.specs.Schedule.{start_of, IsInTime, IsSchedule}
 use Rattle.picture_changes.specs.PlannedChange.{planned_change}
@@ -135,6 +134,3 @@ part_of sheet script woven layout texts lead_in audio a b disc few first texts_a
   part_with (layout_of sheet audio) (IsPackAt script) texts (text_packs sheet) lead_in a b w.0 w.1 texts_are
       (subst (λ (l : DiscLayout). PutsStreamPart l (IsPackAt script) texts lead_in a b w.0 w.1) disc (part_of_script script woven layout texts lead_in a b w.0 w.1 few first w.2)),
 )
-
-pub track_count : (sheet : CueSheet) (audio : ℕ) (layout : DiscLayout) → layout ≡ layout_of sheet audio → length layout.tracks ≡ length sheet.tracks
-track_count sheet audio layout same = ap (λ (l : DiscLayout). length l.tracks) same ∙ length-map-range_with_len (place_of sheet) 0 (length sheet.tracks)
