@@ -5,7 +5,7 @@ use Rattle.picture_script.specs.Script.{Drawing, pictures, ready_time, hold_time
 use Rattle.pack_schedule.specs.Survey.{IsSurvey, IsWithin}
 use Rattle.pack_schedule.specs.declared.planned.Planned.{Planned}
 use Rattle.stream_writer.proofs.Room.{track_count}
-use Rattle.subcode_author.proofs.Schedules.{authored, cut_idle, part_of, track_count, IsPlannedScript}
+use Rattle.subcode_author.proofs.Schedules.{authored, cut_idle, part_of, IsPlannedScript}
 use Rattle.subcode_author.proofs.PictureStops.{late_told, picture_stop}
 use Rattle.subcode_author.proofs.author.author_stream.Goals as goal
 
