@@ -15,7 +15,7 @@ use Rattle.q_channel.specs.QReading.{IsReading}
 use Rattle.block_stages.specs.QList.{q_lines, AreReadings, IsQListed}
 use Rattle.toc_model.specs.Places.{DiscLayout}
 use Rattle.toc_model.specs.Layout.{program_frame, toc_frame}
-use Rattle.subcode_author.specs.Framing.{raw_block, HasFraming}
+use Rattle.stream_writer.specs.Framing.{raw_block, HasFraming}
 use Rattle.authored_listings.specs.FrameLines.{stream_frames, frame_lines}
 
 length-parts : {X : Type 0} → (count size : ℕ) (xs : List X) → length (parts count size xs) ≡ count

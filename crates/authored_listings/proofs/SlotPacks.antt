@@ -13,7 +13,7 @@ use Rattle.raw_subcode.specs.declared.form.Form.TheVariants.{Raw}
 use Rattle.cdtext_packs.specs.LeadIn.{pack_symbols, lead_in_slot, lead_in_symbols, pack_at, lead_in_packs}
 use Rattle.toc_model.specs.Places.{DiscLayout}
 use Rattle.text_laws.specs.Copies.{IsPack}
-use Rattle.subcode_author.specs.Framing.{HasFraming}
+use Rattle.stream_writer.specs.Framing.{HasFraming}
 use Rattle.authored_listings.specs.Slots.{pack_in_slot, packs_in_slots}
 use Rattle.authored_listings.proofs.ListedFrames.{length-whole_parts, length-raw_blocks}
 

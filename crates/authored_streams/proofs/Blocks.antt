@@ -5,7 +5,7 @@ use Rattle.std.proofs.lemmas.List.Elements.{All-from_recursion}
 use Rattle.raw_subcode.specs.Channels.{channel_bit, p_bits, q_bits, symbols_of}
 use Rattle.q_frame.specs.QFrame.{IsValid}
 use Rattle.q_frame.specs.declared.frame.QFrame.{QFrame}
-use Rattle.subcode_author.specs.Blocks.{built_byte, built_block, frame_bits, IsBuilt}
+use Rattle.stream_writer.specs.Blocks.{built_byte, built_block, frame_bits, IsBuilt}
 use Rattle.authored_streams.proofs.Codewords.{AreSymbols}
 use Rattle.authored_streams.proofs.FrameBits.{frame_size}
 use Rattle.authored_streams.proofs.LeadIns.{IsSymbols}

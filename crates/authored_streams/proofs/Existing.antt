@@ -14,12 +14,13 @@ use Rattle.cdtext_packs.specs.LeadIn.{lead_in_symbols}
 use Rattle.cdtext_packs.specs.SheetTexts.{texts_of_sheet}
 use Rattle.picture_script.specs.Script.{Drawing, picture_pixel}
 use Rattle.picture_changes.specs.Shown.{AreTimesInOrder, AreColoursInRange}
-use Rattle.subcode_author.specs.Blocks.{carrying_block, lead_in_block, program_block, stream_bytes, symbols_at, IsBuilt}
-use Rattle.subcode_author.specs.Given.{symbols_from}
+use Rattle.stream_writer.specs.Blocks.{carrying_block, lead_in_block, program_block, stream_bytes, symbols_at, IsBuilt}
+use Rattle.stream_writer.specs.Given.{symbols_from}
 use Rattle.subcode_author.specs.Authored.{text_packs, IsAuthored}
 use Rattle.subcode_author.specs.AuthorAnswer.{IsAccepted}
-use Rattle.subcode_author.proofs.Framed.{AreBuilt, framing, program_is}
-use Rattle.subcode_author.proofs.Schedules.{SpreadCarries, PacksAreSchedule}
+use Rattle.stream_writer.proofs.Framed.{AreBuilt, framing, program_is}
+use Rattle.stream_writer.proofs.Whole.{SpreadCarries}
+use Rattle.subcode_author.proofs.Schedules.{PacksAreSchedule}
 use Rattle.authored_streams.proofs.Symbols.{in_pack, symbol_of_pack}
 use Rattle.authored_streams.proofs.Ends.{within}
 use Rattle.authored_streams.proofs.Frames.{sheet_program_valid, sheet_toc_valid}

@@ -16,13 +16,14 @@ use Rattle.toc_model.specs.Places.{DiscLayout, layout_of, program_blocks}
 use Rattle.picture_script.specs.Script.{Drawing}
 use Rattle.pack_schedule.specs.Woven.{IsPackAt, ArePacks}
 use Rattle.picture_changes.specs.Shown.{AreTimesInOrder}
-use Rattle.subcode_author.specs.Blocks.{carrying_block, lead_in_block, program_block, stream_bytes}
-use Rattle.subcode_author.specs.Given.{symbols_from, AreGiven, PutsStreamPart}
+use Rattle.stream_writer.specs.Blocks.{carrying_block, lead_in_block, program_block, stream_bytes}
+use Rattle.stream_writer.specs.Given.{symbols_from, AreGiven}
+use Rattle.subcode_author.specs.Given.{PutsStreamPart}
 use Rattle.subcode_author.specs.Authored.{text_packs, IsAuthored}
 use Rattle.subcode_author.specs.AuthorAnswer.{IsAccepted}
-use Rattle.subcode_author.proofs.Schedules.{SpreadCarries}
-use Rattle.subcode_author.proofs.Pieces.{pieces_front, prefix_first}
-use Rattle.subcode_author.proofs.Slots.{length-symbols_from, symbols_from-append, earlier_block}
+use Rattle.stream_writer.proofs.Whole.{SpreadCarries}
+use Rattle.stream_writer.proofs.Pieces.{pieces_front, prefix_first}
+use Rattle.stream_writer.proofs.Slots.{length-symbols_from, symbols_from-append, earlier_block}
 use Rattle.authored_streams.proofs.Ends.{idle_past}
 use Rattle.authored_streams.proofs.Packs.{one_pack}
 use Rattle.authored_streams.proofs.Symbols.{same_symbols}
@@ -51,7 +52,7 @@ module _ (script : List Drawing) (blocks : ℕ) (packs : List (List ℕ)) (count
         ∙ sym (idle n pack (omega (arith, count, past)) is_pack)
   ]
 
-  given_front : (n : ℕ) (given : List (List ℕ)) → n ≤ blocks → AreGiven script 0 (4 * n) given → take (4 * n) filled ≡ given
+  given_front : (n : ℕ) (given : List (List ℕ)) → n ≤ blocks → AreGiven (IsPackAt script) 0 (4 * n) given → take (4 * n) filled ≡ given
   given_front n given le are =
       let fits : 4 * n ≤ length filled = omega (arith, length-filled, le) in
       let size : length (take (4 * n) filled) ≡ 4 * n = length-take-le (4 * n) filled fits in
@@ -61,7 +62,7 @@ module _ (script : List Drawing) (blocks : ℕ) (packs : List (List ℕ)) (count
       get_or-take (4 * n) filled k [] inside ∙ filled_at k (get_or given k []) (omega (arith, inside, le)) (subst (λ m. IsPackAt script m (get_or given k [])) here (are.each k inside)))
 
   -- the symbols of the given packs stand in front of all
-  pub symbols_front : (n : ℕ) (given : List (List ℕ)) → n ≤ blocks → AreGiven script 0 (4 * n) given
+  pub symbols_front : (n : ℕ) (given : List (List ℕ)) → n ≤ blocks → AreGiven (IsPackAt script) 0 (4 * n) given
       → (more : List ℕ) × (symbols_from [] (filled_with_idle (4 * blocks) packs) ≡ symbols_from [] given ++ more)
   unfolding filled
   symbols_front n given le are =

@@ -11,10 +11,10 @@ use Rattle.toc_model.specs.Places.{DiscLayout, layout_of, program_blocks}
 use Rattle.toc_model.specs.Layout.{p_bit, program_frame, toc_frame}
 use Rattle.cdtext_packs.specs.LeadIn.{lead_in_symbols}
 use Rattle.picture_script.specs.Script.{Drawing}
-use Rattle.subcode_author.specs.Blocks.{built_block, frame_bits, lead_in_block, carrying_block, program_block, symbols_at, stream_bytes, HasChannels}
-use Rattle.subcode_author.specs.Framing.{raw_block, HasFraming}
+use Rattle.stream_writer.specs.Blocks.{built_block, frame_bits, lead_in_block, carrying_block, program_block, symbols_at, stream_bytes, HasChannels}
+use Rattle.stream_writer.specs.Framing.{raw_block, HasFraming}
 use Rattle.subcode_author.specs.Authored.{text_packs, IsAuthored}
-use Rattle.subcode_author.proofs.Built.{made_of}
+use Rattle.stream_writer.proofs.Built.{made_of}
 use Rattle.authored_streams.proofs.Cuts.{bytes_at, raw_block_at, symbols_of_block, two_parts}
 use Rattle.authored_streams.proofs.Packs.{same_packs}
 use Rattle.authored_streams.proofs.Symbols.{same_symbols}

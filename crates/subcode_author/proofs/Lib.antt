@@ -1,9 +1,2 @@
-pub mod Built
-pub mod Pieces
-pub mod Slots
-pub mod Programs
-pub mod Framed
-pub mod Streams
-pub mod Texts
 pub mod Schedules
 pub mod PictureStops

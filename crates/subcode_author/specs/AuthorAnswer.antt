@@ -6,33 +6,17 @@ use Rattle.picture_script.specs.Script.{Drawing, pictures}
 use Rattle.picture_changes.specs.Schedule.{IsInTime, IsLate}
 use Rattle.picture_changes.specs.PlannedChange.{planned_change}
 use Rattle.pack_schedule.specs.Survey.{IsPastEnd}
-use Rattle.subcode_author.specs.Authored.{text_packs, lead_in_need}
+pub use Rattle.stream_writer.specs.Needs.{HasLayout, HasRoom, IsLeadInShort, IsTextTooLong}
 use Rattle.subcode_author.specs.declared.stops.AuthorStop.{AuthorStop}
 use Rattle.subcode_author.specs.declared.stops.AuthorStop.TheVariants.{LengthShort, DiscTooLong, PastEnd, TextTooLong, LeadInShort, Late, WriteFault, NoMemory}
 
--- the sheet has a layout with this audio
-abbrev pub HasLayout : CueSheet → ℕ → Type 0
-HasLayout sheet audio = (audio_need sheet ≤ audio) × (program_blocks sheet audio ≤ 449999)
-
--- it has, and no picture is held past the end of the program
+-- the sheet has a layout with this audio, and no picture is held past the end of the program
 abbrev pub HoldsPictures : CueSheet → List Drawing → ℕ → Type 0
 HoldsPictures sheet script audio = HasLayout sheet audio × ¬ IsPastEnd script (program_blocks sheet audio)
-
--- a lead-in, if there is one, has room for the texts and the table of contents
-abbrev pub HasRoom : CueSheet → ℕ → Type 0
-HasRoom sheet lead_in = 0 < lead_in → (length (text_packs sheet) ≤ 256) × (lead_in_need sheet ≤ lead_in)
 
 -- every picture is ready in time
 abbrev pub AreReady : List Drawing → Type 0
 AreReady script = (k : ℕ) → k < pictures script → IsInTime script k (length (planned_change script k))
-
--- a lead-in was asked for, and its texts need so many packs, which are more than 256
-abbrev pub IsTextTooLong : CueSheet → ℕ → ℕ → Type 0
-IsTextTooLong sheet lead_in packs = (0 < lead_in) × (256 < packs) × (packs ≡ length (text_packs sheet))
-
--- a lead-in was asked for, its texts have at most 256 packs, and it has fewer blocks than these and the table of contents need
-abbrev pub IsLeadInShort : CueSheet → ℕ → ℕ → Type 0
-IsLeadInShort sheet lead_in need = (0 < lead_in) × (length (text_packs sheet) ≤ 256) × (lead_in < need) × (need ≡ lead_in_need sheet)
 
 -- why a sheet, with its audio and the last picture, has no place on a disc; want of memory comes only where it has a layout
 abbrev pub IsDiscStop : CueSheet → List Drawing → ℕ → AuthorStop → Type 0
@@ -41,13 +25,6 @@ IsDiscStop sheet script audio (DiscTooLong blocks) = (audio_need sheet ≤ audio
 IsDiscStop sheet script audio (PastEnd blocks) = HasLayout sheet audio × (blocks ≡ program_blocks sheet audio) × IsPastEnd script blocks
 IsDiscStop sheet script audio NoMemory = HasLayout sheet audio
 IsDiscStop sheet script audio _ = ⊥
-
--- why a lead-in cannot be filled
-abbrev pub IsLeadInStop : CueSheet → ℕ → AuthorStop → Type 0
-IsLeadInStop sheet lead_in (TextTooLong packs) = IsTextTooLong sheet lead_in packs
-IsLeadInStop sheet lead_in (LeadInShort need) = IsLeadInShort sheet lead_in need
-IsLeadInStop sheet lead_in NoMemory = ⊤
-IsLeadInStop sheet lead_in _ = ⊥
 
 -- why the pictures cannot be sent in time
 abbrev pub IsPictureStop : List Drawing → AuthorStop → Type 0

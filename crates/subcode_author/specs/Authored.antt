@@ -1,24 +1,15 @@
 -- The stream of a cue sheet and a picture script.
-use Rattle.std.specs.Prelude.{ℕ, ◌+◌, ◌*◌, ◌/◌, ◌<◌, ◌≤◌, List, length, max}
+use Rattle.std.specs.Prelude.{ℕ, ◌<◌, ◌≤◌, List}
 use Rattle.raw_subcode.specs.Channels.{program_symbols}
 use Rattle.raw_subcode.specs.declared.form.Form.TheVariants.{Raw}
 use Rattle.rw_interleave.specs.Interleave.{Carries}
 use Rattle.cue_sheet.specs.CueSheet.{CueSheet}
 use Rattle.toc_model.specs.Places.{layout_of, program_blocks}
-use Rattle.cdtext_packs.specs.SheetTexts.{texts_of_sheet}
-use Rattle.cdtext_packs.specs.Writing.{packs_of}
 use Rattle.picture_script.specs.Script.{Drawing}
 use Rattle.picture_changes.specs.Schedule.{IsSchedule}
 use Rattle.pack_schedule.specs.Woven.{ArePacks}
-use Rattle.subcode_author.specs.Framing.{HasFraming}
-
--- the text packs of a sheet
-abbrev pub text_packs : CueSheet → List (List ℕ)
-text_packs sheet = packs_of (texts_of_sheet sheet)
-
--- the least count of lead-in blocks, if there are any: each entry of the table of contents three times, and each text pack once
-abbrev pub lead_in_need : CueSheet → ℕ
-lead_in_need sheet = max (3 * (length sheet.tracks + 3)) ((length (text_packs sheet) + 3) / 4)
+use Rattle.stream_writer.specs.Framing.{HasFraming}
+pub use Rattle.stream_writer.specs.Needs.{text_packs, lead_in_need}
 
 -- the stream of a sheet and a script carries these packs, which are a schedule of the script with the changes that are written
 pub record IsAuthored (sheet : CueSheet) (script : List Drawing) (lead_in audio : ℕ) (bytes : List ℕ) (packs : List (List ℕ)) : Type 0 where

@@ -1,5 +1,3 @@
-pub mod Blocks
-pub mod Framing
 pub mod Given
 pub mod Authored
 pub mod Stops

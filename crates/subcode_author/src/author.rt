@@ -8,16 +8,17 @@ ghost use Rattle.subcode_author.specs.Authored.{text_packs, IsAuthored};
 ghost use Rattle.subcode_author.specs.AuthorAnswer.{IsAccepted, IsAuthorStop};
 ghost use Rattle.subcode_author.specs.Given.{PutsStreamPart};
 
-use crate::parts::{lay_out, pack_texts, start_weaver};
+use crate::parts::{lay_out, start_weaver};
+use crate::scheduled::Scheduled;
 use crate::stops::AuthorStop;
-use crate::stream::put_stream;
 use cdg_io::Sink;
 use cue_sheet::Sheet;
 use pack_schedule::packs_are_a_schedule;
 use picture_script::Script;
-use rw_interleave::{Spread, spread_carries};
+use rw_interleave::Spread;
 use shortest_changes::needs_are_fewest;
 use std::alloc::Global;
+use stream_writer::{pack_texts, write_stream};
 
 /// Writes the subcode of a disc with a lead-in of so many blocks and an audio of so many blocks: the lead-in with the table
 /// of contents and the texts, and the program with the frames of the sheet and the pictures of the script.
@@ -58,15 +59,15 @@ pub fn author_stream<K: Sink>(
         × PutsStreamPart (layout_of sheet.now length) script.now (text_packs sheet.now) lead_in (K.held out.old) (K.held out.new) n packs }
     ensures later { K.faults out.old ≤ K.faults out.new }
 {
-    spread_carries();
     packs_are_a_schedule();
     needs_are_fewest();
     // What holds of every script: its pictures are in order, and have sixteen colours.
     let _times = script.pictures();
     let layout = lay_out(alloc, sheet, script, length)?;
     let texts = pack_texts(alloc, sheet, &layout, lead_in)?;
-    let mut weaver = start_weaver(alloc, script, layout.blocks())?;
+    let weaver = start_weaver(alloc, script, layout.blocks())?;
+    let mut source = Scheduled { weaver };
     let mut spread = Spread::start(alloc)?;
-    put_stream(&layout, &texts, lead_in, &mut weaver, &mut spread, out)?;
+    write_stream(&layout, &texts, lead_in, &mut source, &mut spread, out)?;
     Ok(())
 }

@@ -2,11 +2,9 @@
 #![tactic(auto)]
 
 mod author;
-mod blocks;
 mod parts;
-mod program;
+mod scheduled;
 mod stops;
-mod stream;
 
 pub use author::author_stream;
 pub use stops::AuthorStop;

@@ -1,13 +1,11 @@
 // The parts of a stream, which are all at hand before anything is written.
-ghost use Rattle.std.specs.Prelude.{◌≡◌, ◌<◌, ◌↔◌, List, ℕ, length, IfOk, IfErr, OnOk, IsTrue};
+ghost use Rattle.std.specs.Prelude.{◌≡◌, ◌<◌, ◌↔◌, List, ℕ, IfOk, IfErr, OnOk, IsTrue};
 ghost use Rattle.toc_model.specs.Places.{layout_of};
 ghost use Rattle.pack_schedule.specs.Survey.{IsPastEnd, IsSurvey, IsWithin};
 ghost use Rattle.pack_schedule.specs.declared.planned.Planned.{Planned};
-ghost use Rattle.subcode_author.specs.Authored.{text_packs};
-ghost use Rattle.subcode_author.specs.AuthorAnswer.{HoldsPictures, HasRoom, IsDiscStop, IsLeadInStop, IsPictureStop};
+ghost use Rattle.subcode_author.specs.AuthorAnswer.{HoldsPictures, IsDiscStop, IsPictureStop};
 
 use crate::stops::AuthorStop;
-use cdtext_packs::{TextMap, TextPack, pack_all};
 use cue_sheet::Sheet;
 use pack_schedule::{Weaver, survey};
 use picture_script::Script;
@@ -40,30 +38,6 @@ fn is_past_end(script: &Script, blocks: u32) -> bool
 {
     let pictures = script.pictures();
     pictures > 0 && script.hold(pictures - 1) > blocks
-}
-
-/// The text packs for a lead-in of so many blocks, which has room for them and for the table of contents.
-pub(crate) fn pack_texts(
-    alloc: Global,
-    sheet: &Sheet,
-    layout: &Layout,
-    lead_in: u32,
-) -> Result<Vec<TextPack>, AuthorStop>
-    requires { length layout.now.tracks ≡ length sheet.now.tracks }
-    ensures packs { IfOk result (λ packs. 0 < lead_in → packs.items ≡ text_packs sheet.now) }
-    ensures room { OnOk result (HasRoom sheet.now lead_in) }
-    ensures err { IfErr result (IsLeadInStop sheet.now lead_in) }
-{
-    if lead_in == 0 {
-        return Ok(Vec::new(alloc));
-    }
-    let map = TextMap::from_sheet(alloc, sheet)?;
-    let packs = pack_all(alloc, &map)?;
-    let need = layout.toc_blocks().max((packs.len() as u32 + 3) / 4);
-    if lead_in < need {
-        return Err(AuthorStop::LeadInShort { need });
-    }
-    Ok(packs)
 }
 
 /// The weaver of a script whose pictures are all ready in time.

@@ -2,9 +2,9 @@
 ghost use Rattle.std.specs.Prelude.{◌≡◌};
 
 use cdg_io::Failed;
-use cdtext_packs::PackStop;
 use pack_schedule::Stop;
 use std::alloc::AllocError;
+use stream_writer::LeadInStop;
 use toc_model::LayoutStop;
 
 /// Why a stream was not written, or not whole.
@@ -42,15 +42,16 @@ impl From<LayoutStop> for AuthorStop {
     }
 }
 
-impl From<PackStop> for AuthorStop {
-    ghost use Rattle.subcode_author.specs.Stops.{of_packs};
+impl From<LeadInStop> for AuthorStop {
+    ghost use Rattle.subcode_author.specs.Stops.{of_lead_in};
 
-    ghost from_gives = { λ stop e. e ≡ of_packs stop };
+    ghost from_gives = { λ stop e. e ≡ of_lead_in stop };
 
-    fn from(stop: PackStop) -> AuthorStop {
+    fn from(stop: LeadInStop) -> AuthorStop {
         match stop {
-            PackStop::TooMany { packs } => AuthorStop::TextTooLong { packs },
-            PackStop::NoMemory => AuthorStop::NoMemory,
+            LeadInStop::TextTooLong { packs } => AuthorStop::TextTooLong { packs },
+            LeadInStop::LeadInShort { need } => AuthorStop::LeadInShort { need },
+            LeadInStop::NoMemory => AuthorStop::NoMemory,
         }
     }
 }

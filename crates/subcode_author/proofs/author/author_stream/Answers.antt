@@ -1,8 +1,11 @@
-use Rattle.std.proofs.Common.{ap, subst, ◌∙◌}
+use Rattle.std.proofs.Common.{◌≡◌, ℕ, ◌<◌, ◌≤◌, List, ap, subst, ◌∙◌, arith}
 use Rattle.std.proofs.lemmas.Result.{err_from_is_err_and}
 use Rattle.toc_model.specs.Places.{DiscLayout}
-use Rattle.pack_schedule.specs.Survey.{IsWithin}
-use Rattle.subcode_author.proofs.Schedules.{authored, part_of, track_count}
+use Rattle.picture_script.specs.Script.{Drawing, pictures, ready_time, hold_time, picture_pixel}
+use Rattle.pack_schedule.specs.Survey.{IsSurvey, IsWithin}
+use Rattle.pack_schedule.specs.declared.planned.Planned.{Planned}
+use Rattle.stream_writer.proofs.Room.{track_count}
+use Rattle.subcode_author.proofs.Schedules.{authored, cut_idle, part_of, IsPlannedScript}
 use Rattle.subcode_author.proofs.PictureStops.{late_told, picture_stop}
 use Rattle.subcode_author.proofs.author.author_stream.Goals as goal
 
@@ -23,22 +26,47 @@ returns-in_err-weaver-clause-late g c picture need free told =
     late_told c.needs_are_fewest.ensures.late c.args.sheet.now c.args.script.now c.args.lead_in c.args.length c.in_err-weaver.field-0.0 (record { held = known.held; later = known.later })
     (record { border = known.borders; colour = known.colours }) known.pixels stop picture need free (let first = p.1 in let second = p.2 in cc)
 
-pub returns-in_err-put_stream-clause-part : goal.returns-in_err-put_stream-clause-part
-returns-in_err-put_stream-clause-part g c = λ failed.
-    part_of _ _ _ _ _ _ _ _ _ c.in_ok-layout.ensures.layout c.in_ok-weaver.ensures.script (λ some. c.deref.ensures.value ∙ c.in_ok-texts.ensures.packs some)
-    c.in_err-put_stream.ensures.part
+known_script : (script : List Drawing) (blocks blocks' : ℕ) → blocks ≡ blocks' → IsWithin script blocks → ((planned : List Planned) × IsSurvey script planned)
+    → ((k : ℕ) → k < pictures script → ready_time script k ≤ hold_time script k) → ((k x y : ℕ) → picture_pixel script k x y < 16) → IsPlannedScript script blocks'
+known_script script blocks blocks' same within planned held pixels = record {
+  within = subst (IsWithin script) same within;
+  survey = planned.0;
+  surveyed = planned.1;
+  held = held;
+  pixels = pixels;
+}
+
+few_blocks : (blocks result : ℕ) → result ≡ blocks → result ≤ 449999 → blocks ≤ 449999
+few_blocks blocks result same few = omega (arith, same, few)
+
+pub write_stream-requires-clause-cut : goal.write_stream-requires-clause-cut
+write_stream-requires-clause-cut g c =
+    cut_idle c.args.script.now c.in_ok-weaver.weaver c.in_ok-layout.layout.blocks
+    (few_blocks c.in_ok-layout.layout.blocks c.blocks-2.result c.blocks-2.ensures.blocks c.blocks-2.ensures.bound)
+    (record { script_is = c.in_ok-weaver.ensures.script; given_is = c.in_ok-weaver.ensures.given })
+    (known_script c.args.script.now c.blocks-2.result c.in_ok-layout.layout.blocks c.blocks-2.ensures.blocks c.in_ok-weaver.ensures.within c.in_ok-weaver.ensures.planned
+    c.pictures-times.ensures.held c.pictures-times.ensures.pixels)
+
+pub returns-in_err-write_stream-clause-part : goal.returns-in_err-write_stream-clause-part
+returns-in_err-write_stream-clause-part g c = λ failed.
+    part_of c.args.sheet.now c.args.script.now c.in_ok-weaver.weaver c.in_ok-layout.layout c.deref.result.now c.args.lead_in c.args.length
+    (g.K.Sink.held c.args.out.now) (g.K.Sink.held c.write_stream.new.out)
+    c.in_ok-layout.ensures.layout
+    (few_blocks c.in_ok-layout.layout.blocks c.blocks-2.result c.blocks-2.ensures.blocks c.blocks-2.ensures.bound)
+    (record { script_is = c.in_ok-weaver.ensures.script; given_is = c.in_ok-weaver.ensures.given })
+    (λ some. c.deref.ensures.value ∙ c.in_ok-texts.ensures.packs some)
+    c.in_err-write_stream.ensures.part
 
 pub returns-clause-authored : goal.returns-clause-authored
 returns-clause-authored g c =
-    let planned = c.in_ok-weaver.ensures.planned in
     let blocks = c.blocks-2.ensures.blocks ∙ ap (λ (l : DiscLayout). l.blocks) c.in_ok-layout.ensures.layout in
-    authored c.spread_carries.ensures c.packs_are_a_schedule.ensures c.args.sheet.now c.args.script.now _ _ _ c.args.lead_in c.args.length _ _
-    c.in_ok-layout.ensures.layout c.in_ok-weaver.ensures.script (λ some. c.deref.ensures.value ∙ c.in_ok-texts.ensures.packs some) c.in_ok-texts.ensures.room
-    (record {
-      within = subst (IsWithin c.args.script.now) blocks c.in_ok-weaver.ensures.within;
-      survey = planned.0;
-      surveyed = planned.1;
-      held = c.pictures-times.ensures.held;
-      pixels = c.pictures-times.ensures.pixels;
-    })
-    c.in_ok-put_stream.ensures.ok
+    authored c.packs_are_a_schedule.ensures c.args.sheet.now c.args.script.now c.in_ok-weaver.weaver c.in_ok-layout.layout c.deref.result.now c.args.lead_in c.args.length
+    (g.K.Sink.held c.args.out.now) (g.K.Sink.held c.write_stream.new.out)
+    c.in_ok-layout.ensures.layout
+    (few_blocks c.in_ok-layout.layout.blocks c.blocks-2.result c.blocks-2.ensures.blocks c.blocks-2.ensures.bound)
+    (record { script_is = c.in_ok-weaver.ensures.script; given_is = c.in_ok-weaver.ensures.given })
+    (λ some. c.deref.ensures.value ∙ c.in_ok-texts.ensures.packs some)
+    c.in_ok-texts.ensures.room
+    (known_script c.args.script.now c.blocks-2.result _ blocks c.in_ok-weaver.ensures.within c.in_ok-weaver.ensures.planned
+    c.pictures-times.ensures.held c.pictures-times.ensures.pixels)
+    c.in_ok-write_stream.ensures.ok

@@ -1,0 +1,3 @@
+pub mod Pressed
+pub mod Refusals
+pub mod Stops

@@ -1,0 +1,44 @@
+-- The stream that is written for a cue sheet and a file of packs.
+use Rattle.std.specs.Prelude.{◌≡◌, ℕ, ◌+◌, ◌/◌, ◌%◌, ◌<◌, ◌≤◌, ◌⊎◌, List, [], length, map, slice_index_or}
+use Rattle.bit_lists.specs.Counting.{whole_parts}
+use Rattle.rw_code.specs.Codeword.{IsCodeword}
+use Rattle.rw_interleave.specs.Interleave.{whole_packs, Carries}
+use Rattle.raw_subcode.specs.Channels.{program_symbols, symbols_of}
+use Rattle.raw_subcode.specs.declared.form.Form.TheVariants.{Raw}
+use Rattle.cdg_instructions.specs.Instruction.{message_of}
+use Rattle.cue_sheet.specs.CueSheet.{CueSheet}
+use Rattle.toc_model.specs.Places.{layout_of, program_blocks}
+use Rattle.stream_writer.specs.Framing.{HasFraming}
+use Rattle.stream_writer.specs.Given.{idle_pack}
+use Rattle.stream_writer.specs.Needs.{text_packs, lead_in_need}
+
+-- the whole packs of a file, as symbols: the low six bits of its bytes
+abbrev pub file_packs : List ℕ → List (List ℕ)
+file_packs file = map symbols_of (whole_parts 24 file)
+
+-- pack n of a file
+abbrev pub file_pack : List ℕ → ℕ → List ℕ
+file_pack file n = slice_index_or (file_packs file) n []
+
+-- the codeword that symbols make when their parity, at 2, 3 and 20 to 23, is made good
+pub record IsMadeGood (symbols word : List ℕ) : Type 0 where
+  pub codeword : IsCodeword word
+  pub message : message_of word ≡ message_of symbols
+
+-- the pack of the stream that is the file's first: its last symbol comes with the first slot of the audio
+abbrev pub file_begin : ℕ
+file_begin = 593
+
+-- the stream of a sheet carries the packs of the file, in time with the audio, and else idle ones
+pub record IsPressed (sheet : CueSheet) (file : List ℕ) (lead_in audio : ℕ) (bytes : List ℕ) (packs : List (List ℕ)) : Type 0 where
+  pub whole : length file % 24 ≡ 0
+  pub of_file : (n : ℕ) → n < length file / 24 → IsMadeGood (file_pack file n) (slice_index_or packs (file_begin + n) [])
+  pub others : (n : ℕ) → n < whole_packs (program_blocks sheet audio) → (n < file_begin) ⊎ (file_begin + length file / 24 ≤ n) → slice_index_or packs n [] ≡ idle_pack
+  pub framing : HasFraming (layout_of sheet audio) (text_packs sheet) lead_in bytes
+  pub carries : Carries (program_blocks sheet audio) (program_symbols Raw bytes lead_in) packs
+  pub enough : 0 < lead_in → lead_in_need sheet ≤ lead_in
+
+-- pack n, where so many idle packs come before those of a file, and idle ones after them
+pub record IsPackAfter (wait : ℕ) (file : List ℕ) (n : ℕ) (pack : List ℕ) : Type 0 where
+  pub of_file : (k : ℕ) → n ≡ wait + k → k < length file / 24 → IsMadeGood (file_pack file k) pack
+  pub idle : (n < wait) ⊎ (wait + length file / 24 ≤ n) → pack ≡ idle_pack

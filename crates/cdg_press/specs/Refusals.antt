@@ -1,0 +1,58 @@
+-- When a file is pressed, and otherwise the first refusal that holds.
+use Rattle.std.specs.Prelude.{◌≡◌, ◌≢◌, ℕ, ◌+◌, ◌*◌, ◌/◌, ◌%◌, ◌<◌, ◌≤◌, List, length, Result, Ok, Err}
+use Rattle.cue_sheet.specs.CueSheet.{CueSheet, CueTrack, track_of}
+use Rattle.toc_model.specs.Places.{audio_need, program_blocks}
+use Rattle.stream_writer.specs.Needs.{HasLayout, HasRoom, IsLeadInShort, IsTextTooLong}
+use Rattle.cdg_press.specs.declared.stops.PressStop.{PressStop}
+use Rattle.cdg_press.specs.declared.stops.PressStop.TheVariants.{PackTorn, LengthShort, DiscTooLong, Gap, CdgTooLong, TextTooLong, LeadInShort, WriteFault, NoMemory}
+
+-- a file that is pressed has at most 64 MiB
+abbrev pub IsShort : List ℕ → Type 0
+IsShort file = length file ≤ 67108864
+
+-- the file is whole packs
+abbrev pub IsWhole : List ℕ → Type 0
+IsWhole file = length file % 24 ≡ 0
+
+-- the two gaps of a track together
+abbrev pub gaps_of : CueTrack → ℕ
+gaps_of track = track.pregap + track.postgap
+
+-- no track has a gap
+abbrev pub HasNoGap : CueSheet → Type 0
+HasNoGap sheet = (k : ℕ) → k < length sheet.tracks → gaps_of (track_of sheet k) ≡ 0
+
+-- the first track with a gap has this number
+abbrev pub IsFirstGap : CueSheet → ℕ → Type 0
+IsFirstGap sheet number = (k : ℕ) × (k < length sheet.tracks) × (0 < gaps_of (track_of sheet k)) × (number ≡ (track_of sheet k).number)
+    × ((j : ℕ) → j < k → gaps_of (track_of sheet j) ≡ 0)
+
+-- whole packs and a sheet that has a layout with this audio
+abbrev pub HasDisc : CueSheet → List ℕ → ℕ → Type 0
+HasDisc sheet file audio = IsWhole file × HasLayout sheet audio
+
+-- they run in time with each other, and the audio has four packs a block for those of the file
+abbrev pub RunsInTime : CueSheet → List ℕ → ℕ → Type 0
+RunsInTime sheet file audio = HasDisc sheet file audio × HasNoGap sheet × (length file / 24 ≤ 4 * audio)
+
+-- nothing is refused
+pub record IsPressable (sheet : CueSheet) (file : List ℕ) (lead_in audio : ℕ) : Type 0 where
+  pub in_time : RunsInTime sheet file audio
+  pub room : HasRoom sheet lead_in
+
+-- why a stream is not pressed: each refusal comes only where those before it do not hold
+abbrev pub IsPressStop : CueSheet → List ℕ → ℕ → ℕ → PressStop → Type 0
+IsPressStop sheet file lead_in audio (PackTorn pack) = (length file % 24 ≢ 0) × (pack ≡ length file / 24)
+IsPressStop sheet file lead_in audio (LengthShort need) = IsWhole file × (need ≡ audio_need sheet) × (audio < audio_need sheet)
+IsPressStop sheet file lead_in audio (DiscTooLong blocks) = IsWhole file × (audio_need sheet ≤ audio) × (blocks ≡ program_blocks sheet audio) × (449999 < blocks)
+IsPressStop sheet file lead_in audio (Gap track) = HasDisc sheet file audio × IsFirstGap sheet track
+IsPressStop sheet file lead_in audio (CdgTooLong packs room) = HasDisc sheet file audio × HasNoGap sheet × (packs ≡ length file / 24) × (room ≡ 4 * audio) × (room < packs)
+IsPressStop sheet file lead_in audio (TextTooLong packs) = RunsInTime sheet file audio × IsTextTooLong sheet lead_in packs
+IsPressStop sheet file lead_in audio (LeadInShort need) = RunsInTime sheet file audio × IsLeadInShort sheet lead_in need
+IsPressStop sheet file lead_in audio WriteFault = IsPressable sheet file lead_in audio
+IsPressStop sheet file lead_in audio NoMemory = HasDisc sheet file audio
+
+-- the number of the packs of a file, or where it is torn
+abbrev pub IsCounted : List ℕ → Result ℕ PressStop → Type 0
+IsCounted file (Ok packs) = IsWhole file × (packs ≡ length file / 24)
+IsCounted file (Err stop) = (length file % 24 ≢ 0) × (stop ≡ PackTorn (length file / 24))

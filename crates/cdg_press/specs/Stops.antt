@@ -1,0 +1,19 @@
+-- What the stops of the parts become.
+use Rattle.toc_model.specs.declared.layout.LayoutStop.{LayoutStop}
+use Rattle.toc_model.specs.declared.layout.LayoutStop.TheVariants.{LengthShort as layout_short, DiscTooLong as layout_long, NoMemory as layout_memory}
+use Rattle.stream_writer.specs.declared.stops.LeadInStop.{LeadInStop}
+use Rattle.stream_writer.specs.declared.stops.LeadInStop.TheVariants.{TextTooLong as text_long, LeadInShort as lead_in_short, NoMemory as text_memory}
+use Rattle.cdg_press.specs.declared.stops.PressStop.{PressStop}
+use Rattle.cdg_press.specs.declared.stops.PressStop.TheVariants.{LengthShort, DiscTooLong, TextTooLong, LeadInShort, NoMemory}
+
+-- the stop of the whole for a stop of the layout
+abbrev pub of_layout : LayoutStop → PressStop
+of_layout (layout_short need) = LengthShort need
+of_layout (layout_long blocks) = DiscTooLong blocks
+of_layout layout_memory = NoMemory
+
+-- the stop of the whole for a stop of the lead-in
+abbrev pub of_lead_in : LeadInStop → PressStop
+of_lead_in (text_long packs) = TextTooLong packs
+of_lead_in (lead_in_short need) = LeadInShort need
+of_lead_in text_memory = NoMemory

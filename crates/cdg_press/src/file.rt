@@ -1,0 +1,65 @@
+// The packs of a file as a source.
+ghost use Rattle.std.specs.Prelude.{◌≡◌, length};
+ghost use Rattle.raw_subcode.specs.Channels.{symbols_of};
+ghost use Rattle.cdg_press.specs.Pressed.{IsMadeGood};
+
+use crate::checks::PACK_BYTES;
+use gf64::Sym;
+use rw_code::{Pack, Word};
+use stream_writer::PackSource;
+
+/// Gives idle packs, then the packs of a file with their parity made good, and then idle packs again.
+#[derive(Drop)]
+pub(crate) struct FileSource<'a> {
+    /// How many idle packs still come before those of the file.
+    pub(crate) wait: u32,
+    /// The packs of the file that still come.
+    pub(crate) rest: &'a [u8],
+}
+
+impl<'a> PackSource for FileSource<'a> {
+    ghost use Rattle.cdg_press.specs.Pressed.{IsPackAfter};
+
+    ghost comes = { λ s n pack. IsPackAfter s.wait s.rest.now n pack };
+
+    fn next_pack(&mut self) -> Option<Pack> {
+        if self.wait > 0 {
+            self.wait -= 1;
+            return None;
+        }
+        if self.rest.len() < PACK_BYTES {
+            return None;
+        }
+        let (pack, rest) = self.rest.split_at(PACK_BYTES);
+        self.rest = rest;
+        Some(made_good(pack))
+    }
+}
+
+/// The codeword of the symbols of a pack, whatever parity it has.
+fn made_good(pack: &[u8]) -> Pack
+    requires { length pack.now ≡ 24 }
+    ensures { IsMadeGood (symbols_of pack.now) result }
+{
+    let mut bytes = [0; PACK_BYTES];
+    bytes.copy_from_slice(pack);
+    let word = Word::new(&bytes);
+    match Pack::check(&word) {
+        Some(good) => good,
+        None => sealed(&word),
+    }
+}
+
+/// The codeword of the symbols of a word, but for its parity.
+fn sealed(word: &Word) -> Pack
+    ensures { IsMadeGood word.now result }
+{
+    // What holds of every word: it has 24 symbols.
+    let _symbols = word.bytes();
+    let head = [word.get(0), word.get(1)];
+    let mut body = [Sym::default(); 16];
+    for i in 0..16 {
+        body[i] = word.get(4 + i);
+    }
+    Pack::seal(head, body)
+}

@@ -1,0 +1,10 @@
+//! Presses a `.cdg` file into the subcode of a disc, in time with the audio of a cue sheet.
+#![tactic(auto)]
+
+mod checks;
+mod file;
+mod press;
+mod stops;
+
+pub use press::press_stream;
+pub use stops::PressStop;

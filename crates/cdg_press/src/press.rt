@@ -1,0 +1,80 @@
+// Pressing a file into a stream.
+ghost use Rattle.std.specs.Prelude.{◌≡◌, ◌≢◌, ◌≤◌, List, ℕ, IfErr, OnOk, Err};
+ghost use Rattle.std.specs.Io.KnownBytes.{Appends};
+ghost use Rattle.cdg_io.specs.Causes.{Rose};
+ghost use Rattle.toc_model.specs.Places.{layout_of};
+ghost use Rattle.stream_writer.specs.Given.{PutsStreamPart};
+ghost use Rattle.stream_writer.specs.Needs.{text_packs};
+ghost use Rattle.cdg_press.specs.Pressed.{file_begin, IsPackAfter, IsPressed};
+ghost use Rattle.cdg_press.specs.Refusals.{IsPressable, IsPressStop, IsShort};
+
+use crate::checks::{first_gap, whole_packs_of};
+use crate::file::FileSource;
+use crate::stops::PressStop;
+use cdg_io::Sink;
+use cue_sheet::Sheet;
+use rw_interleave::Spread;
+use std::alloc::Global;
+use stream_writer::{pack_texts, write_stream};
+use toc_model::Layout;
+
+/// The pack of the stream that is the file's first: its last symbol comes with the first slot of file time 00:00:00.
+const FILE_BEGIN: u32 = 593;
+
+/// Writes the subcode of a disc with a lead-in of so many blocks and an audio of so many blocks: the lead-in with the table
+/// of contents and the texts, and the program with the frames of the sheet and the packs of a `.cdg` file, 24 bytes each, in
+/// time with the audio. Of a pack only symbols 0, 1 and 4 to 19 are taken, the low six bits of these bytes; its parity is
+/// made good.
+///
+/// # Errors
+///
+/// In this order: `PackTorn` where the file is not whole packs; `LengthShort` and `DiscTooLong` where the sheet has no layout
+/// with this audio; `Gap` where a track has a gap; `CdgTooLong` where the file has more than four packs for each block of
+/// audio; where there is a lead-in, `TextTooLong` where its texts need more than 256 packs, and `LeadInShort` where it has no
+/// room for them or for the table of contents. Nothing is written before all of these are passed and all memory is taken.
+/// After `WriteFault` a prefix of the stream was written.
+pub fn press_stream<K: Sink>(
+    alloc: Global,
+    sheet: &Sheet,
+    cdg: &[u8],
+    lead_in: u32,
+    length: u32,
+    out: &mut K,
+) -> Result<(), PressStop>
+    requires lead_in { lead_in ≤ 450000 }
+    requires audio { length ≤ 449999 }
+    requires file { IsShort cdg.now }
+    // A pressed stream was written.
+    ensures pressed { OnOk result ((bytes : List ℕ) × (packs : List (List ℕ))
+        × IsPressed sheet.now cdg.now lead_in length bytes packs × Appends (K.held out.old) (K.held out.new) bytes) }
+    ensures accepted { OnOk result (IsPressable sheet.now cdg.now lead_in length) }
+
+    // Why none was written, and then nothing was.
+    ensures stop { IfErr result (IsPressStop sheet.now cdg.now lead_in length) }
+    ensures untouched { IfErr result (λ stop. stop ≢ PressStop.WriteFault → out.new ≡ out.old) }
+
+    // A write failed, and a prefix of the lead-in and of program blocks with packs of the file was written.
+    ensures write_fault { result ≡ Err PressStop.WriteFault → Rose (K.faults out.old) (K.faults out.new) }
+    ensures no_write_fault { result ≢ Err PressStop.WriteFault → K.faults out.new ≡ K.faults out.old }
+    ensures part { result ≡ Err PressStop.WriteFault → (n : ℕ) × (packs : List (List ℕ))
+        × PutsStreamPart (layout_of sheet.now length) (IsPackAfter file_begin cdg.now) (text_packs sheet.now) lead_in (K.held out.old) (K.held out.new) n packs }
+    ensures later { K.faults out.old ≤ K.faults out.new }
+{
+    let packs = whole_packs_of(cdg)?;
+    let layout = Layout::from_cue(alloc, sheet, length)?;
+    if let Some(track) = first_gap(sheet) {
+        return Err(PressStop::Gap { track });
+    }
+    let room = 4 * length;
+    if packs > room {
+        return Err(PressStop::CdgTooLong { packs, room });
+    }
+    let texts = pack_texts(alloc, sheet, &layout, lead_in)?;
+    let mut spread = Spread::start(alloc)?;
+    let mut source = FileSource {
+        wait: FILE_BEGIN,
+        rest: cdg,
+    };
+    write_stream(&layout, &texts, lead_in, &mut source, &mut spread, out)?;
+    Ok(())
+}

@@ -1,0 +1,72 @@
+-- Packs as they come, and what is put of them. `Comes n pack` says that pack n, counted from 0, may be this.
+use Rattle.std.specs.Prelude.{◌≡◌, ℕ, ◌+◌, ◌*◌, ◌<◌, ◌≤◌, List, [], length, flat_map, replicate, slice_index_or, All}
+use Rattle.std.specs.List.{concat}
+use Rattle.std.specs.declared.option.Option.{Option}
+use Rattle.std.specs.Io.KnownBytes.{Appends}
+use Rattle.bit_lists.specs.Counting.{below}
+use Rattle.cdg_io.specs.Run.{run_gives, run_state}
+use Rattle.cdg_io.specs.Moves.{AppendsPrefix}
+use Rattle.raw_subcode.specs.Channels.{program_symbols}
+use Rattle.raw_subcode.specs.declared.form.Form.TheVariants.{Raw}
+use Rattle.rw_code.specs.Codeword.{IsCodeword}
+use Rattle.rw_interleave.specs.Interleave.{whole_packs, Carries}
+use Rattle.rw_interleave.specs.Spreading.{spread_next, spread_gives}
+use Rattle.toc_model.specs.Places.{DiscLayout}
+use Rattle.toc_model.specs.Layout.{p_bit, program_frame}
+use Rattle.stream_writer.specs.Blocks.{program_block, symbols_at, stream_bytes, IsBuilt}
+use Rattle.stream_writer.specs.Framing.{HasFraming}
+
+-- the symbols of all slots over which packs are spread, where these packs came before
+abbrev pub symbols_from : List (List ℕ) → List (List ℕ) → List ℕ
+symbols_from before packs = concat (run_gives spread_next spread_gives before packs)
+
+-- an idle pack
+abbrev pub idle_pack : List ℕ
+idle_pack = replicate 24 0
+
+-- after so many packs these come
+abbrev pub ComesLater : (ℕ → List ℕ → Type 0) → ℕ → (ℕ → List ℕ → Type 0) → Type 0
+ComesLater Comes many Later = (n : ℕ) (pack : List ℕ) → Later n pack → Comes (many + n) pack
+
+-- so many packs as they come, from the one with this number on
+pub record AreGiven (Comes : ℕ → List ℕ → Type 0) (first many : ℕ) (packs : List (List ℕ)) : Type 0 where
+  pub count : length packs ≡ many
+  pub each : (k : ℕ) → k < many → Comes (first + k) (slice_index_or packs k [])
+  pub codewords : All IsCodeword packs
+
+-- the symbols of so many packs, and the packs that are still to be spread before and after them
+pub record TakesPacks (Comes : ℕ → List ℕ → Type 0) (many : ℕ) (before after : List (List ℕ)) (symbols : List ℕ) (packs : List (List ℕ)) : Type 0 where
+  pub given_are : AreGiven Comes 0 many packs
+  pub symbols_are : symbols ≡ symbols_from before packs
+  pub after_is : after ≡ run_state spread_next before packs
+
+-- program blocks with these packs were put
+pub record PutsProgram (layout : DiscLayout) (Comes : ℕ → List ℕ → Type 0) (blocks : ℕ) (held held' : Option (List ℕ)) (packs : List (List ℕ)) : Type 0 where
+  pub given_are : AreGiven Comes 0 (4 * blocks) packs
+  pub put : Appends held held' (flat_map (program_block layout (symbols_from [] packs)) (below blocks))
+  pub built : (b : ℕ) → b < blocks → IsBuilt (program_block layout (symbols_from [] packs) b) (p_bit layout b) (program_frame layout b) (symbols_at (symbols_from [] packs) b)
+
+-- a prefix of so many program blocks with these packs was put
+pub record PutsPart (layout : DiscLayout) (Comes : ℕ → List ℕ → Type 0) (blocks : ℕ) (held held' : Option (List ℕ)) (n : ℕ) (packs : List (List ℕ)) : Type 0 where
+  pub within : n ≤ blocks
+  pub given_are : AreGiven Comes 0 (4 * n) packs
+  pub put : AppendsPrefix held held' (flat_map (program_block layout (symbols_from [] packs)) (below n))
+
+-- a stream with these packs was put
+pub record PutsStream (layout : DiscLayout) (Comes : ℕ → List ℕ → Type 0) (texts : List (List ℕ)) (lead_in : ℕ) (held held' : Option (List ℕ)) (packs : List (List ℕ)) : Type 0 where
+  pub given_are : AreGiven Comes 0 (4 * layout.blocks) packs
+  pub put : Appends held held' (stream_bytes layout texts lead_in layout.blocks (symbols_from [] packs))
+  pub framing : HasFraming layout texts lead_in (stream_bytes layout texts lead_in layout.blocks (symbols_from [] packs))
+  pub symbols_are : program_symbols Raw (stream_bytes layout texts lead_in layout.blocks (symbols_from [] packs)) lead_in ≡ symbols_from [] packs
+
+-- a prefix of the lead-in and so many program blocks with these packs was put
+pub record PutsStreamPart (layout : DiscLayout) (Comes : ℕ → List ℕ → Type 0) (texts : List (List ℕ)) (lead_in : ℕ) (held held' : Option (List ℕ)) (n : ℕ) (packs : List (List ℕ)) : Type 0 where
+  pub within : n ≤ layout.blocks
+  pub given_are : AreGiven Comes 0 (4 * n) packs
+  pub put : AppendsPrefix held held' (stream_bytes layout texts lead_in n (symbols_from [] packs))
+
+-- the bytes have this framing, and their program carries these packs, which are as they come
+pub record CarriesComing (layout : DiscLayout) (Comes : ℕ → List ℕ → Type 0) (texts : List (List ℕ)) (lead_in : ℕ) (bytes : List ℕ) (packs : List (List ℕ)) : Type 0 where
+  pub given_are : AreGiven Comes 0 (whole_packs layout.blocks) packs
+  pub framing : HasFraming layout texts lead_in bytes
+  pub carries : Carries layout.blocks (program_symbols Raw bytes lead_in) packs

@@ -1,0 +1,5 @@
+pub mod Blocks
+pub mod Framing
+pub mod Given
+pub mod Needs
+pub mod Stops

@@ -1,0 +1,15 @@
+//! Writes a stream block by block: the P bits and Q frames of a layout, the text packs of a lead-in, and the packs of a source
+//! spread over the program.
+#![tactic(auto)]
+
+mod blocks;
+mod program;
+mod source;
+mod stops;
+mod stream;
+mod texts;
+
+pub use source::PackSource;
+pub use stops::LeadInStop;
+pub use stream::write_stream;
+pub use texts::pack_texts;

@@ -1,0 +1,16 @@
+// Where the packs of a stream come from.
+ghost use Rattle.std.specs.Prelude.{ℕ, List, Option, unwrap_or};
+ghost use Rattle.stream_writer.specs.Given.{idle_pack, ComesLater};
+
+use rw_code::Pack;
+
+/// Gives the packs of a stream one after another, without an end.
+pub trait PackSource {
+    /// Which packs come: pack n of those to come, counted from 0, may be this.
+    ghost comes: { Self → ℕ → List ℕ → Type 0 };
+
+    /// The next pack, or none where it is idle.
+    fn next_pack(&mut self) -> Option<Pack>
+        ensures pack { comes self.old 0 (unwrap_or result idle_pack) }
+        ensures later { ComesLater (comes self.old) 1 (comes self.new) };
+}

@@ -1,0 +1,39 @@
+// The text packs of a lead-in.
+ghost use Rattle.std.specs.Prelude.{◌≡◌, ◌<◌, length, IfOk, IfErr, OnOk};
+ghost use Rattle.stream_writer.specs.Needs.{text_packs, HasRoom};
+ghost use Rattle.stream_writer.specs.Stops.{IsLeadInRefusal};
+
+use crate::stops::LeadInStop;
+use cdtext_packs::{TextMap, TextPack, pack_all};
+use cue_sheet::Sheet;
+use std::alloc::Global;
+use toc_model::Layout;
+
+/// The text packs of a sheet for a lead-in of so many blocks, which has room for them and for the table of contents. Without
+/// a lead-in there are none.
+///
+/// # Errors
+///
+/// `TextTooLong` where the texts need more than 256 packs, then `LeadInShort` where the lead-in has too few blocks.
+pub fn pack_texts(
+    alloc: Global,
+    sheet: &Sheet,
+    layout: &Layout,
+    lead_in: u32,
+) -> Result<Vec<TextPack>, LeadInStop>
+    requires { length layout.now.tracks ≡ length sheet.now.tracks }
+    ensures packs { IfOk result (λ packs. 0 < lead_in → packs.items ≡ text_packs sheet.now) }
+    ensures room { OnOk result (HasRoom sheet.now lead_in) }
+    ensures err { IfErr result (IsLeadInRefusal sheet.now lead_in) }
+{
+    if lead_in == 0 {
+        return Ok(Vec::new(alloc));
+    }
+    let map = TextMap::from_sheet(alloc, sheet)?;
+    let packs = pack_all(alloc, &map)?;
+    let need = layout.toc_blocks().max((packs.len() as u32 + 3) / 4);
+    if lead_in < need {
+        return Err(LeadInStop::LeadInShort { need });
+    }
+    Ok(packs)
+}
