@@ -28,11 +28,11 @@ same_part a b start count r in_a in_b e =
           at a i (omega (arith, lt, size_a)) ∙ all (start + i) (omega arith) (omega (arith, lt, size_a)) ∙ sym (at b i (omega (arith, lt, size_a)))))),
     )
 
-tile_pixel : (pixels : List ℕ) (row column q : ℕ) → q < 72 → get_or (tile_of pixels row column) q 0 ≡ pixel_of pixels (6 * (column - 1) + q % 6) (12 * (row - 1) + q / 6)
+pub tile_pixel : (pixels : List ℕ) (row column q : ℕ) → q < 72 → get_or (tile_of pixels row column) q 0 ≡ pixel_of pixels (6 * (column - 1) + q % 6) (12 * (row - 1) + q / 6)
 unfolding tile_of
 tile_pixel pixels row column q lt = get_or-map-range_with_len (λ p. pixel_of pixels (6 * (column - 1) + p % 6) (12 * (row - 1) + p / 6)) 0 72 q q 0 (omega arith) (omega arith)
 
-tile_size : (pixels : List ℕ) (row column : ℕ) → length (tile_of pixels row column) ≡ 72
+pub tile_size : (pixels : List ℕ) (row column : ℕ) → length (tile_of pixels row column) ≡ 72
 unfolding tile_of
 tile_size pixels row column = length-map-range_with_len (λ p. pixel_of pixels (6 * (column - 1) + p % 6) (12 * (row - 1) + p / 6)) 0 72
 
