@@ -1,4 +1,5 @@
 pub mod Counting
+pub mod SameTileLaws
 pub mod SettingLaws
 pub mod Choices
 pub mod Surveys

@@ -38,7 +38,8 @@ all_zero f (suc n) a e k from to =
           subst (λ j. f j ≡ 0) is (elim (eqb_tells (f a) 0) [ inl same ↦ same.1 | inr other ↦ absurd (cc) ])
     ]
 
-zero_all : (f : ℕ → ℕ) (n a : ℕ) → ((k : ℕ) → f k ≡ 0) → list_all (λ d. d == 0) (map f (range_with_len a n)) ≡ true
+-- a list of zeros
+pub zero_all : (f : ℕ → ℕ) (n a : ℕ) → ((k : ℕ) → f k ≡ 0) → list_all (λ d. d == 0) (map f (range_with_len a n)) ≡ true
 zero_all f zero a all = refl
 zero_all f (suc n) a all = ap₂ (λ x y. x && y) (ap (λ d. d == 0) (all a)) (zero_all f n (a + 1) all)
 

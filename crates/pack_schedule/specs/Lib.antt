@@ -1,3 +1,4 @@
 pub mod Survey
 pub mod Woven
 pub mod Weaving
+pub mod SameTiles

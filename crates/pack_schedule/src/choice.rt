@@ -5,6 +5,7 @@ ghost use Rattle.picture_changes.specs.Change.{settings};
 ghost use Rattle.picture_changes.specs.PlannedChange.{tile_steps, planned_length, preferred, chosen_start};
 
 use crate::counts::{Counts, count_tiles};
+use crate::same_tiles::{is_same_picture, same_rows};
 use crate::settings::count_settings;
 use picture_script::{Canvas, Script};
 
@@ -96,6 +97,13 @@ pub(crate) fn choose_start(script: &Script, k: u32, before: &Canvas, now: &Canva
     ensures few { result.need ≤ 3076 }
 {
     let beside = count_settings(script, k, before, now);
-    let counts = count_tiles(script, k, before, now);
+    let same = same_rows(before, now);
+    if k > 0 && is_same_picture(&same, before, now) {
+        return Choice {
+            preset: None,
+            need: beside,
+        };
+    }
+    let counts = count_tiles(script, k, before, now, &same);
     choose(script, k, beside, &counts)
 }

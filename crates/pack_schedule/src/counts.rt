@@ -5,8 +5,10 @@ ghost use Rattle.cdg_instructions.specs.Instruction.{IsTilePixels};
 ghost use Rattle.picture_script.specs.Script.{pictures, picture_pixel};
 ghost use Rattle.picture_script.specs.Board.{IsPicture};
 ghost use Rattle.picture_changes.specs.PlannedChange.{tile_steps};
+ghost use Rattle.pack_schedule.specs.SameTiles.{AreSameRows};
 
-use cdg_instructions::{PIXELS, Tile};
+use crate::same_tiles::{ROWS, is_same_tile};
+use cdg_instructions::Tile;
 use picture_script::{Canvas, Script};
 use tile_author::{plans_are_shortest, steps, weight};
 
@@ -22,12 +24,13 @@ pub(crate) struct Counts {
 }
 
 impl Counts {
-    // Counts a tile.
-    fn add(&mut self, old: &Tile, new: &Tile)
+    // Counts a tile that takes so many instructions from what stands there.
+    fn add(&mut self, taken: u32, new: &Tile)
+        requires taken { taken ≤ 4 }
         requires stands { self.old.stands ≤ 4000 }
         requires whole { self.old.whole ≤ 4000 }
         requires single { (c : ℕ) → slice_index self.old.single c ≤ 4000 }
-        ensures stands { self.new.stands ≡ self.old.stands + steps old.now new.now }
+        ensures stands { self.new.stands ≡ self.old.stands + taken }
         ensures colours { (c : ℕ) → c < 16 → self.new.whole + slice_index self.old.single c ≡ self.old.whole + slice_index self.new.single c + steps (replicate 72 c) new.now }
         ensures few_stands { self.new.stands ≤ self.old.stands + 4 }
         ensures few_whole { self.new.whole ≤ self.old.whole + 4 }
@@ -35,7 +38,7 @@ impl Counts {
     {
         plans_are_shortest();
         let weight = u32::from(weight(new));
-        self.stands += u32::from(steps(old, new));
+        self.stands += taken;
         self.whole += weight;
         if let Some(colour) = single_colour(new) {
             self.single[usize::from(colour)] += weight;
@@ -59,7 +62,14 @@ fn single_colour(tile: &Tile) -> Option<u8>
 }
 
 /// Counts the tiles of picture `k`, which stands on `now`, while the picture before it stands on `before`.
-pub(crate) fn count_tiles(script: &Script, k: u32, before: &Canvas, now: &Canvas) -> Counts
+pub(crate) fn count_tiles(
+    script: &Script,
+    k: u32,
+    before: &Canvas,
+    now: &Canvas,
+    same: &[bool; ROWS],
+) -> Counts
+    requires same { AreSameRows before.now.pixels now.now.pixels same.now }
     requires now { IsPicture script.now k now.now }
     requires before { 0 < k → IsPicture script.now (k - 1) before.now }
     ensures stands { 0 < k → result.stands ≡ tile_steps script.now k None }
@@ -74,7 +84,13 @@ pub(crate) fn count_tiles(script: &Script, k: u32, before: &Canvas, now: &Canvas
     for i in 0..TILES {
         let row = (i / 48) as u8 + 1;
         let column = (i % 48) as u8 + 1;
-        counts.add(&before.tile(row, column), &now.tile(row, column));
+        let new = now.tile(row, column);
+        let taken = if is_same_tile(same, before, now, row, column) {
+            0
+        } else {
+            u32::from(steps(&before.tile(row, column), &new))
+        };
+        counts.add(taken, &new);
     }
     counts
 }

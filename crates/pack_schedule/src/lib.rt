@@ -8,6 +8,7 @@ mod laws;
 mod loom;
 mod planned;
 mod plans;
+mod same_tiles;
 mod settings;
 mod timing;
 mod weaver;

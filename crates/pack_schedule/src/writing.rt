@@ -6,6 +6,7 @@ ghost use Rattle.picture_changes.specs.Change.{settings, preset_of, tiles_before
 ghost use Rattle.picture_changes.specs.PlannedChange.{planned_tiles, planned_from};
 
 use crate::change::Change;
+use crate::same_tiles::{is_same_tile, same_rows};
 use crate::settings::has_colours;
 use arrayvec::ArrayVec;
 use cdg_instructions::{Instr, PIXELS, Tile};
@@ -139,9 +140,13 @@ impl Change {
         requires start { IsStart k preset }
         ensures { self.new ≡ self.old ++ planned_tiles script.now k preset }
     {
+        let same = same_rows(before, now);
         for i in 0..TILES {
             let row = (i / 48) as u8 + 1;
             let column = (i % 48) as u8 + 1;
+            if preset.is_none() && is_same_tile(&same, before, now, row, column) {
+                continue;
+            }
             let old = old_tile(script, k, preset, before, row, column);
             self.push_all(&plan(&old, &now.tile(row, column), row, column));
         }

@@ -6,10 +6,12 @@ use Rattle.std.proofs.lemmas.List.FromFn.{length-map-range_with_len, get_or-map-
 use Rattle.bit_lists.specs.Counting.{below}
 use Rattle.std.proofs.lemmas.List.{take_more, get_or-map, length-map, length-take, reverse-append}
 use Rattle.std.proofs.lemmas.List.Elements.{All-get_or}
-use Rattle.picture_script.specs.Script.{Drawing, lines_before, picture_pixel, picture_border, picture_colour, picture_tile}
+use Rattle.picture_script.specs.Script.{Drawing, Fill, lines_before, picture_pixel, picture_border, picture_colour, picture_tile}
 use Rattle.picture_script.specs.Lines.{said, all_said, is_kept}
 use Rattle.picture_script.specs.declared.line.Line.{Line}
-use Rattle.picture_script.specs.Board.{Board, IsBlank, IsPicture, IsDrawn, StandsBefore, pixel_of, tile_of}
+use Rattle.picture_script.specs.declared.line.Line.TheVariants.{Filled}
+use Rattle.std.proofs.lemmas.Bool.Decides.{nat_tests}
+use Rattle.picture_script.specs.Board.{Board, IsBlank, IsPicture, IsDrawn, IsSet, Becomes, StandsBefore, pixel_of, tile_of}
 use Rattle.picture_script.proofs.Scripts.{before_prefix, before_rising}
 
 pub blank-drawn : (script : List Drawing) (board : Board) → IsBlank board → IsDrawn (reverse (take 0 script)) board
@@ -35,16 +37,55 @@ length-all_said pixels lines = length-map lines (said pixels)
 pub before-most : (script : List Drawing) (k : ℕ) → length (lines_before script k) ≤ length script
 before-most script k = omega (arith, ap length (before_prefix script k) ∙ length-take (length (lines_before script k)) script)
 
-pub next_line : (pixels : List ℕ) (lines : List Line) (script : List Drawing) (i : ℕ) (line : Line) (board : Board) → all_said pixels lines ≡ script → i < length lines → line ≡ get_or lines i line
-    → IsDrawn (said pixels line ∷ reverse (take i script)) board → IsDrawn (reverse (take (i + 1) script)) board
+-- one line more
+next_said : (pixels : List ℕ) (lines : List Line) (script : List Drawing) (i : ℕ) (line : Line) → all_said pixels lines ≡ script → i < length lines → line ≡ get_or lines i line
+    → said pixels line ∷ reverse (take i script) ≡ reverse (take (i + 1) script)
 unfolding all_said
-next_line pixels lines script i line board view i_lt read h =
+next_said pixels lines script i line view i_lt read =
     let size : length (map (said pixels) lines) ≡ length lines = length-map lines (said pixels) in
     let more : take (i + 1) script ≡ take i script ++ said pixels line ∷ [] =
     ap (take (i + 1)) (sym view) ∙ take_more (map (said pixels) lines) i (said pixels line) (omega arith)
     ∙ ap (λ xs. take i xs ++ get_or xs i (said pixels line) ∷ []) view
     ∙ ap (λ x. take i script ++ x ∷ []) (ap (λ xs. get_or xs i (said pixels line)) (sym view) ∙ get_or-map (said pixels) lines i line (said pixels line) i_lt ∙ ap (said pixels) (sym read)) in
-    subst (λ drawn. IsDrawn drawn board) (sym (ap reverse more ∙ reverse-append (take i script) (said pixels line ∷ []))) h
+    sym (ap reverse more ∙ reverse-append (take i script) (said pixels line ∷ []))
+
+pub next_line : (pixels : List ℕ) (lines : List Line) (script : List Drawing) (i : ℕ) (line : Line) (board : Board) → all_said pixels lines ≡ script → i < length lines → line ≡ get_or lines i line
+    → IsDrawn (said pixels line ∷ reverse (take i script)) board → IsDrawn (reverse (take (i + 1) script)) board
+next_line pixels lines script i line board view i_lt read h = subst (λ drawn. IsDrawn drawn board) (next_said pixels lines script i line view i_lt read) h
+
+-- the same of what lines set
+pub next_set : (pixels : List ℕ) (lines : List Line) (script : List Drawing) (i : ℕ) (line : Line) (board : Board) → all_said pixels lines ≡ script → i < length lines → line ≡ get_or lines i line
+    → IsSet (said pixels line ∷ reverse (take i script)) board → IsSet (reverse (take (i + 1) script)) board
+next_set pixels lines script i line board view i_lt read h = subst (λ drawn. IsSet drawn board) (next_said pixels lines script i line view i_lt read) h
+
+pub set_before : (lines : List Drawing) (board : Board) → IsDrawn lines board → IsSet lines board
+set_before lines board h = record { border_is = h.border_is; colours_are = h.colours_are }
+
+-- a line that fills the window leaves nothing of what was drawn before it
+pub filled-drawn : (script : List Drawing) (place colour border : ℕ) (pixels colours : List ℕ) (at : Option ℕ) (old : Board) → place < length script → get_or script place (Fill 0) ≡ Fill colour
+    → Becomes pixels (λ x y. colour) → IsSet (reverse (take place script)) old → old.border ≡ border → old.colours ≡ colours
+    → IsDrawn (reverse (take (place + 1) script)) (record { pixels = pixels; border = border; colours = colours; at = at })
+filled-drawn script place colour border pixels colours at old lt is filled h border_is colours_is =
+    let more : take (place + 1) script ≡ take place script ++ Fill colour ∷ [] = take_more script place (Fill 0) lt ∙ ap (λ x. take place script ++ x ∷ []) is in
+    let lines : reverse (take (place + 1) script) ≡ Fill colour ∷ reverse (take place script) = ap reverse more ∙ reverse-append (take place script) (Fill colour ∷ []) in
+    let drawn : IsDrawn (Fill colour ∷ reverse (take place script)) (record { pixels = pixels; border = border; colours = colours; at = at }) = record {
+      pixels_are = filled;
+      border_is = sym border_is ∙ h.border_is;
+      colours_are = λ n lt. ap (λ cs. get_or cs n 0) (sym colours_is) ∙ h.colours_are n lt;
+    } in
+    subst (λ drawn. IsDrawn drawn (record { pixels = pixels; border = border; colours = colours; at = at })) (sym lines) drawn
+
+-- what a line says stands in the script
+pub fill_there : (pixels : List ℕ) (lines : List Line) (script : List Drawing) (i colour : ℕ) (line : Line) → all_said pixels lines ≡ script → i < length lines → line ≡ get_or lines i line → line ≡ Filled colour
+    → get_or script i (Fill 0) ≡ Fill colour
+unfolding all_said
+fill_there pixels lines script i colour line view i_lt read is =
+    ap (λ xs. get_or xs i (Fill 0)) (sym view) ∙ get_or-map (said pixels) lines i line (Fill 0) i_lt ∙ ap (said pixels) (sym read) ∙ ap (said pixels) is
+
+pub fill_small : (lines : List Line) (size i colour : ℕ) (line : Line) → All (λ l. is_kept size l ≡ true) lines → i < length lines → line ≡ get_or lines i line → line ≡ Filled colour → colour < 16
+fill_small lines size i colour line all i_lt read is =
+    let kept : is_kept size (Filled colour) ≡ true = subst (λ l. is_kept size l ≡ true) (sym read ∙ is) (All-get_or (λ l. is_kept size l ≡ true) lines i line i_lt all) in
+    grind (arith, nat_tests)
 
 pub kept_at : (lines : List Line) (size n i : ℕ) (line : Line) → All (λ l. is_kept size l ≡ true) lines → n ≡ size → i < length lines → line ≡ get_or lines i line → is_kept n line ≡ true
 kept_at lines size n i line all same i_lt read =

@@ -1,6 +1,7 @@
 pub mod Windows
 pub mod Scripts
 pub mod Drawn
+pub mod Parts
 pub mod Numbers
 pub mod Drafts
 pub mod WordCounts

@@ -40,6 +40,11 @@ pub record IsDrawn (lines : List Drawing) (board : Board) : Type 0 where
   pub border_is : board.border ≡ border_by lines
   pub colours_are : (n : ℕ) → n < 16 → slice_index board.colours n ≡ colour_by lines n
 
+-- the border and the colours that lines set, which are given the last one first
+pub record IsSet (lines : List Drawing) (board : Board) : Type 0 where
+  pub border_is : board.border ≡ border_by lines
+  pub colours_are : (n : ℕ) → n < 16 → slice_index board.colours n ≡ colour_by lines n
+
 -- the 72 pixels of the tile at a row from 1 to 16 and a column from 1 to 48, line by line from the left
 unfoldable pub tile_of : List ℕ → ℕ → ℕ → List ℕ
 tile_of pixels row column = map (λ p. pixel_of pixels (6 * (column - 1) + p % 6) (12 * (row - 1) + p / 6)) (below 72)

@@ -1,7 +1,7 @@
 // A canvas on which the pictures of a script are drawn.
 use crate::line::Line;
 use crate::script::Script;
-use crate::window::Window;
+use crate::window::{WIDTH, Window};
 use cdg_instructions::{PIXELS, Tile};
 use std::alloc::{AllocError, Global};
 use std::marker::Model;
@@ -26,9 +26,9 @@ impl Model for Canvas {
 }
 
 impl Canvas {
-    ghost use Rattle.std.specs.Prelude.{◌≡◌, ◌<◌, ◌≤◌, ◌+◌, ◌-◌, ◌*◌, ℕ, List, [], ◌∷◌, length, slice_index, true, IfOk, Some, None, reverse, take};
-    ghost use Rattle.picture_script.specs.Script.{Drawing, pictures, picture_tile, picture_pixel, picture_border, picture_colour};
-    ghost use Rattle.picture_script.specs.Board.{Board, pixel_of, tile_of, AreColours, IsBlank, IsPicture, IsDrawn, StandsBefore};
+    ghost use Rattle.std.specs.Prelude.{◌≡◌, ◌<◌, ◌≤◌, ◌+◌, ◌-◌, ◌*◌, ℕ, List, [], ◌∷◌, length, slice_index, slice_index_or, true, IfOk, IsTrue, ◌↔◌, Some, None, reverse, take};
+    ghost use Rattle.picture_script.specs.Script.{Drawing, Fill, pictures, picture_tile, picture_pixel, picture_border, picture_colour};
+    ghost use Rattle.picture_script.specs.Board.{Board, pixel_of, tile_of, AreColours, IsBlank, IsPicture, IsDrawn, IsSet, StandsBefore};
     ghost use Rattle.picture_script.specs.Lines.{said, is_kept};
 
     /// A canvas on which all is 0.
@@ -94,7 +94,47 @@ impl Canvas {
         }
     }
 
+    // Sets what one line says of the border and the colours.
+    fn set(&mut self, line: Line)
+        requires kept { (size : ℕ) × (is_kept size line ≡ true) }
+        ensures set { (pixels : List ℕ) (before : List Drawing) → IsSet before self.old → IsSet (said pixels line ∷ before) self.new }
+    {
+        match line {
+            Line::TableColour { number, value } => self.colours[usize::from(number)] = value,
+            Line::BorderColour { colour } => self.border = colour,
+            _ => {}
+        }
+    }
+
+    // Draws the lines of a script from a place on, once those before it have been drawn.
+    fn draw_lines(&mut self, script: &Script, from: usize, to: usize)
+        requires order { from ≤ to }
+        requires lines { to ≤ length script.now }
+        requires before { IsDrawn (reverse (take from script.now)) self.old }
+        ensures drawn { IsDrawn (reverse (take to script.now)) self.new }
+    {
+        for i in from..to {
+            self.draw(script.lines[i], &script.pixels);
+        }
+    }
+
+    // Draws the lines from a place on up to a line that fills the window, of which no pixel is seen.
+    fn draw_fill(&mut self, script: &Script, from: usize, place: usize, colour: u8)
+        requires order { from ≤ place }
+        requires place { place < length script.now }
+        requires fill { slice_index_or script.now place (Fill 0) ≡ Fill colour }
+        requires colour { colour < 16 }
+        requires before { IsDrawn (reverse (take from script.now)) self.old }
+        ensures drawn { IsDrawn (reverse (take (place + 1) script.now)) self.new }
+    {
+        for i in from..place {
+            self.set(script.lines[i]);
+        }
+        self.window.clear(colour);
+    }
+
     /// Draws picture `k` of a script: the lines before its show line, from those on that have been drawn.
+    /// What a later line fills is not drawn.
     ///
     /// The canvas is as after `start` and `reset`, or a picture of this script stands there that is not after `k`.
     pub fn draw_until(&mut self, script: &Script, k: u32)
@@ -107,10 +147,47 @@ impl Canvas {
             Some(drawn) => script.place(drawn),
             None => 0,
         };
-        for i in from..script.place(k) {
-            self.draw(script.lines[i], &script.pixels);
+        let to = script.place(k);
+        match script.last_fill(from, to) {
+            Some((place, colour)) => {
+                self.draw_fill(script, from, place, colour);
+                self.draw_lines(script, place + 1, to);
+            }
+            None => self.draw_lines(script, from, to),
         }
         self.at = Some(k);
+    }
+
+    /// Whether the tiles of a row from 1 to 16 are those of another canvas.
+    pub fn has_row_of(&self, other: &Canvas, row: u8) -> bool
+        requires first { 1 ≤ row }
+        requires last { row ≤ 16 }
+        ensures { IsTrue result ↔ ((column : ℕ) → 1 ≤ column → column ≤ 48 → tile_of self.now.pixels row column ≡ tile_of other.now.pixels row column) }
+    {
+        let count = 12 * WIDTH;
+        self.window
+            .has_part_of(&other.window, count * (usize::from(row) - 1), count)
+    }
+
+    /// Whether the tile at a row from 1 to 16 and a column from 1 to 48 is that of another canvas.
+    pub fn has_tile_of(&self, other: &Canvas, row: u8, column: u8) -> bool
+        requires row_first { 1 ≤ row }
+        requires row_last { row ≤ 16 }
+        requires column_first { 1 ≤ column }
+        requires column_last { column ≤ 48 }
+        ensures { IsTrue result ↔ tile_of self.now.pixels row column ≡ tile_of other.now.pixels row column }
+    {
+        let left = 6 * (usize::from(column) - 1);
+        let top = 12 * (usize::from(row) - 1);
+        for j in 0..12 {
+            if !self
+                .window
+                .has_part_of(&other.window, WIDTH * (top + j) + left, 6)
+            {
+                return false;
+            }
+        }
+        true
     }
 
     /// The colour number of a pixel of the window, `x` below 288 from the left and `y` below 192 from the top.

@@ -26,8 +26,8 @@ impl Model for Script {
 }
 
 impl Script {
-    ghost use Rattle.std.specs.Prelude.{◌≡◌, ◌<◌, ◌≤◌, ◌+◌, ◌++◌, ◌-◌, ℕ, List, [], ◌∷◌, length, take, slice_index, IfOk, OnOk, IsTrue};
-    ghost use Rattle.picture_script.specs.Script.{pictures, ready_time, hold_time, picture_pixel, picture_border, picture_colour, lines_before, Drawing, Show, Row};
+    ghost use Rattle.std.specs.Prelude.{◌≡◌, ◌<◌, ◌≤◌, ◌+◌, ◌++◌, ◌-◌, ℕ, List, [], ◌∷◌, length, take, slice_index, slice_index_or, IfOk, IfSome, OnOk, IsTrue};
+    ghost use Rattle.picture_script.specs.Script.{pictures, ready_time, hold_time, picture_pixel, picture_border, picture_colour, lines_before, Drawing, Fill, Show, Row};
     ghost use Rattle.picture_script.specs.Lines.{said};
 
     /// How many pictures it shows.
@@ -74,5 +74,21 @@ impl Script {
         ensures { result ≡ length (lines_before self.now k) }
     {
         self.shown[k as usize].place
+    }
+
+    // The place of the last of some lines that fills the window, and its colour, if one does.
+    pub(crate) fn last_fill(&self, from: usize, to: usize) -> Option<(usize, u8)>
+        requires { to ≤ length self.now }
+        ensures place { IfSome result (λ found. (from ≤ found.0) × (found.0 < to)) }
+        ensures fill { IfSome result (λ found. slice_index_or self.now found.0 (Fill 0) ≡ Fill found.1) }
+        ensures colour { IfSome result (λ found. found.1 < 16) }
+    {
+        let mut last = None;
+        for i in from..to {
+            if let Line::Filled { colour } = self.lines[i] {
+                last = Some((i, colour));
+            }
+        }
+        last
     }
 }

@@ -1,5 +1,5 @@
 // The pixels of a window.
-ghost use Rattle.std.specs.Prelude.{◌≡◌, ◌<◌, ◌≤◌, ◌+◌, ◌-◌, ◌*◌, ◌==◌, ◌&&◌, nat_le, nat_lt, if◌then◌else◌, ℕ, List, length, slice_index, IfOk};
+ghost use Rattle.std.specs.Prelude.{◌≡◌, ◌<◌, ◌≤◌, ◌+◌, ◌-◌, ◌*◌, ◌==◌, ◌&&◌, nat_le, nat_lt, if◌then◌else◌, ℕ, List, length, slice_index, IfOk, IsTrue, ◌↔◌};
 ghost use Rattle.picture_script.specs.Script.{is_within};
 ghost use Rattle.picture_script.specs.Board.{pixel_of, Becomes, IsWindow, AreColours};
 
@@ -7,7 +7,7 @@ use std::alloc::{AllocError, Global};
 use std::marker::Model;
 
 // How many pixels a window has across and down.
-const WIDTH: usize = 288;
+pub(crate) const WIDTH: usize = 288;
 
 const HEIGHT: usize = 192;
 
@@ -41,6 +41,14 @@ impl Window {
         ensures range { result < 16 }
     {
         self.pixels[WIDTH * y + x]
+    }
+
+    /// Whether the pixels from a place on, row by row, are those of another window.
+    pub(crate) fn has_part_of(&self, other: &Window, start: usize, count: usize) -> bool
+        requires { start + count ≤ 55296 }
+        ensures { IsTrue result ↔ ((i : ℕ) → start ≤ i → i < start + count → slice_index self.now i ≡ slice_index other.now i) }
+    {
+        self.pixels[start..start + count] == other.pixels[start..start + count]
     }
 
     /// Sets all pixels.

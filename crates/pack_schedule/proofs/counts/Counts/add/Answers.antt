@@ -7,7 +7,7 @@ pub returns-in-Some-clause-colours : goal.returns-in-Some-clause-colours
 returns-in-Some-clause-colours c d d_lt =
     let p = c.plans_are_shortest.ensures in
     let plans : PlansAreShortest = record { turns = p.turns; count = p.count; least = p.least } in
-    rw (c.from-weight.ensures, c.from-in-Some.ensures)
+    rw (c.from-weight.ensures, c.from.ensures)
     (single_step plans c.args.new.now c.args.self.now.single c.in-Some.colour d c.weight.result c.args.self.now.whole (omega arith) c.in-Some.ensures.colour.0 d_lt c.in-Some.ensures.tile c.in-Some.ensures.colour.1
     c.weight.ensures.least c.weight.ensures.none)
 

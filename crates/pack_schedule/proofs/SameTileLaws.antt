@@ -1,0 +1,97 @@
+-- Tiles that are the same before and after.
+use Rattle.std.proofs.Common.{◌≡◌, ℕ, zero, suc, ◌+◌, ◌-◌, ◌/◌, ◌%◌, ◌<◌, ◌≤◌, Bool, true, false, List, [], ◌∷◌, map, length, refl, ap, sym, subst, ◌∙◌, arith, bit_xor}
+use Rattle.std.specs.Prelude.{Option, Some, None, not, slice_index, nat_lt, if◌then◌else◌}
+use Rattle.std.specs.Option.{is_some}
+use Rattle.std.specs.Int.Bits.{xor_self}
+use Rattle.std.proofs.lemmas.Bool.Decides.{nat_tests}
+use Rattle.bit_lists.specs.Counting.{below}
+use Rattle.tile_author.specs.Plan.{are_equal, delta, steps, plan}
+use Rattle.picture_script.specs.Script.{Drawing, picture_tile}
+use Rattle.picture_script.specs.Board.{Board, IsPicture, tile_of}
+use Rattle.picture_script.proofs.Drawn.{picture_tile_is}
+use Rattle.picture_script.proofs.Parts.{tile_pixel, tile_size}
+use Rattle.picture_changes.specs.Change.{settings, IsStart, tiles_before}
+use Rattle.picture_changes.specs.PlannedChange.{planned_length, tile_steps, first_least, chosen_start}
+use Rattle.pack_schedule.specs.SameTiles.{SameRow, SameTiles}
+use Rattle.pack_schedule.proofs.Counting.{steps_so_far, none_so_far, one_more_tile, all_tiles}
+use Rattle.pack_schedule.proofs.SettingLaws.{zero_all}
+
+pub all_rows : (old new : List ℕ) (r : ℕ) → 16 ≤ r → ((m : ℕ) → m < r → SameRow old new (m + 1)) → SameTiles old new
+all_rows old new r end all row first last column from to =
+    let back : row - 1 + 1 ≡ row = omega arith in
+    subst (λ n. tile_of old n column ≡ tile_of new n column) back (all (row - 1) (omega arith) column from to)
+
+-- nothing is needed for a tile that stands
+equal_self : (t : List ℕ) → are_equal t t ≡ true
+unfolding are_equal delta
+equal_self t = zero_all (λ p. bit_xor (slice_index t p) (slice_index t p)) 72 0 (λ p. xor_self (slice_index t p))
+
+pub steps_self : (old new : List ℕ) → old ≡ new → steps old new ≡ 0
+unfolding steps
+steps_self old new same = ap (steps old) (sym same) ∙ rw (equal_self old) refl
+
+pub plan_self : (row column : ℕ) (old new : List ℕ) → old ≡ new → plan row column old new ≡ []
+unfolding plan
+plan_self row column old new same = ap (plan row column old) (sym same) ∙ rw (equal_self old) refl
+
+-- the tile of a picture that stands on a canvas
+pub tile_picture : (script : List Drawing) (k row column : ℕ) (board : Board) → 1 ≤ row → row ≤ 16 → 1 ≤ column → column ≤ 48 → IsPicture script k board → tile_of board.pixels row column ≡ picture_tile script k row column
+tile_picture script k row column board row_ge row_le column_ge column_le h =
+    picture_tile_is script k row column board (tile_of board.pixels row column) row_ge row_le column_ge column_le (tile_size board.pixels row column) (λ q lt. tile_pixel board.pixels row column q lt) h
+
+pub same_picture_tile : (script : List Drawing) (k row column : ℕ) (before now : Board) → 1 ≤ row → row ≤ 16 → 1 ≤ column → column ≤ 48 → IsPicture script (k - 1) before → IsPicture script k now
+    → tile_of before.pixels row column ≡ tile_of now.pixels row column → picture_tile script (k - 1) row column ≡ picture_tile script k row column
+same_picture_tile script k row column before now row_ge row_le column_ge column_le was is same =
+    sym (tile_picture script (k - 1) row column before row_ge row_le column_ge column_le was) ∙ same ∙ tile_picture script k row column now row_ge row_le column_ge column_le is
+
+-- a picture whose tiles all stand
+same_so_far : (script : List Drawing) (k : ℕ) (before now : Board) → IsPicture script (k - 1) before → IsPicture script k now → SameTiles before.pixels now.pixels
+    → (i : ℕ) → i ≤ 768 → steps_so_far script k None i ≡ 0
+same_so_far script k before now was is same zero le = none_so_far script k None
+same_so_far script k before now was is same (suc i) le =
+    let next : suc i ≡ i + 1 = omega arith in
+    let row : ℕ = i / 48 + 1 in
+    let column : ℕ = i % 48 + 1 in
+    let tile = same_picture_tile script k row column before now (omega arith) (omega arith) (omega arith) (omega arith) was is (same row (omega arith) (omega arith) column (omega arith) (omega arith)) in
+    let none : steps (picture_tile script (k - 1) row column) (picture_tile script k row column) ≡ 0 = steps_self (picture_tile script (k - 1) row column) (picture_tile script k row column) tile in
+    let so_far = same_so_far script k before now was is same i (omega arith) in
+    ap (steps_so_far script k None) next ∙ one_more_tile script k None i ∙ omega (arith, so_far, none)
+
+pub same_steps : (script : List Drawing) (k : ℕ) (before now : Board) → IsPicture script (k - 1) before → IsPicture script k now → SameTiles before.pixels now.pixels → tile_steps script k None ≡ 0
+same_steps script k before now was is same = sym (all_tiles script k None 768 refl) ∙ same_so_far script k before now was is same 768 (omega arith)
+
+-- one that no other is less than is the first of the least
+least_stays : (f : Option ℕ → ℕ) (best : Option ℕ) (xs : List ℕ) → ((x : ℕ) → f best ≤ f (Some x)) → first_least f best (map Some xs) ≡ best
+unfolding first_least
+least_stays f best [] least = refl
+least_stays f best (x ∷ xs) least =
+    let le = least x in
+    let no : nat_lt (f (Some x)) (f best) ≡ false = grind (arith, nat_tests) in
+    ap (λ (b : Bool). first_least f (if b then Some x else best) (map Some xs)) no ∙ least_stays f best xs least
+
+starts_longer : (script : List Drawing) (k c : ℕ) → tile_steps script k None ≡ 0 → planned_length script k None ≤ planned_length script k (Some c)
+unfolding planned_length
+starts_longer script k c none = omega (arith, none)
+
+pub same_chosen : (script : List Drawing) (k : ℕ) → 0 < k → tile_steps script k None ≡ 0 → None ≡ chosen_start script k
+unfolding chosen_start
+same_chosen zero_script zero pos none = absurd (omega arith)
+same_chosen script (suc k) pos none = sym (least_stays (planned_length script (suc k)) None (below 16) (λ c. starts_longer script (suc k) c none))
+
+pub same_length : (script : List Drawing) (k beside : ℕ) → beside ≡ length (settings script k) → tile_steps script k None ≡ 0 → beside ≡ planned_length script k None
+unfolding planned_length
+same_length script k beside is none = omega (arith, is, none)
+
+-- a later picture may begin with what stands
+pub later_start : (k : ℕ) (start : Option ℕ) → IsStart k start → start ≡ None → 0 < k
+later_start zero None h is = absurd h
+later_start zero (Some colour) h is = absurd (cc)
+later_start (suc k) start h is = omega arith
+
+pub before_none : (script : List Drawing) (k row column : ℕ) (start : Option ℕ) → start ≡ None → tiles_before script k start row column ≡ picture_tile script (k - 1) row column
+before_none script k row column start is = ap (λ s. tiles_before script k s row column) is
+
+pub start_none : (start : Option ℕ) (none : Bool) → is_some start ≡ not none → none ≡ true → start ≡ None
+start_none None none told h = refl
+start_none (Some colour) true told h = absurd (cc)
+start_none (Some colour) false told h = absurd (cc)

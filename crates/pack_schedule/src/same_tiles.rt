@@ -1,0 +1,51 @@
+// Which tiles two canvases share.
+ghost use Rattle.std.specs.Prelude.{◌≡◌, ◌<◌, ◌≤◌, IsTrue, ◌↔◌};
+ghost use Rattle.picture_script.specs.Board.{tile_of};
+ghost use Rattle.pack_schedule.specs.SameTiles.{AreSameRows, SameTiles};
+
+use picture_script::Canvas;
+
+/// How many rows of tiles the window has.
+pub(crate) const ROWS: usize = 16;
+
+/// Whether the tiles of each row are the same on two canvases.
+pub(crate) fn same_rows(before: &Canvas, now: &Canvas) -> [bool; ROWS]
+    ensures { AreSameRows before.now.pixels now.now.pixels result }
+{
+    let mut same = [false; ROWS];
+    for r in 0..ROWS {
+        same[r] = before.has_row_of(now, r as u8 + 1);
+    }
+    same
+}
+
+/// Whether the tile at a place is the same on two canvases that share these rows.
+pub(crate) fn is_same_tile(
+    same: &[bool; ROWS],
+    before: &Canvas,
+    now: &Canvas,
+    row: u8,
+    column: u8,
+) -> bool
+    requires same { AreSameRows before.now.pixels now.now.pixels same.now }
+    requires row_first { 1 ≤ row }
+    requires row_last { row ≤ 16 }
+    requires column_first { 1 ≤ column }
+    requires column_last { column ≤ 48 }
+    ensures { IsTrue result ↔ tile_of before.now.pixels row column ≡ tile_of now.now.pixels row column }
+{
+    same[usize::from(row) - 1] || before.has_tile_of(now, row, column)
+}
+
+/// Whether all tiles are the same on two canvases that share these rows.
+pub(crate) fn is_same_picture(same: &[bool; ROWS], before: &Canvas, now: &Canvas) -> bool
+    requires { AreSameRows before.now.pixels now.now.pixels same.now }
+    ensures { IsTrue result → SameTiles before.now.pixels now.now.pixels }
+{
+    for r in 0..ROWS {
+        if !same[r] {
+            return false;
+        }
+    }
+    true
+}
