@@ -1,11 +1,11 @@
 -- Eight bytes are turned by doubling and adding their bits, eight sums side by side in one number.
-use Rattle.std.proofs.Common.{◌≡◌, ◌≢◌, ℕ, zero, suc, ◌+◌, ◌-◌, ◌*◌, ◌/◌, ◌%◌, ◌^◌, ◌<◌, ◌≤◌, Bool, true, false, ◌&&◌, ◌==◌, cond, List, [], ◌∷◌, length, get_or, map, refl, sym, ap, ap₂, ◌∙◌, inl, inr, not-suc-le-zero, arith}
+use Rattle.std.proofs.Common.{◌≡◌, ◌≢◌, ℕ, zero, suc, ◌+◌, ◌-◌, ◌*◌, ◌/◌, ◌%◌, ◌^◌, ◌<◌, Bool, true, false, ◌&&◌, ◌==◌, List, [], ◌∷◌, get_or, map, refl, sym, ap, ◌∙◌, inl, inr, not-suc-le-zero, arith}
 use Rattle.std.specs.Prelude.{if◌then◌else◌, slice_index, nat_lt}
-use Rattle.std.specs.Int.{byte_at, bytes_low_first}
+use Rattle.std.specs.Int.{bytes_low_first}
 use Rattle.std.proofs.Math.Nat.{div-div-eq-div-mul}
 use Rattle.std.proofs.lemmas.List.FromFn.{get_or-map-range_with_len}
 use Rattle.std.proofs.lemmas.Bool.{cases_lt, and_parts, eqb-true, ltb-true}
-use Rattle.bit_lists.specs.Bits.{bits_of, number_of, has_bit}
+use Rattle.bit_lists.specs.Bits.{number_of, has_bit}
 use Rattle.bit_lists.specs.Counting.{below}
 use Rattle.bit_lists.proofs.BitsLemmas.{number_of-lt}
 use Rattle.raw_subcode.specs.declared.lane_table.TheConstants.{LANES}

@@ -1,18 +1,17 @@
 -- What a window of slots gives with a block, and what it is afterwards.
-use Rattle.std.proofs.Common.{◌≡◌, ℕ, zero, suc, ◌+◌, ◌-◌, ◌*◌, ◌%◌, ◌<◌, ◌≤◌, List, [], ◌∷◌, ◌++◌, length, map, min, refl, sym, ap, ap₂, zero-add, ◌∙◌, arith, Some, None, inl, inr, bit_or}
+use Rattle.std.proofs.Common.{◌≡◌, ℕ, zero, suc, ◌+◌, ◌-◌, ◌*◌, ◌%◌, ◌<◌, ◌≤◌, List, [], ◌∷◌, ◌++◌, length, min, refl, sym, ap, ap₂, zero-add, ◌∙◌, arith, Some, None, inl, inr, bit_or}
 use Rattle.std.specs.Prelude.{slice_index, replicate}
 use Rattle.std.specs.declared.option.Option.{Option}
 use Rattle.std.proofs.lemmas.Bool.{cases_lt}
 use Rattle.std.proofs.lemmas.Nat.{or_mod, le_or_l, le_or_r}
-use Rattle.std.proofs.lemmas.List.{length-map, append-nil, get_or-map}
-use Rattle.std.proofs.lemmas.List.FromFn.{map-range_with_len_more, get_or-map-range_with_len, fill_by_all}
+use Rattle.std.proofs.lemmas.List.{append-nil}
+use Rattle.std.proofs.lemmas.List.FromFn.{map-range_with_len_more, get_or-map-range_with_len}
 use Rattle.cdg_io.specs.Run.{give, run_state, run_gives}
 use Rattle.cdg_io.proofs.Runs.{run_state-append, run_gives-append}
 use Rattle.rw_interleave.specs.Gathering.{gathered, gather_next, gather_gives, symbol_at}
 use Rattle.rw_interleave.specs.Interleave.{swapped}
 use Rattle.rw_interleave.specs.Windows.{slot_in, slots_in}
 use Rattle.rw_interleave.proofs.Gathers.{gather_short, gather_full}
-use Rattle.rw_interleave.proofs.Places.{swapped-lt}
 use Rattle.rw_interleave.proofs.Ranges.{map_range}
 
 -- ---- Slots in a row.
@@ -132,12 +131,10 @@ symbol_in b j p lt =
     ap (λ (l : List ℕ). slice_index l p) (get_or-map-range_with_len (slot_in b) j 8 (p % 8) (j + p % 8) [] (omega arith) refl)
     ∙ get_or-map-range_with_len (λ i. slice_index b (24 * (j + p % 8) + i) % 64) 0 24 p p 0 lt (omega arith)
 
-pub word_is : (b symbols : List ℕ) (j : ℕ) → length symbols ≡ 24 → ((n : ℕ) → n < 24 → slice_index symbols n ≡ slice_index b (24 * (j + swapped n % 8) + swapped n))
-    → map (λ (s : ℕ). s % 64) symbols ≡ gathered (slots_in b j 8)
-unfolding gathered
-word_is b symbols j size each =
-    fill_by_all (λ i. symbol_at (slots_in b j 8) (swapped i)) (map (λ (s : ℕ). s % 64) symbols) 24 0 (length-map symbols (λ (s : ℕ). s % 64) ∙ size)
-    (λ n lt. get_or-map (λ (s : ℕ). s % 64) symbols n 0 0 (omega (arith, size)) ∙ ap (λ s. s % 64) (each n lt) ∙ sym (symbol_in b j (swapped n) (swapped-lt n lt)))
+pub symbol_is : (b : List ℕ) (j i p x : ℕ) → swapped i ≡ p → p < 24 → 24 * j + (24 * (p % 8) + p) ≡ x → slice_index b x % 64 ≡ symbol_at (slots_in b j 8) (swapped i)
+symbol_is b j i p x at lt place =
+    let there : x ≡ 24 * (j + p % 8) + p = omega (arith, place) in
+    ap (λ k. slice_index b k % 64) there ∙ sym (symbol_in b j p lt) ∙ ap (symbol_at (slots_in b j 8)) (sym at)
 
 -- ---- Zeros.
 

@@ -5,7 +5,7 @@ ghost use Rattle.rw_interleave.specs.Gathering.{gathered, gather_gives, gather_n
 ghost use Rattle.rw_interleave.specs.Interleave.{swapped};
 ghost use Rattle.rw_interleave.specs.Windows.{slots_in};
 
-use crate::slot::{SPAN, swapped};
+use crate::slot::SPAN;
 use arrayvec::ArrayVec;
 use rw_code::{SYMBOLS, Word};
 use std::marker::Model;
@@ -136,18 +136,39 @@ fn words_of(bytes: &[u8; ALL], count: usize) -> ArrayVec<Word, 4>
     words
 }
 
-/// The word of eight slots from one on.
+/// The word of eight slots from one on: its symbols are where a pack's are spread to.
 #[inline]
 fn word_at(bytes: &[u8; ALL], first: usize) -> Word
     requires { first < 4 }
     ensures { result ≡ gathered (slots_in bytes.now first 8) }
 {
-    let mut symbols = [0; SYMBOLS];
-    for i in 0..SYMBOLS {
-        let position = swapped(i);
-        symbols[i] = bytes[SYMBOLS * (first + position % SPAN) + position];
-    }
-    Word::new(&symbols)
+    let at = SYMBOLS * first;
+    Word::new(&[
+        bytes[at],
+        bytes[at + 66],
+        bytes[at + 125],
+        bytes[at + 191],
+        bytes[at + 100],
+        bytes[at + 50],
+        bytes[at + 150],
+        bytes[at + 175],
+        bytes[at + 8],
+        bytes[at + 33],
+        bytes[at + 58],
+        bytes[at + 83],
+        bytes[at + 108],
+        bytes[at + 133],
+        bytes[at + 158],
+        bytes[at + 183],
+        bytes[at + 16],
+        bytes[at + 41],
+        bytes[at + 25],
+        bytes[at + 91],
+        bytes[at + 116],
+        bytes[at + 141],
+        bytes[at + 166],
+        bytes[at + 75],
+    ])
 }
 
 /// Four words of zeros.
