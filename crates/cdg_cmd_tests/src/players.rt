@@ -2,7 +2,7 @@ use cdg_io::{MemSink, MemSource, Then};
 use cdg_screen::Screen;
 use cdtext_packs::TextReader;
 use lead_in_texts::LeadInTexts;
-use rw_interleave::Gather;
+use rw_interleave::Window;
 use std::test::Fail;
 use subcode_player::{
     BlockWords, Correction, Counting, Drawing, Form, FrameCounts, Picture, Played, Player,
@@ -122,7 +122,7 @@ fn see_words(words: &BlockWords) {
     } = words;
     let _form: &Form = form;
     let _lead_in: &u32 = lead_in;
-    let _gather: &Gather = gather;
+    let _gather: &Window = gather;
 }
 
 fn see_correction(correction: &Correction) {

@@ -1,5 +1,5 @@
 -- The run of the stage over the blocks of a stream.
-use Rattle.std.proofs.Common.{◌≡◌, ℕ, zero, suc, ◌+◌, ◌-◌, ◌*◌, ◌/◌, ◌%◌, ◌^◌, ◌<◌, ◌≤◌, ◌==◌, cond, Bool, true, false, List, [], ◌∷◌, ◌++◌, length, get_or, set, take, drop, map, bit_xor, Some, Result, Ok, Err, refl, sym, ap, ap₂, ◌∙◌, subst, length-drop, append_assoc, lit<, arith}
+use Rattle.std.proofs.Common.{◌≡◌, ℕ, zero, suc, ◌+◌, ◌-◌, ◌*◌, ◌/◌, ◌%◌, ◌^◌, ◌<◌, ◌≤◌, ◌==◌, cond, Bool, true, false, List, [], ◌∷◌, ◌++◌, length, get_or, set, take, drop, map, bit_xor, Some, Result, Ok, Err, refl, sym, ap, ap₂, ◌∙◌, subst, length-drop, drop-drop, append_assoc, lit<, arith}
 use Rattle.std.proofs.Math.Seq.{take-nil, drop-nil, take-add, take-append-add, drop-append-add}
 use Rattle.std.proofs.lemmas.Bool.{ne_eqb}
 use Rattle.std.proofs.lemmas.List.{take_more, take_more_set, length-take}
@@ -22,7 +22,7 @@ use Rattle.cdg_workload.specs.Scratches.{Burst, bursts, change_at, scratched_byt
 use Rattle.cdg_workload.specs.Steps.{byte_next, byte_gives, block_next, block_gives, begun}
 use Rattle.cdg_workload.specs.declared.needle.Needle.{Needle}
 use Rattle.cdg_workload.specs.declared.scratching.Scratches.{Scratches}
-use Rattle.cdg_workload.proofs.Needles.{at, run, changed_from, scratches_all}
+use Rattle.cdg_workload.proofs.Needles.{at, run, changed_from, scratches_all, next_before, gives_before}
 
 -- ---- One block, byte by byte.
 
@@ -149,3 +149,33 @@ pub streams : (lead_in seed : ℕ) (left left' held held' : Option (List ℕ)) (
     → Pumps 96 1000000 block_next block_gives left left' s s' held held' result taken → Streams 96 1000000 Torn WriteFault (IsScratched lead_in seed) left left' held held' result taken
 streams lead_in seed left left' held held' s s' result taken begins pumps =
     streams_from lead_in seed left left' held held' s' result taken (subst (λ t. Pumps 96 1000000 block_next block_gives left left' t s' held held' result taken) begins pumps)
+
+-- ---- Runs of symbols that stay.
+
+pass_run : (ys : List ℕ) (g l c : ℕ) (w : Lcg) → length ys ≤ g → (at (g - length ys) l c w ≡ state (at g l c w) ys) × (ys ≡ run (at g l c w) ys)
+pass_run [] g l c w fits = let none : g - 0 ≡ g = omega arith in (ap (λ n. at n l c w) none, refl)
+pass_run (y ∷ ys) zero l c w fits = absurd (omega arith)
+pass_run (y ∷ ys) (suc g) l c w fits =
+    let (after, given) = pass_run ys g l c w (omega arith) in
+    let less : suc g - length (y ∷ ys) ≡ g - length ys = omega arith in (
+      ap (λ n. at n l c w) less ∙ after ∙ ap (λ u. state u ys) (sym (next_before g l c w y)),
+      ap₂ (λ m (zs : List ℕ). m ∷ zs) (sym (xor_zero_r y)) given
+          ∙ ap (λ h. bit_xor y 0 ∷ run h ys) (sym (next_before g l c w y)) ∙ ap (λ o. give o (run (byte_next (at (suc g) l c w) y) ys)) (sym (gives_before g l c w y)),
+    )
+
+-- some symbols more that stay
+pub pass_more : (s t t' : Needle) (block old : List ℕ) (i m k : ℕ) → i + m ≡ k → k ≤ length block → m ≤ t.gap → t' ≡ record t { gap = t.gap - m }
+    → t ≡ state s (take i block) → take i old ≡ run s (take i block) → drop i old ≡ drop i block
+    → (t' ≡ state s (take k block)) × (take k old ≡ run s (take k block)) × (drop k old ≡ drop k block)
+pass_more s t t' block old i m k sum fits few is now done rest =
+    let ys = take m (drop i block) in
+    let size : length ys ≡ m = length-take m (drop i block) ∙ omega (arith, length-drop i block) in
+    let more : (xs : List ℕ) → take k xs ≡ take i xs ++ take m (drop i xs) = λ xs. ap (λ n. take n xs) (sym sum) ∙ take-add i m xs in
+    let later : (xs : List ℕ) → drop k xs ≡ drop m (drop i xs) = λ xs. ap (λ n. drop n xs) (sym sum) ∙ sym (drop-drop m i xs) in
+    let (after, given) = pass_run ys t.gap t.left t.change t.words (omega (arith, size, few)) in
+    let gap : t.gap - m ≡ t.gap - length ys = ap (λ n. t.gap - n) (sym size) in (
+      is ∙ ap (λ n. at n t.left t.change t.words) gap ∙ after ∙ ap (λ u. state u ys) now ∙ sym (ap (state s) (more block) ∙ run_state-append byte_next s (take i block) ys),
+      more old ∙ ap₂ (λ (l r : List ℕ). l ++ r) done (ap (take m) rest ∙ given ∙ ap (λ u. run u ys) now)
+          ∙ sym (ap (run s) (more block) ∙ run_gives-append byte_next byte_gives s (take i block) ys),
+      later old ∙ ap (drop m) rest ∙ sym (later block),
+    )

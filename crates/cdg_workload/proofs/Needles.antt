@@ -28,12 +28,12 @@ ready_within : (l c : ℕ) (w : Lcg) → ready (at 0 (suc l) c w) ≡ at 0 (suc 
 unfolding ready
 ready_within l c w = ap (λ t. cond t (drawn w) (at 0 (suc l) c w)) (not_zero l)
 
-next_before : (g l c : ℕ) (w : Lcg) (b : ℕ) → byte_next (at (suc g) l c w) b ≡ at g l c w
+pub next_before : (g l c : ℕ) (w : Lcg) (b : ℕ) → byte_next (at (suc g) l c w) b ≡ at g l c w
 unfolding byte_next moved
 next_before g l c w b =
     ap moved (ready_before g l c w) ∙ ap (λ t. cond t (at (suc g) (l - 1) c w) (at (suc g - 1) l c w)) (not_zero g) ∙ ap (λ n. at n l c w) (less_one g)
 
-gives_before : (g l c : ℕ) (w : Lcg) (b : ℕ) → byte_gives (at (suc g) l c w) b ≡ Some (bit_xor b 0)
+pub gives_before : (g l c : ℕ) (w : Lcg) (b : ℕ) → byte_gives (at (suc g) l c w) b ≡ Some (bit_xor b 0)
 unfolding byte_gives change_now
 gives_before g l c w b =
     ap (λ n. Some (bit_xor b (change_now n))) (ready_before g l c w) ∙ ap (λ t. Some (bit_xor b (cond t c 0))) (not_zero g)

@@ -1,5 +1,5 @@
 // The changes of neighbouring symbols, by the words of a generator.
-ghost use Rattle.std.specs.Prelude.{◌≡◌, Some};
+ghost use Rattle.std.specs.Prelude.{◌≡◌, ◌<◌, ◌≤◌, ◌-◌, ◌^◌, Some};
 ghost use Rattle.rand_pcg.specs.Pcg.{pcg32};
 ghost use Rattle.cdg_io.specs.Run.{run_state, run_gives};
 ghost use Rattle.cdg_workload.specs.Steps.{drawn, ready, change_now, moved, byte_next, byte_gives};
@@ -57,14 +57,30 @@ impl Needle {
         self.change
     }
 
-    /// The bytes of a block with their symbols changed.
+    /// Goes over the symbols before the next one that is changed, at most so many: how many they are.
+    #[inline]
+    fn pass(&mut self, most: usize) -> usize
+        requires { most < 2 ^ 32 }
+        ensures next { self.new ≡ record self.old { gap = self.old.gap - result } }
+        ensures gap { result ≤ self.old.gap }
+        ensures most { result ≤ most }
+    {
+        let passed = self.gap.min(most as u32);
+        self.gap -= passed;
+        passed as usize
+    }
+
+    /// The bytes of a block with their symbols changed. What stays is gone over at once.
     pub(crate) fn scratch(&mut self, block: &[u8; 96]) -> [u8; 96]
         ensures next { self.new ≡ run_state byte_next self.old block.now }
         ensures gives { result ≡ run_gives byte_next byte_gives self.old block.now }
     {
-        let mut scratched = [0; 96];
-        for i in 0..96 {
-            scratched[i] = self.push(block[i]);
+        let mut scratched = *block;
+        let mut at = self.pass(96);
+        while at < 96 {
+            scratched[at] = self.push(block[at]);
+            at += 1;
+            at += self.pass(96 - at);
         }
         scratched
     }

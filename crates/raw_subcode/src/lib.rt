@@ -3,6 +3,8 @@
 
 mod block;
 mod form;
+mod lane_table;
+mod lanes;
 mod laws;
 mod packs;
 mod planar;

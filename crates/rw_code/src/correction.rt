@@ -25,6 +25,12 @@ pub fn correct(received: &Word) -> Option<Fixed>
     ensures word { IsWord received.now }
 {
     received.is_word();
+    if received.is_idle() {
+        return Some(Fixed {
+            pack: Pack::idle(),
+            wrong: 0,
+        });
+    }
     let syndromes = Syndromes::of(received);
     if let Some(pack) = Pack::check_syndromes(received, syndromes) {
         return Some(Fixed { pack, wrong: 0 });

@@ -1,5 +1,5 @@
 // Words of 24 symbols.
-ghost use Rattle.std.specs.Prelude.{◌≡◌, ◌<◌, ◌%◌, List, ℕ, map, slice_index, slice_set, replicate, bit_xor};
+ghost use Rattle.std.specs.Prelude.{◌≡◌, true, ◌<◌, ◌%◌, List, ℕ, map, slice_index, slice_set, replicate, bit_xor};
 ghost use Rattle.rw_code.specs.Codeword.{IsWord, differences};
 
 use gf64::Sym;
@@ -62,6 +62,18 @@ impl Word {
         ensures word { IsWord result }
     {
         self.bytes
+    }
+
+    /// Whether all symbols are 0.
+    #[inline]
+    pub(crate) fn is_idle(&self) -> bool
+        ensures { result ≡ true → self.now ≡ replicate 24 0 }
+    {
+        let mut all = 0;
+        for byte in &self.bytes {
+            all |= *byte;
+        }
+        all == 0
     }
 
     /// A law: each word has 24 symbols below 64.

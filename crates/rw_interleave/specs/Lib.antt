@@ -1,3 +1,4 @@
 pub mod Interleave
 pub mod Gathering
 pub mod Spreading
+pub mod Windows

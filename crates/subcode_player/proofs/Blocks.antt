@@ -1,59 +1,49 @@
--- The slots of a block, one after another.
-use Rattle.std.proofs.Common.{◌≡◌, ℕ, ◌+◌, ◌*◌, List, [], ◌∷◌, ◌++◌, map, take, drop, sym, ap, ap₂, ◌∙◌, arith}
-use Rattle.std.specs.declared.option.Option.{Option}
-use Rattle.std.proofs.lemmas.List.FromFn.{map-range_with_len_more}
-use Rattle.cdg_io.specs.Run.{give, run_state, run_gives}
-use Rattle.cdg_io.proofs.Runs.{run_state-append, run_gives-append}
-use Rattle.bit_lists.specs.Counting.{below}
-use Rattle.raw_subcode.specs.Channels.{symbols_of}
+-- The slots of a block, as a window takes them.
+use Rattle.std.proofs.Common.{◌≡◌, ℕ, ◌+◌, ◌*◌, ◌%◌, ◌<◌, ◌⊎◌, inl, inr, List, [], ◌∷◌, length, map, take, drop, sym, ap, ◌∙◌, arith, length-drop, length-take-le}
+use Rattle.std.specs.Prelude.{slice_index}
+use Rattle.std.proofs.lemmas.List.{length-map, get_or-map, get_or-take, get_or-drop}
+use Rattle.std.proofs.lemmas.List.FromFn.{fill_by_all}
+use Rattle.cdg_io.specs.Run.{run_state, run_gives}
+use Rattle.rw_interleave.specs.Gathering.{gather_next, gather_gives}
+use Rattle.rw_interleave.specs.Windows.{slot_in, slots_in}
+use Rattle.raw_subcode.specs.declared.form.Form.{Form}
+use Rattle.raw_subcode.specs.declared.form.Form.TheVariants.{Raw, Sector, Cooked}
 use Rattle.subcode_player.specs.Steps.{slot_of, slots_of, window_next, window_gives}
-use Rattle.subcode_player.specs.declared.words.BlockWords.{BlockWords}
 
--- a run over the values of a function at numbers in a row, and the next
-pub state_more : {S : Type 0} (next : S → List ℕ → S) (s : S) (f : ℕ → List ℕ) (i : ℕ) → run_state next s (map f (below (i + 1))) ≡ next (run_state next s (map f (below i))) (f i)
-state_more next s f i = ap (run_state next s) (map-range_with_len_more f 0 i i (omega arith)) ∙ run_state-append next s (map f (below i)) (f i ∷ [])
+slot_same : (block : List ℕ) (k : ℕ) → length block ≡ 96 → k < 4 → slot_of block k ≡ slot_in block k
+unfolding slot_of slot_in
+slot_same block k size lt =
+    let rest = drop (24 * k) block in
+    let few : length (take 24 rest) ≡ 24 = length-take-le 24 rest (omega (arith, size, length-drop (24 * k) block)) in
+    fill_by_all (λ i. slice_index block (24 * k + i) % 64) (map (λ (byte : ℕ). byte % 64) (take 24 rest)) 24 0 (length-map (take 24 rest) (λ (byte : ℕ). byte % 64) ∙ few)
+    (λ n n_lt. get_or-map (λ (byte : ℕ). byte % 64) (take 24 rest) n 0 0 (omega (arith, few, n_lt))
+      ∙ ap (λ byte. byte % 64) (get_or-take 24 rest n 0 n_lt ∙ get_or-drop (24 * k) block n 0))
 
-pub gives_more : {S O : Type 0} (next : S → List ℕ → S) (gives : S → List ℕ → Option O) (s : S) (f : ℕ → List ℕ) (i : ℕ)
-    → run_gives next gives s (map f (below (i + 1))) ≡ run_gives next gives s (map f (below i)) ++ give (gives (run_state next s (map f (below i))) (f i)) []
-gives_more next gives s f i = ap (run_gives next gives s) (map-range_with_len_more f 0 i i (omega arith)) ∙ run_gives-append next gives s (map f (below i)) (f i ∷ [])
+pub slots_same : (block : List ℕ) → length block ≡ 96 → slots_of block ≡ slots_in block 0 4
+unfolding slots_of slots_in
+slots_same block size =
+    (λ i. slot_same block 0 size (omega arith) i ∷ slot_same block 1 size (omega arith) i ∷ slot_same block 2 size (omega arith) i ∷ slot_same block 3 size (omega arith) i ∷ [])
 
--- The words of the first slots of a block are gathered: s' and these words are what a block's words began with.
-pub record IsGathered (s s' : BlockWords) (block : List ℕ) (i : ℕ) : Type 0 where
-  pub form : s'.form ≡ s.form
-  pub lead_in : s'.lead_in ≡ s.lead_in
-  pub gather : s'.gather ≡ run_state (window_next s.form) s.gather (map (slot_of block) (below i))
+-- where packs are gathered, a block's slots are taken by a window
+pub raw_state : (form : Form) (w : List (List ℕ)) (block : List ℕ) → (form ≡ Raw) ⊎ (form ≡ Sector) → length block ≡ 96
+    → run_state gather_next w (slots_in block 0 4) ≡ run_state (window_next form) w (slots_of block)
+unfolding window_next
+raw_state form w block (inl raw) size = ap (run_state gather_next w) (sym (slots_same block size)) ∙ ap (λ f. run_state (window_next f) w (slots_of block)) (sym raw)
+raw_state form w block (inr sector) size = ap (run_state gather_next w) (sym (slots_same block size)) ∙ ap (λ f. run_state (window_next f) w (slots_of block)) (sym sector)
 
-abbrev words_of : BlockWords → List ℕ → ℕ → List (List ℕ)
-words_of s block i = run_gives (window_next s.form) (window_gives s.form) s.gather (map (slot_of block) (below i))
+pub raw_gives : (form : Form) (w : List (List ℕ)) (block : List ℕ) → (form ≡ Raw) ⊎ (form ≡ Sector) → length block ≡ 96
+    → run_gives gather_next gather_gives w (slots_in block 0 4) ≡ run_gives (window_next form) (window_gives form) w (slots_of block)
+unfolding window_next window_gives
+raw_gives form w block (inl raw) size =
+    ap (run_gives gather_next gather_gives w) (sym (slots_same block size)) ∙ ap (λ f. run_gives (window_next f) (window_gives f) w (slots_of block)) (sym raw)
+raw_gives form w block (inr sector) size =
+    ap (run_gives gather_next gather_gives w) (sym (slots_same block size)) ∙ ap (λ f. run_gives (window_next f) (window_gives f) w (slots_of block)) (sym sector)
 
--- one slot more
-pub words_step : (s : BlockWords) (block : List ℕ) (i : ℕ) (t t' : BlockWords) (words words' : List (List ℕ)) (slot : List ℕ) (word : Option (List ℕ))
-    → t.form ≡ s.form → t.lead_in ≡ s.lead_in → t.gather ≡ run_state (window_next s.form) s.gather (map (slot_of block) (below i)) → words ≡ words_of s block i
-    → slot ≡ take 24 (drop (24 * i) block) → t' ≡ record t { gather = window_next t.form t.gather (symbols_of slot) } → word ≡ window_gives t.form t.gather (symbols_of slot) → words' ≡ words ++ give word []
-    → IsGathered s t' block (i + 1) × (words' ≡ words_of s block (i + 1))
-unfolding slot_of
-words_step s block i t t' words words' slot word form lead_in gather done is next gives add =
-    let symbols : symbols_of slot ≡ slot_of block i = ap symbols_of is in
-    let window : window_next t.form t.gather (symbols_of slot) ≡ run_state (window_next s.form) s.gather (map (slot_of block) (below (i + 1))) =
-    ap (λ f. window_next f t.gather (symbols_of slot)) form ∙ ap₂ (window_next s.form) gather symbols ∙ sym (state_more (window_next s.form) s.gather (slot_of block) i) in
-    let given : word ≡ window_gives s.form (run_state (window_next s.form) s.gather (map (slot_of block) (below i))) (slot_of block i) =
-    gives ∙ ap (λ f. window_gives f t.gather (symbols_of slot)) form ∙ ap₂ (window_gives s.form) gather symbols in (
-      record {
-        form = ap (λ (u : BlockWords). u.form) next ∙ form;
-        lead_in = ap (λ (u : BlockWords). u.lead_in) next ∙ lead_in;
-        gather = ap (λ (u : BlockWords). u.gather) next ∙ window;
-      },
-      add ∙ ap₂ (λ l (o : Option (List ℕ)). l ++ give o []) done given ∙ sym (gives_more (window_next s.form) (window_gives s.form) s.gather (slot_of block) i),
-    )
+-- cooked slots are words as they stand
+pub cooked_state : (form : Form) (w : List (List ℕ)) (block : List ℕ) → form ≡ Cooked → w ≡ run_state (window_next form) w (slots_of block)
+unfolding window_next slots_of
+cooked_state form w block cooked = ap (λ f. run_state (window_next f) w (slots_of block)) (sym cooked)
 
--- all four slots are taken
-pub state_of_block : (s t : BlockWords) (block : List ℕ) (i : ℕ) → i ≡ 4 → t.form ≡ s.form → t.lead_in ≡ s.lead_in → t.gather ≡ run_state (window_next s.form) s.gather (map (slot_of block) (below i))
-    → t ≡ record s { gather = run_state (window_next s.form) s.gather (slots_of block) }
-unfolding slots_of
-state_of_block s t block i all form lead_in gather =
-    ap (λ f. record { form = f; lead_in = t.lead_in; gather = t.gather }) form ∙ ap (λ l. record { form = s.form; lead_in = l; gather = t.gather }) lead_in
-    ∙ ap (λ g. record { form = s.form; lead_in = s.lead_in; gather = g }) (gather ∙ ap (λ n. run_state (window_next s.form) s.gather (map (slot_of block) (below n))) all)
-
-pub words_of_block : (s : BlockWords) (block : List ℕ) (i : ℕ) (words : List (List ℕ)) → i ≡ 4 → words ≡ words_of s block i → words ≡ run_gives (window_next s.form) (window_gives s.form) s.gather (slots_of block)
-unfolding slots_of
-words_of_block s block i words all done = done ∙ ap (words_of s block) all
+pub cooked_gives : (form : Form) (w : List (List ℕ)) (block : List ℕ) → form ≡ Cooked → slots_of block ≡ run_gives (window_next form) (window_gives form) w (slots_of block)
+unfolding window_next window_gives slots_of
+cooked_gives form w block cooked = ap (λ f. run_gives (window_next f) (window_gives f) w (slots_of block)) (sym cooked)

@@ -1,9 +1,9 @@
 -- From the counts of blocks to what `check` writes.
-use Rattle.std.proofs.Common.{◌≡◌, ◌≢◌, ℕ, ◌+◌, ◌-◌, ◌*◌, ◌/◌, ◌%◌, ◌^◌, ◌<◌, ◌≤◌, Bool, true, false, ◌==◌, min, List, [], ◌∷◌, ◌++◌, length, length-drop, map, drop, refl, sym, ap, ap₂, ◌∙◌, subst, arith, IfSome, Some, None, Result, Ok, Err}
+use Rattle.std.proofs.Common.{◌≡◌, ℕ, ◌-◌, ◌*◌, ◌/◌, ◌%◌, ◌≤◌, ◌==◌, min, List, [], ◌∷◌, ◌++◌, length, length-drop, map, drop, refl, sym, ap, ap₂, ◌∙◌, subst, arith, IfSome, Some, None, Result, Ok, Err}
 use Rattle.std.specs.Prelude.{IfOk, IfErr, nat_lt, count_by, is_ok, is_err}
 use Rattle.std.specs.declared.option.Option.{Option}
-use Rattle.std.specs.List.{concat, flat_map}
-use Rattle.std.specs.Io.KnownBytes.{Appends, IsAtEnd}
+use Rattle.std.specs.List.{flat_map}
+use Rattle.std.specs.Io.KnownBytes.{Appends}
 use Rattle.std.proofs.KnownBytes.{Appends-nil}
 use Rattle.std.proofs.lemmas.List.{length-map}
 use Rattle.std.proofs.lemmas.List.FromFn.{length-map-range_with_len}
@@ -20,7 +20,7 @@ use Rattle.rw_code.specs.Finding.{finding}
 use Rattle.raw_subcode.specs.Channels.{unit_size, block_of, blocks_of, symbols_of, program_symbols}
 use Rattle.raw_subcode.specs.declared.form.Form.{Form}
 use Rattle.raw_subcode.specs.declared.form.Form.TheVariants.{Raw, Sector, Cooked}
-use Rattle.stream_words.specs.Stream.{word_count, form_word, bad_count}
+use Rattle.stream_words.specs.Stream.{word_count, form_word}
 use Rattle.q_frame.specs.declared.frame.QFrame.{QFrame}
 use Rattle.q_frame.specs.declared.frame.QFault.{QFault}
 use Rattle.block_stages.specs.QList.{q_blocks, AreReadings}
@@ -31,18 +31,17 @@ use Rattle.subcode_player.specs.Steps.{slots_of, words_next, words_give}
 use Rattle.subcode_player.specs.Counts.{stream_lines, wrong_lines, kind_lines, frame_lines, check_text, IsChecked}
 use Rattle.subcode_player.specs.CountSteps.{count_after, counts_next, frames_next, counting_next, lines_of, has_frames, IsFresh}
 use Rattle.subcode_player.specs.Watch.{play_stop, Watches}
-use Rattle.subcode_player.specs.declared.counting.WordCounts.{WordCounts}
 use Rattle.subcode_player.specs.declared.counting.FrameCounts.{FrameCounts}
 use Rattle.subcode_player.specs.declared.counting.Counting.{Counting}
 use Rattle.subcode_player.specs.declared.player.Played.{Played}
 use Rattle.subcode_player.specs.declared.player.PlayStop.{PlayStop}
-use Rattle.subcode_player.specs.declared.player.PlayStop.TheVariants.{ReadFault, WriteFault, Torn, TooLong, PastEnd}
+use Rattle.subcode_player.specs.declared.player.PlayStop.TheVariants.{ReadFault, WriteFault, TooLong}
 use Rattle.subcode_player.proofs.Slots.{Sized, sized_drop, all_slots_sized, all_slots_together, length-all_slots}
 use Rattle.subcode_player.proofs.FormWords.{words_from, words_are, found_in}
 use Rattle.subcode_player.proofs.PlayRuns.{block_words}
 use Rattle.subcode_player.proofs.Conversion.{program, units_sized, blocks_sized, length-units_of}
 use Rattle.subcode_player.proofs.Playing.{units_in}
-use Rattle.subcode_player.proofs.Counted.{AreCounted, no_counts, are_counted, counts_run, counting_words, counting_frames, counted_words, frames_read, frames_not_read, reading_at}
+use Rattle.subcode_player.proofs.Counted.{AreCounted, no_counts, are_counted, counts_run, counting_words, counting_frames, frames_read, frames_not_read, reading_at}
 use Rattle.subcode_player.proofs.Views.{recovered_units, few_words, whole_taken, done_tests, torn_tests, long_tests, not_over, is_over, zero_rest, some_rest}
 
 -- ---- the counts of blocks

@@ -1,5 +1,5 @@
 -- What is counted of words and blocks, one after another.
-use Rattle.std.proofs.Common.{◌≡◌, ℕ, ◌+◌, ◌-◌, ◌^◌, ◌<◌, ◌≤◌, Bool, true, false, min, List, [], ◌∷◌, ◌++◌, length, get_or, map, take, Some, refl, sym, ap, ap₂, ◌∙◌, arith}
+use Rattle.std.proofs.Common.{◌≡◌, ℕ, ◌+◌, ◌^◌, ◌<◌, ◌≤◌, Bool, true, false, List, [], ◌∷◌, ◌++◌, length, get_or, map, take, Some, refl, sym, ap, ap₂, ◌∙◌, arith}
 use Rattle.std.specs.Prelude.{if◌then◌else◌, count_by, is_none, is_ok, is_err, Result}
 use Rattle.std.specs.declared.option.Option.{Option}
 use Rattle.std.specs.List.{zip}
@@ -17,7 +17,7 @@ use Rattle.q_frame.specs.declared.frame.QFrame.{QFrame}
 use Rattle.q_frame.specs.declared.frame.QFault.{QFault}
 use Rattle.subcode_player.specs.Steps.{words_next, words_give}
 use Rattle.subcode_player.specs.Counts.{has_wrong, found_passes, is_idle, is_graphics, is_unknown, is_foreign}
-use Rattle.subcode_player.specs.CountSteps.{tick, wrong_counted, kind_counted, count_found, count_next, count_after, counts_next, counts_give, frames_next, counting_next}
+use Rattle.subcode_player.specs.CountSteps.{tick, wrong_counted, kind_counted, count_found, count_next, count_after, counts_next, frames_next, counting_next}
 use Rattle.subcode_player.specs.declared.words.BlockWords.{BlockWords}
 use Rattle.subcode_player.specs.declared.counting.WordCounts.{WordCounts}
 use Rattle.subcode_player.specs.declared.counting.FrameCounts.{FrameCounts}

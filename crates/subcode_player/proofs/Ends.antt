@@ -1,5 +1,5 @@
 -- How the end of an input is told by a player.
-use Rattle.std.proofs.Common.{◌≡◌, ◌≢◌, ℕ, List, Result, Ok, Err, refl}
+use Rattle.std.proofs.Common.{◌≢◌, ℕ, List, Result, Ok, Err, refl}
 use Rattle.cdg_io.specs.Pump.{TellsEndOf}
 use Rattle.cdg_io.specs.declared.pumping.Pumped.{Pumped}
 use Rattle.cdg_io.specs.declared.pumping.PumpStop.{PumpStop}

@@ -1,5 +1,5 @@
 -- For some bytes one text is written.
-use Rattle.std.proofs.Common.{◌≡◌, ◌↔◌, ℕ, ◌-◌, ◌/◌, ◌<◌, Bool, List, [], ◌∷◌, length, get_or, map, take, drop, min, sym, ap, ap₂, ◌∙◌, subst, arith, count_by, Some, None, Result, Ok}
+use Rattle.std.proofs.Common.{◌≡◌, ◌↔◌, ℕ, ◌-◌, ◌/◌, ◌<◌, Bool, List, [], ◌∷◌, length, map, take, drop, min, sym, ap, ap₂, ◌∙◌, subst, arith, count_by, Some, None, Result, Ok}
 use Rattle.std.specs.Prelude.{is_err}
 use Rattle.std.specs.declared.option.Option.{Option}
 use Rattle.std.proofs.Math.Nat.{div-mul-le_self}

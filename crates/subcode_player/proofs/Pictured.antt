@@ -1,7 +1,6 @@
 -- A screen of a scheduled stream shows its pictures.
-use Rattle.std.proofs.Common.{◌≡◌, ℕ, zero, suc, ◌+◌, ◌-◌, ◌*◌, ◌/◌, ◌%◌, ◌<◌, ◌≤◌, List, [], ◌∷◌, ◌++◌, length, map, take, drop, length-drop, replicate, refl, sym, ap, ◌∙◌, subst, arith, Some, None, IfSome, Result, Ok, Err}
+use Rattle.std.proofs.Common.{◌≡◌, ℕ, ◌-◌, ◌*◌, ◌/◌, ◌<◌, ◌≤◌, List, [], ◌∷◌, length, map, take, drop, length-drop, replicate, ap, ◌∙◌, subst, arith, Some, None, IfSome, Result, Ok, Err}
 use Rattle.std.specs.declared.option.Option.{Option}
-use Rattle.std.specs.Io.KnownBytes.{Appends}
 use Rattle.std.proofs.Math.Nat.{div-mul-le_self}
 use Rattle.std.proofs.lemmas.List.{take-append-le, take-map, length-map}
 use Rattle.cdg_io.specs.Pump.{units_of}
@@ -14,7 +13,6 @@ use Rattle.picture_script.specs.Script.{Drawing, pictures, ready_time, hold_time
 use Rattle.picture_changes.specs.Schedule.{IsSchedule}
 use Rattle.picture_changes.specs.Shown.{ShowsPicture, AreTimesInOrder, AreColoursInRange}
 use Rattle.shown_pictures.specs.Shown.{AreMeantBy}
-use Rattle.subcode_player.specs.Convert.{IsDamagedStream}
 use Rattle.subcode_player.specs.Shown.{AreMeant, IsScreenAt, IsShownBy, Shows}
 use Rattle.subcode_player.specs.Pictured.{IsScheduledStream, IsHeldAt, IsPictureText, GivesPicture}
 use Rattle.raw_subcode.specs.declared.form.Form.{Form}

@@ -1,5 +1,5 @@
 -- What `check` counts, and the lines that it writes.
-use Rattle.std.specs.Prelude.{◌≡◌, ℕ, ◌+◌, ◌-◌, ◌*◌, ◌/◌, Bool, false, not, ◌&&◌, ◌||◌, ◌==◌, min, List, ◌++◌, length, map, count_by, slice_index, Option, Some, None, Result, is_ok, is_err, codes, decimal}
+use Rattle.std.specs.Prelude.{◌≡◌, ℕ, ◌-◌, Bool, false, not, ◌&&◌, ◌||◌, ◌==◌, min, List, ◌++◌, length, map, count_by, slice_index, Option, Some, None, Result, is_ok, is_err, codes, decimal}
 use Rattle.std.specs.List.{list_any, zip}
 use Rattle.bit_lists.specs.Counting.{below}
 use Rattle.bit_lists.specs.Digits.{line_feed}

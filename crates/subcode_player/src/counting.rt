@@ -1,5 +1,5 @@
 // Counts of words, packs and frames.
-ghost use Rattle.std.specs.Prelude.{◌≡◌, ◌≤◌, ◌+◌, ◌++◌, ◌==◌, length, Some, None, IfOk};
+ghost use Rattle.std.specs.Prelude.{◌≡◌, ◌≤◌, ◌+◌, ◌++◌, ◌==◌, length, Some, None};
 ghost use Rattle.rw_code.specs.Codeword.{IsWord, differences};
 ghost use Rattle.subcode_player.specs.Steps.{begun};
 ghost use Rattle.subcode_player.specs.Counts.{is_known};
@@ -11,7 +11,6 @@ use cdg_io::{Piece, Stage, Then};
 use q_channel::decode;
 use raw_subcode::Block;
 use rw_code::{Fixed, Word, correct};
-use std::alloc::{AllocError, Global};
 
 /// The words of a stream by their wrong symbols, and those that are not bad by their kind: each word counts in one of the
 /// first four, and each that is not bad in one of the last four. A count stays at its last value.
@@ -155,13 +154,13 @@ impl FrameCounts {
 
 impl Counting {
     /// Counts of no stream yet.
-    pub(crate) fn start(alloc: Global) -> Result<Counting, AllocError>
-        ensures { IfOk result (λ c. c.words.first ≡ begun Form.Raw 0) }
+    pub(crate) fn new() -> Counting
+        ensures { result.words.first ≡ begun Form.Raw 0 }
     {
-        Ok(Counting {
+        Counting {
             frames: FrameCounts::default(),
-            words: Then::new(BlockWords::start(alloc)?, WordCounts::default()),
-        })
+            words: Then::new(BlockWords::new(), WordCounts::default()),
+        }
     }
 }
 

@@ -52,7 +52,7 @@ pub struct Player {
 }
 
 impl Player {
-    /// Takes the memory of all windows, and of the screen.
+    /// Takes the memory of the screen and of the texts.
     pub fn start(alloc: Global) -> Result<Player, AllocError>
         ensures { IfOk result (λ p. (p.stages.second.first ≡ begun Form.Raw 0) × (p.stages.second.second.bad ≡ 0)) }
     {
@@ -64,10 +64,10 @@ impl Player {
         Ok(Player {
             stages: Then::new(
                 SectorBlocks,
-                Then::new(BlockWords::start(alloc)?, Correction { bad: 0 }),
+                Then::new(BlockWords::new(), Correction { bad: 0 }),
             ),
-            views: Then::new(SectorBlocks, Then::new(BlockWords::start(alloc)?, drawing)),
-            checks: Then::new(SectorBlocks, Counting::start(alloc)?),
+            views: Then::new(SectorBlocks, Then::new(BlockWords::new(), drawing)),
+            checks: Then::new(SectorBlocks, Counting::new()),
             texts: Then::new(SectorBlocks, LeadInTexts::start(alloc)?),
         })
     }

@@ -1,4 +1,7 @@
-use Rattle.std.proofs.Common.{arith}
+use Rattle.std.proofs.Common.{◌≡◌, ◌∙◌, sym, subst, arith}
+use Rattle.std.specs.Prelude.{replicate}
+use Rattle.rw_code.specs.Codeword.{IsCodeword}
+use Rattle.rw_code.proofs.CodewordLemmas.{idle_is_codeword}
 use Rattle.rw_code.proofs.Errors.{itself, none_near}
 use Rattle.rw_code.proofs.correction.correct.Goals as goal
 
@@ -9,3 +12,8 @@ pub returns-clause-reads : goal.returns-clause-reads
 returns-clause-reads c =
     none_near _ c.is_word.ensures c.in_default.ensures
     (λ k lt. c.loop-i.invariant k (omega arith))
+
+pub returns-then-is_idle-clause-reads : goal.returns-then-is_idle-clause-reads
+returns-then-is_idle-clause-reads c =
+    let idle : c.args.received.now ≡ replicate 24 0 = c.is_idle.ensures c.if-is_idle.true in
+    itself c.args.received.now c.idle.result (subst IsCodeword (sym idle) idle_is_codeword) (c.idle.ensures ∙ sym idle)

@@ -1,7 +1,5 @@
 use Rattle.std.proofs.Common.{refl}
-use Rattle.cdg_io.specs.Moves.{AppendsPrefix}
 use Rattle.raw_subcode.specs.Channels.{unit_size}
-use Rattle.subcode_player.specs.CountSteps.{lines_of}
 use Rattle.subcode_player.proofs.Checks.{checks_done, checks_stop, checked_done, checked_stop}
 use Rattle.subcode_player.proofs.player.Player.check.Goals as goal
 

@@ -1,0 +1,205 @@
+-- What a window of slots gives with a block, and what it is afterwards.
+use Rattle.std.proofs.Common.{◌≡◌, ℕ, zero, suc, ◌+◌, ◌-◌, ◌*◌, ◌%◌, ◌<◌, ◌≤◌, List, [], ◌∷◌, ◌++◌, length, min, refl, sym, ap, ap₂, zero-add, ◌∙◌, arith, Some, None, inl, inr, bit_or}
+use Rattle.std.specs.Prelude.{slice_index, replicate}
+use Rattle.std.specs.declared.option.Option.{Option}
+use Rattle.std.proofs.lemmas.Bool.{cases_lt}
+use Rattle.std.proofs.lemmas.Nat.{or_mod, le_or_l, le_or_r}
+use Rattle.std.proofs.lemmas.List.{append-nil}
+use Rattle.std.proofs.lemmas.List.FromFn.{map-range_with_len_more, get_or-map-range_with_len}
+use Rattle.cdg_io.specs.Run.{give, run_state, run_gives}
+use Rattle.cdg_io.proofs.Runs.{run_state-append, run_gives-append}
+use Rattle.rw_interleave.specs.Gathering.{gathered, gather_next, gather_gives, symbol_at}
+use Rattle.rw_interleave.specs.Interleave.{swapped}
+use Rattle.rw_interleave.specs.Windows.{slot_in, slots_in}
+use Rattle.rw_interleave.proofs.Gathers.{gather_short, gather_full}
+use Rattle.rw_interleave.proofs.Ranges.{map_range}
+
+-- ---- Slots in a row.
+
+length-slots_in : (b : List ℕ) (f n : ℕ) → length (slots_in b f n) ≡ n
+unfolding slots_in
+length-slots_in b f zero = refl
+length-slots_in b f (suc n) = ap suc (length-slots_in b (f + 1) n)
+
+slots_more : (b : List ℕ) (f n k : ℕ) → f + n ≡ k → slots_in b f (n + 1) ≡ slots_in b f n ++ slot_in b k ∷ []
+unfolding slots_in
+slots_more b f n k at = map-range_with_len_more (slot_in b) f n k at
+
+slots_first : (b : List ℕ) (f n : ℕ) → slots_in b f (suc n) ≡ slot_in b f ∷ slots_in b (f + 1) n
+unfolding slots_in
+slots_first b f n = refl
+
+-- slots with the same bytes
+pub slots_same : (b b' : List ℕ) (f g n : ℕ) → ((k : ℕ) → k < 24 * n → slice_index b (24 * f + k) ≡ slice_index b' (24 * g + k)) → slots_in b f n ≡ slots_in b' g n
+unfolding slots_in slot_in
+slots_same b b' f g zero same = refl
+slots_same b b' f g (suc n) same =
+    let here : slot_in b f ≡ slot_in b' g = map_range (λ i. slice_index b (24 * f + i) % 64) (λ i. slice_index b' (24 * g + i) % 64) 0 24 (λ i from to. ap (λ x. x % 64) (same i (omega arith))) in
+    let rest : slots_in b (f + 1) n ≡ slots_in b' (g + 1) n = slots_same b b' (f + 1) (g + 1) n (λ k lt.
+    let left : 24 * (f + 1) + k ≡ 24 * f + (24 + k) = omega arith in
+    let right : 24 * g + (24 + k) ≡ 24 * (g + 1) + k = omega arith in
+    ap (slice_index b) left ∙ same (24 + k) (omega arith) ∙ ap (slice_index b') right) in
+    ap₂ (λ (x : List ℕ) (l : List (List ℕ)). x ∷ l) here rest
+
+-- ---- A step.
+
+-- the window after so many slots of a block
+abbrev pub window_at : List ℕ → ℕ → ℕ → List (List ℕ)
+window_at b count j = slots_in b (7 + j - min (count + j) 7) (min (count + j) 7)
+
+step_short : (b : List ℕ) (count j : ℕ) → count + j < 7
+    → (gather_next (window_at b count j) (slot_in b (7 + j)) ≡ window_at b count (j + 1)) × (gather_gives (window_at b count j) (slot_in b (7 + j)) ≡ None)
+step_short b count j lt =
+    let now : min (count + j) 7 ≡ count + j = omega arith in
+    let later : min (count + (j + 1)) 7 ≡ count + j + 1 = omega arith in
+    let first : 7 + (j + 1) - (count + j + 1) ≡ 7 + j - (count + j) = omega arith in
+    let (next, gives) = gather_short (window_at b count j) (slot_in b (7 + j)) (omega (arith, length-slots_in b (7 + j - min (count + j) 7) (min (count + j) 7))) in (
+      next ∙ ap (λ m. slots_in b (7 + j - m) m ++ slot_in b (7 + j) ∷ []) now ∙ sym (slots_more b (7 + j - (count + j)) (count + j) (7 + j) (omega arith))
+          ∙ ap (λ f. slots_in b f (count + j + 1)) (sym first) ∙ ap (λ m. slots_in b (7 + (j + 1) - m) m) (sym later),
+      gives,
+    )
+
+step_full : (b : List ℕ) (count j : ℕ) → 7 ≤ count + j
+    → (gather_next (window_at b count j) (slot_in b (7 + j)) ≡ window_at b count (j + 1)) × (gather_gives (window_at b count j) (slot_in b (7 + j)) ≡ Some (gathered (slots_in b j 8)))
+step_full b count j ge =
+    let now : min (count + j) 7 ≡ 7 = omega arith in
+    let later : min (count + (j + 1)) 7 ≡ 7 = omega arith in
+    let first : 7 + j - 7 ≡ j = omega arith in
+    let second : 7 + (j + 1) - 7 ≡ j + 1 = omega arith in
+    let window : window_at b count j ≡ slot_in b j ∷ slots_in b (j + 1) 6 =
+    ap (λ m. slots_in b (7 + j - m) m) now ∙ ap (λ f. slots_in b f 7) first ∙ slots_first b j 6 in
+    let last : slots_in b (j + 1) 7 ≡ slots_in b (j + 1) 6 ++ slot_in b (7 + j) ∷ [] = slots_more b (j + 1) 6 (7 + j) (omega arith) in
+    let (next, gives) = gather_full (slot_in b j) (slots_in b (j + 1) 6) (slot_in b (7 + j)) (length-slots_in b (j + 1) 6) in (
+      ap (λ w. gather_next w (slot_in b (7 + j))) window ∙ next ∙ sym last ∙ ap (λ f. slots_in b f 7) (sym second) ∙ ap (λ m. slots_in b (7 + (j + 1) - m) m) (sym later),
+      ap (λ w. gather_gives w (slot_in b (7 + j))) window ∙ gives ∙ ap (λ (l : List (List ℕ)). Some (gathered (slot_in b j ∷ l))) (sym last) ∙ ap (λ (l : List (List ℕ)). Some (gathered l)) (sym (slots_first b j 7)),
+    )
+
+step_next : (b : List ℕ) (count j : ℕ) → gather_next (window_at b count j) (slot_in b (7 + j)) ≡ window_at b count (j + 1)
+step_next b count j =
+    elim (cases_lt (count + j) 7) [
+      | inl lt ↦ (step_short b count j lt).0
+      | inr ge ↦ (step_full b count j ge).0
+    ]
+
+-- ---- A block.
+
+pub none_in : (b : List ℕ) (f : ℕ) → slots_in b f 0 ≡ []
+unfolding slots_in
+none_in b f = refl
+
+abbrev pub start : List ℕ → ℕ → List (List ℕ)
+start b count = slots_in b (7 - count) count
+
+pub state_after : (b : List ℕ) (count j : ℕ) → count ≤ 7 → run_state gather_next (start b count) (slots_in b 7 j) ≡ window_at b count j
+state_after b count zero few =
+    let now : min (count + 0) 7 ≡ count = omega arith in
+    let first : 7 + 0 - count ≡ 7 - count = omega arith in
+    ap (λ l. run_state gather_next (start b count) l) (none_in b 7) ∙ ap (λ f. slots_in b f count) (sym first) ∙ ap (λ m. slots_in b (7 + 0 - m) m) (sym now)
+state_after b count (suc j) few =
+    let more : suc j ≡ j + 1 = omega arith in
+    ap (λ n. run_state gather_next (start b count) (slots_in b 7 n)) more
+    ∙ ap (run_state gather_next (start b count)) (slots_more b 7 j (7 + j) refl)
+    ∙ run_state-append gather_next (start b count) (slots_in b 7 j) (slot_in b (7 + j) ∷ [])
+    ∙ ap (λ w. gather_next w (slot_in b (7 + j))) (state_after b count j few)
+    ∙ step_next b count j ∙ ap (window_at b count) (sym more)
+
+given_more : (b : List ℕ) (count j : ℕ) → count ≤ 7 → run_gives gather_next gather_gives (start b count) (slots_in b 7 (j + 1))
+    ≡ run_gives gather_next gather_gives (start b count) (slots_in b 7 j) ++ give (gather_gives (window_at b count j) (slot_in b (7 + j))) []
+given_more b count j few =
+    ap (run_gives gather_next gather_gives (start b count)) (slots_more b 7 j (7 + j) refl)
+    ∙ run_gives-append gather_next gather_gives (start b count) (slots_in b 7 j) (slot_in b (7 + j) ∷ [])
+    ∙ ap (λ w. run_gives gather_next gather_gives (start b count) (slots_in b 7 j) ++ give (gather_gives w (slot_in b (7 + j))) []) (state_after b count j few)
+
+pub words_short : (b : List ℕ) (count j : ℕ) (words : List (List ℕ)) → count ≤ 7 → count + j < 7 → words ≡ run_gives gather_next gather_gives (start b count) (slots_in b 7 j)
+    → words ≡ run_gives gather_next gather_gives (start b count) (slots_in b 7 (j + 1))
+words_short b count j words few lt done =
+    done ∙ sym (append-nil (run_gives gather_next gather_gives (start b count) (slots_in b 7 j)))
+    ∙ ap (λ (o : Option (List ℕ)). run_gives gather_next gather_gives (start b count) (slots_in b 7 j) ++ give o []) (sym (step_short b count j lt).1) ∙ sym (given_more b count j few)
+
+pub words_full : (b : List ℕ) (count j : ℕ) (words words' : List (List ℕ)) (word : List ℕ) → count ≤ 7 → 7 ≤ count + j → words ≡ run_gives gather_next gather_gives (start b count) (slots_in b 7 j)
+    → word ≡ gathered (slots_in b j 8) → words' ≡ words ++ word ∷ []
+    → words' ≡ run_gives gather_next gather_gives (start b count) (slots_in b 7 (j + 1))
+words_full b count j words words' word few ge done is add =
+    add ∙ ap₂ (λ (l : List (List ℕ)) (w : List ℕ). l ++ w ∷ []) done is
+    ∙ ap (λ (o : Option (List ℕ)). run_gives gather_next gather_gives (start b count) (slots_in b 7 j) ++ give o []) (sym (step_full b count j ge).1) ∙ sym (given_more b count j few)
+
+-- ---- A word.
+
+symbol_in : (b : List ℕ) (j p : ℕ) → p < 24 → symbol_at (slots_in b j 8) p ≡ slice_index b (24 * (j + p % 8) + p) % 64
+unfolding slots_in slot_in
+symbol_in b j p lt =
+    ap (λ (l : List ℕ). slice_index l p) (get_or-map-range_with_len (slot_in b) j 8 (p % 8) (j + p % 8) [] (omega arith) refl)
+    ∙ get_or-map-range_with_len (λ i. slice_index b (24 * (j + p % 8) + i) % 64) 0 24 p p 0 lt (omega arith)
+
+pub symbol_is : (b : List ℕ) (j i p x : ℕ) → swapped i ≡ p → p < 24 → 24 * j + (24 * (p % 8) + p) ≡ x → slice_index b x % 64 ≡ symbol_at (slots_in b j 8) (swapped i)
+symbol_is b j i p x at lt place =
+    let there : x ≡ 24 * (j + p % 8) + p = omega (arith, place) in
+    ap (λ k. slice_index b k % 64) there ∙ sym (symbol_in b j p lt) ∙ ap (symbol_at (slots_in b j 8)) (sym at)
+
+-- ---- Zeros.
+
+zero_slot : (b : List ℕ) (k : ℕ) → ((i : ℕ) → i < 24 → slice_index b (24 * k + i) % 64 ≡ 0) → slot_in b k ≡ replicate 24 0
+unfolding slot_in
+zero_slot b k zeros = map_range (λ i. slice_index b (24 * k + i) % 64) (λ i. 0) 0 24 (λ i from to. zeros i (omega arith))
+
+zero_slots : (b : List ℕ) (f n : ℕ) → ((i : ℕ) → 24 * f ≤ i → i < 24 * (f + n) → slice_index b i % 64 ≡ 0) → slots_in b f n ≡ replicate n (replicate 24 0)
+unfolding slots_in
+zero_slots b f zero zeros = refl
+zero_slots b f (suc n) zeros =
+    ap₂ (λ (x : List ℕ) (l : List (List ℕ)). x ∷ l) (zero_slot b f (λ i lt. zeros (24 * f + i) (omega arith) (omega arith))) (zero_slots b (f + 1) n (λ i from to. zeros i (omega arith) (omega arith)))
+
+quiet_state : run_state gather_next (replicate 7 (replicate 24 0)) (replicate 4 (replicate 24 0)) ≡ replicate 7 (replicate 24 0)
+unfolding gather_next
+quiet_state = refl
+
+quiet_gives : run_gives gather_next gather_gives (replicate 7 (replicate 24 0)) (replicate 4 (replicate 24 0)) ≡ replicate 4 (replicate 24 0)
+unfolding gather_next gather_gives gathered swapped
+quiet_gives = refl
+
+-- a window of seven slots of zeros stays as it is after a block of zeros, and four words of zeros are given
+pub quiet_block : (b block : List ℕ) → ((n : ℕ) → n < 168 → slice_index b n % 64 ≡ 0) → ((n : ℕ) → n < 96 → slice_index block n % 64 ≡ 0)
+    → (slots_in b 0 7 ≡ run_state gather_next (slots_in b 0 7) (slots_in block 0 4))
+    × (replicate 4 (replicate 24 0) ≡ run_gives gather_next gather_gives (slots_in b 0 7) (slots_in block 0 4))
+quiet_block b block old new =
+    let window = zero_slots b 0 7 (λ i from to. old i (omega arith)) in
+    let slots = zero_slots block 0 4 (λ i from to. new i (omega arith)) in (
+      window ∙ sym (ap₂ (run_state gather_next) window slots ∙ quiet_state),
+      sym (ap₂ (run_gives gather_next gather_gives) window slots ∙ quiet_gives),
+    )
+
+-- ---- Bits.
+
+pub or_zeros : (a b : ℕ) → bit_or a b % 64 ≡ 0 → (a % 64 ≡ 0) × (b % 64 ≡ 0)
+or_zeros a b none =
+    let both : bit_or (a % 64) (b % 64) ≡ 0 = sym (or_mod a b 6) ∙ none in
+    let left = le_or_l (a % 64) (b % 64) in
+    let right = le_or_r (a % 64) (b % 64) in
+    (omega (arith, both, left), omega (arith, both, right))
+
+-- ---- A block that is put behind the slots before it, and the slots that are then moved up.
+
+-- The slots before it stay, and the block follows them.
+pub record IsPut (b p block : List ℕ) : Type 0 where
+  pub before : (n : ℕ) → n < 168 → slice_index p n ≡ slice_index b n
+  pub after : (n : ℕ) → n < 96 → slice_index p (168 + n) ≡ slice_index block n
+
+start_same : (b p block : List ℕ) (count : ℕ) → count ≤ 7 → IsPut b p block → start b count ≡ start p count
+start_same b p block count few put =
+    slots_same b p (7 - count) (7 - count) count (λ k lt. sym (put.before (24 * (7 - count) + k) (omega arith)))
+
+block_same : (b p block : List ℕ) → IsPut b p block → slots_in block 0 4 ≡ slots_in p 7 4
+block_same b p block put = slots_same block p 0 7 4 (λ k lt. ap (slice_index block) (zero-add k) ∙ sym (put.after k (omega arith)))
+
+pub block_state : (b p m block : List ℕ) (count : ℕ) → count ≤ 7 → IsPut b p block → ((n : ℕ) → n < 168 → slice_index m n ≡ slice_index p (96 + n))
+    → start m (min (count + 4) 7) ≡ run_state gather_next (start b count) (slots_in block 0 4)
+block_state b p m block count few put moved =
+    let now = min (count + 4) 7 in
+    let back : start m now ≡ slots_in p (7 + 4 - now) now = slots_same m p (7 - now) (7 + 4 - now) now (λ k lt.
+    let there : 96 + (24 * (7 - now) + k) ≡ 24 * (7 + 4 - now) + k = omega arith in
+    moved (24 * (7 - now) + k) (omega arith) ∙ ap (slice_index p) there) in
+    back ∙ sym (state_after p count 4 few) ∙ sym (ap₂ (run_state gather_next) (start_same b p block count few put) (block_same b p block put))
+
+pub block_gives : (b p block : List ℕ) (count : ℕ) (words : List (List ℕ)) → count ≤ 7 → IsPut b p block → words ≡ run_gives gather_next gather_gives (start p count) (slots_in p 7 4)
+    → words ≡ run_gives gather_next gather_gives (start b count) (slots_in block 0 4)
+block_gives b p block count words few put is =
+    is ∙ sym (ap₂ (run_gives gather_next gather_gives) (start_same b p block count few put) (block_same b p block put))
