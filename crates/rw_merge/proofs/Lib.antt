@@ -1,0 +1,4 @@
+pub mod Readings
+pub mod Sums
+pub mod Solving
+pub mod Wrong
