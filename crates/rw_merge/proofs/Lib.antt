@@ -2,3 +2,5 @@ pub mod Readings
 pub mod Sums
 pub mod Solving
 pub mod Wrong
+pub mod Slots
+pub mod Words

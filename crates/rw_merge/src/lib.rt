@@ -4,6 +4,8 @@
 mod agreement;
 mod counting;
 mod elimination;
+mod merging;
+mod pairs;
 mod places;
 
 ghost use Rattle.std.specs.Prelude.{◌≡◌, List, ℕ};
@@ -11,6 +13,7 @@ ghost use Rattle.rw_code.specs.Codeword.{IsWord};
 ghost use Rattle.rw_merge.specs.Agreement.{IsAgreed};
 
 pub use agreement::agree;
+pub use merging::{MergeStop, Merged, Merger};
 
 /// A law: for no two words are two codewords agreed.
 pub fn only_one_codeword_is_agreed()
