@@ -4,3 +4,5 @@ pub mod Solving
 pub mod Wrong
 pub mod Slots
 pub mod Words
+pub mod Working
+pub mod Restoring

@@ -1,5 +1,5 @@
 // Two readings of one stream, block by block in turn.
-ghost use Rattle.std.specs.Prelude.{◌≡◌, ◌≢◌, ◌≤◌, ◌<◌, ◌+◌, ◌*◌, ◌++◌, List, ℕ, Err, length, take, drop, is_none, if◌then◌else◌, IsErrOf, IfOk, IfSome, OnOk};
+ghost use Rattle.std.specs.Prelude.{◌≡◌, ◌≢◌, ◌≤◌, ◌<◌, ◌+◌, ◌*◌, [], ◌++◌, List, ℕ, Err, length, take, drop, is_none, if◌then◌else◌, IsErrOf, IfOk, IfSome, OnOk};
 ghost use Rattle.std.specs.List.{concat};
 ghost use Rattle.std.specs.Io.KnownBytes.{Consumes, IsAtEnd};
 ghost use Rattle.std.specs.declared.option.Option.{Option};
@@ -7,7 +7,7 @@ ghost use Rattle.cdg_io.specs.Causes.{Rose};
 ghost use Rattle.raw_subcode.specs.Channels.{symbols_of};
 ghost use Rattle.stream_words.specs.Stream.{bad_count};
 ghost use Rattle.stream_words.specs.Texts.{cdg_bytes, entry_bytes};
-ghost use Rattle.rw_merge.specs.Merging.{IsAnswer, Merges, TellsFirst, TellsSecond};
+ghost use Rattle.rw_merge.specs.Merging.{IsAnswer, IsMergedText, Merges, TellsFirst, TellsSecond};
 ghost use Rattle.rw_merge.specs.Readings.{IsDamagedTwice, IsReadTwice, Restores};
 ghost use Rattle.rw_merge.specs.Steps.{AreAgreements, slots_of, window_after, words_after};
 
@@ -16,6 +16,7 @@ use crate::pairs::{next_pair, nothing_follows};
 use cdg_io::{Failed, Piece, Sink, Source, put_all};
 use rw_code::Pack;
 use rw_interleave::{Gather, Slot};
+use stream_words::text_of_packs;
 use std::alloc::{AllocError, Global};
 use std::marker::Model;
 
@@ -55,6 +56,18 @@ pub enum MergeStop {
     SecondTorn { block: u32 },
     /// One input has only this many whole blocks and the other has more.
     Unequal { blocks: u32 },
+}
+
+/// A law: from two readings that have enough of each word together, every pack is merged. So it is where each reading is
+/// damaged in at most two symbols of each word.
+pub fn two_readings_give_packs()
+    ensures text { (lead_in blocks : ℕ) (packs : List (List ℕ)) (first second text : List ℕ) (bad : ℕ)
+        → IsReadTwice lead_in blocks packs first second → IsMergedText lead_in first second text bad
+        → (text ≡ concat packs) × (bad ≡ 0) }
+    ensures damage { (lead_in blocks : ℕ) (packs : List (List ℕ)) (first second : List ℕ)
+        → IsDamagedTwice lead_in blocks packs first second → IsReadTwice lead_in blocks packs first second }
+{
+    text_of_packs();
 }
 
 /// Merges two readings of one stream, one pair of streams at a time. All its memory is taken at the start; each call begins
@@ -127,8 +140,39 @@ impl Merger {
         ensures write_fault { IsErrOf result MergeStop.WriteFault → Rose (K.faults out.old) (K.faults out.new) }
         ensures no_write_fault { result ≢ Err MergeStop.WriteFault → K.faults out.new ≡ K.faults out.old }
     {
+        two_readings_give_packs();
         self.first.reset();
         self.second.reset();
+        self.merge_pairs(lead_in, first, second, out)
+    }
+
+    /// The same from empty windows on.
+    fn merge_pairs<S: Source, T: Source, K: Sink>(
+        &mut self,
+        lead_in: u32,
+        first: &mut S,
+        second: &mut T,
+        out: &mut K,
+    ) -> Result<Merged, MergeStop>
+        requires lead_in { lead_in ≤ 450000 }
+        requires first { self.old.first ≡ [] }
+        requires second { self.old.second ≡ [] }
+        ensures merges { (xs ys : List ℕ) × Consumes (S.left first.old) (S.left first.new) xs
+            × Consumes (T.left second.old) (T.left second.new) ys
+            × Merges lead_in (K.held out.old) (K.held out.new) result xs ys }
+        ensures answer { IfSome (S.left first.old) (λ xs. IfSome (T.left second.old) (λ ys.
+            IsAnswer lead_in result (length xs) (length ys))) }
+        ensures first_end { OnOk result (IsAtEnd (S.left first.new)) }
+        ensures second_end { OnOk result (IsAtEnd (T.left second.new)) }
+        ensures first_told { TellsFirst result (S.ends first.old) (S.ends first.new) }
+        ensures second_told { TellsSecond result (T.ends second.old) (T.ends second.new) }
+        ensures first_fault { IsErrOf result MergeStop.FirstFault → Rose (S.faults first.old) (S.faults first.new) }
+        ensures no_first_fault { result ≢ Err MergeStop.FirstFault → S.faults first.new ≡ S.faults first.old }
+        ensures second_fault { IsErrOf result MergeStop.SecondFault → Rose (T.faults second.old) (T.faults second.new) }
+        ensures no_second_fault { result ≢ Err MergeStop.SecondFault → T.faults second.new ≡ T.faults second.old }
+        ensures write_fault { IsErrOf result MergeStop.WriteFault → Rose (K.faults out.old) (K.faults out.new) }
+        ensures no_write_fault { result ≢ Err MergeStop.WriteFault → K.faults out.new ≡ K.faults out.old }
+    {
         let mut one = [0; BLOCK];
         let mut other = [0; BLOCK];
         let mut bad = 0;
@@ -166,6 +210,7 @@ impl Merger {
         requires { length self.old.first ≡ length self.old.second }
         ensures first { self.new.first ≡ window_after self.old.first (slots_of 4 first.now) }
         ensures second { self.new.second ≡ window_after self.old.second (slots_of 4 second.now) }
+        ensures same { length self.new.first ≡ length self.new.second }
         ensures packs { (found : List (Option (List ℕ)))
             × AreAgreements (words_after self.old.first (slots_of 4 first.now)) (words_after self.old.second (slots_of 4 second.now)) found
             × (result.bytes ≡ cdg_bytes found) × (result.bad ≡ bad_count found) × (length found ≤ 4) }
