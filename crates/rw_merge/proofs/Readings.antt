@@ -1,8 +1,8 @@
 -- Positions at which two readings are equal and both wrong, and those at which they differ.
-use Rattle.std.proofs.Common.{◌≡◌, ◌≢◌, ℕ, zero, suc, ◌+◌, ◌*◌, ◌<◌, ◌≤◌, Bool, true, false, ◌==◌, cond, List, [], ◌∷◌, length, get_or, take, drop, refl, sym, ap, ap₂, ◌∙◌, inl, inr, eq-eqb, ne_eqb, add-one, arith}
+use Rattle.std.proofs.Common.{◌≡◌, ◌≢◌, ℕ, zero, suc, ◌+◌, ◌*◌, ◌<◌, ◌≤◌, ◌==◌, cond, List, [], ◌∷◌, length, get_or, take, drop, refl, sym, ap, ap₂, ◌∙◌, inl, inr, eq-eqb, ne_eqb, add-one, arith}
 use Rattle.std.proofs.lemmas.Bool.Decides.{eqb_tells}
 use Rattle.std.proofs.lemmas.List.{drop_all}
-use Rattle.rw_code.specs.Codeword.{IsWord, IsCodeword, Reads, differences}
+use Rattle.rw_code.specs.Codeword.{IsWord, Reads, differences}
 use Rattle.rw_code.proofs.Differing.{at_most_one, differences_self, differences_same_more, differences_other_more}
 use Rattle.rw_code.proofs.Independent.{same_from_sums}
 use Rattle.rw_merge.specs.Agreement.{IsAgreed, equally_wrong}

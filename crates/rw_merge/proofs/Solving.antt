@@ -8,7 +8,7 @@ use Rattle.gf64.specs.Field.{product, alpha_power}
 use Rattle.gf64.proofs.FieldLaws.{product-sum, sum_cancel, sum_swap, sum_twice}
 use Rattle.rw_code.specs.Codeword.{IsWord, IsCodeword, weighted_sum}
 use Rattle.rw_merge.specs.Elimination.{AreErrors, AreSums}
-use Rattle.rw_merge.specs.Places.{AreEqualOutside, IsOutside}
+use Rattle.rw_merge.specs.Places.{AreEqualOutside}
 use Rattle.rw_merge.specs.declared.elimination.Sums.{Sums}
 
 -- at each position the sum of both symbols

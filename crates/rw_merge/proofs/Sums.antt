@@ -1,12 +1,12 @@
 -- How the part of a position is taken out of the sums of a word, and what is left.
-use Rattle.std.proofs.Common.{◌≡◌, ◌≢◌, ◌⊎◌, ℕ, zero, suc, ◌+◌, ◌-◌, ◌*◌, ◌<◌, List, [], ◌∷◌, length, All, get_or, set, replicate, bit_xor, refl, sym, ap, ap₂, ◌∙◌, subst, inl, inr, lit<, arith}
+use Rattle.std.proofs.Common.{◌≡◌, ◌≢◌, ℕ, zero, suc, ◌+◌, ◌-◌, ◌*◌, ◌<◌, List, [], ◌∷◌, length, get_or, set, replicate, bit_xor, refl, sym, ap, ap₂, ◌∙◌, subst, inl, inr, arith}
 use Rattle.std.specs.Int.Bits.{xor_self, xor_zero_r}
 use Rattle.std.proofs.lemmas.Nat.{xor_comm, xor_lt}
 use Rattle.std.proofs.lemmas.Bool.{cases_eq, cases_lt}
 use Rattle.std.proofs.lemmas.List.{get_or-set_same, get_or-set_other, get_or-replicate, get_or_past, length-set, ext_get_or}
 use Rattle.std.proofs.lemmas.List.Elements.{All-get_or}
 use Rattle.gf64.specs.Field.{product, alpha_power}
-use Rattle.gf64.proofs.FieldLaws.{product-sum, sum-product, product-zero, product-alpha_power, product_assoc, product_comm, product-one, product-lt, product_cancel, sum_cancel, sum_swap, product_swap, alpha_power-lt}
+use Rattle.gf64.proofs.FieldLaws.{product-sum, sum-product, product-zero, product-alpha_power, product_assoc, product_comm, product-one, product-lt, product_cancel, sum_swap, product_swap, alpha_power-lt}
 use Rattle.rw_code.specs.Codeword.{IsWord, weighted_sum}
 use Rattle.rw_code.proofs.SumLemmas.{weighted_sum-set}
 use Rattle.rw_code.proofs.CodewordLemmas.{zero_sums}

@@ -1,17 +1,16 @@
 -- A merge at work: what was taken, found and put, pair of blocks by pair of blocks.
-use Rattle.std.proofs.Common.{◌≡◌, ◌≢◌, ◌⊎◌, ℕ, suc, ◌+◌, ◌-◌, ◌*◌, ◌/◌, ◌%◌, ◌<◌, ◌≤◌, min, List, [], ◌∷◌, ◌++◌, length, take, drop, refl, sym, ap, ap₂, ◌∙◌, subst, subst₂, inl, inr, arith, append_assoc, append-nil, length-append, None, Some, IfSome, IfOk, Result, Ok, Err}
+use Rattle.std.proofs.Common.{◌≡◌, ◌≢◌, ◌⊎◌, ℕ, ◌+◌, ◌-◌, ◌*◌, ◌/◌, ◌%◌, ◌<◌, ◌≤◌, min, List, [], ◌++◌, length, take, drop, refl, sym, ap, ap₂, ◌∙◌, subst, subst₂, inl, inr, arith, append-nil, length-append, IfOk, Result, Ok, Err}
 use Rattle.std.specs.declared.option.Option.{Option}
-use Rattle.std.specs.Io.KnownBytes.{Appends, Consumes, IsAtEnd}
+use Rattle.std.specs.Io.KnownBytes.{Appends, Consumes}
 use Rattle.std.proofs.KnownBytes.{Appends-trans, Consumes-trans, Appends-nil, Consumes-nil}
 use Rattle.std.proofs.lemmas.List.{take_all, take-append-le, drop-append-le}
-use Rattle.cdg_io.specs.Moves.{AppendsPrefix, AppendsBetween}
-use Rattle.cdg_io.specs.Run.{run_state, run_gives}
+use Rattle.cdg_io.specs.Moves.{AppendsPrefix}
 use Rattle.cdg_io.proofs.PumpSteps.{between}
 use Rattle.cdg_io.proofs.Runs.{run_state-append, run_gives-append}
 use Rattle.rw_interleave.specs.Gathering.{gather_next, gather_gives}
 use Rattle.stream_words.specs.Stream.{bad_count}
 use Rattle.stream_words.specs.Texts.{cdg_bytes}
-use Rattle.rw_merge.specs.Merging.{GivesText, IsMergedText, Merges, most_blocks}
+use Rattle.rw_merge.specs.Merging.{GivesText, IsAnswer, IsMergedText, Merges, most_blocks}
 use Rattle.rw_merge.specs.Windows.{Windows}
 use Rattle.rw_merge.specs.Steps.{AreAgreements, IsEndRead, IsHalfRead, IsPairRead, slots_of, window_after, words_after}
 use Rattle.rw_merge.specs.declared.merging.Merged.{Merged}
@@ -122,12 +121,56 @@ found_text lead_in blocks xs ys us vs w v found f =
 
 -- ---- Where a merge stops.
 
+-- The answer is that of what was taken.
+half_answer : (blocks a : ℕ) (left : Option (List ℕ)) (us : List ℕ) → a ≡ blocks * 96 + length us → IsHalfRead left us → (blocks ≤ a / 96) × (a / 96 ≡ blocks → a % 96 ≡ 0)
+half_answer blocks a left us size half =
+    elim half [
+      | inl whole ↦ (omega (arith, size, whole), λ e. absurd (omega (arith, size, whole, e)))
+      | inr none ↦ let zero_long : length us ≡ 0 = ap length none.0 in (omega (arith, size, zero_long), λ e. omega (arith, size, zero_long))
+    ]
+
+pair_answer : (lead_in blocks a b : ℕ) (left other : Option (List ℕ)) (stop : MergeStop) (us vs : List ℕ) → a ≡ blocks * 96 + length us → b ≡ blocks * 96 + length vs → blocks < most_blocks
+    → IsPairRead blocks left other (Err stop) us vs → IsAnswer lead_in (Err stop) a b
+pair_answer lead_in blocks a b left other FirstFault us vs a_is b_is lt read = tt
+pair_answer lead_in blocks a b left other SecondFault us vs a_is b_is lt read = tt
+pair_answer lead_in blocks a b left other WriteFault us vs a_is b_is lt read = tt
+pair_answer lead_in blocks a b left other TooLong us vs a_is b_is lt read = absurd read
+pair_answer lead_in blocks a b left other (Torn n) us vs a_is b_is lt (same, some, part, none, end) =
+    let zero_long : length vs ≡ 0 = ap length none in
+    (omega arith, omega arith, omega arith, λ e. absurd (omega (arith, e)))
+pair_answer lead_in blocks a b left other (SecondTorn n) us vs a_is b_is lt (same, half, some, part, end) =
+    let first = half_answer blocks a left us a_is half in
+    (omega arith, omega (arith, first.0, same), λ e. first.1 (e ∙ same), omega arith, λ e. absurd (omega (arith, e)))
+pair_answer lead_in blocks a b left other (Unequal n) us vs a_is b_is lt (same, more) =
+    elim more [
+      | inl first ↦
+          let zero_long : length vs ≡ 0 = ap length first.1 in
+          let long : length us ≡ 96 = first.0 in
+          (omega arith, omega arith, λ e. absurd (omega (arith, e)), λ e. absurd (omega (arith, e)), λ e. omega arith)
+      | inr second ↦
+          let zero_long : length us ≡ 0 = ap length second.0 in
+          let long : length vs ≡ 96 = second.1 in
+          (omega arith, omega arith, λ e. absurd (omega (arith, e)), λ e. omega arith, λ e. absurd (omega (arith, e)))
+    ]
+
+end_answer : (lead_in blocks a b : ℕ) (left other : Option (List ℕ)) (stop : MergeStop) (us vs : List ℕ) → a ≡ blocks * 96 + length us → b ≡ blocks * 96 + length vs → blocks ≡ most_blocks
+    → IsEndRead left other (Err stop) us vs → IsAnswer lead_in (Err stop) a b
+end_answer lead_in blocks a b left other FirstFault us vs a_is b_is all read = tt
+end_answer lead_in blocks a b left other SecondFault us vs a_is b_is all read = tt
+end_answer lead_in blocks a b left other WriteFault us vs a_is b_is all read = tt
+end_answer lead_in blocks a b left other TooLong us vs a_is b_is all read =
+    (omega arith, omega arith, elim read [ inl first ↦ inl (omega (arith, first.0)) | inr second ↦ inr (omega (arith, second.1)) ])
+end_answer lead_in blocks a b left other (Torn n) us vs a_is b_is all read = absurd read
+end_answer lead_in blocks a b left other (SecondTorn n) us vs a_is b_is all read = absurd read
+end_answer lead_in blocks a b left other (Unequal n) us vs a_is b_is all read = absurd read
+
 -- No further pair is whole, and no write failed.
 pub stops : (lead_in blocks : ℕ) (left left' other other' held held' : Option (List ℕ)) (w v : List (List ℕ)) (bad : ℕ) (xs ys us vs : List ℕ) (result : Result Merged MergeStop)
     → Works lead_in blocks left left' other other' held held' w v bad xs ys → length us ≤ 96 → length vs ≤ 96 → (length us < 96) ⊎ (length vs < 96) → blocks * 96 + length us ≤ most_blocks * 96 + 1
-    → result ≢ Err WriteFault → IfOk result (λ merged. (text : List ℕ) × IsMergedText lead_in (xs ++ us) (ys ++ vs) text merged.bad × Appends held held' text)
+    → result ≢ Err WriteFault → (((a b : ℕ) → a ≡ blocks * 96 + length us → b ≡ blocks * 96 + length vs → IsAnswer lead_in result a b))
+    → IfOk result (λ merged. (text : List ℕ) × IsMergedText lead_in (xs ++ us) (ys ++ vs) text merged.bad × Appends held held' text)
     → Merges lead_in held held' result (xs ++ us) (ys ++ vs)
-stops lead_in blocks left left' other other' held held' w v bad xs ys us vs result works u_le v_le short within other_result done =
+stops lead_in blocks left left' other other' held held' w v bad xs ys us vs result works u_le v_le short within other_result answer done =
     let f = works.is_found in
     let long : length (xs ++ us) ≡ blocks * 96 + length us = length-append xs us ∙ ap (λ n. n + length us) f.first_size in
     let long' : length (ys ++ vs) ≡ blocks * 96 + length vs = length-append ys vs ∙ ap (λ n. n + length vs) f.second_size in
@@ -135,6 +178,7 @@ stops lead_in blocks left left' other other' held held' w v bad xs ys us vs resu
     record {
       in_step = (omega (arith, long, long', u_le), omega (arith, long, long', v_le));
       within = omega (arith, long, within);
+      answer = answer (length (xs ++ us)) (length (ys ++ vs)) long long';
       done = done;
       put = λ _. (cdg_bytes works.found, subst (λ n. GivesText n lead_in (xs ++ us) (ys ++ vs) (cdg_bytes works.found)) pairs (found_text lead_in blocks xs ys us vs w v works.found f), works.put);
       in_turn = λ e. absurd (other_result e);
@@ -142,15 +186,19 @@ stops lead_in blocks left left' other other' held held' w v bad xs ys us vs resu
 
 -- Both inputs are at their end.
 pub ends : (lead_in blocks total : ℕ) (left left' other other' held held' : Option (List ℕ)) (w v : List (List ℕ)) (bad : ℕ) (xs ys us vs : List ℕ)
-    → Works lead_in blocks left left' other other' held held' w v bad xs ys → us ≡ [] → vs ≡ [] → blocks ≤ most_blocks
+    → Works lead_in blocks left left' other other' held held' w v bad xs ys → us ≡ [] → vs ≡ [] → blocks ≤ most_blocks → total ≡ blocks - lead_in
     → Merges lead_in held held' (Ok (record { blocks = total; bad = bad })) (xs ++ us) (ys ++ vs)
-ends lead_in blocks total left left' other other' held held' w v bad xs ys us vs works u_is v_is within =
+ends lead_in blocks total left left' other other' held held' w v bad xs ys us vs works u_is v_is within total_is =
     let f = works.is_found in
     let first : xs ++ us ≡ xs = ap (λ l. xs ++ l) u_is ∙ append-nil xs in
     let second : ys ++ vs ≡ ys = ap (λ l. ys ++ l) v_is ∙ append-nil ys in
     let text = subst₂ (λ (a b : List ℕ). IsMergedText lead_in a b (cdg_bytes works.found) (bad_count works.found)) (sym first) (sym second) (merged_text lead_in blocks xs ys works.found f.first_size f.second_size f.all) in
     stops lead_in blocks left left' other other' held held' w v bad xs ys us vs (Ok (record { blocks = total; bad = bad })) works (omega (arith, ap length u_is)) (omega (arith, ap length v_is)) (inl (omega (arith, ap length u_is)))
     (omega (arith, ap length u_is)) (λ e. (cc))
+    (λ a b a_is b_is.
+    let none : length us ≡ 0 = ap length u_is in
+    let none' : length vs ≡ 0 = ap length v_is in
+    (omega (arith, a_is, none, within), omega (arith, a_is, b_is, none, none'), omega (arith, a_is, none), total_is ∙ omega (arith, a_is, none)))
     (cdg_bytes works.found, subst (λ n. IsMergedText lead_in (xs ++ us) (ys ++ vs) (cdg_bytes works.found) n) (sym works.bad_is) text, works.put)
 
 -- What holds of a stop that is found where a pair or the end is looked for.
@@ -198,30 +246,32 @@ pair_stops lead_in blocks left left' left'' other other' other'' held held' w v 
       ys ++ vs,
       Consumes-trans left left' left'' xs us works.first_taken first,
       Consumes-trans other other' other'' ys vs works.second_taken second,
-      stops lead_in blocks left left' other other' held held' w v bad xs ys us vs (Err stop) works is.first is.second is.short (omega (arith, is.first, lt)) (λ e. is.is_other (let same : stop ≡ WriteFault = cc in same)) tt,
+      stops lead_in blocks left left' other other' held held' w v bad xs ys us vs (Err stop) works is.first is.second is.short (omega (arith, is.first, lt)) (λ e. is.is_other (let same : stop ≡ WriteFault = cc in same))
+          (λ a b a_is b_is. pair_answer lead_in blocks a b left'' other'' stop us vs a_is b_is lt read) tt,
     )
 
 pub end_stops : (lead_in blocks : ℕ) (left left' left'' other other' other'' held held' : Option (List ℕ)) (w v : List (List ℕ)) (bad : ℕ) (xs ys us vs : List ℕ) (stop : MergeStop)
-    → Works lead_in blocks left left' other other' held held' w v bad xs ys → Consumes left' left'' us → Consumes other' other'' vs → IsEndRead left'' other'' (Err stop) us vs → blocks ≤ most_blocks
+    → Works lead_in blocks left left' other other' held held' w v bad xs ys → Consumes left' left'' us → Consumes other' other'' vs → IsEndRead left'' other'' (Err stop) us vs → blocks ≡ most_blocks
     → (xs' ys' : List ℕ) × Consumes left left'' xs' × Consumes other other'' ys' × Merges lead_in held held' (Err stop) xs' ys'
-end_stops lead_in blocks left left' left'' other other' other'' held held' w v bad xs ys us vs stop works first second read le =
+end_stops lead_in blocks left left' left'' other other' other'' held held' w v bad xs ys us vs stop works first second read all =
     let (one, two, is_other) = short_end left'' other'' stop us vs read in (
       xs ++ us,
       ys ++ vs,
       Consumes-trans left left' left'' xs us works.first_taken first,
       Consumes-trans other other' other'' ys vs works.second_taken second,
-      stops lead_in blocks left left' other other' held held' w v bad xs ys us vs (Err stop) works (omega (arith, one)) (omega (arith, two)) (inl (omega (arith, one))) (omega (arith, one, le)) (λ e. is_other (let same : stop ≡ WriteFault = cc in same)) tt,
+      stops lead_in blocks left left' other other' held held' w v bad xs ys us vs (Err stop) works (omega (arith, one)) (omega (arith, two)) (inl (omega (arith, one))) (omega (arith, one, all)) (λ e. is_other (let same : stop ≡ WriteFault = cc in same))
+          (λ a b a_is b_is. end_answer lead_in blocks a b left'' other'' stop us vs a_is b_is all read) tt,
     )
 
 pub both_end : (lead_in blocks total : ℕ) (left left' left'' other other' other'' held held' : Option (List ℕ)) (w v : List (List ℕ)) (bad : ℕ) (xs ys us vs : List ℕ)
-    → Works lead_in blocks left left' other other' held held' w v bad xs ys → Consumes left' left'' us → Consumes other' other'' vs → us ≡ [] → vs ≡ [] → blocks ≤ most_blocks
+    → Works lead_in blocks left left' other other' held held' w v bad xs ys → Consumes left' left'' us → Consumes other' other'' vs → us ≡ [] → vs ≡ [] → blocks ≤ most_blocks → total ≡ blocks - lead_in
     → (xs' ys' : List ℕ) × Consumes left left'' xs' × Consumes other other'' ys' × Merges lead_in held held' (Ok (record { blocks = total; bad = bad })) xs' ys'
-both_end lead_in blocks total left left' left'' other other' other'' held held' w v bad xs ys us vs works first second u_is v_is le = (
+both_end lead_in blocks total left left' left'' other other' other'' held held' w v bad xs ys us vs works first second u_is v_is le total_is = (
   xs ++ us,
   ys ++ vs,
   Consumes-trans left left' left'' xs us works.first_taken first,
   Consumes-trans other other' other'' ys vs works.second_taken second,
-  ends lead_in blocks total left left' other other' held held' w v bad xs ys us vs works u_is v_is le,
+  ends lead_in blocks total left left' other other' held held' w v bad xs ys us vs works u_is v_is le total_is,
 )
 
 -- What is found for a pair of program blocks, and its text.
@@ -280,6 +330,7 @@ write_stops lead_in blocks left left' left'' other other' other'' held held' hel
       record {
         in_step = (omega (arith, next.first_size, next.second_size), omega (arith, next.first_size, next.second_size));
         within = omega (arith, next.first_size, lt);
+        answer = tt;
         done = tt;
         put = λ e. absurd (e refl);
         in_turn = λ e. (

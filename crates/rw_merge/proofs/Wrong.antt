@@ -1,10 +1,10 @@
 -- Where the first of two readings may be wrong.
-use Rattle.std.proofs.Common.{◌≡◌, ◌≢◌, ◌⊎◌, ℕ, suc, ◌+◌, ◌-◌, ◌*◌, ◌<◌, ◌≤◌, List, [], ◌∷◌, length, get_or, drop, sym, ap, ◌∙◌, subst, MatchOption, Some, None, inl, inr, arith}
+use Rattle.std.proofs.Common.{◌≡◌, ◌≢◌, ◌⊎◌, ℕ, ◌+◌, ◌-◌, ◌<◌, ◌≤◌, List, [], ◌∷◌, get_or, sym, ap, ◌∙◌, subst, MatchOption, Some, None, inl, inr, arith}
 use Rattle.std.proofs.lemmas.Bool.{cases_eq, cases_lt}
 use Rattle.std.specs.declared.option.Option.{Option}
 use Rattle.gf64.specs.Field.{product, alpha_power}
-use Rattle.rw_code.specs.Codeword.{IsWord, IsCodeword, differences, weighted_sum}
-use Rattle.rw_merge.specs.Agreement.{IsAgreed, equally_wrong}
+use Rattle.rw_code.specs.Codeword.{IsWord, differences, weighted_sum}
+use Rattle.rw_merge.specs.Agreement.{IsAgreed}
 use Rattle.rw_merge.specs.Elimination.{AreErrors, AreSums, cleared}
 use Rattle.rw_merge.specs.Places.{AreApart, AreEqualFrom, AreEqualOutside, IsNextDifference, IsOutside, all_of}
 use Rattle.rw_merge.specs.declared.elimination.Sums.{Sums}

@@ -1,5 +1,5 @@
 -- The codeword on which two readings of a word agree.
-use Rattle.std.specs.Prelude.{◌≡◌, ◌≢◌, ℕ, ◌+◌, ◌*◌, ◌<◌, ◌≤◌, ◌==◌, ⊤, if◌then◌else◌, List, [], ◌∷◌, slice_index, Option, Some, None}
+use Rattle.std.specs.Prelude.{ℕ, ◌+◌, ◌*◌, ◌≤◌, ◌==◌, if◌then◌else◌, List, [], ◌∷◌, Option, Some, None}
 use Rattle.rw_code.specs.Codeword.{IsCodeword, differences}
 
 -- at how many positions two readings are equal and differ from a word

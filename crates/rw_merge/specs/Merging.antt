@@ -1,6 +1,6 @@
 -- What a merge of two readings of a stream takes, writes and answers.
 use Rattle.std.specs.Prelude.{◌≡◌, ◌≢◌, ◌⊎◌, ℕ, ◌+◌, ◌-◌, ◌*◌, ◌/◌, ◌%◌, ◌<◌, ◌≤◌, ⊤, min, List, length, take, slice_index_or, Option, None, Result, Ok, Err, IfOk}
-use Rattle.std.specs.Io.KnownBytes.{Appends}
+use Rattle.std.specs.Io.KnownBytes.{Appends, IsAtEnd}
 use Rattle.cdg_io.specs.Causes.{Rose}
 use Rattle.cdg_io.specs.Moves.{AppendsBetween}
 use Rattle.raw_subcode.specs.Channels.{program_symbols}
@@ -33,19 +33,7 @@ pub record IsMergedText (lead_in : ℕ) (first second text : List ℕ) (bad : �
 abbrev pub GivesText : ℕ → ℕ → List ℕ → List ℕ → List ℕ → Type 0
 GivesText n lead_in first second text = (bad : ℕ) × IsMergedText lead_in (take (n * 96) first) (take (n * 96) second) text bad
 
--- Of two inputs these bytes were taken, and the text of their pairs of blocks was put.
-pub record Merges (lead_in : ℕ) (held held' : Option (List ℕ)) (result : Result Merged MergeStop) (first second : List ℕ) : Type 0 where
-  -- of neither is more taken than a block beyond the other
-  pub in_step : (length first ≤ length second + 96) × (length second ≤ length first + 96)
-  pub within : length first ≤ most_blocks * 96 + 1
-  pub done : IfOk result (λ merged. (text : List ℕ) × IsMergedText lead_in first second text merged.bad × Appends held held' text)
-  -- where no write failed, all is put that the whole pairs of blocks give
-  pub put : result ≢ Err WriteFault → (text : List ℕ) × GivesText (min (length first / 96) (length second / 96)) lead_in first second text × Appends held held' text
-  -- a write failed: nothing after the pair whose text was being put was taken, and the text of those before it is put
-  pub in_turn : result ≡ Err WriteFault → (n : ℕ) × (n < most_blocks) × (length first ≡ (n + 1) * 96) × (length second ≡ (n + 1) * 96)
-      × ((low high : List ℕ) × GivesText n lead_in first second low × GivesText (n + 1) lead_in first second high × AppendsBetween held held' low high)
-
--- The answer to two inputs of so many bytes that are read and written without a fault. A block that only one of them has whole is looked at in this order: a rest of the first, a rest of the second, different numbers of blocks.
+-- The answer to so many bytes of two inputs, where no read or write fails. The first block that not both have whole is looked at in this order: a rest of the first, a rest of the second, a block that one of them has.
 abbrev pub IsAnswer : ℕ → Result Merged MergeStop → ℕ → ℕ → Type 0
 IsAnswer lead_in (Ok merged) first second = (first ≤ most_blocks * 96) × (second ≡ first) × (first % 96 ≡ 0) × (merged.blocks ≡ first / 96 - lead_in)
 IsAnswer lead_in (Err TooLong) first second = (most_blocks ≤ first / 96) × (most_blocks ≤ second / 96) × ((most_blocks * 96 < first) ⊎ (most_blocks * 96 < second))
@@ -58,9 +46,34 @@ IsAnswer lead_in (Err FirstFault) first second = ⊤
 IsAnswer lead_in (Err SecondFault) first second = ⊤
 IsAnswer lead_in (Err WriteFault) first second = ⊤
 
+-- Of two inputs these bytes were taken, and the text of their pairs of blocks was put.
+pub record Merges (lead_in : ℕ) (held held' : Option (List ℕ)) (result : Result Merged MergeStop) (first second : List ℕ) : Type 0 where
+  -- of neither is more taken than a block beyond the other
+  pub in_step : (length first ≤ length second + 96) × (length second ≤ length first + 96)
+  pub within : length first ≤ most_blocks * 96 + 1
+  pub answer : IsAnswer lead_in result (length first) (length second)
+  pub done : IfOk result (λ merged. (text : List ℕ) × IsMergedText lead_in first second text merged.bad × Appends held held' text)
+  -- where no write failed, all is put that the whole pairs of blocks give
+  pub put : result ≢ Err WriteFault → (text : List ℕ) × GivesText (min (length first / 96) (length second / 96)) lead_in first second text × Appends held held' text
+  -- a write failed: nothing after the pair whose text was being put was taken, and the text of those before it is put
+  pub in_turn : result ≡ Err WriteFault → (n : ℕ) × (n < most_blocks) × (length first ≡ (n + 1) * 96) × (length second ≡ (n + 1) * 96)
+      × ((low high : List ℕ) × GivesText n lead_in first second low × GivesText (n + 1) lead_in first second high × AppendsBetween held held' low high)
+
 -- The end of an input was told once, or not.
 abbrev pub RoseAtMost : ℕ → ℕ → Type 0
 RoseAtMost before now = (now ≡ before) ⊎ Rose before now
+
+-- The first input is at its end, where the answer says so.
+abbrev pub EndsFirst : Result Merged MergeStop → Option (List ℕ) → Type 0
+EndsFirst (Ok merged) left = IsAtEnd left
+EndsFirst (Err (Torn block)) left = IsAtEnd left
+EndsFirst (Err stop) left = ⊤
+
+-- and the second
+abbrev pub EndsSecond : Result Merged MergeStop → Option (List ℕ) → Type 0
+EndsSecond (Ok merged) left = IsAtEnd left
+EndsSecond (Err (SecondTorn block)) left = IsAtEnd left
+EndsSecond (Err stop) left = ⊤
 
 -- How often the end of the first input was told: it is asked for first, and never again once its end is told.
 abbrev pub TellsFirst : Result Merged MergeStop → ℕ → ℕ → Type 0

@@ -1,5 +1,5 @@
 -- The steps of a merge: what is found for the words that come with slots, and how a pair of blocks is read.
-use Rattle.std.specs.Prelude.{◌≡◌, ◌⊎◌, ℕ, ◌+◌, ◌<◌, ◌≤◌, ⊤, Bool, true, false, List, [], ◌∷◌, length, map, Option, Result, Ok, Err}
+use Rattle.std.specs.Prelude.{◌≡◌, ◌⊎◌, ℕ, ◌<◌, ⊤, Bool, true, false, List, [], ◌∷◌, length, map, Option, Result, Ok, Err}
 use Rattle.std.specs.Io.KnownBytes.{IsAtEnd}
 use Rattle.bit_lists.specs.Counting.{parts}
 use Rattle.raw_subcode.specs.Channels.{symbols_of}
@@ -9,7 +9,7 @@ use Rattle.rw_merge.specs.Agreement.{IsAgreement}
 use Rattle.cdg_io.specs.Causes.{Rose}
 use Rattle.rw_merge.specs.Merging.{RoseAtMost}
 use Rattle.rw_merge.specs.declared.merging.MergeStop.{MergeStop}
-use Rattle.rw_merge.specs.declared.merging.MergeStop.TheVariants.{FirstFault, SecondFault, WriteFault, TooLong, Torn, SecondTorn, Unequal}
+use Rattle.rw_merge.specs.declared.merging.MergeStop.TheVariants.{FirstFault, SecondFault, TooLong, Torn, SecondTorn, Unequal}
 
 -- the first slots of some bytes, as many as are wanted
 abbrev pub slots_of : ℕ → List ℕ → List (List ℕ)

@@ -1,13 +1,13 @@
 // Two readings of one stream, block by block in turn.
-ghost use Rattle.std.specs.Prelude.{◌≡◌, ◌≢◌, ◌≤◌, ◌<◌, ◌+◌, ◌*◌, [], ◌++◌, List, ℕ, Err, length, take, drop, is_none, if◌then◌else◌, IsErrOf, IfOk, IfSome, OnOk};
+ghost use Rattle.std.specs.Prelude.{◌≡◌, ◌≢◌, ◌≤◌, ◌<◌, ◌+◌, ◌*◌, [], ◌++◌, List, ℕ, Err, length, take, drop, is_none, if◌then◌else◌, IsErrOf, IfOk, IfSome};
 ghost use Rattle.std.specs.List.{concat};
-ghost use Rattle.std.specs.Io.KnownBytes.{Consumes, IsAtEnd};
+ghost use Rattle.std.specs.Io.KnownBytes.{Consumes};
 ghost use Rattle.std.specs.declared.option.Option.{Option};
 ghost use Rattle.cdg_io.specs.Causes.{Rose};
 ghost use Rattle.raw_subcode.specs.Channels.{symbols_of};
 ghost use Rattle.stream_words.specs.Stream.{bad_count};
 ghost use Rattle.stream_words.specs.Texts.{cdg_bytes, entry_bytes};
-ghost use Rattle.rw_merge.specs.Merging.{IsAnswer, IsMergedText, Merges, TellsFirst, TellsSecond};
+ghost use Rattle.rw_merge.specs.Merging.{EndsFirst, EndsSecond, IsAnswer, IsMergedText, Merges, TellsFirst, TellsSecond};
 ghost use Rattle.rw_merge.specs.Readings.{IsDamagedTwice, IsReadTwice, Restores};
 ghost use Rattle.rw_merge.specs.Steps.{AreAgreements, slots_of, window_after, words_after};
 
@@ -16,9 +16,9 @@ use crate::pairs::{next_pair, nothing_follows};
 use cdg_io::{Failed, Piece, Sink, Source, put_all};
 use rw_code::Pack;
 use rw_interleave::{Gather, Slot};
-use stream_words::text_of_packs;
 use std::alloc::{AllocError, Global};
 use std::marker::Model;
+use stream_words::text_of_packs;
 
 /// The bytes of a block.
 pub(crate) const BLOCK: usize = 96;
@@ -88,7 +88,9 @@ impl Model for Merger {
 
 impl Merger {
     /// Takes the memory of both windows.
-    pub fn start(alloc: Global) -> Result<Merger, AllocError> {
+    pub fn start(alloc: Global) -> Result<Merger, AllocError>
+        ensures { IfOk result (λ m. m ≡ record { first = []; second = [] }) }
+    {
         Ok(Merger {
             first: Gather::start(alloc)?,
             second: Gather::start(alloc)?,
@@ -129,8 +131,8 @@ impl Merger {
         // Where nothing failed, the answer is that of the lengths of both whole inputs.
         ensures answer { IfSome (S.left first.old) (λ xs. IfSome (T.left second.old) (λ ys.
             IsAnswer lead_in result (length xs) (length ys))) }
-        ensures first_end { OnOk result (IsAtEnd (S.left first.new)) }
-        ensures second_end { OnOk result (IsAtEnd (T.left second.new)) }
+        ensures first_end { EndsFirst result (S.left first.new) }
+        ensures second_end { EndsSecond result (T.left second.new) }
         ensures first_told { TellsFirst result (S.ends first.old) (S.ends first.new) }
         ensures second_told { TellsSecond result (T.ends second.old) (T.ends second.new) }
         ensures first_fault { IsErrOf result MergeStop.FirstFault → Rose (S.faults first.old) (S.faults first.new) }
@@ -162,8 +164,8 @@ impl Merger {
             × Merges lead_in (K.held out.old) (K.held out.new) result xs ys }
         ensures answer { IfSome (S.left first.old) (λ xs. IfSome (T.left second.old) (λ ys.
             IsAnswer lead_in result (length xs) (length ys))) }
-        ensures first_end { OnOk result (IsAtEnd (S.left first.new)) }
-        ensures second_end { OnOk result (IsAtEnd (T.left second.new)) }
+        ensures first_end { EndsFirst result (S.left first.new) }
+        ensures second_end { EndsSecond result (T.left second.new) }
         ensures first_told { TellsFirst result (S.ends first.old) (S.ends first.new) }
         ensures second_told { TellsSecond result (T.ends second.old) (T.ends second.new) }
         ensures first_fault { IsErrOf result MergeStop.FirstFault → Rose (S.faults first.old) (S.faults first.new) }

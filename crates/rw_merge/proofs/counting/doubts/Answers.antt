@@ -1,4 +1,4 @@
-use Rattle.std.proofs.Common.{◌≡◌, ◌≤◌, ◌<◌, ◌+◌, ◌*◌, ℕ, length, get_or, ap, sym, ◌∙◌, refl, arith}
+use Rattle.std.proofs.Common.{◌≡◌, ◌<◌, ◌+◌, length, get_or, ap, sym, ◌∙◌, arith}
 use Rattle.rw_merge.proofs.Readings.{no_doubts, doubts_differ, doubts_wrong, doubts_right}
 use Rattle.rw_merge.proofs.counting.doubts.Goals as goal
 use Rattle.rw_merge.proofs.counting.doubts.Goals.{then-first-i, else-first-i+then-first-i-2, else-first-i+else-first-i-2}

@@ -1,4 +1,4 @@
-use Rattle.std.proofs.Common.{◌≡◌, ◌∷◌, [], List, ℕ, bit_xor, get_or, sym, ap, ◌∙◌}
+use Rattle.std.proofs.Common.{◌∷◌, [], bit_xor, get_or, sym, ap, ◌∙◌}
 use Rattle.rw_merge.specs.Elimination.{AreErrors}
 use Rattle.rw_merge.proofs.Solving.{gaps, gap_at, errors_of, put_right, all_right, unmoved}
 use Rattle.rw_merge.proofs.elimination.solved.Goals as goal

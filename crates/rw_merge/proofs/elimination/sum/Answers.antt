@@ -1,4 +1,4 @@
-use Rattle.std.proofs.Common.{◌≡◌, ℕ, ◌<◌, List, length, take, ◌+◌, get_or, bit_xor, sym, ap, ap₂, ◌∙◌, arith}
+use Rattle.std.proofs.Common.{◌≡◌, ℕ, ◌<◌, List, take, ◌+◌, get_or, bit_xor, sym, ap, ap₂, ◌∙◌, arith}
 use Rattle.std.proofs.lemmas.List.{take_all}
 use Rattle.gf64.specs.Field.{product, alpha_power}
 use Rattle.rw_code.specs.Codeword.{IsWord, weighted_sum}

@@ -1,6 +1,5 @@
-use Rattle.std.proofs.Common.{◌≡◌, ◌≢◌, ◌∷◌, [], List, ℕ, refl, sym, ◌∙◌, arith}
+use Rattle.std.proofs.Common.{refl, sym, ◌∙◌, arith}
 use Rattle.std.proofs.lemmas.Bool.{false≢true}
-use Rattle.rw_merge.specs.Elimination.{AreErrors}
 use Rattle.rw_merge.proofs.Wrong.{AreLeft, no_further, some_further}
 use Rattle.rw_merge.proofs.places.with_further.Goals as goal
 use Rattle.rw_merge.proofs.places.with_further.Goals.{then-third-first-via-then-third-first, then-third-first-via-else-third-first+then-third-second}

@@ -1,6 +1,6 @@
-use Rattle.std.proofs.Common.{◌≡◌, ◌+◌, ◌<◌, ◌≤◌, ◌∷◌, [], List, ℕ, sym, ◌∙◌, subst, arith}
+use Rattle.std.proofs.Common.{◌+◌, ◌≤◌, ◌∷◌, [], sym, ◌∙◌, subst, arith}
 use Rattle.rw_code.specs.Codeword.{IsWord, differences}
-use Rattle.rw_merge.specs.Places.{AreEqualFrom, AreEqualOutside, IsNextDifference, all_of}
+use Rattle.rw_merge.specs.Places.{AreEqualFrom, IsNextDifference, all_of}
 use Rattle.rw_merge.proofs.Wrong.{EqualFrom, from_last, from_next, few_places, agreed_many, moved}
 use Rattle.rw_merge.proofs.places.wrong_places.Goals as goal
 

@@ -1,4 +1,4 @@
-use Rattle.std.proofs.Common.{◌≡◌, ◌≢◌, ℕ, ◌<◌, ◌-◌, bit_xor, sym, ap, ap₂, ◌∙◌, arith}
+use Rattle.std.proofs.Common.{◌≡◌, ◌≢◌, ℕ, ◌<◌, ◌-◌, bit_xor, sym, ap₂, ◌∙◌, arith}
 use Rattle.std.proofs.lemmas.Nat.{xor_lt}
 use Rattle.gf64.specs.Field.{product, alpha_power}
 use Rattle.gf64.proofs.FieldLaws.{product-lt, product_cancel, alpha_power-lt}

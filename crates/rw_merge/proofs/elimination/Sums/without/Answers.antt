@@ -1,5 +1,5 @@
 use Rattle.std.proofs.Common.{◌≡◌, ℕ, suc, List, bit_xor, sym, ap₂, ◌∙◌, arith}
-use Rattle.gf64.specs.Field.{product, alpha_power}
+use Rattle.gf64.specs.Field.{product}
 use Rattle.rw_code.specs.Codeword.{weighted_sum}
 use Rattle.rw_merge.specs.Elimination.{cleared}
 use Rattle.rw_merge.proofs.Sums.{weighted_sum-cleared}

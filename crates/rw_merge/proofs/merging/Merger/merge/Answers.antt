@@ -1,4 +1,4 @@
-use Rattle.std.proofs.Common.{◌≡◌, ◌≤◌, ◌+◌, ◌*◌, [], ℕ, List, length, sym, ap, ◌∙◌, refl, arith, subst₂}
+use Rattle.std.proofs.Common.{◌+◌, [], ℕ, List, length, sym, ap, ◌∙◌, refl, arith, subst₂}
 use Rattle.std.specs.Prelude.{is_none}
 use Rattle.std.proofs.lemmas.List.Sums.{count_by-le-length}
 use Rattle.rw_merge.proofs.Words.{IsFoundTo, IsStep, agreement_of, agreements-nil, length-next, step_none, step_both, step_some, window_push}

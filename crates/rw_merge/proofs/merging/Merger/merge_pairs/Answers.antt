@@ -1,6 +1,5 @@
-use Rattle.std.proofs.Common.{◌≡◌, ◌+◌, ◌<◌, ◌≤◌, ◌++◌, [], ℕ, List, length, sym, ap, ◌∙◌, refl, subst, Ok, true, false, Bool, arith}
-use Rattle.std.specs.Io.KnownBytes.{Appends, Consumes}
-use Rattle.rw_merge.specs.Steps.{IsPairRead}
+use Rattle.std.proofs.Common.{◌++◌, [], length, sym, ap, ◌∙◌, refl, subst, arith}
+use Rattle.std.specs.Io.KnownBytes.{Appends}
 use Rattle.rw_merge.proofs.Working.{both_end, end_stops, pair_found, pair_stops, skipped_as, works_more, works_none, write_stops}
 use Rattle.rw_merge.proofs.merging.Merger.merge_pairs.Goals as goal
 use Rattle.rw_merge.proofs.merging.Merger.merge_pairs.Goals.{then-block-lead_in+in-Ok, else-block-lead_in}
@@ -20,7 +19,7 @@ pub returns-in-Ok-false-clause-merges : goal.returns-in-Ok-false-clause-merges
 returns-in-Ok-false-clause-merges g c =
     let (xs, ys, works) = c.loop-block.invariant.works in
     let (us, vs, first, second, read, whole) = rw c.in-Ok-false.field-0-test at c.in-Ok-false.ensures.pair in
-    both_end c.args.lead_in c.loop-block.block _ _ _ _ _ _ _ _ _ _ _ _ xs ys us vs works first second read.0 read.1 (omega (arith, c.loop-block-test.true))
+    both_end c.args.lead_in c.loop-block.block _ _ _ _ _ _ _ _ _ _ _ _ xs ys us vs works first second read.0 read.1 (omega (arith, c.loop-block-test.true)) c.saturating_sub.ensures
 
 pub returns-in-Err-clause-merges : goal.returns-in-Err-clause-merges
 returns-in-Err-clause-merges g c =
@@ -32,13 +31,13 @@ pub returns-in-Ok-nothing_follows-clause-merges : goal.returns-in-Ok-nothing_fol
 returns-in-Ok-nothing_follows-clause-merges g c =
     let (xs, ys, works) = c.loop-block.invariant.works in
     let (us, vs, first, second, read) = c.in-Ok-nothing_follows.ensures.end in
-    both_end c.args.lead_in c.loop-block.block _ _ _ _ _ _ _ _ _ _ _ _ xs ys us vs works first second read.0 read.1 (omega (arith, c.loop-block.auto.block-end))
+    both_end c.args.lead_in c.loop-block.block _ _ _ _ _ _ _ _ _ _ _ _ xs ys us vs works first second read.0 read.1 (omega (arith, c.loop-block.auto.block-end)) (omega (arith, c.loop-block.auto.block-end, c.loop-block-test.false))
 
 pub returns-in-Err-nothing_follows-clause-merges : goal.returns-in-Err-nothing_follows-clause-merges
 returns-in-Err-nothing_follows-clause-merges g c =
     let (xs, ys, works) = c.loop-block.invariant.works in
     let (us, vs, first, second, read) = c.in-Err-nothing_follows.ensures.end in
-    end_stops c.args.lead_in c.loop-block.block _ _ _ _ _ _ _ _ _ _ _ xs ys us vs c.in-Err-nothing_follows.stop works first second read (omega (arith, c.loop-block.auto.block-end))
+    end_stops c.args.lead_in c.loop-block.block _ _ _ _ _ _ _ _ _ _ _ xs ys us vs c.in-Err-nothing_follows.stop works first second read (omega (arith, c.loop-block.auto.block-end, c.loop-block-test.false))
 
 pub returns-in-Err-put_all-clause-merges : goal.returns-in-Err-put_all-clause-merges
 returns-in-Err-put_all-clause-merges g c =
