@@ -1,0 +1,80 @@
+-- Bytes that are cut into blocks and slots.
+use Rattle.std.proofs.Common.{◌≡◌, ℕ, zero, suc, ◌+◌, ◌-◌, ◌*◌, ◌/◌, ◌%◌, List, [], ◌∷◌, ◌++◌, length, take, drop, map, flat_map, refl, sym, ap, ap₂, ◌∙◌, arith}
+use Rattle.std.specs.List.{concat, AllByRecursion}
+use Rattle.std.proofs.Math.Nat.{suc-mul}
+use Rattle.std.proofs.Math.Seq.{drop-nil}
+use Rattle.std.proofs.lemmas.List.{length-drop, length-map, length-take-le, drop-drop, map-append, nil_from_length, take-append-drop, take-append-le, drop-append-le}
+use Rattle.bit_lists.specs.Counting.{parts}
+use Rattle.raw_subcode.specs.Channels.{symbols_of, block_of, program_symbols}
+use Rattle.raw_subcode.specs.declared.form.Form.TheVariants.{Raw}
+use Rattle.rw_merge.specs.Steps.{slots_of}
+
+-- one part more
+parts_push : (size i : ℕ) (xs : List ℕ) → parts (i + 1) size xs ≡ parts i size xs ++ take size (drop (size * i) xs) ∷ []
+parts_push size zero xs =
+    let here : 0 ≡ size * 0 = omega arith in ap (λ k. take size (drop k xs) ∷ []) here
+parts_push size (suc i) xs =
+    let next : suc i + 1 ≡ suc (i + 1) = omega arith in
+    let there : size + size * i ≡ size * suc i = omega arith in
+    ap (λ n. parts n size xs) next
+    ∙ ap (λ ps. take size xs ∷ ps) (parts_push size i (drop size xs) ∙ ap (λ p. parts i size (drop size xs) ++ take size p ∷ []) (drop-drop (size * i) size xs ∙ ap (λ k. drop k xs) there))
+
+pub slots_push : (i : ℕ) (xs : List ℕ) → slots_of (i + 1) xs ≡ slots_of i xs ++ symbols_of (take 24 (drop (24 * i) xs)) ∷ []
+slots_push i xs = ap (map symbols_of) (parts_push 24 i xs) ∙ map-append symbols_of (parts i 24 xs) (take 24 (drop (24 * i) xs) ∷ [])
+
+-- whole parts, and then others
+parts-append : (size n m : ℕ) (xs ys : List ℕ) → length xs ≡ n * size → parts (n + m) size (xs ++ ys) ≡ parts n size xs ++ parts m size ys
+parts-append size zero m xs ys fits =
+    let none : xs ≡ [] = nil_from_length xs (omega (arith, fits)) in
+    let same : 0 + m ≡ m = omega arith in
+    ap₂ (λ k l. parts k size (l ++ ys)) same none
+parts-append size (suc n) m xs ys fits =
+    let more : length xs ≡ n * size + size = fits ∙ suc-mul n size in
+    let next : suc n + m ≡ suc (n + m) = omega arith in
+    ap (λ k. parts k size (xs ++ ys)) next
+    ∙ ap₂ (λ p ps. p ∷ parts (n + m) size ps) (take-append-le size xs ys (omega (arith, more))) (drop-append-le size xs ys (omega (arith, more)))
+    ∙ ap (λ ps. take size xs ∷ ps) (parts-append size n m (drop size xs) ys (length-drop size xs ∙ omega (arith, more)))
+
+pub slots-append : (n m : ℕ) (xs ys : List ℕ) → length xs ≡ n * 24 → slots_of (n + m) (xs ++ ys) ≡ slots_of n xs ++ slots_of m ys
+slots-append n m xs ys fits = ap (map symbols_of) (parts-append 24 n m xs ys fits) ∙ map-append symbols_of (parts n 24 xs) (parts m 24 ys)
+
+-- slots stand together as the symbols of their bytes
+pub slots_together : (n : ℕ) (xs : List ℕ) → length xs ≡ n * 24 → concat (slots_of n xs) ≡ symbols_of xs
+slots_together zero xs fits = sym (ap symbols_of (nil_from_length xs (omega (arith, fits))))
+slots_together (suc n) xs fits =
+    ap (λ l. symbols_of (take 24 xs) ++ l) (slots_together n (drop 24 xs) (length-drop 24 xs ∙ omega (arith, fits)))
+    ∙ sym (map-append (λ byte. byte % 64) (take 24 xs) (drop 24 xs)) ∙ ap symbols_of (take-append-drop 24 xs)
+
+pub length-slots : (n : ℕ) (xs : List ℕ) → length (slots_of n xs) ≡ n
+length-slots zero xs = refl
+length-slots (suc n) xs = ap suc (length-slots n (drop 24 xs))
+
+pub slots_sized : (n : ℕ) (xs : List ℕ) → length xs ≡ n * 24 → AllByRecursion (λ (slot : List ℕ). length slot ≡ 24) (slots_of n xs)
+slots_sized zero xs fits = tt
+slots_sized (suc n) xs fits = (
+  length-map (take 24 xs) (λ (byte : ℕ). byte % 64) ∙ length-take-le 24 xs (omega (arith, fits)),
+  slots_sized n (drop 24 xs) (length-drop 24 xs ∙ omega (arith, fits)),
+)
+
+-- the symbols of blocks after the first
+blocks_symbols : (n l k : ℕ) (bytes : List ℕ) → length bytes ≡ n * 96 → k ≡ l * 96 → flat_map symbols_of (drop l (map (block_of Raw) (parts n 96 bytes))) ≡ symbols_of (drop k bytes)
+blocks_symbols zero l k bytes size at =
+    let none : bytes ≡ [] = nil_from_length bytes (omega (arith, size)) in
+    ap (flat_map symbols_of) (drop-nil l) ∙ sym (ap (λ b. symbols_of (drop k b)) none ∙ ap symbols_of (drop-nil k))
+blocks_symbols (suc n) zero k bytes size at =
+    let here : 0 ≡ k = omega (arith, at) in
+    ap (λ l. symbols_of (take 96 bytes) ++ l) (blocks_symbols n 0 0 (drop 96 bytes) (length-drop 96 bytes ∙ omega (arith, size)) refl)
+    ∙ sym (map-append (λ byte. byte % 64) (take 96 bytes) (drop 96 bytes)) ∙ ap symbols_of (take-append-drop 96 bytes) ∙ ap (λ m. symbols_of (drop m bytes)) here
+blocks_symbols (suc n) (suc l) k bytes size at =
+    let there : 96 + l * 96 ≡ k = omega (arith, at) in
+    blocks_symbols n l (l * 96) (drop 96 bytes) (length-drop 96 bytes ∙ omega (arith, size)) refl ∙ ap symbols_of (drop-drop (l * 96) 96 bytes ∙ ap (λ m. drop m bytes) there)
+
+pub program_is : (lead_in blocks : ℕ) (bytes : List ℕ) → length bytes ≡ blocks * 96 → program_symbols Raw bytes lead_in ≡ symbols_of (drop (lead_in * 96) bytes)
+program_is lead_in blocks bytes size =
+    let count : length bytes / 96 ≡ blocks = omega (arith, size) in
+    ap (λ n. flat_map symbols_of (drop lead_in (map (block_of Raw) (parts n 96 bytes)))) count
+    ∙ blocks_symbols blocks lead_in (lead_in * 96) bytes size refl
+
+-- the bytes of the program, in slots
+pub program_slots : (lead_in blocks : ℕ) (bytes : List ℕ) → length bytes ≡ blocks * 96 → length (drop (lead_in * 96) bytes) ≡ 4 * (blocks - lead_in) * 24
+program_slots lead_in blocks bytes size = length-drop (lead_in * 96) bytes ∙ omega (arith, size)

@@ -1,0 +1,24 @@
+-- The sums of errors, and how the part of a position is taken out of them.
+use Rattle.std.specs.Prelude.{◌≡◌, ℕ, ◌<◌, List, [], ◌∷◌, length, slice_index, bit_xor}
+use Rattle.gf64.specs.Field.{product, alpha_power}
+use Rattle.rw_code.specs.Codeword.{IsWord, weighted_sum}
+use Rattle.rw_merge.specs.declared.elimination.Sums.{Sums}
+use Rattle.rw_merge.specs.Places.{IsOutside}
+
+-- the first n of these, at most four, are sums of the word over all its symbols
+pub record AreSums (n : ℕ) (word : List ℕ) (sums : Sums) : Type 0 where
+  pub zeroth : 0 < n → sums.zeroth ≡ weighted_sum 0 word
+  pub first : 1 < n → sums.first ≡ weighted_sum 1 word
+  pub second : 2 < n → sums.second ≡ weighted_sum 2 word
+  pub third : 3 < n → sums.third ≡ weighted_sum 3 word
+
+-- each symbol times the sum of its position's power and this one, so that the symbol at the position with this power becomes 0
+unfoldable pub cleared : ℕ → List ℕ → List ℕ
+cleared power [] = []
+cleared power (symbol ∷ rest) = product (bit_xor (alpha_power (length rest)) power) symbol ∷ cleared power rest
+
+-- a word with these four sums, whose symbols outside of these positions are 0
+pub record AreErrors (sums : Sums) (places errors : List ℕ) : Type 0 where
+  pub is_word : IsWord errors
+  pub have_sums : AreSums 4 errors sums
+  pub outside : (i : ℕ) → i < 24 → IsOutside i places → slice_index errors i ≡ 0

@@ -1,0 +1,7 @@
+pub mod Agreement
+pub mod Elimination
+pub mod Places
+pub mod Windows
+pub mod Merging
+pub mod Readings
+pub mod Steps

@@ -1,0 +1,44 @@
+-- Two readings of one stream that have enough for each of its packs.
+use Rattle.std.specs.Prelude.{◌≡◌, ℕ, ◌+◌, ◌*◌, ◌<◌, ◌≤◌, ⊤, List, length, Option, Result, Ok, Err}
+use Rattle.std.specs.Io.KnownBytes.{Appends}
+use Rattle.raw_subcode.specs.Channels.{program_symbols}
+use Rattle.raw_subcode.specs.declared.form.Form.TheVariants.{Raw}
+use Rattle.rw_code.specs.Codeword.{differences}
+use Rattle.rw_interleave.specs.Interleave.{Carries, word_of, whole_packs}
+use Rattle.stream_words.specs.Stream.{IsDamaged}
+use Rattle.rw_merge.specs.Agreement.{equally_wrong}
+use Rattle.rw_merge.specs.Merging.{most_blocks}
+use Rattle.rw_merge.specs.declared.merging.Merged.{Merged}
+use Rattle.rw_merge.specs.declared.merging.MergeStop.{MergeStop}
+use Rattle.rw_merge.specs.declared.merging.MergeStop.TheVariants.{FirstFault, SecondFault, WriteFault}
+
+-- the bytes of two readings of equally many blocks, of which so many belong to the lead-in and to the program
+pub record AreReadings (lead_in blocks : ℕ) (first second : List ℕ) : Type 0 where
+  pub few : lead_in + blocks ≤ most_blocks
+  pub first_size : length first ≡ (lead_in + blocks) * 96
+  pub second_size : length second ≡ (lead_in + blocks) * 96
+
+-- Of program symbols that carry these packs there are two readings in which, for each word, twice the symbols that both have equally wrong and those in which they differ are at most four.
+pub record IsReadTwice (lead_in blocks : ℕ) (packs : List (List ℕ)) (first second : List ℕ) : Type 0 where
+  pub readings : AreReadings lead_in blocks first second
+  pub symbols : List ℕ
+  pub carries : Carries blocks symbols packs
+  pub enough : (n : ℕ) → n < whole_packs blocks →
+      2 * equally_wrong (word_of (program_symbols Raw first lead_in) n) (word_of (program_symbols Raw second lead_in) n) (word_of symbols n)
+      + differences (word_of (program_symbols Raw first lead_in) n) (word_of (program_symbols Raw second lead_in) n) ≤ 4
+
+-- Of program symbols that carry these packs there are two readings, each damaged in at most two symbols of each word, wherever these are.
+pub record IsDamagedTwice (lead_in blocks : ℕ) (packs : List (List ℕ)) (first second : List ℕ) : Type 0 where
+  pub readings : AreReadings lead_in blocks first second
+  pub symbols : List ℕ
+  pub carries : Carries blocks symbols packs
+  pub first_damage : IsDamaged symbols Raw (program_symbols Raw first lead_in)
+  pub second_damage : IsDamaged symbols Raw (program_symbols Raw second lead_in)
+
+-- unless a read or a write failed, so many blocks were merged, none of their words is bad, and this text was put
+abbrev pub Restores : Result Merged MergeStop → ℕ → Option (List ℕ) → Option (List ℕ) → List ℕ → Type 0
+Restores (Ok merged) blocks held held' text = (merged.blocks ≡ blocks) × (merged.bad ≡ 0) × Appends held held' text
+Restores (Err FirstFault) blocks held held' text = ⊤
+Restores (Err SecondFault) blocks held held' text = ⊤
+Restores (Err WriteFault) blocks held held' text = ⊤
+Restores (Err stop) blocks held held' text = ⊥

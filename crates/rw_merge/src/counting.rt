@@ -1,0 +1,44 @@
+// Where two readings differ, and how much stands against a codeword.
+ghost use Rattle.std.specs.Prelude.{◌≡◌, ◌≤◌, ◌+◌, ◌*◌, MatchOption};
+ghost use Rattle.rw_code.specs.Codeword.{differences};
+ghost use Rattle.rw_merge.specs.Agreement.{equally_wrong};
+ghost use Rattle.rw_merge.specs.Places.{AreEqualFrom, IsNextDifference};
+
+use rw_code::{SYMBOLS, Word};
+
+/// The first position from here on at which the readings differ.
+pub(crate) fn next_difference(
+    first: &[u8; SYMBOLS],
+    second: &[u8; SYMBOLS],
+    from: usize,
+) -> Option<usize>
+    requires { from ≤ 24 }
+    ensures { MatchOption result
+        (AreEqualFrom from first.now second.now)
+        (λ i. IsNextDifference from first.now second.now i) }
+{
+    for i in from..SYMBOLS {
+        if first[i] != second[i] {
+            return Some(i);
+        }
+    }
+    None
+}
+
+/// Twice the symbols in which the readings are equal and differ from the word, and those in which they differ.
+pub(crate) fn doubts(first: &Word, second: &Word, word: &Word) -> u8
+    ensures { result ≡ 2 * equally_wrong first.now second.now word.now + differences first.now second.now }
+{
+    let first = first.bytes();
+    let second = second.bytes();
+    let word = word.bytes();
+    let mut doubts = 0;
+    for i in 0..SYMBOLS {
+        if first[i] != second[i] {
+            doubts += 1;
+        } else if first[i] != word[i] {
+            doubts += 2;
+        }
+    }
+    doubts
+}

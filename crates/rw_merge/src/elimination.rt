@@ -1,0 +1,116 @@
+// Errors at known positions, from the sums of a word.
+ghost use Rattle.std.specs.Prelude.{◌≡◌, ◌≢◌, ◌<◌, ◌-◌, [], ◌∷◌, List, ℕ, suc, bit_xor, slice_index, slice_set, MatchOption};
+ghost use Rattle.gf64.specs.Field.{product, alpha_power};
+ghost use Rattle.rw_code.specs.Codeword.{IsCodeword, IsWord, weighted_sum};
+ghost use Rattle.rw_merge.specs.Elimination.{AreErrors, AreSums, cleared};
+ghost use Rattle.rw_merge.specs.Places.{AreApart, AreEqualOutside, all_of};
+
+use crate::places::Places;
+use gf64::Sym;
+use rw_code::{SYMBOLS, Word};
+
+/// Sums of a word over all its symbols: at j each symbol counts times the j-th power of its position's power.
+#[derive(Clone, Copy)]
+pub(crate) struct Sums {
+    pub(crate) zeroth: Sym,
+    pub(crate) first: Sym,
+    pub(crate) second: Sym,
+    pub(crate) third: Sym,
+}
+
+impl Sums {
+    /// The four of a word.
+    pub(crate) fn of(word: &Word) -> Sums
+        requires { IsWord word.now }
+        ensures { AreSums 4 word.now result }
+    {
+        Sums {
+            zeroth: sum(word, 0),
+            first: sum(word, 1),
+            second: sum(word, 2),
+            third: sum(word, 3),
+        }
+    }
+
+    /// The sums in which a position has no part. One sum fewer is known than before.
+    pub(crate) fn without(&self, position: usize) -> Sums
+        requires { position < 24 }
+        ensures { (n : ℕ) (word : List ℕ) → n < 4 → AreSums (suc n) word self.now
+            → AreSums n (cleared (alpha_power (23 - position)) word) result }
+    {
+        let power = power_at(position);
+        Sums {
+            zeroth: self.first.add(power.mul(self.zeroth)),
+            first: self.second.add(power.mul(self.first)),
+            second: self.third.add(power.mul(self.second)),
+            third: self.third,
+        }
+    }
+
+    /// The error at a position, where only symbols at it and at three others are wrong.
+    fn error_at(&self, at: usize, one: usize, two: usize, three: usize) -> Sym
+        requires at { at < 24 }
+        requires one { (one < 24) × (one ≢ at) }
+        requires two { (two < 24) × (two ≢ at) }
+        requires three { (three < 24) × (three ≢ at) }
+        ensures { (errors : List ℕ) → AreErrors self.now (at ∷ one ∷ two ∷ three ∷ []) errors
+            → result ≡ slice_index errors at }
+    {
+        let power = power_at(at);
+        let scale = power
+            .add(power_at(one))
+            .mul(power.add(power_at(two)))
+            .mul(power.add(power_at(three)));
+        let scaled = self.without(one).without(two).without(three).zeroth;
+        scaled.mul(scale.inv())
+    }
+}
+
+/// The only codeword that is equal to a word outside of four positions, if there is one.
+pub(crate) fn solved(word: &Word, sums: &Sums, places: &Places) -> Word
+    requires word { IsWord word.now }
+    requires sums { AreSums 4 word.now sums.now }
+    requires apart { AreApart places.now }
+    ensures { (codeword : List ℕ) → IsCodeword codeword → AreEqualOutside (all_of places.now) word.now codeword
+        → codeword ≡ result }
+{
+    let Places {
+        first,
+        second,
+        third,
+        fourth,
+    } = *places;
+    let one = plus(word, first, sums.error_at(first, second, third, fourth));
+    let two = plus(&one, second, sums.error_at(second, first, third, fourth));
+    let three = plus(&two, third, sums.error_at(third, first, second, fourth));
+    plus(&three, fourth, sums.error_at(fourth, first, second, third))
+}
+
+/// The word with an error added at a position.
+fn plus(word: &Word, i: usize, error: Sym) -> Word
+    requires { i < 24 }
+    ensures { result ≡ slice_set word.now i (bit_xor (slice_index word.now i) error) }
+{
+    word.with(i, word.get(i).add(error))
+}
+
+/// The sum of a word at j.
+fn sum(word: &Word, j: u32) -> Sym
+    requires { IsWord word.now }
+    ensures { result ≡ weighted_sum j word.now }
+{
+    let power = Sym::alpha(j);
+    let mut sum = Sym::default();
+    for i in 0..SYMBOLS {
+        sum = power.mul(sum).add(word.get(i));
+    }
+    sum
+}
+
+/// The power of alpha that the sum at 1 has at a position.
+pub(crate) fn power_at(position: usize) -> Sym
+    requires { position < 24 }
+    ensures { result ≡ alpha_power (23 - position) }
+{
+    Sym::alpha((SYMBOLS - 1 - position) as u32)
+}

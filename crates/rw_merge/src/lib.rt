@@ -1,0 +1,33 @@
+//! Two readings of one disc as one stream.
+#![tactic(auto)]
+
+mod agreement;
+mod counting;
+mod elimination;
+mod merging;
+mod pairs;
+mod places;
+
+ghost use Rattle.std.specs.Prelude.{◌≡◌, List, ℕ};
+ghost use Rattle.rw_code.specs.Codeword.{IsWord};
+ghost use Rattle.rw_merge.specs.Agreement.{IsAgreed};
+ghost use Rattle.rw_merge.specs.Merging.{IsMergedText};
+
+pub use agreement::agree;
+pub use merging::{MergeStop, Merged, Merger, two_readings_give_packs};
+
+/// A law: for no two words are two codewords agreed.
+pub fn only_one_codeword_is_agreed()
+    ensures { (first second one other : List ℕ) → IsWord first → IsWord second
+        → IsAgreed first second one → IsAgreed first second other → one ≡ other }
+{}
+
+/// A law: for any two readings there is one merged text at most, so that how the inputs are cut changes nothing.
+pub fn one_text_is_merged()
+    ensures { (lead_in : ℕ) (first second text other : List ℕ) (bad count : ℕ)
+        → IsMergedText lead_in first second text bad → IsMergedText lead_in first second other count
+        → (text ≡ other) × (bad ≡ count) }
+{}
+
+#[cfg(test)]
+mod tests;

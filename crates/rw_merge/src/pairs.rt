@@ -1,0 +1,83 @@
+// Pairs of blocks, one of each input, in turn.
+ghost use Rattle.std.specs.Prelude.{◌≡◌, ◌≢◌, List, ℕ, Ok, Err, true, IsErrOf};
+ghost use Rattle.std.specs.Io.KnownBytes.{Consumes};
+ghost use Rattle.cdg_io.specs.Causes.{Rose};
+ghost use Rattle.rw_merge.specs.Steps.{IsEndRead, IsPairRead, TellsFirstAfter, TellsFirstOfPair, TellsSecondAfter, TellsSecondOfPair};
+
+use crate::merging::{BLOCK, MergeStop};
+use cdg_io::{Failed, Source, fill};
+
+/// Reads a block of the first input, and then one of the second. False where both inputs are at their end.
+///
+/// # Errors
+/// A stop, where there is no whole block of both: all but the faults say the number of the block.
+pub(crate) fn next_pair<S: Source, T: Source>(
+    first: &mut S,
+    second: &mut T,
+    one: &mut [u8; BLOCK],
+    other: &mut [u8; BLOCK],
+    block: u32,
+) -> Result<bool, MergeStop>
+    ensures pair { (xs ys : List ℕ) × Consumes (S.left first.old) (S.left first.new) xs
+        × Consumes (T.left second.old) (T.left second.new) ys
+        × IsPairRead block (S.left first.new) (T.left second.new) result xs ys
+        × (result ≡ Ok true → (xs ≡ one.new) × (ys ≡ other.new)) }
+    ensures first_fault { IsErrOf result MergeStop.FirstFault → Rose (S.faults first.old) (S.faults first.new) }
+    ensures no_first_fault { result ≢ Err MergeStop.FirstFault → S.faults first.new ≡ S.faults first.old }
+    ensures second_fault { IsErrOf result MergeStop.SecondFault → Rose (T.faults second.old) (T.faults second.new) }
+    ensures no_second_fault { result ≢ Err MergeStop.SecondFault → T.faults second.new ≡ T.faults second.old }
+    ensures first_end { TellsFirstOfPair result (S.ends first.old) (S.ends first.new) }
+    ensures second_end { TellsSecondOfPair result (T.ends second.old) (T.ends second.new) }
+{
+    let from_first = match fill(first, one) {
+        Ok(count) => count,
+        Err(Failed) => return Err(MergeStop::FirstFault),
+    };
+    if 0 < from_first && from_first < BLOCK {
+        return Err(MergeStop::Torn { block });
+    }
+    let from_second = match fill(second, other) {
+        Ok(count) => count,
+        Err(Failed) => return Err(MergeStop::SecondFault),
+    };
+    if 0 < from_second && from_second < BLOCK {
+        return Err(MergeStop::SecondTorn { block });
+    }
+    if from_first != from_second {
+        return Err(MergeStop::Unequal { blocks: block });
+    }
+    if from_first == 0 {
+        return Ok(false);
+    }
+    Ok(true)
+}
+
+/// Sees that no byte follows in either input.
+///
+/// # Errors
+/// `TooLong` where one does.
+pub(crate) fn nothing_follows<S: Source, T: Source>(
+    first: &mut S,
+    second: &mut T,
+) -> Result<(), MergeStop>
+    ensures end { (xs ys : List ℕ) × Consumes (S.left first.old) (S.left first.new) xs
+        × Consumes (T.left second.old) (T.left second.new) ys
+        × IsEndRead (S.left first.new) (T.left second.new) result xs ys }
+    ensures first_fault { IsErrOf result MergeStop.FirstFault → Rose (S.faults first.old) (S.faults first.new) }
+    ensures no_first_fault { result ≢ Err MergeStop.FirstFault → S.faults first.new ≡ S.faults first.old }
+    ensures second_fault { IsErrOf result MergeStop.SecondFault → Rose (T.faults second.old) (T.faults second.new) }
+    ensures no_second_fault { result ≢ Err MergeStop.SecondFault → T.faults second.new ≡ T.faults second.old }
+    ensures first_end { TellsFirstAfter result (S.ends first.old) (S.ends first.new) }
+    ensures second_end { TellsSecondAfter result (T.ends second.old) (T.ends second.new) }
+{
+    match fill(first, &mut [0; 1]) {
+        Ok(0) => {}
+        Ok(_) => return Err(MergeStop::TooLong),
+        Err(Failed) => return Err(MergeStop::FirstFault),
+    }
+    match fill(second, &mut [0; 1]) {
+        Ok(0) => Ok(()),
+        Ok(_) => Err(MergeStop::TooLong),
+        Err(Failed) => Err(MergeStop::SecondFault),
+    }
+}

@@ -1,0 +1,126 @@
+// At which positions the first of two readings may be wrong.
+ghost use Rattle.std.specs.Prelude.{◌≡◌, ◌≢◌, ◌<◌, ◌-◌, [], ◌∷◌, List, ℕ, MatchOption};
+ghost use Rattle.gf64.specs.Field.{product, alpha_power};
+ghost use Rattle.rw_merge.specs.Agreement.{IsAgreed};
+ghost use Rattle.rw_merge.specs.Elimination.{AreErrors, AreSums};
+ghost use Rattle.rw_merge.specs.Places.{AreApart, AreEqualOutside, all_of};
+
+use crate::counting::next_difference;
+use crate::elimination::{Sums, power_at};
+use gf64::Sym;
+use rw_code::{SYMBOLS, Word};
+
+/// Four positions of a word.
+#[derive(Clone, Copy)]
+pub(crate) struct Places {
+    pub(crate) first: usize,
+    pub(crate) second: usize,
+    pub(crate) third: usize,
+    pub(crate) fourth: usize,
+}
+
+/// Four positions outside of which every agreed codeword is equal to the first of two readings that differ. `sums` are
+/// those of the first. None only where no codeword is agreed.
+pub(crate) fn wrong_places(first: &Word, second: &Word, sums: &Sums) -> Option<Places>
+    requires differ { first.now ≢ second.now }
+    requires sums { AreSums 4 first.now sums.now }
+    ensures { MatchOption result
+        ((w : List ℕ) → ¬ IsAgreed first.now second.now w)
+        (λ p. AreApart p × ((w : List ℕ) → IsAgreed first.now second.now w → AreEqualOutside (all_of p) first.now w)) }
+{
+    let one = first.bytes();
+    let other = second.bytes();
+    let Some(first) = next_difference(&one, &other, 0) else {
+        return None;
+    };
+    let Some(second) = next_difference(&one, &other, first + 1) else {
+        return with_further(sums, first, unused(first, first, first));
+    };
+    let Some(third) = next_difference(&one, &other, second + 1) else {
+        return with_further(sums, first, second);
+    };
+    let Some(fourth) = next_difference(&one, &other, third + 1) else {
+        return Some(with_unused(first, second, third));
+    };
+    match next_difference(&one, &other, fourth + 1) {
+        Some(_) => None,
+        None => Some(Places {
+            first,
+            second,
+            third,
+            fourth,
+        }),
+    }
+}
+
+/// Four positions at which all errors are, where these are at two positions and at most at one further.
+fn with_further(sums: &Sums, first: usize, second: usize) -> Option<Places>
+    requires first { first < 24 }
+    requires second { (second < 24) × (second ≢ first) }
+    ensures { MatchOption result
+        ((further : ℕ) (errors : List ℕ) → ¬ AreErrors sums.now (first ∷ second ∷ further ∷ []) errors)
+        (λ p. AreApart p × ((further : ℕ) (errors : List ℕ) → AreErrors sums.now (first ∷ second ∷ further ∷ []) errors
+        → AreErrors sums.now (all_of p) errors)) }
+{
+    let left = sums.without(first).without(second);
+    if left.zeroth.is_zero() {
+        let third = unused(first, second, second);
+        return Some(with_unused(first, second, third));
+    }
+    let Some(third) = further_position(&left) else {
+        return None;
+    };
+    if third == first || third == second {
+        return None;
+    }
+    Some(with_unused(first, second, third))
+}
+
+/// Three positions and one more.
+fn with_unused(first: usize, second: usize, third: usize) -> Places
+    requires first { first < 24 }
+    requires second { (second < 24) × (second ≢ first) }
+    requires third { (third < 24) × (third ≢ first) × (third ≢ second) }
+    ensures apart { AreApart result }
+    ensures first { result.first ≡ first }
+    ensures second { result.second ≡ second }
+    ensures third { result.third ≡ third }
+{
+    Places {
+        first,
+        second,
+        third,
+        fourth: unused(first, second, third),
+    }
+}
+
+/// The only position whose power leads from the zeroth of the sums to the first.
+fn further_position(sums: &Sums) -> Option<usize>
+    requires { sums.now.zeroth ≢ 0 }
+    ensures { MatchOption result
+        ((k : ℕ) → k < 24 → product (alpha_power (23 - k)) sums.now.zeroth ≢ sums.now.first)
+        (λ j. (j < 24) × ((k : ℕ) → k < 24 → product (alpha_power (23 - k)) sums.now.zeroth ≡ sums.now.first → k ≡ j)) }
+{
+    let ratio = sums.first.mul(sums.zeroth.inv());
+    for j in 0..SYMBOLS {
+        if power_at(j) == ratio {
+            return Some(j);
+        }
+    }
+    None
+}
+
+/// A position that is none of these.
+fn unused(one: usize, two: usize, three: usize) -> usize
+    ensures within { result < 24 }
+    ensures one { result ≢ one }
+    ensures two { result ≢ two }
+    ensures three { result ≢ three }
+{
+    for position in 0..3 {
+        if position != one && position != two && position != three {
+            return position;
+        }
+    }
+    3
+}
