@@ -1,5 +1,5 @@
 -- The instruction of 24 bytes.
-use Rattle.std.proofs.Common.{◌≡◌, ℕ, suc, ◌+◌, ◌*◌, ◌<◌, ◌%◌, List, [], ◌∷◌, length, get_or, drop, map, refl, sym, ap, ap₂, ◌∙◌, subst, arith, All, Contains}
+use Rattle.std.proofs.Common.{◌≡◌, ℕ, ◌+◌, ◌*◌, ◌<◌, ◌%◌, List, [], ◌∷◌, length, get_or, drop, map, refl, sym, ap, ap₂, ◌∙◌, subst, arith, All, Contains}
 use Rattle.std.proofs.lemmas.List.{length-map, get_or-map, length-take-le, length-drop}
 use Rattle.std.proofs.lemmas.List.Elements.{All-take, All-drop}
 use Rattle.bit_lists.specs.Counting.{below}

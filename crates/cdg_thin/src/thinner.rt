@@ -19,6 +19,9 @@ use std::marker::Model;
 /// The most packs that are read.
 const MOST_PACKS: u32 = 4_000_000;
 
+/// The pack that says nothing.
+const IDLE: [u8; 24] = [0; 24];
+
 /// Makes packs that change nothing idle. All its memory is taken at the start.
 #[derive(Drop)]
 pub struct Thinner {
@@ -111,11 +114,12 @@ impl Stage for Thinner {
     ghost gives = { thin_gives };
 
     fn feed(&mut self, pack: &[u8; 24]) -> Option<Piece> {
-        let piece = Piece::new();
+        let mut piece = Piece::new();
         if self.passes_over(&instruction(pack)) {
-            Some(piece.with(&[0; 24]))
+            piece.add(&IDLE);
         } else {
-            Some(piece.with(pack))
+            piece.add(pack);
         }
+        Some(piece)
     }
 }
