@@ -1,8 +1,10 @@
-//! Tests of authored streams: their blocks, and why some are refused.
+//! Tests of authored and pressed streams: their blocks, and why some are refused.
 #![tactic(auto)]
 
 #[cfg(test)]
 mod discs;
+#[cfg(test)]
+mod presses;
 #[cfg(test)]
 mod refusals;
 #[cfg(test)]

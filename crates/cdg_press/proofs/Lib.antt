@@ -1,3 +1,6 @@
 pub mod Messages
 pub mod Files
 pub mod Presses
+pub mod Gaps
+pub mod Stages
+pub mod Some

@@ -3,8 +3,10 @@
 
 mod checks;
 mod file;
+mod laws;
 mod press;
 mod stops;
 
+pub use laws::each_press_has_one_answer;
 pub use press::press_stream;
 pub use stops::PressStop;
