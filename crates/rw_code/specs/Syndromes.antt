@@ -3,6 +3,7 @@ use Rattle.std.specs.Prelude.{◌≡◌, ℕ, suc, ◌+◌, ◌-◌, ◌*◌, �
 use Rattle.gf64.specs.Field.{product, alpha_power}
 use Rattle.rw_code.specs.declared.syndromes.Sums.{Sums}
 use Rattle.rw_code.specs.declared.correction.SumsWithout.{SumsWithout}
+use Rattle.rw_code.specs.declared.correction.Locator.{Locator}
 use Rattle.rw_code.specs.Codeword.{weighted_sum}
 
 -- lane j of a number: six bits of it
@@ -43,3 +44,23 @@ pub record AreSumsWithout (word : List ℕ) (i : ℕ) (sums : SumsWithout) : Typ
 abbrev pub ContinuesTo : ℕ → List ℕ → ℕ → List ℕ → Type 0
 ContinuesTo n old symbol new =
     (j : ℕ) → j < n → (xs : List ℕ) → weighted_sum j (xs ++ old) ≡ 0 → weighted_sum j (xs ++ symbol ∷ new) ≡ 0
+
+-- The polynomial of the sums that is 0 at the power of each wrong position, where no more than two are wrong: its coefficients,
+-- and its value.
+abbrev pub square_of : Sums → ℕ
+square_of sums = bit_xor (product sums.first sums.first) (product sums.zeroth sums.second)
+
+abbrev pub linear_of : Sums → ℕ
+linear_of sums = bit_xor (product sums.first sums.second) (product sums.zeroth sums.third)
+
+abbrev pub constant_of : Sums → ℕ
+constant_of sums = bit_xor (product sums.second sums.second) (product sums.first sums.third)
+
+abbrev pub value_at : ℕ → ℕ → ℕ → ℕ → ℕ
+value_at square linear constant power = bit_xor (product power (bit_xor (product power square) linear)) constant
+
+-- the coefficients of that polynomial
+pub record IsLocator (sums : Sums) (locator : Locator) : Type 0 where
+  pub square : locator.square ≡ square_of sums
+  pub linear : locator.linear ≡ linear_of sums
+  pub constant : locator.constant ≡ constant_of sums

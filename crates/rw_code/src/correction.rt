@@ -1,8 +1,8 @@
 // The codeword near a word.
-ghost use Rattle.std.specs.Prelude.{◌≡◌, ◌≢◌, ◌<◌, ◌-◌, List, ℕ, slice_index, MatchOption};
+ghost use Rattle.std.specs.Prelude.{◌≡◌, ◌≢◌, ◌<◌, ◌-◌, ◌↔◌, List, ℕ, slice_index, IsTrue, MatchOption};
 ghost use Rattle.gf64.specs.Field.{product, alpha_power};
-ghost use Rattle.rw_code.specs.Codeword.{IsWord, differences, Reads};
-ghost use Rattle.rw_code.specs.Syndromes.{AreSums, AreSumsWithout};
+ghost use Rattle.rw_code.specs.Codeword.{IsCodeword, IsWord, differences, Reads};
+ghost use Rattle.rw_code.specs.Syndromes.{AreSums, AreSumsWithout, IsLocator, value_at};
 
 use crate::syndromes::{Sums, Syndromes};
 use crate::{Pack, SYMBOLS, Word};
@@ -35,13 +35,62 @@ pub fn correct(received: &Word) -> Option<Fixed>
     if let Some(pack) = Pack::check_syndromes(received, syndromes) {
         return Some(Fixed { pack, wrong: 0 });
     }
-    let sums = syndromes.sums(received);
+    correct_by(received, &syndromes.sums(received))
+}
+
+/// The same, for a word that is no codeword, by its sums. Only positions are tried at which the locator is 0.
+fn correct_by(received: &Word, sums: &Sums) -> Option<Fixed>
+    requires no_codeword { ¬ IsCodeword received.now }
+    requires sums { AreSums received.now sums.now }
+    ensures { MatchOption result
+        ((w : List ℕ) → ¬ Reads received.now w)
+        (λ fixed. Reads received.now fixed.pack × (fixed.wrong ≡ differences received.now fixed.pack)) }
+{
+    received.is_word();
+    let locator = Locator::of(sums);
     for i in 0..SYMBOLS {
-        if let Some(fixed) = correct_at(received, &sums, i) {
+        if !locator.is_zero_at(i) {
+            continue;
+        }
+        if let Some(fixed) = correct_at(received, sums, i) {
             return Some(fixed);
         }
     }
     None
+}
+
+/// A square polynomial that is 0 at the power of each wrong position, where no more than two are wrong.
+#[derive(Clone, Copy)]
+struct Locator {
+    square: Sym,
+    linear: Sym,
+    constant: Sym,
+}
+
+impl Locator {
+    /// That of the sums of a word.
+    fn of(sums: &Sums) -> Locator
+        ensures { IsLocator sums.now result }
+    {
+        Locator {
+            square: sums.first.mul(sums.first).add(sums.zeroth.mul(sums.second)),
+            linear: sums.first.mul(sums.second).add(sums.zeroth.mul(sums.third)),
+            constant: sums.second.mul(sums.second).add(sums.first.mul(sums.third)),
+        }
+    }
+
+    /// Whether it is 0 at the power of a position.
+    #[inline]
+    fn is_zero_at(&self, i: usize) -> bool
+        requires { i < 24 }
+        ensures { IsTrue result ↔ (value_at self.now.square self.now.linear self.now.constant (alpha_power (23 - i)) ≡ 0) }
+    {
+        let power = power_at(i);
+        power
+            .mul(power.mul(self.square).add(self.linear))
+            .add(self.constant)
+            .is_zero()
+    }
 }
 
 /// The codeword near a word, if there is one that differs from it at position i.
