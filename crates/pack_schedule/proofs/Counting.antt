@@ -1,6 +1,6 @@
 -- Sums over tiles, from each start at once.
-use Rattle.std.proofs.Common.{◌≡◌, ◌≢◌, ℕ, ◌+◌, ◌-◌, ◌*◌, ◌/◌, ◌%◌, ◌<◌, ◌≤◌, List, [], ◌∷◌, length, map, get_or, set, replicate, refl, ap, sym, ◌∙◌, inl, inr, arith}
-use Rattle.std.specs.Prelude.{Option, Some, None, slice_index, sum_by}
+use Rattle.std.proofs.Common.{◌≡◌, ◌≢◌, ℕ, ◌+◌, ◌-◌, ◌*◌, ◌/◌, ◌%◌, ◌<◌, ◌≤◌, List, [], ◌∷◌, length, map, get_or, set, replicate, refl, ap, sym, subst, ◌∙◌, inl, inr, arith, below_more}
+use Rattle.std.specs.Prelude.{Option, Some, None, MatchOption, slice_index, sum_by}
 use Rattle.std.proofs.lemmas.Bool.{cases_eq, cases_lt}
 use Rattle.std.proofs.lemmas.Grind.{same_number_lists}
 use Rattle.std.proofs.lemmas.List.{length-replicate, get_or-replicate, get_or-set_same, get_or-set_other, get_or_past}
@@ -14,6 +14,8 @@ use Rattle.picture_script.specs.Script.{Drawing, picture_tile}
 use Rattle.picture_changes.specs.Change.{tiles_before}
 use Rattle.picture_changes.specs.PlannedChange.{tile_steps}
 use Rattle.picture_changes.proofs.Places.{place_of, places_in_order, colour_is_tile}
+use Rattle.pack_schedule.specs.Weights.{IsWeighed, IsWeighedAt, AreWeights, not_weighed}
+use Rattle.pack_schedule.specs.declared.weights.Weighed.{Weighed}
 use Rattle.picture_changes.proofs.PlannedLaws.{PlansAreShortest, least-unique}
 
 -- tiles counted one after another
@@ -56,31 +58,48 @@ first_of c pixels i lt h = ap (λ xs. get_or xs i 0) h ∙ get_or-replicate {A =
 pub not_same : (pixels : List ℕ) (i : ℕ) → i < 72 → get_or pixels i 0 ≢ get_or pixels 0 0 → (c : ℕ) → pixels ≢ replicate 72 c
 not_same pixels i lt differ c h = differ (first_of c pixels i lt h ∙ sym (first_of c pixels 0 (omega arith) h))
 
+-- what is kept of a tile
+pub weighed : PlansAreShortest → (tile : List ℕ) (w : ℕ) (single : Option ℕ) → IsTilePixels tile → MatchOption single ((c : ℕ) → tile ≢ replicate 72 c) (λ c. (c < 16) × (tile ≡ replicate 72 c)) → w ≤ 4
+    → ((row column d : ℕ) → row < 32 → column < 64 → d < 16 → tile ≢ replicate 72 d → IsLeast row column (replicate 72 d) tile w)
+    → ((row column d : ℕ) → row < 32 → column < 64 → d < 16 → tile ≡ replicate 72 d → IsLeast row column (replicate 72 d) tile 0)
+    → IsWeighed tile (record { weight = w; single = single })
+weighed plans tile w None is h few least none = record {
+  few = few;
+  colour = tt;
+  from_own = λ c c_lt own. absurd (cc);
+  from_other = λ c c_lt other. colour_steps plans tile c w c_lt is (least 1 1 c (omega arith) (omega arith) c_lt (h c));
+}
+weighed plans tile w (Some c0) is h few least none = record {
+  few = few;
+  colour = h.0;
+  from_own = λ c c_lt own.
+      let at : c0 ≡ c = cc in
+      colour_steps plans tile c 0 c_lt is (none 1 1 c (omega arith) (omega arith) c_lt (h.1 ∙ ap (replicate 72) at));
+  from_other = λ c c_lt other.
+      let apart : tile ≢ replicate 72 c = λ here. other (ap Some (sym (first_of c0 tile 0 (omega arith) h.1) ∙ first_of c tile 0 (omega arith) here)) in
+      colour_steps plans tile c w c_lt is (least 1 1 c (omega arith) (omega arith) c_lt apart);
+}
+
 -- a tile of one colour is counted
-pub single_step : PlansAreShortest → (new single : List ℕ) (c0 c w whole : ℕ) → length single ≡ 16 → c0 < 16 → c < 16 → IsTilePixels new → new ≡ replicate 72 c0
-    → ((row column d : ℕ) → row < 32 → column < 64 → d < 16 → new ≢ replicate 72 d → IsLeast row column (replicate 72 d) new w)
-    → ((row column d : ℕ) → row < 32 → column < 64 → d < 16 → new ≡ replicate 72 d → IsLeast row column (replicate 72 d) new 0)
-    → whole + w + slice_index single c ≡ whole + slice_index (set single c0 (get_or single c0 0 + w)) c + steps (replicate 72 c) new
-single_step plans new single c0 c w whole size c0_lt c_lt tile same least none = elim (cases_eq c c0) [
-  | inl is ↦
-      let here : new ≡ replicate 72 c = same ∙ ap (replicate 72) (sym is) in
-      let steps_are = colour_steps plans new c 0 c_lt tile (none 1 1 c (omega arith) (omega arith) c_lt here) in
-      let at : get_or (set single c0 (get_or single c0 0 + w)) c 0 ≡ get_or single c0 0 + w = ap (λ k. get_or (set single c0 (get_or single c0 0 + w)) k 0) is ∙ get_or-set_same single c0 (get_or single c0 0 + w) 0 (omega arith) in
-      let old : get_or single c 0 ≡ get_or single c0 0 = ap (λ k. get_or single k 0) is in
+pub single_step : (tile single : List ℕ) (kept : Weighed) (c0 c whole : ℕ) → length single ≡ 16 → c0 < 16 → c < 16 → IsWeighed tile kept → kept.single ≡ Some c0
+    → whole + kept.weight + slice_index single c ≡ whole + slice_index (set single c0 (get_or single c0 0 + kept.weight)) c + steps (replicate 72 c) tile
+single_step tile single kept c0 c whole size c0_lt c_lt h is = elim (cases_eq c c0) [
+  | inl same ↦
+      let steps_are = h.from_own c c_lt (is ∙ ap Some (sym same)) in
+      let at : get_or (set single c0 (get_or single c0 0 + kept.weight)) c 0 ≡ get_or single c0 0 + kept.weight = ap (λ k. get_or (set single c0 (get_or single c0 0 + kept.weight)) k 0) same ∙ get_or-set_same single c0 (get_or single c0 0 + kept.weight) 0 (omega arith) in
+      let old : get_or single c 0 ≡ get_or single c0 0 = ap (λ k. get_or single k 0) same in
       omega (arith, steps_are, at, old)
   | inr apart ↦
-      let other : new ≢ replicate 72 c = λ h. apart (sym (first_of c new 0 (omega arith) h) ∙ first_of c0 new 0 (omega arith) same) in
-      let steps_are = colour_steps plans new c w c_lt tile (least 1 1 c (omega arith) (omega arith) c_lt other) in
-      let at : get_or (set single c0 (get_or single c0 0 + w)) c 0 ≡ get_or single c 0 = get_or-set_other single c0 c (get_or single c0 0 + w) 0 apart in
+      let steps_are = h.from_other c c_lt (λ own. apart (let both : Some c0 ≡ Some c = sym is ∙ own in let at : c0 ≡ c = cc in sym at)) in
+      let at : get_or (set single c0 (get_or single c0 0 + kept.weight)) c 0 ≡ get_or single c 0 = get_or-set_other single c0 c (get_or single c0 0 + kept.weight) 0 apart in
       omega (arith, steps_are, at)
 ]
 
 -- another tile
-pub mixed_step : PlansAreShortest → (new single : List ℕ) (c w whole : ℕ) → c < 16 → IsTilePixels new → ((d : ℕ) → new ≢ replicate 72 d)
-    → ((row column d : ℕ) → row < 32 → column < 64 → d < 16 → new ≢ replicate 72 d → IsLeast row column (replicate 72 d) new w)
-    → whole + w + slice_index single c ≡ whole + slice_index single c + steps (replicate 72 c) new
-mixed_step plans new single c w whole c_lt tile mixed least =
-    let steps_are = colour_steps plans new c w c_lt tile (least 1 1 c (omega arith) (omega arith) c_lt (mixed c)) in
+pub mixed_step : (tile single : List ℕ) (kept : Weighed) (c whole : ℕ) → c < 16 → IsWeighed tile kept → kept.single ≡ None
+    → whole + kept.weight + slice_index single c ≡ whole + slice_index single c + steps (replicate 72 c) tile
+mixed_step tile single kept c whole c_lt h is =
+    let steps_are = h.from_other c c_lt (λ own. let both : None ≡ Some c = sym is ∙ own in absurd (cc)) in
     omega (arith, steps_are)
 
 -- so many tiles have been counted
@@ -100,24 +119,31 @@ none_counted single script k zeros = record {
   few_single = λ c. omega (arith, zeros c);
 }
 
-pub one_counted : (script : List Drawing) (k i stands whole stands' whole' : ℕ) (single single' old new : List ℕ) → Counted stands whole single script k i
-    → (0 < k → old ≡ picture_tile script (k - 1) (i / 48 + 1) (i % 48 + 1)) → new ≡ picture_tile script k (i / 48 + 1) (i % 48 + 1)
-    → stands' ≡ stands + steps old new → ((c : ℕ) → c < 16 → whole' + slice_index single c ≡ whole + slice_index single' c + steps (replicate 72 c) new)
+pub one_counted : (script : List Drawing) (k i stands whole taken stands' whole' : ℕ) (single single' : List ℕ) → Counted stands whole single script k i
+    → (0 < k → taken ≡ steps (picture_tile script (k - 1) (i / 48 + 1) (i % 48 + 1)) (picture_tile script k (i / 48 + 1) (i % 48 + 1))) → stands' ≡ stands + taken
+    → ((c : ℕ) → c < 16 → whole' + slice_index single c ≡ whole + slice_index single' c + steps (replicate 72 c) (picture_tile script k (i / 48 + 1) (i % 48 + 1)))
     → stands' ≤ stands + 4 → whole' ≤ whole + 4 → ((c : ℕ) → slice_index single' c ≤ slice_index single c + 4) → Counted stands' whole' single' script k (i + 1)
-one_counted script k i stands whole stands' whole' single single' old new h old_is new_is s w s_few w_few o_few = record {
-  stands_are = λ pos.
-      let more = one_more_tile script k None i in
-      let was = h.stands_are pos in
-      let tile : steps old new ≡ steps (picture_tile script (k - 1) (i / 48 + 1) (i % 48 + 1)) (picture_tile script k (i / 48 + 1) (i % 48 + 1)) = ap (λ o. steps o new) (old_is pos) ∙ ap (steps (picture_tile script (k - 1) (i / 48 + 1) (i % 48 + 1))) new_is in
-      omega (arith, more, was, tile, s);
-  colours_are = λ c c_lt.
-      let more = one_more_tile script k (Some c) i in
-      let was = h.colours_are c c_lt in
-      let tile : steps (replicate 72 c) new ≡ steps (replicate 72 c) (picture_tile script k (i / 48 + 1) (i % 48 + 1)) = ap (steps (replicate 72 c)) new_is in
-      omega (arith, more, was, tile, w c c_lt);
+one_counted script k i stands whole taken stands' whole' single single' h t s w s_few w_few o_few = record {
+  stands_are = λ pos. omega (arith, one_more_tile script k None i, h.stands_are pos, t pos, s);
+  colours_are = λ c c_lt. omega (arith, one_more_tile script k (Some c) i, h.colours_are c c_lt, w c c_lt);
   few_stands = omega (arith, h.few_stands);
   few_whole = omega (arith, h.few_whole);
   few_single = λ c. omega (arith, h.few_single c, o_few c);
+}
+
+-- what is kept of the tiles, of which so many are those of the next picture
+pub record AreKept (script : List Drawing) (k i : ℕ) (weights : List Weighed) : Type 0 where
+  pub new : (m : ℕ) → m < i → IsWeighedAt script k m weights
+  pub old : (m : ℕ) → i ≤ m → m < 768 → 0 < k → IsWeighedAt script (k - 1) m weights
+
+pub none_kept : (script : List Drawing) (k : ℕ) (weights : List Weighed) → (0 < k → AreWeights script (k - 1) weights) → AreKept script k 0 weights
+none_kept script k weights h = record { new = λ m lt. absurd (omega arith); old = λ m le lt pos. h pos m lt }
+
+pub one_kept : (script : List Drawing) (k i : ℕ) (weights weights' : List Weighed) → AreKept script k i weights → IsWeighedAt script k i weights'
+    → ((m : ℕ) → m ≢ i → get_or weights' m not_weighed ≡ get_or weights m not_weighed) → AreKept script k (i + 1) weights'
+one_kept script k i weights weights' h here others = record {
+  new = below_more (λ m. IsWeighedAt script k m weights') i (λ m lt. let apart : m ≢ i = omega arith in subst (IsWeighed (picture_tile script k (m / 48 + 1) (m % 48 + 1))) (sym (others m apart)) (h.new m lt)) here;
+  old = λ m le lt pos. let apart : m ≢ i = omega arith in subst (IsWeighed (picture_tile script (k - 1) (m / 48 + 1) (m % 48 + 1))) (sym (others m apart)) (h.old m (omega arith) lt pos);
 }
 
 pub all_zeros : (n i : ℕ) → get_or {A = ℕ} (replicate n 0) i 0 ≡ 0

@@ -1,5 +1,5 @@
 -- Tiles that are the same before and after.
-use Rattle.std.proofs.Common.{◌≡◌, ℕ, zero, suc, ◌+◌, ◌-◌, ◌/◌, ◌%◌, ◌<◌, ◌≤◌, Bool, true, false, List, [], ◌∷◌, map, length, refl, ap, sym, subst, ◌∙◌, arith, bit_xor}
+use Rattle.std.proofs.Common.{◌≡◌, ℕ, zero, suc, ◌+◌, ◌-◌, ◌/◌, ◌%◌, ◌<◌, ◌≤◌, Bool, true, false, List, [], ◌∷◌, map, length, get_or, refl, ap, sym, subst, ◌∙◌, arith, bit_xor}
 use Rattle.std.specs.Prelude.{Option, Some, None, not, slice_index, nat_lt, if◌then◌else◌}
 use Rattle.std.specs.Option.{is_some}
 use Rattle.std.specs.Int.Bits.{xor_self}
@@ -13,6 +13,8 @@ use Rattle.picture_script.proofs.Parts.{tile_pixel, tile_size}
 use Rattle.picture_changes.specs.Change.{settings, IsStart, tiles_before}
 use Rattle.picture_changes.specs.PlannedChange.{planned_length, tile_steps, first_least, chosen_start}
 use Rattle.pack_schedule.specs.SameTiles.{SameRow, SameTiles}
+use Rattle.pack_schedule.specs.Weights.{IsWeighed, AreWeights, not_weighed}
+use Rattle.pack_schedule.specs.declared.weights.Weighed.{Weighed}
 use Rattle.pack_schedule.proofs.Counting.{steps_so_far, none_so_far, one_more_tile, all_tiles}
 use Rattle.pack_schedule.proofs.SettingLaws.{zero_all}
 
@@ -95,3 +97,12 @@ pub start_none : (start : Option ℕ) (none : Bool) → is_some start ≡ not no
 start_none None none told h = refl
 start_none (Some colour) true told h = absurd (cc)
 start_none (Some colour) false told h = absurd (cc)
+
+-- what is kept of a picture is that of the next one where their tiles are the same
+pub same_weights : (script : List Drawing) (k : ℕ) (before now : Board) (weights : List Weighed) → IsPicture script (k - 1) before → IsPicture script k now → SameTiles before.pixels now.pixels
+    → AreWeights script (k - 1) weights → AreWeights script k weights
+same_weights script k before now weights was is same h i lt =
+    let row : ℕ = i / 48 + 1 in
+    let column : ℕ = i % 48 + 1 in
+    let tile = same_picture_tile script k row column before now (omega arith) (omega arith) (omega arith) (omega arith) was is (same row (omega arith) (omega arith) column (omega arith) (omega arith)) in
+    subst (λ t. IsWeighed t (get_or weights i not_weighed)) tile (h i lt)

@@ -2,3 +2,4 @@ pub mod Survey
 pub mod Woven
 pub mod Weaving
 pub mod SameTiles
+pub mod Weights

@@ -1,12 +1,14 @@
 // The start from which a picture takes the fewest instructions.
 ghost use Rattle.std.specs.Prelude.{◌≡◌, ◌<◌, ◌≤◌, ◌+◌, ◌-◌, ℕ, length, slice_index, Some, None, nat_lt, if◌then◌else◌};
 ghost use Rattle.picture_script.specs.Board.{IsPicture};
+ghost use Rattle.pack_schedule.specs.Weights.{AreWeights};
 ghost use Rattle.picture_changes.specs.Change.{settings};
 ghost use Rattle.picture_changes.specs.PlannedChange.{tile_steps, planned_length, preferred, chosen_start};
 
 use crate::counts::{Counts, count_tiles};
 use crate::same_tiles::{is_same_picture, same_rows};
 use crate::settings::count_settings;
+use crate::weights::{TILES, Weighed};
 use picture_script::{Canvas, Script};
 
 /// The colour of which all memory is set first, if one is, and how many instructions the change then has.
@@ -89,9 +91,17 @@ fn choose(script: &Script, k: u32, beside: u32, counts: &Counts) -> Choice
 }
 
 /// The start of the change of picture `k`, which stands on `now`, while the picture before it stands on `before`.
-pub(crate) fn choose_start(script: &Script, k: u32, before: &Canvas, now: &Canvas) -> Choice
+pub(crate) fn choose_start(
+    script: &Script,
+    k: u32,
+    before: &Canvas,
+    now: &Canvas,
+    weights: &mut [Weighed; TILES],
+) -> Choice
     requires now { IsPicture script.now k now.now }
     requires before { 0 < k → IsPicture script.now (k - 1) before.now }
+    requires weights { 0 < k → AreWeights script.now (k - 1) weights.old }
+    ensures weights { AreWeights script.now k weights.new }
     ensures preset { result.preset ≡ chosen_start script.now k }
     ensures need { result.need ≡ planned_length script.now k result.preset }
     ensures few { result.need ≤ 3076 }
@@ -104,6 +114,6 @@ pub(crate) fn choose_start(script: &Script, k: u32, before: &Canvas, now: &Canva
             need: beside,
         };
     }
-    let counts = count_tiles(script, k, before, now, &same);
+    let counts = count_tiles(script, k, before, now, &same, weights);
     choose(script, k, beside, &counts)
 }

@@ -12,6 +12,7 @@ mod same_tiles;
 mod settings;
 mod timing;
 mod weaver;
+mod weights;
 mod writing;
 
 pub use laws::packs_are_a_schedule;

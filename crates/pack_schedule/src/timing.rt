@@ -6,10 +6,12 @@ ghost use Rattle.picture_changes.specs.Schedule.{start_of, free_packs};
 ghost use Rattle.picture_changes.specs.PlannedChange.{chosen_start, planned_change};
 ghost use Rattle.picture_changes.specs.Brings.{CannotBeReady, IsFewest};
 ghost use Rattle.pack_schedule.specs.Survey.{nothing_planned, IsSurvey, IsWithin, IsPastEnd, IsStop};
+ghost use Rattle.pack_schedule.specs.Weights.{AreWeights};
 
 use crate::choice::choose_start;
 use crate::planned::{Planned, Stop};
 use crate::plans::Survey;
+use crate::weights::{NOT_WEIGHED, TILES, Weighed};
 use picture_changes::{changes_have_planned_lengths, planned_changes_are_changes};
 use picture_script::{Canvas, Script};
 use shortest_changes::needs_are_fewest;
@@ -43,10 +45,11 @@ pub fn survey(alloc: Global, script: &Script, blocks: u32) -> Result<Survey, Sto
     }
     let mut before = Canvas::start(alloc)?;
     let mut now = Canvas::start(alloc)?;
+    let mut weights = [NOT_WEIGHED; TILES];
     let mut planned = Vec::new(alloc);
     for k in 0..pictures {
         now.draw_until(script, k);
-        let change = plan_picture(script, k, &before, &now);
+        let change = plan_picture(script, k, &before, &now, &mut weights);
         if !is_in_time(script, k, change.start, change.need) {
             return Err(Stop::Late {
                 picture: k,
@@ -95,10 +98,18 @@ fn start_of(script: &Script, k: u32) -> u32
 }
 
 // The change of picture `k`, which stands on `now`, while the picture before it stands on `before`.
-fn plan_picture(script: &Script, k: u32, before: &Canvas, now: &Canvas) -> Planned
+fn plan_picture(
+    script: &Script,
+    k: u32,
+    before: &Canvas,
+    now: &Canvas,
+    weights: &mut [Weighed; TILES],
+) -> Planned
     requires picture { k < pictures script.now }
     requires now { IsPicture script.now k now.now }
     requires before { 0 < k → IsPicture script.now (k - 1) before.now }
+    requires weights { 0 < k → AreWeights script.now (k - 1) weights.old }
+    ensures weights { AreWeights script.now k weights.new }
     ensures start { result.start ≡ start_of script.now k }
     ensures preset { result.preset ≡ chosen_start script.now k }
     ensures need { result.need ≡ length (planned_change script.now k) }
@@ -107,7 +118,7 @@ fn plan_picture(script: &Script, k: u32, before: &Canvas, now: &Canvas) -> Plann
     planned_changes_are_changes();
     changes_have_planned_lengths();
     let _ranges = script.pictures();
-    let choice = choose_start(script, k, before, now);
+    let choice = choose_start(script, k, before, now, weights);
     Planned {
         start: start_of(script, k),
         need: choice.need,

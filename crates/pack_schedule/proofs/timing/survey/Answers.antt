@@ -1,4 +1,5 @@
-use Rattle.std.proofs.Common.{sym, ◌∙◌, arith}
+use Rattle.std.proofs.Common.{◌≡◌, ◌+◌, ◌-◌, sym, subst, ◌∙◌, arith}
+use Rattle.pack_schedule.specs.Weights.{AreWeights}
 use Rattle.pack_schedule.specs.declared.planned.Stop.TheVariants.{Late}
 use Rattle.pack_schedule.proofs.Surveys.{PlannedAreChanges, NeedsAreFewest, all_fewest, in_time, is_late, is_within, late_told, not_in_time, one_planned, stands_next}
 use Rattle.pack_schedule.proofs.timing.survey.Goals as goal
@@ -17,6 +18,7 @@ loop-k-preserved c =
           }) c.in_ok-push.ensures.items,
       stands_next script k c.draw_until-in-loop-k.new.self c.draw_until-in-loop-k.ensures.at c.draw_until-in-loop-k.ensures.picture,
       stands_next script k c.draw_until.new.self c.draw_until.ensures.at c.draw_until.ensures.picture,
+      (λ pos. let here : k ≡ k + 1 - 1 = omega arith in subst (λ n. AreWeights script n c.plan_picture-change.new.weights) here change.weights),
     )
 
 pub returns-then-not-is_in_time-clause-err : goal.returns-then-not-is_in_time-clause-err

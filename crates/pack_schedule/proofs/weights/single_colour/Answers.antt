@@ -1,7 +1,7 @@
 use Rattle.std.proofs.Common.{◌<◌, ◌∙◌, sym, arith, get_or}
 use Rattle.std.proofs.lemmas.List.Elements.{All-get_or}
 use Rattle.pack_schedule.proofs.Counting.{all_same, not_same}
-use Rattle.pack_schedule.proofs.counts.single_colour.Goals as goal
+use Rattle.pack_schedule.proofs.weights.single_colour.Goals as goal
 
 pub returns-then-pixel-first-clause-colour : goal.returns-then-pixel-first-clause-colour
 returns-then-pixel-first-clause-colour c d h =
