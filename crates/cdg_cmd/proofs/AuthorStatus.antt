@@ -1,6 +1,5 @@
 -- The statuses of an answer to a sheet and a script.
-use Rattle.std.proofs.Common.{◌≡◌, ◌≢◌, ℕ, List, [], Result, Ok, Err, OnOk, IfErr, refl, ap, subst}
-use Rattle.std.specs.declared.option.Option.{Option}
+use Rattle.std.proofs.Common.{◌≡◌, ◌≢◌, ℕ, List, [], Result, Ok, Err, OnOk, IfErr, refl, sym, ap, subst}
 use Rattle.std.specs.Io.KnownBytes.{Appends}
 use Rattle.cue_sheet.specs.CueSheet.{CueSheet}
 use Rattle.picture_script.specs.Script.{Drawing}
@@ -9,9 +8,9 @@ use Rattle.subcode_author.specs.AuthorAnswer.{IsAccepted, IsAuthorStop}
 use Rattle.subcode_author.specs.declared.stops.AuthorStop.{AuthorStop}
 use Rattle.subcode_author.specs.declared.stops.AuthorStop.TheVariants as stop
 use Rattle.cdg_cmd.specs.Authors.{author_status, IsPutFor, PutsPrefix}
-use Rattle.cdg_cmd.specs.declared.status.Which.{Which}
-use Rattle.cdg_cmd.specs.declared.status.Status.TheVariants.{Done, Usage, ReadFault, WriteFault}
-use Rattle.cdg_cmd.proofs.TextStatus.{unchanged}
+use Rattle.cdg_cmd.specs.declared.status.Status.TheVariants.{Done, Usage, WriteFault}
+use Rattle.cdg_cmd.specs.Call.{Bytes, change}
+use Rattle.std.proofs.KnownBytes.{Appends-nil}
 
 -- it is never one of these
 pub never_usage : (answer : Result (Unit {0}) AuthorStop) → author_status answer ≢ Usage
@@ -25,28 +24,9 @@ never_usage (Err (stop.Late picture need free)) e = absurd (cc)
 never_usage (Err stop.WriteFault) e = absurd (cc)
 never_usage (Err stop.NoMemory) e = absurd (cc)
 
-pub never_read_fault : (answer : Result (Unit {0}) AuthorStop) (which : Which) → author_status answer ≢ ReadFault which
-never_read_fault (Ok done) which e = absurd (cc)
-never_read_fault (Err (stop.LengthShort need)) which e = absurd (cc)
-never_read_fault (Err (stop.DiscTooLong blocks)) which e = absurd (cc)
-never_read_fault (Err (stop.PastEnd blocks)) which e = absurd (cc)
-never_read_fault (Err (stop.TextTooLong packs)) which e = absurd (cc)
-never_read_fault (Err (stop.LeadInShort need)) which e = absurd (cc)
-never_read_fault (Err (stop.Late picture need free)) which e = absurd (cc)
-never_read_fault (Err stop.WriteFault) which e = absurd (cc)
-never_read_fault (Err stop.NoMemory) which e = absurd (cc)
-
--- the answer where the status says of a failed write
-pub write_fault_is : (answer : Result (Unit {0}) AuthorStop) → author_status answer ≡ WriteFault → answer ≡ Err stop.WriteFault
-write_fault_is (Ok done) e = absurd (cc)
-write_fault_is (Err (stop.LengthShort need)) e = absurd (cc)
-write_fault_is (Err (stop.DiscTooLong blocks)) e = absurd (cc)
-write_fault_is (Err (stop.PastEnd blocks)) e = absurd (cc)
-write_fault_is (Err (stop.TextTooLong packs)) e = absurd (cc)
-write_fault_is (Err (stop.LeadInShort need)) e = absurd (cc)
-write_fault_is (Err (stop.Late picture need free)) e = absurd (cc)
-write_fault_is (Err stop.WriteFault) e = refl
-write_fault_is (Err stop.NoMemory) e = absurd (cc)
+-- the same object holds the same
+pub unchanged : {K : Type 0} (held : K → Bytes) (x y : K) → y ≡ x → Appends (held x) (held y) []
+unchanged {K} held x y same = subst (λ (z : K). Appends (held x) (held z) []) (sym same) (Appends-nil (held x))
 
 -- at any other status than those of a whole stream and of a failed write nothing is touched
 pub untouched_at : {K : Type 0} (x y : K) (answer : Result (Unit {0}) AuthorStop) → IfErr answer (λ why. why ≢ stop.WriteFault → y ≡ x)
@@ -62,16 +42,16 @@ accepted_at : (sheet : CueSheet) (script : List Drawing) (lead_in audio : ℕ) (
     → answer ≡ Err stop.WriteFault → IsAccepted sheet script lead_in audio
 accepted_at sheet script lead_in audio answer why fault = subst (λ (r : Result (Unit {0}) AuthorStop). IfErr r (IsAuthorStop sheet script lead_in audio)) fault why
 
-nothing_at : {K : Type 0} (held : K → Option (List ℕ)) (x y : K) (answer : Result (Unit {0}) AuthorStop) → IfErr answer (λ why. why ≢ stop.WriteFault → y ≡ x)
+nothing_at : {K : Type 0} (held : K → Bytes) (x y : K) (answer : Result (Unit {0}) AuthorStop) → IfErr answer (λ why. why ≢ stop.WriteFault → y ≡ x)
     → IfErr answer (λ why. why ≢ stop.WriteFault → Appends (held x) (held y) [])
 nothing_at held x y (Ok done) same = tt
 nothing_at held x y (Err why) same = λ other. unchanged held x y (same other)
 
-pub put_for : {K : Type 0} (held : K → Option (List ℕ)) (x y : K) (sheet : CueSheet) (script : List Drawing) (lead_in audio : ℕ) (answer : Result (Unit {0}) AuthorStop)
+pub put_for : {K : Type 0} (held : K → Bytes) (x y : K) (sheet : CueSheet) (script : List Drawing) (lead_in audio : ℕ) (answer : Result (Unit {0}) AuthorStop)
     → OnOk answer ((bytes : List ℕ) × (packs : List (List ℕ)) × IsAuthored sheet script lead_in audio bytes packs × Appends (held x) (held y) bytes)
     → OnOk answer (IsAccepted sheet script lead_in audio) → IfErr answer (IsAuthorStop sheet script lead_in audio)
-    → IfErr answer (λ why. why ≢ stop.WriteFault → y ≡ x) → (answer ≡ Err stop.WriteFault → IsAccepted sheet script lead_in audio → PutsPrefix sheet script lead_in audio (held x) (held y))
-    → IsPutFor sheet script lead_in audio (held x) (held y) answer
+    → IfErr answer (λ why. why ≢ stop.WriteFault → y ≡ x) → (answer ≡ Err stop.WriteFault → IsAccepted sheet script lead_in audio → PutsPrefix sheet script lead_in audio (change held x y))
+    → IsPutFor sheet script lead_in audio (change held x y) answer
 put_for held x y sheet script lead_in audio answer authored accepted why same part = record {
   done = both_ok answer _ _ accepted authored;
   why = why;

@@ -1,6 +1,5 @@
 -- A picture that is told late cannot be ready.
 use Rattle.std.proofs.Common.{◌≡◌, ℕ, List, Result, Ok, Err, Some, None, IfSome, sym, subst}
-use Rattle.std.specs.declared.option.Option.{Option}
 use Rattle.picture_script.specs.Script.{Drawing}
 use Rattle.picture_script.specs.ScriptGrammar.{read_script}
 use Rattle.picture_changes.specs.Schedule.{IsLate}
@@ -8,6 +7,8 @@ use Rattle.picture_changes.specs.Brings.{CannotBeReady}
 use Rattle.cue_sheet.specs.CueSheet.{CueSheet}
 use Rattle.subcode_author.specs.declared.stops.AuthorStop.{AuthorStop}
 use Rattle.subcode_author.specs.declared.stops.AuthorStop.TheVariants as stop
+use Rattle.cdg_cmd.specs.Call.{Bytes, Change}
+use Rattle.cdg_cmd.proofs.WholeInputs.{both}
 use Rattle.cdg_cmd.specs.Authors.{author_status, AuthorsWith, IsPutFor, IsScriptStop, IsScriptText, IsSheetStop, StopsAtSheet, StopsAtScript, Answers}
 use Rattle.cdg_cmd.specs.declared.status.Status.{Status}
 use Rattle.cdg_cmd.specs.declared.status.Status.TheVariants.{Done, Damaged, Usage, Refused, Late, ReadFault, WriteFault, NoMemory}
@@ -23,15 +24,15 @@ same_late script k n f picture need free same late =
     subst (λ (m : ℕ). IsLate script picture need m) third (subst (λ (m : ℕ). IsLate script picture m f) second (subst (λ (m : ℕ). IsLate script m n f) first late))
 
 -- no input that stops the author is told as a late picture
-no_sheet_late : (left : Option (List ℕ)) (k n f : ℕ) → IsSheetStop left (Late k n f) → ⊥
+no_sheet_late : (left : Bytes) (k n f : ℕ) → IsSheetStop left (Late k n f) → ⊥
 no_sheet_late left k n f why = why
 
-no_script_late : (more : Option (List ℕ)) (k n f : ℕ) → IsScriptStop more (Late k n f) → ⊥
+no_script_late : (more : Bytes) (k n f : ℕ) → IsScriptStop more (Late k n f) → ⊥
 no_script_late more k n f why = why
 
-module _ (lead_in audio : ℕ) (held held' : Option (List ℕ)) where
+module _ (lead_in audio : ℕ) (out : Change Bytes) where
   -- the answer tells the first late picture of the script
-  late_of : (sheet : CueSheet) (script : List Drawing) (picture need free : ℕ) (answer : Result (Unit {0}) AuthorStop) → IsPutFor sheet script lead_in audio held held' answer
+  late_of : (sheet : CueSheet) (script : List Drawing) (picture need free : ℕ) (answer : Result (Unit {0}) AuthorStop) → IsPutFor sheet script lead_in audio out answer
       → author_status answer ≡ Late picture need free → IsLate script picture need free
   late_of sheet script picture need free (Err (stop.Late k n f)) put told = same_late script k n f picture need free told put.why.2
   late_of sheet script picture need free (Ok done) put told = absurd (cc)
@@ -47,12 +48,12 @@ module _ (lead_in audio : ℕ) (held held' : Option (List ℕ)) where
     same_text : (text : List ℕ) (lines : List Drawing) (k n f : ℕ) → IsScriptText text lines → IsScriptText text script → IsLate lines k n f → IsLate script k n f
     same_text text lines k n f one other late = subst (λ (l : List Drawing). IsLate l k n f) (same_script text lines script one.reads other.reads) late
 
-    of_late : (text : List ℕ) (left left' more' : Option (List ℕ)) (k n f : ℕ) → AuthorsWith lead_in audio left left' (Some text) more' held held' (Late k n f) → IsScriptText text script → IsLate script k n f
+    of_late : (text : List ℕ) (left left' more' : Bytes) (k n f : ℕ) → AuthorsWith lead_in audio (both left left' (Some text) more' out) (Late k n f) → IsScriptText text script → IsLate script k n f
     of_late text left left' more' k n f (StopsAtSheet why nothing) is = absurd (no_sheet_late left k n f why)
     of_late text left left' more' k n f (StopsAtScript sheet reads why nothing) is = absurd (no_script_late (Some text) k n f why)
     of_late text left left' more' k n f (Answers sheet lines answer reads_sheet reads_script same put) is = same_text text lines k n f reads_script.1 is (late_of sheet lines k n f answer put (sym same))
 
-    of_status : (text : List ℕ) (left left' more' : Option (List ℕ)) (picture need free : ℕ) (status : Status) → status ≡ Late picture need free → AuthorsWith lead_in audio left left' (Some text) more' held held' status
+    of_status : (text : List ℕ) (left left' more' : Bytes) (picture need free : ℕ) (status : Status) → status ≡ Late picture need free → AuthorsWith lead_in audio (both left left' (Some text) more' out) status
         → IsScriptText text script → IsLate script picture need free
     of_status text left left' more' picture need free (Late k n f) told authors is = same_late script k n f picture need free told (of_late text left left' more' k n f authors is)
     of_status text left left' more' picture need free Done told authors is = absurd (cc)
@@ -64,7 +65,7 @@ module _ (lead_in audio : ℕ) (held held' : Option (List ℕ)) where
     of_status text left left' more' picture need free NoMemory told authors is = absurd (cc)
 
     pub late_cannot : (picture need free : ℕ) → ((text : List ℕ) → read_script text ≡ Ok script → IsLate script picture need free → CannotBeReady script picture need free)
-        → (left left' more more' : Option (List ℕ)) (status : Status) → status ≡ Late picture need free → AuthorsWith lead_in audio left left' more more' held held' status
+        → (left left' more more' : Bytes) (status : Status) → status ≡ Late picture need free → AuthorsWith lead_in audio (both left left' more more' out) status
         → IfSome more (λ text. IsScriptText text script → CannotBeReady script picture need free)
     late_cannot picture need free law left left' None more' status told authors = tt
     late_cannot picture need free law left left' (Some text) more' status told authors = λ is. law text is.reads (of_status text left left' more' picture need free status told authors is)

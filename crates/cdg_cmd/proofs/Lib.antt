@@ -1,18 +1,22 @@
 mod AuthorStatus
+mod AuthorTold
 mod Decimals
-mod EndTold
-mod FirstHalf
+pub mod FirstHalf
 mod LateTold
 mod LineWords
-mod Listings
-mod Refusals
-mod SecondHalf
+mod Listed
+pub mod Listings
+mod Played
+mod Pumped
+mod Quiet
+pub mod SecondHalf
 mod Statuses
-mod TextStatus
-mod TextStops
+pub mod TextStops
 mod TimedWords
+mod Told
 mod TurnRuns
 mod TwoWords
-mod WholeInputs
+pub mod WholeInputs
 mod WordTables
 mod WordsLemmas
+mod Written

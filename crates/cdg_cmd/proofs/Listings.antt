@@ -1,33 +1,37 @@
 -- What is listed of streams, from what a player answers to them.
-use Rattle.std.proofs.Common.{◌≡◌, ◌≢◌, ◌≤◌, ◌*◌, ℕ, List, [], ◌∷◌, length, Result, Ok, Err, Some, None, IfSome, sym, subst, arith}
-use Rattle.std.specs.declared.option.Option.{Option}
-use Rattle.std.specs.List.{concat}
+use Rattle.std.proofs.Common.{◌≡◌, ◌≢◌, ◌≤◌, ◌*◌, ℕ, Bool, true, List, [], ◌∷◌, length, Result, Ok, Err, Some, None, IfSome, sym, subst, inl, inr, arith}
 use Rattle.raw_subcode.specs.declared.form.Form.{Form}
 use Rattle.raw_subcode.specs.declared.form.Form.TheVariants.{Raw}
 use Rattle.authored_listings.specs.Answers.{PutsTexts}
 use Rattle.block_stages.specs.QList.{IsQListed}
-use Rattle.cdg_workload.specs.Scratches.{scratched}
 use Rattle.cdtext_packs.specs.declared.kinds.TextFault.{TextFault}
 use Rattle.cue_sheet.specs.CueSheet.{CueSheet}
 use Rattle.picture_script.specs.Script.{Drawing}
-use Rattle.stream_words.specs.Stream.{all_packs}
 use Rattle.toc_model.specs.Places.{program_blocks}
-use Rattle.subcode_author.specs.Authored.{IsAuthored}
+use Rattle.cdtext_packs.specs.SheetTexts.{sheet_texts}
+use Rattle.cdtext_packs.specs.Texts.{has_no_text}
+use Rattle.cdtext_lines.specs.Lines.{count_line}
+use Rattle.authored_listings.specs.Damage.{HasHurtSlots, count_hurt, count_whole}
+use Rattle.authored_listings.specs.SheetLines.{HasText, HasTextPacks, sheet_lines}
+use Rattle.subcode_author.specs.Authored.{IsAuthored, text_packs}
 use Rattle.subcode_player.specs.Calls.{most_units, IsAnsweredBy, PlaysInTurn}
-use Rattle.subcode_player.specs.Convert.{IsDamagedStream, Restores}
-use Rattle.subcode_player.specs.TextList.{IsListedBy, ListsTexts}
+use Rattle.subcode_player.specs.Convert.{Restores}
+use Rattle.subcode_player.specs.TextList.{IsListedBy, IsWholeInput, ListsTexts, packs_in}
 use Rattle.subcode_player.specs.declared.player.Played.{Played}
 use Rattle.subcode_player.specs.declared.player.PlayStop.{PlayStop}
 use Rattle.subcode_player.specs.declared.player.PlayStop.TheVariants as play
 use Rattle.subcode_player.specs.declared.text_listing.TextStop.{TextStop}
 use Rattle.subcode_player.specs.declared.text_listing.TextStop.TheVariants as texts
-use Rattle.cdg_cmd.specs.Answer.{GivesBack, ListsWith, TextsWith, text_status}
+use Rattle.cdg_cmd.specs.Answer.{Does, GivesBack, text_status}
+use Rattle.cdg_cmd.specs.Call.{Bytes, Change}
+use Rattle.cdg_cmd.specs.LeadInTexts.{AreLinesOf}
 use Rattle.cdg_cmd.specs.Spelling.{IsAllowed, Spells}
 use Rattle.cdg_cmd.specs.declared.command.Command.{Command}
+use Rattle.cdg_cmd.specs.declared.command.Command.TheVariants.{Q, Text}
 use Rattle.cdg_cmd.specs.declared.status.Status.{Status}
 use Rattle.cdg_cmd.specs.declared.status.Status.TheVariants.{NoMemory}
-use Rattle.cdg_cmd.proofs.Statuses.{given_back}
-use Rattle.cdg_cmd.proofs.WholeInputs.{unless_memory}
+use Rattle.cdg_cmd.proofs.SecondHalf.{given_back}
+use Rattle.cdg_cmd.proofs.WholeInputs.{both, unless_memory}
 
 pub spells_allowed : (command : Command) (words : List (List ℕ)) → Spells command words → IsAllowed command
 spells_allowed command [] s = absurd s
@@ -39,48 +43,50 @@ pub authored_size : (sheet : CueSheet) (script : List Drawing) (lead_in audio : 
 authored_size sheet script lead_in audio bytes packs short few authored = omega (arith, authored.framing.size, short, few)
 
 -- a player that put texts, as a status
-texts_back : (answer : Result Played TextStop) (held held' : Option (List ℕ)) (t : List ℕ) → PutsTexts answer held held' t → GivesBack t held held' (text_status answer)
-texts_back (Ok played) held held' t puts = puts
-texts_back (Err (texts.Play play.ReadFault)) held held' t puts = tt
-texts_back (Err (texts.Play play.WriteFault)) held held' t puts = tt
-texts_back (Err (texts.Play (play.Torn block))) held held' t puts = absurd puts
-texts_back (Err (texts.Play play.TooLong)) held held' t puts = absurd puts
-texts_back (Err (texts.Play (play.PastEnd blocks))) held held' t puts = absurd puts
-texts_back (Err (texts.Text why)) held held' t puts = subst (λ (w : TextFault). GivesBack t held held' (text_status (Err (texts.Text w)))) (sym puts) tt
+texts_back : (answer : Result Played TextStop) (out : Change Bytes) (t : List ℕ) → PutsTexts answer out.before out.after t → GivesBack t out (text_status answer)
+texts_back (Ok played) out t puts = puts
+texts_back (Err (texts.Play play.ReadFault)) out t puts = tt
+texts_back (Err (texts.Play play.WriteFault)) out t puts = tt
+texts_back (Err (texts.Play (play.Torn block))) out t puts = absurd puts
+texts_back (Err (texts.Play play.TooLong)) out t puts = absurd puts
+texts_back (Err (texts.Play (play.PastEnd blocks))) out t puts = absurd puts
+texts_back (Err (texts.Text why)) out t puts = subst (λ (w : TextFault). GivesBack t out (text_status (Err (texts.Text w)))) (sym puts) tt
 
-module _ (lead_in : ℕ) (left' held held' : Option (List ℕ)) (status : Status) (t : List ℕ) (A : List ℕ → Type 0) where
-  frames_of : (all : List ℕ) → ListsWith Raw lead_in (Some all) left' held held' status
-      → ((answer : Result Played PlayStop) (taken : List ℕ) → PlaysInTurn (IsQListed Raw) Raw lead_in (Some all) left' held held' answer taken
-      → IsAnsweredBy answer 96 (length all) → Restores answer held held' t) → GivesBack t held held' status
+module _ (lead_in : ℕ) (left' more more' : Bytes) (out : Change Bytes) (status : Status) (t : List ℕ) (A : List ℕ → Type 0) where
+  frames_of : (all : List ℕ) → Does (Q lead_in Raw) (both (Some all) left' more more' out) status
+      → ((answer : Result Played PlayStop) (taken : List ℕ) → PlaysInTurn (IsQListed Raw) Raw lead_in (Some all) left' out.before out.after answer taken
+      → IsAnsweredBy answer 96 (length all) → Restores answer out.before out.after t) → GivesBack t out status
   frames_of all l restores =
-      subst (λ (s : Status). GivesBack t held held' s) (sym l.status_is) (given_back l.answer held held' t (restores l.answer l.taken l.did l.exactly))
+      subst (λ (s : Status). GivesBack t out s) (sym l.status_is) (given_back l.answer out t (restores l.answer l.taken l.did l.exactly))
 
   -- the frames of streams of some kind
-  pub frames_given : (left : Option (List ℕ)) → (status ≢ NoMemory → ListsWith Raw lead_in left left' held held' status)
-      → ((all : List ℕ) → A all → (answer : Result Played PlayStop) (taken : List ℕ) → PlaysInTurn (IsQListed Raw) Raw lead_in (Some all) left' held held' answer taken
-      → IsAnsweredBy answer 96 (length all) → Restores answer held held' t) → IfSome left (λ all. A all → GivesBack t held held' status)
+  pub frames_given : (left : Bytes) → (status ≢ NoMemory → Does (Q lead_in Raw) (both left left' more more' out) status)
+      → ((all : List ℕ) → A all → (answer : Result Played PlayStop) (taken : List ℕ) → PlaysInTurn (IsQListed Raw) Raw lead_in (Some all) left' out.before out.after answer taken
+      → IsAnsweredBy answer 96 (length all) → Restores answer out.before out.after t) → IfSome left (λ all. A all → GivesBack t out status)
   frames_given None lists restores = tt
-  frames_given (Some all) lists restores = λ is. unless_memory t held held' status (λ found. frames_of all (lists found) (restores all is))
+  frames_given (Some all) lists restores = λ is. unless_memory _ status (λ found. frames_of all (lists found) (restores all is))
 
-  texts_of : (form : Form) (all : List ℕ) → TextsWith form lead_in (Some all) left' held held' status
-      → ((answer : Result Played TextStop) (taken : List ℕ) → ListsTexts form lead_in (Some all) left' held held' answer taken → IsListedBy answer form lead_in all
-      → PutsTexts answer held held' t) → GivesBack t held held' status
+  texts_of : (form : Form) (all : List ℕ) → Does (Text lead_in form) (both (Some all) left' more more' out) status
+      → ((answer : Result Played TextStop) (taken : List ℕ) → ListsTexts form lead_in (Some all) left' out.before out.after answer taken → IsListedBy answer form lead_in all
+      → PutsTexts answer out.before out.after t) → GivesBack t out status
   texts_of form all l puts =
-      subst (λ (s : Status). GivesBack t held held' s) (sym l.status_is) (texts_back l.answer held held' t (puts l.answer l.taken l.did l.exactly))
+      subst (λ (s : Status). GivesBack t out s) (sym l.status_is) (texts_back l.answer out t (puts l.answer l.taken l.did l.exactly))
 
   -- the texts of streams of some kind
-  pub strings_given : (form : Form) (left : Option (List ℕ)) → (status ≢ NoMemory → TextsWith form lead_in left left' held held' status)
-      → ((all : List ℕ) → A all → (answer : Result Played TextStop) (taken : List ℕ) → ListsTexts form lead_in (Some all) left' held held' answer taken → IsListedBy answer form lead_in all
-      → PutsTexts answer held held' t) → IfSome left (λ all. A all → GivesBack t held held' status)
+  pub strings_given : (form : Form) (left : Bytes) → (status ≢ NoMemory → Does (Text lead_in form) (both left left' more more' out) status)
+      → ((all : List ℕ) → A all → (answer : Result Played TextStop) (taken : List ℕ) → ListsTexts form lead_in (Some all) left' out.before out.after answer taken → IsListedBy answer form lead_in all
+      → PutsTexts answer out.before out.after t) → IfSome left (λ all. A all → GivesBack t out status)
   strings_given form None lists puts = tt
-  strings_given form (Some all) lists puts = λ is. unless_memory t held held' status (λ found. texts_of form all (lists found) (puts all is))
+  strings_given form (Some all) lists puts = λ is. unless_memory _ status (λ found. texts_of form all (lists found) (puts all is))
 
--- packs come back from scratches
-pub scratched_back : (lead_in blocks seed : ℕ) (bytes : List ℕ) (packs : List (List ℕ)) (left held held' : Option (List ℕ)) (status : Status)
-    → IsDamagedStream Raw lead_in blocks packs (scratched lead_in seed bytes) → concat (all_packs Raw blocks packs) ≡ concat packs
-    → IfSome left (λ all. (blocks : ℕ) (packs : List (List ℕ)) → IsDamagedStream Raw lead_in blocks packs all → GivesBack (concat (all_packs Raw blocks packs)) held held' status)
-    → IfSome left (λ all. all ≡ scratched lead_in seed bytes → GivesBack (concat packs) held held' status)
-scratched_back lead_in blocks seed bytes packs None held held' status damaged same restores = tt
-scratched_back lead_in blocks seed bytes packs (Some all) held held' status damaged same restores = λ is.
-    subst (λ (t : List ℕ). GivesBack t held held' status) same
-    (restores blocks packs (subst (λ (b : List ℕ). IsDamagedStream Raw lead_in blocks packs b) (sym is) damaged))
+-- the lines of a sheet, whose strings are found or which has none
+pub lines_given : (sheet : CueSheet) (form : Form) (lead_in : ℕ) (stream all lines : List ℕ) (answer : Result Played TextStop) (out : Change Bytes)
+    → ((whole : List Bool) → HasTextPacks sheet → HasText sheet → HasHurtSlots (text_packs sheet) whole (packs_in Raw lead_in stream) (packs_in form lead_in all) → IsWholeInput form all
+    → PutsTexts answer out.before out.after (sheet_lines sheet (count_whole whole) (count_hurt whole)))
+    → (has_no_text (sheet_texts sheet) ≡ true → packs_in form lead_in all ≡ packs_in Raw lead_in stream → IsWholeInput form all
+    → PutsTexts answer out.before out.after (count_line 0 (4 * lead_in) 0))
+    → AreLinesOf sheet form lead_in stream all lines → PutsTexts answer out.before out.after lines
+lines_given sheet form lead_in stream all lines answer out strings none (inl has) =
+    subst (λ (t : List ℕ). PutsTexts answer out.before out.after t) (sym has.lines_are) (strings has.whole has.packs has.some has.slots has.input)
+lines_given sheet form lead_in stream all lines answer out strings none (inr has) =
+    subst (λ (t : List ℕ). PutsTexts answer out.before out.after t) (sym has.lines_are) (none has.none has.copy.slots has.copy.input)

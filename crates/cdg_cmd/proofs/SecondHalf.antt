@@ -1,7 +1,6 @@
--- What damage of at most two symbols a word leaves of an authored stream.
-use Rattle.std.proofs.Common.{◌≡◌, ◌≤◌, ℕ, ◌-◌, ◌*◌, List, ◌++◌, length, replicate, Result, Ok, Err, Some, None, IfSome, ◌==◌, if◌then◌else◌, sym, ap, subst, ◌∙◌, arith}
+-- What damage of at most two symbols a word leaves of a stream.
+use Rattle.std.proofs.Common.{◌≡◌, ◌≢◌, ◌≤◌, ℕ, ◌-◌, ◌*◌, List, ◌++◌, length, map, replicate, Result, Ok, Err, Some, None, IfSome, ◌==◌, if◌then◌else◌, sym, ap, subst, ◌∙◌, arith}
 use Rattle.std.proofs.lemmas.List.{append-nil}
-use Rattle.std.specs.declared.option.Option.{Option}
 use Rattle.std.specs.List.{concat}
 use Rattle.raw_subcode.specs.Channels.{program_symbols}
 use Rattle.raw_subcode.specs.declared.form.Form.{Form}
@@ -10,37 +9,87 @@ use Rattle.rw_interleave.specs.Interleave.{whole_packs}
 use Rattle.cue_sheet.specs.CueSheet.{CueSheet}
 use Rattle.picture_script.specs.Script.{Drawing}
 use Rattle.picture_changes.specs.Shown.{AreColoursInRange, AreTimesInOrder}
-use Rattle.stream_words.specs.Stream.{all_packs}
+use Rattle.stream_words.specs.Stream.{all_packs, bad_count}
+use Rattle.stream_words.specs.Texts.{cdg_bytes}
 use Rattle.toc_model.specs.Places.{program_blocks}
-use Rattle.subcode_player.specs.Convert.{IsDamagedStream}
+use Rattle.subcode_author.specs.Authored.{IsAuthored}
+use Rattle.subcode_player.specs.Convert.{IsConverted, IsDamagedStream, Restores}
 use Rattle.subcode_player.specs.Pictured.{GivesPicture, IsHeldAt, IsScheduledStream}
 use Rattle.subcode_player.specs.declared.player.Played.{Played}
 use Rattle.subcode_player.specs.declared.player.PlayStop.{PlayStop}
 use Rattle.subcode_player.specs.declared.player.PlayStop.TheVariants as play
-use Rattle.cdg_cmd.specs.Answer.{GivesBack, play_status}
-use Rattle.cdg_cmd.specs.Headline.{IsDamagedAuthored, PutsPicture, written_packs}
+use Rattle.subcode_player.proofs.Pictured.{PictureNoneBad, TextIsPicture, gives_picture}
+use Rattle.subcode_player.proofs.Restoring.{Recovers, found_packs, restores}
+use Rattle.cdg_cmd.specs.Answer.{Does, GivesBack, play_status}
+use Rattle.cdg_cmd.specs.Call.{Bytes, Change}
+use Rattle.cdg_cmd.specs.Headline.{IsDamagedCopy, PutsPicture, written_packs}
+use Rattle.cdg_cmd.specs.declared.command.Command.TheVariants.{Convert, Screen}
 use Rattle.cdg_cmd.specs.declared.status.Status.{Status}
-use Rattle.cdg_cmd.specs.declared.status.Status.TheVariants.{Done, Damaged}
+use Rattle.cdg_cmd.specs.declared.status.Status.TheVariants.{Done, Damaged, NoMemory}
+use Rattle.cdg_cmd.proofs.WholeInputs.{both, unless_memory}
+
+abbrev pub GivesPacks : Type 0
+GivesPacks = (form : Form) (lead_in blocks : ℕ) (packs : List (List ℕ)) (bytes text : List ℕ) (bad : ℕ) → IsDamagedStream form lead_in blocks packs bytes
+    → IsConverted form lead_in bytes text bad → text ≡ concat (all_packs form blocks packs)
+
+abbrev pub GivesNoneBad : Type 0
+GivesNoneBad = (form : Form) (lead_in blocks : ℕ) (packs : List (List ℕ)) (bytes text : List ℕ) (bad : ℕ) → IsDamagedStream form lead_in blocks packs bytes
+    → IsConverted form lead_in bytes text bad → bad ≡ 0
+
+-- the packs of a damaged stream are its text, and none is bad
+module _ (law : Recovers) (written : (packs : List (List ℕ)) → cdg_bytes (map (λ pack. Some pack) packs) ≡ concat packs) (none : (packs : List (List ℕ)) → bad_count (map (λ pack. Some pack) packs) ≡ 0) where
+  pub gives_packs : GivesPacks
+  gives_packs form lead_in blocks packs bytes text bad stream converted =
+      converted.text_is ∙ ap cdg_bytes (found_packs form lead_in blocks packs bytes text bad law stream converted) ∙ written (all_packs form blocks packs)
+
+  pub gives_none_bad : GivesNoneBad
+  gives_none_bad form lead_in blocks packs bytes text bad stream converted =
+      converted.bad_is ∙ ap bad_count (found_packs form lead_in blocks packs bytes text bad law stream converted) ∙ none (all_packs form blocks packs)
+
+-- a player that gave all back, as a status
+pub given_back : (answer : Result Played PlayStop) (out : Change Bytes) (text : List ℕ) → Restores answer out.before out.after text → GivesBack text out (play_status answer)
+given_back (Ok played) out text r = subst (λ (n : ℕ). GivesBack text out (if n == 0 then Done else Damaged n)) (sym r.0) r.1
+given_back (Err play.ReadFault) out text r = tt
+given_back (Err play.WriteFault) out text r = tt
+given_back (Err (play.Torn block)) out text r = absurd r
+given_back (Err play.TooLong) out text r = absurd r
+given_back (Err (play.PastEnd blocks)) out text r = absurd r
 
 -- a player that gave a picture, as a status
-pub picture_put : (script : List Drawing) (k : ℕ) (answer : Result Played PlayStop) (held held' : Option (List ℕ)) → GivesPicture script k answer held held'
-    → PutsPicture script k held held' (play_status answer)
-picture_put script k (Ok played) held held' gives =
-    subst (λ (n : ℕ). PutsPicture script k held held' (if n == 0 then Done else Damaged n)) (sym gives.0) gives.1
-picture_put script k (Err play.ReadFault) held held' gives = tt
-picture_put script k (Err play.WriteFault) held held' gives = tt
-picture_put script k (Err (play.Torn block)) held held' gives = absurd gives
-picture_put script k (Err play.TooLong) held held' gives = absurd gives
-picture_put script k (Err (play.PastEnd blocks)) held held' gives = absurd gives
+picture_put : (script : List Drawing) (k : ℕ) (answer : Result Played PlayStop) (out : Change Bytes) → GivesPicture script k answer out.before out.after → PutsPicture script k out (play_status answer)
+picture_put script k (Ok played) out gives = subst (λ (n : ℕ). PutsPicture script k out (if n == 0 then Done else Damaged n)) (sym gives.0) gives.1
+picture_put script k (Err play.ReadFault) out gives = tt
+picture_put script k (Err play.WriteFault) out gives = tt
+picture_put script k (Err (play.Torn block)) out gives = absurd gives
+picture_put script k (Err play.TooLong) out gives = absurd gives
+picture_put script k (Err (play.PastEnd blocks)) out gives = absurd gives
 
--- the same of every scheduled stream
-pub pictures_put : (left : Option (List ℕ)) (form : Form) (lead_in at : ℕ) (answer : Result Played PlayStop) (status : Status) (held held' : Option (List ℕ))
-    → status ≡ play_status answer
-    → IfSome left (λ all. (script : List Drawing) (k : ℕ) → IsScheduledStream form lead_in script all → IsHeldAt script k at → GivesPicture script k answer held held')
-    → IfSome left (λ all. (script : List Drawing) (k : ℕ) → IsScheduledStream form lead_in script all → IsHeldAt script k at → PutsPicture script k held held' status)
-pictures_put None form lead_in at answer status held held' is gives = tt
-pictures_put (Some all) form lead_in at answer status held held' is gives = λ script k stream held_at.
-    subst (λ (s : Status). PutsPicture script k held held' s) (sym is) (picture_put script k answer held held' (gives script k stream held_at))
+module _ (form : Form) (lead_in : ℕ) (left' more more' : Bytes) (out : Change Bytes) (status : Status) where
+  -- a conversion of a damaged stream
+  converted : GivesPacks → GivesNoneBad → (all : List ℕ) (blocks : ℕ) (packs : List (List ℕ)) → Does (Convert lead_in form) (both (Some all) left' more more' out) status
+      → IsDamagedStream form lead_in blocks packs all → GivesBack (concat (all_packs form blocks packs)) out status
+  converted gives none all blocks packs d damaged =
+      subst (λ (s : Status). GivesBack (concat (all_packs form blocks packs)) out s) (sym d.status_is)
+      (given_back d.answer out (concat (all_packs form blocks packs)) (restores form lead_in (Some all) left' out.before out.after d.answer d.taken gives none d.did d.exactly blocks packs damaged))
+
+  pub converted_back : GivesPacks → GivesNoneBad → (left : Bytes) → (status ≢ NoMemory → Does (Convert lead_in form) (both left left' more more' out) status)
+      → IfSome left (λ all. (blocks : ℕ) (packs : List (List ℕ)) → IsDamagedStream form lead_in blocks packs all → GivesBack (concat (all_packs form blocks packs)) out status)
+  converted_back gives none None does = tt
+  converted_back gives none (Some all) does = λ blocks packs damaged.
+      unless_memory _ status (λ found. converted gives none all blocks packs (does found) damaged)
+
+  -- the screen of a scheduled stream
+  shown : TextIsPicture → PictureNoneBad → (at : ℕ) (all : List ℕ) (script : List Drawing) (k : ℕ) → Does (Screen lead_in form at) (both (Some all) left' more more' out) status
+      → IsScheduledStream form lead_in script all → IsHeldAt script k at → PutsPicture script k out status
+  shown picture none at all script k d scheduled held =
+      subst (λ (s : Status). PutsPicture script k out s) (sym d.status_is)
+      (picture_put script k d.answer out (gives_picture form lead_in at (Some all) left' out.before out.after d.answer d.taken picture none d.did d.exactly script k scheduled held))
+
+  pub shown_back : TextIsPicture → PictureNoneBad → (at : ℕ) (left : Bytes) → (status ≢ NoMemory → Does (Screen lead_in form at) (both left left' more more' out) status)
+      → IfSome left (λ all. (script : List Drawing) (k : ℕ) → IsScheduledStream form lead_in script all → IsHeldAt script k at → PutsPicture script k out status)
+  shown_back picture none at None does = tt
+  shown_back picture none at (Some all) does = λ script k scheduled held.
+      unless_memory _ status (λ found. shown picture none at all script k (does found) scheduled held)
 
 -- the packs of a stream as the words of its form
 packs_written : (form : Form) (blocks : ℕ) (packs : List (List ℕ)) → length packs ≡ whole_packs blocks → 2 ≤ blocks → all_packs form blocks packs ≡ written_packs form packs
@@ -54,36 +103,36 @@ packs_written Cooked blocks packs count some =
     let seven : 4 * blocks - length packs ≡ 7 = omega (arith, count, some) in
     ap (λ n. packs ++ replicate n (replicate 24 0)) seven
 
-module _ (sheet : CueSheet) (script : List Drawing) (lead_in audio : ℕ) (packs : List (List ℕ)) (form : Form) where
-  damaged_stream : (bytes : List ℕ) → IsDamagedAuthored sheet script lead_in audio packs form bytes → IsDamagedStream form lead_in (program_blocks sheet audio) packs bytes
+module _ (sheet : CueSheet) (script : List Drawing) (lead_in audio : ℕ) (stream : List ℕ) (packs : List (List ℕ)) (form : Form) (authored : IsAuthored sheet script lead_in audio stream packs) where
+  damaged_stream : (bytes : List ℕ) → IsDamagedCopy form lead_in stream bytes → IsDamagedStream form lead_in (program_blocks sheet audio) packs bytes
   damaged_stream bytes d = record {
     few = d.few;
     whole = d.whole;
-    symbols = program_symbols Raw d.authored lead_in;
-    carries = d.is_authored.carries;
+    symbols = program_symbols Raw stream lead_in;
+    carries = authored.carries;
     damaged = d.damaged;
   }
 
-  pub packs_back : (left held held' : Option (List ℕ)) (status : Status)
-      → IfSome left (λ all. (blocks : ℕ) (packs : List (List ℕ)) → IsDamagedStream form lead_in blocks packs all → GivesBack (concat (all_packs form blocks packs)) held held' status)
-      → IfSome left (λ all. IsDamagedAuthored sheet script lead_in audio packs form all → GivesBack (concat (written_packs form packs)) held held' status)
-  packs_back None held held' status restores = tt
-  packs_back (Some all) held held' status restores = λ damaged.
+  pub packs_back : (left : Bytes) (out : Change Bytes) (status : Status)
+      → IfSome left (λ all. (blocks : ℕ) (packs : List (List ℕ)) → IsDamagedStream form lead_in blocks packs all → GivesBack (concat (all_packs form blocks packs)) out status)
+      → IfSome left (λ all. IsDamagedCopy form lead_in stream all → GivesBack (concat (written_packs form packs)) out status)
+  packs_back None out status restores = tt
+  packs_back (Some all) out status restores = λ damaged.
       let words : all_packs form (program_blocks sheet audio) packs ≡ written_packs form packs =
-      packs_written form (program_blocks sheet audio) packs damaged.is_authored.schedule.count (omega (arith)) in
-      subst (λ (ps : List (List ℕ)). GivesBack (concat ps) held held' status) words (restores (program_blocks sheet audio) packs (damaged_stream all damaged))
+      packs_written form (program_blocks sheet audio) packs authored.schedule.count (omega (arith)) in
+      subst (λ (ps : List (List ℕ)). GivesBack (concat ps) out status) words (restores (program_blocks sheet audio) packs (damaged_stream all damaged))
 
-  pub pictures_shown : (left held held' : Option (List ℕ)) (at k : ℕ) (status : Status) → AreTimesInOrder script → AreColoursInRange script
-      → IfSome left (λ all. (script : List Drawing) (k : ℕ) → IsScheduledStream form lead_in script all → IsHeldAt script k at → PutsPicture script k held held' status)
-      → IfSome left (λ all. IsDamagedAuthored sheet script lead_in audio packs form all → IsHeldAt script k at → PutsPicture script k held held' status)
-  pictures_shown None held held' at k status order ranges pictures = tt
-  pictures_shown (Some all) held held' at k status order ranges pictures = λ damaged held_at.
-      let stream : IsScheduledStream form lead_in script all = record {
+  pub pictures_shown : (left : Bytes) (out : Change Bytes) (at k : ℕ) (status : Status) → AreTimesInOrder script → AreColoursInRange script → IsHeldAt script k at
+      → IfSome left (λ all. (script : List Drawing) (k : ℕ) → IsScheduledStream form lead_in script all → IsHeldAt script k at → PutsPicture script k out status)
+      → IfSome left (λ all. IsDamagedCopy form lead_in stream all → PutsPicture script k out status)
+  pictures_shown None out at k status order ranges held pictures = tt
+  pictures_shown (Some all) out at k status order ranges held pictures = λ damaged.
+      let scheduled : IsScheduledStream form lead_in script all = record {
         blocks = program_blocks sheet audio;
         packs = packs;
         stream = damaged_stream all damaged;
-        schedule = damaged.is_authored.schedule;
+        schedule = authored.schedule;
         order = order;
         ranges = ranges;
       } in
-      pictures script k stream held_at
+      pictures script k scheduled held

@@ -4,9 +4,8 @@ use Rattle.std.proofs.lemmas.List.{take-append-drop}
 use Rattle.std.proofs.Math.Seq.{drop-append_seam, take-append_seam}
 use Rattle.disc_time.specs.Time.{time_text}
 use Rattle.raw_subcode.specs.declared.form.Form.{Form}
-use Rattle.raw_subcode.specs.declared.form.Form.TheVariants.{Raw}
-use Rattle.cdg_cmd.specs.Words.{form_name, IsStreamOptions, IsTimedOptions}
-use Rattle.cdg_cmd.specs.WordSteps.{SpellsForm, SpellsLengths, SpellsNumber, SpellsStream, SpellsTime, SpellsTimed, SpellsTwo, SpellsValues}
+use Rattle.cdg_cmd.specs.Words.{IsStreamOptions, IsTimedOptions}
+use Rattle.cdg_cmd.specs.WordSteps.{SpellsLengths, SpellsNumber, SpellsStream, SpellsTime, SpellsTimed, SpellsTwo}
 
 -- two and four words
 pair : (a b x y : List ℕ) → a ≡ x → b ≡ y → ◌≡◌ {A = List (List ℕ)} (a ∷ b ∷ []) (x ∷ y ∷ [])

@@ -1,13 +1,11 @@
 -- What a command answers and writes.
-use Rattle.std.specs.Prelude.{◌≡◌, IfSome, ℕ, ◌==◌, ◌⊎◌, ⊤, List, length, Result, Ok, Err, if◌then◌else◌}
-use Rattle.std.specs.declared.option.Option.{Option}
+use Rattle.std.specs.Prelude.{IfSome, ℕ, ◌==◌, ⊤, List, length, Result, Ok, Err, if◌then◌else◌}
 use Rattle.std.specs.Io.KnownBytes.{Appends}
-use Rattle.cdg_io.specs.Causes.{Rose}
 use Rattle.cdg_io.specs.Moves.{AppendsPrefix}
 use Rattle.raw_subcode.specs.Channels.{unit_size}
 use Rattle.raw_subcode.specs.declared.form.Form.{Form}
 use Rattle.subcode_player.specs.Calls.{IsAnsweredBy, PlaysAtEnd, PlaysInTurn}
-use Rattle.subcode_player.specs.Convert.{Converts}
+use Rattle.subcode_player.specs.Convert.{IsConverted}
 use Rattle.subcode_player.specs.Counts.{IsChecked}
 use Rattle.subcode_player.specs.Shown.{IsScreenAt, IsShownBy, IsStateAt, Shows}
 use Rattle.subcode_player.specs.TextList.{IsListedBy, ListsTexts}
@@ -19,9 +17,8 @@ use Rattle.subcode_player.specs.declared.player.PlayStop.{PlayStop}
 use Rattle.subcode_player.specs.declared.player.PlayStop.TheVariants as play
 use Rattle.block_stages.specs.QList.{IsQListed}
 use Rattle.block_stages.specs.PlanarStream.{IsBlockStream, IsPlanarStream}
-use Rattle.cue_sheet.specs.CueSheet.{CueSheet}
-use Rattle.cdg_cmd.specs.Authors.{AuthorsWith, ReadsSheet}
-use Rattle.cdg_cmd.specs.Line.{error_line}
+use Rattle.cdg_cmd.specs.Authors.{AuthorsWith}
+use Rattle.cdg_cmd.specs.Call.{Bytes, Call, Change}
 use Rattle.cdg_cmd.specs.Endings.{EndsWith}
 use Rattle.cdg_cmd.specs.Turns.{IsTurned, TurnsWith}
 use Rattle.cdg_workload.specs.Scratches.{IsScratched}
@@ -43,25 +40,23 @@ play_status (Err (play.Torn block)) = Refused (Torn block)
 play_status (Err play.TooLong) = Refused TooLong
 play_status (Err (play.PastEnd blocks)) = Refused (PastEnd blocks)
 
--- a conversion ended with this status
-abbrev pub ConvertsWith : Form → ℕ → Option (List ℕ) → Option (List ℕ) → Option (List ℕ) → Option (List ℕ) → Status → Type 0
-ConvertsWith form lead_in left left' held held' status =
-    EndsWith play_status (Converts form lead_in left left' held held') (λ answer. IfSome left (λ all. IsAnsweredBy answer (unit_size form) (length all))) status
+-- a stream of blocks was played, and the text of its blocks written as they were read
+abbrev pub PlaysAsRead : (List ℕ → List ℕ → ℕ → Type 0) → Form → ℕ → Call Bytes → Status → Type 0
+PlaysAsRead writes form lead_in call status =
+    EndsWith play_status (PlaysInTurn writes form lead_in call.first.before call.first.after call.out.before call.out.after)
+    (λ answer. IfSome call.first.before (λ all. IsAnsweredBy answer (unit_size form) (length all))) status
 
--- a call that shows a time ended with it
-abbrev pub ShowsWith : (List ℕ → List ℕ → ℕ → Type 0) → Form → ℕ → ℕ → Option (List ℕ) → Option (List ℕ) → Option (List ℕ) → Option (List ℕ) → Status → Type 0
-ShowsWith writes form lead_in time left left' held held' status =
-    EndsWith play_status (Shows writes form lead_in time left left' held held') (λ answer. IfSome left (λ all. IsShownBy answer lead_in time (unit_size form) (length all))) status
+-- the same, written when all is read
+abbrev pub PlaysWhole : (List ℕ → List ℕ → ℕ → Type 0) → Form → ℕ → Call Bytes → Status → Type 0
+PlaysWhole writes form lead_in call status =
+    EndsWith play_status (PlaysAtEnd writes form lead_in call.first.before call.first.after call.out.before call.out.after)
+    (λ answer. IfSome call.first.before (λ all. IsAnsweredBy answer (unit_size form) (length all))) status
 
--- a call that counts
-abbrev pub ChecksWith : Form → ℕ → Option (List ℕ) → Option (List ℕ) → Option (List ℕ) → Option (List ℕ) → Status → Type 0
-ChecksWith form lead_in left left' held held' status =
-    EndsWith play_status (PlaysAtEnd (IsChecked form lead_in) form lead_in left left' held held') (λ answer. IfSome left (λ all. IsAnsweredBy answer (unit_size form) (length all))) status
-
--- a call that lists the Q channel
-abbrev pub ListsWith : Form → ℕ → Option (List ℕ) → Option (List ℕ) → Option (List ℕ) → Option (List ℕ) → Status → Type 0
-ListsWith form lead_in left left' held held' status =
-    EndsWith play_status (PlaysInTurn (IsQListed form) form lead_in left left' held held') (λ answer. IfSome left (λ all. IsAnsweredBy answer (unit_size form) (length all))) status
+-- a moment of a stream was shown
+abbrev pub ShowsMoment : (List ℕ → List ℕ → ℕ → Type 0) → Form → ℕ → ℕ → Call Bytes → Status → Type 0
+ShowsMoment writes form lead_in time call status =
+    EndsWith play_status (Shows writes form lead_in time call.first.before call.first.after call.out.before call.out.after)
+    (λ answer. IfSome call.first.before (λ all. IsShownBy answer lead_in time (unit_size form) (length all))) status
 
 -- the status of what a player answers that lists texts
 abbrev pub text_status : Result Played TextStop → Status
@@ -72,86 +67,36 @@ text_status (Err (texts.Text fault.NoSize)) = Refused TextNoSize
 text_status (Err (texts.Text (fault.Malformed seq byte))) = Refused (TextMalformed seq byte)
 text_status (Err (texts.Text fault.NoMemory)) = NoMemory
 
--- a call that lists the texts of the lead-in
-abbrev pub TextsWith : Form → ℕ → Option (List ℕ) → Option (List ℕ) → Option (List ℕ) → Option (List ℕ) → Status → Type 0
-TextsWith form lead_in left left' held held' status =
-    EndsWith text_status (ListsTexts form lead_in left left' held held') (λ answer. IfSome left (λ all. IsListedBy answer form lead_in all)) status
+-- the texts of the lead-in of a stream were listed
+abbrev pub ListsLeadIn : Form → ℕ → Call Bytes → Status → Type 0
+ListsLeadIn form lead_in call status =
+    EndsWith text_status (ListsTexts form lead_in call.first.before call.first.after call.out.before call.out.after)
+    (λ answer. IfSome call.first.before (λ all. IsListedBy answer form lead_in all)) status
 
 -- a text was written, or a prefix of it where a write failed
-abbrev pub Generates : List ℕ → Option (List ℕ) → Option (List ℕ) → Status → Type 0
-Generates text held held' Done = Appends held held' text
-Generates text held held' WriteFault = AppendsPrefix held held' text
-Generates text held held' status = ⊥
+abbrev pub Generates : List ℕ → Change Bytes → Status → Type 0
+Generates text out Done = Appends out.before out.after text
+Generates text out WriteFault = AppendsPrefix out.before out.after text
+Generates text out status = ⊥
 
 -- the text of a trial was written, or a prefix of it where a write failed
-abbrev pub Tries : ℕ → ℕ → Option (List ℕ) → Option (List ℕ) → Status → Type 0
-Tries seed pictures held held' Done = (text : List ℕ) × IsTrial seed pictures text × Appends held held' text
-Tries seed pictures held held' WriteFault = (text : List ℕ) × IsTrial seed pictures text × AppendsPrefix held held' text
-Tries seed pictures held held' status = ⊥
+abbrev pub Tries : ℕ → ℕ → Change Bytes → Status → Type 0
+Tries seed pictures out status = (text : List ℕ) × IsTrial seed pictures text × Generates text out status
 
 -- what a command does with its two inputs and its output, where memory is found
-abbrev pub Does : Command → Option (List ℕ) → Option (List ℕ) → Option (List ℕ) → Option (List ℕ) → Option (List ℕ) → Option (List ℕ) → Status → Type 0
-Does (Convert lead_in form) left left' more more' held held' status = ConvertsWith form lead_in left left' held held' status
-Does (Screen lead_in form at) left left' more more' held held' status = ShowsWith (IsScreenAt form lead_in at) form lead_in at left left' held held' status
-Does (State lead_in form at) left left' more more' held held' status = ShowsWith (IsStateAt form lead_in at) form lead_in at left left' held held' status
-Does (Check lead_in form) left left' more more' held held' status = ChecksWith form lead_in left left' held held' status
-Does (Q lead_in form) left left' more more' held held' status = ListsWith form lead_in left left' held held' status
-Does (Text lead_in form) left left' more more' held held' status = TextsWith form lead_in left left' held held' status
-Does (Author lead_in length) left left' more more' held held' status = AuthorsWith lead_in length left left' more more' held held' status
-Does Planar left left' more more' held held' status = TurnsWith (IsTurned IsPlanarStream) left left' held held' status
-Does Raw left left' more more' held held' status = TurnsWith (IsTurned IsBlockStream) left left' held held' status
-Does (Scratch lead_in seed) left left' more more' held held' status = TurnsWith (IsScratched lead_in seed) left left' held held' status
-Does (Gen seed pictures) left left' more more' held held' status = Generates (generated_script seed pictures) held held' status
-Does (Trial seed pictures) left left' more more' held held' status = Tries seed pictures held held' status
-
--- it takes no memory
-abbrev pub TakesNone : Command → Type 0
-TakesNone (Convert lead_in form) = ⊥
-TakesNone (Screen lead_in form at) = ⊥
-TakesNone (State lead_in form at) = ⊥
-TakesNone (Check lead_in form) = ⊥
-TakesNone (Q lead_in form) = ⊥
-TakesNone (Text lead_in form) = ⊥
-TakesNone (Author lead_in length) = ⊥
-TakesNone Planar = ⊤
-TakesNone Raw = ⊤
-TakesNone (Scratch lead_in seed) = ⊤
-TakesNone (Gen seed pictures) = ⊤
-TakesNone (Trial seed pictures) = ⊥
-
--- it takes all memory before it reads
-abbrev pub TakesFirst : Command → Type 0
-TakesFirst (Text lead_in form) = ⊥
-TakesFirst (Author lead_in length) = ⊥
-TakesFirst command = ⊤
-
--- it reads no input
-abbrev pub ReadsNone : Command → Type 0
-ReadsNone (Gen seed pictures) = ⊤
-ReadsNone (Trial seed pictures) = ⊤
-ReadsNone command = ⊥
-
--- it writes nothing but where its work is whole or a write fails
-abbrev pub WritesLast : Command → Type 0
-WritesLast (Screen lead_in form at) = ⊤
-WritesLast (State lead_in form at) = ⊤
-WritesLast (Check lead_in form) = ⊤
-WritesLast (Text lead_in form) = ⊤
-WritesLast (Author lead_in length) = ⊤
-WritesLast (Trial seed pictures) = ⊤
-WritesLast command = ⊥
-
--- the work is whole, or a write failed
-abbrev pub MayWrite : Status → Type 0
-MayWrite Done = ⊤
-MayWrite (Damaged n) = ⊤
-MayWrite WriteFault = ⊤
-MayWrite status = ⊥
-
--- it reads its second input: only after the first was read to its end, and its grammar accepted it
-abbrev pub ReadsSecond : Command → Option (List ℕ) → Option (List ℕ) → Type 0
-ReadsSecond (Author lead_in length) left left' = (sheet : CueSheet) × ReadsSheet left left' sheet
-ReadsSecond command left left' = ⊥
+abbrev pub Does : Command → Call Bytes → Status → Type 0
+Does (Convert lead_in form) call status = PlaysAsRead (IsConverted form lead_in) form lead_in call status
+Does (Screen lead_in form at) call status = ShowsMoment (IsScreenAt form lead_in at) form lead_in at call status
+Does (State lead_in form at) call status = ShowsMoment (IsStateAt form lead_in at) form lead_in at call status
+Does (Check lead_in form) call status = PlaysWhole (IsChecked form lead_in) form lead_in call status
+Does (Q lead_in form) call status = PlaysAsRead (IsQListed form) form lead_in call status
+Does (Text lead_in form) call status = ListsLeadIn form lead_in call status
+Does (Author lead_in length) call status = AuthorsWith lead_in length call status
+Does Planar call status = TurnsWith (IsTurned IsPlanarStream) call status
+Does Raw call status = TurnsWith (IsTurned IsBlockStream) call status
+Does (Scratch lead_in seed) call status = TurnsWith (IsScratched lead_in seed) call status
+Does (Gen seed pictures) call status = Generates (generated_script seed pictures) call.out status
+Does (Trial seed pictures) call status = Tries seed pictures call.out status
 
 -- where the work is done and nothing is bad, this holds; else a read or a write failed or no memory was found
 abbrev pub OnDone : Type 0 → Status → Type 0
@@ -165,20 +110,5 @@ OnDone holds (Refused why) = ⊥
 OnDone holds (Late picture need free) = ⊥
 
 -- this text was put and nothing was bad, unless a read or a write failed or no memory was found
-abbrev pub GivesBack : List ℕ → Option (List ℕ) → Option (List ℕ) → Status → Type 0
-GivesBack text held held' status = OnDone (Appends held held' text) status
-
--- no fault is told, and the words were a form
-abbrev pub IsAnswered : Status → Type 0
-IsAnswered Done = ⊤
-IsAnswered (Damaged n) = ⊤
-IsAnswered (Refused why) = ⊤
-IsAnswered (Late picture need free) = ⊤
-IsAnswered NoMemory = ⊤
-IsAnswered Usage = ⊥
-IsAnswered (ReadFault which) = ⊥
-IsAnswered WriteFault = ⊥
-
--- the line of the status was written and no write failed, or one failed and a prefix of it was written
-abbrev pub Tells : Option (List ℕ) → Option (List ℕ) → ℕ → ℕ → Status → Type 0
-Tells held held' faults faults' status = ((faults' ≡ faults) × Appends held held' (error_line status)) ⊎ (Rose faults faults' × AppendsPrefix held held' (error_line status))
+abbrev pub GivesBack : List ℕ → Change Bytes → Status → Type 0
+GivesBack text out status = OnDone (Appends out.before out.after text) status

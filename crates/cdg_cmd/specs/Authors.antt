@@ -1,6 +1,5 @@
 -- What `author` answers to a cue sheet and a picture script, and what it writes.
 use Rattle.std.specs.Prelude.{◌≡◌, ◌≢◌, ℕ, ◌<◌, ◌≤◌, ⊤, List, [], length, Result, Ok, Err, IfErr, IfSome, OnOk}
-use Rattle.std.specs.declared.option.Option.{Option}
 use Rattle.std.specs.Io.KnownBytes.{Appends, IsAtEnd}
 use Rattle.cdg_io.specs.Moves.{AppendsPrefix}
 use Rattle.cue_sheet.specs.CueSheet.{CueSheet}
@@ -11,6 +10,7 @@ use Rattle.subcode_author.specs.Authored.{IsAuthored}
 use Rattle.subcode_author.specs.AuthorAnswer.{IsAccepted, IsAuthorStop}
 use Rattle.subcode_author.specs.declared.stops.AuthorStop.{AuthorStop}
 use Rattle.subcode_author.specs.declared.stops.AuthorStop.TheVariants as stop
+use Rattle.cdg_cmd.specs.Call.{Bytes, Call, Change}
 use Rattle.cdg_cmd.specs.declared.status.Which.TheVariants.{First, Second}
 use Rattle.cdg_cmd.specs.declared.status.Refusal.TheVariants.{TooLong, PastEnd, Cue, Script, LengthShort, DiscTooLong, LeadInShort, TextTooLong}
 use Rattle.cdg_cmd.specs.declared.status.Status.{Status}
@@ -31,15 +31,15 @@ pub record IsScriptText (text : List ℕ) (script : List Drawing) : Type 0 where
   pub reads : read_script text ≡ Ok script
 
 -- an input was read to its end, and what it held is the text of this sheet
-abbrev pub ReadsSheet : Option (List ℕ) → Option (List ℕ) → CueSheet → Type 0
-ReadsSheet left left' sheet = IsAtEnd left' × IfSome left (λ text. IsSheetText text sheet)
+abbrev pub ReadsSheet : Change Bytes → CueSheet → Type 0
+ReadsSheet input sheet = IsAtEnd input.after × IfSome input.before (λ text. IsSheetText text sheet)
 
 -- an input was read to its end, and what it held is the text of this script
-abbrev pub ReadsScript : Option (List ℕ) → Option (List ℕ) → List Drawing → Type 0
-ReadsScript left left' script = IsAtEnd left' × IfSome left (λ text. IsScriptText text script)
+abbrev pub ReadsScript : Change Bytes → List Drawing → Type 0
+ReadsScript input script = IsAtEnd input.after × IfSome input.before (λ text. IsScriptText text script)
 
 -- why the first input gives no sheet
-abbrev pub IsSheetStop : Option (List ℕ) → Status → Type 0
+abbrev pub IsSheetStop : Bytes → Status → Type 0
 IsSheetStop left (ReadFault First) = ⊤
 IsSheetStop left (Refused TooLong) = IfSome left (λ text. most_text < length text)
 IsSheetStop left (Refused (Cue line why)) = IfSome left (λ text. (length text ≤ most_text) × (read_cue text ≡ Err (line, why)))
@@ -47,12 +47,18 @@ IsSheetStop left NoMemory = ⊤
 IsSheetStop left status = ⊥
 
 -- why the second input gives no script
-abbrev pub IsScriptStop : Option (List ℕ) → Status → Type 0
+abbrev pub IsScriptStop : Bytes → Status → Type 0
 IsScriptStop left (ReadFault Second) = ⊤
 IsScriptStop left (Refused TooLong) = IfSome left (λ text. most_text < length text)
 IsScriptStop left (Refused (Script line why)) = IfSome left (λ text. (length text ≤ most_text) × (read_script text ≡ Err (line, why)))
 IsScriptStop left NoMemory = ⊤
 IsScriptStop left status = ⊥
+
+-- a read failed or no memory was found
+abbrev pub IsStopped : Status → Type 0
+IsStopped (ReadFault which) = ⊤
+IsStopped NoMemory = ⊤
+IsStopped status = ⊥
 
 -- the status of the answer to a sheet and a script
 abbrev pub author_status : Result (Unit {0}) AuthorStop → Status
@@ -67,27 +73,28 @@ author_status (Err stop.WriteFault) = WriteFault
 author_status (Err stop.NoMemory) = NoMemory
 
 -- an authored stream was put
-abbrev pub PutsAuthored : CueSheet → List Drawing → ℕ → ℕ → Option (List ℕ) → Option (List ℕ) → Type 0
-PutsAuthored sheet script lead_in audio held held' =
-    (bytes : List ℕ) × (packs : List (List ℕ)) × IsAuthored sheet script lead_in audio bytes packs × Appends held held' bytes
+abbrev pub PutsAuthored : CueSheet → List Drawing → ℕ → ℕ → Change Bytes → Type 0
+PutsAuthored sheet script lead_in audio out =
+    (bytes : List ℕ) × (packs : List (List ℕ)) × IsAuthored sheet script lead_in audio bytes packs × Appends out.before out.after bytes
 
 -- a prefix of an authored stream was put
-abbrev pub PutsPrefix : CueSheet → List Drawing → ℕ → ℕ → Option (List ℕ) → Option (List ℕ) → Type 0
-PutsPrefix sheet script lead_in audio held held' =
-    (bytes : List ℕ) × (packs : List (List ℕ)) × IsAuthored sheet script lead_in audio bytes packs × AppendsPrefix held held' bytes
+abbrev pub PutsPrefix : CueSheet → List Drawing → ℕ → ℕ → Change Bytes → Type 0
+PutsPrefix sheet script lead_in audio out =
+    (bytes : List ℕ) × (packs : List (List ℕ)) × IsAuthored sheet script lead_in audio bytes packs × AppendsPrefix out.before out.after bytes
 
 -- what is put for a sheet and a script, and why it is this answer
-pub record IsPutFor (sheet : CueSheet) (script : List Drawing) (lead_in audio : ℕ) (held held' : Option (List ℕ)) (answer : Result (Unit {0}) AuthorStop) : Type 0 where
-  pub done : OnOk answer (IsAccepted sheet script lead_in audio × PutsAuthored sheet script lead_in audio held held')
+pub record IsPutFor (sheet : CueSheet) (script : List Drawing) (lead_in audio : ℕ) (out : Change Bytes) (answer : Result (Unit {0}) AuthorStop) : Type 0 where
+  pub done : OnOk answer (IsAccepted sheet script lead_in audio × PutsAuthored sheet script lead_in audio out)
   pub why : IfErr answer (IsAuthorStop sheet script lead_in audio)
   -- a prefix where a write failed, and else nothing
-  pub cut : answer ≡ Err stop.WriteFault → PutsPrefix sheet script lead_in audio held held'
-  pub nothing : IfErr answer (λ why. why ≢ stop.WriteFault → Appends held held' [])
+  pub cut : answer ≡ Err stop.WriteFault → PutsPrefix sheet script lead_in audio out
+  pub nothing : IfErr answer (λ why. why ≢ stop.WriteFault → Appends out.before out.after [])
 
 -- `author` ended with this status: at the first input, at the second, or with the answer to the sheet and the script that they say.
-pub data AuthorsWith (lead_in audio : ℕ) (left left' more more' held held' : Option (List ℕ)) (status : Status) : Type 0 where
-  StopsAtSheet : IsSheetStop left status → Appends held held' [] → AuthorsWith lead_in audio left left' more more' held held' status
-  StopsAtScript : (sheet : CueSheet) → ReadsSheet left left' sheet → IsScriptStop more status → Appends held held' []
-      → AuthorsWith lead_in audio left left' more more' held held' status
-  Answers : (sheet : CueSheet) (script : List Drawing) (answer : Result (Unit {0}) AuthorStop) → ReadsSheet left left' sheet → ReadsScript more more' script
-      → status ≡ author_status answer → IsPutFor sheet script lead_in audio held held' answer → AuthorsWith lead_in audio left left' more more' held held' status
+pub data AuthorsWith (lead_in audio : ℕ) (call : Call Bytes) (status : Status) : Type 0 where
+  StopsAtSheet : IsSheetStop call.first.before status → Appends call.out.before call.out.after [] → AuthorsWith lead_in audio call status
+  StopsAtScript : (sheet : CueSheet) → ReadsSheet call.first sheet → IsScriptStop call.second.before status
+      → Appends call.out.before call.out.after [] → AuthorsWith lead_in audio call status
+  Answers : (sheet : CueSheet) (script : List Drawing) (answer : Result (Unit {0}) AuthorStop) → ReadsSheet call.first sheet
+      → ReadsScript call.second script → status ≡ author_status answer → IsPutFor sheet script lead_in audio call.out answer
+      → AuthorsWith lead_in audio call status

@@ -1,6 +1,7 @@
 -- How often a command comes to the end of an input: the count of told ends rises once, where the input is read to its end, and nowhere else.
 use Rattle.std.specs.Prelude.{◌≡◌, ◌⊎◌, ℕ}
 use Rattle.cdg_io.specs.Causes.{Rose}
+use Rattle.cdg_cmd.specs.Call.{Change}
 use Rattle.cdg_cmd.specs.declared.command.Command.{Command}
 use Rattle.cdg_cmd.specs.declared.command.Command.TheVariants.{Convert, Screen, State, Check, Q, Text, Author, Planar, Raw, Scratch, Gen, Trial}
 use Rattle.cdg_cmd.specs.declared.status.Which.TheVariants.{First, Second}
@@ -9,62 +10,67 @@ use Rattle.cdg_cmd.specs.declared.status.Status.{Status}
 use Rattle.cdg_cmd.specs.declared.status.Status.TheVariants.{Done, Damaged, Usage, Refused, Late, ReadFault, WriteFault, NoMemory}
 
 -- the end was told once, or not
-abbrev pub AtMostOnce : ℕ → ℕ → Type 0
-AtMostOnce before now = (now ≡ before) ⊎ Rose before now
+abbrev pub AtMostOnce : Change ℕ → Type 0
+AtMostOnce ends = (ends.after ≡ ends.before) ⊎ Rose ends.before ends.after
 
 -- of a command on a stream, where this holds after a failed write
-abbrev pub StreamEnds : Type 0 → ℕ → ℕ → Status → Type 0
-StreamEnds cut before now Done = Rose before now
-StreamEnds cut before now (Damaged n) = Rose before now
-StreamEnds cut before now (Refused TooLong) = now ≡ before
-StreamEnds cut before now (Refused why) = Rose before now
-StreamEnds cut before now (ReadFault which) = now ≡ before
-StreamEnds cut before now WriteFault = cut
-StreamEnds cut before now NoMemory = AtMostOnce before now
-StreamEnds cut before now Usage = now ≡ before
-StreamEnds cut before now (Late picture need free) = Rose before now
+abbrev pub StreamEnds : Type 0 → Change ℕ → Status → Type 0
+StreamEnds cut ends Done = Rose ends.before ends.after
+StreamEnds cut ends (Damaged n) = Rose ends.before ends.after
+StreamEnds cut ends (Refused TooLong) = ends.after ≡ ends.before
+StreamEnds cut ends (Refused why) = Rose ends.before ends.after
+StreamEnds cut ends (ReadFault which) = ends.after ≡ ends.before
+StreamEnds cut ends WriteFault = cut
+StreamEnds cut ends NoMemory = AtMostOnce ends
+StreamEnds cut ends Usage = ends.after ≡ ends.before
+StreamEnds cut ends (Late picture need free) = Rose ends.before ends.after
 
 -- it writes as it reads
-abbrev pub EndsInTurn : ℕ → ℕ → Status → Type 0
-EndsInTurn before now status = StreamEnds (now ≡ before) before now status
+abbrev pub EndsInTurn : Change ℕ → Status → Type 0
+EndsInTurn ends status = StreamEnds (ends.after ≡ ends.before) ends status
 
 -- it writes nothing before it read all
-abbrev pub EndsFirst : ℕ → ℕ → Status → Type 0
-EndsFirst before now status = StreamEnds (Rose before now) before now status
+abbrev pub EndsFirst : Change ℕ → Status → Type 0
+EndsFirst ends status = StreamEnds (Rose ends.before ends.after) ends status
 
 -- the cue sheet of `author`
-abbrev pub SheetEnds : ℕ → ℕ → Status → Type 0
-SheetEnds before now Done = Rose before now
-SheetEnds before now (Late picture need free) = Rose before now
-SheetEnds before now WriteFault = Rose before now
-SheetEnds before now (ReadFault First) = now ≡ before
-SheetEnds before now (ReadFault Second) = Rose before now
-SheetEnds before now status = AtMostOnce before now
+abbrev pub SheetEnds : Change ℕ → Status → Type 0
+SheetEnds ends Done = Rose ends.before ends.after
+SheetEnds ends (Late picture need free) = Rose ends.before ends.after
+SheetEnds ends WriteFault = Rose ends.before ends.after
+SheetEnds ends (ReadFault First) = ends.after ≡ ends.before
+SheetEnds ends (ReadFault Second) = Rose ends.before ends.after
+SheetEnds ends status = AtMostOnce ends
 
 -- its script
-abbrev pub ScriptEnds : ℕ → ℕ → Status → Type 0
-ScriptEnds before now Done = Rose before now
-ScriptEnds before now (Late picture need free) = Rose before now
-ScriptEnds before now WriteFault = Rose before now
-ScriptEnds before now (ReadFault which) = now ≡ before
-ScriptEnds before now status = AtMostOnce before now
+abbrev pub ScriptEnds : Change ℕ → Status → Type 0
+ScriptEnds ends Done = Rose ends.before ends.after
+ScriptEnds ends (Late picture need free) = Rose ends.before ends.after
+ScriptEnds ends WriteFault = Rose ends.before ends.after
+ScriptEnds ends (ReadFault which) = ends.after ≡ ends.before
+ScriptEnds ends status = AtMostOnce ends
 
 -- the first input of a command
-abbrev pub FirstEnds : Command → ℕ → ℕ → Status → Type 0
-FirstEnds (Convert lead_in form) before now status = EndsInTurn before now status
-FirstEnds (Screen lead_in form at) before now status = EndsFirst before now status
-FirstEnds (State lead_in form at) before now status = EndsFirst before now status
-FirstEnds (Check lead_in form) before now status = EndsFirst before now status
-FirstEnds (Q lead_in form) before now status = EndsInTurn before now status
-FirstEnds (Text lead_in form) before now status = EndsFirst before now status
-FirstEnds (Author lead_in length) before now status = SheetEnds before now status
-FirstEnds Planar before now status = EndsInTurn before now status
-FirstEnds Raw before now status = EndsInTurn before now status
-FirstEnds (Scratch lead_in seed) before now status = EndsInTurn before now status
-FirstEnds (Gen seed pictures) before now status = now ≡ before
-FirstEnds (Trial seed pictures) before now status = now ≡ before
+abbrev pub FirstEnds : Command → Change ℕ → Status → Type 0
+FirstEnds (Convert lead_in form) ends status = EndsInTurn ends status
+FirstEnds (Screen lead_in form at) ends status = EndsFirst ends status
+FirstEnds (State lead_in form at) ends status = EndsFirst ends status
+FirstEnds (Check lead_in form) ends status = EndsFirst ends status
+FirstEnds (Q lead_in form) ends status = EndsInTurn ends status
+FirstEnds (Text lead_in form) ends status = EndsFirst ends status
+FirstEnds (Author lead_in length) ends status = SheetEnds ends status
+FirstEnds Planar ends status = EndsInTurn ends status
+FirstEnds Raw ends status = EndsInTurn ends status
+FirstEnds (Scratch lead_in seed) ends status = EndsInTurn ends status
+FirstEnds (Gen seed pictures) ends status = ends.after ≡ ends.before
+FirstEnds (Trial seed pictures) ends status = ends.after ≡ ends.before
 
 -- the second
-abbrev pub SecondEnds : Command → ℕ → ℕ → Status → Type 0
-SecondEnds (Author lead_in length) before now status = ScriptEnds before now status
-SecondEnds command before now status = now ≡ before
+abbrev pub SecondEnds : Command → Change ℕ → Status → Type 0
+SecondEnds (Author lead_in length) ends status = ScriptEnds ends status
+SecondEnds command ends status = ends.after ≡ ends.before
+
+-- Of both inputs: the end is told once where the input was read to its end, and else not at all.
+pub record TellsEnds (command : Command) (one other : Change ℕ) (status : Status) : Type 0 where
+  pub first : FirstEnds command one status
+  pub second : SecondEnds command other status

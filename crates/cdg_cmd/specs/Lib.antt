@@ -1,12 +1,16 @@
 pub mod Answer
 pub mod Authors
+pub mod Call
 pub mod Endings
 pub mod Ends
+pub mod Faults
 pub mod Headline
+pub mod Keeps
+pub mod LeadInTexts
 pub mod Line
 pub mod Spelling
 pub mod Splitting
+pub mod Told
 pub mod Turns
-pub mod Undamaged
 pub mod WordSteps
 pub mod Words

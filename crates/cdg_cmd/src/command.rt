@@ -63,7 +63,8 @@ pub fn read_words(words: &[String]) -> Option<Command>
 
 fn read_convert(options: &[String]) -> Option<Command>
     ensures spelled { IfSome result (λ command. Spells command (codes "convert" ∷ texts options.now)) }
-    ensures all { (command : Command) → Spells command (codes "convert" ∷ texts options.now) → result ≡ Some command }
+    ensures all { (command : Command) → Spells command (codes "convert" ∷ texts options.now)
+        → result ≡ Some command }
 {
     match read_stream(options) {
         Some(stream) => Some(Command::Convert {
@@ -76,7 +77,8 @@ fn read_convert(options: &[String]) -> Option<Command>
 
 fn read_screen(options: &[String]) -> Option<Command>
     ensures spelled { IfSome result (λ command. Spells command (codes "screen" ∷ texts options.now)) }
-    ensures all { (command : Command) → Spells command (codes "screen" ∷ texts options.now) → result ≡ Some command }
+    ensures all { (command : Command) → Spells command (codes "screen" ∷ texts options.now)
+        → result ≡ Some command }
 {
     match read_timed(options) {
         Some(timed) => Some(Command::Screen {
@@ -90,7 +92,8 @@ fn read_screen(options: &[String]) -> Option<Command>
 
 fn read_state(options: &[String]) -> Option<Command>
     ensures spelled { IfSome result (λ command. Spells command (codes "state" ∷ texts options.now)) }
-    ensures all { (command : Command) → Spells command (codes "state" ∷ texts options.now) → result ≡ Some command }
+    ensures all { (command : Command) → Spells command (codes "state" ∷ texts options.now)
+        → result ≡ Some command }
 {
     match read_timed(options) {
         Some(timed) => Some(Command::State {
@@ -104,7 +107,8 @@ fn read_state(options: &[String]) -> Option<Command>
 
 fn read_check(options: &[String]) -> Option<Command>
     ensures spelled { IfSome result (λ command. Spells command (codes "check" ∷ texts options.now)) }
-    ensures all { (command : Command) → Spells command (codes "check" ∷ texts options.now) → result ≡ Some command }
+    ensures all { (command : Command) → Spells command (codes "check" ∷ texts options.now)
+        → result ≡ Some command }
 {
     match read_stream(options) {
         Some(stream) => Some(Command::Check {
@@ -117,7 +121,8 @@ fn read_check(options: &[String]) -> Option<Command>
 
 fn read_q(options: &[String]) -> Option<Command>
     ensures spelled { IfSome result (λ command. Spells command (codes "q" ∷ texts options.now)) }
-    ensures all { (command : Command) → Spells command (codes "q" ∷ texts options.now) → result ≡ Some command }
+    ensures all { (command : Command) → Spells command (codes "q" ∷ texts options.now)
+        → result ≡ Some command }
 {
     match read_blocks(options) {
         Some(stream) => Some(Command::Q {
@@ -130,7 +135,8 @@ fn read_q(options: &[String]) -> Option<Command>
 
 fn read_text(options: &[String]) -> Option<Command>
     ensures spelled { IfSome result (λ command. Spells command (codes "text" ∷ texts options.now)) }
-    ensures all { (command : Command) → Spells command (codes "text" ∷ texts options.now) → result ≡ Some command }
+    ensures all { (command : Command) → Spells command (codes "text" ∷ texts options.now)
+        → result ≡ Some command }
 {
     match read_blocks(options) {
         Some(stream) => Some(Command::Text {
@@ -143,7 +149,8 @@ fn read_text(options: &[String]) -> Option<Command>
 
 fn read_author(options: &[String]) -> Option<Command>
     ensures spelled { IfSome result (λ command. Spells command (codes "author" ∷ texts options.now)) }
-    ensures all { (command : Command) → Spells command (codes "author" ∷ texts options.now) → result ≡ Some command }
+    ensures all { (command : Command) → Spells command (codes "author" ∷ texts options.now)
+        → result ≡ Some command }
 {
     match read_lengths(options) {
         Some(lengths) => Some(Command::Author {
@@ -156,7 +163,8 @@ fn read_author(options: &[String]) -> Option<Command>
 
 fn read_planar(options: &[String]) -> Option<Command>
     ensures spelled { IfSome result (λ command. Spells command (codes "planar" ∷ texts options.now)) }
-    ensures all { (command : Command) → Spells command (codes "planar" ∷ texts options.now) → result ≡ Some command }
+    ensures all { (command : Command) → Spells command (codes "planar" ∷ texts options.now)
+        → result ≡ Some command }
 {
     match options {
         [] => Some(Command::Planar),
@@ -166,7 +174,8 @@ fn read_planar(options: &[String]) -> Option<Command>
 
 fn read_raw(options: &[String]) -> Option<Command>
     ensures spelled { IfSome result (λ command. Spells command (codes "raw" ∷ texts options.now)) }
-    ensures all { (command : Command) → Spells command (codes "raw" ∷ texts options.now) → result ≡ Some command }
+    ensures all { (command : Command) → Spells command (codes "raw" ∷ texts options.now)
+        → result ≡ Some command }
 {
     match options {
         [] => Some(Command::Raw),
@@ -176,7 +185,8 @@ fn read_raw(options: &[String]) -> Option<Command>
 
 fn read_scratch(options: &[String]) -> Option<Command>
     ensures spelled { IfSome result (λ command. Spells command (codes "scratch" ∷ texts options.now)) }
-    ensures all { (command : Command) → Spells command (codes "scratch" ∷ texts options.now) → result ≡ Some command }
+    ensures all { (command : Command) → Spells command (codes "scratch" ∷ texts options.now)
+        → result ≡ Some command }
 {
     match read_two(options, "--lead-in", MOST_LEAD_IN, "--seed", u64::MAX) {
         Some(two) => Some(Command::Scratch {
@@ -189,7 +199,8 @@ fn read_scratch(options: &[String]) -> Option<Command>
 
 fn read_gen(options: &[String]) -> Option<Command>
     ensures spelled { IfSome result (λ command. Spells command (codes "gen" ∷ texts options.now)) }
-    ensures all { (command : Command) → Spells command (codes "gen" ∷ texts options.now) → result ≡ Some command }
+    ensures all { (command : Command) → Spells command (codes "gen" ∷ texts options.now)
+        → result ≡ Some command }
 {
     match read_seeded(options) {
         Some(two) => Some(Command::Gen {
@@ -202,7 +213,8 @@ fn read_gen(options: &[String]) -> Option<Command>
 
 fn read_trial(options: &[String]) -> Option<Command>
     ensures spelled { IfSome result (λ command. Spells command (codes "trial" ∷ texts options.now)) }
-    ensures all { (command : Command) → Spells command (codes "trial" ∷ texts options.now) → result ≡ Some command }
+    ensures all { (command : Command) → Spells command (codes "trial" ∷ texts options.now)
+        → result ≡ Some command }
 {
     match read_seeded(options) {
         Some(two) => Some(Command::Trial {

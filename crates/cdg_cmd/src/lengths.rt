@@ -16,8 +16,10 @@ pub(crate) struct Lengths {
 
 /// The lengths of a lead-in and of an audio.
 pub(crate) fn read_lengths(words: &[String]) -> Option<Lengths>
-    ensures spelled { IfSome result (λ o. (o.lead_in ≤ 450000) × (o.audio < 450000) × SpellsLengths o.lead_in o.audio (texts words.now)) }
-    ensures all { (lead_in audio : ℕ) → lead_in ≤ 450000 → audio < 450000 → SpellsLengths lead_in audio (texts words.now)
+    ensures spelled { IfSome result (λ o. (o.lead_in ≤ 450000) × (o.audio < 450000)
+        × SpellsLengths o.lead_in o.audio (texts words.now)) }
+    ensures all { (lead_in audio : ℕ) → lead_in ≤ 450000 → audio < 450000
+        → SpellsLengths lead_in audio (texts words.now)
         → result ≡ Some (record { lead_in = lead_in; audio = audio }) }
 {
     let (options, last) = words.split_at(words.len().saturating_sub(2));

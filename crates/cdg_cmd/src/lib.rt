@@ -1,25 +1,28 @@
 //! The commands of the workshop over sources and sinks: their words, what they answer, and the line that says it.
 #![tactic(auto)]
 
-mod authoring;
+mod author;
+mod check;
 mod command;
-mod counting;
-mod generating;
+mod convert;
+mod gen_script;
 mod lengths;
 mod line;
-mod listing;
 mod numbers;
 mod options;
 mod parts;
+mod play;
+mod q;
 mod reasons;
-mod showing;
+mod screen;
 mod splitting;
+mod state;
 mod status;
-mod streams;
-mod texts;
+mod text;
 mod times;
 mod top;
-mod turning;
+mod trial;
+mod turn;
 
 pub use command::{Command, read_words};
 pub use line::tell;

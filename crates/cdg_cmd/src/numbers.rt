@@ -46,7 +46,8 @@ pub(crate) fn read_two(
 ) -> Option<TwoNumbers>
     ensures spelled { IfSome result (λ o. (o.first ≤ first_most) × (o.second ≤ second_most)
         × SpellsTwo first.now o.first second.now o.second (texts words.now)) }
-    ensures all { (n m : ℕ) → n ≤ first_most → m ≤ second_most → SpellsTwo first.now n second.now m (texts words.now)
+    ensures all { (n m : ℕ) → n ≤ first_most → m ≤ second_most
+        → SpellsTwo first.now n second.now m (texts words.now)
         → result ≡ Some (record { first = n; second = m }) }
 {
     let (options, last) = words.split_at(words.len().saturating_sub(2));
@@ -67,7 +68,8 @@ pub(crate) fn read_seeded(words: &[String]) -> Option<TwoNumbers>
     ensures spelled { IfSome result (λ o. (o.first < 2 ^ 64) × (1 ≤ o.second) × (o.second ≤ 500)
         × SpellsTwo (codes "--seed") o.first (codes "--pictures") o.second (texts words.now)) }
     ensures all { (seed pictures : ℕ) → seed < 2 ^ 64 → 1 ≤ pictures → pictures ≤ 500
-        → SpellsTwo (codes "--seed") seed (codes "--pictures") pictures (texts words.now) → result ≡ Some (record { first = seed; second = pictures }) }
+        → SpellsTwo (codes "--seed") seed (codes "--pictures") pictures (texts words.now)
+        → result ≡ Some (record { first = seed; second = pictures }) }
 {
     match read_two(words, "--seed", u64::MAX, "--pictures", 500) {
         Some(two) => {

@@ -94,7 +94,8 @@ pub(crate) struct StreamOptions {
 
 /// The options of a stream: its lead-in, and its form where one is named.
 pub(crate) fn read_stream(words: &[String]) -> Option<StreamOptions>
-    ensures spelled { IfSome result (λ o. (o.lead_in ≤ 450000) × SpellsStream o.lead_in o.form (texts words.now)) }
+    ensures spelled { IfSome result (λ o. (o.lead_in ≤ 450000)
+        × SpellsStream o.lead_in o.form (texts words.now)) }
     ensures all { (lead_in : ℕ) (form : Form) → lead_in ≤ 450000 → SpellsStream lead_in form (texts words.now)
         → result ≡ Some (record { lead_in = lead_in; form = form }) }
 {
@@ -107,7 +108,8 @@ pub(crate) fn read_stream(words: &[String]) -> Option<StreamOptions>
 
 // The blocks of the lead-in, and a form where one is named.
 fn read_values(words: &[String]) -> Option<StreamOptions>
-    ensures spelled { IfSome result (λ o. (o.lead_in ≤ 450000) × SpellsValues o.lead_in o.form (texts words.now)) }
+    ensures spelled { IfSome result (λ o. (o.lead_in ≤ 450000)
+        × SpellsValues o.lead_in o.form (texts words.now)) }
     ensures all { (lead_in : ℕ) (form : Form) → lead_in ≤ 450000 → SpellsValues lead_in form (texts words.now)
         → result ≡ Some (record { lead_in = lead_in; form = form }) }
 {
@@ -121,8 +123,10 @@ fn read_values(words: &[String]) -> Option<StreamOptions>
 
 /// The options of a stream whose blocks have a Q channel.
 pub(crate) fn read_blocks(words: &[String]) -> Option<StreamOptions>
-    ensures spelled { IfSome result (λ o. (o.lead_in ≤ 450000) × (o.form ≢ Form.Cooked) × SpellsStream o.lead_in o.form (texts words.now)) }
-    ensures all { (lead_in : ℕ) (form : Form) → lead_in ≤ 450000 → form ≢ Form.Cooked → SpellsStream lead_in form (texts words.now)
+    ensures spelled { IfSome result (λ o. (o.lead_in ≤ 450000) × (o.form ≢ Form.Cooked)
+        × SpellsStream o.lead_in o.form (texts words.now)) }
+    ensures all { (lead_in : ℕ) (form : Form) → lead_in ≤ 450000 → form ≢ Form.Cooked
+        → SpellsStream lead_in form (texts words.now)
         → result ≡ Some (record { lead_in = lead_in; form = form }) }
 {
     match read_stream(words) {

@@ -23,7 +23,8 @@ fn only_time(words: &[String]) -> Option<u32>
 /// The block of the time that the option of this name has.
 pub(crate) fn read_time(words: &[String], name: &str) -> Option<u32>
     ensures spelled { IfSome result (λ time. (time < 450000) × SpellsTime name.now time (texts words.now)) }
-    ensures all { (time : ℕ) → time < 450000 → SpellsTime name.now time (texts words.now) → result ≡ Some time }
+    ensures all { (time : ℕ) → time < 450000 → SpellsTime name.now time (texts words.now)
+        → result ≡ Some time }
 {
     let (option, rest) = words.split_first()?;
     if option.as_str() != name {
@@ -42,8 +43,10 @@ pub(crate) struct TimedOptions {
 
 /// The options of a stream, and the block of a time.
 pub(crate) fn read_timed(words: &[String]) -> Option<TimedOptions>
-    ensures spelled { IfSome result (λ o. (o.lead_in ≤ 450000) × (o.at < 450000) × SpellsTimed o.lead_in o.form o.at (texts words.now)) }
-    ensures all { (lead_in : ℕ) (form : Form) (at : ℕ) → lead_in ≤ 450000 → at < 450000 → SpellsTimed lead_in form at (texts words.now)
+    ensures spelled { IfSome result (λ o. (o.lead_in ≤ 450000) × (o.at < 450000)
+        × SpellsTimed o.lead_in o.form o.at (texts words.now)) }
+    ensures all { (lead_in : ℕ) (form : Form) (at : ℕ) → lead_in ≤ 450000 → at < 450000
+        → SpellsTimed lead_in form at (texts words.now)
         → result ≡ Some (record { lead_in = lead_in; form = form; at = at }) }
 {
     let (options, last) = words.split_at(words.len().saturating_sub(2));

@@ -1,56 +1,121 @@
-use Rattle.std.proofs.Common.{subst, sym, inl, inr, ℕ, List, IfSome}
-use Rattle.raw_subcode.specs.declared.form.Form.{Form}
-use Rattle.picture_script.specs.Script.{Drawing}
-use Rattle.subcode_player.specs.Pictured.{IsHeldAt, IsScheduledStream}
-use Rattle.cdg_cmd.specs.Headline.{PutsPicture}
-use Rattle.cdg_cmd.proofs.WordsLemmas.{same_screen}
+use Rattle.std.proofs.Common.{refl, subst, sym}
 use Rattle.cdg_cmd.specs.Answer.{Does}
+use Rattle.cdg_cmd.specs.Call.{call, change}
+use Rattle.cdg_cmd.specs.Ends.{TellsEnds}
 use Rattle.cdg_cmd.specs.declared.command.Command.{Command}
-use Rattle.cdg_cmd.proofs.Statuses.{not_cut, not_done}
 use Rattle.cdg_cmd.proofs.top.perform.Goals as goal
 
-pub returns-in-Convert-clause-no_memory : goal.returns-in-Convert-clause-no_memory
-returns-in-Convert-clause-no_memory g c = λ e. (c.run_convert.ensures.no_memory e).1
+pub returns-in-Convert-clause-does : goal.returns-in-Convert-clause-does
+returns-in-Convert-clause-does g c = λ found.
+    subst (λ (k : Command). Does k (call g.S.Source.left g.T.Source.left g.K.Sink.held (c.args.first.now, c.args.second.now, c.args.out.now) (c.run_convert.new.source, c.args.second.now, c.run_convert.new.out)) c.run_convert.result)
+    (sym c.in-Convert.is) (c.run_convert.ensures.does found)
 
-pub returns-in-Screen-clause-no_memory : goal.returns-in-Screen-clause-no_memory
-returns-in-Screen-clause-no_memory g c = λ e. (c.run_screen.ensures.no_memory e).1
+pub returns-in-Convert-clause-ends : goal.returns-in-Convert-clause-ends
+returns-in-Convert-clause-ends g c =
+    subst (λ (k : Command). TellsEnds k (change g.S.Source.ends c.args.first.now c.run_convert.new.source) (change g.T.Source.ends c.args.second.now c.args.second.now) c.run_convert.result)
+    (sym c.in-Convert.is) (record { first = c.run_convert.ensures.ended; second = refl })
 
-pub returns-in-State-clause-no_memory : goal.returns-in-State-clause-no_memory
-returns-in-State-clause-no_memory g c = λ e. (c.run_state.ensures.no_memory e).1
+pub returns-in-Screen-clause-does : goal.returns-in-Screen-clause-does
+returns-in-Screen-clause-does g c = λ found.
+    subst (λ (k : Command). Does k (call g.S.Source.left g.T.Source.left g.K.Sink.held (c.args.first.now, c.args.second.now, c.args.out.now) (c.run_screen.new.source, c.args.second.now, c.run_screen.new.out)) c.run_screen.result)
+    (sym c.in-Screen.is) (c.run_screen.ensures.does found)
 
-pub returns-in-Check-clause-no_memory : goal.returns-in-Check-clause-no_memory
-returns-in-Check-clause-no_memory g c = λ e. (c.run_check.ensures.no_memory e).1
+pub returns-in-Screen-clause-ends : goal.returns-in-Screen-clause-ends
+returns-in-Screen-clause-ends g c =
+    subst (λ (k : Command). TellsEnds k (change g.S.Source.ends c.args.first.now c.run_screen.new.source) (change g.T.Source.ends c.args.second.now c.args.second.now) c.run_screen.result)
+    (sym c.in-Screen.is) (record { first = c.run_screen.ensures.ended; second = refl })
 
-pub returns-in-Q-clause-no_memory : goal.returns-in-Q-clause-no_memory
-returns-in-Q-clause-no_memory g c = λ e. (c.run_q.ensures.no_memory e).1
+pub returns-in-State-clause-does : goal.returns-in-State-clause-does
+returns-in-State-clause-does g c = λ found.
+    subst (λ (k : Command). Does k (call g.S.Source.left g.T.Source.left g.K.Sink.held (c.args.first.now, c.args.second.now, c.args.out.now) (c.run_state.new.source, c.args.second.now, c.run_state.new.out)) c.run_state.result)
+    (sym c.in-State.is) (c.run_state.ensures.does found)
+
+pub returns-in-State-clause-ends : goal.returns-in-State-clause-ends
+returns-in-State-clause-ends g c =
+    subst (λ (k : Command). TellsEnds k (change g.S.Source.ends c.args.first.now c.run_state.new.source) (change g.T.Source.ends c.args.second.now c.args.second.now) c.run_state.result)
+    (sym c.in-State.is) (record { first = c.run_state.ensures.ended; second = refl })
+
+pub returns-in-Check-clause-does : goal.returns-in-Check-clause-does
+returns-in-Check-clause-does g c = λ found.
+    subst (λ (k : Command). Does k (call g.S.Source.left g.T.Source.left g.K.Sink.held (c.args.first.now, c.args.second.now, c.args.out.now) (c.run_check.new.source, c.args.second.now, c.run_check.new.out)) c.run_check.result)
+    (sym c.in-Check.is) (c.run_check.ensures.does found)
+
+pub returns-in-Check-clause-ends : goal.returns-in-Check-clause-ends
+returns-in-Check-clause-ends g c =
+    subst (λ (k : Command). TellsEnds k (change g.S.Source.ends c.args.first.now c.run_check.new.source) (change g.T.Source.ends c.args.second.now c.args.second.now) c.run_check.result)
+    (sym c.in-Check.is) (record { first = c.run_check.ensures.ended; second = refl })
+
+pub returns-in-Q-clause-does : goal.returns-in-Q-clause-does
+returns-in-Q-clause-does g c = λ found.
+    subst (λ (k : Command). Does k (call g.S.Source.left g.T.Source.left g.K.Sink.held (c.args.first.now, c.args.second.now, c.args.out.now) (c.run_q.new.source, c.args.second.now, c.run_q.new.out)) c.run_q.result)
+    (sym c.in-Q.is) (c.run_q.ensures.does found)
+
+pub returns-in-Q-clause-ends : goal.returns-in-Q-clause-ends
+returns-in-Q-clause-ends g c =
+    subst (λ (k : Command). TellsEnds k (change g.S.Source.ends c.args.first.now c.run_q.new.source) (change g.T.Source.ends c.args.second.now c.args.second.now) c.run_q.result)
+    (sym c.in-Q.is) (record { first = c.run_q.ensures.ended; second = refl })
 
 pub returns-in-Text-clause-does : goal.returns-in-Text-clause-does
 returns-in-Text-clause-does g c = λ found.
-    subst (λ (k : Command). Does k (g.S.Source.left c.args.first.now) (g.S.Source.left c.run_text.new.source) (g.T.Source.left c.args.second.now) (g.T.Source.left c.args.second.now)
-    (g.K.Sink.held c.args.out.now) (g.K.Sink.held c.run_text.new.out) c.run_text.result) (sym c.in-Text.is) (c.run_text.ensures.does found)
+    subst (λ (k : Command). Does k (call g.S.Source.left g.T.Source.left g.K.Sink.held (c.args.first.now, c.args.second.now, c.args.out.now) (c.run_text.new.source, c.args.second.now, c.run_text.new.out)) c.run_text.result)
+    (sym c.in-Text.is) (c.run_text.ensures.does found)
 
-pub returns-in-Author-clause-no_memory : goal.returns-in-Author-clause-no_memory
-returns-in-Author-clause-no_memory g c = λ e. c.run_author.ensures.untouched (λ d. cc) (λ d. cc)
+pub returns-in-Text-clause-ends : goal.returns-in-Text-clause-ends
+returns-in-Text-clause-ends g c =
+    subst (λ (k : Command). TellsEnds k (change g.S.Source.ends c.args.first.now c.run_text.new.source) (change g.T.Source.ends c.args.second.now c.args.second.now) c.run_text.result)
+    (sym c.in-Text.is) (record { first = c.run_text.ensures.ended; second = refl })
+
+pub returns-in-Planar-clause-does : goal.returns-in-Planar-clause-does
+returns-in-Planar-clause-does g c = λ found.
+    subst (λ (k : Command). Does k (call g.S.Source.left g.T.Source.left g.K.Sink.held (c.args.first.now, c.args.second.now, c.args.out.now) (c.run_planar.new.source, c.args.second.now, c.run_planar.new.out)) c.run_planar.result)
+    (sym c.in-Planar.is) c.run_planar.ensures.does
+
+pub returns-in-Planar-clause-ends : goal.returns-in-Planar-clause-ends
+returns-in-Planar-clause-ends g c =
+    subst (λ (k : Command). TellsEnds k (change g.S.Source.ends c.args.first.now c.run_planar.new.source) (change g.T.Source.ends c.args.second.now c.args.second.now) c.run_planar.result)
+    (sym c.in-Planar.is) (record { first = c.run_planar.ensures.ended; second = refl })
+
+pub returns-in-Raw-clause-does : goal.returns-in-Raw-clause-does
+returns-in-Raw-clause-does g c = λ found.
+    subst (λ (k : Command). Does k (call g.S.Source.left g.T.Source.left g.K.Sink.held (c.args.first.now, c.args.second.now, c.args.out.now) (c.run_raw.new.source, c.args.second.now, c.run_raw.new.out)) c.run_raw.result)
+    (sym c.in-Raw.is) c.run_raw.ensures.does
+
+pub returns-in-Raw-clause-ends : goal.returns-in-Raw-clause-ends
+returns-in-Raw-clause-ends g c =
+    subst (λ (k : Command). TellsEnds k (change g.S.Source.ends c.args.first.now c.run_raw.new.source) (change g.T.Source.ends c.args.second.now c.args.second.now) c.run_raw.result)
+    (sym c.in-Raw.is) (record { first = c.run_raw.ensures.ended; second = refl })
+
+pub returns-in-Scratch-clause-does : goal.returns-in-Scratch-clause-does
+returns-in-Scratch-clause-does g c = λ found.
+    subst (λ (k : Command). Does k (call g.S.Source.left g.T.Source.left g.K.Sink.held (c.args.first.now, c.args.second.now, c.args.out.now) (c.run_scratch.new.source, c.args.second.now, c.run_scratch.new.out)) c.run_scratch.result)
+    (sym c.in-Scratch.is) c.run_scratch.ensures.does
+
+pub returns-in-Scratch-clause-ends : goal.returns-in-Scratch-clause-ends
+returns-in-Scratch-clause-ends g c =
+    subst (λ (k : Command). TellsEnds k (change g.S.Source.ends c.args.first.now c.run_scratch.new.source) (change g.T.Source.ends c.args.second.now c.args.second.now) c.run_scratch.result)
+    (sym c.in-Scratch.is) (record { first = c.run_scratch.ensures.ended; second = refl })
+
+pub returns-in-Gen-clause-does : goal.returns-in-Gen-clause-does
+returns-in-Gen-clause-does g c = λ found.
+    subst (λ (k : Command). Does k (call g.S.Source.left g.T.Source.left g.K.Sink.held (c.args.first.now, c.args.second.now, c.args.out.now) (c.args.first.now, c.args.second.now, c.run_gen.new.out)) c.run_gen.result)
+    (sym c.in-Gen.is) c.run_gen.ensures.does
+
+pub returns-in-Gen-clause-ends : goal.returns-in-Gen-clause-ends
+returns-in-Gen-clause-ends g c =
+    subst (λ (k : Command). TellsEnds k (change g.S.Source.ends c.args.first.now c.args.first.now) (change g.T.Source.ends c.args.second.now c.args.second.now) c.run_gen.result)
+    (sym c.in-Gen.is) (record { first = refl; second = refl })
+
+pub returns-in-Trial-clause-does : goal.returns-in-Trial-clause-does
+returns-in-Trial-clause-does g c = λ found.
+    subst (λ (k : Command). Does k (call g.S.Source.left g.T.Source.left g.K.Sink.held (c.args.first.now, c.args.second.now, c.args.out.now) (c.args.first.now, c.args.second.now, c.run_trial.new.out)) c.run_trial.result)
+    (sym c.in-Trial.is) (c.run_trial.ensures.does found)
+
+pub returns-in-Trial-clause-ends : goal.returns-in-Trial-clause-ends
+returns-in-Trial-clause-ends g c =
+    subst (λ (k : Command). TellsEnds k (change g.S.Source.ends c.args.first.now c.args.first.now) (change g.T.Source.ends c.args.second.now c.args.second.now) c.run_trial.result)
+    (sym c.in-Trial.is) (record { first = refl; second = refl })
 
 pub returns-in-Author-clause-does : goal.returns-in-Author-clause-does
 returns-in-Author-clause-does g c = λ found.
-    subst (λ (k : Command). Does k (g.S.Source.left c.args.first.now) (g.S.Source.left c.run_author.new.first) (g.T.Source.left c.args.second.now) (g.T.Source.left c.run_author.new.second)
-    (g.K.Sink.held c.args.out.now) (g.K.Sink.held c.run_author.new.out) c.run_author.result) (sym c.in-Author.is) c.run_author.ensures.does
-
-pub returns-in-Screen-clause-pictures : goal.returns-in-Screen-clause-pictures
-returns-in-Screen-clause-pictures g c =
-    same_screen (λ (lead_in : ℕ) (form : Form) (at : ℕ). IfSome (g.S.Source.left c.args.first.now) (λ all. (script : List Drawing) (k : ℕ) → IsScheduledStream form lead_in script all → IsHeldAt script k at
-    → PutsPicture script k (g.K.Sink.held c.args.out.now) (g.K.Sink.held c.run_screen.new.out) c.run_screen.result))
-    c.args.command c.in-Screen.lead_in c.in-Screen.form c.in-Screen.at c.in-Screen.is c.run_screen.ensures.pictures
-
-pub returns-in-Author-clause-writes_last : goal.returns-in-Author-clause-writes_last
-returns-in-Author-clause-writes_last g c = λ last none. c.run_author.ensures.untouched (not_done _ none) (not_cut _ none)
-
-pub returns-in-Trial-clause-writes_last : goal.returns-in-Trial-clause-writes_last
-returns-in-Trial-clause-writes_last g c = λ last none. elim c.run_trial.ensures.never [
-  | inl done ↦ absurd (not_done _ none done)
-  | inr other ↦ elim other [
-    | inl cut ↦ absurd (not_cut _ none cut)
-    | inr memory ↦ c.run_trial.ensures.no_memory memory
-  ]
-]
+    subst (λ (k : Command). Does k (call g.S.Source.left g.T.Source.left g.K.Sink.held (c.args.first.now, c.args.second.now, c.args.out.now)
+    (c.run_author.new.first, c.run_author.new.second, c.run_author.new.out)) c.run_author.result) (sym c.in-Author.is) c.run_author.ensures.does

@@ -1,0 +1,102 @@
+-- From the answer of a player to the status of a command.
+use Rattle.std.proofs.Common.{◌≡◌, ◌≢◌, ◌≤◌, ◌==◌, ℕ, Bool, true, false, Result, Ok, Err, IfErr, IsErrOf, refl, sym, subst, ◌∙◌, if◌then◌else◌, arith}
+use Rattle.cdg_io.specs.Causes.{Rose}
+use Rattle.subcode_player.specs.Calls.{EndFirst, EndInTurn}
+use Rattle.subcode_player.specs.declared.player.Played.{Played}
+use Rattle.subcode_player.specs.declared.player.PlayStop.{PlayStop}
+use Rattle.subcode_player.specs.declared.player.PlayStop.TheVariants as play
+use Rattle.cdg_cmd.specs.Answer.{play_status}
+use Rattle.cdg_cmd.specs.Ends.{EndsFirst, EndsInTurn, StreamEnds}
+use Rattle.cdg_cmd.specs.Keeps.{MayWrite}
+use Rattle.cdg_cmd.proofs.Quiet.{count}
+use Rattle.cdg_cmd.proofs.Quiet as quiet
+use Rattle.cdg_cmd.specs.Faults.{TellsOne}
+use Rattle.cdg_cmd.specs.declared.status.Status.{Status}
+use Rattle.cdg_cmd.specs.declared.status.Status.TheVariants.{Done, Damaged, NoMemory}
+
+-- Faults
+
+whole : (f f' k k' : ℕ) → f ≤ f' → k ≤ k' → (good : Bool) (n : ℕ) → f' ≡ f → k' ≡ k → TellsOne (count f f') (count k k') (if good then Done else Damaged n)
+whole f f' k k' r w true n same_read same_write = quiet.none f f' k k' r w Done (λ e. cc) (λ e. cc) (λ e. cc) (λ e. cc) same_read same_write
+whole f f' k k' r w false n same_read same_write = quiet.none f f' k k' r w (Damaged n) (λ e. cc) (λ e. cc) (λ e. cc) (λ e. cc) same_read same_write
+
+faults : (answer : Result Played PlayStop) (f f' k k' : ℕ) → f ≤ f' → k ≤ k' → (IsErrOf answer play.ReadFault → Rose f f') → (answer ≢ Err play.ReadFault → f' ≡ f)
+    → (IsErrOf answer play.WriteFault → Rose k k') → (answer ≢ Err play.WriteFault → k' ≡ k) → TellsOne (count f f') (count k k') (play_status answer)
+faults (Ok played) f f' k k' r w rose same cut kept = whole f f' k k' r w (played.bad == 0) played.bad (same (λ e. cc)) (kept (λ e. cc))
+faults (Err play.ReadFault) f f' k k' r w rose same cut kept = quiet.read f f' k k' r w (rose refl) (kept (λ e. cc))
+faults (Err play.WriteFault) f f' k k' r w rose same cut kept = quiet.write f f' k k' r w (same (λ e. cc)) (cut refl)
+faults (Err (play.Torn block)) f f' k k' r w rose same cut kept = quiet.none f f' k k' r w _ (λ e. cc) (λ e. cc) (λ e. cc) (λ e. cc) (same (λ e. cc)) (kept (λ e. cc))
+faults (Err play.TooLong) f f' k k' r w rose same cut kept = quiet.none f f' k k' r w _ (λ e. cc) (λ e. cc) (λ e. cc) (λ e. cc) (same (λ e. cc)) (kept (λ e. cc))
+faults (Err (play.PastEnd blocks)) f f' k k' r w rose same cut kept = quiet.none f f' k k' r w _ (λ e. cc) (λ e. cc) (λ e. cc) (λ e. cc) (same (λ e. cc)) (kept (λ e. cc))
+
+pub told_one : (answer : Result Played PlayStop) (status : Status) (f f' k k' : ℕ) → status ≡ play_status answer → f ≤ f' → k ≤ k' → (IsErrOf answer play.ReadFault → Rose f f')
+    → (answer ≢ Err play.ReadFault → f' ≡ f) → (IsErrOf answer play.WriteFault → Rose k k') → (answer ≢ Err play.WriteFault → k' ≡ k) → TellsOne (count f f') (count k k') status
+told_one answer status f f' k k' is r w rose same cut kept =
+    subst (λ (s : Status). TellsOne (count f f') (count k k') s) (sym is) (faults answer f f' k k' r w rose same cut kept)
+
+-- no memory was found, and nothing was done
+pub told_none : (f k : ℕ) → TellsOne (count f f) (count k k) NoMemory
+told_none f k = quiet.none f f k k (omega arith) (omega arith) NoMemory (λ e. cc) (λ e. cc) (λ e. cc) (λ e. cc) refl refl
+
+-- Ends
+
+whole_end : (cut : Type 0) (n n' : ℕ) (good : Bool) (bad : ℕ) → Rose n n' → StreamEnds cut (count n n') (if good then Done else Damaged bad)
+whole_end cut n n' true bad told = told
+whole_end cut n n' false bad told = told
+
+in_turn : (answer : Result Played PlayStop) (n n' : ℕ) → EndInTurn answer n n' → EndsInTurn (count n n') (play_status answer)
+in_turn (Ok played) n n' told = whole_end (n' ≡ n) n n' (played.bad == 0) played.bad told
+in_turn (Err play.ReadFault) n n' told = told
+in_turn (Err play.WriteFault) n n' told = told
+in_turn (Err (play.Torn block)) n n' told = told
+in_turn (Err play.TooLong) n n' told = told
+in_turn (Err (play.PastEnd blocks)) n n' told = told
+
+first : (answer : Result Played PlayStop) (n n' : ℕ) → EndFirst answer n n' → EndsFirst (count n n') (play_status answer)
+first (Ok played) n n' told = whole_end (Rose n n') n n' (played.bad == 0) played.bad told
+first (Err play.ReadFault) n n' told = told
+first (Err play.WriteFault) n n' told = told
+first (Err (play.Torn block)) n n' told = told
+first (Err play.TooLong) n n' told = told
+first (Err (play.PastEnd blocks)) n n' told = told
+
+pub ended_in_turn : (answer : Result Played PlayStop) (status : Status) (n n' : ℕ) → status ≡ play_status answer → EndInTurn answer n n' → EndsInTurn (count n n') status
+ended_in_turn answer status n n' is told = subst (λ (s : Status). EndsInTurn (count n n') s) (sym is) (in_turn answer n n' told)
+
+pub ended_first : (answer : Result Played PlayStop) (status : Status) (n n' : ℕ) → status ≡ play_status answer → EndFirst answer n n' → EndsFirst (count n n') status
+ended_first answer status n n' is told = subst (λ (s : Status). EndsFirst (count n n') s) (sym is) (first answer n n' told)
+
+-- Where the output may not be written
+
+may_write : (good : Bool) (n : ℕ) → MayWrite (if good then Done else Damaged n)
+may_write true n = tt
+may_write false n = tt
+
+untouched_at : {K : Type 0} (answer : Result Played PlayStop) (old new : K) → IfErr answer (λ stop. stop ≢ play.WriteFault → new ≡ old) → ¬ (MayWrite (play_status answer)) → new ≡ old
+untouched_at (Ok played) old new same none = absurd (none (may_write (played.bad == 0) played.bad))
+untouched_at (Err play.ReadFault) old new same none = same (λ e. cc)
+untouched_at (Err play.WriteFault) old new same none = absurd (none tt)
+untouched_at (Err (play.Torn block)) old new same none = same (λ e. cc)
+untouched_at (Err play.TooLong) old new same none = same (λ e. cc)
+untouched_at (Err (play.PastEnd blocks)) old new same none = same (λ e. cc)
+
+pub untouched : {K : Type 0} (answer : Result Played PlayStop) (status : Status) (old new : K) → status ≡ play_status answer
+    → IfErr answer (λ stop. stop ≢ play.WriteFault → new ≡ old) → ¬ (MayWrite status) → new ≡ old
+untouched answer status old new is same none = untouched_at answer old new same (subst (λ (s : Status). ¬ (MayWrite s)) is none)
+
+-- A player never lacks memory
+
+whole_never : (good : Bool) (n : ℕ) → (if good then Done else Damaged n) ≢ NoMemory
+whole_never true n e = absurd (cc)
+whole_never false n e = absurd (cc)
+
+never_memory_at : (answer : Result Played PlayStop) → play_status answer ≢ NoMemory
+never_memory_at (Ok played) e = whole_never (played.bad == 0) played.bad e
+never_memory_at (Err play.ReadFault) e = absurd (cc)
+never_memory_at (Err play.WriteFault) e = absurd (cc)
+never_memory_at (Err (play.Torn block)) e = absurd (cc)
+never_memory_at (Err play.TooLong) e = absurd (cc)
+never_memory_at (Err (play.PastEnd blocks)) e = absurd (cc)
+
+pub never_memory : (answer : Result Played PlayStop) (status : Status) → status ≡ play_status answer → status ≢ NoMemory
+never_memory answer status is e = never_memory_at answer (sym is ∙ e)

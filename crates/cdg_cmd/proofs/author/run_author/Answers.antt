@@ -1,0 +1,24 @@
+use Rattle.std.proofs.KnownBytes.{Appends-nil}
+use Rattle.cdg_cmd.specs.Authors.{StopsAtScript, Answers}
+use Rattle.cdg_cmd.proofs.AuthorStatus.{put_for}
+use Rattle.cdg_cmd.proofs.AuthorTold.{told_of_both}
+use Rattle.cdg_cmd.proofs.author.run_author.Goals as goal
+
+pub returns-in-Err-read_script-clause-does : goal.returns-in-Err-read_script-clause-does
+returns-in-Err-read_script-clause-does g c =
+    StopsAtScript c.in-Ok.sheet c.in-Ok.ensures.ok c.in-Err-read_script.ensures.err (Appends-nil (g.K.Sink.held c.args.out.now))
+
+pub returns-clause-does : goal.returns-clause-does
+returns-clause-does g c =
+    Answers c.in-Ok.sheet c.in-Ok-read_script.script c.author_stream.result c.in-Ok.ensures.ok c.in-Ok-read_script.ensures.ok c.author_status.ensures
+    (put_for g.K.Sink.held c.args.out.now c.author_stream.new.out c.in-Ok.sheet c.in-Ok-read_script.script c.args.lead_in c.args.length c.author_stream.result
+    c.author_stream.ensures.authored c.author_stream.ensures.accepted c.author_stream.ensures.stop c.author_stream.ensures.untouched
+    (λ fault accepted. let (n, packs, put) = c.author_stream.ensures.part fault in
+    c.accepted_scripts_have_streams.ensures.part c.in-Ok.sheet c.in-Ok-read_script.script c.args.lead_in c.args.length n packs _ _ c.tracks-tracks.ensures.sheet
+    (record { held = c.pictures-pictures.ensures.held; later = c.pictures-pictures.ensures.later }) (record { border = c.pictures-pictures.ensures.borders; colour = c.pictures-pictures.ensures.colours })
+    c.pictures-pictures.ensures.pixels c.requires.lead_in accepted put))
+
+pub returns-clause-faults : goal.returns-clause-faults
+returns-clause-faults g c =
+    told_of_both c.in-Ok.sheet c.in-Ok-read_script.script c.author_stream.result _ _ _ _ _ _ _ c.author_status.ensures c.in-Ok.ensures.later c.in-Ok.ensures.no_fault
+    c.in-Ok-read_script.ensures.later c.in-Ok-read_script.ensures.no_fault c.author_stream.ensures.later c.author_stream.ensures.write_fault c.author_stream.ensures.no_write_fault

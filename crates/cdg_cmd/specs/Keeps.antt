@@ -1,0 +1,63 @@
+-- What a command leaves as it is.
+use Rattle.std.specs.Prelude.{◌≡◌, ◌≢◌, ◌⊎◌, ⊤}
+use Rattle.cue_sheet.specs.CueSheet.{CueSheet}
+use Rattle.cdg_cmd.specs.Authors.{ReadsSheet}
+use Rattle.cdg_cmd.specs.Call.{Bytes, Change}
+use Rattle.cdg_cmd.specs.declared.command.Command.{Command}
+use Rattle.cdg_cmd.specs.declared.command.Command.TheVariants.{Screen, State, Check, Text, Author, Planar, Raw, Scratch, Gen, Trial}
+use Rattle.cdg_cmd.specs.declared.status.Status.{Status}
+use Rattle.cdg_cmd.specs.declared.status.Status.TheVariants.{Done, Damaged, WriteFault, NoMemory}
+
+-- it reads no input
+abbrev pub ReadsNone : Command → Type 0
+ReadsNone (Gen seed pictures) = ⊤
+ReadsNone (Trial seed pictures) = ⊤
+ReadsNone command = ⊥
+
+-- it reads its second input: only after the first was read to its end, and its grammar accepted it
+abbrev pub ReadsSecond : Command → Change Bytes → Type 0
+ReadsSecond (Author lead_in length) first = (sheet : CueSheet) × ReadsSheet first sheet
+ReadsSecond command first = ⊥
+
+-- it writes nothing but where its work is whole or a write fails
+abbrev pub WritesLast : Command → Type 0
+WritesLast (Screen lead_in form at) = ⊤
+WritesLast (State lead_in form at) = ⊤
+WritesLast (Check lead_in form) = ⊤
+WritesLast (Text lead_in form) = ⊤
+WritesLast (Author lead_in length) = ⊤
+WritesLast (Trial seed pictures) = ⊤
+WritesLast command = ⊥
+
+-- the work is whole, or a write failed
+abbrev pub MayWrite : Status → Type 0
+MayWrite Done = ⊤
+MayWrite (Damaged n) = ⊤
+MayWrite WriteFault = ⊤
+MayWrite status = ⊥
+
+-- it takes no memory
+abbrev pub TakesNone : Command → Type 0
+TakesNone Planar = ⊤
+TakesNone Raw = ⊤
+TakesNone (Scratch lead_in seed) = ⊤
+TakesNone (Gen seed pictures) = ⊤
+TakesNone command = ⊥
+
+-- it takes all memory before it reads
+abbrev pub TakesFirst : Command → Type 0
+TakesFirst (Text lead_in form) = ⊥
+TakesFirst (Author lead_in length) = ⊥
+TakesFirst command = ⊤
+
+-- Of the two inputs and the output, in this order: what is not read and what is not written is as it was.
+pub record Keeps {S T K : Type 0} (command : Command) (read : Change Bytes) (before after : S × T × K) (status : Status) : Type 0 where
+  pub first : ReadsNone command → after.0 ≡ before.0
+  pub second : (after.1 ≡ before.1) ⊎ ReadsSecond command read
+  pub out : WritesLast command → ¬ (MayWrite status) → after.2 ≡ before.2
+
+-- Where no memory was found nothing was written, nor read where all memory is taken first.
+pub record WantsMemory {S T K : Type 0} (command : Command) (before after : S × T × K) (status : Status) : Type 0 where
+  pub out : status ≡ NoMemory → after.2 ≡ before.2
+  pub inputs : TakesFirst command → status ≡ NoMemory → (after.0 ≡ before.0) × (after.1 ≡ before.1)
+  pub never : TakesNone command → status ≢ NoMemory

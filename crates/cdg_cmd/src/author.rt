@@ -1,0 +1,136 @@
+// The command that writes the stream of a cue sheet and a picture script.
+ghost use Rattle.std.specs.Prelude.{◌≡◌, ◌≢◌, ◌≤◌, ◌<◌, ◌⊎◌, IfOk, IfErr, OnOk, Err};
+ghost use Rattle.cdg_io.specs.Causes.{Rose};
+ghost use Rattle.cdg_cmd.specs.Authors.{author_status, AuthorsWith, IsScriptStop, IsSheetStop, ReadsScript, ReadsSheet};
+ghost use Rattle.cdg_cmd.specs.Call.{call, change};
+ghost use Rattle.cdg_cmd.specs.Ends.{ScriptEnds, SheetEnds};
+ghost use Rattle.cdg_cmd.specs.Faults.{TellsFaults};
+ghost use Rattle.cdg_cmd.specs.Keeps.{ReadsSecond};
+
+use crate::{Command, Refusal, Status, Which};
+use authored_streams::accepted_scripts_have_streams;
+use cdg_io::{ReadStop, Sink, Source, read_whole};
+use cue_sheet::{CueStop, Sheet};
+use picture_script::{Script, ScriptStop};
+use std::alloc::Global;
+use subcode_author::{AuthorStop, author_stream};
+
+const MOST_TEXT: usize = 67_108_864;
+
+// The cue sheet of the first input, or the status that says why there is none.
+fn read_sheet<S: Source>(alloc: Global, first: &mut S) -> Result<Sheet, Status>
+    ensures ok { IfOk result (ReadsSheet (change S.left first.old first.new)) }
+    ensures err { IfErr result (IsSheetStop (S.left first.old)) }
+    ensures later { S.faults first.old ≤ S.faults first.new }
+    ensures fault { result ≡ Err (Status.ReadFault Which.First)
+        → Rose (S.faults first.old) (S.faults first.new) }
+    ensures no_fault { result ≢ Err (Status.ReadFault Which.First) → S.faults first.new ≡ S.faults first.old }
+    ensures told { OnOk result (Rose (S.ends first.old) (S.ends first.new)) }
+    ensures once { IfErr result (SheetEnds (change S.ends first.old first.new)) }
+{
+    let text = match read_whole(alloc, first, MOST_TEXT) {
+        Ok(text) => text,
+        Err(ReadStop::Failed) => return Err(Status::ReadFault(Which::First)),
+        Err(ReadStop::TooLong) => return Err(Status::Refused(Refusal::TooLong)),
+        Err(ReadStop::NoMemory) => return Err(Status::NoMemory),
+    };
+    match Sheet::parse(alloc, &text) {
+        Ok(sheet) => Ok(sheet),
+        Err(CueStop::Fault { line, why }) => Err(Status::Refused(Refusal::Cue { line, why })),
+        Err(CueStop::NoMemory) => Err(Status::NoMemory),
+    }
+}
+
+// The picture script of the second input, or the status that says why there is none.
+fn read_script<S: Source>(alloc: Global, second: &mut S) -> Result<Script, Status>
+    ensures ok { IfOk result (ReadsScript (change S.left second.old second.new)) }
+    ensures err { IfErr result (IsScriptStop (S.left second.old)) }
+    ensures later { S.faults second.old ≤ S.faults second.new }
+    ensures fault { result ≡ Err (Status.ReadFault Which.Second)
+        → Rose (S.faults second.old) (S.faults second.new) }
+    ensures no_fault { result ≢ Err (Status.ReadFault Which.Second)
+        → S.faults second.new ≡ S.faults second.old }
+    ensures told { OnOk result (Rose (S.ends second.old) (S.ends second.new)) }
+    ensures once { IfErr result (ScriptEnds (change S.ends second.old second.new)) }
+{
+    let text = match read_whole(alloc, second, MOST_TEXT) {
+        Ok(text) => text,
+        Err(ReadStop::Failed) => return Err(Status::ReadFault(Which::Second)),
+        Err(ReadStop::TooLong) => return Err(Status::Refused(Refusal::TooLong)),
+        Err(ReadStop::NoMemory) => return Err(Status::NoMemory),
+    };
+    match Script::parse(alloc, &text) {
+        Ok(script) => Ok(script),
+        Err(ScriptStop::Fault { line, why }) => {
+            Err(Status::Refused(Refusal::Script { line, why }))
+        }
+        Err(ScriptStop::NoMemory) => Err(Status::NoMemory),
+    }
+}
+
+// The status of the answer to a sheet and a script.
+fn author_status(answer: Result<(), AuthorStop>) -> Status
+    ensures { result ≡ author_status answer }
+{
+    match answer {
+        Ok(()) => Status::Done,
+        Err(AuthorStop::LengthShort { need }) => Status::Refused(Refusal::LengthShort { need }),
+        Err(AuthorStop::DiscTooLong { blocks }) => {
+            Status::Refused(Refusal::DiscTooLong { blocks })
+        }
+        Err(AuthorStop::PastEnd { blocks }) => Status::Refused(Refusal::PastEnd { blocks }),
+        Err(AuthorStop::TextTooLong { packs }) => Status::Refused(Refusal::TextTooLong { packs }),
+        Err(AuthorStop::LeadInShort { need }) => Status::Refused(Refusal::LeadInShort { need }),
+        Err(
+            AuthorStop::Late {
+                picture,
+                need,
+                free,
+            },
+        ) => Status::Late {
+            picture,
+            need,
+            free,
+        },
+        Err(AuthorStop::WriteFault) => Status::WriteFault,
+        Err(AuthorStop::NoMemory) => Status::NoMemory,
+    }
+}
+
+/// Writes the stream of a cue sheet, which is the first input, and a picture script, which is the second.
+#[tactic(auto, using(crate::proofs::AuthorTold::told_at_sheet, crate::proofs::AuthorTold::told_at_script, crate::proofs::AuthorTold::sheet_read, crate::proofs::AuthorTold::script_read, crate::proofs::AuthorTold::sheet_stopped, crate::proofs::AuthorTold::script_stopped))]
+pub(crate) fn run_author<S: Source, T: Source, K: Sink>(
+    alloc: Global,
+    lead_in: u32,
+    length: u32,
+    first: &mut S,
+    second: &mut T,
+    out: &mut K,
+) -> Status
+    requires lead_in { lead_in ≤ 450000 }
+    requires length { length < 450000 }
+    ensures does { AuthorsWith lead_in length (call S.left T.left K.held (first.old, second.old, out.old)
+        (first.new, second.new, out.new)) result }
+    ensures never { result ≢ Status.Usage }
+    ensures untouched { result ≢ Status.Done → result ≢ Status.WriteFault → out.new ≡ out.old }
+    ensures second { (second.new ≡ second.old)
+        ⊎ ReadsSecond (Command.Author lead_in length) (change S.left first.old first.new) }
+    ensures faults { TellsFaults (call S.faults T.faults K.faults (first.old, second.old, out.old)
+        (first.new, second.new, out.new)) result }
+    ensures first_ended { SheetEnds (change S.ends first.old first.new) result }
+    ensures second_ended { ScriptEnds (change T.ends second.old second.new) result }
+{
+    let sheet = match read_sheet(alloc, first) {
+        Ok(sheet) => sheet,
+        Err(status) => return status,
+    };
+    let script = match read_script(alloc, second) {
+        Ok(script) => script,
+        Err(status) => return status,
+    };
+    // What holds of every sheet and script, and the law that they have a stream.
+    let _tracks = sheet.tracks();
+    let _pictures = script.pictures();
+    accepted_scripts_have_streams();
+    author_status(author_stream(alloc, &sheet, &script, lead_in, length, out))
+}

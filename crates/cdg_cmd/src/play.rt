@@ -1,0 +1,20 @@
+// The status of what a player answers.
+ghost use Rattle.std.specs.Prelude.{◌≡◌};
+ghost use Rattle.cdg_cmd.specs.Answer.{play_status};
+
+use crate::{Refusal, Status, Which};
+use subcode_player::{PlayStop, Played};
+
+pub(crate) fn play_status(answer: Result<Played, PlayStop>) -> Status
+    ensures { result ≡ play_status answer }
+{
+    match answer {
+        Ok(played) if played.bad == 0 => Status::Done,
+        Ok(played) => Status::Damaged(played.bad),
+        Err(PlayStop::ReadFault) => Status::ReadFault(Which::First),
+        Err(PlayStop::WriteFault) => Status::WriteFault,
+        Err(PlayStop::Torn { block }) => Status::Refused(Refusal::Torn { block }),
+        Err(PlayStop::TooLong) => Status::Refused(Refusal::TooLong),
+        Err(PlayStop::PastEnd { blocks }) => Status::Refused(Refusal::PastEnd { blocks }),
+    }
+}

@@ -1,0 +1,36 @@
+// The command that lists the Q channel of a stream.
+ghost use Rattle.std.specs.Prelude.{◌≡◌, ◌≢◌, ◌≤◌};
+ghost use Rattle.cdg_cmd.specs.Answer.{Does};
+ghost use Rattle.cdg_cmd.specs.Call.{change, one_input};
+ghost use Rattle.cdg_cmd.specs.Ends.{EndsInTurn};
+ghost use Rattle.cdg_cmd.specs.Faults.{TellsOne};
+
+use crate::play::play_status;
+use crate::{Command, Status};
+use cdg_io::{Sink, Source};
+use std::alloc::Global;
+use subcode_player::{Form, Player};
+
+/// Writes the lines of the Q channel as blocks are read.
+#[tactic(auto, using(crate::proofs::Played::told_one, crate::proofs::Played::told_none, crate::proofs::Played::never_memory, crate::proofs::Played::ended_in_turn))]
+pub(crate) fn run_q<S: Source, K: Sink>(
+    alloc: Global,
+    lead_in: u32,
+    form: Form,
+    source: &mut S,
+    out: &mut K,
+) -> Status
+    requires lead_in { lead_in ≤ 450000 }
+    requires form { form ≢ Form.Cooked }
+    ensures does { result ≢ Status.NoMemory → Does (Command.Q lead_in form)
+        (one_input S.left K.held (source.old, out.old) (source.new, out.new)) result }
+    ensures no_memory { result ≡ Status.NoMemory → (source.new ≡ source.old) × (out.new ≡ out.old) }
+    ensures faults { TellsOne (change S.faults source.old source.new)
+        (change K.faults out.old out.new) result }
+    ensures ended { EndsInTurn (change S.ends source.old source.new) result }
+{
+    match Player::start(alloc) {
+        Ok(mut player) => play_status(player.q_list(lead_in, form, source, out)),
+        Err(_) => Status::NoMemory,
+    }
+}

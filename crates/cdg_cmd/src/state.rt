@@ -1,0 +1,39 @@
+// The command that writes the state of the screen at a moment of a stream.
+ghost use Rattle.std.specs.Prelude.{◌≡◌, ◌≢◌, ◌≤◌, ◌<◌};
+ghost use Rattle.cdg_cmd.specs.Answer.{Does};
+ghost use Rattle.cdg_cmd.specs.Call.{change, one_input};
+ghost use Rattle.cdg_cmd.specs.Ends.{EndsFirst};
+ghost use Rattle.cdg_cmd.specs.Faults.{TellsOne};
+ghost use Rattle.cdg_cmd.specs.Keeps.{MayWrite};
+
+use crate::play::play_status;
+use crate::{Command, Status};
+use cdg_io::{Sink, Source};
+use std::alloc::Global;
+use subcode_player::{Form, Player};
+
+/// Writes the state of the screen at a moment of a stream.
+#[tactic(auto, using(crate::proofs::Played::told_one, crate::proofs::Played::told_none, crate::proofs::Played::never_memory, crate::proofs::Played::ended_first, crate::proofs::Played::untouched))]
+pub(crate) fn run_state<S: Source, K: Sink>(
+    alloc: Global,
+    lead_in: u32,
+    form: Form,
+    at: u32,
+    source: &mut S,
+    out: &mut K,
+) -> Status
+    requires lead_in { lead_in ≤ 450000 }
+    requires at { at < 450000 }
+    ensures does { result ≢ Status.NoMemory → Does (Command.State lead_in form at)
+        (one_input S.left K.held (source.old, out.old) (source.new, out.new)) result }
+    ensures no_memory { result ≡ Status.NoMemory → (source.new ≡ source.old) × (out.new ≡ out.old) }
+    ensures untouched { ¬ (MayWrite result) → out.new ≡ out.old }
+    ensures faults { TellsOne (change S.faults source.old source.new)
+        (change K.faults out.old out.new) result }
+    ensures ended { EndsFirst (change S.ends source.old source.new) result }
+{
+    match Player::start(alloc) {
+        Ok(mut player) => play_status(player.state_at(lead_in, form, at, source, out)),
+        Err(_) => Status::NoMemory,
+    }
+}

@@ -1,0 +1,111 @@
+// The commands that turn each block of a stream.
+ghost use Rattle.std.specs.Prelude.{◌≡◌, ◌≢◌, ◌≤◌, List, ℕ, length, IfSome, IsErrOf, Err};
+ghost use Rattle.cdg_io.specs.Causes.{Rose};
+ghost use Rattle.cdg_io.specs.Pump.{IsUnlessFault, TellsEndOf, answer_of};
+ghost use Rattle.block_stages.specs.PlanarStream.{IsBlockStream, IsPlanarStream};
+ghost use Rattle.cdg_cmd.specs.Answer.{Does};
+ghost use Rattle.cdg_cmd.specs.Call.{change, one_input};
+ghost use Rattle.cdg_cmd.specs.Ends.{EndsInTurn};
+ghost use Rattle.cdg_cmd.specs.Faults.{TellsOne};
+ghost use Rattle.cdg_cmd.specs.Turns.{IsTurned, Turns, pump_status};
+
+use crate::{Command, Refusal, Status, Which};
+use block_stages::{BlockForms, PlanarForms};
+use cdg_io::{PumpStop, Pumped, Sink, Source, pump};
+use cdg_workload::scratch;
+
+const MOST_BLOCKS: u32 = 1_000_000;
+
+// The status of what a pump answers.
+pub(crate) fn pump_status(answer: Result<Pumped, PumpStop>) -> Status
+    ensures { result ≡ pump_status answer }
+{
+    match answer {
+        Ok(_) => Status::Done,
+        Err(PumpStop::ReadFault) => Status::ReadFault(Which::First),
+        Err(PumpStop::WriteFault) => Status::WriteFault,
+        Err(PumpStop::Torn { unit }) => Status::Refused(Refusal::Torn { block: unit }),
+        Err(PumpStop::TooLong) => Status::Refused(Refusal::TooLong),
+    }
+}
+
+/// Writes the planar form of each block as the blocks are read.
+fn planar_stream<S: Source, K: Sink>(source: &mut S, out: &mut K) -> Result<Pumped, PumpStop>
+    ensures turns { (taken : List ℕ) × Turns (IsTurned IsPlanarStream) (change S.left source.old source.new)
+        (change K.held out.old out.new) result taken }
+    ensures answer { IfSome (S.left source.old) (λ all. IsUnlessFault result (answer_of 96 1000000
+        (length all))) }
+    ensures source_later { S.faults source.old ≤ S.faults source.new }
+    ensures out_later { K.faults out.old ≤ K.faults out.new }
+    ensures read_fault { IsErrOf result PumpStop.ReadFault
+        → Rose (S.faults source.old) (S.faults source.new) }
+    ensures no_read_fault { result ≢ Err PumpStop.ReadFault → S.faults source.new ≡ S.faults source.old }
+    ensures ended { TellsEndOf result (S.ends source.old) (S.ends source.new) }
+    ensures write_fault { IsErrOf result PumpStop.WriteFault → Rose (K.faults out.old) (K.faults out.new) }
+    ensures no_write_fault { result ≢ Err PumpStop.WriteFault → K.faults out.new ≡ K.faults out.old }
+{
+    pump(source, MOST_BLOCKS, &mut PlanarForms, out)
+}
+
+/// Writes the block of each planar form as the blocks are read.
+fn raw_stream<S: Source, K: Sink>(source: &mut S, out: &mut K) -> Result<Pumped, PumpStop>
+    ensures turns { (taken : List ℕ) × Turns (IsTurned IsBlockStream) (change S.left source.old source.new)
+        (change K.held out.old out.new) result taken }
+    ensures answer { IfSome (S.left source.old) (λ all. IsUnlessFault result (answer_of 96 1000000
+        (length all))) }
+    ensures source_later { S.faults source.old ≤ S.faults source.new }
+    ensures out_later { K.faults out.old ≤ K.faults out.new }
+    ensures read_fault { IsErrOf result PumpStop.ReadFault
+        → Rose (S.faults source.old) (S.faults source.new) }
+    ensures no_read_fault { result ≢ Err PumpStop.ReadFault → S.faults source.new ≡ S.faults source.old }
+    ensures ended { TellsEndOf result (S.ends source.old) (S.ends source.new) }
+    ensures write_fault { IsErrOf result PumpStop.WriteFault → Rose (K.faults out.old) (K.faults out.new) }
+    ensures no_write_fault { result ≢ Err PumpStop.WriteFault → K.faults out.new ≡ K.faults out.old }
+{
+    pump(source, MOST_BLOCKS, &mut BlockForms, out)
+}
+
+/// Writes a stream with the scratches of a seed as its blocks are read.
+#[tactic(auto, using(crate::proofs::Pumped::told_one, crate::proofs::Pumped::ended_in_turn, crate::proofs::Pumped::never_memory))]
+pub(crate) fn run_scratch<S: Source, K: Sink>(
+    lead_in: u32,
+    seed: u64,
+    source: &mut S,
+    out: &mut K,
+) -> Status
+    requires { lead_in ≤ 450000 }
+    ensures does { Does (Command.Scratch lead_in seed) (one_input S.left K.held (source.old, out.old)
+        (source.new, out.new)) result }
+    ensures memory { result ≢ Status.NoMemory }
+    ensures faults { TellsOne (change S.faults source.old source.new)
+        (change K.faults out.old out.new) result }
+    ensures ended { EndsInTurn (change S.ends source.old source.new) result }
+{
+    pump_status(scratch(lead_in, seed, source, out))
+}
+
+/// Writes the planar form of each block as the blocks are read.
+#[tactic(auto, using(crate::proofs::Pumped::told_one, crate::proofs::Pumped::ended_in_turn, crate::proofs::Pumped::never_memory))]
+pub(crate) fn run_planar<S: Source, K: Sink>(source: &mut S, out: &mut K) -> Status
+    ensures does { Does Command.Planar (one_input S.left K.held (source.old, out.old)
+        (source.new, out.new)) result }
+    ensures memory { result ≢ Status.NoMemory }
+    ensures faults { TellsOne (change S.faults source.old source.new)
+        (change K.faults out.old out.new) result }
+    ensures ended { EndsInTurn (change S.ends source.old source.new) result }
+{
+    pump_status(planar_stream(source, out))
+}
+
+/// Writes the block of each planar form as the blocks are read.
+#[tactic(auto, using(crate::proofs::Pumped::told_one, crate::proofs::Pumped::ended_in_turn, crate::proofs::Pumped::never_memory))]
+pub(crate) fn run_raw<S: Source, K: Sink>(source: &mut S, out: &mut K) -> Status
+    ensures does { Does Command.Raw (one_input S.left K.held (source.old, out.old)
+        (source.new, out.new)) result }
+    ensures memory { result ≢ Status.NoMemory }
+    ensures faults { TellsOne (change S.faults source.old source.new)
+        (change K.faults out.old out.new) result }
+    ensures ended { EndsInTurn (change S.ends source.old source.new) result }
+{
+    pump_status(raw_stream(source, out))
+}

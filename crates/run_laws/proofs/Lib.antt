@@ -1,0 +1,5 @@
+mod Accepted
+mod Clean
+mod Refusals
+mod Scratched
+mod SecondFaults

@@ -1,0 +1,80 @@
+-- Which statuses tell a fault of the second input.
+use Rattle.std.proofs.Common.{◌≢◌, ◌==◌, ℕ, Bool, true, false, Result, Ok, Err, sym, if◌then◌else◌}
+use Rattle.cdg_io.specs.declared.pumping.Pumped.{Pumped}
+use Rattle.cdg_io.specs.declared.pumping.PumpStop.{PumpStop}
+use Rattle.cdg_io.specs.declared.pumping.PumpStop.TheVariants as pump
+use Rattle.cdtext_packs.specs.declared.kinds.TextFault.TheVariants as fault
+use Rattle.subcode_author.specs.declared.stops.AuthorStop.{AuthorStop}
+use Rattle.subcode_author.specs.declared.stops.AuthorStop.TheVariants as stop
+use Rattle.subcode_player.specs.declared.player.Played.{Played}
+use Rattle.subcode_player.specs.declared.player.PlayStop.{PlayStop}
+use Rattle.subcode_player.specs.declared.player.PlayStop.TheVariants as play
+use Rattle.subcode_player.specs.declared.text_listing.TextStop.{TextStop}
+use Rattle.subcode_player.specs.declared.text_listing.TextStop.TheVariants as texts
+use Rattle.cdg_cmd.specs.Answer.{Does, play_status, text_status}
+use Rattle.cdg_cmd.specs.Authors.{Answers, AuthorsWith, StopsAtScript, StopsAtSheet, author_status}
+use Rattle.cdg_cmd.specs.Call.{Bytes, Call}
+use Rattle.cdg_cmd.specs.Keeps.{ReadsSecond}
+use Rattle.cdg_cmd.specs.Turns.{pump_status}
+use Rattle.cdg_cmd.specs.declared.command.Command.{Command}
+use Rattle.cdg_cmd.specs.declared.command.Command.TheVariants.{Convert, Screen, State, Check, Q, Text, Author, Planar, Raw, Scratch, Gen, Trial}
+use Rattle.cdg_cmd.specs.declared.status.Status.TheVariants.{Done, Damaged, ReadFault}
+use Rattle.cdg_cmd.specs.declared.status.Which.TheVariants.{Second}
+
+whole : (good : Bool) (n : ℕ) → (if good then Done else Damaged n) ≢ ReadFault Second
+whole true n e = absurd (cc)
+whole false n e = absurd (cc)
+
+played : (answer : Result Played PlayStop) → play_status answer ≢ ReadFault Second
+played (Ok done) e = whole (done.bad == 0) done.bad e
+played (Err play.ReadFault) e = absurd (cc)
+played (Err play.WriteFault) e = absurd (cc)
+played (Err (play.Torn block)) e = absurd (cc)
+played (Err play.TooLong) e = absurd (cc)
+played (Err (play.PastEnd blocks)) e = absurd (cc)
+
+listed : (answer : Result Played TextStop) → text_status answer ≢ ReadFault Second
+listed (Ok done) e = absurd (cc)
+listed (Err (texts.Play why)) e = played (Err why) e
+listed (Err (texts.Text (fault.Missing seq))) e = absurd (cc)
+listed (Err (texts.Text fault.NoSize)) e = absurd (cc)
+listed (Err (texts.Text (fault.Malformed seq byte))) e = absurd (cc)
+listed (Err (texts.Text fault.NoMemory)) e = absurd (cc)
+
+pumped : (answer : Result Pumped PumpStop) → pump_status answer ≢ ReadFault Second
+pumped (Ok done) e = absurd (cc)
+pumped (Err pump.ReadFault) e = absurd (cc)
+pumped (Err pump.WriteFault) e = absurd (cc)
+pumped (Err (pump.Torn unit)) e = absurd (cc)
+pumped (Err pump.TooLong) e = absurd (cc)
+
+authored : (answer : Result (Unit {0}) AuthorStop) → author_status answer ≢ ReadFault Second
+authored (Ok done) e = absurd (cc)
+authored (Err (stop.LengthShort need)) e = absurd (cc)
+authored (Err (stop.DiscTooLong blocks)) e = absurd (cc)
+authored (Err (stop.PastEnd blocks)) e = absurd (cc)
+authored (Err (stop.TextTooLong packs)) e = absurd (cc)
+authored (Err (stop.LeadInShort need)) e = absurd (cc)
+authored (Err (stop.Late picture need free)) e = absurd (cc)
+authored (Err stop.WriteFault) e = absurd (cc)
+authored (Err stop.NoMemory) e = absurd (cc)
+
+of_author : (lead_in length : ℕ) (call : Call Bytes) → AuthorsWith lead_in length call (ReadFault Second) → ReadsSecond (Author lead_in length) call.first
+of_author lead_in length call (StopsAtSheet why nothing) = absurd why
+of_author lead_in length call (StopsAtScript sheet reads why nothing) = (sheet, reads)
+of_author lead_in length call (Answers sheet script answer reads_sheet reads_script is put) = absurd (authored answer (sym is))
+
+-- what a command did, if it ends so
+pub read_first : (command : Command) (call : Call Bytes) → Does command call (ReadFault Second) → ReadsSecond command call.first
+read_first (Convert lead_in form) call d = played d.answer (sym d.status_is)
+read_first (Screen lead_in form at) call d = played d.answer (sym d.status_is)
+read_first (State lead_in form at) call d = played d.answer (sym d.status_is)
+read_first (Check lead_in form) call d = played d.answer (sym d.status_is)
+read_first (Q lead_in form) call d = played d.answer (sym d.status_is)
+read_first (Text lead_in form) call d = listed d.answer (sym d.status_is)
+read_first (Author lead_in length) call d = of_author lead_in length call d
+read_first Planar call d = pumped d.answer (sym d.status_is)
+read_first Raw call d = pumped d.answer (sym d.status_is)
+read_first (Scratch lead_in seed) call d = pumped d.answer (sym d.status_is)
+read_first (Gen seed pictures) call d = d
+read_first (Trial seed pictures) call d = d.2

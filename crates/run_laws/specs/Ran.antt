@@ -1,0 +1,13 @@
+-- What `run` says of its command.
+use Rattle.std.specs.Prelude.{◌≡◌, ◌≢◌, []}
+use Rattle.std.specs.Io.KnownBytes.{Appends}
+use Rattle.cdg_cmd.specs.Answer.{Does}
+use Rattle.cdg_cmd.specs.Call.{Bytes, Call}
+use Rattle.cdg_cmd.specs.declared.command.Command.{Command}
+use Rattle.cdg_cmd.specs.declared.status.Status.{Status}
+use Rattle.cdg_cmd.specs.declared.status.Status.TheVariants.{NoMemory}
+
+-- A command was run: where memory was found it did this, and else nothing was written.
+pub record IsRun (command : Command) (call : Call Bytes) (status : Status) : Type 0 where
+  pub does : status ≢ NoMemory → Does command call status
+  pub nothing : status ≡ NoMemory → Appends call.out.before call.out.after []

@@ -1,0 +1,75 @@
+// What conversions and screens give of streams.
+ghost use Rattle.std.specs.Prelude.{◌≡◌, ◌≤◌, ℕ, List, IfSome};
+ghost use Rattle.std.specs.List.{concat};
+ghost use Rattle.raw_subcode.specs.Channels.{program_symbols};
+ghost use Rattle.raw_subcode.specs.declared.form.Form.{Form};
+ghost use Rattle.raw_subcode.specs.declared.form.Form.TheVariants.{Raw};
+ghost use Rattle.cue_sheet.specs.CueSheet.{CueSheet};
+ghost use Rattle.picture_script.specs.Script.{Drawing};
+ghost use Rattle.toc_model.specs.Places.{program_blocks};
+ghost use Rattle.cdg_workload.specs.Scratches.{scratched};
+ghost use Rattle.stream_words.specs.Stream.{all_packs};
+ghost use Rattle.subcode_author.specs.Authored.{IsAuthored};
+ghost use Rattle.subcode_player.specs.Convert.{IsDamagedStream};
+ghost use Rattle.subcode_player.specs.Pictured.{IsHeldAt, IsScheduledStream};
+ghost use Rattle.cdg_cmd.specs.Answer.{GivesBack};
+ghost use Rattle.cdg_cmd.specs.Call.{Bytes, Call};
+ghost use Rattle.cdg_cmd.specs.Headline.{PutsPicture};
+ghost use Rattle.cdg_cmd.specs.declared.command.Command.TheVariants.{Convert, Screen};
+ghost use Rattle.cdg_cmd.specs.declared.status.Status.{Status};
+ghost use Rattle.run_laws.specs.Ran.{IsRun};
+ghost use Rattle.run_laws.specs.Undamaged.{IsCleanStream, words_of};
+
+use scratched_streams::scratched_streams_are_damaged;
+use stream_words::{clean_words_are_found, packs_are_recovered, text_of_packs};
+use subcode_player::screens_show_pictures;
+
+/// A law: from damage of at most two symbols a word a conversion gives back every pack of a stream, wherever it comes from.
+pub fn damaged_streams_give_their_packs()
+    ensures { (lead_in : ℕ) (form : Form) (call : Call Bytes) (status : Status)
+        → IsRun (Convert lead_in form) call status
+        → IfSome call.first.before (λ all. (blocks : ℕ) (packs : List (List ℕ))
+        → IsDamagedStream form lead_in blocks packs all
+        → GivesBack (concat (all_packs form blocks packs)) call.out status) }
+{
+    packs_are_recovered();
+    text_of_packs();
+}
+
+/// A law: from its ready time to its hold time each picture of a script is shown, of any stream whose packs are a schedule of
+/// it, whatever damage of at most two symbols a word does.
+pub fn scheduled_streams_show_their_pictures()
+    ensures { (lead_in at : ℕ) (form : Form) (call : Call Bytes) (status : Status)
+        → IsRun (Screen lead_in form at) call status
+        → IfSome call.first.before (λ all. (script : List Drawing) (k : ℕ)
+        → IsScheduledStream form lead_in script all → IsHeldAt script k at
+        → PutsPicture script k call.out status) }
+{
+    screens_show_pictures();
+}
+
+/// A law: of a stream whose words are all codewords a conversion writes these words.
+pub fn clean_streams_give_their_words()
+    ensures { (lead_in : ℕ) (form : Form) (call : Call Bytes) (status : Status)
+        → IsRun (Convert lead_in form) call status
+        → IfSome call.first.before (λ all. IsCleanStream form lead_in all
+        → GivesBack (concat (words_of form (program_symbols form all lead_in))) call.out status) }
+{
+    clean_words_are_found();
+    text_of_packs();
+}
+
+/// A law: of a scratched authored stream a conversion gives back every scheduled pack.
+pub fn scratched_streams_give_their_packs()
+    ensures { (lead_in audio seed : ℕ) (sheet : CueSheet) (script : List Drawing) (bytes : List ℕ)
+        (packs : List (List ℕ))
+        (call : Call Bytes) (status : Status) → IsRun (Convert lead_in Raw) call status
+        → lead_in ≤ 450000 → program_blocks sheet audio ≤ 449999
+        → IsAuthored sheet script lead_in audio bytes packs
+        → IfSome call.first.before (λ all. all ≡ scratched lead_in seed bytes
+        → GivesBack (concat packs) call.out status) }
+{
+    packs_are_recovered();
+    text_of_packs();
+    scratched_streams_are_damaged();
+}
