@@ -1,5 +1,6 @@
 // The first field of a file that is out of its range.
-ghost use Rattle.std.specs.Prelude.{◌≡◌, ◌≤◌, ◌+◌, ◌<◌, ℕ, length, MatchResult, slice_index};
+ghost use Rattle.std.specs.Prelude.{◌≡◌, ◌≤◌, ◌+◌, ◌<◌, ℕ, length, MatchResult, slice_index, take};
+ghost use Rattle.bit_lists.specs.Check.{check_of};
 ghost use Rattle.std.specs.List.{AllByRecursion};
 ghost use Rattle.checkpoint_files.specs.Table.{Across, Bad, Border, Check, Colours, Down, IsBadAt, IsCheckpointFile, IsFirstOut, IsOutOfPart, IsPartInRange, LeadIn, Levels, Mark, Memory, Program, Slots, ToCome, empty_symbols, mark, parts};
 ghost use Rattle.checkpoint_files.specs.Scan.{IsFirstAbove};
@@ -177,10 +178,18 @@ impl CheckpointFile {
         requires { length self.now ≡ 65045 }
         ensures { MatchResult result (λ _. IsPartInRange self.now Check) (IsOutOfPart self.now Check) }
     {
-        if self.short_number(CHECK) != crc16(&self.bytes[..CHECK]) {
+        if self.short_number(CHECK) != self.check_of_body() {
             return Err(CHECK as u32);
         }
         Ok(())
+    }
+
+    // The check of all bytes before it.
+    fn check_of_body(&self) -> u16
+        requires { length self.now ≡ 65045 }
+        ensures { result ≡ check_of (take 65043 self.now) }
+    {
+        crc16(&self.bytes()[..CHECK])
     }
 
     // Are all these bytes below a bound? If not, where the first one stands.
