@@ -1,0 +1,3 @@
+pub mod Tracked
+pub mod Saved
+pub mod Keeping

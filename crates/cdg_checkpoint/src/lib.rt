@@ -1,0 +1,11 @@
+//! Checkpoints in the middle of a stream: the state of a player is saved, and playing goes on from it.
+#![tactic(auto)]
+
+mod checkpointer;
+mod pictures;
+mod saving;
+mod tracking;
+mod watching;
+
+pub use checkpointer::Checkpointer;
+pub use tracking::Tracking;
