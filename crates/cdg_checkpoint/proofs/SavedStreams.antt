@@ -104,22 +104,22 @@ module _ (lead_in : ℕ) (left left' held held' : Option (List ℕ)) (s s' : Tra
   saved : IsSaved lead_in taken pumped file
   saved = is_saved lead_in pumped.units taken file s s' fresh w.done.2 w.done.1 w.done.3 kept
 
-  pub saves_done : Appends held held' file → Saves lead_in left left' held held' (Ok pumped) taken
-  saves_done put = record {
+  pub saves_done : (text : List ℕ) → text ≡ file → Appends held held' text → Saves lead_in left left' held held' (Ok pumped) taken
+  saves_done text e put = record {
     taken_from = w.taken_from;
     within = w.within;
-    done = (w.done.0, (file, saved, put));
+    done = (w.done.0, (file, saved, subst (λ (t : List ℕ). Appends held held' t) e put));
     stopped = λ stop e not. (cc);
     ended = λ stop e not. (cc);
     cut = λ e. (cc);
   }
 
-  pub saves_cut : AppendsPrefix held held' file → Saves lead_in left left' held held' (Err WriteFault) taken
-  saves_cut put = record {
+  pub saves_cut : (text : List ℕ) → text ≡ file → AppendsPrefix held held' text → Saves lead_in left left' held held' (Err WriteFault) taken
+  saves_cut text e put = record {
     taken_from = w.taken_from;
     within = w.within;
     done = tt;
     stopped = λ stop e not. let same : WriteFault ≡ stop = cc in absurd (not (sym same));
     ended = λ stop e not. w.done.0;
-    cut = λ e. (w.done.0, (file, (pumped, saved), put));
+    cut = λ h. (w.done.0, (file, (pumped, saved), subst (λ (t : List ℕ). AppendsPrefix held held' t) e put));
   }
