@@ -1,5 +1,5 @@
 -- The steps of a stage that draws all packs of a stream and keeps its last slots.
-use Rattle.std.specs.Prelude.{◌≡◌, ℕ, ◌==◌, ◌+◌, ◌*◌, ◌≤◌, if◌then◌else◌, List, ◌++◌, drop, length, Option, None, Result, Ok, Err, IfOk, ◌≢◌}
+use Rattle.std.specs.Prelude.{◌≡◌, ℕ, ◌==◌, ◌+◌, ◌*◌, ◌<◌, ◌≤◌, if◌then◌else◌, List, ◌++◌, drop, length, Option, None, Result, Ok, Err, IfOk, ◌≢◌}
 use Rattle.std.specs.Io.KnownBytes.{Consumes, IsAtEnd}
 use Rattle.cdg_io.specs.Pump.{units_of}
 use Rattle.cdg_io.specs.Run.{run_state, then_second}
@@ -30,5 +30,5 @@ pub record Watches {S : Type 0} (limit : ℕ) (next : S → List ℕ → S) (lef
   pub taken_from : Consumes left left' taken
   pub within : length taken ≤ limit * 96 + 1
   pub done : IfOk result (λ p. IsAtEnd left' × (length taken ≡ p.units * 96) × (p.units ≤ limit) × (s' ≡ run_state next s (units_of 96 p.units taken)))
-  pub torn : (unit : ℕ) → result ≡ Err (Torn unit) → IsAtEnd left'
+  pub torn : (unit : ℕ) → result ≡ Err (Torn unit) → IsAtEnd left' × (unit < limit)
   pub no_write : result ≢ Err WriteFault

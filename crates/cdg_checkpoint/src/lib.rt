@@ -3,9 +3,15 @@
 
 mod checkpointer;
 mod pictures;
+mod resuming;
 mod saving;
+mod stops;
 mod tracking;
 mod watching;
 
 pub use checkpointer::Checkpointer;
+pub use stops::{ResumeStop, Resumed};
 pub use tracking::Tracking;
+
+#[cfg(test)]
+mod tests;
