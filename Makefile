@@ -1,6 +1,8 @@
 # Builds the program, shows it at work, and checks the repository.
 
-.PHONY: all demo check bench clean
+.PHONY: all demo check bench guide install uninstall clean
+
+PREFIX ?= /usr/local
 
 # Proves the program and what it stands on, builds it, and leaves it as bin/ribjasper.
 all:
@@ -19,6 +21,25 @@ check:
 # How fast streams are converted.
 bench:
 	bench/throughput.sh
+
+# The commands of the guide, as they stand.
+guide:
+	tools/run_guide.sh
+
+# The program, its manual page and the completions of two shells, below PREFIX.
+install:
+	[ -x bin/ribjasper ] || tools/build.sh
+	install -d $(DESTDIR)$(PREFIX)/bin $(DESTDIR)$(PREFIX)/share/man/man1
+	install -d $(DESTDIR)$(PREFIX)/share/bash-completion/completions $(DESTDIR)$(PREFIX)/share/zsh/site-functions
+	install -m 755 bin/ribjasper $(DESTDIR)$(PREFIX)/bin/ribjasper
+	install -m 644 share/ribjasper.1 $(DESTDIR)$(PREFIX)/share/man/man1/ribjasper.1
+	install -m 644 share/ribjasper.bash $(DESTDIR)$(PREFIX)/share/bash-completion/completions/ribjasper
+	install -m 644 share/_ribjasper $(DESTDIR)$(PREFIX)/share/zsh/site-functions/_ribjasper
+
+uninstall:
+	rm -f $(DESTDIR)$(PREFIX)/bin/ribjasper $(DESTDIR)$(PREFIX)/share/man/man1/ribjasper.1
+	rm -f $(DESTDIR)$(PREFIX)/share/bash-completion/completions/ribjasper
+	rm -f $(DESTDIR)$(PREFIX)/share/zsh/site-functions/_ribjasper
 
 clean:
 	rm -rf bin crates/*/out

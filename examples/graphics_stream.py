@@ -2,7 +2,8 @@
 """Writes a small raw subcode stream with all nine graphics instructions to standard output.
 
 Each pack is made by the rules of docs/FORMATS.md, by its own arithmetic and not by the program's, so that the program can be
-compared with it. With the word `cdg` the packs are written as a .cdg file in place of the stream.
+compared with it. With the word `cdg` the packs are written as a .cdg file in place of the stream, and with the word `state` the
+lines of `ribjasper state` at its end.
 """
 import sys
 
@@ -90,11 +91,25 @@ def letter(name, colours, row, column):
     ]
 
 
+LOW = [0x000, 0xF00, 0x00F, 0xFF0, 0x0F0, 0x0FF, 0xF0F, 0xFFF]
+HIGH = [0x888, 0x800, 0x080, 0x008, 0x880, 0x088, 0x808, 0x444]
+# Of transparency, which players keep and do not show.
+LEVELS = [0] + list(range(48, 63))
+
+
+def state():
+    """The lines of `state` at the end of the scene."""
+    lines = ["border 02", "offset 0 00"]
+    for k, (colour, level) in enumerate(zip(LOW + HIGH, LEVELS)):
+        lines.append(f"colour {k:02} {colour:04x} level {level:02}")
+    return lines
+
+
 def scene():
     """The packs, a border as the memory's own colour, so that players that paint it into the memory agree."""
     packs = [memory_preset(2), border_preset(2)]
-    packs.append(colours(30, [0x000, 0xF00, 0x00F, 0xFF0, 0x0F0, 0x0FF, 0xF0F, 0xFFF]))
-    packs.append(colours(31, [0x888, 0x800, 0x080, 0x008, 0x880, 0x088, 0x808, 0x444]))
+    packs.append(colours(30, LOW))
+    packs.append(colours(31, HIGH))
     packs.append(pack(28, [0] * 16))
     for k, name in enumerate("RIBJASPER"):
         packs += letter(name, (2, 7), 4, 16 + 2 * k)
@@ -108,6 +123,7 @@ def scene():
     packs += [IDLE] * 10
     packs += [scroll(20, 2, 2, 0), scroll(20, 2, 0, 1)]
     packs += [IDLE] * 60
+    packs.append(pack(28, LEVELS))
     return packs
 
 
@@ -128,5 +144,8 @@ def spread(packs):
 
 if __name__ == "__main__":
     packs = scene()
+    if sys.argv[1:] == ["state"]:
+        print("\n".join(state()))
+        sys.exit()
     out = b"".join(map(bytes, packs)) if sys.argv[1:] == ["cdg"] else bytes(spread(packs))
     sys.stdout.buffer.write(out)

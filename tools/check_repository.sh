@@ -27,6 +27,11 @@ for crate in $present; do
     grep -qw "$crate" docs/ARCHITECTURE.md || complain "docs/ARCHITECTURE.md leaves out $crate"
 done
 
+# The manual page and the completions are those of the table of commands, which README.md lists too, and
+# the guide's commands do what it says.
+tools/commands.py --check || complain "share/ is not what tools/commands.py writes"
+tools/run_guide.sh || complain "the guide does not run"
+
 # Each file that a document links to is there.
 for document in $(git ls-files '*.md'); do
     folder=$(dirname "$document")
@@ -46,7 +51,7 @@ if [ -f README.md ]; then
 fi
 
 # Scripts are programs.
-for script in .ci/run tools/*.sh tools/list_definitions.py bench/*.sh examples/*.sh; do
+for script in .ci/run tools/*.sh tools/list_definitions.py tools/commands.py bench/*.sh examples/*.sh; do
     [ -x "$script" ] || complain "$script cannot be run"
 done
 

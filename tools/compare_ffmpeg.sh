@@ -1,8 +1,9 @@
 #!/bin/sh
 # Compares our screens with ffmpeg's decoding of the packs that we convert, at several moments of a stream with all nine
 # graphics instructions, pixel by pixel in the window inside the border. The scene keeps to what both read alike: presets repeat 0,
-# the border has the memory's own colour and no offset across is set (docs/DECISIONS.md says where ffmpeg differs). Skipped where ffmpeg or
-# bin/ribjasper is missing.
+# the border has the memory's own colour and no offset across is set (docs/DECISIONS.md says where ffmpeg differs). What ffmpeg does
+# not show, the border and the levels of transparency, is compared with what examples/graphics_stream.py set. Skipped where
+# ffmpeg or bin/ribjasper is missing.
 set -e
 cd "$(dirname "$0")/.."
 command -v ffmpeg >/dev/null || { echo "compare_ffmpeg: skipped, there is no ffmpeg (apt-get install ffmpeg)"; exit 0; }
@@ -26,4 +27,13 @@ for frame in 30 45 46 47 48 50 55 64; do
         failed=1
     fi
 done
+blocks=$(($(wc -c <"$work/scene.raw") / 96))
+python3 examples/graphics_stream.py state >"$work/state"
+bin/ribjasper state --lead-in 0 --at "$(printf '00:%02d:%02d' $((blocks / 75)) $((blocks % 75)))" <"$work/scene.raw" |
+    tr A-F a-f >"$work/ours"
+if cmp "$work/state" "$work/ours"; then
+    echo "compare_ffmpeg: border, offsets, colours and levels at the end are those that were set"
+else
+    failed=1
+fi
 exit "$failed"

@@ -18,6 +18,9 @@ done
 
 printf 'FILE "trial" WAVE\nTRACK 01 AUDIO\nINDEX 01 00:00:00\n' >"$work/sheet"
 bin/ribjasper gen --seed 42 --pictures 1 >"$work/script"
+# The script of this seed, worked out by hand from the rule of the generator.
+printf 'rect 119 28 113 72 4\nrect 144 29 36 6 2\nrect 267 100 12 42 0\nshow 00:10:50 00:10:70\n' >"$work/pictures"
+sed 1,16d "$work/script" | cmp - "$work/pictures" || { echo "the script of seed 42 differs"; exit 1; }
 bin/ribjasper author --lead-in 0 --length 00:10:70 -- "$work/sheet" "$work/script" >"$work/stream"
 bin/ribjasper scratch --lead-in 0 --seed 42 <"$work/stream" >"$work/scratched"
 bin/ribjasper check --lead-in 0 <"$work/scratched" | grep -E '^(packs|one|two|bad) ' >"$work/checked"

@@ -17,6 +17,8 @@ printf 'show 00:00:02 00:00:02\n' >"$work/late"
 : >"$work/empty"
 head -c 192 /dev/zero >"$work/blocks"
 bin/ribjasper author --lead-in 12 --length 00:00:01 -- "$work/titled" "$work/empty" >"$work/texts"
+head -c 96 /dev/zero >"$work/packs"
+bin/ribjasper save --lead-in 0 <"$work/blocks" >"$work/saved"
 
 failures=0
 # Runs a command with a request refused, and says what came of it: run NUMBER OUT ERR WORDS..
@@ -49,6 +51,19 @@ try() {
 }
 
 try convert --lead-in 0 -- "$work/blocks"
+try screen --lead-in 0 --at 00:00:02 -- "$work/blocks"
+try state --lead-in 0 --at 00:00:02 -- "$work/blocks"
+try check --lead-in 0 -- "$work/blocks"
+try q --lead-in 0 -- "$work/blocks"
+try planar -- "$work/blocks"
+try raw -- "$work/blocks"
+try scratch --lead-in 0 --seed 1 -- "$work/blocks"
+try gen --seed 1 --pictures 1
+try merge --lead-in 0 -- "$work/blocks" "$work/blocks"
+try press --lead-in 12 --length 00:00:01 -- "$work/titled" "$work/packs"
+try thin -- "$work/packs"
+try save --lead-in 0 -- "$work/blocks"
+try resume --at 00:00:02 -- "$work/saved" "$work/empty"
 try author --lead-in 0 --length 00:00:01 -- "$work/sheet" "$work/late"
 try author --lead-in 0 --length 00:00:01 -- "$work/sheet" "$work/empty"
 try text --lead-in 12 -- "$work/texts"

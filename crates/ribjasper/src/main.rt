@@ -6,7 +6,6 @@ mod input;
 use cdg_cmd::{Status, run, split, tell};
 use cdg_io::{ReadSource, SteadySink, WriteSink};
 use input::Input;
-use std::fs::File;
 use std::io::{BufReader, BufWriter, ErrorKind, Write};
 use std::process::ExitCode;
 use std::{env, io};
@@ -28,19 +27,11 @@ fn words(rt: &HostRuntime) -> io::Result<Vec<String>> {
     Ok(words)
 }
 
-// The input of this name.
-fn open(rt: &HostRuntime, name: &str) -> Input {
-    match File::open(rt, name) {
-        Ok(file) => Input::Named(file),
-        Err(_) => Input::Missing,
-    }
-}
-
 // The two inputs: those that are named, or standard input.
-fn inputs(rt: &HostRuntime, names: &[String]) -> (Input, Input) {
+fn inputs<'a>(rt: &'a HostRuntime, names: &'a [String]) -> (Input<'a>, Input<'a>) {
     match names {
-        [first, second] => (open(rt, first), open(rt, second)),
-        [first] => (open(rt, first), Input::Empty),
+        [first, second] => (Input::Unopened(rt, first), Input::Unopened(rt, second)),
+        [first] => (Input::Unopened(rt, first), Input::Empty),
         _ => (Input::Standard(rt.stdin()), Input::Empty),
     }
 }

@@ -1,0 +1,180 @@
+#!/usr/bin/env python3
+"""Writes the manual page and the completions of two shells from the tables of docs/FORMATS.md.
+
+The files are share/ribjasper.1, share/ribjasper.bash and share/_ribjasper. With --check it only says whether
+they are what would be written, and whether README.md lists the same commands.
+"""
+import re
+import sys
+from pathlib import Path
+
+TOP = Path(__file__).resolve().parent.parent
+FORMS = ["raw", "sector", "cooked"]
+# These two read no cooked stream.
+WITHOUT_COOKED = ["q", "text"]
+
+
+def table(text, head):
+    """The rows of the table whose first line is the head, each a list of its cells."""
+    lines = text.splitlines()
+    first = lines.index(head) + 2
+    rows = []
+    for line in lines[first:]:
+        if not line.startswith("|"):
+            break
+        rows.append([cell.strip() for cell in line.strip("|").split("|")])
+    return rows
+
+
+def bare(cell):
+    """A cell without the marks of code."""
+    return cell.replace("`", "")
+
+
+def roff(text):
+    """A text for a manual page."""
+    return bare(text).replace("\\", "\\e").replace("-", "\\-")
+
+
+def words_of(row):
+    """The name of a command and its options, each with whether it may be left out."""
+    name, *rest = bare(row[0]).split()
+    options = re.findall(r"(\[)?(--[a-z-]+)", " ".join(rest))
+    return name, [(option, bool(free)) for free, option in options]
+
+
+def manual(commands, letters, statuses, reasons):
+    out = [
+        ".\\\" Written by tools/commands.py from docs/FORMATS.md.",
+        '.TH RIBJASPER 1 "" "Ribjasper" "User commands"',
+        ".SH NAME",
+        "ribjasper \\- the subcode of Compact Discs: graphics, texts, Q frames, both ways",
+        ".SH SYNOPSIS",
+        ".B ribjasper",
+        ".I words",
+        ".RB [ \\-\\-",
+        ".IR first \" [\" second ]]",
+        ".SH DESCRIPTION",
+        "Works on the subcode channels P to W of a Compact Disc. What is read is standard input, or the files that are",
+        "named after a word",
+        ".BR \\-\\- ;",
+        "what is written is standard output. Streams are read and written as they come.",
+        ".SH COMMANDS",
+    ]
+    for words, inputs, output in commands:
+        out += [".TP", f".B {roff(words)}", f"Reads {roff(inputs)}. Writes {roff(output)}."]
+    out += [".SH VALUES"]
+    for letter, meaning, spelled in letters:
+        said = meaning if spelled == "the same" else f"{meaning}: {spelled}"
+        out += [".TP", f".B {letter}", roff(said).replace("'", "\\(aq") + "."]
+    out += [".SH EXIT STATUS"]
+    for status, exit_number, line in statuses:
+        said = "nothing is written to standard error" if line == "none" else f"standard error has {roff(line)}"
+        out += [".TP", f".B {exit_number}", f"{roff(status)}; {said}."]
+    out += [".SH REFUSALS", "What stands after", ".BR refused :"]
+    for reason, comes in reasons:
+        out += [".TP", f".B {roff(reason)}", roff(comes) + "."]
+    out += [
+        ".SH EXAMPLES",
+        "The packs of a dump with 30 blocks of lead\\-in, damage corrected:",
+        ".PP",
+        ".RS",
+        "ribjasper convert \\-\\-lead\\-in 30 \\-\\- disc.raw >disc.cdg",
+        ".RE",
+    ]
+    return "\n".join(out) + "\n"
+
+
+def values_of(name, option):
+    """What may stand after an option, as far as it can be listed."""
+    if option != "--form":
+        return []
+    return [form for form in FORMS if not (form == "cooked" and name in WITHOUT_COOKED)]
+
+
+def bash(commands):
+    names = " ".join(words_of(row)[0] for row in commands)
+    out = [
+        "# Completion for bash. Written by tools/commands.py from docs/FORMATS.md.",
+        "_ribjasper() {",
+        "    local word=${COMP_WORDS[COMP_CWORD]} before=${COMP_WORDS[COMP_CWORD-1]} options=",
+        '    case " ${COMP_WORDS[*]:1:COMP_CWORD-1} " in',
+        "        *' -- '*) COMPREPLY=($(compgen -f -- \"$word\")); return ;;",
+        "    esac",
+        "    if [ \"$COMP_CWORD\" -eq 1 ]; then",
+        f"        COMPREPLY=($(compgen -W '{names}' -- \"$word\"))",
+        "        return",
+        "    fi",
+        "    case ${COMP_WORDS[1]}$before in",
+    ]
+    for row in commands:
+        name, options = words_of(row)
+        for option, _ in options:
+            values = " ".join(values_of(name, option))
+            out.append(f"        {name}{option}) COMPREPLY=($(compgen -W '{values}' -- \"$word\")); return ;;")
+    out += ["    esac", "    case ${COMP_WORDS[1]} in"]
+    for row in commands:
+        name, options = words_of(row)
+        out.append(f"        {name}) options='{' '.join([option for option, _ in options] + ['--'])}' ;;")
+    out += [
+        "    esac",
+        "    COMPREPLY=($(compgen -W \"$options\" -- \"$word\"))",
+        "}",
+        "complete -F _ribjasper ribjasper",
+    ]
+    return "\n".join(out) + "\n"
+
+
+def zsh(commands):
+    out = [
+        "#compdef ribjasper",
+        "# Completion for zsh. Written by tools/commands.py from docs/FORMATS.md.",
+        "_ribjasper() {",
+        "    local -a commands",
+        "    if (( ${words[(I)--]} && ${words[(I)--]} < CURRENT )); then _files; return; fi",
+        "    if (( CURRENT == 2 )); then",
+        "        commands=(",
+    ]
+    for row in commands:
+        said = bare(row[2]).replace("'", "'\\''").replace(":", "\\:")
+        out.append(f"            '{words_of(row)[0]}:{said}'")
+    out += ["        )", "        _describe command commands", "        return", "    fi", "    case $words[2] in"]
+    for row in commands:
+        name, options = words_of(row)
+        out.append(f"        {name})")
+        for option, _ in options:
+            values = values_of(name, option)
+            then = f"compadd {' '.join(values)}" if values else ":"
+            out.append(f"            if [[ $words[CURRENT-1] == {option} ]]; then {then}; return; fi")
+        out.append(f"            compadd -- {' '.join([option for option, _ in options] + ['--'])} ;;")
+    out += ["    esac", "}", '_ribjasper "$@"']
+    return "\n".join(out) + "\n"
+
+
+def main():
+    formats = (TOP / "docs" / "FORMATS.md").read_text()
+    commands = table(formats, "| Words | Inputs | Output |")
+    letters = table(formats, "| Letter | Is | Spelled |")
+    statuses = table(formats, "| Status | Exit | Line |")
+    reasons = table(formats, "| Reason after `refused` | Comes where |")
+    written = {
+        "ribjasper.1": manual(commands, letters, statuses, reasons),
+        "ribjasper.bash": bash(commands),
+        "_ribjasper": zsh(commands),
+    }
+    if sys.argv[1:] != ["--check"]:
+        (TOP / "share").mkdir(exist_ok=True)
+        for name, text in written.items():
+            (TOP / "share" / name).write_text(text)
+        return 0
+    wrong = [name for name, text in written.items() if (TOP / "share" / name).read_text() != text]
+    listed = re.findall(r"^ribjasper ([a-z]+)", (TOP / "README.md").read_text(), re.M)
+    if sorted(set(listed)) != sorted(words_of(row)[0] for row in commands):
+        wrong.append("README.md lists other commands than docs/FORMATS.md")
+    for line in wrong:
+        print(f"tools/commands.py: {line}", file=sys.stderr)
+    return 1 if wrong else 0
+
+
+if __name__ == "__main__":
+    sys.exit(main())
