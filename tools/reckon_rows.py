@@ -289,6 +289,8 @@ def digest(content):
 
 
 ONE = [Track(1, [(1, 0)])]
+GAP = [Track(1, [(1, 0)], pregap=10)]
+GAPS = [Track(1, [(1, 0)], control=2, postgap=10), Track(2, [(0, 300), (1, 375)], control=1, pregap=5)]
 TITLES = [(0x80, [b"Demo", b"One"])]
 THREE = [
     Track(1, [(1, 0)]),
@@ -315,6 +317,14 @@ PACKS = {
     "tile-of-seven": tile(6, 7, 7, 16, 48, LINES),
     "tile-of-five": tile(6, 5, 5, 17, 49, LINES),
     "copy-scroll": seal((9, 24), [0, 0x15, 0x1B]),
+    "white-one": colour_table(30, [0, 0xFFF, 0, 0, 0, 0, 0, 0]),
+    "tile-of-one": tile(6, 1, 1, 1, 1, LINES),
+    "scroll-right": seal((9, 24), [0, 0x10, 0]),
+    "scroll-right-and-up": seal((9, 24), [0, 0x10, 0x20]),
+    "scroll-in-one": seal((9, 20), [1, 0x25, 0x2B]),
+    "scroll-of-all-bits": seal((9, 20), [63] * 16),
+    "tile-of-all-bits": seal((9, 6), [63] * 16),
+    "table-of-all-bits": seal((9, 31), [63] * 16),
     "foreign": seal((1, 6), [1, 2, 3]),
     "unknown": seal((9, 3), [1, 2, 3]),
 }
@@ -328,7 +338,7 @@ FRAMES = {
     "a-second-60": frame(digits("01010100600000000000")),
     "the-last-second": frame(digits("01010100590000000000")),
     "a-lead-out": frame(digits("41aa0100000000040302")),
-    "a-first-track": frame(digits("4100a099595900010000")),
+    "a-first-track": frame(digits("4100a099595900012000")),
     "a-last-track": frame(digits("4100a199595900120000")),
     "a-lead-out-start": frame(digits("4100a299595900040302")),
     "a-track-start": frame(digits("41000399595900012345")),
@@ -376,10 +386,12 @@ def values():
     yield "a-pause-and-a-block-of-music", "digest", digest(one.stream())
     three = Disc(THREE, 12_001, 18, BAND, "0000000000000")
     yield "three-tracks", "digest", digest(three.stream())
+    yield "a-gap-before-the-music", "digest", digest(Disc(GAP, 1, 0).stream())
+    yield "gaps-between-tracks", "digest", digest(Disc(GAPS, 1000, 150).stream())
     fills = [memory_preset(5), border_preset(0), colour_table(30, [0] * 8), colour_table(31, [0] * 8), IDLE]
     fills += [memory_preset(6)]
     yield "two-fills", "digest", digest(one.stream(fills))
-    for seed, pictures in [(42, 1), (7, 3), (2**64 - 1, 1), (0, 500)]:
+    for seed, pictures in [(42, 1), (42, 2), (7, 3), (2**64 - 1, 1), (0, 500)]:
         yield f"a-script-of-seed-{seed}-and-{pictures}", "digest", digest(script(seed, pictures))
     yield "zeros-are-scratched", "digest", digest(scratched(bytes(480), 0, 42))
     yield "a-disc-is-scratched", "digest", digest(scratched(titled.stream(), 12, 7))
