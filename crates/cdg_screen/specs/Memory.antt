@@ -1,14 +1,16 @@
 -- How the memory is changed.
-use Rattle.std.specs.Prelude.{◌≡◌, ℕ, ◌-◌, ◌<◌, ◌≤◌, if◌then◌else◌, Bool, List, length, slice_index, slice_index_or, [], All, bit_xor}
+use Rattle.std.specs.Prelude.{◌≡◌, ℕ, ◌-◌, ◌%◌, ◌<◌, ◌≤◌, if◌then◌else◌, Bool, List, length, slice_index, slice_index_or, [], All, bit_xor}
 use Rattle.bit_lists.specs.Bits.{has_bit}
 use Rattle.cdg_screen.specs.Picture.{Grid, at}
 
--- rows of 300 numbers below 16, and an origin among them
+-- rows of 300 numbers below 16, and an origin among them at whole tiles, so that no tile goes on at the other end
 pub record IsGrid (grid : Grid) : Type 0 where
   pub count : length grid.rows ≡ 216
   pub widths : (y : ℕ) → y < 216 → length (slice_index_or grid.rows y []) ≡ 300
   pub left_below : grid.left < 300
   pub top_below : grid.top < 216
+  pub left_whole : grid.left % 6 ≡ 0
+  pub top_whole : grid.top % 12 ≡ 0
   pub colours : (y x : ℕ) → slice_index (slice_index_or grid.rows y []) x < 16
 
 -- the pixels of the memory become those of a function of the place

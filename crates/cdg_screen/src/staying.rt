@@ -4,7 +4,7 @@ ghost use Rattle.cdg_instructions.specs.Drawing.{tile_colour};
 ghost use Rattle.cdg_screen.specs.Picture.{at, covers, is_inside, source, source_x, source_y};
 ghost use Rattle.cdg_screen.specs.Memory.{Becomes, drawn_over, line_colour};
 
-use crate::memory::{HEIGHT, Memory, TILE_HEIGHT, TILE_WIDTH, WIDTH, colour_of};
+use crate::memory::{HEIGHT, Memory, TILE_HEIGHT, TILE_WIDTH, WIDTH, colour_of, over};
 
 impl Memory {
     /// Whether all pixels have a colour.
@@ -58,8 +58,8 @@ impl Memory {
             else at self.now x' y') }
     {
         for i in 0..TILE_WIDTH {
-            let drawn = self.drawn(x + i, y, colour_of(colours, line, i), exclusive);
-            if self.get(x + i, y) != drawn {
+            let pixel = self.get(x + i, y);
+            if over(colour_of(colours, line, i), pixel, exclusive) != pixel {
                 return false;
             }
         }
