@@ -65,7 +65,7 @@ impl Thinner {
     ) -> Result<Pumped, PumpStop>
         ensures thins { (taken : List ℕ) × Thins (S.left source.old) (S.left source.new)
             (K.held out.old) (K.held out.new) result taken }
-        // What stands after each number of packs is the same in what was put, and nothing in it can be left out.
+        // Of a whole input: after each number of packs the same stands in what was put, which is its own thin form.
         ensures whole { IfSome (S.left source.old) (λ all. ThinsAll all (K.held out.old) (K.held out.new) result) }
         // Where nothing failed, the answer is that of the whole input's length.
         ensures answer { IfSome (S.left source.old) (λ all. IsUnlessFault result (answer_of 24 4000000 (length all))) }
