@@ -2,10 +2,11 @@
 use Rattle.std.proofs.Common.{◌≡◌, ℕ, zero, suc, ◌+◌, ◌-◌, ◌*◌, ◌/◌, ◌%◌, ◌<◌, ◌≤◌, List, [], ◌∷◌, ◌++◌, length, get_or, take, drop, replicate, refl, sym, ap, ap₂, ◌∙◌, subst, arith, length-append, length-drop, None, Some}
 use Rattle.std.specs.Prelude.{Option, min, Result, Ok, Err}
 use Rattle.std.specs.List.{AllByRecursion}
-use Rattle.std.proofs.lemmas.List.{ext_get_or, get_or-drop, get_or_append_left, take_all}
+use Rattle.std.specs.Io.KnownBytes.{Appends, Consumes, IsAtEnd}
+use Rattle.std.proofs.lemmas.List.{append-nil, ext_get_or, get_or-drop, get_or_append_left, take_all}
 use Rattle.std.proofs.lemmas.List.Sums.{count_by-le-length}
 use Rattle.std.specs.Prelude.{is_none}
-use Rattle.raw_subcode.specs.Channels.{blocks_of, symbols_of, program_symbols}
+use Rattle.raw_subcode.specs.Channels.{blocks_of, program_symbols}
 use Rattle.raw_subcode.specs.declared.form.Form.TheVariants.{Raw}
 use Rattle.rw_code.specs.Codeword.{IsWord}
 use Rattle.rw_code.proofs.Finding.{only_finding}
@@ -20,7 +21,7 @@ use Rattle.cdg_screen.specs.Picture.{Standing, SameStanding, blank, standing_aft
 use Rattle.cdg_screen.specs.Texts.{pixmap}
 use Rattle.cdg_screen.proofs.SameTexts.{picture_same}
 use Rattle.cdg_screen.proofs.Turns.{same_after, same_then, same_back}
-use Rattle.checkpoint_files.specs.Checkpoint.{Checkpoint, checkpoint_in, file_of}
+use Rattle.checkpoint_files.specs.Checkpoint.{Checkpoint, checkpoint_in}
 use Rattle.checkpoint_files.specs.Table.{IsCheckpointFile, empty_symbols}
 use Rattle.checkpoint_files.specs.Sound.{IsSoundStanding, IsSoundCheckpoint, IsSameCheckpoint}
 use Rattle.checkpoint_files.proofs.Accepted.{accepted, same}
@@ -29,8 +30,8 @@ use Rattle.subcode_player.specs.Watch.{IsViewed}
 use Rattle.subcode_player.proofs.Slots.{symbols_small}
 use Rattle.subcode_player.proofs.Playing.{units_in}
 use Rattle.subcode_player.proofs.Views.{whole_taken}
-use Rattle.cdg_checkpoint.specs.Saved.{IsCheckpointOf, IsSaved, last_symbols}
-use Rattle.cdg_checkpoint.specs.Resumed.{IsGoneOn, IsResumed, IsResumedBy, blocks_after}
+use Rattle.cdg_checkpoint.specs.Saved.{IsCheckpointOf, IsSaved}
+use Rattle.cdg_checkpoint.specs.Resumed.{IsGoneOn, IsResumed, IsResumedBy, Resumes}
 use Rattle.cdg_checkpoint.specs.Cut.{IsFirstPart, as_played}
 use Rattle.cdg_checkpoint.specs.declared.stops.Resumed.{Resumed}
 use Rattle.cdg_checkpoint.specs.declared.stops.ResumeStop.{ResumeStop}
@@ -180,9 +181,10 @@ one_recovered bytes lead_in one other a b =
 pub one_screen : (lead_in time bad other_bad : ℕ) (bytes text other : List ℕ) → IsScreenAt Raw lead_in time bytes text bad → IsScreenAt Raw lead_in time bytes other other_bad → (text ≡ other) × (bad ≡ other_bad)
 one_screen lead_in time bad other_bad bytes text other a b =
     let found : a.found ≡ b.found = one_recovered bytes lead_in a.found b.found a.recovered b.recovered in
-    let instrs : a.instrs ≡ b.instrs = one_meant (take (whole_packs time) b.found) a.instrs b.instrs (subst (λ (f : List (Option (List ℕ))). AreMeant (take (whole_packs time) f) a.instrs) found a.shown) b.shown in
-    (a.text_is ∙ ap (λ (i : List Instr). pixmap (standing_after blank i)) instrs ∙ sym b.text_is,
-    a.bad_is ∙ ap (λ (f : List (Option (List ℕ))). bad_count (take (whole_packs time) f)) found ∙ sym b.bad_is)
+    let instrs : a.instrs ≡ b.instrs = one_meant (take (whole_packs time) b.found) a.instrs b.instrs (subst (λ (f : List (Option (List ℕ))). AreMeant (take (whole_packs time) f) a.instrs) found a.shown) b.shown in (
+      a.text_is ∙ ap (λ (i : List Instr). pixmap (standing_after blank i)) instrs ∙ sym b.text_is,
+      a.bad_is ∙ ap (λ (f : List (Option (List ℕ))). bad_count (take (whole_packs time) f)) found ∙ sym b.bad_is,
+    )
 
 -- ---- the answer by the lengths
 
@@ -259,3 +261,18 @@ module _ (lead_in : ℕ) (bytes : List ℕ) (first : IsFirstPart lead_in bytes) 
       → IsScreenAt Raw lead_in time (bytes ++ rest) text resumed.bad × (resumed.blocks ≡ length (bytes ++ rest) / 96 - lead_in)
   whole_shown time rest file text pumped resumed rest_whole saved reached r =
       (shows lead_in (length bytes / 96) bytes file pumped first size_is saved time rest text resumed rest_whole reached r, counts_all lead_in (length bytes / 96) bytes file pumped first size_is saved time rest text resumed r)
+
+-- ---- the calls
+
+all_taken : (rest taken : List ℕ) (left' : Option (List ℕ)) → Consumes (Some rest) left' taken → IsAtEnd left' → taken ≡ rest
+all_taken rest taken None c e = absurd c
+all_taken rest taken (Some xs) c e = sym (c ∙ ap (λ (l : List ℕ). taken ++ l) e ∙ append-nil taken)
+
+pub written : (lead_in time : ℕ) (bytes rest file taken : List ℕ) (pumped : Pumped) (resumed : Resumed) (left' held held' : Option (List ℕ)) → IsFirstPart lead_in bytes → IsSaved lead_in bytes pumped file → length bytes / 96 - lead_in ≤ time
+    → IsResumedBy (Ok resumed) (checkpoint_in file) time (length rest) → Resumes file time (Some rest) left' held held' (Ok resumed) taken → (text : List ℕ) × IsScreenAt Raw lead_in time (bytes ++ rest) text resumed.bad × Appends held held' text
+written lead_in time bytes rest file taken pumped resumed left' held held' first saved reached answer r =
+    let (at_end, not_before, put_of) = r.done in
+    let (text, is, put) = put_of in
+    let same_rest : taken ≡ rest = all_taken rest taken left' r.taken_from at_end in
+    let is_rest : IsResumed file time rest resumed text = subst (λ (l : List ℕ). IsResumed file time l resumed text) same_rest is in
+    (text, (whole_shown lead_in bytes first time rest file text pumped resumed answer.1 saved reached is_rest).0, put)

@@ -1,5 +1,6 @@
 // A stream that goes on from a checkpoint.
-ghost use Rattle.std.specs.Prelude.{◌≡◌, ◌≤◌, ◌-◌, ◌/◌, ◌%◌, ◌++◌, List, ℕ, length, Result};
+ghost use Rattle.std.specs.Prelude.{◌≡◌, ◌≤◌, ◌-◌, ◌/◌, ◌%◌, ◌++◌, List, ℕ, length, Option, Some, Result, Ok};
+ghost use Rattle.std.specs.Io.KnownBytes.{Appends};
 ghost use Rattle.cdg_screen.specs.Picture.{Standing};
 ghost use Rattle.checkpoint_files.specs.Checkpoint.{Checkpoint, checkpoint_in};
 ghost use Rattle.checkpoint_files.specs.Table.{IsCheckpointFile};
@@ -10,7 +11,7 @@ ghost use Rattle.cdg_checkpoint.specs.declared.stops.ResumeStop.{ResumeStop};
 ghost use Rattle.raw_subcode.specs.declared.form.Form.{Form};
 ghost use Rattle.subcode_player.specs.Watch.{IsViewed};
 ghost use Rattle.subcode_player.specs.Shown.{IsScreenAt, IsShownBy};
-ghost use Rattle.cdg_checkpoint.specs.Resumed.{IsGoneOn, IsResumed, IsResumedBy};
+ghost use Rattle.cdg_checkpoint.specs.Resumed.{IsGoneOn, IsResumed, IsResumedBy, Resumes};
 ghost use Rattle.cdg_checkpoint.specs.Saved.{IsCheckpointOf, IsSaved};
 
 /// A law: what stands at a time after the checkpoint of some whole blocks, with the rest of the stream, stands then in the
@@ -36,7 +37,14 @@ pub fn a_saved_stream_goes_on_as_the_whole()
         → IsFirstPart lead_in bytes → length rest % 96 ≡ 0 → IsSaved lead_in bytes pumped file
         → length bytes / 96 - lead_in ≤ time → IsResumed file time rest resumed text
         → IsScreenAt Form.Raw lead_in time (bytes ++ rest) text resumed.bad
-            × (resumed.blocks ≡ length (bytes ++ rest) / 96 - lead_in) }
+        × (resumed.blocks ≡ length (bytes ++ rest) / 96 - lead_in) }
+    // The same of a call of `resume` that was given this file, and this rest to its end.
+    ensures written { (lead_in time : ℕ) (bytes rest file taken : List ℕ) (pumped : Pumped) (resumed : Resumed)
+        (left held new_held : Option (List ℕ)) → IsFirstPart lead_in bytes → IsSaved lead_in bytes pumped file
+        → length bytes / 96 - lead_in ≤ time → IsResumedBy (Ok resumed) (checkpoint_in file) time (length rest)
+        → Resumes file time (Some rest) left held new_held (Ok resumed) taken
+        → (text : List ℕ) × IsScreenAt Form.Raw lead_in time (bytes ++ rest) text resumed.bad
+        × Appends held new_held text }
     ensures only { (lead_in time bad other_bad : ℕ) (bytes text other : List ℕ)
         → IsScreenAt Form.Raw lead_in time bytes text bad → IsScreenAt Form.Raw lead_in time bytes other other_bad
         → (text ≡ other) × (bad ≡ other_bad) }

@@ -1,4 +1,4 @@
-use Rattle.cdg_checkpoint.proofs.Bridge.{whole_accepted, whole_answered, whole_shown, one_screen}
+use Rattle.cdg_checkpoint.proofs.Bridge.{whole_accepted, whole_answered, whole_shown, written, one_screen}
 use Rattle.cdg_checkpoint.proofs.laws.a_saved_stream_goes_on_as_the_whole.Goals as goal
 
 pub returns-clause-accepted : goal.returns-clause-accepted
@@ -12,3 +12,6 @@ returns-clause-shown c lead_in time bytes rest file text pumped resumed first re
 
 pub returns-clause-only : goal.returns-clause-only
 returns-clause-only c = one_screen
+
+pub returns-clause-written : goal.returns-clause-written
+returns-clause-written c = written
