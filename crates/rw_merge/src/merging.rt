@@ -135,6 +135,9 @@ impl Merger {
         ensures second_end { EndsSecond result (T.left second.new) }
         ensures first_told { TellsFirst result (S.ends first.old) (S.ends first.new) }
         ensures second_told { TellsSecond result (T.ends second.old) (T.ends second.new) }
+        ensures first_later { S.faults first.old ≤ S.faults first.new }
+        ensures second_later { T.faults second.old ≤ T.faults second.new }
+        ensures out_later { K.faults out.old ≤ K.faults out.new }
         ensures first_fault { IsErrOf result MergeStop.FirstFault → Rose (S.faults first.old) (S.faults first.new) }
         ensures no_first_fault { result ≢ Err MergeStop.FirstFault → S.faults first.new ≡ S.faults first.old }
         ensures second_fault { IsErrOf result MergeStop.SecondFault → Rose (T.faults second.old) (T.faults second.new) }
@@ -168,6 +171,9 @@ impl Merger {
         ensures second_end { EndsSecond result (T.left second.new) }
         ensures first_told { TellsFirst result (S.ends first.old) (S.ends first.new) }
         ensures second_told { TellsSecond result (T.ends second.old) (T.ends second.new) }
+        ensures first_later { S.faults first.old ≤ S.faults first.new }
+        ensures second_later { T.faults second.old ≤ T.faults second.new }
+        ensures out_later { K.faults out.old ≤ K.faults out.new }
         ensures first_fault { IsErrOf result MergeStop.FirstFault → Rose (S.faults first.old) (S.faults first.new) }
         ensures no_first_fault { result ≢ Err MergeStop.FirstFault → S.faults first.new ≡ S.faults first.old }
         ensures second_fault { IsErrOf result MergeStop.SecondFault → Rose (T.faults second.old) (T.faults second.new) }
