@@ -1,7 +1,8 @@
 #!/bin/sh
-# Proves and builds the program, and leaves it as bin/ribjasper.
+# Proves and builds the program, and leaves it as bin/ribjasper. What an earlier call proved is kept.
 set -e
 cd "$(dirname "$0")/.."
+tools/prove_crates.py ribjasper
 mkdir -p bin
 cd crates/ribjasper
 rt run -- $(cat args) <stdin >/dev/null

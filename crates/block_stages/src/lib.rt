@@ -6,6 +6,3 @@ mod q_lines;
 
 pub use planar::{BlockForms, PlanarForms};
 pub use q_lines::QLines;
-
-#[cfg(test)]
-mod tests;

@@ -6,7 +6,7 @@ ghost use Rattle.cdg_press.specs.Pressed.{IsMadeGood};
 use crate::checks::PACK_BYTES;
 use gf64::Sym;
 use rw_code::{Pack, Word};
-use stream_writer::PackSource;
+use stream_writer::{PackSource, unless_idle};
 
 /// Gives idle packs, then the packs of a file with their parity made good, and then idle packs again.
 #[derive(Drop)]
@@ -32,7 +32,7 @@ impl<'a> PackSource for FileSource<'a> {
         }
         let (pack, rest) = self.rest.split_at(PACK_BYTES);
         self.rest = rest;
-        Some(made_good(pack))
+        unless_idle(made_good(pack))
     }
 }
 

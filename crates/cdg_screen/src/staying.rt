@@ -31,7 +31,8 @@ impl Memory {
         requires { All (λ colour. colour < 16) colours }
         ensures { IsTrue result ↔ Becomes self.now (λ x y.
             if covers row column x y
-            then drawn_over exclusive (tile_colour (slice_index colours 0) (slice_index colours 1) lines.now (x % 6) (y % 12)) (at self.now x y)
+            then drawn_over exclusive
+            (tile_colour (slice_index colours 0) (slice_index colours 1) lines.now (x % 6) (y % 12)) (at self.now x y)
             else at self.now x y) }
     {
         if row > 17 || column > 49 {
@@ -54,7 +55,8 @@ impl Memory {
         requires range { All (λ colour. colour < 16) colours }
         ensures { IsTrue result ↔ Becomes self.now (λ x' y'.
             if y' == y && nat_le x x' && nat_lt x' (x + 6)
-            then drawn_over exclusive (line_colour (slice_index colours 0) (slice_index colours 1) line (x' - x)) (at self.now x' y')
+            then drawn_over exclusive
+            (line_colour (slice_index colours 0) (slice_index colours 1) line (x' - x)) (at self.now x' y')
             else at self.now x' y') }
     {
         for i in 0..TILE_WIDTH {
@@ -70,7 +72,8 @@ impl Memory {
     pub(crate) fn keeps_scrolled_round(&self, across: u8, down: u8) -> bool
         requires across { across ≤ 2 }
         requires down { down ≤ 2 }
-        ensures { IsTrue result ↔ Becomes self.now (λ x y. at self.now (source_x across x % 300) (source_y down y % 216)) }
+        ensures { IsTrue result
+            ↔ Becomes self.now (λ x y. at self.now (source_x across x % 300) (source_y down y % 216)) }
     {
         if across == 0 && down == 0 {
             return true;
@@ -89,7 +92,8 @@ impl Memory {
         requires across { across ≤ 2 }
         requires height { y < 216 }
         requires from { from < 216 }
-        ensures { IsTrue result ↔ ((x : ℕ) → x < 300 → at self.now x y ≡ at self.now (source_x across x % 300) from) }
+        ensures { IsTrue result
+            ↔ ((x : ℕ) → x < 300 → at self.now x y ≡ at self.now (source_x across x % 300) from) }
     {
         for x in 0..WIDTH {
             if self.get(x, y) != self.get(source(WIDTH, TILE_WIDTH, across, x) % WIDTH, from) {

@@ -65,18 +65,25 @@ impl Thinner {
     ) -> Result<Pumped, PumpStop>
         ensures thins { (taken : List ℕ) × Thins (S.left source.old) (S.left source.new)
             (K.held out.old) (K.held out.new) result taken }
-        // What stands after each number of packs is the same in what was put, and nothing in it can be left out.
-        ensures whole { IfSome (S.left source.old) (λ all. ThinsAll all (K.held out.old) (K.held out.new) result) }
+        // Of a whole input: after each number of packs the same stands in what was put, and it is its own
+        // thin form.
+        ensures whole { IfSome (S.left source.old)
+            (λ all. ThinsAll all (K.held out.old) (K.held out.new) result) }
         // Where nothing failed, the answer is that of the whole input's length.
-        ensures answer { IfSome (S.left source.old) (λ all. IsUnlessFault result (answer_of 24 4000000 (length all))) }
+        ensures answer { IfSome (S.left source.old)
+            (λ all. IsUnlessFault result (answer_of 24 4000000 (length all))) }
         ensures source_later { S.faults source.old ≤ S.faults source.new }
         ensures out_later { K.faults out.old ≤ K.faults out.new }
-        ensures read_fault { IsErrOf result PumpStop.ReadFault → Rose (S.faults source.old) (S.faults source.new) }
-        ensures no_read_fault { result ≢ Err PumpStop.ReadFault → S.faults source.new ≡ S.faults source.old }
+        ensures read_fault { IsErrOf result PumpStop.ReadFault
+            → Rose (S.faults source.old) (S.faults source.new) }
+        ensures no_read_fault { result ≢ Err PumpStop.ReadFault
+            → S.faults source.new ≡ S.faults source.old }
         ensures ended { TellsEndOf result (S.ends source.old) (S.ends source.new) }
         ensures rooms { FillsUnits 4000000 result (S.fills source.old) (S.fills source.new) }
-        ensures write_fault { IsErrOf result PumpStop.WriteFault → Rose (K.faults out.old) (K.faults out.new) }
-        ensures no_write_fault { result ≢ Err PumpStop.WriteFault → K.faults out.new ≡ K.faults out.old }
+        ensures write_fault { IsErrOf result PumpStop.WriteFault
+            → Rose (K.faults out.old) (K.faults out.new) }
+        ensures no_write_fault { result ≢ Err PumpStop.WriteFault
+            → K.faults out.new ≡ K.faults out.old }
     {
         thin_forms_stand_alike();
         self.reset();

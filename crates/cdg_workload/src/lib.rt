@@ -8,6 +8,3 @@ mod words;
 
 pub use scratching::{scratch, scratches_are_bursts, scratches_are_damage};
 pub use script::{BLOCKS_A_PICTURE, BLOCKS_HELD, write_script};
-
-#[cfg(test)]
-mod tests;

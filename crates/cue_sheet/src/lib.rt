@@ -11,6 +11,3 @@ mod sheet;
 
 pub use fault::{CueStop, CueText, CueWhy};
 pub use sheet::Sheet;
-
-#[cfg(test)]
-mod tests;

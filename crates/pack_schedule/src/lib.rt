@@ -20,6 +20,3 @@ pub use planned::{Planned, Stop};
 pub use plans::Survey;
 pub use timing::survey;
 pub use weaver::Weaver;
-
-#[cfg(test)]
-mod tests;

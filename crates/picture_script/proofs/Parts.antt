@@ -1,9 +1,13 @@
 -- Parts of two windows that are the same.
-use Rattle.std.proofs.Common.{◌≡◌, ℕ, ◌+◌, ◌-◌, ◌*◌, ◌/◌, ◌%◌, ◌<◌, ◌≤◌, Bool, true, List, length, take, drop, get_or, sym, ap, ◌∙◌, arith}
+use Rattle.std.proofs.Common.{◌≡◌, ℕ, ◌+◌, ◌-◌, ◌*◌, ◌/◌, ◌%◌, ◌<◌, ◌≤◌, Bool, true, List, length, take, drop, get_or, sym, ap, ap₂, subst, ◌∙◌, inl, inr, arith}
+use borrow.Rule.Slice.PartMut.{put_mid}
+use Rattle.std.proofs.lemmas.Bool.{cases_lt}
+use Rattle.std.proofs.lemmas.Bool.Decides.{nat_tests}
+use Rattle.picture_script.proofs.Windows.{written-at, length-written}
 use Rattle.std.specs.Str.{bytes_eq}
 use Rattle.std.proofs.lemmas.Grind.{same_number_lists}
 use Rattle.std.proofs.lemmas.Slice.Eq.{bytes_eq-Decides}
-use Rattle.std.proofs.lemmas.List.{get_or-take, get_or-drop, length-take, length-drop}
+use Rattle.std.proofs.lemmas.List.{get_or-take, get_or-drop, get_or_past, length-take, length-drop}
 use Rattle.std.proofs.lemmas.List.FromFn.{length-map-range_with_len, get_or-map-range_with_len}
 use Rattle.picture_script.specs.Board.{pixel_of, tile_of}
 use Rattle.picture_script.proofs.Drawn.{tile_is}
@@ -60,3 +64,51 @@ row_of_tiles a b row first all i from to =
     let d : ℕ = i - 3456 * (row - 1) in
     let column : ℕ = d % 288 / 6 + 1 in
     line_of_tile a b row column (d / 288) (omega arith) (all column (omega arith) (omega arith)) i (omega arith) (omega arith)
+
+-- six pixels of a row, read
+pub line_read : (pixels line : List ℕ) (x y i : ℕ) → 288 * y + x + 6 ≤ length pixels → line ≡ take (288 * y + x + 6 - (288 * y + x)) (drop (288 * y + x) pixels) → i < 6 → get_or line i 0 ≡ pixel_of pixels (x + i) y
+unfolding pixel_of
+line_read pixels line x y i within is lt =
+    let at : 288 * y + x + i ≡ 288 * y + (x + i) = omega arith in
+    ap (λ xs. get_or xs i 0) is ∙ get_or-take (288 * y + x + 6 - (288 * y + x)) (drop (288 * y + x) pixels) i 0 (omega arith) ∙ get_or-drop (288 * y + x) pixels i 0 ∙ ap (λ n. get_or pixels n 0) at
+
+pub line_small : (pixels line : List ℕ) (x y : ℕ) → 288 * y + x + 6 ≤ length pixels → line ≡ take (288 * y + x + 6 - (288 * y + x)) (drop (288 * y + x) pixels) → length line ≡ 6 → ((k : ℕ) → get_or pixels k 0 < 16)
+    → (i : ℕ) → get_or line i 0 < 16
+unfolding pixel_of
+line_small pixels line x y within is size small i = elim (cases_lt i 6) [
+  | inl lt ↦ subst (λ n. n < 16) (sym (line_read pixels line x y i within is lt)) (small (288 * y + (x + i)))
+  | inr past ↦ subst (λ n. n < 16) (sym (get_or_past {X = ℕ} line i 0 (omega (arith, size)))) (omega arith)
+]
+
+-- a line of a tile is written
+pub tile_line : (pixels old piece : List ℕ) (left top j : ℕ) → length old ≡ 72 → j < 12 → length piece ≡ 6 → ((i : ℕ) → i < 6 → get_or piece i 0 ≡ pixel_of pixels (left + i) (top + j))
+    → ((q : ℕ) → q < 6 * j → get_or old q 0 ≡ pixel_of pixels (left + q % 6) (top + q / 6))
+    → (q : ℕ) → q < 6 * (j + 1) → get_or (put_mid (6 * j) (6 * j + 6 - 6 * j) old piece) q 0 ≡ pixel_of pixels (left + q % 6) (top + q / 6)
+tile_line pixels old piece left top j whole lt size new before q q_lt =
+    let six : 6 * j + 6 - 6 * j ≡ 6 = omega arith in
+    let e = ap (λ n. get_or (put_mid (6 * j) n old piece) q 0) six ∙ written-at old piece (6 * j) 6 q (omega arith) size in
+    elim (cases_lt q (6 * j)) [
+      | inl early ↦
+          let b = before q early in
+          grind (arith, nat_tests)
+      | inr late ↦
+          let i : ℕ = q - 6 * j in
+          let x : left + i ≡ left + q % 6 = omega arith in
+          let y : top + j ≡ top + q / 6 = omega arith in
+          let n : get_or piece (q - 6 * j) 0 ≡ pixel_of pixels (left + q % 6) (top + q / 6) = new i (omega arith) ∙ ap₂ (pixel_of pixels) x y in
+          grind (arith, nat_tests)
+    ]
+
+pub tile_line_small : (old piece : List ℕ) (j : ℕ) → length old ≡ 72 → j < 12 → length piece ≡ 6 → ((i : ℕ) → get_or piece i 0 < 16) → ((q : ℕ) → get_or old q 0 < 16)
+    → (q : ℕ) → get_or (put_mid (6 * j) (6 * j + 6 - 6 * j) old piece) q 0 < 16
+tile_line_small old piece j whole lt size new before q =
+    let six : 6 * j + 6 - 6 * j ≡ 6 = omega arith in
+    let e = ap (λ n. get_or (put_mid (6 * j) n old piece) q 0) six ∙ written-at old piece (6 * j) 6 q (omega arith) size in
+    let b = before q in
+    let n = new (q - 6 * j) in
+    grind (arith, nat_tests)
+
+pub tile_line_size : (old piece : List ℕ) (j : ℕ) → length old ≡ 72 → j < 12 → length piece ≡ 6 → length (put_mid (6 * j) (6 * j + 6 - 6 * j) old piece) ≡ 72
+tile_line_size old piece j whole lt size =
+    let six : 6 * j + 6 - 6 * j ≡ 6 = omega arith in
+    ap (λ n. length (put_mid (6 * j) n old piece)) six ∙ length-written old piece (6 * j) 6 (omega arith) size ∙ whole

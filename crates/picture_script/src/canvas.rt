@@ -212,8 +212,9 @@ impl Canvas {
         let left = 6 * (usize::from(column) - 1);
         let top = 12 * (usize::from(row) - 1);
         let mut pixels = [0; PIXELS];
-        for p in 0..PIXELS {
-            pixels[p] = self.window.get(left + p % 6, top + p / 6);
+        for j in 0..12 {
+            self.window
+                .read_line(left, top + j, &mut pixels[6 * j..6 * j + 6]);
         }
         match Tile::new(&pixels) {
             Some(tile) => tile,

@@ -14,6 +14,3 @@ mod words;
 pub use canvas::Canvas;
 pub use reasons::{ScriptStop, ScriptWhy};
 pub use script::Script;
-
-#[cfg(test)]
-mod tests;

@@ -51,6 +51,19 @@ impl Window {
         self.pixels[start..start + count] == other.pixels[start..start + count]
     }
 
+    /// Reads six pixels of a row.
+    pub(crate) fn read_line(&self, x: usize, y: usize, out: &mut [u8])
+        requires count { length out.old ≡ 6 }
+        requires width { x + 6 ≤ 288 }
+        requires height { y < 192 }
+        ensures count { length out.new ≡ 6 }
+        ensures pixels { (i : ℕ) → i < 6 → slice_index out.new i ≡ pixel_of self.now (x + i) y }
+        ensures range { (i : ℕ) → slice_index out.new i < 16 }
+    {
+        let start = WIDTH * y + x;
+        out.copy_from_slice(&self.pixels[start..start + 6]);
+    }
+
     /// Sets all pixels.
     pub(crate) fn clear(&mut self, colour: u8)
         requires { colour < 16 }

@@ -4,8 +4,6 @@
 mod encoding;
 mod frame;
 mod message;
-#[cfg(test)]
-mod tests;
 
 pub use encoding::encode;
 pub use frame::{QFault, QFrame, TocPoint};

@@ -15,10 +15,11 @@ use Rattle.rw_merge.specs.declared.merging.MergeStop.TheVariants.{FirstFault, Se
 abbrev pub slots_of : ℕ → List ℕ → List (List ℕ)
 slots_of count bytes = map symbols_of (parts count 24 bytes)
 
--- the last slots after some more, and the words that come with these
+-- the last slots after some more
 abbrev pub window_after : List (List ℕ) → List (List ℕ) → List (List ℕ)
 window_after window slots = run_state gather_next window slots
 
+-- the words that come with these
 abbrev pub words_after : List (List ℕ) → List (List ℕ) → List (List ℕ)
 words_after window slots = run_gives gather_next gather_gives window slots
 
@@ -52,7 +53,7 @@ IsEndRead left left' (Err FirstFault) first second = (first ≡ []) × (second �
 IsEndRead left left' (Err SecondFault) first second = (first ≡ []) × (second ≡ [])
 IsEndRead left left' (Err stop) first second = ⊥
 
--- How often the ends were told by then.
+-- How often the end of the first input was told by then,
 abbrev pub TellsFirstOfPair : Result Bool MergeStop → ℕ → ℕ → Type 0
 TellsFirstOfPair (Ok true) before now = now ≡ before
 TellsFirstOfPair (Ok false) before now = Rose before now
@@ -60,6 +61,7 @@ TellsFirstOfPair (Err (Torn n)) before now = Rose before now
 TellsFirstOfPair (Err FirstFault) before now = now ≡ before
 TellsFirstOfPair (Err stop) before now = RoseAtMost before now
 
+-- and that of the second
 abbrev pub TellsSecondOfPair : Result Bool MergeStop → ℕ → ℕ → Type 0
 TellsSecondOfPair (Ok true) before now = now ≡ before
 TellsSecondOfPair (Ok false) before now = Rose before now
@@ -67,12 +69,13 @@ TellsSecondOfPair (Err (SecondTorn n)) before now = Rose before now
 TellsSecondOfPair (Err (Unequal n)) before now = RoseAtMost before now
 TellsSecondOfPair (Err stop) before now = now ≡ before
 
--- and where nothing more may follow
+-- The same where nothing more may follow: of the first input,
 abbrev pub TellsFirstAfter : Result (Unit {0}) MergeStop → ℕ → ℕ → Type 0
 TellsFirstAfter (Ok done) before now = Rose before now
 TellsFirstAfter (Err FirstFault) before now = now ≡ before
 TellsFirstAfter (Err stop) before now = RoseAtMost before now
 
+-- and of the second
 abbrev pub TellsSecondAfter : Result (Unit {0}) MergeStop → ℕ → ℕ → Type 0
 TellsSecondAfter (Ok done) before now = Rose before now
 TellsSecondAfter (Err stop) before now = now ≡ before

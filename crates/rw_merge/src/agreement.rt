@@ -7,8 +7,8 @@ use crate::elimination::{Sums, solved};
 use crate::places::wrong_places;
 use rw_code::{Pack, Word, correct};
 
-/// The codeword that is agreed for two readings of a word: twice the symbols that both have equally wrong and those in which
-/// they differ are at most four. There is at most one such codeword, and `None` exactly where there is none.
+/// The codeword that is agreed for two readings of a word: twice the symbols that both have equally wrong and those
+/// in which they differ are at most four. There is at most one such codeword, and `None` exactly where there is none.
 pub fn agree(a: &Word, b: &Word) -> Option<Pack>
     ensures { MatchOption result
         ((w : List ℕ) → ¬ IsAgreed a.now b.now w)

@@ -25,7 +25,7 @@ pub(crate) fn next_difference(
     None
 }
 
-/// Twice the symbols in which the readings are equal and differ from the word, and those in which they differ.
+/// Twice the symbols in which the readings are equal and not the word's, and those in which they differ.
 pub(crate) fn doubts(first: &Word, second: &Word, word: &Word) -> u8
     ensures { result ≡ 2 * equally_wrong first.now second.now word.now + differences first.now second.now }
 {

@@ -71,8 +71,8 @@ pub(crate) fn solved(word: &Word, sums: &Sums, places: &Places) -> Word
     requires word { IsWord word.now }
     requires sums { AreSums 4 word.now sums.now }
     requires apart { AreApart places.now }
-    ensures { (codeword : List ℕ) → IsCodeword codeword → AreEqualOutside (all_of places.now) word.now codeword
-        → codeword ≡ result }
+    ensures { (codeword : List ℕ) → IsCodeword codeword
+        → AreEqualOutside (all_of places.now) word.now codeword → codeword ≡ result }
 {
     let Places {
         first,

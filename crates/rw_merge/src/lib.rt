@@ -22,7 +22,7 @@ pub fn only_one_codeword_is_agreed()
         → IsAgreed first second one → IsAgreed first second other → one ≡ other }
 {}
 
-/// A law: for any two readings there is one merged text at most, so that how the inputs are cut changes nothing.
+/// A law: for any two readings there is one merged text at most, so how the inputs are cut changes nothing.
 pub fn one_text_is_merged()
     ensures { (lead_in : ℕ) (first second text other : List ℕ) (bad count : ℕ)
         → IsMergedText lead_in first second text bad → IsMergedText lead_in first second other count

@@ -58,8 +58,8 @@ pub enum MergeStop {
     Unequal { blocks: u32 },
 }
 
-/// A law: from two readings that have enough of each word together, every pack is merged. So it is where each reading is
-/// damaged in at most two symbols of each word.
+/// A law: from two readings that have enough of each word together, every pack is merged. So it is where each
+/// reading is damaged in at most two symbols of each word.
 pub fn two_readings_give_packs()
     ensures text { (lead_in blocks : ℕ) (packs : List (List ℕ)) (first second text : List ℕ) (bad : ℕ)
         → IsReadTwice lead_in blocks packs first second → IsMergedText lead_in first second text bad
@@ -70,8 +70,8 @@ pub fn two_readings_give_packs()
     text_of_packs();
 }
 
-/// Merges two readings of one stream, one pair of streams at a time. All its memory is taken at the start; each call begins
-/// anew, whatever stopped the one before. Seen as the last slots of both readings.
+/// Merges two readings of one stream, one pair of streams at a time. All its memory is taken at the start; each
+/// call begins anew, whatever stopped the one before. Seen as the last slots of both readings.
 #[derive(Drop)]
 pub struct Merger {
     first: Gather,
@@ -97,18 +97,20 @@ impl Merger {
         })
     }
 
-    /// Writes the packs on which two readings of a stream agree, as their blocks are read: 24 bytes each, every byte below 64.
+    /// Writes the packs on which two readings of a stream agree, as their blocks are read: 24 bytes each, every
+    /// byte below 64.
     ///
-    /// `lead_in` is at most 450,000 blocks, which are passed over. A block of the first input is read and then one of the
-    /// second. A word for which no codeword is agreed is written as 24 zeros, and counted in `Merged::bad`. Of B blocks of
-    /// the program 4B - 7 packs are written.
+    /// `lead_in` is at most 450,000 blocks, which are passed over. A block of the first input is read and then one
+    /// of the second. A word for which no codeword is agreed is written as 24 zeros, and counted in `Merged::bad`.
+    /// Of B blocks of the program 4B - 7 packs are written.
     ///
     /// # Errors
     ///
-    /// At the first block that not both inputs have whole: `Torn` where the first ends within it, else `SecondTorn` where the
-    /// second does, else `Unequal`, where one input has it. `TooLong` where both have 1,000,000 blocks and a byte follows in
-    /// either. All these come after the packs of all whole pairs are written, and the faults of reading after those of the
-    /// pairs that were read. After `WriteFault` the sink holds a prefix, and no later block was read.
+    /// At the first block that not both inputs have whole: `Torn` where the first ends within it, else `SecondTorn`
+    /// where the second does, else `Unequal`, where one input has it. `TooLong` where both have 1,000,000 blocks and
+    /// a byte follows in either. All these come after the packs of all whole pairs are written, and the faults of
+    /// reading after those of the pairs that were read. After `WriteFault` the sink holds a prefix, and no later
+    /// block was read.
     pub fn run<S: Source, T: Source, K: Sink>(
         &mut self,
         lead_in: u32,
@@ -138,12 +140,18 @@ impl Merger {
         ensures first_later { S.faults first.old ≤ S.faults first.new }
         ensures second_later { T.faults second.old ≤ T.faults second.new }
         ensures out_later { K.faults out.old ≤ K.faults out.new }
-        ensures first_fault { IsErrOf result MergeStop.FirstFault → Rose (S.faults first.old) (S.faults first.new) }
-        ensures no_first_fault { result ≢ Err MergeStop.FirstFault → S.faults first.new ≡ S.faults first.old }
-        ensures second_fault { IsErrOf result MergeStop.SecondFault → Rose (T.faults second.old) (T.faults second.new) }
-        ensures no_second_fault { result ≢ Err MergeStop.SecondFault → T.faults second.new ≡ T.faults second.old }
-        ensures write_fault { IsErrOf result MergeStop.WriteFault → Rose (K.faults out.old) (K.faults out.new) }
-        ensures no_write_fault { result ≢ Err MergeStop.WriteFault → K.faults out.new ≡ K.faults out.old }
+        ensures first_fault { IsErrOf result MergeStop.FirstFault
+            → Rose (S.faults first.old) (S.faults first.new) }
+        ensures no_first_fault { result ≢ Err MergeStop.FirstFault
+            → S.faults first.new ≡ S.faults first.old }
+        ensures second_fault { IsErrOf result MergeStop.SecondFault
+            → Rose (T.faults second.old) (T.faults second.new) }
+        ensures no_second_fault { result ≢ Err MergeStop.SecondFault
+            → T.faults second.new ≡ T.faults second.old }
+        ensures write_fault { IsErrOf result MergeStop.WriteFault
+            → Rose (K.faults out.old) (K.faults out.new) }
+        ensures no_write_fault { result ≢ Err MergeStop.WriteFault
+            → K.faults out.new ≡ K.faults out.old }
     {
         two_readings_give_packs();
         self.first.reset();
@@ -174,12 +182,18 @@ impl Merger {
         ensures first_later { S.faults first.old ≤ S.faults first.new }
         ensures second_later { T.faults second.old ≤ T.faults second.new }
         ensures out_later { K.faults out.old ≤ K.faults out.new }
-        ensures first_fault { IsErrOf result MergeStop.FirstFault → Rose (S.faults first.old) (S.faults first.new) }
-        ensures no_first_fault { result ≢ Err MergeStop.FirstFault → S.faults first.new ≡ S.faults first.old }
-        ensures second_fault { IsErrOf result MergeStop.SecondFault → Rose (T.faults second.old) (T.faults second.new) }
-        ensures no_second_fault { result ≢ Err MergeStop.SecondFault → T.faults second.new ≡ T.faults second.old }
-        ensures write_fault { IsErrOf result MergeStop.WriteFault → Rose (K.faults out.old) (K.faults out.new) }
-        ensures no_write_fault { result ≢ Err MergeStop.WriteFault → K.faults out.new ≡ K.faults out.old }
+        ensures first_fault { IsErrOf result MergeStop.FirstFault
+            → Rose (S.faults first.old) (S.faults first.new) }
+        ensures no_first_fault { result ≢ Err MergeStop.FirstFault
+            → S.faults first.new ≡ S.faults first.old }
+        ensures second_fault { IsErrOf result MergeStop.SecondFault
+            → Rose (T.faults second.old) (T.faults second.new) }
+        ensures no_second_fault { result ≢ Err MergeStop.SecondFault
+            → T.faults second.new ≡ T.faults second.old }
+        ensures write_fault { IsErrOf result MergeStop.WriteFault
+            → Rose (K.faults out.old) (K.faults out.new) }
+        ensures no_write_fault { result ≢ Err MergeStop.WriteFault
+            → K.faults out.new ≡ K.faults out.old }
     {
         let mut one = [0; BLOCK];
         let mut other = [0; BLOCK];
@@ -220,7 +234,8 @@ impl Merger {
         ensures second { self.new.second ≡ window_after self.old.second (slots_of 4 second.now) }
         ensures same { length self.new.first ≡ length self.new.second }
         ensures packs { (found : List (Option (List ℕ)))
-            × AreAgreements (words_after self.old.first (slots_of 4 first.now)) (words_after self.old.second (slots_of 4 second.now)) found
+            × AreAgreements (words_after self.old.first (slots_of 4 first.now))
+            (words_after self.old.second (slots_of 4 second.now)) found
             × (result.bytes ≡ cdg_bytes found) × (result.bad ≡ bad_count found) × (length found ≤ 4) }
     {
         let mut packs = Packs {

@@ -24,9 +24,11 @@ pub(crate) fn next_pair<S: Source, T: Source>(
         × (result ≡ Ok true → (xs ≡ one.new) × (ys ≡ other.new)) }
     ensures first_later { S.faults first.old ≤ S.faults first.new }
     ensures second_later { T.faults second.old ≤ T.faults second.new }
-    ensures first_fault { IsErrOf result MergeStop.FirstFault → Rose (S.faults first.old) (S.faults first.new) }
+    ensures first_fault { IsErrOf result MergeStop.FirstFault
+        → Rose (S.faults first.old) (S.faults first.new) }
     ensures no_first_fault { result ≢ Err MergeStop.FirstFault → S.faults first.new ≡ S.faults first.old }
-    ensures second_fault { IsErrOf result MergeStop.SecondFault → Rose (T.faults second.old) (T.faults second.new) }
+    ensures second_fault { IsErrOf result MergeStop.SecondFault
+        → Rose (T.faults second.old) (T.faults second.new) }
     ensures no_second_fault { result ≢ Err MergeStop.SecondFault → T.faults second.new ≡ T.faults second.old }
     ensures first_end { TellsFirstOfPair result (S.ends first.old) (S.ends first.new) }
     ensures second_end { TellsSecondOfPair result (T.ends second.old) (T.ends second.new) }
@@ -67,9 +69,11 @@ pub(crate) fn nothing_follows<S: Source, T: Source>(
         × IsEndRead (S.left first.new) (T.left second.new) result xs ys }
     ensures first_later { S.faults first.old ≤ S.faults first.new }
     ensures second_later { T.faults second.old ≤ T.faults second.new }
-    ensures first_fault { IsErrOf result MergeStop.FirstFault → Rose (S.faults first.old) (S.faults first.new) }
+    ensures first_fault { IsErrOf result MergeStop.FirstFault
+        → Rose (S.faults first.old) (S.faults first.new) }
     ensures no_first_fault { result ≢ Err MergeStop.FirstFault → S.faults first.new ≡ S.faults first.old }
-    ensures second_fault { IsErrOf result MergeStop.SecondFault → Rose (T.faults second.old) (T.faults second.new) }
+    ensures second_fault { IsErrOf result MergeStop.SecondFault
+        → Rose (T.faults second.old) (T.faults second.new) }
     ensures no_second_fault { result ≢ Err MergeStop.SecondFault → T.faults second.new ≡ T.faults second.old }
     ensures first_end { TellsFirstAfter result (S.ends first.old) (S.ends first.new) }
     ensures second_end { TellsSecondAfter result (T.ends second.old) (T.ends second.new) }

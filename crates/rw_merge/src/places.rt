@@ -19,14 +19,15 @@ pub(crate) struct Places {
     pub(crate) fourth: usize,
 }
 
-/// Four positions outside of which every agreed codeword is equal to the first of two readings that differ. `sums` are
-/// those of the first. None only where no codeword is agreed.
+/// Four positions outside of which every agreed codeword is equal to the first of two readings that differ. `sums`
+/// are those of the first. None only where no codeword is agreed.
 pub(crate) fn wrong_places(first: &Word, second: &Word, sums: &Sums) -> Option<Places>
     requires differ { first.now ≢ second.now }
     requires sums { AreSums 4 first.now sums.now }
     ensures { MatchOption result
         ((w : List ℕ) → ¬ IsAgreed first.now second.now w)
-        (λ p. AreApart p × ((w : List ℕ) → IsAgreed first.now second.now w → AreEqualOutside (all_of p) first.now w)) }
+        (λ p. AreApart p × ((w : List ℕ) → IsAgreed first.now second.now w
+        → AreEqualOutside (all_of p) first.now w)) }
 {
     let one = first.bytes();
     let other = second.bytes();
@@ -59,8 +60,8 @@ fn with_further(sums: &Sums, first: usize, second: usize) -> Option<Places>
     requires second { (second < 24) × (second ≢ first) }
     ensures { MatchOption result
         ((further : ℕ) (errors : List ℕ) → ¬ AreErrors sums.now (first ∷ second ∷ further ∷ []) errors)
-        (λ p. AreApart p × ((further : ℕ) (errors : List ℕ) → AreErrors sums.now (first ∷ second ∷ further ∷ []) errors
-        → AreErrors sums.now (all_of p) errors)) }
+        (λ p. AreApart p × ((further : ℕ) (errors : List ℕ)
+        → AreErrors sums.now (first ∷ second ∷ further ∷ []) errors → AreErrors sums.now (all_of p) errors)) }
 {
     let left = sums.without(first).without(second);
     if left.zeroth.is_zero() {
@@ -99,7 +100,8 @@ fn further_position(sums: &Sums) -> Option<usize>
     requires { sums.now.zeroth ≢ 0 }
     ensures { MatchOption result
         ((k : ℕ) → k < 24 → product (alpha_power (23 - k)) sums.now.zeroth ≢ sums.now.first)
-        (λ j. (j < 24) × ((k : ℕ) → k < 24 → product (alpha_power (23 - k)) sums.now.zeroth ≡ sums.now.first → k ≡ j)) }
+        (λ j. (j < 24) × ((k : ℕ) → k < 24
+        → product (alpha_power (23 - k)) sums.now.zeroth ≡ sums.now.first → k ≡ j)) }
 {
     let ratio = sums.first.mul(sums.zeroth.inv());
     for j in 0..SYMBOLS {

@@ -15,6 +15,3 @@ mod trying;
 
 pub use stops::TrialStop;
 pub use trying::trial;
-
-#[cfg(test)]
-mod tests;

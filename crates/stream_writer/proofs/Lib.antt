@@ -6,3 +6,4 @@ pub mod Framed
 pub mod Streams
 pub mod Room
 pub mod Whole
+pub mod Quiet

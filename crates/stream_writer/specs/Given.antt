@@ -1,5 +1,5 @@
 -- Packs as they come, and what is put of them. `Comes n pack` says that pack n, counted from 0, may be this.
-use Rattle.std.specs.Prelude.{◌≡◌, ℕ, ◌+◌, ◌*◌, ◌<◌, ◌≤◌, List, [], length, flat_map, replicate, slice_index_or, All}
+use Rattle.std.specs.Prelude.{◌≡◌, ℕ, ◌+◌, ◌*◌, ◌<◌, ◌≤◌, List, [], length, flat_map, replicate, ◌++◌, Some, slice_index_or, All}
 use Rattle.std.specs.List.{concat}
 use Rattle.std.specs.declared.option.Option.{Option}
 use Rattle.std.specs.Io.KnownBytes.{Appends}
@@ -33,6 +33,19 @@ pub record AreGiven (Comes : ℕ → List ℕ → Type 0) (first many : ℕ) (pa
   pub count : length packs ≡ many
   pub each : (k : ℕ) → k < many → Comes (first + k) (slice_index_or packs k [])
   pub codewords : All IsCodeword packs
+
+-- the slot that comes with one more pack, and the packs that are still to be spread before and after it
+pub record TakesPack (Comes : ℕ → List ℕ → Type 0) (before after : List (List ℕ)) (slot pack : List ℕ) : Type 0 where
+  pub comes : Comes 0 pack
+  pub codeword : IsCodeword pack
+  pub after_is : after ≡ spread_next before pack
+  pub slot_is : Some slot ≡ spread_gives before pack
+
+-- of the packs that are still to be spread, at most seven, so many of the last are idle
+pub record AreQuiet (packs : List (List ℕ)) (quiet : ℕ) : Type 0 where
+  pub few : length packs ≤ 7
+  pub before : List (List ℕ)
+  pub idle : packs ≡ before ++ replicate quiet idle_pack
 
 -- the symbols of so many packs, and the packs that are still to be spread before and after them
 pub record TakesPacks (Comes : ℕ → List ℕ → Type 0) (many : ℕ) (before after : List (List ℕ)) (symbols : List ℕ) (packs : List (List ℕ)) : Type 0 where

@@ -9,7 +9,7 @@ mod stops;
 mod stream;
 mod texts;
 
-pub use source::PackSource;
+pub use source::{PackSource, unless_idle};
 pub use stops::LeadInStop;
 pub use stream::write_stream;
 pub use texts::pack_texts;

@@ -1,5 +1,5 @@
 // Where the packs of a stream come from.
-ghost use Rattle.std.specs.Prelude.{ℕ, List, Option, unwrap_or};
+ghost use Rattle.std.specs.Prelude.{◌≡◌, ℕ, List, Option, unwrap_or};
 ghost use Rattle.stream_writer.specs.Given.{idle_pack, ComesLater};
 
 use rw_code::Pack;
@@ -13,4 +13,15 @@ pub trait PackSource {
     fn next_pack(&mut self) -> Option<Pack>
         ensures pack { comes self.old 0 (unwrap_or result idle_pack) }
         ensures later { ComesLater (comes self.old) 1 (comes self.new) };
+}
+
+/// The pack, or none where it is idle.
+pub fn unless_idle(pack: Pack) -> Option<Pack>
+    ensures { unwrap_or result idle_pack ≡ pack }
+{
+    if pack.word().bytes() == [0; 24] {
+        None
+    } else {
+        Some(pack)
+    }
 }

@@ -54,8 +54,9 @@ fn put_program<P: PackSource, K: Sink>(
     ensures cause { HasCause (K.faults out.old) (K.faults out.new) result }
 {
     let blocks = layout.blocks();
+    let mut quiet = 0;
     for b in 0..blocks {
-        let symbols = next_symbols(source, spread);
+        let symbols = next_symbols(source, spread, &mut quiet);
         let block = program_block(layout, b, &symbols);
         put_all(out, &block)?;
     }

@@ -17,7 +17,7 @@ slot_same block k size lt =
     let few : length (take 24 rest) ≡ 24 = length-take-le 24 rest (omega (arith, size, length-drop (24 * k) block)) in
     fill_by_all (λ i. slice_index block (24 * k + i) % 64) (map (λ (byte : ℕ). byte % 64) (take 24 rest)) 24 0 (length-map (take 24 rest) (λ (byte : ℕ). byte % 64) ∙ few)
     (λ n n_lt. get_or-map (λ (byte : ℕ). byte % 64) (take 24 rest) n 0 0 (omega (arith, few, n_lt))
-      ∙ ap (λ byte. byte % 64) (get_or-take 24 rest n 0 n_lt ∙ get_or-drop (24 * k) block n 0))
+    ∙ ap (λ byte. byte % 64) (get_or-take 24 rest n 0 n_lt ∙ get_or-drop (24 * k) block n 0))
 
 pub slots_same : (block : List ℕ) → length block ≡ 96 → slots_of block ≡ slots_in block 0 4
 unfolding slots_of slots_in

@@ -10,9 +10,6 @@ ghost use Rattle.subcode_player.specs.Calls.{EndFirst, IsAnsweredBy, PlaysAtEnd}
 ghost use Rattle.subcode_player.specs.Counts.{IsChecked, count_line, stream_lines, wrong_lines, kind_lines, frame_lines};
 ghost use Rattle.subcode_player.specs.CountSteps.{IsFresh, lines_of};
 
-#[cfg(test)]
-mod tests;
-
 use crate::player::play_stop;
 use crate::watching::watch;
 use crate::{Counting, Form, FrameCounts, PlayStop, Played, Player, WordCounts};

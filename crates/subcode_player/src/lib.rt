@@ -28,8 +28,3 @@ pub use raw_subcode::Form;
 pub use sectors::SectorBlocks;
 pub use text_listing::TextStop;
 pub use words::BlockWords;
-
-#[cfg(test)]
-mod q_tests;
-#[cfg(test)]
-mod tests;

@@ -11,9 +11,6 @@ ghost use Rattle.subcode_player.specs.Pictured.{GivesPicture, IsHeldAt, IsSchedu
 ghost use Rattle.subcode_player.specs.Shown.{IsScreenAt, IsStateAt, IsShownBy, Shows};
 ghost use Rattle.subcode_player.specs.Watch.{Views, viewed};
 
-#[cfg(test)]
-mod tests;
-
 use crate::pictures::screens_show_pictures;
 use crate::player::play_stop;
 use crate::watching::watch;

@@ -6,6 +6,3 @@ mod place;
 mod places;
 
 pub use layout::{Layout, LayoutStop};
-
-#[cfg(test)]
-mod tests;

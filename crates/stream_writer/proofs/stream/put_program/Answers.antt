@@ -1,12 +1,14 @@
 use Rattle.std.proofs.Common.{◌*◌, ◌+◌, refl, ◌∙◌, arith}
 use Rattle.stream_writer.proofs.Pieces.{on_err}
 use Rattle.stream_writer.proofs.Slots.{none_later, later_more}
+use Rattle.stream_writer.proofs.Quiet.{start_quiet}
 use Rattle.stream_writer.proofs.Programs.{none_done, block_more, part_more, all_done}
 use Rattle.stream_writer.proofs.stream.put_program.Goals as goal
 
 pub loop-b-init : goal.loop-b-init
 loop-b-init g c = record {
   done = none_done c.args.layout.now (g.P.PackSource.comes c.args.source.now) (g.K.Sink.held c.args.out.now) c.args.spread.now c.requires;
+  quiet = start_quiet c.args.spread.now c.requires;
   later = none_later _;
   same = refl;
 }
@@ -31,6 +33,7 @@ loop-b-preserved g c =
           c.loop-b.spread c.next_symbols-symbols.new.spread c.next_symbols-symbols.result c.program_block-block.result so_far.done so_far.later
           c.next_symbols-symbols.ensures.symbols
           c.program_block-block.ensures.bytes c.program_block-block.ensures.built c.in_ok-put_all.ensures.ok;
+      quiet = c.next_symbols-symbols.ensures.quiet;
       later = later_more (g.P.PackSource.comes c.args.source.now) (g.P.PackSource.comes c.loop-b.source) (g.P.PackSource.comes c.next_symbols-symbols.new.source) (4 * c.loop-b.b) 4 (4 * (c.loop-b.b + 1)) so_far.later c.next_symbols-symbols.ensures.later (omega arith);
       same = c.in_ok-put_all.ensures.cause.same ∙ so_far.same;
     }

@@ -1,0 +1,5 @@
+pub mod Tails
+pub mod SavedStreams
+pub mod GoneOn
+pub mod Reached
+pub mod Written

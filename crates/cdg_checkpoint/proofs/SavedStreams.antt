@@ -1,0 +1,125 @@
+-- The checkpoint of a whole stream.
+use Rattle.std.proofs.Common.{◌≡◌, ◌≢◌, ℕ, ◌+◌, ◌-◌, ◌*◌, ◌/◌, ◌<◌, ◌≤◌, List, [], length, map, take, drop, replicate, refl, sym, ap, ap₂, ◌∙◌, subst, arith, length-drop, Ok, Err}
+use Rattle.std.specs.Prelude.{Option, min}
+use Rattle.std.specs.List.{flat_map}
+use Rattle.std.specs.Io.KnownBytes.{Appends}
+use Rattle.std.proofs.lemmas.List.{take_all}
+use Rattle.cdg_io.specs.Moves.{AppendsPrefix}
+use Rattle.cdg_io.specs.Run.{run_state}
+use Rattle.cdg_io.specs.Pump.{units_of}
+use Rattle.cdg_io.specs.declared.pumping.Pumped.{Pumped}
+use Rattle.cdg_io.specs.declared.pumping.PumpStop.{PumpStop}
+use Rattle.cdg_io.specs.declared.pumping.PumpStop.TheVariants.{WriteFault}
+use Rattle.cdg_io.specs.declared.stage.Then.{Then}
+use Rattle.cdg_io.proofs.Streaming.{IsWhole}
+use Rattle.rw_interleave.specs.Interleave.{whole_packs}
+use Rattle.raw_subcode.specs.Channels.{block_of, blocks_of, symbols_of, program_symbols}
+use Rattle.raw_subcode.specs.declared.form.Form.TheVariants.{Raw}
+use Rattle.stream_words.specs.Stream.{bad_count}
+use Rattle.cdg_screen.specs.Picture.{Standing, SameStanding, blank, standing_of, standing_after}
+use Rattle.cdg_screen.proofs.Turns.{same_then}
+use Rattle.checkpoint_files.specs.Checkpoint.{Checkpoint, file_of}
+use Rattle.subcode_player.specs.Shown.{AreMeant}
+use Rattle.subcode_player.specs.Watch.{IsViewed}
+use Rattle.subcode_player.specs.declared.words.BlockWords.{BlockWords}
+use Rattle.subcode_player.specs.declared.drawing.Drawing.{Drawing}
+use Rattle.subcode_player.proofs.Slots.{Sized, sized_drop, length-all_symbols}
+use Rattle.subcode_player.proofs.PlayRuns.{plain_blocks}
+use Rattle.subcode_player.proofs.Conversion.{units_sized, length-units_of}
+use Rattle.subcode_player.proofs.Playing.{units_in}
+use Rattle.subcode_player.proofs.Views.{IsReady, drawings_next, viewed_bytes, whole_taken}
+use Rattle.cdg_checkpoint.specs.Tracked.{Watches, track_next}
+use Rattle.cdg_checkpoint.specs.Saved.{IsCheckpointOf, IsEarly, IsSaved, Saves, last_symbols, most_blocks}
+use Rattle.cdg_checkpoint.specs.Keeping.{IsKept}
+use Rattle.cdg_checkpoint.specs.declared.tracking.Tracking.{Tracking}
+use Rattle.cdg_checkpoint.proofs.Tails.{after, tail_after, words_alone}
+
+pub same_refl : (now : Standing) → SameStanding now now
+same_refl now = record { memory = λ x y _ _. refl; border = refl; colour = λ k _. refl; level = λ k _. refl; h = refl; v = refl }
+
+-- ---- the blocks of whole bytes
+
+pub blocks_are : (n : ℕ) (bytes : List ℕ) → IsWhole 96 n bytes → blocks_of Raw bytes ≡ units_of 96 n bytes
+blocks_are n bytes whole = plain_blocks Raw refl _ ∙ ap (λ k. units_of 96 k bytes) (units_in Raw n bytes whole)
+
+pub symbols_are : (lead_in n : ℕ) (bytes : List ℕ) → IsWhole 96 n bytes → program_symbols Raw bytes lead_in ≡ flat_map symbols_of (drop lead_in (units_of 96 n bytes))
+symbols_are lead_in n bytes whole = ap (λ (bs : List (List ℕ)). flat_map symbols_of (drop lead_in bs)) (blocks_are n bytes whole)
+
+pub symbols_count : (lead_in n : ℕ) (bytes : List ℕ) → IsWhole 96 n bytes → length (program_symbols Raw bytes lead_in) ≡ 96 * (n - lead_in)
+symbols_count lead_in n bytes whole =
+    ap length (symbols_are lead_in n bytes whole) ∙ length-all_symbols (drop lead_in (units_of 96 n bytes)) (sized_drop 96 lead_in _ (units_sized 96 n bytes whole.fits))
+    ∙ ap (λ k. 96 * k) (length-drop lead_in (units_of 96 n bytes) ∙ ap (λ k. k - lead_in) (length-units_of 96 n bytes))
+
+-- the state before a stream
+pub record IsFresh (lead_in : ℕ) (s : Tracking) : Type 0 where
+  pub ready : IsReady Raw lead_in 1000000 s.words
+  pub tail : s.tail ≡ replicate 168 0
+
+module _ (lead_in n : ℕ) (bytes file : List ℕ) (s s' : Tracking) (fresh : IsFresh lead_in s) (few : n ≤ 1000000) (size : length bytes ≡ n * 96) (run : s' ≡ run_state track_next s (units_of 96 n bytes)) (kept : IsKept n lead_in s' file) where
+  whole : IsWhole 96 n bytes
+  whole = whole_taken Raw n bytes size
+
+  units : List (List ℕ)
+  units = units_of 96 n bytes
+
+  viewed : IsViewed Raw lead_in 1000000 bytes (standing_of s'.words.second.picture) s'.words.second.bad
+  viewed =
+      viewed_bytes Raw lead_in 1000000 s.words bytes n s'.words.second fresh.ready few whole
+      (ap (λ (t : Tracking). t.words.second) run ∙ ap (λ (t : Then BlockWords Drawing). t.second) (words_alone s (units_of 96 n bytes))
+      ∙ ap (λ (us : List (List ℕ)). (run_state drawings_next s.words us).second) (sym (plain_blocks Raw refl (units_of 96 n bytes))))
+
+  all_found : take (whole_packs 1000000) viewed.found ≡ viewed.found
+  all_found = take_all (whole_packs 1000000) viewed.found (omega (arith, viewed.recovered.count, symbols_count lead_in n bytes whole, few))
+
+  slots : s'.tail ≡ last_symbols 168 (program_symbols Raw bytes lead_in)
+  slots =
+      ap (λ (t : Tracking). t.tail) run
+      ∙ tail_after lead_in s (units_of 96 n bytes) (ap (λ (w : BlockWords). w.lead_in) fresh.ready.words) (ap length fresh.tail) (units_sized 96 n bytes whole.fits)
+      ∙ ap₂ after fresh.tail (sym (symbols_are lead_in n bytes whole))
+
+  pub is_saved : IsSaved lead_in bytes (record { units = n }) file
+  is_saved =
+      let count : length bytes / 96 ≡ n = units_in Raw n bytes whole in
+      record {
+        units = sym count;
+        checkpoint = kept.checkpoint;
+        is = record {
+          found = viewed.found;
+          recovered = viewed.recovered;
+          instrs = viewed.instrs;
+          meant = subst (λ (found : List (Option (List ℕ))). AreMeant found viewed.instrs) all_found viewed.shown;
+          to_come_is = kept.to_come_is ∙ ap (λ k. lead_in - k) (sym count);
+          lead_in_is = kept.lead_in_is ∙ ap (λ k. min k lead_in) (sym count);
+          program_is = kept.program_is ∙ ap (λ k. k - lead_in) (sym count);
+          bad_is = kept.bad_is ∙ viewed.bad_is ∙ ap bad_count all_found;
+          slots_are = kept.slots_are ∙ slots;
+          stands = same_then kept.checkpoint.standing (standing_of s'.words.second.picture) (standing_after blank viewed.instrs) kept.stands viewed.stands;
+        };
+        text_is = kept.file_is;
+      }
+
+-- ---- the answers
+
+module _ (lead_in : ℕ) (left left' held held' : Option (List ℕ)) (s s' : Tracking) (taken file : List ℕ) (pumped : Pumped) (fresh : IsFresh lead_in s) (w : Watches most_blocks track_next left left' s s' (Ok pumped) taken) (kept : IsKept pumped.units lead_in s' file) where
+  saved : IsSaved lead_in taken pumped file
+  saved = is_saved lead_in pumped.units taken file s s' fresh w.done.2 w.done.1 w.done.3 kept
+
+  pub saves_done : (text : List ℕ) → text ≡ file → Appends held held' text → Saves lead_in left left' held held' (Ok pumped) taken
+  saves_done text e put = record {
+    taken_from = w.taken_from;
+    within = w.within;
+    done = (w.done.0, (file, saved, subst (λ (t : List ℕ). Appends held held' t) e put));
+    stopped = λ stop e not. (cc);
+    ended = λ stop e not. (cc);
+    cut = λ e. (cc);
+  }
+
+  pub saves_cut : (text : List ℕ) → text ≡ file → AppendsPrefix held held' text → Saves lead_in left left' held held' (Err WriteFault) taken
+  saves_cut text e put = record {
+    taken_from = w.taken_from;
+    within = w.within;
+    done = tt;
+    stopped = λ stop e not. let same : WriteFault ≡ stop = cc in absurd (not (sym same));
+    ended = λ stop e not. w.done.0;
+    cut = λ h. (w.done.0, (file, (pumped, saved), subst (λ (t : List ℕ). AppendsPrefix held held' t) e put));
+  }

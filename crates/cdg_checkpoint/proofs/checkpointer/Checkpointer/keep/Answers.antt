@@ -1,0 +1,8 @@
+use Rattle.std.proofs.Common.{refl, arith, ap, ◌∙◌}
+use Rattle.checkpoint_files.specs.Checkpoint.{kept}
+use Rattle.cdg_checkpoint.proofs.checkpointer.Checkpointer.keep.Goals as goal
+
+pub returns : goal.returns
+returns c =
+    let (now, same, file) = c.compose.ensures in
+    record { checkpoint = kept _ c.args.self.now.tracking.tail now; to_come_is = omega (arith, c.min-read.ensures); lead_in_is = c.min-read.ensures; program_is = omega (arith, c.min-read.ensures); bad_is = refl; slots_are = refl; stands = same; file_is = file }

@@ -1,0 +1,4 @@
+pub mod Tracked
+pub mod Saved
+pub mod Keeping
+pub mod Resumed

@@ -1,0 +1,61 @@
+-- The checkpoint of a stream.
+use Rattle.std.specs.Prelude.{◌≡◌, ℕ, ◌-◌, ◌/◌, ⊤, List, [], ◌++◌, length, drop, replicate, min, Option, Result}
+use Rattle.cdg_io.specs.Streams.{WritesAtEnd}
+use Rattle.cdg_io.specs.Causes.{Rose}
+use Rattle.cdg_io.specs.declared.pumping.Pumped.{Pumped}
+use Rattle.cdg_io.specs.declared.pumping.PumpStop.{PumpStop}
+use Rattle.cdg_io.specs.declared.pumping.PumpStop.TheVariants.{ReadFault, WriteFault, Torn, TooLong}
+use Rattle.std.specs.Prelude.{Ok, Err}
+use Rattle.raw_subcode.specs.Channels.{program_symbols}
+use Rattle.raw_subcode.specs.declared.form.Form.TheVariants.{Raw}
+use Rattle.stream_words.specs.Stream.{IsRecovered, bad_count}
+use Rattle.cdg_instructions.specs.declared.instr.Instr.{Instr}
+use Rattle.cdg_screen.specs.Picture.{SameStanding, blank, standing_after}
+use Rattle.checkpoint_files.specs.Checkpoint.{Checkpoint, file_of}
+use Rattle.subcode_player.specs.Shown.{AreMeant}
+
+-- the most blocks that are read
+abbrev pub most_blocks : ℕ
+most_blocks = 1000000
+
+-- the last of so many symbols, with zeros before the first
+abbrev pub last_symbols : ℕ → List ℕ → List ℕ
+last_symbols count symbols = drop (length symbols) (replicate count 0 ++ symbols)
+
+-- the checkpoint after all blocks of a stream of raw blocks, the first of which are its lead-in
+pub record IsCheckpointOf (bytes : List ℕ) (lead_in : ℕ) (c : Checkpoint) : Type 0 where
+  pub found : List (Option (List ℕ))
+  pub recovered : IsRecovered Raw (program_symbols Raw bytes lead_in) found
+  pub instrs : List Instr
+  pub meant : AreMeant found instrs
+  pub to_come_is : c.to_come ≡ lead_in - length bytes / 96
+  pub lead_in_is : c.lead_in ≡ min (length bytes / 96) lead_in
+  pub program_is : c.program ≡ length bytes / 96 - lead_in
+  pub bad_is : c.bad ≡ bad_count found
+  pub slots_are : c.slots ≡ last_symbols 168 (program_symbols Raw bytes lead_in)
+  pub stands : SameStanding c.standing (standing_after blank instrs)
+
+-- the answer to whole blocks, and the file of their checkpoint
+pub record IsSaved (lead_in : ℕ) (bytes : List ℕ) (pumped : Pumped) (text : List ℕ) : Type 0 where
+  pub units : pumped.units ≡ length bytes / 96
+  pub checkpoint : Checkpoint
+  pub is : IsCheckpointOf bytes lead_in checkpoint
+  pub text_is : text ≡ file_of checkpoint
+
+-- it comes before the end of the input
+abbrev pub IsEarly : PumpStop → Type 0
+IsEarly ReadFault = ⊤
+IsEarly TooLong = ⊤
+IsEarly stop = ⊥
+
+-- A call took these bytes: it writes the file of their checkpoint at the end.
+abbrev pub Saves : ℕ → Option (List ℕ) → Option (List ℕ) → Option (List ℕ) → Option (List ℕ) → Result Pumped PumpStop → List ℕ → Type 0
+Saves lead_in left left' held held' result taken = WritesAtEnd 96 most_blocks IsEarly WriteFault (IsSaved lead_in) left left' held held' result taken
+
+-- The count of told ends rose where the input was read to its end, and nowhere else.
+abbrev pub EndFirst : Result Pumped PumpStop → ℕ → ℕ → Type 0
+EndFirst (Ok pumped) before now = Rose before now
+EndFirst (Err (Torn unit)) before now = Rose before now
+EndFirst (Err WriteFault) before now = Rose before now
+EndFirst (Err TooLong) before now = now ≡ before
+EndFirst (Err ReadFault) before now = now ≡ before

@@ -1,0 +1,34 @@
+-- The steps of a stage that draws all packs of a stream and keeps its last slots.
+use Rattle.std.specs.Prelude.{◌≡◌, ℕ, ◌==◌, ◌+◌, ◌*◌, ◌<◌, ◌≤◌, if◌then◌else◌, List, ◌++◌, drop, length, Option, None, Result, Ok, Err, IfOk, ◌≢◌}
+use Rattle.std.specs.Io.KnownBytes.{Consumes, IsAtEnd}
+use Rattle.cdg_io.specs.Pump.{units_of}
+use Rattle.cdg_io.specs.Run.{run_state, then_second}
+use Rattle.cdg_io.specs.declared.pumping.Pumped.{Pumped}
+use Rattle.cdg_io.specs.declared.pumping.PumpStop.{PumpStop}
+use Rattle.cdg_io.specs.declared.pumping.PumpStop.TheVariants.{WriteFault, Torn}
+use Rattle.cdg_io.specs.declared.stage.Then.{Then}
+use Rattle.raw_subcode.specs.Channels.{symbols_of}
+use Rattle.subcode_player.specs.Steps.{words_next, words_give}
+use Rattle.subcode_player.specs.Drawn.{drawing_next}
+use Rattle.subcode_player.specs.declared.words.BlockWords.{BlockWords}
+use Rattle.subcode_player.specs.declared.drawing.Drawing.{Drawing}
+use Rattle.cdg_checkpoint.specs.declared.tracking.Tracking.{Tracking}
+
+-- the words of a stream, and what they draw, after a block
+abbrev pub words_drawn : Then BlockWords Drawing → List ℕ → Then BlockWords Drawing
+words_drawn s block = record { first = words_next s.first block; second = then_second drawing_next s.second (words_give s.first block) }
+
+-- the last symbols of the program after a block: those of a block of the lead-in do not count
+unfoldable pub tail_next : ℕ → List ℕ → List ℕ → List ℕ
+tail_next to_come tail block = if to_come == 0 then drop 96 (tail ++ symbols_of block) else tail
+
+abbrev pub track_next : Tracking → List ℕ → Tracking
+track_next s block = record { words = words_drawn s.words block; tail = tail_next s.words.first.lead_in s.tail block }
+
+-- These bytes were taken, and where they are whole blocks to the end, the stage is in the last state of its run over them.
+pub record Watches {S : Type 0} (limit : ℕ) (next : S → List ℕ → S) (left left' : Option (List ℕ)) (s s' : S) (result : Result Pumped PumpStop) (taken : List ℕ) : Type 0 where
+  pub taken_from : Consumes left left' taken
+  pub within : length taken ≤ limit * 96 + 1
+  pub done : IfOk result (λ p. IsAtEnd left' × (length taken ≡ p.units * 96) × (p.units ≤ limit) × (s' ≡ run_state next s (units_of 96 p.units taken)))
+  pub torn : (unit : ℕ) → result ≡ Err (Torn unit) → IsAtEnd left' × (unit < limit)
+  pub no_write : result ≢ Err WriteFault

@@ -1,0 +1,40 @@
+// What saves and resumes.
+use crate::Tracking;
+use cdg_io::Then;
+use checkpoint_files::{CheckpointFile, SLOTS_BYTES};
+use rw_interleave::Gather;
+use std::alloc::{AllocError, Global};
+use subcode_player::{BlockWords, Drawing, Form, Picture};
+
+/// Saves checkpoints of streams and resumes from them, one at a time. All its memory is taken at the start; each call
+/// begins anew, whatever stopped the one before.
+#[derive(Drop)]
+pub struct Checkpointer {
+    /// What a stream drew, and its last slots.
+    pub tracking: Tracking,
+    /// The file of a checkpoint.
+    pub file: CheckpointFile,
+}
+
+impl Checkpointer {
+    /// Takes the memory of a window, of the screen, and of a file.
+    pub fn start(alloc: Global) -> Result<Checkpointer, AllocError> {
+        let words = BlockWords {
+            form: Form::Raw,
+            lead_in: 0,
+            gather: Gather::start(alloc)?,
+        };
+        let drawing = Drawing {
+            picture: Picture::start(alloc)?,
+            left: 0,
+            bad: 0,
+        };
+        Ok(Checkpointer {
+            tracking: Tracking {
+                words: Then::new(words, drawing),
+                tail: [0; SLOTS_BYTES],
+            },
+            file: CheckpointFile::start(alloc)?,
+        })
+    }
+}

@@ -1,0 +1,17 @@
+//! Checkpoints in the middle of a stream: the state of a player is saved, and playing goes on from it.
+#![tactic(auto)]
+
+mod checkpointer;
+mod pictures;
+mod resuming;
+mod saving;
+mod stops;
+mod tracking;
+mod watching;
+
+pub use checkpointer::Checkpointer;
+pub use stops::{ResumeStop, Resumed};
+pub use tracking::Tracking;
+
+#[cfg(test)]
+mod tests;

@@ -1,0 +1,28 @@
+// What stands, to a file and back.
+ghost use Rattle.std.specs.Prelude.{◌≡◌};
+ghost use Rattle.cdg_screen.specs.Picture.{SameStanding, Standing, standing_of};
+ghost use Rattle.checkpoint_files.specs.Checkpoint.{file_of, kept, standing_in};
+ghost use Rattle.checkpoint_files.specs.Table.{IsCheckpointFile};
+
+use checkpoint_files::{CheckpointFile, Counts, SLOTS_BYTES};
+use subcode_player::Picture;
+
+/// Composes the file of these counts and slots, and of what stands on the picture.
+pub(crate) fn compose(
+    file: &mut CheckpointFile,
+    counts: &Counts,
+    slots: &[u8; SLOTS_BYTES],
+    picture: &Picture,
+)
+    ensures { (now : Standing) × SameStanding now (standing_of picture.now) × (file.new ≡ file_of (kept counts.now slots.now now)) }
+{
+    file.compose(counts, slots, &picture.screen);
+}
+
+/// Brings back what stood, by the file of a checkpoint.
+pub(crate) fn bring_back(file: &CheckpointFile, picture: &mut Picture)
+    requires { IsCheckpointFile file.now }
+    ensures { SameStanding (standing_of picture.new) (standing_in file.now) }
+{
+    file.bring_back(&mut picture.screen);
+}

@@ -1,0 +1,249 @@
+// Playing that goes on from a checkpoint.
+ghost use Rattle.std.specs.Prelude.{◌≡◌, ◌≢◌, ◌≤◌, ◌<◌, ◌+◌, ◌-◌, ◌^◌, List, ℕ, [], length, IfSome, IfErr, IfOk, IsErr, IsErrOf, IsOk, Err, OnOk};
+ghost use Rattle.std.specs.Io.KnownBytes.{Appends, Consumes, IsAtEnd};
+ghost use Rattle.cdg_io.specs.Causes.{Rose};
+ghost use Rattle.cdg_io.specs.Moves.{AppendsPrefix, ConsumesBelow};
+ghost use Rattle.cdg_io.specs.Run.{run_state};
+ghost use Rattle.rw_interleave.specs.Interleave.{whole_packs};
+ghost use Rattle.rw_interleave.specs.Gathering.{gather_next};
+ghost use Rattle.cdg_screen.specs.Picture.{SameStanding, standing_of};
+ghost use Rattle.checkpoint_files.specs.Table.{IsCheckpointFile};
+ghost use Rattle.checkpoint_files.specs.Checkpoint.{checkpoint_in, standing_in};
+ghost use Rattle.cdg_checkpoint.specs.Resumed.{GoesOn, IsAcceptedBy, IsGoneOnBy, IsResumedBy, Resumes, acceptance, RestEnds, packs_until, reached, saved_slots};
+
+use crate::pictures::bring_back;
+use crate::saving::MOST_BLOCKS;
+use crate::watching::watch_some;
+use crate::{Checkpointer, ResumeStop, Resumed};
+use cdg_io::{Failed, PumpStop, Pumped, Sink, Source};
+use checkpoint_files::Counts;
+use rw_interleave::Slot;
+use subcode_player::Form;
+
+/// The slots that a checkpoint keeps.
+const SLOTS: u32 = 7;
+
+impl Checkpointer {
+    /// Writes the picture at a moment of a stream of raw blocks, from a checkpoint and the rest of the stream: a pixmap of
+    /// what stands after the packs that are whole at program block `at`, at most 449,999. Of `saved` at most 65,046 bytes
+    /// are taken, and they are left in `file`. The rest is not touched before the checkpoint is accepted.
+    ///
+    /// # Errors
+    ///
+    /// In this order: `BadSave` where the first input is no checkpoint, `BeforeSave` where the moment is before it;
+    /// `TooLong`, `Torn` and `PastEnd` as the whole stream says. Then nothing is written. `FirstFault` and `SecondFault`
+    /// come from a read of that input alone. After `WriteFault` the sink holds a prefix.
+    pub fn resume<S: Source, T: Source, K: Sink>(
+        &mut self,
+        at: u32,
+        saved: &mut S,
+        rest: &mut T,
+        out: &mut K,
+    ) -> Result<Resumed, ResumeStop>
+        requires { at ≤ 449999 }
+        // The checkpoint is accepted, or refused for the first reason.
+        ensures accepted { IsAcceptedBy (acceptance result) at self.new.file }
+        ensures saved_taken { result ≢ Err ResumeStop.FirstFault → Consumes (S.left saved.old) (S.left saved.new) self.new.file }
+        ensures saved_end { result ≢ Err ResumeStop.FirstFault → length self.new.file ≤ 65045 → IsAtEnd (S.left saved.new) }
+        ensures saved_part { result ≡ Err ResumeStop.FirstFault → ConsumesBelow (S.left saved.old) (S.left saved.new) 65046 }
+        ensures saved_most { length self.new.file ≤ 65046 }
+        // Where it is not, the rest is not touched.
+        ensures rest_untouched { IsErr (acceptance result) → rest.new ≡ rest.old }
+        ensures resumes { IsOk (acceptance result) → (taken : List ℕ) × Resumes self.new.file at (T.left rest.old) (T.left rest.new)
+            (K.held out.old) (K.held out.new) result taken }
+        // Where nothing failed, the answer is that of the checkpoint and the length of the rest.
+        ensures answer { IsOk (acceptance result) → IfSome (T.left rest.old) (λ all. IsResumedBy result (checkpoint_in self.new.file) at (length all)) }
+        // Where the output is not written it is as it was.
+        ensures untouched { IfErr result (λ stop. stop ≢ ResumeStop.WriteFault → out.new ≡ out.old) }
+        ensures saved_later { S.faults saved.old ≤ S.faults saved.new }
+        ensures rest_later { T.faults rest.old ≤ T.faults rest.new }
+        ensures out_later { K.faults out.old ≤ K.faults out.new }
+        ensures first_fault { IsErrOf result ResumeStop.FirstFault → Rose (S.faults saved.old) (S.faults saved.new) }
+        ensures no_first_fault { result ≢ Err ResumeStop.FirstFault → S.faults saved.new ≡ S.faults saved.old }
+        ensures second_fault { IsErrOf result ResumeStop.SecondFault → Rose (T.faults rest.old) (T.faults rest.new) }
+        ensures no_second_fault { result ≢ Err ResumeStop.SecondFault → T.faults rest.new ≡ T.faults rest.old }
+        ensures write_fault { IsErrOf result ResumeStop.WriteFault → Rose (K.faults out.old) (K.faults out.new) }
+        ensures no_write_fault { result ≢ Err ResumeStop.WriteFault → K.faults out.new ≡ K.faults out.old }
+        ensures saved_told { result ≢ Err ResumeStop.FirstFault → length self.new.file ≤ 65045 → Rose (S.ends saved.old) (S.ends saved.new) }
+        ensures saved_goes_on { result ≢ Err ResumeStop.FirstFault → 65045 < length self.new.file → S.ends saved.new ≡ S.ends saved.old }
+        ensures saved_not_told { result ≡ Err ResumeStop.FirstFault → S.ends saved.new ≡ S.ends saved.old }
+        ensures rest_told { IsOk (acceptance result) → RestEnds result (T.ends rest.old) (T.ends rest.new) }
+    {
+        match self.accept(at, saved) {
+            Ok(()) => self.show(at, rest, out),
+            Err(stop) => Err(stop),
+        }
+    }
+
+    // Plays the rest of a stream up to a moment, and writes the picture.
+    fn show<T: Source, K: Sink>(
+        &mut self,
+        at: u32,
+        rest: &mut T,
+        out: &mut K,
+    ) -> Result<Resumed, ResumeStop>
+        requires at { at ≤ 449999 }
+        requires file { IsCheckpointFile self.old.file }
+        requires not_later { (checkpoint_in self.old.file).program ≤ at }
+        ensures file { self.new.file ≡ self.old.file }
+        ensures accepted { IsOk (acceptance result) }
+        ensures no_first { result ≢ Err ResumeStop.FirstFault }
+        ensures resumes { (taken : List ℕ) × Resumes self.old.file at (T.left rest.old) (T.left rest.new)
+            (K.held out.old) (K.held out.new) result taken }
+        ensures answer { IfSome (T.left rest.old) (λ all. IsResumedBy result (checkpoint_in self.old.file) at (length all)) }
+        ensures untouched { IfErr result (λ stop. stop ≢ ResumeStop.WriteFault → out.new ≡ out.old) }
+        ensures rest_later { T.faults rest.old ≤ T.faults rest.new }
+        ensures out_later { K.faults out.old ≤ K.faults out.new }
+        ensures second_fault { IsErrOf result ResumeStop.SecondFault → Rose (T.faults rest.old) (T.faults rest.new) }
+        ensures no_second_fault { result ≢ Err ResumeStop.SecondFault → T.faults rest.new ≡ T.faults rest.old }
+        ensures write_fault { IsErrOf result ResumeStop.WriteFault → Rose (K.faults out.old) (K.faults out.new) }
+        ensures no_write_fault { result ≢ Err ResumeStop.WriteFault → K.faults out.new ≡ K.faults out.old }
+        ensures rest_told { RestEnds result (T.ends rest.old) (T.ends rest.new) }
+    {
+        match self.go_on(at, rest) {
+            Ok(resumed) => match self.tracking.words.second.picture.write_ppm(out) {
+                Ok(()) => Ok(resumed),
+                Err(Failed) => Err(ResumeStop::WriteFault),
+            },
+            Err(stop) => Err(stop),
+        }
+    }
+
+    // Reads a checkpoint that is not later than a moment.
+    pub(crate) fn accept<S: Source>(&mut self, at: u32, saved: &mut S) -> Result<(), ResumeStop>
+        ensures accepted { IsAcceptedBy result at self.new.file }
+        ensures taken { result ≢ Err ResumeStop.FirstFault → Consumes (S.left saved.old) (S.left saved.new) self.new.file }
+        ensures end { result ≢ Err ResumeStop.FirstFault → length self.new.file ≤ 65045 → IsAtEnd (S.left saved.new) }
+        ensures part { result ≡ Err ResumeStop.FirstFault → ConsumesBelow (S.left saved.old) (S.left saved.new) 65046 }
+        ensures most { length self.new.file ≤ 65046 }
+        ensures later { S.faults saved.old ≤ S.faults saved.new }
+        ensures fault { IsErrOf result ResumeStop.FirstFault → Rose (S.faults saved.old) (S.faults saved.new) }
+        ensures no_fault { result ≢ Err ResumeStop.FirstFault → S.faults saved.new ≡ S.faults saved.old }
+        ensures told { result ≢ Err ResumeStop.FirstFault → length self.new.file ≤ 65045 → Rose (S.ends saved.old) (S.ends saved.new) }
+        ensures goes_on { result ≢ Err ResumeStop.FirstFault → 65045 < length self.new.file → S.ends saved.new ≡ S.ends saved.old }
+        ensures not_told { result ≡ Err ResumeStop.FirstFault → S.ends saved.new ≡ S.ends saved.old }
+    {
+        match self.file.read(saved) {
+            Ok(()) => self.accepted(at),
+            Err(Failed) => Err(ResumeStop::FirstFault),
+        }
+    }
+
+    // Is what was read a checkpoint that is not later than a moment?
+    fn accepted(&self, at: u32) -> Result<(), ResumeStop>
+        ensures accepted { IsAcceptedBy result at self.now.file }
+        ensures no_fault { result ≢ Err ResumeStop.FirstFault }
+    {
+        match self.file.check() {
+            Ok(()) => self.not_later(at),
+            Err(byte) => Err(ResumeStop::BadSave { byte }),
+        }
+    }
+
+    // Is the checkpoint not later than a moment?
+    fn not_later(&self, at: u32) -> Result<(), ResumeStop>
+        requires { IsCheckpointFile self.now.file }
+        ensures accepted { IsAcceptedBy result at self.now.file }
+        ensures no_fault { result ≢ Err ResumeStop.FirstFault }
+    {
+        let blocks = self.file.counts().program;
+        if at < blocks {
+            return Err(ResumeStop::BeforeSave { blocks });
+        }
+        Ok(())
+    }
+
+    // Plays the rest of a stream up to a moment.
+    pub(crate) fn go_on<S: Source>(&mut self, at: u32, rest: &mut S) -> Result<Resumed, ResumeStop>
+        requires at { at ≤ 449999 }
+        requires file { IsCheckpointFile self.old.file }
+        requires not_later { (checkpoint_in self.old.file).program ≤ at }
+        ensures goes_on { (taken : List ℕ) × GoesOn (checkpoint_in self.old.file) at (S.left rest.old) (S.left rest.new)
+            (standing_of self.new.tracking.words.second.picture) result taken }
+        ensures answer { IfSome (S.left rest.old) (λ all. IsGoneOnBy result (checkpoint_in self.old.file) at (length all)) }
+        ensures file { self.new.file ≡ self.old.file }
+        ensures later { S.faults rest.old ≤ S.faults rest.new }
+        ensures fault { IsErrOf result ResumeStop.SecondFault → Rose (S.faults rest.old) (S.faults rest.new) }
+        ensures no_fault { result ≢ Err ResumeStop.SecondFault → S.faults rest.new ≡ S.faults rest.old }
+        ensures ended { RestEnds result (S.ends rest.old) (S.ends rest.new) }
+        ensures no_write { result ≢ Err ResumeStop.WriteFault }
+        ensures no_first { result ≢ Err ResumeStop.FirstFault }
+        ensures accepted { IsOk (acceptance result) }
+    {
+        let counts = self.file.counts();
+        self.begin_again(&counts, at);
+        let read = counts.lead_in + counts.program;
+        match watch_some(MOST_BLOCKS - read, rest, &mut self.tracking.words) {
+            Ok(pumped) => self.resumed(&counts, pumped, at),
+            Err(stop) => match stop {
+                PumpStop::ReadFault | PumpStop::WriteFault => Err(ResumeStop::SecondFault),
+                PumpStop::Torn { unit } => Err(ResumeStop::Torn { block: read + unit }),
+                PumpStop::TooLong => Err(ResumeStop::TooLong),
+            },
+        }
+    }
+
+    // What was played, where the program reaches the moment.
+    fn resumed(&self, counts: &Counts, pumped: Pumped, at: u32) -> Result<Resumed, ResumeStop>
+        requires { counts.now.program + pumped.units < 2 ^ 32 }
+        ensures accepted { IsOk (acceptance result) }
+        ensures answer { result ≡ reached (counts.now.program + (pumped.units - counts.now.to_come)) at self.now.tracking.words.second.bad }
+    {
+        let blocks = counts.program + pumped.units.saturating_sub(counts.to_come);
+        if blocks < at {
+            return Err(ResumeStop::PastEnd { blocks });
+        }
+        Ok(Resumed {
+            blocks,
+            bad: self.tracking.words.second.bad,
+        })
+    }
+
+    // Brings back the state of a checkpoint.
+    fn begin_again(&mut self, counts: &Counts, at: u32)
+        requires at { at ≤ 449999 }
+        requires file { IsCheckpointFile self.old.file }
+        requires to_come { counts.now.to_come ≡ (checkpoint_in self.old.file).to_come }
+        requires program { counts.now.program ≡ (checkpoint_in self.old.file).program }
+        requires not_later { counts.now.program ≤ at }
+        ensures words { self.new.tracking.words.first ≡ record { form = Form.Raw; lead_in = counts.now.to_come;
+            gather = run_state gather_next [] (saved_slots (checkpoint_in self.old.file)) } }
+        ensures left { self.new.tracking.words.second.left ≡ packs_until (checkpoint_in self.old.file) at }
+        ensures bad { self.new.tracking.words.second.bad ≡ counts.now.bad }
+        ensures stands { SameStanding (standing_of self.new.tracking.words.second.picture) (standing_in self.old.file) }
+        ensures file { self.new.file ≡ self.old.file }
+    {
+        self.gather_slots(counts);
+        let words = &mut self.tracking.words.first;
+        words.form = Form::Raw;
+        words.lead_in = counts.to_come;
+        let drawing = &mut self.tracking.words.second;
+        drawing.left = whole_packs(at) - whole_packs(counts.program);
+        drawing.bad = counts.bad;
+        bring_back(&self.file, &mut drawing.picture);
+    }
+
+    // Gathers the saved slots, the oldest first.
+    fn gather_slots(&mut self, counts: &Counts)
+        requires file { IsCheckpointFile self.old.file }
+        requires program { counts.now.program ≡ (checkpoint_in self.old.file).program }
+        ensures gather { self.new.tracking.words.first.gather ≡ run_state gather_next [] (saved_slots (checkpoint_in self.old.file)) }
+        ensures file { self.new.file ≡ self.old.file }
+    {
+        let gather = &mut self.tracking.words.first.gather;
+        gather.reset();
+        let kept = SLOTS.min(4 * counts.program.min(2));
+        for k in 0..kept {
+            let slot = self.file.slot((SLOTS - kept + k) as usize);
+            gather.push(&Slot::new(&slot));
+        }
+    }
+}
+
+/// The packs that are whole after so many blocks of the program.
+fn whole_packs(blocks: u32) -> u32
+    requires { blocks ≤ 1000000 }
+    ensures { result ≡ whole_packs blocks }
+{
+    (4 * blocks).saturating_sub(7)
+}

@@ -1,0 +1,99 @@
+// The checkpoint after a stream.
+ghost use Rattle.std.specs.Prelude.{◌≡◌, ◌≢◌, ◌≤◌, ◌-◌, List, ℕ, length, min, replicate, IfSome, IfErr, IsErrOf, Err};
+ghost use Rattle.cdg_io.specs.Causes.{Rose};
+ghost use Rattle.cdg_io.specs.Pump.{IsUnlessFault, answer_of};
+ghost use Rattle.rw_interleave.specs.Interleave.{whole_packs};
+ghost use Rattle.cdg_screen.specs.Picture.{SameStanding, blank, standing_of};
+ghost use Rattle.checkpoint_files.specs.Checkpoint.{Checkpoint, file_of};
+ghost use Rattle.subcode_player.specs.Steps.{begun};
+ghost use Rattle.cdg_checkpoint.specs.Saved.{EndFirst, Saves};
+ghost use Rattle.cdg_checkpoint.specs.Keeping.{IsKept};
+
+use crate::Checkpointer;
+use crate::pictures::compose;
+use crate::watching::watch;
+use cdg_io::{Failed, PumpStop, Pumped, Sink, Source, put_all};
+use checkpoint_files::{Counts, SLOTS_BYTES};
+use subcode_player::Form;
+
+/// The most blocks of a stream.
+pub(crate) const MOST_BLOCKS: u32 = 1_000_000;
+
+/// The packs of as many blocks.
+const MOST_PACKS: u32 = 4 * MOST_BLOCKS - 7;
+
+impl Checkpointer {
+    /// Writes the checkpoint after a stream of raw blocks, once it was read to its end. `lead_in` is at most 450,000 blocks.
+    ///
+    /// # Errors
+    /// `Torn`, `TooLong` and `ReadFault` as the input says: then nothing is written. After `WriteFault` the sink holds a
+    /// prefix.
+    pub fn save<S: Source, K: Sink>(
+        &mut self,
+        lead_in: u32,
+        source: &mut S,
+        out: &mut K,
+    ) -> Result<Pumped, PumpStop>
+        requires { lead_in ≤ 450000 }
+        ensures saves { (taken : List ℕ) × Saves lead_in (S.left source.old) (S.left source.new)
+            (K.held out.old) (K.held out.new) result taken }
+        // Where nothing failed, the answer is that of the whole input's length.
+        ensures answer { IfSome (S.left source.old) (λ all. IsUnlessFault result (answer_of 96 1000000 (length all))) }
+        // Where the output is not written it is as it was.
+        ensures untouched { IfErr result (λ stop. stop ≢ PumpStop.WriteFault → out.new ≡ out.old) }
+        ensures source_later { S.faults source.old ≤ S.faults source.new }
+        ensures out_later { K.faults out.old ≤ K.faults out.new }
+        ensures read_fault { IsErrOf result PumpStop.ReadFault → Rose (S.faults source.old) (S.faults source.new) }
+        ensures no_read_fault { result ≢ Err PumpStop.ReadFault → S.faults source.new ≡ S.faults source.old }
+        ensures ended { EndFirst result (S.ends source.old) (S.ends source.new) }
+        ensures write_fault { IsErrOf result PumpStop.WriteFault → Rose (K.faults out.old) (K.faults out.new) }
+        ensures no_write_fault { result ≢ Err PumpStop.WriteFault → K.faults out.new ≡ K.faults out.old }
+    {
+        self.begin(lead_in);
+        match watch(MOST_BLOCKS, source, &mut self.tracking) {
+            Ok(pumped) => {
+                self.keep(pumped, lead_in);
+                match put_all(out, self.file.bytes()) {
+                    Ok(()) => Ok(pumped),
+                    Err(Failed) => Err(PumpStop::WriteFault),
+                }
+            }
+            Err(stop) => Err(stop),
+        }
+    }
+
+    // Brings back the state before a stream, all of whose packs are drawn.
+    fn begin(&mut self, lead_in: u32)
+        ensures words { self.new.tracking.words.first ≡ begun Form.Raw lead_in }
+        ensures left { self.new.tracking.words.second.left ≡ whole_packs 1000000 }
+        ensures bad { self.new.tracking.words.second.bad ≡ 0 }
+        ensures blank { SameStanding (standing_of self.new.tracking.words.second.picture) blank }
+        ensures tail { self.new.tracking.tail ≡ replicate 168 0 }
+    {
+        let words = &mut self.tracking.words.first;
+        words.form = Form::Raw;
+        words.lead_in = lead_in;
+        words.gather.reset();
+        let drawing = &mut self.tracking.words.second;
+        drawing.left = MOST_PACKS;
+        drawing.bad = 0;
+        drawing.picture.reset();
+        self.tracking.tail = [0; SLOTS_BYTES];
+    }
+
+    // Composes the file of what was read of a stream.
+    fn keep(&mut self, pumped: Pumped, lead_in: u32)
+        ensures { IsKept pumped.units lead_in self.old.tracking self.new.file }
+    {
+        let read = pumped.units.min(lead_in);
+        let counts = Counts {
+            to_come: lead_in - read,
+            lead_in: read,
+            program: pumped.units - read,
+            bad: self.tracking.words.second.bad,
+        };
+        let tracking = &self.tracking;
+        let picture = &tracking.words.second.picture;
+        compose(&mut self.file, &counts, &tracking.tail, picture);
+    }
+}

@@ -1,0 +1,31 @@
+// How a resumed call ends.
+
+/// What was played after a checkpoint.
+#[derive(Clone, Copy, Debug, PartialEq, Eq)]
+pub struct Resumed {
+    /// The blocks of the program, those before the checkpoint too.
+    pub blocks: u32,
+    /// The words with no codeword within two symbols up to the moment, those before the checkpoint too.
+    pub bad: u32,
+}
+
+/// Why a resumed call stopped.
+#[derive(Clone, Copy, Debug, PartialEq, Eq)]
+pub enum ResumeStop {
+    /// A read of the checkpoint failed.
+    FirstFault,
+    /// A read of the rest of the stream failed.
+    SecondFault,
+    /// A write failed: the sink took a prefix of the picture.
+    WriteFault,
+    /// The first input is no checkpoint, as this byte shows.
+    BadSave { byte: u32 },
+    /// The moment is before the checkpoint, which comes after this many program blocks.
+    BeforeSave { blocks: u32 },
+    /// The rest of the stream ended within the block of this number in the whole stream, counted from 0.
+    Torn { block: u32 },
+    /// The whole stream has more than 1,000,000 blocks.
+    TooLong,
+    /// The moment is later than the end of this many program blocks.
+    PastEnd { blocks: u32 },
+}

@@ -1,0 +1,3 @@
+pub mod Writing
+pub mod SlotRanges
+pub mod Restored

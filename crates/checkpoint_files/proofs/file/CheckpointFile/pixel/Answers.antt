@@ -1,0 +1,11 @@
+use Rattle.std.proofs.Common.{◌+◌, ◌*◌, arith, ap, ◌∙◌}
+use Rattle.checkpoint_files.specs.Table.{number_at}
+use Rattle.checkpoint_files.proofs.Restored.{one_at}
+use Rattle.checkpoint_files.proofs.file.CheckpointFile.pixel.Goals as goal
+
+pub returns-clause-pixel : goal.returns-clause-pixel
+returns-clause-pixel c = c.byte.ensures.number ∙ one_at c.args.self.now 192 (300 * c.args.y + c.args.x)
+
+pub returns-clause-range : goal.returns-clause-range
+returns-clause-range c =
+    omega (arith, c.byte.ensures.number ∙ one_at c.args.self.now 192 (300 * c.args.y + c.args.x), c.requires.file.ranges.1.1.1.1.1.1.0 (300 * c.args.y + c.args.x) (omega (arith, c.requires.width, c.requires.height)))

@@ -1,0 +1,84 @@
+-- A checkpoint in the middle of a stream, and its file.
+use Rattle.std.specs.Prelude.{◌≡◌, ℕ, zero, suc, ◌+◌, ◌*◌, ◌/◌, ◌%◌, ◌^◌, ◌<◌, List, [], ◌∷◌, ◌++◌, length, take, drop, flat_map, slice_index}
+use Rattle.bit_lists.specs.Counting.{below}
+use Rattle.bit_lists.specs.Check.{check_of}
+use Rattle.cdg_screen.specs.Picture.{Standing}
+use Rattle.checkpoint_files.specs.declared.counts.Counts.{Counts}
+use Rattle.checkpoint_files.specs.Table.{Part, Mark, ToCome, LeadIn, Program, Bad, Slots, Memory, Border, Across, Down, Colours, Levels, Check, row, body_parts, mark, number}
+
+-- what a checkpoint keeps: the lead-in blocks still to come and those read, the program blocks read, the bad words so far, the symbols of the last seven slots with zeros before the first, and what stands
+pub record Checkpoint : Type 0 where
+  pub to_come : ℕ
+  pub lead_in : ℕ
+  pub program : ℕ
+  pub bad : ℕ
+  pub slots : List ℕ
+  pub standing : Standing
+
+-- the checkpoint of these counts and slots, and of what stands
+abbrev pub kept : Counts → List ℕ → Standing → Checkpoint
+kept counts slots now = record { to_come = counts.to_come; lead_in = counts.lead_in; program = counts.program; bad = counts.bad; slots = slots; standing = now }
+
+-- Writing
+
+-- the number that is written in field k of a part
+abbrev pub value : Checkpoint → Part → ℕ → ℕ
+value c Mark k = mark
+value c ToCome k = c.to_come
+value c LeadIn k = c.lead_in
+value c Program k = c.program
+value c Bad k = c.bad
+value c Slots k = slice_index c.slots k
+value c Memory k = c.standing.memory (k % 300) (k / 300)
+value c Border k = c.standing.border
+value c Across k = c.standing.h
+value c Down k = c.standing.v
+value c Colours k = c.standing.colour k
+value c Levels k = c.standing.level k
+value c Check k = 0
+
+-- a number as so many bytes, the highest first
+abbrev pub bytes_of : ℕ → ℕ → List ℕ
+bytes_of zero n = []
+bytes_of (suc size) n = (n / 256 ^ size % 256) ∷ bytes_of size n
+
+-- the bytes of a part
+unfoldable pub part_bytes : Checkpoint → Part → List ℕ
+part_bytes c part = flat_map (λ k. bytes_of (row part).size (value c part k)) (below (row part).count)
+
+-- bytes followed by those of parts
+abbrev pub with_parts : List ℕ → Checkpoint → List Part → List ℕ
+with_parts file c [] = file
+with_parts file c (part ∷ rest) = with_parts (file ++ part_bytes c part) c rest
+
+-- the bytes that the check is of
+abbrev pub body : Checkpoint → List ℕ
+body c = flat_map (part_bytes c) body_parts
+
+-- the file of a checkpoint
+unfoldable pub file_of : Checkpoint → List ℕ
+file_of c = body c ++ bytes_of 2 (check_of (body c))
+
+-- Reading
+
+-- what stands by a file: row by row from the left
+abbrev pub standing_in : List ℕ → Standing
+standing_in file = record {
+  memory = λ x y. number file Memory (300 * y + x);
+  border = number file Border 0;
+  colour = number file Colours;
+  level = number file Levels;
+  h = number file Across 0;
+  v = number file Down 0;
+}
+
+-- the checkpoint in a file
+abbrev pub checkpoint_in : List ℕ → Checkpoint
+checkpoint_in file = record {
+  to_come = number file ToCome 0;
+  lead_in = number file LeadIn 0;
+  program = number file Program 0;
+  bad = number file Bad 0;
+  slots = take 168 (drop 24 file);
+  standing = standing_in file;
+}

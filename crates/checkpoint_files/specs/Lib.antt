@@ -1,0 +1,4 @@
+pub mod Checkpoint
+pub mod Table
+pub mod Scan
+pub mod Drawn

@@ -1,0 +1,12 @@
+//! The file of a checkpoint in the middle of a stream: 65,045 bytes, written, read and looked at.
+#![tactic(auto)]
+
+mod checking;
+mod composing;
+mod counts;
+mod fields;
+mod file;
+mod restoring;
+
+pub use counts::Counts;
+pub use file::{CheckpointFile, FILE_BYTES, SLOTS_BYTES};

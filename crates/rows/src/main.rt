@@ -1,0 +1,74 @@
+//! Runs the rows of the named files: each gives a command its words and inputs, and says what comes of it.
+#![tactic(auto)]
+
+mod bytes;
+mod row;
+mod side;
+mod trial;
+
+use anyhow::{Context, Result, ensure};
+use bytes::Outputs;
+use row::Row;
+use std::alloc::Global;
+use std::process::ExitCode;
+use std::{env, fs};
+
+// Runs a row, and keeps what it wrote under its name.
+fn run_one(alloc: Global, mut row: Row, outputs: &mut Outputs) -> Result<()> {
+    ensure!(!outputs.contains_key(&row.name), "the name is taken");
+    let output = trial::run_row(alloc, &mut row)?;
+    outputs.insert(row.name, output)?;
+    Ok(())
+}
+
+// Runs the rows of a text, and answers how many there are.
+fn run_rows(alloc: Global, text: &str, outputs: &mut Outputs) -> Result<u32> {
+    let mut count = 0u32;
+    for stanza in text.split("\n\n") {
+        if let Some(row) = Row::read(alloc, stanza, outputs)? {
+            let name = row.name.clone()?;
+            if !row.is_given {
+                count = count.saturating_add(1);
+            }
+            run_one(alloc, row, outputs).context(format_args!("{name}"))?;
+        }
+    }
+    Ok(count)
+}
+
+// Prints how many rows a file has, or what is wrong with its first wrong one. Answers whether none is.
+fn run_file(rt: &HostRuntime, name: &str, outputs: &mut Outputs) -> Result<bool> {
+    let ran = match fs::read_to_string(rt, name) {
+        Ok(text) => run_rows(rt.alloc(), &text, outputs),
+        Err(error) => Err(error.into()),
+    };
+    match ran {
+        Ok(count) => println!(rt; "{name}: {count} rows")?,
+        Err(ref error) => println!(rt; "{name}: {error:#}")?,
+    }
+    Ok(ran.is_ok())
+}
+
+// Runs the files, and answers whether nothing is wrong with any.
+fn run_files(rt: &HostRuntime) -> Result<bool> {
+    let mut outputs = Outputs::new(rt.alloc());
+    let mut is_well = true;
+    for name in env::args(rt)?.skip(1) {
+        if !run_file(rt, &name, &mut outputs)? {
+            is_well = false;
+        }
+    }
+    Ok(is_well)
+}
+
+fn main(rt: HostRuntime) -> ExitCode {
+    match run_files(&rt) {
+        Ok(true) => ExitCode::SUCCESS,
+        Ok(false) => ExitCode::FAILURE,
+        Err(error) => {
+            // The status tells a failure there.
+            let _told = eprintln!(rt; "{error:#}");
+            ExitCode::FAILURE
+        }
+    }
+}

@@ -1,0 +1,122 @@
+// The trial of a row.
+ghost use Rattle.std.specs.Prelude.{◌≡◌, OnOk};
+
+use crate::row::{Extent, Part, Row};
+use anyhow::{Result, bail, ensure};
+use cdg_cmd::{run, split};
+use sha2::{Digest, Sha256};
+use std::alloc::{AllocError, Global};
+use std::mem::replace;
+
+// The first place where two lists differ.
+fn first_difference(wanted: &[u8], got: &[u8]) -> usize {
+    let same = wanted.iter().zip(got.iter()).take_while(|(a, b)| a == b);
+    same.count()
+}
+
+// Up to sixteen bytes from a place on.
+fn shown(alloc: Global, bytes: &[u8], place: usize) -> Result<String, AllocError> {
+    let rest = bytes.get(place..).unwrap_or(&[]);
+    hex::encode(alloc, &rest[..rest.len().min(16)])
+}
+
+// Fails where two lists differ.
+fn compare(alloc: Global, what: &str, wanted: &[u8], got: &[u8]) -> Result<()>
+    ensures { OnOk result (wanted.now ≡ got.now) }
+{
+    if wanted != got {
+        let place = first_difference(wanted, got);
+        let (want, have) = (shown(alloc, wanted, place)?, shown(alloc, got, place)?);
+        let (whole, len) = (wanted.len(), got.len());
+        bail!("{what}: from byte {place} wanted {want} of {whole} bytes, got {have} of {len}");
+    }
+    Ok(())
+}
+
+// Fails where a number is not the one that is wanted.
+fn compare_count(what: &str, wanted: Option<usize>, got: usize) -> Result<()> {
+    if let Some(wanted) = wanted {
+        ensure!(wanted == got, "{what}: wanted {wanted}, got {got}");
+    }
+    Ok(())
+}
+
+// Fails where these bytes do not stand at their place.
+fn compare_part(alloc: Global, part: &Part, got: &[u8]) -> Result<()> {
+    let rest = got.get(part.place..).unwrap_or(&[]);
+    let there = &rest[..rest.len().min(part.bytes.len())];
+    compare(alloc, "part of out", &part.bytes, there)
+}
+
+// Fails where the output is no beginning of the bytes of the row, or as long.
+fn compare_beginning(alloc: Global, row: &Row, got: &[u8]) -> Result<()> {
+    let whole = row.out.bytes.as_slice();
+    let (most, len) = (whole.len(), got.len());
+    ensure!(len < most, "out: wanted fewer than {most} bytes, got {len}");
+    compare(alloc, "out", whole.get(..len).unwrap_or(&[]), got)
+}
+
+// Whether a text has a line.
+fn has_line(text: &[u8], line: &str) -> bool {
+    let mut rest = text;
+    for _ in 0..text.len() {
+        let Some(after) = rest.iter().position(|byte| *byte == b'\n') else {
+            return false;
+        };
+        let (front, back) = rest.split_at(after);
+        if front == line.as_bytes() {
+            return true;
+        }
+        rest = back.get(1..).unwrap_or(&[]);
+    }
+    false
+}
+
+// Fails where an output is not what a row wants.
+fn compare_output(alloc: Global, row: &Row, got: &[u8]) -> Result<()> {
+    match row.extent {
+        Extent::Whole if row.has_parts && row.out.bytes.is_empty() => {}
+        Extent::Whole => compare(alloc, "out", &row.out.bytes, got)?,
+        Extent::Beginning => compare_beginning(alloc, row, got)?,
+    }
+    compare_count("length of out", row.length, got.len())?;
+    if let Some(digest) = &row.digest {
+        let found = hex::encode(alloc, Sha256::digest(got))?;
+        compare(alloc, "digest of out", digest.as_bytes(), found.as_bytes())?;
+    }
+    for part in row.parts.iter() {
+        compare_part(alloc, part, got)?;
+    }
+    for line in row.lines.iter() {
+        ensure!(has_line(got, line), "out: lacks the line {line}");
+    }
+    Ok(())
+}
+
+/// Runs a row, and answers what it wrote. It fails where that is not what the row wants.
+pub(crate) fn run_row(alloc: Global, row: &mut Row) -> Result<Vec<u8>> {
+    if row.is_given {
+        return Ok(replace(&mut row.out.bytes, Vec::new(alloc)));
+    }
+    let mut first = row.first.source(alloc);
+    let mut second = row.second.source(alloc);
+    let mut out = row.out.sink(alloc, row.room)?;
+    let mut err = row.err.sink(alloc, 256)?;
+    let split = split(&row.words);
+    compare_count("names", Some(row.names), split.names)?;
+    let status = run(
+        alloc,
+        &row.words[..split.words],
+        &mut first,
+        &mut second,
+        &mut out,
+        &mut err,
+    );
+    let (wanted, got) = (row.status, status.exit());
+    ensure!(wanted == got, "status: wanted {wanted}, got {got}");
+    compare(alloc, "err", &row.err.bytes, err.bytes())?;
+    compare_output(alloc, row, out.bytes())?;
+    compare_count("left", row.first_left, first.rest().len())?;
+    compare_count("left of second", row.second_left, second.rest().len())?;
+    Ok(out.bytes().to_vec(alloc)?)
+}

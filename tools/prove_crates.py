@@ -1,0 +1,156 @@
+#!/usr/bin/env python3
+"""Proves the libraries that crates stand on, independent ones side by side: prove_crates.py CRATE ..
+
+Says beforehand how long it will take, and as it goes which library of how many is proved. What is proved
+is kept in crates/*/out, so a call that was stopped is gone on with by the next. `rt run` of the crates
+themselves looks at all of it again, so nothing here is taken on trust."""
+import hashlib
+import os
+import pathlib
+import subprocess
+import sys
+import threading
+import time
+
+ROOT = pathlib.Path(__file__).resolve().parent.parent
+# How many lines of code and proofs a processor works off in a second, and the seconds that any crate takes.
+LINES_A_SECOND, LEAST_SECONDS = 30, 10
+# What a check takes of memory.
+BYTES = 2_500_000_000
+
+
+def graph():
+    """The crates of the repository with those of it that each stands on."""
+    below = {}
+    for line in (ROOT / "crates.txt").read_text().splitlines():
+        name, colon, rest = line.split("#")[0].partition(":")
+        if colon:
+            below[name.split()[0]] = rest.split()
+    return {name: [it for it in rest if it in below] for name, rest in below.items()}
+
+
+def libraries(below, goals):
+    """All that the goals stand on, lowest first."""
+    found = []
+
+    def visit(name):
+        for it in below[name]:
+            visit(it)
+        if name not in found:
+            found.append(name)
+
+    for goal in goals:
+        visit(goal)
+    return [it for it in found if it not in goals]
+
+
+def files_of(name):
+    parts = (ROOT / "crates" / name / part for part in ("src", "specs", "proofs"))
+    return sorted(file for part in parts for file in part.rglob("*") if file.is_file())
+
+
+def stamps(names, below):
+    """What a proof of each crate depends on: the kit, its files, and the crates below it."""
+    kit = subprocess.run(["rt", "version"], stdout=subprocess.PIPE, check=True).stdout
+    made = {}
+    for name in names:
+        digest = hashlib.sha256(kit)
+        for file in files_of(name):
+            digest.update(str(file.relative_to(ROOT)).encode() + b"\0" + file.read_bytes())
+        for it in sorted(below[name]):
+            digest.update(made[it].encode())
+        made[name] = digest.hexdigest()
+    return made
+
+
+def kept(name):
+    file = ROOT / "crates" / name / "out" / "proved"
+    return file.read_text() if file.exists() else ""
+
+
+def seconds_of(name):
+    lines = sum(file.read_bytes().count(b"\n") for file in files_of(name))
+    return LEAST_SECONDS + lines / LINES_A_SECOND
+
+
+def spoken(seconds):
+    return f"{seconds:.0f} seconds" if seconds < 100 else f"{seconds / 60:.0f} minutes"
+
+
+class Proving:
+    def __init__(self, names, below, made, lanes):
+        self.below, self.made, self.lanes = below, made, lanes
+        self.done = {it for it in names if kept(it) == made[it]}
+        self.left = [it for it in names if it not in self.done]
+        self.cost = {it: seconds_of(it) for it in self.left}
+        # The longest chain from a crate upwards decides what is proved first.
+        self.chain = dict(self.cost)
+        for name in reversed(self.left):
+            for it in below[name]:
+                if it in self.chain:
+                    self.chain[it] = max(self.chain[it], self.cost[it] + self.chain[name])
+        self.total, self.failed, self.running = len(names), [], {}
+        self.news = threading.Condition()
+
+    def seconds_left(self):
+        rest = [*self.left, *self.running]
+        return max(sum(self.cost[it] for it in rest) / self.lanes, max((self.chain[it] for it in rest), default=0))
+
+    def prove(self, name):
+        """Proves a crate and builds its library, over what earlier runs kept."""
+        folder = ROOT / "crates" / name
+        os.makedirs(folder / "out", exist_ok=True)
+        with open(folder / "out" / "proving.log", "w") as log:
+            how = dict(cwd=folder, stdin=subprocess.DEVNULL, stdout=log, stderr=subprocess.STDOUT)
+            is_well = not subprocess.run(["rt", "lib", "--jobs", "1"], **how).returncode
+        if is_well:
+            (folder / "out" / "proved").write_text(self.made[name])
+        with self.news:
+            took = time.monotonic() - self.running.pop(name)
+            if is_well:
+                self.done.add(name)
+                left = spoken(self.seconds_left())
+                print(f"[{len(self.done)}/{self.total}] {name} is proved ({spoken(took)}); about {left} left", flush=True)
+            else:
+                self.failed.append(name)
+                print(f"{name} is not proved: crates/{name}/out/proving.log says why", flush=True)
+            self.news.notify()
+
+    def run(self):
+        with self.news:
+            while self.left or self.running:
+                ready = [it for it in self.left if all(low in self.done for low in self.below[it])]
+                for name in sorted(ready, key=lambda it: -self.chain[it]):
+                    if len(self.running) < self.lanes and not self.failed:
+                        self.left.remove(name)
+                        self.running[name] = time.monotonic()
+                        threading.Thread(target=self.prove, args=(name,), daemon=True).start()
+                if not self.running:
+                    break
+                self.news.wait()
+        return not self.failed
+
+
+def lanes():
+    """As many checks at a time as JOBS says, or as there are processors and memory for."""
+    if os.environ.get("JOBS", "").isdigit():
+        return max(1, int(os.environ["JOBS"]))
+    free = os.sysconf("SC_AVPHYS_PAGES") * os.sysconf("SC_PAGE_SIZE")
+    return max(1, min(len(os.sched_getaffinity(0)), int(free / BYTES)))
+
+
+def main():
+    below = graph()
+    names = libraries(below, sys.argv[1:])
+    proving = Proving(names, below, stamps(names, below), lanes())
+    if proving.left:
+        number, how_long = len(proving.left), spoken(proving.seconds_left())
+        print(f"proving {number} of {len(names)} crates, {proving.lanes} at a time: about {how_long}", flush=True)
+    try:
+        return 0 if proving.run() else 1
+    except KeyboardInterrupt:
+        print("stopped; the next call goes on from here")
+        return 130
+
+
+sys.exit(main())
