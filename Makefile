@@ -18,9 +18,9 @@ check:
 	rt ci
 	tools/check_repository.sh
 
-# How fast streams are converted.
+# How fast each command is, beside cat.
 bench:
-	bench/throughput.sh
+	bench/throughput.py
 
 # The commands of the guide, as they stand.
 guide:

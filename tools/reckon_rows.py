@@ -370,6 +370,32 @@ TEXTS = {
 }
 
 
+# One of each of the nine instructions.
+ALL = [
+    PACKS["preset-five"],
+    PACKS["border-eleven"],
+    PACKS["tile-of-seven"],
+    tile(38, 0, 5, 3, 4, [21, 42] * 6),
+    PACKS["scroll-in-one"],
+    PACKS["scroll-right"],
+    PACKS["levels"],
+    PACKS["white-seven"],
+    PACKS["high-colours"],
+]
+
+
+def pressed(disc, packs):
+    """The stream of a disc with the packs of a file, which begin with the first block of the audio."""
+    return disc.stream([IDLE] * 593 + packs)
+
+
+def checkpoint(program, bad=0, slots=bytes(168), to_come=0, lead_in=0):
+    """A checkpoint of a screen on which all is zero."""
+    counts = b"".join(number.to_bytes(4, "big") for number in (to_come, lead_in, program, bad))
+    content = b"CDGSAVE1" + counts + slots + bytes(64_800 + 3 + 32 + 16)
+    return content + check(content)
+
+
 def values():
     """The name of each row, the word of the row, and the value."""
     for name, pack in PACKS.items():
@@ -390,6 +416,17 @@ def values():
     yield "gaps-between-tracks", "digest", digest(Disc(GAPS, 1000, 150).stream())
     fills = [memory_preset(5), border_preset(0), colour_table(30, [0] * 8), colour_table(31, [0] * 8), IDLE]
     fills += [memory_preset(6)]
+    yield "a-pressed-pack", "digest", digest(pressed(one, [memory_preset(0)]))
+    yield "a-file-of-all-instructions", "out", b"".join(ALL).hex()
+    yield "all-instructions-are-pressed", "digest", digest(pressed(Disc(ONE, 10, 0), ALL))
+    yield "a-checkpoint-of-nothing", "out", f"43 44 47 53 41 56 45 31 65035*00 {checkpoint(0)[-2:].hex()}"
+    yield "a-checkpoint-of-two-blocks", "out", f"43 44 47 53 41 56 45 31 11*00 02 65023*00 {checkpoint(2)[-2:].hex()}"
+    in_lead_in = checkpoint(0, to_come=1, lead_in=2)[-2:].hex()
+    yield "a-checkpoint-within-the-lead-in", "out", f"43 44 47 53 41 56 45 31 3*00 01 3*00 02 65027*00 {in_lead_in}"
+    wrong = bytearray(192)
+    for place in (50, 100, 150):
+        wrong[place] = 1
+    yield "a-checkpoint-after-a-bad-word", "digest", digest(checkpoint(2, 1, bytes(wrong[24:])))
     yield "two-fills", "digest", digest(one.stream(fills))
     for seed, pictures in [(42, 1), (42, 2), (7, 3), (2**64 - 1, 1), (0, 500)]:
         yield f"a-script-of-seed-{seed}-and-{pictures}", "digest", digest(script(seed, pictures))

@@ -3,3 +3,4 @@ pub mod SavedStreams
 pub mod GoneOn
 pub mod Reached
 pub mod Written
+pub mod Joined

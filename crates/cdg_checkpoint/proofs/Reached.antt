@@ -56,7 +56,7 @@ pub brought_back : (c : Checkpoint) (time to_come bad : ℕ) (s : Then BlockWord
 brought_back c time to_come bad s words t left b e stands = record { words = words ∙ ap (begun_at c) t; left = left; bad = b ∙ e; stands = stands }
 
 module _ (c : Checkpoint) (time limit : ℕ) (left left' : Option (List ℕ)) (taken : List ℕ) (s s' : Then BlockWords Drawing) (pumped : Pumped) (sound : IsSound c) (back : IsBroughtBack c time s) (fits : limit ≡ blocks_left c)
-      (w : Watches limit words_drawn left left' s s' (Ok pumped) taken) where
+    (w : Watches limit words_drawn left left' s s' (Ok pumped) taken) where
   blocks_are : c.program + (pumped.units - c.to_come) ≡ blocks_after c taken
   blocks_are = ap (λ n. c.program + (n - c.to_come)) (sym (units_in Raw pumped.units taken (whole_taken Raw pumped.units taken w.done.1)))
 

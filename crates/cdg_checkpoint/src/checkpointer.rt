@@ -2,7 +2,7 @@
 use crate::Tracking;
 use cdg_io::Then;
 use checkpoint_files::{CheckpointFile, SLOTS_BYTES};
-use rw_interleave::Gather;
+use rw_interleave::Window;
 use std::alloc::{AllocError, Global};
 use subcode_player::{BlockWords, Drawing, Form, Picture};
 
@@ -17,12 +17,12 @@ pub struct Checkpointer {
 }
 
 impl Checkpointer {
-    /// Takes the memory of a window, of the screen, and of a file.
+    /// Takes the memory of the screen and of a file.
     pub fn start(alloc: Global) -> Result<Checkpointer, AllocError> {
         let words = BlockWords {
             form: Form::Raw,
             lead_in: 0,
-            gather: Gather::start(alloc)?,
+            gather: Window::new(),
         };
         let drawing = Drawing {
             picture: Picture::start(alloc)?,

@@ -2,6 +2,7 @@
 #![tactic(auto)]
 
 mod checkpointer;
+mod laws;
 mod pictures;
 mod resuming;
 mod saving;
@@ -10,6 +11,7 @@ mod tracking;
 mod watching;
 
 pub use checkpointer::Checkpointer;
+pub use laws::a_resumed_stream_is_the_whole;
 pub use stops::{ResumeStop, Resumed};
 pub use tracking::Tracking;
 

@@ -206,8 +206,11 @@ impl Checkpointer {
         requires to_come { counts.now.to_come ≡ (checkpoint_in self.old.file).to_come }
         requires program { counts.now.program ≡ (checkpoint_in self.old.file).program }
         requires not_later { counts.now.program ≤ at }
-        ensures words { self.new.tracking.words.first ≡ record { form = Form.Raw; lead_in = counts.now.to_come;
-            gather = run_state gather_next [] (saved_slots (checkpoint_in self.old.file)) } }
+        ensures words { self.new.tracking.words.first ≡ record {
+          form = Form.Raw;
+          lead_in = counts.now.to_come;
+          gather = run_state gather_next [] (saved_slots (checkpoint_in self.old.file));
+        } }
         ensures left { self.new.tracking.words.second.left ≡ packs_until (checkpoint_in self.old.file) at }
         ensures bad { self.new.tracking.words.second.bad ≡ counts.now.bad }
         ensures stands { SameStanding (standing_of self.new.tracking.words.second.picture) (standing_in self.old.file) }

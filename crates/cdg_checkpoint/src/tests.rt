@@ -18,7 +18,10 @@ fn goes_on_from_a_blank_checkpoint(rt: HostRuntime) -> Result<(), Fail> {
     let mut file = MemSink::new(alloc, 65_045, Vec::new(alloc), Vec::new(alloc))?;
     let saved = checkpointer.save(0, &mut source(alloc, 192)?, &mut file);
     assert!(rt; saved.is_ok());
-    assert_eq!(rt; file.bytes().get(..24), Some(b"CDGSAVE1\0\0\0\0\0\0\0\0\0\0\0\x02\0\0\0\0".as_slice()));
+    assert_eq!(rt;
+        file.bytes().get(..24),
+        Some(b"CDGSAVE1\0\0\0\0\0\0\0\0\0\0\0\x02\0\0\0\0".as_slice())
+    );
     assert_eq!(rt; file.bytes().get(65_043..), Some([0x21, 0x3f].as_slice()));
     let mut bytes = Vec::new(alloc);
     bytes.extend_from_slice(file.bytes())?;

@@ -1,3 +1,4 @@
 pub mod Writing
 pub mod SlotRanges
 pub mod Restored
+pub mod ReadBack

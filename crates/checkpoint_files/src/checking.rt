@@ -6,7 +6,9 @@ ghost use Rattle.checkpoint_files.specs.Table.{Across, Bad, Border, Check, Colou
 ghost use Rattle.checkpoint_files.specs.Scan.{IsFirstAbove};
 
 use crate::composing::PIXELS;
-use crate::fields::{ACROSS, BAD, BORDER, CHECK, COLOURS, DOWN, LEAD_IN, LEVELS, MEMORY, PROGRAM, SLOTS, TO_COME};
+use crate::fields::{
+    ACROSS, BAD, BORDER, CHECK, COLOURS, DOWN, LEAD_IN, LEVELS, MEMORY, PROGRAM, SLOTS, TO_COME,
+};
 use crate::file::{CheckpointFile, FILE_BYTES, SLOTS_BYTES};
 use disc_time::crc16;
 

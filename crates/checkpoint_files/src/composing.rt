@@ -4,8 +4,8 @@ ghost use Rattle.cdg_screen.specs.Picture.{Standing, standing_of};
 ghost use Rattle.checkpoint_files.specs.Table.{Mark, ToCome, LeadIn, Program, Bad, Slots, Memory, Border, Across, Down, Colours, Levels};
 ghost use Rattle.checkpoint_files.specs.Checkpoint.{bytes_of, file_of, kept, part_bytes, with_parts};
 
-use crate::file::{CheckpointFile, SLOTS_BYTES};
 use crate::Counts;
+use crate::file::{CheckpointFile, SLOTS_BYTES};
 use cdg_screen::Screen;
 use disc_time::crc16;
 

@@ -6,7 +6,9 @@ mod composing;
 mod counts;
 mod fields;
 mod file;
+mod laws;
 mod restoring;
 
 pub use counts::Counts;
 pub use file::{CheckpointFile, FILE_BYTES, SLOTS_BYTES};
+pub use laws::files_are_read_back;

@@ -131,10 +131,10 @@ impl Row {
     // Reads any other line.
     fn read_rest(&mut self, alloc: Global, key: &str, value: &str) -> Result<()> {
         match key {
-            "row" => self.name = String::from_str(alloc, value)?,
-            "bytes" => {
+            "row" | "bytes" => {
+                ensure!(self.name.is_empty(), "a second name");
                 self.name = String::from_str(alloc, value)?;
-                self.is_given = true;
+                self.is_given = key == "bytes";
             }
             "words" => {
                 for word in value.split(' ') {

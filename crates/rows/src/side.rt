@@ -1,6 +1,6 @@
 // The inputs and outputs of a run.
 use crate::bytes::{Outputs, add_timed_lines, change, read_pieces};
-use anyhow::{Context, Result, bail};
+use anyhow::{Context, Result, bail, ensure};
 use cdg_io::{MemSink, MemSource};
 use std::alloc::{AllocError, Global};
 use std::mem::replace;
@@ -39,7 +39,11 @@ impl Side {
                 self.bytes.extend_from_slice(value.as_bytes())?;
                 self.bytes.push(b'\n')?;
             }
-            "^" => change(&mut self.bytes, &read_pieces(alloc, value, outputs)?),
+            "^" => {
+                let mask = read_pieces(alloc, value, outputs)?;
+                ensure!(mask.len() <= self.bytes.len(), "more bits than bytes");
+                change(&mut self.bytes, &mask);
+            }
             "-each" => {
                 let (blocks, line) = value.split_once(' ').context("a number lacks its line")?;
                 add_timed_lines(alloc, &mut self.bytes, blocks.parse::<u32>()?, line)?;

@@ -1,11 +1,15 @@
 -- What a window of slots gives with a block, and what it is afterwards.
-use Rattle.std.proofs.Common.{◌≡◌, ℕ, zero, suc, ◌+◌, ◌-◌, ◌*◌, ◌%◌, ◌<◌, ◌≤◌, List, [], ◌∷◌, ◌++◌, length, min, refl, sym, ap, ap₂, zero-add, ◌∙◌, arith, Some, None, inl, inr, bit_or}
+use Rattle.std.proofs.Common.{◌≡◌, ℕ, zero, suc, ◌+◌, ◌-◌, ◌*◌, ◌%◌, ◌<◌, ◌≤◌, List, [], ◌∷◌, ◌++◌, length, map, min, refl, sym, ap, ap₂, zero-add, ◌∙◌, arith, Some, None, inl, inr, bit_or}
 use Rattle.std.specs.Prelude.{slice_index, replicate}
 use Rattle.std.specs.declared.option.Option.{Option}
+use Rattle.std.specs.List.{range_with_len}
 use Rattle.std.proofs.lemmas.Bool.{cases_lt}
 use Rattle.std.proofs.lemmas.Nat.{or_mod, le_or_l, le_or_r}
 use Rattle.std.proofs.lemmas.List.{append-nil}
-use Rattle.std.proofs.lemmas.List.FromFn.{map-range_with_len_more, get_or-map-range_with_len}
+use Rattle.std.proofs.lemmas.Grind.{same_number_lists}
+use Rattle.std.proofs.lemmas.List.Elements.{All-get_or}
+use Rattle.std.proofs.lemmas.List.FromFn.{map-range_with_len_more, get_or-map-range_with_len, length-map-range_with_len}
+use Rattle.rw_code.specs.Codeword.{IsWord}
 use Rattle.cdg_io.specs.Run.{give, run_state, run_gives}
 use Rattle.cdg_io.proofs.Runs.{run_state-append, run_gives-append}
 use Rattle.rw_interleave.specs.Gathering.{gathered, gather_next, gather_gives, symbol_at}
@@ -203,3 +207,34 @@ pub block_gives : (b p block : List ℕ) (count : ℕ) (words : List (List ℕ))
     → words ≡ run_gives gather_next gather_gives (start b count) (slots_in block 0 4)
 block_gives b p block count words few put is =
     is ∙ sym (ap₂ (run_gives gather_next gather_gives) (start_same b p block count few put) (block_same b p block put))
+
+-- ---- A slot that is put behind the slots before it, and the slots that are then moved up.
+
+-- a symbol that is put is itself its low six bits
+low_same : (p slot : List ℕ) (i : ℕ) → IsWord slot → i < 24 → slice_index p (168 + i) ≡ slice_index slot i → slice_index p (24 * 7 + i) % 64 ≡ slice_index slot i
+low_same p slot i word lt same =
+    let small : slice_index slot i < 64 = All-get_or (λ s. s < 64) slot i 0 (omega (arith, word.size)) word.symbols in
+    let low : slice_index slot i % 64 ≡ slice_index slot i = omega (arith, small) in
+    ap (λ x. x % 64) same ∙ low
+
+-- the slot that is put
+slot_same : (p slot : List ℕ) → IsWord slot → ((n : ℕ) → n < 24 → slice_index p (168 + n) ≡ slice_index slot n) → slot_in p 7 ≡ slot
+unfolding slot_in
+slot_same p slot word after =
+    let size : length (map (λ i. slice_index p (24 * 7 + i) % 64) (range_with_len 0 24)) ≡ 24 = length-map-range_with_len (λ i. slice_index p (24 * 7 + i) % 64) 0 24 in
+    same_number_lists _ slot (size ∙ sym word.size) (λ i lt.
+    let within : i < 24 = omega (arith, lt, size) in
+    get_or-map-range_with_len (λ i. slice_index p (24 * 7 + i) % 64) 0 24 i i 0 within (omega arith) ∙ low_same p slot i word within (after i within))
+
+pub slot_state : (b p m slot : List ℕ) (count : ℕ) → count ≤ 7 → IsWord slot → ((n : ℕ) → n < 168 → slice_index p n ≡ slice_index b n)
+    → ((n : ℕ) → n < 24 → slice_index p (168 + n) ≡ slice_index slot n) → ((n : ℕ) → n < 168 → slice_index m n ≡ slice_index p (24 + n))
+    → start m (min (count + 1) 7) ≡ gather_next (start b count) slot
+slot_state b p m slot count few word before after moved =
+    let now = min (count + 1) 7 in
+    let old : start p count ≡ start b count = slots_same p b (7 - count) (7 - count) count (λ k lt. before (24 * (7 - count) + k) (omega arith)) in
+    let back : start m now ≡ slots_in p (7 + 1 - now) now = slots_same m p (7 - now) (7 + 1 - now) now (λ k lt.
+    let there : 24 + (24 * (7 - now) + k) ≡ 24 * (7 + 1 - now) + k = omega arith in
+    moved (24 * (7 - now) + k) (omega arith) ∙ ap (slice_index p) there) in
+    let none : min (count + 0) 7 ≡ count = omega arith in
+    let first : window_at p count 0 ≡ start p count = ap (λ m. slots_in p (7 - m) m) none in
+    back ∙ sym (step_next p count 0) ∙ ap₂ gather_next (first ∙ old) (slot_same p slot word after)

@@ -5,6 +5,7 @@ ghost use Rattle.rw_interleave.specs.Gathering.{gathered, gather_gives, gather_n
 ghost use Rattle.rw_interleave.specs.Interleave.{swapped};
 ghost use Rattle.rw_interleave.specs.Windows.{slots_in};
 
+use crate::Slot;
 use crate::slot::SPAN;
 use arrayvec::ArrayVec;
 use rw_code::{SYMBOLS, Word};
@@ -78,6 +79,16 @@ impl Window {
         self.quiet = idle && are_quiet(&self.bytes, self.count);
         words
     }
+
+    /// Takes one slot, as `push_block` takes four, and gives no word.
+    pub fn push(&mut self, slot: &Slot)
+        ensures next { self.new ≡ gather_next self.old slot.now }
+    {
+        put_slot(&mut self.bytes, &slot.bytes());
+        move_slot_up(&mut self.bytes);
+        self.count = (self.count + 1).min(SPAN - 1);
+        self.quiet = false;
+    }
 }
 
 /// Whether the low six bits of all bytes are 0.
@@ -118,6 +129,25 @@ fn move_up(bytes: &mut [u8; ALL])
 {
     for i in 0..BEFORE {
         bytes[i] = bytes[BLOCK + i];
+    }
+}
+
+/// Puts a slot behind the slots before it.
+fn put_slot(bytes: &mut [u8; ALL], slot: &[u8; SYMBOLS])
+    ensures before { (n : ℕ) → n < 168 → slice_index bytes.new n ≡ slice_index bytes.old n }
+    ensures slot { (n : ℕ) → n < 24 → slice_index bytes.new (168 + n) ≡ slice_index slot.now n }
+{
+    for i in 0..SYMBOLS {
+        bytes[BEFORE + i] = slot[i];
+    }
+}
+
+/// Moves the last seven slots to the front, where one has come.
+fn move_slot_up(bytes: &mut [u8; ALL])
+    ensures { (n : ℕ) → n < 168 → slice_index bytes.new n ≡ slice_index bytes.old (24 + n) }
+{
+    for i in 0..BEFORE {
+        bytes[i] = bytes[SYMBOLS + i];
     }
 }
 

@@ -1,0 +1,15 @@
+// Laws on files.
+ghost use Rattle.std.specs.Prelude.{◌≡◌, ◌<◌, ◌%◌, ◌^◌, ℕ, length};
+ghost use Rattle.checkpoint_files.specs.Checkpoint.{Checkpoint, file_of, value};
+ghost use Rattle.checkpoint_files.specs.Table.{Bad, LeadIn, Memory, Program, Slots, ToCome, number};
+
+/// A law: what is written is read. The file of each checkpoint has 65,045 bytes, and holds its counts, its slots and its memory.
+pub fn files_are_read_back()
+    ensures size { (c : Checkpoint) → length (file_of c) ≡ 65045 }
+    ensures to_come { (c : Checkpoint) → c.to_come < 2 ^ 32 → number (file_of c) ToCome 0 ≡ c.to_come }
+    ensures lead_in { (c : Checkpoint) → c.lead_in < 2 ^ 32 → number (file_of c) LeadIn 0 ≡ c.lead_in }
+    ensures program { (c : Checkpoint) → c.program < 2 ^ 32 → number (file_of c) Program 0 ≡ c.program }
+    ensures bad { (c : Checkpoint) → c.bad < 2 ^ 32 → number (file_of c) Bad 0 ≡ c.bad }
+    ensures slots { (c : Checkpoint) (k : ℕ) → k < 168 → number (file_of c) Slots k ≡ value c Slots k % 256 }
+    ensures memory { (c : Checkpoint) (k : ℕ) → k < 64800 → number (file_of c) Memory k ≡ value c Memory k % 256 }
+{}
