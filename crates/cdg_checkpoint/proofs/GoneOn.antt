@@ -77,7 +77,7 @@ small_stay : (symbols : List ℕ) → ((i : ℕ) → get_or symbols i 0 < 64) �
 small_stay [] small = refl
 small_stay (x ∷ xs) small = let first : x < 64 = small 0 in let same : x % 64 ≡ x = omega (arith, first) in ap₂ (λ y (ys : List ℕ). y ∷ ys) same (small_stay xs (λ i. small (suc i)))
 
-dropped_small : (symbols : List ℕ) (a : ℕ) → ((i : ℕ) → get_or symbols i 0 < 64) → (i : ℕ) → get_or (drop a symbols) i 0 < 64
+pub dropped_small : (symbols : List ℕ) (a : ℕ) → ((i : ℕ) → get_or symbols i 0 < 64) → (i : ℕ) → get_or (drop a symbols) i 0 < 64
 dropped_small symbols a small i = let P : ℕ → Type 0 = λ n. n < 64 in subst P (sym (get_or-drop a symbols i 0)) (small (a + i))
 
 -- ---- words
@@ -105,7 +105,7 @@ gathered_word : (symbols : List ℕ) (n : ℕ) → ((p : ℕ) → get_or symbols
 unfolding word_of
 gathered_word symbols n small = placed_word symbols (place n) small
 
-both_small : (xs ys : List ℕ) → ((p : ℕ) → get_or xs p 0 < 64) → ((p : ℕ) → get_or ys p 0 < 64) → (p : ℕ) → get_or (xs ++ ys) p 0 < 64
+pub both_small : (xs ys : List ℕ) → ((p : ℕ) → get_or xs p 0 < 64) → ((p : ℕ) → get_or ys p 0 < 64) → (p : ℕ) → get_or (xs ++ ys) p 0 < 64
 both_small xs ys small small' p =
     let P : ℕ → Type 0 = λ n. n < 64 in
     elim (leb_tells (length xs) p) [

@@ -4,3 +4,5 @@ pub mod GoneOn
 pub mod Reached
 pub mod Written
 pub mod Joined
+pub mod Meant
+pub mod Bridge

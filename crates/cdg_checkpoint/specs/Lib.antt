@@ -2,3 +2,4 @@ pub mod Tracked
 pub mod Saved
 pub mod Keeping
 pub mod Resumed
+pub mod Cut

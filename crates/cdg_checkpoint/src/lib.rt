@@ -11,7 +11,7 @@ mod tracking;
 mod watching;
 
 pub use checkpointer::Checkpointer;
-pub use laws::a_resumed_stream_is_the_whole;
+pub use laws::{a_resumed_stream_is_the_whole, a_saved_stream_goes_on_as_the_whole};
 pub use stops::{ResumeStop, Resumed};
 pub use tracking::Tracking;
 

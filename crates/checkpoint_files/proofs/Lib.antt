@@ -2,3 +2,4 @@ pub mod Writing
 pub mod SlotRanges
 pub mod Restored
 pub mod ReadBack
+pub mod Accepted

@@ -1,10 +1,9 @@
 -- The file of a checkpoint, read back.
-use Rattle.std.proofs.Common.{◌≡◌, ℕ, zero, suc, ◌+◌, ◌-◌, ◌*◌, ◌/◌, ◌%◌, ◌^◌, ◌<◌, ◌≤◌, List, [], ◌∷◌, ◌++◌, length, get_or, map, take, drop, refl, sym, ap, ap₂, ◌∙◌, subst, arith, length-append, length-drop, append_assoc, inl, inr}
-use Rattle.std.specs.List.{flat_map, range_with_len, AllByRecursion}
-use Rattle.std.proofs.lemmas.List.{append-nil, drop-drop, drop_at, get_or-drop, get_or_append_left, get_or-append_right, take-append-le, take_all}
-use Rattle.bit_lists.specs.Counting.{below}
+use Rattle.std.proofs.Common.{◌≡◌, ℕ, zero, suc, ◌+◌, ◌-◌, ◌*◌, ◌/◌, ◌%◌, ◌^◌, ◌<◌, ◌≤◌, List, [], ◌∷◌, ◌++◌, length, get_or, drop, refl, sym, ap, ap₂, ◌∙◌, arith, length-append, append_assoc}
+use Rattle.std.specs.List.{flat_map, range_with_len}
+use Rattle.std.proofs.lemmas.List.{drop-drop, drop_at, get_or-drop, get_or_append_left, get_or-append_right}
 use Rattle.bit_lists.specs.Check.{check_of}
-use Rattle.checkpoint_files.specs.Table.{Part, Row, Mark, ToCome, LeadIn, Program, Bad, Slots, Memory, Border, Across, Down, Colours, Levels, Check, row, body_parts, number, number_at, byte_of}
+use Rattle.checkpoint_files.specs.Table.{Part, Mark, ToCome, LeadIn, Program, Bad, Slots, Memory, Border, Across, Down, Colours, Levels, row, body_parts, number_at}
 use Rattle.checkpoint_files.specs.Checkpoint.{Checkpoint, value, bytes_of, part_bytes, body, file_of}
 
 length-bytes_of : (size n : ℕ) → length (bytes_of size n) ≡ size
@@ -64,7 +63,7 @@ from_on c rest = flat_map (part_bytes c) rest ++ bytes_of 2 (check_of (body c))
 pub record BeginsAt (c : Checkpoint) (file : List ℕ) (first : ℕ) (late : List Part) : Type 0 where
   pub is : drop first file ≡ from_on c late
 
-next_part : (c : Checkpoint) (file : List ℕ) (first n after : ℕ) (part : Part) (late : List Part) → BeginsAt c file first (part ∷ late) → n ≡ (row part).size * (row part).count → first + n ≡ after → BeginsAt c file after late
+pub next_part : (c : Checkpoint) (file : List ℕ) (first n after : ℕ) (part : Part) (late : List Part) → BeginsAt c file first (part ∷ late) → n ≡ (row part).size * (row part).count → first + n ≡ after → BeginsAt c file after late
 next_part c file first n after part late at size e = record {
   is = step file (part_bytes c part) (from_on c late) first n after (at.is ∙ append_assoc (part_bytes c part) (flat_map (part_bytes c) late) (bytes_of 2 (check_of (body c)))) (part_length c part n size) e;
 }
@@ -91,7 +90,7 @@ length-file c =
 
 -- ---- the numbers that are read
 
-begins : (c : Checkpoint) → BeginsAt c (file_of c) 0 body_parts
+pub begins : (c : Checkpoint) → BeginsAt c (file_of c) 0 body_parts
 unfolding file_of
 begins c = record { is = refl }
 
@@ -128,7 +127,7 @@ at_colours c = next_part c (file_of c) 64994 1 64995 Down _ (at_down c) refl ref
 pub at_levels : (c : Checkpoint) → BeginsAt c (file_of c) 65027 (Levels ∷ [])
 at_levels c = next_part c (file_of c) 64995 32 65027 Colours _ (at_colours c) refl refl
 
-byte_in : (c : Checkpoint) (part : Part) (late : List Part) (k i count at : ℕ) → BeginsAt c (file_of c) (row part).first (part ∷ late) → count ≡ (row part).count → k < count → i < (row part).size → (row part).first + ((row part).size * k + i) ≡ at
+pub byte_in : (c : Checkpoint) (part : Part) (late : List Part) (k i count at : ℕ) → BeginsAt c (file_of c) (row part).first (part ∷ late) → count ≡ (row part).count → k < count → i < (row part).size → (row part).first + ((row part).size * k + i) ≡ at
     → get_or (file_of c) at 0 ≡ get_or (bytes_of (row part).size (value c part k)) i 0
 byte_in c part late k i count at b e lt within place =
     ap (λ p. get_or (file_of c) p 0) (sym place)

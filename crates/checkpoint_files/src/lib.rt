@@ -11,4 +11,4 @@ mod restoring;
 
 pub use counts::Counts;
 pub use file::{CheckpointFile, FILE_BYTES, SLOTS_BYTES};
-pub use laws::files_are_read_back;
+pub use laws::{files_are_read_back, sound_checkpoints_are_accepted};

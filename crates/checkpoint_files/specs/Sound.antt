@@ -1,0 +1,35 @@
+-- Checkpoints whose numbers are in their ranges, and checkpoints that say the same.
+use Rattle.std.specs.Prelude.{◌≡◌, ℕ, ◌+◌, ◌<◌, ◌≤◌, length, slice_index}
+use Rattle.rw_interleave.specs.Interleave.{whole_packs}
+use Rattle.cdg_screen.specs.Picture.{Standing, SameStanding}
+use Rattle.checkpoint_files.specs.Table.{empty_symbols}
+use Rattle.checkpoint_files.specs.Checkpoint.{Checkpoint}
+
+-- what stands is colours, levels and offsets in their ranges
+pub record IsSoundStanding (now : Standing) : Type 0 where
+  pub memory : (x y : ℕ) → x < 300 → y < 216 → now.memory x y < 16
+  pub border : now.border < 16
+  pub colour : (k : ℕ) → k < 16 → now.colour k < 4096
+  pub level : (k : ℕ) → k < 16 → now.level k < 64
+  pub h : now.h ≤ 5
+  pub v : now.v ≤ 11
+
+-- the counts, the symbols of the slots and what stands are in their ranges
+pub record IsSoundCheckpoint (c : Checkpoint) : Type 0 where
+  pub lead_in : c.to_come + c.lead_in ≤ 450000
+  pub blocks : c.lead_in + c.program ≤ 1000000
+  pub none_yet : 0 < c.to_come → c.program ≡ 0
+  pub bad : c.bad ≤ whole_packs c.program
+  pub slots_size : length c.slots ≡ 168
+  pub slots_below : (k : ℕ) → k < 168 → slice_index c.slots k < 64
+  pub slots_empty : (k : ℕ) → k < empty_symbols c.program → slice_index c.slots k ≡ 0
+  pub standing : IsSoundStanding c.standing
+
+-- two checkpoints say the same
+pub record IsSameCheckpoint (a b : Checkpoint) : Type 0 where
+  pub to_come : a.to_come ≡ b.to_come
+  pub lead_in : a.lead_in ≡ b.lead_in
+  pub program : a.program ≡ b.program
+  pub bad : a.bad ≡ b.bad
+  pub slots : a.slots ≡ b.slots
+  pub standing : SameStanding a.standing b.standing
