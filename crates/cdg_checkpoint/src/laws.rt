@@ -30,5 +30,5 @@ pub fn a_saved_stream_goes_on_as_the_whole()
         → IsCut lead_in bytes rest → IsSaved lead_in bytes pumped file → length bytes / 96 - lead_in ≤ time
         → IsResumed file time rest resumed text
         → IsScreenAt Form.Raw lead_in time (bytes ++ rest) text resumed.bad
-            × (resumed.blocks ≡ length (bytes ++ rest) / 96 - lead_in) }
+        × (resumed.blocks ≡ length (bytes ++ rest) / 96 - lead_in) }
 {}
