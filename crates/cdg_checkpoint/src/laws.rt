@@ -22,15 +22,15 @@ pub fn a_resumed_stream_is_the_whole()
         → IsGoneOn c time rest now bad → IsViewed Form.Raw lead_in time (bytes ++ rest) now bad }
 {}
 
-/// A law: let a stream be cut after whole blocks. The file that `save` writes of its first part is accepted; `resume`, given this
-/// file and the rest, answers as the length of the whole stream says; and where the rest is whole blocks too, it writes and
-/// answers at a time what the screen of the whole stream is then, and nothing else is.
+/// A law: let a stream be cut after whole blocks. The file that `save` writes of its first part is accepted; `resume`,
+/// given this file and the rest, answers as the length of the whole stream says; and where the rest is whole blocks too,
+/// it writes and answers at a time what the screen of the whole stream is then, and nothing else is.
 pub fn a_saved_stream_goes_on_as_the_whole()
     ensures accepted { (lead_in : ℕ) (bytes file : List ℕ) (pumped : Pumped) → IsFirstPart lead_in bytes
         → IsSaved lead_in bytes pumped file
         → IsCheckpointFile file × ((checkpoint_in file).program ≡ length bytes / 96 - lead_in) }
-    ensures answer { (lead_in time : ℕ) (bytes rest file : List ℕ) (pumped : Pumped) (result : Result Resumed ResumeStop)
-        → IsFirstPart lead_in bytes → IsSaved lead_in bytes pumped file
+    ensures answer { (lead_in time : ℕ) (bytes rest file : List ℕ) (pumped : Pumped)
+        (result : Result Resumed ResumeStop) → IsFirstPart lead_in bytes → IsSaved lead_in bytes pumped file
         → IsResumedBy result (checkpoint_in file) time (length rest)
         → IsShownBy (as_played result) lead_in time 96 (length (bytes ++ rest)) }
     ensures shown { (lead_in time : ℕ) (bytes rest file text : List ℕ) (pumped : Pumped) (resumed : Resumed)
@@ -46,6 +46,7 @@ pub fn a_saved_stream_goes_on_as_the_whole()
         → (text : List ℕ) × IsScreenAt Form.Raw lead_in time (bytes ++ rest) text resumed.bad
         × Appends held new_held text }
     ensures only { (lead_in time bad other_bad : ℕ) (bytes text other : List ℕ)
-        → IsScreenAt Form.Raw lead_in time bytes text bad → IsScreenAt Form.Raw lead_in time bytes other other_bad
+        → IsScreenAt Form.Raw lead_in time bytes text bad
+        → IsScreenAt Form.Raw lead_in time bytes other other_bad
         → (text ≡ other) × (bad ≡ other_bad) }
 {}

@@ -13,11 +13,11 @@ use Rattle.cdg_cmd.specs.declared.status.Status.TheVariants.{Done, Damaged, Usag
 use Rattle.cdg_cmd.proofs.Quiet.{count, silent, told}
 
 -- a count that did not change
-still : (fault status : Status) (n : ℕ) → status ≢ fault → IsTold fault (count n n) status
+pub still : (fault status : Status) (n : ℕ) → status ≢ fault → IsTold fault (count n n) status
 still fault status n other = silent fault status n n (omega arith) other refl
 
 -- the count of an input from the answer of the function that read it
-of_input : {A : Type 0} (fault status : Status) (n n' : ℕ) → n ≤ n' → (◌≡◌ {A = Result A Status} (Err status) (Err fault) → Rose n n')
+pub of_input : {A : Type 0} (fault status : Status) (n n' : ℕ) → n ≤ n' → (◌≡◌ {A = Result A Status} (Err status) (Err fault) → Rose n n')
     → (◌≢◌ {A = Result A Status} (Err status) (Err fault) → n' ≡ n) → IsTold fault (count n n') status
 of_input {A} fault status n n' later rose same = record {
   later = later;

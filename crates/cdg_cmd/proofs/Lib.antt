@@ -6,12 +6,18 @@ mod LateTold
 mod LineWords
 mod Listed
 pub mod Listings
+mod MergeTold
+pub mod Merged
 mod Played
+mod PressTold
+mod PressedBack
 mod Pumped
 mod Quiet
 pub mod SecondHalf
 mod Statuses
 pub mod TextStops
+mod ThinTold
+mod Thinning
 mod TimedWords
 mod Told
 mod TurnRuns

@@ -92,7 +92,7 @@ module _ (form : Form) (lead_in : ℕ) (left' more more' : Bytes) (out : Change 
       unless_memory _ status (λ found. shown picture none at all script k (does found) scheduled held)
 
 -- the packs of a stream as the words of its form
-packs_written : (form : Form) (blocks : ℕ) (packs : List (List ℕ)) → length packs ≡ whole_packs blocks → 2 ≤ blocks → all_packs form blocks packs ≡ written_packs form packs
+pub packs_written : (form : Form) (blocks : ℕ) (packs : List (List ℕ)) → length packs ≡ whole_packs blocks → 2 ≤ blocks → all_packs form blocks packs ≡ written_packs form packs
 packs_written Raw blocks packs count some =
     let none : whole_packs blocks - length packs ≡ 0 = omega (arith, count) in
     ap (λ n. packs ++ replicate n (replicate 24 0)) none ∙ append-nil packs

@@ -36,11 +36,14 @@ time_table name time (option ∷ []) s = absurd s.1
 time_table name time (option ∷ word ∷ []) s = pair option word _ _ s.0 s.1.0
 time_table name time (option ∷ word ∷ more ∷ rest) s = let none : more ∷ rest ≡ [] = s.1.1 in absurd (cc)
 
-number_table : (name : List ℕ) (n : ℕ) (words : List (List ℕ)) → SpellsNumber name n words → words ≡ name ∷ decimal n ∷ []
+pub number_table : (name : List ℕ) (n : ℕ) (words : List (List ℕ)) → SpellsNumber name n words → words ≡ name ∷ decimal n ∷ []
 number_table name n [] s = absurd s
 number_table name n (option ∷ []) s = absurd s.1
 number_table name n (option ∷ word ∷ []) s = pair option word _ _ s.0 s.1.0
 number_table name n (option ∷ word ∷ more ∷ rest) s = let none : more ∷ rest ≡ [] = s.1.1 in absurd (cc)
+
+pub number_steps : (name : List ℕ) (n : ℕ) (words : List (List ℕ)) → words ≡ name ∷ decimal n ∷ [] → SpellsNumber name n words
+number_steps name n words is = subst (SpellsNumber name n) (sym is) (refl, (refl, refl))
 
 -- ---- two options
 

@@ -10,11 +10,11 @@ use Rattle.cdg_cmd.specs.declared.lengths.Lengths.{Lengths}
 use Rattle.cdg_cmd.specs.declared.numbers.TwoNumbers.{TwoNumbers}
 use Rattle.cdg_cmd.specs.declared.times.TimedOptions.{TimedOptions}
 use Rattle.cdg_cmd.specs.Words.{texts}
-use Rattle.cdg_cmd.specs.WordSteps.{SpellsLengths, SpellsStream, SpellsTimed, SpellsTwo}
-use Rattle.cdg_cmd.proofs.WordTables.{lengths_steps, stream_steps, timed_steps, two_steps}
+use Rattle.cdg_cmd.specs.WordSteps.{SpellsLengths, SpellsNumber, SpellsStream, SpellsTimed, SpellsTwo}
+use Rattle.cdg_cmd.proofs.WordTables.{lengths_steps, number_steps, stream_steps, timed_steps, two_steps}
 use Rattle.cdg_cmd.specs.Spelling.{Spells, command_name}
 use Rattle.cdg_cmd.specs.declared.command.Command.{Command}
-use Rattle.cdg_cmd.specs.declared.command.Command.TheVariants.{Convert, Screen, State, Check, Q, Text, Author, Planar, Raw, Scratch, Gen, Trial}
+use Rattle.cdg_cmd.specs.declared.command.Command.TheVariants.{Convert, Screen, State, Check, Q, Text, Author, Planar, Raw, Scratch, Gen, Trial, Merge, Thin, Press}
 
 -- what holds of all words holds of the first and the rest
 pub texts-split : {A : Type 0} (P : List (List ℕ) → Type 0) (words : List (String A)) (x : String A) (rest : List (String A)) → words ≡ x ∷ rest → P (texts words) → P (string_bytes x ∷ texts rest)
@@ -114,6 +114,23 @@ pub trial_all : (options : List (List ℕ)) (o : Option TwoNumbers)
     → (command : Command) → Spells command (codes "trial" ∷ options) → option_map (λ s. Trial s.first s.second) o ≡ Some command
 trial_all options o all (Trial seed pictures) s = ap (option_map (λ (t : TwoNumbers). Trial t.first t.second)) (all seed pictures s.1.0 s.1.1 s.1.2 (two_steps (codes "--seed") seed (codes "--pictures") pictures options s.2))
 trial_all options o all command s = absurd (untrue (ap (λ l. bytes_eq l (command_name command)) s.0))
+
+-- a lead-in alone
+pub merge_all : (options : List (List ℕ)) (o : Option ℕ)
+    → ((n : ℕ) → n ≤ 450000 → SpellsNumber (codes "--lead-in") n options → o ≡ Some n)
+    → (command : Command) → Spells command (codes "merge" ∷ options) → option_map (λ n. Merge n) o ≡ Some command
+merge_all options o all (Merge lead_in) s = ap (option_map (λ (n : ℕ). Merge n)) (all lead_in s.1 (number_steps (codes "--lead-in") lead_in options s.2))
+merge_all options o all command s = absurd (untrue (ap (λ l. bytes_eq l (command_name command)) s.0))
+
+pub thin_all : (options : List (List ℕ)) (command : Command) → Spells command (codes "thin" ∷ options) → (options ≡ []) × (Some Thin ≡ Some command)
+thin_all options Thin s = (s.2, refl)
+thin_all options command s = absurd (untrue (ap (λ l. bytes_eq l (command_name command)) s.0))
+
+pub press_all : (options : List (List ℕ)) (o : Option Lengths)
+    → ((lead_in audio : ℕ) → lead_in ≤ 450000 → audio < 450000 → SpellsLengths lead_in audio options → o ≡ Some (record { lead_in = lead_in; audio = audio }))
+    → (command : Command) → Spells command (codes "press" ∷ options) → option_map (λ s. Press s.lead_in s.audio) o ≡ Some command
+press_all options o all (Press lead_in audio) s = ap (option_map (λ (s : Lengths). Press s.lead_in s.audio)) (all lead_in audio s.1.0 s.1.1 (lengths_steps lead_in audio options s.2))
+press_all options o all command s = absurd (untrue (ap (λ l. bytes_eq l (command_name command)) s.0))
 
 pub same_two : (a b : TwoNumbers) → Some a ≡ Some b → a ≡ b
 same_two a b e = (cc)

@@ -3,9 +3,9 @@ use Rattle.std.specs.Prelude.{◌≡◌, ◌⊎◌, ℕ}
 use Rattle.cdg_io.specs.Causes.{Rose}
 use Rattle.cdg_cmd.specs.Call.{Change}
 use Rattle.cdg_cmd.specs.declared.command.Command.{Command}
-use Rattle.cdg_cmd.specs.declared.command.Command.TheVariants.{Convert, Screen, State, Check, Q, Text, Author, Planar, Raw, Scratch, Gen, Trial}
+use Rattle.cdg_cmd.specs.declared.command.Command.TheVariants.{Convert, Screen, State, Check, Q, Text, Author, Planar, Raw, Scratch, Gen, Trial, Merge, Thin, Press}
 use Rattle.cdg_cmd.specs.declared.status.Which.TheVariants.{First, Second}
-use Rattle.cdg_cmd.specs.declared.status.Refusal.TheVariants.{TooLong}
+use Rattle.cdg_cmd.specs.declared.status.Refusal.TheVariants.{TooLong, Torn, SecondTorn, Unequal}
 use Rattle.cdg_cmd.specs.declared.status.Status.{Status}
 use Rattle.cdg_cmd.specs.declared.status.Status.TheVariants.{Done, Damaged, Usage, Refused, Late, ReadFault, WriteFault, NoMemory}
 
@@ -33,7 +33,7 @@ EndsInTurn ends status = StreamEnds (ends.after ≡ ends.before) ends status
 abbrev pub EndsFirst : Change ℕ → Status → Type 0
 EndsFirst ends status = StreamEnds (Rose ends.before ends.after) ends status
 
--- the cue sheet of `author`
+-- the cue sheet of `author` and `press`
 abbrev pub SheetEnds : Change ℕ → Status → Type 0
 SheetEnds ends Done = Rose ends.before ends.after
 SheetEnds ends (Late picture need free) = Rose ends.before ends.after
@@ -42,13 +42,30 @@ SheetEnds ends (ReadFault First) = ends.after ≡ ends.before
 SheetEnds ends (ReadFault Second) = Rose ends.before ends.after
 SheetEnds ends status = AtMostOnce ends
 
--- its script
+-- their second input
 abbrev pub ScriptEnds : Change ℕ → Status → Type 0
 ScriptEnds ends Done = Rose ends.before ends.after
 ScriptEnds ends (Late picture need free) = Rose ends.before ends.after
 ScriptEnds ends WriteFault = Rose ends.before ends.after
 ScriptEnds ends (ReadFault which) = ends.after ≡ ends.before
 ScriptEnds ends status = AtMostOnce ends
+
+-- the first of two readings, which are read in turn
+abbrev pub ReadingEnds : Change ℕ → Status → Type 0
+ReadingEnds ends Done = Rose ends.before ends.after
+ReadingEnds ends (Damaged n) = Rose ends.before ends.after
+ReadingEnds ends (Refused (Torn block)) = Rose ends.before ends.after
+ReadingEnds ends (ReadFault First) = ends.after ≡ ends.before
+ReadingEnds ends WriteFault = ends.after ≡ ends.before
+ReadingEnds ends status = AtMostOnce ends
+
+-- the second of them, which is asked after the first
+abbrev pub OtherEnds : Change ℕ → Status → Type 0
+OtherEnds ends Done = Rose ends.before ends.after
+OtherEnds ends (Damaged n) = Rose ends.before ends.after
+OtherEnds ends (Refused (SecondTorn block)) = Rose ends.before ends.after
+OtherEnds ends (Refused (Unequal blocks)) = AtMostOnce ends
+OtherEnds ends status = ends.after ≡ ends.before
 
 -- the first input of a command
 abbrev pub FirstEnds : Command → Change ℕ → Status → Type 0
@@ -64,10 +81,15 @@ FirstEnds Raw ends status = EndsInTurn ends status
 FirstEnds (Scratch lead_in seed) ends status = EndsInTurn ends status
 FirstEnds (Gen seed pictures) ends status = ends.after ≡ ends.before
 FirstEnds (Trial seed pictures) ends status = ends.after ≡ ends.before
+FirstEnds (Merge lead_in) ends status = ReadingEnds ends status
+FirstEnds Thin ends status = EndsInTurn ends status
+FirstEnds (Press lead_in length) ends status = SheetEnds ends status
 
 -- the second
 abbrev pub SecondEnds : Command → Change ℕ → Status → Type 0
 SecondEnds (Author lead_in length) ends status = ScriptEnds ends status
+SecondEnds (Press lead_in length) ends status = ScriptEnds ends status
+SecondEnds (Merge lead_in) ends status = OtherEnds ends status
 SecondEnds command ends status = ends.after ≡ ends.before
 
 -- Of both inputs: the end is told once where the input was read to its end, and else not at all.

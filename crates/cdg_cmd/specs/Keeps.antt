@@ -4,7 +4,7 @@ use Rattle.cue_sheet.specs.CueSheet.{CueSheet}
 use Rattle.cdg_cmd.specs.Authors.{ReadsSheet}
 use Rattle.cdg_cmd.specs.Call.{Bytes, Change}
 use Rattle.cdg_cmd.specs.declared.command.Command.{Command}
-use Rattle.cdg_cmd.specs.declared.command.Command.TheVariants.{Screen, State, Check, Text, Author, Planar, Raw, Scratch, Gen, Trial}
+use Rattle.cdg_cmd.specs.declared.command.Command.TheVariants.{Screen, State, Check, Text, Author, Planar, Raw, Scratch, Gen, Trial, Merge, Press}
 use Rattle.cdg_cmd.specs.declared.status.Status.{Status}
 use Rattle.cdg_cmd.specs.declared.status.Status.TheVariants.{Done, Damaged, WriteFault, NoMemory}
 
@@ -14,9 +14,11 @@ ReadsNone (Gen seed pictures) = ⊤
 ReadsNone (Trial seed pictures) = ⊤
 ReadsNone command = ⊥
 
--- it reads its second input: only after the first was read to its end, and its grammar accepted it
+-- it reads its second input: `author` and `press` only after the first was read to its end, and its grammar accepted it
 abbrev pub ReadsSecond : Command → Change Bytes → Type 0
 ReadsSecond (Author lead_in length) first = (sheet : CueSheet) × ReadsSheet first sheet
+ReadsSecond (Press lead_in length) first = (sheet : CueSheet) × ReadsSheet first sheet
+ReadsSecond (Merge lead_in) first = ⊤
 ReadsSecond command first = ⊥
 
 -- it writes nothing but where its work is whole or a write fails
@@ -27,6 +29,7 @@ WritesLast (Check lead_in form) = ⊤
 WritesLast (Text lead_in form) = ⊤
 WritesLast (Author lead_in length) = ⊤
 WritesLast (Trial seed pictures) = ⊤
+WritesLast (Press lead_in length) = ⊤
 WritesLast command = ⊥
 
 -- the work is whole, or a write failed
@@ -48,6 +51,7 @@ TakesNone command = ⊥
 abbrev pub TakesFirst : Command → Type 0
 TakesFirst (Text lead_in form) = ⊥
 TakesFirst (Author lead_in length) = ⊥
+TakesFirst (Press lead_in length) = ⊥
 TakesFirst command = ⊤
 
 -- Of the two inputs and the output, in this order: what is not read and what is not written is as it was.

@@ -8,8 +8,11 @@ pub mod Headline
 pub mod Keeps
 pub mod LeadInTexts
 pub mod Line
+pub mod Merges
+pub mod Presses
 pub mod Spelling
 pub mod Splitting
+pub mod Thinned
 pub mod Told
 pub mod Turns
 pub mod WordSteps

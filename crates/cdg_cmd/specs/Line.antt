@@ -4,7 +4,7 @@ use Rattle.bit_lists.specs.Digits.{line_feed}
 use Rattle.cdg_cmd.specs.declared.status.Which.{Which}
 use Rattle.cdg_cmd.specs.declared.status.Which.TheVariants.{First, Second}
 use Rattle.cdg_cmd.specs.declared.status.Refusal.{Refusal}
-use Rattle.cdg_cmd.specs.declared.status.Refusal.TheVariants.{Torn, TooLong, PastEnd, Cue, Script, LengthShort, DiscTooLong, LeadInShort, TextTooLong, TextMissing, TextNoSize, TextMalformed}
+use Rattle.cdg_cmd.specs.declared.status.Refusal.TheVariants.{Torn, TooLong, PastEnd, Cue, Script, LengthShort, DiscTooLong, LeadInShort, TextTooLong, TextMissing, TextNoSize, TextMalformed, SecondTorn, Unequal, PackTorn, Gap, CdgTooLong}
 use Rattle.cdg_cmd.specs.declared.status.Status.{Status}
 use Rattle.cdg_cmd.specs.declared.status.Status.TheVariants.{Done, Damaged, Usage, Refused, Late, ReadFault, WriteFault, NoMemory}
 use Rattle.cue_sheet.specs.declared.fault.CueWhy.{CueWhy}
@@ -68,6 +68,11 @@ refusal_words (TextTooLong packs) = counted (codes "text-too-long") packs
 refusal_words (TextMissing seq) = counted (codes "text-missing") seq
 refusal_words TextNoSize = codes "text-no-size"
 refusal_words (TextMalformed seq byte) = counted (counted (codes "text-malformed") seq) byte
+refusal_words (SecondTorn block) = counted (codes "second-torn") block
+refusal_words (Unequal blocks) = counted (codes "unequal") blocks
+refusal_words (PackTorn pack) = counted (codes "pack-torn") pack
+refusal_words (Gap track) = counted (codes "gap") track
+refusal_words (CdgTooLong packs room) = counted (counted (codes "cdg-too-long") packs) room
 
 -- the words of a picture that is late: its number, the packs that it needs, and those that are free
 abbrev pub late_words : ℕ → ℕ → ℕ → List ℕ

@@ -4,7 +4,7 @@ use Rattle.disc_time.specs.Time.{time_text}
 use Rattle.cdg_cmd.specs.Words.{IsStreamOptions, IsTimedOptions}
 use Rattle.raw_subcode.specs.declared.form.Form.TheVariants.{Cooked}
 use Rattle.cdg_cmd.specs.declared.command.Command.{Command}
-use Rattle.cdg_cmd.specs.declared.command.Command.TheVariants.{Convert, Screen, State, Check, Q, Text, Author, Planar, Raw, Scratch, Gen, Trial}
+use Rattle.cdg_cmd.specs.declared.command.Command.TheVariants.{Convert, Screen, State, Check, Q, Text, Author, Planar, Raw, Scratch, Gen, Trial, Merge, Thin, Press}
 
 -- the numbers and forms that a command may have: cooked blocks have no Q channel and no text packs
 abbrev pub IsAllowed : Command → Type 0
@@ -20,6 +20,9 @@ IsAllowed Raw = ⊤
 IsAllowed (Scratch lead_in seed) = (lead_in ≤ 450000) × (seed < 2 ^ 64)
 IsAllowed (Gen seed pictures) = (seed < 2 ^ 64) × (1 ≤ pictures) × (pictures ≤ 500)
 IsAllowed (Trial seed pictures) = (seed < 2 ^ 64) × (1 ≤ pictures) × (pictures ≤ 500)
+IsAllowed (Merge lead_in) = lead_in ≤ 450000
+IsAllowed Thin = ⊤
+IsAllowed (Press lead_in length) = (lead_in ≤ 450000) × (length < 450000)
 
 -- the name of a command
 abbrev pub command_name : Command → List ℕ
@@ -35,6 +38,9 @@ command_name Raw = codes "raw"
 command_name (Scratch lead_in seed) = codes "scratch"
 command_name (Gen seed pictures) = codes "gen"
 command_name (Trial seed pictures) = codes "trial"
+command_name (Merge lead_in) = codes "merge"
+command_name Thin = codes "thin"
+command_name (Press lead_in length) = codes "press"
 
 -- the words after its name: a number is in decimal without a leading zero
 abbrev pub SpellsOptions : Command → List (List ℕ) → Type 0
@@ -50,6 +56,9 @@ SpellsOptions Raw options = options ≡ []
 SpellsOptions (Scratch lead_in seed) options = options ≡ codes "--lead-in" ∷ decimal lead_in ∷ codes "--seed" ∷ decimal seed ∷ []
 SpellsOptions (Gen seed pictures) options = options ≡ codes "--seed" ∷ decimal seed ∷ codes "--pictures" ∷ decimal pictures ∷ []
 SpellsOptions (Trial seed pictures) options = options ≡ codes "--seed" ∷ decimal seed ∷ codes "--pictures" ∷ decimal pictures ∷ []
+SpellsOptions (Merge lead_in) options = options ≡ codes "--lead-in" ∷ decimal lead_in ∷ []
+SpellsOptions Thin options = options ≡ []
+SpellsOptions (Press lead_in length) options = options ≡ codes "--lead-in" ∷ decimal lead_in ∷ codes "--length" ∷ time_text length ∷ []
 
 -- the words spell an allowed command
 abbrev pub Spells : Command → List (List ℕ) → Type 0

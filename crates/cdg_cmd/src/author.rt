@@ -17,8 +17,8 @@ use subcode_author::{AuthorStop, author_stream};
 
 const MOST_TEXT: usize = 67_108_864;
 
-// The cue sheet of the first input, or the status that says why there is none.
-fn read_sheet<S: Source>(alloc: Global, first: &mut S) -> Result<Sheet, Status>
+/// The cue sheet of the first input, or the status that says why there is none.
+pub(crate) fn read_sheet<S: Source>(alloc: Global, first: &mut S) -> Result<Sheet, Status>
     ensures ok { IfOk result (ReadsSheet (change S.left first.old first.new)) }
     ensures err { IfErr result (IsSheetStop (S.left first.old)) }
     ensures later { S.faults first.old ≤ S.faults first.new }

@@ -4,7 +4,7 @@ ghost use Rattle.cdg_cmd.specs.Words.{texts};
 ghost use Rattle.cdg_cmd.specs.Spelling.{Spells};
 
 use crate::lengths::read_lengths;
-use crate::numbers::{read_seeded, read_two};
+use crate::numbers::{read_option, read_seeded, read_two};
 use crate::options::{MOST_LEAD_IN, read_blocks, read_stream};
 use crate::times::read_timed;
 use subcode_player::Form;
@@ -36,6 +36,12 @@ pub enum Command {
     Gen { seed: u64, pictures: u32 },
     /// Writes what a trial of a seed gives.
     Trial { seed: u64, pictures: u32 },
+    /// Writes the packs on which two readings of a stream agree.
+    Merge { lead_in: u32 },
+    /// Writes the thin form of a file of packs.
+    Thin,
+    /// Writes the stream of a cue sheet and a file of packs. The length is that of the audio, in blocks.
+    Press { lead_in: u32, length: u32 },
 }
 
 /// The command that the words spell: `None` where they spell none.
@@ -57,6 +63,9 @@ pub fn read_words(words: &[String]) -> Option<Command>
         "scratch" => read_scratch(options),
         "gen" => read_gen(options),
         "trial" => read_trial(options),
+        "merge" => read_merge(options),
+        "thin" => read_thin(options),
+        "press" => read_press(options),
         _ => None,
     }
 }
@@ -220,6 +229,44 @@ fn read_trial(options: &[String]) -> Option<Command>
         Some(two) => Some(Command::Trial {
             seed: two.first,
             pictures: two.second as u32,
+        }),
+        None => None,
+    }
+}
+
+fn read_merge(options: &[String]) -> Option<Command>
+    ensures spelled { IfSome result (λ command. Spells command (codes "merge" ∷ texts options.now)) }
+    ensures all { (command : Command) → Spells command (codes "merge" ∷ texts options.now)
+        → result ≡ Some command }
+{
+    match read_option(options, "--lead-in", MOST_LEAD_IN) {
+        Some(lead_in) => Some(Command::Merge {
+            lead_in: lead_in as u32,
+        }),
+        None => None,
+    }
+}
+
+fn read_thin(options: &[String]) -> Option<Command>
+    ensures spelled { IfSome result (λ command. Spells command (codes "thin" ∷ texts options.now)) }
+    ensures all { (command : Command) → Spells command (codes "thin" ∷ texts options.now)
+        → result ≡ Some command }
+{
+    match options {
+        [] => Some(Command::Thin),
+        _ => None,
+    }
+}
+
+fn read_press(options: &[String]) -> Option<Command>
+    ensures spelled { IfSome result (λ command. Spells command (codes "press" ∷ texts options.now)) }
+    ensures all { (command : Command) → Spells command (codes "press" ∷ texts options.now)
+        → result ≡ Some command }
+{
+    match read_lengths(options) {
+        Some(lengths) => Some(Command::Press {
+            lead_in: lengths.lead_in,
+            length: lengths.audio,
         }),
         None => None,
     }

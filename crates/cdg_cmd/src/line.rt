@@ -68,6 +68,14 @@ fn push_refusal(text: &mut Line, refusal: Refusal)
             push_counted(text, "text-malformed", u32::from(seq));
             push_number(text, u32::from(byte));
         }
+        Refusal::SecondTorn { block } => push_counted(text, "second-torn", block),
+        Refusal::Unequal { blocks } => push_counted(text, "unequal", blocks),
+        Refusal::PackTorn { pack } => push_counted(text, "pack-torn", pack),
+        Refusal::Gap { track } => push_counted(text, "gap", u32::from(track)),
+        Refusal::CdgTooLong { packs, room } => {
+            push_counted(text, "cdg-too-long", packs);
+            push_number(text, room);
+        }
     }
 }
 

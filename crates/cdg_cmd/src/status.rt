@@ -8,9 +8,9 @@ use picture_script::ScriptWhy;
 /// One of the two inputs.
 #[derive(Clone, Copy, Debug, PartialEq, Eq)]
 pub enum Which {
-    /// The stream, or the cue sheet.
+    /// The stream, the file of packs of `thin`, or the cue sheet.
     First,
-    /// The picture script.
+    /// The picture script, the file of packs of `press`, or the other reading of a stream.
     Second,
 }
 
@@ -19,7 +19,7 @@ pub enum Which {
 pub enum Refusal {
     /// The input ended within the block of this number.
     Torn { block: u32 },
-    /// The input has more than 1,000,000 blocks, or is a text of more than 67,108,864 bytes.
+    /// The input has more than 1,000,000 blocks or 4,000,000 packs, or is a text or a file of more than 67,108,864 bytes.
     TooLong,
     /// The moment, or the last hold time of a script, is later than the end of this many program blocks.
     PastEnd { blocks: u32 },
@@ -41,6 +41,16 @@ pub enum Refusal {
     TextNoSize,
     /// This byte of the text pack of this number contradicts the other packs.
     TextMalformed { seq: u8, byte: u8 },
+    /// The second reading ended within the block of this number.
+    SecondTorn { block: u32 },
+    /// One reading has only so many whole blocks and the other has more.
+    Unequal { blocks: u32 },
+    /// The file ended within the pack of this number.
+    PackTorn { pack: u32 },
+    /// The first track, by its number, that has a gap.
+    Gap { track: u8 },
+    /// The file has so many packs, and the audio has room for so many.
+    CdgTooLong { packs: u32, room: u32 },
 }
 
 /// How a run ended.

@@ -7,6 +7,10 @@ ghost use Rattle.picture_script.specs.Script.{Drawing};
 ghost use Rattle.picture_changes.specs.Brings.{CannotBeReady};
 ghost use Rattle.toc_model.specs.Places.{layout_of, program_blocks};
 ghost use Rattle.subcode_author.specs.Authored.{IsAuthored};
+ghost use Rattle.rw_merge.specs.Readings.{IsReadTwice};
+ghost use Rattle.cdg_thin.specs.Calls.{ShowsAll};
+ghost use Rattle.pressed_streams.specs.Damaged.{IsDamagedPress};
+ghost use Rattle.std.specs.Io.KnownBytes.{Appends};
 ghost use Rattle.subcode_player.specs.Pictured.{IsHeldAt};
 ghost use Rattle.authored_listings.specs.FrameLines.{frame_lines};
 ghost use Rattle.cdg_cmd.specs.Words.{texts};
@@ -26,10 +30,13 @@ use crate::check::run_check;
 use crate::convert::run_convert;
 use crate::gen_script::run_gen;
 use crate::line::tell;
+use crate::merge::run_merge;
+use crate::press::run_press;
 use crate::q::run_q;
 use crate::screen::run_screen;
 use crate::state::run_state;
 use crate::text::run_text;
+use crate::thin::run_thin;
 use crate::trial::run_trial;
 use crate::turn::{run_planar, run_raw, run_scratch};
 use crate::{Command, Status, read_words};
@@ -38,6 +45,8 @@ use authored_listings::{
 };
 use authored_streams::accepted_scripts_are_in_order;
 use cdg_io::{Sink, Source, SteadySink, SteadySource};
+use pressed_streams::pressed_packs_come_back;
+use rw_merge::two_readings_give_packs;
 use shortest_changes::needs_are_fewest;
 use std::alloc::Global;
 use stream_words::{packs_are_recovered, text_of_packs};
@@ -45,8 +54,8 @@ use subcode_player::screens_show_pictures;
 
 /// Runs the command of the words over its inputs, its output and the error output.
 ///
-/// The first input is the stream of a command, or the cue sheet of `author`, whose picture script is the second; a command
-/// that needs neither reads neither. An input is read once, in order, and the output written in order. `err` takes the one
+/// The first input is the stream of a command, or the cue sheet of `author` and `press`. The second is the picture script of
+/// `author`, the file of packs of `press`, or the other reading of `merge`; a command that needs neither reads neither. An input is read once, in order, and the output written in order. `err` takes the one
 /// line of the status, or nothing where it is `Done`; a failure there changes nothing.
 ///
 /// # Errors
@@ -130,6 +139,22 @@ pub fn run<S: Source, T: Source, K: Sink, E: Sink>(
         → IsAuthored sheet script lead_in audio stream packs
         → IfSome (S.left first.old) (λ all. AreLinesOf sheet form lead_in stream all lines
         → GivesBack lines (change K.held out.old out.new) result) }
+    // Of two readings every pack is merged, where in each word twice the symbols that both have equally wrong and
+    // those in which they differ are at most four.
+    ensures merges { (lead_in : ℕ) → Spells (Command.Merge lead_in) (texts words.now)
+        → IfSome (S.left first.old) (λ one. IfSome (T.left second.old) (λ other. (blocks : ℕ)
+        (packs : List (List ℕ)) → IsReadTwice lead_in blocks packs one other
+        → GivesBack (concat packs) (change K.held out.old out.new) result)) }
+    // From a pressed stream, after damage of at most two symbols a word, a conversion gives back every pack.
+    ensures unpresses { (lead_in audio : ℕ) (form : Form) (sheet : CueSheet) (file : List ℕ)
+        (packs : List (List ℕ)) → Spells (Command.Convert lead_in form) (texts words.now)
+        → IfSome (S.left first.old) (λ all. IsDamagedPress form sheet file lead_in audio all packs
+        → GivesBack (concat (written_packs form packs)) (change K.held out.old out.new) result) }
+    // Of a whole file the thin form is written: the same stands in both after each number of packs, and the thin
+    // form of it is itself.
+    ensures thins { Spells Command.Thin (texts words.now) → result ≡ Status.Done
+        → IfSome (S.left first.old) (λ all. (text : List ℕ) × ShowsAll all text
+        × Appends (K.held out.old) (K.held out.new) text) }
 {
     packs_are_recovered();
     text_of_packs();
@@ -139,6 +164,8 @@ pub fn run<S: Source, T: Source, K: Sink, E: Sink>(
     damaged_text_lists_are_answered();
     accepted_scripts_are_in_order();
     needs_are_fewest();
+    two_readings_give_packs();
+    pressed_packs_come_back();
     let status = answer(alloc, words, first, second, out);
     // A failure there changes nothing.
     let _told = tell(err, status);
@@ -215,6 +242,11 @@ fn perform<S: Source, T: Source, K: Sink>(
         Command::Scratch { lead_in, seed } => run_scratch(lead_in, seed, first, out),
         Command::Gen { seed, pictures } => run_gen(seed, pictures, out),
         Command::Trial { seed, pictures } => run_trial(alloc, seed, pictures, out),
+        Command::Merge { lead_in } => run_merge(alloc, lead_in, first, second, out),
+        Command::Thin => run_thin(alloc, first, out),
+        Command::Press { lead_in, length } => {
+            run_press(alloc, lead_in, length, first, second, out)
+        }
     }
 }
 

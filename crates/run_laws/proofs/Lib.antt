@@ -1,5 +1,6 @@
 mod Accepted
 mod Clean
+mod PressedShown
 mod Refusals
 mod Scratched
 mod SecondFaults

@@ -6,6 +6,8 @@ use Rattle.cdg_io.specs.declared.pumping.PumpStop.TheVariants as pump
 use Rattle.cdtext_packs.specs.declared.kinds.TextFault.TheVariants as fault
 use Rattle.subcode_author.specs.declared.stops.AuthorStop.{AuthorStop}
 use Rattle.subcode_author.specs.declared.stops.AuthorStop.TheVariants as stop
+use Rattle.cdg_press.specs.declared.stops.PressStop.{PressStop}
+use Rattle.cdg_press.specs.declared.stops.PressStop.TheVariants as press
 use Rattle.subcode_player.specs.declared.player.Played.{Played}
 use Rattle.subcode_player.specs.declared.player.PlayStop.{PlayStop}
 use Rattle.subcode_player.specs.declared.player.PlayStop.TheVariants as play
@@ -15,9 +17,11 @@ use Rattle.cdg_cmd.specs.Answer.{Does, play_status, text_status}
 use Rattle.cdg_cmd.specs.Authors.{Answers, AuthorsWith, StopsAtScript, StopsAtSheet, author_status}
 use Rattle.cdg_cmd.specs.Call.{Bytes, Call}
 use Rattle.cdg_cmd.specs.Keeps.{ReadsSecond}
+use Rattle.cdg_cmd.specs.Presses.{Presses, PressesWith, RefusesFile, RefusesSheet, press_status}
+use Rattle.cdg_cmd.specs.Thinned.{thin_status}
 use Rattle.cdg_cmd.specs.Turns.{pump_status}
 use Rattle.cdg_cmd.specs.declared.command.Command.{Command}
-use Rattle.cdg_cmd.specs.declared.command.Command.TheVariants.{Convert, Screen, State, Check, Q, Text, Author, Planar, Raw, Scratch, Gen, Trial}
+use Rattle.cdg_cmd.specs.declared.command.Command.TheVariants.{Convert, Screen, State, Check, Q, Text, Author, Planar, Raw, Scratch, Gen, Trial, Merge, Thin, Press}
 use Rattle.cdg_cmd.specs.declared.status.Status.TheVariants.{Done, Damaged, ReadFault}
 use Rattle.cdg_cmd.specs.declared.status.Which.TheVariants.{Second}
 
@@ -64,6 +68,30 @@ of_author lead_in length call (StopsAtSheet why nothing) = absurd why
 of_author lead_in length call (StopsAtScript sheet reads why nothing) = (sheet, reads)
 of_author lead_in length call (Answers sheet script answer reads_sheet reads_script is put) = absurd (authored answer (sym is))
 
+pressed : (answer : Result (Unit {0}) PressStop) → press_status answer ≢ ReadFault Second
+pressed (Ok done) e = absurd (cc)
+pressed (Err (press.PackTorn pack)) e = absurd (cc)
+pressed (Err (press.LengthShort need)) e = absurd (cc)
+pressed (Err (press.DiscTooLong blocks)) e = absurd (cc)
+pressed (Err (press.Gap track)) e = absurd (cc)
+pressed (Err (press.CdgTooLong packs room)) e = absurd (cc)
+pressed (Err (press.TextTooLong packs)) e = absurd (cc)
+pressed (Err (press.LeadInShort need)) e = absurd (cc)
+pressed (Err press.WriteFault) e = absurd (cc)
+pressed (Err press.NoMemory) e = absurd (cc)
+
+of_press : (lead_in length : ℕ) (call : Call Bytes) → PressesWith lead_in length call (ReadFault Second) → ReadsSecond (Press lead_in length) call.first
+of_press lead_in length call (RefusesSheet why nothing) = absurd why
+of_press lead_in length call (RefusesFile sheet reads why nothing) = (sheet, reads)
+of_press lead_in length call (Presses sheet file answer reads_sheet reads_file is put) = absurd (pressed answer (sym is))
+
+thinned : (answer : Result Pumped PumpStop) → thin_status answer ≢ ReadFault Second
+thinned (Ok done) e = absurd (cc)
+thinned (Err pump.ReadFault) e = absurd (cc)
+thinned (Err pump.WriteFault) e = absurd (cc)
+thinned (Err (pump.Torn unit)) e = absurd (cc)
+thinned (Err pump.TooLong) e = absurd (cc)
+
 -- what a command did, if it ends so
 pub read_first : (command : Command) (call : Call Bytes) → Does command call (ReadFault Second) → ReadsSecond command call.first
 read_first (Convert lead_in form) call d = played d.answer (sym d.status_is)
@@ -78,3 +106,6 @@ read_first Raw call d = pumped d.answer (sym d.status_is)
 read_first (Scratch lead_in seed) call d = pumped d.answer (sym d.status_is)
 read_first (Gen seed pictures) call d = d
 read_first (Trial seed pictures) call d = d.2
+read_first (Merge lead_in) call d = tt
+read_first Thin call d = thinned d.answer (sym d.status_is)
+read_first (Press lead_in length) call d = of_press lead_in length call d

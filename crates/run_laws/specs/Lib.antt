@@ -1,3 +1,4 @@
+pub mod Pressed
 pub mod Ran
 pub mod Refused
 pub mod Undamaged

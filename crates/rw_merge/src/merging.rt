@@ -137,6 +137,9 @@ impl Merger {
         ensures second_end { EndsSecond result (T.left second.new) }
         ensures first_told { TellsFirst result (S.ends first.old) (S.ends first.new) }
         ensures second_told { TellsSecond result (T.ends second.old) (T.ends second.new) }
+        ensures first_later { S.faults first.old ≤ S.faults first.new }
+        ensures second_later { T.faults second.old ≤ T.faults second.new }
+        ensures out_later { K.faults out.old ≤ K.faults out.new }
         ensures first_fault { IsErrOf result MergeStop.FirstFault
             → Rose (S.faults first.old) (S.faults first.new) }
         ensures no_first_fault { result ≢ Err MergeStop.FirstFault
@@ -176,6 +179,9 @@ impl Merger {
         ensures second_end { EndsSecond result (T.left second.new) }
         ensures first_told { TellsFirst result (S.ends first.old) (S.ends first.new) }
         ensures second_told { TellsSecond result (T.ends second.old) (T.ends second.new) }
+        ensures first_later { S.faults first.old ≤ S.faults first.new }
+        ensures second_later { T.faults second.old ≤ T.faults second.new }
+        ensures out_later { K.faults out.old ≤ K.faults out.new }
         ensures first_fault { IsErrOf result MergeStop.FirstFault
             → Rose (S.faults first.old) (S.faults first.new) }
         ensures no_first_fault { result ≢ Err MergeStop.FirstFault

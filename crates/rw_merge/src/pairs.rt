@@ -1,5 +1,5 @@
 // Pairs of blocks, one of each input, in turn.
-ghost use Rattle.std.specs.Prelude.{◌≡◌, ◌≢◌, List, ℕ, Ok, Err, true, IsErrOf};
+ghost use Rattle.std.specs.Prelude.{◌≡◌, ◌≢◌, ◌≤◌, List, ℕ, Ok, Err, true, IsErrOf};
 ghost use Rattle.std.specs.Io.KnownBytes.{Consumes};
 ghost use Rattle.cdg_io.specs.Causes.{Rose};
 ghost use Rattle.rw_merge.specs.Steps.{IsEndRead, IsPairRead, TellsFirstAfter, TellsFirstOfPair, TellsSecondAfter, TellsSecondOfPair};
@@ -22,6 +22,8 @@ pub(crate) fn next_pair<S: Source, T: Source>(
         × Consumes (T.left second.old) (T.left second.new) ys
         × IsPairRead block (S.left first.new) (T.left second.new) result xs ys
         × (result ≡ Ok true → (xs ≡ one.new) × (ys ≡ other.new)) }
+    ensures first_later { S.faults first.old ≤ S.faults first.new }
+    ensures second_later { T.faults second.old ≤ T.faults second.new }
     ensures first_fault { IsErrOf result MergeStop.FirstFault
         → Rose (S.faults first.old) (S.faults first.new) }
     ensures no_first_fault { result ≢ Err MergeStop.FirstFault → S.faults first.new ≡ S.faults first.old }
@@ -65,6 +67,8 @@ pub(crate) fn nothing_follows<S: Source, T: Source>(
     ensures end { (xs ys : List ℕ) × Consumes (S.left first.old) (S.left first.new) xs
         × Consumes (T.left second.old) (T.left second.new) ys
         × IsEndRead (S.left first.new) (T.left second.new) result xs ys }
+    ensures first_later { S.faults first.old ≤ S.faults first.new }
+    ensures second_later { T.faults second.old ≤ T.faults second.new }
     ensures first_fault { IsErrOf result MergeStop.FirstFault
         → Rose (S.faults first.old) (S.faults first.new) }
     ensures no_first_fault { result ≢ Err MergeStop.FirstFault → S.faults first.new ≡ S.faults first.old }

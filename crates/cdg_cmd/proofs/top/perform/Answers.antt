@@ -119,3 +119,33 @@ pub returns-in-Author-clause-does : goal.returns-in-Author-clause-does
 returns-in-Author-clause-does g c = λ found.
     subst (λ (k : Command). Does k (call g.S.Source.left g.T.Source.left g.K.Sink.held (c.args.first.now, c.args.second.now, c.args.out.now)
     (c.run_author.new.first, c.run_author.new.second, c.run_author.new.out)) c.run_author.result) (sym c.in-Author.is) c.run_author.ensures.does
+
+pub returns-in-Merge-clause-does : goal.returns-in-Merge-clause-does
+returns-in-Merge-clause-does g c = λ found.
+    subst (λ (k : Command). Does k (call g.S.Source.left g.T.Source.left g.K.Sink.held (c.args.first.now, c.args.second.now, c.args.out.now) (c.run_merge.new.first, c.run_merge.new.second, c.run_merge.new.out)) c.run_merge.result)
+    (sym c.in-Merge.is) (c.run_merge.ensures.does found)
+
+pub returns-in-Merge-clause-ends : goal.returns-in-Merge-clause-ends
+returns-in-Merge-clause-ends g c =
+    subst (λ (k : Command). TellsEnds k (change g.S.Source.ends c.args.first.now c.run_merge.new.first) (change g.T.Source.ends c.args.second.now c.run_merge.new.second) c.run_merge.result)
+    (sym c.in-Merge.is) (record { first = c.run_merge.ensures.first_ended; second = c.run_merge.ensures.second_ended })
+
+pub returns-in-Thin-clause-does : goal.returns-in-Thin-clause-does
+returns-in-Thin-clause-does g c = λ found.
+    subst (λ (k : Command). Does k (call g.S.Source.left g.T.Source.left g.K.Sink.held (c.args.first.now, c.args.second.now, c.args.out.now) (c.run_thin.new.source, c.args.second.now, c.run_thin.new.out)) c.run_thin.result)
+    (sym c.in-Thin.is) (c.run_thin.ensures.does found)
+
+pub returns-in-Thin-clause-ends : goal.returns-in-Thin-clause-ends
+returns-in-Thin-clause-ends g c =
+    subst (λ (k : Command). TellsEnds k (change g.S.Source.ends c.args.first.now c.run_thin.new.source) (change g.T.Source.ends c.args.second.now c.args.second.now) c.run_thin.result)
+    (sym c.in-Thin.is) (record { first = c.run_thin.ensures.ended; second = refl })
+
+pub returns-in-Press-clause-does : goal.returns-in-Press-clause-does
+returns-in-Press-clause-does g c = λ found.
+    subst (λ (k : Command). Does k (call g.S.Source.left g.T.Source.left g.K.Sink.held (c.args.first.now, c.args.second.now, c.args.out.now) (c.run_press.new.first, c.run_press.new.second, c.run_press.new.out)) c.run_press.result)
+    (sym c.in-Press.is) c.run_press.ensures.does
+
+pub returns-in-Press-clause-ends : goal.returns-in-Press-clause-ends
+returns-in-Press-clause-ends g c =
+    subst (λ (k : Command). TellsEnds k (change g.S.Source.ends c.args.first.now c.run_press.new.first) (change g.T.Source.ends c.args.second.now c.run_press.new.second) c.run_press.result)
+    (sym c.in-Press.is) (record { first = c.run_press.ensures.first_ended; second = c.run_press.ensures.second_ended })

@@ -2,13 +2,16 @@ use Rattle.std.proofs.Common.{None}
 use Rattle.subcode_author.specs.Authored.{IsAuthored}
 use Rattle.cdg_cmd.specs.Call.{Bytes, Change, change}
 use Rattle.cdg_cmd.specs.LeadInTexts.{AreLinesOf}
-use Rattle.cdg_cmd.specs.declared.command.Command.TheVariants.{Author, Convert, Q, Screen, Text}
+use Rattle.cdg_cmd.specs.declared.command.Command.TheVariants.{Author, Convert, Merge, Q, Screen, Text, Thin}
 use Rattle.cdg_cmd.proofs.FirstHalf.{first_half}
 use Rattle.cdg_cmd.proofs.LateTold.{late_cannot}
 use Rattle.cdg_cmd.proofs.SecondHalf.{converted_back, gives_none_bad, gives_packs, packs_back, pictures_shown, shown_back}
 use Rattle.raw_subcode.specs.declared.form.Form.TheVariants.{Raw}
 use Rattle.cdg_cmd.proofs.Listings.{authored_size, frames_given, lines_given, spells_allowed, strings_given}
+use Rattle.cdg_cmd.proofs.Merged.{merged_back}
+use Rattle.cdg_cmd.proofs.PressedBack.{pressed_back}
 use Rattle.cdg_cmd.proofs.Statuses.{answered}
+use Rattle.cdg_cmd.proofs.Thinning.{all_thinned}
 use Rattle.cdg_cmd.proofs.top.run.Goals as goal
 
 pub returns-clause-complete : goal.returns-clause-complete
@@ -54,3 +57,18 @@ returns-clause-strings g c = λ lead_in audio form sheet script stream lines pac
     lines_given sheet form lead_in stream all lines answer _
     (λ whole fits some slots input. c.damaged_text_lists_are_answered.ensures sheet script lead_in audio stream packs whole form all _ _ _ answer taken fits some authored slots input lists listed)
     (λ none slots input. c.copied_text_lists_are_answered.ensures.none sheet script lead_in audio stream packs form all _ _ _ answer taken none authored slots input lists listed) are)
+
+pub returns-clause-merges : goal.returns-clause-merges
+returns-clause-merges g c = λ lead_in spelled.
+    merged_back c.two_readings_give_packs.ensures.text lead_in _ _ _ c.answer-status.result _ _ (c.answer-status.ensures.does (Merge lead_in) spelled)
+
+pub returns-clause-unpresses : goal.returns-clause-unpresses
+returns-clause-unpresses g c = λ lead_in audio form sheet file packs spelled.
+    let out : Change Bytes = change g.K.Sink.held c.args.out.now c.answer-status.new.out in
+    pressed_back form sheet file lead_in audio packs _ out c.answer-status.result (λ others. c.pressed_packs_come_back.ensures.stream form sheet file lead_in audio others packs)
+    (converted_back form lead_in _ None None out c.answer-status.result (gives_packs c.packs_are_recovered.ensures c.text_of_packs.ensures.text c.text_of_packs.ensures.bad) (gives_none_bad c.packs_are_recovered.ensures c.text_of_packs.ensures.text c.text_of_packs.ensures.bad) _ (c.answer-status.ensures.does (Convert lead_in form) spelled))
+
+pub returns-clause-thins : goal.returns-clause-thins
+returns-clause-thins g c = λ spelled done.
+    let out : Change Bytes = change g.K.Sink.held c.args.out.now c.answer-status.new.out in
+    all_thinned _ _ None None out c.answer-status.result done (c.answer-status.ensures.does Thin spelled)

@@ -1,0 +1,164 @@
+-- From the answers of the parts of `press` to its status.
+use Rattle.std.proofs.Common.{◌≡◌, ◌≢◌, ◌≤◌, ℕ, List, [], Result, Ok, Err, OnOk, IfErr, refl, sym, ap, subst, inl, inr}
+use Rattle.std.specs.Io.KnownBytes.{Appends}
+use Rattle.cdg_io.specs.Causes.{Rose}
+use Rattle.cue_sheet.specs.CueSheet.{CueSheet}
+use Rattle.cdg_press.specs.Pressed.{IsPressed}
+use Rattle.cdg_press.specs.Refusals.{IsPressable, IsPressStop}
+use Rattle.cdg_press.specs.declared.stops.PressStop.{PressStop}
+use Rattle.cdg_press.specs.declared.stops.PressStop.TheVariants as stop
+use Rattle.cdg_cmd.specs.Call.{Bytes, change}
+use Rattle.cdg_cmd.specs.Ends.{ScriptEnds, SheetEnds}
+use Rattle.cdg_cmd.specs.Faults.{IsTold, TellsFaults}
+use Rattle.cdg_cmd.specs.Presses.{IsFileStop, IsPressedFor, PutsPressedPart, press_status}
+use Rattle.cdg_cmd.specs.declared.status.Which.TheVariants.{First, Second}
+use Rattle.cdg_cmd.specs.declared.status.Status.{Status}
+use Rattle.cdg_cmd.specs.declared.status.Status.TheVariants.{Done, Damaged, Usage, Refused, Late, ReadFault, WriteFault, NoMemory}
+use Rattle.cdg_cmd.proofs.AuthorStatus.{unchanged}
+use Rattle.cdg_cmd.proofs.AuthorTold.{of_input, still}
+use Rattle.cdg_cmd.proofs.Quiet.{count, silent, told}
+
+not_first : (left : Bytes) (status : Status) → IsFileStop left status → status ≢ ReadFault First
+not_first left status why e = subst (IsFileStop left) e why
+
+not_cut : (left : Bytes) (status : Status) → IsFileStop left status → status ≢ WriteFault
+not_cut left status why e = subst (IsFileStop left) e why
+
+-- the file stopped it
+pub told_at_file : {A B : Type 0} (sheet : B) (status : Status) (left : Bytes) (f f' t t' k : ℕ) → IsFileStop left status → f ≤ f'
+    → (◌≢◌ {A = Result B Status} (Ok sheet) (Err (ReadFault First)) → f' ≡ f) → t ≤ t'
+    → (◌≡◌ {A = Result A Status} (Err status) (Err (ReadFault Second)) → Rose t t') → (◌≢◌ {A = Result A Status} (Err status) (Err (ReadFault Second)) → t' ≡ t)
+    → TellsFaults (record { first = count f f'; second = count t t'; out = count k k }) status
+told_at_file sheet status left f f' t t' k why early read later rose same = record {
+  first = silent (ReadFault First) status f f' early (not_first left status why) (read (λ e. cc));
+  second = of_input (ReadFault Second) status t t' later rose same;
+  out = still WriteFault status k (not_cut left status why);
+}
+
+written : (answer : Result (Unit {0}) PressStop) (k k' : ℕ) → k ≤ k' → (answer ≡ Err stop.WriteFault → Rose k k') → (answer ≢ Err stop.WriteFault → k' ≡ k)
+    → IsTold WriteFault (count k k') (press_status answer)
+written (Err stop.WriteFault) k k' later cut same = told WriteFault k k' later (cut refl)
+written (Ok done) k k' later cut same = silent WriteFault _ k k' later (λ e. cc) (same (λ e. cc))
+written (Err (stop.PackTorn pack)) k k' later cut same = silent WriteFault _ k k' later (λ e. cc) (same (λ e. cc))
+written (Err (stop.LengthShort need)) k k' later cut same = silent WriteFault _ k k' later (λ e. cc) (same (λ e. cc))
+written (Err (stop.DiscTooLong blocks)) k k' later cut same = silent WriteFault _ k k' later (λ e. cc) (same (λ e. cc))
+written (Err (stop.Gap track)) k k' later cut same = silent WriteFault _ k k' later (λ e. cc) (same (λ e. cc))
+written (Err (stop.CdgTooLong packs room)) k k' later cut same = silent WriteFault _ k k' later (λ e. cc) (same (λ e. cc))
+written (Err (stop.TextTooLong packs)) k k' later cut same = silent WriteFault _ k k' later (λ e. cc) (same (λ e. cc))
+written (Err (stop.LeadInShort need)) k k' later cut same = silent WriteFault _ k k' later (λ e. cc) (same (λ e. cc))
+written (Err stop.NoMemory) k k' later cut same = silent WriteFault _ k k' later (λ e. cc) (same (λ e. cc))
+
+read_by : (answer : Result (Unit {0}) PressStop) (n n' : ℕ) → n ≤ n' → n' ≡ n → IsTold (ReadFault First) (count n n') (press_status answer) × IsTold (ReadFault Second) (count n n') (press_status answer)
+read_by (Ok done) n n' later same = (silent (ReadFault First) _ n n' later (λ e. cc) same, silent (ReadFault Second) _ n n' later (λ e. cc) same)
+read_by (Err (stop.PackTorn pack)) n n' later same = (silent (ReadFault First) _ n n' later (λ e. cc) same, silent (ReadFault Second) _ n n' later (λ e. cc) same)
+read_by (Err (stop.LengthShort need)) n n' later same = (silent (ReadFault First) _ n n' later (λ e. cc) same, silent (ReadFault Second) _ n n' later (λ e. cc) same)
+read_by (Err (stop.DiscTooLong blocks)) n n' later same = (silent (ReadFault First) _ n n' later (λ e. cc) same, silent (ReadFault Second) _ n n' later (λ e. cc) same)
+read_by (Err (stop.Gap track)) n n' later same = (silent (ReadFault First) _ n n' later (λ e. cc) same, silent (ReadFault Second) _ n n' later (λ e. cc) same)
+read_by (Err (stop.CdgTooLong packs room)) n n' later same = (silent (ReadFault First) _ n n' later (λ e. cc) same, silent (ReadFault Second) _ n n' later (λ e. cc) same)
+read_by (Err (stop.TextTooLong packs)) n n' later same = (silent (ReadFault First) _ n n' later (λ e. cc) same, silent (ReadFault Second) _ n n' later (λ e. cc) same)
+read_by (Err (stop.LeadInShort need)) n n' later same = (silent (ReadFault First) _ n n' later (λ e. cc) same, silent (ReadFault Second) _ n n' later (λ e. cc) same)
+read_by (Err stop.NoMemory) n n' later same = (silent (ReadFault First) _ n n' later (λ e. cc) same, silent (ReadFault Second) _ n n' later (λ e. cc) same)
+read_by (Err stop.WriteFault) n n' later same = (silent (ReadFault First) _ n n' later (λ e. cc) same, silent (ReadFault Second) _ n n' later (λ e. cc) same)
+
+told_at_end : (answer : Result (Unit {0}) PressStop) (f f' t t' k k' : ℕ) → f ≤ f' → f' ≡ f → t ≤ t' → t' ≡ t → k ≤ k' → (answer ≡ Err stop.WriteFault → Rose k k')
+    → (answer ≢ Err stop.WriteFault → k' ≡ k) → TellsFaults (record { first = count f f'; second = count t t'; out = count k k' }) (press_status answer)
+told_at_end answer f f' t t' k k' early first late second later cut same = record {
+  first = (read_by answer f f' early first).0;
+  second = (read_by answer t t' late second).1;
+  out = written answer k k' later cut same;
+}
+
+-- both inputs were read
+pub told_of_both : {A B : Type 0} (sheet : A) (file : B) (answer : Result (Unit {0}) PressStop) (status : Status) (f f' t t' k k' : ℕ) → status ≡ press_status answer
+    → f ≤ f' → (◌≢◌ {A = Result A Status} (Ok sheet) (Err (ReadFault First)) → f' ≡ f) → t ≤ t' → (◌≢◌ {A = Result B Status} (Ok file) (Err (ReadFault Second)) → t' ≡ t)
+    → k ≤ k' → (answer ≡ Err stop.WriteFault → Rose k k') → (answer ≢ Err stop.WriteFault → k' ≡ k)
+    → TellsFaults (record { first = count f f'; second = count t t'; out = count k k' }) status
+told_of_both sheet file answer status f f' t t' k k' is early first late second later cut same =
+    subst (λ (s : Status). TellsFaults (record { first = count f f'; second = count t t'; out = count k k' }) s) (sym is)
+    (told_at_end answer f f' t t' k k' early (first (λ e. cc)) late (second (λ e. cc)) later cut same)
+
+-- Ends
+
+of_sheet : (answer : Result (Unit {0}) PressStop) (n n' : ℕ) → Rose n n' → SheetEnds (count n n') (press_status answer)
+of_sheet (Ok done) n n' rose = rose
+of_sheet (Err (stop.PackTorn pack)) n n' rose = inr rose
+of_sheet (Err (stop.LengthShort need)) n n' rose = inr rose
+of_sheet (Err (stop.DiscTooLong blocks)) n n' rose = inr rose
+of_sheet (Err (stop.Gap track)) n n' rose = inr rose
+of_sheet (Err (stop.CdgTooLong packs room)) n n' rose = inr rose
+of_sheet (Err (stop.TextTooLong packs)) n n' rose = inr rose
+of_sheet (Err (stop.LeadInShort need)) n n' rose = inr rose
+of_sheet (Err stop.NoMemory) n n' rose = inr rose
+of_sheet (Err stop.WriteFault) n n' rose = rose
+
+of_file : (answer : Result (Unit {0}) PressStop) (n n' : ℕ) → Rose n n' → ScriptEnds (count n n') (press_status answer)
+of_file (Ok done) n n' rose = rose
+of_file (Err (stop.PackTorn pack)) n n' rose = inr rose
+of_file (Err (stop.LengthShort need)) n n' rose = inr rose
+of_file (Err (stop.DiscTooLong blocks)) n n' rose = inr rose
+of_file (Err (stop.Gap track)) n n' rose = inr rose
+of_file (Err (stop.CdgTooLong packs room)) n n' rose = inr rose
+of_file (Err (stop.TextTooLong packs)) n n' rose = inr rose
+of_file (Err (stop.LeadInShort need)) n n' rose = inr rose
+of_file (Err stop.NoMemory) n n' rose = inr rose
+of_file (Err stop.WriteFault) n n' rose = rose
+
+-- the sheet was read, and the file is refused
+pub file_stopped : (left : Bytes) (status : Status) (n n' : ℕ) → IsFileStop left status → Rose n n' → SheetEnds (count n n') status
+file_stopped left Done n n' why rose = rose
+file_stopped left (Damaged k) n n' why rose = inr rose
+file_stopped left (Refused reason) n n' why rose = inr rose
+file_stopped left (Late picture need free) n n' why rose = rose
+file_stopped left NoMemory n n' why rose = inr rose
+file_stopped left Usage n n' why rose = inr rose
+file_stopped left (ReadFault First) n n' why rose = absurd why
+file_stopped left (ReadFault Second) n n' why rose = rose
+file_stopped left WriteFault n n' why rose = rose
+
+pub sheet_read : (answer : Result (Unit {0}) PressStop) (status : Status) (n n' : ℕ) → status ≡ press_status answer → Rose n n' → SheetEnds (count n n') status
+sheet_read answer status n n' is rose = subst (λ (s : Status). SheetEnds (count n n') s) (sym is) (of_sheet answer n n' rose)
+
+pub file_read : (answer : Result (Unit {0}) PressStop) (status : Status) (n n' : ℕ) → status ≡ press_status answer → Rose n n' → ScriptEnds (count n n') status
+file_read answer status n n' is rose = subst (λ (s : Status). ScriptEnds (count n n') s) (sym is) (of_file answer n n' rose)
+
+-- What is put
+
+-- it is never this one
+pub never_usage : (answer : Result (Unit {0}) PressStop) → press_status answer ≢ Usage
+never_usage (Ok done) e = absurd (cc)
+never_usage (Err (stop.PackTorn pack)) e = absurd (cc)
+never_usage (Err (stop.LengthShort need)) e = absurd (cc)
+never_usage (Err (stop.DiscTooLong blocks)) e = absurd (cc)
+never_usage (Err (stop.Gap track)) e = absurd (cc)
+never_usage (Err (stop.CdgTooLong packs room)) e = absurd (cc)
+never_usage (Err (stop.TextTooLong packs)) e = absurd (cc)
+never_usage (Err (stop.LeadInShort need)) e = absurd (cc)
+never_usage (Err stop.NoMemory) e = absurd (cc)
+never_usage (Err stop.WriteFault) e = absurd (cc)
+
+-- at any other status than those of a whole stream and of a failed write nothing is touched
+pub untouched_at : {K : Type 0} (x y : K) (answer : Result (Unit {0}) PressStop) → IfErr answer (λ why. why ≢ stop.WriteFault → y ≡ x)
+    → press_status answer ≢ Done → press_status answer ≢ WriteFault → y ≡ x
+untouched_at x y (Ok done) same not_done no_fault = absurd (not_done refl)
+untouched_at x y (Err why) same not_done no_fault = same (λ e. no_fault (ap (λ (w : PressStop). press_status (Err w)) e))
+
+both_ok : {E : Type 0} (answer : Result (Unit {0}) E) (P Q : Type 0) → OnOk answer P → OnOk answer Q → OnOk answer (P × Q)
+both_ok (Ok done) P Q p q = (p, q)
+both_ok (Err why) P Q p q = tt
+
+nothing_at : {K : Type 0} (held : K → Bytes) (x y : K) (answer : Result (Unit {0}) PressStop) → IfErr answer (λ why. why ≢ stop.WriteFault → y ≡ x)
+    → IfErr answer (λ why. why ≢ stop.WriteFault → Appends (held x) (held y) [])
+nothing_at held x y (Ok done) same = tt
+nothing_at held x y (Err why) same = λ other. unchanged held x y (same other)
+
+pub pressed_for : {K : Type 0} (held : K → Bytes) (x y : K) (sheet : CueSheet) (file : List ℕ) (lead_in audio : ℕ) (answer : Result (Unit {0}) PressStop)
+    → OnOk answer ((bytes : List ℕ) × (packs : List (List ℕ)) × IsPressed sheet file lead_in audio bytes packs × Appends (held x) (held y) bytes)
+    → OnOk answer (IsPressable sheet file lead_in audio) → IfErr answer (IsPressStop sheet file lead_in audio)
+    → IfErr answer (λ why. why ≢ stop.WriteFault → y ≡ x) → (answer ≡ Err stop.WriteFault → PutsPressedPart sheet file lead_in audio (change held x y))
+    → IsPressedFor sheet file lead_in audio (change held x y) answer
+pressed_for held x y sheet file lead_in audio answer pressed accepted why same part = record {
+  done = both_ok answer _ _ accepted pressed;
+  why = why;
+  cut = part;
+  nothing = nothing_at held x y answer same;
+}

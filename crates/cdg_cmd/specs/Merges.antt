@@ -1,0 +1,36 @@
+-- What `merge` answers to two readings of a stream, and what it writes.
+use Rattle.std.specs.Prelude.{◌≡◌, ◌==◌, ℕ, List, length, Result, Ok, Err, IfSome, if◌then◌else◌}
+use Rattle.std.specs.Io.KnownBytes.{Consumes}
+use Rattle.rw_merge.specs.Merging.{EndsFirst, EndsSecond, IsAnswer, Merges}
+use Rattle.rw_merge.specs.declared.merging.Merged.{Merged}
+use Rattle.rw_merge.specs.declared.merging.MergeStop.{MergeStop}
+use Rattle.rw_merge.specs.declared.merging.MergeStop.TheVariants as merge
+use Rattle.cdg_cmd.specs.Call.{Bytes, Call}
+use Rattle.cdg_cmd.specs.declared.status.Which.TheVariants.{First, Second}
+use Rattle.cdg_cmd.specs.declared.status.Refusal.TheVariants.{Torn, TooLong, SecondTorn, Unequal}
+use Rattle.cdg_cmd.specs.declared.status.Status.{Status}
+use Rattle.cdg_cmd.specs.declared.status.Status.TheVariants.{Done, Damaged, Refused, ReadFault, WriteFault}
+
+-- the status of what a merger answers
+abbrev pub merge_status : Result Merged MergeStop → Status
+merge_status (Ok merged) = if merged.bad == 0 then Done else Damaged merged.bad
+merge_status (Err merge.FirstFault) = ReadFault First
+merge_status (Err merge.SecondFault) = ReadFault Second
+merge_status (Err merge.WriteFault) = WriteFault
+merge_status (Err merge.TooLong) = Refused TooLong
+merge_status (Err (merge.Torn block)) = Refused (Torn block)
+merge_status (Err (merge.SecondTorn block)) = Refused (SecondTorn block)
+merge_status (Err (merge.Unequal blocks)) = Refused (Unequal blocks)
+
+-- Two readings were merged: the answer, the bytes that were taken of each, what was put for them, and the exact answer where no fault is told.
+pub record MergesWith (lead_in : ℕ) (call : Call Bytes) (status : Status) : Type 0 where
+  pub answer : Result Merged MergeStop
+  pub status_is : status ≡ merge_status answer
+  pub taken : List ℕ
+  pub other_taken : List ℕ
+  pub first : Consumes call.first.before call.first.after taken
+  pub second : Consumes call.second.before call.second.after other_taken
+  pub put : Merges lead_in call.out.before call.out.after answer taken other_taken
+  pub first_end : EndsFirst answer call.first.after
+  pub second_end : EndsSecond answer call.second.after
+  pub exactly : IfSome call.first.before (λ all. IfSome call.second.before (λ other. IsAnswer lead_in answer (length all) (length other)))

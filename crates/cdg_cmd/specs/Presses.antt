@@ -1,0 +1,70 @@
+-- What `press` answers to a cue sheet and a file of packs, and what it writes.
+use Rattle.std.specs.Prelude.{◌≡◌, ◌≢◌, ℕ, ◌<◌, ◌≤◌, ⊤, List, [], length, Result, Ok, Err, IfErr, IfSome, OnOk}
+use Rattle.std.specs.Io.KnownBytes.{Appends, IsAtEnd}
+use Rattle.cue_sheet.specs.CueSheet.{CueSheet}
+use Rattle.toc_model.specs.Places.{layout_of}
+use Rattle.stream_writer.specs.Given.{PutsStreamPart}
+use Rattle.stream_writer.specs.Needs.{text_packs}
+use Rattle.cdg_press.specs.Pressed.{IsPackAfter, IsPressed, file_begin}
+use Rattle.cdg_press.specs.Refusals.{IsPressable, IsPressStop}
+use Rattle.cdg_press.specs.declared.stops.PressStop.{PressStop}
+use Rattle.cdg_press.specs.declared.stops.PressStop.TheVariants as stop
+use Rattle.cdg_cmd.specs.Authors.{IsSheetStop, ReadsSheet, most_text}
+use Rattle.cdg_cmd.specs.Call.{Bytes, Call, Change}
+use Rattle.cdg_cmd.specs.declared.status.Which.TheVariants.{Second}
+use Rattle.cdg_cmd.specs.declared.status.Refusal.TheVariants.{TooLong, LengthShort, DiscTooLong, LeadInShort, TextTooLong, PackTorn, Gap, CdgTooLong}
+use Rattle.cdg_cmd.specs.declared.status.Status.{Status}
+use Rattle.cdg_cmd.specs.declared.status.Status.TheVariants.{Done, Refused, ReadFault, WriteFault, NoMemory}
+
+-- an input was read to its end, and this file, which is not too long, is what it held
+pub record ReadsFile (input : Change Bytes) (file : List ℕ) : Type 0 where
+  pub end : IsAtEnd input.after
+  pub within : length file ≤ most_text
+  pub held : IfSome input.before (λ bytes. file ≡ bytes)
+
+-- why the second input gives no file
+abbrev pub IsFileStop : Bytes → Status → Type 0
+IsFileStop left (ReadFault Second) = ⊤
+IsFileStop left (Refused TooLong) = IfSome left (λ file. most_text < length file)
+IsFileStop left NoMemory = ⊤
+IsFileStop left status = ⊥
+
+-- the status of the answer to a sheet and a file
+abbrev pub press_status : Result (Unit {0}) PressStop → Status
+press_status (Ok done) = Done
+press_status (Err (stop.PackTorn pack)) = Refused (PackTorn pack)
+press_status (Err (stop.LengthShort need)) = Refused (LengthShort need)
+press_status (Err (stop.DiscTooLong blocks)) = Refused (DiscTooLong blocks)
+press_status (Err (stop.Gap track)) = Refused (Gap track)
+press_status (Err (stop.CdgTooLong packs room)) = Refused (CdgTooLong packs room)
+press_status (Err (stop.TextTooLong packs)) = Refused (TextTooLong packs)
+press_status (Err (stop.LeadInShort need)) = Refused (LeadInShort need)
+press_status (Err stop.WriteFault) = WriteFault
+press_status (Err stop.NoMemory) = NoMemory
+
+-- a pressed stream was put
+abbrev pub PutsPressed : CueSheet → List ℕ → ℕ → ℕ → Change Bytes → Type 0
+PutsPressed sheet file lead_in audio out =
+    (bytes : List ℕ) × (packs : List (List ℕ)) × IsPressed sheet file lead_in audio bytes packs × Appends out.before out.after bytes
+
+-- the lead-in and blocks of the program were put, the last of these maybe in part
+abbrev pub PutsPressedPart : CueSheet → List ℕ → ℕ → ℕ → Change Bytes → Type 0
+PutsPressedPart sheet file lead_in audio out =
+    (n : ℕ) × (packs : List (List ℕ)) × PutsStreamPart (layout_of sheet audio) (IsPackAfter file_begin file) (text_packs sheet) lead_in out.before out.after n packs
+
+-- what is put for a sheet and a file, and why it is this answer
+pub record IsPressedFor (sheet : CueSheet) (file : List ℕ) (lead_in audio : ℕ) (out : Change Bytes) (answer : Result (Unit {0}) PressStop) : Type 0 where
+  pub done : OnOk answer (IsPressable sheet file lead_in audio × PutsPressed sheet file lead_in audio out)
+  pub why : IfErr answer (IsPressStop sheet file lead_in audio)
+  -- a part where a write failed, and else nothing
+  pub cut : answer ≡ Err stop.WriteFault → PutsPressedPart sheet file lead_in audio out
+  pub nothing : IfErr answer (λ why. why ≢ stop.WriteFault → Appends out.before out.after [])
+
+-- `press` ended with this status: at the sheet, at the file, or with the answer to both.
+pub data PressesWith (lead_in audio : ℕ) (call : Call Bytes) (status : Status) : Type 0 where
+  RefusesSheet : IsSheetStop call.first.before status → Appends call.out.before call.out.after [] → PressesWith lead_in audio call status
+  RefusesFile : (sheet : CueSheet) → ReadsSheet call.first sheet → IsFileStop call.second.before status
+      → Appends call.out.before call.out.after [] → PressesWith lead_in audio call status
+  Presses : (sheet : CueSheet) (file : List ℕ) (answer : Result (Unit {0}) PressStop) → ReadsSheet call.first sheet
+      → ReadsFile call.second file → status ≡ press_status answer → IsPressedFor sheet file lead_in audio call.out answer
+      → PressesWith lead_in audio call status

@@ -1,0 +1,27 @@
+-- What `thin` answers to a file of packs, and what it writes.
+use Rattle.std.specs.Prelude.{ℕ, List, length, Result, Ok, Err, IfSome}
+use Rattle.cdg_io.specs.Pump.{IsUnlessFault, answer_of}
+use Rattle.cdg_io.specs.declared.pumping.Pumped.{Pumped}
+use Rattle.cdg_io.specs.declared.pumping.PumpStop.{PumpStop}
+use Rattle.cdg_io.specs.declared.pumping.PumpStop.TheVariants as pump
+use Rattle.cdg_thin.specs.Calls.{Thins}
+use Rattle.cdg_cmd.specs.Call.{Bytes, Call}
+use Rattle.cdg_cmd.specs.Endings.{EndsWith}
+use Rattle.cdg_cmd.specs.declared.status.Which.TheVariants.{First}
+use Rattle.cdg_cmd.specs.declared.status.Refusal.TheVariants.{PackTorn, TooLong}
+use Rattle.cdg_cmd.specs.declared.status.Status.{Status}
+use Rattle.cdg_cmd.specs.declared.status.Status.TheVariants.{Done, Refused, ReadFault, WriteFault}
+
+-- the status of what a thinner answers
+abbrev pub thin_status : Result Pumped PumpStop → Status
+thin_status (Ok pumped) = Done
+thin_status (Err pump.ReadFault) = ReadFault First
+thin_status (Err pump.WriteFault) = WriteFault
+thin_status (Err (pump.Torn unit)) = Refused (PackTorn unit)
+thin_status (Err pump.TooLong) = Refused TooLong
+
+-- the thin form of a file was written as its packs were read
+abbrev pub ThinsWith : Call Bytes → Status → Type 0
+ThinsWith call status =
+    EndsWith thin_status (Thins call.first.before call.first.after call.out.before call.out.after)
+    (λ answer. IfSome call.first.before (λ all. IsUnlessFault answer (answer_of 24 4000000 (length all)))) status

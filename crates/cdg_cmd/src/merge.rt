@@ -1,0 +1,55 @@
+// The command that merges two readings of a stream.
+ghost use Rattle.std.specs.Prelude.{◌≡◌, ◌≢◌, ◌≤◌};
+ghost use Rattle.cdg_cmd.specs.Answer.{Does};
+ghost use Rattle.cdg_cmd.specs.Call.{call, change};
+ghost use Rattle.cdg_cmd.specs.Ends.{OtherEnds, ReadingEnds};
+ghost use Rattle.cdg_cmd.specs.Faults.{TellsFaults};
+ghost use Rattle.cdg_cmd.specs.Merges.{merge_status};
+
+use crate::{Command, Refusal, Status, Which};
+use cdg_io::{Sink, Source};
+use rw_merge::{MergeStop, Merged, Merger};
+use std::alloc::Global;
+
+// The status of what a merger answers.
+fn merge_status(answer: Result<Merged, MergeStop>) -> Status
+    ensures { result ≡ merge_status answer }
+{
+    match answer {
+        Ok(merged) if merged.bad == 0 => Status::Done,
+        Ok(merged) => Status::Damaged(merged.bad),
+        Err(MergeStop::FirstFault) => Status::ReadFault(Which::First),
+        Err(MergeStop::SecondFault) => Status::ReadFault(Which::Second),
+        Err(MergeStop::WriteFault) => Status::WriteFault,
+        Err(MergeStop::TooLong) => Status::Refused(Refusal::TooLong),
+        Err(MergeStop::Torn { block }) => Status::Refused(Refusal::Torn { block }),
+        Err(MergeStop::SecondTorn { block }) => Status::Refused(Refusal::SecondTorn { block }),
+        Err(MergeStop::Unequal { blocks }) => Status::Refused(Refusal::Unequal { blocks }),
+    }
+}
+
+/// Writes the packs on which two readings of a stream agree, as their blocks are read.
+#[tactic(auto, using(crate::proofs::MergeTold::told, crate::proofs::MergeTold::told_none, crate::proofs::MergeTold::never_memory, crate::proofs::MergeTold::never_usage, crate::proofs::MergeTold::first_ended, crate::proofs::MergeTold::second_ended))]
+pub(crate) fn run_merge<S: Source, T: Source, K: Sink>(
+    alloc: Global,
+    lead_in: u32,
+    first: &mut S,
+    second: &mut T,
+    out: &mut K,
+) -> Status
+    requires { lead_in ≤ 450000 }
+    ensures does { result ≢ Status.NoMemory → Does (Command.Merge lead_in)
+        (call S.left T.left K.held (first.old, second.old, out.old) (first.new, second.new, out.new)) result }
+    ensures no_memory { result ≡ Status.NoMemory
+        → (first.new ≡ first.old) × (second.new ≡ second.old) × (out.new ≡ out.old) }
+    ensures never { result ≢ Status.Usage }
+    ensures faults { TellsFaults (call S.faults T.faults K.faults (first.old, second.old, out.old)
+        (first.new, second.new, out.new)) result }
+    ensures first_ended { ReadingEnds (change S.ends first.old first.new) result }
+    ensures second_ended { OtherEnds (change T.ends second.old second.new) result }
+{
+    match Merger::start(alloc) {
+        Ok(mut merger) => merge_status(merger.run(lead_in, first, second, out)),
+        Err(_) => Status::NoMemory,
+    }
+}

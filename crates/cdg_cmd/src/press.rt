@@ -1,0 +1,90 @@
+// The command that writes the stream of a cue sheet and a file of packs.
+ghost use Rattle.std.specs.Prelude.{◌≡◌, ◌≢◌, ◌≤◌, ◌<◌, ◌⊎◌, IfOk, IfErr, OnOk, Err};
+ghost use Rattle.cdg_io.specs.Causes.{Rose};
+ghost use Rattle.cdg_cmd.specs.Call.{call, change};
+ghost use Rattle.cdg_cmd.specs.Ends.{ScriptEnds, SheetEnds};
+ghost use Rattle.cdg_cmd.specs.Faults.{TellsFaults};
+ghost use Rattle.cdg_cmd.specs.Keeps.{ReadsSecond};
+ghost use Rattle.cdg_cmd.specs.Presses.{IsFileStop, PressesWith, ReadsFile, press_status};
+
+use crate::author::read_sheet;
+use crate::{Command, Refusal, Status, Which};
+use cdg_io::{ReadStop, Sink, Source, read_whole};
+use cdg_press::{PressStop, press_stream};
+use std::alloc::Global;
+
+const MOST_FILE: usize = 67_108_864;
+
+// The file of the second input, or the status that says why there is none.
+fn read_file<S: Source>(alloc: Global, second: &mut S) -> Result<Vec<u8>, Status>
+    ensures ok { IfOk result (λ v. ReadsFile (change S.left second.old second.new) v.items) }
+    ensures err { IfErr result (IsFileStop (S.left second.old)) }
+    ensures later { S.faults second.old ≤ S.faults second.new }
+    ensures fault { result ≡ Err (Status.ReadFault Which.Second)
+        → Rose (S.faults second.old) (S.faults second.new) }
+    ensures no_fault { result ≢ Err (Status.ReadFault Which.Second)
+        → S.faults second.new ≡ S.faults second.old }
+    ensures told { OnOk result (Rose (S.ends second.old) (S.ends second.new)) }
+    ensures once { IfErr result (ScriptEnds (change S.ends second.old second.new)) }
+{
+    match read_whole(alloc, second, MOST_FILE) {
+        Ok(file) => Ok(file),
+        Err(ReadStop::Failed) => Err(Status::ReadFault(Which::Second)),
+        Err(ReadStop::TooLong) => Err(Status::Refused(Refusal::TooLong)),
+        Err(ReadStop::NoMemory) => Err(Status::NoMemory),
+    }
+}
+
+// The status of the answer to a sheet and a file.
+fn press_status(answer: Result<(), PressStop>) -> Status
+    ensures { result ≡ press_status answer }
+{
+    match answer {
+        Ok(()) => Status::Done,
+        Err(PressStop::PackTorn { pack }) => Status::Refused(Refusal::PackTorn { pack }),
+        Err(PressStop::LengthShort { need }) => Status::Refused(Refusal::LengthShort { need }),
+        Err(PressStop::DiscTooLong { blocks }) => Status::Refused(Refusal::DiscTooLong { blocks }),
+        Err(PressStop::Gap { track }) => Status::Refused(Refusal::Gap { track }),
+        Err(PressStop::CdgTooLong { packs, room }) => {
+            Status::Refused(Refusal::CdgTooLong { packs, room })
+        }
+        Err(PressStop::TextTooLong { packs }) => Status::Refused(Refusal::TextTooLong { packs }),
+        Err(PressStop::LeadInShort { need }) => Status::Refused(Refusal::LeadInShort { need }),
+        Err(PressStop::WriteFault) => Status::WriteFault,
+        Err(PressStop::NoMemory) => Status::NoMemory,
+    }
+}
+
+/// Writes the stream of a cue sheet, which is the first input, and a file of packs, which is the second.
+#[tactic(auto, using(crate::proofs::AuthorTold::told_at_sheet, crate::proofs::PressTold::told_at_file, crate::proofs::PressTold::sheet_read, crate::proofs::PressTold::file_read, crate::proofs::AuthorTold::sheet_stopped, crate::proofs::PressTold::file_stopped))]
+pub(crate) fn run_press<S: Source, T: Source, K: Sink>(
+    alloc: Global,
+    lead_in: u32,
+    length: u32,
+    first: &mut S,
+    second: &mut T,
+    out: &mut K,
+) -> Status
+    requires lead_in { lead_in ≤ 450000 }
+    requires length { length < 450000 }
+    ensures does { PressesWith lead_in length (call S.left T.left K.held (first.old, second.old, out.old)
+        (first.new, second.new, out.new)) result }
+    ensures never { result ≢ Status.Usage }
+    ensures untouched { result ≢ Status.Done → result ≢ Status.WriteFault → out.new ≡ out.old }
+    ensures second { (second.new ≡ second.old)
+        ⊎ ReadsSecond (Command.Press lead_in length) (change S.left first.old first.new) }
+    ensures faults { TellsFaults (call S.faults T.faults K.faults (first.old, second.old, out.old)
+        (first.new, second.new, out.new)) result }
+    ensures first_ended { SheetEnds (change S.ends first.old first.new) result }
+    ensures second_ended { ScriptEnds (change T.ends second.old second.new) result }
+{
+    let sheet = match read_sheet(alloc, first) {
+        Ok(sheet) => sheet,
+        Err(status) => return status,
+    };
+    let file = match read_file(alloc, second) {
+        Ok(file) => file,
+        Err(status) => return status,
+    };
+    press_status(press_stream(alloc, &sheet, &file, lead_in, length, out))
+}

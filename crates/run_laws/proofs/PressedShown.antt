@@ -1,0 +1,62 @@
+-- A screen of a pressed stream shows its file.
+use Rattle.std.proofs.Common.{◌≡◌, ◌≢◌, ◌==◌, ℕ, ◌+◌, ◌-◌, ◌*◌, ◌/◌, ◌≤◌, List, length, drop, length-drop, ap, sym, subst, ◌∙◌, arith, Some, None, IfSome, Result, Ok, Err, if◌then◌else◌}
+use Rattle.std.proofs.Math.Nat.{div-mul-le_self}
+use Rattle.std.proofs.lemmas.List.{length-map}
+use Rattle.cdg_io.specs.Pump.{units_of}
+use Rattle.raw_subcode.specs.Channels.{unit_size, block_of, blocks_of, program_symbols}
+use Rattle.raw_subcode.specs.declared.form.Form.{Form}
+use Rattle.cue_sheet.specs.CueSheet.{CueSheet}
+use Rattle.toc_model.specs.Places.{program_blocks}
+use Rattle.pressed_streams.specs.Damaged.{IsDamagedPress, IsFileText}
+use Rattle.subcode_player.specs.Shown.{IsScreenAt, IsShownBy, Shows}
+use Rattle.subcode_player.specs.declared.player.Played.{Played}
+use Rattle.subcode_player.specs.declared.player.PlayStop.{PlayStop}
+use Rattle.subcode_player.specs.declared.player.PlayStop.TheVariants as play
+use Rattle.subcode_player.proofs.Slots.{length-all_symbols, sized_drop}
+use Rattle.subcode_player.proofs.Conversion.{length-units_of, units_sized, blocks_sized}
+use Rattle.subcode_player.proofs.Restoring.{taken_all}
+use Rattle.cdg_cmd.specs.Answer.{Does, play_status}
+use Rattle.cdg_cmd.specs.Call.{Bytes, Change}
+use Rattle.cdg_cmd.specs.declared.command.Command.TheVariants.{Screen}
+use Rattle.cdg_cmd.specs.declared.status.Status.{Status}
+use Rattle.cdg_cmd.specs.declared.status.Status.TheVariants.{Done, Damaged, NoMemory}
+use Rattle.cdg_cmd.proofs.WholeInputs.{both, unless_memory}
+use Rattle.run_laws.specs.Pressed.{PutsFilePicture}
+
+-- how many program symbols some bytes have
+program_length : (form : Form) (bytes : List ℕ) (lead_in : ℕ) → length (program_symbols form bytes lead_in) ≡ 96 * (length bytes / unit_size form - lead_in)
+program_length form bytes lead_in =
+    let units : List (List ℕ) = units_of (unit_size form) (length bytes / unit_size form) bytes in
+    let sized = blocks_sized form (units_of (unit_size form) (length bytes / unit_size form) bytes) (units_sized (unit_size form) (length bytes / unit_size form) bytes (div-mul-le_self (length bytes) (unit_size form))) in
+    length-all_symbols (drop lead_in (blocks_of form bytes)) (sized_drop 96 lead_in (blocks_of form bytes) sized)
+    ∙ ap (λ (m : ℕ). 96 * m) (length-drop lead_in (blocks_of form bytes) ∙ ap (λ (m : ℕ). m - lead_in) (length-map (units_of (unit_size form) (length bytes / unit_size form) bytes) (block_of form) ∙ length-units_of (unit_size form) (length bytes / unit_size form) bytes))
+
+module _ (form : Form) (sheet : CueSheet) (file : List ℕ) (lead_in audio time : ℕ) (packs : List (List ℕ)) (in_audio : time ≤ audio) where
+  -- the program is longer than that time
+  long_enough : (all : List ℕ) → IsDamagedPress form sheet file lead_in audio all packs → 150 + time ≤ length all / unit_size form - lead_in
+  long_enough all press = omega (arith, program_length form all lead_in, press.damaged.size, press.pressed.carries.size, in_audio)
+
+  module _ (texts : (others text : List ℕ) (bad : ℕ) → IsDamagedPress form sheet file lead_in audio others packs → IsScreenAt form lead_in (150 + time) others text bad → IsFileText file (4 * time) text)
+      (none : (others text : List ℕ) (bad : ℕ) → IsDamagedPress form sheet file lead_in audio others packs → IsScreenAt form lead_in (150 + time) others text bad → bad ≡ 0) where
+    file_put : (all taken : List ℕ) (left' : Bytes) (out : Change Bytes) (answer : Result Played PlayStop)
+        → Shows (IsScreenAt form lead_in (150 + time)) form lead_in (150 + time) (Some all) left' out.before out.after answer taken
+        → IsShownBy answer lead_in (150 + time) (unit_size form) (length all) → IsDamagedPress form sheet file lead_in audio all packs
+        → PutsFilePicture file (4 * time) out (play_status answer)
+    file_put all taken left' out (Ok played) shows answer press =
+        let (end, (text, is_played, put)) = shows.plays.done in
+        let same : taken ≡ all = taken_all all left' taken shows.plays.taken_from end in
+        let screen : IsScreenAt form lead_in (150 + time) all text played.bad = subst (λ (bytes : List ℕ). IsScreenAt form lead_in (150 + time) bytes text played.bad) same is_played.written in
+        subst (λ (n : ℕ). PutsFilePicture file (4 * time) out (if n == 0 then Done else Damaged n)) (sym (none all text played.bad press screen)) (text, texts all text played.bad press screen, put)
+    file_put all taken left' out (Err play.ReadFault) shows answer press = tt
+    file_put all taken left' out (Err play.WriteFault) shows answer press = tt
+    file_put all taken left' out (Err (play.Torn block)) shows answer press = absurd (answer.1 press.whole)
+    file_put all taken left' out (Err play.TooLong) shows answer press = absurd (omega (arith, answer, press.few))
+    file_put all taken left' out (Err (play.PastEnd blocks)) shows answer press = absurd (omega (arith, answer.2, answer.3, long_enough all press))
+
+    pub file_shown : (left left' more more' : Bytes) (out : Change Bytes) (status : Status) → (status ≢ NoMemory → Does (Screen lead_in form (150 + time)) (both left left' more more' out) status)
+        → IfSome left (λ all. IsDamagedPress form sheet file lead_in audio all packs → PutsFilePicture file (4 * time) out status)
+    file_shown None left' more more' out status does = tt
+    file_shown (Some all) left' more more' out status does = λ press.
+        unless_memory _ status (λ found.
+        let d = does found in
+        subst (λ (s : Status). PutsFilePicture file (4 * time) out s) (sym d.status_is) (file_put all d.taken left' out d.answer d.did d.exactly press))
