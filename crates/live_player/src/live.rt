@@ -1,0 +1,91 @@
+// A player that is fed blocks as they come.
+ghost use Rattle.std.specs.Prelude.{◌≡◌, ◌<◌, ◌≤◌, ◌-◌, ◌++◌, ◌∷◌, [], List, ℕ, length, IfOk};
+ghost use Rattle.cdg_screen.specs.Picture.{Standing, screen_pixel, standing_of};
+ghost use Rattle.raw_subcode.specs.declared.form.Form.{Form};
+ghost use Rattle.live_player.specs.Lives.{latest, HasPlayed, IsLiveView, IsLiveViewAt};
+
+use crate::looking;
+use cdg_io::{Stage, Then};
+use rw_interleave::Window;
+use std::alloc::{AllocError, Global};
+use subcode_player::{BlockWords, Drawing, Form, Picture};
+
+/// The latest moment of a stream, in blocks.
+const LATEST: u32 = 449_999;
+
+/// Plays a stream as its blocks come. All its memory is taken at the start.
+#[derive(Drop)]
+pub struct LivePlayer {
+    pub stages: Then<BlockWords, Drawing>,
+}
+
+impl LivePlayer {
+    /// A player of a raw stream with no lead-in, before its first block.
+    pub fn start(alloc: Global) -> Result<LivePlayer, AllocError>
+        ensures { IfOk result (λ player. HasPlayed Form.Raw 0 [] player) }
+    {
+        let drawing = Drawing {
+            picture: Picture::start(alloc)?,
+            left: 4 * LATEST - 7,
+            bad: 0,
+        };
+        let words = BlockWords {
+            form: Form::Raw,
+            lead_in: 0,
+            gather: Window::new(),
+        };
+        Ok(LivePlayer {
+            stages: Then::new(words, drawing),
+        })
+    }
+
+    /// Begins anew, with a stream of this form.
+    pub fn begin(&mut self, lead_in: u32, form: Form)
+        ensures { HasPlayed form lead_in [] self.new }
+    {
+        let words = &mut self.stages.first;
+        words.form = form;
+        words.lead_in = lead_in;
+        words.gather.reset();
+        let drawing = &mut self.stages.second;
+        drawing.left = 4 * LATEST - 7;
+        drawing.bad = 0;
+        drawing.picture.reset();
+    }
+
+    /// Takes the next block.
+    pub fn feed(&mut self, block: &[u8; 96])
+        ensures { (form : Form) (lead_in : ℕ) (blocks : List (List ℕ)) → HasPlayed form lead_in blocks self.old
+            → HasPlayed form lead_in (blocks ++ block.now ∷ []) self.new }
+    {
+        self.stages.feed(block);
+    }
+
+    /// A law: what stands is what the blocks since the start show.
+    pub fn shows_its_blocks(&self)
+        ensures last { (form : Form) (lead_in : ℕ) (blocks : List (List ℕ)) → HasPlayed form lead_in blocks self.now
+            → length blocks ≤ 1000000 → IsLiveView form lead_in blocks (standing_of self.now.stages.second.picture) }
+        // Of a raw stream it is what stands at the moment that the program has come to.
+        ensures so_far { (lead_in : ℕ) (blocks : List (List ℕ)) → HasPlayed Form.Raw lead_in blocks self.now
+            → length blocks ≤ 1000000 → length blocks - lead_in ≤ latest
+            → IsLiveViewAt Form.Raw lead_in (length blocks - lead_in) blocks (standing_of self.now.stages.second.picture) }
+    {}
+
+    /// The pixel of the screen at a place: `x` below 300 from the left, `y` below 216 from the top.
+    pub fn pixel(&self, x: u32, y: u32) -> u8
+        requires width { x < 300 }
+        requires height { y < 216 }
+        ensures pixel { result ≡ screen_pixel (standing_of self.now.stages.second.picture) x y }
+        ensures range { result < 16 }
+    {
+        looking::pixel(&self.stages.second.picture, x, y)
+    }
+
+    /// Colour `k` of the table, as 0xRGB. `k` is below 16.
+    pub fn colour(&self, k: u8) -> u16
+        requires { k < 16 }
+        ensures { result ≡ (standing_of self.now.stages.second.picture).colour k }
+    {
+        looking::colour(&self.stages.second.picture, k)
+    }
+}
