@@ -1,5 +1,5 @@
 // A player that is fed blocks as they come.
-ghost use Rattle.std.specs.Prelude.{◌≡◌, ◌<◌, ◌≤◌, ◌-◌, ◌++◌, ◌∷◌, [], List, ℕ, length, IfOk};
+ghost use Rattle.std.specs.Prelude.{◌≡◌, ◌<◌, ◌≤◌, ◌-◌, ◌/◌, ◌%◌, ◌++◌, ◌∷◌, [], List, ℕ, length, slice_index, IfOk};
 ghost use Rattle.cdg_screen.specs.Picture.{Standing, screen_pixel, standing_of};
 ghost use Rattle.raw_subcode.specs.declared.form.Form.{Form};
 ghost use Rattle.live_player.specs.Lives.{latest, HasPlayed, IsLiveView, IsLiveViewAt};
@@ -87,5 +87,37 @@ impl LivePlayer {
         ensures { result ≡ (standing_of self.now.stages.second.picture).colour k }
     {
         looking::colour(&self.stages.second.picture, k)
+    }
+
+    /// Writes the numbers of the colours of the screen's pixels, row by row: that at (x, y) is number 300 y + x.
+    pub fn screen(&self, pixels: &mut [u8; 64_800])
+        ensures { (n : ℕ) → n < 64800
+            → slice_index pixels.new n ≡ screen_pixel (standing_of self.now.stages.second.picture) (n % 300) (n / 300) }
+    {
+        looking::screen(&self.stages.second.picture, pixels);
+    }
+
+    /// Writes the colours of the table, each as 0xRGB.
+    pub fn colours(&self, table: &mut [u16; 16])
+        ensures { (k : ℕ) → k < 16 → slice_index table.new k ≡ (standing_of self.now.stages.second.picture).colour k }
+    {
+        looking::colours(&self.stages.second.picture, table);
+    }
+
+    /// The number of the border's colour.
+    pub fn border(&self) -> u8
+        ensures border { result ≡ (standing_of self.now.stages.second.picture).border }
+        ensures range { result < 16 }
+    {
+        looking::border(&self.stages.second.picture)
+    }
+
+    /// How many pixels further right and further down in the memory the screen begins.
+    pub fn offsets(&self) -> (u8, u8)
+        ensures across { result.0 ≡ (standing_of self.now.stages.second.picture).h }
+        ensures down { result.1 ≡ (standing_of self.now.stages.second.picture).v }
+        ensures ranges { (result.0 ≤ 5) × (result.1 ≤ 11) }
+    {
+        looking::offsets(&self.stages.second.picture)
     }
 }
