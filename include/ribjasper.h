@@ -28,6 +28,10 @@ extern "C" {
 #define RIBJASPER_PIXELS 64800 /* all of them, row by row from the top, each row from the left */
 #define RIBJASPER_COLOURS 16   /* colours of the table */
 
+/* The forms of a stream: raw blocks, or packs of 24 bytes as in a .cdg file, four a block of 96. */
+#define RIBJASPER_RAW 0
+#define RIBJASPER_PACKS 1
+
 /* A player. Begin with RIBJASPER_CLOSED; never copy an open one, nor change it but by these calls. */
 typedef struct ribjasper_player {
     struct {
@@ -44,8 +48,9 @@ int32_t ribjasper_player_open(ribjasper_player *player);
 /* Closes a player and frees what it holds; a closed one stays closed. Each open player must be closed once at last. */
 void ribjasper_player_close(ribjasper_player *player);
 
-/* Makes an open player forget all blocks; the first `lead_in` blocks that come from now on are passed over. */
-int32_t ribjasper_player_begin(ribjasper_player *player, uint32_t lead_in);
+/* Makes an open player forget all blocks. Those that come from now on have this form, and the first `lead_in` of them
+   are passed over. */
+int32_t ribjasper_player_begin(ribjasper_player *player, uint32_t form, uint32_t lead_in);
 
 /* Feeds an open player the next block of the stream, 96 bytes. The clauses hold for 1,000,000 blocks since begin. */
 int32_t ribjasper_player_feed(ribjasper_player *player, const uint8_t block[RIBJASPER_BLOCK]);

@@ -1,8 +1,7 @@
 // A player that C feeds block by block.
-ghost use Rattle.std.specs.Prelude.{◌≡◌, ◌<◌, ◌≤◌, ◌⊎◌, ◌&&◌, nat_lt, if◌then◌else◌, ◌++◌, ◌∷◌, [], List, ℕ, pos, negsuc, length, true, false};
+ghost use Rattle.std.specs.Prelude.{◌≡◌, ◌<◌, ◌⊎◌, ◌&&◌, nat_lt, if◌then◌else◌, ◌++◌, ◌∷◌, [], List, ℕ, pos, negsuc, length, true, false};
 ghost use Rattle.raw_subcode.specs.declared.form.Form.{Form};
-ghost use Rattle.live_player.specs.Lives.{HasPlayed};
-ghost use Rattle.ribjasper_c.specs.Handles.{IsPlaying, ShowsPixel, ShowsColour};
+ghost use Rattle.ribjasper_c.specs.Handles.{form_of, IsPlaying};
 
 use crate::Handle;
 use std::alloc::Global;
@@ -20,7 +19,7 @@ pub struct Playing {
 }
 
 impl Playing {
-    fn closed(alloc: Global) -> Playing
+    pub(crate) fn closed(alloc: Global) -> Playing
         ensures closed { result.is_open ≡ false }
         ensures none { result.handle.players ≡ [] }
     {
@@ -30,7 +29,7 @@ impl Playing {
         }
     }
 
-    fn of(player: Box<LivePlayer>) -> Playing
+    pub(crate) fn of(player: Box<LivePlayer>) -> Playing
         ensures opened { result.is_open ≡ true }
         ensures held { result.handle.players ≡ player.value ∷ [] }
     {
@@ -40,7 +39,7 @@ impl Playing {
         }
     }
 
-    fn into_box(self) -> Box<LivePlayer>
+    pub(crate) fn into_box(self) -> Box<LivePlayer>
         requires { length self.handle.players ≡ 1 }
         ensures { self.handle.players ≡ result.value ∷ [] }
     {
@@ -90,6 +89,7 @@ pub extern "C" fn ribjasper_player_feed(
         → IsPlaying form lead_in (blocks ++ block.now ∷ []) player.new.handle.players }
     ensures answer { result ≡ (if player.old.is_open then pos 0 else negsuc 0) }
     ensures stays { player.new.is_open ≡ player.old.is_open }
+    ensures refused { result ≡ negsuc 0 → player.new.handle.players ≡ player.old.handle.players }
 {
     if !player.is_open {
         return -1;
@@ -100,84 +100,31 @@ pub extern "C" fn ribjasper_player_feed(
     0
 }
 
-/// Begins anew, with a raw stream of so many lead-in blocks. 0, or -1 where the player is closed.
+/// Begins anew, with so many lead-in blocks. The form is 0 for a raw stream, or 1 for one of packs, four a block.
+/// 0, or -1 where the player is closed or the form is another number.
 #[unsafe(no_mangle)]
-pub extern "C" fn ribjasper_player_begin(alloc: Global, player: &mut Playing, lead_in: u32) -> i32
-    ensures begun { result ≡ pos 0 → IsPlaying Form.Raw lead_in [] player.new.handle.players }
-    ensures answer { result ≡ (if player.old.is_open then pos 0 else negsuc 0) }
+pub extern "C" fn ribjasper_player_begin(
+    alloc: Global,
+    player: &mut Playing,
+    form: u32,
+    lead_in: u32,
+) -> i32
+    ensures begun { result ≡ pos 0 → IsPlaying (form_of form) lead_in [] player.new.handle.players }
+    ensures answer { result ≡ (if player.old.is_open && nat_lt form 2 then pos 0 else negsuc 0) }
     ensures stays { player.new.is_open ≡ player.old.is_open }
+    ensures refused { result ≡ negsuc 0 → player.new.handle.players ≡ player.old.handle.players }
 {
-    if !player.is_open {
+    if !player.is_open || form >= 2 {
         return -1;
     }
     let mut live = mem::replace(player, Playing::closed(alloc)).into_box();
-    live.begin(lead_in, Form::Raw);
+    live.begin(lead_in, form_of(form));
     *player = Playing::of(live);
     0
 }
 
-/// Writes the number of the colour that the screen shows at a place. 0, or -1 where the player is closed or the place is not on the screen.
-#[unsafe(no_mangle)]
-pub extern "C" fn ribjasper_player_pixel(
-    alloc: Global,
-    player: &mut Playing,
-    x: u32,
-    y: u32,
-    pixel: &mut u8,
-) -> i32
-    ensures shows { result ≡ pos 0 → (form : Form) (lead_in : ℕ) (blocks : List (List ℕ))
-        → IsPlaying form lead_in blocks player.old.handle.players → length blocks ≤ 1000000 → ShowsPixel form lead_in blocks x y pixel.new }
-    ensures answer { result ≡ (if player.old.is_open && nat_lt x 300 && nat_lt y 216 then pos 0 else negsuc 0) }
-    ensures stays { player.new.is_open ≡ player.old.is_open }
-    ensures same { player.new.handle.players ≡ player.old.handle.players }
+fn form_of(form: u32) -> Form
+    ensures { result ≡ form_of form }
 {
-    if !player.is_open || x >= 300 || y >= 216 {
-        return -1;
-    }
-    let live = mem::replace(player, Playing::closed(alloc)).into_box();
-    *pixel = shown_pixel(&live, x, y);
-    *player = Playing::of(live);
-    0
-}
-
-fn shown_pixel(live: &LivePlayer, x: u32, y: u32) -> u8
-    requires width { x < 300 }
-    requires height { y < 216 }
-    ensures { (form : Form) (lead_in : ℕ) (blocks : List (List ℕ)) → HasPlayed form lead_in blocks live.now
-        → length blocks ≤ 1000000 → ShowsPixel form lead_in blocks x y result }
-{
-    live.shows_its_blocks();
-    live.pixel(x, y)
-}
-
-/// Writes colour k of the table as 0xRGB. 0, or -1 where the player is closed or k is above 15.
-#[unsafe(no_mangle)]
-pub extern "C" fn ribjasper_player_colour(
-    alloc: Global,
-    player: &mut Playing,
-    k: u8,
-    colour: &mut u16,
-) -> i32
-    ensures shows { result ≡ pos 0 → (form : Form) (lead_in : ℕ) (blocks : List (List ℕ))
-        → IsPlaying form lead_in blocks player.old.handle.players → length blocks ≤ 1000000 → ShowsColour form lead_in blocks k colour.new }
-    ensures answer { result ≡ (if player.old.is_open && nat_lt k 16 then pos 0 else negsuc 0) }
-    ensures stays { player.new.is_open ≡ player.old.is_open }
-    ensures same { player.new.handle.players ≡ player.old.handle.players }
-{
-    if !player.is_open || k >= 16 {
-        return -1;
-    }
-    let live = mem::replace(player, Playing::closed(alloc)).into_box();
-    *colour = shown_colour(&live, k);
-    *player = Playing::of(live);
-    0
-}
-
-fn shown_colour(live: &LivePlayer, k: u8) -> u16
-    requires { k < 16 }
-    ensures { (form : Form) (lead_in : ℕ) (blocks : List (List ℕ)) → HasPlayed form lead_in blocks live.now
-        → length blocks ≤ 1000000 → ShowsColour form lead_in blocks k result }
-{
-    live.shows_its_blocks();
-    live.colour(k)
+    if form == 0 { Form::Raw } else { Form::Cooked }
 }
