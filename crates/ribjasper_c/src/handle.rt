@@ -5,10 +5,10 @@ ghost use Rattle.live_player.specs.declared.live.LivePlayer.{LivePlayer};
 
 mod parts;
 
+use live_player::LivePlayer;
 use parts::Parts;
 use std::alloc::Global;
 use std::marker::Model;
-use live_player::LivePlayer;
 
 /// A pointer to a player, or to nothing.
 #[repr(C)]

@@ -4,9 +4,9 @@ ghost use Rattle.raw_subcode.specs.declared.form.Form.{Form};
 ghost use Rattle.ribjasper_c.specs.Handles.{form_of, IsPlaying};
 
 use crate::Handle;
+use live_player::LivePlayer;
 use std::alloc::Global;
 use std::mem;
-use live_player::LivePlayer;
 use subcode_player::Form;
 
 /// What C keeps of a player. All zero it is closed.
