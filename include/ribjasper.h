@@ -55,6 +55,17 @@ int32_t ribjasper_player_begin(ribjasper_player *player, uint32_t form, uint32_t
 /* Feeds an open player the next block of the stream, 96 bytes. The clauses hold for 1,000,000 blocks since begin. */
 int32_t ribjasper_player_feed(ribjasper_player *player, const uint8_t block[RIBJASPER_BLOCK]);
 
+/* A pack as it was read: its 24 symbols (6 bits each), and how many of them were wrong and were corrected, 0 to 2; or
+   -1 where no codeword is near, and the symbols are as they were read. */
+typedef struct ribjasper_pack {
+    uint8_t symbols[24];
+    int32_t wrong;
+} ribjasper_pack;
+
+/* Feeds an open player the next block, as the call above, and writes the packs that came with it, the last of them
+   complete by this block: returns how many they are, 0 to 4, or RIBJASPER_REFUSED. */
+int32_t ribjasper_player_take(ribjasper_player *player, const uint8_t block[RIBJASPER_BLOCK], ribjasper_pack packs[4]);
+
 /* Writes the number of the colour, 0 to 15, of the pixel `x` from the left (0 to 299), `y` from the top (0 to 215). */
 int32_t ribjasper_player_pixel(ribjasper_player *player, uint32_t x, uint32_t y, uint8_t *pixel);
 

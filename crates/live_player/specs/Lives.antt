@@ -1,12 +1,13 @@
 -- A player that is fed block by block, and what it shows.
-use Rattle.std.specs.Prelude.{◌≡◌, ℕ, List, length, drop, Option}
+use Rattle.std.specs.Prelude.{◌≡◌, ◌/◌, ℕ, List, length, map, drop, Option}
+use Rattle.bit_lists.specs.Counting.{below}
 use Rattle.std.specs.List.{flat_map, AllByRecursion}
 use Rattle.cdg_io.specs.Run.{run_state, then_second}
 use Rattle.cdg_io.specs.declared.stage.Then.{Then}
 use Rattle.rw_interleave.specs.Interleave.{whole_packs}
 use Rattle.raw_subcode.specs.Channels.{symbols_of}
 use Rattle.raw_subcode.specs.declared.form.Form.{Form}
-use Rattle.stream_words.specs.Stream.{IsRecovered}
+use Rattle.stream_words.specs.Stream.{IsRecovered, form_word, word_count}
 use Rattle.cdg_instructions.specs.declared.instr.Instr.{Instr}
 use Rattle.cdg_screen.specs.Picture.{Standing, SameStanding, blank, standing_of, standing_after}
 use Rattle.subcode_player.specs.Shown.{AreShown}
@@ -37,6 +38,12 @@ pub record HasPlayed (form : Form) (lead_in : ℕ) (blocks : List (List ℕ)) (p
   pub start : Then BlockWords Drawing
   pub begun : IsLiveStart form lead_in start
   pub run : player.stages ≡ run_state live_next start blocks
+
+-- the words of a stream, each in the order of its last symbol
+unfoldable pub stream_words : Form → ℕ → List (List ℕ) → List (List ℕ)
+stream_words form lead_in blocks =
+    let symbols = flat_map symbols_of (drop lead_in blocks) in
+    map (form_word form symbols) (below (word_count form (length symbols / 96)))
 
 -- what these blocks show at a moment: the packs that are whole then, each read as the codeword near it, drawn in turn on a blank screen
 pub record IsLiveViewAt (form : Form) (lead_in time : ℕ) (blocks : List (List ℕ)) (now : Standing) : Type 0 where

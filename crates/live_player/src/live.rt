@@ -2,10 +2,13 @@
 ghost use Rattle.std.specs.Prelude.{◌≡◌, ◌<◌, ◌≤◌, ◌-◌, ◌/◌, ◌%◌, ◌++◌, ◌∷◌, [], List, ℕ, length, slice_index, IfOk};
 ghost use Rattle.cdg_screen.specs.Picture.{Standing, screen_pixel, standing_of};
 ghost use Rattle.raw_subcode.specs.declared.form.Form.{Form};
-ghost use Rattle.live_player.specs.Lives.{latest, HasPlayed, IsLiveView, IsLiveViewAt};
+ghost use Rattle.subcode_player.specs.Steps.{words_give};
+ghost use Rattle.live_player.specs.Lives.{latest, live_next, stream_words, HasPlayed, IsLiveView, IsLiveViewAt};
 
 use crate::looking;
+use arrayvec::ArrayVec;
 use cdg_io::{Stage, Then};
+use rw_code::Word;
 use rw_interleave::Window;
 use std::alloc::{AllocError, Global};
 use subcode_player::{BlockWords, Drawing, Form, Picture};
@@ -59,6 +62,30 @@ impl LivePlayer {
             → HasPlayed form lead_in (blocks ++ block.now ∷ []) self.new }
     {
         self.stages.feed(block);
+    }
+
+    /// Takes the next block, and gives the words that came with it, at most four.
+    pub fn take(&mut self, block: &[u8; 96]) -> ArrayVec<Word, 4>
+        ensures fed { (form : Form) (lead_in : ℕ) (blocks : List (List ℕ)) → HasPlayed form lead_in blocks self.old
+            → HasPlayed form lead_in (blocks ++ block.now ∷ []) self.new }
+        ensures words { (form : Form) (lead_in : ℕ) (blocks : List (List ℕ)) → HasPlayed form lead_in blocks self.old
+            → stream_words form lead_in (blocks ++ block.now ∷ []) ≡ stream_words form lead_in blocks ++ result.items }
+    {
+        match self.step(block) {
+            Some(words) => words,
+            None => ArrayVec::new(),
+        }
+    }
+
+    fn step(&mut self, block: &[u8; 96]) -> Option<ArrayVec<Word, 4>>
+        ensures next { self.new.stages ≡ live_next self.old.stages block.now }
+        ensures gives { result ≡ words_give self.old.stages.first block.now }
+    {
+        let words = self.stages.first.feed(block);
+        if let Some(words) = &words {
+            self.stages.second.feed(words);
+        }
+        words
     }
 
     /// A law: what stands is what the blocks since the start show.
