@@ -1,12 +1,20 @@
 # Builds the program, shows it at work, and checks the repository.
 
-.PHONY: all demo check bench guide install uninstall clean
+.PHONY: all library example demo check bench guide install uninstall clean
 
 PREFIX ?= /usr/local
 
 # Proves the program and what it stands on, builds it, and leaves it as bin/ribjasper.
 all:
 	tools/build.sh
+
+# The library for programs in C: proves it, builds it, and leaves it as lib/libribjasper.a (include/ribjasper.h).
+library:
+	tools/build_library.sh
+
+# Builds examples/player.c, as C and as C++, compares its screens with the program's, and measures it.
+example:
+	tools/compare_player.sh measure
 
 # A short tour on real input. It builds nothing that is not there yet: without bin/ribjasper the
 # commands run through `rt try`, which compiles them unproved.
@@ -26,7 +34,7 @@ bench:
 guide:
 	tools/run_guide.sh
 
-# The program, its manual page and the completions of two shells, below PREFIX.
+# The program, its manual page, the completions of two shells, and the library where it is built, below PREFIX.
 install:
 	[ -x bin/ribjasper ] || tools/build.sh
 	install -d $(DESTDIR)$(PREFIX)/bin $(DESTDIR)$(PREFIX)/share/man/man1
@@ -36,10 +44,17 @@ install:
 	install -m 644 share/ribjasper.bash $(DESTDIR)$(PREFIX)/share/bash-completion/completions/ribjasper
 	install -m 644 share/_ribjasper $(DESTDIR)$(PREFIX)/share/zsh/site-functions/_ribjasper
 
+	if [ -f lib/libribjasper.a ]; then \
+		install -d $(DESTDIR)$(PREFIX)/lib $(DESTDIR)$(PREFIX)/include && \
+		install -m 644 lib/libribjasper.a $(DESTDIR)$(PREFIX)/lib/libribjasper.a && \
+		install -m 644 include/ribjasper.h $(DESTDIR)$(PREFIX)/include/ribjasper.h; \
+	fi
+
 uninstall:
+	rm -f $(DESTDIR)$(PREFIX)/lib/libribjasper.a $(DESTDIR)$(PREFIX)/include/ribjasper.h
 	rm -f $(DESTDIR)$(PREFIX)/bin/ribjasper $(DESTDIR)$(PREFIX)/share/man/man1/ribjasper.1
 	rm -f $(DESTDIR)$(PREFIX)/share/bash-completion/completions/ribjasper
 	rm -f $(DESTDIR)$(PREFIX)/share/zsh/site-functions/_ribjasper
 
 clean:
-	rm -rf bin crates/*/out
+	rm -rf bin lib crates/*/out

@@ -1,0 +1,2 @@
+pub mod LiveViews
+pub mod Words

@@ -1,0 +1,58 @@
+-- A player that is fed block by block, and what it shows.
+use Rattle.std.specs.Prelude.{◌≡◌, ◌/◌, ℕ, List, length, map, drop, Option}
+use Rattle.bit_lists.specs.Counting.{below}
+use Rattle.std.specs.List.{flat_map, AllByRecursion}
+use Rattle.cdg_io.specs.Run.{run_state, then_second}
+use Rattle.cdg_io.specs.declared.stage.Then.{Then}
+use Rattle.rw_interleave.specs.Interleave.{whole_packs}
+use Rattle.raw_subcode.specs.Channels.{symbols_of}
+use Rattle.raw_subcode.specs.declared.form.Form.{Form}
+use Rattle.stream_words.specs.Stream.{IsRecovered, form_word, word_count}
+use Rattle.cdg_instructions.specs.declared.instr.Instr.{Instr}
+use Rattle.cdg_screen.specs.Picture.{Standing, SameStanding, blank, standing_of, standing_after}
+use Rattle.subcode_player.specs.Shown.{AreShown}
+use Rattle.subcode_player.specs.Steps.{begun, words_next, words_give}
+use Rattle.subcode_player.specs.Drawn.{drawing_next}
+use Rattle.subcode_player.specs.declared.words.BlockWords.{BlockWords}
+use Rattle.subcode_player.specs.declared.drawing.Drawing.{Drawing}
+use Rattle.live_player.specs.declared.live.LivePlayer.{LivePlayer}
+
+-- the latest moment of a stream, in blocks
+abbrev pub latest : ℕ
+latest = 449999
+
+-- the stages after a block
+abbrev pub live_next : Then BlockWords Drawing → List ℕ → Then BlockWords Drawing
+live_next s block = record { first = words_next s.first block; second = then_second drawing_next s.second (words_give s.first block) }
+
+-- the stages before the first block of a stream
+pub record IsLiveStart (form : Form) (lead_in : ℕ) (s : Then BlockWords Drawing) : Type 0 where
+  pub words : s.first ≡ begun form lead_in
+  pub left : s.second.left ≡ whole_packs latest
+  pub bad : s.second.bad ≡ 0
+  pub blank : SameStanding (standing_of s.second.picture) blank
+
+-- the player began with a stream of this form and was fed these blocks since
+pub record HasPlayed (form : Form) (lead_in : ℕ) (blocks : List (List ℕ)) (player : LivePlayer) : Type 0 where
+  pub sized : AllByRecursion (λ block. length block ≡ 96) blocks
+  pub start : Then BlockWords Drawing
+  pub begun : IsLiveStart form lead_in start
+  pub run : player.stages ≡ run_state live_next start blocks
+
+-- the words of a stream, each in the order of its last symbol
+unfoldable pub stream_words : Form → ℕ → List (List ℕ) → List (List ℕ)
+stream_words form lead_in blocks =
+    let symbols = flat_map symbols_of (drop lead_in blocks) in
+    map (form_word form symbols) (below (word_count form (length symbols / 96)))
+
+-- what these blocks show at a moment: the packs that are whole then, each read as the codeword near it, drawn in turn on a blank screen
+pub record IsLiveViewAt (form : Form) (lead_in time : ℕ) (blocks : List (List ℕ)) (now : Standing) : Type 0 where
+  pub found : List (Option (List ℕ))
+  pub recovered : IsRecovered form (flat_map symbols_of (drop lead_in blocks)) found
+  pub instrs : List Instr
+  pub shown : AreShown found time instrs
+  pub stands : SameStanding now (standing_after blank instrs)
+
+-- what they show at last
+abbrev pub IsLiveView : Form → ℕ → List (List ℕ) → Standing → Type 0
+IsLiveView form lead_in blocks now = IsLiveViewAt form lead_in latest blocks now

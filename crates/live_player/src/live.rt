@@ -1,0 +1,150 @@
+// A player that is fed blocks as they come.
+ghost use Rattle.std.specs.Prelude.{◌≡◌, ◌<◌, ◌≤◌, ◌-◌, ◌/◌, ◌%◌, ◌++◌, ◌∷◌, [], List, ℕ, length, slice_index, IfOk};
+ghost use Rattle.cdg_screen.specs.Picture.{Standing, screen_pixel, standing_of};
+ghost use Rattle.raw_subcode.specs.declared.form.Form.{Form};
+ghost use Rattle.subcode_player.specs.Steps.{words_give};
+ghost use Rattle.live_player.specs.Lives.{latest, live_next, stream_words, HasPlayed, IsLiveView, IsLiveViewAt};
+
+use crate::looking;
+use arrayvec::ArrayVec;
+use cdg_io::{Stage, Then};
+use rw_code::Word;
+use rw_interleave::Window;
+use std::alloc::{AllocError, Global};
+use subcode_player::{BlockWords, Drawing, Form, Picture};
+
+/// The latest moment of a stream, in blocks.
+const LATEST: u32 = 449_999;
+
+/// Plays a stream as its blocks come. All its memory is taken at the start.
+#[derive(Drop)]
+pub struct LivePlayer {
+    pub stages: Then<BlockWords, Drawing>,
+}
+
+impl LivePlayer {
+    /// A player of a raw stream with no lead-in, before its first block.
+    pub fn start(alloc: Global) -> Result<LivePlayer, AllocError>
+        ensures { IfOk result (λ player. HasPlayed Form.Raw 0 [] player) }
+    {
+        let drawing = Drawing {
+            picture: Picture::start(alloc)?,
+            left: 4 * LATEST - 7,
+            bad: 0,
+        };
+        let words = BlockWords {
+            form: Form::Raw,
+            lead_in: 0,
+            gather: Window::new(),
+        };
+        Ok(LivePlayer {
+            stages: Then::new(words, drawing),
+        })
+    }
+
+    /// Begins anew, with a stream of this form.
+    pub fn begin(&mut self, lead_in: u32, form: Form)
+        ensures { HasPlayed form lead_in [] self.new }
+    {
+        let words = &mut self.stages.first;
+        words.form = form;
+        words.lead_in = lead_in;
+        words.gather.reset();
+        let drawing = &mut self.stages.second;
+        drawing.left = 4 * LATEST - 7;
+        drawing.bad = 0;
+        drawing.picture.reset();
+    }
+
+    /// Takes the next block.
+    pub fn feed(&mut self, block: &[u8; 96])
+        ensures { (form : Form) (lead_in : ℕ) (blocks : List (List ℕ)) → HasPlayed form lead_in blocks self.old
+            → HasPlayed form lead_in (blocks ++ block.now ∷ []) self.new }
+    {
+        self.stages.feed(block);
+    }
+
+    /// Takes the next block, and gives the words that came with it, at most four.
+    pub fn take(&mut self, block: &[u8; 96]) -> ArrayVec<Word, 4>
+        ensures fed { (form : Form) (lead_in : ℕ) (blocks : List (List ℕ)) → HasPlayed form lead_in blocks self.old
+            → HasPlayed form lead_in (blocks ++ block.now ∷ []) self.new }
+        ensures words { (form : Form) (lead_in : ℕ) (blocks : List (List ℕ)) → HasPlayed form lead_in blocks self.old
+            → stream_words form lead_in (blocks ++ block.now ∷ []) ≡ stream_words form lead_in blocks ++ result.items }
+    {
+        match self.step(block) {
+            Some(words) => words,
+            None => ArrayVec::new(),
+        }
+    }
+
+    fn step(&mut self, block: &[u8; 96]) -> Option<ArrayVec<Word, 4>>
+        ensures next { self.new.stages ≡ live_next self.old.stages block.now }
+        ensures gives { result ≡ words_give self.old.stages.first block.now }
+    {
+        let words = self.stages.first.feed(block);
+        if let Some(words) = &words {
+            self.stages.second.feed(words);
+        }
+        words
+    }
+
+    /// A law: what stands is what the blocks since the start show.
+    pub fn shows_its_blocks(&self)
+        ensures last { (form : Form) (lead_in : ℕ) (blocks : List (List ℕ)) → HasPlayed form lead_in blocks self.now
+            → length blocks ≤ 1000000 → IsLiveView form lead_in blocks (standing_of self.now.stages.second.picture) }
+        // Of a raw stream it is what stands at the moment that the program has come to.
+        ensures so_far { (lead_in : ℕ) (blocks : List (List ℕ)) → HasPlayed Form.Raw lead_in blocks self.now
+            → length blocks ≤ 1000000 → length blocks - lead_in ≤ latest
+            → IsLiveViewAt Form.Raw lead_in (length blocks - lead_in) blocks (standing_of self.now.stages.second.picture) }
+    {}
+
+    /// The pixel of the screen at a place: `x` below 300 from the left, `y` below 216 from the top.
+    pub fn pixel(&self, x: u32, y: u32) -> u8
+        requires width { x < 300 }
+        requires height { y < 216 }
+        ensures pixel { result ≡ screen_pixel (standing_of self.now.stages.second.picture) x y }
+        ensures range { result < 16 }
+    {
+        looking::pixel(&self.stages.second.picture, x, y)
+    }
+
+    /// Colour `k` of the table, as 0xRGB. `k` is below 16.
+    pub fn colour(&self, k: u8) -> u16
+        requires { k < 16 }
+        ensures { result ≡ (standing_of self.now.stages.second.picture).colour k }
+    {
+        looking::colour(&self.stages.second.picture, k)
+    }
+
+    /// Writes the numbers of the colours of the screen's pixels, row by row: that at (x, y) is number 300 y + x.
+    pub fn screen(&self, pixels: &mut [u8; 64_800])
+        ensures { (n : ℕ) → n < 64800
+            → slice_index pixels.new n ≡ screen_pixel (standing_of self.now.stages.second.picture) (n % 300) (n / 300) }
+    {
+        looking::screen(&self.stages.second.picture, pixels);
+    }
+
+    /// Writes the colours of the table, each as 0xRGB.
+    pub fn colours(&self, table: &mut [u16; 16])
+        ensures { (k : ℕ) → k < 16 → slice_index table.new k ≡ (standing_of self.now.stages.second.picture).colour k }
+    {
+        looking::colours(&self.stages.second.picture, table);
+    }
+
+    /// The number of the border's colour.
+    pub fn border(&self) -> u8
+        ensures border { result ≡ (standing_of self.now.stages.second.picture).border }
+        ensures range { result < 16 }
+    {
+        looking::border(&self.stages.second.picture)
+    }
+
+    /// How many pixels further right and further down in the memory the screen begins.
+    pub fn offsets(&self) -> (u8, u8)
+        ensures across { result.0 ≡ (standing_of self.now.stages.second.picture).h }
+        ensures down { result.1 ≡ (standing_of self.now.stages.second.picture).v }
+        ensures ranges { (result.0 ≤ 5) × (result.1 ≤ 11) }
+    {
+        looking::offsets(&self.stages.second.picture)
+    }
+}

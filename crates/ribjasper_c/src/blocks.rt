@@ -1,0 +1,38 @@
+// Forms of blocks, and the check of a text pack.
+ghost use Rattle.std.specs.Prelude.{◌≡◌, if◌then◌else◌, pos, All, ◌<◌};
+ghost use Rattle.cdtext_packs.specs.Packs.{check_matches};
+ghost use Rattle.raw_subcode.specs.Channels.{IsPlanarForm};
+
+use disc_time::crc16;
+use raw_subcode::Block;
+
+/// Writes the planar form of a block.
+#[unsafe(no_mangle)]
+pub extern "C" fn ribjasper_block_to_planar(block: &[u8; 96], planar: &mut [u8; 96])
+    ensures form { IsPlanarForm block.now planar.new }
+    ensures small { All (λ b. b < 256) planar.new }
+{
+    *planar = Block::from_bytes(block).to_planar();
+}
+
+/// Writes the block with a planar form.
+#[unsafe(no_mangle)]
+pub extern "C" fn ribjasper_block_from_planar(planar: &[u8; 96], block: &mut [u8; 96])
+    ensures { IsPlanarForm block.new planar.now }
+{
+    *block = Block::from_planar(planar).bytes();
+}
+
+/// Whether the last two bytes of a text pack are the check of the others, as 1 or 0.
+#[unsafe(no_mangle)]
+pub extern "C" fn ribjasper_text_pack_matches(pack: &[u8; 18]) -> i32
+    ensures { result ≡ (if check_matches pack.now then pos 1 else pos 0) }
+{
+    if matches(pack) { 1 } else { 0 }
+}
+
+fn matches(pack: &[u8; 18]) -> bool
+    ensures { result ≡ check_matches pack.now }
+{
+    crc16(&pack[..16]) == 256 * u16::from(pack[16]) + u16::from(pack[17])
+}

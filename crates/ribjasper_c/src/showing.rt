@@ -1,0 +1,190 @@
+// What a player shows, as C asks for it.
+ghost use Rattle.std.specs.Prelude.{◌≡◌, ◌<◌, ◌&&◌, nat_lt, if◌then◌else◌, ◌∷◌, [], pos, negsuc};
+ghost use Rattle.cdg_screen.specs.Picture.{screen_pixel};
+ghost use Rattle.ribjasper_c.specs.Handles.{IsScreen, IsTable, Shows};
+
+use crate::Playing;
+use live_player::LivePlayer;
+use std::alloc::Global;
+use std::mem;
+
+/// Writes the number of the colour that the screen shows at a place. 0, or -1 where the player is closed or the place is not on the screen.
+#[unsafe(no_mangle)]
+pub extern "C" fn ribjasper_player_pixel(
+    alloc: Global,
+    player: &mut Playing,
+    x: u32,
+    y: u32,
+    pixel: &mut u8,
+) -> i32
+    ensures shows { result ≡ pos 0 → Shows player.old.handle.players (λ now. pixel.new ≡ screen_pixel now x y) }
+    ensures answer { result ≡ (if player.old.is_open && nat_lt x 300 && nat_lt y 216 then pos 0 else negsuc 0) }
+    ensures stays { player.new.is_open ≡ player.old.is_open }
+    ensures same { player.new.handle.players ≡ player.old.handle.players }
+    ensures refused { result ≡ negsuc 0 → pixel.new ≡ pixel.old }
+{
+    if !player.is_open || x >= 300 || y >= 216 {
+        return -1;
+    }
+    let live = mem::replace(player, Playing::closed(alloc)).into_box();
+    *pixel = shown_pixel(&live, x, y);
+    *player = Playing::of(live);
+    0
+}
+
+fn shown_pixel(live: &LivePlayer, x: u32, y: u32) -> u8
+    requires width { x < 300 }
+    requires height { y < 216 }
+    ensures { Shows (live.now ∷ []) (λ now. result ≡ screen_pixel now x y) }
+{
+    live.shows_its_blocks();
+    live.pixel(x, y)
+}
+
+/// Writes the numbers of the colours of all pixels, row by row. 0, or -1 where the player is closed.
+#[unsafe(no_mangle)]
+pub extern "C" fn ribjasper_player_screen(
+    alloc: Global,
+    player: &mut Playing,
+    pixels: &mut [u8; 64_800],
+) -> i32
+    ensures shows { result ≡ pos 0 → Shows player.old.handle.players (λ now. IsScreen pixels.new now) }
+    ensures answer { result ≡ (if player.old.is_open then pos 0 else negsuc 0) }
+    ensures stays { player.new.is_open ≡ player.old.is_open }
+    ensures same { player.new.handle.players ≡ player.old.handle.players }
+    ensures refused { result ≡ negsuc 0 → pixels.new ≡ pixels.old }
+{
+    if !player.is_open {
+        return -1;
+    }
+    let live = mem::replace(player, Playing::closed(alloc)).into_box();
+    shown_screen(&live, pixels);
+    *player = Playing::of(live);
+    0
+}
+
+fn shown_screen(live: &LivePlayer, pixels: &mut [u8; 64_800])
+    ensures { Shows (live.now ∷ []) (λ now. IsScreen pixels.new now) }
+{
+    live.shows_its_blocks();
+    live.screen(pixels);
+}
+
+/// Writes colour k of the table as 0xRGB. 0, or -1 where the player is closed or k is above 15.
+#[unsafe(no_mangle)]
+pub extern "C" fn ribjasper_player_colour(
+    alloc: Global,
+    player: &mut Playing,
+    k: u8,
+    colour: &mut u16,
+) -> i32
+    ensures shows { result ≡ pos 0 → Shows player.old.handle.players (λ now. colour.new ≡ now.colour k) }
+    ensures answer { result ≡ (if player.old.is_open && nat_lt k 16 then pos 0 else negsuc 0) }
+    ensures stays { player.new.is_open ≡ player.old.is_open }
+    ensures same { player.new.handle.players ≡ player.old.handle.players }
+    ensures refused { result ≡ negsuc 0 → colour.new ≡ colour.old }
+{
+    if !player.is_open || k >= 16 {
+        return -1;
+    }
+    let live = mem::replace(player, Playing::closed(alloc)).into_box();
+    *colour = shown_colour(&live, k);
+    *player = Playing::of(live);
+    0
+}
+
+fn shown_colour(live: &LivePlayer, k: u8) -> u16
+    requires { k < 16 }
+    ensures { Shows (live.now ∷ []) (λ now. result ≡ now.colour k) }
+{
+    live.shows_its_blocks();
+    live.colour(k)
+}
+
+/// Writes the colours of the table, each as 0xRGB. 0, or -1 where the player is closed.
+#[unsafe(no_mangle)]
+pub extern "C" fn ribjasper_player_colours(
+    alloc: Global,
+    player: &mut Playing,
+    table: &mut [u16; 16],
+) -> i32
+    ensures shows { result ≡ pos 0 → Shows player.old.handle.players (λ now. IsTable table.new now) }
+    ensures answer { result ≡ (if player.old.is_open then pos 0 else negsuc 0) }
+    ensures stays { player.new.is_open ≡ player.old.is_open }
+    ensures same { player.new.handle.players ≡ player.old.handle.players }
+    ensures refused { result ≡ negsuc 0 → table.new ≡ table.old }
+{
+    if !player.is_open {
+        return -1;
+    }
+    let live = mem::replace(player, Playing::closed(alloc)).into_box();
+    shown_colours(&live, table);
+    *player = Playing::of(live);
+    0
+}
+
+fn shown_colours(live: &LivePlayer, table: &mut [u16; 16])
+    ensures { Shows (live.now ∷ []) (λ now. IsTable table.new now) }
+{
+    live.shows_its_blocks();
+    live.colours(table);
+}
+
+/// Writes the number of the border's colour. 0, or -1 where the player is closed.
+#[unsafe(no_mangle)]
+pub extern "C" fn ribjasper_player_border(
+    alloc: Global,
+    player: &mut Playing,
+    border: &mut u8,
+) -> i32
+    ensures shows { result ≡ pos 0 → Shows player.old.handle.players (λ now. border.new ≡ now.border) }
+    ensures answer { result ≡ (if player.old.is_open then pos 0 else negsuc 0) }
+    ensures stays { player.new.is_open ≡ player.old.is_open }
+    ensures same { player.new.handle.players ≡ player.old.handle.players }
+    ensures refused { result ≡ negsuc 0 → border.new ≡ border.old }
+{
+    if !player.is_open {
+        return -1;
+    }
+    let live = mem::replace(player, Playing::closed(alloc)).into_box();
+    *border = shown_border(&live);
+    *player = Playing::of(live);
+    0
+}
+
+fn shown_border(live: &LivePlayer) -> u8
+    ensures { Shows (live.now ∷ []) (λ now. result ≡ now.border) }
+{
+    live.shows_its_blocks();
+    live.border()
+}
+
+/// Writes how many pixels further right and further down in the memory the screen begins. 0, or -1 where the player is closed.
+#[unsafe(no_mangle)]
+pub extern "C" fn ribjasper_player_offsets(
+    alloc: Global,
+    player: &mut Playing,
+    across: &mut u8,
+    down: &mut u8,
+) -> i32
+    ensures shows { result ≡ pos 0 → Shows player.old.handle.players (λ now. (across.new ≡ now.h) × (down.new ≡ now.v)) }
+    ensures answer { result ≡ (if player.old.is_open then pos 0 else negsuc 0) }
+    ensures stays { player.new.is_open ≡ player.old.is_open }
+    ensures same { player.new.handle.players ≡ player.old.handle.players }
+    ensures refused { result ≡ negsuc 0 → (across.new ≡ across.old) × (down.new ≡ down.old) }
+{
+    if !player.is_open {
+        return -1;
+    }
+    let live = mem::replace(player, Playing::closed(alloc)).into_box();
+    (*across, *down) = shown_offsets(&live);
+    *player = Playing::of(live);
+    0
+}
+
+fn shown_offsets(live: &LivePlayer) -> (u8, u8)
+    ensures { Shows (live.now ∷ []) (λ now. (result.0 ≡ now.h) × (result.1 ≡ now.v)) }
+{
+    live.shows_its_blocks();
+    live.offsets()
+}

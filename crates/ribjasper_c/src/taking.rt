@@ -1,0 +1,72 @@
+// The packs that come with a block.
+ghost use Rattle.std.specs.Prelude.{◌≡◌, ◌<◌, ◌≤◌, ◌++◌, ◌∷◌, [], List, ℕ, pos, negsuc, length, true, false};
+ghost use Rattle.live_player.specs.Lives.{stream_words};
+ghost use Rattle.raw_subcode.specs.declared.form.Form.{Form};
+ghost use Rattle.ribjasper_c.specs.Answers.{IsCorrected};
+ghost use Rattle.ribjasper_c.specs.Handles.{IsPlaying};
+ghost use Rattle.ribjasper_c.specs.Packs.{AreReadAs};
+
+use crate::Playing;
+use rw_code::{Word, correct};
+use std::alloc::Global;
+use std::mem;
+
+/// A pack as it was read: the codeword near its 24 symbols and how many of them were wrong, or these and -1.
+#[repr(C)]
+#[derive(Clone, Copy)]
+pub struct ReadPack {
+    pub symbols: [u8; 24],
+    pub wrong: i32,
+}
+
+/// Feeds an open player the next block, and writes the packs that came with it. Their number, 0 to 4, or -1 where it
+/// is closed.
+#[unsafe(no_mangle)]
+pub extern "C" fn ribjasper_player_take(
+    alloc: Global,
+    player: &mut Playing,
+    block: &[u8; 96],
+    packs: &mut [ReadPack; 4],
+) -> i32
+    ensures fed { player.old.is_open ≡ true → (form : Form) (lead_in : ℕ) (blocks : List (List ℕ)) → IsPlaying form lead_in blocks player.old.handle.players
+        → IsPlaying form lead_in (blocks ++ block.now ∷ []) player.new.handle.players }
+    ensures packs { player.old.is_open ≡ true → (words : List (List ℕ)) × (result ≡ pos (length words)) × AreReadAs words packs.new
+        × ((form : Form) (lead_in : ℕ) (blocks : List (List ℕ)) → IsPlaying form lead_in blocks player.old.handle.players
+        → stream_words form lead_in (blocks ++ block.now ∷ []) ≡ stream_words form lead_in blocks ++ words) }
+    ensures refused { player.old.is_open ≡ false → result ≡ negsuc 0 }
+    ensures stays { player.new.is_open ≡ player.old.is_open }
+{
+    if !player.is_open {
+        return -1;
+    }
+    let mut live = mem::replace(player, Playing::closed(alloc)).into_box();
+    let words = live.take(block);
+    *player = Playing::of(live);
+    read_all(words.as_slice(), packs)
+}
+
+fn read_all(words: &[Word], packs: &mut [ReadPack; 4]) -> i32
+    requires { length words.now ≤ 4 }
+    ensures count { result ≡ pos (length words.now) }
+    ensures packs { AreReadAs words.now packs.new }
+{
+    for i in 0..words.len() {
+        packs[i] = read(&words[i]);
+    }
+    words.len() as i32
+}
+
+fn read(word: &Word) -> ReadPack
+    ensures { IsCorrected word.now word.now result.symbols result.wrong }
+{
+    match correct(word) {
+        Some(fixed) => ReadPack {
+            symbols: fixed.pack.word().bytes(),
+            wrong: i32::from(fixed.wrong),
+        },
+        None => ReadPack {
+            symbols: word.bytes(),
+            wrong: -1,
+        },
+    }
+}
