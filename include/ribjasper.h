@@ -1,7 +1,7 @@
 /* The proved player of CD subcode graphics, for programs in C and C++.
 
    Link with -lribjasper. No call is for a signal handler, no state is global: players stand side by side, one call at
-   a time for each. No pointer may be null; what two arguments point to may not overlap; a pointer to what is only read
+   a time for each, on the thread that opened it. No pointer may be null; what two arguments point to may not overlap; a pointer to what is only read
    (const) must point to bytes that do not change during the call. The library asks malloc for memory when a player is
    opened, and at no other time. */
 #ifndef RIBJASPER_H
@@ -18,7 +18,8 @@ extern "C" {
 #define RIBJASPER_VERSION_MINOR 1
 
 /* What calls of a player answer: it was done; or the player is closed, a number is out of its range, or (open) there
-   is no memory. Where it was not done, nothing that a pointer points to is written (but by open, which closes first). */
+   is no memory. Where it was not done, nothing that a pointer points to is written (but by open, which closes first;
+   of take this is seen from its code, and no clause says it). */
 #define RIBJASPER_DONE 0
 #define RIBJASPER_REFUSED (-1)
 
