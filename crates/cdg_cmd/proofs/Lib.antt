@@ -13,6 +13,8 @@ mod PressTold
 mod PressedBack
 mod Pumped
 mod Quiet
+mod ResumeTold
+mod SaveTold
 pub mod SecondHalf
 mod Statuses
 pub mod TextStops

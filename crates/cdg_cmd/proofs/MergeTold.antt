@@ -18,7 +18,7 @@ use Rattle.cdg_cmd.proofs.Quiet as quiet
 
 module _ (f f' t t' k k' : ℕ) (first_later : f ≤ f') (second_later : t ≤ t') (out_later : k ≤ k') where
   -- no fault is told
-  none : (status : Status) → status ≢ ReadFault First → status ≢ ReadFault Second → status ≢ WriteFault → f' ≡ f → t' ≡ t → k' ≡ k
+  pub none : (status : Status) → status ≢ ReadFault First → status ≢ ReadFault Second → status ≢ WriteFault → f' ≡ f → t' ≡ t → k' ≡ k
       → TellsFaults (record { first = count f f'; second = count t t'; out = count k k' }) status
   none status first second write same_first same_second same_out = record {
     first = silent (ReadFault First) status f f' first_later first same_first;
@@ -26,7 +26,7 @@ module _ (f f' t t' k k' : ℕ) (first_later : f ≤ f') (second_later : t ≤ t
     out = silent WriteFault status k k' out_later write same_out;
   }
 
-  whole : (good : Bool) (n : ℕ) → f' ≡ f → t' ≡ t → k' ≡ k → TellsFaults (record { first = count f f'; second = count t t'; out = count k k' }) (if good then Done else Damaged n)
+  pub whole : (good : Bool) (n : ℕ) → f' ≡ f → t' ≡ t → k' ≡ k → TellsFaults (record { first = count f f'; second = count t t'; out = count k k' }) (if good then Done else Damaged n)
   whole true n a b d = none Done (λ e. cc) (λ e. cc) (λ e. cc) a b d
   whole false n a b d = none (Damaged n) (λ e. cc) (λ e. cc) (λ e. cc) a b d
 

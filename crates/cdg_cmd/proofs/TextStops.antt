@@ -6,7 +6,7 @@ use Rattle.picture_script.specs.Script.{Drawing}
 use Rattle.picture_script.specs.ScriptGrammar.{read_script}
 use Rattle.cdg_cmd.specs.Authors.{IsScriptStop, IsScriptText, IsSheetStop, IsSheetText, IsStopped, most_text}
 use Rattle.cdg_cmd.specs.declared.status.Refusal.{Refusal}
-use Rattle.cdg_cmd.specs.declared.status.Refusal.TheVariants.{Torn, TooLong, PastEnd, Cue, Script, LengthShort, DiscTooLong, LeadInShort, TextTooLong, TextMissing, TextNoSize, TextMalformed, SecondTorn, Unequal, PackTorn, Gap, CdgTooLong}
+use Rattle.cdg_cmd.specs.declared.status.Refusal.TheVariants.{Torn, TooLong, PastEnd, Cue, Script, LengthShort, DiscTooLong, LeadInShort, TextTooLong, TextMissing, TextNoSize, TextMalformed, SecondTorn, Unequal, PackTorn, Gap, CdgTooLong, BadSave, BeforeSave}
 use Rattle.cdg_cmd.specs.declared.status.Status.{Status}
 use Rattle.cdg_cmd.specs.declared.status.Status.TheVariants.{Done, Damaged, Usage, Refused, Late, ReadFault, WriteFault, NoMemory}
 
@@ -51,6 +51,8 @@ sheet_refusal text (Unequal blocks) s = absurd s
 sheet_refusal text (PackTorn pack) s = absurd s
 sheet_refusal text (Gap track) s = absurd s
 sheet_refusal text (CdgTooLong packs room) s = absurd s
+sheet_refusal text (BadSave byte) s = absurd s
+sheet_refusal text (BeforeSave blocks) s = absurd s
 
 script_refusal : (text : List ℕ) (r : Refusal) → IsScriptStop (Some text) (Refused r) → IsRefusal Script read_script text r
 script_refusal text TooLong s = inl (refl, s)
@@ -70,6 +72,8 @@ script_refusal text (Unequal blocks) s = absurd s
 script_refusal text (PackTorn pack) s = absurd s
 script_refusal text (Gap track) s = absurd s
 script_refusal text (CdgTooLong packs room) s = absurd s
+script_refusal text (BadSave byte) s = absurd s
+script_refusal text (BeforeSave blocks) s = absurd s
 
 pub one_sheet_stop : (text : List ℕ) (r q : Refusal) → IsSheetStop (Some text) (Refused r) → IsSheetStop (Some text) (Refused q) → r ≡ q
 one_sheet_stop text r q a b = one_refusal Cue read_cue text r q (sheet_refusal text r a) (sheet_refusal text q b)

@@ -30,7 +30,7 @@ stream_steps lead_in form words (inr (raw, is)) = subst (SpellsStream lead_in fo
 
 -- ---- an option with a time or a number
 
-time_table : (name : List ℕ) (time : ℕ) (words : List (List ℕ)) → SpellsTime name time words → words ≡ name ∷ time_text time ∷ []
+pub time_table : (name : List ℕ) (time : ℕ) (words : List (List ℕ)) → SpellsTime name time words → words ≡ name ∷ time_text time ∷ []
 time_table name time [] s = absurd s
 time_table name time (option ∷ []) s = absurd s.1
 time_table name time (option ∷ word ∷ []) s = pair option word _ _ s.0 s.1.0
@@ -44,6 +44,9 @@ number_table name n (option ∷ word ∷ more ∷ rest) s = let none : more ∷ 
 
 pub number_steps : (name : List ℕ) (n : ℕ) (words : List (List ℕ)) → words ≡ name ∷ decimal n ∷ [] → SpellsNumber name n words
 number_steps name n words is = subst (SpellsNumber name n) (sym is) (refl, (refl, refl))
+
+pub time_steps : (name : List ℕ) (time : ℕ) (words : List (List ℕ)) → words ≡ name ∷ time_text time ∷ [] → SpellsTime name time words
+time_steps name time words is = subst (SpellsTime name time) (sym is) (refl, (refl, refl))
 
 -- ---- two options
 

@@ -10,11 +10,11 @@ use Rattle.cdg_cmd.specs.declared.lengths.Lengths.{Lengths}
 use Rattle.cdg_cmd.specs.declared.numbers.TwoNumbers.{TwoNumbers}
 use Rattle.cdg_cmd.specs.declared.times.TimedOptions.{TimedOptions}
 use Rattle.cdg_cmd.specs.Words.{texts}
-use Rattle.cdg_cmd.specs.WordSteps.{SpellsLengths, SpellsNumber, SpellsStream, SpellsTimed, SpellsTwo}
-use Rattle.cdg_cmd.proofs.WordTables.{lengths_steps, number_steps, stream_steps, timed_steps, two_steps}
+use Rattle.cdg_cmd.specs.WordSteps.{SpellsLengths, SpellsNumber, SpellsStream, SpellsTime, SpellsTimed, SpellsTwo}
+use Rattle.cdg_cmd.proofs.WordTables.{lengths_steps, number_steps, stream_steps, time_steps, timed_steps, two_steps}
 use Rattle.cdg_cmd.specs.Spelling.{Spells, command_name}
 use Rattle.cdg_cmd.specs.declared.command.Command.{Command}
-use Rattle.cdg_cmd.specs.declared.command.Command.TheVariants.{Convert, Screen, State, Check, Q, Text, Author, Planar, Raw, Scratch, Gen, Trial, Merge, Thin, Press}
+use Rattle.cdg_cmd.specs.declared.command.Command.TheVariants.{Convert, Screen, State, Check, Q, Text, Author, Planar, Raw, Scratch, Gen, Trial, Merge, Thin, Press, Save, Resume}
 
 -- what holds of all words holds of the first and the rest
 pub texts-split : {A : Type 0} (P : List (List ℕ) → Type 0) (words : List (String A)) (x : String A) (rest : List (String A)) → words ≡ x ∷ rest → P (texts words) → P (string_bytes x ∷ texts rest)
@@ -131,6 +131,19 @@ pub press_all : (options : List (List ℕ)) (o : Option Lengths)
     → (command : Command) → Spells command (codes "press" ∷ options) → option_map (λ s. Press s.lead_in s.audio) o ≡ Some command
 press_all options o all (Press lead_in audio) s = ap (option_map (λ (s : Lengths). Press s.lead_in s.audio)) (all lead_in audio s.1.0 s.1.1 (lengths_steps lead_in audio options s.2))
 press_all options o all command s = absurd (untrue (ap (λ l. bytes_eq l (command_name command)) s.0))
+
+pub save_all : (options : List (List ℕ)) (o : Option ℕ)
+    → ((n : ℕ) → n ≤ 450000 → SpellsNumber (codes "--lead-in") n options → o ≡ Some n)
+    → (command : Command) → Spells command (codes "save" ∷ options) → option_map (λ n. Save n) o ≡ Some command
+save_all options o all (Save lead_in) s = ap (option_map (λ (n : ℕ). Save n)) (all lead_in s.1 (number_steps (codes "--lead-in") lead_in options s.2))
+save_all options o all command s = absurd (untrue (ap (λ l. bytes_eq l (command_name command)) s.0))
+
+-- a time alone
+pub resume_all : (options : List (List ℕ)) (o : Option ℕ)
+    → ((n : ℕ) → n < 450000 → SpellsTime (codes "--at") n options → o ≡ Some n)
+    → (command : Command) → Spells command (codes "resume" ∷ options) → option_map (λ n. Resume n) o ≡ Some command
+resume_all options o all (Resume at) s = ap (option_map (λ (n : ℕ). Resume n)) (all at s.1 (time_steps (codes "--at") at options s.2))
+resume_all options o all command s = absurd (untrue (ap (λ l. bytes_eq l (command_name command)) s.0))
 
 pub same_two : (a b : TwoNumbers) → Some a ≡ Some b → a ≡ b
 same_two a b e = (cc)

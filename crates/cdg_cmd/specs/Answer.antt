@@ -19,6 +19,7 @@ use Rattle.block_stages.specs.QList.{IsQListed}
 use Rattle.block_stages.specs.PlanarStream.{IsBlockStream, IsPlanarStream}
 use Rattle.cdg_cmd.specs.Authors.{AuthorsWith}
 use Rattle.cdg_cmd.specs.Call.{Bytes, Call, Change}
+use Rattle.cdg_cmd.specs.Checkpoints.{ResumesWith, SavesWith}
 use Rattle.cdg_cmd.specs.Endings.{EndsWith}
 use Rattle.cdg_cmd.specs.Merges.{MergesWith}
 use Rattle.cdg_cmd.specs.Presses.{PressesWith}
@@ -28,7 +29,7 @@ use Rattle.cdg_workload.specs.Scratches.{IsScratched}
 use Rattle.cdg_workload.specs.Script.{generated_script}
 use Rattle.stream_trial.specs.Trial.{IsTrial}
 use Rattle.cdg_cmd.specs.declared.command.Command.{Command}
-use Rattle.cdg_cmd.specs.declared.command.Command.TheVariants.{Convert, Screen, State, Check, Q, Text, Author, Planar, Raw, Scratch, Gen, Trial, Merge, Thin, Press}
+use Rattle.cdg_cmd.specs.declared.command.Command.TheVariants.{Convert, Screen, State, Check, Q, Text, Author, Planar, Raw, Scratch, Gen, Trial, Merge, Thin, Press, Save, Resume}
 use Rattle.cdg_cmd.specs.declared.status.Which.TheVariants.{First}
 use Rattle.cdg_cmd.specs.declared.status.Refusal.TheVariants.{Torn, TooLong, PastEnd, TextMissing, TextNoSize, TextMalformed}
 use Rattle.cdg_cmd.specs.declared.status.Status.{Status}
@@ -103,6 +104,8 @@ Does (Trial seed pictures) call status = Tries seed pictures call.out status
 Does (Merge lead_in) call status = MergesWith lead_in call status
 Does Thin call status = ThinsWith call status
 Does (Press lead_in length) call status = PressesWith lead_in length call status
+Does (Save lead_in) call status = SavesWith lead_in call status
+Does (Resume at) call status = ResumesWith at call status
 
 -- where the work is done and nothing is bad, this holds; else a read or a write failed or no memory was found
 abbrev pub OnDone : Type 0 → Status → Type 0

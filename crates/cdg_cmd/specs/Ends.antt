@@ -3,9 +3,9 @@ use Rattle.std.specs.Prelude.{◌≡◌, ◌⊎◌, ℕ}
 use Rattle.cdg_io.specs.Causes.{Rose}
 use Rattle.cdg_cmd.specs.Call.{Change}
 use Rattle.cdg_cmd.specs.declared.command.Command.{Command}
-use Rattle.cdg_cmd.specs.declared.command.Command.TheVariants.{Convert, Screen, State, Check, Q, Text, Author, Planar, Raw, Scratch, Gen, Trial, Merge, Thin, Press}
+use Rattle.cdg_cmd.specs.declared.command.Command.TheVariants.{Convert, Screen, State, Check, Q, Text, Author, Planar, Raw, Scratch, Gen, Trial, Merge, Thin, Press, Save, Resume}
 use Rattle.cdg_cmd.specs.declared.status.Which.TheVariants.{First, Second}
-use Rattle.cdg_cmd.specs.declared.status.Refusal.TheVariants.{TooLong, Torn, SecondTorn, Unequal}
+use Rattle.cdg_cmd.specs.declared.status.Refusal.TheVariants.{TooLong, Torn, SecondTorn, Unequal, PastEnd, BadSave}
 use Rattle.cdg_cmd.specs.declared.status.Status.{Status}
 use Rattle.cdg_cmd.specs.declared.status.Status.TheVariants.{Done, Damaged, Usage, Refused, Late, ReadFault, WriteFault, NoMemory}
 
@@ -67,6 +67,22 @@ OtherEnds ends (Refused (SecondTorn block)) = Rose ends.before ends.after
 OtherEnds ends (Refused (Unequal blocks)) = AtMostOnce ends
 OtherEnds ends status = ends.after ≡ ends.before
 
+-- the checkpoint of `resume`
+abbrev pub CheckpointEnds : Change ℕ → Status → Type 0
+CheckpointEnds ends (Refused (BadSave byte)) = AtMostOnce ends
+CheckpointEnds ends (ReadFault First) = ends.after ≡ ends.before
+CheckpointEnds ends NoMemory = ends.after ≡ ends.before
+CheckpointEnds ends status = Rose ends.before ends.after
+
+-- the rest of its stream
+abbrev pub RestEnds : Change ℕ → Status → Type 0
+RestEnds ends Done = Rose ends.before ends.after
+RestEnds ends (Damaged n) = Rose ends.before ends.after
+RestEnds ends (Refused (Torn block)) = Rose ends.before ends.after
+RestEnds ends (Refused (PastEnd blocks)) = Rose ends.before ends.after
+RestEnds ends WriteFault = Rose ends.before ends.after
+RestEnds ends status = ends.after ≡ ends.before
+
 -- the first input of a command
 abbrev pub FirstEnds : Command → Change ℕ → Status → Type 0
 FirstEnds (Convert lead_in form) ends status = EndsInTurn ends status
@@ -84,12 +100,15 @@ FirstEnds (Trial seed pictures) ends status = ends.after ≡ ends.before
 FirstEnds (Merge lead_in) ends status = ReadingEnds ends status
 FirstEnds Thin ends status = EndsInTurn ends status
 FirstEnds (Press lead_in length) ends status = SheetEnds ends status
+FirstEnds (Save lead_in) ends status = EndsFirst ends status
+FirstEnds (Resume at) ends status = CheckpointEnds ends status
 
 -- the second
 abbrev pub SecondEnds : Command → Change ℕ → Status → Type 0
 SecondEnds (Author lead_in length) ends status = ScriptEnds ends status
 SecondEnds (Press lead_in length) ends status = ScriptEnds ends status
 SecondEnds (Merge lead_in) ends status = OtherEnds ends status
+SecondEnds (Resume at) ends status = RestEnds ends status
 SecondEnds command ends status = ends.after ≡ ends.before
 
 -- Of both inputs: the end is told once where the input was read to its end, and else not at all.

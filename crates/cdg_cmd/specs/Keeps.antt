@@ -1,10 +1,11 @@
 -- What a command leaves as it is.
-use Rattle.std.specs.Prelude.{◌≡◌, ◌≢◌, ◌⊎◌, ⊤}
+use Rattle.std.specs.Prelude.{◌≡◌, ◌≢◌, ◌⊎◌, ℕ, List, ⊤}
 use Rattle.cue_sheet.specs.CueSheet.{CueSheet}
 use Rattle.cdg_cmd.specs.Authors.{ReadsSheet}
 use Rattle.cdg_cmd.specs.Call.{Bytes, Change}
+use Rattle.cdg_cmd.specs.Checkpoints.{ReadsCheckpoint}
 use Rattle.cdg_cmd.specs.declared.command.Command.{Command}
-use Rattle.cdg_cmd.specs.declared.command.Command.TheVariants.{Screen, State, Check, Text, Author, Planar, Raw, Scratch, Gen, Trial, Merge, Press}
+use Rattle.cdg_cmd.specs.declared.command.Command.TheVariants.{Screen, State, Check, Text, Author, Planar, Raw, Scratch, Gen, Trial, Merge, Press, Save, Resume}
 use Rattle.cdg_cmd.specs.declared.status.Status.{Status}
 use Rattle.cdg_cmd.specs.declared.status.Status.TheVariants.{Done, Damaged, WriteFault, NoMemory}
 
@@ -14,11 +15,13 @@ ReadsNone (Gen seed pictures) = ⊤
 ReadsNone (Trial seed pictures) = ⊤
 ReadsNone command = ⊥
 
--- it reads its second input: `author` and `press` only after the first was read to its end, and its grammar accepted it
+-- it reads its second input: `author` and `press` only after the first was read to its end, and its grammar accepted it;
+-- `resume` only after the first is the file of a checkpoint that is not later
 abbrev pub ReadsSecond : Command → Change Bytes → Type 0
 ReadsSecond (Author lead_in length) first = (sheet : CueSheet) × ReadsSheet first sheet
 ReadsSecond (Press lead_in length) first = (sheet : CueSheet) × ReadsSheet first sheet
 ReadsSecond (Merge lead_in) first = ⊤
+ReadsSecond (Resume at) first = (file : List ℕ) × ReadsCheckpoint at first file
 ReadsSecond command first = ⊥
 
 -- it writes nothing but where its work is whole or a write fails
@@ -30,6 +33,8 @@ WritesLast (Text lead_in form) = ⊤
 WritesLast (Author lead_in length) = ⊤
 WritesLast (Trial seed pictures) = ⊤
 WritesLast (Press lead_in length) = ⊤
+WritesLast (Save lead_in) = ⊤
+WritesLast (Resume at) = ⊤
 WritesLast command = ⊥
 
 -- the work is whole, or a write failed

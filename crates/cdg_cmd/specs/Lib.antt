@@ -1,6 +1,7 @@
 pub mod Answer
 pub mod Authors
 pub mod Call
+pub mod Checkpoints
 pub mod Endings
 pub mod Ends
 pub mod Faults

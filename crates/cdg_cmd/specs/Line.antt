@@ -4,7 +4,7 @@ use Rattle.bit_lists.specs.Digits.{line_feed}
 use Rattle.cdg_cmd.specs.declared.status.Which.{Which}
 use Rattle.cdg_cmd.specs.declared.status.Which.TheVariants.{First, Second}
 use Rattle.cdg_cmd.specs.declared.status.Refusal.{Refusal}
-use Rattle.cdg_cmd.specs.declared.status.Refusal.TheVariants.{Torn, TooLong, PastEnd, Cue, Script, LengthShort, DiscTooLong, LeadInShort, TextTooLong, TextMissing, TextNoSize, TextMalformed, SecondTorn, Unequal, PackTorn, Gap, CdgTooLong}
+use Rattle.cdg_cmd.specs.declared.status.Refusal.TheVariants.{Torn, TooLong, PastEnd, Cue, Script, LengthShort, DiscTooLong, LeadInShort, TextTooLong, TextMissing, TextNoSize, TextMalformed, SecondTorn, Unequal, PackTorn, Gap, CdgTooLong, BadSave, BeforeSave}
 use Rattle.cdg_cmd.specs.declared.status.Status.{Status}
 use Rattle.cdg_cmd.specs.declared.status.Status.TheVariants.{Done, Damaged, Usage, Refused, Late, ReadFault, WriteFault, NoMemory}
 use Rattle.cue_sheet.specs.declared.fault.CueWhy.{CueWhy}
@@ -73,6 +73,8 @@ refusal_words (Unequal blocks) = counted (codes "unequal") blocks
 refusal_words (PackTorn pack) = counted (codes "pack-torn") pack
 refusal_words (Gap track) = counted (codes "gap") track
 refusal_words (CdgTooLong packs room) = counted (counted (codes "cdg-too-long") packs) room
+refusal_words (BadSave byte) = counted (codes "bad-save") byte
+refusal_words (BeforeSave blocks) = counted (codes "before-save") blocks
 
 -- the words of a picture that is late: its number, the packs that it needs, and those that are free
 abbrev pub late_words : ℕ → ℕ → ℕ → List ℕ

@@ -4,7 +4,7 @@ use Rattle.disc_time.specs.Time.{time_text}
 use Rattle.cdg_cmd.specs.Words.{IsStreamOptions, IsTimedOptions}
 use Rattle.raw_subcode.specs.declared.form.Form.TheVariants.{Cooked}
 use Rattle.cdg_cmd.specs.declared.command.Command.{Command}
-use Rattle.cdg_cmd.specs.declared.command.Command.TheVariants.{Convert, Screen, State, Check, Q, Text, Author, Planar, Raw, Scratch, Gen, Trial, Merge, Thin, Press}
+use Rattle.cdg_cmd.specs.declared.command.Command.TheVariants.{Convert, Screen, State, Check, Q, Text, Author, Planar, Raw, Scratch, Gen, Trial, Merge, Thin, Press, Save, Resume}
 
 -- the numbers and forms that a command may have: cooked blocks have no Q channel and no text packs
 abbrev pub IsAllowed : Command → Type 0
@@ -23,6 +23,8 @@ IsAllowed (Trial seed pictures) = (seed < 2 ^ 64) × (1 ≤ pictures) × (pictur
 IsAllowed (Merge lead_in) = lead_in ≤ 450000
 IsAllowed Thin = ⊤
 IsAllowed (Press lead_in length) = (lead_in ≤ 450000) × (length < 450000)
+IsAllowed (Save lead_in) = lead_in ≤ 450000
+IsAllowed (Resume at) = at < 450000
 
 -- the name of a command
 abbrev pub command_name : Command → List ℕ
@@ -41,6 +43,8 @@ command_name (Trial seed pictures) = codes "trial"
 command_name (Merge lead_in) = codes "merge"
 command_name Thin = codes "thin"
 command_name (Press lead_in length) = codes "press"
+command_name (Save lead_in) = codes "save"
+command_name (Resume at) = codes "resume"
 
 -- the words after its name: a number is in decimal without a leading zero
 abbrev pub SpellsOptions : Command → List (List ℕ) → Type 0
@@ -59,6 +63,8 @@ SpellsOptions (Trial seed pictures) options = options ≡ codes "--seed" ∷ dec
 SpellsOptions (Merge lead_in) options = options ≡ codes "--lead-in" ∷ decimal lead_in ∷ []
 SpellsOptions Thin options = options ≡ []
 SpellsOptions (Press lead_in length) options = options ≡ codes "--lead-in" ∷ decimal lead_in ∷ codes "--length" ∷ time_text length ∷ []
+SpellsOptions (Save lead_in) options = options ≡ codes "--lead-in" ∷ decimal lead_in ∷ []
+SpellsOptions (Resume at) options = options ≡ codes "--at" ∷ time_text at ∷ []
 
 -- the words spell an allowed command
 abbrev pub Spells : Command → List (List ℕ) → Type 0

@@ -6,7 +6,7 @@ ghost use Rattle.cdg_cmd.specs.Spelling.{Spells};
 use crate::lengths::read_lengths;
 use crate::numbers::{read_option, read_seeded, read_two};
 use crate::options::{MOST_LEAD_IN, read_blocks, read_stream};
-use crate::times::read_timed;
+use crate::times::{read_time, read_timed};
 use subcode_player::Form;
 
 /// A command with its numbers. A time is the number of its block.
@@ -42,6 +42,10 @@ pub enum Command {
     Thin,
     /// Writes the stream of a cue sheet and a file of packs. The length is that of the audio, in blocks.
     Press { lead_in: u32, length: u32 },
+    /// Writes a checkpoint after a stream.
+    Save { lead_in: u32 },
+    /// Writes the picture at a moment of a stream of which a checkpoint and the rest are given.
+    Resume { at: u32 },
 }
 
 /// The command that the words spell: `None` where they spell none.
@@ -66,6 +70,8 @@ pub fn read_words(words: &[String]) -> Option<Command>
         "merge" => read_merge(options),
         "thin" => read_thin(options),
         "press" => read_press(options),
+        "save" => read_save(options),
+        "resume" => read_resume(options),
         _ => None,
     }
 }
@@ -268,6 +274,30 @@ fn read_press(options: &[String]) -> Option<Command>
             lead_in: lengths.lead_in,
             length: lengths.audio,
         }),
+        None => None,
+    }
+}
+
+fn read_save(options: &[String]) -> Option<Command>
+    ensures spelled { IfSome result (λ command. Spells command (codes "save" ∷ texts options.now)) }
+    ensures all { (command : Command) → Spells command (codes "save" ∷ texts options.now)
+        → result ≡ Some command }
+{
+    match read_option(options, "--lead-in", MOST_LEAD_IN) {
+        Some(lead_in) => Some(Command::Save {
+            lead_in: lead_in as u32,
+        }),
+        None => None,
+    }
+}
+
+fn read_resume(options: &[String]) -> Option<Command>
+    ensures spelled { IfSome result (λ command. Spells command (codes "resume" ∷ texts options.now)) }
+    ensures all { (command : Command) → Spells command (codes "resume" ∷ texts options.now)
+        → result ≡ Some command }
+{
+    match read_time(options, "--at") {
+        Some(at) => Some(Command::Resume { at }),
         None => None,
     }
 }

@@ -16,6 +16,8 @@ mod play;
 mod press;
 mod q;
 mod reasons;
+mod resume;
+mod save;
 mod screen;
 mod splitting;
 mod state;

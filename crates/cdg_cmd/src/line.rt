@@ -76,6 +76,8 @@ fn push_refusal(text: &mut Line, refusal: Refusal)
             push_counted(text, "cdg-too-long", packs);
             push_number(text, room);
         }
+        Refusal::BadSave { byte } => push_counted(text, "bad-save", byte),
+        Refusal::BeforeSave { blocks } => push_counted(text, "before-save", blocks),
     }
 }
 

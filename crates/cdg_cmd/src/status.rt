@@ -8,9 +8,9 @@ use picture_script::ScriptWhy;
 /// One of the two inputs.
 #[derive(Clone, Copy, Debug, PartialEq, Eq)]
 pub enum Which {
-    /// The stream, the file of packs of `thin`, or the cue sheet.
+    /// The stream, the file of packs of `thin`, the cue sheet, or the checkpoint.
     First,
-    /// The picture script, the file of packs of `press`, or the other reading of a stream.
+    /// The picture script, the file of packs of `press`, the other reading or the rest of a stream.
     Second,
 }
 
@@ -51,6 +51,10 @@ pub enum Refusal {
     Gap { track: u8 },
     /// The file has so many packs, and the audio has room for so many.
     CdgTooLong { packs: u32, room: u32 },
+    /// The first input is no checkpoint, as this byte shows.
+    BadSave { byte: u32 },
+    /// The moment is before the checkpoint, which comes after so many program blocks.
+    BeforeSave { blocks: u32 },
 }
 
 /// How a run ended.

@@ -33,6 +33,8 @@ use crate::line::tell;
 use crate::merge::run_merge;
 use crate::press::run_press;
 use crate::q::run_q;
+use crate::resume::run_resume;
+use crate::save::run_save;
 use crate::screen::run_screen;
 use crate::state::run_state;
 use crate::text::run_text;
@@ -247,6 +249,8 @@ fn perform<S: Source, T: Source, K: Sink>(
         Command::Press { lead_in, length } => {
             run_press(alloc, lead_in, length, first, second, out)
         }
+        Command::Save { lead_in } => run_save(alloc, lead_in, first, out),
+        Command::Resume { at } => run_resume(alloc, at, first, second, out),
     }
 }
 

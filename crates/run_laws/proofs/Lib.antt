@@ -2,5 +2,6 @@ mod Accepted
 mod Clean
 mod PressedShown
 mod Refusals
+mod ResumedShown
 mod Scratched
 mod SecondFaults

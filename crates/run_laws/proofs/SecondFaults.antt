@@ -1,11 +1,15 @@
 -- Which statuses tell a fault of the second input.
-use Rattle.std.proofs.Common.{◌≢◌, ◌==◌, ℕ, Bool, true, false, Result, Ok, Err, sym, if◌then◌else◌}
+use Rattle.std.proofs.Common.{◌≡◌, ◌≢◌, ◌==◌, ℕ, Bool, true, false, Result, Ok, Err, refl, sym, subst, ◌∙◌, if◌then◌else◌, arith}
 use Rattle.cdg_io.specs.declared.pumping.Pumped.{Pumped}
 use Rattle.cdg_io.specs.declared.pumping.PumpStop.{PumpStop}
 use Rattle.cdg_io.specs.declared.pumping.PumpStop.TheVariants as pump
 use Rattle.cdtext_packs.specs.declared.kinds.TextFault.TheVariants as fault
 use Rattle.subcode_author.specs.declared.stops.AuthorStop.{AuthorStop}
 use Rattle.subcode_author.specs.declared.stops.AuthorStop.TheVariants as stop
+use Rattle.cdg_checkpoint.specs.Resumed.{IsAcceptedBy, acceptance}
+use Rattle.cdg_checkpoint.specs.declared.stops.Resumed.{Resumed}
+use Rattle.cdg_checkpoint.specs.declared.stops.ResumeStop.{ResumeStop}
+use Rattle.cdg_checkpoint.specs.declared.stops.ResumeStop.TheVariants as resume
 use Rattle.cdg_press.specs.declared.stops.PressStop.{PressStop}
 use Rattle.cdg_press.specs.declared.stops.PressStop.TheVariants as press
 use Rattle.subcode_player.specs.declared.player.Played.{Played}
@@ -16,12 +20,13 @@ use Rattle.subcode_player.specs.declared.text_listing.TextStop.TheVariants as te
 use Rattle.cdg_cmd.specs.Answer.{Does, play_status, text_status}
 use Rattle.cdg_cmd.specs.Authors.{Answers, AuthorsWith, StopsAtScript, StopsAtSheet, author_status}
 use Rattle.cdg_cmd.specs.Call.{Bytes, Call}
+use Rattle.cdg_cmd.specs.Checkpoints.{ResumesWith, resume_status}
 use Rattle.cdg_cmd.specs.Keeps.{ReadsSecond}
 use Rattle.cdg_cmd.specs.Presses.{Presses, PressesWith, RefusesFile, RefusesSheet, press_status}
 use Rattle.cdg_cmd.specs.Thinned.{thin_status}
 use Rattle.cdg_cmd.specs.Turns.{pump_status}
 use Rattle.cdg_cmd.specs.declared.command.Command.{Command}
-use Rattle.cdg_cmd.specs.declared.command.Command.TheVariants.{Convert, Screen, State, Check, Q, Text, Author, Planar, Raw, Scratch, Gen, Trial, Merge, Thin, Press}
+use Rattle.cdg_cmd.specs.declared.command.Command.TheVariants.{Convert, Screen, State, Check, Q, Text, Author, Planar, Raw, Scratch, Gen, Trial, Merge, Thin, Press, Save, Resume}
 use Rattle.cdg_cmd.specs.declared.status.Status.TheVariants.{Done, Damaged, ReadFault}
 use Rattle.cdg_cmd.specs.declared.status.Which.TheVariants.{Second}
 
@@ -92,6 +97,25 @@ thinned (Err pump.WriteFault) e = absurd (cc)
 thinned (Err (pump.Torn unit)) e = absurd (cc)
 thinned (Err pump.TooLong) e = absurd (cc)
 
+-- only a fault of the second input is told so
+resumed : (answer : Result Resumed ResumeStop) → resume_status answer ≡ ReadFault Second → answer ≡ Err resume.SecondFault
+resumed (Ok done) e = absurd (whole (done.bad == 0) done.bad e)
+resumed (Err resume.SecondFault) e = refl
+resumed (Err resume.FirstFault) e = absurd (cc)
+resumed (Err resume.WriteFault) e = absurd (cc)
+resumed (Err (resume.BadSave byte)) e = absurd (cc)
+resumed (Err (resume.BeforeSave blocks)) e = absurd (cc)
+resumed (Err (resume.Torn block)) e = absurd (cc)
+resumed (Err resume.TooLong) e = absurd (cc)
+resumed (Err (resume.PastEnd blocks)) e = absurd (cc)
+
+of_resume : (at : ℕ) (call : Call Bytes) → ResumesWith at call (ReadFault Second) → ReadsSecond (Resume at) call.first
+of_resume at call d =
+    let is : d.answer ≡ Err resume.SecondFault = resumed d.answer (sym d.status_is) in
+    let accepted = subst (λ (r : Result Resumed ResumeStop). IsAcceptedBy (acceptance r) at d.file) is d.accepted in
+    let other : d.answer ≢ Err resume.FirstFault = (λ e. let both = sym is ∙ e in absurd (cc)) in
+    (d.file, record { is_file = accepted.0; not_later = accepted.1; taken = d.taken other; end = d.whole other (omega (arith, accepted.0.size)) })
+
 -- what a command did, if it ends so
 pub read_first : (command : Command) (call : Call Bytes) → Does command call (ReadFault Second) → ReadsSecond command call.first
 read_first (Convert lead_in form) call d = played d.answer (sym d.status_is)
@@ -109,3 +133,5 @@ read_first (Trial seed pictures) call d = d.2
 read_first (Merge lead_in) call d = tt
 read_first Thin call d = thinned d.answer (sym d.status_is)
 read_first (Press lead_in length) call d = of_press lead_in length call d
+read_first (Save lead_in) call d = pumped d.answer (sym d.status_is)
+read_first (Resume at) call d = of_resume at call d

@@ -1,4 +1,5 @@
 pub mod Pressed
 pub mod Ran
 pub mod Refused
+pub mod Resumed
 pub mod Undamaged

@@ -149,3 +149,23 @@ pub returns-in-Press-clause-ends : goal.returns-in-Press-clause-ends
 returns-in-Press-clause-ends g c =
     subst (λ (k : Command). TellsEnds k (change g.S.Source.ends c.args.first.now c.run_press.new.first) (change g.T.Source.ends c.args.second.now c.run_press.new.second) c.run_press.result)
     (sym c.in-Press.is) (record { first = c.run_press.ensures.first_ended; second = c.run_press.ensures.second_ended })
+
+pub returns-in-Save-clause-does : goal.returns-in-Save-clause-does
+returns-in-Save-clause-does g c = λ found.
+    subst (λ (k : Command). Does k (call g.S.Source.left g.T.Source.left g.K.Sink.held (c.args.first.now, c.args.second.now, c.args.out.now) (c.run_save.new.source, c.args.second.now, c.run_save.new.out)) c.run_save.result)
+    (sym c.in-Save.is) (c.run_save.ensures.does found)
+
+pub returns-in-Save-clause-ends : goal.returns-in-Save-clause-ends
+returns-in-Save-clause-ends g c =
+    subst (λ (k : Command). TellsEnds k (change g.S.Source.ends c.args.first.now c.run_save.new.source) (change g.T.Source.ends c.args.second.now c.args.second.now) c.run_save.result)
+    (sym c.in-Save.is) (record { first = c.run_save.ensures.ended; second = refl })
+
+pub returns-in-Resume-clause-does : goal.returns-in-Resume-clause-does
+returns-in-Resume-clause-does g c = λ found.
+    subst (λ (k : Command). Does k (call g.S.Source.left g.T.Source.left g.K.Sink.held (c.args.first.now, c.args.second.now, c.args.out.now) (c.run_resume.new.first, c.run_resume.new.second, c.run_resume.new.out)) c.run_resume.result)
+    (sym c.in-Resume.is) (c.run_resume.ensures.does found)
+
+pub returns-in-Resume-clause-ends : goal.returns-in-Resume-clause-ends
+returns-in-Resume-clause-ends g c =
+    subst (λ (k : Command). TellsEnds k (change g.S.Source.ends c.args.first.now c.run_resume.new.first) (change g.T.Source.ends c.args.second.now c.run_resume.new.second) c.run_resume.result)
+    (sym c.in-Resume.is) (record { first = c.run_resume.ensures.first_ended; second = c.run_resume.ensures.second_ended })

@@ -1,0 +1,181 @@
+-- From the answer of a resumed call to the status of a command.
+use Rattle.std.proofs.Common.{◌≡◌, ◌≢◌, ◌≤◌, ◌<◌, ◌==◌, ◌⊎◌, ℕ, Bool, true, false, List, length, Result, Ok, Err, IfErr, IsErrOf, refl, sym, subst, ◌∙◌, inl, inr, if◌then◌else◌, arith}
+use Rattle.std.specs.Prelude.{IsErr, IsOk}
+use Rattle.std.specs.Io.KnownBytes.{Consumes, IsAtEnd}
+use Rattle.std.proofs.lemmas.Bool.{cases_lt}
+use Rattle.cdg_io.specs.Causes.{Rose}
+use Rattle.checkpoint_files.specs.Table.{IsCheckpointFile, file_size}
+use Rattle.cdg_checkpoint.specs.Resumed.{IsAcceptedBy, acceptance}
+use Rattle.cdg_checkpoint.specs.Resumed.{RestEnds as TellsRest}
+use Rattle.cdg_checkpoint.specs.declared.stops.Resumed.{Resumed}
+use Rattle.cdg_checkpoint.specs.declared.stops.ResumeStop.{ResumeStop}
+use Rattle.cdg_checkpoint.specs.declared.stops.ResumeStop.TheVariants as resume
+use Rattle.cdg_cmd.specs.Call.{Bytes, Change}
+use Rattle.cdg_cmd.specs.Checkpoints.{ReadsCheckpoint, resume_status}
+use Rattle.cdg_cmd.specs.Ends.{AtMostOnce, CheckpointEnds, RestEnds}
+use Rattle.cdg_cmd.specs.Faults.{TellsFaults}
+use Rattle.cdg_cmd.specs.Keeps.{MayWrite}
+use Rattle.cdg_cmd.specs.declared.status.Which.TheVariants.{First, Second}
+use Rattle.cdg_cmd.specs.declared.status.Status.{Status}
+use Rattle.cdg_cmd.specs.declared.status.Status.TheVariants.{Done, Damaged, Usage, ReadFault, WriteFault, NoMemory}
+use Rattle.cdg_cmd.proofs.MergeTold.{none, whole}
+use Rattle.cdg_cmd.proofs.Quiet.{count, silent}
+use Rattle.cdg_cmd.proofs.Quiet as quiet
+
+-- Faults
+
+module _ (f f' t t' k k' : ℕ) (first_later : f ≤ f') (second_later : t ≤ t') (out_later : k ≤ k') where
+  faults : (answer : Result Resumed ResumeStop) → (IsErrOf answer resume.FirstFault → Rose f f') → (answer ≢ Err resume.FirstFault → f' ≡ f)
+      → (IsErrOf answer resume.SecondFault → Rose t t') → (answer ≢ Err resume.SecondFault → t' ≡ t)
+      → (IsErrOf answer resume.WriteFault → Rose k k') → (answer ≢ Err resume.WriteFault → k' ≡ k)
+      → TellsFaults (record { first = count f f'; second = count t t'; out = count k k' }) (resume_status answer)
+  faults (Ok resumed) rose same rises stays cut kept = whole f f' t t' k k' first_later second_later out_later (resumed.bad == 0) resumed.bad (same (λ e. cc)) (stays (λ e. cc)) (kept (λ e. cc))
+  faults (Err resume.FirstFault) rose same rises stays cut kept = record {
+    first = quiet.told (ReadFault First) f f' first_later (rose refl);
+    second = silent (ReadFault Second) (ReadFault First) t t' second_later (λ e. cc) (stays (λ e. cc));
+    out = silent WriteFault (ReadFault First) k k' out_later (λ e. cc) (kept (λ e. cc));
+  }
+  faults (Err resume.SecondFault) rose same rises stays cut kept = record {
+    first = silent (ReadFault First) (ReadFault Second) f f' first_later (λ e. cc) (same (λ e. cc));
+    second = quiet.told (ReadFault Second) t t' second_later (rises refl);
+    out = silent WriteFault (ReadFault Second) k k' out_later (λ e. cc) (kept (λ e. cc));
+  }
+  faults (Err resume.WriteFault) rose same rises stays cut kept = record {
+    first = silent (ReadFault First) WriteFault f f' first_later (λ e. cc) (same (λ e. cc));
+    second = silent (ReadFault Second) WriteFault t t' second_later (λ e. cc) (stays (λ e. cc));
+    out = quiet.told WriteFault k k' out_later (cut refl);
+  }
+  faults (Err (resume.BadSave byte)) rose same rises stays cut kept = none f f' t t' k k' first_later second_later out_later _ (λ e. cc) (λ e. cc) (λ e. cc) (same (λ e. cc)) (stays (λ e. cc)) (kept (λ e. cc))
+  faults (Err (resume.BeforeSave blocks)) rose same rises stays cut kept = none f f' t t' k k' first_later second_later out_later _ (λ e. cc) (λ e. cc) (λ e. cc) (same (λ e. cc)) (stays (λ e. cc)) (kept (λ e. cc))
+  faults (Err (resume.Torn block)) rose same rises stays cut kept = none f f' t t' k k' first_later second_later out_later _ (λ e. cc) (λ e. cc) (λ e. cc) (same (λ e. cc)) (stays (λ e. cc)) (kept (λ e. cc))
+  faults (Err resume.TooLong) rose same rises stays cut kept = none f f' t t' k k' first_later second_later out_later _ (λ e. cc) (λ e. cc) (λ e. cc) (same (λ e. cc)) (stays (λ e. cc)) (kept (λ e. cc))
+  faults (Err (resume.PastEnd blocks)) rose same rises stays cut kept = none f f' t t' k k' first_later second_later out_later _ (λ e. cc) (λ e. cc) (λ e. cc) (same (λ e. cc)) (stays (λ e. cc)) (kept (λ e. cc))
+
+pub told : (answer : Result Resumed ResumeStop) (status : Status) (f f' t t' k k' : ℕ) → status ≡ resume_status answer → f ≤ f' → t ≤ t' → k ≤ k'
+    → (IsErrOf answer resume.FirstFault → Rose f f') → (answer ≢ Err resume.FirstFault → f' ≡ f)
+    → (IsErrOf answer resume.SecondFault → Rose t t') → (answer ≢ Err resume.SecondFault → t' ≡ t)
+    → (IsErrOf answer resume.WriteFault → Rose k k') → (answer ≢ Err resume.WriteFault → k' ≡ k)
+    → TellsFaults (record { first = count f f'; second = count t t'; out = count k k' }) status
+told answer status f f' t t' k k' is a b d rose same rises stays cut kept =
+    subst (λ (s : Status). TellsFaults (record { first = count f f'; second = count t t'; out = count k k' }) s) (sym is)
+    (faults f f' t t' k k' a b d answer rose same rises stays cut kept)
+
+-- Ends
+
+whole_first : (n n' : ℕ) (good : Bool) (bad : ℕ) → Rose n n' → CheckpointEnds (count n n') (if good then Done else Damaged bad)
+whole_first n n' true bad rose = rose
+whole_first n n' false bad rose = rose
+
+module _ (at n n' : ℕ) (file : List ℕ) where
+  once : (answer : Result Resumed ResumeStop) → (length file ≤ file_size → Rose n n') → (file_size < length file → n' ≡ n) → AtMostOnce (count n n')
+  once answer rises stays = elim (cases_lt file_size (length file)) [ inl lt ↦ inl (stays lt) | inr le ↦ inr (rises le) ]
+
+  of_file : IsCheckpointFile file → (length file ≤ file_size → Rose n n') → Rose n n'
+  of_file is rises = rises (omega (arith, is.size))
+
+  first_end : (answer : Result Resumed ResumeStop) → IsAcceptedBy (acceptance answer) at file → (answer ≢ Err resume.FirstFault → length file ≤ file_size → Rose n n')
+      → (answer ≢ Err resume.FirstFault → file_size < length file → n' ≡ n) → (answer ≡ Err resume.FirstFault → n' ≡ n) → CheckpointEnds (count n n') (resume_status answer)
+  first_end (Ok resumed) accepted rises stays failed = whole_first n n' (resumed.bad == 0) resumed.bad (of_file accepted.0 (rises (λ e. cc)))
+  first_end (Err resume.FirstFault) accepted rises stays failed = failed refl
+  first_end (Err resume.SecondFault) accepted rises stays failed = of_file accepted.0 (rises (λ e. cc))
+  first_end (Err resume.WriteFault) accepted rises stays failed = of_file accepted.0 (rises (λ e. cc))
+  first_end (Err (resume.BadSave byte)) accepted rises stays failed = once (Err (resume.BadSave byte)) (rises (λ e. cc)) (stays (λ e. cc))
+  first_end (Err (resume.BeforeSave blocks)) accepted rises stays failed = of_file accepted.0 (rises (λ e. cc))
+  first_end (Err (resume.Torn block)) accepted rises stays failed = of_file accepted.0 (rises (λ e. cc))
+  first_end (Err resume.TooLong) accepted rises stays failed = of_file accepted.0 (rises (λ e. cc))
+  first_end (Err (resume.PastEnd blocks)) accepted rises stays failed = of_file accepted.0 (rises (λ e. cc))
+
+  pub first_ended : (answer : Result Resumed ResumeStop) (status : Status) → status ≡ resume_status answer → IsAcceptedBy (acceptance answer) at file
+      → (answer ≢ Err resume.FirstFault → length file ≤ file_size → Rose n n')
+      → (answer ≢ Err resume.FirstFault → file_size < length file → n' ≡ n) → (answer ≡ Err resume.FirstFault → n' ≡ n) → CheckpointEnds (count n n') status
+  first_ended answer status is accepted rises stays failed = subst (λ (s : Status). CheckpointEnds (count n n') s) (sym is) (first_end answer accepted rises stays failed)
+
+whole_second : (n n' : ℕ) (good : Bool) (bad : ℕ) → Rose n n' → RestEnds (count n n') (if good then Done else Damaged bad)
+whole_second n n' true bad rose = rose
+whole_second n n' false bad rose = rose
+
+second_end : (answer : Result Resumed ResumeStop) (n n' : ℕ) → (IsErr (acceptance answer) → n' ≡ n) → (IsOk (acceptance answer) → TellsRest answer n n') → RestEnds (count n n') (resume_status answer)
+second_end (Ok resumed) n n' same tells = whole_second n n' (resumed.bad == 0) resumed.bad (tells refl)
+second_end (Err resume.FirstFault) n n' same tells = same refl
+second_end (Err resume.SecondFault) n n' same tells = tells refl
+second_end (Err resume.WriteFault) n n' same tells = tells refl
+second_end (Err (resume.BadSave byte)) n n' same tells = same refl
+second_end (Err (resume.BeforeSave blocks)) n n' same tells = same refl
+second_end (Err (resume.Torn block)) n n' same tells = tells refl
+second_end (Err resume.TooLong) n n' same tells = tells refl
+second_end (Err (resume.PastEnd blocks)) n n' same tells = tells refl
+
+pub second_ended : (answer : Result Resumed ResumeStop) (status : Status) (n n' : ℕ) → status ≡ resume_status answer → (IsErr (acceptance answer) → n' ≡ n)
+    → (IsOk (acceptance answer) → TellsRest answer n n') → RestEnds (count n n') status
+second_ended answer status n n' is same tells = subst (λ (s : Status). RestEnds (count n n') s) (sym is) (second_end answer n n' same tells)
+
+-- The rest is read only after a checkpoint
+module _ {T : Type 0} (x y : T) (at : ℕ) (input : Change Bytes) (file : List ℕ) where
+  read_file : (answer : Result Resumed ResumeStop) → answer ≢ Err resume.FirstFault → IsAcceptedBy (Ok tt) at file → (answer ≢ Err resume.FirstFault → Consumes input.before input.after file)
+      → (answer ≢ Err resume.FirstFault → length file ≤ file_size → IsAtEnd input.after) → (y ≡ x) ⊎ ((bytes : List ℕ) × ReadsCheckpoint at input bytes)
+  read_file answer other accepted taken end = inr (
+    file,
+    record {
+      is_file = accepted.0;
+      not_later = accepted.1;
+      taken = taken other;
+      end = end other (omega (arith, accepted.0.size));
+    },
+  )
+
+  pub reads_second : (answer : Result Resumed ResumeStop) → (IsErr (acceptance answer) → y ≡ x) → IsAcceptedBy (acceptance answer) at file
+      → (answer ≢ Err resume.FirstFault → Consumes input.before input.after file)
+      → (answer ≢ Err resume.FirstFault → length file ≤ file_size → IsAtEnd input.after) → (y ≡ x) ⊎ ((bytes : List ℕ) × ReadsCheckpoint at input bytes)
+  reads_second (Err resume.FirstFault) same accepted taken end = inl (same refl)
+  reads_second (Err (resume.BadSave byte)) same accepted taken end = inl (same refl)
+  reads_second (Err (resume.BeforeSave blocks)) same accepted taken end = inl (same refl)
+  reads_second (Ok resumed) same accepted taken end = read_file (Ok resumed) (λ e. cc) accepted taken end
+  reads_second (Err resume.SecondFault) same accepted taken end = read_file (Err resume.SecondFault) (λ e. cc) accepted taken end
+  reads_second (Err resume.WriteFault) same accepted taken end = read_file (Err resume.WriteFault) (λ e. cc) accepted taken end
+  reads_second (Err (resume.Torn block)) same accepted taken end = read_file (Err (resume.Torn block)) (λ e. cc) accepted taken end
+  reads_second (Err resume.TooLong) same accepted taken end = read_file (Err resume.TooLong) (λ e. cc) accepted taken end
+  reads_second (Err (resume.PastEnd blocks)) same accepted taken end = read_file (Err (resume.PastEnd blocks)) (λ e. cc) accepted taken end
+
+-- Where the output may not be written
+
+may_write : (good : Bool) (n : ℕ) → MayWrite (if good then Done else Damaged n)
+may_write true n = tt
+may_write false n = tt
+
+untouched_at : {K : Type 0} (answer : Result Resumed ResumeStop) (old new : K) → IfErr answer (λ stop. stop ≢ resume.WriteFault → new ≡ old) → ¬ (MayWrite (resume_status answer)) → new ≡ old
+untouched_at (Ok resumed) old new same none = absurd (none (may_write (resumed.bad == 0) resumed.bad))
+untouched_at (Err resume.WriteFault) old new same none = absurd (none tt)
+untouched_at (Err resume.FirstFault) old new same none = same (λ e. cc)
+untouched_at (Err resume.SecondFault) old new same none = same (λ e. cc)
+untouched_at (Err (resume.BadSave byte)) old new same none = same (λ e. cc)
+untouched_at (Err (resume.BeforeSave blocks)) old new same none = same (λ e. cc)
+untouched_at (Err (resume.Torn block)) old new same none = same (λ e. cc)
+untouched_at (Err resume.TooLong) old new same none = same (λ e. cc)
+untouched_at (Err (resume.PastEnd blocks)) old new same none = same (λ e. cc)
+
+pub untouched : {K : Type 0} (answer : Result Resumed ResumeStop) (status : Status) (old new : K) → status ≡ resume_status answer
+    → IfErr answer (λ stop. stop ≢ resume.WriteFault → new ≡ old) → ¬ (MayWrite status) → new ≡ old
+untouched answer status old new is same none = untouched_at answer old new same (subst (λ (s : Status). ¬ (MayWrite s)) is none)
+
+-- It never lacks memory, and its words were a form
+
+whole_never : (good : Bool) (n : ℕ) → ((if good then Done else Damaged n) ≢ NoMemory) × ((if good then Done else Damaged n) ≢ Usage)
+whole_never true n = (λ e. absurd (cc), λ e. absurd (cc))
+whole_never false n = (λ e. absurd (cc), λ e. absurd (cc))
+
+never : (answer : Result Resumed ResumeStop) → (resume_status answer ≢ NoMemory) × (resume_status answer ≢ Usage)
+never (Ok resumed) = whole_never (resumed.bad == 0) resumed.bad
+never (Err resume.FirstFault) = (λ e. absurd (cc), λ e. absurd (cc))
+never (Err resume.SecondFault) = (λ e. absurd (cc), λ e. absurd (cc))
+never (Err resume.WriteFault) = (λ e. absurd (cc), λ e. absurd (cc))
+never (Err (resume.BadSave byte)) = (λ e. absurd (cc), λ e. absurd (cc))
+never (Err (resume.BeforeSave blocks)) = (λ e. absurd (cc), λ e. absurd (cc))
+never (Err (resume.Torn block)) = (λ e. absurd (cc), λ e. absurd (cc))
+never (Err resume.TooLong) = (λ e. absurd (cc), λ e. absurd (cc))
+never (Err (resume.PastEnd blocks)) = (λ e. absurd (cc), λ e. absurd (cc))
+
+pub never_memory : (answer : Result Resumed ResumeStop) (status : Status) → status ≡ resume_status answer → status ≢ NoMemory
+never_memory answer status is e = (never answer).0 (sym is ∙ e)
+
+pub never_usage : (answer : Result Resumed ResumeStop) (status : Status) → status ≡ resume_status answer → status ≢ Usage
+never_usage answer status is e = (never answer).1 (sym is ∙ e)

@@ -1,0 +1,39 @@
+use Rattle.std.proofs.Common.{ap}
+use Rattle.cdg_cmd.proofs.ResumeTold.{first_ended, reads_second, second_ended, told}
+use Rattle.cdg_cmd.proofs.resume.run_resume.Goals as goal
+
+pub returns-in-Ok-clause-does : goal.returns-in-Ok-clause-does
+returns-in-Ok-clause-does g c = λ found.
+    let done = c.resume.ensures in
+    record {
+      answer = c.resume.result;
+      status_is = c.resume_status.ensures;
+      file = c.resume.new.self.file;
+      most = done.saved_most;
+      taken = done.saved_taken;
+      whole = done.saved_end;
+      accepted = done.accepted;
+      goes_on = done.resumes;
+      exactly = done.answer;
+    }
+
+pub returns-in-Ok-clause-second : goal.returns-in-Ok-clause-second
+returns-in-Ok-clause-second g c =
+    let done = c.resume.ensures in
+    reads_second _ _ c.args.at _ c.resume.new.self.file c.resume.result done.rest_untouched done.accepted done.saved_taken done.saved_end
+
+pub returns-in-Ok-clause-first_ended : goal.returns-in-Ok-clause-first_ended
+returns-in-Ok-clause-first_ended g c =
+    let done = c.resume.ensures in
+    first_ended c.args.at _ _ c.resume.new.self.file c.resume.result _ c.resume_status.ensures done.accepted done.saved_told done.saved_goes_on done.saved_not_told
+
+pub returns-in-Ok-clause-second_ended : goal.returns-in-Ok-clause-second_ended
+returns-in-Ok-clause-second_ended g c =
+    let done = c.resume.ensures in
+    second_ended c.resume.result _ _ _ c.resume_status.ensures (λ refused. ap g.T.Source.ends (done.rest_untouched refused)) done.rest_told
+
+pub returns-in-Ok-clause-faults : goal.returns-in-Ok-clause-faults
+returns-in-Ok-clause-faults g c =
+    let done = c.resume.ensures in
+    told c.resume.result _ _ _ _ _ _ _ c.resume_status.ensures done.saved_later done.rest_later done.out_later
+    done.first_fault done.no_first_fault done.second_fault done.no_second_fault done.write_fault done.no_write_fault

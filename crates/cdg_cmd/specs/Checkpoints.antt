@@ -1,0 +1,56 @@
+-- What `save` and `resume` answer, and what they write.
+use Rattle.std.specs.Prelude.{◌≡◌, ◌≢◌, ◌==◌, ◌≤◌, ◌+◌, ℕ, List, length, Result, Ok, Err, IsOk, IfSome, if◌then◌else◌}
+use Rattle.std.specs.Io.KnownBytes.{Consumes, IsAtEnd}
+use Rattle.cdg_io.specs.Pump.{IsUnlessFault, answer_of}
+use Rattle.checkpoint_files.specs.Checkpoint.{checkpoint_in}
+use Rattle.checkpoint_files.specs.Table.{IsCheckpointFile, file_size}
+use Rattle.cdg_checkpoint.specs.Saved.{Saves}
+use Rattle.cdg_checkpoint.specs.Resumed.{IsAcceptedBy, IsResumedBy, Resumes, acceptance}
+use Rattle.cdg_checkpoint.specs.declared.stops.Resumed.{Resumed}
+use Rattle.cdg_checkpoint.specs.declared.stops.ResumeStop.{ResumeStop}
+use Rattle.cdg_checkpoint.specs.declared.stops.ResumeStop.TheVariants as resume
+use Rattle.cdg_cmd.specs.Call.{Bytes, Call, Change}
+use Rattle.cdg_cmd.specs.Endings.{EndsWith}
+use Rattle.cdg_cmd.specs.Turns.{pump_status}
+use Rattle.cdg_cmd.specs.declared.status.Which.TheVariants.{First, Second}
+use Rattle.cdg_cmd.specs.declared.status.Refusal.TheVariants.{Torn, TooLong, PastEnd, BadSave, BeforeSave}
+use Rattle.cdg_cmd.specs.declared.status.Status.{Status}
+use Rattle.cdg_cmd.specs.declared.status.Status.TheVariants.{Done, Damaged, Refused, ReadFault, WriteFault}
+
+-- the checkpoint of a stream was written after it
+abbrev pub SavesWith : ℕ → Call Bytes → Status → Type 0
+SavesWith lead_in call status =
+    EndsWith pump_status (Saves lead_in call.first.before call.first.after call.out.before call.out.after)
+    (λ answer. IfSome call.first.before (λ all. IsUnlessFault answer (answer_of 96 1000000 (length all)))) status
+
+-- an input was read to its end, and it held the file of a checkpoint that is not later than a time
+pub record ReadsCheckpoint (at : ℕ) (input : Change Bytes) (file : List ℕ) : Type 0 where
+  pub is_file : IsCheckpointFile file
+  pub not_later : (checkpoint_in file).program ≤ at
+  pub taken : Consumes input.before input.after file
+  pub end : IsAtEnd input.after
+
+-- the status of what a resumed call answers
+abbrev pub resume_status : Result Resumed ResumeStop → Status
+resume_status (Ok resumed) = if resumed.bad == 0 then Done else Damaged resumed.bad
+resume_status (Err resume.FirstFault) = ReadFault First
+resume_status (Err resume.SecondFault) = ReadFault Second
+resume_status (Err resume.WriteFault) = WriteFault
+resume_status (Err (resume.BadSave byte)) = Refused (BadSave byte)
+resume_status (Err (resume.BeforeSave blocks)) = Refused (BeforeSave blocks)
+resume_status (Err (resume.Torn block)) = Refused (Torn block)
+resume_status (Err resume.TooLong) = Refused TooLong
+resume_status (Err (resume.PastEnd blocks)) = Refused (PastEnd blocks)
+
+-- A stream was resumed: the answer, the file that was read, what was put after it, and the exact answer where no fault is told.
+pub record ResumesWith (at : ℕ) (call : Call Bytes) (status : Status) : Type 0 where
+  pub answer : Result Resumed ResumeStop
+  pub status_is : status ≡ resume_status answer
+  pub file : List ℕ
+  -- at most one byte past that of a checkpoint
+  pub most : length file ≤ file_size + 1
+  pub taken : answer ≢ Err resume.FirstFault → Consumes call.first.before call.first.after file
+  pub whole : answer ≢ Err resume.FirstFault → length file ≤ file_size → IsAtEnd call.first.after
+  pub accepted : IsAcceptedBy (acceptance answer) at file
+  pub goes_on : IsOk (acceptance answer) → (rest : List ℕ) × Resumes file at call.second.before call.second.after call.out.before call.out.after answer rest
+  pub exactly : IsOk (acceptance answer) → IfSome call.second.before (λ all. IsResumedBy answer (checkpoint_in file) at (length all))

@@ -1,0 +1,60 @@
+// The command that shows a moment of a stream from a checkpoint of it.
+ghost use Rattle.std.specs.Prelude.{◌≡◌, ◌≢◌, ◌<◌, ◌⊎◌};
+ghost use Rattle.cdg_cmd.specs.Answer.{Does};
+ghost use Rattle.cdg_cmd.specs.Call.{call, change};
+ghost use Rattle.cdg_cmd.specs.Checkpoints.{resume_status};
+ghost use Rattle.cdg_cmd.specs.Ends.{CheckpointEnds, RestEnds};
+ghost use Rattle.cdg_cmd.specs.Faults.{TellsFaults};
+ghost use Rattle.cdg_cmd.specs.Keeps.{MayWrite, ReadsSecond};
+
+use crate::{Command, Refusal, Status, Which};
+use cdg_checkpoint::{Checkpointer, ResumeStop, Resumed};
+use cdg_io::{Sink, Source};
+use std::alloc::Global;
+
+// The status of what a resumed call answers.
+fn resume_status(answer: Result<Resumed, ResumeStop>) -> Status
+    ensures { result ≡ resume_status answer }
+{
+    match answer {
+        Ok(resumed) if resumed.bad == 0 => Status::Done,
+        Ok(resumed) => Status::Damaged(resumed.bad),
+        Err(ResumeStop::FirstFault) => Status::ReadFault(Which::First),
+        Err(ResumeStop::SecondFault) => Status::ReadFault(Which::Second),
+        Err(ResumeStop::WriteFault) => Status::WriteFault,
+        Err(ResumeStop::BadSave { byte }) => Status::Refused(Refusal::BadSave { byte }),
+        Err(ResumeStop::BeforeSave { blocks }) => Status::Refused(Refusal::BeforeSave { blocks }),
+        Err(ResumeStop::Torn { block }) => Status::Refused(Refusal::Torn { block }),
+        Err(ResumeStop::TooLong) => Status::Refused(Refusal::TooLong),
+        Err(ResumeStop::PastEnd { blocks }) => Status::Refused(Refusal::PastEnd { blocks }),
+    }
+}
+
+/// Writes the picture at a moment of a stream of which a checkpoint, which is the first input, and the rest are given.
+#[tactic(auto, using(crate::proofs::MergeTold::told_none, crate::proofs::ResumeTold::never_memory, crate::proofs::ResumeTold::never_usage, crate::proofs::ResumeTold::untouched))]
+pub(crate) fn run_resume<S: Source, T: Source, K: Sink>(
+    alloc: Global,
+    at: u32,
+    first: &mut S,
+    second: &mut T,
+    out: &mut K,
+) -> Status
+    requires { at < 450000 }
+    ensures does { result ≢ Status.NoMemory → Does (Command.Resume at)
+        (call S.left T.left K.held (first.old, second.old, out.old) (first.new, second.new, out.new)) result }
+    ensures no_memory { result ≡ Status.NoMemory
+        → (first.new ≡ first.old) × (second.new ≡ second.old) × (out.new ≡ out.old) }
+    ensures never { result ≢ Status.Usage }
+    ensures untouched { ¬ (MayWrite result) → out.new ≡ out.old }
+    ensures second { (second.new ≡ second.old)
+        ⊎ ReadsSecond (Command.Resume at) (change S.left first.old first.new) }
+    ensures faults { TellsFaults (call S.faults T.faults K.faults (first.old, second.old, out.old)
+        (first.new, second.new, out.new)) result }
+    ensures first_ended { CheckpointEnds (change S.ends first.old first.new) result }
+    ensures second_ended { RestEnds (change T.ends second.old second.new) result }
+{
+    match Checkpointer::start(alloc) {
+        Ok(mut checkpointer) => resume_status(checkpointer.resume(at, first, second, out)),
+        Err(_) => Status::NoMemory,
+    }
+}

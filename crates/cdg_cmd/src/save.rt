@@ -1,0 +1,36 @@
+// The command that writes a checkpoint after a stream.
+ghost use Rattle.std.specs.Prelude.{◌≡◌, ◌≢◌, ◌≤◌};
+ghost use Rattle.cdg_cmd.specs.Answer.{Does};
+ghost use Rattle.cdg_cmd.specs.Call.{change, one_input};
+ghost use Rattle.cdg_cmd.specs.Ends.{EndsFirst};
+ghost use Rattle.cdg_cmd.specs.Faults.{TellsOne};
+ghost use Rattle.cdg_cmd.specs.Keeps.{MayWrite};
+
+use crate::turn::pump_status;
+use crate::{Command, Status};
+use cdg_checkpoint::Checkpointer;
+use cdg_io::{Sink, Source};
+use std::alloc::Global;
+
+/// Writes the checkpoint after a stream.
+#[tactic(auto, using(crate::proofs::Pumped::told_one, crate::proofs::Played::told_none, crate::proofs::Pumped::never_memory, crate::proofs::SaveTold::ended_first, crate::proofs::SaveTold::untouched))]
+pub(crate) fn run_save<S: Source, K: Sink>(
+    alloc: Global,
+    lead_in: u32,
+    source: &mut S,
+    out: &mut K,
+) -> Status
+    requires { lead_in ≤ 450000 }
+    ensures does { result ≢ Status.NoMemory → Does (Command.Save lead_in)
+        (one_input S.left K.held (source.old, out.old) (source.new, out.new)) result }
+    ensures no_memory { result ≡ Status.NoMemory → (source.new ≡ source.old) × (out.new ≡ out.old) }
+    ensures untouched { ¬ (MayWrite result) → out.new ≡ out.old }
+    ensures faults { TellsOne (change S.faults source.old source.new)
+        (change K.faults out.old out.new) result }
+    ensures ended { EndsFirst (change S.ends source.old source.new) result }
+{
+    match Checkpointer::start(alloc) {
+        Ok(mut checkpointer) => pump_status(checkpointer.save(lead_in, source, out)),
+        Err(_) => Status::NoMemory,
+    }
+}
