@@ -34,6 +34,7 @@ ROMAN = "I II III IV V VI VII VIII".split()
 # What the words of the standard library mean.
 WORDS = {
     "All": "it holds of each element of a list",
+    "AllByRecursion": "it holds of each element of a list",
     "Appends": "what an output holds grew by exactly these bytes, where it tells them",
     "Bool": "`true` or `false`",
     "Consumes": "exactly these bytes were taken off the front of an input, where it tells them",
