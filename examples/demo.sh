@@ -81,8 +81,8 @@ draw demo/card.ppm
 ribjasper state --lead-in $lead_in --at 00:17:00 <demo/scratched.raw | sed -n '1,4s/^/   /p'
 
 echo
-echo "8. merge: two readings with sixty bytes destroyed in each; neither gives all packs back alone, both together do"
-head -c 60 /dev/zero | tr '\000' '\025' >demo/hole
+echo "8. merge: two readings with 25 bytes destroyed in each; neither gives all packs back alone, both together do"
+head -c 25 /dev/zero | tr '\000' '\025' >demo/hole
 for reading in first second; do cp demo/hello.raw demo/$reading.raw; done
 dd if=demo/hole of=demo/first.raw bs=1 seek=60000 conv=notrunc 2>/dev/null
 dd if=demo/hole of=demo/second.raw bs=1 seek=90000 conv=notrunc 2>/dev/null
@@ -102,10 +102,14 @@ ribjasper convert --lead-in $lead_in <demo/pressed.raw | tail -c +14233 | cmp - 
 echo "   demo/pressed.raw: $(($(wc -c <demo/pressed.raw) / 96)) blocks, which give the same file back"
 
 echo
-echo "10. thin: packs that change nothing become idle"
-ribjasper thin <demo/song.cdg >demo/thin.cdg
+echo "10. thin: packs that change nothing become idle, here of a file that sends each pack twice"
+python3 -c '
+import sys
+packs = open(sys.argv[1], "rb").read()
+sys.stdout.buffer.write(b"".join(2 * packs[k : k + 24] for k in range(0, len(packs), 24)))' demo/clean.cdg >demo/twice.cdg
+ribjasper thin <demo/twice.cdg >demo/thin.cdg
 graphics() { od -An -v -tu1 -w24 "$1" | awk '$1 == 9 { n++ } END { print n + 0 }'; }
-echo "   $(graphics demo/song.cdg) graphics packs before, $(graphics demo/thin.cdg) after, and the same pictures"
+echo "   $(graphics demo/twice.cdg) graphics packs before, $(graphics demo/thin.cdg) after, and the same pictures"
 
 echo
 echo "11. save and resume: a checkpoint after seven seconds, and a picture from the rest of the stream alone"
