@@ -7,6 +7,7 @@ themselves looks at all of it again, so nothing here is taken on trust."""
 import hashlib
 import os
 import pathlib
+import shutil
 import subprocess
 import sys
 import threading
@@ -77,6 +78,50 @@ def spoken(seconds):
     return f"{seconds:.0f} seconds" if seconds < 100 else f"{seconds / 60:.0f} minutes"
 
 
+def all_below(name, below):
+    """A crate and all of the repository that it stands on."""
+    return {name}.union(*(all_below(it, below) for it in below[name]))
+
+
+def room_of(name, below):
+    """A copy, by links, of a crate and what it stands on.
+
+    `rt` keeps every other `rt` out of the crates that it works over, so two proofs that stand on the same
+    library would wait for one another in one folder."""
+    room = ROOT / "crates" / name / "out" / "room"
+    if (room / "crates" / name / "out").is_dir():
+        give_back(name, room)  # of a call that was stopped
+    shutil.rmtree(room, ignore_errors=True)
+    (room / "crates").mkdir(parents=True)
+    shutil.copy2(ROOT / "HANDLES", room)
+    inside = all_below(name, below)
+    lines = (ROOT / "crates.txt").read_text().splitlines(keepends=True)
+    (room / "crates.txt").write_text("".join(it for it in lines if it.split(":")[0].split(" ")[0] in inside))
+    for it in inside:
+        skipped = shutil.ignore_patterns("room") if it == name else None
+        how = dict(ignore=skipped, copy_function=link_or_copy)
+        shutil.copytree(ROOT / "crates" / it, room / "crates" / it, **how)
+    return room
+
+
+def link_or_copy(old, new):
+    try:
+        os.link(old, new)
+    except OSError:
+        shutil.copy2(old, new)
+
+
+def give_back(name, room):
+    """Puts what was made in the room where it belongs, and clears the room."""
+    here = ROOT / "crates" / name / "out"
+    for made in (room / "crates" / name / "out").iterdir():
+        kept = here / made.name
+        if kept.is_dir():
+            shutil.rmtree(kept)
+        os.replace(made, kept)
+    shutil.rmtree(room, ignore_errors=True)
+
+
 class Proving:
     def __init__(self, names, below, made, lanes):
         self.below, self.made, self.lanes = below, made, lanes
@@ -100,9 +145,11 @@ class Proving:
         """Proves a crate and builds its library, over what earlier runs kept."""
         folder = ROOT / "crates" / name
         os.makedirs(folder / "out", exist_ok=True)
+        room = room_of(name, self.below)
         with open(folder / "out" / "proving.log", "w") as log:
-            how = dict(cwd=folder, stdin=subprocess.DEVNULL, stdout=log, stderr=subprocess.STDOUT)
+            how = dict(cwd=room / "crates" / name, stdin=subprocess.DEVNULL, stdout=log, stderr=subprocess.STDOUT)
             is_well = not subprocess.run(["rt", "lib", "--jobs", "1"], **how).returncode
+        give_back(name, room)
         if is_well:
             (folder / "out" / "proved").write_text(self.made[name])
         with self.news:
