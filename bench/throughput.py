@@ -1,6 +1,8 @@
 #!/usr/bin/env python3
 """Prints, for each command on inputs of 40 MB: its time, its MB a second, how many times the time of `cat` through the same
-pipes that is, and the most memory that it held. Each time is the best of five.
+pipes that is, the time of a plain program and our speed as a multiple of its, and the most memory that was held. Each time
+is the best of five. The plain program is bench/reference.rs, unverified Rust that does the work of some commands; it is
+built where rustc is there, and what it writes is compared with what we write.
 
 What a time is bound by: `convert`, `check`, `screen`, `state`, `save` and `resume` by the words, four a block, each a
 gathering of 24 symbols and a look at its sums (on an authored stream nearly all blocks are idle); with a wrong symbol in each
@@ -8,8 +10,9 @@ block by the correction; `merge` by two such streams; `q` by the check and the t
 the bits; `scratch` by the copy; `author`, `press` and `trial` by the writer of blocks, `author` also by the plans of the
 pictures; `thin` by the drawing. Everything goes through two pipes, as `cat` does.
 """
+import hashlib
 import os
-import resource
+import shutil
 import subprocess
 import sys
 import tempfile
@@ -20,6 +23,8 @@ TOP = Path(__file__).resolve().parent.parent
 PROGRAM = TOP / "bin" / "ribjasper"
 BLOCKS = 416_640
 RUNS = 5
+# The commands that the plain program knows.
+PLAIN = ("convert", "check", "screen", "q", "planar", "raw", "scratch")
 
 
 def through_pipes(words, files):
@@ -58,6 +63,30 @@ def peak(words, files):
 
 def best(words, files):
     return min(through_pipes(words, files)[0] for _ in range(RUNS))
+
+
+def reference(work):
+    """The plain program, where it can be built."""
+    made = work / "reference"
+    how = ["rustc", "-O", "--edition", "2021", "-o", str(made), str(TOP / "bench" / "reference.rs")]
+    if shutil.which("rustc") is None or subprocess.run(how, check=False).returncode:
+        return None
+    return str(made)
+
+
+def plain_words(program, words):
+    """What asks the plain program for the work of a command, where it can do it."""
+    parts = words.split()
+    if program is None or parts[0] not in PLAIN:
+        return None
+    return [program, parts[0], *parts[-1:]] if parts[0] in ("screen", "scratch") else [program, parts[0]]
+
+
+def written(words, files):
+    """A digest of what a run writes."""
+    with open(files[0]) as given:
+        ran = subprocess.run(words, stdin=given, stdout=subprocess.PIPE, stderr=subprocess.DEVNULL, check=False)
+    return hashlib.sha256(ran.stdout).hexdigest()
 
 
 def ribjasper(words):
@@ -133,8 +162,9 @@ def main():
     failed = False
     with tempfile.TemporaryDirectory() as folder:
         files = inputs(Path(folder))
+        program = reference(Path(folder))
         print(f"load {os.getloadavg()[0]:.1f}, {os.cpu_count()} processors")
-        print(f"{'command':40} {'input':22} {'MB':>6} {'cat ms':>7} {'ms':>7} {'MB/s':>6} {'times':>6} {'KB':>7}")
+        print(f"{'command':40} {'input':22} {'MB':>6} {'cat ms':>7} {'ms':>7} {'MB/s':>6} {'times':>6} {'plain':>6} {'ratio':>6} {'KB':>7}")
         for words, names, size in ROWS:
             given = [files[name] for name in names]
             length = sum(os.path.getsize(it) for it in given)
@@ -146,9 +176,17 @@ def main():
             copied = sum(best(["cat"], [it]) for it in given) if given else 0
             took = best(ribjasper(words), given)
             times = f"{took / copied:6.1f}" if copied > 0.002 else "     -"
+            plain, ratio = "-", "-"
+            other = plain_words(program, words)
+            if other:
+                if written(other, given) != written(ribjasper(words), given):
+                    print(f"{words}: the plain program writes something else", file=sys.stderr)
+                    failed = True
+                seconds = best(other, given)
+                plain, ratio = f"{1e3 * seconds:.0f}", f"{seconds / took:.2f}"
             print(
                 f"{words:40} {'+'.join(names):22} {length / 1e6:6.1f} {1e3 * copied:7.0f} {1e3 * took:7.0f}"
-                f" {length / 1e6 / took:6.0f} {times} {peak(ribjasper(words), given):7}"
+                f" {length / 1e6 / took:6.0f} {times} {plain:>6} {ratio:>6} {peak(ribjasper(words), given):7}"
             )
     return 1 if failed else 0
 

@@ -431,6 +431,8 @@ def values():
     for seed, pictures in [(42, 1), (42, 2), (7, 3), (2**64 - 1, 1), (0, 500)]:
         yield f"a-script-of-seed-{seed}-and-{pictures}", "digest", digest(script(seed, pictures))
     yield "zeros-are-scratched", "digest", digest(scratched(bytes(480), 0, 42))
+    lines = "".join(f"{block:06} bad crc\n" for block in range(1_000_000))
+    yield "frames-of-too-many-blocks", "digest", digest(lines.encode())
     yield "a-disc-is-scratched", "digest", digest(scratched(titled.stream(), 12, 7))
 
 

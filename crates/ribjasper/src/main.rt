@@ -2,11 +2,14 @@
 #![tactic(auto)]
 
 mod input;
+mod live;
 
 use cdg_cmd::{Status, run, split, tell};
 use cdg_io::{ReadSource, SteadySink, WriteSink};
 use input::Input;
-use std::io::{BufReader, BufWriter, ErrorKind, Write};
+use live::{LiveInput, LiveOutput, flush};
+use std::cell::RefCell;
+use std::io::{BufReader, BufWriter, ErrorKind};
 use std::process::ExitCode;
 use std::{env, io};
 
@@ -43,10 +46,12 @@ fn run_on_streams(rt: &HostRuntime) -> io::Result<Status> {
     let split = split(&line);
     let first_name = line.len() - split.names;
     let (first, second) = inputs(rt, &line[first_name..]);
+    let waiting = RefCell::new(BufWriter::with_capacity(alloc, BUFFER, rt.stdout())?);
+    let first = LiveInput { input: first, waiting: &waiting };
+    let second = LiveInput { input: second, waiting: &waiting };
     let mut first = ReadSource::new(BufReader::with_capacity(alloc, BUFFER, first)?);
     let mut second = ReadSource::new(BufReader::with_capacity(alloc, BUFFER, second)?);
-    let mut writer = BufWriter::with_capacity(alloc, BUFFER, rt.stdout())?;
-    let mut out = WriteSink::new(&mut writer);
+    let mut out = WriteSink::new(LiveOutput(&waiting));
     let mut err = SteadySink::new();
     let status = run(
         alloc,
@@ -56,7 +61,7 @@ fn run_on_streams(rt: &HostRuntime) -> io::Result<Status> {
         &mut out,
         &mut err,
     );
-    match writer.flush() {
+    match flush(&waiting) {
         Ok(()) => Ok(status),
         Err(_) => Ok(Status::WriteFault),
     }
