@@ -14,6 +14,3 @@ pub use checkpointer::Checkpointer;
 pub use laws::{a_resumed_stream_is_the_whole, a_saved_stream_goes_on_as_the_whole};
 pub use stops::{ResumeStop, Resumed};
 pub use tracking::Tracking;
-
-#[cfg(test)]
-mod tests;

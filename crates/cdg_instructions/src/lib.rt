@@ -11,6 +11,3 @@ pub use instr::Instr;
 pub use reading::{each_pack_has_a_meaning, only_one_meaning, read, read_word};
 pub use tile::{PIXELS, Tile};
 pub use writing::{read_of_written, write};
-
-#[cfg(test)]
-mod tests;

@@ -7,6 +7,3 @@ mod thinner;
 
 pub use laws::thin_forms_stand_alike;
 pub use thinner::Thinner;
-
-#[cfg(test)]
-mod tests;

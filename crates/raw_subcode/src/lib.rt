@@ -8,8 +8,6 @@ mod lanes;
 mod laws;
 mod packs;
 mod planar;
-#[cfg(test)]
-mod tests;
 
 pub use block::Block;
 pub use form::Form;

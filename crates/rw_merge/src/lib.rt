@@ -28,6 +28,3 @@ pub fn one_text_is_merged()
         → IsMergedText lead_in first second text bad → IsMergedText lead_in first second other count
         → (text ≡ other) × (bad ≡ count) }
 {}
-
-#[cfg(test)]
-mod tests;

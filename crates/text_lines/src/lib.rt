@@ -8,6 +8,3 @@ mod words;
 pub use lines::{next_line, without_mark};
 pub use numbers::{number, time, two_digits};
 pub use words::{is_blank, next_word, split_command, trim, trim_start};
-
-#[cfg(test)]
-mod tests;

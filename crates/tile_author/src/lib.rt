@@ -9,8 +9,6 @@ ghost use Rattle.tile_author.specs.Plan.{basis, combination, delta, is_combinati
 ghost use Rattle.tile_author.specs.Table.{are_independent};
 
 mod basis;
-#[cfg(test)]
-mod tests;
 
 use arrayvec::ArrayVec;
 use basis::Basis;

@@ -1,6 +1,6 @@
-use super::*;
 use cdg_io::{MemSink, SteadySource};
 use rw_code::{Pack, Word};
+use rw_merge::{Merged, Merger, agree};
 use std::test::Fail;
 
 // The idle word with symbols that are 1 at some positions.

@@ -1,4 +1,4 @@
-use super::*;
+use cdg_checkpoint::{Checkpointer, Resumed};
 use cdg_io::{MemSink, MemSource};
 use std::alloc::Global;
 use std::test::Fail;

@@ -1,5 +1,7 @@
 // Lines, words and times of small texts.
-use super::*;
+use text_lines::{
+    next_line, next_word, number, split_command, time, trim, trim_start, two_digits, without_mark,
+};
 
 #[test]
 fn lines_of_a_text(rt: HostRuntime) {

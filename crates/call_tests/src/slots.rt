@@ -1,6 +1,6 @@
-use super::*;
 use gf64::Sym;
 use rw_code::Pack;
+use rw_interleave::{Gather, Slot, Spread, place};
 use std::test::Fail;
 
 // The places of the symbols of a pack, from the first symbol of its own slot.

@@ -1,5 +1,5 @@
-use super::*;
 use cdg_io::{MemSink, MemSource, Pumped};
+use cdg_thin::Thinner;
 use std::test::Fail;
 
 // All is zero at the start, so a preset with colour 0 changes nothing.

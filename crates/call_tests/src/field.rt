@@ -1,4 +1,4 @@
-use super::*;
+use gf64::Sym;
 use std::test::Fail;
 
 // The powers of the element 2, as coders of the subcode channels list them.

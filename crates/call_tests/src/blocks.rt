@@ -1,4 +1,5 @@
-use super::*;
+// The form of blocks of 96 bytes.
+use raw_subcode::{Block, text_symbols};
 
 // P and Q of the first byte, in both forms.
 #[test]

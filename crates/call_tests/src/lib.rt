@@ -1,0 +1,35 @@
+//! Tests of single calls: those that no row of a command reaches, and known values of the layers below.
+//!
+//! They stand in a crate of their own, since a crate with tests is proved twice.
+#![tactic(auto)]
+
+#[cfg(test)]
+mod blocks;
+#[cfg(test)]
+mod checkpoints;
+#[cfg(test)]
+mod field;
+#[cfg(test)]
+mod files;
+#[cfg(test)]
+mod instructions;
+#[cfg(test)]
+mod lines;
+#[cfg(test)]
+mod players;
+#[cfg(test)]
+mod readings;
+#[cfg(test)]
+mod slots;
+#[cfg(test)]
+mod stopped;
+#[cfg(test)]
+mod streams;
+#[cfg(test)]
+mod thinning;
+#[cfg(test)]
+mod tiles;
+#[cfg(test)]
+mod times;
+#[cfg(test)]
+mod words;
