@@ -1,26 +1,39 @@
 -- Bytes that are cut into blocks and slots.
-use Rattle.std.proofs.Common.{◌≡◌, ℕ, zero, suc, ◌+◌, ◌-◌, ◌*◌, ◌/◌, ◌%◌, List, [], ◌∷◌, ◌++◌, length, take, drop, map, flat_map, refl, sym, ap, ap₂, ◌∙◌, arith}
+use Rattle.std.proofs.Common.{◌≡◌, ℕ, zero, suc, ◌+◌, ◌-◌, ◌*◌, ◌/◌, ◌%◌, ◌<◌, List, [], ◌∷◌, ◌++◌, length, take, drop, map, flat_map, refl, sym, ap, ap₂, ◌∙◌, arith}
 use Rattle.std.specs.List.{concat, AllByRecursion}
 use Rattle.std.proofs.Math.Nat.{suc-mul}
 use Rattle.std.proofs.Math.Seq.{drop-nil}
-use Rattle.std.proofs.lemmas.List.{length-drop, length-map, length-take-le, drop-drop, map-append, nil_from_length, take-append-drop, take-append-le, drop-append-le}
+use Rattle.std.specs.Prelude.{slice_index}
+use Rattle.std.proofs.lemmas.List.{get_or-drop, get_or-map, get_or-take, length-drop, length-map, length-take-le, drop-drop, map-append, nil_from_length, take-append-drop, take-append-le, drop-append-le}
+use Rattle.std.proofs.lemmas.List.FromFn.{fill_by_all}
 use Rattle.bit_lists.specs.Counting.{parts}
 use Rattle.raw_subcode.specs.Channels.{symbols_of, block_of, program_symbols}
 use Rattle.raw_subcode.specs.declared.form.Form.TheVariants.{Raw}
+use Rattle.rw_interleave.specs.Windows.{slot_in, slots_in}
 use Rattle.rw_merge.specs.Steps.{slots_of}
 
--- one part more
-parts_push : (size i : ℕ) (xs : List ℕ) → parts (i + 1) size xs ≡ parts i size xs ++ take size (drop (size * i) xs) ∷ []
-parts_push size zero xs =
-    let here : 0 ≡ size * 0 = omega arith in ap (λ k. take size (drop k xs) ∷ []) here
-parts_push size (suc i) xs =
-    let next : suc i + 1 ≡ suc (i + 1) = omega arith in
-    let there : size + size * i ≡ size * suc i = omega arith in
-    ap (λ n. parts n size xs) next
-    ∙ ap (λ ps. take size xs ∷ ps) (parts_push size i (drop size xs) ∙ ap (λ p. parts i size (drop size xs) ++ take size p ∷ []) (drop-drop (size * i) size xs ∙ ap (λ k. drop k xs) there))
+-- a slot of a block, as a window takes it
+slot_is : (block rest : List ℕ) (k : ℕ) → length block ≡ 96 → k < 4 → rest ≡ drop (24 * k) block → symbols_of (take 24 rest) ≡ slot_in block k
+unfolding slot_in
+slot_is block rest k size lt rest_is =
+    let long : length rest ≡ 96 - 24 * k = ap length rest_is ∙ length-drop (24 * k) block ∙ ap (λ n. n - 24 * k) size in
+    let few : length (take 24 rest) ≡ 24 = length-take-le 24 rest (omega (arith, long, lt)) in
+    fill_by_all (λ i. slice_index block (24 * k + i) % 64) (symbols_of (take 24 rest)) 24 0 (length-map (take 24 rest) (λ (byte : ℕ). byte % 64) ∙ few)
+    (λ n n_lt. get_or-map (λ (byte : ℕ). byte % 64) (take 24 rest) n 0 0 (omega (arith, few, n_lt))
+    ∙ ap (λ byte. byte % 64) (get_or-take 24 rest n 0 n_lt ∙ ap (λ l. slice_index l n) rest_is ∙ get_or-drop (24 * k) block n 0))
 
-pub slots_push : (i : ℕ) (xs : List ℕ) → slots_of (i + 1) xs ≡ slots_of i xs ++ symbols_of (take 24 (drop (24 * i) xs)) ∷ []
-slots_push i xs = ap (map symbols_of) (parts_push 24 i xs) ∙ map-append symbols_of (parts i 24 xs) (take 24 (drop (24 * i) xs) ∷ [])
+-- the slots of a block, as a window takes them
+pub slots_taken : (block : List ℕ) → length block ≡ 96 → slots_in block 0 4 ≡ slots_of 4 block
+unfolding slots_in
+slots_taken block size =
+    let two : drop 24 (drop 24 block) ≡ drop 48 block = drop-drop 24 24 block in
+    let three : drop 24 (drop 24 (drop 24 block)) ≡ drop 72 block = ap (drop 24) two ∙ drop-drop 24 48 block in
+    sym (λ i.
+    slot_is block block 0 size (omega arith) refl i
+    ∷ slot_is block (drop 24 block) 1 size (omega arith) refl i
+    ∷ slot_is block (drop 24 (drop 24 block)) 2 size (omega arith) two i
+    ∷ slot_is block (drop 24 (drop 24 (drop 24 block))) 3 size (omega arith) three i
+    ∷ [])
 
 -- whole parts, and then others
 parts-append : (size n m : ℕ) (xs ys : List ℕ) → length xs ≡ n * size → parts (n + m) size (xs ++ ys) ≡ parts n size xs ++ parts m size ys

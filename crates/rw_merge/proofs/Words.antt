@@ -4,23 +4,23 @@ use Rattle.std.specs.Prelude.{is_none, if◌then◌else◌}
 use Rattle.std.specs.declared.option.Option.{Option}
 use Rattle.std.proofs.lemmas.Bool.{cases_lt, lt-ltb, le-ltb}
 use Rattle.std.proofs.lemmas.Grind.{flat_map-append}
-use Rattle.std.proofs.lemmas.List.{length-drop}
+use Rattle.std.proofs.lemmas.List.{length-drop, take_all, take_more}
 use Rattle.std.proofs.lemmas.List.FromFn.{length-map-range_with_len, get_or-map-range_with_len}
 use Rattle.std.proofs.lemmas.List.Sums.{sum_by-append}
-use Rattle.cdg_io.specs.Run.{give}
-use Rattle.cdg_io.proofs.Runs.{run_state-append, run_gives-append}
+use Rattle.cdg_io.specs.Run.{give, run_gives, run_state}
 use Rattle.bit_lists.specs.Counting.{below}
 use Rattle.raw_subcode.specs.Channels.{symbols_of, program_symbols}
 use Rattle.raw_subcode.specs.declared.form.Form.TheVariants.{Raw}
 use Rattle.rw_interleave.specs.Gathering.{gathered, gather_next, gather_gives}
 use Rattle.rw_interleave.specs.Interleave.{word_of, whole_packs}
+use Rattle.rw_interleave.specs.Windows.{slots_in}
 use Rattle.rw_interleave.proofs.Gathers.{gathers}
 use Rattle.stream_words.specs.Stream.{bad_count}
 use Rattle.stream_words.specs.Texts.{cdg_bytes, entry_bytes}
 use Rattle.rw_merge.specs.Agreement.{IsAgreed, IsAgreement}
 use Rattle.rw_merge.specs.Merging.{IsMerged, IsMergedText}
 use Rattle.rw_merge.specs.Steps.{AreAgreements, slots_of, window_after, words_after}
-use Rattle.rw_merge.proofs.Slots.{length-slots, program_is, program_slots, slots_push, slots_sized, slots_together}
+use Rattle.rw_merge.proofs.Slots.{length-slots, program_is, program_slots, slots_sized, slots_taken, slots_together}
 
 -- ---- What is found, one word after another.
 
@@ -68,7 +68,7 @@ text-append fs gs = flat_map-append entry_bytes fs gs
 pub bad-append : (fs gs : List (Option (List ℕ))) → bad_count (fs ++ gs) ≡ bad_count fs + bad_count gs
 bad-append fs gs = sum_by-append _ fs gs
 
--- ---- Windows of both readings, slot by slot.
+-- ---- Windows of both readings.
 
 -- both windows give a word, or neither does
 gives_both : (w v : List (List ℕ)) (s t : List ℕ) → length w ≡ length v
@@ -88,83 +88,73 @@ gives_both w v s t same =
           )
     ]
 
-pub length-next : (w v : List (List ℕ)) (s t : List ℕ) → length w ≡ length v → length (gather_next w s) ≡ length (gather_next v t)
+length-next : (w v : List (List ℕ)) (s t : List ℕ) → length w ≡ length v → length (gather_next w s) ≡ length (gather_next v t)
 unfolding gather_next
 length-next w v s t same =
     length-drop (length (w ++ s ∷ []) - 7) (w ++ s ∷ []) ∙ omega (arith, length-append w (s ∷ []), length-append v (t ∷ []), length-drop (length (v ++ t ∷ []) - 7) (v ++ t ∷ []))
 
--- one slot more
-pub window_push : (w : List (List ℕ)) (i : ℕ) (block : List ℕ) (now new : List (List ℕ)) (slot : List ℕ) → now ≡ window_after w (slots_of i block) → slot ≡ symbols_of (take 24 (drop (24 * i) block)) → new ≡ gather_next now slot
-    → new ≡ window_after w (slots_of (i + 1) block)
-window_push w i block now new slot now_is slot_is new_is =
-    new_is ∙ ap₂ gather_next now_is slot_is ∙ sym (ap (window_after w) (slots_push i block) ∙ run_state-append gather_next w (slots_of i block) _)
+-- windows of as many slots have as many after as many more
+pub length-window : (w v : List (List ℕ)) (slots others : List (List ℕ)) → length w ≡ length v → length slots ≡ length others → length (window_after w slots) ≡ length (window_after v others)
+length-window w v [] [] same count = same
+length-window w v [] (t ∷ ts) same count = absurd (omega arith)
+length-window w v (s ∷ ss) [] same count = absurd (omega arith)
+length-window w v (s ∷ ss) (t ∷ ts) same count = length-window (gather_next w s) (gather_next v t) ss ts (length-next w v s t same) (omega arith)
 
-words_push : (w : List (List ℕ)) (i : ℕ) (block : List ℕ) (now : List (List ℕ)) (slot : List ℕ) (word : Option (List ℕ)) → now ≡ window_after w (slots_of i block) → slot ≡ symbols_of (take 24 (drop (24 * i) block)) → gather_gives now slot ≡ word
-    → words_after w (slots_of (i + 1) block) ≡ words_after w (slots_of i block) ++ give word []
-words_push w i block now slot word now_is slot_is word_is =
-    ap (words_after w) (slots_push i block) ∙ run_gives-append gather_next gather_gives w (slots_of i block) _
-    ∙ ap (λ o. words_after w (slots_of i block) ++ give o []) (sym (ap₂ gather_gives now_is slot_is) ∙ word_is)
+-- and as many words come with these
+pub length-words : (w v : List (List ℕ)) (slots others : List (List ℕ)) → length w ≡ length v → length slots ≡ length others → length (words_after w slots) ≡ length (words_after v others)
+length-words w v [] [] same count = refl
+length-words w v [] (t ∷ ts) same count = absurd (omega arith)
+length-words w v (s ∷ ss) [] same count = absurd (omega arith)
+length-words w v (s ∷ ss) (t ∷ ts) same count =
+    let after : length (words_after (gather_next w s) ss) ≡ length (words_after (gather_next v t) ts) = length-words (gather_next w s) (gather_next v t) ss ts (length-next w v s t same) (omega arith) in
+    elim (gives_both w v s t same) [
+      | inl none ↦
+          ap (λ o. length (give o (words_after (gather_next w s) ss))) none.0 ∙ after ∙ sym (ap (λ o. length (give o (words_after (gather_next v t) ts))) none.1)
+      | inr some ↦
+          ap (λ o. length (give o (words_after (gather_next w s) ss))) some.0 ∙ ap suc after ∙ sym (ap (λ o. length (give o (words_after (gather_next v t) ts))) some.1)
+    ]
 
--- What is found for the words of the first slots of a pair of blocks.
-pub record IsFoundTo (w v : List (List ℕ)) (first second : List ℕ) (i : ℕ) (text : List ℕ) (bad : ℕ) : Type 0 where
+-- a window that has taken a block
+pub window_is : (w v new : List (List ℕ)) (block : List ℕ) → length block ≡ 96 → w ≡ v → new ≡ run_state gather_next w (slots_in block 0 4) → new ≡ window_after v (slots_of 4 block)
+window_is w v new block size same is = is ∙ ap₂ (run_state gather_next) same (slots_taken block size)
+
+pub words_is : (w v words : List (List ℕ)) (block : List ℕ) → length block ≡ 96 → w ≡ v → words ≡ run_gives gather_next gather_gives w (slots_in block 0 4) → words ≡ words_after v (slots_of 4 block)
+words_is w v words block size same is = is ∙ ap₂ (run_gives gather_next gather_gives) same (slots_taken block size)
+
+-- ---- Word by word.
+
+-- What is found for the first of the words that come with a pair of blocks.
+pub record IsFoundTo (xs ys : List (List ℕ)) (i : ℕ) (text : List ℕ) (bad : ℕ) : Type 0 where
   pub found : List (Option (List ℕ))
-  pub all : AreAgreements (words_after w (slots_of i first)) (words_after v (slots_of i second)) found
+  pub all : AreAgreements (take i xs) (take i ys) found
   pub text_is : text ≡ cdg_bytes found
   pub bad_is : bad ≡ bad_count found
   pub few : length found ≤ i
 
--- a slot more of both
-pub record IsStep (w v : List (List ℕ)) (first second : List ℕ) (i : ℕ) (now now' : List (List ℕ)) (s t : List ℕ) (a b : Option (List ℕ)) : Type 0 where
-  pub same : length now ≡ length now'
-  pub now_is : now ≡ window_after w (slots_of i first)
-  pub now_is' : now' ≡ window_after v (slots_of i second)
-  pub slot_is : s ≡ symbols_of (take 24 (drop (24 * i) first))
-  pub slot_is' : t ≡ symbols_of (take 24 (drop (24 * i) second))
-  pub gives : a ≡ gather_gives now s
-  pub gives' : b ≡ gather_gives now' t
-
-some_not_none : {A B : Type 0} (x : A) (o o' : Option A) → o ≡ Some x → o' ≡ o → o' ≡ None → B
-some_not_none x o o' is same none = let contrary : Some x ≡ None = sym is ∙ sym same ∙ none in cc
-
-pub step_none : (w v : List (List ℕ)) (first second : List ℕ) (i : ℕ) (now now' : List (List ℕ)) (s t : List ℕ) (a b : Option (List ℕ)) (text : List ℕ) (bad : ℕ)
-    → IsStep w v first second i now now' s t a b → IsFoundTo w v first second i text bad → a ≡ None → IsFoundTo w v first second (i + 1) text bad
-step_none w v first second i now now' s t a b text bad step before none =
-    elim (gives_both now now' s t step.same) [
-      | inl nothing ↦
-          let words : words_after w (slots_of (i + 1) first) ≡ words_after w (slots_of i first) = words_push w i first now s None step.now_is step.slot_is nothing.0 ∙ append-nil _ in
-          let words' : words_after v (slots_of (i + 1) second) ≡ words_after v (slots_of i second) = words_push v i second now' t None step.now_is' step.slot_is' nothing.1 ∙ append-nil _ in
-          record {
-            found = before.found;
-            all = subst₂ (λ (xs ys : List (List ℕ)). AreAgreements xs ys before.found) (sym words) (sym words') before.all;
-            text_is = before.text_is;
-            bad_is = before.bad_is;
-            few = omega (arith, before.few);
-          }
-      | inr words ↦ some_not_none _ _ a words.0 step.gives none
-    ]
-
-pub step_both : (w v : List (List ℕ)) (first second : List ℕ) (i : ℕ) (now now' : List (List ℕ)) (s t : List ℕ) (a b : Option (List ℕ)) (text : List ℕ) (bad : ℕ)
-    → IsStep w v first second i now now' s t a b → (x : List ℕ) → a ≡ Some x → b ≡ None → IsFoundTo w v first second (i + 1) text bad
-step_both w v first second i now now' s t a b text bad step x is none =
-    elim (gives_both now now' s t step.same) [
-      | inl nothing ↦ some_not_none x a a is refl (step.gives ∙ nothing.0)
-      | inr words ↦ some_not_none _ _ b words.1 step.gives' none
-    ]
-
-pub step_some : (w v : List (List ℕ)) (first second : List ℕ) (i : ℕ) (now now' : List (List ℕ)) (s t : List ℕ) (a b : Option (List ℕ)) (text new : List ℕ) (bad more : ℕ)
-    → IsStep w v first second i now now' s t a b → IsFoundTo w v first second i text bad → (x y : List ℕ) (f : Option (List ℕ)) → a ≡ Some x → b ≡ Some y → IsAgreement x y f
-    → new ≡ text ++ entry_bytes f → more ≡ bad + (if is_none f then 1 else 0) → IsFoundTo w v first second (i + 1) new more
-step_some w v first second i now now' s t a b text new bad more step before x y f a_is b_is agreement new_is more_is =
-    let words : words_after w (slots_of (i + 1) first) ≡ words_after w (slots_of i first) ++ x ∷ [] = words_push w i first now s (Some x) step.now_is step.slot_is (sym step.gives ∙ a_is) in
-    let words' : words_after v (slots_of (i + 1) second) ≡ words_after v (slots_of i second) ++ y ∷ [] = words_push v i second now' t (Some y) step.now_is' step.slot_is' (sym step.gives' ∙ b_is) in
+-- one pair of words more
+pub found_next : (xs ys : List (List ℕ)) (i : ℕ) (text new : List ℕ) (bad more : ℕ) (f : Option (List ℕ)) → IsFoundTo xs ys i text bad → i < length xs → i < length ys
+    → IsAgreement (get_or xs i []) (get_or ys i []) f → new ≡ text ++ entry_bytes f → more ≡ bad + (if is_none f then 1 else 0) → IsFoundTo xs ys (i + 1) new more
+found_next xs ys i text new bad more f before lt lt' agreement new_is more_is =
     let fs = before.found ++ f ∷ [] in
     record {
       found = fs;
-      all = subst₂ (λ (xs ys : List (List ℕ)). AreAgreements xs ys fs) (sym words) (sym words') (agreements-append _ _ (x ∷ []) (y ∷ []) before.found (f ∷ []) before.all (agreements_one x y f agreement));
+      all = subst₂ (λ (us vs : List (List ℕ)). AreAgreements us vs fs) (sym (take_more xs i [] lt)) (sym (take_more ys i [] lt'))
+          (agreements-append _ _ (get_or xs i [] ∷ []) (get_or ys i [] ∷ []) before.found (f ∷ []) before.all (agreements_one (get_or xs i []) (get_or ys i []) f agreement));
       text_is = new_is ∙ ap (λ l. l ++ entry_bytes f) before.text_is ∙ sym (text-append before.found (f ∷ []) ∙ ap (λ l. cdg_bytes before.found ++ l) (append-nil (entry_bytes f)));
       bad_is = more_is ∙ ap (λ n. n + (if is_none f then 1 else 0)) before.bad_is ∙ sym (bad-append before.found (f ∷ []) ∙ omega arith);
       few = omega (arith, before.few, length-append before.found (f ∷ []));
     }
+
+-- all of them
+pub found_whole : (xs ys : List (List ℕ)) (i : ℕ) (text : List ℕ) (bad : ℕ) → IsFoundTo xs ys i text bad → i ≡ length xs → length xs ≡ length ys → i ≤ 4
+    → (found : List (Option (List ℕ))) × AreAgreements xs ys found × (text ≡ cdg_bytes found) × (bad ≡ bad_count found) × (length found ≤ 4)
+found_whole xs ys i text bad done at same few = (
+  done.found,
+  subst₂ (λ (us vs : List (List ℕ)). AreAgreements us vs done.found) (take_all i xs (omega arith)) (take_all i ys (omega arith)) done.all,
+  done.text_is,
+  done.bad_is,
+  omega (arith, done.few, few),
+)
 
 -- ---- The text of whole readings.
 

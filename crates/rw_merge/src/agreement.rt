@@ -1,11 +1,15 @@
 // The codeword on which two readings of a word agree.
-ghost use Rattle.std.specs.Prelude.{◌≡◌, List, ℕ, MatchOption};
+ghost use Rattle.std.specs.Prelude.{◌≡◌, ◌≢◌, List, ℕ, IfSome, MatchOption};
+ghost use Rattle.rw_code.specs.Codeword.{IsWord};
 ghost use Rattle.rw_merge.specs.Agreement.{IsAgreed};
 
-use crate::counting::doubts;
+use crate::counting::{differing, doubts};
 use crate::elimination::{Sums, solved};
 use crate::places::wrong_places;
 use rw_code::{Pack, Word, correct};
+
+/// The most that may stand against an agreed codeword.
+const MOST_DOUBTS: u8 = 4;
 
 /// The codeword that is agreed for two readings of a word: twice the symbols that both have equally wrong and those
 /// in which they differ are at most four. There is at most one such codeword, and `None` exactly where there is none.
@@ -14,13 +18,29 @@ pub fn agree(a: &Word, b: &Word) -> Option<Pack>
         ((w : List ℕ) → ¬ IsAgreed a.now b.now w)
         (λ pack. IsAgreed a.now b.now pack) }
 {
-    let one = a.bytes();
-    let other = b.bytes();
-    if one == other {
-        let Some(fixed) = correct(a) else {
-            return None;
-        };
-        return Some(fixed.pack);
+    let apart = differing(a, b);
+    if apart > MOST_DOUBTS {
+        return None;
+    }
+    if apart > 0 {
+        return agree_apart(a, b);
+    }
+    let Some(fixed) = correct(a) else {
+        return None;
+    };
+    Some(fixed.pack)
+}
+
+/// The same for readings that differ.
+fn agree_apart(a: &Word, b: &Word) -> Option<Pack>
+    requires differ { a.now ≢ b.now }
+    requires word { IsWord a.now }
+    ensures { MatchOption result
+        ((w : List ℕ) → ¬ IsAgreed a.now b.now w)
+        (λ pack. IsAgreed a.now b.now pack) }
+{
+    if let Some(pack) = likely(a, b) {
+        return Some(pack);
     }
     let sums = Sums::of(a);
     let Some(places) = wrong_places(a, b, &sums) else {
@@ -29,13 +49,29 @@ pub fn agree(a: &Word, b: &Word) -> Option<Pack>
     accept(a, b, &solved(a, &sums, &places))
 }
 
+/// The agreed codeword, where it is quickly found: it is one of the readings, or near the first.
+fn likely(a: &Word, b: &Word) -> Option<Pack>
+    ensures { IfSome result (λ pack. IsAgreed a.now b.now pack) }
+{
+    if let Some(pack) = accept(a, b, a) {
+        return Some(pack);
+    }
+    if let Some(pack) = accept(a, b, b) {
+        return Some(pack);
+    }
+    let Some(fixed) = correct(a) else {
+        return None;
+    };
+    accept(a, b, &fixed.pack.word())
+}
+
 /// The candidate, if it is a codeword that is agreed.
 fn accept(a: &Word, b: &Word, candidate: &Word) -> Option<Pack>
     ensures { MatchOption result
         (¬ IsAgreed a.now b.now candidate.now)
         (λ pack. IsAgreed a.now b.now pack) }
 {
-    if doubts(a, b, candidate) > 4 {
+    if doubts(a, b, candidate) > MOST_DOUBTS {
         return None;
     }
     Pack::check(candidate)

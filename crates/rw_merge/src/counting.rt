@@ -1,6 +1,6 @@
 // Where two readings differ, and how much stands against a codeword.
 ghost use Rattle.std.specs.Prelude.{◌≡◌, ◌≤◌, ◌+◌, ◌*◌, MatchOption};
-ghost use Rattle.rw_code.specs.Codeword.{differences};
+ghost use Rattle.rw_code.specs.Codeword.{IsWord, differences};
 ghost use Rattle.rw_merge.specs.Agreement.{equally_wrong};
 ghost use Rattle.rw_merge.specs.Places.{AreEqualFrom, IsNextDifference};
 
@@ -23,6 +23,23 @@ pub(crate) fn next_difference(
         }
     }
     None
+}
+
+/// At how many positions two readings differ. All are looked at, which is faster than to stop at the first.
+pub(crate) fn differing(first: &Word, second: &Word) -> u8
+    ensures count { result ≡ differences first.now second.now }
+    ensures first { IsWord first.now }
+    ensures second { IsWord second.now }
+{
+    let one = first.bytes();
+    let other = second.bytes();
+    let mut count = 0;
+    for i in 0..SYMBOLS {
+        if one[i] != other[i] {
+            count += 1;
+        }
+    }
+    count
 }
 
 /// Twice the symbols in which the readings are equal and not the word's, and those in which they differ.

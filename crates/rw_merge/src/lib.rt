@@ -5,6 +5,7 @@ mod agreement;
 mod counting;
 mod elimination;
 mod merging;
+mod packs;
 mod pairs;
 mod places;
 

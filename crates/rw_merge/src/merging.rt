@@ -11,21 +11,16 @@ ghost use Rattle.rw_merge.specs.Merging.{EndsFirst, EndsSecond, IsAnswer, IsMerg
 ghost use Rattle.rw_merge.specs.Readings.{IsDamagedTwice, IsReadTwice, Restores};
 ghost use Rattle.rw_merge.specs.Steps.{AreAgreements, slots_of, window_after, words_after};
 
-use crate::agree;
+use crate::packs::Packs;
 use crate::pairs::{next_pair, nothing_follows};
-use cdg_io::{Failed, Piece, Sink, Source, put_all};
-use rw_code::Pack;
-use rw_interleave::{Gather, Slot};
+use cdg_io::{Failed, Sink, Source, put_all};
+use rw_interleave::Window;
 use std::alloc::{AllocError, Global};
 use std::marker::Model;
 use stream_words::text_of_packs;
 
 /// The bytes of a block.
 pub(crate) const BLOCK: usize = 96;
-
-const SLOT: usize = 24;
-
-const SLOTS: usize = 4;
 
 /// The most blocks of an input.
 const MOST_BLOCKS: u32 = 1_000_000;
@@ -74,8 +69,8 @@ pub fn two_readings_give_packs()
 /// call begins anew, whatever stopped the one before. Seen as the last slots of both readings.
 #[derive(Drop)]
 pub struct Merger {
-    first: Gather,
-    second: Gather,
+    first: Window,
+    second: Window,
 }
 
 impl Model for Merger {
@@ -87,13 +82,13 @@ impl Model for Merger {
 }
 
 impl Merger {
-    /// Takes the memory of both windows.
-    pub fn start(alloc: Global) -> Result<Merger, AllocError>
+    /// Makes both windows, which lie in the merger itself: nothing is taken from the allocator.
+    pub fn start(_alloc: Global) -> Result<Merger, AllocError>
         ensures { IfOk result (λ m. m ≡ record { first = []; second = [] }) }
     {
         Ok(Merger {
-            first: Gather::start(alloc)?,
-            second: Gather::start(alloc)?,
+            first: Window::new(),
+            second: Window::new(),
         })
     }
 
@@ -238,55 +233,8 @@ impl Merger {
             (words_after self.old.second (slots_of 4 second.now)) found
             × (result.bytes ≡ cdg_bytes found) × (result.bad ≡ bad_count found) × (length found ≤ 4) }
     {
-        let mut packs = Packs {
-            bytes: Piece::new(),
-            bad: 0,
-        };
-        for i in 0..SLOTS {
-            let one = self.first.push(&slot_of(first, i));
-            let other = self.second.push(&slot_of(second, i));
-            if let Some(one) = one {
-                if let Some(other) = other {
-                    packs.add(agree(&one, &other));
-                }
-            }
-        }
-        packs
+        let one = self.first.push_block(first);
+        let other = self.second.push_block(second);
+        Packs::agreed(one.as_slice(), other.as_slice())
     }
-}
-
-/// The packs of a pair of blocks, and for how many words none was agreed.
-#[derive(Drop)]
-struct Packs {
-    bytes: Piece,
-    bad: u32,
-}
-
-impl Packs {
-    /// Adds what is agreed for a word: zeros where nothing is.
-    fn add(&mut self, pack: Option<Pack>)
-        requires bytes { length self.old.bytes ≤ 72 }
-        requires bad { self.old.bad < 4 }
-        ensures bytes { self.new.bytes ≡ self.old.bytes ++ entry_bytes pack }
-        ensures size { length self.new.bytes ≤ length self.old.bytes + 24 }
-        ensures bad { self.new.bad ≡ self.old.bad + (if is_none pack then 1 else 0) }
-    {
-        match pack {
-            Some(pack) => self.bytes.add(&pack.word().bytes()),
-            None => {
-                self.bytes.add(&[0; SLOT]);
-                self.bad += 1;
-            }
-        }
-    }
-}
-
-/// A slot of a block.
-fn slot_of(block: &[u8; BLOCK], i: usize) -> Slot
-    requires { i < 4 }
-    ensures { result ≡ symbols_of (take 24 (drop (24 * i) block.now)) }
-{
-    let mut bytes = [0; SLOT];
-    bytes.copy_from_slice(&block[SLOT * i..SLOT * i + SLOT]);
-    Slot::new(&bytes)
 }

@@ -1,15 +1,28 @@
-use Rattle.std.proofs.Common.{◌≡◌, sym, ◌∙◌, rules}
+use Rattle.std.proofs.Common.{◌≡◌, sym, ap, ◌∙◌, arith}
+use Rattle.rw_code.specs.Codeword.{differences}
+use Rattle.rw_code.proofs.Differing.{differences_none, differences_self}
 use Rattle.rw_merge.proofs.Readings.{agreed_equal, reads_agreed}
 use Rattle.rw_merge.proofs.agreement.agree.Goals as goal
 
+pub returns-then-apart-gt-MOST_DOUBTS : goal.returns-then-apart-gt-MOST_DOUBTS
+returns-then-apart-gt-MOST_DOUBTS c w agreed = omega (arith, agreed.few, c.differing-apart.ensures.count, c.if-apart-gt-MOST_DOUBTS.true)
+
+pub agree_apart-requires : goal.agree_apart-requires
+agree_apart-requires c = record {
+  differ = λ same.
+      let none : differences c.args.a.now c.args.b.now ≡ 0 = ap (differences c.args.a.now) (sym same) ∙ differences_self c.args.a.now in
+      omega (arith, none, c.differing-apart.ensures.count, c.if-apart-gt0.true);
+  word = c.differing-apart.ensures.first;
+}
+
 pub returns-in_default : goal.returns-in_default
 returns-in_default c w agreed =
-    let equal : c.bytes-one.result ≡ c.bytes-other.result = search rules in
-    let same : c.args.a.now ≡ c.args.b.now = sym c.bytes-one.ensures.same ∙ equal ∙ c.bytes-other.ensures.same in
+    let sizes = c.differing-apart.ensures.first.size ∙ sym c.differing-apart.ensures.second.size in
+    let same : c.args.a.now ≡ c.args.b.now = differences_none c.args.a.now c.args.b.now sizes (omega (arith, c.differing-apart.ensures.count, c.if-apart-gt0.false)) in
     c.in_default.ensures.reads w (reads_agreed c.args.a.now c.args.b.now w c.in_default.ensures.word same agreed)
 
-pub returns-then-eq : goal.returns-then-eq
-returns-then-eq c =
-    let equal : c.bytes-one.result ≡ c.bytes-other.result = search rules in
-    let same : c.args.a.now ≡ c.args.b.now = sym c.bytes-one.ensures.same ∙ equal ∙ c.bytes-other.ensures.same in
+pub returns : goal.returns
+returns c =
+    let sizes = c.differing-apart.ensures.first.size ∙ sym c.differing-apart.ensures.second.size in
+    let same : c.args.a.now ≡ c.args.b.now = differences_none c.args.a.now c.args.b.now sizes (omega (arith, c.differing-apart.ensures.count, c.if-apart-gt0.false)) in
     agreed_equal c.args.a.now c.args.b.now _ c.in-Some.ensures.word same c.in-Some.ensures.reads.0

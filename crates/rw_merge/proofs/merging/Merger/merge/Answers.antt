@@ -1,69 +1,45 @@
-use Rattle.std.proofs.Common.{◌+◌, [], ℕ, List, length, sym, ap, ◌∙◌, refl, arith, subst₂}
-use Rattle.std.specs.Prelude.{is_none}
-use Rattle.std.proofs.lemmas.List.Sums.{count_by-le-length}
-use Rattle.rw_merge.proofs.Words.{IsFoundTo, IsStep, agreement_of, agreements-nil, length-next, step_none, step_both, step_some, window_push}
+use Rattle.std.proofs.Common.{◌≡◌, ℕ, List, length, sym, ap, ◌∙◌, subst₂}
+use Rattle.rw_merge.specs.Steps.{AreAgreements, slots_of, words_after}
+use Rattle.rw_merge.proofs.Slots.{length-slots}
+use Rattle.rw_merge.proofs.Words.{length-window, length-words, window_is, words_is}
 use Rattle.rw_merge.proofs.merging.Merger.merge.Goals as goal
-use Rattle.rw_merge.proofs.merging.Merger.merge.Goals.{in-Some+in-Some-other, in-Some+in_default-other, in_default}
 
-pub loop-i-init : goal.loop-i-init
-loop-i-init c = record {
-  first = ap (λ v. v.first) c.self.view_is;
-  second = ap (λ v. v.second) c.self.view_is;
-  same = ap (λ v. length v.first) c.self.view_is ∙ c.requires ∙ sym (ap (λ v. length v.second) c.self.view_is);
-  size = omega (arith, ap length c.new.ensures);
-  few_bad = omega arith;
-  packs = record { found = []; all = agreements-nil; text_is = c.new.ensures; bad_is = refl; few = omega arith };
-}
+pub agreed-requires-clause-same : goal.agreed-requires-clause-same
+agreed-requires-clause-same c =
+    let w = c.args.self.now.first in
+    let v = c.args.self.now.second in
+    let first = words_is c.self.inside.first w _ c.args.first.now c.told-first (ap (λ m. m.first) c.self.view_is) c.push_block-one.ensures.gives in
+    let second = words_is c.self.inside.second v _ c.args.second.now c.told-second (ap (λ m. m.second) c.self.view_is) c.push_block-other.ensures.gives in
+    let same = length-words w v (slots_of 4 c.args.first.now) (slots_of 4 c.args.second.now) c.requires (length-slots 4 c.args.first.now ∙ sym (length-slots 4 c.args.second.now)) in
+    ap length (c.as_slice.ensures.value ∙ first) ∙ same ∙ sym (ap length (c.as_slice-2.ensures.value ∙ second))
 
-pub loop-i-preserved : goal.loop-i-preserved
-loop-i-preserved c =
-    let before = c.loop-i.invariant in
-    let i = c.loop-i.i in
-    let step : IsStep c.args.self.now.first c.args.self.now.second c.args.first.now c.args.second.now i c.loop-i.self-inside.first c.loop-i.self-inside.second c.slot_of.result c.slot_of-in-loop-i.result c.push-one.result c.push-other.result =
-    record {
-      same = before.same;
-      now_is = before.first;
-      now_is' = before.second;
-      slot_is = c.slot_of.ensures;
-      slot_is' = c.slot_of-in-loop-i.ensures;
-      gives = c.push-one.ensures.gives;
-      gives' = c.push-other.ensures.gives;
-    } in
-    let first = window_push c.args.self.now.first i c.args.first.now _ _ _ before.first c.slot_of.ensures c.push-one.ensures.next in
-    let second = window_push c.args.self.now.second i c.args.second.now _ _ _ before.second c.slot_of-in-loop-i.ensures c.push-other.ensures.next in
-    let same = ap length c.push-one.ensures.next ∙ length-next c.loop-i.self-inside.first c.loop-i.self-inside.second c.slot_of.result c.slot_of-in-loop-i.result before.same ∙ sym (ap length c.push-other.ensures.next) in
-    elim c.match-one.branch [
-      | in-Some+in-Some-other w ↦
-          let bytes = ap (λ p. p.bytes) w.packs-is in
-          let bad = ap (λ p. p.bad) w.packs-is in
-          let found = step_some _ _ _ _ i _ _ _ _ _ _ c.loop-i.packs.bytes c.match-one.packs.bytes c.loop-i.packs.bad c.match-one.packs.bad step before.packs w.in-Some.one w.in-Some-other.other w.agree.result w.in-Some.is w.in-Some-other.is (agreement_of _ _ w.agree.result w.agree.ensures)
-          (bytes ∙ w.add.ensures.bytes) (bad ∙ w.add.ensures.bad) in
-          record {
-            first = first;
-            second = second;
-            same = same;
-            size = omega (arith, ap length bytes, w.add.ensures.size, before.size);
-            few_bad = omega (arith, found.bad_is, found.few, count_by-le-length is_none found.found);
-            packs = found;
-          }
-      | in-Some+in_default-other w ↦
-          let found = step_both _ _ _ _ i _ _ _ _ _ _ c.match-one.packs.bytes c.match-one.packs.bad step w.in-Some.one w.in-Some.is w.in_default-other.is in
-          record {
-            first = first;
-            second = second;
-            same = same;
-            size = omega (arith, ap (λ p. length p.bytes) w.packs-is, before.size);
-            few_bad = omega (arith, ap (λ p. p.bad) w.packs-is, before.few_bad);
-            packs = found;
-          }
-      | in_default w ↦
-          let found = step_none _ _ _ _ i _ _ _ _ _ _ c.loop-i.packs.bytes c.loop-i.packs.bad step before.packs w.in_default.is in
-          record {
-            first = first;
-            second = second;
-            same = same;
-            size = omega (arith, ap (λ p. length p.bytes) w.packs-is, before.size);
-            few_bad = omega (arith, ap (λ p. p.bad) w.packs-is, before.few_bad);
-            packs = subst₂ (λ (t : List ℕ) (n : ℕ). IsFoundTo c.args.self.now.first c.args.self.now.second c.args.first.now c.args.second.now (i + 1) t n) (sym (ap (λ p. p.bytes) w.packs-is)) (sym (ap (λ p. p.bad) w.packs-is)) found;
-          }
-    ]
+pub returns-clause-first : goal.returns-clause-first
+returns-clause-first c =
+    window_is c.self.inside.first c.args.self.now.first c.push_block-one.new.self c.args.first.now c.told-first (ap (λ m. m.first) c.self.view_is) c.push_block-one.ensures.next
+
+pub returns-clause-second : goal.returns-clause-second
+returns-clause-second c =
+    window_is c.self.inside.second c.args.self.now.second c.push_block-other.new.self c.args.second.now c.told-second (ap (λ m. m.second) c.self.view_is) c.push_block-other.ensures.next
+
+pub returns-clause-same : goal.returns-clause-same
+returns-clause-same c =
+    let w = c.args.self.now.first in
+    let v = c.args.self.now.second in
+    let first = window_is c.self.inside.first w c.push_block-one.new.self c.args.first.now c.told-first (ap (λ m. m.first) c.self.view_is) c.push_block-one.ensures.next in
+    let second = window_is c.self.inside.second v c.push_block-other.new.self c.args.second.now c.told-second (ap (λ m. m.second) c.self.view_is) c.push_block-other.ensures.next in
+    let same = length-window w v (slots_of 4 c.args.first.now) (slots_of 4 c.args.second.now) c.requires (length-slots 4 c.args.first.now ∙ sym (length-slots 4 c.args.second.now)) in
+    ap length first ∙ same ∙ sym (ap length second)
+
+pub returns-clause-packs : goal.returns-clause-packs
+returns-clause-packs c =
+    let w = c.args.self.now.first in
+    let v = c.args.self.now.second in
+    let first = words_is c.self.inside.first w _ c.args.first.now c.told-first (ap (λ m. m.first) c.self.view_is) c.push_block-one.ensures.gives in
+    let second = words_is c.self.inside.second v _ c.args.second.now c.told-second (ap (λ m. m.second) c.self.view_is) c.push_block-other.ensures.gives in
+    let (found, all, text_is, bad_is, few) = c.agreed.ensures in (
+      found,
+      subst₂ (λ (xs ys : List (List ℕ)). AreAgreements xs ys found) (c.as_slice.ensures.value ∙ first) (c.as_slice-2.ensures.value ∙ second) all,
+      text_is,
+      bad_is,
+      few,
+    )

@@ -1,0 +1,53 @@
+// The packs of a pair of blocks.
+ghost use Rattle.std.specs.Prelude.{◌≡◌, ◌≤◌, ◌<◌, ◌+◌, ◌++◌, List, ℕ, length, is_none, if◌then◌else◌};
+ghost use Rattle.std.specs.declared.option.Option.{Option};
+ghost use Rattle.stream_words.specs.Stream.{bad_count};
+ghost use Rattle.stream_words.specs.Texts.{cdg_bytes, entry_bytes};
+ghost use Rattle.rw_merge.specs.Steps.{AreAgreements};
+
+use crate::agree;
+use cdg_io::Piece;
+use rw_code::{Pack, SYMBOLS, Word};
+
+/// The packs of a pair of blocks, and for how many words none was agreed.
+#[derive(Drop)]
+pub(crate) struct Packs {
+    pub(crate) bytes: Piece,
+    pub(crate) bad: u32,
+}
+
+impl Packs {
+    /// What is found for the words that come with a pair of blocks, at most four of each.
+    pub(crate) fn agreed(first: &[Word], second: &[Word]) -> Packs
+        requires same { length first.now ≡ length second.now }
+        requires few { length first.now ≤ 4 }
+        ensures { (found : List (Option (List ℕ))) × AreAgreements first.now second.now found
+            × (result.bytes ≡ cdg_bytes found) × (result.bad ≡ bad_count found) × (length found ≤ 4) }
+    {
+        let mut packs = Packs {
+            bytes: Piece::new(),
+            bad: 0,
+        };
+        for i in 0..first.len() {
+            packs.add(agree(&first[i], &second[i]));
+        }
+        packs
+    }
+
+    /// Adds what is agreed for a word: zeros where nothing is.
+    fn add(&mut self, pack: Option<Pack>)
+        requires bytes { length self.old.bytes ≤ 72 }
+        requires bad { self.old.bad < 4 }
+        ensures bytes { self.new.bytes ≡ self.old.bytes ++ entry_bytes pack }
+        ensures size { length self.new.bytes ≤ length self.old.bytes + 24 }
+        ensures bad { self.new.bad ≡ self.old.bad + (if is_none pack then 1 else 0) }
+    {
+        match pack {
+            Some(pack) => self.bytes.add(&pack.word().bytes()),
+            None => {
+                self.bytes.add(&[0; SYMBOLS]);
+                self.bad += 1;
+            }
+        }
+    }
+}
