@@ -79,12 +79,12 @@ read_is file read None size takes ends = absurd takes
 read_is file read (Some rest) size takes ends = taken_all file (Some rest) read takes (ends (omega (arith, size, ap length takes, length-append read rest)))
 
 -- the file was accepted, and the rest of the stream was taken
-record GoesOnWith (file : List ℕ) (at : ℕ) (rest : List ℕ) (more' : Bytes) (out : Change Bytes) (status : Status) : Type 0 where
-  answer : Result Resumed ResumeStop
-  status_is : status ≡ resume_status answer
-  exactly : IsResumedBy answer (checkpoint_in file) at (length rest)
-  taken : List ℕ
-  resumes : Resumes file at (Some rest) more' out.before out.after answer taken
+pub record GoesOnWith (file : List ℕ) (at : ℕ) (rest : List ℕ) (more' : Bytes) (out : Change Bytes) (status : Status) : Type 0 where
+  pub answer : Result Resumed ResumeStop
+  pub status_is : status ≡ resume_status answer
+  pub exactly : IsResumedBy answer (checkpoint_in file) at (length rest)
+  pub taken : List ℕ
+  pub resumes : Resumes file at (Some rest) more' out.before out.after answer taken
 
 module _ (at : ℕ) (file rest read : List ℕ) (left' more' : Bytes) (out : Change Bytes) (is_file : IsCheckpointFile file) (not_later : (checkpoint_in file).program ≤ at) where
   accepted : (answer : Result Resumed ResumeStop) → read ≡ file → (taken : List ℕ) × Resumes read at (Some rest) more' out.before out.after answer taken → IsResumedBy answer (checkpoint_in read) at (length rest)

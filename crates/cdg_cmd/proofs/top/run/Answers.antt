@@ -15,6 +15,9 @@ use Rattle.cdg_cmd.proofs.Statuses.{answered}
 use Rattle.cdg_cmd.proofs.Thinning.{all_thinned}
 use Rattle.cdg_cmd.proofs.top.run.Goals as goal
 
+pub returns-clause-usage : goal.returns-clause-usage
+returns-clause-usage g c = (c.answer-status.ensures.usage, c.answer-status.ensures.untouched)
+
 pub returns-clause-complete : goal.returns-clause-complete
 returns-clause-complete g c = λ command spelled none.
     answered c.answer-status.result (λ e. c.answer-status.ensures.usage.0 e command spelled) (λ e. none.first (c.answer-status.ensures.faults.first.rose e))
