@@ -51,10 +51,11 @@ saved_of : (lead_in : ℕ) (bytes file taken : List ℕ) (left' : Bytes) (answer
 saved_of lead_in bytes file taken left' (Ok pumped) most saves exactly is =
     let (end, (text, is_saved, put)) = saves.done in
     let (within, whole, units) = done_tests (nat_lt (1000000 * 96) (length bytes)) (length bytes % 96 == 0) (length bytes / 96) pumped exactly in
-    let text_is : text ≡ file = sym put in
-    (pumped,
+    let text_is : text ≡ file = sym put in (
+      pumped,
       subst (λ (t : List ℕ). IsSaved lead_in bytes pumped t) text_is (subst (λ (b : List ℕ). IsSaved lead_in b pumped text) (taken_all bytes left' taken saves.taken_from end) is_saved),
-      record { lead_in_most = most; most = not_over (1000000 * 96) (length bytes) within; whole = zero_rest (length bytes % 96) whole })
+      record { lead_in_most = most; most = not_over (1000000 * 96) (length bytes) within; whole = zero_rest (length bytes % 96) whole },
+    )
 saved_of lead_in bytes file taken left' (Err pump.ReadFault) most saves exactly is = absurd (cc)
 saved_of lead_in bytes file taken left' (Err pump.WriteFault) most saves exactly is = absurd (cc)
 saved_of lead_in bytes file taken left' (Err (pump.Torn unit)) most saves exactly is = absurd (cc)

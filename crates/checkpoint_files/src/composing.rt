@@ -43,7 +43,7 @@ impl CheckpointFile {
         requires { length self.old ≡ 0 }
         ensures parts { (slots : List ℕ) (now : Standing)
             → self.new ≡ with_parts self.old (kept counts.now slots now)
-                (Mark ∷ ToCome ∷ LeadIn ∷ Program ∷ Bad ∷ []) }
+            (Mark ∷ ToCome ∷ LeadIn ∷ Program ∷ Bad ∷ []) }
         ensures size { length self.new ≡ 24 }
     {
         self.put(MARK);
@@ -79,7 +79,7 @@ impl CheckpointFile {
         requires { length self.old ≡ 64992 }
         ensures parts { (counts : Counts) (slots : List ℕ)
             → self.new ≡ with_parts self.old (kept counts slots (standing_of screen.now))
-                (Border ∷ Across ∷ Down ∷ []) }
+            (Border ∷ Across ∷ Down ∷ []) }
         ensures size { length self.new ≡ 64995 }
     {
         self.put(&[screen.border()]);
