@@ -271,6 +271,18 @@ def script(seed, pictures):
     return "".join(line + "\n" for line in lines).encode()
 
 
+def pixmap(seed):
+    """The screen that shows the only picture of a generated script: grey rectangles on a black border."""
+    levels = [[0] * 300 for _ in range(216)]
+    for line in script(seed, 1).decode().splitlines():
+        if line.startswith("rect"):
+            x, y, width, height, colour = map(int, line.split()[1:])
+            for across in range(6 + x, 6 + x + width):
+                for down in range(12 + y, 12 + y + height):
+                    levels[down][across] = 17 * colour
+    return b"P6\n300 216\n255\n" + bytes(level for row in levels for level in row for _ in range(3))
+
+
 def scratched(stream, lead_in, seed):
     stream = bytearray(stream)
     words, place = words_of(seed), 0
@@ -426,6 +438,7 @@ def values():
     wrong = bytearray(192)
     for place in (50, 100, 150):
         wrong[place] = 1
+    yield "the-screen-of-a-whole-stream", "digest", digest(pixmap(42))
     yield "a-checkpoint-after-a-bad-word", "digest", digest(checkpoint(2, 1, bytes(wrong[24:])))
     yield "two-fills", "digest", digest(one.stream(fills))
     for seed, pictures in [(42, 1), (42, 2), (7, 3), (2**64 - 1, 1), (0, 500)]:

@@ -101,7 +101,7 @@ placed_word symbols at small = record {
   symbols = λ k d lt. subst (λ n. n < 64) (sym (get_or-map-range_with_len (λ i. get_or symbols (at i) 0) 0 24 k k d (omega (arith, lt, length-map-range_with_len (λ i. get_or symbols (at i) 0) 0 24)) (omega arith))) (small (at k));
 }
 
-gathered_word : (symbols : List ℕ) (n : ℕ) → ((p : ℕ) → get_or symbols p 0 < 64) → IsWord (word_of symbols n)
+pub gathered_word : (symbols : List ℕ) (n : ℕ) → ((p : ℕ) → get_or symbols p 0 < 64) → IsWord (word_of symbols n)
 unfolding word_of
 gathered_word symbols n small = placed_word symbols (place n) small
 

@@ -1,21 +1,21 @@
 -- The numbers that instructions of codewords say are in their ranges, and so is what stands after them.
-use Rattle.std.proofs.Common.{◌≡◌, ℕ, zero, suc, ◌+◌, ◌-◌, ◌*◌, ◌/◌, ◌%◌, ◌^◌, ◌<◌, ◌≤◌, Bool, true, false, cond, List, [], ◌∷◌, ◌++◌, length, get_or, map, take, drop, reverse, refl, sym, ap, ap₂, ◌∙◌, subst, arith, lit<, bit_xor, Some, None, inl, inr}
-use Rattle.std.specs.Prelude.{⊤, Option, min, nat_lt, if◌then◌else◌, ◌&&◌, ◌==◌}
+use Rattle.std.proofs.Common.{◌≡◌, ℕ, zero, suc, ◌+◌, ◌-◌, ◌*◌, ◌%◌, ◌<◌, ◌≤◌, Bool, true, false, cond, List, [], ◌∷◌, ◌++◌, length, get_or, map, take, drop, reverse, sym, ap, ◌∙◌, subst, arith, lit<, Some, None, inl, inr}
+use Rattle.std.specs.Prelude.{⊤, Option, nat_lt, ◌&&◌}
 use Rattle.std.specs.List.{AllByRecursion, range_with_len}
 use Rattle.std.proofs.lemmas.Bool.{cases_Bool}
 use Rattle.std.proofs.lemmas.Bool.Decides.{leb_tells, nat_tests}
 use Rattle.std.proofs.lemmas.Nat.{xor_lt}
 use Rattle.std.proofs.lemmas.List.{reverse-append, get_or-drop, get_or-take}
 use Rattle.std.proofs.lemmas.List.Elements.{All-get_or}
-use Rattle.std.proofs.lemmas.List.FromFn.{length-map-range_with_len, get_or-map-range_with_len}
+use Rattle.std.proofs.lemmas.List.FromFn.{get_or-map-range_with_len}
 use Rattle.std.proofs.Math.ListN.{get_or-eq_default}
-use Rattle.rw_code.specs.Codeword.{IsCodeword, IsWord}
+use Rattle.rw_code.specs.Codeword.{IsCodeword}
 use Rattle.rw_code.specs.Finding.{IsFinding}
 use Rattle.cdg_instructions.specs.Drawing.{tile_colour}
-use Rattle.cdg_instructions.specs.Instruction.{Means, IsTile, IsScroll, content, content_of, move, offset_across, offset_down, table_colour}
+use Rattle.cdg_instructions.specs.Instruction.{Means, IsTile, IsScroll, content_of, table_colour}
 use Rattle.cdg_instructions.specs.declared.instr.Instr.{Instr}
 use Rattle.cdg_instructions.specs.declared.instr.Instr.TheVariants.{Idle, Foreign, Unknown, MemoryPreset, BorderPreset, SetTile, XorTile, ScrollPreset, ScrollCopy, Transparency, ColoursLow, ColoursHigh}
-use Rattle.cdg_screen.specs.Picture.{Standing, SameStanding, blank, memory_from, border_from, colour_from, level_from, offsets_from, standing_after, covers, source_x, source_y, is_inside}
+use Rattle.cdg_screen.specs.Picture.{blank, memory_from, border_from, colour_from, level_from, offsets_from, standing_after, covers, source_x, source_y, is_inside}
 use Rattle.cdg_screen.proofs.SameTexts.{IsShowable}
 use Rattle.checkpoint_files.specs.Sound.{IsSoundStanding}
 use Rattle.subcode_player.specs.Shown.{AreMeant}

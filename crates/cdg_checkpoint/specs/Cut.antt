@@ -1,10 +1,24 @@
 -- A stream that is cut in two after whole blocks.
-use Rattle.std.specs.Prelude.{◌≡◌, ℕ, ◌*◌, ◌%◌, ◌≤◌, List, length}
+use Rattle.std.specs.Prelude.{◌≡◌, ℕ, ◌*◌, ◌%◌, ◌≤◌, List, length, Result, Ok, Err}
+use Rattle.subcode_player.specs.declared.player.Played.{Played}
+use Rattle.subcode_player.specs.declared.player.PlayStop.{PlayStop}
+use Rattle.subcode_player.specs.declared.player.PlayStop.TheVariants as play
 use Rattle.cdg_checkpoint.specs.Saved.{most_blocks}
+use Rattle.cdg_checkpoint.specs.declared.stops.Resumed.{Resumed}
+use Rattle.cdg_checkpoint.specs.declared.stops.ResumeStop.{ResumeStop}
+use Rattle.cdg_checkpoint.specs.declared.stops.ResumeStop.TheVariants.{WriteFault, Torn, TooLong, PastEnd}
 
--- both parts of the stream are whole blocks, and the first of them and the lead-in are no longer than a stream may be
-pub record IsCut (lead_in : ℕ) (bytes rest : List ℕ) : Type 0 where
+-- the first part of a stream is whole blocks, no more than are read
+pub record IsFirstPart (lead_in : ℕ) (bytes : List ℕ) : Type 0 where
   pub lead_in_most : lead_in ≤ 450000
   pub most : length bytes ≤ most_blocks * 96
   pub whole : length bytes % 96 ≡ 0
-  pub rest_whole : length rest % 96 ≡ 0
+
+-- the answer as that of a player of the whole stream, who reads one input
+abbrev pub as_played : Result Resumed ResumeStop → Result Played PlayStop
+as_played (Ok resumed) = Ok (record { blocks = resumed.blocks; bad = resumed.bad })
+as_played (Err WriteFault) = Err play.WriteFault
+as_played (Err (Torn block)) = Err (play.Torn block)
+as_played (Err TooLong) = Err play.TooLong
+as_played (Err (PastEnd blocks)) = Err (play.PastEnd blocks)
+as_played (Err stop) = Err play.ReadFault

@@ -3,3 +3,4 @@ pub mod Saved
 pub mod Keeping
 pub mod Resumed
 pub mod Cut
+pub mod Fresh

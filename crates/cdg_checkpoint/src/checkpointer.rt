@@ -1,4 +1,7 @@
 // What saves and resumes.
+ghost use Rattle.std.specs.Prelude.{IfOk};
+ghost use Rattle.cdg_checkpoint.specs.Fresh.{IsFresh};
+
 use crate::Tracking;
 use cdg_io::Then;
 use checkpoint_files::{CheckpointFile, SLOTS_BYTES};
@@ -6,8 +9,8 @@ use rw_interleave::Window;
 use std::alloc::{AllocError, Global};
 use subcode_player::{BlockWords, Drawing, Form, Picture};
 
-/// Saves checkpoints of streams and resumes from them, one at a time. All its memory is taken at the start; each call
-/// begins anew, whatever stopped the one before.
+/// Saves checkpoints of streams and resumes from them, one at a time. All its memory is taken at the start;
+/// each call begins anew, whatever stopped the one before.
 #[derive(Drop)]
 pub struct Checkpointer {
     /// What a stream drew, and its last slots.
@@ -18,7 +21,13 @@ pub struct Checkpointer {
 
 impl Checkpointer {
     /// Takes the memory of the screen and of a file.
-    pub fn start(alloc: Global) -> Result<Checkpointer, AllocError> {
+    ///
+    /// # Errors
+    ///
+    /// `AllocError` where that memory is not found.
+    pub fn start(alloc: Global) -> Result<Checkpointer, AllocError>
+        ensures { IfOk result IsFresh }
+    {
         let words = BlockWords {
             form: Form::Raw,
             lead_in: 0,

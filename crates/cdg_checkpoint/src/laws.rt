@@ -1,34 +1,55 @@
 // A stream that goes on from a checkpoint.
-ghost use Rattle.std.specs.Prelude.{◌≡◌, ◌≤◌, ◌-◌, ◌/◌, ◌%◌, ◌++◌, List, ℕ, length};
+ghost use Rattle.std.specs.Prelude.{◌≡◌, ◌≢◌, ◌≤◌, ◌-◌, ◌/◌, ◌%◌, ◌++◌, List, ℕ, length, Option, Some, Result, Err};
 ghost use Rattle.cdg_screen.specs.Picture.{Standing};
 ghost use Rattle.checkpoint_files.specs.Checkpoint.{Checkpoint, checkpoint_in};
 ghost use Rattle.checkpoint_files.specs.Table.{IsCheckpointFile};
 ghost use Rattle.cdg_io.specs.declared.pumping.Pumped.{Pumped};
-ghost use Rattle.cdg_checkpoint.specs.Cut.{IsCut};
+ghost use Rattle.cdg_checkpoint.specs.Cut.{IsFirstPart, as_played};
 ghost use Rattle.cdg_checkpoint.specs.declared.stops.Resumed.{Resumed};
+ghost use Rattle.cdg_checkpoint.specs.declared.stops.ResumeStop.{ResumeStop};
 ghost use Rattle.raw_subcode.specs.declared.form.Form.{Form};
 ghost use Rattle.subcode_player.specs.Watch.{IsViewed};
-ghost use Rattle.subcode_player.specs.Shown.{IsScreenAt};
-ghost use Rattle.cdg_checkpoint.specs.Resumed.{IsGoneOn, IsResumed};
+ghost use Rattle.subcode_player.specs.Shown.{IsScreenAt, IsShownBy, Shows};
+ghost use Rattle.cdg_checkpoint.specs.Resumed.{IsGoneOn, IsResumed, IsResumedBy, Resumes};
 ghost use Rattle.cdg_checkpoint.specs.Saved.{IsCheckpointOf, IsSaved};
 
-/// A law: what stands at a time after the checkpoint of some whole blocks, with the rest of the stream, stands then in the
-/// whole stream too, and as many words are bad.
+/// A law: what stands at a time after the checkpoint of some whole blocks, with the rest of the stream,
+/// stands then in the whole stream too, and as many words are bad.
 pub fn a_resumed_stream_is_the_whole()
     ensures { (bytes rest : List ℕ) (lead_in time bad : ℕ) (c : Checkpoint) (now : Standing)
         → length bytes % 96 ≡ 0 → length rest % 96 ≡ 0 → IsCheckpointOf bytes lead_in c → c.program ≤ time
         → IsGoneOn c time rest now bad → IsViewed Form.Raw lead_in time (bytes ++ rest) now bad }
 {}
 
-/// A law: let a stream of whole blocks be cut after whole blocks. The file that `save` writes of its first part is accepted, and
-/// what `resume` writes and answers at a time, given this file and the rest, is what the screen of the whole stream is then.
+/// A law: let a stream be cut after whole blocks. The file that `save` writes of its first part is accepted;
+/// `resume`, given this file and the rest, answers as the length of the whole stream says; and where the rest
+/// is whole blocks too, it writes and answers at a time what the screen of the whole stream is then, and
+/// nothing else is.
 pub fn a_saved_stream_goes_on_as_the_whole()
-    ensures accepted { (lead_in : ℕ) (bytes rest file : List ℕ) (pumped : Pumped) → IsCut lead_in bytes rest
+    ensures accepted { (lead_in : ℕ) (bytes file : List ℕ) (pumped : Pumped) → IsFirstPart lead_in bytes
         → IsSaved lead_in bytes pumped file
         → IsCheckpointFile file × ((checkpoint_in file).program ≡ length bytes / 96 - lead_in) }
+    ensures answer { (lead_in time : ℕ) (bytes rest file : List ℕ) (pumped : Pumped)
+        (result : Result Resumed ResumeStop) → IsFirstPart lead_in bytes → IsSaved lead_in bytes pumped file
+        → IsResumedBy result (checkpoint_in file) time (length rest)
+        → IsShownBy (as_played result) lead_in time 96 (length (bytes ++ rest)) }
     ensures shown { (lead_in time : ℕ) (bytes rest file text : List ℕ) (pumped : Pumped) (resumed : Resumed)
-        → IsCut lead_in bytes rest → IsSaved lead_in bytes pumped file → length bytes / 96 - lead_in ≤ time
-        → IsResumed file time rest resumed text
+        → IsFirstPart lead_in bytes → length rest % 96 ≡ 0 → IsSaved lead_in bytes pumped file
+        → length bytes / 96 - lead_in ≤ time → IsResumed file time rest resumed text
         → IsScreenAt Form.Raw lead_in time (bytes ++ rest) text resumed.bad
         × (resumed.blocks ≡ length (bytes ++ rest) / 96 - lead_in) }
+    // The same of a call of `resume` that was given this file and this rest: it is a call that shows the time
+    // of the whole stream.
+    ensures whole { (lead_in time : ℕ) (bytes rest file taken : List ℕ) (pumped : Pumped)
+        (result : Result Resumed ResumeStop) (left held new_held : Option (List ℕ))
+        → IsFirstPart lead_in bytes → IsSaved lead_in bytes pumped file → length bytes / 96 - lead_in ≤ time
+        → result ≢ Err ResumeStop.WriteFault → IsResumedBy result (checkpoint_in file) time (length rest)
+        → Resumes file time (Some rest) left held new_held result taken
+        → Shows (IsScreenAt Form.Raw lead_in time) Form.Raw lead_in time (Some (bytes ++ rest)) left held
+        new_held (as_played result) (bytes ++ taken) }
+    // One time of a stream has one screen.
+    ensures only { (lead_in time bad other_bad : ℕ) (bytes text other : List ℕ)
+        → IsScreenAt Form.Raw lead_in time bytes text bad
+        → IsScreenAt Form.Raw lead_in time bytes other other_bad
+        → (text ≡ other) × (bad ≡ other_bad) }
 {}

@@ -14,7 +14,8 @@ pub(crate) fn compose(
     slots: &[u8; SLOTS_BYTES],
     picture: &Picture,
 )
-    ensures { (now : Standing) × SameStanding now (standing_of picture.now) × (file.new ≡ file_of (kept counts.now slots.now now)) }
+    ensures { (now : Standing) × SameStanding now (standing_of picture.now)
+        × (file.new ≡ file_of (kept counts.now slots.now now)) }
 {
     file.compose(counts, slots, &picture.screen);
 }

@@ -24,15 +24,17 @@ use subcode_player::Form;
 const SLOTS: u32 = 7;
 
 impl Checkpointer {
-    /// Writes the picture at a moment of a stream of raw blocks, from a checkpoint and the rest of the stream: a pixmap of
-    /// what stands after the packs that are whole at program block `at`, at most 449,999. Of `saved` at most 65,046 bytes
-    /// are taken, and they are left in `file`. The rest is not touched before the checkpoint is accepted.
+    /// Writes the picture at a moment of a stream of raw blocks, from a checkpoint and the rest of the
+    /// stream: a pixmap of what stands after the packs that are whole at program block `at`, at most 449,999.
+    /// Of `saved` at most 65,046 bytes are taken, and they are left in `file`. The rest is not touched before
+    /// the checkpoint is accepted.
     ///
     /// # Errors
     ///
-    /// In this order: `BadSave` where the first input is no checkpoint, `BeforeSave` where the moment is before it;
-    /// `TooLong`, `Torn` and `PastEnd` as the whole stream says. Then nothing is written. `FirstFault` and `SecondFault`
-    /// come from a read of that input alone. After `WriteFault` the sink holds a prefix.
+    /// In this order: `BadSave` where the first input is no checkpoint, `BeforeSave` where the moment is
+    /// before it; `TooLong`, `Torn` and `PastEnd` as the whole stream says. Then nothing is written.
+    /// `FirstFault` and `SecondFault` come from a read of that input alone. After `WriteFault` the sink holds
+    /// a prefix.
     pub fn resume<S: Source, T: Source, K: Sink>(
         &mut self,
         at: u32,
@@ -43,29 +45,41 @@ impl Checkpointer {
         requires { at ≤ 449999 }
         // The checkpoint is accepted, or refused for the first reason.
         ensures accepted { IsAcceptedBy (acceptance result) at self.new.file }
-        ensures saved_taken { result ≢ Err ResumeStop.FirstFault → Consumes (S.left saved.old) (S.left saved.new) self.new.file }
-        ensures saved_end { result ≢ Err ResumeStop.FirstFault → length self.new.file ≤ 65045 → IsAtEnd (S.left saved.new) }
-        ensures saved_part { result ≡ Err ResumeStop.FirstFault → ConsumesBelow (S.left saved.old) (S.left saved.new) 65046 }
+        ensures saved_taken { result ≢ Err ResumeStop.FirstFault
+            → Consumes (S.left saved.old) (S.left saved.new) self.new.file }
+        ensures saved_end { result ≢ Err ResumeStop.FirstFault → length self.new.file ≤ 65045
+            → IsAtEnd (S.left saved.new) }
+        ensures saved_part { result ≡ Err ResumeStop.FirstFault
+            → ConsumesBelow (S.left saved.old) (S.left saved.new) 65046 }
         ensures saved_most { length self.new.file ≤ 65046 }
         // Where it is not, the rest is not touched.
         ensures rest_untouched { IsErr (acceptance result) → rest.new ≡ rest.old }
-        ensures resumes { IsOk (acceptance result) → (taken : List ℕ) × Resumes self.new.file at (T.left rest.old) (T.left rest.new)
+        ensures resumes { IsOk (acceptance result)
+            → (taken : List ℕ) × Resumes self.new.file at (T.left rest.old) (T.left rest.new)
             (K.held out.old) (K.held out.new) result taken }
         // Where nothing failed, the answer is that of the checkpoint and the length of the rest.
-        ensures answer { IsOk (acceptance result) → IfSome (T.left rest.old) (λ all. IsResumedBy result (checkpoint_in self.new.file) at (length all)) }
+        ensures answer { IsOk (acceptance result) → IfSome (T.left rest.old)
+            (λ all. IsResumedBy result (checkpoint_in self.new.file) at (length all)) }
         // Where the output is not written it is as it was.
         ensures untouched { IfErr result (λ stop. stop ≢ ResumeStop.WriteFault → out.new ≡ out.old) }
         ensures saved_later { S.faults saved.old ≤ S.faults saved.new }
         ensures rest_later { T.faults rest.old ≤ T.faults rest.new }
         ensures out_later { K.faults out.old ≤ K.faults out.new }
-        ensures first_fault { IsErrOf result ResumeStop.FirstFault → Rose (S.faults saved.old) (S.faults saved.new) }
-        ensures no_first_fault { result ≢ Err ResumeStop.FirstFault → S.faults saved.new ≡ S.faults saved.old }
-        ensures second_fault { IsErrOf result ResumeStop.SecondFault → Rose (T.faults rest.old) (T.faults rest.new) }
-        ensures no_second_fault { result ≢ Err ResumeStop.SecondFault → T.faults rest.new ≡ T.faults rest.old }
-        ensures write_fault { IsErrOf result ResumeStop.WriteFault → Rose (K.faults out.old) (K.faults out.new) }
+        ensures first_fault { IsErrOf result ResumeStop.FirstFault
+            → Rose (S.faults saved.old) (S.faults saved.new) }
+        ensures no_first_fault { result ≢ Err ResumeStop.FirstFault
+            → S.faults saved.new ≡ S.faults saved.old }
+        ensures second_fault { IsErrOf result ResumeStop.SecondFault
+            → Rose (T.faults rest.old) (T.faults rest.new) }
+        ensures no_second_fault { result ≢ Err ResumeStop.SecondFault
+            → T.faults rest.new ≡ T.faults rest.old }
+        ensures write_fault { IsErrOf result ResumeStop.WriteFault
+            → Rose (K.faults out.old) (K.faults out.new) }
         ensures no_write_fault { result ≢ Err ResumeStop.WriteFault → K.faults out.new ≡ K.faults out.old }
-        ensures saved_told { result ≢ Err ResumeStop.FirstFault → length self.new.file ≤ 65045 → Rose (S.ends saved.old) (S.ends saved.new) }
-        ensures saved_goes_on { result ≢ Err ResumeStop.FirstFault → 65045 < length self.new.file → S.ends saved.new ≡ S.ends saved.old }
+        ensures saved_told { result ≢ Err ResumeStop.FirstFault → length self.new.file ≤ 65045
+            → Rose (S.ends saved.old) (S.ends saved.new) }
+        ensures saved_goes_on { result ≢ Err ResumeStop.FirstFault → 65045 < length self.new.file
+            → S.ends saved.new ≡ S.ends saved.old }
         ensures saved_not_told { result ≡ Err ResumeStop.FirstFault → S.ends saved.new ≡ S.ends saved.old }
         ensures rest_told { IsOk (acceptance result) → RestEnds result (T.ends rest.old) (T.ends rest.new) }
     {
@@ -90,13 +104,17 @@ impl Checkpointer {
         ensures no_first { result ≢ Err ResumeStop.FirstFault }
         ensures resumes { (taken : List ℕ) × Resumes self.old.file at (T.left rest.old) (T.left rest.new)
             (K.held out.old) (K.held out.new) result taken }
-        ensures answer { IfSome (T.left rest.old) (λ all. IsResumedBy result (checkpoint_in self.old.file) at (length all)) }
+        ensures answer { IfSome (T.left rest.old)
+            (λ all. IsResumedBy result (checkpoint_in self.old.file) at (length all)) }
         ensures untouched { IfErr result (λ stop. stop ≢ ResumeStop.WriteFault → out.new ≡ out.old) }
         ensures rest_later { T.faults rest.old ≤ T.faults rest.new }
         ensures out_later { K.faults out.old ≤ K.faults out.new }
-        ensures second_fault { IsErrOf result ResumeStop.SecondFault → Rose (T.faults rest.old) (T.faults rest.new) }
-        ensures no_second_fault { result ≢ Err ResumeStop.SecondFault → T.faults rest.new ≡ T.faults rest.old }
-        ensures write_fault { IsErrOf result ResumeStop.WriteFault → Rose (K.faults out.old) (K.faults out.new) }
+        ensures second_fault { IsErrOf result ResumeStop.SecondFault
+            → Rose (T.faults rest.old) (T.faults rest.new) }
+        ensures no_second_fault { result ≢ Err ResumeStop.SecondFault
+            → T.faults rest.new ≡ T.faults rest.old }
+        ensures write_fault { IsErrOf result ResumeStop.WriteFault
+            → Rose (K.faults out.old) (K.faults out.new) }
         ensures no_write_fault { result ≢ Err ResumeStop.WriteFault → K.faults out.new ≡ K.faults out.old }
         ensures rest_told { RestEnds result (T.ends rest.old) (T.ends rest.new) }
     {
@@ -112,15 +130,21 @@ impl Checkpointer {
     // Reads a checkpoint that is not later than a moment.
     pub(crate) fn accept<S: Source>(&mut self, at: u32, saved: &mut S) -> Result<(), ResumeStop>
         ensures accepted { IsAcceptedBy result at self.new.file }
-        ensures taken { result ≢ Err ResumeStop.FirstFault → Consumes (S.left saved.old) (S.left saved.new) self.new.file }
-        ensures end { result ≢ Err ResumeStop.FirstFault → length self.new.file ≤ 65045 → IsAtEnd (S.left saved.new) }
-        ensures part { result ≡ Err ResumeStop.FirstFault → ConsumesBelow (S.left saved.old) (S.left saved.new) 65046 }
+        ensures taken { result ≢ Err ResumeStop.FirstFault
+            → Consumes (S.left saved.old) (S.left saved.new) self.new.file }
+        ensures end { result ≢ Err ResumeStop.FirstFault → length self.new.file ≤ 65045
+            → IsAtEnd (S.left saved.new) }
+        ensures part { result ≡ Err ResumeStop.FirstFault
+            → ConsumesBelow (S.left saved.old) (S.left saved.new) 65046 }
         ensures most { length self.new.file ≤ 65046 }
         ensures later { S.faults saved.old ≤ S.faults saved.new }
-        ensures fault { IsErrOf result ResumeStop.FirstFault → Rose (S.faults saved.old) (S.faults saved.new) }
+        ensures fault { IsErrOf result ResumeStop.FirstFault
+            → Rose (S.faults saved.old) (S.faults saved.new) }
         ensures no_fault { result ≢ Err ResumeStop.FirstFault → S.faults saved.new ≡ S.faults saved.old }
-        ensures told { result ≢ Err ResumeStop.FirstFault → length self.new.file ≤ 65045 → Rose (S.ends saved.old) (S.ends saved.new) }
-        ensures goes_on { result ≢ Err ResumeStop.FirstFault → 65045 < length self.new.file → S.ends saved.new ≡ S.ends saved.old }
+        ensures told { result ≢ Err ResumeStop.FirstFault → length self.new.file ≤ 65045
+            → Rose (S.ends saved.old) (S.ends saved.new) }
+        ensures goes_on { result ≢ Err ResumeStop.FirstFault → 65045 < length self.new.file
+            → S.ends saved.new ≡ S.ends saved.old }
         ensures not_told { result ≡ Err ResumeStop.FirstFault → S.ends saved.new ≡ S.ends saved.old }
     {
         match self.file.read(saved) {
@@ -158,9 +182,11 @@ impl Checkpointer {
         requires at { at ≤ 449999 }
         requires file { IsCheckpointFile self.old.file }
         requires not_later { (checkpoint_in self.old.file).program ≤ at }
-        ensures goes_on { (taken : List ℕ) × GoesOn (checkpoint_in self.old.file) at (S.left rest.old) (S.left rest.new)
+        ensures goes_on { (taken : List ℕ)
+            × GoesOn (checkpoint_in self.old.file) at (S.left rest.old) (S.left rest.new)
             (standing_of self.new.tracking.words.second.picture) result taken }
-        ensures answer { IfSome (S.left rest.old) (λ all. IsGoneOnBy result (checkpoint_in self.old.file) at (length all)) }
+        ensures answer { IfSome (S.left rest.old)
+            (λ all. IsGoneOnBy result (checkpoint_in self.old.file) at (length all)) }
         ensures file { self.new.file ≡ self.old.file }
         ensures later { S.faults rest.old ≤ S.faults rest.new }
         ensures fault { IsErrOf result ResumeStop.SecondFault → Rose (S.faults rest.old) (S.faults rest.new) }
@@ -187,7 +213,8 @@ impl Checkpointer {
     fn resumed(&self, counts: &Counts, pumped: Pumped, at: u32) -> Result<Resumed, ResumeStop>
         requires { counts.now.program + pumped.units < 2 ^ 32 }
         ensures accepted { IsOk (acceptance result) }
-        ensures answer { result ≡ reached (counts.now.program + (pumped.units - counts.now.to_come)) at self.now.tracking.words.second.bad }
+        ensures answer { result ≡ reached (counts.now.program + (pumped.units - counts.now.to_come)) at
+            self.now.tracking.words.second.bad }
     {
         let blocks = counts.program + pumped.units.saturating_sub(counts.to_come);
         if blocks < at {
@@ -213,7 +240,8 @@ impl Checkpointer {
         } }
         ensures left { self.new.tracking.words.second.left ≡ packs_until (checkpoint_in self.old.file) at }
         ensures bad { self.new.tracking.words.second.bad ≡ counts.now.bad }
-        ensures stands { SameStanding (standing_of self.new.tracking.words.second.picture) (standing_in self.old.file) }
+        ensures stands { SameStanding (standing_of self.new.tracking.words.second.picture)
+            (standing_in self.old.file) }
         ensures file { self.new.file ≡ self.old.file }
     {
         self.gather_slots(counts);
@@ -230,7 +258,8 @@ impl Checkpointer {
     fn gather_slots(&mut self, counts: &Counts)
         requires file { IsCheckpointFile self.old.file }
         requires program { counts.now.program ≡ (checkpoint_in self.old.file).program }
-        ensures gather { self.new.tracking.words.first.gather ≡ run_state gather_next [] (saved_slots (checkpoint_in self.old.file)) }
+        ensures gather { self.new.tracking.words.first.gather
+            ≡ run_state gather_next [] (saved_slots (checkpoint_in self.old.file)) }
         ensures file { self.new.file ≡ self.old.file }
     {
         let gather = &mut self.tracking.words.first.gather;

@@ -23,11 +23,12 @@ pub(crate) const MOST_BLOCKS: u32 = 1_000_000;
 const MOST_PACKS: u32 = 4 * MOST_BLOCKS - 7;
 
 impl Checkpointer {
-    /// Writes the checkpoint after a stream of raw blocks, once it was read to its end. `lead_in` is at most 450,000 blocks.
+    /// Writes the checkpoint after a stream of raw blocks, once it was read to its end. `lead_in` is at most
+    /// 450,000 blocks.
     ///
     /// # Errors
-    /// `Torn`, `TooLong` and `ReadFault` as the input says: then nothing is written. After `WriteFault` the sink holds a
-    /// prefix.
+    /// `Torn`, `TooLong` and `ReadFault` as the input says: then nothing is written. After `WriteFault` the
+    /// sink holds a prefix.
     pub fn save<S: Source, K: Sink>(
         &mut self,
         lead_in: u32,
@@ -38,15 +39,18 @@ impl Checkpointer {
         ensures saves { (taken : List ℕ) × Saves lead_in (S.left source.old) (S.left source.new)
             (K.held out.old) (K.held out.new) result taken }
         // Where nothing failed, the answer is that of the whole input's length.
-        ensures answer { IfSome (S.left source.old) (λ all. IsUnlessFault result (answer_of 96 1000000 (length all))) }
+        ensures answer { IfSome (S.left source.old)
+            (λ all. IsUnlessFault result (answer_of 96 1000000 (length all))) }
         // Where the output is not written it is as it was.
         ensures untouched { IfErr result (λ stop. stop ≢ PumpStop.WriteFault → out.new ≡ out.old) }
         ensures source_later { S.faults source.old ≤ S.faults source.new }
         ensures out_later { K.faults out.old ≤ K.faults out.new }
-        ensures read_fault { IsErrOf result PumpStop.ReadFault → Rose (S.faults source.old) (S.faults source.new) }
+        ensures read_fault { IsErrOf result PumpStop.ReadFault
+            → Rose (S.faults source.old) (S.faults source.new) }
         ensures no_read_fault { result ≢ Err PumpStop.ReadFault → S.faults source.new ≡ S.faults source.old }
         ensures ended { EndFirst result (S.ends source.old) (S.ends source.new) }
-        ensures write_fault { IsErrOf result PumpStop.WriteFault → Rose (K.faults out.old) (K.faults out.new) }
+        ensures write_fault { IsErrOf result PumpStop.WriteFault
+            → Rose (K.faults out.old) (K.faults out.new) }
         ensures no_write_fault { result ≢ Err PumpStop.WriteFault → K.faults out.new ≡ K.faults out.old }
     {
         self.begin(lead_in);

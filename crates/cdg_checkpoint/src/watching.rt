@@ -14,11 +14,14 @@ pub(crate) fn watch<S: Source, G: Stage<Item = [u8; BLOCK], Out = Piece>>(
     stage: &mut G,
 ) -> Result<Pumped, PumpStop>
     requires { 1 ≤ limit }
-    ensures watches { (taken : List ℕ) × Watches limit G.next (S.left source.old) (S.left source.new) stage.old stage.new result taken }
+    ensures watches { (taken : List ℕ)
+        × Watches limit G.next (S.left source.old) (S.left source.new) stage.old stage.new result taken }
     // Where nothing failed, the answer is that of the whole input's length.
-    ensures answer { IfSome (S.left source.old) (λ all. IsUnlessFault result (answer_of 96 limit (length all))) }
+    ensures answer { IfSome (S.left source.old)
+        (λ all. IsUnlessFault result (answer_of 96 limit (length all))) }
     ensures source_later { S.faults source.old ≤ S.faults source.new }
-    ensures read_fault { IsErrOf result PumpStop.ReadFault → Rose (S.faults source.old) (S.faults source.new) }
+    ensures read_fault { IsErrOf result PumpStop.ReadFault
+        → Rose (S.faults source.old) (S.faults source.new) }
     ensures no_read_fault { result ≢ Err PumpStop.ReadFault → S.faults source.new ≡ S.faults source.old }
     ensures ended { TellsEndOf result (S.ends source.old) (S.ends source.new) }
 {
@@ -31,10 +34,13 @@ pub(crate) fn watch_some<S: Source, G: Stage<Item = [u8; BLOCK], Out = Piece>>(
     source: &mut S,
     stage: &mut G,
 ) -> Result<Pumped, PumpStop>
-    ensures watches { (taken : List ℕ) × Watches limit G.next (S.left source.old) (S.left source.new) stage.old stage.new result taken }
-    ensures answer { IfSome (S.left source.old) (λ all. IsUnlessFault result (answer_of 96 limit (length all))) }
+    ensures watches { (taken : List ℕ)
+        × Watches limit G.next (S.left source.old) (S.left source.new) stage.old stage.new result taken }
+    ensures answer { IfSome (S.left source.old)
+        (λ all. IsUnlessFault result (answer_of 96 limit (length all))) }
     ensures source_later { S.faults source.old ≤ S.faults source.new }
-    ensures read_fault { IsErrOf result PumpStop.ReadFault → Rose (S.faults source.old) (S.faults source.new) }
+    ensures read_fault { IsErrOf result PumpStop.ReadFault
+        → Rose (S.faults source.old) (S.faults source.new) }
     ensures no_read_fault { result ≢ Err PumpStop.ReadFault → S.faults source.new ≡ S.faults source.old }
     ensures ended { TellsEndOf result (S.ends source.old) (S.ends source.new) }
 {

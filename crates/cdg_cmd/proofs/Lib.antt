@@ -14,6 +14,7 @@ mod PressedBack
 mod Pumped
 mod Quiet
 mod ResumeTold
+mod ResumedWhole
 mod SaveTold
 pub mod SecondHalf
 mod Statuses

@@ -31,7 +31,7 @@ fn resume_status(answer: Result<Resumed, ResumeStop>) -> Status
 }
 
 /// Writes the picture at a moment of a stream of which a checkpoint, which is the first input, and the rest are given.
-#[tactic(auto, using(crate::proofs::MergeTold::told_none, crate::proofs::ResumeTold::never_memory, crate::proofs::ResumeTold::never_usage, crate::proofs::ResumeTold::untouched))]
+#[tactic(auto, using(crate::proofs::MergeTold::told_none, crate::proofs::ResumeTold::never_memory, crate::proofs::ResumeTold::never_usage))]
 pub(crate) fn run_resume<S: Source, T: Source, K: Sink>(
     alloc: Global,
     at: u32,

@@ -24,6 +24,7 @@ ghost use Rattle.cdg_cmd.specs.Told.{Tells};
 ghost use Rattle.cdg_cmd.specs.Authors.{IsScriptText, IsSheetText};
 ghost use Rattle.cdg_cmd.specs.Headline.{HavePlace, IsDamagedCopy, PutsPicture, WritesOrIsLate, written_packs};
 ghost use Rattle.cdg_cmd.specs.LeadInTexts.{AreLinesOf};
+ghost use Rattle.cdg_cmd.specs.Resumes.{ResumesFrom};
 
 use crate::author::run_author;
 use crate::check::run_check;
@@ -46,6 +47,7 @@ use authored_listings::{
     copied_text_lists_are_answered, damaged_text_lists_are_answered, frame_lists_are_answered,
 };
 use authored_streams::accepted_scripts_are_in_order;
+use cdg_checkpoint::a_saved_stream_goes_on_as_the_whole;
 use cdg_io::{Sink, Source, SteadySink, SteadySource};
 use pressed_streams::pressed_packs_come_back;
 use rw_merge::two_readings_give_packs;
@@ -74,9 +76,9 @@ pub fn run<S: Source, T: Source, K: Sink, E: Sink>(
     err: &mut E,
 ) -> Status
     // Usage comes exactly where the words spell no command, and then nothing was touched.
-    ensures usage { (result ≡ Status.Usage) ↔ ((command : Command) → ¬ (Spells command (texts words.now))) }
-    ensures untouched { result ≡ Status.Usage
-        → (first.new ≡ first.old) × (second.new ≡ second.old) × (out.new ≡ out.old) }
+    ensures usage { ((result ≡ Status.Usage) ↔ ((command : Command) → ¬ (Spells command (texts words.now))))
+        × (result ≡ Status.Usage
+        → (first.new ≡ first.old) × (second.new ≡ second.old) × (out.new ≡ out.old)) }
     // What the command does not read, and what it does not write, is left as it was.
     ensures keeps { (command : Command) → Spells command (texts words.now) → Keeps command
         (change S.left first.old first.new) (first.old, second.old, out.old)
@@ -152,6 +154,11 @@ pub fn run<S: Source, T: Source, K: Sink, E: Sink>(
         (packs : List (List ℕ)) → Spells (Command.Convert lead_in form) (texts words.now)
         → IfSome (S.left first.old) (λ all. IsDamagedPress form sheet file lead_in audio all packs
         → GivesBack (concat (written_packs form packs)) (change K.held out.old out.new) result) }
+    // From the file of a checkpoint, whoever made it, and the rest of a stream, what stands at a time is written;
+    // where `save` made it of the first part of a stream, `screen` answers and writes the same with the whole stream.
+    ensures resumes { (at : ℕ) → Spells (Command.Resume at) (texts words.now) → IsAnswered result
+        → result ≢ Status.NoMemory → IfSome (S.left first.old) (λ file. IfSome (T.left second.old) (λ rest.
+        ResumesFrom file at rest (change K.held out.old out.new) result)) }
     // Of a whole file the thin form is written: the same stands in both after each number of packs, and the thin
     // form of it is itself.
     ensures thins { Spells Command.Thin (texts words.now) → result ≡ Status.Done
@@ -168,6 +175,7 @@ pub fn run<S: Source, T: Source, K: Sink, E: Sink>(
     needs_are_fewest();
     two_readings_give_packs();
     pressed_packs_come_back();
+    a_saved_stream_goes_on_as_the_whole();
     let status = answer(alloc, words, first, second, out);
     // A failure there changes nothing.
     let _told = tell(err, status);

@@ -16,9 +16,6 @@ use Rattle.checkpoint_files.proofs.ReadBack.{BeginsAt, from_on, begins, next_par
 
 -- ---- the mark
 
-joined : (b0 b1 b2 b3 b4 b5 b6 b7 : ℕ) → ℕ
-joined b0 b1 b2 b3 b4 b5 b6 b7 = 256 ^ 7 * b0 + (256 ^ 6 * b1 + (256 ^ 5 * b2 + (256 ^ 4 * b3 + (256 ^ 3 * b4 + (256 ^ 2 * b5 + (256 ^ 1 * b6 + (256 ^ 0 * b7 + 0)))))))
-
 mark_byte : (c : Checkpoint) (i : ℕ) → i < 8 → get_or (file_of c) i 0 ≡ get_or (bytes_of 8 mark) i 0
 mark_byte c i lt = byte_in c Mark _ 0 i 1 i (begins c) refl (omega arith) lt (omega arith)
 
@@ -80,9 +77,6 @@ check_read c =
     read ∙ ap check_of (sym (body_taken c))
 
 -- ---- a sound checkpoint
-
-place_x : (k : ℕ) → k % 300 < 300
-place_x k = omega arith
 
 module _ (c : Checkpoint) (sound : IsSoundCheckpoint c) where
   abbrev file : List ℕ

@@ -31,8 +31,8 @@ impl CheckpointFile {
     /// Is this the file of a checkpoint?
     ///
     /// # Errors
-    /// The byte that shows that it is none: the file's length where that is less than 65,045, 65,045 where it is more, and
-    /// else the first byte of the first field that is out of its range.
+    /// The byte that shows that it is none: the file's length where that is less than 65,045, 65,045 where it
+    /// is more, and else the first byte of the first field that is out of its range.
     pub fn check(&self) -> Result<(), u32>
         ensures { MatchResult result (λ _. IsCheckpointFile self.now) (IsBadAt self.now) }
     {
@@ -46,7 +46,8 @@ impl CheckpointFile {
     // Are all fields in their ranges? If not, the first byte of the first one.
     fn check_fields(&self) -> Result<(), u32>
         requires { length self.now ≡ 65045 }
-        ensures { MatchResult result (λ _. AllByRecursion (IsPartInRange self.now) parts) (IsFirstOut self.now) }
+        ensures { MatchResult result (λ _. AllByRecursion (IsPartInRange self.now) parts)
+            (IsFirstOut self.now) }
     {
         self.check_mark()?;
         self.check_to_come()?;

@@ -22,8 +22,8 @@ pub(crate) const PIXELS: u32 = 64_800;
 pub(crate) const COLOURS: u8 = 16;
 
 impl CheckpointFile {
-    /// Becomes the file of these counts, of the symbols of the last seven slots, zeros before the first, and of what
-    /// stands on the screen.
+    /// Becomes the file of these counts, of the symbols of the last seven slots, zeros before the first, and
+    /// of what stands on the screen.
     pub fn compose(&mut self, counts: &Counts, slots: &[u8; SLOTS_BYTES], screen: &Screen)
         ensures { self.new ≡ file_of (kept counts.now slots.now (standing_of screen.now)) }
     {
@@ -42,7 +42,8 @@ impl CheckpointFile {
     fn put_counts(&mut self, counts: &Counts)
         requires { length self.old ≡ 0 }
         ensures parts { (slots : List ℕ) (now : Standing)
-            → self.new ≡ with_parts self.old (kept counts.now slots now) (Mark ∷ ToCome ∷ LeadIn ∷ Program ∷ Bad ∷ []) }
+            → self.new ≡ with_parts self.old (kept counts.now slots now)
+            (Mark ∷ ToCome ∷ LeadIn ∷ Program ∷ Bad ∷ []) }
         ensures size { length self.new ≡ 24 }
     {
         self.put(MARK);
@@ -77,7 +78,8 @@ impl CheckpointFile {
     fn put_places(&mut self, screen: &Screen)
         requires { length self.old ≡ 64992 }
         ensures parts { (counts : Counts) (slots : List ℕ)
-            → self.new ≡ with_parts self.old (kept counts slots (standing_of screen.now)) (Border ∷ Across ∷ Down ∷ []) }
+            → self.new ≡ with_parts self.old (kept counts slots (standing_of screen.now))
+            (Border ∷ Across ∷ Down ∷ []) }
         ensures size { length self.new ≡ 64995 }
     {
         self.put(&[screen.border()]);

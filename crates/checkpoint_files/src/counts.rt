@@ -7,8 +7,8 @@ pub struct Counts {
     pub to_come: u32,
     /// The blocks of the lead-in that were read; with those still to come at most 450,000.
     pub lead_in: u32,
-    /// The blocks of the program that were read; with those of the lead-in at most 1,000,000, and none while the lead-in
-    /// lasts.
+    /// The blocks of the program that were read; with those of the lead-in at most 1,000,000, and none while
+    /// the lead-in lasts.
     pub program: u32,
     /// The words with no codeword within two symbols among those that came so far.
     pub bad: u32,

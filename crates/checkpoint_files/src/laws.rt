@@ -4,7 +4,8 @@ ghost use Rattle.checkpoint_files.specs.Checkpoint.{Checkpoint, checkpoint_in, f
 ghost use Rattle.checkpoint_files.specs.Sound.{IsSameCheckpoint, IsSoundCheckpoint};
 ghost use Rattle.checkpoint_files.specs.Table.{Bad, IsCheckpointFile, LeadIn, Memory, Program, Slots, ToCome, number};
 
-/// A law: what is written is read. The file of each checkpoint has 65,045 bytes, and holds its counts, its slots and its memory.
+/// A law: what is written is read. The file of each checkpoint has 65,045 bytes, and holds its counts, its
+/// slots and its memory.
 pub fn files_are_read_back()
     ensures size { (c : Checkpoint) → length (file_of c) ≡ 65045 }
     ensures to_come { (c : Checkpoint) → c.to_come < 2 ^ 32 → number (file_of c) ToCome 0 ≡ c.to_come }
@@ -12,10 +13,12 @@ pub fn files_are_read_back()
     ensures program { (c : Checkpoint) → c.program < 2 ^ 32 → number (file_of c) Program 0 ≡ c.program }
     ensures bad { (c : Checkpoint) → c.bad < 2 ^ 32 → number (file_of c) Bad 0 ≡ c.bad }
     ensures slots { (c : Checkpoint) (k : ℕ) → k < 168 → number (file_of c) Slots k ≡ value c Slots k % 256 }
-    ensures memory { (c : Checkpoint) (k : ℕ) → k < 64800 → number (file_of c) Memory k ≡ value c Memory k % 256 }
+    ensures memory { (c : Checkpoint) (k : ℕ) → k < 64800
+        → number (file_of c) Memory k ≡ value c Memory k % 256 }
 {}
 
-/// A law: the file of a checkpoint whose numbers are in their ranges is accepted, and the checkpoint in it says the same.
+/// A law: the file of a checkpoint whose numbers are in their ranges is accepted, and the checkpoint in it
+/// says the same.
 pub fn sound_checkpoints_are_accepted()
     ensures accepted { (c : Checkpoint) → IsSoundCheckpoint c → IsCheckpointFile (file_of c) }
     ensures same { (c : Checkpoint) → IsSoundCheckpoint c → IsSameCheckpoint (checkpoint_in (file_of c)) c }

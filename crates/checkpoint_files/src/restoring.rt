@@ -57,8 +57,10 @@ impl CheckpointFile {
         requires file { IsCheckpointFile self.now }
         requires row { row < 18 }
         requires column { column < 50 }
-        requires blank { (x y : ℕ) → x < 300 → y < 216 → x / 6 ≡ column → y / 12 ≡ row → (standing_of screen.old).memory x y ≡ 0 }
-        ensures { DrawsTile (standing_in self.now) row column (standing_of screen.old) (standing_of screen.new) }
+        requires blank { (x y : ℕ) → x < 300 → y < 216 → x / 6 ≡ column → y / 12 ≡ row
+            → (standing_of screen.old).memory x y ≡ 0 }
+        ensures { DrawsTile (standing_in self.now) row column (standing_of screen.old)
+            (standing_of screen.new) }
     {
         let drawn = plan(&Tile::solid(0), &self.tile(row, column), row, column);
         screen.obey_all(drawn.as_slice());
@@ -69,7 +71,8 @@ impl CheckpointFile {
         requires file { IsCheckpointFile self.now }
         requires row { row < 18 }
         requires column { column < 50 }
-        ensures { (p : ℕ) → p < 72 → slice_index result p ≡ (standing_in self.now).memory (6 * column + p % 6) (12 * row + p / 6) }
+        ensures { (p : ℕ) → p < 72
+            → slice_index result p ≡ (standing_in self.now).memory (6 * column + p % 6) (12 * row + p / 6) }
     {
         let left = 6 * usize::from(column);
         let top = 12 * usize::from(row);
@@ -95,7 +98,8 @@ impl CheckpointFile {
     // Sets the border, the colours, the levels and the offsets.
     fn set(&self, screen: &mut Screen)
         requires { IsCheckpointFile self.now }
-        ensures { SameStanding (standing_of screen.new) (set_by (standing_in self.now) (standing_of screen.old)) }
+        ensures { SameStanding (standing_of screen.new)
+            (set_by (standing_in self.now) (standing_of screen.old)) }
     {
         screen.obey(&Instr::BorderPreset {
             colour: self.byte(BORDER),

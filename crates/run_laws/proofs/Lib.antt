@@ -2,6 +2,5 @@ mod Accepted
 mod Clean
 mod PressedShown
 mod Refusals
-mod ResumedShown
 mod Scratched
 mod SecondFaults

@@ -1,5 +1,4 @@
 pub mod Pressed
 pub mod Ran
 pub mod Refused
-pub mod Resumed
 pub mod Undamaged

@@ -7,7 +7,6 @@ mod discs;
 mod listings;
 mod presses;
 mod readings;
-mod resumes;
 
 pub use causes::second_faults_come_after_the_first_input;
 pub use conversions::{
@@ -18,4 +17,3 @@ pub use discs::{accepted_discs_are_written, refusals_are_told};
 pub use listings::{authored_texts_are_written, copied_texts_are_written};
 pub use presses::pressed_streams_show_their_files;
 pub use readings::damaged_readings_give_their_packs;
-pub use resumes::resumed_streams_show_the_whole;

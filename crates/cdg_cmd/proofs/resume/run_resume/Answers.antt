@@ -1,5 +1,5 @@
 use Rattle.std.proofs.Common.{ap}
-use Rattle.cdg_cmd.proofs.ResumeTold.{first_ended, reads_second, second_ended, told}
+use Rattle.cdg_cmd.proofs.ResumeTold.{first_ended, reads_second, second_ended, told, untouched}
 use Rattle.cdg_cmd.proofs.resume.run_resume.Goals as goal
 
 pub returns-in-Ok-clause-does : goal.returns-in-Ok-clause-does
@@ -16,6 +16,9 @@ returns-in-Ok-clause-does g c = λ found.
       goes_on = done.resumes;
       exactly = done.answer;
     }
+
+pub returns-in-Ok-clause-untouched : goal.returns-in-Ok-clause-untouched
+returns-in-Ok-clause-untouched g c = untouched c.resume.result _ _ _ c.resume_status.ensures c.resume.ensures.untouched
 
 pub returns-in-Ok-clause-second : goal.returns-in-Ok-clause-second
 returns-in-Ok-clause-second g c =

@@ -4,6 +4,9 @@ use Rattle.cdg_cmd.specs.Answer.{Does}
 use Rattle.cdg_cmd.specs.Call.{dry_call}
 use Rattle.cdg_cmd.proofs.top.dry_run.Goals as goal
 
+pub returns-clause-usage : goal.returns-clause-usage
+returns-clause-usage c = c.run.ensures.usage.0
+
 pub returns-clause-answered : goal.returns-clause-answered
 returns-clause-answered c = λ command spelled.
     c.run.ensures.complete command spelled (record { first = λ r. omega (arith, r); second = λ r. omega (arith, r); out = λ r. omega (arith, r) })

@@ -2,7 +2,7 @@ use Rattle.std.proofs.Common.{None}
 use Rattle.subcode_author.specs.Authored.{IsAuthored}
 use Rattle.cdg_cmd.specs.Call.{Bytes, Change, change}
 use Rattle.cdg_cmd.specs.LeadInTexts.{AreLinesOf}
-use Rattle.cdg_cmd.specs.declared.command.Command.TheVariants.{Author, Convert, Merge, Q, Screen, Text, Thin}
+use Rattle.cdg_cmd.specs.declared.command.Command.TheVariants.{Author, Convert, Merge, Q, Resume, Screen, Text, Thin}
 use Rattle.cdg_cmd.proofs.FirstHalf.{first_half}
 use Rattle.cdg_cmd.proofs.LateTold.{late_cannot}
 use Rattle.cdg_cmd.proofs.SecondHalf.{converted_back, gives_none_bad, gives_packs, packs_back, pictures_shown, shown_back}
@@ -10,9 +10,13 @@ use Rattle.raw_subcode.specs.declared.form.Form.TheVariants.{Raw}
 use Rattle.cdg_cmd.proofs.Listings.{authored_size, frames_given, lines_given, spells_allowed, strings_given}
 use Rattle.cdg_cmd.proofs.Merged.{merged_back}
 use Rattle.cdg_cmd.proofs.PressedBack.{pressed_back}
+use Rattle.cdg_cmd.proofs.ResumedWhole.{Laws, resumed_from}
 use Rattle.cdg_cmd.proofs.Statuses.{answered}
 use Rattle.cdg_cmd.proofs.Thinning.{all_thinned}
 use Rattle.cdg_cmd.proofs.top.run.Goals as goal
+
+pub returns-clause-usage : goal.returns-clause-usage
+returns-clause-usage g c = (c.answer-status.ensures.usage, c.answer-status.ensures.untouched)
 
 pub returns-clause-complete : goal.returns-clause-complete
 returns-clause-complete g c = λ command spelled none.
@@ -67,6 +71,12 @@ returns-clause-unpresses g c = λ lead_in audio form sheet file packs spelled.
     let out : Change Bytes = change g.K.Sink.held c.args.out.now c.answer-status.new.out in
     pressed_back form sheet file lead_in audio packs _ out c.answer-status.result (λ others. c.pressed_packs_come_back.ensures.stream form sheet file lead_in audio others packs)
     (converted_back form lead_in _ None None out c.answer-status.result (gives_packs c.packs_are_recovered.ensures c.text_of_packs.ensures.text c.text_of_packs.ensures.bad) (gives_none_bad c.packs_are_recovered.ensures c.text_of_packs.ensures.text c.text_of_packs.ensures.bad) _ (c.answer-status.ensures.does (Convert lead_in form) spelled))
+
+pub returns-clause-resumes : goal.returns-clause-resumes
+returns-clause-resumes g c = λ at spelled answered found.
+    let law = c.a_saved_stream_goes_on_as_the_whole.ensures in
+    let laws : Laws = record { accepted = law.accepted; answer = law.answer; whole = law.whole; only = law.only } in
+    resumed_from laws at _ _ _ _ _ c.answer-status.result answered (c.answer-status.ensures.does (Resume at) spelled found)
 
 pub returns-clause-thins : goal.returns-clause-thins
 returns-clause-thins g c = λ spelled done.
