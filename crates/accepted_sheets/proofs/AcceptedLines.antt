@@ -1,33 +1,21 @@
 -- The lines of a cue sheet one after another: what they say is in order, and made of the bytes of the text.
-use Rattle.std.proofs.Common.{◌≡◌, ℕ, zero, suc, ◌+◌, ◌≤◌, Bool, true, false, not, if◌then◌else◌, List, [], ◌∷◌, ◌++◌, length, Option, Some, None, All, refl, sym, subst, arith}
+use Rattle.std.proofs.Common.{◌≡◌, ℕ, zero, suc, ◌+◌, ◌≤◌, Bool, true, false, not, if◌then◌else◌, List, [], ◌∷◌, ◌++◌, length, Option, Some, None, All, refl, ap, sym, subst, ◌∙◌, arith}
 use Rattle.std.specs.Prelude.{is_some, unwrap_or, Result, Ok, Err}
 use Rattle.std.proofs.lemmas.Bool.{cond_both}
 use Rattle.std.proofs.lemmas.List.Elements.{All-append}
-use Rattle.text_lines.specs.Text.{trimmed, first_word, argument_of, lines_of}
+use Rattle.text_lines.specs.Text.{trimmed, first_word, argument_of, lines_of, is_some_bytes}
+use Rattle.text_lines.specs.Reading.{at_line, read_on}
+use Rattle.text_lines.proofs.ReadOn.{read_on-taken, read_on-refused, read_on-end}
 use Rattle.cue_sheet.specs.CueSheet.{CueTrack, CueSheet, CueSection, track_from, sheet_from, IsSheet}
 use Rattle.cue_sheet.specs.Lines.{CueLine, SaysNothing, SaysCatalogue, SaysFile, SaysTitle, SaysPerformer, SaysSongwriter, SaysTrack, SaysFlags, SaysIsrc, SaysPregap, SaysIndex, SaysPostgap, command_named}
-use Rattle.cue_sheet.specs.Grammar.{CueState, state_of, section_said, track_with, checked_command, has_index_one, end_reason, checked_end, sheet_said, read_lines, read_cue}
-use Rattle.cue_sheet.specs.Steps.{after}
+use Rattle.cue_sheet.specs.Grammar.{CueState, no_section, nothing_said, track_with, has_index_one, obeyed, step, ended, read_cue}
+use Rattle.cue_sheet.specs.Steps.{after, unless, end_reason, sheet_said}
 use Rattle.cue_sheet.specs.declared.fault.CueWhy.{CueWhy}
 use Rattle.cue_sheet.specs.declared.fault.CueWhy.TheVariants.{NoFile, NoTrack, NoIndex}
+use Rattle.cue_sheet.proofs.Stepping.{ended_is}
 use Rattle.cue_sheet.proofs.Good.{IsGood, good_start, good_more, good_sheet}
 use Rattle.accepted_sheets.proofs.LineBytes.{Fits, EachFits, fits_trimmed, fits_argument, lines_fit}
 use Rattle.accepted_sheets.proofs.SaidRanges.{SaysBytes, command_is}
-
--- one more line changes what is said as `after` has it
-after_is : (before : List CueLine) (line : CueLine) → state_of (line ∷ before) ≡ after (state_of before) line
-after_is before SaysNothing = refl
-after_is before (SaysCatalogue s) = refl
-after_is before SaysFile = refl
-after_is before (SaysTitle s) = refl
-after_is before (SaysPerformer s) = refl
-after_is before (SaysSongwriter s) = refl
-after_is before (SaysTrack number audio) = refl
-after_is before (SaysFlags n) = refl
-after_is before (SaysIsrc s) = refl
-after_is before (SaysPregap n) = refl
-after_is before (SaysIndex number time) = refl
-after_is before (SaysPostgap n) = refl
 
 -- a sheet that is not refused at its end is in order
 sheet_ends : (s : CueState) (o : Option ℕ) (file one : Bool) → s.number ≡ o → has_index_one s.section ≡ one → IsGood s
@@ -68,10 +56,10 @@ module _ (P : ℕ → Type 0) where
   one Q x is zero d less = is
   one Q x is (suc k) d less = absurd (omega arith)
 
-  empty : SectionHas (section_said [])
+  empty : SectionHas (no_section)
   empty = record { title = nothing P; performer = nothing P; songwriter = nothing P }
 
-  start : StateHas (state_of [])
+  start : StateHas (nothing_said)
   start = record { section = empty; album = empty; tracks = nothing TrackHas }
 
   last_track : (o : Option ℕ) (s : CueSection) → SectionHas s → All TrackHas (track_with o s)
@@ -99,7 +87,7 @@ module _ (P : ℕ → Type 0) where
   abbrev IsAccepted : CueSheet → Type 0
   IsAccepted sheet = IsSheet sheet × SheetHas sheet
 
-  finish : (s : CueState) (number : ℕ) (sheet : CueSheet) (why : Option CueWhy) → end_reason s ≡ why → IsGood s → StateHas s → checked_end number s why ≡ Ok sheet → IsAccepted sheet
+  finish : (s : CueState) (number : ℕ) (sheet : CueSheet) (why : Option CueWhy) → end_reason s ≡ why → IsGood s → StateHas s → at_line number (unless (sheet_said s) why) ≡ Ok sheet → IsAccepted sheet
   finish s number sheet (Some why) is good has e = cc
   finish s number sheet None is good has e =
       let same : sheet_said s ≡ sheet = cc in
@@ -113,37 +101,34 @@ module _ (P : ℕ → Type 0) where
         },
       )
 
-  abbrev read_on : ℕ → List CueLine → List (List ℕ) → ℕ → Result CueLine CueWhy → Result CueSheet (ℕ × CueWhy)
-  read_on number before rest size check =
-      elim size [
-        | zero ↦ read_lines (number + 1) before rest
-        | suc _ ↦ elim check [
-          | Ok said ↦ read_lines (number + 1) (said ∷ before) rest
-          | Err why ↦ Err (number, why)
-        ]
-      ]
-
   abbrev Reads : List (List ℕ) → CueSheet → Type 0
-  Reads rest sheet = (number : ℕ) (before : List CueLine) → IsGood (state_of before) → StateHas (state_of before) → read_lines number before rest ≡ Ok sheet → IsAccepted sheet
+  Reads rest sheet = (number : ℕ) (s : CueState) → IsGood s → StateHas s → read_on step ended number s rest ≡ Ok sheet → IsAccepted sheet
 
-  line_read : (number : ℕ) (before : List CueLine) (word argument : List ℕ) (rest : List (List ℕ)) (sheet : CueSheet) (size : ℕ) (check : Result CueLine CueWhy)
-      → checked_command (state_of before) (command_named word) argument ≡ check → Fits P 67108864 argument → Reads rest sheet → IsGood (state_of before) → StateHas (state_of before)
-      → read_on number before rest size check ≡ Ok sheet → IsAccepted sheet
-  line_read number before word argument rest sheet zero check is fits reads good has e = reads (number + 1) before good has e
-  line_read number before word argument rest sheet (suc size) (Err why) is fits reads good has e = cc
-  line_read number before word argument rest sheet (suc size) (Ok said) is fits reads good has e =
-      let says = command_is P (state_of before) word argument said fits is in
-      reads (number + 1) (said ∷ before)
-      (subst IsGood (sym (after_is before said)) (good_more (state_of before) said good says.0.0 says.1))
-      (subst StateHas (sym (after_is before said)) (more (state_of before) said has says.0.1)) e
+  step_keeps : (s : CueState) (some : Bool) (word argument : List ℕ) (next : CueState) → Fits P 67108864 argument → IsGood s → StateHas s
+      → (if some then obeyed s (command_named word) argument else Ok s) ≡ Ok next → IsGood next × StateHas next
+  step_keeps s true word argument next fits good has e =
+      let takes = command_is P s word argument next fits e in
+      (subst IsGood (sym takes.is) (good_more s takes.line good takes.said.0 takes.free), subst StateHas (sym takes.is) (more s takes.line has takes.said.1))
+  step_keeps s false word argument next fits good has e = let same : s ≡ next = cc in (subst IsGood same good, subst StateHas same has)
+
+  never : (fault : ℕ × CueWhy) (sheet : CueSheet) → Err fault ≡ Ok sheet → IsAccepted sheet
+  never fault sheet e = cc
+
+  line_read : (number : ℕ) (s : CueState) (line : List ℕ) (rest : List (List ℕ)) (sheet : CueSheet) (answer : Result CueState CueWhy)
+      → step s line ≡ answer → ((next : CueState) → answer ≡ Ok next → IsGood next × StateHas next) → Reads rest sheet
+      → read_on step ended number s (line ∷ rest) ≡ Ok sheet → IsAccepted sheet
+  line_read number s line rest sheet (Ok next) is keeps reads e =
+      let kept = keeps next refl in
+      reads (number + 1) next kept.0 kept.1 (sym (read_on-taken step ended number s next line rest is) ∙ e)
+  line_read number s line rest sheet (Err why) is keeps reads e = never (number, why) sheet (sym (read_on-refused step ended number s why line rest is) ∙ e)
 
   lines_read : (lines : List (List ℕ)) (sheet : CueSheet) → EachFits P 67108864 lines → Reads lines sheet
-  unfolding read_lines
-  lines_read [] sheet fits number before good has e = finish (state_of before) number sheet (end_reason (state_of before)) refl good has e
-  lines_read (line ∷ rest) sheet fits number before good has e =
-      line_read number before (first_word (trimmed line)) (argument_of (trimmed line)) rest sheet (length (trimmed line))
-      (checked_command (state_of before) (command_named (first_word (trimmed line))) (argument_of (trimmed line))) refl
-      (fits_argument P 67108864 (trimmed line) (fits_trimmed P 67108864 line fits.0)) (lines_read rest sheet fits.1) good has e
+  lines_read [] sheet fits number s good has e =
+      finish s number sheet (end_reason s) refl good has (ap (at_line number) (sym (ended_is s)) ∙ (sym (read_on-end step ended number s) ∙ e))
+  lines_read (line ∷ rest) sheet fits number s good has e =
+      line_read number s line rest sheet (step s line) refl
+      (λ next. step_keeps s (is_some_bytes (trimmed line)) (first_word (trimmed line)) (argument_of (trimmed line)) next (fits_argument P 67108864 (trimmed line) (fits_trimmed P 67108864 line fits.0)) good has)
+      (lines_read rest sheet fits.1) e
 
   pub cue_read : (text : List ℕ) (sheet : CueSheet) → All P text → length text ≤ 67108864 → read_cue text ≡ Ok sheet → IsSheet sheet × SheetHas sheet
-  cue_read text sheet bytes short e = lines_read (lines_of text) sheet (lines_fit P 67108864 text (record { bytes = bytes; size = short })) 1 [] good_start start e
+  cue_read text sheet bytes short e = lines_read (lines_of text) sheet (lines_fit P 67108864 text (record { bytes = bytes; size = short })) 1 nothing_said good_start start e

@@ -10,7 +10,9 @@ use Rattle.std.proofs.lemmas.Bool.{and_parts, cond_both, false≢true, leb-true}
 use Rattle.text_lines.specs.Text.{words_in, number_in, two_digit_number, time_of, parsed_time, is_some_bytes}
 use Rattle.cue_sheet.specs.CueSheet.{IsText, is_catalogue_number, is_capital_code}
 use Rattle.cue_sheet.specs.Lines.{CueLine, SaysNothing, SaysCatalogue, SaysFile, SaysTitle, SaysPerformer, SaysSongwriter, SaysTrack, SaysFlags, SaysIsrc, SaysPregap, SaysIndex, SaysPostgap, is_plain, is_quote, begins_quoted, plain, quoted, quoted_text, text_argument, is_file, catalogue_argument, code_argument, is_flag, control_of, flags_argument, track_argument, track_of_words, index_argument, index_of_words, command_words, command_named, IsInRange}
-use Rattle.cue_sheet.specs.Grammar.{CueState, checked_command, checked_line, checked_reason, later_reason, has_index_one}
+use Rattle.cue_sheet.specs.Grammar.{CueState, spelled, obeyed, has_index_one}
+use Rattle.cue_sheet.specs.Steps.{after, later_reason, unless}
+use Rattle.cue_sheet.proofs.Stepping.{taken_is}
 use Rattle.cue_sheet.specs.declared.fault.CueWhy.{CueWhy}
 use Rattle.cue_sheet.specs.declared.fault.CueWhy.TheVariants.{SecondFile, Misplaced}
 use Rattle.accepted_sheets.proofs.LineBytes.{Fits, fits_take, fits_drop}
@@ -181,64 +183,69 @@ module _ (P : ℕ → Type 0) where
   mapped f None line each e = cc
   mapped f (Some x) line each e = let same : f x ≡ line = cc in subst IsSaid same (each x refl)
 
-  -- what is said of a line that is not refused
-  reason_is : (s : CueState) (line said : CueLine) (why : Option CueWhy) → later_reason s line ≡ why → checked_reason line why ≡ Ok said → (line ≡ said) × (later_reason s line ≡ None)
-  reason_is s line said None is e = (cc, is)
-  reason_is s line said (Some why) is e = cc
+  -- a line that says something is taken
+  pub record Takes (s next : CueState) : Type 0 where
+    pub line : CueLine
+    pub said : IsSaid line
+    pub free : later_reason s line ≡ None
+    pub is : next ≡ after s line
 
-  line_is : (s : CueState) (o : Option CueLine) (said : CueLine) → checked_line s o ≡ Ok said → (o ≡ Some said) × (later_reason s said ≡ None)
-  line_is s None said e = cc
-  line_is s (Some line) said e =
-      let is = reason_is s line said (later_reason s line) refl e in
-      (ap Some is.0, ap (later_reason s) (sym is.0) ∙ is.1)
+  free_is : (s : CueState) (line : CueLine) (next : CueState) (why : Option CueWhy) → later_reason s line ≡ why → unless (after s line) why ≡ Ok next → (later_reason s line ≡ None) × (next ≡ after s line)
+  free_is s line next None is e = (is, cc)
+  free_is s line next (Some why) is e = cc
 
-  passed : (second placed : Bool) (answer : Result CueLine CueWhy) (said : CueLine)
-      → (if second then Err SecondFile else (if not placed then Err Misplaced else answer)) ≡ Ok said → answer ≡ Ok said
-  passed true placed answer said e = cc
-  passed false true answer said e = e
-  passed false false answer said e = cc
+  line_is : (s : CueState) (o : Option CueLine) (next : CueState) → ((line : CueLine) → o ≡ Some line → IsSaid line) → spelled s o ≡ Ok next → Takes s next
+  line_is s None next each e = cc
+  line_is s (Some line) next each e =
+      let is = free_is s line next (later_reason s line) refl (sym (taken_is s line) ∙ e) in
+      record { line = line; said = each line refl; free = is.0; is = is.1 }
 
-  entry_is : (s : CueState) (second placed : Bool) (o : Option CueLine) (said : CueLine) → ((line : CueLine) → o ≡ Some line → IsSaid line)
-      → (if second then Err SecondFile else (if not placed then Err Misplaced else checked_line s o)) ≡ Ok said → IsSaid said × (later_reason s said ≡ None)
-  entry_is s second placed o said each e = let is = line_is s o said (passed second placed (checked_line s o) said e) in (each said is.0, is.1)
+  passed : (second placed : Bool) (answer : Result CueState CueWhy) (next : CueState)
+      → (if second then Err SecondFile else (if not placed then Err Misplaced else answer)) ≡ Ok next → answer ≡ Ok next
+  passed true placed answer next e = cc
+  passed false true answer next e = e
+  passed false false answer next e = cc
+
+  entry_is : (s : CueState) (second placed : Bool) (o : Option CueLine) (next : CueState) → ((line : CueLine) → o ≡ Some line → IsSaid line)
+      → (if second then Err SecondFile else (if not placed then Err Misplaced else spelled s o)) ≡ Ok next → Takes s next
+  entry_is s second placed o next each e = line_is s o next each (passed second placed (spelled s o) next e)
 
   nothing_is : (line : CueLine) → Some SaysNothing ≡ Some line → IsSaid line
   nothing_is line e = let same : SaysNothing ≡ line = cc in subst IsSaid same (tt, tt)
 
-  pub command_is : (s : CueState) (word argument : List ℕ) (said : CueLine) → Fits P 67108864 argument → checked_command s (command_named word) argument ≡ Ok said
-      → IsSaid said × (later_reason s said ≡ None)
+  pub command_is : (s : CueState) (word argument : List ℕ) (next : CueState) → Fits P 67108864 argument → obeyed s (command_named word) argument ≡ Ok next → Takes s next
   unfolding command_named
-  command_is s word argument said fits =
+  command_is s word argument next fits =
       let words = words_in argument in
       let title : (line : CueLine) → option_map SaysTitle (text_argument argument) ≡ Some line → IsSaid line = λ line. mapped SaysTitle (text_argument argument) line (λ x is. text_is argument x fits is) in
       let performer : (line : CueLine) → option_map SaysPerformer (text_argument argument) ≡ Some line → IsSaid line = λ line. mapped SaysPerformer (text_argument argument) line (λ x is. text_is argument x fits is) in
       let songwriter : (line : CueLine) → option_map SaysSongwriter (text_argument argument) ≡ Some line → IsSaid line = λ line. mapped SaysSongwriter (text_argument argument) line (λ x is. text_is argument x fits is) in
-      find_each (λ o. checked_command s o argument ≡ Ok said → IsSaid said × (later_reason s said ≡ None)) (λ e. str_eq_ignore_ascii_case word e.0) command_words (λ e. cc) (
-        entry_is s false true (Some SaysNothing) said nothing_is,
+      find_each (λ o. obeyed s o argument ≡ Ok next → Takes s next) (λ e. str_eq_ignore_ascii_case word e.0) command_words (λ e. cc) (
+        entry_is s false true (Some SaysNothing) next nothing_is,
         (
-          entry_is s false true (Some SaysNothing) said nothing_is,
+          entry_is s false true (Some SaysNothing) next nothing_is,
           (
-            entry_is s false (not (is_some s.number)) (option_map SaysCatalogue (catalogue_argument argument)) said (λ line. mapped SaysCatalogue (catalogue_argument argument) line (λ x is. (catalogue_is argument x is, tt))),
+            entry_is s false (not (is_some s.number)) (option_map SaysCatalogue (catalogue_argument argument)) next (λ line. mapped SaysCatalogue (catalogue_argument argument) line (λ x is. (catalogue_is argument x is, tt))),
             (
-              entry_is s s.has_file true (if is_file argument then Some SaysFile else None) said (λ line e. subst IsSaid (chosen (is_file argument) SaysFile line e).1 (tt, tt)),
+              entry_is s s.has_file true (if is_file argument then Some SaysFile else None) next (λ line e. subst IsSaid (chosen (is_file argument) SaysFile line e).1 (tt, tt)),
               (
-                entry_is s false true (option_map SaysTitle (text_argument argument)) said title,
+                entry_is s false true (option_map SaysTitle (text_argument argument)) next title,
                 (
-                  entry_is s false true (option_map SaysPerformer (text_argument argument)) said performer,
+                  entry_is s false true (option_map SaysPerformer (text_argument argument)) next performer,
                   (
-                    entry_is s false true (option_map SaysSongwriter (text_argument argument)) said songwriter,
+                    entry_is s false true (option_map SaysSongwriter (text_argument argument)) next songwriter,
                     (
-                      entry_is s false s.has_file (option_map (λ (t : ℕ × Bool). SaysTrack t.0 t.1) (track_argument words)) said (λ line. mapped (λ (t : ℕ × Bool). SaysTrack t.0 t.1) (track_argument words) line (λ x is. (track_is words x is, tt))),
+                      entry_is s false s.has_file (option_map (λ (t : ℕ × Bool). SaysTrack t.0 t.1) (track_argument words)) next (λ line. mapped (λ (t : ℕ × Bool). SaysTrack t.0 t.1) (track_argument words) line (λ x is. (track_is words x is, tt))),
                       (
-                        entry_is s false (is_some s.number) (option_map SaysFlags (flags_argument words)) said (λ line. mapped SaysFlags (flags_argument words) line (λ x is. (flags_are words x is, tt))),
+                        entry_is s false (is_some s.number) (option_map SaysFlags (flags_argument words)) next (λ line. mapped SaysFlags (flags_argument words) line (λ x is. (flags_are words x is, tt))),
                         (
-                          entry_is s false (is_some s.number) (option_map SaysIsrc (code_argument argument)) said (λ line. mapped SaysIsrc (code_argument argument) line (λ x is. (code_is argument x is, tt))),
+                          entry_is s false (is_some s.number) (option_map SaysIsrc (code_argument argument)) next (λ line. mapped SaysIsrc (code_argument argument) line (λ x is. (code_is argument x is, tt))),
                           (
-                            entry_is s false (is_some s.number && length s.section.indices == 0) (option_map SaysPregap (parsed_time argument)) said (λ line. mapped SaysPregap (parsed_time argument) line (λ x is. (parsed_is argument x is, tt))),
+                            entry_is s false (is_some s.number && length s.section.indices == 0) (option_map SaysPregap (parsed_time argument)) next (λ line. mapped SaysPregap (parsed_time argument) line (λ x is. (parsed_is argument x is, tt))),
                             (
-                              entry_is s false (is_some s.number && not (is_some s.section.postgap)) (option_map (λ (i : ℕ × ℕ). SaysIndex i.0 i.1) (index_argument words)) said (λ line. mapped (λ (i : ℕ × ℕ). SaysIndex i.0 i.1) (index_argument words) line (λ x is. (index_is words x is, tt))),
+                              entry_is s false (is_some s.number && not (is_some s.section.postgap)) (option_map (λ (i : ℕ × ℕ). SaysIndex i.0 i.1) (index_argument words)) next (λ line. mapped (λ (i : ℕ × ℕ). SaysIndex i.0 i.1) (index_argument words) line (λ x is. (index_is words x is, tt))),
                               (
-                                entry_is s false (is_some s.number && has_index_one s.section) (option_map SaysPostgap (parsed_time argument)) said (λ line. mapped SaysPostgap (parsed_time argument) line (λ x is. (parsed_is argument x is, tt))),
+                                entry_is s false (is_some s.number && has_index_one s.section) (option_map SaysPostgap (parsed_time argument)) next (λ line. mapped SaysPostgap (parsed_time argument) line (λ x is. (parsed_is argument x is, tt))),
                                 tt,
                               ),
                             ),

@@ -8,8 +8,8 @@ use Rattle.std.proofs.lemmas.List.{get_or_append_left, length-append}
 use Rattle.std.proofs.Math.Seq.{get_or-append_seam}
 use Rattle.cue_sheet.specs.CueSheet.{CueTrack, IsText, IsTrack, IsSheet, CueSection, track_from, sheet_from, is_catalogue_number, is_capital_code, no_track}
 use Rattle.cue_sheet.specs.Lines.{CueLine, SaysNothing, SaysCatalogue, SaysFile, SaysTitle, SaysPerformer, SaysSongwriter, SaysTrack, SaysFlags, SaysIsrc, SaysPregap, SaysIndex, SaysPostgap, IsInRange}
-use Rattle.cue_sheet.specs.Grammar.{CueState, state_of, later_reason, follows_index, follows_number, has_index_one, lacks_index, track_with}
-use Rattle.cue_sheet.specs.Steps.{after}
+use Rattle.cue_sheet.specs.Grammar.{CueState, nothing_said, follows_index, follows_number, has_index_one, lacks_index, track_with}
+use Rattle.cue_sheet.specs.Steps.{after, later_reason}
 use Rattle.cue_sheet.specs.declared.fault.CueWhy.TheVariants.{NoIndex, NotAudio, NumberOrder, IndexOrder, TimeOrder}
 
 abbrev number_at : List (ℕ × ℕ) → ℕ → ℕ
@@ -149,7 +149,7 @@ no_lines latest = record {
 no_tracks : AreTracks []
 no_tracks = record { each = λ k lt. absurd (omega arith); next = λ k lt. absurd (omega arith); order = λ j k i le lt inner. absurd (omega arith) }
 
-pub good_start : IsGood (state_of [])
+pub good_start : IsGood nothing_said
 good_start = (
   (tt, tt, tt, tt, tt, tt, tt, tt),
   record {

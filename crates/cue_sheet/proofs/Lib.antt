@@ -1,3 +1,4 @@
 pub mod Readers
 pub mod Good
+pub mod Stepping
 pub mod Reading

@@ -1,11 +1,11 @@
--- What one more line says.
-use Rattle.std.specs.Prelude.{◌≡◌, ◌<◌, Result, Ok, Err, ℕ, length, List, [], ◌∷◌, ◌++◌, max, Option, Some, None, is_some, true, if◌then◌else◌}
-use Rattle.text_lines.specs.Text.{trimmed, first_word, argument_of}
-use Rattle.cue_sheet.specs.CueSheet.{CueSection}
-use Rattle.cue_sheet.specs.Lines.{CueLine, SaysNothing, SaysCatalogue, SaysFile, SaysTitle, SaysPerformer, SaysSongwriter, SaysTrack, SaysFlags, SaysIsrc, SaysPregap, SaysIndex, SaysPostgap, IsInRange, command_named}
-use Rattle.cue_sheet.specs.Grammar.{CueState, section_said, track_with, checked_command, later_reason}
+-- How the code goes about a step: the reason is looked for first, and then the line is added.
+use Rattle.std.specs.Prelude.{◌≡◌, Result, Ok, Err, ℕ, List, ◌++◌, max, Bool, false, not, Option, Some, None, is_some, true, nat_lt, if◌then◌else◌}
+use Rattle.cue_sheet.specs.CueSheet.{CueSheet, CueSection, sheet_from}
+use Rattle.cue_sheet.specs.Lines.{CueLine, SaysNothing, SaysCatalogue, SaysFile, SaysTitle, SaysPerformer, SaysSongwriter, SaysTrack, SaysFlags, SaysIsrc, SaysPregap, SaysIndex, SaysPostgap, IsInRange}
+use Rattle.cue_sheet.specs.Grammar.{CueState, has_index_one, lacks_index, follows_number, follows_index, track_with, begun, with_index, in_section, obeyed, step}
 use Rattle.cue_sheet.specs.declared.command.Command.{Command}
 use Rattle.cue_sheet.specs.declared.fault.CueWhy.{CueWhy}
+use Rattle.cue_sheet.specs.declared.fault.CueWhy.TheVariants.{Repeated, NoIndex, NotAudio, NumberOrder, IndexOrder, TimeOrder, NoFile, NoTrack}
 use Rattle.cue_sheet.specs.declared.fault.CueStop.{CueStop}
 use Rattle.cue_sheet.specs.declared.fault.CueStop.TheVariants.{Fault, NoMemory}
 use Rattle.cue_sheet.specs.declared.line.Line.{Line}
@@ -26,11 +26,29 @@ said (Pregap time) = SaysPregap time
 said (Index number time) = SaysIndex number time
 said (Postgap time) = SaysPostgap time
 
--- the same with another section of the last track
-abbrev pub in_section : CueState → CueSection → CueState
-in_section s section = record s { section = section }
+-- whether a line that may stand once in a section stands there already
+abbrev pub is_repeated : CueSection → CueLine → Bool
+is_repeated s (SaysCatalogue _) = is_some s.catalogue
+is_repeated s (SaysTitle _) = is_some s.title
+is_repeated s (SaysPerformer _) = is_some s.performer
+is_repeated s (SaysSongwriter _) = is_some s.songwriter
+is_repeated s (SaysFlags _) = is_some s.control
+is_repeated s (SaysIsrc _) = is_some s.isrc
+is_repeated s (SaysPregap _) = is_some s.pregap
+is_repeated s (SaysPostgap _) = is_some s.postgap
+is_repeated s _ = false
 
--- what is said after one more line
+-- the reason for which a line that is spelled and placed well is refused
+unfoldable pub later_reason : CueState → CueLine → Option CueWhy
+later_reason s (SaysTrack number audio) =
+    if lacks_index s then Some NoIndex
+    else (if not audio then Some NotAudio
+    else (if follows_number s.number number then None else Some NumberOrder))
+later_reason s (SaysIndex number time) =
+    if follows_index s.section.indices number then (if nat_lt time s.latest then Some TimeOrder else None) else Some IndexOrder
+later_reason s line = if is_repeated s.section line then Some Repeated else None
+
+-- what is said after one more line, if it is not refused
 abbrev pub after : CueState → CueLine → CueState
 after s SaysNothing = s
 after s SaysFile = record s { has_file = true }
@@ -42,27 +60,36 @@ after s (SaysFlags n) = in_section s (record s.section { control = Some n })
 after s (SaysIsrc t) = in_section s (record s.section { isrc = Some t })
 after s (SaysPregap n) = in_section s (record s.section { pregap = Some n })
 after s (SaysPostgap n) = in_section s (record s.section { postgap = Some n })
-after s (SaysIndex number time) = record s { latest = max time s.latest; section = record s.section { indices = s.section.indices ++ (number, time) ∷ [] } }
-after s (SaysTrack number audio) = record s {
-  album = if is_some s.number then s.album else s.section;
-  tracks = s.tracks ++ track_with s.number s.section;
-  number = Some number;
-  section = section_said [];
-}
+after s (SaysIndex number time) = record (with_index s number time) { latest = max time s.latest }
+after s (SaysTrack number audio) = begun s number
+
+-- an answer, or the reason for which there is none
+abbrev pub unless : {X : Type 0} → X → Option CueWhy → Result X CueWhy
+unless x None = Ok x
+unless x (Some why) = Err why
+
+-- the reason for which the end of the sheet is refused
+abbrev pub end_reason : CueState → Option CueWhy
+end_reason s =
+    if not s.has_file then Some NoFile
+    else (if not (is_some s.number) then Some NoTrack
+    else (if has_index_one s.section then None else Some NoIndex))
+
+-- the sheet that all lines say
+abbrev pub sheet_said : CueState → CueSheet
+sheet_said s = sheet_from s.album (s.tracks ++ track_with s.number s.section)
 
 -- what a check of a line answers
 abbrev pub IsChecked : CueState → Option Command → List ℕ → Result Line CueWhy → Type 0
-IsChecked s command argument (Ok line) = (checked_command s command argument ≡ Ok (said line)) × IsInRange (said line) × (later_reason s (said line) ≡ None)
-IsChecked s command argument (Err why) = checked_command s command argument ≡ Err why
+IsChecked s command argument (Ok line) = (obeyed s command argument ≡ Ok (after s (said line))) × IsInRange (said line) × (later_reason s (said line) ≡ None)
+IsChecked s command argument (Err why) = obeyed s command argument ≡ Err why
 
 -- what a whole line does to what is said
 pub data TakesLine (old : CueState) (line : List ℕ) (new : CueState) : Type 0 where
-  IsEmpty : length (trimmed line) ≡ 0 → new ≡ old → TakesLine old line new
-  Says : (said : CueLine) → 0 < length (trimmed line) → checked_command old (command_named (first_word (trimmed line))) (argument_of (trimmed line)) ≡ Ok said
-      → IsInRange said → later_reason old said ≡ None → new ≡ after old said → TakesLine old line new
+  IsEmpty : step old line ≡ Ok new → new ≡ old → TakesLine old line new
+  Says : (said : CueLine) → step old line ≡ Ok new → IsInRange said → later_reason old said ≡ None → new ≡ after old said → TakesLine old line new
 
 -- why a line is not taken
 abbrev pub RefusesLine : CueState → ℕ → List ℕ → CueStop → Type 0
-RefusesLine old number line (Fault at why) =
-    (at ≡ number) × (0 < length (trimmed line)) × (checked_command old (command_named (first_word (trimmed line))) (argument_of (trimmed line)) ≡ Err why)
+RefusesLine old number line (Fault at why) = (at ≡ number) × (step old line ≡ Err why)
 RefusesLine old number line NoMemory = Unit {0}

@@ -40,15 +40,15 @@ impl Model for Draft {
 }
 
 impl Draft {
-    ghost use Rattle.cue_sheet.specs.Grammar.{state_of, is_second_file, is_placed, is_repeated, follows_number, follows_index, lacks_index, has_index_one, later_reason, end_reason, sheet_said};
+    ghost use Rattle.cue_sheet.specs.Grammar.{nothing_said, is_second_file, is_placed, taken};
     ghost use Rattle.cue_sheet.specs.CueSheet.{IsSheet};
-    ghost use Rattle.cue_sheet.specs.Steps.{after, said, IsChecked, TakesLine, RefusesLine};
+    ghost use Rattle.cue_sheet.specs.Steps.{after, said, later_reason, end_reason, sheet_said, unless, IsChecked, TakesLine, RefusesLine};
     ghost use Rattle.cue_sheet.specs.Lines.{SaysTrack, SaysIndex, command_named};
     ghost use Rattle.text_lines.specs.Text.{first_word, argument_of};
 
     /// Nothing said yet.
     pub(crate) fn new(alloc: Global) -> Draft
-        ensures { result ≡ state_of [] }
+        ensures { result ≡ nothing_said }
     {
         Draft {
             has_file: false,
@@ -86,7 +86,7 @@ impl Draft {
     }
 
     /// Why a line that is spelled and placed well is refused.
-    #[tactic(auto, unfolding(crate::specs::Grammar::later_reason))]
+    #[tactic(auto, unfolding(crate::specs::Steps::later_reason))]
     fn later_reason(&self, line: &Line<'_>) -> Option<CueWhy>
         ensures { result ≡ later_reason self.now (said line.now) }
     {
@@ -98,7 +98,7 @@ impl Draft {
         }
     }
 
-    #[tactic(auto, unfolding(crate::specs::Grammar::later_reason))]
+    #[tactic(auto, unfolding(crate::specs::Steps::later_reason))]
     fn track_reason(&self, number: u8, audio: bool) -> Option<CueWhy>
         ensures { result ≡ later_reason self.now (SaysTrack number audio) }
     {
@@ -114,7 +114,7 @@ impl Draft {
         }
     }
 
-    #[tactic(auto, unfolding(crate::specs::Grammar::later_reason))]
+    #[tactic(auto, unfolding(crate::specs::Steps::later_reason))]
     fn index_reason(&self, number: u8, time: u32) -> Option<CueWhy>
         ensures { result ≡ later_reason self.now (SaysIndex number time) }
     {

@@ -29,12 +29,12 @@ pub(crate) struct Track {
 
 impl Section {
     ghost use Rattle.cue_sheet.specs.Views.{section_of, section_text};
-    ghost use Rattle.cue_sheet.specs.Grammar.{section_said, has_index_one, follows_index, is_repeated};
-    ghost use Rattle.cue_sheet.specs.Steps.{said};
+    ghost use Rattle.cue_sheet.specs.Grammar.{no_section, has_index_one, follows_index};
+    ghost use Rattle.cue_sheet.specs.Steps.{said, is_repeated};
 
     /// Nothing said.
     pub(crate) fn new(alloc: Global) -> Section
-        ensures { section_of result ≡ section_said [] }
+        ensures { section_of result ≡ no_section }
     {
         Section {
             catalogue: None,

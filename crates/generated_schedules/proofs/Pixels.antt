@@ -1,10 +1,9 @@
 -- The pixels of generated scripts have numbers of colours.
-use Rattle.std.proofs.Common.{ℕ, ◌+◌, ◌*◌, ◌<◌, Bool, true, false, List, [], ◌∷◌, length, map, flat_map, All, reverse, sym, subst, arith, mod-lt, lit<}
-use Rattle.std.specs.Prelude.{if◌then◌else◌, ◌/◌}
+use Rattle.std.proofs.Common.{ℕ, ◌+◌, ◌*◌, ◌<◌, Bool, true, false, List, [], ◌∷◌, length, map, flat_map, All, sym, subst, arith, mod-lt, lit<}
+use Rattle.std.specs.Prelude.{fold, if◌then◌else◌, ◌/◌}
 use Rattle.std.proofs.lemmas.List.Elements.{All-nil, All-cons, All-head, All-tail, All-take, All-append, All-map}
 use Rattle.bit_lists.specs.Counting.{below}
-use Rattle.tile_author.proofs.Lower.{All-reverse}
-use Rattle.picture_script.specs.Script.{Drawing, Colour, Border, Fill, Rect, Row, Show, lines_before, pixel_by, picture_pixel}
+use Rattle.picture_script.specs.Script.{Drawing, Colour, Border, Fill, Rect, Row, Show, Picture, lines_before, blank_picture, drawn, drawn_by, picture_pixel}
 use Rattle.picture_script.proofs.Scripts.{before_prefix}
 use Rattle.cdg_workload.specs.Generator.{word_of}
 use Rattle.generated_scripts.specs.Generated.{grey, rect, picture, generated_drawings}
@@ -24,17 +23,25 @@ either_small : (b : Bool) (m n : ℕ) → m < 16 → n < 16 → (if b then m els
 either_small true m n p q = p
 either_small false m n p q = q
 
-drawn_small : (lines : List Drawing) (x y : ℕ) → All IsGenerated lines → pixel_by lines x y < 16
-unfolding IsGenerated
-drawn_small [] x y all = omega arith
-drawn_small (Colour number value ∷ lines) x y all = drawn_small lines x y (All-tail IsGenerated (Colour number value) lines all)
-drawn_small (Rect left top width height colour ∷ lines) x y all =
-    either_small _ colour (pixel_by lines x y) (All-head IsGenerated (Rect left top width height colour) lines all)
-    (drawn_small lines x y (All-tail IsGenerated (Rect left top width height colour) lines all))
-drawn_small (Show ready hold ∷ lines) x y all = drawn_small lines x y (All-tail IsGenerated (Show ready hold) lines all)
-drawn_small (Border colour ∷ lines) x y all = absurd (All-head IsGenerated (Border colour) lines all)
-drawn_small (Fill colour ∷ lines) x y all = absurd (All-head IsGenerated (Fill colour) lines all)
-drawn_small (Row left top colours ∷ lines) x y all = absurd (All-head IsGenerated (Row left top colours) lines all)
+AreSmall : Picture → Type 0
+AreSmall picture = (x y : ℕ) → picture.pixel x y < 16
+
+line_small : (p : Picture) (line : Drawing) → AreSmall p → IsGenerated line → AreSmall (drawn p line)
+unfolding AreSmall IsGenerated
+line_small p (Colour number value) h is = h
+line_small p (Rect left top width height colour) h is = λ x y. either_small _ colour (p.pixel x y) is (h x y)
+line_small p (Show ready hold) h is = h
+line_small p (Border colour) h is = absurd is
+line_small p (Fill colour) h is = absurd is
+line_small p (Row left top colours) h is = absurd is
+
+drawn_small : (lines : List Drawing) (p : Picture) → AreSmall p → All IsGenerated lines → AreSmall (fold drawn p lines)
+drawn_small [] p h all = h
+drawn_small (line ∷ lines) p h all = drawn_small lines (drawn p line) (line_small p line h (All-head IsGenerated line lines all)) (All-tail IsGenerated line lines all)
+
+blank_small : AreSmall blank_picture
+unfolding AreSmall
+blank_small = λ x y. omega arith
 
 rect_generated : (a b : ℕ) → IsGenerated (rect a b)
 unfolding IsGenerated
@@ -69,9 +76,9 @@ unfolding generated_drawings
 script_generated seed count = All-append IsGenerated (map grey (below 16)) (flat_map (picture seed) (below count)) (greys_generated (below 16)) (pictures_generated seed (below count))
 
 pub pixels_small : (seed count k x y : ℕ) → picture_pixel (generated_drawings seed count) k x y < 16
-unfolding picture_pixel
+unfolding picture_pixel AreSmall
 pixels_small seed count k x y =
     let script = generated_drawings seed count in
     let first = lines_before script k in
-    drawn_small (reverse first) x y
-    (All-reverse IsGenerated first (subst (All IsGenerated) (sym (before_prefix script k)) (All-take IsGenerated (length first) script (script_generated seed count))))
+    drawn_small first blank_picture blank_small
+    (subst (All IsGenerated) (sym (before_prefix script k)) (All-take IsGenerated (length first) script (script_generated seed count))) x y

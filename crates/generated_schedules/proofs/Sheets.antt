@@ -2,13 +2,14 @@
 use Rattle.std.proofs.Common.{◌≡◌, ℕ, ◌+◌, ◌*◌, ◌≤◌, Ok, refl, arith}
 use Rattle.text_lines.specs.Text.{without_mark, lines_in, trimmed, without_blanks, first_word, argument_of, words_in, number_in, parsed_time}
 use Rattle.cue_sheet.specs.Lines.{command_named, is_file, quoted}
-use Rattle.cue_sheet.specs.Grammar.{later_reason, read_lines, read_cue}
+use Rattle.text_lines.specs.Reading.{read_on}
+use Rattle.cue_sheet.specs.Grammar.{taken, read_cue}
 use Rattle.toc_model.specs.Places.{pregaps_to, postgaps_to, program_blocks, greatest, audio_need}
 use Rattle.subcode_author.specs.AuthorAnswer.{HasLayout, HasRoom}
 use Rattle.generated_schedules.specs.Trial.{trial_text, trial_sheet}
 
 pub is_read : read_cue trial_text ≡ Ok trial_sheet
-unfolding read_lines lines_in without_mark trimmed without_blanks command_named first_word is_file argument_of quoted words_in later_reason number_in parsed_time
+unfolding read_on lines_in without_mark trimmed without_blanks command_named first_word is_file argument_of quoted words_in taken number_in parsed_time
 is_read = refl
 
 pub need_is : audio_need trial_sheet ≡ 1

@@ -1,5 +1,5 @@
 -- A generated script line by line.
-use Rattle.std.proofs.Common.{◌≡◌, ℕ, zero, suc, ◌+◌, ◌-◌, ◌*◌, ◌<◌, ◌≤◌, Bool, true, false, ◌||◌, ◌==◌, nat_lt, List, [], ◌∷◌, ◌++◌, length, get_or, map, flat_map, Ok, Err, refl, sym, ap, ◌∙◌, subst, append_assoc, arith}
+use Rattle.std.proofs.Common.{◌≡◌, ℕ, zero, suc, ◌+◌, ◌-◌, ◌*◌, ◌<◌, ◌≤◌, Bool, true, false, ◌||◌, ◌==◌, nat_lt, List, [], ◌∷◌, ◌++◌, length, get_or, map, flat_map, Ok, refl, sym, ap, ◌∙◌, subst, append_assoc, arith}
 use Rattle.std.specs.declared.result.Result.{Result}
 use Rattle.std.proofs.lemmas.Bool.{lt-ltb, eq-eqb}
 use Rattle.std.proofs.lemmas.List.{append-nil}
@@ -7,9 +7,9 @@ use Rattle.std.proofs.lemmas.List.Elements.{filter_map-append}
 use Rattle.std.proofs.lemmas.List.FromFn.{map-range_with_len_more, length-map-range_with_len, get_or-map-range_with_len}
 use Rattle.std.specs.List.{range_with_len, filter_map}
 use Rattle.bit_lists.specs.Counting.{below}
-use Rattle.text_lines.specs.Text.{words_in}
 use Rattle.picture_script.specs.Script.{Drawing, Show, shown_times, shows, pictures, hold_time}
-use Rattle.picture_script.specs.ScriptGrammar.{checked_words, checked_lines, is_after_hold}
+use Rattle.picture_script.specs.ScriptGrammar.{grown, checked_lines, is_after_hold}
+use Rattle.picture_script.proofs.Refusals.{accepted, reading_ends}
 use Rattle.picture_script.specs.declared.reasons.ScriptWhy.{ScriptWhy}
 use Rattle.cdg_workload.specs.Generator.{word_of}
 use Rattle.generated_scripts.specs.Generated.{grey, rect, picture}
@@ -20,19 +20,7 @@ result drawings = Ok drawings
 
 accept_one : (n : ℕ) (before : List Drawing) (line : List ℕ) (rest : List (List ℕ)) (said : Drawing) → IsAccepted before line said
     → checked_lines n before (line ∷ rest) ≡ checked_lines (n + 1) (before ++ said ∷ []) rest
-unfolding checked_lines
-accept_one n before line rest said is =
-    ap (λ t. elim t as (λ b. Result (List Drawing) (ℕ × ScriptWhy)) [
-      | true ↦ checked_lines (n + 1) before rest
-      | false ↦ elim (checked_words before (words_in line)) as (λ r. Result (List Drawing) (ℕ × ScriptWhy)) [
-        | Ok d ↦ checked_lines (n + 1) (before ++ d ∷ []) rest
-        | Err why ↦ Err (n, why)
-      ]
-    ]) is.heard
-    ∙ ap (λ r. elim r as (λ q. Result (List Drawing) (ℕ × ScriptWhy)) [
-      | Ok d ↦ checked_lines (n + 1) (before ++ d ∷ []) rest
-      | Err why ↦ Err (n, why)
-    ]) is.read
+accept_one n before line rest said is = accepted n before (before ++ said ∷ []) line rest is.heard (ap (grown before) is.read)
 
 -- ---- Greys.
 
@@ -116,8 +104,7 @@ accept_picture seed k n before rest lt stands =
 
 pub accept_pictures : (m k n : ℕ) (before : List Drawing) (seed : ℕ) → k + m ≤ 500 → Stands k before
     → checked_lines n before (flat_map (picture_texts seed) (range_with_len k m)) ≡ result (before ++ flat_map (picture seed) (range_with_len k m))
-unfolding checked_lines
-accept_pictures zero k n before seed within stands = ap result (sym (append-nil before))
+accept_pictures zero k n before seed within stands = reading_ends n before [] refl ∙ ap result (sym (append-nil before))
 accept_pictures (suc m) k n before seed within stands =
     let (last, first, after) = accept_picture seed k n before (flat_map (picture_texts seed) (range_with_len (k + 1) m)) (omega arith) stands in
     first ∙ accept_pictures m (k + 1) last (before ++ picture seed k) seed (omega arith) after

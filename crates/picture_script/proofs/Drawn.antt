@@ -1,12 +1,13 @@
 -- What stands on a canvas once the first lines of a script are drawn.
-use Rattle.std.proofs.Common.{◌≡◌, ℕ, ◌+◌, ◌-◌, ◌*◌, ◌/◌, ◌%◌, ◌<◌, ◌≤◌, true, List, [], ◌∷◌, ◌++◌, length, take, map, get_or, All, reverse, ap, sym, subst, ◌∙◌, arith}
+use Rattle.std.proofs.Common.{◌≡◌, ℕ, ◌+◌, ◌-◌, ◌*◌, ◌/◌, ◌%◌, ◌<◌, ◌≤◌, true, List, [], ◌∷◌, ◌++◌, length, take, map, get_or, All, ap, sym, subst, ◌∙◌, arith}
 use Rattle.std.specs.Prelude.{Option, Some, None, MatchOption}
 use Rattle.std.proofs.lemmas.Grind.{same_number_lists}
 use Rattle.std.proofs.lemmas.List.FromFn.{length-map-range_with_len, get_or-map-range_with_len}
 use Rattle.bit_lists.specs.Counting.{below}
-use Rattle.std.proofs.lemmas.List.{take_more, get_or-map, length-map, length-take, reverse-append}
+use Rattle.std.proofs.lemmas.List.{take_more, get_or-map, length-map, length-take}
 use Rattle.std.proofs.lemmas.List.Elements.{All-get_or}
-use Rattle.picture_script.specs.Script.{Drawing, Fill, lines_before, picture_pixel, picture_border, picture_colour, picture_tile}
+use Rattle.std.proofs.lemmas.List.Sums.{fold-append}
+use Rattle.picture_script.specs.Script.{Drawing, Fill, Picture, blank_picture, drawn, drawn_by, lines_before, picture_pixel, picture_border, picture_colour, picture_tile}
 use Rattle.picture_script.specs.Lines.{said, all_said, is_kept}
 use Rattle.picture_script.specs.declared.line.Line.{Line}
 use Rattle.picture_script.specs.declared.line.Line.TheVariants.{Filled}
@@ -14,20 +15,20 @@ use Rattle.std.proofs.lemmas.Bool.Decides.{nat_tests}
 use Rattle.picture_script.specs.Board.{Board, IsBlank, IsPicture, IsDrawn, IsSet, Becomes, StandsBefore, pixel_of, tile_of}
 use Rattle.picture_script.proofs.Scripts.{before_prefix, before_rising}
 
-pub blank-drawn : (script : List Drawing) (board : Board) → IsBlank board → IsDrawn (reverse (take 0 script)) board
+pub blank-drawn : (script : List Drawing) (board : Board) → IsBlank board → IsDrawn (drawn_by (take 0 script)) board
 blank-drawn script board h = record { pixels_are = h.pixels_are; border_is = h.border_is; colours_are = h.colours_are }
 
-pub picture-drawn : (script : List Drawing) (k n : ℕ) (board : Board) → n ≡ length (lines_before script k) → IsPicture script k board → IsDrawn (reverse (take n script)) board
+pub picture-drawn : (script : List Drawing) (k n : ℕ) (board : Board) → n ≡ length (lines_before script k) → IsPicture script k board → IsDrawn (drawn_by (take n script)) board
 unfolding picture_pixel picture_border picture_colour
 picture-drawn script k n board size h =
-    let all : IsDrawn (reverse (lines_before script k)) board = record { pixels_are = h.pixels_are; border_is = h.border_is; colours_are = h.colours_are } in
-    subst (λ lines. IsDrawn (reverse lines) board) (before_prefix script k ∙ ap (λ m. take m script) (sym size)) all
+    let all : IsDrawn (drawn_by (lines_before script k)) board = record { pixels_are = h.pixels_are; border_is = h.border_is; colours_are = h.colours_are } in
+    subst (λ lines. IsDrawn (drawn_by lines) board) (before_prefix script k ∙ ap (λ m. take m script) (sym size)) all
 
-pub drawn-picture : (script : List Drawing) (k n : ℕ) (board : Board) (at : Option ℕ) → n ≡ length (lines_before script k) → IsDrawn (reverse (take n script)) board
+pub drawn-picture : (script : List Drawing) (k n : ℕ) (board : Board) (at : Option ℕ) → n ≡ length (lines_before script k) → IsDrawn (drawn_by (take n script)) board
     → IsPicture script k (record { pixels = board.pixels; border = board.border; colours = board.colours; at = at })
 unfolding picture_pixel picture_border picture_colour
 drawn-picture script k n board at size h =
-    let all = subst (λ lines. IsDrawn (reverse lines) board) (sym (before_prefix script k ∙ ap (λ m. take m script) (sym size))) h in
+    let all = subst (λ lines. IsDrawn (drawn_by lines) board) (sym (before_prefix script k ∙ ap (λ m. take m script) (sym size))) h in
     record { pixels_are = all.pixels_are; border_is = all.border_is; colours_are = all.colours_are }
 
 pub length-all_said : (pixels : List ℕ) (lines : List Line) → length (all_said pixels lines) ≡ length lines
@@ -39,7 +40,7 @@ before-most script k = omega (arith, ap length (before_prefix script k) ∙ leng
 
 -- one line more
 next_said : (pixels : List ℕ) (lines : List Line) (script : List Drawing) (i : ℕ) (line : Line) → all_said pixels lines ≡ script → i < length lines → line ≡ get_or lines i line
-    → said pixels line ∷ reverse (take i script) ≡ reverse (take (i + 1) script)
+    → drawn (drawn_by (take i script)) (said pixels line) ≡ drawn_by (take (i + 1) script)
 unfolding all_said
 next_said pixels lines script i line view i_lt read =
     let size : length (map (said pixels) lines) ≡ length lines = length-map lines (said pixels) in
@@ -47,33 +48,33 @@ next_said pixels lines script i line view i_lt read =
     ap (take (i + 1)) (sym view) ∙ take_more (map (said pixels) lines) i (said pixels line) (omega arith)
     ∙ ap (λ xs. take i xs ++ get_or xs i (said pixels line) ∷ []) view
     ∙ ap (λ x. take i script ++ x ∷ []) (ap (λ xs. get_or xs i (said pixels line)) (sym view) ∙ get_or-map (said pixels) lines i line (said pixels line) i_lt ∙ ap (said pixels) (sym read)) in
-    sym (ap reverse more ∙ reverse-append (take i script) (said pixels line ∷ []))
+    sym (ap drawn_by more ∙ fold-append drawn blank_picture (take i script) (said pixels line ∷ []))
 
 pub next_line : (pixels : List ℕ) (lines : List Line) (script : List Drawing) (i : ℕ) (line : Line) (board : Board) → all_said pixels lines ≡ script → i < length lines → line ≡ get_or lines i line
-    → IsDrawn (said pixels line ∷ reverse (take i script)) board → IsDrawn (reverse (take (i + 1) script)) board
-next_line pixels lines script i line board view i_lt read h = subst (λ drawn. IsDrawn drawn board) (next_said pixels lines script i line view i_lt read) h
+    → IsDrawn (drawn (drawn_by (take i script)) (said pixels line)) board → IsDrawn (drawn_by (take (i + 1) script)) board
+next_line pixels lines script i line board view i_lt read h = subst (λ p. IsDrawn p board) (next_said pixels lines script i line view i_lt read) h
 
 -- the same of what lines set
 pub next_set : (pixels : List ℕ) (lines : List Line) (script : List Drawing) (i : ℕ) (line : Line) (board : Board) → all_said pixels lines ≡ script → i < length lines → line ≡ get_or lines i line
-    → IsSet (said pixels line ∷ reverse (take i script)) board → IsSet (reverse (take (i + 1) script)) board
-next_set pixels lines script i line board view i_lt read h = subst (λ drawn. IsSet drawn board) (next_said pixels lines script i line view i_lt read) h
+    → IsSet (drawn (drawn_by (take i script)) (said pixels line)) board → IsSet (drawn_by (take (i + 1) script)) board
+next_set pixels lines script i line board view i_lt read h = subst (λ p. IsSet p board) (next_said pixels lines script i line view i_lt read) h
 
-pub set_before : (lines : List Drawing) (board : Board) → IsDrawn lines board → IsSet lines board
-set_before lines board h = record { border_is = h.border_is; colours_are = h.colours_are }
+pub set_before : (picture : Picture) (board : Board) → IsDrawn picture board → IsSet picture board
+set_before picture board h = record { border_is = h.border_is; colours_are = h.colours_are }
 
 -- a line that fills the window leaves nothing of what was drawn before it
 pub filled-drawn : (script : List Drawing) (place colour border : ℕ) (pixels colours : List ℕ) (at : Option ℕ) (old : Board) → place < length script → get_or script place (Fill 0) ≡ Fill colour
-    → Becomes pixels (λ x y. colour) → IsSet (reverse (take place script)) old → old.border ≡ border → old.colours ≡ colours
-    → IsDrawn (reverse (take (place + 1) script)) (record { pixels = pixels; border = border; colours = colours; at = at })
+    → Becomes pixels (λ x y. colour) → IsSet (drawn_by (take place script)) old → old.border ≡ border → old.colours ≡ colours
+    → IsDrawn (drawn_by (take (place + 1) script)) (record { pixels = pixels; border = border; colours = colours; at = at })
 filled-drawn script place colour border pixels colours at old lt is filled h border_is colours_is =
     let more : take (place + 1) script ≡ take place script ++ Fill colour ∷ [] = take_more script place (Fill 0) lt ∙ ap (λ x. take place script ++ x ∷ []) is in
-    let lines : reverse (take (place + 1) script) ≡ Fill colour ∷ reverse (take place script) = ap reverse more ∙ reverse-append (take place script) (Fill colour ∷ []) in
-    let drawn : IsDrawn (Fill colour ∷ reverse (take place script)) (record { pixels = pixels; border = border; colours = colours; at = at }) = record {
+    let lines : drawn_by (take (place + 1) script) ≡ drawn (drawn_by (take place script)) (Fill colour) = ap drawn_by more ∙ fold-append drawn blank_picture (take place script) (Fill colour ∷ []) in
+    let all : IsDrawn (drawn (drawn_by (take place script)) (Fill colour)) (record { pixels = pixels; border = border; colours = colours; at = at }) = record {
       pixels_are = filled;
       border_is = sym border_is ∙ h.border_is;
       colours_are = λ n lt. ap (λ cs. get_or cs n 0) (sym colours_is) ∙ h.colours_are n lt;
     } in
-    subst (λ drawn. IsDrawn drawn (record { pixels = pixels; border = border; colours = colours; at = at })) (sym lines) drawn
+    subst (λ p. IsDrawn p (record { pixels = pixels; border = border; colours = colours; at = at })) (sym lines) all
 
 -- what a line says stands in the script
 pub fill_there : (pixels : List ℕ) (lines : List Line) (script : List Drawing) (i colour : ℕ) (line : Line) → all_said pixels lines ≡ script → i < length lines → line ≡ get_or lines i line → line ≡ Filled colour
@@ -91,13 +92,13 @@ pub kept_at : (lines : List Line) (size n i : ℕ) (line : Line) → All (λ l. 
 kept_at lines size n i line all same i_lt read =
     subst (λ m. is_kept m line ≡ true) (sym same) (subst (λ l. is_kept size l ≡ true) (sym read) (All-get_or (λ l. is_kept size l ≡ true) lines i line i_lt all))
 
-pub drawn_before : (script : List Drawing) (k drawn n : ℕ) (board : Board) → board.at ≡ Some drawn → StandsBefore script k board → n ≡ length (lines_before script drawn) → IsDrawn (reverse (take n script)) board
+pub drawn_before : (script : List Drawing) (k drawn n : ℕ) (board : Board) → board.at ≡ Some drawn → StandsBefore script k board → n ≡ length (lines_before script drawn) → IsDrawn (drawn_by (take n script)) board
 drawn_before script k drawn n board at h size =
     picture-drawn script drawn n board size (subst (λ o. MatchOption o (IsBlank board) (λ j. (j ≤ k) × IsPicture script j board)) at h).1
 
-pub none_before : (script : List Drawing) (k n : ℕ) (board : Board) → board.at ≡ None → StandsBefore script k board → n ≡ 0 → IsDrawn (reverse (take n script)) board
+pub none_before : (script : List Drawing) (k n : ℕ) (board : Board) → board.at ≡ None → StandsBefore script k board → n ≡ 0 → IsDrawn (drawn_by (take n script)) board
 none_before script k n board at h size =
-    subst (λ m. IsDrawn (reverse (take m script)) board) (sym size)
+    subst (λ m. IsDrawn (drawn_by (take m script)) board) (sym size)
     (blank-drawn script board (subst (λ o. MatchOption o (IsBlank board) (λ j. (j ≤ k) × IsPicture script j board)) at h))
 
 -- the tile of a picture

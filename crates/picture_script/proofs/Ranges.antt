@@ -1,11 +1,11 @@
 -- The ranges of what the lines of a script draw.
-use Rattle.std.proofs.Common.{◌≡◌, ℕ, ◌+◌, ◌-◌, ◌<◌, ◌≤◌, Bool, true, false, List, [], ◌∷◌, length, take, drop, map, get_or, All, reverse, ap, sym, subst, ◌∙◌, inl, inr, arith}
-use Rattle.std.specs.Prelude.{◌==◌, if◌then◌else◌}
+use Rattle.std.proofs.Common.{◌≡◌, ℕ, ◌+◌, ◌-◌, ◌<◌, ◌≤◌, Bool, true, false, List, [], ◌∷◌, length, take, drop, map, get_or, All, ap, sym, subst, ◌∙◌, inl, inr, arith}
+use Rattle.std.specs.Prelude.{fold, ◌==◌, if◌then◌else◌}
 use Rattle.std.proofs.lemmas.Bool.{cases_lt}
 use Rattle.std.proofs.lemmas.Bool.Decides.{nat_tests}
-use Rattle.std.proofs.lemmas.List.{get_or-take, get_or-drop, get_or_past, length-take, get_or-map, reverse-append}
-use Rattle.std.proofs.lemmas.List.Elements.{All-nil, All-cons, All-head, All-tail, All-take, All-append}
-use Rattle.picture_script.specs.Script.{Drawing, Colour, Border, Fill, Rect, Row, Show, shows, pictures, ready_time, hold_time, lines_before, pixel_by, border_by, colour_by, picture_pixel, picture_border, picture_colour}
+use Rattle.std.proofs.lemmas.List.{get_or-take, get_or-drop, get_or_past, length-take, get_or-map}
+use Rattle.std.proofs.lemmas.List.Elements.{All-nil, All-cons, All-head, All-tail, All-take}
+use Rattle.picture_script.specs.Script.{Drawing, Colour, Border, Fill, Rect, Row, Show, shows, pictures, ready_time, hold_time, lines_before, Picture, blank_picture, drawn, drawn_by, picture_pixel, picture_border, picture_colour}
 use Rattle.picture_script.specs.Board.{AreColours}
 use Rattle.picture_script.specs.Lines.{said, all_said, is_kept, no_show, times_of, IsIndexed}
 use Rattle.picture_script.specs.declared.line.Line.{Line}
@@ -31,38 +31,27 @@ either_value : (b : Bool) (m n : ℕ) → m < 4096 → n < 4096 → (if b then m
 either_value true m n p q = p
 either_value false m n p q = q
 
-pixel_small : (lines : List Drawing) (x y : ℕ) → All InColours lines → pixel_by lines x y < 16
-unfolding InColours
-pixel_small [] x y all = omega arith
-pixel_small (Colour number value ∷ lines) x y all = pixel_small lines x y (All-tail InColours (Colour number value) lines all)
-pixel_small (Border colour ∷ lines) x y all = pixel_small lines x y (All-tail InColours (Border colour) lines all)
-pixel_small (Fill colour ∷ lines) x y all = All-head InColours (Fill colour) lines all
-pixel_small (Rect left top width height colour ∷ lines) x y all =
-    either_small _ colour (pixel_by lines x y) (All-head InColours (Rect left top width height colour) lines all) (pixel_small lines x y (All-tail InColours (Rect left top width height colour) lines all))
-pixel_small (Row left top colours ∷ lines) x y all =
-    either_small _ (get_or colours (x - left) 0) (pixel_by lines x y) (All-head InColours (Row left top colours) lines all (x - left)) (pixel_small lines x y (All-tail InColours (Row left top colours) lines all))
-pixel_small (Show ready hold ∷ lines) x y all = pixel_small lines x y (All-tail InColours (Show ready hold) lines all)
+-- a picture whose colours are in their ranges
+record IsSmall (picture : Picture) : Type 0 where
+  pixels : (x y : ℕ) → picture.pixel x y < 16
+  border : picture.border < 16
+  colours : (n : ℕ) → picture.colour n < 4096
 
-border_small : (lines : List Drawing) → All InColours lines → border_by lines < 16
-unfolding InColours
-border_small [] all = omega arith
-border_small (Border colour ∷ lines) all = All-head InColours (Border colour) lines all
-border_small (Colour number value ∷ lines) all = border_small lines (All-tail InColours (Colour number value) lines all)
-border_small (Fill colour ∷ lines) all = border_small lines (All-tail InColours (Fill colour) lines all)
-border_small (Rect left top width height colour ∷ lines) all = border_small lines (All-tail InColours (Rect left top width height colour) lines all)
-border_small (Row left top colours ∷ lines) all = border_small lines (All-tail InColours (Row left top colours) lines all)
-border_small (Show ready hold ∷ lines) all = border_small lines (All-tail InColours (Show ready hold) lines all)
+blank_small : IsSmall blank_picture
+blank_small = record { pixels = λ x y. omega arith; border = omega arith; colours = λ n. omega arith }
 
-colour_small : (lines : List Drawing) (k : ℕ) → All InColours lines → colour_by lines k < 4096
+line_small : (p : Picture) (line : Drawing) → IsSmall p → InColours line → IsSmall (drawn p line)
 unfolding InColours
-colour_small [] k all = omega arith
-colour_small (Colour number value ∷ lines) k all =
-    either_value (number == k) value (colour_by lines k) (All-head InColours (Colour number value) lines all) (colour_small lines k (All-tail InColours (Colour number value) lines all))
-colour_small (Border colour ∷ lines) k all = colour_small lines k (All-tail InColours (Border colour) lines all)
-colour_small (Fill colour ∷ lines) k all = colour_small lines k (All-tail InColours (Fill colour) lines all)
-colour_small (Rect left top width height colour ∷ lines) k all = colour_small lines k (All-tail InColours (Rect left top width height colour) lines all)
-colour_small (Row left top colours ∷ lines) k all = colour_small lines k (All-tail InColours (Row left top colours) lines all)
-colour_small (Show ready hold ∷ lines) k all = colour_small lines k (All-tail InColours (Show ready hold) lines all)
+line_small p (Colour number value) h all = record { pixels = h.pixels; border = h.border; colours = λ n. either_value (number == n) value (p.colour n) all (h.colours n) }
+line_small p (Border colour) h all = record { pixels = h.pixels; border = all; colours = h.colours }
+line_small p (Fill colour) h all = record { pixels = λ x y. all; border = h.border; colours = h.colours }
+line_small p (Rect left top width height colour) h all = record { pixels = λ x y. either_small _ colour (p.pixel x y) all (h.pixels x y); border = h.border; colours = h.colours }
+line_small p (Row left top colours) h all = record { pixels = λ x y. either_small _ (get_or colours (x - left) 0) (p.pixel x y) (all (x - left)) (h.pixels x y); border = h.border; colours = h.colours }
+line_small p (Show ready hold) h all = h
+
+lines_small : (lines : List Drawing) (p : Picture) → IsSmall p → All InColours lines → IsSmall (fold drawn p lines)
+lines_small [] p h all = h
+lines_small (line ∷ lines) p h all = lines_small lines (drawn p line) (line_small p line h (All-head InColours line lines all)) (All-tail InColours line lines all)
 
 part_small : (pixels : List ℕ) (first count : ℕ) → AreColours pixels → AreColours (take count (drop first pixels))
 part_small pixels first count all i = elim (cases_lt i count) [
@@ -86,29 +75,23 @@ all_small pixels (line ∷ lines) all kept =
     All-cons InColours (said pixels line) (map (said pixels) lines) (said_small pixels line all (All-head (λ l. is_kept (length pixels) l ≡ true) line lines kept))
     (all_small pixels lines all (All-tail (λ l. is_kept (length pixels) l ≡ true) line lines kept))
 
-all_reversed : (lines : List Drawing) → All InColours lines → All InColours (reverse lines)
-all_reversed [] all = All-nil InColours
-all_reversed (line ∷ lines) all =
-    subst (All InColours) (sym (reverse-append (line ∷ []) lines))
-    (All-append InColours (reverse lines) (line ∷ []) (all_reversed lines (All-tail InColours line lines all)) (All-cons InColours line [] (All-head InColours line lines all) (All-nil InColours)))
-
-before_small : (pixels : List ℕ) (lines : List Line) (shown : List Shown) (k : ℕ) → IsIndexed pixels lines shown → All InColours (reverse (lines_before (all_said pixels lines) k))
+before_small : (pixels : List ℕ) (lines : List Line) (shown : List Shown) (k : ℕ) → IsIndexed pixels lines shown → IsSmall (drawn_by (lines_before (all_said pixels lines) k))
 before_small pixels lines shown k h =
-    all_reversed (lines_before (all_said pixels lines) k)
+    lines_small (lines_before (all_said pixels lines) k) blank_picture blank_small
     (subst (All InColours) (sym (before_prefix (all_said pixels lines) k))
     (All-take InColours (length (lines_before (all_said pixels lines) k)) (all_said pixels lines) (all_small pixels lines h.colours h.kept)))
 
 pub pixels_below : (pixels : List ℕ) (lines : List Line) (shown : List Shown) (k x y : ℕ) → IsIndexed pixels lines shown → picture_pixel (all_said pixels lines) k x y < 16
 unfolding picture_pixel
-pixels_below pixels lines shown k x y h = pixel_small (reverse (lines_before (all_said pixels lines) k)) x y (before_small pixels lines shown k h)
+pixels_below pixels lines shown k x y h = (before_small pixels lines shown k h).pixels x y
 
 pub borders_below : (pixels : List ℕ) (lines : List Line) (shown : List Shown) (k : ℕ) → IsIndexed pixels lines shown → picture_border (all_said pixels lines) k < 16
 unfolding picture_border
-borders_below pixels lines shown k h = border_small (reverse (lines_before (all_said pixels lines) k)) (before_small pixels lines shown k h)
+borders_below pixels lines shown k h = (before_small pixels lines shown k h).border
 
 pub colours_below : (pixels : List ℕ) (lines : List Line) (shown : List Shown) (k n : ℕ) → IsIndexed pixels lines shown → picture_colour (all_said pixels lines) k n < 4096
 unfolding picture_colour
-colours_below pixels lines shown k n h = colour_small (reverse (lines_before (all_said pixels lines) k)) n (before_small pixels lines shown k h)
+colours_below pixels lines shown k n h = (before_small pixels lines shown k h).colours n
 
 -- the times of a picture are those that are kept of it
 times_at : (pixels : List ℕ) (lines : List Line) (shown : List Shown) (k : ℕ) → IsIndexed pixels lines shown → k < length shown → get_or {A = ℕ × ℕ} (shows (all_said pixels lines)) k (0, 0) ≡ times_of (get_or shown k no_show)

@@ -1,13 +1,14 @@
 -- Why a line is refused, and what a draft is once it takes one.
-use Rattle.std.proofs.Common.{◌≡◌, ℕ, ◌+◌, ◌<◌, ◌≤◌, Bool, true, false, List, [], ◌∷◌, ◌++◌, length, refl, ap, sym, subst, ◌∙◌, arith}
+use Rattle.std.proofs.Common.{◌≡◌, ℕ, ◌+◌, ◌<◌, ◌≤◌, Bool, true, false, List, [], ◌∷◌, length, refl, ap, sym, subst, ◌∙◌, arith}
 use Rattle.std.specs.Prelude.{Option, Some, None, Result, Ok, Err, OnOk, IfErr, if◌then◌else◌, not, ◌||◌, nat_le, nat_lt, slice_index, codes}
 use Rattle.std.specs.Str.{bytes_eq}
 use Rattle.std.proofs.lemmas.Bool.Decides.{nat_tests}
 use Rattle.text_lines.specs.Text.{words_in, lines_in, without_mark}
+use Rattle.text_lines.proofs.ReadOn.{read_on-taken, read_on-refused, read_on-end}
 use Rattle.picture_script.specs.Script.{Drawing, Colour, Border, Fill, Rect, Row, Show, pictures}
-use Rattle.picture_script.specs.ScriptGrammar.{read_script, checked_lines, checked_words, is_passed_over, checked_command, colour_line, row_line, show_line, checked_line, is_in_range, is_after_hold, unless_refused, numbers_in, border_line, fill_line, rect_line, border_of, fill_of, rect_of}
+use Rattle.picture_script.specs.ScriptGrammar.{read_script, step, grown, checked_lines, checked_words, is_passed_over, checked_command, colour_line, row_line, show_line, checked_line, is_in_range, is_after_hold, unless_refused, numbers_in, border_line, fill_line, rect_line, border_of, fill_of, rect_of}
 use Rattle.picture_script.specs.Stops.{IsRead, IsRefused}
-use Rattle.picture_script.specs.Lines.{said_in, IsSound, Adds, grown, Stops, Takes}
+use Rattle.picture_script.specs.Lines.{said_in, IsSound, Adds, Stops, Takes}
 use Rattle.picture_script.specs.declared.draft.Draft.{Draft}
 use Rattle.picture_script.specs.declared.draft.LineStop.{LineStop}
 use Rattle.picture_script.specs.declared.draft.LineStop.TheVariants.{Refused, NoRoom}
@@ -169,38 +170,27 @@ test_is command text slice found b same test h = ap (bytes_eq command) (sym same
 
 -- The lines in turn.
 
-after_line : ℕ → List Drawing → List (List ℕ) → Result Drawing ScriptWhy → Result (List Drawing) (ℕ × ScriptWhy)
-after_line number before rest (Ok said) = checked_lines (number + 1) (before ++ said ∷ []) rest
-after_line number before rest (Err why) = Err (number, why)
+one_taken : (number : ℕ) (old new : List Drawing) (line : List ℕ) (rest : List (List ℕ)) → step old line ≡ Ok new → checked_lines number old (line ∷ rest) ≡ checked_lines (number + 1) new rest
+unfolding checked_lines
+one_taken number old new line rest h = read_on-taken step (λ script. Ok script) number old new line rest h
 
-by_line : ℕ → List Drawing → List (List ℕ) → Result Drawing ScriptWhy → Bool → Result (List Drawing) (ℕ × ScriptWhy)
-by_line number before rest said true = checked_lines (number + 1) before rest
-by_line number before rest said false = after_line number before rest said
+step_passed : (before : List Drawing) (line : List ℕ) → is_passed_over line ≡ true → step before line ≡ Ok before
+step_passed before line h = ap (λ b. if b then Ok before else grown before (checked_words before (words_in line))) h
 
-next_line : (number : ℕ) (before : List Drawing) (line : List ℕ) (rest : List (List ℕ)) → checked_lines number before (line ∷ rest) ≡ by_line number before rest (checked_words before (words_in line)) (is_passed_over line)
-unfolding checked_lines by_line after_line
-next_line number before line rest = refl
+step_heard : (before : List Drawing) (line : List ℕ) → is_passed_over line ≡ false → step before line ≡ grown before (checked_words before (words_in line))
+step_heard before line h = ap (λ b. if b then Ok before else grown before (checked_words before (words_in line))) h
 
 pub passed : (number : ℕ) (before : List Drawing) (line : List ℕ) (rest : List (List ℕ)) → is_passed_over line ≡ true → checked_lines number before (line ∷ rest) ≡ checked_lines (number + 1) before rest
-unfolding by_line
-passed number before line rest h = next_line number before line rest ∙ ap (by_line number before rest (checked_words before (words_in line))) h
-
-grows : (number : ℕ) (old new : List Drawing) (rest : List (List ℕ)) (said : Result Drawing ScriptWhy) → grown old said ≡ Ok new → after_line number old rest said ≡ checked_lines (number + 1) new rest
-unfolding after_line
-grows number old new rest (Ok said) h = ap (λ lines. checked_lines (number + 1) lines rest) (cc)
-grows number old new rest (Err why) h = absurd (cc)
+passed number before line rest h = one_taken number before before line rest (step_passed before line h)
 
 pub accepted : (number : ℕ) (old new : List Drawing) (line : List ℕ) (rest : List (List ℕ)) → is_passed_over line ≡ false → grown old (checked_words old (words_in line)) ≡ Ok new
     → checked_lines number old (line ∷ rest) ≡ checked_lines (number + 1) new rest
-unfolding by_line
-accepted number old new line rest h grow =
-    next_line number old line rest ∙ ap (by_line number old rest (checked_words old (words_in line))) h ∙ grows number old new rest (checked_words old (words_in line)) grow
+accepted number old new line rest h grow = one_taken number old new line rest (step_heard old line h ∙ grow)
 
 pub refused : (number : ℕ) (old : List Drawing) (line : List ℕ) (rest : List (List ℕ)) (why : ScriptWhy) → is_passed_over line ≡ false → checked_words old (words_in line) ≡ Err why
     → checked_lines number old (line ∷ rest) ≡ Err (number, why)
-unfolding by_line after_line
-refused number old line rest why h stops =
-    next_line number old line rest ∙ ap (by_line number old rest (checked_words old (words_in line))) h ∙ ap (after_line number old rest) stops
+unfolding checked_lines
+refused number old line rest why h stops = read_on-refused step (λ script. Ok script) number old why line rest (step_heard old line h ∙ ap (grown old) stops)
 
 -- A line is read.
 
@@ -232,4 +222,4 @@ reading_begins text draft h = ap (λ before. checked_lines 1 before (lines_in (w
 
 pub reading_ends : (number : ℕ) (before : List Drawing) (lines : List (List ℕ)) → lines ≡ [] → checked_lines number before lines ≡ Ok before
 unfolding checked_lines
-reading_ends number before lines h = ap (checked_lines number before) h
+reading_ends number before lines h = ap (checked_lines number before) h ∙ read_on-end step (λ script. Ok script) number before

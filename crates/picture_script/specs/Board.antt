@@ -1,7 +1,7 @@
 -- What stands on a canvas.
 use Rattle.std.specs.Prelude.{◌≡◌, ℕ, ◌+◌, ◌-◌, ◌*◌, ◌/◌, ◌%◌, ◌<◌, ◌≤◌, List, length, map, slice_index, Option, MatchOption}
 use Rattle.bit_lists.specs.Counting.{below}
-use Rattle.picture_script.specs.Script.{Drawing, pixel_by, border_by, colour_by, picture_pixel, picture_border, picture_colour}
+use Rattle.picture_script.specs.Script.{Drawing, Picture, picture_pixel, picture_border, picture_colour}
 
 -- 288 by 192 pixels, a border, sixteen colours, and the number of the picture that stands there, or none where nothing was drawn
 pub record Board : Type 0 where
@@ -34,16 +34,16 @@ pub record IsPicture (script : List Drawing) (k : ℕ) (board : Board) : Type 0 
 abbrev pub StandsBefore : List Drawing → ℕ → Board → Type 0
 StandsBefore script k board = MatchOption board.at (IsBlank board) (λ j. (j ≤ k) × IsPicture script j board)
 
--- what lines draw, which are given the last one first
-pub record IsDrawn (lines : List Drawing) (board : Board) : Type 0 where
-  pub pixels_are : (x y : ℕ) → x < 288 → y < 192 → pixel_of board.pixels x y ≡ pixel_by lines x y
-  pub border_is : board.border ≡ border_by lines
-  pub colours_are : (n : ℕ) → n < 16 → slice_index board.colours n ≡ colour_by lines n
+-- this picture stands there
+pub record IsDrawn (picture : Picture) (board : Board) : Type 0 where
+  pub pixels_are : (x y : ℕ) → x < 288 → y < 192 → pixel_of board.pixels x y ≡ picture.pixel x y
+  pub border_is : board.border ≡ picture.border
+  pub colours_are : (n : ℕ) → n < 16 → slice_index board.colours n ≡ picture.colour n
 
--- the border and the colours that lines set, which are given the last one first
-pub record IsSet (lines : List Drawing) (board : Board) : Type 0 where
-  pub border_is : board.border ≡ border_by lines
-  pub colours_are : (n : ℕ) → n < 16 → slice_index board.colours n ≡ colour_by lines n
+-- the border and the colours of this picture stand there
+pub record IsSet (picture : Picture) (board : Board) : Type 0 where
+  pub border_is : board.border ≡ picture.border
+  pub colours_are : (n : ℕ) → n < 16 → slice_index board.colours n ≡ picture.colour n
 
 -- the 72 pixels of the tile at a row from 1 to 16 and a column from 1 to 48, line by line from the left
 unfoldable pub tile_of : List ℕ → ℕ → ℕ → List ℕ

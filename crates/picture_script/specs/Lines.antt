@@ -1,6 +1,7 @@
 -- How the lines of a script are kept.
 use Rattle.std.specs.Prelude.{◌≡◌, ℕ, ◌+◌, ◌<◌, ◌≤◌, ⊤, Bool, true, false, ◌&&◌, nat_le, nat_lt, List, [], ◌∷◌, ◌++◌, length, map, take, drop, slice_index_or, All, Result, Ok, Err, MatchResult}
 use Rattle.picture_script.specs.Script.{Drawing, Colour, Border, Fill, Rect, Row, Show, shows, lines_before}
+use Rattle.picture_script.specs.ScriptGrammar.{grown}
 use Rattle.picture_script.specs.Board.{AreColours}
 use Rattle.picture_script.specs.declared.line.Line.{Line}
 use Rattle.picture_script.specs.declared.line.Line.TheVariants.{TableColour, BorderColour, Filled, Rectangle, PixelRow, ShowLine}
@@ -59,11 +60,6 @@ IsSound draft = IsIndexed draft.pixels.items draft.lines.items draft.shown.items
 pub record Adds (old new : Draft) (line : Drawing) : Type 0 where
   pub sound : IsSound new
   pub lines_are : said_in new ≡ said_in old ++ line ∷ []
-
--- lines with one more, where it is accepted
-abbrev pub grown : List Drawing → Result Drawing ScriptWhy → Result (List Drawing) ScriptWhy
-grown before (Ok line) = Ok (before ++ line ∷ [])
-grown before (Err why) = Err why
 
 -- why a line was not taken
 abbrev pub Stops : Result Drawing ScriptWhy → LineStop → Type 0

@@ -1,5 +1,5 @@
 -- Picture scripts: lines that draw, and the pictures that stand at each line that shows.
-use Rattle.std.specs.Prelude.{ℕ, zero, suc, ◌+◌, ◌-◌, ◌*◌, Bool, List, [], ◌∷◌, reverse, length, filter_map, slice_index, slice_index_or, ◌/◌, ◌%◌, Option, Some, None, ◌==◌, nat_le, nat_lt, ◌&&◌, if◌then◌else◌, map}
+use Rattle.std.specs.Prelude.{ℕ, zero, suc, ◌+◌, ◌-◌, ◌*◌, Bool, List, [], ◌∷◌, length, fold, filter_map, slice_index, slice_index_or, ◌/◌, ◌%◌, Option, Some, None, ◌==◌, nat_le, nat_lt, ◌&&◌, if◌then◌else◌, map}
 use Rattle.bit_lists.specs.Counting.{below}
 
 -- the lines of a script that say something
@@ -40,36 +40,44 @@ lines_before (line ∷ rest) k = line ∷ lines_before rest k
 abbrev pub is_within : ℕ → ℕ → ℕ → Bool
 is_within first count x = nat_le first x && nat_lt x (first + count)
 
--- In the next three definitions the lines are given the last one first.
+-- what is drawn: the pixels of the window of 288 by 192, the border and the colours of the table
+pub record Picture : Type 0 where
+  pub pixel : ℕ → ℕ → ℕ
+  pub border : ℕ
+  pub colour : ℕ → ℕ
 
--- the colour of the last line that covers pixel (x, y) of the window
-abbrev pub pixel_by : List Drawing → ℕ → ℕ → ℕ
-pixel_by [] x y = 0
-pixel_by (Fill colour ∷ before) x y = colour
-pixel_by (Rect left top width height colour ∷ before) x y = let old = pixel_by before x y in if is_within left width x && is_within top height y then colour else old
-pixel_by (Row left top colours ∷ before) x y = let old = pixel_by before x y in if is_within left (length colours) x && y == top then slice_index colours (x - left) else old
-pixel_by (_ ∷ before) x y = pixel_by before x y
+-- the picture before any line
+abbrev pub blank_picture : Picture
+blank_picture = record { pixel = λ x y. 0; border = 0; colour = λ n. 0 }
 
--- the border and a colour of the table as the last line sets them
-abbrev pub border_by : List Drawing → ℕ
-border_by [] = 0
-border_by (Border colour ∷ before) = colour
-border_by (_ ∷ before) = border_by before
+-- what a line makes of what was drawn before it
+abbrev pub drawn : Picture → Drawing → Picture
+drawn old (Colour number value) = record old { colour = λ n. if number == n then value else old.colour n }
+drawn old (Border colour) = record old { border = colour }
+drawn old (Fill colour) = record old { pixel = λ x y. colour }
+drawn old (Rect left top width height colour) = record old {
+  pixel = λ x y. if is_within left width x && is_within top height y then colour else old.pixel x y;
+}
+drawn old (Row left top colours) = record old {
+  pixel = λ x y. if is_within left (length colours) x && y == top then slice_index colours (x - left) else old.pixel x y;
+}
+drawn old (Show ready hold) = old
 
-abbrev pub colour_by : List Drawing → ℕ → ℕ
-colour_by [] k = 0
-colour_by (Colour number value ∷ before) k = let old = colour_by before k in if number == k then value else old
-colour_by (_ ∷ before) k = colour_by before k
+-- what lines draw, one after the other
+abbrev pub drawn_by : List Drawing → Picture
+drawn_by lines = fold drawn blank_picture lines
 
--- picture k: its pixels in the window of 288 by 192, its border and its sixteen colours
+-- the pixels of picture k, as the lines before its show line draw them
 unfoldable pub picture_pixel : List Drawing → ℕ → ℕ → ℕ → ℕ
-picture_pixel script k x y = pixel_by (reverse (lines_before script k)) x y
+picture_pixel script k x y = (drawn_by (lines_before script k)).pixel x y
 
+-- the border of picture k
 unfoldable pub picture_border : List Drawing → ℕ → ℕ
-picture_border script k = border_by (reverse (lines_before script k))
+picture_border script k = (drawn_by (lines_before script k)).border
 
+-- colour n of the table of picture k
 unfoldable pub picture_colour : List Drawing → ℕ → ℕ → ℕ
-picture_colour script k number = colour_by (reverse (lines_before script k)) number
+picture_colour script k number = (drawn_by (lines_before script k)).colour number
 
 -- the 72 pixels of the tile at a row from 1 to 16 and a column from 1 to 48, line by line from the left
 unfoldable pub picture_tile : List Drawing → ℕ → ℕ → ℕ → List ℕ

@@ -1,9 +1,10 @@
 -- The lines of a picture script, and the first one that is refused.
-use Rattle.std.specs.Prelude.{ℕ, zero, suc, ◌+◌, ◌-◌, ◌*◌, Bool, true, false, not, ◌&&◌, ◌||◌, List, [], ◌∷◌, ◌++◌, length, map, slice_index, Option, Some, None, codes, Result, Ok, Err, ◌==◌, nat_le, nat_lt, if◌then◌else◌}
+use Rattle.std.specs.Prelude.{ℕ, zero, suc, ◌+◌, ◌-◌, ◌*◌, Bool, true, not, ◌&&◌, ◌||◌, List, [], ◌∷◌, ◌++◌, length, map, slice_index, Option, Some, None, codes, Result, Ok, Err, ◌==◌, nat_le, nat_lt, if◌then◌else◌}
 use Rattle.std.specs.List.{list_all}
 use Rattle.std.specs.Str.{bytes_eq}
 use Rattle.std.specs.Char.{is_ascii_hexdigit, digit_value}
 use Rattle.text_lines.specs.Text.{lines_of, without_blanks, words_in, is_some_bytes, number_in, parsed_time}
+use Rattle.text_lines.specs.Reading.{read_on}
 use Rattle.picture_script.specs.Script.{Drawing, Colour, Border, Fill, Rect, Row, Show, pictures, hold_time}
 use Rattle.picture_script.specs.declared.reasons.ScriptWhy.{ScriptWhy}
 use Rattle.picture_script.specs.declared.reasons.ScriptWhy.TheVariants.{UnknownCommand, BadArgument, OutOfRange, TimeOrder, TooMany}
@@ -128,17 +129,18 @@ checked_words before (command ∷ words) = checked_command before command words
 abbrev pub is_passed_over : List ℕ → Bool
 is_passed_over line = length (without_blanks line) == 0 || slice_index (without_blanks line) 0 == 35
 
--- the lines of a script from a number on, or the first that is refused, with its reason
+-- lines with one more, where it is accepted
+abbrev pub grown : List Drawing → Result Drawing ScriptWhy → Result (List Drawing) ScriptWhy
+grown before (Ok line) = Ok (before ++ line ∷ [])
+grown before (Err why) = Err why
+
+-- what a line of the text adds to the lines before it, or the first reason for which it is refused
+abbrev pub step : List Drawing → List ℕ → Result (List Drawing) ScriptWhy
+step before line = if is_passed_over line then Ok before else grown before (checked_words before (words_in line))
+
+-- the lines of a script from a number on, after those before them; or the first that is refused, with its first reason
 unfoldable pub checked_lines : ℕ → List Drawing → List (List ℕ) → Result (List Drawing) (ℕ × ScriptWhy)
-checked_lines number before [] = Ok before
-checked_lines number before (line ∷ rest) =
-    elim (is_passed_over line) [
-      | true ↦ checked_lines (number + 1) before rest
-      | false ↦ elim (checked_words before (words_in line)) [
-        | Ok said ↦ checked_lines (number + 1) (before ++ said ∷ []) rest
-        | Err why ↦ Err (number, why)
-      ]
-    ]
+checked_lines number before lines = read_on step (λ script. Ok script) number before lines
 
 -- what a text is read as: what the lines of its script say, or its first refused line with the first reason
 unfoldable pub read_script : List ℕ → Result (List Drawing) (ℕ × ScriptWhy)

@@ -26,8 +26,8 @@ impl Model for Canvas {
 }
 
 impl Canvas {
-    ghost use Rattle.std.specs.Prelude.{◌≡◌, ◌<◌, ◌≤◌, ◌+◌, ◌-◌, ◌*◌, ℕ, List, [], ◌∷◌, length, slice_index, slice_index_or, true, IfOk, IsTrue, ◌↔◌, Some, None, reverse, take};
-    ghost use Rattle.picture_script.specs.Script.{Drawing, Fill, pictures, picture_tile, picture_pixel, picture_border, picture_colour};
+    ghost use Rattle.std.specs.Prelude.{◌≡◌, ◌<◌, ◌≤◌, ◌+◌, ◌-◌, ◌*◌, ℕ, List, [], length, slice_index, slice_index_or, true, IfOk, IsTrue, ◌↔◌, Some, None, take};
+    ghost use Rattle.picture_script.specs.Script.{Drawing, Fill, Picture, drawn, drawn_by, pictures, picture_tile, picture_pixel, picture_border, picture_colour};
     ghost use Rattle.picture_script.specs.Board.{Board, pixel_of, tile_of, AreColours, IsBlank, IsPicture, IsDrawn, IsSet, StandsBefore};
     ghost use Rattle.picture_script.specs.Lines.{said, is_kept};
 
@@ -66,7 +66,7 @@ impl Canvas {
     fn draw(&mut self, line: Line, pixels: &[u8])
         requires kept { is_kept (length pixels.now) line ≡ true }
         requires colours { AreColours pixels.now }
-        ensures drawn { (before : List Drawing) → IsDrawn before self.old → IsDrawn (said pixels.now line ∷ before) self.new }
+        ensures drawn { (before : Picture) → IsDrawn before self.old → IsDrawn (drawn before (said pixels.now line)) self.new }
     {
         match line {
             Line::TableColour { number, value } => self.colours[usize::from(number)] = value,
@@ -97,7 +97,7 @@ impl Canvas {
     // Sets what one line says of the border and the colours.
     fn set(&mut self, line: Line)
         requires kept { (size : ℕ) × (is_kept size line ≡ true) }
-        ensures set { (pixels : List ℕ) (before : List Drawing) → IsSet before self.old → IsSet (said pixels line ∷ before) self.new }
+        ensures set { (pixels : List ℕ) (before : Picture) → IsSet before self.old → IsSet (drawn before (said pixels line)) self.new }
     {
         match line {
             Line::TableColour { number, value } => self.colours[usize::from(number)] = value,
@@ -110,8 +110,8 @@ impl Canvas {
     fn draw_lines(&mut self, script: &Script, from: usize, to: usize)
         requires order { from ≤ to }
         requires lines { to ≤ length script.now }
-        requires before { IsDrawn (reverse (take from script.now)) self.old }
-        ensures drawn { IsDrawn (reverse (take to script.now)) self.new }
+        requires before { IsDrawn (drawn_by (take from script.now)) self.old }
+        ensures drawn { IsDrawn (drawn_by (take to script.now)) self.new }
     {
         for i in from..to {
             self.draw(script.lines[i], &script.pixels);
@@ -124,8 +124,8 @@ impl Canvas {
         requires place { place < length script.now }
         requires fill { slice_index_or script.now place (Fill 0) ≡ Fill colour }
         requires colour { colour < 16 }
-        requires before { IsDrawn (reverse (take from script.now)) self.old }
-        ensures drawn { IsDrawn (reverse (take (place + 1) script.now)) self.new }
+        requires before { IsDrawn (drawn_by (take from script.now)) self.old }
+        ensures drawn { IsDrawn (drawn_by (take (place + 1) script.now)) self.new }
     {
         for i in from..place {
             self.set(script.lines[i]);

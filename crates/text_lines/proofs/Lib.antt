@@ -3,3 +3,4 @@ pub mod LineSteps
 pub mod WordSteps
 pub mod NumberSteps
 pub mod Times
+pub mod ReadOn

@@ -1,6 +1,6 @@
-use Rattle.std.proofs.Common.{ap, subst, length, arith, reverse, take}
-use Rattle.std.specs.Prelude.{◌∷◌}
+use Rattle.std.proofs.Common.{ap, subst, length, arith, take}
 use Rattle.picture_script.specs.Lines.{said}
+use Rattle.picture_script.specs.Script.{drawn, drawn_by}
 use Rattle.picture_script.specs.Board.{IsDrawn}
 use Rattle.picture_script.proofs.Drawn.{length-all_said, next_line, kept_at}
 use Rattle.picture_script.proofs.canvas.Canvas.draw_lines.Goals as goal
@@ -23,7 +23,7 @@ loop-i-preserved c =
     let script = c.args.script.now in
     let size = length-all_said c.script.inside.pixels.items c.script.inside.lines.items in
     let same = ap length c.script.view_is in
-    let step = c.draw.ensures.drawn (reverse (take c.loop-i.i script)) c.loop-i.invariant in
+    let step = c.draw.ensures.drawn (drawn_by (take c.loop-i.i script)) c.loop-i.invariant in
     next_line c.script.inside.pixels.items c.script.inside.lines.items script c.loop-i.i c.index.result.now c.draw.new.self c.script.view_is
     (omega (arith, size, same, c.requires.lines)) c.index.ensures
-    (subst (λ pixels. IsDrawn (said pixels c.index.result.now ∷ reverse (take c.loop-i.i script)) c.draw.new.self) c.deref.ensures.value step)
+    (subst (λ pixels. IsDrawn (drawn (drawn_by (take c.loop-i.i script)) (said pixels c.index.result.now)) c.draw.new.self) c.deref.ensures.value step)

@@ -1,5 +1,6 @@
-use Rattle.std.proofs.Common.{ap, sym, subst, ◌∙◌, arith, reverse, take}
+use Rattle.std.proofs.Common.{ap, sym, subst, ◌∙◌, arith, take}
 use Rattle.std.specs.Prelude.{Some}
+use Rattle.picture_script.specs.Script.{drawn_by}
 use Rattle.picture_script.specs.Board.{IsDrawn}
 use Rattle.picture_script.proofs.Drawn.{drawn_before, none_before, not_after, drawn-picture, before-most}
 use Rattle.picture_script.proofs.canvas.Canvas.draw_until.Goals as goal
@@ -45,10 +46,10 @@ draw_lines-requires-in-None-last_fill-clause-before c =
 pub returns-clause-picture : goal.returns-clause-picture
 returns-clause-picture c =
     let script = c.args.script.now in
-    let drawn : IsDrawn (reverse (take c.place-to.result script)) c.match-last_fill.self =
+    let drawn : IsDrawn (drawn_by (take c.place-to.result script)) c.match-last_fill.self =
     (elim c.match-last_fill.branch [
       | in-Some-last_fill w ↦ rw w.self-is w.draw_lines.ensures.drawn
       | in-None-last_fill w ↦ rw w.self-is w.draw_lines-in-None-last_fill.ensures.drawn
     ]) in
     drawn-picture script c.args.k c.place-to.result (record { pixels = c.self-2.inside.window; border = c.self-2.inside.border; colours = c.self-2.inside.colours; at = c.self-2.inside.at }) (Some c.args.k)
-    c.place-to.ensures (subst (λ board. IsDrawn (reverse (take c.place-to.result script)) board) (sym c.self-2.view_is) drawn)
+    c.place-to.ensures (subst (λ board. IsDrawn (drawn_by (take c.place-to.result script)) board) (sym c.self-2.view_is) drawn)
