@@ -3,7 +3,7 @@ ghost use Rattle.std.specs.Prelude.{◌≡◌, ◌<◌, ◌≤◌, ◌-◌, ◌/
 ghost use Rattle.cdg_screen.specs.Picture.{Standing, screen_pixel, standing_of};
 ghost use Rattle.raw_subcode.specs.declared.form.Form.{Form};
 ghost use Rattle.subcode_player.specs.Steps.{words_give};
-ghost use Rattle.live_player.specs.Lives.{latest, live_next, stream_words, HasPlayed, IsLiveView, IsLiveViewAt};
+ghost use Rattle.live_player.specs.Lives.{latest, live_next, stream_words, picture_byte, HasDrawn, HasPlayed, IsLiveView, IsLiveViewAt};
 
 use crate::looking;
 use arrayvec::ArrayVec;
@@ -25,7 +25,7 @@ pub struct LivePlayer {
 impl LivePlayer {
     /// A player of a raw stream with no lead-in, before its first block.
     pub fn start(alloc: Global) -> Result<LivePlayer, AllocError>
-        ensures { IfOk result (λ player. HasPlayed Form.Raw 0 [] player) }
+        ensures { IfOk result (λ player. HasPlayed Form.Raw 0 [] player × HasDrawn [] player) }
     {
         let drawing = Drawing {
             picture: Picture::start(alloc)?,
@@ -44,7 +44,8 @@ impl LivePlayer {
 
     /// Begins anew, with a stream of this form.
     pub fn begin(&mut self, lead_in: u32, form: Form)
-        ensures { HasPlayed form lead_in [] self.new }
+        ensures played { HasPlayed form lead_in [] self.new }
+        ensures drawn { HasDrawn [] self.new }
     {
         let words = &mut self.stages.first;
         words.form = form;
@@ -88,6 +89,14 @@ impl LivePlayer {
         words
     }
 
+    /// Draws a pack of 24 bytes, as a file of packs has them. The low six bits of each byte are its symbols, and the
+    /// parity has no part in it.
+    pub fn draw(&mut self, pack: &[u8; 24])
+        ensures { (packs : List (List ℕ)) → HasDrawn packs self.old → HasDrawn (packs ++ pack.now ∷ []) self.new }
+    {
+        looking::draw(&mut self.stages.second.picture, pack);
+    }
+
     /// A law: what stands is what the blocks since the start show.
     pub fn shows_its_blocks(&self)
         ensures last { (form : Form) (lead_in : ℕ) (blocks : List (List ℕ)) → HasPlayed form lead_in blocks self.now
@@ -111,7 +120,8 @@ impl LivePlayer {
     /// Colour `k` of the table, as 0xRGB. `k` is below 16.
     pub fn colour(&self, k: u8) -> u16
         requires { k < 16 }
-        ensures { result ≡ (standing_of self.now.stages.second.picture).colour k }
+        ensures colour { result ≡ (standing_of self.now.stages.second.picture).colour k }
+        ensures range { result < 4096 }
     {
         looking::colour(&self.stages.second.picture, k)
     }
@@ -129,6 +139,21 @@ impl LivePlayer {
         ensures { (k : ℕ) → k < 16 → slice_index table.new k ≡ (standing_of self.now.stages.second.picture).colour k }
     {
         looking::colours(&self.stages.second.picture, table);
+    }
+
+    /// Writes the levels of the colours.
+    pub fn levels(&self, levels: &mut [u8; 16])
+        ensures { (k : ℕ) → k < 16 → slice_index levels.new k ≡ (standing_of self.now.stages.second.picture).level k }
+    {
+        looking::levels(&self.stages.second.picture, levels);
+    }
+
+    /// Writes red, green and blue of the screen's pixels, row by row: those of (x, y) begin at byte 3 (300 y + x).
+    pub fn bytes(&self, bytes: &mut [u8; 194_400])
+        ensures { (n : ℕ) → n < 194400
+            → slice_index bytes.new n ≡ picture_byte (standing_of self.now.stages.second.picture) n }
+    {
+        looking::bytes(&self.stages.second.picture, bytes);
     }
 
     /// The number of the border's colour.

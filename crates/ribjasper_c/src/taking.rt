@@ -28,12 +28,17 @@ pub extern "C" fn ribjasper_player_take(
     block: &[u8; 96],
     packs: &mut [ReadPack; 4],
 ) -> i32
-    ensures fed { player.old.is_open ≡ true → (form : Form) (lead_in : ℕ) (blocks : List (List ℕ)) → IsPlaying form lead_in blocks player.old.handle.players
+    ensures fed { player.old.is_open ≡ true → (form : Form) (lead_in : ℕ) (blocks : List (List ℕ))
+        → IsPlaying form lead_in blocks player.old.handle.players
         → IsPlaying form lead_in (blocks ++ block.now ∷ []) player.new.handle.players }
-    ensures packs { player.old.is_open ≡ true → (words : List (List ℕ)) × (result ≡ pos (length words)) × AreReadAs words packs.new
-        × ((form : Form) (lead_in : ℕ) (blocks : List (List ℕ)) → IsPlaying form lead_in blocks player.old.handle.players
+    ensures packs { player.old.is_open ≡ true → (words : List (List ℕ)) × (length words ≤ 4)
+        × (result ≡ pos (length words)) × AreReadAs words packs.new
+        × ((form : Form) (lead_in : ℕ) (blocks : List (List ℕ))
+        → IsPlaying form lead_in blocks player.old.handle.players
         → stream_words form lead_in (blocks ++ block.now ∷ []) ≡ stream_words form lead_in blocks ++ words) }
     ensures refused { player.old.is_open ≡ false → result ≡ negsuc 0 }
+    ensures untouched { player.old.is_open ≡ false
+        → (player.new.handle.players ≡ player.old.handle.players) × (packs.new ≡ packs.old) }
     ensures stays { player.new.is_open ≡ player.old.is_open }
 {
     if !player.is_open {
