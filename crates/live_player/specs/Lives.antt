@@ -23,6 +23,10 @@ use Rattle.live_player.specs.declared.live.LivePlayer.{LivePlayer}
 abbrev pub latest : ℕ
 latest = 449999
 
+-- what stands on a player's picture
+abbrev pub standing_on : LivePlayer → Standing
+standing_on player = standing_of player.stages.second.picture
+
 -- the stages after a block
 abbrev pub live_next : Then BlockWords Drawing → List ℕ → Then BlockWords Drawing
 live_next s block = record { first = words_next s.first block; second = then_second drawing_next s.second (words_give s.first block) }
@@ -65,7 +69,7 @@ instruction_of pack = meaning (map (λ byte. byte % 64) pack)
 
 -- the player began and drew these packs since, and nothing else
 pub record HasDrawn (packs : List (List ℕ)) (player : LivePlayer) : Type 0 where
-  pub stands : SameStanding (standing_of player.stages.second.picture) (standing_after blank (map instruction_of packs))
+  pub stands : SameStanding (standing_on player) (standing_after blank (map instruction_of packs))
 
 -- byte n of the picture: red, green or blue of the colour of pixel n / 3, of the pixels row by row
 unfoldable pub picture_byte : Standing → ℕ → ℕ

@@ -4,8 +4,9 @@
 #[repr(C)]
 #[derive(Clone, Copy, PartialEq, Eq, Debug)]
 pub struct PlainFrame {
-    /// 0 a place in the program area; 1 to 4 an entry of the table of contents: a track, the first track, the last track,
-    /// the lead-out; 5 the catalogue number; 6 the recording code of a track; 7 bits with no fields of their own.
+    /// 0 a place in the program area; 1 to 4 an entry of the table of contents: a track, the first track, the
+    /// last track, the lead-out; 5 the catalogue number; 6 the recording code of a track; 7 bits with no fields of
+    /// their own.
     pub kind: u32,
     /// From where the music of the track begins (kind 0), or the running time of the lead-in (1 to 4).
     pub time: u32,
@@ -23,6 +24,7 @@ pub struct PlainFrame {
     pub disc: u8,
     /// The frame of the absolute time, 0 to 74 (kinds 5 and 6).
     pub frame: u8,
-    /// Thirteen digits (kind 5), twelve letters and digits (6), or bytes 1 to 9 of the frame as they stand (7).
+    /// Thirteen digits (kind 5), twelve letters and digits (6), or bytes 1 to 9 of the frame as they stand
+    /// (7).
     pub text: [u8; 13],
 }

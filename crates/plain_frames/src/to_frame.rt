@@ -9,7 +9,8 @@ use crate::PlainFrame;
 use crate::checks::{are_capitals, are_capitals_or_digits, are_digits, is_other, is_track, time};
 use q_frame::{QFrame, TocPoint};
 
-/// The frame that a plain one stands for, where its kind is one and its fields have values that they may have.
+/// The frame that a plain one stands for, where its kind is one and its fields have values that they may
+/// have.
 pub fn frame_of(plain: &PlainFrame) -> Option<QFrame>
     ensures { IsValidOf result plain.now }
 {
@@ -45,7 +46,8 @@ fn program(plain: &PlainFrame) -> Option<QFrame>
 }
 
 fn track(plain: &PlainFrame) -> Option<QFrame>
-    ensures { IsWhereValid result (Toc plain.now.control (Track plain.now.track plain.now.absolute) plain.now.time) }
+    ensures { IsWhereValid result
+        (Toc plain.now.control (Track plain.now.track plain.now.absolute) plain.now.time) }
 {
     if !is_track(plain.track) {
         return None;
@@ -61,7 +63,8 @@ fn track(plain: &PlainFrame) -> Option<QFrame>
 }
 
 fn first(plain: &PlainFrame) -> Option<QFrame>
-    ensures { IsWhereValid result (Toc plain.now.control (First plain.now.track plain.now.disc) plain.now.time) }
+    ensures { IsWhereValid result
+        (Toc plain.now.control (First plain.now.track plain.now.disc) plain.now.time) }
 {
     first_entry(plain, plain.track, plain.disc)
 }

@@ -122,7 +122,8 @@ pub extern "C" fn ribjasper_player_draw(alloc: Global, player: &mut Playing, pac
     0
 }
 
-/// Begins anew, with so many lead-in blocks. The form is 0 for a raw stream, or 1 for one of packs, four a block.
+/// Begins anew, with so many lead-in blocks. The form is 0 for a raw stream, or 1 for one of packs, four a
+/// block.
 /// 0, or -1 where the player is closed or the form is another number.
 #[unsafe(no_mangle)]
 pub extern "C" fn ribjasper_player_begin(

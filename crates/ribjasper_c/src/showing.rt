@@ -8,8 +8,8 @@ use live_player::LivePlayer;
 use std::alloc::Global;
 use std::mem;
 
-/// Writes the number of the colour that the screen shows at a place. 0, or -1 where the player is closed or the place
-/// is not on the screen.
+/// Writes the number of the colour that the screen shows at a place. 0, or -1 where the player is closed or
+/// the place is not on the screen.
 #[unsafe(no_mangle)]
 pub extern "C" fn ribjasper_player_pixel(
     alloc: Global,
@@ -18,7 +18,8 @@ pub extern "C" fn ribjasper_player_pixel(
     y: u32,
     pixel: &mut u8,
 ) -> i32
-    ensures shows { result ≡ pos 0 → Shows player.old.handle.players (λ now. pixel.new ≡ screen_pixel now x y) }
+    ensures shows { result ≡ pos 0
+        → Shows player.old.handle.players (λ now. pixel.new ≡ screen_pixel now x y) }
     ensures answer { result ≡ (if player.old.is_open && nat_lt x 300 && nat_lt y 216
         then pos 0 else negsuc 0) }
     ensures stays { player.new.is_open ≡ player.old.is_open }
@@ -219,8 +220,8 @@ fn shown_border(live: &LivePlayer) -> u8
     live.border()
 }
 
-/// Writes how many pixels further right and further down in the memory the screen begins. 0, or -1 where the player is
-/// closed.
+/// Writes how many pixels further right and further down in the memory the screen begins. 0, or -1 where the
+/// player is closed.
 #[unsafe(no_mangle)]
 pub extern "C" fn ribjasper_player_offsets(
     alloc: Global,

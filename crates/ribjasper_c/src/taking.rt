@@ -19,8 +19,8 @@ pub struct ReadPack {
     pub wrong: i32,
 }
 
-/// Feeds an open player the next block, and writes the packs that came with it. Their number, 0 to 4, or -1 where it
-/// is closed.
+/// Feeds an open player the next block, and writes the packs that came with it. Their number, 0 to 4, or -1
+/// where it is closed.
 #[unsafe(no_mangle)]
 pub extern "C" fn ribjasper_player_take(
     alloc: Global,
