@@ -12,8 +12,11 @@ all:
 library:
 	tools/build_library.sh
 
-# Builds examples/player.c, as C and as C++, compares its screens with the program's, and measures it.
+# Builds examples/player.c, as C and as C++, compares its screens with the program's, and measures it. It builds the
+# program and the library where they are not there.
 example:
+	[ -x bin/ribjasper ] || tools/build.sh
+	[ -f lib/libribjasper.a ] || tools/build_library.sh
 	tools/compare_player.sh measure
 
 # A short tour on real input. It builds nothing that is not there yet: without bin/ribjasper the

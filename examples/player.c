@@ -2,6 +2,8 @@
 
    player BLOCKS.. <stream   feeds a raw stream block by block, and after each of these numbers of blocks (ascending)
                              writes the screen to the file BLOCKS.ppm
+   player -p PACKS.. <file   draws a .cdg file pack by pack, in the same way
+   player <stream            feeds a raw stream, and after each second writes the screen to the file SECONDS.ppm
    player -m <stream         feeds it again and again, and tells how many blocks a second the player takes */
 #include "ribjasper.h"
 
@@ -11,54 +13,68 @@
 #include <time.h>
 
 #define MEASURED 1000000L
+#define BLOCKS_A_SECOND 75
+#define PACK 24
 
-static uint8_t pixels[RIBJASPER_PIXELS];
-
-static int write_screen(ribjasper_player *player, const char *name)
+static int write_screen(ribjasper_player *player, long number)
 {
-    uint16_t colours[RIBJASPER_COLOURS];
+    static uint8_t picture[RIBJASPER_PICTURE];
+    char name[64];
     FILE *file;
-    long n;
-    if (ribjasper_player_screen(player, pixels) != RIBJASPER_DONE ||
-        ribjasper_player_colours(player, colours) != RIBJASPER_DONE)
+    int written;
+    snprintf(name, sizeof name, "%ld.ppm", number);
+    if (ribjasper_player_picture(player, picture) != RIBJASPER_DONE)
         return 1;
     file = fopen(name, "wb");
-    if (file == NULL)
+    if (file == NULL) {
+        fprintf(stderr, "player: %s cannot be written\n", name);
         return 1;
-    fprintf(file, "P6\n%d %d\n255\n", RIBJASPER_WIDTH, RIBJASPER_HEIGHT);
-    for (n = 0; n < RIBJASPER_PIXELS; n++) {
-        unsigned colour = colours[pixels[n]];
-        putc((int)(17 * (colour >> 8)), file);
-        putc((int)(17 * (colour >> 4 & 15)), file);
-        putc((int)(17 * (colour & 15)), file);
     }
-    return fclose(file) != 0;
+    fprintf(file, "P6\n%d %d\n255\n", RIBJASPER_WIDTH, RIBJASPER_HEIGHT);
+    written = fwrite(picture, 1, sizeof picture, file) == sizeof picture;
+    return fclose(file) != 0 || !written;
 }
 
-static int show(ribjasper_player *player, int count, char **moments)
+/* Feeds the next block or draws the next pack of the input: 1, 0 at its end, or -1. */
+static int step(ribjasper_player *player, int packs)
 {
-    uint8_t block[RIBJASPER_BLOCK];
-    char name[64];
-    long fed = 0;
+    uint8_t unit[RIBJASPER_BLOCK];
+    size_t size = packs ? PACK : RIBJASPER_BLOCK;
+    int32_t status;
+    if (fread(unit, 1, size, stdin) != size)
+        return 0;
+    status = packs ? ribjasper_player_draw(player, unit) : ribjasper_player_feed(player, unit);
+    return status == RIBJASPER_DONE ? 1 : -1;
+}
+
+static int show(ribjasper_player *player, int packs, int count, char **moments)
+{
+    long done = 0;
     int i;
     for (i = 0; i < count; i++) {
         long moment = atol(moments[i]);
-        while (fed < moment && fread(block, 1, sizeof block, stdin) == sizeof block) {
-            if (ribjasper_player_feed(player, block) != RIBJASPER_DONE)
-                return 1;
-            fed++;
-        }
-        if (fed != moment) {
-            fprintf(stderr, "player: there is no block %ld\n", moment);
+        while (done < moment && step(player, packs) == 1)
+            done++;
+        if (done != moment) {
+            fprintf(stderr, "player: there is no %s %ld\n", packs ? "pack" : "block", moment);
             return 1;
         }
-        snprintf(name, sizeof name, "%ld.ppm", moment);
-        if (write_screen(player, name) != 0) {
-            fprintf(stderr, "player: %s cannot be written\n", name);
+        if (write_screen(player, moment) != 0)
             return 1;
-        }
     }
     return 0;
+}
+
+static int show_each_second(ribjasper_player *player)
+{
+    long fed = 0;
+    int status;
+    while ((status = step(player, 0)) == 1) {
+        fed++;
+        if (fed % BLOCKS_A_SECOND == 0 && write_screen(player, fed / BLOCKS_A_SECOND) != 0)
+            return 1;
+    }
+    return status != 0;
 }
 
 static int measure(ribjasper_player *player)
@@ -76,7 +92,8 @@ static int measure(ribjasper_player *player)
         if (ribjasper_player_feed(player, stream[(size_t)fed % blocks]) != RIBJASPER_DONE)
             return 1;
     seconds = (double)(clock() - start) / CLOCKS_PER_SEC;
-    printf("%ld blocks in %.2f seconds: %.0f times real time\n", MEASURED, seconds, (double)MEASURED / 75 / seconds);
+    printf("%ld blocks in %.2f seconds: %.0f times real time\n", MEASURED, seconds,
+           (double)MEASURED / BLOCKS_A_SECOND / seconds);
     return 0;
 }
 
@@ -84,15 +101,18 @@ int main(int argc, char **argv)
 {
     ribjasper_player player = RIBJASPER_CLOSED;
     int status;
-    if (argc < 2) {
-        fprintf(stderr, "usage: player BLOCKS.. <stream, or player -m <stream\n");
-        return 2;
-    }
     if (ribjasper_player_open(&player) != RIBJASPER_DONE) {
         fprintf(stderr, "player: there is no memory\n");
         return 1;
     }
-    status = strcmp(argv[1], "-m") == 0 ? measure(&player) : show(&player, argc - 1, argv + 1);
+    if (argc < 2)
+        status = show_each_second(&player);
+    else if (strcmp(argv[1], "-m") == 0)
+        status = measure(&player);
+    else if (strcmp(argv[1], "-p") == 0)
+        status = show(&player, 1, argc - 2, argv + 2);
+    else
+        status = show(&player, 0, argc - 1, argv + 1);
     ribjasper_player_close(&player);
     return status;
 }

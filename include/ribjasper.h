@@ -1,13 +1,16 @@
 /* The proved player of CD subcode graphics, for programs in C and C++.
 
-   Link with -lribjasper. No call is for a signal handler, no state is global: players stand side by side, one call at
-   a time for each, on the thread that opened it. No pointer may be null; what two arguments point to may not overlap; a pointer to what is only read
-   (const) must point to bytes that do not change during the call. The library asks malloc for memory when a player is
-   opened, and at no other time. */
+   Link with -lribjasper. No state is global: players stand side by side, one call at a time for each, on the thread that
+   opened it; no call is for a signal handler. Where a pointer stands, so many bytes or structs must stand as its type
+   says, or as its line says; none may be null, for the library cannot tell a null pointer and reads it. What two
+   arguments point to may not overlap; what is only read (const) must not change during the call. Numbers may be any:
+   one out of its range is refused. Memory is asked of malloc when a player is opened and within `ribjasper_convert`,
+   and at no other time. */
 #ifndef RIBJASPER_H
 #define RIBJASPER_H
 
 #include <stdbool.h>
+#include <stddef.h>
 #include <stdint.h>
 
 #ifdef __cplusplus
@@ -15,11 +18,11 @@ extern "C" {
 #endif
 
 #define RIBJASPER_VERSION_MAJOR 0
-#define RIBJASPER_VERSION_MINOR 1
+#define RIBJASPER_VERSION_MINOR 2
 
-/* What calls of a player answer: it was done; or the player is closed, a number is out of its range, or (open) there
-   is no memory. Where it was not done, nothing that a pointer points to is written (but by open, which closes first;
-   of take this is seen from its code, and no clause says it). */
+/* What calls answer: it was done; or the player is closed, a number is out of its range, or (open) there is no memory.
+   Where it was not done, nothing that a pointer points to is written (but by open, which closes first, and then holds
+   no memory). */
 #define RIBJASPER_DONE 0
 #define RIBJASPER_REFUSED (-1)
 
@@ -28,10 +31,13 @@ extern "C" {
 #define RIBJASPER_HEIGHT 216   /* and down, the border among them */
 #define RIBJASPER_PIXELS 64800 /* all of them, row by row from the top, each row from the left */
 #define RIBJASPER_COLOURS 16   /* colours of the table */
+#define RIBJASPER_PICTURE 194400 /* bytes of a picture: red, green and blue of each pixel, 17 times their four bits */
 
-/* The forms of a stream: raw blocks, or packs of 24 bytes as in a .cdg file, four a block of 96. */
+/* The forms of a stream: raw blocks; packs of 24 bytes that are gathered already, four a block of 96; or, of a whole
+   stream alone, sectors of 2,448 bytes, each 2,352 bytes of audio and a raw block. */
 #define RIBJASPER_RAW 0
 #define RIBJASPER_PACKS 1
+#define RIBJASPER_SECTORS 2
 
 /* A player. Begin with RIBJASPER_CLOSED; never copy an open one, nor change it but by these calls. */
 typedef struct ribjasper_player {
@@ -43,14 +49,15 @@ typedef struct ribjasper_player {
 
 #define RIBJASPER_CLOSED { { 0 }, false }
 
-/* Opens a player of a raw stream with no lead-in, closing it first where it is open; refused where memory is short. */
+/* Opens a player of a raw stream with no lead-in, closing it first where it is open; refused where memory is short, and
+   for nothing else. */
 int32_t ribjasper_player_open(ribjasper_player *player);
 
 /* Closes a player and frees what it holds; a closed one stays closed. Each open player must be closed once at last. */
 void ribjasper_player_close(ribjasper_player *player);
 
-/* Makes an open player forget all blocks. Those that come from now on have this form, and the first `lead_in` of them
-   are passed over. */
+/* Makes an open player forget all blocks and packs. Blocks that come from now on have this form (RIBJASPER_RAW or
+   RIBJASPER_PACKS), and the first `lead_in` of them are passed over. */
 int32_t ribjasper_player_begin(ribjasper_player *player, uint32_t form, uint32_t lead_in);
 
 /* Feeds an open player the next block of the stream, 96 bytes. The clauses hold for 1,000,000 blocks since begin. */
@@ -67,17 +74,27 @@ typedef struct ribjasper_pack {
    complete by this block: returns how many they are, 0 to 4, or RIBJASPER_REFUSED. */
 int32_t ribjasper_player_take(ribjasper_player *player, const uint8_t block[RIBJASPER_BLOCK], ribjasper_pack packs[4]);
 
+/* Draws a pack of 24 bytes, as players read a .cdg file: the low six bits of the bytes are its symbols, and the parity
+   has no part in it. What stands is what the packs since begin draw; feed no blocks in between. */
+int32_t ribjasper_player_draw(ribjasper_player *player, const uint8_t pack[24]);
+
 /* Writes the number of the colour, 0 to 15, of the pixel `x` from the left (0 to 299), `y` from the top (0 to 215). */
 int32_t ribjasper_player_pixel(ribjasper_player *player, uint32_t x, uint32_t y, uint8_t *pixel);
 
 /* Writes the numbers of the colours, 0 to 15, of all pixels of the screen; pixel (x, y) is number 300 y + x. */
 int32_t ribjasper_player_screen(ribjasper_player *player, uint8_t pixels[RIBJASPER_PIXELS]);
 
+/* Writes red, green and blue of all pixels of the screen; those of pixel (x, y) begin at byte 3 (300 y + x). */
+int32_t ribjasper_player_picture(ribjasper_player *player, uint8_t bytes[RIBJASPER_PICTURE]);
+
 /* Writes colour `k` of the table, 0 to 15, as 0xRGB: four bits each of red, green and blue. */
 int32_t ribjasper_player_colour(ribjasper_player *player, uint8_t k, uint16_t *colour);
 
 /* Writes all colours of the table in this form. */
 int32_t ribjasper_player_colours(ribjasper_player *player, uint16_t colours[RIBJASPER_COLOURS]);
+
+/* Writes the levels of the colours, 0 to 63. */
+int32_t ribjasper_player_levels(ribjasper_player *player, uint8_t levels[RIBJASPER_COLOURS]);
 
 /* Writes the number of the border's colour, 0 to 15. */
 int32_t ribjasper_player_border(ribjasper_player *player, uint8_t *border);
@@ -92,11 +109,69 @@ int32_t ribjasper_correct(const uint8_t word[24], uint8_t out[24]);
 /* Whether (1 or 0) the last two of the eighteen bytes of a CD-TEXT pack are the check of the others. */
 int32_t ribjasper_text_pack_matches(const uint8_t pack[18]);
 
+/* The kinds of a frame of the Q channel. */
+#define RIBJASPER_Q_PROGRAM 0   /* where the player is: track, index, time, absolute */
+#define RIBJASPER_Q_TRACK 1     /* the table of contents: a track and where its music begins (absolute) */
+#define RIBJASPER_Q_FIRST 2     /* the first track, and the disc's type (disc: 0 CD-DA or CD-ROM, 16 CD-i, 32 XA) */
+#define RIBJASPER_Q_LAST 3      /* the last track */
+#define RIBJASPER_Q_LEAD_OUT 4  /* where the lead-out begins (absolute) */
+#define RIBJASPER_Q_CATALOGUE 5 /* the catalogue number, thirteen digits in text, and frame */
+#define RIBJASPER_Q_ISRC 6      /* the recording code of the track, twelve characters in text, and frame */
+#define RIBJASPER_Q_OTHER 7     /* bits with no fields of their own: mode, and bytes 1 to 9 in text */
+
+/* A frame of the Q channel. Fields that its kind does not name are zero where they are written, and passed over where
+   they are read. Times are blocks, 75 a second, below 450,000. */
+typedef struct ribjasper_q_frame {
+    uint32_t kind;     /* one of the above */
+    uint32_t time;     /* kind 0: the distance from where the music of the track begins; 1 to 4: of the lead-in */
+    uint32_t absolute; /* a time from the start of the program area */
+    uint8_t control;   /* 0 to 15: 8 four channels, 4 data, 2 copying permitted, 1 pre-emphasis */
+    uint8_t mode;      /* 0 to 15 */
+    uint8_t track;     /* 1 to 99 */
+    uint8_t index;     /* 0 to 99; 0 is the pause before a track */
+    uint8_t disc;      /* any byte */
+    uint8_t frame;     /* 0 to 74, that of the absolute time */
+    uint8_t text[13];  /* ASCII, or bytes as they stand */
+} ribjasper_q_frame;
+
+#define RIBJASPER_BAD_CHECK 1
+#define RIBJASPER_BAD_FIELD 2
+
+/* Reads the twelve bytes of a frame: writes it and returns RIBJASPER_DONE; or returns RIBJASPER_BAD_CHECK where the last
+   sixteen bits are not the check of the others; or else writes the first bit (0 to 95) of the first field that is out
+   of its range, and returns RIBJASPER_BAD_FIELD. */
+int32_t ribjasper_q_decode(const uint8_t bytes[12], ribjasper_q_frame *frame, uint8_t *bit);
+
+/* Writes the twelve bytes of a frame, or returns RIBJASPER_REFUSED where a field has a value that it cannot have. */
+int32_t ribjasper_q_encode(const ribjasper_q_frame *frame, uint8_t bytes[12]);
+
 /* Writes the planar form of a raw block: twelve bytes for each channel from P to W, the first bit the highest. */
 void ribjasper_block_to_planar(const uint8_t block[RIBJASPER_BLOCK], uint8_t planar[RIBJASPER_BLOCK]);
 
 /* Writes the raw block with a planar form. */
 void ribjasper_block_from_planar(const uint8_t planar[RIBJASPER_BLOCK], uint8_t block[RIBJASPER_BLOCK]);
+
+/* What is told of a stream that was converted: the bytes written, the blocks of the program, and the packs with no
+   codeword near, which are written as 24 zeros. */
+typedef struct ribjasper_converted {
+    uint64_t bytes;
+    uint32_t blocks;
+    uint32_t bad;
+} ribjasper_converted;
+
+/* What the call below answers: the exit numbers of the program. */
+#define RIBJASPER_CONVERTED 0 /* done */
+#define RIBJASPER_DAMAGED 1   /* done, but packs are bad */
+#define RIBJASPER_USAGE 2     /* the form is above 2 or `lead_in` above 450,000 */
+#define RIBJASPER_TORN 3      /* the stream is not whole units, or more than 1,000,000 of them */
+#define RIBJASPER_NO_ROOM 6   /* the buffer is smaller than the packs */
+#define RIBJASPER_NO_MEMORY 7 /* malloc refused */
+
+/* Writes the packs of the `length` bytes at `stream`, whose first `lead_in` blocks are passed over, to the front of the
+   `room` bytes at `packs`: 24 bytes each, 4 B - 7 of B blocks of the program (none of one or none), or 4 B where they
+   are RIBJASPER_PACKS. Where it answers neither 0 nor 1 nothing is written. */
+int32_t ribjasper_convert(const uint8_t *stream, size_t length, uint32_t form, uint32_t lead_in, uint8_t *packs,
+                          size_t room, ribjasper_converted *told);
 
 #ifdef __cplusplus
 }

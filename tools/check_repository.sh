@@ -32,6 +32,9 @@ done
 tools/commands.py --check || complain "share/ is not what tools/commands.py writes"
 tools/run_guide.sh || complain "the guide does not run"
 
+# The library and its example do what the program does, where they are built and a C compiler is there.
+tools/compare_player.sh || complain "the library for programs in C is not as the program"
+
 # Each file that a document links to is there.
 for document in $(git ls-files '*.md'); do
     folder=$(dirname "$document")

@@ -1,7 +1,9 @@
 #!/bin/sh
-# Builds examples/player.c on lib/libribjasper.a, as C and as C++, and compares its screens with those of the command
-# `screen`, byte for byte, at ten moments of the stream of the tour. Skipped where a compiler or what make builds is
-# missing. With the argument `measure` it also tells how many blocks a second the player takes.
+# What lib/libribjasper.a does for programs in C. Builds examples/player.c on it, as C and as C++, and compares its
+# screens with those of the command `screen`, byte for byte, at ten moments of the stream of the tour: fed as blocks and
+# drawn as packs. Runs tools/test_library.c, and all of it once under the address sanitizer where that is there.
+# Skipped where a compiler or what make builds is missing. With the argument `measure` it also tells how many blocks a
+# second the player takes.
 set -e
 cd "$(dirname "$0")/.."
 top=$PWD
@@ -13,26 +15,49 @@ done
 work=$(mktemp -d)
 trap 'rm -rf "$work"' EXIT
 flags="-O2 -Wall -Wextra -Werror -I$top/include"
+wrap="-Wl,--wrap=malloc,--wrap=realloc,--wrap=free"
 cc $flags -std=c99 examples/player.c -L lib -lribjasper -o "$work/player"
 c++ $flags -x c++ examples/player.c -x none -L lib -lribjasper -o "$work/player_of_cxx"
+cc $flags -std=c99 tools/test_library.c -L lib -lribjasper $wrap -o "$work/test_library"
+c++ $flags -x c++ tools/test_library.c -x none -L lib -lribjasper $wrap -o "$work/test_library_of_cxx"
+"$work/test_library"
+"$work/test_library_of_cxx" >/dev/null
 cp examples/hello.cue examples/hello.script "$work"
 cd "$work"
 "$top/bin/ribjasper" author --lead-in 0 --length 00:22:00 -- hello.cue hello.script >stream
+"$top/bin/ribjasper" convert --lead-in 0 <stream >file.cdg
 moments="2 77 150 301 449 535 777 1111 1350 1649"
+packs=
+for blocks in $moments; do
+    packs="$packs $((4 * blocks - 7))"
+done
+mkdir cxx drawn
 ./player $moments <stream
-mkdir cxx
 (cd cxx && ../player_of_cxx $moments <../stream)
+(cd drawn && ../player -p $packs <../file.cdg)
 failed=0
 for blocks in $moments; do
     time=$(printf '%02d:%02d:%02d' $((blocks / 4500)) $((blocks / 75 % 60)) $((blocks % 75)))
     "$top/bin/ribjasper" screen --lead-in 0 --at "$time" <stream >wanted.ppm
-    if cmp wanted.ppm "$blocks.ppm" && cmp wanted.ppm "cxx/$blocks.ppm"; then
+    if cmp wanted.ppm "$blocks.ppm" && cmp wanted.ppm "cxx/$blocks.ppm" &&
+        cmp wanted.ppm "drawn/$((4 * blocks - 7)).ppm"; then
         echo "compare_player: the screens at $time are equal"
     else
         echo "compare_player: the screens at $time differ"
         failed=1
     fi
 done
+sanitize="-g -fsanitize=address -fno-omit-frame-pointer"
+echo 'int main(void) { return 0; }' >empty.c
+if cc $sanitize empty.c -o empty 2>/dev/null && ./empty 2>/dev/null; then
+    cc $flags $sanitize -std=c99 "$top/examples/player.c" -L "$top/lib" -lribjasper -o player_watched
+    cc $flags $sanitize -std=c99 "$top/tools/test_library.c" -L "$top/lib" -lribjasper $wrap -o test_watched
+    mkdir watched
+    (cd watched && ../player_watched $moments <../stream && ../test_watched >/dev/null)
+    echo "compare_player: the address sanitizer finds nothing"
+else
+    echo "compare_player: no address sanitizer is there"
+fi
 if [ "$1" = measure ]; then
     ./player -m <stream
 fi

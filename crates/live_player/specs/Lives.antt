@@ -1,5 +1,5 @@
 -- A player that is fed block by block, and what it shows.
-use Rattle.std.specs.Prelude.{◌≡◌, ◌/◌, ℕ, List, length, map, drop, Option}
+use Rattle.std.specs.Prelude.{◌≡◌, ◌/◌, ◌%◌, ℕ, List, length, map, drop, slice_index, Option}
 use Rattle.bit_lists.specs.Counting.{below}
 use Rattle.std.specs.List.{flat_map, AllByRecursion}
 use Rattle.cdg_io.specs.Run.{run_state, then_second}
@@ -9,7 +9,9 @@ use Rattle.raw_subcode.specs.Channels.{symbols_of}
 use Rattle.raw_subcode.specs.declared.form.Form.{Form}
 use Rattle.stream_words.specs.Stream.{IsRecovered, form_word, word_count}
 use Rattle.cdg_instructions.specs.declared.instr.Instr.{Instr}
-use Rattle.cdg_screen.specs.Picture.{Standing, SameStanding, blank, standing_of, standing_after}
+use Rattle.cdg_instructions.specs.Meaning.{meaning}
+use Rattle.cdg_screen.specs.Picture.{Standing, SameStanding, blank, screen_pixel, standing_of, standing_after}
+use Rattle.cdg_screen.specs.Texts.{colour_bytes}
 use Rattle.subcode_player.specs.Shown.{AreShown}
 use Rattle.subcode_player.specs.Steps.{begun, words_next, words_give}
 use Rattle.subcode_player.specs.Drawn.{drawing_next}
@@ -20,6 +22,10 @@ use Rattle.live_player.specs.declared.live.LivePlayer.{LivePlayer}
 -- the latest moment of a stream, in blocks
 abbrev pub latest : ℕ
 latest = 449999
+
+-- what stands on a player's picture
+abbrev pub standing_on : LivePlayer → Standing
+standing_on player = standing_of player.stages.second.picture
 
 -- the stages after a block
 abbrev pub live_next : Then BlockWords Drawing → List ℕ → Then BlockWords Drawing
@@ -56,3 +62,15 @@ pub record IsLiveViewAt (form : Form) (lead_in time : ℕ) (blocks : List (List 
 -- what they show at last
 abbrev pub IsLiveView : Form → ℕ → List (List ℕ) → Standing → Type 0
 IsLiveView form lead_in blocks now = IsLiveViewAt form lead_in latest blocks now
+
+-- the instruction of 24 bytes, whose low six bits are symbols: the parity has no part in it
+unfoldable pub instruction_of : List ℕ → Instr
+instruction_of pack = meaning (map (λ byte. byte % 64) pack)
+
+-- the player began and drew these packs since, and nothing else
+pub record HasDrawn (packs : List (List ℕ)) (player : LivePlayer) : Type 0 where
+  pub stands : SameStanding (standing_on player) (standing_after blank (map instruction_of packs))
+
+-- byte n of the picture: red, green or blue of the colour of pixel n / 3, of the pixels row by row
+unfoldable pub picture_byte : Standing → ℕ → ℕ
+picture_byte now n = slice_index (colour_bytes (now.colour (screen_pixel now (n / 3 % 300) (n / 3 / 300)))) (n % 3)

@@ -1,9 +1,9 @@
 // A player that is fed blocks as they come.
 ghost use Rattle.std.specs.Prelude.{◌≡◌, ◌<◌, ◌≤◌, ◌-◌, ◌/◌, ◌%◌, ◌++◌, ◌∷◌, [], List, ℕ, length, slice_index, IfOk};
-ghost use Rattle.cdg_screen.specs.Picture.{Standing, screen_pixel, standing_of};
+ghost use Rattle.cdg_screen.specs.Picture.{Standing, screen_pixel};
 ghost use Rattle.raw_subcode.specs.declared.form.Form.{Form};
 ghost use Rattle.subcode_player.specs.Steps.{words_give};
-ghost use Rattle.live_player.specs.Lives.{latest, live_next, stream_words, HasPlayed, IsLiveView, IsLiveViewAt};
+ghost use Rattle.live_player.specs.Lives.{latest, live_next, standing_on, stream_words, picture_byte, HasDrawn, HasPlayed, IsLiveView, IsLiveViewAt};
 
 use crate::looking;
 use arrayvec::ArrayVec;
@@ -25,7 +25,7 @@ pub struct LivePlayer {
 impl LivePlayer {
     /// A player of a raw stream with no lead-in, before its first block.
     pub fn start(alloc: Global) -> Result<LivePlayer, AllocError>
-        ensures { IfOk result (λ player. HasPlayed Form.Raw 0 [] player) }
+        ensures { IfOk result (λ player. HasPlayed Form.Raw 0 [] player × HasDrawn [] player) }
     {
         let drawing = Drawing {
             picture: Picture::start(alloc)?,
@@ -44,7 +44,8 @@ impl LivePlayer {
 
     /// Begins anew, with a stream of this form.
     pub fn begin(&mut self, lead_in: u32, form: Form)
-        ensures { HasPlayed form lead_in [] self.new }
+        ensures played { HasPlayed form lead_in [] self.new }
+        ensures drawn { HasDrawn [] self.new }
     {
         let words = &mut self.stages.first;
         words.form = form;
@@ -58,7 +59,8 @@ impl LivePlayer {
 
     /// Takes the next block.
     pub fn feed(&mut self, block: &[u8; 96])
-        ensures { (form : Form) (lead_in : ℕ) (blocks : List (List ℕ)) → HasPlayed form lead_in blocks self.old
+        ensures { (form : Form) (lead_in : ℕ) (blocks : List (List ℕ))
+            → HasPlayed form lead_in blocks self.old
             → HasPlayed form lead_in (blocks ++ block.now ∷ []) self.new }
     {
         self.stages.feed(block);
@@ -66,10 +68,13 @@ impl LivePlayer {
 
     /// Takes the next block, and gives the words that came with it, at most four.
     pub fn take(&mut self, block: &[u8; 96]) -> ArrayVec<Word, 4>
-        ensures fed { (form : Form) (lead_in : ℕ) (blocks : List (List ℕ)) → HasPlayed form lead_in blocks self.old
+        ensures fed { (form : Form) (lead_in : ℕ) (blocks : List (List ℕ))
+            → HasPlayed form lead_in blocks self.old
             → HasPlayed form lead_in (blocks ++ block.now ∷ []) self.new }
-        ensures words { (form : Form) (lead_in : ℕ) (blocks : List (List ℕ)) → HasPlayed form lead_in blocks self.old
-            → stream_words form lead_in (blocks ++ block.now ∷ []) ≡ stream_words form lead_in blocks ++ result.items }
+        ensures words { (form : Form) (lead_in : ℕ) (blocks : List (List ℕ))
+            → HasPlayed form lead_in blocks self.old
+            → stream_words form lead_in (blocks ++ block.now ∷ [])
+            ≡ stream_words form lead_in blocks ++ result.items }
     {
         match self.step(block) {
             Some(words) => words,
@@ -88,21 +93,31 @@ impl LivePlayer {
         words
     }
 
+    /// Draws a pack of 24 bytes, as a file of packs has them. The low six bits of each byte are its symbols,
+    /// and the parity has no part in it.
+    pub fn draw(&mut self, pack: &[u8; 24])
+        ensures { (packs : List (List ℕ)) → HasDrawn packs self.old
+            → HasDrawn (packs ++ pack.now ∷ []) self.new }
+    {
+        looking::draw(&mut self.stages.second.picture, pack);
+    }
+
     /// A law: what stands is what the blocks since the start show.
     pub fn shows_its_blocks(&self)
-        ensures last { (form : Form) (lead_in : ℕ) (blocks : List (List ℕ)) → HasPlayed form lead_in blocks self.now
-            → length blocks ≤ 1000000 → IsLiveView form lead_in blocks (standing_of self.now.stages.second.picture) }
+        ensures last { (form : Form) (lead_in : ℕ) (blocks : List (List ℕ))
+            → HasPlayed form lead_in blocks self.now → length blocks ≤ 1000000
+            → IsLiveView form lead_in blocks (standing_on self.now) }
         // Of a raw stream it is what stands at the moment that the program has come to.
         ensures so_far { (lead_in : ℕ) (blocks : List (List ℕ)) → HasPlayed Form.Raw lead_in blocks self.now
             → length blocks ≤ 1000000 → length blocks - lead_in ≤ latest
-            → IsLiveViewAt Form.Raw lead_in (length blocks - lead_in) blocks (standing_of self.now.stages.second.picture) }
+            → IsLiveViewAt Form.Raw lead_in (length blocks - lead_in) blocks (standing_on self.now) }
     {}
 
     /// The pixel of the screen at a place: `x` below 300 from the left, `y` below 216 from the top.
     pub fn pixel(&self, x: u32, y: u32) -> u8
         requires width { x < 300 }
         requires height { y < 216 }
-        ensures pixel { result ≡ screen_pixel (standing_of self.now.stages.second.picture) x y }
+        ensures pixel { result ≡ screen_pixel (standing_on self.now) x y }
         ensures range { result < 16 }
     {
         looking::pixel(&self.stages.second.picture, x, y)
@@ -111,29 +126,47 @@ impl LivePlayer {
     /// Colour `k` of the table, as 0xRGB. `k` is below 16.
     pub fn colour(&self, k: u8) -> u16
         requires { k < 16 }
-        ensures { result ≡ (standing_of self.now.stages.second.picture).colour k }
+        ensures colour { result ≡ (standing_on self.now).colour k }
+        ensures range { result < 4096 }
     {
         looking::colour(&self.stages.second.picture, k)
     }
 
-    /// Writes the numbers of the colours of the screen's pixels, row by row: that at (x, y) is number 300 y + x.
+    /// Writes the numbers of the colours of the screen's pixels, row by row: that at (x, y) is number
+    /// 300 y + x.
     pub fn screen(&self, pixels: &mut [u8; 64_800])
         ensures { (n : ℕ) → n < 64800
-            → slice_index pixels.new n ≡ screen_pixel (standing_of self.now.stages.second.picture) (n % 300) (n / 300) }
+            → slice_index pixels.new n ≡ screen_pixel (standing_on self.now) (n % 300) (n / 300) }
     {
         looking::screen(&self.stages.second.picture, pixels);
     }
 
     /// Writes the colours of the table, each as 0xRGB.
     pub fn colours(&self, table: &mut [u16; 16])
-        ensures { (k : ℕ) → k < 16 → slice_index table.new k ≡ (standing_of self.now.stages.second.picture).colour k }
+        ensures { (k : ℕ) → k < 16 → slice_index table.new k ≡ (standing_on self.now).colour k }
     {
         looking::colours(&self.stages.second.picture, table);
     }
 
+    /// Writes the levels of the colours.
+    pub fn levels(&self, levels: &mut [u8; 16])
+        ensures { (k : ℕ) → k < 16 → slice_index levels.new k ≡ (standing_on self.now).level k }
+    {
+        looking::levels(&self.stages.second.picture, levels);
+    }
+
+    /// Writes red, green and blue of the screen's pixels, row by row: those of (x, y) begin at
+    /// byte 3 (300 y + x).
+    pub fn bytes(&self, bytes: &mut [u8; 194_400])
+        ensures { (n : ℕ) → n < 194400
+            → slice_index bytes.new n ≡ picture_byte (standing_on self.now) n }
+    {
+        looking::bytes(&self.stages.second.picture, bytes);
+    }
+
     /// The number of the border's colour.
     pub fn border(&self) -> u8
-        ensures border { result ≡ (standing_of self.now.stages.second.picture).border }
+        ensures border { result ≡ (standing_on self.now).border }
         ensures range { result < 16 }
     {
         looking::border(&self.stages.second.picture)
@@ -141,8 +174,8 @@ impl LivePlayer {
 
     /// How many pixels further right and further down in the memory the screen begins.
     pub fn offsets(&self) -> (u8, u8)
-        ensures across { result.0 ≡ (standing_of self.now.stages.second.picture).h }
-        ensures down { result.1 ≡ (standing_of self.now.stages.second.picture).v }
+        ensures across { result.0 ≡ (standing_on self.now).h }
+        ensures down { result.1 ≡ (standing_on self.now).v }
         ensures ranges { (result.0 ≤ 5) × (result.1 ≤ 11) }
     {
         looking::offsets(&self.stages.second.picture)

@@ -1,7 +1,11 @@
 // What stands on a picture, number by number.
-ghost use Rattle.std.specs.Prelude.{◌≡◌, ◌<◌, ◌≤◌, ◌/◌, ◌%◌, ℕ, slice_index};
-ghost use Rattle.cdg_screen.specs.Picture.{screen_pixel, standing_of};
+ghost use Rattle.std.specs.Prelude.{◌≡◌, ◌<◌, ◌≤◌, ◌/◌, ◌%◌, ◌∷◌, [], ℕ, slice_index};
+ghost use Rattle.cdg_screen.specs.Picture.{screen_pixel, standing_of, standing_after, SameStanding};
+ghost use Rattle.cdg_screen.specs.Texts.{colour_bytes};
+ghost use Rattle.live_player.specs.Lives.{instruction_of, picture_byte};
 
+use cdg_instructions::read_word;
+use rw_code::Word;
 use subcode_player::Picture;
 
 /// The pixels of a row of the screen.
@@ -9,6 +13,9 @@ const WIDTH: usize = 300;
 
 /// The pixels of the screen.
 const PIXELS: usize = 64_800;
+
+/// Red, green and blue of each of them.
+const BYTES: usize = 194_400;
 
 /// The pixel of the screen at a place.
 pub(crate) fn pixel(picture: &Picture, x: u32, y: u32) -> u8
@@ -26,14 +33,16 @@ pub(crate) fn pixel(picture: &Picture, x: u32, y: u32) -> u8
 /// Colour `k` of the table.
 pub(crate) fn colour(picture: &Picture, k: u8) -> u16
     requires { k < 16 }
-    ensures { result ≡ (standing_of picture.now).colour k }
+    ensures colour { result ≡ (standing_of picture.now).colour k }
+    ensures range { result < 4096 }
 {
     picture.screen.colour(k)
 }
 
 /// The pixels of the screen, row by row.
 pub(crate) fn screen(picture: &Picture, pixels: &mut [u8; PIXELS])
-    ensures { (n : ℕ) → n < 64800 → slice_index pixels.new n ≡ screen_pixel (standing_of picture.now) (n % 300) (n / 300) }
+    ensures { (n : ℕ) → n < 64800
+        → slice_index pixels.new n ≡ screen_pixel (standing_of picture.now) (n % 300) (n / 300) }
 {
     for i in 0..PIXELS {
         pixels[i] = pixel(picture, (i % WIDTH) as u32, (i / WIDTH) as u32);
@@ -47,6 +56,61 @@ pub(crate) fn colours(picture: &Picture, table: &mut [u16; 16])
     for k in 0..16 {
         table[k] = colour(picture, k as u8);
     }
+}
+
+/// The levels of the colours.
+pub(crate) fn levels(picture: &Picture, levels: &mut [u8; 16])
+    ensures { (k : ℕ) → k < 16 → slice_index levels.new k ≡ (standing_of picture.now).level k }
+{
+    for k in 0..16 {
+        levels[k] = level(picture, k as u8);
+    }
+}
+
+fn level(picture: &Picture, k: u8) -> u8
+    requires { k < 16 }
+    ensures { result ≡ (standing_of picture.now).level k }
+{
+    picture.screen.level(k)
+}
+
+/// Red, green and blue of the pixels of the screen, row by row.
+pub(crate) fn bytes(picture: &Picture, bytes: &mut [u8; BYTES])
+    ensures { (n : ℕ) → n < 194400 → slice_index bytes.new n ≡ picture_byte (standing_of picture.now) n }
+{
+    for i in 0..BYTES {
+        bytes[i] = byte(picture, i as u32);
+    }
+}
+
+fn byte(picture: &Picture, n: u32) -> u8
+    requires { n < 194400 }
+    ensures { result ≡ picture_byte (standing_of picture.now) n }
+{
+    let at = n / 3;
+    let shown = colour(picture, pixel(picture, at % 300, at / 300));
+    part(shown, n % 3)
+}
+
+/// A part of a colour as a byte: 0 red, 1 green, 2 blue.
+fn part(colour: u16, part: u32) -> u8
+    requires part { part < 3 }
+    requires colour { colour < 4096 }
+    ensures { result ≡ slice_index (colour_bytes colour) part }
+{
+    match part {
+        0 => 17 * (colour / 256) as u8,
+        1 => 17 * (colour / 16 % 16) as u8,
+        _ => 17 * (colour % 16) as u8,
+    }
+}
+
+/// Carries out the instruction of a pack, whose parity has no part in it.
+pub(crate) fn draw(picture: &mut Picture, pack: &[u8; 24])
+    ensures { SameStanding (standing_of picture.new)
+        (standing_after (standing_of picture.old) (instruction_of pack.now ∷ [])) }
+{
+    picture.screen.obey(&read_word(&Word::new(pack)));
 }
 
 /// The number of the border's colour.

@@ -1,5 +1,5 @@
 -- What a handle owns: nothing, or a player in a block of its own.
-use Rattle.std.specs.Prelude.{◌≡◌, ◌==◌, ◌<◌, ◌≤◌, ◌-◌, ◌/◌, ◌%◌, if◌then◌else◌, ℕ, List, [], ◌∷◌, length, slice_index}
+use Rattle.std.specs.Prelude.{◌≡◌, ◌==◌, ◌<◌, ◌≤◌, ◌-◌, ◌/◌, ◌%◌, if◌then◌else◌, ℕ, List, [], ◌∷◌, length, map, slice_index}
 use base.Fml.{Fml, ftrue}
 use base.Stored.{Coded}
 use denote.RawPtr.{Ptr}
@@ -11,8 +11,8 @@ use Rattle.raw_subcode.specs.declared.form.Form.{Form}
 use Rattle.raw_subcode.specs.declared.form.Form.TheVariants.{Raw, Cooked}
 use Rattle.live_player.specs.contracts.live.LivePlayer.{the_row}
 use Rattle.live_player.specs.declared.live.LivePlayer.{LivePlayer}
-use Rattle.cdg_screen.specs.Picture.{Standing, screen_pixel}
-use Rattle.live_player.specs.Lives.{latest, HasPlayed, IsLiveView, IsLiveViewAt}
+use Rattle.cdg_screen.specs.Picture.{Standing, SameStanding, blank, screen_pixel, standing_after}
+use Rattle.live_player.specs.Lives.{instruction_of, latest, picture_byte, HasDrawn, HasPlayed, IsLiveView, IsLiveViewAt}
 
 abbrev pub handle_owns : Global → Ptr → List LivePlayer → Fml
 handle_owns alloc at [] = ftrue
@@ -25,15 +25,24 @@ players_coded = coded_list (the_row.coded)
 abbrev pub IsPlaying : Form → ℕ → List (List ℕ) → List LivePlayer → Type 0
 IsPlaying form lead_in blocks players = (player : LivePlayer) × (players ≡ player ∷ []) × HasPlayed form lead_in blocks player
 
+-- there is one player, and it drew these packs since it began, and nothing else
+abbrev pub IsDrawing : List (List ℕ) → List LivePlayer → Type 0
+IsDrawing packs players = (player : LivePlayer) × (players ≡ player ∷ []) × HasDrawn packs player
+
 -- What these blocks show; of a raw stream it is also what stands at the moment that the program has come to.
 pub record IsSeen (form : Form) (lead_in : ℕ) (blocks : List (List ℕ)) (now : Standing) : Type 0 where
   pub last : IsLiveView form lead_in blocks now
   pub so_far : form ≡ Raw → length blocks - lead_in ≤ latest → IsLiveViewAt Raw lead_in (length blocks - lead_in) blocks now
 
--- this holds of what the blocks show that the one player was fed, which are at most 1,000,000
+-- A player shows what the blocks show that it was fed since it began, at most 1,000,000, or what the packs draw that it drew since.
+pub record IsShownBy (player : LivePlayer) (now : Standing) : Type 0 where
+  pub blocks : (form : Form) (lead_in : ℕ) (blocks : List (List ℕ)) → HasPlayed form lead_in blocks player → length blocks ≤ 1000000
+      → IsSeen form lead_in blocks now
+  pub packs : (packs : List (List ℕ)) → HasDrawn packs player → SameStanding now (standing_after blank (map instruction_of packs))
+
+-- this holds of what the one player shows
 abbrev pub Shows : List LivePlayer → (Standing → Type 0) → Type 0
-Shows players tells = (form : Form) (lead_in : ℕ) (blocks : List (List ℕ)) → IsPlaying form lead_in blocks players → length blocks ≤ 1000000
-    → (now : Standing) × IsSeen form lead_in blocks now × tells now
+Shows players tells = (player : LivePlayer) → players ≡ player ∷ [] → (now : Standing) × IsShownBy player now × tells now
 
 -- the numbers of the colours of the screen's pixels, row by row
 abbrev pub IsScreen : List ℕ → Standing → Type 0
@@ -42,6 +51,14 @@ IsScreen pixels now = (n : ℕ) → n < 64800 → slice_index pixels n ≡ scree
 -- the colours of the table
 abbrev pub IsTable : List ℕ → Standing → Type 0
 IsTable table now = (k : ℕ) → k < 16 → slice_index table k ≡ now.colour k
+
+-- the levels of the colours
+abbrev pub AreLevels : List ℕ → Standing → Type 0
+AreLevels levels now = (k : ℕ) → k < 16 → slice_index levels k ≡ now.level k
+
+-- red, green and blue of the screen's pixels, row by row
+abbrev pub ArePictureBytes : List ℕ → Standing → Type 0
+ArePictureBytes bytes now = (n : ℕ) → n < 194400 → slice_index bytes n ≡ picture_byte now n
 
 -- the form that a number means: 0 a raw stream, 1 one of packs
 abbrev pub form_of : ℕ → Form

@@ -1,7 +1,7 @@
 // A player that C feeds block by block.
 ghost use Rattle.std.specs.Prelude.{◌≡◌, ◌<◌, ◌⊎◌, ◌&&◌, nat_lt, if◌then◌else◌, ◌++◌, ◌∷◌, [], List, ℕ, pos, negsuc, length, true, false};
 ghost use Rattle.raw_subcode.specs.declared.form.Form.{Form};
-ghost use Rattle.ribjasper_c.specs.Handles.{form_of, IsPlaying};
+ghost use Rattle.ribjasper_c.specs.Handles.{form_of, IsDrawing, IsPlaying};
 
 use crate::Handle;
 use live_player::LivePlayer;
@@ -48,11 +48,14 @@ impl Playing {
     }
 }
 
-/// Opens a player of a raw stream. 0, or -1 where no memory is left.
+/// Opens a player of a raw stream. 0, or -1 where no memory is left, and then none is held.
 #[unsafe(no_mangle)]
 pub extern "C" fn ribjasper_player_open(alloc: Global, player: &mut Playing) -> i32
     ensures begun { result ≡ pos 0 → IsPlaying Form.Raw 0 [] player.new.handle.players }
+    ensures drawn { result ≡ pos 0 → IsDrawing [] player.new.handle.players }
     ensures opened { result ≡ pos 0 → player.new.is_open ≡ true }
+    ensures refused { result ≡ negsuc 0 → player.new.handle.players ≡ [] }
+    ensures closed { result ≡ negsuc 0 → player.new.is_open ≡ false }
     ensures answer { (result ≡ pos 0) ⊎ (result ≡ negsuc 0) }
 {
     ribjasper_player_close(alloc, player);
@@ -85,7 +88,8 @@ pub extern "C" fn ribjasper_player_feed(
     player: &mut Playing,
     block: &[u8; 96],
 ) -> i32
-    ensures fed { result ≡ pos 0 → (form : Form) (lead_in : ℕ) (blocks : List (List ℕ)) → IsPlaying form lead_in blocks player.old.handle.players
+    ensures fed { result ≡ pos 0 → (form : Form) (lead_in : ℕ) (blocks : List (List ℕ))
+        → IsPlaying form lead_in blocks player.old.handle.players
         → IsPlaying form lead_in (blocks ++ block.now ∷ []) player.new.handle.players }
     ensures answer { result ≡ (if player.old.is_open then pos 0 else negsuc 0) }
     ensures stays { player.new.is_open ≡ player.old.is_open }
@@ -100,7 +104,26 @@ pub extern "C" fn ribjasper_player_feed(
     0
 }
 
-/// Begins anew, with so many lead-in blocks. The form is 0 for a raw stream, or 1 for one of packs, four a block.
+/// Draws a pack of 24 bytes, whose parity has no part in it. 0, or -1 where the player is closed.
+#[unsafe(no_mangle)]
+pub extern "C" fn ribjasper_player_draw(alloc: Global, player: &mut Playing, pack: &[u8; 24]) -> i32
+    ensures drawn { result ≡ pos 0 → (packs : List (List ℕ)) → IsDrawing packs player.old.handle.players
+        → IsDrawing (packs ++ pack.now ∷ []) player.new.handle.players }
+    ensures answer { result ≡ (if player.old.is_open then pos 0 else negsuc 0) }
+    ensures stays { player.new.is_open ≡ player.old.is_open }
+    ensures refused { result ≡ negsuc 0 → player.new.handle.players ≡ player.old.handle.players }
+{
+    if !player.is_open {
+        return -1;
+    }
+    let mut live = mem::replace(player, Playing::closed(alloc)).into_box();
+    live.draw(pack);
+    *player = Playing::of(live);
+    0
+}
+
+/// Begins anew, with so many lead-in blocks. The form is 0 for a raw stream, or 1 for one of packs, four a
+/// block.
 /// 0, or -1 where the player is closed or the form is another number.
 #[unsafe(no_mangle)]
 pub extern "C" fn ribjasper_player_begin(
@@ -110,6 +133,7 @@ pub extern "C" fn ribjasper_player_begin(
     lead_in: u32,
 ) -> i32
     ensures begun { result ≡ pos 0 → IsPlaying (form_of form) lead_in [] player.new.handle.players }
+    ensures drawn { result ≡ pos 0 → IsDrawing [] player.new.handle.players }
     ensures answer { result ≡ (if player.old.is_open && nat_lt form 2 then pos 0 else negsuc 0) }
     ensures stays { player.new.is_open ≡ player.old.is_open }
     ensures refused { result ≡ negsuc 0 → player.new.handle.players ≡ player.old.handle.players }
@@ -123,7 +147,7 @@ pub extern "C" fn ribjasper_player_begin(
     0
 }
 
-fn form_of(form: u32) -> Form
+pub(crate) fn form_of(form: u32) -> Form
     ensures { result ≡ form_of form }
 {
     if form == 0 { Form::Raw } else { Form::Cooked }

@@ -1,14 +1,15 @@
 // What a player shows, as C asks for it.
 ghost use Rattle.std.specs.Prelude.{◌≡◌, ◌<◌, ◌&&◌, nat_lt, if◌then◌else◌, ◌∷◌, [], pos, negsuc};
 ghost use Rattle.cdg_screen.specs.Picture.{screen_pixel};
-ghost use Rattle.ribjasper_c.specs.Handles.{IsScreen, IsTable, Shows};
+ghost use Rattle.ribjasper_c.specs.Handles.{ArePictureBytes, AreLevels, IsScreen, IsTable, Shows};
 
 use crate::Playing;
 use live_player::LivePlayer;
 use std::alloc::Global;
 use std::mem;
 
-/// Writes the number of the colour that the screen shows at a place. 0, or -1 where the player is closed or the place is not on the screen.
+/// Writes the number of the colour that the screen shows at a place. 0, or -1 where the player is closed or
+/// the place is not on the screen.
 #[unsafe(no_mangle)]
 pub extern "C" fn ribjasper_player_pixel(
     alloc: Global,
@@ -17,8 +18,10 @@ pub extern "C" fn ribjasper_player_pixel(
     y: u32,
     pixel: &mut u8,
 ) -> i32
-    ensures shows { result ≡ pos 0 → Shows player.old.handle.players (λ now. pixel.new ≡ screen_pixel now x y) }
-    ensures answer { result ≡ (if player.old.is_open && nat_lt x 300 && nat_lt y 216 then pos 0 else negsuc 0) }
+    ensures shows { result ≡ pos 0
+        → Shows player.old.handle.players (λ now. pixel.new ≡ screen_pixel now x y) }
+    ensures answer { result ≡ (if player.old.is_open && nat_lt x 300 && nat_lt y 216
+        then pos 0 else negsuc 0) }
     ensures stays { player.new.is_open ≡ player.old.is_open }
     ensures same { player.new.handle.players ≡ player.old.handle.players }
     ensures refused { result ≡ negsuc 0 → pixel.new ≡ pixel.old }
@@ -130,6 +133,64 @@ fn shown_colours(live: &LivePlayer, table: &mut [u16; 16])
     live.colours(table);
 }
 
+/// Writes the levels of the colours, 0 to 63. 0, or -1 where the player is closed.
+#[unsafe(no_mangle)]
+pub extern "C" fn ribjasper_player_levels(
+    alloc: Global,
+    player: &mut Playing,
+    levels: &mut [u8; 16],
+) -> i32
+    ensures shows { result ≡ pos 0 → Shows player.old.handle.players (λ now. AreLevels levels.new now) }
+    ensures answer { result ≡ (if player.old.is_open then pos 0 else negsuc 0) }
+    ensures stays { player.new.is_open ≡ player.old.is_open }
+    ensures same { player.new.handle.players ≡ player.old.handle.players }
+    ensures refused { result ≡ negsuc 0 → levels.new ≡ levels.old }
+{
+    if !player.is_open {
+        return -1;
+    }
+    let live = mem::replace(player, Playing::closed(alloc)).into_box();
+    shown_levels(&live, levels);
+    *player = Playing::of(live);
+    0
+}
+
+fn shown_levels(live: &LivePlayer, levels: &mut [u8; 16])
+    ensures { Shows (live.now ∷ []) (λ now. AreLevels levels.new now) }
+{
+    live.shows_its_blocks();
+    live.levels(levels);
+}
+
+/// Writes red, green and blue of all pixels, row by row. 0, or -1 where the player is closed.
+#[unsafe(no_mangle)]
+pub extern "C" fn ribjasper_player_picture(
+    alloc: Global,
+    player: &mut Playing,
+    bytes: &mut [u8; 194_400],
+) -> i32
+    ensures shows { result ≡ pos 0 → Shows player.old.handle.players (λ now. ArePictureBytes bytes.new now) }
+    ensures answer { result ≡ (if player.old.is_open then pos 0 else negsuc 0) }
+    ensures stays { player.new.is_open ≡ player.old.is_open }
+    ensures same { player.new.handle.players ≡ player.old.handle.players }
+    ensures refused { result ≡ negsuc 0 → bytes.new ≡ bytes.old }
+{
+    if !player.is_open {
+        return -1;
+    }
+    let live = mem::replace(player, Playing::closed(alloc)).into_box();
+    shown_picture(&live, bytes);
+    *player = Playing::of(live);
+    0
+}
+
+fn shown_picture(live: &LivePlayer, bytes: &mut [u8; 194_400])
+    ensures { Shows (live.now ∷ []) (λ now. ArePictureBytes bytes.new now) }
+{
+    live.shows_its_blocks();
+    live.bytes(bytes);
+}
+
 /// Writes the number of the border's colour. 0, or -1 where the player is closed.
 #[unsafe(no_mangle)]
 pub extern "C" fn ribjasper_player_border(
@@ -159,7 +220,8 @@ fn shown_border(live: &LivePlayer) -> u8
     live.border()
 }
 
-/// Writes how many pixels further right and further down in the memory the screen begins. 0, or -1 where the player is closed.
+/// Writes how many pixels further right and further down in the memory the screen begins. 0, or -1 where the
+/// player is closed.
 #[unsafe(no_mangle)]
 pub extern "C" fn ribjasper_player_offsets(
     alloc: Global,
@@ -167,7 +229,8 @@ pub extern "C" fn ribjasper_player_offsets(
     across: &mut u8,
     down: &mut u8,
 ) -> i32
-    ensures shows { result ≡ pos 0 → Shows player.old.handle.players (λ now. (across.new ≡ now.h) × (down.new ≡ now.v)) }
+    ensures shows { result ≡ pos 0
+        → Shows player.old.handle.players (λ now. (across.new ≡ now.h) × (down.new ≡ now.v)) }
     ensures answer { result ≡ (if player.old.is_open then pos 0 else negsuc 0) }
     ensures stays { player.new.is_open ≡ player.old.is_open }
     ensures same { player.new.handle.players ≡ player.old.handle.players }

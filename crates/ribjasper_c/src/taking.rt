@@ -19,8 +19,8 @@ pub struct ReadPack {
     pub wrong: i32,
 }
 
-/// Feeds an open player the next block, and writes the packs that came with it. Their number, 0 to 4, or -1 where it
-/// is closed.
+/// Feeds an open player the next block, and writes the packs that came with it. Their number, 0 to 4, or -1
+/// where it is closed.
 #[unsafe(no_mangle)]
 pub extern "C" fn ribjasper_player_take(
     alloc: Global,
@@ -28,12 +28,17 @@ pub extern "C" fn ribjasper_player_take(
     block: &[u8; 96],
     packs: &mut [ReadPack; 4],
 ) -> i32
-    ensures fed { player.old.is_open ≡ true → (form : Form) (lead_in : ℕ) (blocks : List (List ℕ)) → IsPlaying form lead_in blocks player.old.handle.players
+    ensures fed { player.old.is_open ≡ true → (form : Form) (lead_in : ℕ) (blocks : List (List ℕ))
+        → IsPlaying form lead_in blocks player.old.handle.players
         → IsPlaying form lead_in (blocks ++ block.now ∷ []) player.new.handle.players }
-    ensures packs { player.old.is_open ≡ true → (words : List (List ℕ)) × (result ≡ pos (length words)) × AreReadAs words packs.new
-        × ((form : Form) (lead_in : ℕ) (blocks : List (List ℕ)) → IsPlaying form lead_in blocks player.old.handle.players
+    ensures packs { player.old.is_open ≡ true → (words : List (List ℕ)) × (length words ≤ 4)
+        × (result ≡ pos (length words)) × AreReadAs words packs.new
+        × ((form : Form) (lead_in : ℕ) (blocks : List (List ℕ))
+        → IsPlaying form lead_in blocks player.old.handle.players
         → stream_words form lead_in (blocks ++ block.now ∷ []) ≡ stream_words form lead_in blocks ++ words) }
     ensures refused { player.old.is_open ≡ false → result ≡ negsuc 0 }
+    ensures untouched { player.old.is_open ≡ false
+        → (player.new.handle.players ≡ player.old.handle.players) × (packs.new ≡ packs.old) }
     ensures stays { player.new.is_open ≡ player.old.is_open }
 {
     if !player.is_open {

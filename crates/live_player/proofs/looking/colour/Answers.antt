@@ -4,6 +4,6 @@ use Rattle.live_player.proofs.LiveViews.{itself}
 use Rattle.subcode_player.proofs.StandingLemmas.{seen_as}
 use Rattle.live_player.proofs.looking.colour.Goals as goal
 
-pub returns : goal.returns
-returns c =
+pub returns-clause-colour : goal.returns-clause-colour
+returns-clause-colour c =
     c.colour.ensures.colour ∙ (seen_as (standing_of c.picture.inside.screen) (standing_of c.args.picture.now) c.args.picture.now c.picture.view_is (itself (standing_of c.args.picture.now))).colour c.args.k c.requires

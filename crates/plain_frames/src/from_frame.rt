@@ -1,0 +1,115 @@
+// The plain frame of a frame.
+ghost use Rattle.std.specs.Prelude.{◌≡◌, ◌≤◌, ◌-◌, ◌++◌, Some, length, replicate, take};
+ghost use Rattle.plain_frames.specs.Plain.{frame_of, plain_kind, plain_of};
+ghost use Rattle.q_frame.specs.declared.frame.QFrame.TheVariants.{Toc};
+
+use crate::PlainFrame;
+use q_frame::{QFrame, TocPoint};
+
+/// A frame as a plain one. The fields that its kind does not name are zero.
+pub fn plain_of(frame: &QFrame) -> PlainFrame
+    ensures exact { result ≡ plain_of frame.now }
+    ensures back { frame_of result ≡ Some frame.now }
+{
+    match frame {
+        QFrame::Program {
+            control,
+            track,
+            index,
+            time,
+            absolute,
+        } => PlainFrame {
+            track: *track,
+            index: *index,
+            time: time.block(),
+            absolute: absolute.block(),
+            ..of_kind(0, *control)
+        },
+        QFrame::Toc {
+            control,
+            point,
+            time,
+        } => PlainFrame {
+            time: time.block(),
+            ..entry(*control, point)
+        },
+        QFrame::Catalogue {
+            control,
+            digits,
+            frame,
+        } => PlainFrame {
+            text: *digits,
+            frame: *frame,
+            ..of_kind(5, *control)
+        },
+        QFrame::Isrc {
+            control,
+            code,
+            frame,
+        } => PlainFrame {
+            text: text(code),
+            frame: *frame,
+            ..of_kind(6, *control)
+        },
+        QFrame::Other { control, adr, rest } => PlainFrame {
+            mode: *adr,
+            text: text(rest),
+            ..of_kind(7, *control)
+        },
+    }
+}
+
+/// An entry of the table of contents, with no time.
+fn entry(control: u8, point: &TocPoint) -> PlainFrame
+    ensures { result ≡ plain_of (Toc control point.now 0) }
+{
+    match point {
+        TocPoint::Track { number, start } => PlainFrame {
+            track: *number,
+            absolute: start.block(),
+            ..of_kind(1, control)
+        },
+        TocPoint::First { track, kind } => PlainFrame {
+            track: *track,
+            disc: *kind,
+            ..of_kind(2, control)
+        },
+        TocPoint::Last { track } => PlainFrame {
+            track: *track,
+            ..of_kind(3, control)
+        },
+        TocPoint::LeadOut { start } => PlainFrame {
+            absolute: start.block(),
+            ..of_kind(4, control)
+        },
+    }
+}
+
+/// A frame of a kind, all else zero.
+fn of_kind(kind: u32, control: u8) -> PlainFrame
+    ensures { result ≡ plain_kind kind control }
+{
+    PlainFrame {
+        kind,
+        time: 0,
+        absolute: 0,
+        control,
+        mode: 0,
+        track: 0,
+        index: 0,
+        disc: 0,
+        frame: 0,
+        text: [0; 13],
+    }
+}
+
+/// Bytes with zeros behind them.
+fn text(bytes: &[u8]) -> [u8; 13]
+    requires { length bytes.now ≤ 13 }
+    ensures bytes { result ≡ bytes.now ++ replicate (13 - length bytes.now) 0 }
+    ensures front { take (length bytes.now) result ≡ bytes.now }
+{
+    let mut text = [0; 13];
+    text[..bytes.len()].copy_from_slice(bytes);
+    text
+}

@@ -1,0 +1,188 @@
+// The frame of a plain frame.
+ghost use Rattle.std.specs.Prelude.{◌≡◌, take};
+ghost use Rattle.plain_frames.specs.Plain.{IsValidOf, IsWhereValid};
+ghost use Rattle.q_frame.specs.QFrame.{IsValidPoint};
+ghost use Rattle.q_frame.specs.declared.frame.QFrame.TheVariants.{Program, Toc, Catalogue, Isrc, Other};
+ghost use Rattle.q_frame.specs.declared.frame.TocPoint.TheVariants.{Track, First, Last, LeadOut};
+
+use crate::PlainFrame;
+use crate::checks::{are_capitals, are_capitals_or_digits, are_digits, is_other, is_track, time};
+use q_frame::{QFrame, TocPoint};
+
+/// The frame that a plain one stands for, where its kind is one and its fields have values that they may
+/// have.
+pub fn frame_of(plain: &PlainFrame) -> Option<QFrame>
+    ensures { IsValidOf result plain.now }
+{
+    match plain.kind {
+        0 => program(plain),
+        1 => track(plain),
+        2 => first(plain),
+        3 => last(plain),
+        4 => lead_out(plain),
+        5 => catalogue(plain),
+        6 => code(plain),
+        7 => other(plain),
+        _ => None,
+    }
+}
+
+fn program(plain: &PlainFrame) -> Option<QFrame>
+    ensures { IsWhereValid result
+        (Program plain.now.control plain.now.track plain.now.index plain.now.time plain.now.absolute) }
+{
+    if plain.control >= 16 || !is_track(plain.track) || plain.index > 99 {
+        return None;
+    }
+    let from_track = time(plain.time)?;
+    let absolute = time(plain.absolute)?;
+    Some(QFrame::Program {
+        control: plain.control,
+        track: plain.track,
+        index: plain.index,
+        time: from_track,
+        absolute,
+    })
+}
+
+fn track(plain: &PlainFrame) -> Option<QFrame>
+    ensures { IsWhereValid result
+        (Toc plain.now.control (Track plain.now.track plain.now.absolute) plain.now.time) }
+{
+    if !is_track(plain.track) {
+        return None;
+    }
+    let start = time(plain.absolute)?;
+    entry(
+        plain,
+        TocPoint::Track {
+            number: plain.track,
+            start,
+        },
+    )
+}
+
+fn first(plain: &PlainFrame) -> Option<QFrame>
+    ensures { IsWhereValid result
+        (Toc plain.now.control (First plain.now.track plain.now.disc) plain.now.time) }
+{
+    first_entry(plain, plain.track, plain.disc)
+}
+
+fn first_entry(plain: &PlainFrame, track: u8, kind: u8) -> Option<QFrame>
+    ensures { IsWhereValid result (Toc plain.now.control (First track kind) plain.now.time) }
+{
+    if !is_track(track) {
+        return None;
+    }
+    entry(plain, TocPoint::First { track, kind })
+}
+
+fn last(plain: &PlainFrame) -> Option<QFrame>
+    ensures { IsWhereValid result (Toc plain.now.control (Last plain.now.track) plain.now.time) }
+{
+    if !is_track(plain.track) {
+        return None;
+    }
+    entry(plain, TocPoint::Last { track: plain.track })
+}
+
+fn lead_out(plain: &PlainFrame) -> Option<QFrame>
+    ensures { IsWhereValid result (Toc plain.now.control (LeadOut plain.now.absolute) plain.now.time) }
+{
+    let start = time(plain.absolute)?;
+    entry(plain, TocPoint::LeadOut { start })
+}
+
+/// An entry of the table of contents.
+fn entry(plain: &PlainFrame, point: TocPoint) -> Option<QFrame>
+    requires { IsValidPoint point }
+    ensures { IsWhereValid result (Toc plain.now.control point plain.now.time) }
+{
+    if plain.control >= 16 {
+        return None;
+    }
+    let running = time(plain.time)?;
+    Some(QFrame::Toc {
+        control: plain.control,
+        point,
+        time: running,
+    })
+}
+
+fn catalogue(plain: &PlainFrame) -> Option<QFrame>
+    ensures { IsWhereValid result (Catalogue plain.now.control plain.now.text plain.now.frame) }
+{
+    if plain.control >= 16 || plain.frame > 74 || !are_digits(&plain.text) {
+        return None;
+    }
+    Some(QFrame::Catalogue {
+        control: plain.control,
+        digits: plain.text,
+        frame: plain.frame,
+    })
+}
+
+fn code(plain: &PlainFrame) -> Option<QFrame>
+    ensures { IsWhereValid result (Isrc plain.now.control (take 12 plain.now.text) plain.now.frame) }
+{
+    recorded(plain, first_twelve(&plain.text))
+}
+
+fn recorded(plain: &PlainFrame, code: [u8; 12]) -> Option<QFrame>
+    ensures { IsWhereValid result (Isrc plain.now.control code plain.now.frame) }
+{
+    if plain.control >= 16 || plain.frame > 74 {
+        return None;
+    }
+    let (_, number) = code.split_at(5);
+    if !are_capitals(&code[..2]) {
+        return None;
+    }
+    if !are_capitals_or_digits(&code[2..5]) {
+        return None;
+    }
+    if !are_digits(number) {
+        return None;
+    }
+    Some(QFrame::Isrc {
+        control: plain.control,
+        code,
+        frame: plain.frame,
+    })
+}
+
+fn first_twelve(text: &[u8; 13]) -> [u8; 12]
+    ensures { result ≡ take 12 text.now }
+{
+    let mut first = [0; 12];
+    first.copy_from_slice(&text[..12]);
+    first
+}
+
+fn other(plain: &PlainFrame) -> Option<QFrame>
+    ensures { IsWhereValid result (Other plain.now.control plain.now.mode (take 9 plain.now.text)) }
+{
+    bare(plain, &first_nine(&plain.text))
+}
+
+fn bare(plain: &PlainFrame, rest: &[u8; 9]) -> Option<QFrame>
+    ensures { IsWhereValid result (Other plain.now.control plain.now.mode rest.now) }
+{
+    if plain.control >= 16 || plain.mode >= 16 || !is_other(plain.mode, rest[0], rest[1]) {
+        return None;
+    }
+    Some(QFrame::Other {
+        control: plain.control,
+        adr: plain.mode,
+        rest: *rest,
+    })
+}
+
+fn first_nine(text: &[u8; 13]) -> [u8; 9]
+    ensures { result ≡ take 9 text.now }
+{
+    let mut first = [0; 9];
+    first.copy_from_slice(&text[..9]);
+    first
+}

@@ -1,0 +1,18 @@
+-- A stream in memory and its packs.
+use Rattle.std.specs.Prelude.{◌≡◌, ◌==◌, ◌-◌, ◌/◌, if◌then◌else◌, ℕ, List, length}
+use Rattle.raw_subcode.specs.Channels.{unit_size}
+use Rattle.raw_subcode.specs.declared.form.Form.{Form}
+use Rattle.raw_subcode.specs.declared.form.Form.TheVariants.{Sector}
+use Rattle.subcode_player.specs.Convert.{IsConverted}
+use Rattle.ribjasper_c.specs.Handles.{form_of}
+use Rattle.ribjasper_c.specs.declared.converting.Converted.{Converted}
+
+-- the form that a number means: 0 a raw stream, 1 one of packs, 2 one of sectors
+abbrev pub stream_form : ℕ → Form
+stream_form n = if n == 2 then Sector else form_of n
+
+-- the text of the packs of a stream, and what is told of it: its bytes, the blocks of the program, and the packs with no codeword near
+pub record IsTold (form : Form) (lead_in : ℕ) (stream text : List ℕ) (told : Converted) : Type 0 where
+  pub converted : IsConverted form lead_in stream text told.bad
+  pub bytes : told.bytes ≡ length text
+  pub blocks : told.blocks ≡ length stream / unit_size form - lead_in

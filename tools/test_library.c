@@ -1,0 +1,312 @@
+/* Each call of the library on rows whose values come from docs/FORMATS.md and from the standards that it names, and
+   what each call refuses. The link hands malloc, realloc and free to the functions below (-Wl,--wrap), so that requests
+   can be refused and what is held can be counted. */
+#include "ribjasper.h"
+
+#include <stdio.h>
+#include <stdlib.h>
+#include <string.h>
+
+#define CHECK(holds) check((holds) ? 1 : 0, #holds, __LINE__)
+
+static int failed;
+static long requests;
+static long refused = -1;
+static long held;
+
+#ifdef __cplusplus
+extern "C" {
+#endif
+void *__real_malloc(size_t size);
+void *__real_realloc(void *at, size_t size);
+void __real_free(void *at);
+void *__wrap_malloc(size_t size);
+void *__wrap_realloc(void *at, size_t size);
+void __wrap_free(void *at);
+#ifdef __cplusplus
+}
+#endif
+
+void *__wrap_malloc(size_t size)
+{
+    void *at = requests++ == refused ? NULL : __real_malloc(size);
+    held += at != NULL;
+    return at;
+}
+
+void *__wrap_realloc(void *at, size_t size)
+{
+    void *moved = requests++ == refused ? NULL : __real_realloc(at, size);
+    held += at == NULL && moved != NULL;
+    return moved;
+}
+
+void __wrap_free(void *at)
+{
+    held -= at != NULL;
+    __real_free(at);
+}
+
+static void check(int holds, const char *what, int line)
+{
+    if (!holds) {
+        printf("test_library: line %d: %s\n", line, what);
+        failed = 1;
+    }
+}
+
+/* Whether all of these bytes are this one. */
+static int all_are(const uint8_t *bytes, size_t count, uint8_t value)
+{
+    while (count > 0)
+        if (bytes[--count] != value)
+            return 0;
+    return 1;
+}
+
+static void single_things(void)
+{
+    static const uint8_t preset[24] = { 9, 1, 0x3c, 0x34, 0, 0, 0, 0, 0, 0, 0, 0, 0, 0, 0, 0, 0, 0, 0, 0, 13, 7, 42, 32 };
+    static const uint8_t text[18] = { 0x80, 0, 0, 0, 'D', 'e', 'm', 'o', 0, 'O', 'n', 'e', 0, 0, 0, 0, 0x51, 0xd3 };
+    uint8_t word[24], out[24], torn[18];
+    uint8_t block[96] = { 0xc0 }, planar[96], back[96];
+    memcpy(word, preset, 24);
+    CHECK(ribjasper_correct(word, out) == 0 && memcmp(out, preset, 24) == 0);
+    word[3] = 1;
+    CHECK(ribjasper_correct(word, out) == 1 && memcmp(out, preset, 24) == 0);
+    word[20] = 63;
+    CHECK(ribjasper_correct(word, out) == 2 && memcmp(out, preset, 24) == 0);
+    /* Three equal changes of a codeword are near none. */
+    memset(word, 0, 24);
+    word[0] = word[8] = word[16] = 1;
+    memset(out, 7, 24);
+    CHECK(ribjasper_correct(word, out) == -1 && all_are(out, 24, 7));
+
+    memcpy(torn, text, 18);
+    torn[4] = 'd';
+    CHECK(ribjasper_text_pack_matches(text) == 1);
+    CHECK(ribjasper_text_pack_matches(torn) == 0);
+
+    ribjasper_block_to_planar(block, planar);
+    CHECK(planar[0] == 0x80 && planar[12] == 0x80 && all_are(planar + 1, 11, 0) && all_are(planar + 13, 83, 0));
+    ribjasper_block_from_planar(planar, back);
+    CHECK(memcmp(back, block, 96) == 0);
+}
+
+static void q_frames(void)
+{
+    static const uint8_t other[12] = { 0, 0, 0, 0, 0, 0, 0, 0, 0, 0, 0xff, 0xff };
+    static const uint8_t zeros[12] = { 0 };
+    static const uint8_t pause[12] = { 1, 1, 0, 0, 2, 0, 0, 0, 0, 0, 0xf0, 0xd9 };
+    static const uint8_t field[12] = { 1, 0x1a, 1, 0, 0, 0, 0, 0, 0, 0, 0x6b, 0x0f };
+    static const uint8_t start[12] = { 1, 1, 1, 0, 0, 0, 0, 0, 2, 0, 0x5a, 0x28 };
+    ribjasper_q_frame frame, kept;
+    uint8_t bytes[12], bit = 200;
+    memset(&frame, 0, sizeof frame);
+    CHECK(ribjasper_q_decode(other, &frame, &bit) == RIBJASPER_DONE && bit == 200);
+    CHECK(frame.kind == RIBJASPER_Q_OTHER && frame.control == 0 && frame.mode == 0 && all_are(frame.text, 13, 0));
+    CHECK(ribjasper_q_encode(&frame, bytes) == RIBJASPER_DONE && memcmp(bytes, other, 12) == 0);
+    CHECK(ribjasper_q_decode(pause, &frame, &bit) == RIBJASPER_DONE && bit == 200);
+    CHECK(frame.kind == RIBJASPER_Q_PROGRAM && frame.control == 0 && frame.track == 1 && frame.index == 0);
+    CHECK(frame.time == 150 && frame.absolute == 0);
+    CHECK(ribjasper_q_encode(&frame, bytes) == RIBJASPER_DONE && memcmp(bytes, pause, 12) == 0);
+    memset(&frame, 0, sizeof frame);
+    memcpy(&kept, &frame, sizeof frame);
+    CHECK(ribjasper_q_decode(zeros, &frame, &bit) == RIBJASPER_BAD_CHECK && bit == 200);
+    CHECK(ribjasper_q_decode(field, &frame, &bit) == RIBJASPER_BAD_FIELD && bit == 8);
+    CHECK(memcmp(&kept, &frame, sizeof frame) == 0);
+    /* Block 150 of a disc of one track: its music begins. */
+    frame.track = 1;
+    frame.index = 1;
+    frame.absolute = 150;
+    CHECK(ribjasper_q_encode(&frame, bytes) == RIBJASPER_DONE && memcmp(bytes, start, 12) == 0);
+    frame.time = 450000;
+    CHECK(ribjasper_q_encode(&frame, bytes) == RIBJASPER_REFUSED && memcmp(bytes, start, 12) == 0);
+    frame.time = 0;
+    frame.kind = 8;
+    CHECK(ribjasper_q_encode(&frame, bytes) == RIBJASPER_REFUSED && memcmp(bytes, start, 12) == 0);
+    /* A catalogue number and a code come back as they were written. */
+    frame.kind = RIBJASPER_Q_CATALOGUE;
+    memcpy(frame.text, "1234567890123", 13);
+    CHECK(ribjasper_q_encode(&frame, bytes) == RIBJASPER_DONE && bytes[0] == 2 && bytes[1] == 0x12 && bytes[7] == 0x30);
+    CHECK(ribjasper_q_decode(bytes, &frame, &bit) == RIBJASPER_DONE && memcmp(frame.text, "1234567890123", 13) == 0);
+    frame.kind = RIBJASPER_Q_ISRC;
+    CHECK(ribjasper_q_encode(&frame, bytes) == RIBJASPER_REFUSED);
+    memcpy(frame.text, "DEA1B9912345", 12);
+    CHECK(ribjasper_q_encode(&frame, bytes) == RIBJASPER_DONE && bytes[0] == 3);
+    CHECK(ribjasper_q_decode(bytes, &frame, &bit) == RIBJASPER_DONE && frame.kind == RIBJASPER_Q_ISRC);
+    CHECK(memcmp(frame.text, "DEA1B9912345", 13) == 0);
+}
+
+static void whole_streams(void)
+{
+    static uint8_t stream[2 * 2448], packs[192];
+    ribjasper_converted told = { 9, 9, 9 };
+    long number;
+    CHECK(ribjasper_convert(stream, 0, RIBJASPER_RAW, 0, packs, 0, &told) == RIBJASPER_CONVERTED && told.bytes == 0);
+    CHECK(ribjasper_convert(stream, 96, RIBJASPER_RAW, 0, packs, 0, &told) == RIBJASPER_CONVERTED && told.bytes == 0);
+    memset(packs, 7, sizeof packs);
+    CHECK(ribjasper_convert(stream, 192, RIBJASPER_RAW, 0, packs, 24, &told) == RIBJASPER_CONVERTED);
+    CHECK(told.bytes == 24 && told.blocks == 2 && told.bad == 0 && all_are(packs, 24, 0) && all_are(packs + 24, 168, 7));
+    /* Two and three wrong symbols of the first pack. */
+    stream[50] = stream[100] = 1;
+    memset(packs, 7, sizeof packs);
+    CHECK(ribjasper_convert(stream, 192, RIBJASPER_RAW, 0, packs, 192, &told) == RIBJASPER_CONVERTED && told.bad == 0);
+    CHECK(all_are(packs, 24, 0) && all_are(packs + 24, 168, 7));
+    stream[150] = 1;
+    memset(packs, 7, sizeof packs);
+    CHECK(ribjasper_convert(stream, 192, RIBJASPER_RAW, 0, packs, 192, &told) == RIBJASPER_DAMAGED && told.bad == 1);
+    CHECK(told.bytes == 24 && told.blocks == 2 && all_are(packs, 24, 0));
+    memset(stream, 0, sizeof stream);
+    CHECK(ribjasper_convert(stream, 192, RIBJASPER_RAW, 1, packs, 0, &told) == RIBJASPER_CONVERTED && told.blocks == 1);
+    CHECK(ribjasper_convert(stream, 192, RIBJASPER_PACKS, 0, packs, 192, &told) == RIBJASPER_CONVERTED);
+    CHECK(told.bytes == 192);
+    CHECK(ribjasper_convert(stream, 4896, RIBJASPER_SECTORS, 0, packs, 24, &told) == RIBJASPER_CONVERTED);
+    CHECK(told.bytes == 24);
+    /* What is refused writes nothing. */
+    memset(packs, 7, sizeof packs);
+    CHECK(ribjasper_convert(stream, 100, RIBJASPER_RAW, 0, packs, 192, &told) == RIBJASPER_TORN);
+    CHECK(ribjasper_convert(stream, 192, RIBJASPER_RAW, 0, packs, 23, &told) == RIBJASPER_NO_ROOM);
+    CHECK(ribjasper_convert(stream, 192, 3, 0, packs, 192, &told) == RIBJASPER_USAGE);
+    CHECK(ribjasper_convert(stream, 192, RIBJASPER_RAW, 450001, packs, 192, &told) == RIBJASPER_USAGE);
+    CHECK(all_are(packs, 192, 7) && told.bytes == 24);
+    for (number = 0; number < 100; number++) {
+        refused = requests + number;
+        if (ribjasper_convert(stream, 192, RIBJASPER_RAW, 0, packs, 192, &told) != RIBJASPER_NO_MEMORY)
+            break;
+        CHECK(held == 0 && all_are(packs, 192, 7));
+    }
+    refused = -1;
+    CHECK(number > 0 && number < 100 && held == 0 && all_are(packs, 24, 0));
+}
+
+static void draws(ribjasper_player *player, uint8_t code, const uint8_t content[16])
+{
+    uint8_t pack[24] = { 9, 0 };
+    pack[1] = code;
+    memcpy(pack + 4, content, 16);
+    CHECK(ribjasper_player_draw(player, pack) == RIBJASPER_DONE);
+}
+
+static void drawn_packs(void)
+{
+    static const uint8_t seven[16] = { 7, 7, 16, 48 }, five[16] = { 5, 5, 17, 49 }, scroll[16] = { 0, 0x15, 0x1b };
+    static const uint8_t border[16] = { 3 }, levels[16] = { 0, 1, 2, 3, 63 };
+    static const uint8_t colours[16] = { 0x3c, 0, 0x03, 0x30, 0, 0x0f };
+    static uint8_t pixels[RIBJASPER_PIXELS], picture[RIBJASPER_PICTURE];
+    ribjasper_player player = RIBJASPER_CLOSED, second = RIBJASPER_CLOSED;
+    uint16_t table[16], colour;
+    uint8_t seen[16], across, down, pixel;
+    long x, y, wrong = 0;
+    CHECK(ribjasper_player_open(&player) == RIBJASPER_DONE && ribjasper_player_open(&second) == RIBJASPER_DONE);
+    CHECK(ribjasper_player_picture(&player, picture) == RIBJASPER_DONE && all_are(picture, sizeof picture, 0));
+    /* Two tiles in the corner below, and all moved by a tile and by the greatest offsets. */
+    draws(&player, 6, seven);
+    draws(&player, 6, five);
+    draws(&player, 24, scroll);
+    CHECK(ribjasper_player_offsets(&player, &across, &down) == RIBJASPER_DONE && across == 5 && down == 11);
+    CHECK(ribjasper_player_screen(&player, pixels) == RIBJASPER_DONE);
+    for (y = 0; y < RIBJASPER_HEIGHT; y++)
+        for (x = 0; x < RIBJASPER_WIDTH; x++)
+            wrong += pixels[300 * y + x] != (x >= 289 && x <= 293 && y >= 193 && y <= 203 ? 7 : 0);
+    CHECK(wrong == 0);
+    CHECK(ribjasper_player_pixel(&player, 289, 193, &pixel) == RIBJASPER_DONE && pixel == 7);
+    CHECK(ribjasper_player_pixel(&player, 300, 0, &pixel) == RIBJASPER_REFUSED && pixel == 7);
+    CHECK(ribjasper_player_pixel(&player, 0, 216, &pixel) == RIBJASPER_REFUSED && pixel == 7);
+    draws(&player, 2, border);
+    draws(&player, 28, levels);
+    draws(&player, 30, colours);
+    CHECK(ribjasper_player_border(&player, &pixel) == RIBJASPER_DONE && pixel == 3);
+    CHECK(ribjasper_player_levels(&player, seen) == RIBJASPER_DONE && memcmp(seen, levels, 16) == 0);
+    CHECK(ribjasper_player_colours(&player, table) == RIBJASPER_DONE);
+    CHECK(table[0] == 0xf00 && table[1] == 0x0f0 && table[2] == 0x00f && table[3] == 0);
+    CHECK(ribjasper_player_colour(&player, 1, &colour) == RIBJASPER_DONE && colour == 0x0f0);
+    CHECK(ribjasper_player_colour(&player, 16, &colour) == RIBJASPER_REFUSED && colour == 0x0f0);
+    CHECK(ribjasper_player_picture(&player, picture) == RIBJASPER_DONE);
+    CHECK(all_are(picture, 3, 0) && picture[3 * (300 * 12 + 6)] == 255 && picture[3 * (300 * 12 + 6) + 1] == 0);
+    /* The other player has a screen of its own. */
+    CHECK(ribjasper_player_picture(&second, picture) == RIBJASPER_DONE && all_are(picture, sizeof picture, 0));
+    CHECK(ribjasper_player_begin(&player, RIBJASPER_RAW, 0) == RIBJASPER_DONE);
+    CHECK(ribjasper_player_screen(&player, pixels) == RIBJASPER_DONE && all_are(pixels, sizeof pixels, 0));
+    ribjasper_player_close(&player);
+    ribjasper_player_close(&second);
+    CHECK(held == 0);
+}
+
+static void taken_blocks(void)
+{
+    uint8_t first[96] = { 0 }, second[96] = { 0 };
+    ribjasper_pack packs[4];
+    ribjasper_player player = RIBJASPER_CLOSED;
+    CHECK(ribjasper_player_open(&player) == RIBJASPER_DONE);
+    first[50] = second[4] = 1;
+    CHECK(ribjasper_player_take(&player, first, packs) == 0);
+    CHECK(ribjasper_player_take(&player, second, packs) == 1 && packs[0].wrong == 2 && all_are(packs[0].symbols, 24, 0));
+    CHECK(ribjasper_player_take(&player, second, packs) == 4);
+    /* After a reset no symbol of those blocks is left. */
+    CHECK(ribjasper_player_begin(&player, RIBJASPER_RAW, 0) == RIBJASPER_DONE);
+    CHECK(ribjasper_player_take(&player, first, packs) == 0);
+    second[54] = 1;
+    CHECK(ribjasper_player_take(&player, second, packs) == 1 && packs[0].wrong == -1);
+    CHECK(packs[0].symbols[4] == 1 && packs[0].symbols[5] == 1 && packs[0].symbols[6] == 1 && packs[0].symbols[7] == 0);
+    CHECK(ribjasper_player_begin(&player, RIBJASPER_PACKS, 1) == RIBJASPER_DONE);
+    memset(second, 0, 96);
+    second[24] = 1;
+    CHECK(ribjasper_player_take(&player, second, packs) == 0);
+    CHECK(ribjasper_player_take(&player, second, packs) == 4 && packs[0].wrong == 0 && packs[1].wrong == 1);
+    CHECK(ribjasper_player_begin(&player, 2, 0) == RIBJASPER_REFUSED);
+    CHECK(ribjasper_player_feed(&player, first) == RIBJASPER_DONE);
+    ribjasper_player_close(&player);
+    ribjasper_player_close(&player);
+    CHECK(held == 0);
+}
+
+/* A closed player refuses every call, and nothing is written; an open one that gets no memory holds none. */
+static void closed_players(void)
+{
+    static uint8_t bytes[RIBJASPER_PICTURE];
+    ribjasper_player player = RIBJASPER_CLOSED;
+    ribjasper_pack packs[4];
+    uint16_t table[16] = { 9 };
+    long number;
+    memset(bytes, 7, sizeof bytes);
+    memset(packs, 7, sizeof packs);
+    CHECK(ribjasper_player_begin(&player, RIBJASPER_RAW, 0) == RIBJASPER_REFUSED);
+    CHECK(ribjasper_player_feed(&player, bytes) == RIBJASPER_REFUSED);
+    CHECK(ribjasper_player_draw(&player, bytes) == RIBJASPER_REFUSED);
+    CHECK(ribjasper_player_take(&player, bytes, packs) == RIBJASPER_REFUSED && packs[0].symbols[0] == 7);
+    CHECK(ribjasper_player_pixel(&player, 0, 0, bytes) == RIBJASPER_REFUSED);
+    CHECK(ribjasper_player_screen(&player, bytes) == RIBJASPER_REFUSED);
+    CHECK(ribjasper_player_picture(&player, bytes) == RIBJASPER_REFUSED);
+    CHECK(ribjasper_player_levels(&player, bytes) == RIBJASPER_REFUSED);
+    CHECK(ribjasper_player_border(&player, bytes) == RIBJASPER_REFUSED);
+    CHECK(ribjasper_player_offsets(&player, bytes, bytes + 1) == RIBJASPER_REFUSED);
+    CHECK(ribjasper_player_colour(&player, 0, table) == RIBJASPER_REFUSED);
+    CHECK(ribjasper_player_colours(&player, table) == RIBJASPER_REFUSED);
+    CHECK(all_are(bytes, sizeof bytes, 7) && table[0] == 9);
+    for (number = 0; number < 100; number++) {
+        refused = requests + number;
+        if (ribjasper_player_open(&player) == RIBJASPER_DONE)
+            break;
+        CHECK(held == 0 && ribjasper_player_screen(&player, bytes) == RIBJASPER_REFUSED);
+    }
+    CHECK(number > 0 && number < 100);
+    number = requests;
+    CHECK(ribjasper_player_feed(&player, bytes) == RIBJASPER_DONE && requests == number);
+    refused = -1;
+    ribjasper_player_close(&player);
+    CHECK(held == 0);
+}
+
+int main(void)
+{
+    single_things();
+    q_frames();
+    whole_streams();
+    drawn_packs();
+    taken_blocks();
+    closed_players();
+    if (!failed)
+        printf("test_library: each call gives what its row says\n");
+    return failed;
+}
