@@ -16,7 +16,7 @@ use Rattle.picture_script.specs.Script.{Drawing, picture_pixel}
 use Rattle.picture_changes.specs.Shown.{AreTimesInOrder, AreColoursInRange}
 use Rattle.stream_writer.specs.Blocks.{carrying_block, lead_in_block, program_block, stream_bytes, symbols_at, IsBuilt}
 use Rattle.stream_writer.specs.Given.{symbols_from}
-use Rattle.subcode_author.specs.Authored.{text_packs, IsAuthored}
+use Rattle.subcode_author.specs.Authored.{text_packs, IsWrittenStream}
 use Rattle.subcode_author.specs.AuthorAnswer.{IsAccepted}
 use Rattle.stream_writer.proofs.Framed.{AreBuilt, framing, program_is}
 use Rattle.stream_writer.proofs.Whole.{SpreadCarries}
@@ -62,7 +62,7 @@ module _ (layout : DiscLayout) (texts : List (List ℕ)) (lead_in : ℕ) (symbol
 
 pub has_stream : SpreadCarries → PacksAreSchedule → ChangesAreWritten → (sheet : CueSheet) (script : List Drawing) (lead_in audio : ℕ)
     → IsSheet sheet → AreTimesInOrder script → AreColoursInRange script → ((k x y : ℕ) → picture_pixel script k x y < 16) → lead_in ≤ 450000 → IsAccepted sheet script lead_in audio
-    → (bytes : List ℕ) × (packs : List (List ℕ)) × IsAuthored sheet script lead_in audio bytes packs
+    → (bytes : List ℕ) × (packs : List (List ℕ)) × IsWrittenStream sheet script lead_in audio bytes packs
 has_stream spread schedule known sheet script lead_in audio is_sheet order colours pixels few accepted =
     let layout : DiscLayout = layout_of sheet audio in
     let blocks : ℕ = program_blocks sheet audio in
@@ -79,10 +79,12 @@ has_stream spread schedule known sheet script lead_in audio is_sheet order colou
       stream_bytes layout texts lead_in blocks symbols,
       packs,
       record {
+        authored = record {
         schedule = schedule script blocks survey packs pixels order.held (within script blocks order accepted.ready accepted.disc.1) surveyed count written;
-        written = written;
         framing = framing layout texts lead_in symbols built;
         carries = subst (λ (s : List ℕ). Carries blocks s packs) (sym (program_is layout texts lead_in symbols built carries.size)) carries;
         enough = λ some. (accepted.room some).1;
+        };
+        planned = written;
       },
     )

@@ -4,7 +4,7 @@ ghost use Rattle.std.specs.Io.KnownBytes.{Appends};
 ghost use Rattle.cdg_io.specs.Causes.{Rose};
 ghost use Rattle.toc_model.specs.Places.{layout_of};
 ghost use Rattle.picture_changes.specs.Brings.{CannotBeReady};
-ghost use Rattle.subcode_author.specs.Authored.{text_packs, IsAuthored};
+ghost use Rattle.subcode_author.specs.Authored.{text_packs, IsWrittenStream};
 ghost use Rattle.subcode_author.specs.AuthorAnswer.{IsAccepted, IsAuthorStop};
 ghost use Rattle.subcode_author.specs.Given.{PutsStreamPart};
 
@@ -40,9 +40,9 @@ pub fn author_stream<K: Sink>(
 ) -> Result<(), AuthorStop>
     requires lead_in { lead_in ≤ 450000 }
     requires length { length ≤ 449999 }
-    // An authored stream was written.
+    // The authored stream with the planned changes was written.
     ensures authored { OnOk result ((bytes : List ℕ) × (packs : List (List ℕ))
-        × IsAuthored sheet.now script.now lead_in length bytes packs × Appends (K.held out.old) (K.held out.new) bytes) }
+        × IsWrittenStream sheet.now script.now lead_in length bytes packs × Appends (K.held out.old) (K.held out.new) bytes) }
     ensures accepted { OnOk result (IsAccepted sheet.now script.now lead_in length) }
 
     // Why none was written, and then nothing was.
