@@ -2,7 +2,9 @@
 use Rattle.std.proofs.Common.{◌≡◌, ℕ, zero, suc, ◌+◌, ◌*◌, ◌<◌, ◌⊎◌, List, length, refl, inl, inr, sym, subst, arith}
 use Rattle.std.proofs.lemmas.Bool.{cases_lt}
 use Rattle.picture_script.specs.Script.{Drawing, pictures, ready_time, picture_pixel}
-use Rattle.picture_changes.specs.Change.{IsChange, IsNeed}
+use Rattle.picture_changes.specs.Brings.{IsChange, IsNeed}
+use Rattle.picture_changes.specs.Shown.{AreColoursInRange}
+use Rattle.subcode_author.specs.AuthorAnswer.{AreReady}
 use Rattle.picture_changes.specs.Schedule.{start_of, IsInTime, free_packs, IsLate}
 use Rattle.picture_changes.specs.PlannedChange.{planned_change}
 
@@ -32,34 +34,31 @@ first_late script (suc n) =
       | inr found ↦ inr (found.0, omega (arith, found.1), found.2, found.3)
     ]
 
--- the planned change of a picture is a change for it, and each need is its length
-pub record PlannedAreChanges : Type 0 where
-  pub change : (script : List Drawing) (k : ℕ) → ((k x y : ℕ) → picture_pixel script k x y < 16) → IsChange script k (planned_change script k)
-  pub need : (script : List Drawing) (k need : ℕ) → ((k x y : ℕ) → picture_pixel script k x y < 16) → IsNeed script k need → need ≡ length (planned_change script k)
+-- the planned change of a picture is a change for it, each need is its length, and a picture has one need
+pub record NeedsAreKnown : Type 0 where
+  pub change : (script : List Drawing) (k : ℕ) → AreColoursInRange script → ((k x y : ℕ) → picture_pixel script k x y < 16) → IsChange script k (planned_change script k)
+  pub planned : (script : List Drawing) (k need : ℕ) → AreColoursInRange script → ((k x y : ℕ) → picture_pixel script k x y < 16) → IsNeed script k need → need ≡ length (planned_change script k)
+  pub one : (script : List Drawing) (k need other : ℕ) → IsNeed script k need → IsNeed script k other → need ≡ other
 
-pub is_late : PlannedAreChanges → (script : List Drawing) (k : ℕ) → ((k x y : ℕ) → picture_pixel script k x y < 16) → k < pictures script → ¬ IsPrompt script k → ((j : ℕ) → j < k → IsPrompt script j)
-    → IsLate script k (length (planned_change script k)) (free_packs script k)
-is_late planned script k small lt late before = record {
-  picture = lt;
-  need_is = (planned_change script k, planned.change script k small, refl);
-  free_is = refl;
-  late = late;
-  before = λ j n j_lt h. subst (λ m. IsInTime script j m) (sym (planned.need script j n small h)) (before j j_lt);
-}
+module _ (needs : NeedsAreKnown) (script : List Drawing) (ranges : AreColoursInRange script) (small : (k x y : ℕ) → picture_pixel script k x y < 16) where
+  pub is_late : (k : ℕ) → k < pictures script → ¬ IsPrompt script k → ((j : ℕ) → j < k → IsPrompt script j) → IsLate script k (length (planned_change script k)) (free_packs script k)
+  is_late k lt late before = record {
+    picture = lt;
+    need_is = (planned_change script k, needs.change script k ranges small, refl);
+    free_is = refl;
+    late = late;
+    before = λ j n j_lt h. subst (λ m. IsInTime script j m) (sym (needs.planned script j n ranges small h)) (before j j_lt);
+  }
 
--- a late picture is not in time, and all before it are
-pub late_here : PlannedAreChanges → (script : List Drawing) (k need free : ℕ) → ((k x y : ℕ) → picture_pixel script k x y < 16) → IsLate script k need free → ¬ IsPrompt script k
-late_here planned script k need free small is = λ prompt. is.late (subst (λ m. IsInTime script k m) (sym (planned.need script k need small is.need_is)) prompt)
+  pub all_ready : ((j : ℕ) → j < pictures script → IsPrompt script j) → AreReady script
+  all_ready prompt k need lt is = subst (λ m. IsInTime script k m) (sym (needs.planned script k need ranges small is)) (prompt k lt)
 
-pub prompt_before : PlannedAreChanges → (script : List Drawing) (k need free j : ℕ) → ((k x y : ℕ) → picture_pixel script k x y < 16) → IsLate script k need free → j < k → IsPrompt script j
-prompt_before planned script k need free j small is lt = is.before j (length (planned_change script j)) lt (planned_change script j, planned.change script j small, refl)
-
--- so it is one picture
-pub one_is_late : PlannedAreChanges → (script : List Drawing) (k need free k' need' free' : ℕ) → ((k x y : ℕ) → picture_pixel script k x y < 16) → IsLate script k need free → IsLate script k' need' free' → k ≡ k'
-one_is_late planned script k need free k' need' free' small is is' = elim (cases_lt k k') [
-  | inl less ↦ absurd (late_here planned script k need free small is (prompt_before planned script k' need' free' k small is' less))
+-- the first late picture is one picture
+pub one_is_late : (script : List Drawing) (k need free k' need' free' : ℕ) → IsLate script k need free → IsLate script k' need' free' → k ≡ k'
+one_is_late script k need free k' need' free' is is' = elim (cases_lt k k') [
+  | inl less ↦ absurd (is.late (is'.before k need less is.need_is))
   | inr from ↦ elim (cases_lt k' k) [
-    | inl less ↦ absurd (late_here planned script k' need' free' small is' (prompt_before planned script k need free k' small is less))
+    | inl less ↦ absurd (is'.late (is.before k' need' less is'.need_is))
     | inr other ↦ omega (arith, from, other)
   ]
 ]

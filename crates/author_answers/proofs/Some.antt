@@ -6,21 +6,22 @@ use Rattle.toc_model.specs.Places.{audio_need, program_blocks}
 use Rattle.picture_script.specs.Script.{Drawing, pictures, hold_time, picture_pixel}
 use Rattle.picture_changes.specs.Schedule.{free_packs}
 use Rattle.picture_changes.specs.PlannedChange.{planned_change}
+use Rattle.picture_changes.specs.Shown.{AreColoursInRange}
 use Rattle.subcode_author.specs.Authored.{text_packs, lead_in_need}
 use Rattle.subcode_author.specs.AuthorAnswer.{HasLayout, HoldsPictures, HasRoom, IsAccepted, IsAuthorStop}
 use Rattle.subcode_author.specs.declared.stops.AuthorStop.{AuthorStop}
 use Rattle.subcode_author.specs.declared.stops.AuthorStop.TheVariants.{LengthShort, DiscTooLong, PastEnd, TextTooLong, LeadInShort, Late, WriteFault, NoMemory}
-use Rattle.author_answers.proofs.Late.{PlannedAreChanges, first_late, is_late}
+use Rattle.author_answers.proofs.Late.{NeedsAreKnown, all_ready, first_late, is_late}
 
-module _ (planned : PlannedAreChanges) (sheet : CueSheet) (script : List Drawing) (lead_in audio : ℕ) (small : (k x y : ℕ) → picture_pixel script k x y < 16) where
+module _ (needs : NeedsAreKnown) (sheet : CueSheet) (script : List Drawing) (lead_in audio : ℕ) (ranges : AreColoursInRange script) (small : (k x y : ℕ) → picture_pixel script k x y < 16) where
   -- accepted, or refused for a reason
   abbrev Answer : Type 0
   Answer = IsAccepted sheet script lead_in audio ⊎ ((stop : AuthorStop) × (stop ≢ NoMemory) × (stop ≢ WriteFault) × IsAuthorStop sheet script lead_in audio stop)
 
   of_pictures : HoldsPictures sheet script audio → HasRoom sheet lead_in → Answer
   of_pictures disc room = elim (first_late script (pictures script)) [
-    | inl all ↦ inl (record { disc = disc; room = room; ready = all })
-    | inr found ↦ inr (Late found.0 (length (planned_change script found.0)) (free_packs script found.0), λ e. cc, λ e. cc, (disc, room, is_late planned script found.0 small found.1 found.2 found.3))
+    | inl all ↦ inl (record { disc = disc; room = room; ready = all_ready needs script ranges small all })
+    | inr found ↦ inr (Late found.0 (length (planned_change script found.0)) (free_packs script found.0), λ e. cc, λ e. cc, (disc, room, is_late needs script ranges small found.0 found.1 found.2 found.3))
   ]
 
   of_lead_in : HoldsPictures sheet script audio → Answer

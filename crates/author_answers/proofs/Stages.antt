@@ -3,17 +3,17 @@ use Rattle.std.proofs.Common.{◌≡◌, ◌≢◌, ℕ, zero, suc, ◌<◌, ◌
 use Rattle.std.proofs.lemmas.Bool.{cases_lt}
 use Rattle.cue_sheet.specs.CueSheet.{CueSheet}
 use Rattle.toc_model.specs.Places.{audio_need, program_blocks}
-use Rattle.picture_script.specs.Script.{Drawing, picture_pixel}
+use Rattle.picture_script.specs.Script.{Drawing}
 use Rattle.pack_schedule.specs.Survey.{IsPastEnd}
 use Rattle.picture_changes.specs.Schedule.{IsLate, free_packs}
-use Rattle.picture_changes.specs.PlannedChange.{planned_change}
+use Rattle.picture_changes.specs.Brings.{IsNeed}
 use Rattle.subcode_author.specs.Authored.{text_packs, lead_in_need}
 use Rattle.subcode_author.specs.AuthorAnswer.{HoldsPictures, HasRoom, AreReady, IsAccepted, IsAuthorStop}
 use Rattle.subcode_author.specs.declared.stops.AuthorStop.{AuthorStop}
 use Rattle.subcode_author.specs.declared.stops.AuthorStop.TheVariants.{LengthShort, DiscTooLong, PastEnd, TextTooLong, LeadInShort, Late, WriteFault, NoMemory}
-use Rattle.author_answers.proofs.Late.{PlannedAreChanges, late_here, one_is_late}
+use Rattle.author_answers.proofs.Late.{NeedsAreKnown, one_is_late}
 
-module _ (planned : PlannedAreChanges) (sheet : CueSheet) (script : List Drawing) (lead_in audio : ℕ) (small : (k x y : ℕ) → picture_pixel script k x y < 16) where
+module _ (needs : NeedsAreKnown) (sheet : CueSheet) (script : List Drawing) (lead_in audio : ℕ) where
   -- what is good at each stage; nothing is behind the last one
   abbrev Passes : ℕ → Type 0
   Passes zero = audio_need sheet ≤ audio
@@ -76,16 +76,16 @@ module _ (planned : PlannedAreChanges) (sheet : CueSheet) (script : List Drawing
   fails (PastEnd blocks) h told = λ good. good (subst (IsPastEnd script) h.1 h.2)
   fails (TextTooLong packs) h told = λ good. omega (arith, h.1.1, h.1.2, good h.1.0)
   fails (LeadInShort need) h told = λ good. omega (arith, h.1.2, h.1.3, good h.1.0)
-  fails (Late picture need free) h told = λ good. late_here planned script picture need free small h.2 (good picture h.2.picture)
+  fails (Late picture need free) h told = λ good. h.2.late (good picture need h.2.picture h.2.need_is)
   fails WriteFault h told = λ good. good
   fails NoMemory h told = absurd (told refl)
 
   one_picture : (k need free k' need' free' : ℕ) → IsLate script k need free → IsLate script k' need' free' → Late k need free ≡ Late k' need' free'
   one_picture k need free k' need' free' is is' =
-      let picture = one_is_late planned script k need free k' need' free' small is is' in
-      let needs : need ≡ need' = planned.need script k need small is.need_is ∙ ap (λ j. length (planned_change script j)) picture ∙ sym (planned.need script k' need' small is'.need_is) in
+      let picture = one_is_late script k need free k' need' free' is is' in
+      let same : need ≡ need' = needs.one script k' need need' (subst (λ j. IsNeed script j need) picture is.need_is) is'.need_is in
       let frees : free ≡ free' = is.free_is ∙ ap (free_packs script) picture ∙ sym is'.free_is in
-      ap (λ j. Late j need free) picture ∙ ap (λ n. Late k' n free) needs ∙ ap (λ n. Late k' need' n) frees
+      ap (λ j. Late j need free) picture ∙ ap (λ n. Late k' n free) same ∙ ap (λ n. Late k' need' n) frees
 
   -- at one stage comes one reason
   same : (stop other : AuthorStop) → stage stop ≡ stage other → IsAuthorStop sheet script lead_in audio stop → IsAuthorStop sheet script lead_in audio other → stop ≡ other

@@ -4,24 +4,26 @@
 ghost use Rattle.std.specs.Prelude.{◌≡◌, ◌≢◌, ◌<◌, ◌⊎◌, List, ℕ};
 ghost use Rattle.cue_sheet.specs.CueSheet.{CueSheet};
 ghost use Rattle.picture_script.specs.Script.{Drawing, picture_pixel};
+ghost use Rattle.picture_changes.specs.Shown.{AreColoursInRange};
 ghost use Rattle.subcode_author.specs.AuthorAnswer.{IsAccepted, IsAuthorStop};
 ghost use Rattle.subcode_author.specs.declared.stops.AuthorStop.{AuthorStop};
 
-use picture_changes::planned_changes_are_changes;
+use shortest_changes::needs_are_fewest;
 use subcode_author::AuthorStop;
 
 /// A law: each sheet and script, with their lead-in and audio, are accepted or refused, and not both, and they are refused for one
 /// reason alone, with one set of numbers. So `author_stream` answers a refusal exactly where its reason holds, but for want of memory.
 pub fn each_disc_has_one_answer()
-    ensures some { (sheet : CueSheet) (script : List Drawing) (lead_in audio : ℕ) → ((k x y : ℕ) → picture_pixel script k x y < 16)
+    ensures some { (sheet : CueSheet) (script : List Drawing) (lead_in audio : ℕ) → AreColoursInRange script
+        → ((k x y : ℕ) → picture_pixel script k x y < 16)
         → IsAccepted sheet script lead_in audio
         ⊎ ((stop : AuthorStop) × (stop ≢ AuthorStop.NoMemory) × (stop ≢ AuthorStop.WriteFault) × IsAuthorStop sheet script lead_in audio stop) }
     ensures not_both { (sheet : CueSheet) (script : List Drawing) (lead_in audio : ℕ) (stop : AuthorStop)
-        → ((k x y : ℕ) → picture_pixel script k x y < 16) → IsAccepted sheet script lead_in audio
+        → IsAccepted sheet script lead_in audio
         → IsAuthorStop sheet script lead_in audio stop → (stop ≡ AuthorStop.NoMemory) ⊎ (stop ≡ AuthorStop.WriteFault) }
     ensures one { (sheet : CueSheet) (script : List Drawing) (lead_in audio : ℕ) (stop other : AuthorStop)
-        → ((k x y : ℕ) → picture_pixel script k x y < 16) → IsAuthorStop sheet script lead_in audio stop
-        → IsAuthorStop sheet script lead_in audio other → stop ≢ AuthorStop.NoMemory → other ≢ AuthorStop.NoMemory → stop ≡ other }
+        → IsAuthorStop sheet script lead_in audio stop → IsAuthorStop sheet script lead_in audio other
+        → stop ≢ AuthorStop.NoMemory → other ≢ AuthorStop.NoMemory → stop ≡ other }
 {
-    planned_changes_are_changes();
+    needs_are_fewest();
 }

@@ -9,9 +9,9 @@ use Rattle.pack_schedule.specs.Survey.{IsPastEnd, IsWithin}
 use Rattle.pack_schedule.specs.Woven.{IsPackAt}
 use Rattle.picture_changes.proofs.Times.{hold_order}
 use Rattle.picture_changes.specs.Shown.{AreTimesInOrder}
-use Rattle.subcode_author.specs.AuthorAnswer.{AreReady}
+use Rattle.authored_streams.proofs.Prompt.{ArePrompt}
 
-module _ (script : List Drawing) (blocks : ℕ) (order : AreTimesInOrder script) (ready : AreReady script) (end : ¬ IsPastEnd script blocks) where
+module _ (script : List Drawing) (blocks : ℕ) (order : AreTimesInOrder script) (ready : ArePrompt script) (end : ¬ IsPastEnd script blocks) where
   pub within : IsWithin script blocks
   within k lt = elim (cases_lt blocks (hold_time script (pictures script - 1))) [
     | inl past ↦ absurd (end (omega arith, past))

@@ -16,7 +16,8 @@ use Rattle.picture_script.specs.Script.{Drawing, picture_pixel}
 use Rattle.picture_changes.specs.Shown.{AreTimesInOrder, AreColoursInRange}
 use Rattle.stream_writer.specs.Blocks.{carrying_block, lead_in_block, program_block, stream_bytes, symbols_at, IsBuilt}
 use Rattle.stream_writer.specs.Given.{symbols_from}
-use Rattle.subcode_author.specs.Authored.{text_packs, IsAuthored}
+use Rattle.authored_streams.proofs.Prompt.{PlannedIsChange, are_prompt}
+use Rattle.subcode_author.specs.Authored.{text_packs, IsWrittenStream}
 use Rattle.subcode_author.specs.AuthorAnswer.{IsAccepted}
 use Rattle.stream_writer.proofs.Framed.{AreBuilt, framing, program_is}
 use Rattle.stream_writer.proofs.Whole.{SpreadCarries}
@@ -60,15 +61,16 @@ module _ (layout : DiscLayout) (texts : List (List ℕ)) (lead_in : ℕ) (symbol
   blocks_are : AreBuilt layout texts lead_in symbols
   blocks_are = record { contents = contents_built; program = program_built }
 
-pub has_stream : SpreadCarries → PacksAreSchedule → ChangesAreWritten → (sheet : CueSheet) (script : List Drawing) (lead_in audio : ℕ)
+pub has_stream : SpreadCarries → PlannedIsChange → PacksAreSchedule → ChangesAreWritten → (sheet : CueSheet) (script : List Drawing) (lead_in audio : ℕ)
     → IsSheet sheet → AreTimesInOrder script → AreColoursInRange script → ((k x y : ℕ) → picture_pixel script k x y < 16) → lead_in ≤ 450000 → IsAccepted sheet script lead_in audio
-    → (bytes : List ℕ) × (packs : List (List ℕ)) × IsAuthored sheet script lead_in audio bytes packs
-has_stream spread schedule known sheet script lead_in audio is_sheet order colours pixels few accepted =
+    → (bytes : List ℕ) × (packs : List (List ℕ)) × IsWrittenStream sheet script lead_in audio bytes packs
+has_stream spread is_change schedule known sheet script lead_in audio is_sheet order colours pixels few accepted =
     let layout : DiscLayout = layout_of sheet audio in
     let blocks : ℕ = program_blocks sheet audio in
     let texts : List (List ℕ) = text_packs sheet in
-    let (packs, count, written, codewords) = packs_exist script order accepted.ready known colours pixels (whole_packs blocks) in
-    let (survey, surveyed) = survey_exists script order accepted.ready in
+    let prompt = are_prompt is_change script colours pixels accepted.ready in
+    let (packs, count, written, codewords) = packs_exist script order prompt known colours pixels (whole_packs blocks) in
+    let (survey, surveyed) = survey_exists script order prompt in
     let symbols : List ℕ = symbols_from [] (filled_with_idle (4 * blocks) packs) in
     let carries : Carries blocks symbols packs = spread blocks packs count codewords in
     let small = carried_small blocks symbols packs carries in
@@ -79,10 +81,12 @@ has_stream spread schedule known sheet script lead_in audio is_sheet order colou
       stream_bytes layout texts lead_in blocks symbols,
       packs,
       record {
-        schedule = schedule script blocks survey packs pixels order.held (within script blocks order accepted.ready accepted.disc.1) surveyed count written;
-        written = written;
+        authored = record {
+        schedule = schedule script blocks survey packs colours pixels order.held (within script blocks order prompt accepted.disc.1) surveyed count written;
         framing = framing layout texts lead_in symbols built;
         carries = subst (λ (s : List ℕ). Carries blocks s packs) (sym (program_is layout texts lead_in symbols built carries.size)) carries;
         enough = λ some. (accepted.room some).1;
+        };
+        planned = written;
       },
     )

@@ -5,6 +5,7 @@ pub mod Packs
 pub mod Symbols
 pub mod Cuts
 pub mod Streams
+pub mod Prompt
 pub mod Ends
 pub mod Parts
 pub mod Codewords

@@ -19,12 +19,13 @@ use Rattle.picture_changes.specs.Shown.{AreTimesInOrder}
 use Rattle.stream_writer.specs.Blocks.{carrying_block, lead_in_block, program_block, stream_bytes}
 use Rattle.stream_writer.specs.Given.{symbols_from, AreGiven}
 use Rattle.subcode_author.specs.Given.{PutsStreamPart}
-use Rattle.subcode_author.specs.Authored.{text_packs, IsAuthored}
-use Rattle.subcode_author.specs.AuthorAnswer.{IsAccepted}
+use Rattle.subcode_author.specs.Authored.{text_packs, IsWrittenStream}
+use Rattle.subcode_author.specs.AuthorAnswer.{HoldsPictures}
 use Rattle.stream_writer.proofs.Whole.{SpreadCarries}
 use Rattle.stream_writer.proofs.Pieces.{pieces_front, prefix_first}
 use Rattle.stream_writer.proofs.Slots.{length-symbols_from, symbols_from-append, earlier_block}
 use Rattle.authored_streams.proofs.Ends.{idle_past}
+use Rattle.authored_streams.proofs.Prompt.{ArePrompt}
 use Rattle.authored_streams.proofs.Packs.{one_pack}
 use Rattle.authored_streams.proofs.Symbols.{same_symbols}
 use Rattle.authored_streams.proofs.Streams.{stream_is}
@@ -87,16 +88,16 @@ stream_front layout texts lead_in n blocks symbols more all le size joined =
     (rest, ap (λ xs. start ++ xs) (e ∙ ap (λ xs. xs ++ rest) same) ∙ sym (append_assoc start (flat_map g (below n)) rest))
 
 pub part_is_prefix : SpreadCarries → (sheet : CueSheet) (script : List Drawing) (lead_in audio n : ℕ) (bytes : List ℕ) (packs given : List (List ℕ)) (held held' : Option (List ℕ))
-    → IsAccepted sheet script lead_in audio → AreTimesInOrder script → IsAuthored sheet script lead_in audio bytes packs
+    → HoldsPictures sheet script audio → ArePrompt script → AreTimesInOrder script → IsWrittenStream sheet script lead_in audio bytes packs
     → PutsStreamPart (layout_of sheet audio) script (text_packs sheet) lead_in held held' n given → AppendsPrefix held held' bytes
-part_is_prefix spread sheet script lead_in audio n bytes packs given held held' accepted order authored part =
+part_is_prefix spread sheet script lead_in audio n bytes packs given held held' disc prompt order authored part =
     let layout : DiscLayout = layout_of sheet audio in
     let blocks : ℕ = program_blocks sheet audio in
     let texts : List (List ℕ) = text_packs sheet in
-    let carries : Carries blocks (program_symbols Raw bytes lead_in) packs = authored.carries in
+    let carries : Carries blocks (program_symbols Raw bytes lead_in) packs = authored.authored.carries in
     let symbols : program_symbols Raw bytes lead_in ≡ symbols_from [] (filled_with_idle (4 * blocks) packs) =
     same_symbols blocks (program_symbols Raw bytes lead_in) (symbols_from [] (filled_with_idle (4 * blocks) packs)) packs carries (spread blocks packs carries.count carries.codewords) in
-    let (more, front) = symbols_front script blocks packs carries.count authored.written (idle_past script blocks order accepted.ready accepted.disc.1) n given part.within part.given_are in
+    let (more, front) = symbols_front script blocks packs carries.count authored.planned (idle_past script blocks order prompt disc.1) n given part.within part.given_are in
     let size : length (symbols_from [] given) ≡ 96 * n = length-symbols_from [] given ∙ omega (arith, part.given_are.count) in
     let (rest, whole) = stream_front layout texts lead_in n blocks (symbols_from [] given) more (program_symbols Raw bytes lead_in) part.within size (symbols ∙ front) in
-    prefix_first held held' (stream_bytes layout texts lead_in n (symbols_from [] given)) rest bytes part.put (sym (stream_is layout texts lead_in bytes authored.framing) ∙ whole)
+    prefix_first held held' (stream_bytes layout texts lead_in n (symbols_from [] given)) rest bytes part.put (sym (stream_is layout texts lead_in bytes authored.authored.framing) ∙ whole)

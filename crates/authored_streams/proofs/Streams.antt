@@ -13,7 +13,7 @@ use Rattle.cdtext_packs.specs.LeadIn.{lead_in_symbols}
 use Rattle.picture_script.specs.Script.{Drawing}
 use Rattle.stream_writer.specs.Blocks.{built_block, frame_bits, lead_in_block, carrying_block, program_block, symbols_at, stream_bytes, HasChannels}
 use Rattle.stream_writer.specs.Framing.{raw_block, HasFraming}
-use Rattle.subcode_author.specs.Authored.{text_packs, IsAuthored}
+use Rattle.subcode_author.specs.Authored.{text_packs, IsWrittenStream}
 use Rattle.stream_writer.proofs.Built.{made_of}
 use Rattle.authored_streams.proofs.Cuts.{bytes_at, raw_block_at, symbols_of_block, two_parts}
 use Rattle.authored_streams.proofs.Packs.{same_packs}
@@ -52,17 +52,17 @@ module _ (layout : DiscLayout) (texts : List (List ℕ)) (lead_in : ℕ) (bytes 
   stream_is = two_parts bytes (lead_in_block layout texts lead_in) (program_block layout (program_symbols Raw bytes lead_in)) lead_in layout.blocks framing.size lead_in_is program_is
 
 pub same_authored_packs : (sheet : CueSheet) (script : List Drawing) (lead_in audio : ℕ) (bytes bytes' : List ℕ) (packs packs' : List (List ℕ))
-    → IsAuthored sheet script lead_in audio bytes packs → IsAuthored sheet script lead_in audio bytes' packs' → packs ≡ packs'
-same_authored_packs sheet script lead_in audio bytes bytes' packs packs' one other = same_packs script packs packs' (one.carries.count ∙ sym other.carries.count) one.written other.written
+    → IsWrittenStream sheet script lead_in audio bytes packs → IsWrittenStream sheet script lead_in audio bytes' packs' → packs ≡ packs'
+same_authored_packs sheet script lead_in audio bytes bytes' packs packs' one other = same_packs script packs packs' (one.authored.carries.count ∙ sym other.authored.carries.count) one.planned other.planned
 
 pub same_authored_bytes : (sheet : CueSheet) (script : List Drawing) (lead_in audio : ℕ) (bytes bytes' : List ℕ) (packs packs' : List (List ℕ))
-    → IsAuthored sheet script lead_in audio bytes packs → IsAuthored sheet script lead_in audio bytes' packs' → bytes ≡ bytes'
+    → IsWrittenStream sheet script lead_in audio bytes packs → IsWrittenStream sheet script lead_in audio bytes' packs' → bytes ≡ bytes'
 same_authored_bytes sheet script lead_in audio bytes bytes' packs packs' one other =
     let layout : DiscLayout = layout_of sheet audio in
     let blocks : ℕ = program_blocks sheet audio in
     let packs_same = same_authored_packs sheet script lead_in audio bytes bytes' packs packs' one other in
     let symbols : program_symbols Raw bytes lead_in ≡ program_symbols Raw bytes' lead_in =
-    same_symbols blocks (program_symbols Raw bytes lead_in) (program_symbols Raw bytes' lead_in) packs' (subst (λ (ps : List (List ℕ)). Carries blocks (program_symbols Raw bytes lead_in) ps) packs_same one.carries) other.carries in
-    sym (stream_is layout (text_packs sheet) lead_in bytes one.framing)
+    same_symbols blocks (program_symbols Raw bytes lead_in) (program_symbols Raw bytes' lead_in) packs' (subst (λ (ps : List (List ℕ)). Carries blocks (program_symbols Raw bytes lead_in) ps) packs_same one.authored.carries) other.authored.carries in
+    sym (stream_is layout (text_packs sheet) lead_in bytes one.authored.framing)
     ∙ ap (stream_bytes layout (text_packs sheet) lead_in blocks) symbols
-    ∙ stream_is layout (text_packs sheet) lead_in bytes' other.framing
+    ∙ stream_is layout (text_packs sheet) lead_in bytes' other.authored.framing

@@ -19,7 +19,7 @@ use Rattle.pack_schedule.specs.Woven.{IsPackAt, ArePacks}
 use Rattle.pack_schedule.specs.declared.planned.Planned.{Planned}
 use Rattle.picture_changes.proofs.Times.{hold_order}
 use Rattle.picture_changes.specs.Shown.{AreTimesInOrder, AreColoursInRange}
-use Rattle.subcode_author.specs.AuthorAnswer.{AreReady}
+use Rattle.authored_streams.proofs.Prompt.{ArePrompt}
 use Rattle.authored_streams.proofs.Packs.{in_change}
 use Rattle.authored_streams.proofs.Messages.{has_word}
 
@@ -31,7 +31,7 @@ pub record ChangesAreWritten : Type 0 where
   pub planned : (script : List Drawing) (k : ℕ) → ((k x y : ℕ) → picture_pixel script k x y < 16) → IsChangeFrom script k (chosen_start script k) (planned_change script k)
   pub written : (script : List Drawing) (k : ℕ) (start : Option ℕ) (instrs : List Instr) → AreColoursInRange script → IsChangeFrom script k start instrs → All IsFine instrs
 
-module _ (script : List Drawing) (order : AreTimesInOrder script) (ready : AreReady script) where
+module _ (script : List Drawing) (order : AreTimesInOrder script) (ready : ArePrompt script) where
   -- a change ends before the next one begins
   ends_before : (k j : ℕ) → k < j → j < pictures script → start_of script k + length (planned_change script k) ≤ start_of script j
   ends_before k zero lt within = absurd (omega arith)

@@ -6,7 +6,7 @@ use Rattle.cue_sheet.specs.CueSheet.{CueSheet}
 use Rattle.cue_sheet.specs.Grammar.{read_cue}
 use Rattle.picture_script.specs.Script.{Drawing}
 use Rattle.picture_script.specs.ScriptGrammar.{read_script}
-use Rattle.subcode_author.specs.Authored.{IsAuthored}
+use Rattle.subcode_author.specs.Authored.{IsWrittenStream}
 use Rattle.subcode_author.specs.AuthorAnswer.{IsAccepted, IsAuthorStop}
 use Rattle.subcode_author.specs.declared.stops.AuthorStop.{AuthorStop}
 use Rattle.subcode_author.specs.declared.stops.AuthorStop.TheVariants as stop
@@ -72,15 +72,15 @@ author_status (Err (stop.Late picture need free)) = Late picture need free
 author_status (Err stop.WriteFault) = WriteFault
 author_status (Err stop.NoMemory) = NoMemory
 
--- an authored stream was put
+-- the authored stream with the planned changes was put
 abbrev pub PutsAuthored : CueSheet → List Drawing → ℕ → ℕ → Change Bytes → Type 0
 PutsAuthored sheet script lead_in audio out =
-    (bytes : List ℕ) × (packs : List (List ℕ)) × IsAuthored sheet script lead_in audio bytes packs × Appends out.before out.after bytes
+    (bytes : List ℕ) × (packs : List (List ℕ)) × IsWrittenStream sheet script lead_in audio bytes packs × Appends out.before out.after bytes
 
--- a prefix of an authored stream was put
+-- a prefix of that stream was put
 abbrev pub PutsPrefix : CueSheet → List Drawing → ℕ → ℕ → Change Bytes → Type 0
 PutsPrefix sheet script lead_in audio out =
-    (bytes : List ℕ) × (packs : List (List ℕ)) × IsAuthored sheet script lead_in audio bytes packs × AppendsPrefix out.before out.after bytes
+    (bytes : List ℕ) × (packs : List (List ℕ)) × IsWrittenStream sheet script lead_in audio bytes packs × AppendsPrefix out.before out.after bytes
 
 -- what is put for a sheet and a script, and why it is this answer
 pub record IsPutFor (sheet : CueSheet) (script : List Drawing) (lead_in audio : ℕ) (out : Change Bytes) (answer : Result (Unit {0}) AuthorStop) : Type 0 where

@@ -13,6 +13,7 @@ ghost use Rattle.generated_scripts.specs.Generated.{generated_drawings};
 use generated_scripts::generated_scripts_have_times;
 use pack_schedule::Stop;
 use picture_changes::planned_changes_are_changes;
+use shortest_changes::needs_are_fewest;
 use subcode_author::AuthorStop;
 
 /// A law: each picture of a generated script is ready in time, since at least 3,120 packs are free for it, so a survey refuses none in
@@ -26,6 +27,7 @@ pub fn generated_scripts_are_ready()
 {
     generated_scripts_have_times();
     planned_changes_are_changes();
+    needs_are_fewest();
 }
 
 /// A law: a generated script is written with each sheet that has a layout of so many blocks, and room for its texts in the lead-in.
@@ -40,5 +42,4 @@ pub fn generated_scripts_are_authored()
 {
     generated_scripts_are_ready();
     generated_scripts_have_times();
-    planned_changes_are_changes();
 }

@@ -8,9 +8,8 @@ use Rattle.picture_script.specs.Script.{Drawing, pictures, ready_time, hold_time
 use Rattle.picture_script.specs.Board.{Board, IsBlank, IsPicture, StandsBefore}
 use Rattle.picture_changes.specs.Schedule.{start_of, IsInTime, IsLate, free_packs}
 use Rattle.picture_changes.specs.PlannedChange.{planned_change}
-use Rattle.picture_changes.specs.Change.{IsChange, IsNeed}
 use Rattle.picture_changes.specs.Shown.{AreTimesInOrder, AreColoursInRange}
-use Rattle.picture_changes.specs.Brings.{CannotBeReady, IsFewest}
+use Rattle.picture_changes.specs.Brings.{CannotBeReady, IsChange, IsNeed}
 use Rattle.pack_schedule.specs.Survey.{nothing_planned, IsPlanned, ArePlanned, IsStop, IsSurvey, IsWithin}
 use Rattle.pack_schedule.specs.declared.planned.Planned.{Planned}
 use Rattle.pack_schedule.specs.declared.planned.Stop.{Stop}
@@ -58,33 +57,29 @@ one_planned script k planned more new h is added =
       ];
     })
 
--- the planned change is a change, and each need is its length
-pub record PlannedAreChanges : Type 0 where
-  pub change : (script : List Drawing) (k : ℕ) → ((k x y : ℕ) → picture_pixel script k x y < 16) → IsChange script k (planned_change script k)
-  pub need : (script : List Drawing) (k need : ℕ) → ((k x y : ℕ) → picture_pixel script k x y < 16) → IsNeed script k need → need ≡ length (planned_change script k)
+-- the planned change is a change, each need is its length, and a late picture cannot be ready
+pub record NeedsAreFewest : Type 0 where
+  pub change : (script : List Drawing) (k : ℕ) → AreColoursInRange script → ((k x y : ℕ) → picture_pixel script k x y < 16) → IsChange script k (planned_change script k)
+  pub planned : (script : List Drawing) (k need : ℕ) → AreColoursInRange script → ((k x y : ℕ) → picture_pixel script k x y < 16) → IsNeed script k need → need ≡ length (planned_change script k)
+  pub late : (script : List Drawing) (k need free : ℕ) → AreTimesInOrder script → AreColoursInRange script → ((k x y : ℕ) → picture_pixel script k x y < 16) → IsLate script k need free → CannotBeReady script k need free
 
 -- picture k is late
-pub is_late : PlannedAreChanges → (script : List Drawing) (k need free : ℕ) (planned : List Planned) → ((k x y : ℕ) → picture_pixel script k x y < 16) → k < pictures script → ArePlanned script k planned
+pub is_late : NeedsAreFewest → (script : List Drawing) (k need free : ℕ) (planned : List Planned) → AreColoursInRange script → ((k x y : ℕ) → picture_pixel script k x y < 16) → k < pictures script → ArePlanned script k planned
     → need ≡ length (planned_change script k) → free ≡ free_packs script k → (IsInTime script k need → ⊥) → IsLate script k need free
-is_late known script k need free planned small lt are need_is' free_is' late = record {
+is_late known script k need free planned ranges small lt are need_is' free_is' late = record {
   picture = lt;
-  need_is = (planned_change script k, known.change script k small, sym need_is');
+  need_is = (planned_change script k, known.change script k ranges small, sym need_is');
   free_is = free_is';
   late = late;
   before = λ j n j_lt h.
       let planned_j = are.each j j_lt in
-      subst (λ m. IsInTime script j m) (planned_j.need_is ∙ sym (known.need script j n small h)) planned_j.in_time;
+      subst (λ m. IsInTime script j m) (planned_j.need_is ∙ sym (known.planned script j n ranges small h)) planned_j.in_time;
 }
 
--- each need is the fewest, and a late picture cannot be ready
-pub record NeedsAreFewest : Type 0 where
-  pub fewest : (script : List Drawing) (k need : ℕ) → AreColoursInRange script → ((k x y : ℕ) → picture_pixel script k x y < 16) → IsNeed script k need → IsFewest script k need
-  pub late : (script : List Drawing) (k need free : ℕ) → AreTimesInOrder script → AreColoursInRange script → ((k x y : ℕ) → picture_pixel script k x y < 16) → IsLate script k need free → CannotBeReady script k need free
-
-pub all_fewest : PlannedAreChanges → NeedsAreFewest → (script : List Drawing) (planned : List Planned) → AreColoursInRange script → ((k x y : ℕ) → picture_pixel script k x y < 16) → IsSurvey script planned
-    → (k : ℕ) → k < pictures script → IsFewest script k (get_or planned k nothing_planned).need
-all_fewest known needs script planned ranges small surveyed k lt =
-    needs.fewest script k (get_or planned k nothing_planned).need ranges small (planned_change script k, known.change script k small, sym (surveyed.each k lt).need_is)
+-- each planned number is what its picture needs
+pub all_fewest : NeedsAreFewest → (script : List Drawing) (planned : List Planned) → AreColoursInRange script → ((k x y : ℕ) → picture_pixel script k x y < 16) → IsSurvey script planned
+    → (k : ℕ) → k < pictures script → IsNeed script k (get_or planned k nothing_planned).need
+all_fewest needs script planned ranges small surveyed k lt = (planned_change script k, needs.change script k ranges small, sym (surveyed.each k lt).need_is)
 
 pub late_told : NeedsAreFewest → (script : List Drawing) (blocks : ℕ) (stop : Stop) → AreTimesInOrder script → AreColoursInRange script → ((k x y : ℕ) → picture_pixel script k x y < 16) → IsStop script blocks stop
     → (picture need free : ℕ) → stop ≡ Late picture need free → CannotBeReady script picture need free

@@ -4,7 +4,7 @@ ghost use Rattle.picture_script.specs.Script.{pictures, hold_time, ready_time};
 ghost use Rattle.picture_script.specs.Board.{IsPicture};
 ghost use Rattle.picture_changes.specs.Schedule.{start_of, free_packs};
 ghost use Rattle.picture_changes.specs.PlannedChange.{chosen_start, planned_change};
-ghost use Rattle.picture_changes.specs.Brings.{CannotBeReady, IsFewest};
+ghost use Rattle.picture_changes.specs.Brings.{CannotBeReady, IsNeed};
 ghost use Rattle.pack_schedule.specs.Survey.{nothing_planned, IsSurvey, IsWithin, IsPastEnd, IsStop};
 ghost use Rattle.pack_schedule.specs.Weights.{AreWeights};
 
@@ -34,10 +34,9 @@ pub fn survey(alloc: Global, script: &Script, blocks: u32) -> Result<Survey, Sto
     ensures past_end { IsPastEnd script.now blocks → result ≡ Err (Stop.PastEnd blocks) }
 
     // What a picture needs is the fewest instructions that bring it, of whatever form without scrolls; and a late picture cannot be ready.
-    ensures fewest { IfOk result (λ planned. (k : ℕ) → k < pictures script.now → IsFewest script.now k (slice_index_or planned k nothing_planned).need) }
+    ensures fewest { IfOk result (λ planned. (k : ℕ) → k < pictures script.now → IsNeed script.now k (slice_index_or planned k nothing_planned).need) }
     ensures late { (picture need free : ℕ) → result ≡ Err (Stop.Late picture need free) → CannotBeReady script.now picture need free }
 {
-    planned_changes_are_changes();
     needs_are_fewest();
     let pictures = script.pictures();
     if last_hold(script) > blocks {

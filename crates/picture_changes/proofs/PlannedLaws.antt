@@ -10,7 +10,7 @@ use Rattle.cdg_instructions.specs.Drawing.{Turns, IsLeast}
 use Rattle.cdg_instructions.specs.declared.instr.Instr.{Instr}
 use Rattle.tile_author.specs.Plan.{plan, steps}
 use Rattle.picture_script.specs.Script.{Drawing, picture_tile, picture_pixel}
-use Rattle.picture_changes.specs.Change.{settings, window_places, preset_of, tiles_before, AreTileChanges, IsStart, IsChangeFrom, IsChange, IsNeed}
+use Rattle.picture_changes.specs.Change.{settings, window_places, preset_of, tiles_before, AreTileChanges, IsStart, IsChangeFrom, IsOrderedChange}
 use Rattle.picture_changes.specs.PlannedChange.{planned_tiles, tile_steps, planned_from, planned_length, preferred, first_least, chosen_start, planned_change}
 use Rattle.picture_changes.proofs.Least.{least-best, least-all}
 use Rattle.picture_changes.proofs.Places.{AreInside, inside, picture_is_tile, colour_is_tile, start_small}
@@ -121,7 +121,7 @@ least_of_all script k (Some colour) allowed =
 least_of_all script zero None allowed = absurd allowed
 least_of_all script (suc k) None allowed = least-best (planned_length script (suc k)) (preferred (suc k)) (map Some (below 16))
 
-pub planned_is_shortest : PlansAreShortest → (script : List Drawing) (k : ℕ) → ((k x y : ℕ) → picture_pixel script k x y < 16) → IsChange script k (planned_change script k)
+pub planned_is_shortest : PlansAreShortest → (script : List Drawing) (k : ℕ) → ((k x y : ℕ) → picture_pixel script k x y < 16) → IsOrderedChange script k (planned_change script k)
 unfolding planned_change
 planned_is_shortest plans script k small =
     let change = planned_is_change plans script k (chosen_start script k) small (chosen_is_start script k) in
@@ -142,14 +142,3 @@ pub planned_count : PlansAreShortest → (script : List Drawing) (k : ℕ) → (
 unfolding planned_change
 planned_count plans script k small =
     change_length plans script k (chosen_start script k) (planned_from script k (chosen_start script k)) small (planned_is_change plans script k (chosen_start script k) small (chosen_is_start script k))
-
--- each need is the length of the planned change
-pub need_is : PlansAreShortest → (script : List Drawing) (k need : ℕ) → ((k x y : ℕ) → picture_pixel script k x y < 16) → IsNeed script k need → need ≡ length (planned_change script k)
-unfolding planned_change
-need_is plans script k need small h =
-    let instrs = h.0 in
-    let change = h.1 in
-    let planned = planned_is_shortest plans script k small in
-    let one = change.shortest (chosen_start script k) (planned_from script k (chosen_start script k)) (planned_is_change plans script k (chosen_start script k) small (chosen_is_start script k)) in
-    let two = planned.shortest change.start instrs change.change in
-    omega (arith, one, two, h.2)

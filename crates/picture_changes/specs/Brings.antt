@@ -5,7 +5,6 @@ use Rattle.cdg_instructions.specs.declared.instr.Instr.{Instr}
 use Rattle.cdg_instructions.specs.declared.instr.Instr.TheVariants.{MemoryPreset, BorderPreset, ScrollPreset, ScrollCopy, ColoursLow, ColoursHigh}
 use Rattle.cdg_screen.specs.Picture.{Standing, standing_after}
 use Rattle.picture_script.specs.Script.{Drawing}
-use Rattle.picture_changes.specs.Change.{IsChange, IsNeed}
 use Rattle.picture_changes.specs.Shown.{ShowsPicture}
 
 -- the screen is not moved
@@ -53,14 +52,16 @@ pub record Brings (script : List Drawing) (k : ℕ) (now : Standing) (instrs : L
   pub shows : ShowsPicture script k (standing_after now instrs)
   pub sets : k ≡ 0 → SetsAll instrs
 
--- so many instructions are the fewest that bring picture k: a change for it has so many, every change for it brings it from whatever may stand before, and no list brings it from any of that with fewer
-pub record IsFewest (script : List Drawing) (k need : ℕ) : Type 0 where
-  pub change : IsNeed script k need
-  pub brings : (now : Standing) (instrs : List Instr) → IsBefore script k now → IsChange script k instrs → Brings script k now instrs
-  pub needed : (now : Standing) (instrs : List Instr) → IsBefore script k now → Brings script k now instrs → need ≤ length instrs
+-- a change for picture k: it brings the picture from whatever may stand before it, and no list brings it from any of that with fewer instructions
+pub record IsChange (script : List Drawing) (k : ℕ) (instrs : List Instr) : Type 0 where
+  pub brings : (now : Standing) → IsBefore script k now → Brings script k now instrs
+  pub shortest : (now : Standing) (others : List Instr) → IsBefore script k now → Brings script k now others → length instrs ≤ length others
 
--- picture k cannot be ready: the packs that are free for it are fewer than the fewest instructions that bring it; and what each picture before it needs is the fewest too
+-- the number of instructions that picture k needs: the fewest that bring it
+abbrev pub IsNeed : List Drawing → ℕ → ℕ → Type 0
+IsNeed script k need = (instrs : List Instr) × IsChange script k instrs × (length instrs ≡ need)
+
+-- picture k cannot be ready: the packs that are free for it are fewer than the fewest instructions that bring it
 pub record CannotBeReady (script : List Drawing) (k need free : ℕ) : Type 0 where
-  pub fewest : IsFewest script k need
+  pub fewest : IsNeed script k need
   pub more : free < need
-  pub before : (j n : ℕ) → j < k → IsNeed script j n → IsFewest script j n

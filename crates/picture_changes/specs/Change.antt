@@ -1,4 +1,4 @@
--- Lists of instructions that bring the next picture of a script.
+-- Changes in a fixed order, as they are written: the border and the colours first, and then tile after tile.
 use Rattle.std.specs.Prelude.{◌≡◌, ℕ, zero, suc, ◌+◌, ◌-◌, ◌<◌, ◌≤◌, List, [], ◌∷◌, ◌++◌, length, map, flat_map, replicate, Option, Some, None, ⊤, ◌==◌, if◌then◌else◌}
 use Rattle.bit_lists.specs.Counting.{below}
 use Rattle.tile_author.specs.Plan.{are_equal}
@@ -52,12 +52,8 @@ pub record IsChangeFrom (script : List Drawing) (k : ℕ) (start : Option ℕ) (
   pub whole : instrs ≡ preset_of start ++ settings script k ++ tiles
   pub tile_changes : AreTileChanges (tiles_before script k start) (picture_tile script k) window_places tiles
 
--- a change for picture k: one with a start for which it is shortest
-pub record IsChange (script : List Drawing) (k : ℕ) (instrs : List Instr) : Type 0 where
+-- a change for picture k in a fixed order: one with a start for which it is shortest
+pub record IsOrderedChange (script : List Drawing) (k : ℕ) (instrs : List Instr) : Type 0 where
   pub start : Option ℕ
   pub change : IsChangeFrom script k start instrs
   pub shortest : (other : Option ℕ) (others : List Instr) → IsChangeFrom script k other others → length instrs ≤ length others
-
--- the number of instructions that picture k needs
-abbrev pub IsNeed : List Drawing → ℕ → ℕ → Type 0
-IsNeed script k need = (instrs : List Instr) × IsChange script k instrs × (length instrs ≡ need)

@@ -5,7 +5,7 @@ ghost use Rattle.std.specs.Prelude.{◌≡◌, ◌<◌, ◌≤◌, All, List, Op
 ghost use Rattle.cdg_instructions.specs.Instruction.{InRange, IsKnown};
 ghost use Rattle.cdg_instructions.specs.declared.instr.Instr.{Instr};
 ghost use Rattle.picture_script.specs.Script.{Drawing, picture_pixel};
-ghost use Rattle.picture_changes.specs.Change.{IsChange, IsChangeFrom, IsNeed, IsStart};
+ghost use Rattle.picture_changes.specs.Change.{IsChangeFrom, IsOrderedChange, IsStart};
 ghost use Rattle.picture_changes.specs.PlannedChange.{chosen_start, planned_change, planned_from, planned_length};
 ghost use Rattle.picture_changes.specs.Shown.{AreColoursInRange};
 
@@ -21,12 +21,11 @@ pub fn changes_have_planned_lengths()
     plans_are_shortest();
 }
 
-/// A law: the change that is written for a picture is a change for it, and what the picture needs is its length: at most 3,076
-/// instructions, four that set all memory, the border and the colours, and four for each of 768 tiles.
+/// A law: the change that is written for a picture is a change in order for it, of at most 3,076 instructions: four that set all
+/// memory, the border and the colours, and four for each of 768 tiles. That it is a shortest one of any form is a law of the
+/// crate `shortest_changes`.
 pub fn planned_changes_are_changes()
-    ensures change { (script : List Drawing) (k : ℕ) → ((k x y : ℕ) → picture_pixel script k x y < 16) → IsChange script k (planned_change script k) }
-    ensures need { (script : List Drawing) (k need : ℕ) → ((k x y : ℕ) → picture_pixel script k x y < 16)
-        → IsNeed script k need → need ≡ length (planned_change script k) }
+    ensures change { (script : List Drawing) (k : ℕ) → ((k x y : ℕ) → picture_pixel script k x y < 16) → IsOrderedChange script k (planned_change script k) }
     ensures few { (script : List Drawing) (k : ℕ) → ((k x y : ℕ) → picture_pixel script k x y < 16) → length (planned_change script k) ≤ 3076 }
     // It begins with the chosen start, which is one.
     ensures start { (script : List Drawing) (k : ℕ) → IsStart k (chosen_start script k) }

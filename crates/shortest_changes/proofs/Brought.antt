@@ -1,25 +1,30 @@
--- Every change for a picture brings it.
-use Rattle.std.proofs.Common.{◌≡◌, ℕ, zero, suc, ◌+◌, ◌==◌, Bool, true, false, cond, List, [], ◌∷◌, ◌++◌, refl, sym, ap, ◌∙◌, subst, arith, Some, None}
+-- Every change in order for a picture brings it.
+use Rattle.std.proofs.Common.{◌≡◌, ℕ, zero, suc, ◌+◌, ◌-◌, ◌*◌, ◌/◌, ◌%◌, ◌<◌, ◌==◌, nat_le, ◌&&◌, All, Bool, true, false, cond, List, [], ◌∷◌, ◌++◌, refl, sym, ap, ap₂, ◌∙◌, subst, arith, Some, None}
 use Rattle.std.specs.Prelude.{count_by, sum_by}
 use Rattle.std.specs.declared.option.Option.{Option}
 use Rattle.std.specs.List.{AllByRecursion}
 use Rattle.std.proofs.lemmas.List.Elements.{All-from_recursion, recursion_from_All}
 use Rattle.std.proofs.lemmas.List.Sums.{sum_by-append}
-use Rattle.cdg_instructions.specs.Instruction.{InRange}
+use Rattle.cdg_instructions.specs.Instruction.{InRange, IsKnown}
 use Rattle.cdg_instructions.specs.declared.instr.Instr.{Instr}
 use Rattle.cdg_instructions.specs.declared.instr.Instr.TheVariants.{MemoryPreset, BorderPreset, ColoursLow, ColoursHigh, SetTile, XorTile, ScrollPreset, ScrollCopy}
 use Rattle.cdg_instructions.specs.Drawing.{IsOfPlace}
 use Rattle.cdg_screen.specs.Picture.{Standing, standing_after}
-use Rattle.picture_script.specs.Script.{Drawing, low_colours, high_colours, picture_border, picture_tile}
+use Rattle.picture_script.specs.Script.{Drawing, low_colours, high_colours, picture_border, picture_pixel, picture_tile}
 use Rattle.tile_author.specs.Plan.{are_equal}
-use Rattle.picture_changes.specs.Change.{settings, preset_of, tiles_before, AreTileChanges, window_places, IsChange, IsChangeFrom}
-use Rattle.picture_changes.specs.Shown.{AreColoursInRange}
-use Rattle.shown_pictures.proofs.Tiles.{InTurn}
-use Rattle.shown_pictures.proofs.Changes.{IsReady, change_stands}
-use Rattle.shown_pictures.proofs.Schedules.{ChangesAreSound, IsSound}
-use Rattle.shown_pictures.proofs.Pictures.{shown}
+use Rattle.picture_changes.specs.Change.{settings, preset_of, tiles_before, AreTileChanges, window_places, IsChangeFrom, IsOrderedChange}
+use Rattle.picture_changes.specs.Shown.{AreColoursInRange, ShowsPicture}
+use Rattle.shown_pictures.proofs.Tiles.{InTurn, place_row, place_column, tile_x, tile_y}
+use Rattle.shown_pictures.proofs.Schedules.{in_window}
+use Rattle.shortest_changes.proofs.Changes.{IsReady, Stands, change_stands}
 use Rattle.picture_changes.specs.Brings.{IsBefore, IsStill, SetsAll, Brings, sets_memory, sets_border, sets_low, sets_high}
-use Rattle.shortest_changes.proofs.Places.{tile_shown}
+use Rattle.shortest_changes.proofs.Places.{tile_pixel, tile_shown}
+
+abbrev IsSound : Instr → Type 0
+IsSound instr = InRange instr × IsKnown instr
+
+abbrev pub ChangesAreSound : Type 0
+ChangesAreSound = (script : List Drawing) (k : ℕ) (start : Option ℕ) (instrs : List Instr) → AreColoursInRange script → IsChangeFrom script k start instrs → All IsSound instrs
 
 -- ---- no instruction of a change scrolls
 
@@ -106,6 +111,30 @@ sets_if_first script (suc k) start instrs change first = absurd (omega (arith, f
 
 -- ---- after the change its picture is shown
 
+-- the tile of a pixel of the window, and its number in that tile
+abbrev tile_number : ℕ → ℕ → ℕ
+tile_number x y = 48 * (y / 12) + x / 6
+
+abbrev pixel_number : ℕ → ℕ → ℕ
+pixel_number x y = 6 * (y % 12) + x % 6
+
+pub shown : (script : List Drawing) (k : ℕ) (s : Standing) → Stands script k s → ShowsPicture script k s
+shown script k s stands = record {
+  pixels = λ x y xs ys.
+      let i : ℕ = 48 * (y / 12) + x / 6 in
+      let p : ℕ = 6 * (y % 12) + x % 6 in
+      let small : 6 * (y % 12) + x % 6 < 72 = omega arith in
+      let bound : 48 * (y / 12) + x / 6 < 768 = omega (arith, xs, ys) in
+      let across : x + 6 + s.h ≡ tile_x (place_column (tile_number x y)) (pixel_number x y) = omega (arith, stands.h, xs) in
+      let down : y + 12 + s.v ≡ tile_y (place_row (tile_number x y)) (pixel_number x y) = omega (arith, stands.v, xs, ys) in
+      let column : 6 * (place_column (tile_number x y) - 1) + pixel_number x y % 6 ≡ x = omega (arith, xs) in
+      let row : 12 * (place_row (tile_number x y) - 1) + pixel_number x y / 6 ≡ y = omega (arith, xs, ys) in
+      ap (λ t. cond t (s.memory (x + 6 + s.h) (y + 12 + s.v)) s.border) (in_window x y xs ys) ∙ ap₂ s.memory across down ∙ stands.tiles (tile_number x y) bound (pixel_number x y) small
+      ∙ tile_pixel script k (place_row (tile_number x y)) (place_column (tile_number x y)) (pixel_number x y) small ∙ ap₂ (picture_pixel script k) column row;
+  border = stands.border;
+  colours = stands.colours;
+}
+
 is_ready : (script : List Drawing) (k : ℕ) (now : Standing) → IsBefore script k now → IsReady script k now
 is_ready script zero now is = is
 is_ready script (suc k) now is = record {
@@ -116,7 +145,7 @@ is_ready script (suc k) now is = record {
   v = is.1.1;
 }
 
-pub brings : InTurn → ChangesAreSound → (script : List Drawing) (k : ℕ) (now : Standing) (instrs : List Instr) → AreColoursInRange script → IsChange script k instrs → IsBefore script k now → Brings script k now instrs
+pub brings : InTurn → ChangesAreSound → (script : List Drawing) (k : ℕ) (now : Standing) (instrs : List Instr) → AreColoursInRange script → IsOrderedChange script k instrs → IsBefore script k now → Brings script k now instrs
 brings in_turn sound_changes script k now instrs ranges change is = record {
   still = All-from_recursion IsStill instrs (all_still instrs (none_change script k change.start instrs change.change) (recursion_from_All IsSound instrs (sound_changes script k change.start instrs ranges change.change)));
   shows = shown script k (standing_after now instrs) (change_stands in_turn script k change.start instrs now change.change (is_ready script k now is));

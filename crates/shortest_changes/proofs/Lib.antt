@@ -2,6 +2,8 @@ pub mod Tests
 pub mod Own
 pub mod Adding
 pub mod Counted
+pub mod Set
+pub mod Changes
 pub mod Settings
 pub mod Places
 pub mod Shortest

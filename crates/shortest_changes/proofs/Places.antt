@@ -18,21 +18,17 @@ use Rattle.picture_changes.specs.PlannedChange.{tile_steps}
 use Rattle.picture_changes.proofs.Places.{place_of, places_in_order, picture_is_tile, colour_is_tile, start_small}
 use Rattle.picture_changes.proofs.PlannedLaws.{PlansAreShortest}
 use Rattle.picture_changes.specs.Shown.{ShowsPicture}
-use Rattle.shown_pictures.proofs.Tiles.{and_four, is_le, each_reverse, place_row, place_column, tile_x, tile_y, HoldsTile}
+use Rattle.shown_pictures.proofs.Tiles.{each_reverse, place_row, place_column, tile_x, tile_y, HoldsTile}
 use Rattle.picture_changes.specs.Brings.{IsUnmoved, IsBefore, IsStill, Brings}
 use Rattle.shortest_changes.proofs.Own.{own, own_tile, own_placed, preset_in, tile_since, length-tile_from}
 use Rattle.shortest_changes.proofs.Adding.{tiles_in, sum_le, owned_few, window_few}
-use Rattle.shortest_changes.proofs.Settings.{offsets_kept}
+use Rattle.shown_pictures.proofs.Schedules.{in_window, offsets_kept}
 
 -- ---- the tiles of a picture that is shown
 
-tile_pixel : (script : List Drawing) (k row column p : ℕ) → p < 72 → get_or (picture_tile script k row column) p 0 ≡ picture_pixel script k (6 * (column - 1) + p % 6) (12 * (row - 1) + p / 6)
+pub tile_pixel : (script : List Drawing) (k row column p : ℕ) → p < 72 → get_or (picture_tile script k row column) p 0 ≡ picture_pixel script k (6 * (column - 1) + p % 6) (12 * (row - 1) + p / 6)
 unfolding picture_tile
 tile_pixel script k row column p lt = get_or-map-range_with_len (λ p. picture_pixel script k (6 * (column - 1) + p % 6) (12 * (row - 1) + p / 6)) 0 72 p p 0 lt (omega arith)
-
-in_window : (x y : ℕ) → x < 288 → y < 192 → (nat_le 6 (x + 6) && nat_le (x + 6) 293 && nat_le 12 (y + 12) && nat_le (y + 12) 203) ≡ true
-in_window x y xs ys =
-    and_four (nat_le 6 (x + 6)) (nat_le (x + 6) 293) (nat_le 12 (y + 12)) (nat_le (y + 12) 203) (is_le 6 (x + 6) (omega arith)) (is_le (x + 6) 293 (omega (arith, xs))) (is_le 12 (y + 12) (omega arith)) (is_le (y + 12) 203 (omega (arith, ys)))
 
 pub tile_shown : (script : List Drawing) (k : ℕ) (now : Standing) → ShowsPicture script k now → IsUnmoved now → (i : ℕ) → i < 768 → HoldsTile now.memory (place_row i) (place_column i) (picture_tile script k (place_row i) (place_column i))
 tile_shown script k now shows unmoved i bound p lt =

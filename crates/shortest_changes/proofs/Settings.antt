@@ -38,12 +38,6 @@ high_kept start (ColoursLow colours ∷ before) n none =
     ap (λ t. cond t (get_or colours (8 + n) 0) (colour_from start before (8 + n))) (is_high n) ∙ high_kept start before n (omega (arith, none, counted sets_high (ColoursLow colours) before))
 high_kept start (instr ∷ before) n none = high_kept start before n (omega (arith, none, counted sets_high instr before))
 
-pub offsets_kept : (start : Standing) (before : List Instr) → AllByRecursion IsStill before → ((offsets_from start before).0 ≡ start.h) × ((offsets_from start before).1 ≡ start.v)
-offsets_kept start [] all = (refl, refl)
-offsets_kept start (ScrollPreset a b h d v ∷ before) all = absurd all.0
-offsets_kept start (ScrollCopy a b h d v ∷ before) all = absurd all.0
-offsets_kept start (instr ∷ before) all = offsets_kept start before all.1
-
 -- ---- equal tables
 
 all_none : (f : ℕ → ℕ) (n a : ℕ) → ((k : ℕ) → f k ≡ 0) → list_all (λ d. d == 0) (map f (range_with_len a n)) ≡ true

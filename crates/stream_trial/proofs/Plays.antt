@@ -29,7 +29,7 @@ use Rattle.stream_trial.proofs.Slots.{GathersWords, gathered_before, gives_none,
 
 -- the laws that this rests on
 abbrev pub ShowsScheduled : Type 0
-ShowsScheduled = (script : List Drawing) (blocks : ℕ) (packs : List (List ℕ)) (k time : ℕ) (instrs : List Instr) → AreTimesInOrder script → AreColoursInRange script → IsSchedule script blocks packs
+ShowsScheduled = (script : List Drawing) (blocks : ℕ) (packs : List (List ℕ)) (k time : ℕ) (instrs : List Instr) → AreTimesInOrder script → IsSchedule script blocks packs
     → k < pictures script → ready_time script k ≤ time → time ≤ hold_time script k → AreMeantBy (take (whole_packs time) packs) instrs → ShowsPicture script k (standing_after blank instrs)
 
 abbrev pub OneMore : Type 0
@@ -176,7 +176,7 @@ module _ (script : List Drawing) (symbols : List ℕ) (packs : List (List ℕ)) 
       let whole : n - 7 ≡ whole_packs (ready_time script k) = omega arith in
       let held : ready_time script k ≤ hold_time script k = order.held k lt in
       let same : ready_time script k ≤ ready_time script k = omega arith in
-      law script (length bytes / 96) packs k (ready_time script k) taken.instrs order ranges damaged.schedule lt same held (subst (λ m. AreMeantBy (take m packs) taken.instrs) whole taken.meant)
+      law script (length bytes / 96) packs k (ready_time script k) taken.instrs order damaged.schedule lt same held (subst (λ m. AreMeantBy (take m packs) taken.instrs) whole taken.meant)
 
   -- the gallery after one slot more
   looked : AreTimesInOrder script → (n : ℕ) (old new : Gallery) → AreShown script n old

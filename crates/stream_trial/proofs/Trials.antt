@@ -15,7 +15,7 @@ use Rattle.picture_changes.specs.Schedule.{IsSchedule}
 use Rattle.cdg_workload.specs.Script.{generated_script}
 use Rattle.cdg_workload.specs.Scratches.{scratched}
 use Rattle.generated_scripts.specs.Generated.{generated_drawings}
-use Rattle.subcode_author.specs.Authored.{IsAuthored}
+use Rattle.subcode_author.specs.Authored.{IsAuthored, IsWrittenStream}
 use Rattle.stream_trial.specs.Counts.{differing}
 use Rattle.stream_trial.specs.Lines.{input_lines, output_lines}
 use Rattle.generated_schedules.specs.Trial.{trial_text, trial_sheet}
@@ -96,14 +96,14 @@ trial_scratched has stay sheet script count seed bytes others packs is scratches
 
 -- what is told of a stream that was played out is the text of a trial
 pub is_trial : SheetIsRead → HasBlocks → ScratchesDamage → ChannelsStay → ScriptsAreRead → ScriptsHavePictures → (seed count : ℕ) (sheet : CueSheet) (script : List Drawing) (bytes others : List ℕ) (packs : List (List ℕ)) (counts : Counts) (report : Report)
-    → count ≤ 500 → sheet ≡ trial_sheet → script ≡ generated_drawings seed count → IsAuthored sheet script 0 (trial_audio count) bytes packs → others ≡ scratched 0 seed bytes
+    → count ≤ 500 → sheet ≡ trial_sheet → script ≡ generated_drawings seed count → IsWrittenStream sheet script 0 (trial_audio count) bytes packs → others ≡ scratched 0 seed bytes
     → ((symbols : List ℕ) (packs : List (List ℕ)) → IsDamagedSchedule script (length others / 96) symbols packs (symbols_of others) → IsPlayedOut script (length others / 96) symbols (symbols_of others) counts)
     → report.seed ≡ seed → report.pictures ≡ count → report.blocks ≡ trial_blocks count → report.packs ≡ whole_packs (trial_blocks count) → report.changes ≡ all_changes script
     → report.one ≡ counts.one → report.two ≡ counts.two → report.bad ≡ counts.bad → report.equal ≡ counts.equal → IsTrial seed count (told report)
 is_trial read has damage stay reads have seed count sheet script bytes others packs counts report few sheet_is script_is authored is plays e_seed e_pictures e_blocks e_packs e_changes e_one e_two e_bad e_equal =
-    let size : length others ≡ 96 * trial_blocks count = trial_scratched has stay sheet script count seed bytes others packs sheet_is is authored in
+    let size : length others ≡ 96 * trial_blocks count = trial_scratched has stay sheet script count seed bytes others packs sheet_is is authored.authored in
     let blocks : length others / 96 ≡ trial_blocks count = omega (arith, size) in
-    let played = plays (program_symbols Raw bytes 0) packs (damaged_schedule damage stay sheet script (trial_audio count) seed bytes others packs is authored) in
+    let played = plays (program_symbols Raw bytes 0) packs (damaged_schedule damage stay sheet script (trial_audio count) seed bytes others packs is authored.authored) in
     let symbols : symbols_of others ≡ program_symbols Raw (scratched 0 seed bytes) 0 = sym (ap (λ (l : List ℕ). program_symbols Raw l 0) (sym is) ∙ program_is (trial_blocks count) others size) in
     let number : ℕ = whole_packs (trial_blocks count) in
     let one : report.one ≡ differing 1 number (program_symbols Raw bytes 0) (program_symbols Raw (scratched 0 seed bytes) 0) =

@@ -1,5 +1,5 @@
 -- The packs that were given are a schedule.
-use Rattle.std.proofs.Common.{◌≡◌, ℕ, ◌+◌, ◌*◌, ◌<◌, ◌≤◌, List, [], length, get_or, inr, subst, arith}
+use Rattle.std.proofs.Common.{◌≡◌, ℕ, ◌+◌, ◌*◌, ◌<◌, ◌≤◌, List, [], length, get_or, inr, sym, subst, arith}
 use Rattle.std.specs.declared.option.Option.{Option}
 use Rattle.std.specs.Io.KnownBytes.{Appends}
 use Rattle.rw_interleave.specs.Interleave.{whole_packs}
@@ -8,14 +8,16 @@ use Rattle.toc_model.specs.Places.{DiscLayout, layout_of, program_blocks}
 use Rattle.picture_script.specs.Script.{Drawing, pictures, ready_time, hold_time, picture_pixel}
 use Rattle.picture_changes.specs.Schedule.{start_of, IsInTime, IsSchedule}
 use Rattle.picture_changes.specs.PlannedChange.{planned_change}
+use Rattle.picture_changes.specs.Brings.{IsNeed}
+use Rattle.picture_changes.specs.Shown.{AreColoursInRange}
 use Rattle.pack_schedule.specs.Survey.{IsSurvey, IsWithin}
 use Rattle.pack_schedule.specs.Woven.{Woven, IsPackAt, ArePacks}
 use Rattle.pack_schedule.specs.declared.planned.Planned.{Planned}
 use Rattle.stream_writer.specs.Given.{idle_pack, AreGiven, CarriesComing, PutsStreamPart}
 use Rattle.stream_writer.specs.Needs.{text_packs, HasRoom}
 use Rattle.stream_writer.proofs.Whole.{framing_with, part_with}
-use Rattle.subcode_author.specs.Authored.{IsAuthored}
-use Rattle.subcode_author.specs.AuthorAnswer.{AreReady}
+use Rattle.subcode_author.specs.Authored.{IsWrittenStream}
+use Rattle.subcode_author.specs.AuthorAnswer.{AreReady, HoldsPictures, IsAccepted}
 
 -- what is known of a script that has a schedule
 pub record IsPlannedScript (script : List Drawing) (blocks : ℕ) : Type 0 where
@@ -23,16 +25,33 @@ pub record IsPlannedScript (script : List Drawing) (blocks : ℕ) : Type 0 where
   pub survey : List Planned
   pub surveyed : IsSurvey script survey
   pub held : (k : ℕ) → k < pictures script → ready_time script k ≤ hold_time script k
+  pub ranges : AreColoursInRange script
   pub pixels : (k x y : ℕ) → picture_pixel script k x y < 16
 
-pub are_ready : (script : List Drawing) (survey : List Planned) → IsSurvey script survey → AreReady script
-are_ready script survey surveyed k lt = subst (IsInTime script k) (surveyed.each k lt).need_is (surveyed.each k lt).in_time
+in_time : (script : List Drawing) (survey : List Planned) → IsSurvey script survey → (k : ℕ) → k < pictures script → IsInTime script k (length (planned_change script k))
+in_time script survey surveyed k lt = subst (IsInTime script k) (surveyed.each k lt).need_is (surveyed.each k lt).in_time
+
+-- each need of a picture is the length of its planned change
+abbrev pub NeedsArePlanned : Type 0
+NeedsArePlanned = (script : List Drawing) (k need : ℕ) → AreColoursInRange script → ((k x y : ℕ) → picture_pixel script k x y < 16) → IsNeed script k need → need ≡ length (planned_change script k)
+
+are_ready : NeedsArePlanned → (script : List Drawing) (survey : List Planned) → AreColoursInRange script → ((k x y : ℕ) → picture_pixel script k x y < 16) → IsSurvey script survey → AreReady script
+are_ready needs script survey ranges pixels surveyed k need lt is =
+    subst (IsInTime script k) (sym (needs script k need ranges pixels is)) (in_time script survey surveyed k lt)
+
+pub is_accepted : NeedsArePlanned → (sheet : CueSheet) (script : List Drawing) (lead_in audio : ℕ) → HoldsPictures sheet script audio → HasRoom sheet lead_in
+    → AreColoursInRange script → ((k x y : ℕ) → picture_pixel script k x y < 16) → ((survey : List Planned) × IsSurvey script survey) → IsAccepted sheet script lead_in audio
+is_accepted needs sheet script lead_in audio disc room ranges pixels planned = record {
+  disc = disc;
+  room = room;
+  ready = are_ready needs script planned.0 ranges pixels planned.1;
+}
 
 -- a change ends before the packs that are cut
 change_ends : (script : List Drawing) (blocks : ℕ) → IsPlannedScript script blocks → (k : ℕ) → k < pictures script
     → start_of script k + length (planned_change script k) + 7 ≤ 4 * blocks
 change_ends script blocks known k lt =
-    let ready : start_of script k + length (planned_change script k) + 7 ≤ 4 * ready_time script k = are_ready script known.survey known.surveyed k lt in
+    let ready : start_of script k + length (planned_change script k) + 7 ≤ 4 * ready_time script k = in_time script known.survey known.surveyed k lt in
     let held : ready_time script k ≤ hold_time script k = known.held k lt in
     let within : hold_time script k ≤ blocks = known.within k lt in
     omega arith
@@ -62,7 +81,7 @@ cut_idle script woven blocks few first known n pack past lt comes =
 -- what the law of the layer below says
 abbrev pub PacksAreSchedule : Type 0
 PacksAreSchedule = (script : List Drawing) (blocks : ℕ) (survey : List Planned) (packs : List (List ℕ))
-    → ((k x y : ℕ) → picture_pixel script k x y < 16) → ((k : ℕ) → k < pictures script → ready_time script k ≤ hold_time script k)
+    → AreColoursInRange script → ((k x y : ℕ) → picture_pixel script k x y < 16) → ((k : ℕ) → k < pictures script → ready_time script k ≤ hold_time script k)
     → IsWithin script blocks → IsSurvey script survey → length packs ≡ whole_packs blocks → ArePacks script packs → IsSchedule script blocks packs
 
 given_of : (script : List Drawing) (woven : Woven) (many : ℕ) (packs : List (List ℕ)) → IsFirst script woven → many < 4294967295 → AreGiven (PackOf woven) 0 many packs → AreGiven (IsPackAt script) 0 many packs
@@ -81,14 +100,16 @@ in_turn script blocks packs given n lt =
 is_authored : PacksAreSchedule → (sheet : CueSheet) (script : List Drawing) (texts : List (List ℕ)) (lead_in audio : ℕ) (bytes : List ℕ) (packs : List (List ℕ))
     → (0 < lead_in → texts ≡ text_packs sheet) → HasRoom sheet lead_in → IsPlannedScript script (program_blocks sheet audio)
     → CarriesComing (layout_of sheet audio) (IsPackAt script) texts lead_in bytes packs
-    → IsAuthored sheet script lead_in audio bytes packs
+    → IsWrittenStream sheet script lead_in audio bytes packs
 is_authored schedule sheet script texts lead_in audio bytes packs texts_are room known stream = record {
-  schedule = schedule script (program_blocks sheet audio) known.survey packs known.pixels known.held known.within known.surveyed stream.given_are.count
+  authored = record {
+  schedule = schedule script (program_blocks sheet audio) known.survey packs known.ranges known.pixels known.held known.within known.surveyed stream.given_are.count
       (in_turn script (program_blocks sheet audio) packs stream.given_are);
-  written = in_turn script (program_blocks sheet audio) packs stream.given_are;
   framing = framing_with (layout_of sheet audio) texts (text_packs sheet) lead_in bytes texts_are stream.framing;
   carries = stream.carries;
   enough = λ some. (room some).1;
+  };
+  planned = in_turn script (program_blocks sheet audio) packs stream.given_are;
 }
 
 few_given : (blocks : ℕ) → blocks ≤ 449999 → whole_packs blocks < 4294967295
@@ -106,7 +127,7 @@ of_script script woven layout texts lead_in bytes packs few first stream = recor
 pub authored : PacksAreSchedule → (sheet : CueSheet) (script : List Drawing) (woven : Woven) (layout : DiscLayout) (texts : List (List ℕ)) (lead_in audio : ℕ) (a b : Option (List ℕ))
     → layout ≡ layout_of sheet audio → layout.blocks ≤ 449999 → IsFirst script woven → (0 < lead_in → texts ≡ text_packs sheet) → HasRoom sheet lead_in → IsPlannedScript script (program_blocks sheet audio)
     → (bytes : List ℕ) × (packs : List (List ℕ)) × CarriesComing layout (PackOf woven) texts lead_in bytes packs × Appends a b bytes
-    → (bytes : List ℕ) × (packs : List (List ℕ)) × IsAuthored sheet script lead_in audio bytes packs × Appends a b bytes
+    → (bytes : List ℕ) × (packs : List (List ℕ)) × IsWrittenStream sheet script lead_in audio bytes packs × Appends a b bytes
 authored schedule sheet script woven layout texts lead_in audio a b disc few first texts_are room known w = (
   w.0,
   w.1,

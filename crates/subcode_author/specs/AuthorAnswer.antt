@@ -1,10 +1,10 @@
 -- When a stream is written, and otherwise the first refusal that holds.
-use Rattle.std.specs.Prelude.{◌≡◌, ℕ, ◌<◌, ◌≤◌, ⊤, List, length}
+use Rattle.std.specs.Prelude.{◌≡◌, ℕ, ◌<◌, ◌≤◌, ⊤, List}
 use Rattle.cue_sheet.specs.CueSheet.{CueSheet}
 use Rattle.toc_model.specs.Places.{audio_need, program_blocks}
 use Rattle.picture_script.specs.Script.{Drawing, pictures}
 use Rattle.picture_changes.specs.Schedule.{IsInTime, IsLate}
-use Rattle.picture_changes.specs.PlannedChange.{planned_change}
+use Rattle.picture_changes.specs.Brings.{IsNeed}
 use Rattle.pack_schedule.specs.Survey.{IsPastEnd}
 pub use Rattle.stream_writer.specs.Needs.{HasLayout, HasRoom, IsLeadInShort, IsTextTooLong}
 use Rattle.subcode_author.specs.declared.stops.AuthorStop.{AuthorStop}
@@ -14,9 +14,9 @@ use Rattle.subcode_author.specs.declared.stops.AuthorStop.TheVariants.{LengthSho
 abbrev pub HoldsPictures : CueSheet → List Drawing → ℕ → Type 0
 HoldsPictures sheet script audio = HasLayout sheet audio × ¬ IsPastEnd script (program_blocks sheet audio)
 
--- every picture is ready in time
+-- every picture is ready in time: what it needs fits
 abbrev pub AreReady : List Drawing → Type 0
-AreReady script = (k : ℕ) → k < pictures script → IsInTime script k (length (planned_change script k))
+AreReady script = (k need : ℕ) → k < pictures script → IsNeed script k need → IsInTime script k need
 
 -- why a sheet, with its audio and the last picture, has no place on a disc; want of memory comes only where it has a layout
 abbrev pub IsDiscStop : CueSheet → List Drawing → ℕ → AuthorStop → Type 0

@@ -1,10 +1,12 @@
 // Writing the stream of a sheet and a script.
-ghost use Rattle.std.specs.Prelude.{◌≡◌, ◌≢◌, ◌≤◌, List, ℕ, IfErr, OnOk, Err};
+ghost use Rattle.std.specs.Prelude.{◌≡◌, ◌≢◌, ◌<◌, ◌≤◌, List, ℕ, IfErr, OnOk, Err};
 ghost use Rattle.std.specs.Io.KnownBytes.{Appends};
 ghost use Rattle.cdg_io.specs.Causes.{Rose};
 ghost use Rattle.toc_model.specs.Places.{layout_of};
-ghost use Rattle.picture_changes.specs.Brings.{CannotBeReady};
-ghost use Rattle.subcode_author.specs.Authored.{text_packs, IsAuthored};
+ghost use Rattle.picture_script.specs.Script.{pictures};
+ghost use Rattle.picture_changes.specs.Brings.{CannotBeReady, IsChange};
+ghost use Rattle.picture_changes.specs.PlannedChange.{planned_change};
+ghost use Rattle.subcode_author.specs.Authored.{text_packs, IsWrittenStream};
 ghost use Rattle.subcode_author.specs.AuthorAnswer.{IsAccepted, IsAuthorStop};
 ghost use Rattle.subcode_author.specs.Given.{PutsStreamPart};
 
@@ -40,10 +42,13 @@ pub fn author_stream<K: Sink>(
 ) -> Result<(), AuthorStop>
     requires lead_in { lead_in ≤ 450000 }
     requires length { length ≤ 449999 }
-    // An authored stream was written.
+    // The authored stream with the planned changes was written.
     ensures authored { OnOk result ((bytes : List ℕ) × (packs : List (List ℕ))
-        × IsAuthored sheet.now script.now lead_in length bytes packs × Appends (K.held out.old) (K.held out.new) bytes) }
+        × IsWrittenStream sheet.now script.now lead_in length bytes packs × Appends (K.held out.old) (K.held out.new) bytes) }
     ensures accepted { OnOk result (IsAccepted sheet.now script.now lead_in length) }
+    // What is sent for each picture is a change for it: no list without scrolls that brings it is shorter.
+    ensures fewest { OnOk result ((k : ℕ) → k < pictures script.now
+        → IsChange script.now k (planned_change script.now k)) }
 
     // Why none was written, and then nothing was.
     ensures stop { IfErr result (IsAuthorStop sheet.now script.now lead_in length) }

@@ -28,7 +28,7 @@ abbrev pub NoneBad : Type 0
 NoneBad = (packs : List (List ℕ)) → bad_count (map (λ pack. Some pack) packs) ≡ 0
 
 abbrev pub ShowsScheduled : Type 0
-ShowsScheduled = (script : List Drawing) (blocks : ℕ) (packs : List (List ℕ)) (k time : ℕ) (instrs : List Instr) → AreTimesInOrder script → AreColoursInRange script → IsSchedule script blocks packs
+ShowsScheduled = (script : List Drawing) (blocks : ℕ) (packs : List (List ℕ)) (k time : ℕ) (instrs : List Instr) → AreTimesInOrder script → IsSchedule script blocks packs
     → k < pictures script → ready_time script k ≤ time → time ≤ hold_time script k → AreMeantBy (take (whole_packs time) packs) instrs → ShowsPicture script k (standing_after blank instrs)
 
 meant_by : (packs : List (List ℕ)) (instrs : List Instr) → AreMeant (map (λ pack. Some pack) packs) instrs → AreMeantBy packs instrs
@@ -49,7 +49,7 @@ module _ (recovers : Recovers) (form : Form) (lead_in time : ℕ) (script : List
   picture_text shows =
       let meant : AreMeantBy (take (whole_packs time) scheduled.packs) screen.instrs =
       meant_by (take (whole_packs time) scheduled.packs) screen.instrs (subst (λ (l : List (Option (List ℕ))). AreMeant l screen.instrs) first_packs screen.shown) in
-      (standing_after blank screen.instrs, shows script scheduled.blocks scheduled.packs k time screen.instrs scheduled.order scheduled.ranges scheduled.schedule held.picture held.ready held.held meant, screen.text_is)
+      (standing_after blank screen.instrs, shows script scheduled.blocks scheduled.packs k time screen.instrs scheduled.order scheduled.schedule held.picture held.ready held.held meant, screen.text_is)
 
   pub picture_bad : NoneBad → bad ≡ 0
   picture_bad none = screen.bad_is ∙ ap bad_count first_packs ∙ none (take (whole_packs time) scheduled.packs)

@@ -1,4 +1,4 @@
-use Rattle.picture_changes.proofs.PlannedLaws.{PlansAreShortest, chosen_is_start, chosen_change, planned_is_shortest, need_is}
+use Rattle.picture_changes.proofs.PlannedLaws.{PlansAreShortest, chosen_is_start, chosen_change, planned_is_shortest}
 use Rattle.picture_changes.proofs.Short.{change_few}
 use Rattle.picture_changes.proofs.planned_changes_are_changes.Goals as goal
 
@@ -7,12 +7,6 @@ returns-clause-change c script k small =
     let p = c.plans_are_shortest.ensures in
     let plans : PlansAreShortest = record { turns = p.turns; count = p.count; least = p.least } in
     planned_is_shortest plans script k small
-
-pub returns-clause-need : goal.returns-clause-need
-returns-clause-need c script k need small is =
-    let p = c.plans_are_shortest.ensures in
-    let plans : PlansAreShortest = record { turns = p.turns; count = p.count; least = p.least } in
-    need_is plans script k need small is
 
 pub returns-clause-few : goal.returns-clause-few
 returns-clause-few c script k small =

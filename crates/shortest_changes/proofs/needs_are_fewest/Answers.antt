@@ -1,25 +1,23 @@
-use Rattle.std.proofs.Common.{ℕ}
-use Rattle.picture_changes.specs.Change.{IsNeed}
-use Rattle.picture_changes.specs.Brings.{IsFewest}
-use Rattle.shortest_changes.proofs.Shortest.{late_needs_more}
+use Rattle.std.proofs.Common.{◌≡◌, ℕ, ◌<◌, List, length, refl}
+use Rattle.picture_script.specs.Script.{Drawing, picture_pixel}
+use Rattle.picture_changes.specs.Brings.{IsChange}
+use Rattle.picture_changes.specs.PlannedChange.{planned_change}
+use Rattle.shortest_changes.proofs.Shortest.{late_needs_more, one_need}
 use Rattle.shortest_changes.proofs.needs_are_fewest.Goals as goal
 
-pub returns-clause-fewest : goal.returns-clause-fewest
-returns-clause-fewest c script k need ranges small is = record {
-  change = is;
-  brings = λ now instrs stands change. c.changes_bring_pictures.ensures script k now instrs ranges change stands;
-  needed = λ now instrs stands brings. c.no_shorter_list_brings.ensures.shortest script k need now instrs small is stands brings;
-}
+pub returns-clause-change : goal.returns-clause-change
+returns-clause-change c script k ranges small =
+    c.ordered_changes_are_shortest.ensures script k (planned_change script k) ranges small (c.planned_changes_are_changes.ensures.change script k small)
+
+pub returns-clause-planned : goal.returns-clause-planned
+returns-clause-planned c script k need ranges small is =
+    one_need script k need (length (planned_change script k)) is (planned_change script k, returns-clause-change c script k ranges small, refl)
+
+pub returns-clause-one : goal.returns-clause-one
+returns-clause-one c = one_need
 
 pub returns-clause-late : goal.returns-clause-late
-returns-clause-late c script k need free order ranges small late =
-    let fewest : (j n : ℕ) → IsNeed script j n → IsFewest script j n = λ j n is. record {
-      change = is;
-      brings = λ now instrs stands change. c.changes_bring_pictures.ensures script j now instrs ranges change stands;
-      needed = λ now instrs stands brings. c.no_shorter_list_brings.ensures.shortest script j n now instrs small is stands brings;
-    } in
-    record {
-      fewest = fewest k need late.need_is;
-      more = late_needs_more c.planned_changes_are_changes.ensures.change script k need free small order late;
-      before = λ j n lt is. fewest j n is;
-    }
+returns-clause-late c script k need free order ranges small late = record {
+  fewest = late.need_is;
+  more = late_needs_more script k need free (λ j lt. (length (planned_change script j), (planned_change script j, returns-clause-change c script j ranges small, refl))) order late;
+}

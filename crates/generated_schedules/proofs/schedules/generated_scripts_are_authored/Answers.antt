@@ -13,4 +13,4 @@ returns-clause-stop c sheet seed count lead_in audio stop layout enough room is 
     let t = c.generated_scripts_have_times.ensures in
     let times : TimesAreKnown = record { count = t.pictures; ready = t.ready; hold = t.hold } in
     let good = accepted times sheet seed count lead_in audio (c.generated_scripts_are_ready.ensures.ready seed count) layout enough room in
-    author_stop c.planned_changes_are_changes.ensures.need sheet (generated_drawings seed count) lead_in audio stop (c.generated_scripts_are_ready.ensures.pixels seed count) good is
+    author_stop sheet (generated_drawings seed count) lead_in audio stop good is

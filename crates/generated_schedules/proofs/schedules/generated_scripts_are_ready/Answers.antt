@@ -1,5 +1,5 @@
 use Rattle.generated_scripts.specs.Generated.{generated_drawings}
-use Rattle.generated_schedules.proofs.Pixels.{pixels_small}
+use Rattle.generated_schedules.proofs.Pixels.{colours_small, pixels_small}
 use Rattle.generated_schedules.proofs.Ready.{TimesAreKnown, enough_free, all_ready, survey_stop}
 use Rattle.generated_schedules.proofs.schedules.generated_scripts_are_ready.Goals as goal
 
@@ -16,11 +16,11 @@ pub returns-clause-ready : goal.returns-clause-ready
 returns-clause-ready c seed count =
     let t = c.generated_scripts_have_times.ensures in
     let times : TimesAreKnown = record { count = t.pictures; ready = t.ready; hold = t.hold } in
-    all_ready times seed count (λ k. c.planned_changes_are_changes.ensures.few (generated_drawings seed count) k (pixels_small seed count))
+    all_ready times c.needs_are_fewest.ensures.planned seed count (colours_small seed count) (pixels_small seed count) (λ k. c.planned_changes_are_changes.ensures.few (generated_drawings seed count) k (pixels_small seed count))
 
 pub returns-clause-survey : goal.returns-clause-survey
 returns-clause-survey c seed count blocks stop enough is =
     let t = c.generated_scripts_have_times.ensures in
     let times : TimesAreKnown = record { count = t.pictures; ready = t.ready; hold = t.hold } in
-    let ready = all_ready times seed count (λ k. c.planned_changes_are_changes.ensures.few (generated_drawings seed count) k (pixels_small seed count)) in
-    survey_stop times c.planned_changes_are_changes.ensures.need seed count blocks stop (pixels_small seed count) ready enough is
+    let ready = all_ready times c.needs_are_fewest.ensures.planned seed count (colours_small seed count) (pixels_small seed count) (λ k. c.planned_changes_are_changes.ensures.few (generated_drawings seed count) k (pixels_small seed count)) in
+    survey_stop times seed count blocks stop ready enough is

@@ -1,7 +1,7 @@
 use Rattle.std.proofs.Common.{◌≡◌, ◌+◌, ◌-◌, sym, subst, ◌∙◌, arith}
 use Rattle.pack_schedule.specs.Weights.{AreWeights}
 use Rattle.pack_schedule.specs.declared.planned.Stop.TheVariants.{Late}
-use Rattle.pack_schedule.proofs.Surveys.{PlannedAreChanges, NeedsAreFewest, all_fewest, in_time, is_late, is_within, late_told, not_in_time, one_planned, stands_next}
+use Rattle.pack_schedule.proofs.Surveys.{NeedsAreFewest, all_fewest, in_time, is_late, is_within, late_told, not_in_time, one_planned, stands_next}
 use Rattle.pack_schedule.proofs.timing.survey.Goals as goal
 
 pub loop-k-preserved : goal.loop-k-preserved
@@ -23,12 +23,12 @@ loop-k-preserved c =
 
 pub returns-then-not-is_in_time-clause-err : goal.returns-then-not-is_in_time-clause-err
 returns-then-not-is_in_time-clause-err c =
-    let l = c.planned_changes_are_changes.ensures in
-    let laws : PlannedAreChanges = record { change = l.change; need = l.need } in
+    let n = c.needs_are_fewest.ensures in
+    let needs : NeedsAreFewest = record { change = n.change; planned = n.planned; late = n.late } in
     let script = c.args.script.now in
     let known = c.pictures-pictures.ensures in (
       is_within script c.args.blocks c.last_hold.result (record { held = known.held; later = known.later }) c.last_hold.ensures.last c.if-last_hold-blocks.false,
-      is_late laws script c.loop-k.k c.plan_picture-change.result.need c.free_packs.result c.loop-k.planned.items known.pixels (omega (arith, known.value)) c.loop-k.invariant.0
+      is_late needs script c.loop-k.k c.plan_picture-change.result.need c.free_packs.result c.loop-k.planned.items (record { border = known.borders; colour = known.colours }) known.pixels (omega (arith, known.value)) c.loop-k.invariant.0
           c.plan_picture-change.ensures.need c.free_packs.ensures
           (not_in_time script c.loop-k.k c.plan_picture-change.result.start c.plan_picture-change.result.need c.plan_picture-change.ensures.start (sym c.is_in_time.ensures ∙ c.if-not-is_in_time.true)),
     )
@@ -36,7 +36,7 @@ returns-then-not-is_in_time-clause-err c =
 pub returns-then-not-is_in_time-clause-late : goal.returns-then-not-is_in_time-clause-late
 returns-then-not-is_in_time-clause-late c picture need free told =
     let n = c.needs_are_fewest.ensures in
-    let needs : NeedsAreFewest = record { fewest = n.fewest; late = n.late } in
+    let needs : NeedsAreFewest = record { change = n.change; planned = n.planned; late = n.late } in
     let known = c.pictures-pictures.ensures in
     late_told needs c.args.script.now c.args.blocks (Late c.loop-k.k c.plan_picture-change.result.need c.free_packs.result) (record { held = known.held; later = known.later })
     (record { border = known.borders; colour = known.colours }) known.pixels (returns-then-not-is_in_time-clause-err c) picture need free (cc)
@@ -48,9 +48,7 @@ returns-clause-within c =
 
 pub returns-clause-fewest : goal.returns-clause-fewest
 returns-clause-fewest c =
-    let l = c.planned_changes_are_changes.ensures in
-    let laws : PlannedAreChanges = record { change = l.change; need = l.need } in
     let n = c.needs_are_fewest.ensures in
-    let needs : NeedsAreFewest = record { fewest = n.fewest; late = n.late } in
+    let needs : NeedsAreFewest = record { change = n.change; planned = n.planned; late = n.late } in
     let known = c.pictures-pictures.ensures in
-    all_fewest laws needs c.args.script.now c.loop-k.planned.items (record { border = known.borders; colour = known.colours }) known.pixels (omega arith)
+    all_fewest needs c.args.script.now c.loop-k.planned.items (record { border = known.borders; colour = known.colours }) known.pixels (omega arith)

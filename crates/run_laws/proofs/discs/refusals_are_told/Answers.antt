@@ -15,6 +15,6 @@ pub returns-clause-disc : goal.returns-clause-disc
 returns-clause-disc c = λ lead_in audio sheet script why call status is some early stopped.
     disc_refused lead_in audio call.out sheet script why some early stopped ((k x y : ℕ) → picture_pixel script k x y < 16)
     (λ text read. c.accepted_scripts_are_in_order.ensures.pixels text script read)
-    (λ pixels w accepted other. c.each_disc_has_one_answer.ensures.not_both sheet script lead_in audio w pixels accepted other)
-    (λ pixels w other memory. c.each_disc_has_one_answer.ensures.one sheet script lead_in audio w why pixels other stopped memory some)
+    (λ pixels w accepted other. c.each_disc_has_one_answer.ensures.not_both sheet script lead_in audio w accepted other)
+    (λ pixels w other memory. c.each_disc_has_one_answer.ensures.one sheet script lead_in audio w why other stopped memory some)
     call.first.before call.first.after call.second.before call.second.after status is.nothing is.does

@@ -7,13 +7,13 @@ use Rattle.stream_trial.proofs.trying.make_report.Goals as goal
 pub scratch_stream-requires-clause-whole : goal.scratch_stream-requires-clause-whole
 scratch_stream-requires-clause-whole c =
     let stream = c.in_ok-stream.ensures.stream in
-    let size : length c.bytes.result.now ≡ 96 * trial_blocks c.args.pictures = ap length c.bytes.ensures ∙ trial_size c.trial_sheet_is_read.ensures.blocks c.in_ok-sheet.sheet c.in_ok-script.script c.args.pictures _ stream.0 c.in_ok-sheet.ensures.sheet stream.1 in
+    let size : length c.bytes.result.now ≡ 96 * trial_blocks c.args.pictures = ap length c.bytes.ensures ∙ trial_size c.trial_sheet_is_read.ensures.blocks c.in_ok-sheet.sheet c.in_ok-script.script c.args.pictures _ stream.0 c.in_ok-sheet.ensures.sheet stream.1.authored in
     omega (arith, size)
 
 pub scratch_stream-requires-clause-few : goal.scratch_stream-requires-clause-few
 scratch_stream-requires-clause-few c =
     let stream = c.in_ok-stream.ensures.stream in
-    let size : length c.bytes.result.now ≡ 96 * trial_blocks c.args.pictures = ap length c.bytes.ensures ∙ trial_size c.trial_sheet_is_read.ensures.blocks c.in_ok-sheet.sheet c.in_ok-script.script c.args.pictures _ stream.0 c.in_ok-sheet.ensures.sheet stream.1 in
+    let size : length c.bytes.result.now ≡ 96 * trial_blocks c.args.pictures = ap length c.bytes.ensures ∙ trial_size c.trial_sheet_is_read.ensures.blocks c.in_ok-sheet.sheet c.in_ok-script.script c.args.pictures _ stream.0 c.in_ok-sheet.ensures.sheet stream.1.authored in
     omega (arith, size, c.requires.1)
 
 pub play-requires-clause-whole : goal.play-requires-clause-whole
@@ -21,7 +21,7 @@ play-requires-clause-whole c =
     let stream = c.in_ok-stream.ensures.stream in
     let is = c.bytes-2.ensures ∙ c.in_ok-scratched.ensures.stream ∙ ap (scratched 0 c.args.seed) c.bytes.ensures in
     let size : length c.bytes-2.result.now ≡ 96 * trial_blocks c.args.pictures =
-    trial_scratched c.trial_sheet_is_read.ensures.blocks c.scratches_are_bursts.ensures.channels c.in_ok-sheet.sheet c.in_ok-script.script c.args.pictures c.args.seed _ _ stream.0 c.in_ok-sheet.ensures.sheet is stream.1 in
+    trial_scratched c.trial_sheet_is_read.ensures.blocks c.scratches_are_bursts.ensures.channels c.in_ok-sheet.sheet c.in_ok-script.script c.args.pictures c.args.seed _ _ stream.0 c.in_ok-sheet.ensures.sheet is stream.1.authored in
     omega (arith, size)
 
 pub play-requires-clause-few : goal.play-requires-clause-few
@@ -29,7 +29,7 @@ play-requires-clause-few c =
     let stream = c.in_ok-stream.ensures.stream in
     let is = c.bytes-2.ensures ∙ c.in_ok-scratched.ensures.stream ∙ ap (scratched 0 c.args.seed) c.bytes.ensures in
     let size : length c.bytes-2.result.now ≡ 96 * trial_blocks c.args.pictures =
-    trial_scratched c.trial_sheet_is_read.ensures.blocks c.scratches_are_bursts.ensures.channels c.in_ok-sheet.sheet c.in_ok-script.script c.args.pictures c.args.seed _ _ stream.0 c.in_ok-sheet.ensures.sheet is stream.1 in
+    trial_scratched c.trial_sheet_is_read.ensures.blocks c.scratches_are_bursts.ensures.channels c.in_ok-sheet.sheet c.in_ok-script.script c.args.pictures c.args.seed _ _ stream.0 c.in_ok-sheet.ensures.sheet is stream.1.authored in
     omega (arith, size, c.requires.1)
 
 pub returns-clause-report : goal.returns-clause-report

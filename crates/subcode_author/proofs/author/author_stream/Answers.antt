@@ -2,10 +2,11 @@ use Rattle.std.proofs.Common.{◌≡◌, ℕ, ◌<◌, ◌≤◌, List, ap, subs
 use Rattle.std.proofs.lemmas.Result.{err_from_is_err_and}
 use Rattle.toc_model.specs.Places.{DiscLayout}
 use Rattle.picture_script.specs.Script.{Drawing, pictures, ready_time, hold_time, picture_pixel}
+use Rattle.picture_changes.specs.Shown.{AreColoursInRange}
 use Rattle.pack_schedule.specs.Survey.{IsSurvey, IsWithin}
 use Rattle.pack_schedule.specs.declared.planned.Planned.{Planned}
 use Rattle.stream_writer.proofs.Room.{track_count}
-use Rattle.subcode_author.proofs.Schedules.{authored, cut_idle, part_of, IsPlannedScript}
+use Rattle.subcode_author.proofs.Schedules.{authored, cut_idle, is_accepted, part_of, IsPlannedScript}
 use Rattle.subcode_author.proofs.PictureStops.{late_told, picture_stop}
 use Rattle.subcode_author.proofs.author.author_stream.Goals as goal
 
@@ -27,12 +28,13 @@ returns-in_err-weaver-clause-late g c picture need free told =
     (record { border = known.borders; colour = known.colours }) known.pixels stop picture need free (let first = p.1 in let second = p.2 in cc)
 
 known_script : (script : List Drawing) (blocks blocks' : ℕ) → blocks ≡ blocks' → IsWithin script blocks → ((planned : List Planned) × IsSurvey script planned)
-    → ((k : ℕ) → k < pictures script → ready_time script k ≤ hold_time script k) → ((k x y : ℕ) → picture_pixel script k x y < 16) → IsPlannedScript script blocks'
-known_script script blocks blocks' same within planned held pixels = record {
+    → ((k : ℕ) → k < pictures script → ready_time script k ≤ hold_time script k) → AreColoursInRange script → ((k x y : ℕ) → picture_pixel script k x y < 16) → IsPlannedScript script blocks'
+known_script script blocks blocks' same within planned held ranges pixels = record {
   within = subst (IsWithin script) same within;
   survey = planned.0;
   surveyed = planned.1;
   held = held;
+  ranges = ranges;
   pixels = pixels;
 }
 
@@ -45,7 +47,7 @@ write_stream-requires-clause-cut g c =
     (few_blocks c.in_ok-layout.layout.blocks c.blocks-2.result c.blocks-2.ensures.blocks c.blocks-2.ensures.bound)
     (record { script_is = c.in_ok-weaver.ensures.script; given_is = c.in_ok-weaver.ensures.given })
     (known_script c.args.script.now c.blocks-2.result c.in_ok-layout.layout.blocks c.blocks-2.ensures.blocks c.in_ok-weaver.ensures.within c.in_ok-weaver.ensures.planned
-    c.pictures-times.ensures.held c.pictures-times.ensures.pixels)
+    c.pictures-times.ensures.held (record { border = c.pictures-times.ensures.borders; colour = c.pictures-times.ensures.colours }) c.pictures-times.ensures.pixels)
 
 pub returns-in_err-write_stream-clause-part : goal.returns-in_err-write_stream-clause-part
 returns-in_err-write_stream-clause-part g c = λ failed.
@@ -68,5 +70,24 @@ returns-clause-authored g c =
     (λ some. c.deref.ensures.value ∙ c.in_ok-texts.ensures.packs some)
     c.in_ok-texts.ensures.room
     (known_script c.args.script.now c.blocks-2.result _ blocks c.in_ok-weaver.ensures.within c.in_ok-weaver.ensures.planned
-    c.pictures-times.ensures.held c.pictures-times.ensures.pixels)
+    c.pictures-times.ensures.held (record { border = c.pictures-times.ensures.borders; colour = c.pictures-times.ensures.colours }) c.pictures-times.ensures.pixels)
     c.in_ok-write_stream.ensures.ok
+
+pub returns-clause-accepted : goal.returns-clause-accepted
+returns-clause-accepted g c =
+    let known = c.pictures-times.ensures in
+    is_accepted c.needs_are_fewest.ensures.planned c.args.sheet.now c.args.script.now c.args.lead_in c.args.length c.in_ok-layout.ensures.good c.in_ok-texts.ensures.room
+    (record { border = known.borders; colour = known.colours }) known.pixels c.in_ok-weaver.ensures.planned
+
+pub returns-in_err-write_stream-clause-stop : goal.returns-in_err-write_stream-clause-stop
+returns-in_err-write_stream-clause-stop g c =
+    let known = c.pictures-times.ensures in
+    let accepted = is_accepted c.needs_are_fewest.ensures.planned c.args.sheet.now c.args.script.now c.args.lead_in c.args.length c.in_ok-layout.ensures.good c.in_ok-texts.ensures.room
+    (record { border = known.borders; colour = known.colours }) known.pixels c.in_ok-weaver.ensures.planned in
+    let p = err_from_is_err_and c.from_residual-in_err-write_stream.result c.from_residual-in_err-write_stream.ensures.1 in
+    rw (p.1, p.2) accepted
+
+pub returns-clause-fewest : goal.returns-clause-fewest
+returns-clause-fewest g c k lt =
+    let known = c.pictures-times.ensures in
+    c.needs_are_fewest.ensures.change c.args.script.now k (record { border = known.borders; colour = known.colours }) known.pixels

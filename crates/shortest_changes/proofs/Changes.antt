@@ -7,7 +7,7 @@ use Rattle.cdg_instructions.specs.declared.instr.Instr.{Instr}
 use Rattle.cdg_screen.specs.Picture.{Standing, SameStanding, standing_after}
 use Rattle.picture_changes.specs.Change.{settings, preset_of, tiles_before, IsStart, IsChangeFrom}
 use Rattle.shown_pictures.proofs.Tiles.{InTurn, HoldsAt, Changed, place_row, place_column, tile_x, tile_y, window_changes}
-use Rattle.shown_pictures.proofs.Settings.{IsSet, first_settings, later_settings}
+use Rattle.shortest_changes.proofs.Set.{IsSet, first_settings, later_settings}
 
 -- picture k stands in memory and on the screen
 pub record Stands (script : List Drawing) (k : ℕ) (s : Standing) : Type 0 where
