@@ -4,10 +4,10 @@ use Rattle.std.proofs.Math.Nat.{zero-div}
 use Rattle.std.proofs.lemmas.Bool.{and_parts, eqb-true, ltb-true, cases_lt, lt-ltb, le-ltb}
 use Rattle.std.proofs.lemmas.List.{drop_more, get_or-take, drop_all, length-take}
 use Rattle.std.proofs.lemmas.Nat.{xor_lt, xor_shr, xor_mod}
-use Rattle.std.specs.Int.Bits.{xor_assoc, xor_zero_l, xor_zero_r}
+use Rattle.std.specs.Int.Bits.{xor_assoc, xor_self, xor_zero_l, xor_zero_r}
 use Rattle.gf64.specs.Field.{product, alpha_power}
 use Rattle.gf64.proofs.Tables.{all_below, all_below-at}
-use Rattle.gf64.proofs.FieldLaws.{alpha_power-mod, times_power, times_power_is}
+use Rattle.gf64.proofs.FieldLaws.{alpha_power-mod, times_power, times_power_is, sum_cancel}
 use Rattle.rw_code.specs.declared.syndrome_table.TheConstants.{SYNDROMES}
 use Rattle.rw_code.specs.Codeword.{IsWord, IsCodeword, weighted_sum}
 use Rattle.rw_code.specs.Syndromes.{lane, AreSyndromes, IsEntry}
@@ -15,20 +15,20 @@ use Rattle.rw_code.proofs.SumLemmas.{weighted_sum_none}
 
 -- ---- The table.
 
-entry : ℕ → ℕ → ℕ
-entry position symbol = get_or (get_or SYNDROMES position []) symbol 0
+abbrev pub table_entry : ℕ → ℕ → ℕ
+table_entry position symbol = get_or (get_or SYNDROMES position []) symbol 0
 
 IsWholeLane : ℕ → ℕ → ℕ → Bool
-IsWholeLane position symbol j = lane j (entry position symbol) == times_power (j * (23 - position) % 63) symbol
+IsWholeLane position symbol j = lane j (table_entry position symbol) == times_power (j * (23 - position) % 63) symbol
 
 IsFirstLane : ℕ → ℕ → ℕ → Bool
-IsFirstLane position symbol j = lane (4 + j) (entry position symbol) == (if nat_lt position 4 then times_power (j * (3 - position)) symbol else 0)
+IsFirstLane position symbol j = lane (4 + j) (table_entry position symbol) == (if nat_lt position 4 then times_power (j * (3 - position)) symbol else 0)
 
 IsRight : ℕ → ℕ → Bool
-IsRight position symbol = nat_lt (entry position symbol) (2 ^ 36) && (all_below (IsWholeLane position symbol) 4 && all_below (IsFirstLane position symbol) 2)
+IsRight position symbol = nat_lt (table_entry position symbol) (2 ^ 36) && (all_below (IsWholeLane position symbol) 4 && all_below (IsFirstLane position symbol) 2)
 
 test_entries : all_below (λ position. all_below (IsRight position) 64) 24 ≡ true
-unfolding all_below IsRight IsWholeLane IsFirstLane entry lane times_power
+unfolding all_below IsRight IsWholeLane IsFirstLane lane times_power
 test_entries = refl
 
 small_exponent : (j position : ℕ) → j < 2 → j * (3 - position) < 63
@@ -36,16 +36,16 @@ small_exponent zero position lt = omega arith
 small_exponent (suc zero) position lt = omega arith
 small_exponent (suc (suc j)) position lt = absurd (omega arith)
 
-four_size : (word : List ℕ) → IsWord word → length (take 4 word) ≡ 4
-four_size word is_word = length-take 4 word ∙ omega (arith, is_word.size)
+pub four_size : (word : List ℕ) → length word ≡ 24 → length (take 4 word) ≡ 4
+four_size word size = length-take 4 word ∙ omega (arith, size)
 
 -- the part of a symbol at a position, as the table has it
 pub entry_is : (position symbol found : ℕ) → position < 24 → symbol < 64 → found ≡ get_or (get_or SYNDROMES position []) symbol 0 → IsEntry position symbol found
-unfolding IsRight IsWholeLane IsFirstLane entry
+unfolding IsRight IsWholeLane IsFirstLane
 entry_is position symbol found position_lt symbol_lt found_is =
     let row = all_below-at (λ position. all_below (IsRight position) 64) 24 position test_entries position_lt in
     let right = all_below-at (IsRight position) 64 symbol row symbol_lt in
-    let (bound, lanes) = and_parts (nat_lt (entry position symbol) (2 ^ 36)) (all_below (IsWholeLane position symbol) 4 && all_below (IsFirstLane position symbol) 2) right in
+    let (bound, lanes) = and_parts (nat_lt (table_entry position symbol) (2 ^ 36)) (all_below (IsWholeLane position symbol) 4 && all_below (IsFirstLane position symbol) 2) right in
     let (whole, first) = and_parts (all_below (IsWholeLane position symbol) 4) (all_below (IsFirstLane position symbol) 2) lanes in
     record {
       whole = λ j lt.
@@ -62,9 +62,12 @@ entry_is position symbol found position_lt symbol_lt found_is =
       bound = subst (λ n. n < 2 ^ 36) (sym found_is) (ltb-true _ _ bound);
     }
 
+pub table_entry_is : (position symbol : ℕ) → position < 24 → symbol < 64 → IsEntry position symbol (table_entry position symbol)
+table_entry_is position symbol position_lt symbol_lt = entry_is position symbol (table_entry position symbol) position_lt symbol_lt refl
+
 -- ---- The lanes of a sum.
 
-lane-xor : (j a b : ℕ) → lane j (bit_xor a b) ≡ bit_xor (lane j a) (lane j b)
+pub lane-xor : (j a b : ℕ) → lane j (bit_xor a b) ≡ bit_xor (lane j a) (lane j b)
 unfolding lane
 lane-xor j a b = ap (λ n. n % 2 ^ 6) (xor_shr a b (6 * j)) ∙ xor_mod (a / 2 ^ (6 * j)) (b / 2 ^ (6 * j)) 6
 
@@ -88,6 +91,26 @@ all_zero lanes bound none =
     let at_5 : lanes / 1073741824 % 64 ≡ 0 = none 5 (lit< tt) in
     let below : lanes < 68719476736 = bound in
     omega arith
+
+-- there is only one such part
+pub only_entry : (position symbol one other : ℕ) → IsEntry position symbol one → IsEntry position symbol other → one ≡ other
+only_entry position symbol one other one_is other_is =
+    let none : (j : ℕ) → j < 6 → lane j one ≡ lane j other =
+    λ j lt. elim (cases_lt j 4) [
+      | inl early ↦ one_is.whole j early ∙ sym (other_is.whole j early)
+      | inr late ↦
+          let place : 4 + (j - 4) ≡ j = omega arith in
+          let lane_lt : j - 4 < 2 = omega arith in
+          let same : lane (4 + (j - 4)) one ≡ lane (4 + (j - 4)) other =
+          elim (cases_lt position 4) [
+            | inl first ↦ one_is.first_four (j - 4) lane_lt first ∙ sym (other_is.first_four (j - 4) lane_lt first)
+            | inr later ↦ one_is.later (j - 4) lane_lt later ∙ sym (other_is.later (j - 4) lane_lt later)
+          ] in
+          ap (λ n. lane n one) (sym place) ∙ same ∙ ap (λ n. lane n other) place
+    ] in
+    sum_cancel one other
+    (all_zero (bit_xor one other) (xor_lt 36 one other one_is.bound other_is.bound)
+    (λ j lt. lane-xor j one other ∙ ap (λ n. bit_xor n (lane j other)) (none j lt) ∙ xor_self (lane j other)))
 
 -- ---- One pass over a word.
 
@@ -128,11 +151,11 @@ part_more word i lanes part new is_word lt so_far is new_is =
           ∙ ap (λ n. bit_xor n (weighted_sum j (drop (i + 1) (take 4 word)))) (lane-xor (4 + j) lanes part)
           ∙ elim (cases_lt i 4) [
             | inl early ↦
-                taken j (take 4 word) i (3 - i) (lane (4 + j) lanes) (lane (4 + j) part) (omega (arith, four_size word is_word))
+                taken j (take 4 word) i (3 - i) (lane (4 + j) lanes) (lane (4 + j) part) (omega (arith, four_size word is_word.size))
                 (is.first_four j j_lt early ∙ ap (product (alpha_power (j * (3 - i)))) (sym (get_or-take 4 word i 0 early))) (so_far.first_four j j_lt)
             | inr late ↦
-                let drop_this = drop_all i (take 4 word) (omega (arith, four_size word is_word)) in
-                let drop_next = drop_all (i + 1) (take 4 word) (omega (arith, four_size word is_word)) in
+                let drop_this = drop_all i (take 4 word) (omega (arith, four_size word is_word.size)) in
+                let drop_next = drop_all (i + 1) (take 4 word) (omega (arith, four_size word is_word.size)) in
                 ap₂ (λ (n : ℕ) (xs : List ℕ). bit_xor (bit_xor (lane (4 + j) lanes) n) (weighted_sum j xs)) (is.later j j_lt late) (drop_next ∙ sym drop_this)
                 ∙ ap (λ n. bit_xor n (weighted_sum j (drop i (take 4 word)))) (xor_zero_r (lane (4 + j) lanes)) ∙ so_far.first_four j j_lt
           ];
@@ -144,7 +167,7 @@ part_all word lanes is_word all = record {
   whole = λ j lt. sym (xor_zero_r (lane j lanes)) ∙ ap (bit_xor (lane j lanes)) (sym (ap (weighted_sum j) (drop_all 24 word (omega (arith, is_word.size))) ∙ weighted_sum_none j)) ∙ all.whole j lt;
   first_four = λ j lt.
       sym (xor_zero_r (lane (4 + j) lanes))
-      ∙ ap (bit_xor (lane (4 + j) lanes)) (sym (ap (weighted_sum j) (drop_all 24 (take 4 word) (omega (arith, four_size word is_word))) ∙ weighted_sum_none j))
+      ∙ ap (bit_xor (lane (4 + j) lanes)) (sym (ap (weighted_sum j) (drop_all 24 (take 4 word) (omega (arith, four_size word is_word.size))) ∙ weighted_sum_none j))
       ∙ all.first_four j lt;
   bound = all.bound;
 }

@@ -1,9 +1,10 @@
 -- The sums of a word as the code keeps them, and what its steps do with them.
-use Rattle.std.specs.Prelude.{◌≡◌, ℕ, suc, ◌+◌, ◌-◌, ◌*◌, ◌/◌, ◌%◌, ◌^◌, ◌<◌, ◌≤◌, List, ◌∷◌, ◌++◌, take, bit_xor}
+use Rattle.std.specs.Prelude.{◌≡◌, ◌≢◌, ℕ, ◌+◌, ◌-◌, ◌*◌, ◌/◌, ◌%◌, ◌^◌, ◌<◌, ◌≤◌, List, ◌∷◌, ◌++◌, take, bit_xor}
 use Rattle.gf64.specs.Field.{product, alpha_power}
 use Rattle.rw_code.specs.declared.syndromes.Sums.{Sums}
-use Rattle.rw_code.specs.declared.correction.SumsWithout.{SumsWithout}
-use Rattle.rw_code.specs.declared.correction.Locator.{Locator}
+use Rattle.rw_code.specs.declared.wrong_symbols.Locator.{Locator}
+use Rattle.rw_code.specs.declared.wrong_symbols.Places.{Places}
+use Rattle.rw_code.specs.declared.wrong_symbols.TwoErrors.{TwoErrors}
 use Rattle.rw_code.specs.Codeword.{weighted_sum}
 
 -- lane j of a number: six bits of it
@@ -23,44 +24,65 @@ pub record IsEntry (position symbol lanes : ℕ) : Type 0 where
   pub later : (j : ℕ) → j < 2 → 4 ≤ position → lane (4 + j) lanes ≡ 0
   pub bound : lanes < 2 ^ 36
 
--- the sums of a word over all symbols, at 0 to 3
-pub record AreSums (word : List ℕ) (sums : Sums) : Type 0 where
-  pub zeroth : sums.zeroth ≡ weighted_sum 0 word
-  pub first : sums.first ≡ weighted_sum 1 word
-  pub second : sums.second ≡ weighted_sum 2 word
-  pub third : sums.third ≡ weighted_sum 3 word
-
--- The sum at j + 1 less the sum at j times the power of position i: no error at i has a part in it.
-unfoldable pub sum_without : List ℕ → ℕ → ℕ → ℕ
-sum_without word i j = bit_xor (weighted_sum (suc j) word) (product (alpha_power (23 - i)) (weighted_sum j word))
-
--- those sums of a word, at 0 to 2, in which no error at i has a part
-pub record AreSumsWithout (word : List ℕ) (i : ℕ) (sums : SumsWithout) : Type 0 where
-  pub zeroth : sums.zeroth ≡ sum_without word i 0
-  pub first : sums.first ≡ sum_without word i 1
-  pub second : sums.second ≡ sum_without word i 2
-
 -- After any symbols with which the old parity symbols make the first n sums 0, the symbol and the new ones do.
 abbrev pub ContinuesTo : ℕ → List ℕ → ℕ → List ℕ → Type 0
 ContinuesTo n old symbol new =
     (j : ℕ) → j < n → (xs : List ℕ) → weighted_sum j (xs ++ old) ≡ 0 → weighted_sum j (xs ++ symbol ∷ new) ≡ 0
 
--- The polynomial of the sums that is 0 at the power of each wrong position, where no more than two are wrong: its coefficients,
--- and its value.
-abbrev pub square_of : Sums → ℕ
-square_of sums = bit_xor (product sums.first sums.first) (product sums.zeroth sums.second)
+-- the lanes of the four sums over all symbols
+pub record AreLanes (lanes : ℕ) (sums : Sums) : Type 0 where
+  pub zeroth : sums.zeroth ≡ lane 0 lanes
+  pub first : sums.first ≡ lane 1 lanes
+  pub second : sums.second ≡ lane 2 lanes
+  pub third : sums.third ≡ lane 3 lanes
 
-abbrev pub linear_of : Sums → ℕ
-linear_of sums = bit_xor (product sums.first sums.second) (product sums.zeroth sums.third)
+-- ---- Wrong symbols. An error is the sum of a wrong symbol and the right one.
 
-abbrev pub constant_of : Sums → ℕ
-constant_of sums = bit_xor (product sums.second sums.second) (product sums.first sums.third)
+-- an error at a position
+pub record IsError (position error : ℕ) : Type 0 where
+  pub place : position < 24
+  pub below : error < 64
+  pub wrong : error ≢ 0
 
-abbrev pub value_at : ℕ → ℕ → ℕ → ℕ → ℕ
-value_at square linear constant power = bit_xor (product power (bit_xor (product power square) linear)) constant
+-- the lanes of a word with one error
+pub record IsOneWrong (lanes position error : ℕ) : Type 0 where
+  pub is_error : IsError position error
+  pub entry : IsEntry position error lanes
 
--- the coefficients of that polynomial
+-- the lanes of a word with two errors, e at position i and f at a later position j
+pub record AreTwoWrong (lanes i e j f : ℕ) : Type 0 where
+  pub apart : i < j
+  pub first : IsError i e
+  pub second : IsError j f
+  pub sum : (p q : ℕ) → IsEntry i e p → IsEntry j f q → lanes ≡ bit_xor p q
+
+-- the lanes of a word with these errors
+abbrev pub AreErrors : ℕ → TwoErrors → Type 0
+AreErrors lanes errors = AreTwoWrong lanes errors.first.position errors.first.value errors.second.position errors.second.value
+
+-- the sums at 0 and 1 of two errors at these positions
+pub record AreTwoSums (sums : Sums) (places : Places) (e f : ℕ) : Type 0 where
+  pub first_error : IsError places.first e
+  pub second_error : IsError places.second f
+  pub zeroth : sums.zeroth ≡ bit_xor e f
+  pub first : sums.first ≡ bit_xor (product (alpha_power (23 - places.first)) e) (product (alpha_power (23 - places.second)) f)
+
+-- The polynomial of the sums that is 0 at the powers of both wrong positions, where two are wrong: its coefficients.
 pub record IsLocator (sums : Sums) (locator : Locator) : Type 0 where
-  pub square : locator.square ≡ square_of sums
-  pub linear : locator.linear ≡ linear_of sums
-  pub constant : locator.constant ≡ constant_of sums
+  pub square : locator.square ≡ bit_xor (product sums.first sums.first) (product sums.zeroth sums.second)
+  pub linear : locator.linear ≡ bit_xor (product sums.first sums.second) (product sums.zeroth sums.third)
+  pub constant : locator.constant ≡ bit_xor (product sums.second sums.second) (product sums.first sums.third)
+
+-- The polynomial is (x + p)(x + q) times a factor other than 0, where p and q are the powers of two positions.
+pub record IsLocatorOf (locator : Locator) (i j : ℕ) : Type 0 where
+  pub square : locator.square ≢ 0
+  pub below : locator.square < 64
+  pub linear : locator.linear ≡ product (bit_xor (alpha_power (23 - i)) (alpha_power (23 - j))) locator.square
+  pub constant : locator.constant ≡ product (product (alpha_power (23 - i)) (alpha_power (23 - j))) locator.square
+
+-- the power d and 1 have as their sum the power z
+pub record IsPair (d z : ℕ) : Type 0 where
+  pub apart : 0 < d
+  pub within : d < 24
+  pub bound : z < 63
+  pub sum : bit_xor (alpha_power d) 1 ≡ alpha_power z

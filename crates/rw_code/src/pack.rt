@@ -46,6 +46,15 @@ impl Pack {
         }
     }
 
+    /// A word that is a codeword.
+    #[inline]
+    pub(crate) fn of(word: Word) -> Pack
+        requires { IsCodeword word }
+        ensures { result ≡ word }
+    {
+        Pack { word }
+    }
+
     /// The codeword with these symbols at 0 and 1 and at 4 to 19.
     pub fn seal(head: [Sym; 2], body: [Sym; 16]) -> Pack
         ensures codeword { IsCodeword result }

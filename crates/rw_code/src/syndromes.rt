@@ -1,7 +1,7 @@
 // The six sums of a word that are 0 for a codeword.
 ghost use Rattle.std.specs.Prelude.{◌≡◌, ◌<◌, ◌↔◌, IsTrue};
 ghost use Rattle.rw_code.specs.Codeword.{IsCodeword};
-ghost use Rattle.rw_code.specs.Syndromes.{AreSums, AreSyndromes, IsEntry, lane};
+ghost use Rattle.rw_code.specs.Syndromes.{AreLanes, AreSyndromes, IsEntry, lane};
 
 use crate::syndrome_table::SYNDROMES;
 use crate::{SYMBOLS, Word};
@@ -10,7 +10,7 @@ use gf64::Sym;
 /// The six sums of a word in one number, six bits each: the four over all symbols, and the two over the first four.
 #[derive(Clone, Copy)]
 pub(crate) struct Syndromes {
-    lanes: u64,
+    pub(crate) lanes: u64,
 }
 
 /// The sums of a word over all symbols, at 0 to 3.
@@ -47,9 +47,9 @@ impl Syndromes {
     }
 
     /// The four over all symbols, each by itself.
-    pub(crate) fn sums(self, word: &Word) -> Sums
-        requires { AreSyndromes word.now self.lanes }
-        ensures { AreSums word.now result }
+    #[inline]
+    pub(crate) fn sums(self) -> Sums
+        ensures { AreLanes self.lanes result }
     {
         Sums {
             zeroth: self.lane(0),
@@ -60,6 +60,7 @@ impl Syndromes {
     }
 
     /// One of the six.
+    #[inline]
     fn lane(self, j: u32) -> Sym
         requires { j < 6 }
         ensures { result ≡ lane j self.lanes }
@@ -70,7 +71,7 @@ impl Syndromes {
 
 /// The part of a symbol at a position in the six sums.
 #[inline]
-fn entry(position: usize, symbol: usize) -> u64
+pub(crate) fn entry(position: usize, symbol: usize) -> u64
     requires position { position < 24 }
     requires symbol { symbol < 64 }
     ensures { IsEntry position symbol result }

@@ -1,5 +1,5 @@
 // Words of 24 symbols.
-ghost use Rattle.std.specs.Prelude.{◌≡◌, true, ◌<◌, ◌%◌, List, ℕ, map, slice_index, slice_set, replicate, bit_xor};
+ghost use Rattle.std.specs.Prelude.{◌≡◌, ◌<◌, ◌%◌, List, ℕ, map, slice_index, slice_set, replicate, bit_xor};
 ghost use Rattle.rw_code.specs.Codeword.{IsWord, differences};
 
 use gf64::Sym;
@@ -64,16 +64,18 @@ impl Word {
         self.bytes
     }
 
-    /// Whether all symbols are 0.
+    /// How many symbols are not 0.
     #[inline]
-    pub(crate) fn is_idle(&self) -> bool
-        ensures { result ≡ true → self.now ≡ replicate 24 0 }
+    pub(crate) fn weight(&self) -> u8
+        ensures { result ≡ differences self.now (replicate 24 0) }
     {
-        let mut all = 0;
+        let mut count = 0;
         for byte in &self.bytes {
-            all |= *byte;
+            if *byte != 0 {
+                count += 1;
+            }
         }
-        all == 0
+        count
     }
 
     /// A law: each word has 24 symbols below 64.
@@ -102,20 +104,5 @@ impl Word {
         let mut bytes = self.bytes;
         bytes[i] = self.get(i).add(error).value();
         Word { bytes }
-    }
-
-    /// At how many positions the words differ.
-    pub(crate) fn differences(&self, other: &Word) -> u8
-        ensures { result ≡ differences self.now other.now }
-    {
-        let mine = self.bytes();
-        let others = other.bytes();
-        let mut count = 0;
-        for i in 0..SYMBOLS {
-            if mine[i] != others[i] {
-                count += 1;
-            }
-        }
-        count
     }
 }
