@@ -1,7 +1,7 @@
 // The packs of a file as a source.
 ghost use Rattle.std.specs.Prelude.{◌≡◌, length};
 ghost use Rattle.raw_subcode.specs.Channels.{symbols_of};
-ghost use Rattle.cdg_press.specs.Pressed.{IsMadeGood};
+ghost use Rattle.cdg_instructions.specs.MadeGood.{IsMadeGood};
 
 use crate::checks::PACK_BYTES;
 use gf64::Sym;
