@@ -401,6 +401,11 @@ def pressed(disc, packs):
     return disc.stream([IDLE] * 593 + packs)
 
 
+def with_other_bits(pack):
+    """The pack with all upper bits set, and with the opposite of its parity."""
+    return bytes(192 | (byte ^ 63 if place in (2, 3, 20, 21, 22, 23) else byte) for place, byte in enumerate(pack))
+
+
 def checkpoint(program, bad=0, slots=bytes(168), to_come=0, lead_in=0):
     """A checkpoint of a screen on which all is zero."""
     counts = b"".join(number.to_bytes(4, "big") for number in (to_come, lead_in, program, bad))
@@ -431,6 +436,8 @@ def values():
     yield "a-pressed-pack", "digest", digest(pressed(one, [memory_preset(0)]))
     yield "a-file-of-all-instructions", "out", b"".join(ALL).hex()
     yield "all-instructions-are-pressed", "digest", digest(pressed(Disc(ONE, 10, 0), ALL))
+    yield "a-file-with-bits-of-its-own", "out", b"".join(map(with_other_bits, ALL)).hex()
+    yield "four-instructions-with-texts", "digest", digest(pressed(titled, ALL[:4]))
     yield "a-checkpoint-of-nothing", "out", f"43 44 47 53 41 56 45 31 65035*00 {checkpoint(0)[-2:].hex()}"
     yield "a-checkpoint-of-two-blocks", "out", f"43 44 47 53 41 56 45 31 11*00 02 65023*00 {checkpoint(2)[-2:].hex()}"
     in_lead_in = checkpoint(0, to_come=1, lead_in=2)[-2:].hex()

@@ -15,7 +15,11 @@ use Rattle.cdtext_packs.specs.SheetTexts.{texts_of_sheet}
 use Rattle.picture_script.specs.Script.{Drawing, picture_pixel}
 use Rattle.picture_changes.specs.Shown.{AreTimesInOrder, AreColoursInRange}
 use Rattle.stream_writer.specs.Blocks.{carrying_block, lead_in_block, program_block, stream_bytes, symbols_at, IsBuilt}
+use Rattle.stream_writer.specs.Framing.{HasFraming}
 use Rattle.stream_writer.specs.Given.{symbols_from}
+use Rattle.stream_writer.specs.Needs.{HasLayout}
+use Rattle.raw_subcode.specs.Channels.{program_symbols}
+use Rattle.raw_subcode.specs.declared.form.Form.TheVariants.{Raw}
 use Rattle.authored_streams.proofs.Prompt.{PlannedIsChange, are_prompt}
 use Rattle.subcode_author.specs.Authored.{text_packs, IsWrittenStream}
 use Rattle.subcode_author.specs.AuthorAnswer.{IsAccepted}
@@ -61,30 +65,40 @@ module _ (layout : DiscLayout) (texts : List (List ℕ)) (lead_in : ℕ) (symbol
   blocks_are : AreBuilt layout texts lead_in symbols
   blocks_are = record { contents = contents_built; program = program_built }
 
+-- a disc that has a layout has a stream with any codewords, as many as it has room for
+pub carrying_stream : SpreadCarries → (sheet : CueSheet) (lead_in audio : ℕ) (packs : List (List ℕ)) → IsSheet sheet → HasLayout sheet audio → lead_in ≤ 450000
+    → length packs ≡ whole_packs (program_blocks sheet audio) → All IsCodeword packs
+    → (bytes : List ℕ) × HasFraming (layout_of sheet audio) (text_packs sheet) lead_in bytes × Carries (program_blocks sheet audio) (program_symbols Raw bytes lead_in) packs
+carrying_stream spread sheet lead_in audio packs is_sheet disc few count codewords =
+    let layout : DiscLayout = layout_of sheet audio in
+    let blocks : ℕ = program_blocks sheet audio in
+    let texts : List (List ℕ) = text_packs sheet in
+    let symbols : List ℕ = symbols_from [] (filled_with_idle (4 * blocks) packs) in
+    let carries : Carries blocks symbols packs = spread blocks packs count codewords in
+    let contents_valid = sheet_toc_valid sheet audio is_sheet disc.0 disc.1 lead_in in
+    let program_valid = sheet_program_valid sheet audio is_sheet disc.0 disc.1 in
+    let built = blocks_are layout texts lead_in symbols carries.size (carried_small blocks symbols packs carries) (packs_eighteen (texts_of_sheet sheet)) (λ l lt. contents_valid l lt few) program_valid in (
+      stream_bytes layout texts lead_in blocks symbols,
+      framing layout texts lead_in symbols built,
+      subst (λ (s : List ℕ). Carries blocks s packs) (sym (program_is layout texts lead_in symbols built carries.size)) carries,
+    )
+
 pub has_stream : SpreadCarries → PlannedIsChange → PacksAreSchedule → ChangesAreWritten → (sheet : CueSheet) (script : List Drawing) (lead_in audio : ℕ)
     → IsSheet sheet → AreTimesInOrder script → AreColoursInRange script → ((k x y : ℕ) → picture_pixel script k x y < 16) → lead_in ≤ 450000 → IsAccepted sheet script lead_in audio
     → (bytes : List ℕ) × (packs : List (List ℕ)) × IsWrittenStream sheet script lead_in audio bytes packs
 has_stream spread is_change schedule known sheet script lead_in audio is_sheet order colours pixels few accepted =
-    let layout : DiscLayout = layout_of sheet audio in
     let blocks : ℕ = program_blocks sheet audio in
-    let texts : List (List ℕ) = text_packs sheet in
     let prompt = are_prompt is_change script colours pixels accepted.ready in
     let (packs, count, written, codewords) = packs_exist script order prompt known colours pixels (whole_packs blocks) in
     let (survey, surveyed) = survey_exists script order prompt in
-    let symbols : List ℕ = symbols_from [] (filled_with_idle (4 * blocks) packs) in
-    let carries : Carries blocks symbols packs = spread blocks packs count codewords in
-    let small = carried_small blocks symbols packs carries in
-    let eighteen = packs_eighteen (texts_of_sheet sheet) in
-    let contents_valid = sheet_toc_valid sheet audio is_sheet accepted.disc.0.0 accepted.disc.0.1 lead_in in
-    let program_valid = sheet_program_valid sheet audio is_sheet accepted.disc.0.0 accepted.disc.0.1 in
-    let built = blocks_are layout texts lead_in symbols carries.size small eighteen (λ l lt. contents_valid l lt few) program_valid in (
-      stream_bytes layout texts lead_in blocks symbols,
+    let (bytes, framed, carries) = carrying_stream spread sheet lead_in audio packs is_sheet accepted.disc.0 few count codewords in (
+      bytes,
       packs,
       record {
         authored = record {
         schedule = schedule script blocks survey packs colours pixels order.held (within script blocks order prompt accepted.disc.1) surveyed count written;
-        framing = framing layout texts lead_in symbols built;
-        carries = subst (λ (s : List ℕ). Carries blocks s packs) (sym (program_is layout texts lead_in symbols built carries.size)) carries;
+        framing = framed;
+        carries = carries;
         enough = λ some. (accepted.room some).1;
         };
         planned = written;

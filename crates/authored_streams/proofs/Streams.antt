@@ -7,7 +7,7 @@ use Rattle.raw_subcode.specs.declared.form.Form.TheVariants.{Raw}
 use Rattle.q_frame.specs.declared.frame.QFrame.{QFrame}
 use Rattle.rw_interleave.specs.Interleave.{Carries}
 use Rattle.cue_sheet.specs.CueSheet.{CueSheet}
-use Rattle.toc_model.specs.Places.{DiscLayout, layout_of, program_blocks}
+use Rattle.toc_model.specs.Places.{DiscLayout, layout_of}
 use Rattle.toc_model.specs.Layout.{p_bit, program_frame, toc_frame}
 use Rattle.cdtext_packs.specs.LeadIn.{lead_in_symbols}
 use Rattle.picture_script.specs.Script.{Drawing}
@@ -51,6 +51,18 @@ module _ (layout : DiscLayout) (texts : List (List ℕ)) (lead_in : ℕ) (bytes 
   unfolding stream_bytes
   stream_is = two_parts bytes (lead_in_block layout texts lead_in) (program_block layout (program_symbols Raw bytes lead_in)) lead_in layout.blocks framing.size lead_in_is program_is
 
+-- the packs and the framing fix the bytes
+pub same_bytes : (layout : DiscLayout) (texts : List (List ℕ)) (lead_in : ℕ) (bytes bytes' : List ℕ) (packs packs' : List (List ℕ)) → packs ≡ packs'
+    → HasFraming layout texts lead_in bytes → HasFraming layout texts lead_in bytes'
+    → Carries layout.blocks (program_symbols Raw bytes lead_in) packs → Carries layout.blocks (program_symbols Raw bytes' lead_in) packs' → bytes ≡ bytes'
+same_bytes layout texts lead_in bytes bytes' packs packs' same framing framing' carries carries' =
+    let symbols : program_symbols Raw bytes lead_in ≡ program_symbols Raw bytes' lead_in =
+    same_symbols layout.blocks (program_symbols Raw bytes lead_in) (program_symbols Raw bytes' lead_in) packs'
+    (subst (λ (ps : List (List ℕ)). Carries layout.blocks (program_symbols Raw bytes lead_in) ps) same carries) carries' in
+    sym (stream_is layout texts lead_in bytes framing)
+    ∙ ap (stream_bytes layout texts lead_in layout.blocks) symbols
+    ∙ stream_is layout texts lead_in bytes' framing'
+
 pub same_authored_packs : (sheet : CueSheet) (script : List Drawing) (lead_in audio : ℕ) (bytes bytes' : List ℕ) (packs packs' : List (List ℕ))
     → IsWrittenStream sheet script lead_in audio bytes packs → IsWrittenStream sheet script lead_in audio bytes' packs' → packs ≡ packs'
 same_authored_packs sheet script lead_in audio bytes bytes' packs packs' one other = same_packs script packs packs' (one.authored.carries.count ∙ sym other.authored.carries.count) one.planned other.planned
@@ -58,11 +70,5 @@ same_authored_packs sheet script lead_in audio bytes bytes' packs packs' one oth
 pub same_authored_bytes : (sheet : CueSheet) (script : List Drawing) (lead_in audio : ℕ) (bytes bytes' : List ℕ) (packs packs' : List (List ℕ))
     → IsWrittenStream sheet script lead_in audio bytes packs → IsWrittenStream sheet script lead_in audio bytes' packs' → bytes ≡ bytes'
 same_authored_bytes sheet script lead_in audio bytes bytes' packs packs' one other =
-    let layout : DiscLayout = layout_of sheet audio in
-    let blocks : ℕ = program_blocks sheet audio in
-    let packs_same = same_authored_packs sheet script lead_in audio bytes bytes' packs packs' one other in
-    let symbols : program_symbols Raw bytes lead_in ≡ program_symbols Raw bytes' lead_in =
-    same_symbols blocks (program_symbols Raw bytes lead_in) (program_symbols Raw bytes' lead_in) packs' (subst (λ (ps : List (List ℕ)). Carries blocks (program_symbols Raw bytes lead_in) ps) packs_same one.authored.carries) other.authored.carries in
-    sym (stream_is layout (text_packs sheet) lead_in bytes one.authored.framing)
-    ∙ ap (stream_bytes layout (text_packs sheet) lead_in blocks) symbols
-    ∙ stream_is layout (text_packs sheet) lead_in bytes' other.authored.framing
+    same_bytes (layout_of sheet audio) (text_packs sheet) lead_in bytes bytes' packs packs' (same_authored_packs sheet script lead_in audio bytes bytes' packs packs' one other)
+    one.authored.framing other.authored.framing one.authored.carries other.authored.carries

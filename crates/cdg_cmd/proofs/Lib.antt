@@ -11,6 +11,7 @@ pub mod Merged
 mod Played
 mod PressTold
 mod PressedBack
+mod PressedShown
 mod Pumped
 mod Quiet
 mod ResumeTold

@@ -1,24 +1,65 @@
--- The packs of a pressed stream come back.
-use Rattle.std.proofs.Common.{◌≡◌, ℕ, List, Some, None, IfSome, subst, arith}
+-- What is pressed comes back.
+use Rattle.std.proofs.Common.{◌≡◌, ◌≢◌, ℕ, ◌+◌, ◌*◌, ◌≤◌, List, Some, None, IfSome, subst, arith}
 use Rattle.std.specs.List.{concat}
 use Rattle.raw_subcode.specs.declared.form.Form.{Form}
-use Rattle.cue_sheet.specs.CueSheet.{CueSheet}
 use Rattle.stream_words.specs.Stream.{all_packs}
 use Rattle.toc_model.specs.Places.{program_blocks}
 use Rattle.subcode_player.specs.Convert.{IsDamagedStream}
-use Rattle.pressed_streams.specs.Damaged.{IsDamagedPress}
-use Rattle.cdg_cmd.specs.Answer.{GivesBack}
+use Rattle.pressed_streams.specs.Damaged.{DamagedPress}
+use Rattle.cdg_cmd.specs.Answer.{Does, GivesBack}
 use Rattle.cdg_cmd.specs.Call.{Bytes, Change}
 use Rattle.cdg_cmd.specs.Headline.{written_packs}
+use Rattle.cdg_cmd.specs.Unpresses.{PutsFilePicture, Unpresses}
+use Rattle.cdg_cmd.specs.declared.command.Command.{Command}
+use Rattle.cdg_cmd.specs.declared.command.Command.TheVariants.{Convert, Screen, State, Check, Q, Text, Author, Planar, Raw, Scratch, Gen, Trial, Merge, Thin, Press, Save, Resume}
 use Rattle.cdg_cmd.specs.declared.status.Status.{Status}
-use Rattle.cdg_cmd.proofs.SecondHalf.{packs_written}
+use Rattle.cdg_cmd.specs.declared.status.Status.TheVariants.{NoMemory}
+use Rattle.cdg_cmd.proofs.PressedShown.{FilesAreShown, file_shown}
+use Rattle.cdg_cmd.proofs.SecondHalf.{GivesNoneBad, GivesPacks, converted_back, packs_written}
+use Rattle.cdg_cmd.proofs.WholeInputs.{both}
 
-pub pressed_back : (form : Form) (sheet : CueSheet) (file : List ℕ) (lead_in audio : ℕ) (packs : List (List ℕ)) (left : Bytes) (out : Change Bytes) (status : Status)
-    → ((others : List ℕ) → IsDamagedPress form sheet file lead_in audio others packs → IsDamagedStream form lead_in (program_blocks sheet audio) packs others)
-    → IfSome left (λ all. (blocks : ℕ) (packs : List (List ℕ)) → IsDamagedStream form lead_in blocks packs all → GivesBack (concat (all_packs form blocks packs)) out status)
-    → IfSome left (λ all. IsDamagedPress form sheet file lead_in audio all packs → GivesBack (concat (written_packs form packs)) out status)
-pressed_back form sheet file lead_in audio packs None out status law gives = tt
-pressed_back form sheet file lead_in audio packs (Some all) out status law gives = λ damaged.
-    let words : all_packs form (program_blocks sheet audio) packs ≡ written_packs form packs =
-    packs_written form (program_blocks sheet audio) packs damaged.pressed.carries.count (omega (arith)) in
-    subst (λ (ps : List (List ℕ)). GivesBack (concat ps) out status) words (gives (program_blocks sheet audio) packs (law all damaged))
+-- what the laws of the layers below say
+pub record PressesComeBack : Type 0 where
+  pub stream : (form : Form) (lead_in : ℕ) (others : List ℕ) (press : DamagedPress form lead_in others) → IsDamagedStream form lead_in (program_blocks press.sheet press.audio) press.packs others
+  pub shown : FilesAreShown
+  pub packs : GivesPacks
+  pub none_bad : GivesNoneBad
+
+module _ (laws : PressesComeBack) (all : List ℕ) (left' more more' : Bytes) (out : Change Bytes) (status : Status) where
+  packs_back : (lead_in : ℕ) (form : Form) → (status ≢ NoMemory → Does (Convert lead_in form) (both (Some all) left' more more' out) status)
+      → (press : DamagedPress form lead_in all) → GivesBack (concat (written_packs form press.packs)) out status
+  packs_back lead_in form does press =
+      let blocks : ℕ = program_blocks press.sheet press.audio in
+      let words : all_packs form blocks press.packs ≡ written_packs form press.packs = packs_written form blocks press.packs press.pressed.carries.count (omega (arith)) in
+      subst (λ (ps : List (List ℕ)). GivesBack (concat ps) out status) words
+      (converted_back form lead_in left' more more' out status laws.packs laws.none_bad (Some all) does blocks press.packs (laws.stream form lead_in all press))
+
+  picture_back : (lead_in : ℕ) (form : Form) (at time : ℕ) → at ≡ 150 + time → (status ≢ NoMemory → Does (Screen lead_in form at) (both (Some all) left' more more' out) status)
+      → (press : DamagedPress form lead_in all) → time ≤ press.audio → PutsFilePicture press.file (4 * time) out status
+  picture_back lead_in form at time is does press in_audio =
+      file_shown laws.shown form lead_in time all press in_audio left' more more' out status
+      (subst (λ (t : ℕ). status ≢ NoMemory → Does (Screen lead_in form t) (both (Some all) left' more more' out) status) is does)
+
+  unpressed : (command : Command) → (status ≢ NoMemory → Does command (both (Some all) left' more more' out) status) → Unpresses command all out status
+  unpressed (Convert lead_in form) does = λ press. packs_back lead_in form does press
+  unpressed (Screen lead_in form at) does = λ press time is in_audio. picture_back lead_in form at time is does press in_audio
+  unpressed (State lead_in form at) does = tt
+  unpressed (Check lead_in form) does = tt
+  unpressed (Q lead_in form) does = tt
+  unpressed (Text lead_in form) does = tt
+  unpressed (Author lead_in length) does = tt
+  unpressed Planar does = tt
+  unpressed Raw does = tt
+  unpressed (Scratch lead_in seed) does = tt
+  unpressed (Gen seed pictures) does = tt
+  unpressed (Trial seed pictures) does = tt
+  unpressed (Merge lead_in) does = tt
+  unpressed Thin does = tt
+  unpressed (Press lead_in length) does = tt
+  unpressed (Save lead_in) does = tt
+  unpressed (Resume at) does = tt
+
+pub pressed_back : PressesComeBack → (command : Command) (left left' more more' : Bytes) (out : Change Bytes) (status : Status)
+    → (status ≢ NoMemory → Does command (both left left' more more' out) status) → IfSome left (λ all. Unpresses command all out status)
+pressed_back laws command None left' more more' out status does = tt
+pressed_back laws command (Some all) left' more more' out status does = unpressed laws all left' more more' out status command does

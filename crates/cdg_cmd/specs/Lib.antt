@@ -17,5 +17,6 @@ pub mod Splitting
 pub mod Thinned
 pub mod Told
 pub mod Turns
+pub mod Unpresses
 pub mod WordSteps
 pub mod Words

@@ -9,7 +9,6 @@ ghost use Rattle.toc_model.specs.Places.{layout_of, program_blocks};
 ghost use Rattle.subcode_author.specs.Authored.{IsAuthored};
 ghost use Rattle.rw_merge.specs.Readings.{IsReadTwice};
 ghost use Rattle.cdg_thin.specs.Calls.{ShowsAll};
-ghost use Rattle.pressed_streams.specs.Damaged.{IsDamagedPress};
 ghost use Rattle.std.specs.Io.KnownBytes.{Appends};
 ghost use Rattle.subcode_player.specs.Pictured.{IsHeldAt};
 ghost use Rattle.authored_listings.specs.FrameLines.{frame_lines};
@@ -25,6 +24,7 @@ ghost use Rattle.cdg_cmd.specs.Authors.{IsScriptText, IsSheetText};
 ghost use Rattle.cdg_cmd.specs.Headline.{HavePlace, IsDamagedCopy, PutsPicture, WritesOrIsLate, written_packs};
 ghost use Rattle.cdg_cmd.specs.LeadInTexts.{AreLinesOf};
 ghost use Rattle.cdg_cmd.specs.Resumes.{ResumesFrom};
+ghost use Rattle.cdg_cmd.specs.Unpresses.{Unpresses};
 
 use crate::author::run_author;
 use crate::check::run_check;
@@ -49,7 +49,7 @@ use authored_listings::{
 use authored_streams::accepted_scripts_are_in_order;
 use cdg_checkpoint::a_saved_stream_goes_on_as_the_whole;
 use cdg_io::{Sink, Source, SteadySink, SteadySource};
-use pressed_streams::pressed_packs_come_back;
+use pressed_streams::{pressed_files_are_shown, pressed_packs_come_back};
 use rw_merge::two_readings_give_packs;
 use shortest_changes::needs_are_fewest;
 use std::alloc::Global;
@@ -149,11 +149,10 @@ pub fn run<S: Source, T: Source, K: Sink, E: Sink>(
         → IfSome (S.left first.old) (λ one. IfSome (T.left second.old) (λ other. (blocks : ℕ)
         (packs : List (List ℕ)) → IsReadTwice lead_in blocks packs one other
         → GivesBack (concat packs) (change K.held out.old out.new) result)) }
-    // From a pressed stream, after damage of at most two symbols a word, a conversion gives back every pack.
-    ensures unpresses { (lead_in audio : ℕ) (form : Form) (sheet : CueSheet) (file : List ℕ)
-        (packs : List (List ℕ)) → Spells (Command.Convert lead_in form) (texts words.now)
-        → IfSome (S.left first.old) (λ all. IsDamagedPress form sheet file lead_in audio all packs
-        → GivesBack (concat (written_packs form packs)) (change K.held out.old out.new) result) }
+    // From a pressed stream, after damage of at most two symbols a word, a conversion gives back every pack, and the
+    // screen shows, so many blocks after the audio has begun, what stands after four packs of the file for each.
+    ensures unpresses { (command : Command) → Spells command (texts words.now)
+        → IfSome (S.left first.old) (λ all. Unpresses command all (change K.held out.old out.new) result) }
     // From the file of a checkpoint, whoever made it, and the rest of a stream, what stands at a time is written;
     // where `save` made it of the first part of a stream, `screen` answers and writes the same with the whole stream.
     ensures resumes { (at : ℕ) → Spells (Command.Resume at) (texts words.now) → IsAnswered result
@@ -176,6 +175,7 @@ pub fn run<S: Source, T: Source, K: Sink, E: Sink>(
     two_readings_give_packs();
     pressed_packs_come_back();
     a_saved_stream_goes_on_as_the_whole();
+    pressed_files_are_shown();
     let status = answer(alloc, words, first, second, out);
     // A failure there changes nothing.
     let _told = tell(err, status);

@@ -1,3 +1,4 @@
 pub mod Instruction
 pub mod Drawing
 pub mod Meaning
+pub mod MadeGood

@@ -3,7 +3,8 @@ use Rattle.std.proofs.Common.{◌≡◌, ℕ, zero, suc, ◌+◌, ◌-◌, ◌/�
 use Rattle.std.proofs.lemmas.List.{length-drop}
 use Rattle.bit_lists.specs.Counting.{parts}
 use Rattle.raw_subcode.specs.Channels.{symbols_of}
-use Rattle.cdg_press.specs.Pressed.{file_pack, file_packs, IsMadeGood, IsPackAfter}
+use Rattle.cdg_instructions.specs.MadeGood.{IsMadeGood}
+use Rattle.cdg_press.specs.Pressed.{file_pack, file_packs, IsPackAfter}
 use Rattle.stream_writer.specs.Given.{ComesLater}
 
 -- the first pack of a file, and the others

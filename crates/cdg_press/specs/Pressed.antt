@@ -1,11 +1,10 @@
 -- The stream that is written for a cue sheet and a file of packs.
 use Rattle.std.specs.Prelude.{◌≡◌, ℕ, ◌+◌, ◌/◌, ◌%◌, ◌<◌, ◌≤◌, ◌⊎◌, List, [], length, map, slice_index_or}
 use Rattle.bit_lists.specs.Counting.{whole_parts}
-use Rattle.rw_code.specs.Codeword.{IsCodeword}
 use Rattle.rw_interleave.specs.Interleave.{whole_packs, Carries}
 use Rattle.raw_subcode.specs.Channels.{program_symbols, symbols_of}
 use Rattle.raw_subcode.specs.declared.form.Form.TheVariants.{Raw}
-use Rattle.cdg_instructions.specs.Instruction.{message_of}
+use Rattle.cdg_instructions.specs.MadeGood.{IsMadeGood}
 use Rattle.cue_sheet.specs.CueSheet.{CueSheet}
 use Rattle.toc_model.specs.Places.{layout_of, program_blocks}
 use Rattle.stream_writer.specs.Framing.{HasFraming}
@@ -19,11 +18,6 @@ file_packs file = map symbols_of (whole_parts 24 file)
 -- pack n of a file
 abbrev pub file_pack : List ℕ → ℕ → List ℕ
 file_pack file n = slice_index_or (file_packs file) n []
-
--- the codeword that symbols make when their parity, at 2, 3 and 20 to 23, is made good
-pub record IsMadeGood (symbols word : List ℕ) : Type 0 where
-  pub codeword : IsCodeword word
-  pub message : message_of word ≡ message_of symbols
 
 -- the pack of the stream that is the file's first: its last symbol comes with the first slot of the audio
 abbrev pub file_begin : ℕ

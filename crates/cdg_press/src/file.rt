@@ -1,7 +1,8 @@
 // The packs of a file as a source.
-ghost use Rattle.std.specs.Prelude.{◌≡◌, length};
+ghost use Rattle.std.specs.Prelude.{◌≡◌, length, unwrap_or};
 ghost use Rattle.raw_subcode.specs.Channels.{symbols_of};
-ghost use Rattle.cdg_press.specs.Pressed.{IsMadeGood};
+ghost use Rattle.cdg_instructions.specs.MadeGood.{IsMadeGood};
+ghost use Rattle.stream_writer.specs.Given.{idle_pack};
 
 use crate::checks::PACK_BYTES;
 use gf64::Sym;
@@ -32,21 +33,25 @@ impl<'a> PackSource for FileSource<'a> {
         }
         let (pack, rest) = self.rest.split_at(PACK_BYTES);
         self.rest = rest;
-        unless_idle(made_good(pack))
+        made_good(pack)
     }
 }
 
-/// The codeword of the symbols of a pack, whatever parity it has.
-fn made_good(pack: &[u8]) -> Pack
+/// The codeword of the symbols of a pack, whatever parity it has, or none where it is idle. Most packs of a file are idle, and
+/// these are told without a look at their sums.
+fn made_good(pack: &[u8]) -> Option<Pack>
     requires { length pack.now ≡ 24 }
-    ensures { IsMadeGood (symbols_of pack.now) result }
+    ensures { IsMadeGood (symbols_of pack.now) (unwrap_or result idle_pack) }
 {
     let mut bytes = [0; PACK_BYTES];
     bytes.copy_from_slice(pack);
     let word = Word::new(&bytes);
+    if word.bytes() == [0; PACK_BYTES] {
+        return None;
+    }
     match Pack::check(&word) {
-        Some(good) => good,
-        None => sealed(&word),
+        Some(good) => Some(good),
+        None => unless_idle(sealed(&word)),
     }
 }
 

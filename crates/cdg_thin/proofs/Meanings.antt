@@ -5,12 +5,13 @@ use Rattle.std.proofs.lemmas.List.Elements.{All-take, All-drop}
 use Rattle.bit_lists.specs.Counting.{below}
 use Rattle.rw_code.proofs.CodewordLemmas.{idle_is_codeword}
 use Rattle.cdg_instructions.specs.Instruction.{Means, IsGraphics, IsTile, IsScroll, known_codes, content, content_of, message_of, table_colour, move, offset_across, offset_down}
+use Rattle.cdg_instructions.specs.MadeGood.{IsMadeGood}
 use Rattle.cdg_instructions.specs.Meaning.{meaning}
 use Rattle.cdg_instructions.proofs.Meaning.{meaning_means, only_meaning}
 use Rattle.cdg_instructions.proofs.Symbols.{message_of-has, head_of_message, body_of_message, content_of-message}
 use Rattle.cdg_instructions.specs.declared.instr.Instr.{Instr}
 use Rattle.cdg_instructions.specs.declared.instr.Instr.TheVariants.{Idle, Foreign, Unknown, MemoryPreset, BorderPreset, SetTile, XorTile, ScrollPreset, ScrollCopy, Transparency, ColoursLow, ColoursHigh}
-use Rattle.cdg_thin.specs.Thin.{IsInstructionOf, IsMadeGood, idle_pack, low_bits}
+use Rattle.cdg_thin.specs.Thin.{IsInstructionOf, idle_pack, low_bits}
 use Rattle.cdg_thin.specs.Steps.{instruction_of}
 use Rattle.cdg_thin.proofs.Sealing.{sealed_word}
 
@@ -76,17 +77,17 @@ length-low_bits : (pack : List ℕ) → length (low_bits pack) ≡ length pack
 length-low_bits pack = length-map pack (λ byte. byte % 64)
 
 -- the codeword made of a pack means what its symbols mean
-pub made_good_means : (pack word : List ℕ) (instr : Instr) → IsMadeGood pack word → Means word instr → instr ≡ instruction_of pack
+pub made_good_means : (pack word : List ℕ) (instr : Instr) → IsMadeGood (low_bits pack) word → Means word instr → instr ≡ instruction_of pack
 unfolding instruction_of
 made_good_means pack word instr made means =
-    only_meaning (low_bits pack) instr (means_same word (low_bits pack) instr (alike word (low_bits pack) made.codeword.is_word.size (length-low_bits pack ∙ made.size) made.message) means)
+    only_meaning (low_bits pack) instr (means_same word (low_bits pack) instr (alike word (low_bits pack) made.codeword.is_word.size made.size made.message) means)
 
 -- 24 bytes have one instruction
 pub only_instruction : (pack : List ℕ) (instr : Instr) → IsInstructionOf pack instr → instr ≡ instruction_of pack
 only_instruction pack instr h = made_good_means pack h.0 instr h.1 h.2
 
 pub instruction_size : (pack : List ℕ) (instr : Instr) → IsInstructionOf pack instr → length pack ≡ 24
-instruction_size pack instr h = h.1.size
+instruction_size pack instr h = sym (length-low_bits pack) ∙ h.1.size
 
 -- each symbol is below 64
 low_at : (pack : List ℕ) (k d : ℕ) → k < length pack → get_or (low_bits pack) k d < 64
@@ -111,7 +112,7 @@ has_instruction pack size =
     let body_count : length (content_of symbols) ≡ 16 = length-take-le 16 (drop 4 symbols) (omega (arith, length-drop 4 symbols)) in
     let (word, is_codeword, message) = sealed_word (get_or symbols 0 0) (get_or symbols 1 0) (content_of symbols) (low_at pack 0 0 (omega arith)) (low_at pack 1 0 (omega arith)) body_count body_small in
     let same : message_of word ≡ message_of symbols = message ∙ sym (split_message symbols count) in
-    (word, record { size = size; codeword = is_codeword; message = same }, means_same symbols word (meaning symbols) (alike symbols word count is_codeword.is_word.size (sym same)) (meaning_means symbols))
+    (word, record { size = count; codeword = is_codeword; message = same }, means_same symbols word (meaning symbols) (alike symbols word count is_codeword.is_word.size (sym same)) (meaning_means symbols))
 
 -- an idle pack says nothing
 pub idle_instruction : IsInstructionOf idle_pack Idle

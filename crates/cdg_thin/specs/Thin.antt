@@ -2,8 +2,8 @@
 use Rattle.std.specs.Prelude.{◌≡◌, ℕ, ◌%◌, ◌<◌, ◌⊎◌, Bool, true, false, IsTrue, List, [], ◌∷◌, ◌++◌, length, map, take, replicate, slice_index_or}
 use Rattle.std.specs.List.{concat}
 use Rattle.bit_lists.specs.Counting.{whole_parts}
-use Rattle.rw_code.specs.Codeword.{IsCodeword}
-use Rattle.cdg_instructions.specs.Instruction.{Means, message_of}
+use Rattle.cdg_instructions.specs.Instruction.{Means}
+use Rattle.cdg_instructions.specs.MadeGood.{IsMadeGood}
 use Rattle.cdg_screen.specs.Picture.{blank, standing_after, SameStanding}
 use Rattle.cdg_instructions.specs.declared.instr.Instr.{Instr}
 use Rattle.cdg_instructions.specs.declared.instr.Instr.TheVariants.{Idle, Foreign, Unknown}
@@ -12,15 +12,9 @@ use Rattle.cdg_instructions.specs.declared.instr.Instr.TheVariants.{Idle, Foreig
 abbrev pub low_bits : List ℕ → List ℕ
 low_bits bytes = map (λ byte. byte % 64) bytes
 
--- the codeword that 24 bytes make: their low six bits but for the parity, which is made good
-pub record IsMadeGood (pack word : List ℕ) : Type 0 where
-  pub size : length pack ≡ 24
-  pub codeword : IsCodeword word
-  pub message : message_of word ≡ message_of (low_bits pack)
-
--- the instruction of 24 bytes
+-- the instruction of 24 bytes: that of their low six bits, with the parity made good
 abbrev pub IsInstructionOf : List ℕ → Instr → Type 0
-IsInstructionOf pack instr = (word : List ℕ) × IsMadeGood pack word × Means word instr
+IsInstructionOf pack instr = (word : List ℕ) × IsMadeGood (low_bits pack) word × Means word instr
 
 -- these are the instructions of the packs, one by one
 pub record AreInstructionsOf (packs : List (List ℕ)) (instrs : List Instr) : Type 0 where

@@ -1,5 +1,5 @@
 -- The packs of a file on the screen.
-use Rattle.std.proofs.Common.{◌≡◌, ℕ, zero, suc, ◌+◌, ◌*◌, ◌/◌, ◌%◌, ◌-◌, ◌<◌, ◌≤◌, List, [], ◌∷◌, ◌++◌, length, get_or, map, take, drop, replicate, inl, inr, refl, sym, ap, ap₂, subst, ◌∙◌, arith}
+use Rattle.std.proofs.Common.{◌≡◌, ℕ, zero, suc, ◌+◌, ◌*◌, ◌/◌, ◌-◌, ◌<◌, ◌≤◌, List, [], ◌∷◌, ◌++◌, length, get_or, map, take, drop, replicate, inl, inr, refl, sym, ap, ap₂, subst, ◌∙◌, arith}
 use Rattle.std.specs.Prelude.{Option, Some}
 use Rattle.std.proofs.Math.Seq.{take-add}
 use Rattle.std.proofs.lemmas.List.{get_or-take, get_or-drop, length-take-le, length-drop, length-map, map-append, take-map, take-append-le, take_all}
@@ -11,6 +11,7 @@ use Rattle.cue_sheet.specs.CueSheet.{CueSheet}
 use Rattle.toc_model.specs.Places.{program_blocks}
 use Rattle.stream_words.specs.Stream.{all_packs, bad_count, word_count, IsRecovered}
 use Rattle.cdg_instructions.specs.Instruction.{Means}
+use Rattle.cdg_instructions.specs.MadeGood.{IsMadeGood}
 use Rattle.cdg_instructions.specs.Meaning.{meaning}
 use Rattle.cdg_instructions.specs.declared.instr.Instr.{Instr}
 use Rattle.cdg_instructions.specs.declared.instr.Instr.TheVariants.{Idle}
@@ -19,8 +20,8 @@ use Rattle.subcode_player.specs.Convert.{IsDamagedStream}
 use Rattle.subcode_player.specs.Shown.{AreMeant, IsScreenAt}
 use Rattle.subcode_player.proofs.Restoring.{Recovers, program_small}
 use Rattle.stream_writer.specs.Given.{idle_pack}
-use Rattle.cdg_press.specs.Pressed.{file_begin, file_pack, file_packs, IsMadeGood, IsPressed}
-use Rattle.pressed_streams.specs.Damaged.{file_standing, IsDamagedPress, IsFileText}
+use Rattle.cdg_press.specs.Pressed.{file_begin, file_pack, file_packs, IsPressed}
+use Rattle.pressed_streams.specs.Damaged.{file_standing, DamagedPress, IsFileText}
 use Rattle.pressed_streams.proofs.Meanings.{same_meaning}
 use Rattle.pressed_streams.proofs.Standings.{idle_around, InTurn}
 
@@ -48,11 +49,6 @@ all_idle (pack ∷ packs) idle = ap₂ (λ i is. i ∷ is) (ap meaning (idle 0 (
 
 -- the packs of a file
 
-size_of_part : (count : ℕ) (bytes : List ℕ) (k : ℕ) → k < count → 24 * count ≤ length bytes → length (get_or (map symbols_of (parts count 24 bytes)) k []) ≡ 24
-size_of_part zero bytes k lt fits = absurd (omega (arith, lt))
-size_of_part (suc count) bytes zero lt fits = length-map (take 24 bytes) (λ byte. byte % 64) ∙ length-take-le 24 bytes (omega (arith, fits))
-size_of_part (suc count) bytes (suc k) lt fits = size_of_part count (drop 24 bytes) k (omega (arith, lt)) (omega (arith, fits, length-drop 24 bytes))
-
 length-parts : (count : ℕ) (bytes : List ℕ) → length (parts count 24 bytes) ≡ count
 length-parts zero bytes = refl
 length-parts (suc count) bytes = ap suc (length-parts count (drop 24 bytes))
@@ -63,7 +59,6 @@ count_of_file file = length-map (parts (length file / 24) 24 file) symbols_of �
 -- packs that are those of a file made good, and idle ones after them
 record AreOfFile (files packs : List (List ℕ)) : Type 0 where
   good : (k : ℕ) → k < length files → k < length packs → IsMadeGood (get_or files k []) (get_or packs k [])
-  sized : (k : ℕ) → k < length files → length (get_or files k []) ≡ 24
   idle : (k : ℕ) → length files ≤ k → k < length packs → get_or packs k [] ≡ idle_pack
 
 of_file_means : (files packs : List (List ℕ)) → AreOfFile files packs → (n : ℕ) × (map meaning packs ≡ map meaning (take (length packs) files) ++ replicate n Idle)
@@ -75,10 +70,9 @@ of_file_means (file ∷ files) (pack ∷ packs) are =
     let here = are.good 0 (omega arith) (omega arith) in
     let rest = of_file_means files packs (record {
       good = λ k lt in_packs. are.good (suc k) (omega (arith, lt)) (omega (arith, in_packs));
-      sized = λ k lt. are.sized (suc k) (omega (arith, lt));
       idle = λ k past in_packs. are.idle (suc k) (omega (arith, past)) (omega (arith, in_packs));
     }) in
-    (rest.0, ap₂ (λ i is. i ∷ is) (same_meaning pack file here.codeword.is_word.size (are.sized 0 (omega arith)) here.message) rest.1)
+    (rest.0, ap₂ (λ i is. i ∷ is) (same_meaning pack file here.codeword.is_word.size here.size here.message) rest.1)
 
 module _ (sheet : CueSheet) (file : List ℕ) (lead_in audio : ℕ) (bytes : List ℕ) (packs : List (List ℕ)) (pressed : IsPressed sheet file lead_in audio bytes packs) (time : ℕ) (in_audio : time ≤ audio) where
   many : file_begin + 4 * time ≤ length packs
@@ -108,7 +102,6 @@ module _ (sheet : CueSheet) (file : List ℕ) (lead_in audio : ℕ) (bytes : Lis
   within_of_file = record {
     good = λ k lt in_packs.
         subst (λ (w : List ℕ). IsMadeGood (file_pack file k) w) (sym (within_at k in_packs)) (pressed.of_file k (omega (arith, lt, count_of_file file)));
-    sized = λ k lt. size_of_part (length file / 24) file k (omega (arith, lt, count_of_file file)) (omega arith);
     idle = λ k past in_packs.
         within_at k in_packs
         ∙ pressed.others (file_begin + k) (omega (arith, in_packs, within_count, many, pressed.carries.count)) (inr (omega (arith, past, count_of_file file)));
@@ -133,36 +126,37 @@ module _ (sheet : CueSheet) (file : List ℕ) (lead_in audio : ℕ) (bytes : Lis
       subst (λ (is : List Instr). SameStanding (standing_after blank is) (file_standing file (4 * time))) (sym (are ∙ first_mean))
       (idle_around laws (length before) (of_file_means (file_packs file) within within_of_file).0 (map meaning (take (4 * time) (file_packs file))))
 
-pub stream_of : (form : Form) (sheet : CueSheet) (file : List ℕ) (lead_in audio : ℕ) (others : List ℕ) (packs : List (List ℕ))
-    → IsDamagedPress form sheet file lead_in audio others packs → IsDamagedStream form lead_in (program_blocks sheet audio) packs others
-stream_of form sheet file lead_in audio others packs press = record {
-  few = press.few;
-  whole = press.whole;
-  symbols = _;
-  carries = press.pressed.carries;
-  damaged = press.damaged;
-}
+module _ (form : Form) (lead_in : ℕ) (others : List ℕ) (press : DamagedPress form lead_in others) where
+  abbrev blocks : ℕ
+  blocks = program_blocks press.sheet press.audio
 
-pub found_is : Recovers → (form : Form) (sheet : CueSheet) (file : List ℕ) (lead_in audio : ℕ) (others : List ℕ) (packs : List (List ℕ)) (found : List (Option (List ℕ)))
-    → IsDamagedPress form sheet file lead_in audio others packs → IsRecovered form (program_symbols form others lead_in) found
-    → found ≡ map (λ pack. Some pack) (all_packs form (program_blocks sheet audio) packs)
-found_is recovers form sheet file lead_in audio others packs found press recovered =
-    recovers form (program_blocks sheet audio) _ (program_symbols form others lead_in) packs found press.pressed.carries (program_small form others lead_in) press.damaged recovered
+  pub stream_of : IsDamagedStream form lead_in (program_blocks press.sheet press.audio) press.packs others
+  stream_of = record {
+    few = press.few;
+    whole = press.whole;
+    symbols = _;
+    carries = press.pressed.carries;
+    damaged = press.damaged;
+  }
 
-module _ (recovers : Recovers) (form : Form) (sheet : CueSheet) (file : List ℕ) (lead_in audio time : ℕ) (others : List ℕ) (packs : List (List ℕ)) (text : List ℕ) (bad : ℕ)
-    (press : IsDamagedPress form sheet file lead_in audio others packs) (in_audio : time ≤ audio) (screen : IsScreenAt form lead_in (150 + time) others text bad) where
-  first_found : take (whole_packs (150 + time)) screen.found ≡ map (λ pack. Some pack) (take (whole_packs (150 + time)) packs)
-  first_found =
-      let within : whole_packs (150 + time) ≤ length packs = omega (arith, many sheet file lead_in audio press.bytes packs press.pressed time in_audio) in
-      ap (take (whole_packs (150 + time))) (found_is recovers form sheet file lead_in audio others packs screen.found press screen.recovered)
-      ∙ take-map (λ pack. Some pack) (whole_packs (150 + time)) (all_packs form (program_blocks sheet audio) packs)
-      ∙ ap (map (λ pack. Some pack)) (take-append-le (whole_packs (150 + time)) packs (replicate (word_count form (program_blocks sheet audio) - length packs) (replicate 24 0)) within)
+  pub found_is : Recovers → (found : List (Option (List ℕ))) → IsRecovered form (program_symbols form others lead_in) found
+      → found ≡ map (λ pack. Some pack) (all_packs form (program_blocks press.sheet press.audio) press.packs)
+  found_is recovers found recovered =
+      recovers form (program_blocks press.sheet press.audio) _ (program_symbols form others lead_in) press.packs found press.pressed.carries (program_small form others lead_in) press.damaged recovered
 
-  pub file_text : OneMeaning → InTurn → IsFileText file (4 * time) text
-  file_text one laws =
-      let are : screen.instrs ≡ map meaning (take (whole_packs (150 + time)) packs) =
-      meant_is one (take (whole_packs (150 + time)) packs) screen.instrs (subst (λ (l : List (Option (List ℕ))). AreMeant l screen.instrs) first_found screen.shown) in
-      (standing_after blank screen.instrs, same_standing sheet file lead_in audio press.bytes packs press.pressed time in_audio laws screen.instrs are, screen.text_is)
+  module _ (recovers : Recovers) (time : ℕ) (text : List ℕ) (bad : ℕ) (in_audio : time ≤ press.audio) (screen : IsScreenAt form lead_in (150 + time) others text bad) where
+    first_found : take (whole_packs (150 + time)) screen.found ≡ map (λ pack. Some pack) (take (whole_packs (150 + time)) press.packs)
+    first_found =
+        let within : whole_packs (150 + time) ≤ length press.packs = omega (arith, many press.sheet press.file lead_in press.audio press.bytes press.packs press.pressed time in_audio) in
+        ap (take (whole_packs (150 + time))) (found_is recovers screen.found screen.recovered)
+        ∙ take-map (λ pack. Some pack) (whole_packs (150 + time)) (all_packs form blocks press.packs)
+        ∙ ap (map (λ pack. Some pack)) (take-append-le (whole_packs (150 + time)) press.packs (replicate (word_count form blocks - length press.packs) (replicate 24 0)) within)
 
-  pub none_bad : NoneBad → bad ≡ 0
-  none_bad none = screen.bad_is ∙ ap bad_count first_found ∙ none (take (whole_packs (150 + time)) packs)
+    pub file_text : OneMeaning → InTurn → IsFileText press.file (4 * time) text
+    file_text one laws =
+        let are : screen.instrs ≡ map meaning (take (whole_packs (150 + time)) press.packs) =
+        meant_is one (take (whole_packs (150 + time)) press.packs) screen.instrs (subst (λ (l : List (Option (List ℕ))). AreMeant l screen.instrs) first_found screen.shown) in
+        (standing_after blank screen.instrs, same_standing press.sheet press.file lead_in press.audio press.bytes press.packs press.pressed time in_audio laws screen.instrs are, screen.text_is)
+
+    pub none_bad : NoneBad → bad ≡ 0
+    none_bad none = screen.bad_is ∙ ap bad_count first_found ∙ none (take (whole_packs (150 + time)) press.packs)

@@ -11,9 +11,13 @@ use Rattle.cdg_screen.specs.Texts.{pixmap}
 use Rattle.subcode_player.specs.Calls.{most_units}
 use Rattle.cdg_press.specs.Pressed.{file_packs, IsPressed}
 
--- whole units of a form whose program differs from that of a pressed stream with these packs in at most two symbols of each word
-pub record IsDamagedPress (form : Form) (sheet : CueSheet) (file : List ℕ) (lead_in audio : ℕ) (others : List ℕ) (packs : List (List ℕ)) : Type 0 where
+-- What was pressed, where these are whole units of a form whose program differs from that of a pressed stream in at most two symbols of each word.
+pub record DamagedPress (form : Form) (lead_in : ℕ) (others : List ℕ) : Type 0 where
+  pub sheet : CueSheet
+  pub file : List ℕ
+  pub audio : ℕ
   pub bytes : List ℕ
+  pub packs : List (List ℕ)
   pub pressed : IsPressed sheet file lead_in audio bytes packs
   pub few : length others ≤ most_units * unit_size form
   pub whole : length others % unit_size form ≡ 0

@@ -110,6 +110,21 @@ lanes_double f =
 turned_at-lt : (bytes : List ℕ) (k : ℕ) → turned_at bytes k < 256
 turned_at-lt bytes k = number_of-lt (map (λ j. has_bit (7 - k) (slice_index bytes j)) (below 8))
 
+worth_small : (b : Bool) → (if b then 1 else 0) < 256
+worth_small true = omega arith
+worth_small false = omega arith
+
+byte_at : (n j : ℕ) → j < 8 → slice_index (bytes_low_first 0 8 n) j ≡ n / 256 ^ j % 256
+byte_at n zero lt = omega arith
+byte_at n (suc zero) lt = refl
+byte_at n (suc (suc zero)) lt = refl
+byte_at n (suc (suc (suc zero))) lt = refl
+byte_at n (suc (suc (suc (suc zero)))) lt = refl
+byte_at n (suc (suc (suc (suc (suc zero))))) lt = refl
+byte_at n (suc (suc (suc (suc (suc (suc zero)))))) lt = refl
+byte_at n (suc (suc (suc (suc (suc (suc (suc zero))))))) lt = refl
+byte_at n (suc (suc (suc (suc (suc (suc (suc (suc j)))))))) lt = absurd (omega (arith, lt))
+
 pub turned_is : (bytes : List ℕ) (n : ℕ) → n ≡ doubled (λ j. lanes_of_byte (slice_index bytes j)) → bytes_low_first 0 8 n ≡ map (turned_at bytes) (below 8)
 unfolding lanes_of_byte
 turned_is bytes n is =
@@ -121,6 +136,14 @@ turned_is bytes n is =
     let first : n % 256 ≡ n / 256 ^ 0 % 256 = omega arith in
     (λ i. (first ∙ at 0 (omega arith)) i ∷ at 1 (omega arith) i ∷ at 2 (omega arith) i ∷ at 3 (omega arith) i
     ∷ at 4 (omega arith) i ∷ at 5 (omega arith) i ∷ at 6 (omega arith) i ∷ at 7 (omega arith) i ∷ [])
+
+-- the bits of a byte, each in a byte of its own
+pub apart_is : (byte n j : ℕ) → j < 8 → n ≡ lanes_of_byte byte → slice_index (bytes_low_first 0 8 n) j ≡ (if has_bit (7 - j) byte then 1 else 0)
+unfolding lanes_of_byte
+apart_is byte n j lt is =
+    let small : (k : ℕ) → worth k byte < 256 = λ k. worth_small (has_bit (7 - k) byte) in
+    let all : (k : ℕ) → k < 8 → n / 256 ^ k % 256 ≡ worth k byte = λ k k_lt. ap (λ m. m / 256 ^ k % 256) is ∙ in_lanes-byte 8 k (λ k. worth k byte) small k_lt in
+    byte_at n j lt ∙ all j lt
 
 -- a byte of eight that are turned
 pub turned_byte : (bytes eight : List ℕ) (k : ℕ) (f : ℕ → ℕ) → k < 8 → eight ≡ map (turned_at bytes) (below 8)

@@ -1,5 +1,6 @@
 // Eight bytes, turned: the bits at each place of them as a byte.
-ghost use Rattle.std.specs.Prelude.{◌≡◌, ◌<◌, ◌+◌, ◌*◌, ℕ, slice_index, length, map};
+ghost use Rattle.std.specs.Prelude.{◌≡◌, ◌<◌, ◌+◌, ◌-◌, ◌*◌, ℕ, slice_index, length, map, if◌then◌else◌};
+ghost use Rattle.bit_lists.specs.Bits.{has_bit};
 ghost use Rattle.bit_lists.specs.Counting.{below};
 ghost use Rattle.raw_subcode.specs.PlanarBytes.{turned_at};
 ghost use Rattle.raw_subcode.specs.Lanes.{lanes_of_byte};
@@ -29,6 +30,14 @@ fn lanes(byte: u8) -> u64
     ensures bound { result < 72340172838076674 }
 {
     LANES[usize::from(byte)]
+}
+
+/// The bits of a byte, each in a byte of its own, the highest first.
+#[inline]
+pub(crate) fn bits_apart(byte: u8) -> [u8; 8]
+    ensures { (j : ℕ) → j < 8 → slice_index result j ≡ (if has_bit (7 - j) byte then 1 else 0) }
+{
+    lanes(byte).to_le_bytes()
 }
 
 /// Eight bytes of a block, from one on and so many apart.

@@ -1,6 +1,5 @@
 mod Accepted
 mod Clean
-mod PressedShown
 mod Refusals
 mod Scratched
 mod SecondFaults

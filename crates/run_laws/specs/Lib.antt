@@ -1,4 +1,3 @@
-pub mod Pressed
 pub mod Ran
 pub mod Refused
 pub mod Undamaged

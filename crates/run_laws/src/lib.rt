@@ -5,7 +5,6 @@ mod causes;
 mod conversions;
 mod discs;
 mod listings;
-mod presses;
 mod readings;
 
 pub use causes::second_faults_come_after_the_first_input;
@@ -15,5 +14,4 @@ pub use conversions::{
 };
 pub use discs::{accepted_discs_are_written, refusals_are_told};
 pub use listings::{authored_texts_are_written, copied_texts_are_written};
-pub use presses::pressed_streams_show_their_files;
 pub use readings::damaged_readings_give_their_packs;

@@ -9,7 +9,7 @@ use Rattle.cdg_cmd.proofs.SecondHalf.{converted_back, gives_none_bad, gives_pack
 use Rattle.raw_subcode.specs.declared.form.Form.TheVariants.{Raw}
 use Rattle.cdg_cmd.proofs.Listings.{authored_size, frames_given, lines_given, spells_allowed, strings_given}
 use Rattle.cdg_cmd.proofs.Merged.{merged_back}
-use Rattle.cdg_cmd.proofs.PressedBack.{pressed_back}
+use Rattle.cdg_cmd.proofs.PressedBack.{PressesComeBack, pressed_back}
 use Rattle.cdg_cmd.proofs.ResumedWhole.{Laws, resumed_from}
 use Rattle.cdg_cmd.proofs.Statuses.{answered}
 use Rattle.cdg_cmd.proofs.Thinning.{all_thinned}
@@ -67,10 +67,14 @@ returns-clause-merges g c = λ lead_in spelled.
     merged_back c.two_readings_give_packs.ensures.text lead_in _ _ _ c.answer-status.result _ _ (c.answer-status.ensures.does (Merge lead_in) spelled)
 
 pub returns-clause-unpresses : goal.returns-clause-unpresses
-returns-clause-unpresses g c = λ lead_in audio form sheet file packs spelled.
-    let out : Change Bytes = change g.K.Sink.held c.args.out.now c.answer-status.new.out in
-    pressed_back form sheet file lead_in audio packs _ out c.answer-status.result (λ others. c.pressed_packs_come_back.ensures.stream form sheet file lead_in audio others packs)
-    (converted_back form lead_in _ None None out c.answer-status.result (gives_packs c.packs_are_recovered.ensures c.text_of_packs.ensures.text c.text_of_packs.ensures.bad) (gives_none_bad c.packs_are_recovered.ensures c.text_of_packs.ensures.text c.text_of_packs.ensures.bad) _ (c.answer-status.ensures.does (Convert lead_in form) spelled))
+returns-clause-unpresses g c = λ command spelled.
+    let laws : PressesComeBack = record {
+      stream = c.pressed_packs_come_back.ensures.stream;
+      shown = record { text = c.pressed_files_are_shown.ensures.text; bad = c.pressed_files_are_shown.ensures.bad };
+      packs = gives_packs c.packs_are_recovered.ensures c.text_of_packs.ensures.text c.text_of_packs.ensures.bad;
+      none_bad = gives_none_bad c.packs_are_recovered.ensures c.text_of_packs.ensures.text c.text_of_packs.ensures.bad;
+    } in
+    pressed_back laws command _ _ _ _ _ c.answer-status.result (c.answer-status.ensures.does command spelled)
 
 pub returns-clause-resumes : goal.returns-clause-resumes
 returns-clause-resumes g c = λ at spelled answered found.

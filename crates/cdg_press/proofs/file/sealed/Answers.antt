@@ -10,6 +10,7 @@ two_of word first second one two (suc (suc k)) lt = absurd (omega (arith, lt))
 
 pub returns : goal.returns
 returns c = record {
+  size = ap length (sym c.bytes-symbols.ensures.same) ∙ c.bytes-symbols.ensures.word.size;
   codeword = c.seal.ensures.codeword;
   message =
       same_message c.seal.result c.args.word.now c.seal.ensures.codeword.is_word.size (ap length (sym c.bytes-symbols.ensures.same) ∙ c.bytes-symbols.ensures.word.size)

@@ -1,0 +1,10 @@
+-- Words whose parity is made good.
+use Rattle.std.specs.Prelude.{◌≡◌, ℕ, List, length}
+use Rattle.rw_code.specs.Codeword.{IsCodeword}
+use Rattle.cdg_instructions.specs.Instruction.{message_of}
+
+-- the codeword that 24 symbols make when their parity, at 2, 3 and 20 to 23, is made good
+pub record IsMadeGood (symbols word : List ℕ) : Type 0 where
+  pub size : length symbols ≡ 24
+  pub codeword : IsCodeword word
+  pub message : message_of word ≡ message_of symbols
