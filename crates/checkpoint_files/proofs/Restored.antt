@@ -1,6 +1,6 @@
 -- What stood, brought back from a file.
-use Rattle.std.proofs.Common.{◌≡◌, ◌≢◌, ℕ, zero, suc, ◌+◌, ◌-◌, ◌*◌, ◌/◌, ◌%◌, ◌<◌, ◌≤◌, ◌==◌, nat_le, ◌&&◌, inl, inr, Bool, true, false, cond, List, [], ◌∷◌, ◌++◌, length, get_or, set, map, take, drop, replicate, refl, sym, ap, ap₂, ◌∙◌, subst, arith, bit_xor, below_more, get_or-set_other, get_or-set_same}
-use Rattle.std.specs.Prelude.{reverse, nat_lt, if◌then◌else◌, All, MatchOption, IsSome, Option, Some, None}
+use Rattle.std.proofs.Common.{◌≡◌, ◌≢◌, ℕ, zero, suc, ◌+◌, ◌-◌, ◌*◌, ◌/◌, ◌%◌, ◌<◌, ◌≤◌, inl, inr, Bool, true, false, cond, List, [], ◌∷◌, ◌++◌, length, get_or, set, take, drop, replicate, refl, sym, ap, ap₂, ◌∙◌, subst, arith, bit_xor, below_more, get_or-set_other, get_or-set_same}
+use Rattle.std.specs.Prelude.{reverse, nat_lt, All, MatchOption, IsSome, Option, Some, None}
 use Rattle.bit_lists.proofs.Groups.{all_below_bound}
 use Rattle.std.specs.List.{AllByRecursion}
 use Rattle.std.proofs.lemmas.Bool.Decides.{eqb_tells, nat_tests}

@@ -1,7 +1,6 @@
 -- What stands while the tiles of a file are drawn.
 use Rattle.std.specs.Prelude.{◌≡◌, ℕ, ◌+◌, ◌*◌, ◌/◌, ◌<◌, nat_lt, if◌then◌else◌}
 use Rattle.cdg_screen.specs.Picture.{Standing, covers}
-use Rattle.checkpoint_files.specs.Checkpoint.{standing_in}
 
 -- the number of the tile that holds a pixel, row by row
 abbrev pub tile_number : ℕ → ℕ → ℕ

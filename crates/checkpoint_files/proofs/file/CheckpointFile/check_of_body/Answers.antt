@@ -1,4 +1,4 @@
-use Rattle.std.proofs.Common.{ap, sym, ◌∙◌, length}
+use Rattle.std.proofs.Common.{ap, sym, length}
 use Rattle.std.proofs.lemmas.List.{length-take-le}
 use Rattle.checkpoint_files.proofs.file.CheckpointFile.check_of_body.Goals as goal
 use Rattle.std.proofs.Common.{arith}

@@ -1,4 +1,4 @@
-use Rattle.std.proofs.Common.{sym, ap, ◌∙◌}
+use Rattle.std.proofs.Common.{ap, ◌∙◌}
 use Rattle.checkpoint_files.specs.Table.{empty_symbols}
 use Rattle.checkpoint_files.proofs.SlotRanges.{slots_checked}
 use Rattle.checkpoint_files.proofs.file.CheckpointFile.check_slots.Goals as goal

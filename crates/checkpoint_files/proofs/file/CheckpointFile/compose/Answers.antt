@@ -2,7 +2,7 @@ use Rattle.std.proofs.Common.{◌≡◌, [], ◌∷◌, List, ℕ, refl, sym, ap
 use Rattle.cdg_screen.specs.Picture.{Standing, standing_of}
 use Rattle.bit_lists.specs.Check.{check_of}
 use Rattle.checkpoint_files.specs.Table.{Border, Across, Down, Slots, Memory, Colours, Levels, Mark, ToCome, LeadIn, Program, Bad, body_parts}
-use Rattle.checkpoint_files.specs.Checkpoint.{Checkpoint, kept, part_bytes, body, with_parts}
+use Rattle.checkpoint_files.specs.Checkpoint.{Checkpoint, kept, part_bytes, with_parts}
 use Rattle.checkpoint_files.proofs.Writing.{slots_written, body_written, file_written, two_bytes}
 use Rattle.checkpoint_files.proofs.file.CheckpointFile.compose.Goals as goal
 

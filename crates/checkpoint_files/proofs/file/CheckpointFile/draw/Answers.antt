@@ -1,4 +1,3 @@
-use Rattle.std.proofs.Common.{arith, ◌∙◌}
 use Rattle.cdg_screen.specs.Picture.{standing_of}
 use Rattle.checkpoint_files.specs.Checkpoint.{standing_in}
 use Rattle.checkpoint_files.proofs.Restored.{no_tiles, tile_blank, tiles_more}

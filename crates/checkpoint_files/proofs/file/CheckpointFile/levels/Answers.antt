@@ -1,4 +1,4 @@
-use Rattle.std.proofs.Common.{◌+◌, arith, ap, ◌∙◌}
+use Rattle.std.proofs.Common.{arith, ◌∙◌}
 use Rattle.std.proofs.lemmas.List.{length-set}
 use Rattle.bit_lists.proofs.Groups.{all_below_bound}
 use Rattle.checkpoint_files.specs.Checkpoint.{standing_in}

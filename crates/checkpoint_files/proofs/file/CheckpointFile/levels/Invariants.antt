@@ -1,4 +1,4 @@
-use Rattle.std.proofs.Common.{◌≡◌, ◌+◌, ◌<◌, ℕ, get_or, length}
+use Rattle.std.proofs.Common.{◌≡◌, ◌<◌, ℕ, get_or, length}
 use Rattle.checkpoint_files.specs.Checkpoint.{standing_in}
 use Rattle.checkpoint_files.proofs.file.CheckpointFile.levels.Given as goal
 

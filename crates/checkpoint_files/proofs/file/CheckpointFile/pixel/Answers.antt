@@ -1,5 +1,4 @@
-use Rattle.std.proofs.Common.{◌+◌, ◌*◌, arith, ap, ◌∙◌}
-use Rattle.checkpoint_files.specs.Table.{number_at}
+use Rattle.std.proofs.Common.{◌+◌, ◌*◌, arith, ◌∙◌}
 use Rattle.checkpoint_files.proofs.Restored.{one_at}
 use Rattle.checkpoint_files.proofs.file.CheckpointFile.pixel.Goals as goal
 

@@ -1,4 +1,4 @@
-use Rattle.std.proofs.Common.{length, ◌∷◌, [], sym, ◌∙◌, ap, arith, length-append}
+use Rattle.std.proofs.Common.{length, sym, ◌∙◌, ap, arith, length-append}
 use Rattle.cdg_screen.specs.Picture.{standing_of}
 use Rattle.checkpoint_files.specs.Table.{Colours}
 use Rattle.checkpoint_files.specs.Checkpoint.{kept}

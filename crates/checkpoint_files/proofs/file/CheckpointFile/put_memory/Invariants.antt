@@ -1,4 +1,4 @@
-use Rattle.std.proofs.Common.{◌≡◌, ◌+◌, ◌*◌, ◌++◌, List, ℕ, length}
+use Rattle.std.proofs.Common.{◌≡◌, ◌+◌, ◌++◌, List, ℕ, length}
 use Rattle.cdg_screen.specs.Picture.{standing_of}
 use Rattle.checkpoint_files.specs.Table.{Memory}
 use Rattle.checkpoint_files.specs.Checkpoint.{kept}

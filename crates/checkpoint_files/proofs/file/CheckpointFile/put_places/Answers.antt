@@ -1,4 +1,4 @@
-use Rattle.std.proofs.Common.{refl, sym, ap, ◌∙◌, ◌∷◌, [], ◌<◌, ◌^◌, arith}
+use Rattle.std.proofs.Common.{refl, sym, arith}
 use Rattle.cdg_screen.specs.Picture.{standing_of}
 use Rattle.checkpoint_files.specs.Table.{Border, Across, Down}
 use Rattle.checkpoint_files.specs.Checkpoint.{Checkpoint, kept}

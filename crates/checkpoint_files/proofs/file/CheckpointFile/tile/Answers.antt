@@ -1,6 +1,5 @@
 use Rattle.std.proofs.Common.{◌+◌, ◌*◌, ◌/◌, ◌%◌, arith, refl, ap, ap₂, ◌∙◌}
 use Rattle.std.proofs.lemmas.List.{length-set}
-use Rattle.bit_lists.proofs.Groups.{all_below_bound}
 use Rattle.checkpoint_files.specs.Checkpoint.{standing_in}
 use Rattle.checkpoint_files.proofs.Restored.{set_below, set_range, blank_small, some_tile}
 use Rattle.checkpoint_files.proofs.file.CheckpointFile.tile.Goals as goal
