@@ -3,7 +3,7 @@ use Rattle.std.proofs.Common.{ℕ, ◌+◌, ◌*◌, ◌<◌, Bool, true, false,
 use Rattle.std.specs.Prelude.{fold, if◌then◌else◌, ◌/◌}
 use Rattle.std.proofs.lemmas.List.Elements.{All-nil, All-cons, All-head, All-tail, All-take, All-append, All-map}
 use Rattle.bit_lists.specs.Counting.{below}
-use Rattle.picture_script.specs.Script.{Drawing, Colour, Border, Fill, Rect, Row, Show, Picture, lines_before, blank_picture, drawn, drawn_by, picture_pixel}
+use Rattle.picture_script.specs.Script.{Drawing, Colour, Border, Fill, Rect, Row, Show, Picture, lines_before, blank_picture, drawn, picture_pixel}
 use Rattle.picture_script.proofs.Scripts.{before_prefix}
 use Rattle.cdg_workload.specs.Generator.{word_of}
 use Rattle.generated_scripts.specs.Generated.{grey, rect, picture, generated_drawings}
