@@ -11,18 +11,18 @@ pub agree_apart-requires : goal.agree_apart-requires
 agree_apart-requires c = record {
   differ = λ same.
       let none : differences c.args.a.now c.args.b.now ≡ 0 = ap (differences c.args.a.now) (sym same) ∙ differences_self c.args.a.now in
-      omega (arith, none, c.differing-apart.ensures.count, c.if-apart-gt0.true);
+      omega (arith, none, c.differing-apart.ensures.count);
   word = c.differing-apart.ensures.first;
 }
 
 pub returns-in_default : goal.returns-in_default
 returns-in_default c w agreed =
     let sizes = c.differing-apart.ensures.first.size ∙ sym c.differing-apart.ensures.second.size in
-    let same : c.args.a.now ≡ c.args.b.now = differences_none c.args.a.now c.args.b.now sizes (omega (arith, c.differing-apart.ensures.count, c.if-apart-gt0.false)) in
+    let same : c.args.a.now ≡ c.args.b.now = differences_none c.args.a.now c.args.b.now sizes (omega (arith, c.differing-apart.ensures.count)) in
     c.in_default.ensures.reads w (reads_agreed c.args.a.now c.args.b.now w c.in_default.ensures.word same agreed)
 
 pub returns : goal.returns
 returns c =
     let sizes = c.differing-apart.ensures.first.size ∙ sym c.differing-apart.ensures.second.size in
-    let same : c.args.a.now ≡ c.args.b.now = differences_none c.args.a.now c.args.b.now sizes (omega (arith, c.differing-apart.ensures.count, c.if-apart-gt0.false)) in
+    let same : c.args.a.now ≡ c.args.b.now = differences_none c.args.a.now c.args.b.now sizes (omega (arith, c.differing-apart.ensures.count)) in
     agreed_equal c.args.a.now c.args.b.now _ c.in-Some.ensures.word same c.in-Some.ensures.reads.0
