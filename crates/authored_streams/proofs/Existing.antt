@@ -82,10 +82,10 @@ has_stream spread is_change schedule known sheet script lead_in audio is_sheet o
       packs,
       record {
         authored = record {
-        schedule = schedule script blocks survey packs colours pixels order.held (within script blocks order prompt accepted.disc.1) surveyed count written;
-        framing = framing layout texts lead_in symbols built;
-        carries = subst (λ (s : List ℕ). Carries blocks s packs) (sym (program_is layout texts lead_in symbols built carries.size)) carries;
-        enough = λ some. (accepted.room some).1;
+          schedule = schedule script blocks survey packs colours pixels order.held (within script blocks order prompt accepted.disc.1) surveyed count written;
+          framing = framing layout texts lead_in symbols built;
+          carries = subst (λ (s : List ℕ). Carries blocks s packs) (sym (program_is layout texts lead_in symbols built carries.size)) carries;
+          enough = λ some. (accepted.room some).1;
         };
         planned = written;
       },
