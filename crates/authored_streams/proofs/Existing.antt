@@ -96,10 +96,10 @@ has_stream spread is_change schedule known sheet script lead_in audio is_sheet o
       packs,
       record {
         authored = record {
-        schedule = schedule script blocks survey packs colours pixels order.held (within script blocks order prompt accepted.disc.1) surveyed count written;
-        framing = framed;
-        carries = carries;
-        enough = λ some. (accepted.room some).1;
+          schedule = schedule script blocks survey packs colours pixels order.held (within script blocks order prompt accepted.disc.1) surveyed count written;
+          framing = framed;
+          carries = carries;
+          enough = λ some. (accepted.room some).1;
         };
         planned = written;
       },

@@ -1,5 +1,5 @@
-//! Laws on authored streams: accepted scripts are in order, an accepted sheet and script have one stream, and what a failed
-//! write leaves is a prefix of it.
+//! Laws on authored streams: accepted scripts are in order, an accepted sheet and script have one stream with the planned
+//! changes, and what a failed write leaves is a prefix of it.
 #![tactic(auto)]
 
 ghost use Rattle.std.specs.Prelude.{◌≡◌, ◌<◌, ◌≤◌, List, ℕ, Ok, length};
@@ -28,7 +28,8 @@ pub fn accepted_scripts_are_in_order()
     ensures pixels { (text : List ℕ) (script : List Drawing) → read_script text ≡ Ok script → (k x y : ℕ) → picture_pixel script k x y < 16 }
 {}
 
-/// A law: a sheet, a script, a lead-in and a length of the audio have one authored stream, which carries one list of packs.
+/// A law: a sheet, a script, a lead-in and a length of the audio have one authored stream with the planned changes, which carries
+/// one list of packs.
 /// So what `author_stream` writes is one function of them: no two of its calls write different bytes for the same four.
 pub fn authored_streams_are_one()
     ensures packs { (sheet : CueSheet) (script : List Drawing) (lead_in audio : ℕ) (one other : List ℕ) (packs others : List (List ℕ))

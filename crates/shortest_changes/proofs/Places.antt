@@ -1,5 +1,5 @@
 -- Each place of the window needs its least number of instructions.
-use Rattle.std.proofs.Common.{◌≡◌, ℕ, zero, suc, ◌+◌, ◌-◌, ◌*◌, ◌/◌, ◌%◌, ◌<◌, ◌≤◌, ◌&&◌, nat_le, true, cond, List, length, get_or, map, replicate, refl, sym, ap, ap₂, ◌∙◌, subst, arith, All, Some, None}
+use Rattle.std.proofs.Common.{◌≡◌, ℕ, zero, suc, ◌+◌, ◌-◌, ◌*◌, ◌/◌, ◌%◌, ◌<◌, ◌≤◌, cond, List, length, get_or, map, replicate, refl, sym, ap, ap₂, ◌∙◌, subst, arith, All, Some, None}
 use Rattle.std.specs.Prelude.{reverse, sum_by}
 use Rattle.std.specs.declared.option.Option.{Option}
 use Rattle.std.specs.List.{AllByRecursion}

@@ -1,7 +1,7 @@
 -- What a list has to set.
 use Rattle.std.proofs.Common.{◌≡◌, ℕ, zero, suc, ◌+◌, ◌-◌, ◌<◌, ◌≤◌, ◌==◌, ◌&&◌, Bool, true, false, cond, List, [], ◌∷◌, ◌++◌, length, get_or, map, refl, sym, ap, ap₂, ◌∙◌, arith, length-append, bit_xor}
 use Rattle.std.specs.Prelude.{reverse, count_by}
-use Rattle.std.specs.List.{AllByRecursion, list_all, range_with_len}
+use Rattle.std.specs.List.{list_all, range_with_len}
 use Rattle.std.specs.Int.Bits.{xor_self}
 use Rattle.std.proofs.lemmas.Bool.{false≢true}
 use Rattle.std.proofs.lemmas.List.{ext_get_or}
@@ -9,11 +9,11 @@ use Rattle.std.proofs.lemmas.List.FromFn.{length-map-range_with_len, get_or-map-
 use Rattle.bit_lists.specs.Counting.{below}
 use Rattle.tile_author.specs.Plan.{are_equal, delta}
 use Rattle.cdg_instructions.specs.declared.instr.Instr.{Instr}
-use Rattle.cdg_instructions.specs.declared.instr.Instr.TheVariants.{BorderPreset, ColoursLow, ColoursHigh, ScrollPreset, ScrollCopy}
-use Rattle.cdg_screen.specs.Picture.{Standing, border_from, colour_from, offsets_from}
+use Rattle.cdg_instructions.specs.declared.instr.Instr.TheVariants.{BorderPreset, ColoursLow, ColoursHigh}
+use Rattle.cdg_screen.specs.Picture.{Standing, border_from, colour_from}
 use Rattle.picture_script.specs.Script.{Drawing, picture_border, picture_colour, low_colours, high_colours}
 use Rattle.picture_changes.specs.Change.{settings}
-use Rattle.picture_changes.specs.Brings.{IsBefore, IsStill, Brings, sets_border, sets_low, sets_high}
+use Rattle.picture_changes.specs.Brings.{IsBefore, Brings, sets_border, sets_low, sets_high}
 use Rattle.shortest_changes.proofs.Tests.{is_eq, is_low, is_high}
 use Rattle.shortest_changes.proofs.Counted.{count-reverse, counted}
 

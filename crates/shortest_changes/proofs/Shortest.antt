@@ -9,7 +9,7 @@ use Rattle.cdg_screen.specs.Picture.{Standing, blank}
 use Rattle.picture_script.specs.Script.{Drawing, pictures, ready_time, hold_time, picture_border, picture_colour, picture_pixel}
 use Rattle.picture_changes.specs.Change.{IsChangeFrom, IsOrderedChange, IsStart}
 use Rattle.picture_changes.specs.Schedule.{IsLate, start_of}
-use Rattle.picture_changes.specs.PlannedChange.{planned_from, planned_length, planned_change}
+use Rattle.picture_changes.specs.PlannedChange.{planned_from, planned_length}
 use Rattle.picture_changes.proofs.PlannedLaws.{PlansAreShortest}
 use Rattle.picture_changes.specs.Shown.{AreTimesInOrder}
 use Rattle.picture_changes.specs.Brings.{Brings, IsBefore, IsNeed, sets_memory}

@@ -1,5 +1,5 @@
 -- What stands while the packs of a schedule come.
-use Rattle.std.proofs.Common.{◌≡◌, ℕ, zero, suc, ◌+◌, ◌-◌, ◌<◌, ◌≤◌, inl, inr, List, [], ◌∷◌, length, nat_le, ◌&&◌, true, cond, ◌++◌, get_or, take, drop, All, refl, sym, ap, ap₂, ◌∙◌, subst, arith, length-append, length-drop}
+use Rattle.std.proofs.Common.{◌≡◌, ℕ, zero, suc, ◌+◌, ◌-◌, ◌<◌, ◌≤◌, inl, inr, List, [], ◌∷◌, length, nat_le, ◌&&◌, true, cond, get_or, take, drop, refl, sym, ap, ap₂, ◌∙◌, subst, arith, length-append, length-drop}
 use Rattle.std.specs.Prelude.{reverse}
 use Rattle.std.specs.List.{AllByRecursion}
 use Rattle.std.proofs.Math.Seq.{take-add}
@@ -11,11 +11,11 @@ use Rattle.picture_script.specs.Script.{Drawing, pictures, hold_time}
 use Rattle.rw_code.specs.Codeword.{IsCodeword}
 use Rattle.cdg_instructions.specs.Instruction.{Means, InRange, IsKnown, IsWritten, content_of, message_of, written_symbols}
 use Rattle.cdg_instructions.specs.declared.instr.Instr.{Instr}
-use Rattle.cdg_instructions.specs.declared.instr.Instr.TheVariants.{Idle, Foreign, Unknown, ScrollPreset, ScrollCopy}
+use Rattle.cdg_instructions.specs.declared.instr.Instr.TheVariants.{Idle, ScrollPreset, ScrollCopy}
 use Rattle.cdg_screen.specs.Picture.{Standing, SameStanding, blank, memory_from, border_from, colour_from, level_from, offsets_from, standing_after}
 use Rattle.picture_changes.specs.Schedule.{start_of, idle_pack, IsSchedule}
 use Rattle.picture_changes.specs.Brings.{IsBefore, IsChange, IsStill, IsUnmoved}
-use Rattle.picture_changes.specs.Shown.{AreTimesInOrder, ShowsPicture}
+use Rattle.picture_changes.specs.Shown.{AreTimesInOrder}
 use Rattle.picture_changes.proofs.Times.{hold_order}
 use Rattle.shown_pictures.specs.Shown.{AreMeantBy}
 use Rattle.shown_pictures.proofs.Tiles.{InTurn, and_four, each_reverse, is_le}

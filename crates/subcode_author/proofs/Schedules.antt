@@ -103,11 +103,11 @@ is_authored : PacksAreSchedule → (sheet : CueSheet) (script : List Drawing) (t
     → IsWrittenStream sheet script lead_in audio bytes packs
 is_authored schedule sheet script texts lead_in audio bytes packs texts_are room known stream = record {
   authored = record {
-  schedule = schedule script (program_blocks sheet audio) known.survey packs known.ranges known.pixels known.held known.within known.surveyed stream.given_are.count
-      (in_turn script (program_blocks sheet audio) packs stream.given_are);
-  framing = framing_with (layout_of sheet audio) texts (text_packs sheet) lead_in bytes texts_are stream.framing;
-  carries = stream.carries;
-  enough = λ some. (room some).1;
+    schedule = schedule script (program_blocks sheet audio) known.survey packs known.ranges known.pixels known.held known.within known.surveyed stream.given_are.count
+        (in_turn script (program_blocks sheet audio) packs stream.given_are);
+    framing = framing_with (layout_of sheet audio) texts (text_packs sheet) lead_in bytes texts_are stream.framing;
+    carries = stream.carries;
+    enough = λ some. (room some).1;
   };
   planned = in_turn script (program_blocks sheet audio) packs stream.given_are;
 }

@@ -31,7 +31,8 @@ use stream_writer::{pack_texts, write_stream};
 /// picture is held past the end; where there is a lead-in, `TextTooLong` where its texts need more than 256 packs, and
 /// `LeadInShort` where it has no room for them or for the table of contents; `Late` at the first picture that cannot be
 /// ready. Nothing is written before all of these are passed and all memory is taken. After `WriteFault` a prefix of the
-/// stream was written: that it is a prefix of the one authored stream is a law of the crate `authored_streams`.
+/// stream was written: that it is a prefix of the one stream with the planned changes is a law of the crate
+/// `authored_streams`.
 pub fn author_stream<K: Sink>(
     alloc: Global,
     sheet: &Sheet,

@@ -1,6 +1,4 @@
-use Rattle.std.proofs.Common.{◌≡◌, ℕ, ◌<◌, List, length, refl}
-use Rattle.picture_script.specs.Script.{Drawing, picture_pixel}
-use Rattle.picture_changes.specs.Brings.{IsChange}
+use Rattle.std.proofs.Common.{length, refl}
 use Rattle.picture_changes.specs.PlannedChange.{planned_change}
 use Rattle.shortest_changes.proofs.Shortest.{late_needs_more, one_need}
 use Rattle.shortest_changes.proofs.needs_are_fewest.Goals as goal
