@@ -26,13 +26,16 @@ pub data CueLine : Type 0 where
 abbrev pub command_words : List (List ℕ × Command)
 command_words =
     (codes "REM", Remark) ∷ (codes "CDTEXTFILE", Remark) ∷ (codes "CATALOG", Catalogue)
-    ∷ (codes "FILE", File) ∷ (codes "TITLE", Title) ∷ (codes "PERFORMER", Performer) ∷ (codes "SONGWRITER", Songwriter)
+    ∷ (codes "FILE", File)
+    ∷ (codes "TITLE", Title) ∷ (codes "PERFORMER", Performer) ∷ (codes "SONGWRITER", Songwriter)
     ∷ (codes "TRACK", Track) ∷ (codes "FLAGS", Flags) ∷ (codes "ISRC", Isrc)
     ∷ (codes "PREGAP", Pregap) ∷ (codes "INDEX", Index) ∷ (codes "POSTGAP", Postgap) ∷ []
 
 -- the command of a word
 unfoldable pub command_named : List ℕ → Option Command
-command_named word = option_map (λ (entry : List ℕ × Command). entry.1) (find (λ (entry : List ℕ × Command). str_eq_ignore_ascii_case word entry.0) command_words)
+command_named word =
+    option_map (λ (entry : List ℕ × Command). entry.1)
+    (find (λ (entry : List ℕ × Command). str_eq_ignore_ascii_case word entry.0) command_words)
 
 -- a byte that is no control byte
 abbrev pub is_plain : ℕ → Bool
@@ -52,7 +55,8 @@ begins_quoted s = is_some_bytes s && is_quote (slice_index s 0)
 
 -- of an argument that begins with a quote: what stands up to the next one, and what follows that
 unfoldable pub quoted : List ℕ → Option (List ℕ × List ℕ)
-quoted s = option_map (λ (end : ℕ). (take end (drop 1 s), drop (end + 1) (drop 1 s))) (position is_quote (drop 1 s))
+quoted s =
+    option_map (λ (end : ℕ). (take end (drop 1 s), drop (end + 1) (drop 1 s))) (position is_quote (drop 1 s))
 
 -- the text of what stands in quotes, if nothing follows it
 abbrev pub quoted_text : Option (List ℕ × List ℕ) → Option (List ℕ)
@@ -61,7 +65,8 @@ quoted_text None = None
 
 -- a text: in quotes, with nothing after them, or as it stands and not empty
 unfoldable pub text_argument : List ℕ → Option (List ℕ)
-text_argument s = if begins_quoted s then quoted_text (quoted s) else (if is_some_bytes s then plain s else None)
+text_argument s =
+    if begins_quoted s then quoted_text (quoted s) else (if is_some_bytes s then plain s else None)
 
 -- whether one word follows what stands in quotes
 abbrev pub is_quoted_file : Option (List ℕ × List ℕ) → Bool
@@ -86,19 +91,25 @@ names_flag flag words = list_any (λ word. bytes_eq word flag) words
 
 -- the control bits of flags, each once however often it is named
 abbrev pub control_of : List (List ℕ) → ℕ
-control_of words = (if names_flag (codes "4CH") words then 8 else 0) + (if names_flag (codes "DCP") words then 2 else 0) + (if names_flag (codes "PRE") words then 1 else 0)
+control_of words =
+    (if names_flag (codes "4CH") words then 8 else 0) + (if names_flag (codes "DCP") words then 2 else 0)
+    + (if names_flag (codes "PRE") words then 1 else 0)
 
 -- the words that are flags
 abbrev pub is_flag : List ℕ → Bool
-is_flag word = bytes_eq word (codes "4CH") || bytes_eq word (codes "DCP") || bytes_eq word (codes "PRE") || bytes_eq word (codes "SCMS")
+is_flag word =
+    bytes_eq word (codes "4CH") || bytes_eq word (codes "DCP") || bytes_eq word (codes "PRE")
+    || bytes_eq word (codes "SCMS")
 
 -- flags: one word or more, each of them a flag
 unfoldable pub flags_argument : List (List ℕ) → Option ℕ
-flags_argument words = if nat_le 1 (length words) && list_all is_flag words then Some (control_of words) else None
+flags_argument words =
+    if nat_le 1 (length words) && list_all is_flag words then Some (control_of words) else None
 
 -- a track's number, 01 to 99, and whether its type is AUDIO
 abbrev pub track_of_words : Option ℕ → List ℕ → Option (ℕ × Bool)
-track_of_words (Some number) type = if nat_le 1 number then Some (number, str_eq_ignore_ascii_case type (codes "AUDIO")) else None
+track_of_words (Some number) type =
+    if nat_le 1 number then Some (number, str_eq_ignore_ascii_case type (codes "AUDIO")) else None
 track_of_words None type = None
 
 -- a track: two words, its number and its type

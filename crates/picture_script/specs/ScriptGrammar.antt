@@ -28,56 +28,72 @@ numbers_in (suc count) (word ∷ words) = joined (small_number word) (numbers_in
 -- a colour: four hexadecimal digits of either case, the first of them 0
 unfoldable pub colour_in : List ℕ → Option ℕ
 colour_in word =
-    if length word == 4 && slice_index word 0 == 48 && is_ascii_hexdigit (slice_index word 1) && is_ascii_hexdigit (slice_index word 2) && is_ascii_hexdigit (slice_index word 3)
-    then Some (256 * digit_value (slice_index word 1) + 16 * digit_value (slice_index word 2) + digit_value (slice_index word 3)) else None
+    if length word == 4 && slice_index word 0 == 48 && is_ascii_hexdigit (slice_index word 1)
+    && is_ascii_hexdigit (slice_index word 2) && is_ascii_hexdigit (slice_index word 3)
+    then Some (256 * digit_value (slice_index word 1) + 16 * digit_value (slice_index word 2)
+    + digit_value (slice_index word 3)) else None
 
 -- pixels: one or more hexadecimal digits
 unfoldable pub pixels_in : List ℕ → Option (List ℕ)
-pixels_in word = if is_some_bytes word && list_all is_ascii_hexdigit word then Some (map digit_value word) else None
+pixels_in word =
+    if is_some_bytes word && list_all is_ascii_hexdigit word then Some (map digit_value word) else None
 
--- What the words after each command say if they are spelled as they must be, whatever the size of their numbers.
+-- What the words after each command say if they are spelled as they must be, whatever the size of their
+-- numbers; None otherwise.
 
+-- a line of a number and a value
 abbrev pub colour_of : Option ℕ → Option ℕ → Option Drawing
 colour_of (Some number) (Some value) = Some (Colour number value)
 colour_of _ _ = None
 
+-- colour: a number, and a colour
 unfoldable pub colour_line : List (List ℕ) → Option Drawing
 colour_line (number ∷ value ∷ []) = colour_of (small_number number) (colour_in value)
 colour_line _ = None
 
+-- a line of one number, for the border
 abbrev pub border_of : Option (List ℕ) → Option Drawing
 border_of (Some (colour ∷ [])) = Some (Border colour)
 border_of _ = None
 
+-- border: one number
 unfoldable pub border_line : List (List ℕ) → Option Drawing
 border_line words = border_of (numbers_in 1 words)
 
+-- a line of one number, for the picture
 abbrev pub fill_of : Option (List ℕ) → Option Drawing
 fill_of (Some (colour ∷ [])) = Some (Fill colour)
 fill_of _ = None
 
+-- fill: one number
 unfoldable pub fill_line : List (List ℕ) → Option Drawing
 fill_line words = fill_of (numbers_in 1 words)
 
+-- a line of five numbers
 abbrev pub rect_of : Option (List ℕ) → Option Drawing
 rect_of (Some (x ∷ y ∷ width ∷ height ∷ colour ∷ [])) = Some (Rect x y width height colour)
 rect_of _ = None
 
+-- rect: five numbers, x and y, width and height, and a colour's
 unfoldable pub rect_line : List (List ℕ) → Option Drawing
 rect_line words = rect_of (numbers_in 5 words)
 
+-- a line of two numbers and pixels
 abbrev pub row_of : Option ℕ → Option ℕ → Option (List ℕ) → Option Drawing
 row_of (Some x) (Some y) (Some pixels) = Some (Row x y pixels)
 row_of _ _ _ = None
 
+-- row: two numbers, x and y, and pixels
 unfoldable pub row_line : List (List ℕ) → Option Drawing
 row_line (x ∷ y ∷ pixels ∷ []) = row_of (small_number x) (small_number y) (pixels_in pixels)
 row_line _ = None
 
+-- a line of two times
 abbrev pub show_of : Option ℕ → Option ℕ → Option Drawing
 show_of (Some ready) (Some hold) = Some (Show ready hold)
 show_of _ _ = None
 
+-- show: two times, when the picture is ready and until when it is held
 unfoldable pub show_line : List (List ℕ) → Option Drawing
 show_line (ready ∷ hold ∷ []) = show_of (parsed_time ready) (parsed_time hold)
 show_line _ = None
@@ -87,7 +103,8 @@ abbrev pub is_in_range : Drawing → Bool
 is_in_range (Colour number value) = nat_lt number 16
 is_in_range (Border colour) = nat_lt colour 16
 is_in_range (Fill colour) = nat_lt colour 16
-is_in_range (Rect x y width height colour) = nat_le 1 width && nat_le 1 height && nat_le (x + width) 288 && nat_le (y + height) 192 && nat_lt colour 16
+is_in_range (Rect x y width height colour) =
+    nat_le 1 width && nat_le 1 height && nat_le (x + width) 288 && nat_le (y + height) 192 && nat_lt colour 16
 is_in_range (Row x y pixels) = nat_le (x + length pixels) 288 && nat_le y 191
 is_in_range (Show ready hold) = true
 
@@ -102,15 +119,17 @@ later_reason before (Show ready hold) =
     else (if nat_le 20000 (pictures before) then Some TooMany else None)
 later_reason before line = if is_in_range line then None else Some OutOfRange
 
+-- a line, unless there is a reason to refuse it
 abbrev pub unless_refused : Drawing → Option ScriptWhy → Result Drawing ScriptWhy
 unless_refused line None = Ok line
 unless_refused line (Some why) = Err why
 
+-- a line after the lines before: refused first where it is not well spelled, and then for later reasons
 unfoldable pub checked_line : List Drawing → Option Drawing → Result Drawing ScriptWhy
 checked_line before None = Err BadArgument
 checked_line before (Some line) = unless_refused line (later_reason before line)
 
--- what a command and the words after it say after the lines before, or the first reason for which they are refused
+-- what a command and the words after it say after the lines before, or the first reason to refuse them
 unfoldable pub checked_command : List Drawing → List ℕ → List (List ℕ) → Result Drawing ScriptWhy
 checked_command before command words =
     if bytes_eq command (codes "colour") then checked_line before (colour_line words)
@@ -121,6 +140,7 @@ checked_command before command words =
     else (if bytes_eq command (codes "show") then checked_line before (show_line words)
     else Err UnknownCommand)))))
 
+-- the words of a line after the lines before: the first of them is the command
 unfoldable pub checked_words : List Drawing → List (List ℕ) → Result Drawing ScriptWhy
 checked_words before [] = Err UnknownCommand
 checked_words before (command ∷ words) = checked_command before command words
@@ -136,9 +156,11 @@ grown before (Err why) = Err why
 
 -- what a line of the text adds to the lines before it, or the first reason for which it is refused
 abbrev pub step : List Drawing → List ℕ → Result (List Drawing) ScriptWhy
-step before line = if is_passed_over line then Ok before else grown before (checked_words before (words_in line))
+step before line =
+    if is_passed_over line then Ok before else grown before (checked_words before (words_in line))
 
--- the lines of a script from a number on, after those before them; or the first that is refused, with its first reason
+-- the lines of a script from a number on, after those before them; or the first that is refused, with its
+-- first reason
 unfoldable pub checked_lines : ℕ → List Drawing → List (List ℕ) → Result (List Drawing) (ℕ × ScriptWhy)
 checked_lines number before lines = read_on step (λ script. Ok script) number before lines
 

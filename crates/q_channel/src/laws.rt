@@ -1,16 +1,13 @@
 // What reading says of frames.
 ghost use Rattle.std.specs.Prelude.{◌≡◌, ◌≢◌, ◌≤◌, ◌↔◌, ◌++◌, List, Bool, length, Result, Ok, Err};
-ghost use Rattle.q_frame.specs.QFrame.{IsFrame, IsValid};
+ghost use Rattle.q_frame.specs.QFrame.{IsFrame};
 ghost use Rattle.q_frame.specs.declared.frame.QFrame.{QFrame};
 ghost use Rattle.q_frame.specs.declared.frame.QFault.{QFault};
 ghost use Rattle.q_frame.specs.declared.frame.QFault.TheVariants.{BadCrc};
 ghost use Rattle.q_channel.specs.QReading.{IsReading};
 ghost use Rattle.q_channel.specs.ReadingOf.{reading_of};
 
-use crate::decoding::decode;
-use q_frame::{QFault, QFrame, encode};
-
-/// Bits that are a frame are read as this frame and as nothing else.
+/// Bits that are a frame, as those of a frame that is written, are read as this frame and as nothing else.
 pub fn one_reading()
     ensures { (frame : QFrame) (message : List Bool) (what : Result QFrame QFault)
         → IsFrame frame message → IsReading message what → what ≡ Ok frame }
@@ -28,11 +25,3 @@ pub fn burst_is_noticed()
         → length one ≤ 16 → length other ≡ length one → one ≢ other
         → IsFrame frame (before ++ one ++ after) → IsReading (before ++ other ++ after) what → what ≡ Err BadCrc }
 {}
-
-/// A frame that is written and read again.
-pub fn decode_encoded(frame: &QFrame) -> Result<QFrame, QFault>
-    requires { IsValid frame.now }
-    ensures { result ≡ Ok frame.now }
-{
-    decode(&encode(frame))
-}

@@ -1,49 +1,35 @@
 // What the calls on blocks say of each other.
 ghost use Rattle.std.specs.Prelude.{◌≡◌, ◌<◌, ◌*◌, ℕ, List, All, length, take, drop};
 ghost use Rattle.bit_lists.specs.Bits.{bits_of_bytes, numbers_of};
-ghost use Rattle.raw_subcode.specs.Channels.{symbols_of, IsPlanarForm};
-
-use crate::block::Block;
+ghost use Rattle.raw_subcode.specs.Channels.{IsPlanarForm, q_bits, symbol_bits, symbols_of};
+ghost use Rattle.raw_subcode.specs.PlanarBytes.{block_from_planar, planar_form};
 
 /// A block has one planar form, and a planar form is of one block.
 pub fn planar_forms_are_unique()
     ensures one_form { (block planar twin : List ℕ) → All (λ b. b < 256) planar → All (λ b. b < 256) twin
         → IsPlanarForm block planar → IsPlanarForm block twin → planar ≡ twin }
     ensures one_block { (block other planar : List ℕ) → length block ≡ 96 → length other ≡ 96
-        → All (λ b. b < 256) block → All (λ b. b < 256) other → IsPlanarForm block planar → IsPlanarForm other planar → block ≡ other }
+        → All (λ b. b < 256) block → All (λ b. b < 256) other
+        → IsPlanarForm block planar → IsPlanarForm other planar → block ≡ other }
 {}
 
-/// The block of the planar form of a block is this block.
-pub fn block_through_planar(block: &Block) -> Block
-    ensures { result ≡ block.now }
-{
-    let again = Block::from_planar(&block.to_planar());
-    // Both have 96 bytes below 256.
-    block.bytes();
-    again.bytes();
-    again
-}
+/// The block of the planar form of a block is this block, and the other way round.
+pub fn planar_forms_turn_back()
+    ensures block { (block : List ℕ) → length block ≡ 96 → All (λ b. b < 256) block
+        → block_from_planar (planar_form block) ≡ block }
+    ensures form { (planar : List ℕ) → length planar ≡ 96 → All (λ b. b < 256) planar
+        → planar_form (block_from_planar planar) ≡ planar }
+{}
 
-/// The planar form of the block of a planar form is this form.
-pub fn planar_through_block(planar: &[u8; 96]) -> [u8; 96]
-    ensures { result ≡ planar.now }
-{
-    Block::from_planar(planar).to_planar()
-}
+/// From a block that has the Q bits of these bytes, these bytes are read.
+pub fn q_bits_are_read()
+    ensures { (block frame : List ℕ) → All (λ b. b < 256) frame
+        → q_bits block ≡ bits_of_bytes frame → numbers_of 8 (q_bits block) ≡ frame }
+{}
 
-/// The Q bits of a block that is built are those that it was built of.
-pub fn frame_of_built(p: bool, q: &[u8; 12], symbols: &[u8; 96]) -> [u8; 12]
-    requires { All (λ s. s < 64) symbols.now }
-    ensures { result ≡ q.now }
-{
-    Block::build(p, q, symbols).q_frame()
-}
-
-/// Where a block carries the symbols of a text pack, the pack is read from it.
-pub fn pack_of_its_symbols(block: &Block, k: usize, pack: &[u8; 18]) -> [u8; 18]
-    requires place { k < 4 }
-    requires carried { take 24 (drop (24 * k) (symbols_of block.now)) ≡ numbers_of 6 (bits_of_bytes pack.now) }
-    ensures { result ≡ pack.now }
-{
-    block.text_pack(k)
-}
+/// From a block that carries the symbols of a text pack, this pack is read.
+pub fn carried_packs_are_read()
+    ensures { (block pack : List ℕ) (k : ℕ) → length pack ≡ 18 → All (λ b. b < 256) pack
+        → take 24 (drop (24 * k) (symbols_of block)) ≡ numbers_of 6 (bits_of_bytes pack)
+        → numbers_of 8 (symbol_bits (take 24 (drop (24 * k) (symbols_of block)))) ≡ pack }
+{}

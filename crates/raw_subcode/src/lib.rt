@@ -12,7 +12,6 @@ mod planar;
 pub use block::Block;
 pub use form::Form;
 pub use laws::{
-    block_through_planar, frame_of_built, pack_of_its_symbols, planar_forms_are_unique,
-    planar_through_block,
+    carried_packs_are_read, planar_forms_are_unique, planar_forms_turn_back, q_bits_are_read,
 };
 pub use packs::text_symbols;

@@ -1,5 +1,5 @@
 // The conversion of a stream to packs.
-ghost use Rattle.std.specs.Prelude.{◌≡◌, ◌≢◌, ◌≤◌, List, ℕ, length, IfSome, IfOk, IsErrOf, Err};
+ghost use Rattle.std.specs.Prelude.{◌≡◌, ◌≢◌, ◌≤◌, List, ℕ, length, IfSome, IsErrOf, Err};
 ghost use Rattle.std.specs.List.{concat};
 ghost use Rattle.cdg_io.specs.Causes.{Rose};
 ghost use Rattle.raw_subcode.specs.Channels.{unit_size};
@@ -11,7 +11,7 @@ ghost use Rattle.subcode_player.specs.Convert.{Converts, IsConverted, IsDamagedS
 
 use crate::player::{MOST_UNITS, play_stop};
 use crate::{Form, PlayStop, Played, Player};
-use cdg_io::{Sink, Source, SteadySink, SteadySource, pump};
+use cdg_io::{Sink, Source, pump};
 use stream_words::{packs_are_recovered, text_of_packs};
 
 /// A law: the conversion of a stream that damage keeps within two symbols a word is its packs.
@@ -67,26 +67,6 @@ impl Player {
             Form::Sector => self.convert_sectors(lead_in, source, out),
             Form::Raw | Form::Cooked => self.convert_blocks(lead_in, form, source, out),
         }
-    }
-
-    /// What a conversion of these bytes answers where nothing fails.
-    pub fn dry_convert(
-        &mut self,
-        lead_in: u32,
-        form: Form,
-        bytes: &[u8],
-    ) -> Result<Played, PlayStop>
-        requires { lead_in ≤ 450000 }
-        ensures answer { IsAnsweredBy result (unit_size form) (length bytes.now) }
-        ensures bad { IfOk result (λ played. (text : List ℕ) × IsConverted form lead_in bytes.now text played.bad) }
-        ensures no_fault { (result ≢ Err PlayStop.ReadFault) × (result ≢ Err PlayStop.WriteFault) }
-    {
-        self.convert(
-            lead_in,
-            form,
-            &mut SteadySource::new(bytes),
-            &mut SteadySink::new(),
-        )
     }
 
     /// The same for bytes that are blocks, from the start on.
