@@ -113,10 +113,7 @@ OnDone holds Done = holds
 OnDone holds (ReadFault which) = ⊤
 OnDone holds WriteFault = ⊤
 OnDone holds NoMemory = ⊤
-OnDone holds (Damaged n) = ⊥
-OnDone holds Usage = ⊥
-OnDone holds (Refused why) = ⊥
-OnDone holds (Late picture need free) = ⊥
+OnDone holds _ = ⊥
 
 -- this text was put and nothing was bad, unless a read or a write failed or no memory was found
 abbrev pub GivesBack : List ℕ → Change Bytes → Status → Type 0

@@ -41,9 +41,8 @@ pub record IsDamagedCopy (form : Form) (lead_in : ℕ) (stream bytes : List ℕ)
 
 -- scheduled packs as a conversion writes them: in a cooked stream seven packs of zeros follow them
 abbrev pub written_packs : Form → List (List ℕ) → List (List ℕ)
-written_packs Raw packs = packs
-written_packs Sector packs = packs
 written_packs Cooked packs = packs ++ replicate 7 (replicate 24 0)
+written_packs _ packs = packs
 
 -- the pixmap of a screen that shows picture k was put, unless a read or a write failed or no memory was found
 abbrev pub PutsPicture : List Drawing → ℕ → Change Bytes → Status → Type 0

@@ -33,9 +33,8 @@ pub record IsPlanarForm (block planar : List ℕ) : Type 0 where
 
 -- the bytes that hold one block
 abbrev pub unit_size : Form → ℕ
-unit_size Raw = 96
 unit_size Sector = 2448
-unit_size Cooked = 96
+unit_size _ = 96
 
 -- the block in these bytes: a sector has 2,352 bytes of audio before its block
 abbrev pub block_of : Form → List ℕ → List ℕ

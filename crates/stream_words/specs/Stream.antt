@@ -10,9 +10,8 @@ use Rattle.raw_subcode.specs.declared.form.Form.TheVariants.{Raw, Sector, Cooked
 
 -- how many words so many blocks hold
 abbrev pub word_count : Form → ℕ → ℕ
-word_count Raw blocks = whole_packs blocks
-word_count Sector blocks = whole_packs blocks
 word_count Cooked blocks = 4 * blocks
+word_count _ blocks = whole_packs blocks
 
 -- word n of symbols that stand as they are
 abbrev pub plain_word : List ℕ → ℕ → List ℕ
@@ -20,9 +19,8 @@ plain_word symbols n = map (λ i. slice_index symbols (24 * n + i)) (below 24)
 
 -- word n of the program symbols: gathered from its places, or as it stands where the stream is cooked
 abbrev pub form_word : Form → List ℕ → ℕ → List ℕ
-form_word Raw symbols n = word_of symbols n
-form_word Sector symbols n = word_of symbols n
 form_word Cooked symbols n = plain_word symbols n
+form_word _ symbols n = word_of symbols n
 
 -- what is found for each word of the program symbols
 pub record IsRecovered (form : Form) (symbols : List ℕ) (found : List (Option (List ℕ))) : Type 0 where
