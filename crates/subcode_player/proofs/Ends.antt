@@ -1,14 +1,14 @@
 -- How the end of an input is told by a player.
-use Rattle.std.proofs.Common.{◌≢◌, ℕ, List, Result, Ok, Err, refl}
+use Rattle.std.proofs.Common.{◌≢◌, ℕ, List, Result, Ok, Err, IfErr, refl}
 use Rattle.cdg_io.specs.Pump.{TellsEndOf}
 use Rattle.cdg_io.specs.declared.pumping.Pumped.{Pumped}
 use Rattle.cdg_io.specs.declared.pumping.PumpStop.{PumpStop}
 use Rattle.cdg_io.specs.declared.pumping.PumpStop.TheVariants as pump
-use Rattle.subcode_player.specs.Calls.{EndFirst, EndInTurn}
+use Rattle.subcode_player.specs.Calls.{EndFirst, EndInTurn, IsStreamStop}
 use Rattle.cdg_io.specs.Causes.{Rose}
 use Rattle.lead_in_texts.specs.declared.LeadInTexts.{LeadInTexts}
 use Rattle.std.specs.declared.option.Option.{Option}
-use Rattle.subcode_player.specs.TextList.{EndOfTexts}
+use Rattle.subcode_player.specs.TextList.{EndOfTexts, IsListStop}
 use Rattle.subcode_player.specs.Watch.{WritesTexts, play_stop}
 use Rattle.subcode_player.specs.declared.player.Played.{Played}
 use Rattle.subcode_player.specs.declared.player.PlayStop.{PlayStop}
@@ -28,6 +28,13 @@ ends_in_turn pump.WriteFault before now told = told
 ends_in_turn (pump.Torn unit) before now told = told
 ends_in_turn pump.TooLong before now told = told
 
+-- a pump asks for no moment
+pub stops_stream : (stop : PumpStop) → IsStreamStop (play_stop stop)
+stops_stream pump.ReadFault = tt
+stops_stream pump.WriteFault = tt
+stops_stream (pump.Torn unit) = tt
+stops_stream pump.TooLong = tt
+
 pub ends_first : (stop : PumpStop) (before now : ℕ) → pump_error stop ≢ pump_error pump.WriteFault → TellsEndOf (pump_error stop) before now → EndFirst (play_error (play_stop stop)) before now
 ends_first pump.ReadFault before now other told = told
 ends_first pump.WriteFault before now other told = absurd (other refl)
@@ -44,3 +51,14 @@ ends_texts s blocks held held' (Err (Play ReadFault)) before now writes told = a
 ends_texts s blocks held held' (Err (Play (Torn block))) before now writes told = absurd writes
 ends_texts s blocks held held' (Err (Play TooLong)) before now writes told = absurd writes
 ends_texts s blocks held held' (Err (Play (PastEnd past))) before now writes told = absurd writes
+
+-- the writing of texts asks for no moment
+pub stops_list : (s : LeadInTexts) (blocks : ℕ) (held held' : Option (List ℕ)) (result : Result Played TextStop)
+    → WritesTexts s blocks held held' result → IfErr result IsListStop
+stops_list s blocks held held' (Ok played) writes = tt
+stops_list s blocks held held' (Err (Text fault)) writes = tt
+stops_list s blocks held held' (Err (Play WriteFault)) writes = tt
+stops_list s blocks held held' (Err (Play ReadFault)) writes = tt
+stops_list s blocks held held' (Err (Play (Torn block))) writes = tt
+stops_list s blocks held held' (Err (Play TooLong)) writes = tt
+stops_list s blocks held held' (Err (Play (PastEnd past))) writes = absurd writes

@@ -33,6 +33,14 @@ IsEarly stop = ⊥
 abbrev pub PlaysAtEnd : (List ℕ → List ℕ → ℕ → Type 0) → Form → ℕ → Option (List ℕ) → Option (List ℕ) → Option (List ℕ) → Option (List ℕ) → Result Played PlayStop → List ℕ → Type 0
 PlaysAtEnd writes form lead_in left left' held held' result taken = WritesAtEnd (unit_size form) most_units IsEarly WriteFault (IsPlayed writes form lead_in) left left' held held' result taken
 
+-- the stops that a call can answer which plays a stream to its end: no moment is asked for, so none is past the end
+abbrev pub IsStreamStop : PlayStop → Type 0
+IsStreamStop ReadFault = ⊤
+IsStreamStop WriteFault = ⊤
+IsStreamStop (Torn block) = ⊤
+IsStreamStop TooLong = ⊤
+IsStreamStop (PastEnd blocks) = ⊥
+
 -- The count of told ends rose where the input was read to its end, and nowhere else: of a call that writes while it reads,
 abbrev pub EndInTurn : Result Played PlayStop → ℕ → ℕ → Type 0
 EndInTurn (Ok played) before now = Rose before now

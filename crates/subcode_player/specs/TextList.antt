@@ -1,5 +1,5 @@
 -- The texts of a stream's lead-in.
-use Rattle.std.specs.Prelude.{◌≡◌, ℕ, ◌*◌, ◌%◌, ◌≤◌, ◌⊎◌, List, length, take, Option, Result, Ok, Err, IsOk}
+use Rattle.std.specs.Prelude.{◌≡◌, ℕ, ◌*◌, ◌%◌, ◌≤◌, ◌⊎◌, ⊤, List, length, take, Option, Result, Ok, Err, IsOk}
 use Rattle.raw_subcode.specs.Channels.{unit_size, blocks_of}
 use Rattle.raw_subcode.specs.declared.form.Form.{Form}
 use Rattle.cdtext_packs.specs.Kept.{kept_among}
@@ -11,7 +11,7 @@ use Rattle.cdtext_packs.specs.declared.kinds.TextFault.TheVariants.{NoMemory}
 use Rattle.cdtext_lines.specs.Lines.{text_lines}
 use Rattle.cdg_io.specs.Causes.{Rose}
 use Rattle.cdg_io.specs.Streams.{WritesAtEnd}
-use Rattle.subcode_player.specs.Calls.{most_units, EndFirst, IsEarly, IsPlayed, IsAnsweredBy}
+use Rattle.subcode_player.specs.Calls.{most_units, EndFirst, IsEarly, IsPlayed, IsAnsweredBy, IsStreamStop}
 use Rattle.subcode_player.specs.declared.player.Played.{Played}
 use Rattle.subcode_player.specs.declared.player.PlayStop.TheVariants.{WriteFault}
 use Rattle.subcode_player.specs.declared.text_listing.TextStop.{TextStop}
@@ -40,6 +40,11 @@ IsTextFault fault texts = (fault ≡ NoMemory) ⊎ (texts ≡ Err fault)
 abbrev pub IsEarlyStop : TextStop → Type 0
 IsEarlyStop (Play stop) = IsEarly stop
 IsEarlyStop (Text fault) = ⊥
+
+-- the stops that a call can answer which lists the texts
+abbrev pub IsListStop : TextStop → Type 0
+IsListStop (Play stop) = IsStreamStop stop
+IsListStop (Text fault) = ⊤
 
 -- A call that lists the texts took these bytes: it writes at the end, where the packs give texts.
 pub record ListsTexts (form : Form) (lead_in : ℕ) (left left' held held' : Option (List ℕ)) (result : Result Played TextStop) (taken : List ℕ) : Type 0 where

@@ -6,7 +6,7 @@ ghost use Rattle.cdg_io.specs.Moves.{AppendsPrefix};
 ghost use Rattle.raw_subcode.specs.Channels.{unit_size};
 ghost use Rattle.stream_words.specs.Stream.{word_count};
 ghost use Rattle.subcode_player.specs.Steps.{begun};
-ghost use Rattle.subcode_player.specs.Calls.{EndFirst, IsAnsweredBy, PlaysAtEnd};
+ghost use Rattle.subcode_player.specs.Calls.{EndFirst, IsAnsweredBy, IsStreamStop, PlaysAtEnd};
 ghost use Rattle.subcode_player.specs.Counts.{IsChecked, count_line, stream_lines, wrong_lines, kind_lines, frame_lines};
 ghost use Rattle.subcode_player.specs.CountSteps.{IsFresh, lines_of};
 
@@ -30,7 +30,7 @@ impl Player {
     ///
     /// `Torn`, `TooLong` and `ReadFault` as the input says: then nothing is written. After `WriteFault` the sink holds a
     /// prefix.
-    #[tactic(auto, using(crate::proofs::Ends::ends_first))]
+    #[tactic(auto, using(crate::proofs::Ends::ends_first, crate::proofs::Ends::stops_stream))]
     pub fn check<S: Source, K: Sink>(
         &mut self,
         lead_in: u32,
@@ -41,6 +41,8 @@ impl Player {
         requires { lead_in ≤ 450000 }
         ensures checks { (taken : List ℕ) × PlaysAtEnd (IsChecked form lead_in) form lead_in
             (S.left source.old) (S.left source.new) (K.held out.old) (K.held out.new) result taken }
+        // It never answers that a moment is past the end, whatever the input.
+        ensures stops { IfErr result IsStreamStop }
         // Where nothing failed, the answer is that of the whole input's length.
         ensures answer { IfSome (S.left source.old) (λ all. IsAnsweredBy result (unit_size form) (length all)) }
         // Where the output is not written it is as it was.

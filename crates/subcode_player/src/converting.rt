@@ -1,12 +1,12 @@
 // The conversion of a stream to packs.
-ghost use Rattle.std.specs.Prelude.{◌≡◌, ◌≢◌, ◌≤◌, List, ℕ, length, IfSome, IsErrOf, Err};
+ghost use Rattle.std.specs.Prelude.{◌≡◌, ◌≢◌, ◌≤◌, List, ℕ, length, IfSome, IfErr, IsErrOf, Err};
 ghost use Rattle.std.specs.List.{concat};
 ghost use Rattle.cdg_io.specs.Causes.{Rose};
 ghost use Rattle.raw_subcode.specs.Channels.{unit_size};
 ghost use Rattle.subcode_player.specs.Steps.{begun};
 ghost use Rattle.raw_subcode.specs.declared.form.Form.{Form};
 ghost use Rattle.stream_words.specs.Stream.{all_packs};
-ghost use Rattle.subcode_player.specs.Calls.{EndInTurn, IsAnsweredBy};
+ghost use Rattle.subcode_player.specs.Calls.{EndInTurn, IsAnsweredBy, IsStreamStop};
 ghost use Rattle.subcode_player.specs.Convert.{Converts, IsConverted, IsDamagedStream, Restores};
 
 use crate::player::{MOST_UNITS, play_stop};
@@ -51,6 +51,8 @@ impl Player {
         ensures restores { IfSome (S.left source.old) (λ all. (blocks : ℕ) (packs : List (List ℕ))
             → IsDamagedStream form lead_in blocks packs all
             → Restores result (K.held out.old) (K.held out.new) (concat (all_packs form blocks packs))) }
+        // It never answers that a moment is past the end, whatever the input.
+        ensures stops { IfErr result IsStreamStop }
         // Where nothing failed, the answer is that of the whole input's length.
         ensures answer { IfSome (S.left source.old) (λ all. IsAnsweredBy result (unit_size form) (length all)) }
         ensures source_later { S.faults source.old ≤ S.faults source.new }
@@ -70,7 +72,7 @@ impl Player {
     }
 
     /// The same for bytes that are blocks, from the start on.
-    #[tactic(auto, using(crate::proofs::Ends::ends_in_turn))]
+    #[tactic(auto, using(crate::proofs::Ends::ends_in_turn, crate::proofs::Ends::stops_stream))]
     fn convert_blocks<S: Source, K: Sink>(
         &mut self,
         lead_in: u32,
@@ -83,6 +85,7 @@ impl Player {
         requires bad { self.old.stages.second.second.bad ≡ 0 }
         ensures converts { (taken : List ℕ) × Converts form lead_in (S.left source.old) (S.left source.new)
             (K.held out.old) (K.held out.new) result taken }
+        ensures stops { IfErr result IsStreamStop }
         ensures answer { IfSome (S.left source.old) (λ all. IsAnsweredBy result (unit_size form) (length all)) }
         ensures source_later { S.faults source.old ≤ S.faults source.new }
         ensures out_later { K.faults out.old ≤ K.faults out.new }
@@ -99,7 +102,7 @@ impl Player {
     }
 
     /// The same for bytes that are sectors.
-    #[tactic(auto, using(crate::proofs::Ends::ends_in_turn))]
+    #[tactic(auto, using(crate::proofs::Ends::ends_in_turn, crate::proofs::Ends::stops_stream))]
     fn convert_sectors<S: Source, K: Sink>(
         &mut self,
         lead_in: u32,
@@ -110,6 +113,7 @@ impl Player {
         requires bad { self.old.stages.second.second.bad ≡ 0 }
         ensures converts { (taken : List ℕ) × Converts Form.Sector lead_in (S.left source.old) (S.left source.new)
             (K.held out.old) (K.held out.new) result taken }
+        ensures stops { IfErr result IsStreamStop }
         ensures answer { IfSome (S.left source.old) (λ all. IsAnsweredBy result 2448 (length all)) }
         ensures source_later { S.faults source.old ≤ S.faults source.new }
         ensures out_later { K.faults out.old ≤ K.faults out.new }

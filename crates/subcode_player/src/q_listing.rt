@@ -1,10 +1,10 @@
 // The lines of the Q channel of a stream.
-ghost use Rattle.std.specs.Prelude.{◌≡◌, ◌≢◌, ◌≤◌, List, ℕ, length, IfSome, IsErrOf, Err};
+ghost use Rattle.std.specs.Prelude.{◌≡◌, ◌≢◌, ◌≤◌, List, ℕ, length, IfSome, IfErr, IsErrOf, Err};
 ghost use Rattle.cdg_io.specs.Causes.{Rose};
 ghost use Rattle.raw_subcode.specs.Channels.{unit_size};
 ghost use Rattle.block_stages.specs.QList.{IsQListed};
 ghost use Rattle.raw_subcode.specs.declared.form.Form.{Form};
-ghost use Rattle.subcode_player.specs.Calls.{EndInTurn, IsAnsweredBy, PlaysInTurn};
+ghost use Rattle.subcode_player.specs.Calls.{EndInTurn, IsAnsweredBy, IsStreamStop, PlaysInTurn};
 
 use crate::player::{MOST_UNITS, play_stop};
 use crate::{Form, PlayStop, Played, Player, SectorBlocks};
@@ -32,6 +32,8 @@ impl Player {
         requires form { form ≢ Form.Cooked }
         ensures lists { (taken : List ℕ) × PlaysInTurn (IsQListed form) form lead_in (S.left source.old) (S.left source.new)
             (K.held out.old) (K.held out.new) result taken }
+        // It never answers that a moment is past the end, whatever the input.
+        ensures stops { IfErr result IsStreamStop }
         // Where nothing failed, the answer is that of the whole input's length.
         ensures answer { IfSome (S.left source.old) (λ all. IsAnsweredBy result (unit_size form) (length all)) }
         ensures source_later { S.faults source.old ≤ S.faults source.new }
@@ -52,7 +54,7 @@ impl Player {
 }
 
 /// The same for bytes that are blocks.
-#[tactic(auto, using(crate::proofs::Ends::ends_in_turn))]
+#[tactic(auto, using(crate::proofs::Ends::ends_in_turn, crate::proofs::Ends::stops_stream))]
 fn list_blocks<S: Source, K: Sink>(
     lead_in: u32,
     source: &mut S,
@@ -60,6 +62,7 @@ fn list_blocks<S: Source, K: Sink>(
 ) -> Result<Played, PlayStop>
     ensures lists { (taken : List ℕ) × PlaysInTurn (IsQListed Form.Raw) Form.Raw lead_in (S.left source.old) (S.left source.new)
         (K.held out.old) (K.held out.new) result taken }
+    ensures stops { IfErr result IsStreamStop }
     ensures answer { IfSome (S.left source.old) (λ all. IsAnsweredBy result 96 (length all)) }
     ensures source_later { S.faults source.old ≤ S.faults source.new }
     ensures out_later { K.faults out.old ≤ K.faults out.new }
@@ -80,7 +83,7 @@ fn list_blocks<S: Source, K: Sink>(
 }
 
 /// The same for bytes that are sectors.
-#[tactic(auto, using(crate::proofs::Ends::ends_in_turn))]
+#[tactic(auto, using(crate::proofs::Ends::ends_in_turn, crate::proofs::Ends::stops_stream))]
 fn list_sectors<S: Source, K: Sink>(
     lead_in: u32,
     source: &mut S,
@@ -88,6 +91,7 @@ fn list_sectors<S: Source, K: Sink>(
 ) -> Result<Played, PlayStop>
     ensures lists { (taken : List ℕ) × PlaysInTurn (IsQListed Form.Sector) Form.Sector lead_in (S.left source.old) (S.left source.new)
         (K.held out.old) (K.held out.new) result taken }
+    ensures stops { IfErr result IsStreamStop }
     ensures answer { IfSome (S.left source.old) (λ all. IsAnsweredBy result 2448 (length all)) }
     ensures source_later { S.faults source.old ≤ S.faults source.new }
     ensures out_later { K.faults out.old ≤ K.faults out.new }

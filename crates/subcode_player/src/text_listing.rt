@@ -2,7 +2,7 @@
 ghost use Rattle.std.specs.Prelude.{◌≡◌, ◌≢◌, ◌≤◌, ◌-◌, List, ℕ, IfSome, IfErr, IsErrOf, Err};
 ghost use Rattle.cdg_io.specs.Causes.{Rose};
 ghost use Rattle.lead_in_texts.specs.TextSteps.{begun};
-ghost use Rattle.subcode_player.specs.TextList.{EndOfTexts, ListsTexts, IsListedBy};
+ghost use Rattle.subcode_player.specs.TextList.{EndOfTexts, ListsTexts, IsListStop, IsListedBy};
 ghost use Rattle.subcode_player.specs.Watch.{WritesTexts};
 
 use crate::player::play_stop;
@@ -33,7 +33,7 @@ impl Player {
     ///
     /// `Text` where the packs are no texts, or no memory is found for them, and `Play` as the input says: then nothing is
     /// written, unless a write failed, after which the sink holds a prefix.
-    #[tactic(auto, using(crate::proofs::Ends::ends_first, crate::proofs::Ends::ends_texts))]
+    #[tactic(auto, using(crate::proofs::Ends::ends_first, crate::proofs::Ends::ends_texts, crate::proofs::Ends::stops_stream, crate::proofs::Ends::stops_list))]
     pub fn text_list<S: Source, K: Sink>(
         &mut self,
         alloc: Global,
@@ -46,6 +46,8 @@ impl Player {
         requires form { form ≢ Form.Cooked }
         ensures lists { (taken : List ℕ) × ListsTexts form lead_in
             (S.left source.old) (S.left source.new) (K.held out.old) (K.held out.new) result taken }
+        // It never answers that a moment is past the end, whatever the input.
+        ensures stops { IfErr result IsListStop }
         // Where nothing failed, the answer is that of the whole input.
         ensures answer { IfSome (S.left source.old) (λ all. IsListedBy result form lead_in all) }
         // Where the output is not written it is as it was.
