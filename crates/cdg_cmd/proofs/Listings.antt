@@ -57,7 +57,7 @@ module _ (lead_in : ℕ) (left' more more' : Bytes) (out : Change Bytes) (status
       → ((answer : Result Played PlayStop) (taken : List ℕ) → PlaysInTurn (IsQListed Raw) Raw lead_in (Some all) left' out.before out.after answer taken
       → IsAnsweredBy answer 96 (length all) → Restores answer out.before out.after t) → GivesBack t out status
   frames_of all l restores =
-      subst (λ (s : Status). GivesBack t out s) (sym l.status_is) (given_back l.answer out t (restores l.answer l.taken l.did l.exactly))
+      subst (λ (s : Status). GivesBack t out s) (sym l.status_is) (given_back l.answer out t (restores l.answer l.taken l.did l.exactly.1))
 
   -- the frames of streams of some kind
   pub frames_given : (left : Bytes) → (status ≢ NoMemory → Does (Q lead_in Raw) (both left left' more more' out) status)
@@ -70,7 +70,7 @@ module _ (lead_in : ℕ) (left' more more' : Bytes) (out : Change Bytes) (status
       → ((answer : Result Played TextStop) (taken : List ℕ) → ListsTexts form lead_in (Some all) left' out.before out.after answer taken → IsListedBy answer form lead_in all
       → PutsTexts answer out.before out.after t) → GivesBack t out status
   texts_of form all l puts =
-      subst (λ (s : Status). GivesBack t out s) (sym l.status_is) (texts_back l.answer out t (puts l.answer l.taken l.did l.exactly))
+      subst (λ (s : Status). GivesBack t out s) (sym l.status_is) (texts_back l.answer out t (puts l.answer l.taken l.did l.exactly.1))
 
   -- the texts of streams of some kind
   pub strings_given : (form : Form) (left : Bytes) → (status ≢ NoMemory → Does (Text lead_in form) (both left left' more more' out) status)

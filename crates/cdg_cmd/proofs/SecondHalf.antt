@@ -70,7 +70,7 @@ module _ (form : Form) (lead_in : ℕ) (left' more more' : Bytes) (out : Change 
       → IsDamagedStream form lead_in blocks packs all → GivesBack (concat (all_packs form blocks packs)) out status
   converted gives none all blocks packs d damaged =
       subst (λ (s : Status). GivesBack (concat (all_packs form blocks packs)) out s) (sym d.status_is)
-      (given_back d.answer out (concat (all_packs form blocks packs)) (restores form lead_in (Some all) left' out.before out.after d.answer d.taken gives none d.did d.exactly blocks packs damaged))
+      (given_back d.answer out (concat (all_packs form blocks packs)) (restores form lead_in (Some all) left' out.before out.after d.answer d.taken gives none d.did d.exactly.1 blocks packs damaged))
 
   pub converted_back : GivesPacks → GivesNoneBad → (left : Bytes) → (status ≢ NoMemory → Does (Convert lead_in form) (both left left' more more' out) status)
       → IfSome left (λ all. (blocks : ℕ) (packs : List (List ℕ)) → IsDamagedStream form lead_in blocks packs all → GivesBack (concat (all_packs form blocks packs)) out status)

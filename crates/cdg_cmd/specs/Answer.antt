@@ -1,14 +1,14 @@
 -- What a command answers and writes.
-use Rattle.std.specs.Prelude.{IfSome, ℕ, ◌==◌, ⊤, List, length, Result, Ok, Err, if◌then◌else◌}
+use Rattle.std.specs.Prelude.{IfErr, IfSome, ℕ, ◌==◌, ⊤, List, length, Result, Ok, Err, if◌then◌else◌}
 use Rattle.std.specs.Io.KnownBytes.{Appends}
 use Rattle.cdg_io.specs.Moves.{AppendsPrefix}
 use Rattle.raw_subcode.specs.Channels.{unit_size}
 use Rattle.raw_subcode.specs.declared.form.Form.{Form}
-use Rattle.subcode_player.specs.Calls.{IsAnsweredBy, PlaysAtEnd, PlaysInTurn}
+use Rattle.subcode_player.specs.Calls.{IsAnsweredBy, IsStreamStop, PlaysAtEnd, PlaysInTurn}
 use Rattle.subcode_player.specs.Convert.{IsConverted}
 use Rattle.subcode_player.specs.Counts.{IsChecked}
 use Rattle.subcode_player.specs.Shown.{IsScreenAt, IsShownBy, IsStateAt, Shows}
-use Rattle.subcode_player.specs.TextList.{IsListedBy, ListsTexts}
+use Rattle.subcode_player.specs.TextList.{IsListedBy, IsListStop, ListsTexts}
 use Rattle.subcode_player.specs.declared.text_listing.TextStop.{TextStop}
 use Rattle.subcode_player.specs.declared.text_listing.TextStop.TheVariants as texts
 use Rattle.cdtext_packs.specs.declared.kinds.TextFault.TheVariants as fault
@@ -44,17 +44,22 @@ play_status (Err (play.Torn block)) = Refused (Torn block)
 play_status (Err play.TooLong) = Refused TooLong
 play_status (Err (play.PastEnd blocks)) = Refused (PastEnd blocks)
 
+-- whatever the input, a stream that is played is never told to be past its end; where the input tells its bytes, the
+-- answer is the exact one, unless a fault is told
+abbrev pub IsPlayAnswer : Form → Bytes → Result Played PlayStop → Type 0
+IsPlayAnswer form input answer = IfErr answer IsStreamStop × IfSome input (λ all. IsAnsweredBy answer (unit_size form) (length all))
+
 -- a stream of blocks was played, and the text of its blocks written as they were read
 abbrev pub PlaysAsRead : (List ℕ → List ℕ → ℕ → Type 0) → Form → ℕ → Call Bytes → Status → Type 0
 PlaysAsRead writes form lead_in call status =
     EndsWith play_status (PlaysInTurn writes form lead_in call.first.before call.first.after call.out.before call.out.after)
-    (λ answer. IfSome call.first.before (λ all. IsAnsweredBy answer (unit_size form) (length all))) status
+    (IsPlayAnswer form call.first.before) status
 
 -- the same, written when all is read
 abbrev pub PlaysWhole : (List ℕ → List ℕ → ℕ → Type 0) → Form → ℕ → Call Bytes → Status → Type 0
 PlaysWhole writes form lead_in call status =
     EndsWith play_status (PlaysAtEnd writes form lead_in call.first.before call.first.after call.out.before call.out.after)
-    (λ answer. IfSome call.first.before (λ all. IsAnsweredBy answer (unit_size form) (length all))) status
+    (IsPlayAnswer form call.first.before) status
 
 -- a moment of a stream was shown
 abbrev pub ShowsMoment : (List ℕ → List ℕ → ℕ → Type 0) → Form → ℕ → ℕ → Call Bytes → Status → Type 0
@@ -71,11 +76,15 @@ text_status (Err (texts.Text fault.NoSize)) = Refused TextNoSize
 text_status (Err (texts.Text (fault.Malformed seq byte))) = Refused (TextMalformed seq byte)
 text_status (Err (texts.Text fault.NoMemory)) = NoMemory
 
+-- the same of the answer to a list of texts
+abbrev pub IsListAnswer : Form → ℕ → Bytes → Result Played TextStop → Type 0
+IsListAnswer form lead_in input answer = IfErr answer IsListStop × IfSome input (λ all. IsListedBy answer form lead_in all)
+
 -- the texts of the lead-in of a stream were listed
 abbrev pub ListsLeadIn : Form → ℕ → Call Bytes → Status → Type 0
 ListsLeadIn form lead_in call status =
     EndsWith text_status (ListsTexts form lead_in call.first.before call.first.after call.out.before call.out.after)
-    (λ answer. IfSome call.first.before (λ all. IsListedBy answer form lead_in all)) status
+    (IsListAnswer form lead_in call.first.before) status
 
 -- a text was written, or a prefix of it where a write failed
 abbrev pub Generates : List ℕ → Change Bytes → Status → Type 0

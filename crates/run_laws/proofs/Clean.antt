@@ -74,7 +74,7 @@ module _ (form : Form) (lead_in : ℕ) (left' more more' : Bytes) (out : Change 
   clean_converted all c clean =
       let symbols : List ℕ = program_symbols form all lead_in in
       subst (λ (s : Status). GivesBack (concat (words_of form symbols)) out s) (sym c.status_is)
-      (in_turn_given (IsConverted form lead_in) form lead_in all left' out c.taken (concat (words_of form symbols)) c.answer c.did c.exactly clean.input
+      (in_turn_given (IsConverted form lead_in) form lead_in all left' out c.taken (concat (words_of form symbols)) c.answer c.did c.exactly.1 clean.input
       (λ text bad converted. clean_text form symbols converted.found text bad (finds symbols converted.found clean.codewords converted.recovered) written none converted.text_is converted.bad_is))
 
   pub clean_given : (left : Bytes) → (status ≢ NoMemory → Does (Convert lead_in form) (both left left' more more' out) status)
