@@ -1,7 +1,6 @@
 use cdg_io::{MemSink, MemSource, Then};
 use cdg_screen::Screen;
-use cdtext_packs::TextReader;
-use lead_in_texts::LeadInTexts;
+use cdtext_packs::{LeadInTexts, TextReader};
 use rw_interleave::Window;
 use std::test::Fail;
 use subcode_player::{

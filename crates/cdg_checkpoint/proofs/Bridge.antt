@@ -1,16 +1,15 @@
 -- What is written of a stream that goes on from the file of its first part.
 use Rattle.std.proofs.Common.{◌≡◌, ◌≢◌, ℕ, zero, suc, ◌+◌, ◌-◌, ◌*◌, ◌/◌, ◌%◌, ◌<◌, ◌≤◌, List, [], ◌∷◌, ◌++◌, length, get_or, take, drop, replicate, refl, sym, ap, ap₂, ◌∙◌, subst, arith, length-append, length-drop, None, Some}
-use Rattle.std.specs.Prelude.{Option, min, Result, Ok, Err}
+use Rattle.std.specs.Prelude.{Option, min, Result, Ok, Err, is_none}
 use Rattle.std.specs.List.{AllByRecursion}
 use Rattle.std.specs.Io.KnownBytes.{Appends, Consumes, IsAtEnd}
 use Rattle.std.proofs.lemmas.List.{append_assoc, append-nil, ext_get_or, get_or-drop, get_or_append_left, take_all}
 use Rattle.std.proofs.lemmas.List.Sums.{count_by-le-length}
-use Rattle.std.specs.Prelude.{is_none}
 use Rattle.raw_subcode.specs.Channels.{blocks_of, program_symbols}
 use Rattle.raw_subcode.specs.declared.form.Form.TheVariants.{Raw}
 use Rattle.rw_code.specs.Codeword.{IsWord}
 use Rattle.rw_code.proofs.Finding.{only_finding}
-use Rattle.stream_words.specs.Stream.{IsRecovered, bad_count}
+use Rattle.rw_interleave.specs.Stream.{IsRecovered, bad_count}
 use Rattle.cdg_instructions.proofs.Meaning.{only_meaning}
 use Rattle.rw_interleave.specs.Interleave.{word_of, whole_packs}
 use Rattle.cdg_io.specs.Pump.{units_of}
@@ -26,7 +25,7 @@ use Rattle.checkpoint_files.specs.Table.{IsCheckpointFile, empty_symbols}
 use Rattle.checkpoint_files.specs.Sound.{IsSoundStanding, IsSoundCheckpoint, IsSameCheckpoint}
 use Rattle.checkpoint_files.proofs.Accepted.{accepted, same}
 use Rattle.subcode_player.specs.Calls.{IsEarly}
-use Rattle.subcode_player.specs.Shown.{AreMeant, IsScreenAt, IsShownBy, Shows}
+use Rattle.subcode_player.specs.Screen.{AreMeant, IsScreenAt, IsShownBy, Shows}
 use Rattle.subcode_player.specs.Watch.{IsViewed}
 use Rattle.subcode_player.proofs.Slots.{symbols_small}
 use Rattle.subcode_player.proofs.Playing.{units_in}

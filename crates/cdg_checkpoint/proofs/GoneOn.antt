@@ -21,14 +21,14 @@ use Rattle.rw_interleave.specs.Gathering.{gather_next, gather_gives}
 use Rattle.rw_interleave.proofs.Gathers.{gathers}
 use Rattle.raw_subcode.specs.Channels.{symbols_of, program_symbols}
 use Rattle.raw_subcode.specs.declared.form.Form.TheVariants.{Raw}
-use Rattle.stream_words.specs.Stream.{bad_count}
+use Rattle.rw_interleave.specs.Stream.{bad_count}
 use Rattle.cdg_screen.specs.Picture.{Display, Standing, SameStanding, standing_of, standing_after}
 use Rattle.cdg_screen.proofs.Turns.{same_after, same_then}
 use Rattle.checkpoint_files.specs.Checkpoint.{Checkpoint}
 use Rattle.checkpoint_files.specs.Table.{empty_symbols}
 use Rattle.subcode_player.specs.Steps.{slots_of, window_next, window_gives, words_next, words_give}
 use Rattle.subcode_player.specs.Drawn.{draw_after, drawing_next}
-use Rattle.subcode_player.specs.declared.words.BlockWords.{BlockWords}
+use Rattle.subcode_player.specs.declared.block_words.BlockWords.{BlockWords}
 use Rattle.subcode_player.specs.declared.drawing.Drawing.{Drawing}
 use Rattle.subcode_player.proofs.Slots.{Sized, sized_append, sized_drop, all_slots_sized, all_slots_together, length-all_slots, symbols_small}
 use Rattle.subcode_player.proofs.StageRuns.{all_items, words_run}

@@ -14,13 +14,13 @@ use Rattle.subcode_player.proofs.Playing.{units_in}
 use Rattle.subcode_player.proofs.Conversion.{length-units_of}
 use Rattle.raw_subcode.specs.Channels.{symbols_of, program_symbols}
 use Rattle.raw_subcode.specs.declared.form.Form.TheVariants.{Raw}
-use Rattle.stream_words.specs.Stream.{IsRecovered, bad_count}
+use Rattle.rw_interleave.specs.Stream.{IsRecovered, bad_count}
 use Rattle.cdg_instructions.specs.declared.instr.Instr.{Instr}
 use Rattle.cdg_screen.specs.Picture.{Standing, SameStanding, blank, standing_after}
 use Rattle.cdg_screen.proofs.Turns.{in_turn, same_after, same_then, same_back}
 use Rattle.checkpoint_files.specs.Checkpoint.{Checkpoint}
 use Rattle.checkpoint_files.specs.Table.{empty_symbols}
-use Rattle.subcode_player.specs.Shown.{AreMeant}
+use Rattle.subcode_player.specs.Screen.{AreMeant}
 use Rattle.subcode_player.specs.Watch.{IsViewed}
 use Rattle.subcode_player.proofs.Views.{whole_taken}
 use Rattle.cdg_io.proofs.Streaming.{IsWhole}

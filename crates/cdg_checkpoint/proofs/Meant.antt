@@ -18,7 +18,7 @@ use Rattle.cdg_instructions.specs.declared.instr.Instr.TheVariants.{Idle, Foreig
 use Rattle.cdg_screen.specs.Picture.{blank, memory_from, border_from, colour_from, level_from, offsets_from, standing_after, covers, source_x, source_y, is_inside}
 use Rattle.cdg_screen.proofs.SameTexts.{IsShowable}
 use Rattle.checkpoint_files.specs.Sound.{IsSoundStanding}
-use Rattle.subcode_player.specs.Shown.{AreMeant}
+use Rattle.subcode_player.specs.Screen.{AreMeant}
 
 -- ---- the numbers of a codeword
 

@@ -15,11 +15,11 @@ use Rattle.rw_interleave.specs.Gathering.{gather_next}
 use Rattle.cdg_screen.specs.Picture.{SameStanding, standing_of}
 use Rattle.checkpoint_files.specs.Checkpoint.{Checkpoint, checkpoint_in}
 use Rattle.checkpoint_files.specs.Table.{IsCheckpointFile, Slots, number}
-use Rattle.subcode_player.specs.declared.words.BlockWords.{BlockWords}
+use Rattle.subcode_player.specs.declared.block_words.BlockWords.{BlockWords}
 use Rattle.subcode_player.specs.declared.drawing.Drawing.{Drawing}
 use Rattle.subcode_player.proofs.Playing.{units_in}
 use Rattle.subcode_player.proofs.Views.{done_tests, torn_tests, not_over, is_over, zero_rest, some_rest, whole_taken}
-use Rattle.cdg_checkpoint.specs.Tracked.{Watches, words_drawn}
+use Rattle.cdg_checkpoint.specs.Tracked.{TracksBlocks, words_drawn}
 use Rattle.cdg_checkpoint.specs.Resumed.{GoesOn, IsGoneOnBy, blocks_after, blocks_left, packs_until, reached, saved_slots}
 use Rattle.cdg_checkpoint.specs.declared.stops.Resumed.{Resumed}
 use Rattle.cdg_checkpoint.specs.declared.stops.ResumeStop.{ResumeStop}
@@ -56,7 +56,7 @@ pub brought_back : (c : Checkpoint) (time to_come bad : ℕ) (s : Then BlockWord
 brought_back c time to_come bad s words t left b e stands = record { words = words ∙ ap (begun_at c) t; left = left; bad = b ∙ e; stands = stands }
 
 module _ (c : Checkpoint) (time limit : ℕ) (left left' : Option (List ℕ)) (taken : List ℕ) (s s' : Then BlockWords Drawing) (pumped : Pumped) (sound : IsSound c) (back : IsBroughtBack c time s) (fits : limit ≡ blocks_left c)
-    (w : Watches limit words_drawn left left' s s' (Ok pumped) taken) where
+    (w : TracksBlocks limit words_drawn left left' s s' (Ok pumped) taken) where
   blocks_are : c.program + (pumped.units - c.to_come) ≡ blocks_after c taken
   blocks_are = ap (λ n. c.program + (n - c.to_come)) (sym (units_in Raw pumped.units taken (whole_taken Raw pumped.units taken w.done.1)))
 

@@ -15,21 +15,21 @@ use Rattle.cdg_io.proofs.Streaming.{IsWhole}
 use Rattle.rw_interleave.specs.Interleave.{whole_packs}
 use Rattle.raw_subcode.specs.Channels.{block_of, blocks_of, symbols_of, program_symbols}
 use Rattle.raw_subcode.specs.declared.form.Form.TheVariants.{Raw}
-use Rattle.stream_words.specs.Stream.{bad_count}
+use Rattle.rw_interleave.specs.Stream.{bad_count}
 use Rattle.cdg_screen.specs.Picture.{Standing, SameStanding, blank, standing_of, standing_after}
 use Rattle.cdg_screen.proofs.Turns.{same_then}
 use Rattle.checkpoint_files.specs.Checkpoint.{Checkpoint, file_of}
-use Rattle.subcode_player.specs.Shown.{AreMeant}
+use Rattle.subcode_player.specs.Screen.{AreMeant}
 use Rattle.subcode_player.specs.Watch.{IsViewed}
-use Rattle.subcode_player.specs.declared.words.BlockWords.{BlockWords}
+use Rattle.subcode_player.specs.declared.block_words.BlockWords.{BlockWords}
 use Rattle.subcode_player.specs.declared.drawing.Drawing.{Drawing}
 use Rattle.subcode_player.proofs.Slots.{Sized, sized_drop, length-all_symbols}
 use Rattle.subcode_player.proofs.PlayRuns.{plain_blocks}
 use Rattle.subcode_player.proofs.Conversion.{units_sized, length-units_of}
 use Rattle.subcode_player.proofs.Playing.{units_in}
 use Rattle.subcode_player.proofs.Views.{IsReady, drawings_next, viewed_bytes, whole_taken}
-use Rattle.cdg_checkpoint.specs.Tracked.{Watches, track_next}
-use Rattle.cdg_checkpoint.specs.Saved.{IsCheckpointOf, IsEarly, IsSaved, Saves, last_symbols, most_blocks}
+use Rattle.cdg_checkpoint.specs.Tracked.{TracksBlocks, track_next}
+use Rattle.cdg_checkpoint.specs.Saved.{IsCheckpointOf, IsBeforeEnd, IsSaved, Saves, last_symbols, most_blocks}
 use Rattle.cdg_checkpoint.specs.Keeping.{IsKept}
 use Rattle.cdg_checkpoint.specs.declared.tracking.Tracking.{Tracking}
 use Rattle.cdg_checkpoint.proofs.Tails.{after, tail_after, words_alone}
@@ -100,7 +100,7 @@ module _ (lead_in n : ℕ) (bytes file : List ℕ) (s s' : Tracking) (fresh : Is
 
 -- ---- the answers
 
-module _ (lead_in : ℕ) (left left' held held' : Option (List ℕ)) (s s' : Tracking) (taken file : List ℕ) (pumped : Pumped) (fresh : IsFresh lead_in s) (w : Watches most_blocks track_next left left' s s' (Ok pumped) taken) (kept : IsKept pumped.units lead_in s' file) where
+module _ (lead_in : ℕ) (left left' held held' : Option (List ℕ)) (s s' : Tracking) (taken file : List ℕ) (pumped : Pumped) (fresh : IsFresh lead_in s) (w : TracksBlocks most_blocks track_next left left' s s' (Ok pumped) taken) (kept : IsKept pumped.units lead_in s' file) where
   saved : IsSaved lead_in taken pumped file
   saved = is_saved lead_in pumped.units taken file s s' fresh w.done.2 w.done.1 w.done.3 kept
 

@@ -6,7 +6,7 @@ use Rattle.std.proofs.lemmas.List.{append-nil, drop-append-le, drop-drop, length
 use Rattle.cdg_io.specs.Run.{run_state, run_gives}
 use Rattle.raw_subcode.specs.Channels.{symbols_of}
 use Rattle.subcode_player.specs.Steps.{words_next, window_next, slots_of}
-use Rattle.subcode_player.specs.declared.words.BlockWords.{BlockWords}
+use Rattle.subcode_player.specs.declared.block_words.BlockWords.{BlockWords}
 use Rattle.subcode_player.proofs.Slots.{Sized}
 use Rattle.cdg_checkpoint.specs.Tracked.{track_next, tail_next, words_drawn}
 use Rattle.cdg_checkpoint.specs.declared.tracking.Tracking.{Tracking}

@@ -9,13 +9,13 @@ use Rattle.rw_code.specs.Finding.{IsFinding}
 use Rattle.rw_interleave.specs.Interleave.{word_of, whole_packs}
 use Rattle.raw_subcode.specs.Channels.{symbols_of, program_symbols}
 use Rattle.raw_subcode.specs.declared.form.Form.TheVariants.{Raw}
-use Rattle.stream_words.specs.Stream.{bad_count}
+use Rattle.rw_interleave.specs.Stream.{bad_count}
 use Rattle.cdg_instructions.specs.declared.instr.Instr.{Instr}
 use Rattle.cdg_screen.specs.Picture.{Standing, SameStanding, standing_after}
 use Rattle.cdg_screen.specs.Texts.{pixmap}
 use Rattle.checkpoint_files.specs.Table.{IsBadAt, IsCheckpointFile, empty_symbols}
 use Rattle.checkpoint_files.specs.Checkpoint.{Checkpoint, checkpoint_in}
-use Rattle.subcode_player.specs.Shown.{AreMeant}
+use Rattle.subcode_player.specs.Screen.{AreMeant}
 use Rattle.cdg_checkpoint.specs.Saved.{most_blocks}
 use Rattle.cdg_checkpoint.specs.declared.stops.Resumed.{Resumed}
 use Rattle.cdg_checkpoint.specs.declared.stops.ResumeStop.{ResumeStop}
@@ -81,12 +81,12 @@ pub record GoesOn (c : Checkpoint) (time : ℕ) (left left' : Option (List ℕ))
   pub past_end : (blocks : ℕ) → result ≡ Err (PastEnd blocks) → IsAtEnd left' × (blocks ≡ blocks_after c taken) × (blocks < time)
 
 -- The count of told ends rose where the rest was read to its end, and nowhere else.
-abbrev pub RestEnds : Result Resumed ResumeStop → ℕ → ℕ → Type 0
-RestEnds (Ok resumed) before now = Rose before now
-RestEnds (Err (Torn block)) before now = Rose before now
-RestEnds (Err (PastEnd blocks)) before now = Rose before now
-RestEnds (Err WriteFault) before now = Rose before now
-RestEnds (Err stop) before now = now ≡ before
+abbrev pub EndsAsResumed : Result Resumed ResumeStop → ℕ → ℕ → Type 0
+EndsAsResumed (Ok resumed) before now = Rose before now
+EndsAsResumed (Err (Torn block)) before now = Rose before now
+EndsAsResumed (Err (PastEnd blocks)) before now = Rose before now
+EndsAsResumed (Err WriteFault) before now = Rose before now
+EndsAsResumed (Err stop) before now = now ≡ before
 
 -- what is answered after so many program blocks
 abbrev pub reached : ℕ → ℕ → ℕ → Result Resumed ResumeStop

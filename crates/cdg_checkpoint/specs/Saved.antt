@@ -1,18 +1,17 @@
 -- The checkpoint of a stream.
-use Rattle.std.specs.Prelude.{◌≡◌, ℕ, ◌-◌, ◌/◌, ⊤, List, [], ◌++◌, length, drop, replicate, min, Option, Result}
+use Rattle.std.specs.Prelude.{◌≡◌, ℕ, ◌-◌, ◌/◌, ⊤, List, [], ◌++◌, length, drop, replicate, min, Option, Result, Ok, Err}
 use Rattle.cdg_io.specs.Streams.{WritesAtEnd}
 use Rattle.cdg_io.specs.Causes.{Rose}
 use Rattle.cdg_io.specs.declared.pumping.Pumped.{Pumped}
 use Rattle.cdg_io.specs.declared.pumping.PumpStop.{PumpStop}
 use Rattle.cdg_io.specs.declared.pumping.PumpStop.TheVariants.{ReadFault, WriteFault, Torn, TooLong}
-use Rattle.std.specs.Prelude.{Ok, Err}
 use Rattle.raw_subcode.specs.Channels.{program_symbols}
 use Rattle.raw_subcode.specs.declared.form.Form.TheVariants.{Raw}
-use Rattle.stream_words.specs.Stream.{IsRecovered, bad_count}
+use Rattle.rw_interleave.specs.Stream.{IsRecovered, bad_count}
 use Rattle.cdg_instructions.specs.declared.instr.Instr.{Instr}
 use Rattle.cdg_screen.specs.Picture.{SameStanding, blank, standing_after}
 use Rattle.checkpoint_files.specs.Checkpoint.{Checkpoint, file_of}
-use Rattle.subcode_player.specs.Shown.{AreMeant}
+use Rattle.subcode_player.specs.Screen.{AreMeant}
 
 -- the most blocks that are read
 abbrev pub most_blocks : ℕ
@@ -43,19 +42,19 @@ pub record IsSaved (lead_in : ℕ) (bytes : List ℕ) (pumped : Pumped) (text : 
   pub text_is : text ≡ file_of checkpoint
 
 -- it comes before the end of the input
-abbrev pub IsEarly : PumpStop → Type 0
-IsEarly ReadFault = ⊤
-IsEarly TooLong = ⊤
-IsEarly stop = ⊥
+abbrev pub IsBeforeEnd : PumpStop → Type 0
+IsBeforeEnd ReadFault = ⊤
+IsBeforeEnd TooLong = ⊤
+IsBeforeEnd stop = ⊥
 
 -- A call took these bytes: it writes the file of their checkpoint at the end.
 abbrev pub Saves : ℕ → Option (List ℕ) → Option (List ℕ) → Option (List ℕ) → Option (List ℕ) → Result Pumped PumpStop → List ℕ → Type 0
-Saves lead_in left left' held held' result taken = WritesAtEnd 96 most_blocks IsEarly WriteFault (IsSaved lead_in) left left' held held' result taken
+Saves lead_in left left' held held' result taken = WritesAtEnd 96 most_blocks IsBeforeEnd WriteFault (IsSaved lead_in) left left' held held' result taken
 
 -- The count of told ends rose where the input was read to its end, and nowhere else.
-abbrev pub EndFirst : Result Pumped PumpStop → ℕ → ℕ → Type 0
-EndFirst (Ok pumped) before now = Rose before now
-EndFirst (Err (Torn unit)) before now = Rose before now
-EndFirst (Err WriteFault) before now = Rose before now
-EndFirst (Err TooLong) before now = now ≡ before
-EndFirst (Err ReadFault) before now = now ≡ before
+abbrev pub EndsAsSaved : Result Pumped PumpStop → ℕ → ℕ → Type 0
+EndsAsSaved (Ok pumped) before now = Rose before now
+EndsAsSaved (Err (Torn unit)) before now = Rose before now
+EndsAsSaved (Err WriteFault) before now = Rose before now
+EndsAsSaved (Err TooLong) before now = now ≡ before
+EndsAsSaved (Err ReadFault) before now = now ≡ before

@@ -10,7 +10,7 @@ use Rattle.cdg_io.specs.declared.stage.Then.{Then}
 use Rattle.raw_subcode.specs.Channels.{symbols_of}
 use Rattle.subcode_player.specs.Steps.{words_next, words_give}
 use Rattle.subcode_player.specs.Drawn.{drawing_next}
-use Rattle.subcode_player.specs.declared.words.BlockWords.{BlockWords}
+use Rattle.subcode_player.specs.declared.block_words.BlockWords.{BlockWords}
 use Rattle.subcode_player.specs.declared.drawing.Drawing.{Drawing}
 use Rattle.cdg_checkpoint.specs.declared.tracking.Tracking.{Tracking}
 
@@ -26,7 +26,7 @@ abbrev pub track_next : Tracking → List ℕ → Tracking
 track_next s block = record { words = words_drawn s.words block; tail = tail_next s.words.first.lead_in s.tail block }
 
 -- These bytes were taken, and where they are whole blocks to the end, the stage is in the last state of its run over them.
-pub record Watches {S : Type 0} (limit : ℕ) (next : S → List ℕ → S) (left left' : Option (List ℕ)) (s s' : S) (result : Result Pumped PumpStop) (taken : List ℕ) : Type 0 where
+pub record TracksBlocks {S : Type 0} (limit : ℕ) (next : S → List ℕ → S) (left left' : Option (List ℕ)) (s s' : S) (result : Result Pumped PumpStop) (taken : List ℕ) : Type 0 where
   pub taken_from : Consumes left left' taken
   pub within : length taken ≤ limit * 96 + 1
   pub done : IfOk result (λ p. IsAtEnd left' × (length taken ≡ p.units * 96) × (p.units ≤ limit) × (s' ≡ run_state next s (units_of 96 p.units taken)))

@@ -9,7 +9,7 @@ ghost use Rattle.cdg_checkpoint.specs.declared.stops.Resumed.{Resumed};
 ghost use Rattle.cdg_checkpoint.specs.declared.stops.ResumeStop.{ResumeStop};
 ghost use Rattle.raw_subcode.specs.declared.form.Form.{Form};
 ghost use Rattle.subcode_player.specs.Watch.{IsViewed};
-ghost use Rattle.subcode_player.specs.Shown.{IsScreenAt, IsShownBy, Shows};
+ghost use Rattle.subcode_player.specs.Screen.{IsScreenAt, IsShownBy, Shows};
 ghost use Rattle.cdg_checkpoint.specs.Resumed.{IsGoneOn, IsResumed, IsResumedBy, Resumes};
 ghost use Rattle.cdg_checkpoint.specs.Saved.{IsCheckpointOf, IsSaved};
 

@@ -8,7 +8,7 @@ mod resuming;
 mod saving;
 mod stops;
 mod tracking;
-mod watching;
+mod watch;
 
 pub use checkpointer::Checkpointer;
 pub use laws::{a_resumed_stream_is_the_whole, a_saved_stream_goes_on_as_the_whole};

@@ -9,11 +9,11 @@ ghost use Rattle.rw_interleave.specs.Gathering.{gather_next};
 ghost use Rattle.cdg_screen.specs.Picture.{SameStanding, standing_of};
 ghost use Rattle.checkpoint_files.specs.Table.{IsCheckpointFile};
 ghost use Rattle.checkpoint_files.specs.Checkpoint.{checkpoint_in, standing_in};
-ghost use Rattle.cdg_checkpoint.specs.Resumed.{GoesOn, IsAcceptedBy, IsGoneOnBy, IsResumedBy, Resumes, acceptance, RestEnds, packs_until, reached, saved_slots};
+ghost use Rattle.cdg_checkpoint.specs.Resumed.{GoesOn, IsAcceptedBy, IsGoneOnBy, IsResumedBy, Resumes, acceptance, EndsAsResumed, packs_until, reached, saved_slots};
 
 use crate::pictures::bring_back;
 use crate::saving::MOST_BLOCKS;
-use crate::watching::watch_some;
+use crate::watch::watch_some;
 use crate::{Checkpointer, ResumeStop, Resumed};
 use cdg_io::{Failed, PumpStop, Pumped, Sink, Source};
 use checkpoint_files::Counts;
@@ -81,7 +81,7 @@ impl Checkpointer {
         ensures saved_goes_on { result ≢ Err ResumeStop.FirstFault → 65045 < length self.new.file
             → S.ends saved.new ≡ S.ends saved.old }
         ensures saved_not_told { result ≡ Err ResumeStop.FirstFault → S.ends saved.new ≡ S.ends saved.old }
-        ensures rest_told { IsOk (acceptance result) → RestEnds result (T.ends rest.old) (T.ends rest.new) }
+        ensures rest_told { IsOk (acceptance result) → EndsAsResumed result (T.ends rest.old) (T.ends rest.new) }
     {
         match self.accept(at, saved) {
             Ok(()) => self.show(at, rest, out),
@@ -116,7 +116,7 @@ impl Checkpointer {
         ensures write_fault { IsErrOf result ResumeStop.WriteFault
             → Rose (K.faults out.old) (K.faults out.new) }
         ensures no_write_fault { result ≢ Err ResumeStop.WriteFault → K.faults out.new ≡ K.faults out.old }
-        ensures rest_told { RestEnds result (T.ends rest.old) (T.ends rest.new) }
+        ensures rest_told { EndsAsResumed result (T.ends rest.old) (T.ends rest.new) }
     {
         match self.go_on(at, rest) {
             Ok(resumed) => match self.tracking.words.second.picture.write_ppm(out) {
@@ -191,7 +191,7 @@ impl Checkpointer {
         ensures later { S.faults rest.old ≤ S.faults rest.new }
         ensures fault { IsErrOf result ResumeStop.SecondFault → Rose (S.faults rest.old) (S.faults rest.new) }
         ensures no_fault { result ≢ Err ResumeStop.SecondFault → S.faults rest.new ≡ S.faults rest.old }
-        ensures ended { RestEnds result (S.ends rest.old) (S.ends rest.new) }
+        ensures ended { EndsAsResumed result (S.ends rest.old) (S.ends rest.new) }
         ensures no_write { result ≢ Err ResumeStop.WriteFault }
         ensures no_first { result ≢ Err ResumeStop.FirstFault }
         ensures accepted { IsOk (acceptance result) }

@@ -5,13 +5,13 @@ ghost use Rattle.cdg_io.specs.Pump.{IsUnlessFault, answer_of};
 ghost use Rattle.rw_interleave.specs.Interleave.{whole_packs};
 ghost use Rattle.cdg_screen.specs.Picture.{SameStanding, blank, standing_of};
 ghost use Rattle.checkpoint_files.specs.Checkpoint.{Checkpoint, file_of};
-ghost use Rattle.subcode_player.specs.Steps.{begun};
-ghost use Rattle.cdg_checkpoint.specs.Saved.{EndFirst, Saves};
+ghost use Rattle.subcode_player.specs.Steps.{fresh_words};
+ghost use Rattle.cdg_checkpoint.specs.Saved.{EndsAsSaved, Saves};
 ghost use Rattle.cdg_checkpoint.specs.Keeping.{IsKept};
 
 use crate::Checkpointer;
 use crate::pictures::compose;
-use crate::watching::watch;
+use crate::watch::watch;
 use cdg_io::{Failed, PumpStop, Pumped, Sink, Source, put_all};
 use checkpoint_files::{Counts, SLOTS_BYTES};
 use subcode_player::Form;
@@ -48,7 +48,7 @@ impl Checkpointer {
         ensures read_fault { IsErrOf result PumpStop.ReadFault
             → Rose (S.faults source.old) (S.faults source.new) }
         ensures no_read_fault { result ≢ Err PumpStop.ReadFault → S.faults source.new ≡ S.faults source.old }
-        ensures ended { EndFirst result (S.ends source.old) (S.ends source.new) }
+        ensures ended { EndsAsSaved result (S.ends source.old) (S.ends source.new) }
         ensures write_fault { IsErrOf result PumpStop.WriteFault
             → Rose (K.faults out.old) (K.faults out.new) }
         ensures no_write_fault { result ≢ Err PumpStop.WriteFault → K.faults out.new ≡ K.faults out.old }
@@ -68,7 +68,7 @@ impl Checkpointer {
 
     // Brings back the state before a stream, all of whose packs are drawn.
     fn begin(&mut self, lead_in: u32)
-        ensures words { self.new.tracking.words.first ≡ begun Form.Raw lead_in }
+        ensures words { self.new.tracking.words.first ≡ fresh_words Form.Raw lead_in }
         ensures left { self.new.tracking.words.second.left ≡ whole_packs 1000000 }
         ensures bad { self.new.tracking.words.second.bad ≡ 0 }
         ensures blank { SameStanding (standing_of self.new.tracking.words.second.picture) blank }

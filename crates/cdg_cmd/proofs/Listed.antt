@@ -1,11 +1,11 @@
 -- From the answer of a player that lists texts to the status of a command.
 use Rattle.std.proofs.Common.{◌≡◌, ◌≢◌, ◌≤◌, ℕ, Result, Ok, Err, IfErr, IsErrOf, refl, sym, subst, inr}
 use Rattle.cdg_io.specs.Causes.{Rose}
-use Rattle.subcode_player.specs.TextList.{EndOfTexts}
+use Rattle.subcode_player.specs.TextListing.{EndOfTexts}
 use Rattle.subcode_player.specs.declared.player.Played.{Played}
 use Rattle.subcode_player.specs.declared.player.PlayStop.TheVariants as play
-use Rattle.subcode_player.specs.declared.text_listing.TextStop.{TextStop}
-use Rattle.subcode_player.specs.declared.text_listing.TextStop.TheVariants as texts
+use Rattle.subcode_player.specs.declared.text.TextStop.{TextStop}
+use Rattle.subcode_player.specs.declared.text.TextStop.TheVariants as texts
 use Rattle.cdtext_packs.specs.declared.kinds.TextFault.TheVariants as fault
 use Rattle.cdg_cmd.specs.Answer.{text_status}
 use Rattle.cdg_cmd.specs.Ends.{EndsFirst}

@@ -2,26 +2,26 @@
 use Rattle.std.proofs.Common.{◌≡◌, ◌≢◌, ◌≤◌, ◌*◌, ℕ, Bool, true, List, [], ◌∷◌, length, Result, Ok, Err, Some, None, IfSome, sym, subst, inl, inr, arith}
 use Rattle.raw_subcode.specs.declared.form.Form.{Form}
 use Rattle.raw_subcode.specs.declared.form.Form.TheVariants.{Raw}
-use Rattle.authored_listings.specs.Answers.{PutsTexts}
-use Rattle.block_stages.specs.QList.{IsQListed}
+use Rattle.round_trips.specs.Answers.{PutsTexts}
+use Rattle.q_channel.specs.QList.{IsQListed}
 use Rattle.cdtext_packs.specs.declared.kinds.TextFault.{TextFault}
 use Rattle.cue_sheet.specs.CueSheet.{CueSheet}
 use Rattle.picture_script.specs.Script.{Drawing}
 use Rattle.toc_model.specs.Places.{program_blocks}
 use Rattle.cdtext_packs.specs.SheetTexts.{sheet_texts}
 use Rattle.cdtext_packs.specs.Texts.{has_no_text}
-use Rattle.cdtext_lines.specs.Lines.{count_line}
-use Rattle.authored_listings.specs.Damage.{HasHurtSlots, count_hurt, count_whole}
-use Rattle.authored_listings.specs.SheetLines.{HasText, HasTextPacks, sheet_lines}
+use Rattle.cdtext_packs.specs.TextLines.{offers_line}
+use Rattle.round_trips.specs.Damage.{HasHurtSlots, count_hurt, count_whole}
+use Rattle.round_trips.specs.SheetLines.{HasText, HasTextPacks, sheet_lines}
 use Rattle.subcode_author.specs.Authored.{IsAuthored, text_packs}
 use Rattle.subcode_player.specs.Calls.{most_units, IsAnsweredBy, PlaysInTurn}
 use Rattle.subcode_player.specs.Convert.{Restores}
-use Rattle.subcode_player.specs.TextList.{IsListedBy, IsWholeInput, ListsTexts, packs_in}
+use Rattle.subcode_player.specs.TextListing.{IsListedBy, IsWholeInput, ListsTexts, packs_in}
 use Rattle.subcode_player.specs.declared.player.Played.{Played}
 use Rattle.subcode_player.specs.declared.player.PlayStop.{PlayStop}
 use Rattle.subcode_player.specs.declared.player.PlayStop.TheVariants as play
-use Rattle.subcode_player.specs.declared.text_listing.TextStop.{TextStop}
-use Rattle.subcode_player.specs.declared.text_listing.TextStop.TheVariants as texts
+use Rattle.subcode_player.specs.declared.text.TextStop.{TextStop}
+use Rattle.subcode_player.specs.declared.text.TextStop.TheVariants as texts
 use Rattle.cdg_cmd.specs.Answer.{Does, GivesBack, text_status}
 use Rattle.cdg_cmd.specs.Call.{Bytes, Change}
 use Rattle.cdg_cmd.specs.LeadInTexts.{AreLinesOf}
@@ -84,7 +84,7 @@ pub lines_given : (sheet : CueSheet) (form : Form) (lead_in : ℕ) (stream all l
     → ((whole : List Bool) → HasTextPacks sheet → HasText sheet → HasHurtSlots (text_packs sheet) whole (packs_in Raw lead_in stream) (packs_in form lead_in all) → IsWholeInput form all
     → PutsTexts answer out.before out.after (sheet_lines sheet (count_whole whole) (count_hurt whole)))
     → (has_no_text (sheet_texts sheet) ≡ true → packs_in form lead_in all ≡ packs_in Raw lead_in stream → IsWholeInput form all
-    → PutsTexts answer out.before out.after (count_line 0 (4 * lead_in) 0))
+    → PutsTexts answer out.before out.after (offers_line 0 (4 * lead_in) 0))
     → AreLinesOf sheet form lead_in stream all lines → PutsTexts answer out.before out.after lines
 lines_given sheet form lead_in stream all lines answer out strings none (inl has) =
     subst (λ (t : List ℕ). PutsTexts answer out.before out.after t) (sym has.lines_are) (strings has.whole has.packs has.some has.slots has.input)

@@ -2,9 +2,9 @@
 use Rattle.std.proofs.Common.{◌≡◌, ◌≢◌, ◌≤◌, ◌==◌, ℕ, Bool, true, false, Result, Ok, Err, IsErrOf, refl, sym, subst, ◌∙◌, inl, inr, if◌then◌else◌, arith}
 use Rattle.cdg_io.specs.Causes.{Rose}
 use Rattle.rw_merge.specs.Merging.{TellsFirst, TellsSecond}
-use Rattle.rw_merge.specs.declared.merging.Merged.{Merged}
-use Rattle.rw_merge.specs.declared.merging.MergeStop.{MergeStop}
-use Rattle.rw_merge.specs.declared.merging.MergeStop.TheVariants as merge
+use Rattle.rw_merge.specs.declared.merge.Merged.{Merged}
+use Rattle.rw_merge.specs.declared.merge.MergeStop.{MergeStop}
+use Rattle.rw_merge.specs.declared.merge.MergeStop.TheVariants as merge
 use Rattle.cdg_cmd.specs.Ends.{OtherEnds, ReadingEnds}
 use Rattle.cdg_cmd.specs.Faults.{TellsFaults}
 use Rattle.cdg_cmd.specs.Merges.{merge_status}

@@ -1,10 +1,10 @@
 -- What two readings give together.
 use Rattle.std.proofs.Common.{◌≡◌, ◌≢◌, ◌==◌, ℕ, List, Result, Ok, Err, Some, None, IfSome, if◌then◌else◌, sym, subst}
 use Rattle.std.specs.List.{concat}
-use Rattle.rw_merge.specs.Readings.{IsDamagedTwice, IsReadTwice, Restores}
-use Rattle.rw_merge.specs.declared.merging.Merged.{Merged}
-use Rattle.rw_merge.specs.declared.merging.MergeStop.{MergeStop}
-use Rattle.rw_merge.specs.declared.merging.MergeStop.TheVariants as merge
+use Rattle.rw_merge.specs.Readings.{IsDamagedTwice, IsReadTwice, MergeRestores}
+use Rattle.rw_merge.specs.declared.merge.Merged.{Merged}
+use Rattle.rw_merge.specs.declared.merge.MergeStop.{MergeStop}
+use Rattle.rw_merge.specs.declared.merge.MergeStop.TheVariants as merge
 use Rattle.rw_merge.proofs.Restoring.{GivesPacks, restored}
 use Rattle.cdg_cmd.specs.Answer.{GivesBack}
 use Rattle.cdg_cmd.specs.Call.{Bytes, Change}
@@ -14,7 +14,7 @@ use Rattle.cdg_cmd.specs.declared.status.Status.TheVariants.{Done, Damaged, NoMe
 use Rattle.cdg_cmd.proofs.WholeInputs.{both, unless_memory}
 
 -- a merger that gave all back, as a status
-given_back : (answer : Result Merged MergeStop) (out : Change Bytes) (blocks : ℕ) (text : List ℕ) → Restores answer blocks out.before out.after text → GivesBack text out (merge_status answer)
+given_back : (answer : Result Merged MergeStop) (out : Change Bytes) (blocks : ℕ) (text : List ℕ) → MergeRestores answer blocks out.before out.after text → GivesBack text out (merge_status answer)
 given_back (Ok merged) out blocks text r = subst (λ (n : ℕ). GivesBack text out (if n == 0 then Done else Damaged n)) (sym r.1) r.2
 given_back (Err merge.FirstFault) out blocks text r = tt
 given_back (Err merge.SecondFault) out blocks text r = tt

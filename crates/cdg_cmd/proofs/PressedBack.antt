@@ -2,10 +2,10 @@
 use Rattle.std.proofs.Common.{◌≡◌, ◌≢◌, ℕ, ◌+◌, ◌*◌, ◌≤◌, List, Some, None, IfSome, subst, arith}
 use Rattle.std.specs.List.{concat}
 use Rattle.raw_subcode.specs.declared.form.Form.{Form}
-use Rattle.stream_words.specs.Stream.{all_packs}
+use Rattle.rw_interleave.specs.Stream.{all_packs}
 use Rattle.toc_model.specs.Places.{program_blocks}
 use Rattle.subcode_player.specs.Convert.{IsDamagedStream}
-use Rattle.pressed_streams.specs.Damaged.{DamagedPress}
+use Rattle.round_trips.specs.Damaged.{DamagedPress}
 use Rattle.cdg_cmd.specs.Answer.{Does, GivesBack}
 use Rattle.cdg_cmd.specs.Call.{Bytes, Change}
 use Rattle.cdg_cmd.specs.Headline.{written_packs}

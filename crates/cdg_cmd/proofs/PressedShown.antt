@@ -5,8 +5,8 @@ use Rattle.std.proofs.lemmas.List.{length-map}
 use Rattle.cdg_io.specs.Pump.{units_of}
 use Rattle.raw_subcode.specs.Channels.{unit_size, block_of, blocks_of, program_symbols}
 use Rattle.raw_subcode.specs.declared.form.Form.{Form}
-use Rattle.pressed_streams.specs.Damaged.{DamagedPress, IsFileText}
-use Rattle.subcode_player.specs.Shown.{IsScreenAt, IsShownBy, Shows}
+use Rattle.round_trips.specs.Damaged.{DamagedPress, IsFileText}
+use Rattle.subcode_player.specs.Screen.{IsScreenAt, IsShownBy, Shows}
 use Rattle.subcode_player.specs.declared.player.Played.{Played}
 use Rattle.subcode_player.specs.declared.player.PlayStop.{PlayStop}
 use Rattle.subcode_player.specs.declared.player.PlayStop.TheVariants as play

@@ -5,8 +5,7 @@ use Rattle.std.specs.Io.KnownBytes.{Consumes, IsAtEnd}
 use Rattle.std.proofs.lemmas.Bool.{cases_lt}
 use Rattle.cdg_io.specs.Causes.{Rose}
 use Rattle.checkpoint_files.specs.Table.{IsCheckpointFile, file_size}
-use Rattle.cdg_checkpoint.specs.Resumed.{IsAcceptedBy, acceptance}
-use Rattle.cdg_checkpoint.specs.Resumed.{RestEnds as TellsRest}
+use Rattle.cdg_checkpoint.specs.Resumed.{IsAcceptedBy, acceptance, EndsAsResumed as TellsRest}
 use Rattle.cdg_checkpoint.specs.declared.stops.Resumed.{Resumed}
 use Rattle.cdg_checkpoint.specs.declared.stops.ResumeStop.{ResumeStop}
 use Rattle.cdg_checkpoint.specs.declared.stops.ResumeStop.TheVariants as resume

@@ -10,8 +10,8 @@ use Rattle.cdg_io.specs.declared.pumping.PumpStop.{PumpStop}
 use Rattle.cdg_io.specs.declared.pumping.PumpStop.TheVariants as pump
 use Rattle.raw_subcode.specs.declared.form.Form.TheVariants.{Raw}
 use Rattle.checkpoint_files.specs.Checkpoint.{checkpoint_in}
-use Rattle.checkpoint_files.specs.Table.{IsBadAt, IsCheckpointFile, IsPartInRange, Part, file_size, parts}
-use Rattle.subcode_player.specs.Shown.{IsScreenAt, IsShownBy, Shows}
+use Rattle.checkpoint_files.specs.Table.{IsBadAt, IsCheckpointFile, IsPartInRange, Part, file_size, all_parts}
+use Rattle.subcode_player.specs.Screen.{IsScreenAt, IsShownBy, Shows}
 use Rattle.subcode_player.specs.declared.player.Played.{Played}
 use Rattle.subcode_player.specs.declared.player.PlayStop.{PlayStop}
 use Rattle.subcode_player.specs.declared.player.PlayStop.TheVariants as play

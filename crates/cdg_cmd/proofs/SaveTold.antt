@@ -3,21 +3,21 @@ use Rattle.std.proofs.Common.{◌≡◌, ◌≢◌, ℕ, Result, Ok, Err, IfErr,
 use Rattle.cdg_io.specs.declared.pumping.Pumped.{Pumped}
 use Rattle.cdg_io.specs.declared.pumping.PumpStop.{PumpStop}
 use Rattle.cdg_io.specs.declared.pumping.PumpStop.TheVariants as pump
-use Rattle.cdg_checkpoint.specs.Saved.{EndFirst}
+use Rattle.cdg_checkpoint.specs.Saved.{EndsAsSaved}
 use Rattle.cdg_cmd.specs.Ends.{EndsFirst}
 use Rattle.cdg_cmd.specs.Keeps.{MayWrite}
 use Rattle.cdg_cmd.specs.Turns.{pump_status}
 use Rattle.cdg_cmd.specs.declared.status.Status.{Status}
 use Rattle.cdg_cmd.proofs.Quiet.{count}
 
-ends : (answer : Result Pumped PumpStop) (n n' : ℕ) → EndFirst answer n n' → EndsFirst (count n n') (pump_status answer)
+ends : (answer : Result Pumped PumpStop) (n n' : ℕ) → EndsAsSaved answer n n' → EndsFirst (count n n') (pump_status answer)
 ends (Ok pumped) n n' told = told
 ends (Err pump.ReadFault) n n' told = told
 ends (Err pump.WriteFault) n n' told = told
 ends (Err (pump.Torn unit)) n n' told = told
 ends (Err pump.TooLong) n n' told = told
 
-pub ended_first : (answer : Result Pumped PumpStop) (status : Status) (n n' : ℕ) → status ≡ pump_status answer → EndFirst answer n n' → EndsFirst (count n n') status
+pub ended_first : (answer : Result Pumped PumpStop) (status : Status) (n n' : ℕ) → status ≡ pump_status answer → EndsAsSaved answer n n' → EndsFirst (count n n') status
 ended_first answer status n n' is told = subst (λ (s : Status). EndsFirst (count n n') s) (sym is) (ends answer n n' told)
 
 untouched_at : {K : Type 0} (answer : Result Pumped PumpStop) (old new : K) → IfErr answer (λ stop. stop ≢ pump.WriteFault → new ≡ old) → ¬ (MayWrite (pump_status answer)) → new ≡ old

@@ -9,8 +9,8 @@ use Rattle.rw_interleave.specs.Interleave.{whole_packs}
 use Rattle.cue_sheet.specs.CueSheet.{CueSheet}
 use Rattle.picture_script.specs.Script.{Drawing}
 use Rattle.picture_changes.specs.Shown.{AreColoursInRange, AreTimesInOrder}
-use Rattle.stream_words.specs.Stream.{all_packs, bad_count}
-use Rattle.stream_words.specs.Texts.{cdg_bytes}
+use Rattle.rw_interleave.specs.Stream.{all_packs, bad_count}
+use Rattle.rw_interleave.specs.Texts.{cdg_bytes}
 use Rattle.toc_model.specs.Places.{program_blocks}
 use Rattle.subcode_author.specs.Authored.{IsAuthored}
 use Rattle.subcode_player.specs.Convert.{IsConverted, IsDamagedStream, Restores}

@@ -16,8 +16,8 @@ use Rattle.cdg_io.proofs.Streaming.{IsWhole, IsTold, streams_done, streams_stop}
 use Rattle.raw_subcode.specs.Channels.{IsPlanarForm}
 use Rattle.raw_subcode.specs.PlanarBytes.{block_from_planar, gathered_at, packed_at, planar_form}
 use Rattle.raw_subcode.proofs.Eight.{from_planar_is, to_planar_is}
-use Rattle.block_stages.specs.PlanarStream.{TurnsBlocks}
-use Rattle.cdg_cmd.specs.Turns.{IsTurned, Turns}
+use Rattle.q_channel.specs.PlanarStream.{TurnsBlocks}
+use Rattle.cdg_cmd.specs.Turns.{IsTurned, ChangesBlocks}
 
 -- the run of a stage that maps each unit
 map_gives : {S : Type 0} (f : List ℕ → List ℕ) (s : S) (xs : List (List ℕ)) → concat (run_gives (λ t _. t) (λ _ x. Some (f x)) s xs) ≡ flat_map f xs
@@ -83,19 +83,19 @@ module _ (turned : List ℕ → List ℕ → Type 0) (f : List ℕ → List ℕ)
   told stop = record { fault_kept = λ e. e; fault_only = λ e. e; torn_only = λ n e. e }
 
   turns_done : {S : Type 0} (left left' : Option (List ℕ)) (s s' : S) (held held' : Option (List ℕ)) (taken : List ℕ) (pumped : Pumped)
-      → Pumps 96 1000000 (λ t _. t) (λ _ x. Some (f x)) left left' s s' held held' (Ok pumped) taken → Turns (IsTurned (TurnsBlocks turned)) (record { before = left; after = left' }) (record { before = held; after = held' }) (Ok pumped) taken
+      → Pumps 96 1000000 (λ t _. t) (λ _ x. Some (f x)) left left' s s' held held' (Ok pumped) taken → ChangesBlocks (IsTurned (TurnsBlocks turned)) (record { before = left; after = left' }) (record { before = held; after = held' }) (Ok pumped) taken
   turns_done left left' s s' held held' taken pumped p =
       streams_done 96 1000000 (λ t _. t) (λ _ x. Some (f x)) pump.Torn pump.WriteFault (IsTurned (TurnsBlocks turned)) left left' s s' held held' taken
       pumped pumped (omega arith) (λ bytes n few whole. (record { units = n }, says s bytes n whole)) p (λ whole. says s taken pumped.units whole)
 
   turns_stop : {S : Type 0} (left left' : Option (List ℕ)) (s s' : S) (held held' : Option (List ℕ)) (taken : List ℕ) (stop : PumpStop)
-      → Pumps 96 1000000 (λ t _. t) (λ _ x. Some (f x)) left left' s s' held held' (Err stop) taken → Turns (IsTurned (TurnsBlocks turned)) (record { before = left; after = left' }) (record { before = held; after = held' }) (Err stop) taken
+      → Pumps 96 1000000 (λ t _. t) (λ _ x. Some (f x)) left left' s s' held held' (Err stop) taken → ChangesBlocks (IsTurned (TurnsBlocks turned)) (record { before = left; after = left' }) (record { before = held; after = held' }) (Err stop) taken
   turns_stop left left' s s' held held' taken stop p =
       streams_stop 96 1000000 (λ t _. t) (λ _ x. Some (f x)) pump.Torn pump.WriteFault (IsTurned (TurnsBlocks turned)) left left' s s' held held' taken
       stop stop (omega arith) (told stop) (λ bytes n few whole. (record { units = n }, says s bytes n whole)) p
 
   pub turns : {S : Type 0} (left left' : Option (List ℕ)) (s s' : S) (held held' : Option (List ℕ)) (taken : List ℕ) (result : Result Pumped PumpStop)
-      → Pumps 96 1000000 (λ t _. t) (λ _ x. Some (f x)) left left' s s' held held' result taken → Turns (IsTurned (TurnsBlocks turned)) (record { before = left; after = left' }) (record { before = held; after = held' }) result taken
+      → Pumps 96 1000000 (λ t _. t) (λ _ x. Some (f x)) left left' s s' held held' result taken → ChangesBlocks (IsTurned (TurnsBlocks turned)) (record { before = left; after = left' }) (record { before = held; after = held' }) result taken
   turns left left' s s' held held' taken (Ok pumped) p = turns_done left left' s s' held held' taken pumped p
   turns left left' s s' held held' taken (Err stop) p = turns_stop left left' s s' held held' taken stop p
 

@@ -6,17 +6,17 @@ use Rattle.raw_subcode.specs.Channels.{unit_size}
 use Rattle.raw_subcode.specs.declared.form.Form.{Form}
 use Rattle.subcode_player.specs.Calls.{IsAnsweredBy, IsStreamStop, PlaysAtEnd, PlaysInTurn}
 use Rattle.subcode_player.specs.Convert.{IsConverted}
-use Rattle.subcode_player.specs.Counts.{IsChecked}
-use Rattle.subcode_player.specs.Shown.{IsScreenAt, IsShownBy, IsStateAt, Shows}
-use Rattle.subcode_player.specs.TextList.{IsListedBy, IsListStop, ListsTexts}
-use Rattle.subcode_player.specs.declared.text_listing.TextStop.{TextStop}
-use Rattle.subcode_player.specs.declared.text_listing.TextStop.TheVariants as texts
+use Rattle.subcode_player.specs.Check.{IsCheckListed}
+use Rattle.subcode_player.specs.Screen.{IsScreenAt, IsShownBy, IsStateAt, Shows}
+use Rattle.subcode_player.specs.TextListing.{IsListedBy, IsListStop, ListsTexts}
+use Rattle.subcode_player.specs.declared.text.TextStop.{TextStop}
+use Rattle.subcode_player.specs.declared.text.TextStop.TheVariants as texts
 use Rattle.cdtext_packs.specs.declared.kinds.TextFault.TheVariants as fault
 use Rattle.subcode_player.specs.declared.player.Played.{Played}
 use Rattle.subcode_player.specs.declared.player.PlayStop.{PlayStop}
 use Rattle.subcode_player.specs.declared.player.PlayStop.TheVariants as play
-use Rattle.block_stages.specs.QList.{IsQListed}
-use Rattle.block_stages.specs.PlanarStream.{IsBlockStream, IsPlanarStream}
+use Rattle.q_channel.specs.QList.{IsQListed}
+use Rattle.q_channel.specs.PlanarStream.{IsBlockStream, IsPlanarStream}
 use Rattle.cdg_cmd.specs.Authors.{AuthorsWith}
 use Rattle.cdg_cmd.specs.Call.{Bytes, Call, Change}
 use Rattle.cdg_cmd.specs.Checkpoints.{ResumesWith, SavesWith}
@@ -101,7 +101,7 @@ abbrev pub Does : Command → Call Bytes → Status → Type 0
 Does (Convert lead_in form) call status = PlaysAsRead (IsConverted form lead_in) form lead_in call status
 Does (Screen lead_in form at) call status = ShowsMoment (IsScreenAt form lead_in at) form lead_in at call status
 Does (State lead_in form at) call status = ShowsMoment (IsStateAt form lead_in at) form lead_in at call status
-Does (Check lead_in form) call status = PlaysWhole (IsChecked form lead_in) form lead_in call status
+Does (Check lead_in form) call status = PlaysWhole (IsCheckListed form lead_in) form lead_in call status
 Does (Q lead_in form) call status = PlaysAsRead (IsQListed form) form lead_in call status
 Does (Text lead_in form) call status = ListsLeadIn form lead_in call status
 Does (Author lead_in length) call status = AuthorsWith lead_in length call status

@@ -7,7 +7,7 @@ use Rattle.raw_subcode.specs.declared.form.Form.TheVariants.{Raw, Sector, Cooked
 use Rattle.cue_sheet.specs.CueSheet.{CueSheet}
 use Rattle.picture_script.specs.Script.{Drawing}
 use Rattle.picture_changes.specs.Schedule.{IsLate}
-use Rattle.stream_words.specs.Stream.{IsDamaged}
+use Rattle.rw_interleave.specs.Stream.{IsDamaged}
 use Rattle.subcode_author.specs.AuthorAnswer.{AreReady, HasRoom, HoldsPictures}
 use Rattle.subcode_player.specs.Calls.{most_units}
 use Rattle.subcode_player.specs.Pictured.{IsPictureText}

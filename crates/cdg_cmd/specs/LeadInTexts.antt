@@ -5,11 +5,11 @@ use Rattle.raw_subcode.specs.declared.form.Form.TheVariants.{Raw}
 use Rattle.cue_sheet.specs.CueSheet.{CueSheet}
 use Rattle.cdtext_packs.specs.SheetTexts.{sheet_texts}
 use Rattle.cdtext_packs.specs.Texts.{has_no_text}
-use Rattle.cdtext_lines.specs.Lines.{count_line}
+use Rattle.cdtext_packs.specs.TextLines.{offers_line}
 use Rattle.subcode_author.specs.Authored.{text_packs}
-use Rattle.subcode_player.specs.TextList.{IsWholeInput, packs_in}
-use Rattle.authored_listings.specs.Damage.{HasHurtSlots, count_hurt, count_whole}
-use Rattle.authored_listings.specs.SheetLines.{HasText, HasTextPacks, sheet_lines}
+use Rattle.subcode_player.specs.TextListing.{IsWholeInput, packs_in}
+use Rattle.round_trips.specs.Damage.{HasHurtSlots, count_hurt, count_whole}
+use Rattle.round_trips.specs.SheetLines.{HasText, HasTextPacks, sheet_lines}
 
 -- Whole units of a form, whose lead-in slots hold the packs of a raw stream.
 pub record HasTextsOf (form : Form) (lead_in : ℕ) (stream bytes : List ℕ) : Type 0 where
@@ -29,7 +29,7 @@ pub record HasStrings (sheet : CueSheet) (form : Form) (lead_in : ℕ) (stream b
 pub record HasNoStrings (sheet : CueSheet) (form : Form) (lead_in : ℕ) (stream bytes lines : List ℕ) : Type 0 where
   pub none : has_no_text (sheet_texts sheet) ≡ true
   pub copy : HasTextsOf form lead_in stream bytes
-  pub lines_are : lines ≡ count_line 0 (4 * lead_in) 0
+  pub lines_are : lines ≡ offers_line 0 (4 * lead_in) 0
 
 -- the lines that stand for the texts of a sheet in a stream
 abbrev pub AreLinesOf : CueSheet → Form → ℕ → List ℕ → List ℕ → List ℕ → Type 0

@@ -24,8 +24,8 @@ exit_of WriteFault = 6
 exit_of NoMemory = 7
 
 -- words, a blank and a number
-abbrev pub counted : List ℕ → ℕ → List ℕ
-counted words n = words ++ codes " " ++ decimal n
+abbrev pub words_and_count : List ℕ → ℕ → List ℕ
+words_and_count words n = words ++ codes " " ++ decimal n
 
 -- why a line of a cue sheet is refused
 abbrev pub cue_words : CueWhy → List ℕ
@@ -52,33 +52,33 @@ script_words script.TooMany = codes "too-many"
 
 -- the name of an input, the number of a line, and why it is refused
 abbrev pub line_words : List ℕ → ℕ → List ℕ → List ℕ
-line_words name line why = counted name line ++ codes " " ++ why
+line_words name line why = words_and_count name line ++ codes " " ++ why
 
 -- what is said of a refusal
 abbrev pub refusal_words : Refusal → List ℕ
-refusal_words (Torn block) = counted (codes "torn") block
+refusal_words (Torn block) = words_and_count (codes "torn") block
 refusal_words TooLong = codes "too-long"
-refusal_words (PastEnd blocks) = counted (codes "past-end") blocks
+refusal_words (PastEnd blocks) = words_and_count (codes "past-end") blocks
 refusal_words (Cue line why) = line_words (codes "cue") line (cue_words why)
 refusal_words (Script line why) = line_words (codes "script") line (script_words why)
-refusal_words (LengthShort need) = counted (codes "length-short") need
-refusal_words (DiscTooLong blocks) = counted (codes "disc-too-long") blocks
-refusal_words (LeadInShort need) = counted (codes "lead-in-short") need
-refusal_words (TextTooLong packs) = counted (codes "text-too-long") packs
-refusal_words (TextMissing seq) = counted (codes "text-missing") seq
+refusal_words (LengthShort need) = words_and_count (codes "length-short") need
+refusal_words (DiscTooLong blocks) = words_and_count (codes "disc-too-long") blocks
+refusal_words (LeadInShort need) = words_and_count (codes "lead-in-short") need
+refusal_words (TextTooLong packs) = words_and_count (codes "text-too-long") packs
+refusal_words (TextMissing seq) = words_and_count (codes "text-missing") seq
 refusal_words TextNoSize = codes "text-no-size"
-refusal_words (TextMalformed seq byte) = counted (counted (codes "text-malformed") seq) byte
-refusal_words (SecondTorn block) = counted (codes "second-torn") block
-refusal_words (Unequal blocks) = counted (codes "unequal") blocks
-refusal_words (PackTorn pack) = counted (codes "pack-torn") pack
-refusal_words (Gap track) = counted (codes "gap") track
-refusal_words (CdgTooLong packs room) = counted (counted (codes "cdg-too-long") packs) room
-refusal_words (BadSave byte) = counted (codes "bad-save") byte
-refusal_words (BeforeSave blocks) = counted (codes "before-save") blocks
+refusal_words (TextMalformed seq byte) = words_and_count (words_and_count (codes "text-malformed") seq) byte
+refusal_words (SecondTorn block) = words_and_count (codes "second-torn") block
+refusal_words (Unequal blocks) = words_and_count (codes "unequal") blocks
+refusal_words (PackTorn pack) = words_and_count (codes "pack-torn") pack
+refusal_words (Gap track) = words_and_count (codes "gap") track
+refusal_words (CdgTooLong packs room) = words_and_count (words_and_count (codes "cdg-too-long") packs) room
+refusal_words (BadSave byte) = words_and_count (codes "bad-save") byte
+refusal_words (BeforeSave blocks) = words_and_count (codes "before-save") blocks
 
 -- the words of a picture that is late: its number, the packs that it needs, and those that are free
 abbrev pub late_words : ℕ → ℕ → ℕ → List ℕ
-late_words picture need free = counted (counted (counted (codes "late") picture ++ codes " need") need ++ codes " free") free
+late_words picture need free = words_and_count (words_and_count (words_and_count (codes "late") picture ++ codes " need") need ++ codes " free") free
 
 -- the name of an input
 abbrev pub input_words : Which → List ℕ
@@ -88,7 +88,7 @@ input_words Second = codes "read fault second"
 -- what is written on standard error: nothing where the work is done
 abbrev pub error_line : Status → List ℕ
 error_line Done = []
-error_line (Damaged n) = counted (codes "damaged") n ++ line_feed
+error_line (Damaged n) = words_and_count (codes "damaged") n ++ line_feed
 error_line Usage = codes "usage" ++ line_feed
 error_line (Refused why) = codes "refused " ++ refusal_words why ++ line_feed
 error_line (Late picture need free) = late_words picture need free ++ line_feed

@@ -1,10 +1,10 @@
 -- What `merge` answers to two readings of a stream, and what it writes.
 use Rattle.std.specs.Prelude.{◌≡◌, ◌==◌, ℕ, List, length, Result, Ok, Err, IfSome, if◌then◌else◌}
 use Rattle.std.specs.Io.KnownBytes.{Consumes}
-use Rattle.rw_merge.specs.Merging.{EndsFirst, EndsSecond, IsAnswer, Merges}
-use Rattle.rw_merge.specs.declared.merging.Merged.{Merged}
-use Rattle.rw_merge.specs.declared.merging.MergeStop.{MergeStop}
-use Rattle.rw_merge.specs.declared.merging.MergeStop.TheVariants as merge
+use Rattle.rw_merge.specs.Merging.{FirstIsAtEnd, EndsSecond, IsAnswer, Merges}
+use Rattle.rw_merge.specs.declared.merge.Merged.{Merged}
+use Rattle.rw_merge.specs.declared.merge.MergeStop.{MergeStop}
+use Rattle.rw_merge.specs.declared.merge.MergeStop.TheVariants as merge
 use Rattle.cdg_cmd.specs.Call.{Bytes, Call}
 use Rattle.cdg_cmd.specs.declared.status.Which.TheVariants.{First, Second}
 use Rattle.cdg_cmd.specs.declared.status.Refusal.TheVariants.{Torn, TooLong, SecondTorn, Unequal}
@@ -31,6 +31,6 @@ pub record MergesWith (lead_in : ℕ) (call : Call Bytes) (status : Status) : Ty
   pub first : Consumes call.first.before call.first.after taken
   pub second : Consumes call.second.before call.second.after other_taken
   pub put : Merges lead_in call.out.before call.out.after answer taken other_taken
-  pub first_end : EndsFirst answer call.first.after
+  pub first_end : FirstIsAtEnd answer call.first.after
   pub second_end : EndsSecond answer call.second.after
   pub exactly : IfSome call.first.before (λ all. IfSome call.second.before (λ other. IsAnswer lead_in answer (length all) (length other)))

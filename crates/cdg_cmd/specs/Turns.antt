@@ -26,11 +26,11 @@ pub record IsTurned (turned : List ℕ → List ℕ → Type 0) (bytes : List �
   pub written : turned bytes text
 
 -- blocks are changed and written as they are read
-abbrev pub Turns : (List ℕ → Pumped → List ℕ → Type 0) → Change Bytes → Change Bytes → Result Pumped PumpStop → List ℕ → Type 0
-Turns gives source out answer taken = Streams 96 1000000 pump.Torn pump.WriteFault gives source.before source.after out.before out.after answer taken
+abbrev pub ChangesBlocks : (List ℕ → Pumped → List ℕ → Type 0) → Change Bytes → Change Bytes → Result Pumped PumpStop → List ℕ → Type 0
+ChangesBlocks gives source out answer taken = Streams 96 1000000 pump.Torn pump.WriteFault gives source.before source.after out.before out.after answer taken
 
 -- it ended with this status
 abbrev pub TurnsWith : (List ℕ → Pumped → List ℕ → Type 0) → Call Bytes → Status → Type 0
 TurnsWith gives call status =
-    EndsWith pump_status (Turns gives call.first call.out)
+    EndsWith pump_status (ChangesBlocks gives call.first call.out)
     (λ answer. IfSome call.first.before (λ all. IsUnlessFault answer (answer_of 96 1000000 (length all)))) status

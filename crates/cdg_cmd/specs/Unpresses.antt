@@ -2,7 +2,7 @@
 use Rattle.std.specs.Prelude.{◌≡◌, ℕ, ◌+◌, ◌*◌, ◌≤◌, ⊤, List}
 use Rattle.std.specs.List.{concat}
 use Rattle.std.specs.Io.KnownBytes.{Appends}
-use Rattle.pressed_streams.specs.Damaged.{DamagedPress, IsFileText}
+use Rattle.round_trips.specs.Damaged.{DamagedPress, IsFileText}
 use Rattle.cdg_cmd.specs.Answer.{GivesBack, OnDone}
 use Rattle.cdg_cmd.specs.Call.{Bytes, Change}
 use Rattle.cdg_cmd.specs.Headline.{written_packs}

@@ -8,12 +8,11 @@ ghost use Rattle.cdg_cmd.specs.Faults.{TellsFaults};
 ghost use Rattle.cdg_cmd.specs.Keeps.{ReadsSecond};
 
 use crate::{Command, Refusal, Status, Which};
-use authored_streams::accepted_scripts_have_streams;
 use cdg_io::{ReadStop, Sink, Source, read_whole};
 use cue_sheet::{CueStop, Sheet};
 use picture_script::{Script, ScriptStop};
 use std::alloc::Global;
-use subcode_author::{AuthorStop, author_stream};
+use subcode_author::{AuthorStop, accepted_scripts_have_streams, author_stream};
 
 const MOST_TEXT: usize = 67_108_864;
 

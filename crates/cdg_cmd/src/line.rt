@@ -3,7 +3,7 @@ ghost use Rattle.std.specs.Prelude.{◌≡◌, ◌≤◌, ◌++◌, ◌+◌, len
 ghost use Rattle.std.specs.Io.KnownBytes.{Appends};
 ghost use Rattle.cdg_io.specs.Causes.{HasCause};
 ghost use Rattle.cdg_io.specs.Moves.{AppendsPrefix};
-ghost use Rattle.cdg_cmd.specs.Line.{counted, error_line, late_words, line_words, refusal_words};
+ghost use Rattle.cdg_cmd.specs.Line.{words_and_count, error_line, late_words, line_words, refusal_words};
 
 use crate::reasons::{cue_words, script_words};
 use crate::{Refusal, Status, Which};
@@ -16,7 +16,7 @@ type Line = ArrayString<128>;
 // A blank and a number.
 fn push_number(text: &mut Line, number: u32)
     requires { length text.old.bytes ≤ 80 }
-    ensures text { text.new.bytes ≡ counted text.old.bytes number }
+    ensures text { text.new.bytes ≡ words_and_count text.old.bytes number }
     ensures short { length text.new.bytes ≤ length text.old.bytes + 11 }
 {
     let mut digits = Buffer::new();
@@ -27,7 +27,7 @@ fn push_number(text: &mut Line, number: u32)
 // Words and a number.
 fn push_counted(text: &mut Line, words: &str, number: u32)
     requires { length text.old.bytes + length words.now ≤ 80 }
-    ensures text { text.new.bytes ≡ text.old.bytes ++ counted words.now number }
+    ensures text { text.new.bytes ≡ text.old.bytes ++ words_and_count words.now number }
     ensures short { length text.new.bytes ≤ length text.old.bytes + length words.now + 11 }
 {
     text.push_str(words);

@@ -11,7 +11,7 @@ ghost use Rattle.rw_merge.specs.Readings.{IsReadTwice};
 ghost use Rattle.cdg_thin.specs.Calls.{ShowsAll};
 ghost use Rattle.std.specs.Io.KnownBytes.{Appends};
 ghost use Rattle.subcode_player.specs.Pictured.{IsHeldAt};
-ghost use Rattle.authored_listings.specs.FrameLines.{frame_lines};
+ghost use Rattle.round_trips.specs.FrameLines.{frame_lines};
 ghost use Rattle.cdg_cmd.specs.Words.{texts};
 ghost use Rattle.cdg_cmd.specs.Spelling.{IsAllowed, Spells};
 ghost use Rattle.cdg_cmd.specs.Call.{Bytes, call, change, dry_call};
@@ -43,17 +43,17 @@ use crate::thin::run_thin;
 use crate::trial::run_trial;
 use crate::turn::{run_planar, run_raw, run_scratch};
 use crate::{Command, Status, read_words};
-use authored_listings::{
-    copied_text_lists_are_answered, damaged_text_lists_are_answered, frame_lists_are_answered,
-};
-use authored_streams::accepted_scripts_are_in_order;
 use cdg_checkpoint::a_saved_stream_goes_on_as_the_whole;
 use cdg_io::{Sink, Source, SteadySink, SteadySource};
-use pressed_streams::{pressed_files_are_shown, pressed_packs_come_back};
+use picture_changes::needs_are_fewest;
+use round_trips::{
+    copied_text_lists_are_answered, damaged_text_lists_are_answered, frame_lists_are_answered,
+    pressed_files_are_shown, pressed_packs_come_back,
+};
+use rw_interleave::{packs_are_recovered, text_of_packs};
 use rw_merge::two_readings_give_packs;
-use shortest_changes::needs_are_fewest;
 use std::alloc::Global;
-use stream_words::{packs_are_recovered, text_of_packs};
+use subcode_author::accepted_scripts_are_in_order;
 use subcode_player::screens_show_pictures;
 
 /// Runs the command of the words over its inputs, its output and the error output.

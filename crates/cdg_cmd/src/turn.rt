@@ -2,17 +2,17 @@
 ghost use Rattle.std.specs.Prelude.{◌≡◌, ◌≢◌, ◌≤◌, List, ℕ, length, IfSome, IsErrOf, Err};
 ghost use Rattle.cdg_io.specs.Causes.{Rose};
 ghost use Rattle.cdg_io.specs.Pump.{IsUnlessFault, TellsEndOf, answer_of};
-ghost use Rattle.block_stages.specs.PlanarStream.{IsBlockStream, IsPlanarStream};
+ghost use Rattle.q_channel.specs.PlanarStream.{IsBlockStream, IsPlanarStream};
 ghost use Rattle.cdg_cmd.specs.Answer.{Does};
 ghost use Rattle.cdg_cmd.specs.Call.{change, one_input};
 ghost use Rattle.cdg_cmd.specs.Ends.{EndsInTurn};
 ghost use Rattle.cdg_cmd.specs.Faults.{TellsOne};
-ghost use Rattle.cdg_cmd.specs.Turns.{IsTurned, Turns, pump_status};
+ghost use Rattle.cdg_cmd.specs.Turns.{IsTurned, ChangesBlocks, pump_status};
 
 use crate::{Command, Refusal, Status, Which};
-use block_stages::{BlockForms, PlanarForms};
 use cdg_io::{PumpStop, Pumped, Sink, Source, pump};
 use cdg_workload::scratch;
+use q_channel::{BlockForms, PlanarForms};
 
 const MOST_BLOCKS: u32 = 1_000_000;
 
@@ -31,7 +31,7 @@ pub(crate) fn pump_status(answer: Result<Pumped, PumpStop>) -> Status
 
 /// Writes the planar form of each block as the blocks are read.
 fn planar_stream<S: Source, K: Sink>(source: &mut S, out: &mut K) -> Result<Pumped, PumpStop>
-    ensures turns { (taken : List ℕ) × Turns (IsTurned IsPlanarStream) (change S.left source.old source.new)
+    ensures turns { (taken : List ℕ) × ChangesBlocks (IsTurned IsPlanarStream) (change S.left source.old source.new)
         (change K.held out.old out.new) result taken }
     ensures answer { IfSome (S.left source.old) (λ all. IsUnlessFault result (answer_of 96 1000000
         (length all))) }
@@ -49,7 +49,7 @@ fn planar_stream<S: Source, K: Sink>(source: &mut S, out: &mut K) -> Result<Pump
 
 /// Writes the block of each planar form as the blocks are read.
 fn raw_stream<S: Source, K: Sink>(source: &mut S, out: &mut K) -> Result<Pumped, PumpStop>
-    ensures turns { (taken : List ℕ) × Turns (IsTurned IsBlockStream) (change S.left source.old source.new)
+    ensures turns { (taken : List ℕ) × ChangesBlocks (IsTurned IsBlockStream) (change S.left source.old source.new)
         (change K.held out.old out.new) result taken }
     ensures answer { IfSome (S.left source.old) (λ all. IsUnlessFault result (answer_of 96 1000000
         (length all))) }

@@ -7,13 +7,13 @@ use Rattle.cdg_press.specs.declared.stops.PressStop.{PressStop}
 use Rattle.cdg_press.specs.declared.stops.PressStop.TheVariants.{LengthShort, DiscTooLong, TextTooLong, LeadInShort, NoMemory}
 
 -- the stop of the whole for a stop of the layout
-abbrev pub of_layout : LayoutStop → PressStop
-of_layout (layout_short need) = LengthShort need
-of_layout (layout_long blocks) = DiscTooLong blocks
-of_layout layout_memory = NoMemory
+abbrev pub press_stop_of_layout : LayoutStop → PressStop
+press_stop_of_layout (layout_short need) = LengthShort need
+press_stop_of_layout (layout_long blocks) = DiscTooLong blocks
+press_stop_of_layout layout_memory = NoMemory
 
 -- the stop of the whole for a stop of the lead-in
-abbrev pub of_lead_in : LeadInStop → PressStop
-of_lead_in (text_long packs) = TextTooLong packs
-of_lead_in (lead_in_short need) = LeadInShort need
-of_lead_in text_memory = NoMemory
+abbrev pub press_stop_of_lead_in : LeadInStop → PressStop
+press_stop_of_lead_in (text_long packs) = TextTooLong packs
+press_stop_of_lead_in (lead_in_short need) = LeadInShort need
+press_stop_of_lead_in text_memory = NoMemory

@@ -29,9 +29,9 @@ pub enum PressStop {
 
 impl From<LayoutStop> for PressStop {
     ghost use Rattle.std.specs.Prelude.{◌≡◌};
-    ghost use Rattle.cdg_press.specs.Stops.{of_layout};
+    ghost use Rattle.cdg_press.specs.Stops.{press_stop_of_layout};
 
-    ghost from_gives = { λ stop e. e ≡ of_layout stop };
+    ghost from_gives = { λ stop e. e ≡ press_stop_of_layout stop };
 
     fn from(stop: LayoutStop) -> PressStop {
         match stop {
@@ -44,9 +44,9 @@ impl From<LayoutStop> for PressStop {
 
 impl From<LeadInStop> for PressStop {
     ghost use Rattle.std.specs.Prelude.{◌≡◌};
-    ghost use Rattle.cdg_press.specs.Stops.{of_lead_in};
+    ghost use Rattle.cdg_press.specs.Stops.{press_stop_of_lead_in};
 
-    ghost from_gives = { λ stop e. e ≡ of_lead_in stop };
+    ghost from_gives = { λ stop e. e ≡ press_stop_of_lead_in stop };
 
     fn from(stop: LeadInStop) -> PressStop {
         match stop {

@@ -19,7 +19,7 @@ use Rattle.cdg_io.proofs.Runs.{run_state-append, run_gives-append}
 use Rattle.cdg_io.proofs.Streaming.{IsWhole, streams_done, streams_stop}
 use Rattle.cdg_workload.specs.Generator.{generator}
 use Rattle.cdg_workload.specs.Scratches.{Burst, bursts, change_at, scratched_byte, scratched, IsScratched, gap_of, size_of, change_of}
-use Rattle.cdg_workload.specs.Steps.{byte_next, byte_gives, block_next, block_gives, begun}
+use Rattle.cdg_workload.specs.Steps.{byte_next, byte_gives, block_next, block_gives, fresh_scratches}
 use Rattle.cdg_workload.specs.declared.needle.Needle.{Needle}
 use Rattle.cdg_workload.specs.declared.scratching.Scratches.{Scratches}
 use Rattle.cdg_workload.proofs.Needles.{at, run, changed_from, scratches_all, next_before, gives_before}
@@ -117,7 +117,7 @@ changed_is those p (x ∷ xs) lt = ap₂ (λ (a : ℕ) (l : List ℕ). a ∷ l) 
 
 -- ---- The text.
 
-pub blocks_text : (lead_in seed n : ℕ) (bytes : List ℕ) → n * 96 ≤ length bytes → given 96 block_next block_gives (begun lead_in seed) bytes n ≡ scratched lead_in seed (take (n * 96) bytes)
+pub blocks_text : (lead_in seed n : ℕ) (bytes : List ℕ) → n * 96 ≤ length bytes → given 96 block_next block_gives (fresh_scratches lead_in seed) bytes n ≡ scratched lead_in seed (take (n * 96) bytes)
 unfolding scratched
 blocks_text lead_in seed n bytes fits =
     let all : List ℕ = take (n * 96) bytes in
@@ -129,23 +129,23 @@ blocks_text lead_in seed n bytes fits =
     ∙ ap (λ l. take (96 * lead_in) all ++ l)
     (scratches_all program count w (omega arith) ∙ changed_is (bursts count 0 w) 0 program (change_at-lt count 0 w))
 
-text_of : (lead_in seed n : ℕ) (bytes : List ℕ) → IsWhole 96 n bytes → IsScratched lead_in seed bytes (record { units = n }) (given 96 block_next block_gives (begun lead_in seed) bytes n)
+text_of : (lead_in seed n : ℕ) (bytes : List ℕ) → IsWhole 96 n bytes → IsScratched lead_in seed bytes (record { units = n }) (given 96 block_next block_gives (fresh_scratches lead_in seed) bytes n)
 text_of lead_in seed n bytes whole =
     let count : n ≡ length bytes / 96 = omega (arith, whole.fits, whole.rest) in
     record { blocks = count; text_is = blocks_text lead_in seed n bytes whole.fits ∙ ap (λ k. scratched lead_in seed (take (k * 96) bytes)) count }
 
 streams_from : (lead_in seed : ℕ) (left left' held held' : Option (List ℕ)) (s' : Scratches) (result : Result Pumped PumpStop) (taken : List ℕ)
-    → Pumps 96 1000000 block_next block_gives left left' (begun lead_in seed) s' held held' result taken → Streams 96 1000000 Torn WriteFault (IsScratched lead_in seed) left left' held held' result taken
+    → Pumps 96 1000000 block_next block_gives left left' (fresh_scratches lead_in seed) s' held held' result taken → Streams 96 1000000 Torn WriteFault (IsScratched lead_in seed) left left' held held' result taken
 streams_from lead_in seed left left' held held' s' (Ok pumped) taken pumps =
-    streams_done 96 1000000 block_next block_gives Torn WriteFault (IsScratched lead_in seed) left left' (begun lead_in seed) s' held held' taken pumped pumped (lit< tt)
+    streams_done 96 1000000 block_next block_gives Torn WriteFault (IsScratched lead_in seed) left left' (fresh_scratches lead_in seed) s' held held' taken pumped pumped (lit< tt)
     (λ bytes n few whole. (record { units = n }, text_of lead_in seed n bytes whole)) pumps (λ whole. text_of lead_in seed pumped.units taken whole)
 streams_from lead_in seed left left' held held' s' (Err stop) taken pumps =
-    streams_stop 96 1000000 block_next block_gives Torn WriteFault (IsScratched lead_in seed) left left' (begun lead_in seed) s' held held' taken stop stop (lit< tt)
+    streams_stop 96 1000000 block_next block_gives Torn WriteFault (IsScratched lead_in seed) left left' (fresh_scratches lead_in seed) s' held held' taken stop stop (lit< tt)
     (record { fault_kept = λ e. e; fault_only = λ e. e; torn_only = λ unit e. e })
     (λ bytes n few whole. (record { units = n }, text_of lead_in seed n bytes whole)) pumps
 
 -- what a pump of the stage does is what the call promises
-pub streams : (lead_in seed : ℕ) (left left' held held' : Option (List ℕ)) (s s' : Scratches) (result : Result Pumped PumpStop) (taken : List ℕ) → s ≡ begun lead_in seed
+pub streams : (lead_in seed : ℕ) (left left' held held' : Option (List ℕ)) (s s' : Scratches) (result : Result Pumped PumpStop) (taken : List ℕ) → s ≡ fresh_scratches lead_in seed
     → Pumps 96 1000000 block_next block_gives left left' s s' held held' result taken → Streams 96 1000000 Torn WriteFault (IsScratched lead_in seed) left left' held held' result taken
 streams lead_in seed left left' held held' s s' result taken begins pumps =
     streams_from lead_in seed left left' held held' s' result taken (subst (λ t. Pumps 96 1000000 block_next block_gives left left' t s' held held' result taken) begins pumps)

@@ -10,7 +10,7 @@ use Rattle.std.specs.List.{list_any, enumerate_from}
 use Rattle.rand_pcg.specs.Lcg.{Lcg}
 use Rattle.rand_pcg.specs.Pcg.{pcg32}
 use Rattle.raw_subcode.specs.Channels.{symbols_of}
-use Rattle.stream_words.specs.Stream.{DiffersInBursts, AreBurstsFrom, is_in_burst}
+use Rattle.rw_interleave.specs.Stream.{DiffersInBursts, AreBurstsFrom, is_in_burst}
 use Rattle.cdg_workload.specs.Generator.{generator}
 use Rattle.cdg_workload.specs.Scratches.{Burst, bursts, change_at, holds_place, scratched_byte, scratched, gap_of, size_of}
 use Rattle.cdg_workload.proofs.Needles.{changed_from}

@@ -5,7 +5,7 @@ use Rattle.std.proofs.lemmas.List.{drop-drop, length-map, map-append, nil_from_l
 use Rattle.bit_lists.specs.Counting.{parts}
 use Rattle.raw_subcode.specs.Channels.{symbols_of, block_of, program_symbols}
 use Rattle.raw_subcode.specs.declared.form.Form.TheVariants.{Raw}
-use Rattle.stream_words.specs.Stream.{DiffersInBursts, IsDamaged}
+use Rattle.rw_interleave.specs.Stream.{DiffersInBursts, IsDamaged}
 use Rattle.cdg_workload.specs.Scratches.{scratched}
 use Rattle.cdg_workload.proofs.BurstLaws.{differ, channels_stay}
 

@@ -5,3 +5,10 @@ pub mod BlockRuns
 pub mod BurstLaws
 pub mod ScriptTexts
 pub mod DamageLaws
+pub mod Splitting
+pub mod Numerals
+pub mod LineTexts
+pub mod Accepting
+pub mod Reading
+pub mod Times
+pub mod Lengths

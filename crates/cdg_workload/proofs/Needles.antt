@@ -6,7 +6,7 @@ use Rattle.rand_pcg.specs.Lcg.{Lcg}
 use Rattle.rand_pcg.specs.Pcg.{pcg32}
 use Rattle.cdg_io.specs.Run.{give, run_gives}
 use Rattle.cdg_workload.specs.Scratches.{Burst, bursts, change_at, gap_of, size_of, change_of}
-use Rattle.cdg_workload.specs.Steps.{drawn, ready, change_now, moved, byte_next, byte_gives}
+use Rattle.cdg_workload.specs.Steps.{next_needle, ready, change_now, moved, byte_next, byte_gives}
 use Rattle.cdg_workload.specs.declared.needle.Needle.{Needle}
 
 -- ---- One symbol.
@@ -22,11 +22,11 @@ less_one n = omega arith
 
 ready_before : (g l c : ℕ) (w : Lcg) → ready (at (suc g) l c w) ≡ at (suc g) l c w
 unfolding ready
-ready_before g l c w = ap (λ t. cond (t && (l == 0)) (drawn w) (at (suc g) l c w)) (not_zero g)
+ready_before g l c w = ap (λ t. cond (t && (l == 0)) (next_needle w) (at (suc g) l c w)) (not_zero g)
 
 ready_within : (l c : ℕ) (w : Lcg) → ready (at 0 (suc l) c w) ≡ at 0 (suc l) c w
 unfolding ready
-ready_within l c w = ap (λ t. cond t (drawn w) (at 0 (suc l) c w)) (not_zero l)
+ready_within l c w = ap (λ t. cond t (next_needle w) (at 0 (suc l) c w)) (not_zero l)
 
 pub next_before : (g l c : ℕ) (w : Lcg) (b : ℕ) → byte_next (at (suc g) l c w) b ≡ at g l c w
 unfolding byte_next moved
@@ -50,8 +50,8 @@ gives_within l c w b = ap (λ n. Some (bit_xor b (change_now n))) (ready_within 
 abbrev gap_less : Lcg → ℕ
 gap_less words = 191 + (pcg32 words).0 % 64
 
-drawn_is : (w : Lcg) → drawn w ≡ at (suc (gap_less w)) (size_of (pcg32 w).0) (change_of (pcg32 w).0) (pcg32 w).1
-unfolding drawn
+drawn_is : (w : Lcg) → next_needle w ≡ at (suc (gap_less w)) (size_of (pcg32 w).0) (change_of (pcg32 w).0) (pcg32 w).1
+unfolding next_needle
 drawn_is w =
     let e : 192 + (pcg32 w).0 % 64 ≡ suc (191 + (pcg32 w).0 % 64) = omega arith in
     ap (λ n. at n (size_of (pcg32 w).0) (change_of (pcg32 w).0) (pcg32 w).1) e

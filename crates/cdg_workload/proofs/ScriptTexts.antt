@@ -14,7 +14,7 @@ use Rattle.rand_pcg.specs.Lcg.{Lcg}
 use Rattle.rand_pcg.specs.Pcg.{pcg32}
 use Rattle.cdg_io.specs.Moves.{AppendsPrefix}
 use Rattle.cdg_workload.specs.declared.script.TheConstants.{GREYS}
-use Rattle.cdg_workload.specs.Script.{rect_line, grey_line, show_line, picture_lines, generated_script}
+use Rattle.cdg_workload.specs.Script.{generated_rect_line, grey_line, generated_show_line, picture_lines, generated_script}
 use Rattle.cdg_workload.specs.Pictures.{rect_from}
 use Rattle.cdg_workload.proofs.Pieces.{prefix_first, prefix_of_pieces, one_piece_more}
 
@@ -44,8 +44,8 @@ eleven_joined l l1 l2 l3 l4 l5 l6 l7 l8 l9 l10 l11 a b c d e f g h i j k e1 e2 e
 unfoldable pub show_text : List ℕ → List ℕ → List ℕ
 show_text ready hold = codes "show " ++ ready ++ codes " " ++ hold ++ line_feed
 
-pub show_text_is : (k : ℕ) (ready hold : List ℕ) → ready ≡ time_text (800 * (k + 1)) → hold ≡ time_text (800 * (k + 1) + 20) → show_text ready hold ≡ show_line k
-unfolding show_text show_line
+pub show_text_is : (k : ℕ) (ready hold : List ℕ) → ready ≡ time_text (800 * (k + 1)) → hold ≡ time_text (800 * (k + 1) + 20) → show_text ready hold ≡ generated_show_line k
+unfolding show_text generated_show_line
 show_text_is k ready hold ready_is hold_is = ap₂ (λ (r h : List ℕ). codes "show " ++ r ++ codes " " ++ h ++ line_feed) ready_is hold_is
 
 -- a rectangle by the halves of its two words
@@ -56,7 +56,7 @@ halves_text x y w h size =
 
 pub halves_text_is : (words : Lcg) (place size x y w h : ℕ) → place ≡ (pcg32 words).0 → size ≡ (pcg32 (pcg32 words).1).0
     → x ≡ place % 65536 → y ≡ place / 65536 → w ≡ size % 65536 → h ≡ size / 65536 → halves_text x y w h size ≡ rect_from words
-unfolding halves_text rect_from rect_line
+unfolding halves_text rect_from generated_rect_line
 halves_text_is words place size x y w h place_is size_is x_is y_is w_is h_is = cc
 
 -- ---- Pieces of the script.

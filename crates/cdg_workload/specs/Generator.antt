@@ -8,8 +8,8 @@ unfoldable pub generator : ℕ → Lcg
 generator seed = started 64 multiplier_64 seed (increment_of 64 54)
 
 -- its word n
-unfoldable pub word_of : ℕ → ℕ → ℕ
-word_of seed n = (pcg32 (advance 64 multiplier_64 n (generator seed))).0
+unfoldable pub generator_word : ℕ → ℕ → ℕ
+generator_word seed n = (pcg32 (advance 64 multiplier_64 n (generator seed))).0
 
 -- the low sixteen bits of a word
 abbrev pub low_half : ℕ → ℕ

@@ -3,3 +3,4 @@ pub mod Script
 pub mod Pictures
 pub mod Scratches
 pub mod Steps
+pub mod Generated

@@ -4,7 +4,7 @@ use Rattle.std.specs.Char.{digit_char}
 use Rattle.bit_lists.specs.Counting.{below}
 use Rattle.bit_lists.specs.Digits.{line_feed}
 use Rattle.disc_time.specs.Time.{time_text}
-use Rattle.cdg_workload.specs.Generator.{word_of, low_half, high_half}
+use Rattle.cdg_workload.specs.Generator.{generator_word, low_half, high_half}
 
 -- a rectangle of the window: its place, its size and the number of its colour
 pub record Rectangle : Type 0 where
@@ -21,8 +21,8 @@ rectangle_of a b =
     let y = high_half a % 192 in record { x = x; y = y; width = 1 + low_half b % (288 - x); height = 1 + high_half b % (192 - y); colour = b / 256 % 16 }
 
 -- its line
-unfoldable pub rect_line : ℕ → ℕ → List ℕ
-rect_line a b =
+unfoldable pub generated_rect_line : ℕ → ℕ → List ℕ
+generated_rect_line a b =
     let rect = rectangle_of a b in
     codes "rect " ++ decimal rect.x ++ codes " " ++ decimal rect.y ++ codes " " ++ decimal rect.width ++ codes " " ++ decimal rect.height
     ++ codes " " ++ decimal rect.colour ++ line_feed
@@ -40,12 +40,12 @@ unfoldable pub grey_line : ℕ → List ℕ
 grey_line k = codes "colour " ++ decimal k ++ codes " 0" ++ digit_char k ∷ digit_char k ∷ digit_char k ∷ [] ++ line_feed
 
 -- the line with the times at which picture k is ready and until which it is held
-unfoldable pub show_line : ℕ → List ℕ
-show_line k = codes "show " ++ time_text (ready_block k) ++ codes " " ++ time_text (hold_block k) ++ line_feed
+unfoldable pub generated_show_line : ℕ → List ℕ
+generated_show_line k = codes "show " ++ time_text (ready_block k) ++ codes " " ++ time_text (hold_block k) ++ line_feed
 
 -- the lines of picture k: three rectangles, and its times
 unfoldable pub picture_lines : ℕ → ℕ → List ℕ
-picture_lines seed k = flat_map (λ i. rect_line (word_of seed (6 * k + 2 * i)) (word_of seed (6 * k + 2 * i + 1))) (below 3) ++ show_line k
+picture_lines seed k = flat_map (λ i. generated_rect_line (generator_word seed (6 * k + 2 * i)) (generator_word seed (6 * k + 2 * i + 1))) (below 3) ++ generated_show_line k
 
 -- the script of so many pictures
 unfoldable pub generated_script : ℕ → ℕ → List ℕ

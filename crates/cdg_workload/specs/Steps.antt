@@ -9,12 +9,12 @@ use Rattle.cdg_workload.specs.declared.needle.Needle.{Needle}
 use Rattle.cdg_workload.specs.declared.scratching.Scratches.{Scratches}
 
 -- before the next burst
-unfoldable pub drawn : Lcg → Needle
-drawn words = record { gap = gap_of (pcg32 words).0; left = size_of (pcg32 words).0; change = change_of (pcg32 words).0; words = (pcg32 words).1 }
+unfoldable pub next_needle : Lcg → Needle
+next_needle words = record { gap = gap_of (pcg32 words).0; left = size_of (pcg32 words).0; change = change_of (pcg32 words).0; words = (pcg32 words).1 }
 
 -- the same where a burst has ended
 unfoldable pub ready : Needle → Needle
-ready needle = if (needle.gap == 0) && (needle.left == 0) then drawn needle.words else needle
+ready needle = if (needle.gap == 0) && (needle.left == 0) then next_needle needle.words else needle
 
 -- what a needle that is ready changes
 unfoldable pub change_now : Needle → ℕ
@@ -41,5 +41,5 @@ unfoldable pub block_gives : Scratches → List ℕ → Option (List ℕ)
 block_gives s block = if s.lead_in == 0 then Some (run_gives byte_next byte_gives s.needle block) else Some block
 
 -- before the first block
-abbrev pub begun : ℕ → ℕ → Scratches
-begun lead_in seed = record { lead_in = lead_in; needle = record { gap = 0; left = 0; change = 0; words = generator seed } }
+abbrev pub fresh_scratches : ℕ → ℕ → Scratches
+fresh_scratches lead_in seed = record { lead_in = lead_in; needle = record { gap = 0; left = 0; change = 0; words = generator seed } }

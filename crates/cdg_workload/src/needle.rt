@@ -2,7 +2,7 @@
 ghost use Rattle.std.specs.Prelude.{◌≡◌, ◌<◌, ◌≤◌, ◌-◌, ◌^◌, Some};
 ghost use Rattle.rand_pcg.specs.Pcg.{pcg32};
 ghost use Rattle.cdg_io.specs.Run.{run_state, run_gives};
-ghost use Rattle.cdg_workload.specs.Steps.{drawn, ready, change_now, moved, byte_next, byte_gives};
+ghost use Rattle.cdg_workload.specs.Steps.{next_needle, ready, change_now, moved, byte_next, byte_gives};
 
 use rand_core::utils::NextWord;
 use rand_pcg::Pcg32;
@@ -31,7 +31,7 @@ impl Needle {
     }
 
     /// Where a burst has ended, takes a word for the next one.
-    #[tactic(auto, unfolding(crate::specs::Steps::ready, crate::specs::Steps::drawn))]
+    #[tactic(auto, unfolding(crate::specs::Steps::ready, crate::specs::Steps::next_needle))]
     fn make_ready(&mut self)
         ensures { self.new ≡ ready self.old }
     {

@@ -5,15 +5,15 @@ ghost use Rattle.cdg_io.specs.Pump.{IsUnlessFault, TellsEndOf, answer_of};
 ghost use Rattle.cdg_io.specs.Streams.{Streams};
 ghost use Rattle.cdg_io.specs.declared.pumping.PumpStop.TheVariants.{Torn, WriteFault};
 ghost use Rattle.raw_subcode.specs.Channels.{symbols_of, program_symbols};
-ghost use Rattle.stream_words.specs.Stream.{DiffersInBursts, IsDamaged};
+ghost use Rattle.rw_interleave.specs.Stream.{DiffersInBursts, IsDamaged};
 ghost use Rattle.cdg_workload.specs.Scratches.{IsScratched, scratched};
-ghost use Rattle.cdg_workload.specs.Steps.{begun, block_next, block_gives};
+ghost use Rattle.cdg_workload.specs.Steps.{fresh_scratches, block_next, block_gives};
 
 use crate::needle::Needle;
 use crate::words::generator;
 use cdg_io::{Piece, PumpStop, Pumped, Sink, Source, Stage, pump};
 use raw_subcode::Form;
-use stream_words::bursts_are_damage;
+use rw_interleave::bursts_are_damage;
 
 /// The most blocks that are read.
 const MOST_BLOCKS: u32 = 1_000_000;
@@ -28,7 +28,7 @@ pub struct Scratches {
 
 impl Scratches {
     fn start(lead_in: u32, seed: u64) -> Scratches
-        ensures { result ≡ begun lead_in seed }
+        ensures { result ≡ fresh_scratches lead_in seed }
     {
         Scratches {
             lead_in,

@@ -3,7 +3,7 @@ ghost use Rattle.std.specs.Prelude.{◌≡◌, ◌<◌, ◌≤◌, ◌+◌, ◌/
 ghost use Rattle.std.specs.Io.KnownBytes.{Appends};
 ghost use Rattle.cdg_io.specs.Causes.{HasCause};
 ghost use Rattle.cdg_io.specs.Moves.{AppendsPrefix};
-ghost use Rattle.cdg_workload.specs.Script.{show_line, generated_script};
+ghost use Rattle.cdg_workload.specs.Script.{generated_show_line, generated_script};
 ghost use Rattle.cdg_workload.specs.Pictures.{after_two, rect_from, picture_from};
 
 use crate::words::generator;
@@ -74,7 +74,7 @@ fn picture(words: &mut Pcg32, k: u32) -> Piece
 }
 
 /// Appends the line of a rectangle, by the next two words.
-#[tactic(auto, unfolding(crate::specs::Pictures::after_two, crate::specs::Pictures::rect_from, crate::specs::Script::rect_line))]
+#[tactic(auto, unfolding(crate::specs::Pictures::after_two, crate::specs::Pictures::rect_from, crate::specs::Script::generated_rect_line))]
 fn add_rect(lines: &mut Piece, words: &mut Pcg32)
     requires { length lines.old ≤ 95 }
     ensures words { words.new ≡ after_two words.old }
@@ -121,11 +121,11 @@ fn add_number<I: Integer>(lines: &mut Piece, n: I)
 }
 
 /// Appends the line of the times of picture k.
-#[tactic(auto, unfolding(crate::specs::Script::show_line))]
+#[tactic(auto, unfolding(crate::specs::Script::generated_show_line))]
 fn add_show(lines: &mut Piece, k: u32)
     requires number { k < 500 }
     requires room { length lines.old ≤ 105 }
-    ensures { lines.new ≡ lines.old ++ show_line k }
+    ensures { lines.new ≡ lines.old ++ generated_show_line k }
 {
     let ready = BLOCKS_A_PICTURE * (k + 1);
     lines.add(b"show ");

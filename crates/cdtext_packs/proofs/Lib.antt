@@ -6,3 +6,13 @@ pub mod Cuts
 pub mod Steps
 pub mod SheetStrings
 pub mod Offers
+pub mod Damaged
+pub mod Seals
+pub mod Copied
+pub mod Cutting
+pub mod KindBytes
+pub mod Back
+pub mod Hex
+pub mod Pieces
+pub mod TextLines
+pub mod LeadInReading

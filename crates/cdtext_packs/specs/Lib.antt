@@ -6,3 +6,6 @@ pub mod Map
 pub mod Reading
 pub mod LeadIn
 pub mod SheetTexts
+pub mod Copies
+pub mod TextLines
+pub mod TextSteps

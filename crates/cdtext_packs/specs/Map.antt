@@ -3,8 +3,8 @@ use Rattle.cdtext_packs.specs.Texts.{Texts, AreTexts}
 use Rattle.cdtext_packs.specs.declared.map.TextMap.TheInside.{Inside}
 
 -- what the fields of a map say
-abbrev pub texts_in : Inside → Texts
-texts_in m = record {
+abbrev pub texts_of_map : Inside → Texts
+texts_of_map m = record {
   first = m.first;
   last = m.last;
   title = m.title;
@@ -18,4 +18,4 @@ texts_in m = record {
 
 -- what holds of every map
 abbrev pub HoldsTexts : Inside → Type 0
-HoldsTexts m = AreTexts (texts_in m)
+HoldsTexts m = AreTexts (texts_of_map m)

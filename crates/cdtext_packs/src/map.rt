@@ -32,9 +32,9 @@ impl Model for TextMap {
 
     ghost Value = { Texts };
 
-    ghost use Rattle.cdtext_packs.specs.Map.{texts_in, HoldsTexts};
+    ghost use Rattle.cdtext_packs.specs.Map.{texts_of_map, HoldsTexts};
 
-    ghost view = { texts_in };
+    ghost view = { texts_of_map };
 
     ghost invariant = { HoldsTexts };
 }

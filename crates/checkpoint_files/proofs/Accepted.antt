@@ -8,7 +8,7 @@ use Rattle.bit_lists.specs.Bits.{number_of, bits_of_bytes}
 use Rattle.bit_lists.specs.Check.{check_of, check_bits}
 use Rattle.bit_lists.proofs.BitsLemmas.{number_of-lt}
 use Rattle.bit_lists.proofs.Checks.{length-check_bits}
-use Rattle.checkpoint_files.specs.Table.{Part, Mark, ToCome, LeadIn, Program, Bad, Slots, Memory, Border, Across, Down, Colours, Levels, Check, row, parts, number, number_at, mark, IsPartInRange, IsCheckpointFile}
+use Rattle.checkpoint_files.specs.Table.{Part, Mark, ToCome, LeadIn, Program, Bad, Slots, Memory, Border, Across, Down, Colours, Levels, Check, row, all_parts, number, number_at, mark, IsPartInRange, IsCheckpointFile}
 use Rattle.checkpoint_files.specs.Checkpoint.{Checkpoint, value, bytes_of, part_bytes, body, file_of, checkpoint_in}
 use Rattle.checkpoint_files.specs.Sound.{IsSoundCheckpoint, IsSameCheckpoint}
 use Rattle.checkpoint_files.proofs.Writing.{slots_written}
@@ -126,7 +126,7 @@ module _ (c : Checkpoint) (sound : IsSoundCheckpoint c) where
   program_in_range k lt =
       (omega (arith, lead_in_read, program_read, sound.blocks), λ some. program_read ∙ sound.none_yet (omega (arith, some, to_come_read)))
 
-  ranges : AllByRecursion (IsPartInRange file) parts
+  ranges : AllByRecursion (IsPartInRange file) all_parts
   ranges = (
     λ k lt. mark_read c,
     (

@@ -1,10 +1,10 @@
--- The table of a checkpoint's file: its parts, the numbers in them, and their ranges.
+-- The table of a checkpoint's file: its all_parts, the numbers in them, and their ranges.
 use Rattle.std.specs.Prelude.{◌≡◌, ℕ, zero, suc, ◌+◌, ◌-◌, ◌*◌, ◌^◌, ◌<◌, ◌≤◌, List, [], ◌∷◌, ◌++◌, length, take, slice_index, min, codes}
 use Rattle.std.specs.List.{AllByRecursion}
 use Rattle.bit_lists.specs.Check.{check_of}
 use Rattle.rw_interleave.specs.Interleave.{whole_packs}
 
--- the parts of the file, each of fields of the same size
+-- the all_parts of the file, each of fields of the same size
 pub data Part : Type 0 where
   Mark : Part
   ToCome : Part
@@ -41,12 +41,12 @@ row Colours = record { first = 64995; count = 16; size = 2 }
 row Levels = record { first = 65027; count = 16; size = 1 }
 row Check = record { first = 65043; count = 1; size = 2 }
 
--- the parts in the order of their bytes: those that the check is of, and the check
+-- the all_parts in the order of their bytes: those that the check is of, and the check
 abbrev pub body_parts : List Part
 body_parts = Mark ∷ ToCome ∷ LeadIn ∷ Program ∷ Bad ∷ Slots ∷ Memory ∷ Border ∷ Across ∷ Down ∷ Colours ∷ Levels ∷ []
 
-abbrev pub parts : List Part
-parts = body_parts ++ Check ∷ []
+abbrev pub all_parts : List Part
+all_parts = body_parts ++ Check ∷ []
 
 -- the byte at which field k of a part begins
 abbrev pub byte_of : Part → ℕ → ℕ
@@ -70,39 +70,39 @@ abbrev pub empty_symbols : ℕ → ℕ
 empty_symbols program = 24 * (7 - min 7 (4 * program))
 
 -- the number in field k of a part is in its range
-abbrev pub IsInRange : List ℕ → Part → ℕ → Type 0
-IsInRange file Mark k = number file Mark 0 ≡ mark
-IsInRange file ToCome k = number file ToCome 0 ≤ 450000
-IsInRange file LeadIn k = number file ToCome 0 + number file LeadIn 0 ≤ 450000
-IsInRange file Program k = (number file LeadIn 0 + number file Program 0 ≤ 1000000) × (0 < number file ToCome 0 → number file Program 0 ≡ 0)
-IsInRange file Bad k = number file Bad 0 ≤ whole_packs (number file Program 0)
-IsInRange file Slots k = (number file Slots k < 64) × (k < empty_symbols (number file Program 0) → number file Slots k ≡ 0)
-IsInRange file Memory k = number file Memory k < 16
-IsInRange file Border k = number file Border k < 16
-IsInRange file Across k = number file Across k ≤ 5
-IsInRange file Down k = number file Down k ≤ 11
-IsInRange file Colours k = number file Colours k < 4096
-IsInRange file Levels k = number file Levels k < 64
-IsInRange file Check k = number file Check 0 ≡ check_of (take 65043 file)
+abbrev pub IsFieldInRange : List ℕ → Part → ℕ → Type 0
+IsFieldInRange file Mark k = number file Mark 0 ≡ mark
+IsFieldInRange file ToCome k = number file ToCome 0 ≤ 450000
+IsFieldInRange file LeadIn k = number file ToCome 0 + number file LeadIn 0 ≤ 450000
+IsFieldInRange file Program k = (number file LeadIn 0 + number file Program 0 ≤ 1000000) × (0 < number file ToCome 0 → number file Program 0 ≡ 0)
+IsFieldInRange file Bad k = number file Bad 0 ≤ whole_packs (number file Program 0)
+IsFieldInRange file Slots k = (number file Slots k < 64) × (k < empty_symbols (number file Program 0) → number file Slots k ≡ 0)
+IsFieldInRange file Memory k = number file Memory k < 16
+IsFieldInRange file Border k = number file Border k < 16
+IsFieldInRange file Across k = number file Across k ≤ 5
+IsFieldInRange file Down k = number file Down k ≤ 11
+IsFieldInRange file Colours k = number file Colours k < 4096
+IsFieldInRange file Levels k = number file Levels k < 64
+IsFieldInRange file Check k = number file Check 0 ≡ check_of (take 65043 file)
 
 -- all fields of a part are in their ranges
 abbrev pub IsPartInRange : List ℕ → Part → Type 0
-IsPartInRange file part = (k : ℕ) → k < (row part).count → IsInRange file part k
+IsPartInRange file part = (k : ℕ) → k < (row part).count → IsFieldInRange file part k
 
 -- a field of this part begins at the byte, is out of its range, and is the first of the part that is
 pub record IsOutOfPart (file : List ℕ) (part : Part) (byte : ℕ) : Type 0 where
   pub k : ℕ
   pub field : k < (row part).count
   pub byte_is : byte ≡ byte_of part k
-  pub out : ¬ IsInRange file part k
-  pub earlier : (j : ℕ) → j < k → IsInRange file part j
+  pub out : ¬ IsFieldInRange file part k
+  pub earlier : (j : ℕ) → j < k → IsFieldInRange file part j
 
 -- the first field of all that is out of its range begins at the byte
 pub record IsFirstOut (file : List ℕ) (byte : ℕ) : Type 0 where
   pub early : List Part
   pub part : Part
   pub late : List Part
-  pub order : parts ≡ early ++ part ∷ late
+  pub order : all_parts ≡ early ++ part ∷ late
   pub earlier : AllByRecursion (IsPartInRange file) early
   pub here : IsOutOfPart file part byte
 
@@ -113,7 +113,7 @@ file_size = 65045
 -- the bytes are a checkpoint's file
 pub record IsCheckpointFile (file : List ℕ) : Type 0 where
   pub size : length file ≡ file_size
-  pub ranges : AllByRecursion (IsPartInRange file) parts
+  pub ranges : AllByRecursion (IsPartInRange file) all_parts
 
 -- The bytes are none, and this is the byte that tells it: their length where they are too few, the first byte past the file where they are too many, and else the first byte of the first field out of its range.
 pub record IsBadAt (file : List ℕ) (byte : ℕ) : Type 0 where

@@ -7,7 +7,7 @@ use Rattle.std.proofs.lemmas.Bool.{cases_lt, cases_Bool, eqb-true, false≢true,
 use Rattle.std.proofs.lemmas.List.{get_or_append_left, length-append}
 use Rattle.std.proofs.Math.Seq.{get_or-append_seam}
 use Rattle.cue_sheet.specs.CueSheet.{CueTrack, IsText, IsTrack, IsSheet, CueSection, track_from, sheet_from, is_catalogue_number, is_capital_code, no_track}
-use Rattle.cue_sheet.specs.Lines.{CueLine, SaysNothing, SaysCatalogue, SaysFile, SaysTitle, SaysPerformer, SaysSongwriter, SaysTrack, SaysFlags, SaysIsrc, SaysPregap, SaysIndex, SaysPostgap, IsInRange}
+use Rattle.cue_sheet.specs.CueLines.{CueLine, SaysNothing, SaysCatalogue, SaysFile, SaysTitle, SaysPerformer, SaysSongwriter, SaysTrack, SaysFlags, SaysIsrc, SaysPregap, SaysIndex, SaysPostgap, IsLineInRange}
 use Rattle.cue_sheet.specs.Grammar.{CueState, nothing_said, follows_index, follows_number, has_index_one, lacks_index, track_with}
 use Rattle.cue_sheet.specs.Steps.{after, later_reason}
 use Rattle.cue_sheet.specs.declared.fault.CueWhy.TheVariants.{NoIndex, NotAudio, NumberOrder, IndexOrder, TimeOrder}
@@ -311,7 +311,7 @@ with_track : (s : CueState) (number : ℕ) → IsGood s → lacks_index s ≡ fa
     → AreInOrder s.latest (if is_some s.number then s.album else s.section) (s.tracks ++ track_with s.number s.section) (Some number) []
 with_track s number good full follows range = with_track_of s s.number number good refl full follows range
 
-pub good_more : (s : CueState) (line : CueLine) → IsGood s → IsInRange line → later_reason s line ≡ None → IsGood (after s line)
+pub good_more : (s : CueState) (line : CueLine) → IsGood s → IsLineInRange line → later_reason s line ≡ None → IsGood (after s line)
 unfolding later_reason
 good_more s SaysNothing g range free = g
 good_more s SaysFile g range free = g

@@ -1,10 +1,9 @@
 -- Reading goes line by line.
 use Rattle.std.proofs.Common.{subst, inl, inr, ◌++◌, ◌≡◌, ℕ, ◌+◌, ◌≤◌, ◌<◌, List, [], ◌∷◌, length, Option, Some, None, refl, ap, sym, ◌∙◌, arith}
-use Rattle.std.specs.Prelude.{Ok, Err}
+use Rattle.std.specs.Prelude.{Ok, Err, is_some, not, if◌then◌else◌, Bool, true, false}
 use Rattle.text_lines.specs.Text.{lines_in, without_mark}
 use Rattle.text_lines.specs.Reading.{at_line, read_on}
 use Rattle.text_lines.proofs.ReadOn.{read_on-taken, read_on-refused, read_on-end}
-use Rattle.std.specs.Prelude.{is_some, not, if◌then◌else◌, Bool, true, false}
 use Rattle.std.proofs.lemmas.Bool.{cases_Bool}
 use Rattle.cue_sheet.specs.CueSheet.{IsSheet, sheet_from}
 use Rattle.cue_sheet.specs.Grammar.{CueState, nothing_said, has_index_one, track_with, step, ended, read_cue}

@@ -3,7 +3,7 @@ use Rattle.std.proofs.Common.{◌≡◌, ℕ, ◌≤◌, ◌<◌, List, length, 
 use Rattle.std.specs.Prelude.{Result, Ok, Err, is_some, not, max, nat_lt, if◌then◌else◌}
 use Rattle.cue_sheet.specs.CueSheet.{CueSheet}
 use Rattle.text_lines.specs.Text.{trimmed, first_word, argument_of, is_some_bytes}
-use Rattle.cue_sheet.specs.Lines.{command_named, said_by, CueLine, SaysNothing, SaysCatalogue, SaysFile, SaysTitle, SaysPerformer, SaysSongwriter, SaysTrack, SaysFlags, SaysIsrc, SaysPregap, SaysIndex, SaysPostgap}
+use Rattle.cue_sheet.specs.CueLines.{command_named, said_by, CueLine, SaysNothing, SaysCatalogue, SaysFile, SaysTitle, SaysPerformer, SaysSongwriter, SaysTrack, SaysFlags, SaysIsrc, SaysPregap, SaysIndex, SaysPostgap}
 use Rattle.cue_sheet.specs.Grammar.{CueState, has_index_one, lacks_index, follows_number, follows_index, begun, with_index, once, taken, is_second_file, is_placed, spelled, obeyed, step, ended}
 use Rattle.cue_sheet.specs.Steps.{after, later_reason, unless, end_reason, sheet_said}
 use Rattle.cue_sheet.specs.declared.command.Command.{Command}

@@ -4,7 +4,7 @@ use Rattle.std.specs.List.{list_any}
 use Rattle.text_lines.specs.Text.{lines_of, trimmed, first_word, argument_of, is_some_bytes}
 use Rattle.text_lines.specs.Reading.{read_on}
 use Rattle.cue_sheet.specs.CueSheet.{CueTrack, CueSheet, CueSection, track_from, sheet_from}
-use Rattle.cue_sheet.specs.Lines.{CueLine, SaysNothing, SaysCatalogue, SaysFile, SaysTitle, SaysPerformer, SaysSongwriter, SaysTrack, SaysFlags, SaysIsrc, SaysPregap, SaysIndex, SaysPostgap, command_named, said_by}
+use Rattle.cue_sheet.specs.CueLines.{CueLine, SaysNothing, SaysCatalogue, SaysFile, SaysTitle, SaysPerformer, SaysSongwriter, SaysTrack, SaysFlags, SaysIsrc, SaysPregap, SaysIndex, SaysPostgap, command_named, said_by}
 use Rattle.cue_sheet.specs.declared.command.Command.{Command}
 use Rattle.cue_sheet.specs.declared.command.Command.TheVariants.{Catalogue, File, Track, Flags, Isrc, Pregap, Index, Postgap}
 use Rattle.cue_sheet.specs.declared.fault.CueWhy.{CueWhy}

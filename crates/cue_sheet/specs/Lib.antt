@@ -1,6 +1,7 @@
 pub mod CueSheet
 pub mod Views
-pub mod Lines
+pub mod CueLines
 pub mod Grammar
 pub mod Steps
 pub mod Answers
+pub mod SheetBytes

@@ -1,7 +1,7 @@
 -- How the code goes about a step: the reason is looked for first, and then the line is added.
 use Rattle.std.specs.Prelude.{◌≡◌, Result, Ok, Err, ℕ, List, ◌++◌, max, Bool, false, not, Option, Some, None, is_some, true, nat_lt, if◌then◌else◌}
 use Rattle.cue_sheet.specs.CueSheet.{CueSheet, CueSection, sheet_from}
-use Rattle.cue_sheet.specs.Lines.{CueLine, SaysNothing, SaysCatalogue, SaysFile, SaysTitle, SaysPerformer, SaysSongwriter, SaysTrack, SaysFlags, SaysIsrc, SaysPregap, SaysIndex, SaysPostgap, IsInRange}
+use Rattle.cue_sheet.specs.CueLines.{CueLine, SaysNothing, SaysCatalogue, SaysFile, SaysTitle, SaysPerformer, SaysSongwriter, SaysTrack, SaysFlags, SaysIsrc, SaysPregap, SaysIndex, SaysPostgap, IsLineInRange}
 use Rattle.cue_sheet.specs.Grammar.{CueState, has_index_one, lacks_index, follows_number, follows_index, track_with, begun, with_index, in_section, obeyed, step}
 use Rattle.cue_sheet.specs.declared.command.Command.{Command}
 use Rattle.cue_sheet.specs.declared.fault.CueWhy.{CueWhy}
@@ -12,19 +12,19 @@ use Rattle.cue_sheet.specs.declared.line.Line.{Line}
 use Rattle.cue_sheet.specs.declared.line.Line.TheVariants.{Remark, Catalogue, File, Title, Performer, Songwriter, Track, Flags, Isrc, Pregap, Index, Postgap}
 
 -- what a line says, without where its texts lie in memory
-abbrev pub said : Line → CueLine
-said Remark = SaysNothing
-said (Catalogue digits) = SaysCatalogue digits
-said File = SaysFile
-said (Title s) = SaysTitle s.now
-said (Performer s) = SaysPerformer s.now
-said (Songwriter s) = SaysSongwriter s.now
-said (Track number audio) = SaysTrack number audio
-said (Flags control) = SaysFlags control
-said (Isrc code) = SaysIsrc code
-said (Pregap time) = SaysPregap time
-said (Index number time) = SaysIndex number time
-said (Postgap time) = SaysPostgap time
+abbrev pub line_said : Line → CueLine
+line_said Remark = SaysNothing
+line_said (Catalogue digits) = SaysCatalogue digits
+line_said File = SaysFile
+line_said (Title s) = SaysTitle s.now
+line_said (Performer s) = SaysPerformer s.now
+line_said (Songwriter s) = SaysSongwriter s.now
+line_said (Track number audio) = SaysTrack number audio
+line_said (Flags control) = SaysFlags control
+line_said (Isrc code) = SaysIsrc code
+line_said (Pregap time) = SaysPregap time
+line_said (Index number time) = SaysIndex number time
+line_said (Postgap time) = SaysPostgap time
 
 -- whether a line that may stand once in a section stands there already
 abbrev pub is_repeated : CueSection → CueLine → Bool
@@ -48,7 +48,7 @@ later_reason s (SaysIndex number time) =
     if follows_index s.section.indices number then (if nat_lt time s.latest then Some TimeOrder else None) else Some IndexOrder
 later_reason s line = if is_repeated s.section line then Some Repeated else None
 
--- what is said after one more line, if it is not refused
+-- what is line_said after one more line, if it is not refused
 abbrev pub after : CueState → CueLine → CueState
 after s SaysNothing = s
 after s SaysFile = record s { has_file = true }
@@ -80,14 +80,14 @@ abbrev pub sheet_said : CueState → CueSheet
 sheet_said s = sheet_from s.album (s.tracks ++ track_with s.number s.section)
 
 -- what a check of a line answers
-abbrev pub IsChecked : CueState → Option Command → List ℕ → Result Line CueWhy → Type 0
-IsChecked s command argument (Ok line) = (obeyed s command argument ≡ Ok (after s (said line))) × IsInRange (said line) × (later_reason s (said line) ≡ None)
-IsChecked s command argument (Err why) = obeyed s command argument ≡ Err why
+abbrev pub IsCheckedLine : CueState → Option Command → List ℕ → Result Line CueWhy → Type 0
+IsCheckedLine s command argument (Ok line) = (obeyed s command argument ≡ Ok (after s (line_said line))) × IsLineInRange (line_said line) × (later_reason s (line_said line) ≡ None)
+IsCheckedLine s command argument (Err why) = obeyed s command argument ≡ Err why
 
--- what a whole line does to what is said
+-- what a whole line does to what is line_said
 pub data TakesLine (old : CueState) (line : List ℕ) (new : CueState) : Type 0 where
   IsEmpty : step old line ≡ Ok new → new ≡ old → TakesLine old line new
-  Says : (said : CueLine) → step old line ≡ Ok new → IsInRange said → later_reason old said ≡ None → new ≡ after old said → TakesLine old line new
+  Says : (line_said : CueLine) → step old line ≡ Ok new → IsLineInRange line_said → later_reason old line_said ≡ None → new ≡ after old line_said → TakesLine old line new
 
 -- why a line is not taken
 abbrev pub RefusesLine : CueState → ℕ → List ℕ → CueStop → Type 0

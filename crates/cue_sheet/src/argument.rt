@@ -4,8 +4,8 @@ ghost use Rattle.std.specs.List.{list_all, position};
 ghost use Rattle.std.specs.Char.{is_ascii_digit, is_ascii_uppercase};
 ghost use Rattle.text_lines.specs.Text.{words_in};
 ghost use Rattle.cue_sheet.specs.CueSheet.{IsText, is_catalogue_number, is_capital_code};
-ghost use Rattle.cue_sheet.specs.Lines.{IsInRange, begins_quoted, catalogue_argument, code_argument, flags_argument, index_argument, is_file, is_flag, is_plain, is_quote, names_flag, plain, quoted, said_by, text_argument, track_argument};
-ghost use Rattle.cue_sheet.specs.Steps.{said};
+ghost use Rattle.cue_sheet.specs.CueLines.{IsLineInRange, begins_quoted, catalogue_argument, code_argument, flags_argument, index_argument, is_file, is_flag, is_plain, is_quote, names_flag, plain, quoted, said_by, text_argument, track_argument};
+ghost use Rattle.cue_sheet.specs.Steps.{line_said};
 
 use crate::command::{Command, is_word};
 use crate::line::Line;
@@ -14,8 +14,8 @@ use text_lines::{next_word, time, two_digits};
 /// What a command says with its argument, if that is spelled as it must be.
 pub(crate) fn spelled(command: Command, argument: &[u8]) -> Option<Line<'_>>
     requires { length argument.now ≤ 67108864 }
-    ensures line { option_map said result ≡ said_by command argument.now }
-    ensures range { IfSome result (λ line. IsInRange (said line)) }
+    ensures line { option_map line_said result ≡ said_by command argument.now }
+    ensures range { IfSome result (λ line. IsLineInRange (line_said line)) }
 {
     match command {
         Command::Remark => Some(Line::Remark),
@@ -45,7 +45,7 @@ pub(crate) fn spelled(command: Command, argument: &[u8]) -> Option<Line<'_>>
 }
 
 // The bytes, if they hold no control byte.
-#[tactic(auto, unfolding(crate::specs::Lines::plain))]
+#[tactic(auto, unfolding(crate::specs::CueLines::plain))]
 fn plain(text: &[u8]) -> Option<&[u8]>
     requires { length text.now ≤ 67108864 }
     ensures text { option_copied result ≡ plain text.now }
@@ -76,7 +76,7 @@ fn begins_quoted(argument: &[u8]) -> bool
 }
 
 // Of an argument that begins with a quote, what stands up to the next one, and what follows that.
-#[tactic(auto, unfolding(crate::specs::Lines::quoted))]
+#[tactic(auto, unfolding(crate::specs::CueLines::quoted))]
 fn quoted(argument: &[u8]) -> Option<(&[u8], &[u8])>
     requires { 0 < length argument.now }
     ensures parts { option_map (λ parts. (parts.0.now, parts.1.now)) result ≡ quoted argument.now }
@@ -95,7 +95,7 @@ fn closing_quote(text: &[u8]) -> Option<usize>
 }
 
 // A text: in quotes, with nothing after them, or as it stands and not empty.
-#[tactic(auto, unfolding(crate::specs::Lines::text_argument))]
+#[tactic(auto, unfolding(crate::specs::CueLines::text_argument))]
 fn text(argument: &[u8]) -> Option<&[u8]>
     requires { length argument.now ≤ 67108864 }
     ensures text { option_copied result ≡ text_argument argument.now }
@@ -115,7 +115,7 @@ fn text(argument: &[u8]) -> Option<&[u8]>
 }
 
 // A file: a name in quotes and then one word, or two or more words.
-#[tactic(auto, unfolding(crate::specs::Lines::is_file))]
+#[tactic(auto, unfolding(crate::specs::CueLines::is_file))]
 fn is_file(argument: &[u8]) -> bool
     ensures { result ≡ is_file argument.now }
 {
@@ -142,7 +142,7 @@ fn word_count(line: &[u8]) -> usize
 }
 
 // A catalogue number, 13 digits.
-#[tactic(auto, unfolding(crate::specs::Lines::catalogue_argument))]
+#[tactic(auto, unfolding(crate::specs::CueLines::catalogue_argument))]
 fn catalogue(argument: &[u8]) -> Option<[u8; 13]>
     ensures number { result ≡ catalogue_argument argument.now }
     ensures range { IfSome result (λ digits. IsTrue (is_catalogue_number digits)) }
@@ -156,7 +156,7 @@ fn catalogue(argument: &[u8]) -> Option<[u8; 13]>
 }
 
 // A track's code, its letters as capital ones.
-#[tactic(auto, unfolding(crate::specs::Lines::code_argument))]
+#[tactic(auto, unfolding(crate::specs::CueLines::code_argument))]
 fn code(argument: &[u8]) -> Option<[u8; 12]>
     ensures code { result ≡ code_argument argument.now }
     ensures range { IfSome result (λ code. IsTrue (is_capital_code code)) }
@@ -237,7 +237,7 @@ fn index(argument: &[u8]) -> Option<(u8, u32)>
 }
 
 // The control bits of flags.
-#[tactic(auto, unfolding(crate::specs::Lines::flags_argument))]
+#[tactic(auto, unfolding(crate::specs::CueLines::flags_argument))]
 fn flags(argument: &[u8]) -> Option<u8>
     ensures control { result ≡ flags_argument (words_in argument.now) }
     ensures range { IfSome result (λ control. control < 16) }

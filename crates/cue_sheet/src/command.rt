@@ -20,10 +20,10 @@ pub(crate) enum Command {
 }
 
 impl Command {
-    ghost use Rattle.cue_sheet.specs.Lines.{command_named};
+    ghost use Rattle.cue_sheet.specs.CueLines.{command_named};
 
     /// The command of a word, its letters in either case.
-    #[tactic(auto, unfolding(crate::specs::Lines::command_named))]
+    #[tactic(auto, unfolding(crate::specs::CueLines::command_named))]
     pub(crate) fn named(word: &[u8]) -> Option<Command>
         ensures { result ≡ command_named word.now }
     {

@@ -1,8 +1,7 @@
 // What the lines of a cue sheet so far say.
-ghost use Rattle.std.specs.Prelude.{◌≡◌, ◌≤◌, [], ◌++◌, true, length, IfOk, MatchResult};
+ghost use Rattle.std.specs.Prelude.{◌≡◌, ◌≤◌, [], ◌++◌, true, length, IfOk, MatchResult, map};
 ghost use Rattle.cue_sheet.specs.Grammar.{CueState, track_with};
 ghost use Rattle.cue_sheet.specs.Views.{section_of, track_value};
-ghost use Rattle.std.specs.Prelude.{map};
 
 use crate::argument::spelled;
 use crate::command::Command;
@@ -42,8 +41,8 @@ impl Model for Draft {
 impl Draft {
     ghost use Rattle.cue_sheet.specs.Grammar.{nothing_said, is_second_file, is_placed, taken};
     ghost use Rattle.cue_sheet.specs.CueSheet.{IsSheet};
-    ghost use Rattle.cue_sheet.specs.Steps.{after, said, later_reason, end_reason, sheet_said, unless, IsChecked, TakesLine, RefusesLine};
-    ghost use Rattle.cue_sheet.specs.Lines.{SaysTrack, SaysIndex, command_named};
+    ghost use Rattle.cue_sheet.specs.Steps.{after, line_said, later_reason, end_reason, sheet_said, unless, IsCheckedLine, TakesLine, RefusesLine};
+    ghost use Rattle.cue_sheet.specs.CueLines.{SaysTrack, SaysIndex, command_named};
     ghost use Rattle.text_lines.specs.Text.{first_word, argument_of};
 
     /// Nothing said yet.
@@ -88,7 +87,7 @@ impl Draft {
     /// Why a line that is spelled and placed well is refused.
     #[tactic(auto, unfolding(crate::specs::Steps::later_reason))]
     fn later_reason(&self, line: &Line<'_>) -> Option<CueWhy>
-        ensures { result ≡ later_reason self.now (said line.now) }
+        ensures { result ≡ later_reason self.now (line_said line.now) }
     {
         match line {
             Line::Track { number, audio } => self.track_reason(*number, *audio),
@@ -145,7 +144,7 @@ impl Draft {
     /// What a trimmed line says that is not empty, or the first reason for which it is refused.
     fn checked<'a>(&self, line: &'a [u8]) -> Result<Line<'a>, CueWhy>
         requires { length line.now ≤ 67108864 }
-        ensures { IsChecked self.now (command_named (first_word line.now)) (argument_of line.now) result }
+        ensures { IsCheckedLine self.now (command_named (first_word line.now)) (argument_of line.now) result }
     {
         let (word, argument) = split_command(line);
         let Some(command) = Command::named(word) else {
@@ -168,7 +167,7 @@ impl Draft {
 
     /// Takes a line that is in order. An error leaves the draft in a state of which nothing is said.
     fn add(&mut self, alloc: Global, line: &Line<'_>) -> Result<(), AllocError>
-        ensures { IfOk result (λ _. self.new ≡ after self.old (said line.now)) }
+        ensures { IfOk result (λ _. self.new ≡ after self.old (line_said line.now)) }
     {
         match line {
             Line::Remark => {}

@@ -5,9 +5,11 @@ mod argument;
 mod command;
 mod draft;
 mod fault;
+mod laws;
 mod line;
 mod section;
 mod sheet;
 
 pub use fault::{CueStop, CueText, CueWhy};
+pub use laws::accepted_sheets_are_in_order;
 pub use sheet::Sheet;

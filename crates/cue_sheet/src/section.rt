@@ -30,7 +30,7 @@ pub(crate) struct Track {
 impl Section {
     ghost use Rattle.cue_sheet.specs.Views.{section_of, section_text};
     ghost use Rattle.cue_sheet.specs.Grammar.{no_section, has_index_one, follows_index};
-    ghost use Rattle.cue_sheet.specs.Steps.{said, is_repeated};
+    ghost use Rattle.cue_sheet.specs.Steps.{line_said, is_repeated};
 
     /// Nothing said.
     pub(crate) fn new(alloc: Global) -> Section
@@ -68,7 +68,7 @@ impl Section {
 
     /// Whether a line that may stand once stands here already.
     pub(crate) fn is_repeated(&self, line: &Line<'_>) -> bool
-        ensures { result ≡ is_repeated (section_of self.now) (said line.now) }
+        ensures { result ≡ is_repeated (section_of self.now) (line_said line.now) }
     {
         match line {
             Line::Catalogue(_) => self.catalogue.is_some(),

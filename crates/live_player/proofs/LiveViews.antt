@@ -11,12 +11,10 @@ use Rattle.raw_subcode.specs.Channels.{symbols_of}
 use Rattle.raw_subcode.specs.declared.form.Form.TheVariants.{Raw}
 use Rattle.std.specs.List.{flat_map}
 use Rattle.std.specs.declared.option.Option.{Option}
-use Rattle.std.proofs.lemmas.List.{take_all}
-use Rattle.std.proofs.lemmas.List.{length-drop}
-use Rattle.subcode_player.proofs.Slots.{length-all_symbols}
+use Rattle.std.proofs.lemmas.List.{take_all, length-drop}
+use Rattle.subcode_player.proofs.Slots.{length-all_symbols, sized_drop}
 use Rattle.live_player.specs.declared.live.LivePlayer.{LivePlayer}
-use Rattle.subcode_player.proofs.Slots.{sized_drop}
-use Rattle.subcode_player.specs.Shown.{AreMeant}
+use Rattle.subcode_player.specs.Screen.{AreMeant}
 use Rattle.subcode_player.proofs.FormWords.{found_in, recovered}
 use Rattle.subcode_player.proofs.Draws.{instrs_of, are_meant}
 use Rattle.subcode_player.proofs.Views.{Drawings, IsReady, drawn_blocks, IsDrawn}

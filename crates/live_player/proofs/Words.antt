@@ -9,7 +9,7 @@ use Rattle.cdg_io.specs.Run.{give, run_state, run_gives}
 use Rattle.cdg_io.proofs.Runs.{run_gives-append, joined_first}
 use Rattle.raw_subcode.specs.Channels.{symbols_of}
 use Rattle.raw_subcode.specs.declared.form.Form.{Form}
-use Rattle.stream_words.specs.Stream.{form_word, word_count}
+use Rattle.rw_interleave.specs.Stream.{form_word, word_count}
 use Rattle.subcode_player.specs.Steps.{slots_of, words_next, words_give}
 use Rattle.subcode_player.specs.Drawn.{drawing_next}
 use Rattle.subcode_player.proofs.FormWords.{words_from, words_are}

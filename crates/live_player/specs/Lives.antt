@@ -7,15 +7,15 @@ use Rattle.cdg_io.specs.declared.stage.Then.{Then}
 use Rattle.rw_interleave.specs.Interleave.{whole_packs}
 use Rattle.raw_subcode.specs.Channels.{symbols_of}
 use Rattle.raw_subcode.specs.declared.form.Form.{Form}
-use Rattle.stream_words.specs.Stream.{IsRecovered, form_word, word_count}
+use Rattle.rw_interleave.specs.Stream.{IsRecovered, form_word, word_count}
 use Rattle.cdg_instructions.specs.declared.instr.Instr.{Instr}
 use Rattle.cdg_instructions.specs.Meaning.{meaning}
 use Rattle.cdg_screen.specs.Picture.{Standing, SameStanding, blank, screen_pixel, standing_of, standing_after}
 use Rattle.cdg_screen.specs.Texts.{colour_bytes}
-use Rattle.subcode_player.specs.Shown.{AreShown}
-use Rattle.subcode_player.specs.Steps.{begun, words_next, words_give}
+use Rattle.subcode_player.specs.Screen.{AreShown}
+use Rattle.subcode_player.specs.Steps.{fresh_words, words_next, words_give}
 use Rattle.subcode_player.specs.Drawn.{drawing_next}
-use Rattle.subcode_player.specs.declared.words.BlockWords.{BlockWords}
+use Rattle.subcode_player.specs.declared.block_words.BlockWords.{BlockWords}
 use Rattle.subcode_player.specs.declared.drawing.Drawing.{Drawing}
 use Rattle.live_player.specs.declared.live.LivePlayer.{LivePlayer}
 
@@ -33,7 +33,7 @@ live_next s block = record { first = words_next s.first block; second = then_sec
 
 -- the stages before the first block of a stream
 pub record IsLiveStart (form : Form) (lead_in : ℕ) (s : Then BlockWords Drawing) : Type 0 where
-  pub words : s.first ≡ begun form lead_in
+  pub words : s.first ≡ fresh_words form lead_in
   pub left : s.second.left ≡ whole_packs latest
   pub bad : s.second.bad ≡ 0
   pub blank : SameStanding (standing_of s.second.picture) blank

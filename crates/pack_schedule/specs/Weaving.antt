@@ -1,12 +1,11 @@
 -- What a weaver keeps.
-use Rattle.std.specs.Prelude.{◌≡◌, ℕ, ◌+◌, ◌-◌, ◌<◌, ◌≤◌, length, Some, None}
+use Rattle.std.specs.Prelude.{◌≡◌, ℕ, ◌+◌, ◌-◌, ◌<◌, ◌≤◌, length, Some, None, List}
 use Rattle.picture_script.specs.Script.{Drawing, pictures}
 use Rattle.picture_script.specs.Board.{Board, IsBlank, IsPicture}
 use Rattle.picture_changes.specs.Schedule.{start_of}
 use Rattle.picture_changes.specs.PlannedChange.{planned_change}
 use Rattle.pack_schedule.specs.Survey.{IsSurvey}
 use Rattle.pack_schedule.specs.declared.loom.Loom.{Loom}
-use Rattle.std.specs.Prelude.{List}
 
 -- the picture before picture k stands on a canvas, or nothing before the first
 pub record Stands (script : List Drawing) (k : ℕ) (board : Board) : Type 0 where

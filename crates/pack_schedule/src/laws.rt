@@ -8,7 +8,7 @@ ghost use Rattle.pack_schedule.specs.Survey.{IsSurvey, IsWithin};
 ghost use Rattle.pack_schedule.specs.Woven.{ArePacks};
 ghost use Rattle.pack_schedule.specs.declared.planned.Planned.{Planned};
 
-use shortest_changes::needs_are_fewest;
+use picture_changes::needs_are_fewest;
 
 /// A law: the packs that a weaver gives, as many as are whole in a program of so many blocks, are a schedule.
 pub fn packs_are_a_schedule()

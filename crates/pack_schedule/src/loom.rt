@@ -1,6 +1,6 @@
 // The changes of a script, one after another.
 use crate::change::Change;
-use crate::plans::Survey;
+use crate::surveyed::Survey;
 use cdg_instructions::write;
 use picture_changes::{changes_can_be_written, planned_changes_are_changes};
 use picture_script::{Canvas, Script};

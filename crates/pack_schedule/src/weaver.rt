@@ -1,6 +1,6 @@
 // The packs of a script in turn.
 use crate::loom::Loom;
-use crate::plans::Survey;
+use crate::surveyed::Survey;
 use picture_script::Script;
 use rw_code::Pack;
 use std::alloc::{AllocError, Global};

@@ -4,3 +4,16 @@ pub mod PlannedLaws
 pub mod Short
 pub mod Known
 pub mod Times
+pub mod Tiles
+pub mod Schedules
+pub mod Pictures
+pub mod Tests
+pub mod Own
+pub mod Adding
+pub mod Counted
+pub mod Set
+pub mod Changes
+pub mod SettingCounts
+pub mod SettingPlaces
+pub mod Shortest
+pub mod Brought

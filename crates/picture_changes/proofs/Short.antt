@@ -7,7 +7,7 @@ use Rattle.std.proofs.lemmas.List.Sums.{sum_by-le}
 use Rattle.cdg_instructions.specs.Instruction.{IsTilePixels}
 use Rattle.cdg_instructions.specs.declared.instr.Instr.TheVariants.{BorderPreset, ColoursLow, ColoursHigh}
 use Rattle.tile_author.proofs.Span.{Free}
-use Rattle.tile_author.specs.Plan.{basis, differences, weight, delta, are_equal, steps}
+use Rattle.tile_author.specs.Plan.{basis, differences_from_first, weight, delta, are_equal, steps}
 use Rattle.tile_author.proofs.BasisLaws.{basis-free}
 use Rattle.tile_author.proofs.Capacity.{at_most_four}
 use Rattle.tile_author.proofs.Shortest.{basis-small}
@@ -20,7 +20,7 @@ use Rattle.picture_changes.proofs.PlannedLaws.{PlansAreShortest, planned_count}
 -- four instructions draw any tile
 basis_few : (pixels : List ℕ) → All (λ n. n < 16) pixels → length (basis pixels) ≤ 4
 unfolding basis Free
-basis_few pixels small = at_most_four (basis pixels) (basis-free [] (differences pixels) tt) (basis-small pixels small)
+basis_few pixels small = at_most_four (basis pixels) (basis-free [] (differences_from_first pixels) tt) (basis-small pixels small)
 
 weight_few : (pixels : List ℕ) → All (λ n. n < 16) pixels → weight pixels ≤ 4
 unfolding weight

@@ -3,3 +3,4 @@ pub mod PlannedChange
 pub mod Schedule
 pub mod Shown
 pub mod Brings
+pub mod Meanings

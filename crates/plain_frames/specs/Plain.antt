@@ -1,9 +1,9 @@
 -- Frames of the Q channel with a number for their kind.
 use Rattle.std.specs.Prelude.{◌≡◌, ◌==◌, if◌then◌else◌, ℕ, List, [], ◌∷◌, ◌++◌, take, replicate, Option, Some, None, MatchOption, IfSome}
-use Rattle.q_frame.specs.QFrame.{IsValid}
-use Rattle.q_frame.specs.declared.frame.QFrame.{QFrame}
-use Rattle.q_frame.specs.declared.frame.QFrame.TheVariants.{Program, Toc, Catalogue, Isrc, Other}
-use Rattle.q_frame.specs.declared.frame.TocPoint.TheVariants.{Track, First, Last, LeadOut}
+use Rattle.q_channel.specs.QFrame.{IsValid}
+use Rattle.q_channel.specs.declared.frame.QFrame.{QFrame}
+use Rattle.q_channel.specs.declared.frame.QFrame.TheVariants.{Program, Toc, Catalogue, Isrc, Other}
+use Rattle.q_channel.specs.declared.frame.TocPoint.TheVariants.{Track, First, Last, LeadOut}
 use Rattle.plain_frames.specs.declared.plain.PlainFrame.{PlainFrame}
 
 -- the frame that a plain one stands for, by the number of its kind; the fields that its kind does not name are passed over

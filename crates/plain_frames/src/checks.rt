@@ -2,7 +2,7 @@
 ghost use Rattle.std.specs.Prelude.{◌≡◌, ◌≤◌, ◌<◌, ◌↔◌, ◌||◌, All, IsTrue, MatchOption, length, take, drop, true};
 ghost use Rattle.std.specs.Char.{is_ascii_digit, is_ascii_uppercase};
 ghost use Rattle.std.specs.List.{list_all};
-ghost use Rattle.q_frame.specs.QFrame.{is_bcd_within, is_other, is_point};
+ghost use Rattle.q_channel.specs.QFrame.{is_bcd_within, is_other, is_point};
 
 use disc_time::Msf;
 
@@ -47,7 +47,7 @@ fn is_capital_or_digit(byte: u8) -> bool
 }
 
 /// Whether bits with this mode and these next two bytes have no fields of their own.
-#[tactic(auto, unfolding(q_frame::specs::QFrame::is_other))]
+#[tactic(auto, unfolding(q_channel::specs::QFrame::is_other))]
 pub(crate) fn is_other(mode: u8, track: u8, point: u8) -> bool
     ensures { result ≡ is_other mode track point }
 {
@@ -57,14 +57,14 @@ pub(crate) fn is_other(mode: u8, track: u8, point: u8) -> bool
     }
 }
 
-#[tactic(auto, unfolding(q_frame::specs::QFrame::is_point))]
+#[tactic(auto, unfolding(q_channel::specs::QFrame::is_point))]
 fn is_point(byte: u8) -> bool
     ensures { result ≡ is_point byte }
 {
     is_bcd_track(byte) || byte == 0xa0 || byte == 0xa1 || byte == 0xa2
 }
 
-#[tactic(auto, unfolding(q_frame::specs::QFrame::is_bcd_within))]
+#[tactic(auto, unfolding(q_channel::specs::QFrame::is_bcd_within))]
 fn is_bcd_track(byte: u8) -> bool
     ensures { result ≡ is_bcd_within 1 99 byte }
 {

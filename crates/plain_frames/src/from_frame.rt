@@ -1,10 +1,10 @@
 // The plain frame of a frame.
 ghost use Rattle.std.specs.Prelude.{◌≡◌, ◌≤◌, ◌-◌, ◌++◌, Some, length, replicate, take};
 ghost use Rattle.plain_frames.specs.Plain.{frame_of, plain_kind, plain_of};
-ghost use Rattle.q_frame.specs.declared.frame.QFrame.TheVariants.{Toc};
+ghost use Rattle.q_channel.specs.declared.frame.QFrame.TheVariants.{Toc};
 
 use crate::PlainFrame;
-use q_frame::{QFrame, TocPoint};
+use q_channel::{QFrame, TocPoint};
 
 /// A frame as a plain one. The fields that its kind does not name are zero.
 pub fn plain_of(frame: &QFrame) -> PlainFrame

@@ -1,13 +1,13 @@
 // The frame of a plain frame.
 ghost use Rattle.std.specs.Prelude.{◌≡◌, take};
 ghost use Rattle.plain_frames.specs.Plain.{IsValidOf, IsWhereValid};
-ghost use Rattle.q_frame.specs.QFrame.{IsValidPoint};
-ghost use Rattle.q_frame.specs.declared.frame.QFrame.TheVariants.{Program, Toc, Catalogue, Isrc, Other};
-ghost use Rattle.q_frame.specs.declared.frame.TocPoint.TheVariants.{Track, First, Last, LeadOut};
+ghost use Rattle.q_channel.specs.QFrame.{IsValidPoint};
+ghost use Rattle.q_channel.specs.declared.frame.QFrame.TheVariants.{Program, Toc, Catalogue, Isrc, Other};
+ghost use Rattle.q_channel.specs.declared.frame.TocPoint.TheVariants.{Track, First, Last, LeadOut};
 
 use crate::PlainFrame;
 use crate::checks::{are_capitals, are_capitals_or_digits, are_digits, is_other, is_track, time};
-use q_frame::{QFrame, TocPoint};
+use q_channel::{QFrame, TocPoint};
 
 /// The frame that a plain one stands for, where its kind is one and its fields have values that they may
 /// have.

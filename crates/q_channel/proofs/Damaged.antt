@@ -3,10 +3,10 @@ use Rattle.std.proofs.Common.{◌≡◌, ◌+◌, ◌-◌, ◌≤◌, Bool, List
 use Rattle.std.specs.Prelude.{◌≢◌, Ok, Err, Result}
 use Rattle.bit_lists.specs.Check.{check_bits, IsChecked}
 use Rattle.bit_lists.proofs.Bursts.{burst_law}
-use Rattle.q_frame.specs.QFrame.{IsFrame}
-use Rattle.q_frame.specs.declared.frame.QFrame.{QFrame}
-use Rattle.q_frame.specs.declared.frame.QFault.{QFault}
-use Rattle.q_frame.specs.declared.frame.QFault.TheVariants.{BadCrc, BadField}
+use Rattle.q_channel.specs.QFrame.{IsFrame}
+use Rattle.q_channel.specs.declared.frame.QFrame.{QFrame}
+use Rattle.q_channel.specs.declared.frame.QFault.{QFault}
+use Rattle.q_channel.specs.declared.frame.QFault.TheVariants.{BadCrc, BadField}
 use Rattle.q_channel.specs.QReading.{IsReading}
 use Rattle.q_channel.proofs.OneReading.{frame_checked}
 

@@ -3,10 +3,10 @@ use Rattle.std.specs.Prelude.{◌≡◌, ◌≢◌, ℕ, ◌+◌, ◌*◌, Bool,
 use Rattle.std.specs.Char.{is_ascii_uppercase}
 use Rattle.bit_lists.specs.Counting.{below}
 use Rattle.bit_lists.specs.Check.{check_bits}
-use Rattle.q_frame.specs.QFrame.{field_value, is_bcd_within, is_other, IsFrame}
-use Rattle.q_frame.specs.declared.frame.QFrame.{QFrame}
-use Rattle.q_frame.specs.declared.frame.QFault.{QFault}
-use Rattle.q_frame.specs.declared.frame.QFault.TheVariants.{BadCrc, BadField}
+use Rattle.q_channel.specs.QFrame.{field_value, is_bcd_within, is_other, IsFrame}
+use Rattle.q_channel.specs.declared.frame.QFrame.{QFrame}
+use Rattle.q_channel.specs.declared.frame.QFault.{QFault}
+use Rattle.q_channel.specs.declared.frame.QFault.TheVariants.{BadCrc, BadField}
 
 -- a field by its first bit and its width, with the numbers that it may hold
 pub record FieldRange : Type 0 where

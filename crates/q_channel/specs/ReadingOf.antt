@@ -4,9 +4,9 @@ use Rattle.bit_lists.specs.Bits.{number_of}
 use Rattle.bit_lists.specs.Check.{check_bits}
 use Rattle.q_channel.specs.QReading.{first_bad_field}
 use Rattle.q_channel.specs.Kinds.{frame_at, kind_of}
-use Rattle.q_frame.specs.declared.frame.QFrame.{QFrame}
-use Rattle.q_frame.specs.declared.frame.QFault.{QFault}
-use Rattle.q_frame.specs.declared.frame.QFault.TheVariants.{BadCrc, BadField}
+use Rattle.q_channel.specs.declared.frame.QFrame.{QFrame}
+use Rattle.q_channel.specs.declared.frame.QFault.{QFault}
+use Rattle.q_channel.specs.declared.frame.QFault.TheVariants.{BadCrc, BadField}
 
 -- the reading by whether the check matches, and the first bit of the first field out of its range
 abbrev pub reading_by : Bool → Option ℕ → QFrame → Result QFrame QFault
@@ -15,9 +15,9 @@ reading_by true (Some bit) frame = Err (BadField bit)
 reading_by true None frame = Ok frame
 
 -- whether the last sixteen bits are the check of the first eighty
-abbrev pub check_matches : List Bool → Bool
-check_matches message = number_of (drop 80 message) == number_of (check_bits (take 80 message))
+abbrev pub q_check_matches : List Bool → Bool
+q_check_matches message = number_of (drop 80 message) == number_of (check_bits (take 80 message))
 
 -- what the bits are read as
 unfoldable pub reading_of : List Bool → Result QFrame QFault
-reading_of message = reading_by (check_matches message) (first_bad_field message) (frame_at (kind_of message) message)
+reading_of message = reading_by (q_check_matches message) (first_bad_field message) (frame_at (kind_of message) message)

@@ -1,9 +1,9 @@
 // What reading says of frames.
 ghost use Rattle.std.specs.Prelude.{◌≡◌, ◌≢◌, ◌≤◌, ◌↔◌, ◌++◌, List, Bool, length, Result, Ok, Err};
-ghost use Rattle.q_frame.specs.QFrame.{IsFrame};
-ghost use Rattle.q_frame.specs.declared.frame.QFrame.{QFrame};
-ghost use Rattle.q_frame.specs.declared.frame.QFault.{QFault};
-ghost use Rattle.q_frame.specs.declared.frame.QFault.TheVariants.{BadCrc};
+ghost use Rattle.q_channel.specs.QFrame.{IsFrame};
+ghost use Rattle.q_channel.specs.declared.frame.QFrame.{QFrame};
+ghost use Rattle.q_channel.specs.declared.frame.QFault.{QFault};
+ghost use Rattle.q_channel.specs.declared.frame.QFault.TheVariants.{BadCrc};
 ghost use Rattle.q_channel.specs.QReading.{IsReading};
 ghost use Rattle.q_channel.specs.ReadingOf.{reading_of};
 

@@ -47,8 +47,14 @@ fn run_on_streams(rt: &HostRuntime) -> io::Result<Status> {
     let first_name = line.len() - split.names;
     let (first, second) = inputs(rt, &line[first_name..]);
     let waiting = RefCell::new(BufWriter::with_capacity(alloc, BUFFER, rt.stdout())?);
-    let first = LiveInput { input: first, waiting: &waiting };
-    let second = LiveInput { input: second, waiting: &waiting };
+    let first = LiveInput {
+        input: first,
+        waiting: &waiting,
+    };
+    let second = LiveInput {
+        input: second,
+        waiting: &waiting,
+    };
     let mut first = ReadSource::new(BufReader::with_capacity(alloc, BUFFER, first)?);
     let mut second = ReadSource::new(BufReader::with_capacity(alloc, BUFFER, second)?);
     let mut out = WriteSink::new(LiveOutput(&waiting));

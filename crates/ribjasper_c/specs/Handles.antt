@@ -41,8 +41,8 @@ pub record IsShownBy (player : LivePlayer) (now : Standing) : Type 0 where
   pub packs : (packs : List (List ℕ)) → HasDrawn packs player → SameStanding now (standing_after blank (map instruction_of packs))
 
 -- this holds of what the one player shows
-abbrev pub Shows : List LivePlayer → (Standing → Type 0) → Type 0
-Shows players tells = (player : LivePlayer) → players ≡ player ∷ [] → (now : Standing) × IsShownBy player now × tells now
+abbrev pub PlayersShow : List LivePlayer → (Standing → Type 0) → Type 0
+PlayersShow players tells = (player : LivePlayer) → players ≡ player ∷ [] → (now : Standing) × IsShownBy player now × tells now
 
 -- the numbers of the colours of the screen's pixels, row by row
 abbrev pub IsScreen : List ℕ → Standing → Type 0

@@ -4,9 +4,9 @@ ghost use Rattle.bit_lists.specs.Bits.{bits_of_bytes};
 ghost use Rattle.bit_lists.specs.Check.{check_bits};
 ghost use Rattle.plain_frames.specs.Plain.{frame_of, plain_of};
 ghost use Rattle.q_channel.specs.QReading.{IsReading};
-ghost use Rattle.q_frame.specs.QFrame.{IsFrame, IsValid};
-ghost use Rattle.q_frame.specs.declared.frame.QFault.TheVariants.{BadField};
-ghost use Rattle.q_frame.specs.declared.frame.QFrame.{QFrame};
+ghost use Rattle.q_channel.specs.QFrame.{IsFrame, IsValid};
+ghost use Rattle.q_channel.specs.declared.frame.QFault.TheVariants.{BadField};
+ghost use Rattle.q_channel.specs.declared.frame.QFrame.{QFrame};
 
 use plain_frames::{PlainFrame, frame_of, plain_of};
 use q_channel::{QFault, decode, encode};

@@ -1,7 +1,7 @@
 // What a player shows, as C asks for it.
 ghost use Rattle.std.specs.Prelude.{◌≡◌, ◌<◌, ◌&&◌, nat_lt, if◌then◌else◌, ◌∷◌, [], pos, negsuc};
 ghost use Rattle.cdg_screen.specs.Picture.{screen_pixel};
-ghost use Rattle.ribjasper_c.specs.Handles.{ArePictureBytes, AreLevels, IsScreen, IsTable, Shows};
+ghost use Rattle.ribjasper_c.specs.Handles.{ArePictureBytes, AreLevels, IsScreen, IsTable, PlayersShow};
 
 use crate::Playing;
 use live_player::LivePlayer;
@@ -19,7 +19,7 @@ pub extern "C" fn ribjasper_player_pixel(
     pixel: &mut u8,
 ) -> i32
     ensures shows { result ≡ pos 0
-        → Shows player.old.handle.players (λ now. pixel.new ≡ screen_pixel now x y) }
+        → PlayersShow player.old.handle.players (λ now. pixel.new ≡ screen_pixel now x y) }
     ensures answer { result ≡ (if player.old.is_open && nat_lt x 300 && nat_lt y 216
         then pos 0 else negsuc 0) }
     ensures stays { player.new.is_open ≡ player.old.is_open }
@@ -38,7 +38,7 @@ pub extern "C" fn ribjasper_player_pixel(
 fn shown_pixel(live: &LivePlayer, x: u32, y: u32) -> u8
     requires width { x < 300 }
     requires height { y < 216 }
-    ensures { Shows (live.now ∷ []) (λ now. result ≡ screen_pixel now x y) }
+    ensures { PlayersShow (live.now ∷ []) (λ now. result ≡ screen_pixel now x y) }
 {
     live.shows_its_blocks();
     live.pixel(x, y)
@@ -51,7 +51,7 @@ pub extern "C" fn ribjasper_player_screen(
     player: &mut Playing,
     pixels: &mut [u8; 64_800],
 ) -> i32
-    ensures shows { result ≡ pos 0 → Shows player.old.handle.players (λ now. IsScreen pixels.new now) }
+    ensures shows { result ≡ pos 0 → PlayersShow player.old.handle.players (λ now. IsScreen pixels.new now) }
     ensures answer { result ≡ (if player.old.is_open then pos 0 else negsuc 0) }
     ensures stays { player.new.is_open ≡ player.old.is_open }
     ensures same { player.new.handle.players ≡ player.old.handle.players }
@@ -67,7 +67,7 @@ pub extern "C" fn ribjasper_player_screen(
 }
 
 fn shown_screen(live: &LivePlayer, pixels: &mut [u8; 64_800])
-    ensures { Shows (live.now ∷ []) (λ now. IsScreen pixels.new now) }
+    ensures { PlayersShow (live.now ∷ []) (λ now. IsScreen pixels.new now) }
 {
     live.shows_its_blocks();
     live.screen(pixels);
@@ -81,7 +81,7 @@ pub extern "C" fn ribjasper_player_colour(
     k: u8,
     colour: &mut u16,
 ) -> i32
-    ensures shows { result ≡ pos 0 → Shows player.old.handle.players (λ now. colour.new ≡ now.colour k) }
+    ensures shows { result ≡ pos 0 → PlayersShow player.old.handle.players (λ now. colour.new ≡ now.colour k) }
     ensures answer { result ≡ (if player.old.is_open && nat_lt k 16 then pos 0 else negsuc 0) }
     ensures stays { player.new.is_open ≡ player.old.is_open }
     ensures same { player.new.handle.players ≡ player.old.handle.players }
@@ -98,7 +98,7 @@ pub extern "C" fn ribjasper_player_colour(
 
 fn shown_colour(live: &LivePlayer, k: u8) -> u16
     requires { k < 16 }
-    ensures { Shows (live.now ∷ []) (λ now. result ≡ now.colour k) }
+    ensures { PlayersShow (live.now ∷ []) (λ now. result ≡ now.colour k) }
 {
     live.shows_its_blocks();
     live.colour(k)
@@ -111,7 +111,7 @@ pub extern "C" fn ribjasper_player_colours(
     player: &mut Playing,
     table: &mut [u16; 16],
 ) -> i32
-    ensures shows { result ≡ pos 0 → Shows player.old.handle.players (λ now. IsTable table.new now) }
+    ensures shows { result ≡ pos 0 → PlayersShow player.old.handle.players (λ now. IsTable table.new now) }
     ensures answer { result ≡ (if player.old.is_open then pos 0 else negsuc 0) }
     ensures stays { player.new.is_open ≡ player.old.is_open }
     ensures same { player.new.handle.players ≡ player.old.handle.players }
@@ -127,7 +127,7 @@ pub extern "C" fn ribjasper_player_colours(
 }
 
 fn shown_colours(live: &LivePlayer, table: &mut [u16; 16])
-    ensures { Shows (live.now ∷ []) (λ now. IsTable table.new now) }
+    ensures { PlayersShow (live.now ∷ []) (λ now. IsTable table.new now) }
 {
     live.shows_its_blocks();
     live.colours(table);
@@ -140,7 +140,7 @@ pub extern "C" fn ribjasper_player_levels(
     player: &mut Playing,
     levels: &mut [u8; 16],
 ) -> i32
-    ensures shows { result ≡ pos 0 → Shows player.old.handle.players (λ now. AreLevels levels.new now) }
+    ensures shows { result ≡ pos 0 → PlayersShow player.old.handle.players (λ now. AreLevels levels.new now) }
     ensures answer { result ≡ (if player.old.is_open then pos 0 else negsuc 0) }
     ensures stays { player.new.is_open ≡ player.old.is_open }
     ensures same { player.new.handle.players ≡ player.old.handle.players }
@@ -156,7 +156,7 @@ pub extern "C" fn ribjasper_player_levels(
 }
 
 fn shown_levels(live: &LivePlayer, levels: &mut [u8; 16])
-    ensures { Shows (live.now ∷ []) (λ now. AreLevels levels.new now) }
+    ensures { PlayersShow (live.now ∷ []) (λ now. AreLevels levels.new now) }
 {
     live.shows_its_blocks();
     live.levels(levels);
@@ -169,7 +169,7 @@ pub extern "C" fn ribjasper_player_picture(
     player: &mut Playing,
     bytes: &mut [u8; 194_400],
 ) -> i32
-    ensures shows { result ≡ pos 0 → Shows player.old.handle.players (λ now. ArePictureBytes bytes.new now) }
+    ensures shows { result ≡ pos 0 → PlayersShow player.old.handle.players (λ now. ArePictureBytes bytes.new now) }
     ensures answer { result ≡ (if player.old.is_open then pos 0 else negsuc 0) }
     ensures stays { player.new.is_open ≡ player.old.is_open }
     ensures same { player.new.handle.players ≡ player.old.handle.players }
@@ -185,7 +185,7 @@ pub extern "C" fn ribjasper_player_picture(
 }
 
 fn shown_picture(live: &LivePlayer, bytes: &mut [u8; 194_400])
-    ensures { Shows (live.now ∷ []) (λ now. ArePictureBytes bytes.new now) }
+    ensures { PlayersShow (live.now ∷ []) (λ now. ArePictureBytes bytes.new now) }
 {
     live.shows_its_blocks();
     live.bytes(bytes);
@@ -198,7 +198,7 @@ pub extern "C" fn ribjasper_player_border(
     player: &mut Playing,
     border: &mut u8,
 ) -> i32
-    ensures shows { result ≡ pos 0 → Shows player.old.handle.players (λ now. border.new ≡ now.border) }
+    ensures shows { result ≡ pos 0 → PlayersShow player.old.handle.players (λ now. border.new ≡ now.border) }
     ensures answer { result ≡ (if player.old.is_open then pos 0 else negsuc 0) }
     ensures stays { player.new.is_open ≡ player.old.is_open }
     ensures same { player.new.handle.players ≡ player.old.handle.players }
@@ -214,7 +214,7 @@ pub extern "C" fn ribjasper_player_border(
 }
 
 fn shown_border(live: &LivePlayer) -> u8
-    ensures { Shows (live.now ∷ []) (λ now. result ≡ now.border) }
+    ensures { PlayersShow (live.now ∷ []) (λ now. result ≡ now.border) }
 {
     live.shows_its_blocks();
     live.border()
@@ -230,7 +230,7 @@ pub extern "C" fn ribjasper_player_offsets(
     down: &mut u8,
 ) -> i32
     ensures shows { result ≡ pos 0
-        → Shows player.old.handle.players (λ now. (across.new ≡ now.h) × (down.new ≡ now.v)) }
+        → PlayersShow player.old.handle.players (λ now. (across.new ≡ now.h) × (down.new ≡ now.v)) }
     ensures answer { result ≡ (if player.old.is_open then pos 0 else negsuc 0) }
     ensures stays { player.new.is_open ≡ player.old.is_open }
     ensures same { player.new.handle.players ≡ player.old.handle.players }
@@ -246,7 +246,7 @@ pub extern "C" fn ribjasper_player_offsets(
 }
 
 fn shown_offsets(live: &LivePlayer) -> (u8, u8)
-    ensures { Shows (live.now ∷ []) (λ now. (result.0 ≡ now.h) × (result.1 ≡ now.v)) }
+    ensures { PlayersShow (live.now ∷ []) (λ now. (result.0 ≡ now.h) × (result.1 ≡ now.v)) }
 {
     live.shows_its_blocks();
     live.offsets()

@@ -9,11 +9,11 @@ use Rattle.bit_lists.specs.Counting.{below}
 use Rattle.raw_subcode.specs.Channels.{unit_size, program_symbols}
 use Rattle.raw_subcode.specs.declared.form.Form.{Form}
 use Rattle.rw_code.specs.Codeword.{IsCodeword}
-use Rattle.stream_words.specs.Stream.{IsRecovered, bad_count, form_word, word_count}
-use Rattle.stream_words.specs.Texts.{cdg_bytes}
+use Rattle.rw_interleave.specs.Stream.{IsRecovered, bad_count, form_word, word_count}
+use Rattle.rw_interleave.specs.Texts.{cdg_bytes}
 use Rattle.subcode_player.specs.Calls.{IsAnsweredBy, IsPlayed, PlaysInTurn}
 use Rattle.subcode_player.specs.Convert.{IsConverted}
-use Rattle.subcode_player.specs.TextList.{IsWholeInput}
+use Rattle.subcode_player.specs.TextListing.{IsWholeInput}
 use Rattle.subcode_player.specs.declared.player.Played.{Played}
 use Rattle.subcode_player.specs.declared.player.PlayStop.{PlayStop}
 use Rattle.subcode_player.specs.declared.player.PlayStop.TheVariants as play

@@ -3,3 +3,4 @@ mod Clean
 mod Refusals
 mod Scratched
 mod SecondFaults
+pub mod Streams

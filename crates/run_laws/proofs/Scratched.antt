@@ -3,7 +3,7 @@ use Rattle.std.proofs.Common.{◌≡◌, ℕ, List, Some, None, IfSome, sym, sub
 use Rattle.std.specs.List.{concat}
 use Rattle.raw_subcode.specs.declared.form.Form.TheVariants.{Raw}
 use Rattle.cdg_workload.specs.Scratches.{scratched}
-use Rattle.stream_words.specs.Stream.{all_packs}
+use Rattle.rw_interleave.specs.Stream.{all_packs}
 use Rattle.subcode_player.specs.Convert.{IsDamagedStream}
 use Rattle.cdg_cmd.specs.Answer.{GivesBack}
 use Rattle.cdg_cmd.specs.Call.{Bytes, Change}

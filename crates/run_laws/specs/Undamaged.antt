@@ -4,8 +4,8 @@ use Rattle.bit_lists.specs.Counting.{below}
 use Rattle.raw_subcode.specs.Channels.{program_symbols}
 use Rattle.raw_subcode.specs.declared.form.Form.{Form}
 use Rattle.rw_code.specs.Codeword.{IsCodeword}
-use Rattle.stream_words.specs.Stream.{form_word, word_count}
-use Rattle.subcode_player.specs.TextList.{IsWholeInput}
+use Rattle.rw_interleave.specs.Stream.{form_word, word_count}
+use Rattle.subcode_player.specs.TextListing.{IsWholeInput}
 
 -- the words of program symbols
 abbrev pub words_of : Form → List ℕ → List (List ℕ)

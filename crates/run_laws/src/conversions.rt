@@ -8,7 +8,7 @@ ghost use Rattle.cue_sheet.specs.CueSheet.{CueSheet};
 ghost use Rattle.picture_script.specs.Script.{Drawing};
 ghost use Rattle.toc_model.specs.Places.{program_blocks};
 ghost use Rattle.cdg_workload.specs.Scratches.{scratched};
-ghost use Rattle.stream_words.specs.Stream.{all_packs};
+ghost use Rattle.rw_interleave.specs.Stream.{all_packs};
 ghost use Rattle.subcode_author.specs.Authored.{IsAuthored};
 ghost use Rattle.subcode_player.specs.Convert.{IsDamagedStream};
 ghost use Rattle.subcode_player.specs.Pictured.{IsHeldAt, IsScheduledStream};
@@ -20,8 +20,8 @@ ghost use Rattle.cdg_cmd.specs.declared.status.Status.{Status};
 ghost use Rattle.run_laws.specs.Ran.{IsRun};
 ghost use Rattle.run_laws.specs.Undamaged.{IsCleanStream, words_of};
 
-use scratched_streams::scratched_streams_are_damaged;
-use stream_words::{clean_words_are_found, packs_are_recovered, text_of_packs};
+use crate::scratched_streams_are_damaged;
+use rw_interleave::{clean_words_are_found, packs_are_recovered, text_of_packs};
 use subcode_player::screens_show_pictures;
 
 /// A law: from damage of at most two symbols a word a conversion gives back every pack of a stream, wherever it comes from.

@@ -14,8 +14,7 @@ ghost use Rattle.cdg_cmd.specs.declared.status.Status.TheVariants.{Refused};
 ghost use Rattle.run_laws.specs.Ran.{IsRun};
 ghost use Rattle.run_laws.specs.Refused.{RefusesWith, Writes};
 
-use author_answers::each_disc_has_one_answer;
-use authored_streams::accepted_scripts_are_in_order;
+use subcode_author::{accepted_scripts_are_in_order, each_disc_has_one_answer};
 
 /// A law: where all of a sheet and a script is accepted their stream is written.
 pub fn accepted_discs_are_written()

@@ -6,6 +6,7 @@ mod conversions;
 mod discs;
 mod listings;
 mod readings;
+mod scratch_laws;
 
 pub use causes::second_faults_come_after_the_first_input;
 pub use conversions::{
@@ -15,3 +16,4 @@ pub use conversions::{
 pub use discs::{accepted_discs_are_written, refusals_are_told};
 pub use listings::{authored_texts_are_written, copied_texts_are_written};
 pub use readings::damaged_readings_give_their_packs;
+pub use scratch_laws::scratched_streams_are_damaged;

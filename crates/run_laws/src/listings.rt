@@ -7,9 +7,9 @@ ghost use Rattle.picture_script.specs.Script.{Drawing};
 ghost use Rattle.toc_model.specs.Places.{program_blocks};
 ghost use Rattle.cdtext_packs.specs.SheetTexts.{sheet_texts};
 ghost use Rattle.cdtext_packs.specs.Texts.{has_no_text};
-ghost use Rattle.cdtext_lines.specs.Lines.{count_line};
+ghost use Rattle.cdtext_packs.specs.TextLines.{offers_line};
 ghost use Rattle.subcode_author.specs.Authored.{IsAuthored};
-ghost use Rattle.authored_listings.specs.SheetLines.{HasText, HasTextPacks, sheet_lines};
+ghost use Rattle.round_trips.specs.SheetLines.{HasText, HasTextPacks, sheet_lines};
 ghost use Rattle.cdg_cmd.specs.Answer.{GivesBack};
 ghost use Rattle.cdg_cmd.specs.Call.{Bytes, Call};
 ghost use Rattle.cdg_cmd.specs.LeadInTexts.{HasTextsOf};
@@ -17,7 +17,7 @@ ghost use Rattle.cdg_cmd.specs.declared.command.Command.TheVariants.{Text};
 ghost use Rattle.cdg_cmd.specs.declared.status.Status.{Status};
 ghost use Rattle.run_laws.specs.Ran.{IsRun};
 
-use authored_listings::{copied_text_lists_are_answered, text_lists_are_answered};
+use round_trips::{copied_text_lists_are_answered, text_lists_are_answered};
 
 /// A law: of an authored stream with a lead-in `text` writes each string of the sheet that is not empty, or none where the
 /// sheet has no text.
@@ -32,7 +32,7 @@ pub fn authored_texts_are_written()
         (call : Call Bytes) (status : Status) → IsRun (Text lead_in Raw) call status
         → lead_in ≤ 450000 → program_blocks sheet audio ≤ 449999 → has_no_text (sheet_texts sheet) ≡ true
         → IfSome call.first.before (λ all. IsAuthored sheet script lead_in audio all packs
-        → GivesBack (count_line 0 (4 * lead_in) 0) call.out status) }
+        → GivesBack (offers_line 0 (4 * lead_in) 0) call.out status) }
 {
     text_lists_are_answered();
 }
@@ -50,7 +50,7 @@ pub fn copied_texts_are_written()
         (packs : List (List ℕ)) (call : Call Bytes) (status : Status) → IsRun (Text lead_in form) call status
         → has_no_text (sheet_texts sheet) ≡ true → IsAuthored sheet script lead_in audio bytes packs
         → IfSome call.first.before (λ all. HasTextsOf form lead_in bytes all
-        → GivesBack (count_line 0 (4 * lead_in) 0) call.out status) }
+        → GivesBack (offers_line 0 (4 * lead_in) 0) call.out status) }
 {
     copied_text_lists_are_answered();
 }

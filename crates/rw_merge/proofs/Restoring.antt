@@ -9,15 +9,15 @@ use Rattle.raw_subcode.specs.Channels.{blocks_of, program_symbols, symbols_of}
 use Rattle.raw_subcode.specs.declared.form.Form.TheVariants.{Raw}
 use Rattle.rw_code.specs.Codeword.{IsCodeword, IsWord, differences}
 use Rattle.rw_interleave.specs.Interleave.{word_of, whole_packs}
-use Rattle.stream_words.specs.Stream.{bad_count}
-use Rattle.stream_words.specs.Texts.{cdg_bytes}
-use Rattle.stream_words.proofs.Recovery.{form_words}
+use Rattle.rw_interleave.specs.Stream.{bad_count}
+use Rattle.rw_interleave.specs.Texts.{cdg_bytes}
+use Rattle.rw_interleave.proofs.Recovery.{form_words}
 use Rattle.rw_merge.specs.Agreement.{IsAgreed, IsAgreement, equally_wrong}
-use Rattle.rw_merge.specs.Merging.{EndsFirst, EndsSecond, IsAnswer, IsMerged, IsMergedText, Merges}
-use Rattle.rw_merge.specs.Readings.{IsDamagedTwice, IsReadTwice, Restores}
-use Rattle.rw_merge.specs.declared.merging.Merged.{Merged}
-use Rattle.rw_merge.specs.declared.merging.MergeStop.{MergeStop}
-use Rattle.rw_merge.specs.declared.merging.MergeStop.TheVariants.{FirstFault, SecondFault, WriteFault, TooLong, Torn, SecondTorn, Unequal}
+use Rattle.rw_merge.specs.Merging.{FirstIsAtEnd, EndsSecond, IsAnswer, IsMerged, IsMergedText, Merges}
+use Rattle.rw_merge.specs.Readings.{IsDamagedTwice, IsReadTwice, MergeRestores}
+use Rattle.rw_merge.specs.declared.merge.Merged.{Merged}
+use Rattle.rw_merge.specs.declared.merge.MergeStop.{MergeStop}
+use Rattle.rw_merge.specs.declared.merge.MergeStop.TheVariants.{FirstFault, SecondFault, WriteFault, TooLong, Torn, SecondTorn, Unequal}
 use Rattle.rw_merge.proofs.Readings.{doubts_of_both, only_one_agreed}
 
 small_before : (block rest : List ℕ) → ((p : ℕ) → get_or rest p 0 < 64) → (p : ℕ) → get_or (symbols_of block ++ rest) p 0 < 64
@@ -110,8 +110,8 @@ abbrev pub GivesPacks : Type 0
 GivesPacks = (lead_in blocks : ℕ) (packs : List (List ℕ)) (first second text : List ℕ) (bad : ℕ) → IsReadTwice lead_in blocks packs first second → IsMergedText lead_in first second text bad → (text ≡ concat packs) × (bad ≡ 0)
 
 pub restored : GivesPacks → (lead_in : ℕ) (left left' other other' held held' : Option (List ℕ)) (result : Result Merged MergeStop) (xs ys : List ℕ) → Consumes left left' xs → Consumes other other' ys
-    → Merges lead_in held held' result xs ys → EndsFirst result left' → EndsSecond result other' → IfSome left (λ a. IfSome other (λ b. IsAnswer lead_in result (length a) (length b)))
-    → IfSome left (λ a. IfSome other (λ b. (blocks : ℕ) (packs : List (List ℕ)) → IsReadTwice lead_in blocks packs a b → Restores result blocks held held' (concat packs)))
+    → Merges lead_in held held' result xs ys → FirstIsAtEnd result left' → EndsSecond result other' → IfSome left (λ a. IfSome other (λ b. IsAnswer lead_in result (length a) (length b)))
+    → IfSome left (λ a. IfSome other (λ b. (blocks : ℕ) (packs : List (List ℕ)) → IsReadTwice lead_in blocks packs a b → MergeRestores result blocks held held' (concat packs)))
 restored law lead_in None left' other other' held held' result xs ys first second merges end end' answer = tt
 restored law lead_in (Some a) left' None other' held held' result xs ys first second merges end end' answer = tt
 restored law lead_in (Some a) None (Some b) other' held held' result xs ys first second merges end end' answer = absurd first
@@ -137,8 +137,8 @@ restored law lead_in (Some a) (Some r) (Some b) (Some s) held held' (Err (Unequa
 
 pub repaired : ((lead_in blocks : ℕ) (packs : List (List ℕ)) (first second : List ℕ) → IsDamagedTwice lead_in blocks packs first second → IsReadTwice lead_in blocks packs first second)
     → (lead_in : ℕ) (left other held held' : Option (List ℕ)) (result : Result Merged MergeStop)
-    → IfSome left (λ a. IfSome other (λ b. (blocks : ℕ) (packs : List (List ℕ)) → IsReadTwice lead_in blocks packs a b → Restores result blocks held held' (concat packs)))
-    → IfSome left (λ a. IfSome other (λ b. (blocks : ℕ) (packs : List (List ℕ)) → IsDamagedTwice lead_in blocks packs a b → Restores result blocks held held' (concat packs)))
+    → IfSome left (λ a. IfSome other (λ b. (blocks : ℕ) (packs : List (List ℕ)) → IsReadTwice lead_in blocks packs a b → MergeRestores result blocks held held' (concat packs)))
+    → IfSome left (λ a. IfSome other (λ b. (blocks : ℕ) (packs : List (List ℕ)) → IsDamagedTwice lead_in blocks packs a b → MergeRestores result blocks held held' (concat packs)))
 repaired law lead_in None other held held' result restores = tt
 repaired law lead_in (Some a) None held held' result restores = tt
 repaired law lead_in (Some a) (Some b) held held' result restores = λ blocks packs damaged. restores blocks packs (law lead_in blocks packs a b damaged)

@@ -10,7 +10,7 @@ use Rattle.bit_lists.specs.Counting.{parts}
 use Rattle.raw_subcode.specs.Channels.{symbols_of, block_of, program_symbols}
 use Rattle.raw_subcode.specs.declared.form.Form.TheVariants.{Raw}
 use Rattle.rw_interleave.specs.Windows.{slot_in, slots_in}
-use Rattle.rw_merge.specs.Steps.{slots_of}
+use Rattle.rw_merge.specs.Steps.{leading_slots}
 
 -- a slot of a block, as a window takes it
 slot_is : (block rest : List ℕ) (k : ℕ) → length block ≡ 96 → k < 4 → rest ≡ drop (24 * k) block → symbols_of (take 24 rest) ≡ slot_in block k
@@ -23,7 +23,7 @@ slot_is block rest k size lt rest_is =
     ∙ ap (λ byte. byte % 64) (get_or-take 24 rest n 0 n_lt ∙ ap (λ l. slice_index l n) rest_is ∙ get_or-drop (24 * k) block n 0))
 
 -- the slots of a block, as a window takes them
-pub slots_taken : (block : List ℕ) → length block ≡ 96 → slots_in block 0 4 ≡ slots_of 4 block
+pub slots_taken : (block : List ℕ) → length block ≡ 96 → slots_in block 0 4 ≡ leading_slots 4 block
 unfolding slots_in
 slots_taken block size =
     let two : drop 24 (drop 24 block) ≡ drop 48 block = drop-drop 24 24 block in
@@ -48,21 +48,21 @@ parts-append size (suc n) m xs ys fits =
     ∙ ap₂ (λ p ps. p ∷ parts (n + m) size ps) (take-append-le size xs ys (omega (arith, more))) (drop-append-le size xs ys (omega (arith, more)))
     ∙ ap (λ ps. take size xs ∷ ps) (parts-append size n m (drop size xs) ys (length-drop size xs ∙ omega (arith, more)))
 
-pub slots-append : (n m : ℕ) (xs ys : List ℕ) → length xs ≡ n * 24 → slots_of (n + m) (xs ++ ys) ≡ slots_of n xs ++ slots_of m ys
+pub slots-append : (n m : ℕ) (xs ys : List ℕ) → length xs ≡ n * 24 → leading_slots (n + m) (xs ++ ys) ≡ leading_slots n xs ++ leading_slots m ys
 slots-append n m xs ys fits = ap (map symbols_of) (parts-append 24 n m xs ys fits) ∙ map-append symbols_of (parts n 24 xs) (parts m 24 ys)
 
 -- slots stand together as the symbols of their bytes
-pub slots_together : (n : ℕ) (xs : List ℕ) → length xs ≡ n * 24 → concat (slots_of n xs) ≡ symbols_of xs
+pub slots_together : (n : ℕ) (xs : List ℕ) → length xs ≡ n * 24 → concat (leading_slots n xs) ≡ symbols_of xs
 slots_together zero xs fits = sym (ap symbols_of (nil_from_length xs (omega (arith, fits))))
 slots_together (suc n) xs fits =
     ap (λ l. symbols_of (take 24 xs) ++ l) (slots_together n (drop 24 xs) (length-drop 24 xs ∙ omega (arith, fits)))
     ∙ sym (map-append (λ byte. byte % 64) (take 24 xs) (drop 24 xs)) ∙ ap symbols_of (take-append-drop 24 xs)
 
-pub length-slots : (n : ℕ) (xs : List ℕ) → length (slots_of n xs) ≡ n
+pub length-slots : (n : ℕ) (xs : List ℕ) → length (leading_slots n xs) ≡ n
 length-slots zero xs = refl
 length-slots (suc n) xs = ap suc (length-slots n (drop 24 xs))
 
-pub slots_sized : (n : ℕ) (xs : List ℕ) → length xs ≡ n * 24 → AllByRecursion (λ (slot : List ℕ). length slot ≡ 24) (slots_of n xs)
+pub slots_sized : (n : ℕ) (xs : List ℕ) → length xs ≡ n * 24 → AllByRecursion (λ (slot : List ℕ). length slot ≡ 24) (leading_slots n xs)
 slots_sized zero xs fits = tt
 slots_sized (suc n) xs fits = (
   length-map (take 24 xs) (λ (byte : ℕ). byte % 64) ∙ length-take-le 24 xs (omega (arith, fits)),

@@ -15,11 +15,11 @@ use Rattle.rw_interleave.specs.Gathering.{gathered, gather_next, gather_gives}
 use Rattle.rw_interleave.specs.Interleave.{word_of, whole_packs}
 use Rattle.rw_interleave.specs.Windows.{slots_in}
 use Rattle.rw_interleave.proofs.Gathers.{gathers}
-use Rattle.stream_words.specs.Stream.{bad_count}
-use Rattle.stream_words.specs.Texts.{cdg_bytes, entry_bytes}
+use Rattle.rw_interleave.specs.Stream.{bad_count}
+use Rattle.rw_interleave.specs.Texts.{cdg_bytes, entry_bytes}
 use Rattle.rw_merge.specs.Agreement.{IsAgreed, IsAgreement}
 use Rattle.rw_merge.specs.Merging.{IsMerged, IsMergedText}
-use Rattle.rw_merge.specs.Steps.{AreAgreements, slots_of, window_after, words_after}
+use Rattle.rw_merge.specs.Steps.{AreAgreements, leading_slots, window_after, words_after}
 use Rattle.rw_merge.proofs.Slots.{length-slots, program_is, program_slots, slots_sized, slots_taken, slots_together}
 
 -- ---- What is found, one word after another.
@@ -115,10 +115,10 @@ length-words w v (s ∷ ss) (t ∷ ts) same count =
     ]
 
 -- a window that has taken a block
-pub window_is : (w v new : List (List ℕ)) (block : List ℕ) → length block ≡ 96 → w ≡ v → new ≡ run_state gather_next w (slots_in block 0 4) → new ≡ window_after v (slots_of 4 block)
+pub window_is : (w v new : List (List ℕ)) (block : List ℕ) → length block ≡ 96 → w ≡ v → new ≡ run_state gather_next w (slots_in block 0 4) → new ≡ window_after v (leading_slots 4 block)
 window_is w v new block size same is = is ∙ ap₂ (run_state gather_next) same (slots_taken block size)
 
-pub words_is : (w v words : List (List ℕ)) (block : List ℕ) → length block ≡ 96 → w ≡ v → words ≡ run_gives gather_next gather_gives w (slots_in block 0 4) → words ≡ words_after v (slots_of 4 block)
+pub words_is : (w v words : List (List ℕ)) (block : List ℕ) → length block ≡ 96 → w ≡ v → words ≡ run_gives gather_next gather_gives w (slots_in block 0 4) → words ≡ words_after v (leading_slots 4 block)
 words_is w v words block size same is = is ∙ ap₂ (run_gives gather_next gather_gives) same (slots_taken block size)
 
 -- ---- Word by word.
@@ -160,16 +160,16 @@ found_whole xs ys i text bad done at same few = (
 
 -- the words that come with the slots of a program are those of its symbols
 words_are : (lead_in blocks : ℕ) (bytes : List ℕ) → length bytes ≡ blocks * 96
-    → words_after [] (slots_of (4 * (blocks - lead_in)) (drop (lead_in * 96) bytes)) ≡ map (word_of (program_symbols Raw bytes lead_in)) (below (whole_packs (blocks - lead_in)))
+    → words_after [] (leading_slots (4 * (blocks - lead_in)) (drop (lead_in * 96) bytes)) ≡ map (word_of (program_symbols Raw bytes lead_in)) (below (whole_packs (blocks - lead_in)))
 words_are lead_in blocks bytes size =
     let program = drop (lead_in * 96) bytes in
     let count = 4 * (blocks - lead_in) in
     let fits = program_slots lead_in blocks bytes size in
-    gathers [] (slots_of count program) (omega arith) (slots_sized count program fits)
+    gathers [] (leading_slots count program) (omega arith) (slots_sized count program fits)
     ∙ ap₂ (λ (l : List ℕ) (n : ℕ). map (word_of l) (below (n - 7))) (slots_together count program fits ∙ sym (program_is lead_in blocks bytes size)) (length-slots count program)
 
 pub merged_text : (lead_in blocks : ℕ) (first second : List ℕ) (found : List (Option (List ℕ))) → length first ≡ blocks * 96 → length second ≡ blocks * 96
-    → AreAgreements (words_after [] (slots_of (4 * (blocks - lead_in)) (drop (lead_in * 96) first))) (words_after [] (slots_of (4 * (blocks - lead_in)) (drop (lead_in * 96) second))) found
+    → AreAgreements (words_after [] (leading_slots (4 * (blocks - lead_in)) (drop (lead_in * 96) first))) (words_after [] (leading_slots (4 * (blocks - lead_in)) (drop (lead_in * 96) second))) found
     → IsMergedText lead_in first second (cdg_bytes found) (bad_count found)
 merged_text lead_in blocks first second found size size' all =
     let many = blocks - lead_in in

@@ -8,28 +8,28 @@ use Rattle.cdg_io.specs.Moves.{AppendsPrefix}
 use Rattle.cdg_io.proofs.PumpSteps.{between}
 use Rattle.cdg_io.proofs.Runs.{run_state-append, run_gives-append}
 use Rattle.rw_interleave.specs.Gathering.{gather_next, gather_gives}
-use Rattle.stream_words.specs.Stream.{bad_count}
-use Rattle.stream_words.specs.Texts.{cdg_bytes}
-use Rattle.rw_merge.specs.Merging.{GivesText, IsAnswer, IsMergedText, Merges, most_blocks}
+use Rattle.rw_interleave.specs.Stream.{bad_count}
+use Rattle.rw_interleave.specs.Texts.{cdg_bytes}
+use Rattle.rw_merge.specs.Merging.{GivesMergedText, IsAnswer, IsMergedText, Merges, most_blocks}
 use Rattle.rw_merge.specs.Windows.{Windows}
-use Rattle.rw_merge.specs.Steps.{AreAgreements, IsEndRead, IsHalfRead, IsPairRead, slots_of, window_after, words_after}
-use Rattle.rw_merge.specs.declared.merging.Merged.{Merged}
-use Rattle.rw_merge.specs.declared.merging.MergeStop.{MergeStop}
-use Rattle.rw_merge.specs.declared.merging.MergeStop.TheVariants.{FirstFault, SecondFault, WriteFault, TooLong, Torn, SecondTorn, Unequal}
+use Rattle.rw_merge.specs.Steps.{AreAgreements, IsEndRead, IsHalfRead, IsPairRead, leading_slots, window_after, words_after}
+use Rattle.rw_merge.specs.declared.merge.Merged.{Merged}
+use Rattle.rw_merge.specs.declared.merge.MergeStop.{MergeStop}
+use Rattle.rw_merge.specs.declared.merge.MergeStop.TheVariants.{FirstFault, SecondFault, WriteFault, TooLong, Torn, SecondTorn, Unequal}
 use Rattle.rw_merge.proofs.Slots.{program_slots, slots-append}
 use Rattle.rw_merge.proofs.Words.{agreements-append, agreements-nil, bad-append, merged_text, text-append}
 
 -- the slots of the program blocks among so many blocks
 abbrev program_of : ℕ → ℕ → List ℕ → List (List ℕ)
-program_of lead_in blocks bytes = slots_of (4 * (blocks - lead_in)) (drop (lead_in * 96) bytes)
+program_of lead_in blocks bytes = leading_slots (4 * (blocks - lead_in)) (drop (lead_in * 96) bytes)
 
 -- What is found for so many blocks of both inputs, and the windows after them.
 pub record IsFound (lead_in blocks : ℕ) (xs ys : List ℕ) (w v : List (List ℕ)) (found : List (Option (List ℕ))) : Type 0 where
   pub first_size : length xs ≡ blocks * 96
   pub second_size : length ys ≡ blocks * 96
-  pub first_window : w ≡ window_after [] (slots_of (4 * (blocks - lead_in)) (drop (lead_in * 96) xs))
-  pub second_window : v ≡ window_after [] (slots_of (4 * (blocks - lead_in)) (drop (lead_in * 96) ys))
-  pub all : AreAgreements (words_after [] (slots_of (4 * (blocks - lead_in)) (drop (lead_in * 96) xs))) (words_after [] (slots_of (4 * (blocks - lead_in)) (drop (lead_in * 96) ys))) found
+  pub first_window : w ≡ window_after [] (leading_slots (4 * (blocks - lead_in)) (drop (lead_in * 96) xs))
+  pub second_window : v ≡ window_after [] (leading_slots (4 * (blocks - lead_in)) (drop (lead_in * 96) ys))
+  pub all : AreAgreements (words_after [] (leading_slots (4 * (blocks - lead_in)) (drop (lead_in * 96) xs))) (words_after [] (leading_slots (4 * (blocks - lead_in)) (drop (lead_in * 96) ys))) found
   pub few : length found ≤ 4 * blocks
 
 -- These bytes were taken of both inputs, and the text of what is found for them was put.
@@ -43,7 +43,7 @@ pub record Works (lead_in blocks : ℕ) (left left' other other' held held' : Op
 
 no_slots : (lead_in blocks : ℕ) (bytes : List ℕ) → blocks ≤ lead_in → program_of lead_in blocks bytes ≡ []
 no_slots lead_in blocks bytes le =
-    let none : 4 * (blocks - lead_in) ≡ 0 = omega arith in ap (λ n. slots_of n (drop (lead_in * 96) bytes)) none
+    let none : 4 * (blocks - lead_in) ≡ 0 = omega arith in ap (λ n. leading_slots n (drop (lead_in * 96) bytes)) none
 
 -- before the first block
 pub found_none : (lead_in : ℕ) → IsFound lead_in 0 [] [] [] [] []
@@ -86,34 +86,34 @@ found_skipped lead_in blocks xs ys us vs w v found f lt u_size v_size =
     }
 
 -- a block of the program more
-program_more : (lead_in blocks : ℕ) (xs us : List ℕ) → length xs ≡ blocks * 96 → lead_in ≤ blocks → program_of lead_in (blocks + 1) (xs ++ us) ≡ program_of lead_in blocks xs ++ slots_of 4 us
+program_more : (lead_in blocks : ℕ) (xs us : List ℕ) → length xs ≡ blocks * 96 → lead_in ≤ blocks → program_of lead_in (blocks + 1) (xs ++ us) ≡ program_of lead_in blocks xs ++ leading_slots 4 us
 program_more lead_in blocks xs us size le =
     let count : 4 * (blocks + 1 - lead_in) ≡ 4 * (blocks - lead_in) + 4 = omega arith in
-    ap₂ (λ n l. slots_of n l) count (drop-append-le (lead_in * 96) xs us (omega (arith, size)))
+    ap₂ (λ n l. leading_slots n l) count (drop-append-le (lead_in * 96) xs us (omega (arith, size)))
     ∙ slots-append (4 * (blocks - lead_in)) 4 (drop (lead_in * 96) xs) us (program_slots lead_in blocks xs size)
 
 pub found_more : (lead_in blocks : ℕ) (xs ys us vs : List ℕ) (w v w' v' : List (List ℕ)) (found more : List (Option (List ℕ))) → IsFound lead_in blocks xs ys w v found → lead_in ≤ blocks
-    → length us ≡ 96 → length vs ≡ 96 → w' ≡ window_after w (slots_of 4 us) → v' ≡ window_after v (slots_of 4 vs)
-    → AreAgreements (words_after w (slots_of 4 us)) (words_after v (slots_of 4 vs)) more → length more ≤ 4
+    → length us ≡ 96 → length vs ≡ 96 → w' ≡ window_after w (leading_slots 4 us) → v' ≡ window_after v (leading_slots 4 vs)
+    → AreAgreements (words_after w (leading_slots 4 us)) (words_after v (leading_slots 4 vs)) more → length more ≤ 4
     → IsFound lead_in (blocks + 1) (xs ++ us) (ys ++ vs) w' v' (found ++ more)
 found_more lead_in blocks xs ys us vs w v w' v' found more f le u_size v_size w_is v_is all few =
     let first = program_more lead_in blocks xs us f.first_size le in
     let second = program_more lead_in blocks ys vs f.second_size le in
-    let words : words_after [] (program_of lead_in (blocks + 1) (xs ++ us)) ≡ words_after [] (program_of lead_in blocks xs) ++ words_after w (slots_of 4 us) =
-    ap (words_after []) first ∙ run_gives-append gather_next gather_gives [] (program_of lead_in blocks xs) (slots_of 4 us) ∙ ap (λ u. words_after [] (program_of lead_in blocks xs) ++ words_after u (slots_of 4 us)) (sym f.first_window) in
-    let words' : words_after [] (program_of lead_in (blocks + 1) (ys ++ vs)) ≡ words_after [] (program_of lead_in blocks ys) ++ words_after v (slots_of 4 vs) =
-    ap (words_after []) second ∙ run_gives-append gather_next gather_gives [] (program_of lead_in blocks ys) (slots_of 4 vs) ∙ ap (λ u. words_after [] (program_of lead_in blocks ys) ++ words_after u (slots_of 4 vs)) (sym f.second_window) in
+    let words : words_after [] (program_of lead_in (blocks + 1) (xs ++ us)) ≡ words_after [] (program_of lead_in blocks xs) ++ words_after w (leading_slots 4 us) =
+    ap (words_after []) first ∙ run_gives-append gather_next gather_gives [] (program_of lead_in blocks xs) (leading_slots 4 us) ∙ ap (λ u. words_after [] (program_of lead_in blocks xs) ++ words_after u (leading_slots 4 us)) (sym f.first_window) in
+    let words' : words_after [] (program_of lead_in (blocks + 1) (ys ++ vs)) ≡ words_after [] (program_of lead_in blocks ys) ++ words_after v (leading_slots 4 vs) =
+    ap (words_after []) second ∙ run_gives-append gather_next gather_gives [] (program_of lead_in blocks ys) (leading_slots 4 vs) ∙ ap (λ u. words_after [] (program_of lead_in blocks ys) ++ words_after u (leading_slots 4 vs)) (sym f.second_window) in
     record {
       first_size = length-append xs us ∙ omega (arith, f.first_size, u_size);
       second_size = length-append ys vs ∙ omega (arith, f.second_size, v_size);
-      first_window = w_is ∙ ap (λ u. window_after u (slots_of 4 us)) f.first_window ∙ sym (ap (window_after []) first ∙ run_state-append gather_next [] (program_of lead_in blocks xs) (slots_of 4 us));
-      second_window = v_is ∙ ap (λ u. window_after u (slots_of 4 vs)) f.second_window ∙ sym (ap (window_after []) second ∙ run_state-append gather_next [] (program_of lead_in blocks ys) (slots_of 4 vs));
+      first_window = w_is ∙ ap (λ u. window_after u (leading_slots 4 us)) f.first_window ∙ sym (ap (window_after []) first ∙ run_state-append gather_next [] (program_of lead_in blocks xs) (leading_slots 4 us));
+      second_window = v_is ∙ ap (λ u. window_after u (leading_slots 4 vs)) f.second_window ∙ sym (ap (window_after []) second ∙ run_state-append gather_next [] (program_of lead_in blocks ys) (leading_slots 4 vs));
       all = subst₂ (λ (s t : List (List ℕ)). AreAgreements s t (found ++ more)) (sym words) (sym words') (agreements-append _ _ _ _ found more f.all all);
       few = omega (arith, f.few, few, length-append found more);
     }
 
 -- what so many blocks give
-pub found_text : (lead_in blocks : ℕ) (xs ys us vs : List ℕ) (w v : List (List ℕ)) (found : List (Option (List ℕ))) → IsFound lead_in blocks xs ys w v found → GivesText blocks lead_in (xs ++ us) (ys ++ vs) (cdg_bytes found)
+pub found_text : (lead_in blocks : ℕ) (xs ys us vs : List ℕ) (w v : List (List ℕ)) (found : List (Option (List ℕ))) → IsFound lead_in blocks xs ys w v found → GivesMergedText blocks lead_in (xs ++ us) (ys ++ vs) (cdg_bytes found)
 found_text lead_in blocks xs ys us vs w v found f =
     let first : take (blocks * 96) (xs ++ us) ≡ xs = take-append-le (blocks * 96) xs us (omega (arith, f.first_size)) ∙ take_all (blocks * 96) xs (omega (arith, f.first_size)) in
     let second : take (blocks * 96) (ys ++ vs) ≡ ys = take-append-le (blocks * 96) ys vs (omega (arith, f.second_size)) ∙ take_all (blocks * 96) ys (omega (arith, f.second_size)) in
@@ -180,7 +180,7 @@ stops lead_in blocks left left' other other' held held' w v bad xs ys us vs resu
       within = omega (arith, long, within);
       answer = answer (length (xs ++ us)) (length (ys ++ vs)) long long';
       done = done;
-      put = λ _. (cdg_bytes works.found, subst (λ n. GivesText n lead_in (xs ++ us) (ys ++ vs) (cdg_bytes works.found)) pairs (found_text lead_in blocks xs ys us vs w v works.found f), works.put);
+      put = λ _. (cdg_bytes works.found, subst (λ n. GivesMergedText n lead_in (xs ++ us) (ys ++ vs) (cdg_bytes works.found)) pairs (found_text lead_in blocks xs ys us vs w v works.found f), works.put);
       in_turn = λ e. absurd (other_result e);
     }
 
@@ -276,10 +276,10 @@ both_end lead_in blocks total left left' left'' other other' other'' held held' 
 
 -- What is found for a pair of program blocks, and its text.
 pub record IsPairFound (w v : List (List ℕ)) (us vs : List ℕ) (w' v' : List (List ℕ)) (text : List ℕ) (bad : ℕ) : Type 0 where
-  pub first_window : w' ≡ window_after w (slots_of 4 us)
-  pub second_window : v' ≡ window_after v (slots_of 4 vs)
+  pub first_window : w' ≡ window_after w (leading_slots 4 us)
+  pub second_window : v' ≡ window_after v (leading_slots 4 vs)
   pub found : List (Option (List ℕ))
-  pub all : AreAgreements (words_after w (slots_of 4 us)) (words_after v (slots_of 4 vs)) found
+  pub all : AreAgreements (words_after w (leading_slots 4 us)) (words_after v (leading_slots 4 vs)) found
   pub text_is : text ≡ cdg_bytes found
   pub bad_is : bad ≡ bad_count found
   pub few : length found ≤ 4
@@ -342,7 +342,7 @@ write_stops lead_in blocks left left' left'' other other' other'' held held' hel
             low,
             high,
             found_text lead_in blocks xs ys us vs w v works.found f,
-            subst₂ (λ (a b : List ℕ). GivesText (blocks + 1) lead_in a b high) (append-nil (xs ++ us)) (append-nil (ys ++ vs)) whole,
+            subst₂ (λ (a b : List ℕ). GivesMergedText (blocks + 1) lead_in a b high) (append-nil (xs ++ us)) (append-nil (ys ++ vs)) whole,
             between held held'' low text high put.0 grown (Appends-trans held held' held'' low (take put.0 text) works.put put.2),
           ),
         );
@@ -351,14 +351,14 @@ write_stops lead_in blocks left left' left'' other other' other'' held held' hel
 
 -- what the code finds for the blocks that it read
 pub pair_found : (w v : List (List ℕ)) (one other us vs : List ℕ) (w' v' w'' v'' : List (List ℕ)) (text bytes : List ℕ) (bad : ℕ) → us ≡ one → vs ≡ other → w'' ≡ w' → v'' ≡ v' → bytes ≡ text
-    → w' ≡ window_after w (slots_of 4 one) → v' ≡ window_after v (slots_of 4 other)
-    → (found : List (Option (List ℕ))) × AreAgreements (words_after w (slots_of 4 one)) (words_after v (slots_of 4 other)) found × (text ≡ cdg_bytes found) × (bad ≡ bad_count found) × (length found ≤ 4)
+    → w' ≡ window_after w (leading_slots 4 one) → v' ≡ window_after v (leading_slots 4 other)
+    → (found : List (Option (List ℕ))) × AreAgreements (words_after w (leading_slots 4 one)) (words_after v (leading_slots 4 other)) found × (text ≡ cdg_bytes found) × (bad ≡ bad_count found) × (length found ≤ 4)
     → IsPairFound w v us vs w'' v'' bytes bad
 pair_found w v one other us vs w' v' w'' v'' text bytes bad u_is v_is w_is v_is' bytes_is first second (found, all, text_is, bad_is, few) = record {
-  first_window = w_is ∙ first ∙ ap (λ l. window_after w (slots_of 4 l)) (sym u_is);
-  second_window = v_is' ∙ second ∙ ap (λ l. window_after v (slots_of 4 l)) (sym v_is);
+  first_window = w_is ∙ first ∙ ap (λ l. window_after w (leading_slots 4 l)) (sym u_is);
+  second_window = v_is' ∙ second ∙ ap (λ l. window_after v (leading_slots 4 l)) (sym v_is);
   found = found;
-  all = subst₂ (λ (a b : List ℕ). AreAgreements (words_after w (slots_of 4 a)) (words_after v (slots_of 4 b)) found) (sym u_is) (sym v_is) all;
+  all = subst₂ (λ (a b : List ℕ). AreAgreements (words_after w (leading_slots 4 a)) (words_after v (leading_slots 4 b)) found) (sym u_is) (sym v_is) all;
   text_is = bytes_is ∙ text_is;
   bad_is = bad_is;
   few = few;

@@ -5,7 +5,7 @@ use Rattle.std.specs.declared.option.Option.{Option}
 use Rattle.gf64.specs.Field.{product, alpha_power}
 use Rattle.rw_code.specs.Codeword.{IsWord, differences, weighted_sum}
 use Rattle.rw_merge.specs.Agreement.{IsAgreed}
-use Rattle.rw_merge.specs.Elimination.{AreErrors, AreSums, cleared}
+use Rattle.rw_merge.specs.Elimination.{AreErrors, AreFirstSums, cleared}
 use Rattle.rw_merge.specs.Places.{AreApart, AreEqualFrom, AreEqualOutside, IsNextDifference, IsOutside, all_of}
 use Rattle.rw_merge.specs.declared.elimination.Sums.{Sums}
 use Rattle.rw_merge.specs.declared.places.Places.{Places}
@@ -97,7 +97,7 @@ some_further sums a b f t0 t1 es a_lt are left some =
 
 -- ---- What is found at two positions or one.
 
-pub few_places : (sums : Sums) (p q : ℕ) (found : Option Places) (xs ys : List ℕ) → IsWord xs → IsWord ys → AreSums 4 xs sums → 0 < differences xs ys
+pub few_places : (sums : Sums) (p q : ℕ) (found : Option Places) (xs ys : List ℕ) → IsWord xs → IsWord ys → AreFirstSums 4 xs sums → 0 < differences xs ys
     → ((i : ℕ) → i < 24 → i ≢ p → i ≢ q → get_or xs i 0 ≡ get_or ys i 0)
     → MatchOption found ((f : ℕ) (es : List ℕ) → ¬ AreErrors sums (p ∷ q ∷ f ∷ []) es) (λ places. AreApart places × ((f : ℕ) (es : List ℕ) → AreErrors sums (p ∷ q ∷ f ∷ []) es → AreErrors sums (all_of places) es))
     → MatchOption found ((w : List ℕ) → ¬ IsAgreed xs ys w) (λ places. AreApart places × ((w : List ℕ) → IsAgreed xs ys w → AreEqualOutside (all_of places) xs w))

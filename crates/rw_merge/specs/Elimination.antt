@@ -6,7 +6,7 @@ use Rattle.rw_merge.specs.declared.elimination.Sums.{Sums}
 use Rattle.rw_merge.specs.Places.{IsOutside}
 
 -- the first n of these, at most four, are sums of the word over all its symbols
-pub record AreSums (n : ℕ) (word : List ℕ) (sums : Sums) : Type 0 where
+pub record AreFirstSums (n : ℕ) (word : List ℕ) (sums : Sums) : Type 0 where
   pub zeroth : 0 < n → sums.zeroth ≡ weighted_sum 0 word
   pub first : 1 < n → sums.first ≡ weighted_sum 1 word
   pub second : 2 < n → sums.second ≡ weighted_sum 2 word
@@ -20,5 +20,5 @@ cleared power (symbol ∷ rest) = product (bit_xor (alpha_power (length rest)) p
 -- a word with these four sums, whose symbols outside of these positions are 0
 pub record AreErrors (sums : Sums) (places errors : List ℕ) : Type 0 where
   pub is_word : IsWord errors
-  pub have_sums : AreSums 4 errors sums
+  pub have_sums : AreFirstSums 4 errors sums
   pub outside : (i : ℕ) → i < 24 → IsOutside i places → slice_index errors i ≡ 0

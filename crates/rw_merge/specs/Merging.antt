@@ -6,12 +6,12 @@ use Rattle.cdg_io.specs.Moves.{AppendsBetween}
 use Rattle.raw_subcode.specs.Channels.{program_symbols}
 use Rattle.raw_subcode.specs.declared.form.Form.TheVariants.{Raw}
 use Rattle.rw_interleave.specs.Interleave.{word_of, whole_packs}
-use Rattle.stream_words.specs.Stream.{bad_count}
-use Rattle.stream_words.specs.Texts.{cdg_bytes}
+use Rattle.rw_interleave.specs.Stream.{bad_count}
+use Rattle.rw_interleave.specs.Texts.{cdg_bytes}
 use Rattle.rw_merge.specs.Agreement.{IsAgreement}
-use Rattle.rw_merge.specs.declared.merging.Merged.{Merged}
-use Rattle.rw_merge.specs.declared.merging.MergeStop.{MergeStop}
-use Rattle.rw_merge.specs.declared.merging.MergeStop.TheVariants.{FirstFault, SecondFault, WriteFault, TooLong, Torn, SecondTorn, Unequal}
+use Rattle.rw_merge.specs.declared.merge.Merged.{Merged}
+use Rattle.rw_merge.specs.declared.merge.MergeStop.{MergeStop}
+use Rattle.rw_merge.specs.declared.merge.MergeStop.TheVariants.{FirstFault, SecondFault, WriteFault, TooLong, Torn, SecondTorn, Unequal}
 
 -- the most blocks that are read of an input
 abbrev pub most_blocks : ℕ
@@ -30,8 +30,8 @@ pub record IsMergedText (lead_in : ℕ) (first second text : List ℕ) (bad : �
   pub bad_is : bad ≡ bad_count found
 
 -- the first n blocks of each give this text
-abbrev pub GivesText : ℕ → ℕ → List ℕ → List ℕ → List ℕ → Type 0
-GivesText n lead_in first second text = (bad : ℕ) × IsMergedText lead_in (take (n * 96) first) (take (n * 96) second) text bad
+abbrev pub GivesMergedText : ℕ → ℕ → List ℕ → List ℕ → List ℕ → Type 0
+GivesMergedText n lead_in first second text = (bad : ℕ) × IsMergedText lead_in (take (n * 96) first) (take (n * 96) second) text bad
 
 -- The answer to so many bytes of two inputs, where no read or write fails. The first block that not both have whole is looked at in this order: a rest of the first, a rest of the second, a block that one of them has.
 abbrev pub IsAnswer : ℕ → Result Merged MergeStop → ℕ → ℕ → Type 0
@@ -54,20 +54,20 @@ pub record Merges (lead_in : ℕ) (held held' : Option (List ℕ)) (result : Res
   pub answer : IsAnswer lead_in result (length first) (length second)
   pub done : IfOk result (λ merged. (text : List ℕ) × IsMergedText lead_in first second text merged.bad × Appends held held' text)
   -- where no write failed, all is put that the whole pairs of blocks give
-  pub put : result ≢ Err WriteFault → (text : List ℕ) × GivesText (min (length first / 96) (length second / 96)) lead_in first second text × Appends held held' text
+  pub put : result ≢ Err WriteFault → (text : List ℕ) × GivesMergedText (min (length first / 96) (length second / 96)) lead_in first second text × Appends held held' text
   -- a write failed: nothing after the pair whose text was being put was taken, and the text of those before it is put
   pub in_turn : result ≡ Err WriteFault → (n : ℕ) × (n < most_blocks) × (length first ≡ (n + 1) * 96) × (length second ≡ (n + 1) * 96)
-      × ((low high : List ℕ) × GivesText n lead_in first second low × GivesText (n + 1) lead_in first second high × AppendsBetween held held' low high)
+      × ((low high : List ℕ) × GivesMergedText n lead_in first second low × GivesMergedText (n + 1) lead_in first second high × AppendsBetween held held' low high)
 
 -- The end of an input was told once, or not.
 abbrev pub RoseAtMost : ℕ → ℕ → Type 0
 RoseAtMost before now = (now ≡ before) ⊎ Rose before now
 
 -- The first input is at its end, where the answer says so.
-abbrev pub EndsFirst : Result Merged MergeStop → Option (List ℕ) → Type 0
-EndsFirst (Ok merged) left = IsAtEnd left
-EndsFirst (Err (Torn block)) left = IsAtEnd left
-EndsFirst (Err stop) left = ⊤
+abbrev pub FirstIsAtEnd : Result Merged MergeStop → Option (List ℕ) → Type 0
+FirstIsAtEnd (Ok merged) left = IsAtEnd left
+FirstIsAtEnd (Err (Torn block)) left = IsAtEnd left
+FirstIsAtEnd (Err stop) left = ⊤
 
 -- and the second
 abbrev pub EndsSecond : Result Merged MergeStop → Option (List ℕ) → Type 0

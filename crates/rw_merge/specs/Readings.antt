@@ -5,12 +5,12 @@ use Rattle.raw_subcode.specs.Channels.{program_symbols}
 use Rattle.raw_subcode.specs.declared.form.Form.TheVariants.{Raw}
 use Rattle.rw_code.specs.Codeword.{differences}
 use Rattle.rw_interleave.specs.Interleave.{Carries, word_of, whole_packs}
-use Rattle.stream_words.specs.Stream.{IsDamaged}
+use Rattle.rw_interleave.specs.Stream.{IsDamaged}
 use Rattle.rw_merge.specs.Agreement.{equally_wrong}
 use Rattle.rw_merge.specs.Merging.{most_blocks}
-use Rattle.rw_merge.specs.declared.merging.Merged.{Merged}
-use Rattle.rw_merge.specs.declared.merging.MergeStop.{MergeStop}
-use Rattle.rw_merge.specs.declared.merging.MergeStop.TheVariants.{FirstFault, SecondFault, WriteFault}
+use Rattle.rw_merge.specs.declared.merge.Merged.{Merged}
+use Rattle.rw_merge.specs.declared.merge.MergeStop.{MergeStop}
+use Rattle.rw_merge.specs.declared.merge.MergeStop.TheVariants.{FirstFault, SecondFault, WriteFault}
 
 -- the bytes of two readings of equally many blocks, of which so many belong to the lead-in and to the program
 pub record AreReadings (lead_in blocks : ℕ) (first second : List ℕ) : Type 0 where
@@ -36,9 +36,9 @@ pub record IsDamagedTwice (lead_in blocks : ℕ) (packs : List (List ℕ)) (firs
   pub second_damage : IsDamaged symbols Raw (program_symbols Raw second lead_in)
 
 -- unless a read or a write failed, so many blocks were merged, none of their words is bad, and this text was put
-abbrev pub Restores : Result Merged MergeStop → ℕ → Option (List ℕ) → Option (List ℕ) → List ℕ → Type 0
-Restores (Ok merged) blocks held held' text = (merged.blocks ≡ blocks) × (merged.bad ≡ 0) × Appends held held' text
-Restores (Err FirstFault) blocks held held' text = ⊤
-Restores (Err SecondFault) blocks held held' text = ⊤
-Restores (Err WriteFault) blocks held held' text = ⊤
-Restores (Err stop) blocks held held' text = ⊥
+abbrev pub MergeRestores : Result Merged MergeStop → ℕ → Option (List ℕ) → Option (List ℕ) → List ℕ → Type 0
+MergeRestores (Ok merged) blocks held held' text = (merged.blocks ≡ blocks) × (merged.bad ≡ 0) × Appends held held' text
+MergeRestores (Err FirstFault) blocks held held' text = ⊤
+MergeRestores (Err SecondFault) blocks held held' text = ⊤
+MergeRestores (Err WriteFault) blocks held held' text = ⊤
+MergeRestores (Err stop) blocks held held' text = ⊥

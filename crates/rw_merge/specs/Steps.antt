@@ -8,12 +8,12 @@ use Rattle.cdg_io.specs.Run.{run_state, run_gives}
 use Rattle.rw_merge.specs.Agreement.{IsAgreement}
 use Rattle.cdg_io.specs.Causes.{Rose}
 use Rattle.rw_merge.specs.Merging.{RoseAtMost}
-use Rattle.rw_merge.specs.declared.merging.MergeStop.{MergeStop}
-use Rattle.rw_merge.specs.declared.merging.MergeStop.TheVariants.{FirstFault, SecondFault, TooLong, Torn, SecondTorn, Unequal}
+use Rattle.rw_merge.specs.declared.merge.MergeStop.{MergeStop}
+use Rattle.rw_merge.specs.declared.merge.MergeStop.TheVariants.{FirstFault, SecondFault, TooLong, Torn, SecondTorn, Unequal}
 
 -- the first slots of some bytes, as many as are wanted
-abbrev pub slots_of : ℕ → List ℕ → List (List ℕ)
-slots_of count bytes = map symbols_of (parts count 24 bytes)
+abbrev pub leading_slots : ℕ → List ℕ → List (List ℕ)
+leading_slots count bytes = map symbols_of (parts count 24 bytes)
 
 -- the last slots after some more
 abbrev pub window_after : List (List ℕ) → List (List ℕ) → List (List ℕ)

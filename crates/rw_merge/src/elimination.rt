@@ -2,7 +2,7 @@
 ghost use Rattle.std.specs.Prelude.{◌≡◌, ◌≢◌, ◌<◌, ◌-◌, [], ◌∷◌, List, ℕ, suc, bit_xor, slice_index, slice_set, MatchOption};
 ghost use Rattle.gf64.specs.Field.{product, alpha_power};
 ghost use Rattle.rw_code.specs.Codeword.{IsCodeword, IsWord, weighted_sum};
-ghost use Rattle.rw_merge.specs.Elimination.{AreErrors, AreSums, cleared};
+ghost use Rattle.rw_merge.specs.Elimination.{AreErrors, AreFirstSums, cleared};
 ghost use Rattle.rw_merge.specs.Places.{AreApart, AreEqualOutside, all_of};
 
 use crate::places::Places;
@@ -22,7 +22,7 @@ impl Sums {
     /// The four of a word.
     pub(crate) fn of(word: &Word) -> Sums
         requires { IsWord word.now }
-        ensures { AreSums 4 word.now result }
+        ensures { AreFirstSums 4 word.now result }
     {
         Sums {
             zeroth: sum(word, 0),
@@ -35,8 +35,8 @@ impl Sums {
     /// The sums in which a position has no part. One sum fewer is known than before.
     pub(crate) fn without(&self, position: usize) -> Sums
         requires { position < 24 }
-        ensures { (n : ℕ) (word : List ℕ) → n < 4 → AreSums (suc n) word self.now
-            → AreSums n (cleared (alpha_power (23 - position)) word) result }
+        ensures { (n : ℕ) (word : List ℕ) → n < 4 → AreFirstSums (suc n) word self.now
+            → AreFirstSums n (cleared (alpha_power (23 - position)) word) result }
     {
         let power = power_at(position);
         Sums {
@@ -69,7 +69,7 @@ impl Sums {
 /// The only codeword that is equal to a word outside of four positions, if there is one.
 pub(crate) fn solved(word: &Word, sums: &Sums, places: &Places) -> Word
     requires word { IsWord word.now }
-    requires sums { AreSums 4 word.now sums.now }
+    requires sums { AreFirstSums 4 word.now sums.now }
     requires apart { AreApart places.now }
     ensures { (codeword : List ℕ) → IsCodeword codeword
         → AreEqualOutside (all_of places.now) word.now codeword → codeword ≡ result }

@@ -4,7 +4,7 @@
 mod agreement;
 mod counting;
 mod elimination;
-mod merging;
+mod merge;
 mod packs;
 mod pairs;
 mod places;
@@ -15,7 +15,7 @@ ghost use Rattle.rw_merge.specs.Agreement.{IsAgreed};
 ghost use Rattle.rw_merge.specs.Merging.{IsMergedText};
 
 pub use agreement::agree;
-pub use merging::{MergeStop, Merged, Merger, two_readings_give_packs};
+pub use merge::{MergeStop, Merged, Merger, two_readings_give_packs};
 
 /// A law: for no two words are two codewords agreed.
 pub fn only_one_codeword_is_agreed()

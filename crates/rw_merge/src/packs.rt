@@ -1,8 +1,8 @@
 // The packs of a pair of blocks.
 ghost use Rattle.std.specs.Prelude.{◌≡◌, ◌≤◌, ◌<◌, ◌+◌, ◌++◌, List, ℕ, length, is_none, if◌then◌else◌};
 ghost use Rattle.std.specs.declared.option.Option.{Option};
-ghost use Rattle.stream_words.specs.Stream.{bad_count};
-ghost use Rattle.stream_words.specs.Texts.{cdg_bytes, entry_bytes};
+ghost use Rattle.rw_interleave.specs.Stream.{bad_count};
+ghost use Rattle.rw_interleave.specs.Texts.{cdg_bytes, entry_bytes};
 ghost use Rattle.rw_merge.specs.Steps.{AreAgreements};
 
 use crate::agree;

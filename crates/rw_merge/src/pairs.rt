@@ -4,7 +4,7 @@ ghost use Rattle.std.specs.Io.KnownBytes.{Consumes};
 ghost use Rattle.cdg_io.specs.Causes.{Rose};
 ghost use Rattle.rw_merge.specs.Steps.{IsEndRead, IsPairRead, TellsFirstAfter, TellsFirstOfPair, TellsSecondAfter, TellsSecondOfPair};
 
-use crate::merging::{BLOCK, MergeStop};
+use crate::merge::{BLOCK, MergeStop};
 use cdg_io::{Failed, Source, fill};
 
 /// Reads a block of the first input, and then one of the second. False where both inputs are at their end.

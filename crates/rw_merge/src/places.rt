@@ -2,7 +2,7 @@
 ghost use Rattle.std.specs.Prelude.{◌≡◌, ◌≢◌, ◌<◌, ◌-◌, [], ◌∷◌, List, ℕ, MatchOption};
 ghost use Rattle.gf64.specs.Field.{product, alpha_power};
 ghost use Rattle.rw_merge.specs.Agreement.{IsAgreed};
-ghost use Rattle.rw_merge.specs.Elimination.{AreErrors, AreSums};
+ghost use Rattle.rw_merge.specs.Elimination.{AreErrors, AreFirstSums};
 ghost use Rattle.rw_merge.specs.Places.{AreApart, AreEqualOutside, all_of};
 
 use crate::counting::next_difference;
@@ -23,7 +23,7 @@ pub(crate) struct Places {
 /// are those of the first. None only where no codeword is agreed.
 pub(crate) fn wrong_places(first: &Word, second: &Word, sums: &Sums) -> Option<Places>
     requires differ { first.now ≢ second.now }
-    requires sums { AreSums 4 first.now sums.now }
+    requires sums { AreFirstSums 4 first.now sums.now }
     ensures { MatchOption result
         ((w : List ℕ) → ¬ IsAgreed first.now second.now w)
         (λ p. AreApart p × ((w : List ℕ) → IsAgreed first.now second.now w

@@ -12,16 +12,16 @@ use Rattle.raw_subcode.specs.declared.form.Form.TheVariants.{Raw}
 use Rattle.rw_code.specs.Codeword.{IsCodeword, IsNear, Reads, differences}
 use Rattle.rw_interleave.specs.Interleave.{word_of, whole_packs}
 use Rattle.rw_interleave.specs.Gathering.{gather_gives}
-use Rattle.stream_words.proofs.Recovery.{differences-turned, form_words}
+use Rattle.rw_interleave.proofs.Recovery.{differences-turned, form_words}
 use Rattle.cdg_instructions.specs.Instruction.{Means}
 use Rattle.cdg_instructions.specs.declared.instr.Instr.{Instr}
 use Rattle.cdg_screen.specs.Picture.{Standing, blank, standing_of, standing_after, SameStanding}
 use Rattle.picture_script.specs.Script.{Drawing, pictures, ready_time, hold_time}
 use Rattle.picture_changes.specs.Schedule.{IsSchedule}
 use Rattle.picture_changes.specs.Shown.{ShowsPicture, AreTimesInOrder, AreColoursInRange}
-use Rattle.shown_pictures.specs.Shown.{AreMeantBy}
+use Rattle.picture_changes.specs.Meanings.{AreMeantBy}
 use Rattle.stream_trial.specs.Counts.{differing}
-use Rattle.stream_trial.specs.Replay.{one_where, TakesWord, TakesNothing, IsBelow, slot_of, IsDamagedSchedule, IsPlayedOut}
+use Rattle.stream_trial.specs.Replay.{one_where, TakesWord, TakesNothing, IsBelow, stream_slot, IsDamagedSchedule, IsPlayedOut}
 use Rattle.stream_trial.specs.declared.replay.Replay.{Replay}
 use Rattle.stream_trial.specs.declared.gallery.Gallery.{Gallery}
 use Rattle.stream_trial.specs.declared.playing.Counts.{Counts}
@@ -158,16 +158,16 @@ module _ (script : List Drawing) (symbols : List ℕ) (packs : List (List ℕ)) 
 
   -- the next slot
   slot_taken : GathersWords → OneMore → (n : ℕ) (old new : Replay) → 24 * n + 24 ≤ length bytes → n < 4 * (length bytes / 96) → old.gather ≡ gathered_before bytes n → AreTaken symbols packs (symbols_of bytes) n old
-      → (gather_gives old.gather (slot_of bytes n) ≡ None → TakesNothing old new)
-      → ((word codeword : List ℕ) → gather_gives old.gather (slot_of bytes n) ≡ Some word → Reads word codeword → TakesWord word codeword old new)
+      → (gather_gives old.gather (stream_slot bytes n) ≡ None → TakesNothing old new)
+      → ((word codeword : List ℕ) → gather_gives old.gather (stream_slot bytes n) ≡ Some word → Reads word codeword → TakesWord word codeword old new)
       → AreTaken symbols packs (symbols_of bytes) (n + 1) new
   slot_taken law more n old new fits within gather before none word =
       elim (cases_lt n 7) [
-        | inl few ↦ none_taken n old new few before (none (ap (λ g. gather_gives g (slot_of bytes n)) gather ∙ gives_none law bytes n fits few))
+        | inl few ↦ none_taken n old new few before (none (ap (λ g. gather_gives g (stream_slot bytes n)) gather ∙ gives_none law bytes n fits few))
         | inr enough ↦
             let last : n - 7 + 7 ≡ n = omega arith in
             let lt : n - 7 < whole_packs (length bytes / 96) = omega arith in
-            one_taken more (n - 7) n old new last lt before (word (word_of (symbols_of bytes) (n - 7)) (get_or packs (n - 7) []) (ap (λ g. gather_gives g (slot_of bytes n)) gather ∙ gives_word law bytes (n - 7) n fits last) (reads_pack (n - 7) lt))
+            one_taken more (n - 7) n old new last lt before (word (word_of (symbols_of bytes) (n - 7)) (get_or packs (n - 7) []) (ap (λ g. gather_gives g (stream_slot bytes n)) gather ∙ gives_word law bytes (n - 7) n fits last) (reads_pack (n - 7) lt))
       ]
 
   -- a picture that is ready is shown
@@ -244,8 +244,8 @@ begins script bytes replay gallery screen counts none = λ symbols packs damaged
 
 pub goes_on : GathersWords → OneMore → ShowsScheduled → (script : List Drawing) → AreTimesInOrder script → AreColoursInRange script → (bytes : List ℕ) (n : ℕ) (old new : Replay) (before after : Gallery) → length bytes % 96 ≡ 0 → n < length bytes / 24
     → old.gather ≡ gathered_before bytes n → IsPlayed script bytes n old before
-    → (gather_gives old.gather (slot_of bytes n) ≡ None → TakesNothing old new)
-    → ((word codeword : List ℕ) → gather_gives old.gather (slot_of bytes n) ≡ Some word → Reads word codeword → TakesWord word codeword old new)
+    → (gather_gives old.gather (stream_slot bytes n) ≡ None → TakesNothing old new)
+    → ((word codeword : List ℕ) → gather_gives old.gather (stream_slot bytes n) ≡ Some word → Reads word codeword → TakesWord word codeword old new)
     → ((before.next < pictures script → n + 1 ≢ 4 * ready_time script before.next) → (after.next ≡ before.next) × (after.equal ≡ before.equal))
     → (before.next < pictures script → n + 1 ≡ 4 * ready_time script before.next → (after.next ≡ before.next + 1) × ((now : Standing) → SameStanding (standing_of new.screen) now → ShowsPicture script before.next now → after.equal ≡ before.equal + 1))
     → IsPlayed script bytes (n + 1) new after

@@ -5,7 +5,7 @@ use Rattle.bit_lists.specs.Counting.{parts}
 use Rattle.raw_subcode.specs.Channels.{symbols_of, block_of, program_symbols}
 use Rattle.raw_subcode.specs.declared.form.Form.TheVariants.{Raw}
 use Rattle.rw_interleave.specs.Interleave.{whole_packs, Carries}
-use Rattle.stream_words.specs.Stream.{IsDamaged}
+use Rattle.rw_interleave.specs.Stream.{IsDamaged}
 use Rattle.cue_sheet.specs.CueSheet.{CueSheet}
 use Rattle.cue_sheet.specs.Grammar.{read_cue}
 use Rattle.toc_model.specs.Places.{program_blocks}
@@ -14,11 +14,11 @@ use Rattle.picture_script.specs.ScriptGrammar.{read_script}
 use Rattle.picture_changes.specs.Schedule.{IsSchedule}
 use Rattle.cdg_workload.specs.Script.{generated_script}
 use Rattle.cdg_workload.specs.Scratches.{scratched}
-use Rattle.generated_scripts.specs.Generated.{generated_drawings}
+use Rattle.cdg_workload.specs.Generated.{generated_drawings}
 use Rattle.subcode_author.specs.Authored.{IsAuthored, IsWrittenStream}
 use Rattle.stream_trial.specs.Counts.{differing}
-use Rattle.stream_trial.specs.Lines.{input_lines, output_lines}
-use Rattle.generated_schedules.specs.Trial.{trial_text, trial_sheet}
+use Rattle.stream_trial.specs.TrialLines.{input_lines, output_lines}
+use Rattle.stream_trial.specs.TrialSheet.{trial_text, trial_sheet}
 use Rattle.stream_trial.specs.Trial.{trial_audio, trial_blocks, all_changes, IsTrial}
 use Rattle.stream_trial.specs.Told.{told}
 use Rattle.stream_trial.specs.Replay.{IsDamagedSchedule, IsPlayedOut}

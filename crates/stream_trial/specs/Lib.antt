@@ -1,5 +1,6 @@
 pub mod Counts
-pub mod Lines
+pub mod TrialLines
 pub mod Trial
 pub mod Replay
 pub mod Told
+pub mod TrialSheet

@@ -4,7 +4,7 @@ use Rattle.raw_subcode.specs.Channels.{symbols_of}
 use Rattle.raw_subcode.specs.declared.form.Form.TheVariants.{Raw}
 use Rattle.rw_code.specs.Codeword.{differences}
 use Rattle.rw_interleave.specs.Interleave.{whole_packs, Carries}
-use Rattle.stream_words.specs.Stream.{IsDamaged}
+use Rattle.rw_interleave.specs.Stream.{IsDamaged}
 use Rattle.cdg_instructions.specs.Instruction.{Means}
 use Rattle.cdg_instructions.specs.declared.instr.Instr.{Instr}
 use Rattle.cdg_screen.specs.Picture.{Standing, standing_of, standing_after, screen_pixel, SameStanding}
@@ -59,8 +59,8 @@ pub record TakesNothing (old new : Replay) : Type 0 where
   pub screen : new.screen ≡ old.screen
 
 -- the symbols of slot n of a stream
-unfoldable pub slot_of : List ℕ → ℕ → List ℕ
-slot_of bytes n = symbols_of (take 24 (drop (24 * n) bytes))
+unfoldable pub stream_slot : List ℕ → ℕ → List ℕ
+stream_slot bytes n = symbols_of (take 24 (drop (24 * n) bytes))
 
 -- program symbols that are damaged from those which carry a schedule of the script
 pub record IsDamagedSchedule (script : List Drawing) (blocks : ℕ) (symbols : List ℕ) (packs : List (List ℕ)) (others : List ℕ) : Type 0 where

@@ -1,6 +1,6 @@
 -- What a report tells.
 use Rattle.std.specs.Prelude.{ℕ, List, ◌++◌}
-use Rattle.stream_trial.specs.Lines.{input_lines, output_lines}
+use Rattle.stream_trial.specs.TrialLines.{input_lines, output_lines}
 use Rattle.stream_trial.specs.declared.lines.Report.{Report}
 
 -- the lines of a report

@@ -11,10 +11,10 @@ use Rattle.picture_script.specs.ScriptGrammar.{read_script}
 use Rattle.picture_changes.specs.PlannedChange.{planned_change}
 use Rattle.cdg_workload.specs.Script.{generated_script}
 use Rattle.cdg_workload.specs.Scratches.{scratched}
-use Rattle.generated_schedules.specs.Trial.{trial_text}
+use Rattle.stream_trial.specs.TrialSheet.{trial_text}
 use Rattle.subcode_author.specs.Authored.{IsWrittenStream}
 use Rattle.stream_trial.specs.Counts.{differing}
-use Rattle.stream_trial.specs.Lines.{input_lines, output_lines}
+use Rattle.stream_trial.specs.TrialLines.{input_lines, output_lines}
 
 -- the blocks of audio of a trial of so many pictures: the one that is ready last is held for twenty more
 abbrev pub trial_audio : ℕ → ℕ

@@ -1,15 +1,14 @@
 // The script and the sheet of a trial.
 ghost use Rattle.std.specs.Prelude.{◌≡◌, ◌≤◌, IfOk, IfErr};
-ghost use Rattle.generated_scripts.specs.Generated.{generated_drawings};
-ghost use Rattle.generated_schedules.specs.Trial.{trial_sheet};
+ghost use Rattle.cdg_workload.specs.Generated.{generated_drawings};
+ghost use Rattle.stream_trial.specs.TrialSheet.{trial_sheet};
 ghost use Rattle.stream_trial.specs.declared.stops.TrialStop.TheVariants.{NoMemory};
 
 use crate::stops::TrialStop;
+use crate::trial_sheet_is_read;
 use cdg_io::{Failed, MemSink};
-use cdg_workload::write_script;
+use cdg_workload::{generated_scripts_are_read, generated_scripts_are_short, write_script};
 use cue_sheet::{CueStop, Sheet};
-use generated_schedules::trial_sheet_is_read;
-use generated_scripts::{generated_scripts_are_read, generated_scripts_are_short};
 use picture_script::{Script, ScriptStop};
 use std::alloc::Global;
 

@@ -8,10 +8,16 @@ mod lines;
 mod needs;
 mod playing;
 mod replay;
+mod schedules;
+mod scratches;
+mod sheet;
 mod sizes;
 mod stops;
 mod streams;
 mod trying;
 
+pub use schedules::{generated_scripts_are_authored, generated_scripts_are_ready};
+pub use scratches::{scratched_streams_are_recovered, scratched_words_are_near};
+pub use sheet::trial_sheet_is_read;
 pub use stops::TrialStop;
 pub use trying::trial;

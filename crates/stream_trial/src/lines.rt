@@ -1,6 +1,6 @@
 // The nine lines of a trial.
 ghost use Rattle.std.specs.Prelude.{◌≡◌, ◌≤◌, ◌+◌, ◌++◌, length};
-ghost use Rattle.stream_trial.specs.Lines.{count_line, input_lines, output_lines};
+ghost use Rattle.stream_trial.specs.TrialLines.{trial_count_line, input_lines, output_lines};
 ghost use Rattle.stream_trial.specs.Told.{told};
 
 use arrayvec::ArrayString;
@@ -38,7 +38,7 @@ impl Report {
     }
 
     /// The lines on what was made.
-    #[tactic(auto, unfolding(crate::specs::Lines::input_lines))]
+    #[tactic(auto, unfolding(crate::specs::TrialLines::input_lines))]
     fn push_input(&self, text: &mut Lines)
         requires { length text.old.bytes ≤ 0 }
         ensures text { text.new.bytes ≡ text.old.bytes ++ input_lines self.now.seed self.now.pictures self.now.blocks self.now.packs self.now.changes }
@@ -52,7 +52,7 @@ impl Report {
     }
 
     /// The lines on what was found.
-    #[tactic(auto, unfolding(crate::specs::Lines::output_lines))]
+    #[tactic(auto, unfolding(crate::specs::TrialLines::output_lines))]
     fn push_output(&self, text: &mut Lines)
         requires { length text.old.bytes ≤ 150 }
         ensures text { text.new.bytes ≡ text.old.bytes ++ output_lines self.now.one self.now.two self.now.bad self.now.equal }
@@ -65,11 +65,11 @@ impl Report {
 }
 
 /// A name and a count.
-#[tactic(auto, unfolding(crate::specs::Lines::count_line))]
+#[tactic(auto, unfolding(crate::specs::TrialLines::trial_count_line))]
 fn push_count(text: &mut Lines, name: &str, count: u64)
     requires name { length name.now ≤ 8 }
     requires room { length text.old.bytes ≤ 300 }
-    ensures text { text.new.bytes ≡ text.old.bytes ++ count_line name.now count }
+    ensures text { text.new.bytes ≡ text.old.bytes ++ trial_count_line name.now count }
     ensures short { length text.new.bytes ≤ length text.old.bytes + length name.now + 22 }
 {
     let mut digits = Buffer::new();

@@ -1,11 +1,11 @@
 // The instructions of all changes of a script.
 ghost use Rattle.std.specs.Prelude.{◌≡◌, ◌<◌, ◌≤◌, ◌+◌, ◌*◌, ℕ, IfOk, IfErr};
-ghost use Rattle.generated_scripts.specs.Generated.{generated_drawings};
+ghost use Rattle.cdg_workload.specs.Generated.{generated_drawings};
 ghost use Rattle.stream_trial.specs.Trial.{all_changes};
 ghost use Rattle.stream_trial.specs.declared.stops.TrialStop.TheVariants.{NoMemory};
 
+use crate::generated_scripts_are_ready;
 use crate::stops::TrialStop;
-use generated_schedules::generated_scripts_are_ready;
 use pack_schedule::{Stop, survey};
 use picture_script::Script;
 use std::alloc::Global;

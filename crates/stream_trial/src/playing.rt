@@ -1,14 +1,14 @@
 // A scratched stream, played from its front to its end.
 ghost use Rattle.std.specs.Prelude.{◌≡◌, ◌<◌, ◌≤◌, ◌+◌, ◌*◌, ◌/◌, ◌%◌, ℕ, List, length, take, drop, map, IfOk};
 ghost use Rattle.raw_subcode.specs.Channels.{symbols_of};
-ghost use Rattle.stream_trial.specs.Replay.{slot_of, IsDamagedSchedule, IsPlayedOut};
+ghost use Rattle.stream_trial.specs.Replay.{stream_slot, IsDamagedSchedule, IsPlayedOut};
 
 use crate::gallery::Gallery;
 use crate::replay::Replay;
 use cdg_screen::instructions_in_turn;
+use picture_changes::scheduled_pictures_are_shown;
 use picture_script::Script;
 use rw_interleave::{Slot, gather_gives_words};
-use shown_pictures::scheduled_pictures_are_shown;
 use std::alloc::{AllocError, Global};
 
 /// The bytes of a slot.
@@ -55,10 +55,10 @@ pub(crate) fn play(alloc: Global, script: &Script, bytes: &[u8]) -> Result<Count
 }
 
 /// Slot n of a stream.
-#[tactic(auto, unfolding(crate::specs::Replay::slot_of))]
+#[tactic(auto, unfolding(crate::specs::Replay::stream_slot))]
 fn slot(bytes: &[u8], n: usize) -> Slot
     requires { 24 * n + 24 ≤ length bytes.now }
-    ensures { result ≡ slot_of bytes.now n }
+    ensures { result ≡ stream_slot bytes.now n }
 {
     let mut slot = [0; SLOT_BYTES];
     slot.copy_from_slice(&bytes[SLOT_BYTES * n..SLOT_BYTES * (n + 1)]);

@@ -1,18 +1,18 @@
 // The stream of a trial, and the same with scratches.
 ghost use Rattle.std.specs.Prelude.{◌≡◌, ◌≤◌, ◌%◌, ℕ, List, length, IfOk, IfErr};
 ghost use Rattle.cdg_workload.specs.Scratches.{scratched};
-ghost use Rattle.generated_scripts.specs.Generated.{generated_drawings};
-ghost use Rattle.generated_schedules.specs.Trial.{trial_sheet};
+ghost use Rattle.cdg_workload.specs.Generated.{generated_drawings};
+ghost use Rattle.stream_trial.specs.TrialSheet.{trial_sheet};
 ghost use Rattle.subcode_author.specs.Authored.{IsWrittenStream};
 ghost use Rattle.stream_trial.specs.Trial.{trial_audio};
 ghost use Rattle.stream_trial.specs.declared.stops.TrialStop.TheVariants.{NoMemory};
 
 use crate::sizes::{count_audio, count_blocks};
 use crate::stops::TrialStop;
+use crate::trial_sheet_is_read;
 use cdg_io::{MemSink, PumpStop, SteadySource};
 use cdg_workload::scratch;
 use cue_sheet::Sheet;
-use generated_schedules::trial_sheet_is_read;
 use picture_script::Script;
 use std::alloc::Global;
 use subcode_author::{AuthorStop, author_stream};

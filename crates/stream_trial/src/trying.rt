@@ -14,10 +14,12 @@ use crate::playing::play;
 use crate::sizes::count_blocks;
 use crate::stops::TrialStop;
 use crate::streams::{make_stream, scratch_stream};
+use crate::trial_sheet_is_read;
 use cdg_io::{Sink, put_all};
-use cdg_workload::{scratches_are_bursts, scratches_are_damage};
-use generated_schedules::trial_sheet_is_read;
-use generated_scripts::{generated_scripts_are_read, generated_scripts_have_times};
+use cdg_workload::{
+    generated_scripts_are_read, generated_scripts_have_times, scratches_are_bursts,
+    scratches_are_damage,
+};
 use std::alloc::Global;
 
 /// Writes the stream of the generated script of a seed, scratches it with the same seed, corrects and plays it, and compares

@@ -3,8 +3,8 @@ use Rattle.std.specs.Prelude.{◌≡◌, ℕ, ◌+◌, ◌*◌, ◌<◌, Bool, f
 use Rattle.bit_lists.specs.Check.{check_bits}
 use Rattle.bit_lists.specs.Counting.{below}
 use Rattle.raw_subcode.specs.Channels.{p_bits, q_bits, symbols_of}
-use Rattle.q_frame.specs.QFrame.{fields_of, spelled, IsFrame}
-use Rattle.q_frame.specs.declared.frame.QFrame.{QFrame}
+use Rattle.q_channel.specs.QFrame.{fields_of, spelled, IsFrame}
+use Rattle.q_channel.specs.declared.frame.QFrame.{QFrame}
 use Rattle.toc_model.specs.Places.{DiscLayout}
 use Rattle.toc_model.specs.Layout.{p_bit, program_frame, toc_frame}
 use Rattle.cdtext_packs.specs.LeadIn.{lead_in_symbols}

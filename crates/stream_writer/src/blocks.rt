@@ -1,12 +1,12 @@
 // The blocks of a stream.
 ghost use Rattle.std.specs.Prelude.{◌≡◌, ◌<◌, ◌≤◌, false, All};
-ghost use Rattle.q_frame.specs.QFrame.{IsValid};
+ghost use Rattle.q_channel.specs.QFrame.{IsValid};
 ghost use Rattle.toc_model.specs.Layout.{p_bit, program_frame, toc_frame};
 ghost use Rattle.cdtext_packs.specs.LeadIn.{lead_in_symbols};
 ghost use Rattle.stream_writer.specs.Blocks.{built_block, carrying_block, frame_bits, lead_in_block, IsBuilt};
 
 use cdtext_packs::{TextPack, lead_in_symbols};
-use q_frame::{QFrame, encode};
+use q_channel::{QFrame, encode};
 use raw_subcode::Block;
 use toc_model::Layout;
 

@@ -7,5 +7,5 @@ use Rattle.toc_model.specs.Places.{DiscLayout}
 use Rattle.stream_writer.specs.Given.{PutsStreamPart as PutsPartAsItComes}
 
 -- a prefix of the lead-in and so many program blocks with these packs of a script was put
-abbrev pub PutsStreamPart : DiscLayout → List Drawing → List (List ℕ) → ℕ → Option (List ℕ) → Option (List ℕ) → ℕ → List (List ℕ) → Type 0
-PutsStreamPart layout script texts lead_in held held' n packs = PutsPartAsItComes layout (IsPackAt script) texts lead_in held held' n packs
+abbrev pub PutsScriptPart : DiscLayout → List Drawing → List (List ℕ) → ℕ → Option (List ℕ) → Option (List ℕ) → ℕ → List (List ℕ) → Type 0
+PutsScriptPart layout script texts lead_in held held' n packs = PutsPartAsItComes layout (IsPackAt script) texts lead_in held held' n packs

@@ -9,16 +9,16 @@ use Rattle.subcode_author.specs.declared.stops.AuthorStop.{AuthorStop}
 use Rattle.subcode_author.specs.declared.stops.AuthorStop.TheVariants.{LengthShort, DiscTooLong, PastEnd, TextTooLong, LeadInShort, Late, NoMemory}
 
 -- the stop of the whole for a stop of the layout
-abbrev pub of_layout : LayoutStop → AuthorStop
-of_layout (layout_short need) = LengthShort need
-of_layout (layout_long blocks) = DiscTooLong blocks
-of_layout layout_memory = NoMemory
+abbrev pub author_stop_of_layout : LayoutStop → AuthorStop
+author_stop_of_layout (layout_short need) = LengthShort need
+author_stop_of_layout (layout_long blocks) = DiscTooLong blocks
+author_stop_of_layout layout_memory = NoMemory
 
 -- the stop of the whole for a stop of the lead-in
-abbrev pub of_lead_in : LeadInStop → AuthorStop
-of_lead_in (text_long packs) = TextTooLong packs
-of_lead_in (lead_in_short need) = LeadInShort need
-of_lead_in text_memory = NoMemory
+abbrev pub author_stop_of_lead_in : LeadInStop → AuthorStop
+author_stop_of_lead_in (text_long packs) = TextTooLong packs
+author_stop_of_lead_in (lead_in_short need) = LeadInShort need
+author_stop_of_lead_in text_memory = NoMemory
 
 -- the stop of the whole for a stop of the pictures
 abbrev pub of_schedule : Stop → AuthorStop

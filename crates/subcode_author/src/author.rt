@@ -8,7 +8,7 @@ ghost use Rattle.picture_changes.specs.Brings.{CannotBeReady, IsChange};
 ghost use Rattle.picture_changes.specs.PlannedChange.{planned_change};
 ghost use Rattle.subcode_author.specs.Authored.{text_packs, IsWrittenStream};
 ghost use Rattle.subcode_author.specs.AuthorAnswer.{IsAccepted, IsAuthorStop};
-ghost use Rattle.subcode_author.specs.Given.{PutsStreamPart};
+ghost use Rattle.subcode_author.specs.Given.{PutsScriptPart};
 
 use crate::parts::{lay_out, start_weaver};
 use crate::scheduled::Scheduled;
@@ -16,9 +16,9 @@ use crate::stops::AuthorStop;
 use cdg_io::Sink;
 use cue_sheet::Sheet;
 use pack_schedule::packs_are_a_schedule;
+use picture_changes::needs_are_fewest;
 use picture_script::Script;
 use rw_interleave::Spread;
-use shortest_changes::needs_are_fewest;
 use std::alloc::Global;
 use stream_writer::{pack_texts, write_stream};
 
@@ -62,7 +62,7 @@ pub fn author_stream<K: Sink>(
     ensures write_fault { result ≡ Err AuthorStop.WriteFault → Rose (K.faults out.old) (K.faults out.new) }
     ensures no_write_fault { result ≢ Err AuthorStop.WriteFault → K.faults out.new ≡ K.faults out.old }
     ensures part { result ≡ Err AuthorStop.WriteFault → (n : ℕ) × (packs : List (List ℕ))
-        × PutsStreamPart (layout_of sheet.now length) script.now (text_packs sheet.now) lead_in (K.held out.old) (K.held out.new) n packs }
+        × PutsScriptPart (layout_of sheet.now length) script.now (text_packs sheet.now) lead_in (K.held out.old) (K.held out.new) n packs }
     ensures later { K.faults out.old ≤ K.faults out.new }
 {
     packs_are_a_schedule();

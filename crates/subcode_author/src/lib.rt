@@ -1,10 +1,17 @@
 //! Writes the subcode of a disc: the layout of a cue sheet, its texts, and the pictures of a script.
 #![tactic(auto)]
 
+mod answer_laws;
 mod author;
 mod parts;
 mod scheduled;
 mod stops;
+mod stream_laws;
 
+pub use answer_laws::each_disc_has_one_answer;
 pub use author::author_stream;
 pub use stops::AuthorStop;
+pub use stream_laws::{
+    accepted_scripts_are_in_order, accepted_scripts_have_streams, authored_streams_are_one,
+    parts_are_prefixes,
+};

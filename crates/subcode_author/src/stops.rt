@@ -29,9 +29,9 @@ pub enum AuthorStop {
 }
 
 impl From<LayoutStop> for AuthorStop {
-    ghost use Rattle.subcode_author.specs.Stops.{of_layout};
+    ghost use Rattle.subcode_author.specs.Stops.{author_stop_of_layout};
 
-    ghost from_gives = { λ stop e. e ≡ of_layout stop };
+    ghost from_gives = { λ stop e. e ≡ author_stop_of_layout stop };
 
     fn from(stop: LayoutStop) -> AuthorStop {
         match stop {
@@ -43,9 +43,9 @@ impl From<LayoutStop> for AuthorStop {
 }
 
 impl From<LeadInStop> for AuthorStop {
-    ghost use Rattle.subcode_author.specs.Stops.{of_lead_in};
+    ghost use Rattle.subcode_author.specs.Stops.{author_stop_of_lead_in};
 
-    ghost from_gives = { λ stop e. e ≡ of_lead_in stop };
+    ghost from_gives = { λ stop e. e ≡ author_stop_of_lead_in stop };
 
     fn from(stop: LeadInStop) -> AuthorStop {
         match stop {

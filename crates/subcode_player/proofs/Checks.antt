@@ -20,16 +20,16 @@ use Rattle.rw_code.specs.Finding.{finding}
 use Rattle.raw_subcode.specs.Channels.{unit_size, block_of, blocks_of, symbols_of, program_symbols}
 use Rattle.raw_subcode.specs.declared.form.Form.{Form}
 use Rattle.raw_subcode.specs.declared.form.Form.TheVariants.{Raw, Sector, Cooked}
-use Rattle.stream_words.specs.Stream.{word_count, form_word}
-use Rattle.q_frame.specs.declared.frame.QFrame.{QFrame}
-use Rattle.q_frame.specs.declared.frame.QFault.{QFault}
-use Rattle.block_stages.specs.QList.{q_blocks, AreReadings}
-use Rattle.block_stages.proofs.QRuns.{readings_are}
-use Rattle.block_stages.proofs.QRuns as q_runs
+use Rattle.rw_interleave.specs.Stream.{word_count, form_word}
+use Rattle.q_channel.specs.declared.frame.QFrame.{QFrame}
+use Rattle.q_channel.specs.declared.frame.QFault.{QFault}
+use Rattle.q_channel.specs.QList.{q_blocks, AreQReadings}
+use Rattle.q_channel.proofs.QRuns.{readings_are}
+use Rattle.q_channel.proofs.QRuns as q_runs
 use Rattle.subcode_player.specs.Calls.{most_units, IsEarly, IsPlayed, PlaysAtEnd, IsAnsweredBy}
 use Rattle.subcode_player.specs.Steps.{slots_of, words_next, words_give}
-use Rattle.subcode_player.specs.Counts.{stream_lines, wrong_lines, kind_lines, frame_lines, check_text, IsChecked}
-use Rattle.subcode_player.specs.CountSteps.{count_after, counts_next, frames_next, counting_next, lines_of, has_frames, IsFresh}
+use Rattle.subcode_player.specs.Check.{stream_lines, wrong_lines, pack_count_lines, frame_count_lines, check_text, IsCheckListed}
+use Rattle.subcode_player.specs.CheckSteps.{count_after, counts_next, frames_next, counting_next, lines_of_counts, has_frames, IsFresh}
 use Rattle.subcode_player.specs.Watch.{play_stop, Watches}
 use Rattle.subcode_player.specs.declared.counting.FrameCounts.{FrameCounts}
 use Rattle.subcode_player.specs.declared.counting.Counting.{Counting}
@@ -78,13 +78,13 @@ same_four f a b c d a' b' c' d' p q r s = rw (p, q, r, s) refl
 
 lines_are : (form : Form) (lead_in n : ℕ) (end : Counting) (words : List (List ℕ)) (readings : List (Result QFrame QFault)) → AreCounted words end.words.second
     → end.frames.good ≡ count_by is_ok readings → end.frames.bad ≡ count_by is_err readings → length words ≡ word_count form (n - lead_in)
-    → lines_of form lead_in n end ≡ check_text (min lead_in n) (n - lead_in) words (map finding words) readings
-unfolding lines_of check_text
+    → lines_of_counts form lead_in n end ≡ check_text (min lead_in n) (n - lead_in) words (map finding words) readings
+unfolding lines_of_counts check_text
 lines_are form lead_in n end words readings c good bad size =
     let join : (xs ys xs' ys' : List ℕ) → xs ≡ xs' → ys ≡ ys' → xs ++ ys ≡ xs' ++ ys' = λ xs ys xs' ys' p q. ap₂ (λ (x y : List ℕ). x ++ y) p q in
     join _ _ _ _ (ap (stream_lines (min lead_in n) (n - lead_in)) (sym size))
     (join _ _ _ _ (same_four wrong_lines _ _ _ _ _ _ _ _ c.clean c.one c.two c.bad)
-    (join _ _ _ _ (same_four kind_lines _ _ _ _ _ _ _ _ c.idle c.graphics c.unknown c.foreign) (ap₂ frame_lines good bad)))
+    (join _ _ _ _ (same_four pack_count_lines _ _ _ _ _ _ _ _ c.idle c.graphics c.unknown c.foreign) (ap₂ frame_count_lines good bad)))
 
 -- ---- the same by the bytes
 
@@ -92,9 +92,9 @@ sized_blocks : (blocks : List (List ℕ)) → Sized 96 blocks → q_runs.Sized b
 sized_blocks [] sized = tt
 sized_blocks (b ∷ blocks) sized = (sized.0, sized_blocks blocks sized.1)
 
-are_readings : (form : Form) (bytes : List ℕ) (blocks : List (List ℕ)) → blocks_of form bytes ≡ blocks → Sized 96 blocks → AreReadings (q_blocks form bytes) (readings_for form blocks)
-are_readings Raw bytes blocks e sized = subst (λ (bs : List (List ℕ)). AreReadings bs (map reading_at blocks)) (sym e) (readings_are blocks (sized_blocks blocks sized))
-are_readings Sector bytes blocks e sized = subst (λ (bs : List (List ℕ)). AreReadings bs (map reading_at blocks)) (sym e) (readings_are blocks (sized_blocks blocks sized))
+are_readings : (form : Form) (bytes : List ℕ) (blocks : List (List ℕ)) → blocks_of form bytes ≡ blocks → Sized 96 blocks → AreQReadings (q_blocks form bytes) (readings_for form blocks)
+are_readings Raw bytes blocks e sized = subst (λ (bs : List (List ℕ)). AreQReadings bs (map reading_at blocks)) (sym e) (readings_are blocks (sized_blocks blocks sized))
+are_readings Sector bytes blocks e sized = subst (λ (bs : List (List ℕ)). AreQReadings bs (map reading_at blocks)) (sym e) (readings_are blocks (sized_blocks blocks sized))
 are_readings Cooked bytes blocks e sized = refl
 
 -- the words of blocks by their symbols
@@ -104,7 +104,7 @@ words_of_bytes form blocks sized =
     ∙ ap (λ (symbols : List ℕ). map (form_word form symbols) (below (word_count form (length blocks)))) (all_slots_together blocks sized)
 
 checked_blocks : (form : Form) (lead_in : ℕ) (s : Counting) (bytes : List ℕ) (n : ℕ) (end : Counting) → IsFresh form lead_in s → n ≤ most_units → IsWhole (unit_size form) n bytes
-    → end ≡ run_state counting_next s (map (block_of form) (units_of (unit_size form) n bytes)) → IsChecked form lead_in bytes (lines_of form lead_in n end) end.words.second.bad
+    → end ≡ run_state counting_next s (map (block_of form) (units_of (unit_size form) n bytes)) → IsCheckListed form lead_in bytes (lines_of_counts form lead_in n end) end.words.second.bad
 checked_blocks form lead_in s bytes n end fresh few whole_units e =
     let size : ℕ = unit_size form in
     let units : List (List ℕ) = units_of size n bytes in
@@ -138,24 +138,24 @@ checked_blocks form lead_in s bytes n end fresh few whole_units e =
 
 module _ (form : Form) (lead_in : ℕ) (left left' held held' : Option (List ℕ)) (s s' : Counting) (taken : List ℕ) where
   abbrev Calls : Result Played PlayStop → Type 0
-  Calls result = PlaysAtEnd (IsChecked form lead_in) form lead_in left left' held held' result taken
+  Calls result = PlaysAtEnd (IsCheckListed form lead_in) form lead_in left left' held held' result taken
 
   played_for : (pumped : Pumped) (played : Played) → IsFresh form lead_in s → Watches form counting_next left left' s s' (Ok pumped) taken → played.blocks ≡ pumped.units - lead_in → played.bad ≡ s'.words.second.bad
-      → IsPlayed (IsChecked form lead_in) form lead_in taken played (lines_of form lead_in pumped.units s')
+      → IsPlayed (IsCheckListed form lead_in) form lead_in taken played (lines_of_counts form lead_in pumped.units s')
   played_for pumped played fresh w blocks bad =
       let whole_units = whole_taken form pumped.units taken w.done.1 in
       record {
         blocks = blocks ∙ ap (λ n. n - lead_in) (sym (units_in form pumped.units taken whole_units));
-        written = subst (IsChecked form lead_in taken (lines_of form lead_in pumped.units s')) (sym bad) (checked_blocks form lead_in s taken pumped.units s' fresh w.done.2 whole_units w.done.3);
+        written = subst (IsCheckListed form lead_in taken (lines_of_counts form lead_in pumped.units s')) (sym bad) (checked_blocks form lead_in s taken pumped.units s' fresh w.done.2 whole_units w.done.3);
       }
 
   pub checks_done : (pumped : Pumped) (answer : Result Played PlayStop) → IsFresh form lead_in s → Watches form counting_next left left' s s' (Ok pumped) taken
-      → IfOk answer (λ played. (played.blocks ≡ pumped.units - lead_in) × (played.bad ≡ s'.words.second.bad) × Appends held held' (lines_of form lead_in pumped.units s'))
-      → IfErr answer (λ stop. (stop ≡ WriteFault) × AppendsPrefix held held' (lines_of form lead_in pumped.units s')) → Calls answer
+      → IfOk answer (λ played. (played.blocks ≡ pumped.units - lead_in) × (played.bad ≡ s'.words.second.bad) × Appends held held' (lines_of_counts form lead_in pumped.units s'))
+      → IfErr answer (λ stop. (stop ≡ WriteFault) × AppendsPrefix held held' (lines_of_counts form lead_in pumped.units s')) → Calls answer
   checks_done pumped (Ok played) fresh w ok part = record {
     taken_from = w.taken_from;
     within = w.within;
-    done = (w.done.0, (lines_of form lead_in pumped.units s', played_for pumped played fresh w ok.0 ok.1, ok.2));
+    done = (w.done.0, (lines_of_counts form lead_in pumped.units s', played_for pumped played fresh w ok.0 ok.1, ok.2));
     stopped = λ stop e not. (cc);
     ended = λ stop e not. (cc);
     cut = λ e. (cc);
@@ -168,7 +168,7 @@ module _ (form : Form) (lead_in : ℕ) (left left' held held' : Option (List ℕ
     ended = λ other e not. w.done.0;
     cut = λ e.
         let played : Played = record { blocks = pumped.units - lead_in; bad = s'.words.second.bad } in
-        (w.done.0, (lines_of form lead_in pumped.units s', (played, played_for pumped played fresh w refl refl), part.1));
+        (w.done.0, (lines_of_counts form lead_in pumped.units s', (played, played_for pumped played fresh w refl refl), part.1));
   }
 
   checks_stopped : (stop : PumpStop) → held' ≡ held → Watches form counting_next left left' s s' (Err stop) taken → Calls (Err (play_stop stop))

@@ -6,8 +6,8 @@ use Rattle.std.proofs.lemmas.List.{length-take-le}
 use Rattle.cdg_io.specs.Run.{run_state, run_gives}
 use Rattle.cdg_io.specs.Pump.{units_of, given}
 use Rattle.raw_subcode.specs.Channels.{unit_size, block_of, symbols_of}
-use Rattle.stream_words.specs.Stream.{IsRecovered, bad_count}
-use Rattle.stream_words.specs.Texts.{cdg_bytes}
+use Rattle.rw_interleave.specs.Stream.{IsRecovered, bad_count}
+use Rattle.rw_interleave.specs.Texts.{cdg_bytes}
 use Rattle.subcode_player.specs.Calls.{most_units}
 use Rattle.subcode_player.specs.Convert.{IsConverted}
 use Rattle.raw_subcode.specs.declared.form.Form.{Form}

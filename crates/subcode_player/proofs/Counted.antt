@@ -13,12 +13,12 @@ use Rattle.rw_code.specs.Codeword.{differences}
 use Rattle.rw_code.specs.Finding.{finding}
 use Rattle.raw_subcode.specs.Channels.{q_bits}
 use Rattle.q_channel.specs.ReadingOf.{reading_of}
-use Rattle.q_frame.specs.declared.frame.QFrame.{QFrame}
-use Rattle.q_frame.specs.declared.frame.QFault.{QFault}
+use Rattle.q_channel.specs.declared.frame.QFrame.{QFrame}
+use Rattle.q_channel.specs.declared.frame.QFault.{QFault}
 use Rattle.subcode_player.specs.Steps.{words_next, words_give}
-use Rattle.subcode_player.specs.Counts.{has_wrong, found_passes, is_idle, is_graphics, is_unknown, is_foreign}
-use Rattle.subcode_player.specs.CountSteps.{tick, wrong_counted, kind_counted, count_found, count_next, count_after, counts_next, frames_next, counting_next}
-use Rattle.subcode_player.specs.declared.words.BlockWords.{BlockWords}
+use Rattle.subcode_player.specs.Check.{has_wrong, found_passes, is_idle, is_graphics, is_unknown, is_foreign}
+use Rattle.subcode_player.specs.CheckSteps.{tick, wrong_counted, kind_counted, count_found, count_next, count_after, counts_next, frames_next, counting_next}
+use Rattle.subcode_player.specs.declared.block_words.BlockWords.{BlockWords}
 use Rattle.subcode_player.specs.declared.counting.WordCounts.{WordCounts}
 use Rattle.subcode_player.specs.declared.counting.FrameCounts.{FrameCounts}
 use Rattle.subcode_player.specs.declared.counting.Counting.{Counting}

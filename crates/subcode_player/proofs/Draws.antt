@@ -6,18 +6,18 @@ use Rattle.std.proofs.lemmas.List.{take_more}
 use Rattle.arrayvec.specs.ArrayVec.{ArrayVec}
 use Rattle.cdg_io.specs.Run.{run_state}
 use Rattle.rw_code.specs.Finding.{finding}
-use Rattle.stream_words.specs.Stream.{bad_count}
+use Rattle.rw_interleave.specs.Stream.{bad_count}
 use Rattle.cdg_instructions.specs.Meaning.{meaning}
 use Rattle.cdg_instructions.proofs.Meaning.{meaning_means}
 use Rattle.cdg_instructions.specs.declared.instr.Instr.{Instr}
 use Rattle.cdg_screen.specs.Picture.{Display, Standing, SameStanding, standing_of, standing_after}
 use Rattle.cdg_screen.proofs.Turns.{same_after, same_then, same_back, in_turn}
-use Rattle.subcode_player.specs.Standings.{obeyed}
+use Rattle.cdg_screen.specs.Standings.{obeyed}
 use Rattle.subcode_player.specs.Steps.{bad_next}
 use Rattle.subcode_player.specs.Drawn.{entry_drawn, draw_next, draw_after, drawing_next}
-use Rattle.subcode_player.specs.Shown.{AreMeant}
+use Rattle.subcode_player.specs.Screen.{AreMeant}
 use Rattle.subcode_player.specs.declared.drawing.Drawing.{Drawing}
-use Rattle.subcode_player.proofs.StandingLemmas.{obeyed_is}
+use Rattle.cdg_screen.proofs.StandingLemmas.{obeyed_is}
 use Rattle.subcode_player.proofs.StageRuns.{all_items, one_bad, count_more, at_most_one}
 
 -- ---- a loop over words

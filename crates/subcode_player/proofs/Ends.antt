@@ -6,15 +6,15 @@ use Rattle.cdg_io.specs.declared.pumping.PumpStop.{PumpStop}
 use Rattle.cdg_io.specs.declared.pumping.PumpStop.TheVariants as pump
 use Rattle.subcode_player.specs.Calls.{EndFirst, EndInTurn, IsStreamStop}
 use Rattle.cdg_io.specs.Causes.{Rose}
-use Rattle.lead_in_texts.specs.declared.LeadInTexts.{LeadInTexts}
+use Rattle.cdtext_packs.specs.declared.lead_in_texts.LeadInTexts.{LeadInTexts}
 use Rattle.std.specs.declared.option.Option.{Option}
-use Rattle.subcode_player.specs.TextList.{EndOfTexts, IsListStop}
+use Rattle.subcode_player.specs.TextListing.{EndOfTexts, IsListStop}
 use Rattle.subcode_player.specs.Watch.{WritesTexts, play_stop}
 use Rattle.subcode_player.specs.declared.player.Played.{Played}
 use Rattle.subcode_player.specs.declared.player.PlayStop.{PlayStop}
 use Rattle.subcode_player.specs.declared.player.PlayStop.TheVariants.{ReadFault, WriteFault, Torn, TooLong, PastEnd}
-use Rattle.subcode_player.specs.declared.text_listing.TextStop.{TextStop}
-use Rattle.subcode_player.specs.declared.text_listing.TextStop.TheVariants.{Play, Text}
+use Rattle.subcode_player.specs.declared.text.TextStop.{TextStop}
+use Rattle.subcode_player.specs.declared.text.TextStop.TheVariants.{Play, Text}
 
 abbrev pump_error : PumpStop → Result Pumped PumpStop
 pump_error stop = Err stop

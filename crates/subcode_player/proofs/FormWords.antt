@@ -14,7 +14,7 @@ use Rattle.rw_interleave.specs.Gathering.{gather_next, gather_gives}
 use Rattle.rw_interleave.proofs.Gathers.{gathers}
 use Rattle.rw_interleave.proofs.Places.{concat_at}
 use Rattle.raw_subcode.specs.Channels.{symbols_of}
-use Rattle.stream_words.specs.Stream.{word_count, plain_word, form_word, IsRecovered}
+use Rattle.rw_interleave.specs.Stream.{word_count, plain_word, form_word, IsRecovered}
 use Rattle.subcode_player.specs.Steps.{slots_of, window_next, window_gives}
 use Rattle.raw_subcode.specs.declared.form.Form.{Form}
 use Rattle.raw_subcode.specs.declared.form.Form.TheVariants.{Raw, Sector, Cooked}

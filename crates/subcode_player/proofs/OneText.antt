@@ -12,24 +12,24 @@ use Rattle.rw_interleave.specs.Interleave.{whole_packs}
 use Rattle.raw_subcode.specs.Channels.{unit_size, blocks_of, program_symbols, q_bits, channel_bit}
 use Rattle.raw_subcode.specs.declared.form.Form.{Form}
 use Rattle.raw_subcode.specs.declared.form.Form.TheVariants.{Raw, Sector, Cooked}
-use Rattle.stream_words.specs.Stream.{IsRecovered, bad_count, form_word, word_count}
-use Rattle.stream_words.specs.Texts.{cdg_bytes}
-use Rattle.stream_words.proofs.Recovery.{form_words}
+use Rattle.rw_interleave.specs.Stream.{IsRecovered, bad_count, form_word, word_count}
+use Rattle.rw_interleave.specs.Texts.{cdg_bytes}
+use Rattle.rw_interleave.proofs.Recovery.{form_words}
 use Rattle.cdg_instructions.specs.Instruction.{Means}
 use Rattle.cdg_instructions.specs.declared.instr.Instr.{Instr}
 use Rattle.cdg_screen.specs.Picture.{Standing, blank, standing_after}
-use Rattle.q_frame.specs.declared.frame.QFrame.{QFrame}
-use Rattle.q_frame.specs.declared.frame.QFault.{QFault}
+use Rattle.q_channel.specs.declared.frame.QFrame.{QFrame}
+use Rattle.q_channel.specs.declared.frame.QFault.{QFault}
 use Rattle.q_channel.specs.QReading.{IsReading}
 use Rattle.q_channel.specs.ReadingOf.{reading_of}
-use Rattle.block_stages.specs.QList.{AreReadings, IsQListed, q_blocks, q_lines}
+use Rattle.q_channel.specs.QList.{AreQReadings, IsQListed, q_blocks, q_lines}
 use Rattle.cdtext_packs.specs.Texts.{Texts}
 use Rattle.cdtext_packs.specs.declared.kinds.TextFault.{TextFault}
-use Rattle.cdtext_lines.specs.Lines.{text_lines}
+use Rattle.cdtext_packs.specs.TextLines.{text_lines}
 use Rattle.subcode_player.specs.Convert.{IsConverted}
-use Rattle.subcode_player.specs.Counts.{IsChecked, check_text}
-use Rattle.subcode_player.specs.Shown.{AreMeant, AreShown, IsWrittenAt}
-use Rattle.subcode_player.specs.TextList.{IsTextListed, packs_in}
+use Rattle.subcode_player.specs.Check.{IsCheckListed, check_text}
+use Rattle.subcode_player.specs.Screen.{AreMeant, AreShown, IsWrittenAt}
+use Rattle.subcode_player.specs.TextListing.{IsTextListed, packs_in}
 use Rattle.subcode_player.proofs.Slots.{Sized, symbols_small}
 use Rattle.subcode_player.proofs.Conversion.{units_sized, blocks_sized}
 
@@ -62,7 +62,7 @@ one_meant law (Some word ∷ rest) (instr ∷ one) [] a b = absurd b
 one_meant law (Some word ∷ rest) (instr ∷ one) (more ∷ other) a b = ap₂ (λ (i : Instr) (l : List Instr). i ∷ l) (law word instr more a.0 b.0) (one_meant law rest one other a.1 b.1)
 
 -- one list of readings is read
-one_read : OneReading → (blocks : List (List ℕ)) → Sized 96 blocks → (one other : List (Result QFrame QFault)) → AreReadings blocks one → AreReadings blocks other → one ≡ other
+one_read : OneReading → (blocks : List (List ℕ)) → Sized 96 blocks → (one other : List (Result QFrame QFault)) → AreQReadings blocks one → AreQReadings blocks other → one ≡ other
 one_read law [] sized one other a b = a ∙ sym b
 one_read law (block ∷ rest) sized [] other a b = absurd a
 one_read law (block ∷ rest) sized (x ∷ one) [] a b = absurd b
@@ -94,7 +94,7 @@ one_showing law meaning write form lead_in time bytes one other bad another a b 
       a.bad_is ∙ ap (λ (l : List (Option (List ℕ))). bad_count (take (whole_packs time) l)) same ∙ sym b.bad_is,
     )
 
-pub one_check : OneFinding → OneReading → (form : Form) (lead_in : ℕ) (bytes one other : List ℕ) (bad another : ℕ) → IsChecked form lead_in bytes one bad → IsChecked form lead_in bytes other another
+pub one_check : OneFinding → OneReading → (form : Form) (lead_in : ℕ) (bytes one other : List ℕ) (bad another : ℕ) → IsCheckListed form lead_in bytes one bad → IsCheckListed form lead_in bytes other another
     → (one ≡ other) × (bad ≡ another)
 one_check law reading form lead_in bytes one other bad another a b =
     let same = one_found law form lead_in bytes a.found b.found a.recovered b.recovered in

@@ -6,14 +6,14 @@ use Rattle.std.proofs.lemmas.List.{take-append-le, take-map, length-map}
 use Rattle.cdg_io.specs.Pump.{units_of}
 use Rattle.rw_interleave.specs.Interleave.{whole_packs}
 use Rattle.raw_subcode.specs.Channels.{unit_size, block_of, blocks_of, program_symbols}
-use Rattle.stream_words.specs.Stream.{all_packs, word_count, bad_count}
+use Rattle.rw_interleave.specs.Stream.{all_packs, word_count, bad_count}
 use Rattle.cdg_instructions.specs.declared.instr.Instr.{Instr}
 use Rattle.cdg_screen.specs.Picture.{blank, standing_after}
 use Rattle.picture_script.specs.Script.{Drawing, pictures, ready_time, hold_time}
 use Rattle.picture_changes.specs.Schedule.{IsSchedule}
 use Rattle.picture_changes.specs.Shown.{ShowsPicture, AreTimesInOrder, AreColoursInRange}
-use Rattle.shown_pictures.specs.Shown.{AreMeantBy}
-use Rattle.subcode_player.specs.Shown.{AreMeant, IsScreenAt, IsShownBy, Shows}
+use Rattle.picture_changes.specs.Meanings.{AreMeantBy}
+use Rattle.subcode_player.specs.Screen.{AreMeant, IsScreenAt, IsShownBy, Shows}
 use Rattle.subcode_player.specs.Pictured.{IsScheduledStream, IsHeldAt, IsPictureText, GivesPicture}
 use Rattle.raw_subcode.specs.declared.form.Form.{Form}
 use Rattle.subcode_player.specs.declared.player.Played.{Played}

@@ -10,13 +10,13 @@ use Rattle.cdg_io.specs.declared.stage.Then.{Then}
 use Rattle.cdg_io.proofs.Runs.{joined, joined_second, joined_gives}
 use Rattle.cdg_io.proofs.Streaming.{IsWhole}
 use Rattle.raw_subcode.specs.Channels.{unit_size, block_of, blocks_of}
-use Rattle.block_stages.specs.QSteps.{q_next, q_give}
-use Rattle.block_stages.specs.QList.{q_blocks, q_lines, AreReadings, IsQListed}
-use Rattle.block_stages.specs.declared.q_lines.QLines.{QLines}
-use Rattle.block_stages.proofs.QRuns.{reading_at, lines_run, counts_run, readings_are}
+use Rattle.q_channel.specs.QSteps.{q_next, q_give}
+use Rattle.q_channel.specs.QList.{q_blocks, q_lines, AreQReadings, IsQListed}
+use Rattle.q_channel.specs.declared.q_lines.QLines.{QLines}
+use Rattle.q_channel.proofs.QRuns.{reading_at, lines_run, counts_run, readings_are}
 use Rattle.raw_subcode.specs.declared.form.Form.{Form}
 use Rattle.raw_subcode.specs.declared.form.Form.TheVariants.{Raw, Sector}
-use Rattle.subcode_player.specs.declared.sectors.SectorBlocks.{SectorBlocks}
+use Rattle.subcode_player.specs.declared.sector_blocks.SectorBlocks.{SectorBlocks}
 use Rattle.subcode_player.proofs.Slots.{Sized}
 use Rattle.subcode_player.proofs.Playing.{Plays, units_in}
 use Rattle.subcode_player.proofs.Conversion.{length-units_of, units_sized, blocks_sized}
@@ -27,7 +27,7 @@ listed : (form : Form) (bytes text : List ℕ) (bad : ℕ) (blocks : List (List 
     → text ≡ q_lines 0 (map reading_at blocks) → bad ≡ count_by is_err (map reading_at blocks) → IsQListed form bytes text bad
 listed form bytes text bad blocks same sized text_is bad_is = record {
   readings = map reading_at blocks;
-  read = subst (λ (bs : List (List ℕ)). AreReadings bs (map reading_at blocks)) (sym same) (readings_are blocks sized);
+  read = subst (λ (bs : List (List ℕ)). AreQReadings bs (map reading_at blocks)) (sym same) (readings_are blocks sized);
   text_is = text_is;
   bad_is = bad_is;
 }

@@ -6,7 +6,7 @@ use Rattle.std.specs.Io.KnownBytes.{Appends, Consumes, IsAtEnd}
 use Rattle.std.proofs.lemmas.List.Elements.{All-from_get_or}
 use Rattle.rw_interleave.specs.Interleave.{Carries}
 use Rattle.raw_subcode.specs.Channels.{unit_size, blocks_of, program_symbols}
-use Rattle.stream_words.specs.Stream.{all_packs, IsDamaged, IsRecovered}
+use Rattle.rw_interleave.specs.Stream.{all_packs, IsDamaged, IsRecovered}
 use Rattle.raw_subcode.specs.declared.form.Form.{Form}
 use Rattle.raw_subcode.specs.declared.form.Form.TheVariants.{Sector}
 use Rattle.subcode_player.specs.Calls.{IsAnsweredBy}

@@ -10,11 +10,11 @@ use Rattle.arrayvec.specs.ArrayVec.{ArrayVec}
 use Rattle.cdg_io.specs.Run.{give, run_state, run_gives}
 use Rattle.cdg_io.proofs.Runs.{run_gives-append}
 use Rattle.rw_code.specs.Finding.{finding}
-use Rattle.stream_words.specs.Texts.{entry_bytes, cdg_bytes}
-use Rattle.stream_words.specs.Stream.{bad_count}
+use Rattle.rw_interleave.specs.Texts.{entry_bytes, cdg_bytes}
+use Rattle.rw_interleave.specs.Stream.{bad_count}
 use Rattle.subcode_player.specs.Steps.{slots_of, window_next, window_gives, words_next, words_give, bad_next, bad_after, correction_next, correction_gives}
 use Rattle.raw_subcode.specs.declared.form.Form.{Form}
-use Rattle.subcode_player.specs.declared.words.BlockWords.{BlockWords}
+use Rattle.subcode_player.specs.declared.block_words.BlockWords.{BlockWords}
 use Rattle.subcode_player.specs.declared.correction.Correction.{Correction}
 
 -- all words of the lists that were given

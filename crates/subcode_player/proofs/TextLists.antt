@@ -16,24 +16,24 @@ use Rattle.cdtext_packs.specs.LeadIn.{lead_in_packs}
 use Rattle.cdtext_packs.specs.Reading.{read_texts}
 use Rattle.cdtext_packs.specs.Texts.{Texts}
 use Rattle.cdtext_packs.specs.declared.kinds.TextFault.{TextFault}
-use Rattle.cdtext_lines.specs.Lines.{counted_lines, text_lines}
-use Rattle.lead_in_texts.specs.TextSteps.{begun, text_next, HasRead}
-use Rattle.lead_in_texts.specs.declared.LeadInTexts.{LeadInTexts}
+use Rattle.cdtext_packs.specs.TextLines.{counted_lines, text_lines}
+use Rattle.cdtext_packs.specs.TextSteps.{fresh_texts, text_next, HasRead}
+use Rattle.cdtext_packs.specs.declared.lead_in_texts.LeadInTexts.{LeadInTexts}
 use Rattle.subcode_player.specs.Calls.{most_units}
 use Rattle.subcode_player.specs.Watch.{Watches, WritesTexts, play_stop}
-use Rattle.subcode_player.specs.TextList.{packs_in, texts_in, IsTextListed, IsTextFault, IsEarlyStop, ListsTexts, IsWholeInput, IsListedBy}
+use Rattle.subcode_player.specs.TextListing.{packs_in, texts_of_lead_in, IsTextListed, IsTextFault, IsEarlyStop, ListsTexts, IsWholeInput, IsListedBy}
 use Rattle.subcode_player.specs.declared.player.Played.{Played}
 use Rattle.subcode_player.specs.declared.player.PlayStop.{PlayStop}
 use Rattle.subcode_player.specs.declared.player.PlayStop.TheVariants.{ReadFault, WriteFault, Torn, TooLong, PastEnd}
-use Rattle.subcode_player.specs.declared.text_listing.TextStop.{TextStop}
-use Rattle.subcode_player.specs.declared.text_listing.TextStop.TheVariants.{Play, Text}
+use Rattle.subcode_player.specs.declared.text.TextStop.{TextStop}
+use Rattle.subcode_player.specs.declared.text.TextStop.TheVariants.{Play, Text}
 use Rattle.subcode_player.proofs.Playing.{units_in}
 use Rattle.subcode_player.proofs.Views.{whole_taken, done_tests, not_over, zero_rest}
 use Rattle.subcode_player.proofs.Checks.{checked_stop}
 use Rattle.subcode_player.proofs.Restoring.{taken_all}
 
 abbrev pub ReadsLeadIns : Type 0
-ReadsLeadIns = (lead_in : ℕ) (blocks : List (List ℕ)) → lead_in ≤ 450000 → HasRead (lead_in_packs (take lead_in blocks)) (run_state text_next (begun lead_in) blocks)
+ReadsLeadIns = (lead_in : ℕ) (blocks : List (List ℕ)) → lead_in ≤ 450000 → HasRead (lead_in_packs (take lead_in blocks)) (run_state text_next (fresh_texts lead_in) blocks)
 
 counted_same : (texts : Texts) (good bad other good' bad' other' : ℕ) → good ≡ good' → bad ≡ bad' → other ≡ other' → counted_lines texts good bad other ≡ counted_lines texts good' bad' other'
 counted_same texts good bad other good' bad' other' e f g =
@@ -41,19 +41,19 @@ counted_same texts good bad other good' bad' other' e f g =
 
 module _ (form : Form) (lead_in : ℕ) (left left' held held' : Option (List ℕ)) (s s' : LeadInTexts) (taken : List ℕ) where
   -- the lead-in of what was taken is read
-  has_read : (pumped : Pumped) → ReadsLeadIns → lead_in ≤ 450000 → s ≡ begun lead_in → Watches form text_next left left' s s' (Ok pumped) taken → HasRead (packs_in form lead_in taken) s'
+  has_read : (pumped : Pumped) → ReadsLeadIns → lead_in ≤ 450000 → s ≡ fresh_texts lead_in → Watches form text_next left left' s s' (Ok pumped) taken → HasRead (packs_in form lead_in taken) s'
   has_read pumped law few fresh w =
       let units = units_of (unit_size form) pumped.units taken in
       let same : units_of (unit_size form) (length taken / unit_size form) taken ≡ units_of (unit_size form) pumped.units taken
       = ap (λ (n : ℕ). units_of (unit_size form) n taken) (units_in form pumped.units taken (whole_taken form pumped.units taken w.done.1)) in
       let blocks : blocks_of form taken ≡ map (block_of form) (units_of (unit_size form) pumped.units taken) = ap (λ (us : List (List ℕ)). map (block_of form) us) same in
-      let run : s' ≡ run_state text_next (begun lead_in) (map (block_of form) (units_of (unit_size form) pumped.units taken))
+      let run : s' ≡ run_state text_next (fresh_texts lead_in) (map (block_of form) (units_of (unit_size form) pumped.units taken))
       = w.done.3 ∙ ap (λ (t : LeadInTexts). run_state text_next t (map (block_of form) (units_of (unit_size form) pumped.units taken))) fresh in
       subst (λ (t : LeadInTexts). HasRead (packs_in form lead_in taken) t) (sym run)
-      (subst (λ (bs : List (List ℕ)). HasRead (lead_in_packs (take lead_in bs)) (run_state text_next (begun lead_in) (map (block_of form) (units_of (unit_size form) pumped.units taken)))) (sym blocks)
+      (subst (λ (bs : List (List ℕ)). HasRead (lead_in_packs (take lead_in bs)) (run_state text_next (fresh_texts lead_in) (map (block_of form) (units_of (unit_size form) pumped.units taken)))) (sym blocks)
       (law lead_in (map (block_of form) (units_of (unit_size form) pumped.units taken)) few))
 
-  texts_read : HasRead (packs_in form lead_in taken) s' → read_texts s'.reader ≡ texts_in form lead_in taken
+  texts_read : HasRead (packs_in form lead_in taken) s' → read_texts s'.reader ≡ texts_of_lead_in form lead_in taken
   texts_read read = ap read_texts read.kept
 
   lines_read : (texts : Texts) → HasRead (packs_in form lead_in taken) s' → counted_lines texts s'.good s'.bad s'.other ≡ text_lines texts (packs_in form lead_in taken)
@@ -66,7 +66,7 @@ module _ (form : Form) (lead_in : ℕ) (left left' held held' : Option (List ℕ
   whole_rest : (pumped : Pumped) → Watches form text_next left left' s s' (Ok pumped) taken → length taken % unit_size form ≡ 0
   whole_rest pumped w = ap (λ n. n % unit_size form) w.done.1 ∙ mul-mod_left pumped.units (unit_size form)
 
-  pub lists_done : (pumped : Pumped) (answer : Result Played TextStop) (blocks : ℕ) → ReadsLeadIns → lead_in ≤ 450000 → s ≡ begun lead_in → Watches form text_next left left' s s' (Ok pumped) taken
+  pub lists_done : (pumped : Pumped) (answer : Result Played TextStop) (blocks : ℕ) → ReadsLeadIns → lead_in ≤ 450000 → s ≡ fresh_texts lead_in → Watches form text_next left left' s s' (Ok pumped) taken
       → blocks ≡ pumped.units - lead_in → WritesTexts s' blocks held held' answer → ListsTexts form lead_in left left' held held' answer taken
   lists_done pumped (Ok played) blocks law few fresh w is writes =
       let read = has_read pumped law few fresh w in
@@ -114,7 +114,7 @@ module _ (form : Form) (lead_in : ℕ) (left left' held held' : Option (List ℕ
         };
         refused = λ other e.
             let same : fault ≡ other = cc in
-            (whole_rest pumped w, subst (λ (f : TextFault). IsTextFault f (texts_in form lead_in taken)) same (subst (λ (r : Result Texts TextFault). IsTextFault fault r) (texts_read read) writes.0));
+            (whole_rest pumped w, subst (λ (f : TextFault). IsTextFault f (texts_of_lead_in form lead_in taken)) same (subst (λ (r : Result Texts TextFault). IsTextFault fault r) (texts_read read) writes.0));
       }
   lists_done pumped (Err (Play ReadFault)) blocks law few fresh w is writes = absurd writes
   lists_done pumped (Err (Play (Torn block))) blocks law few fresh w is writes = absurd writes
@@ -178,10 +178,10 @@ listed_done form lead_in pumped answer None left' held held' s s' taken blocks w
 listed_done form lead_in pumped (Ok played) (Some all) left' held held' s s' taken blocks w writes lists e =
     let same : taken ≡ all = taken_all all left' taken w.taken_from w.done.0 in
     let (end, (text, is_played, put)) = lists.plays.done in
-    (whole_input form pumped all e, subst (λ (bytes : List ℕ). IsOk (texts_in form lead_in bytes)) same (is_ok_read (texts_in form lead_in taken) is_played.written.texts is_played.written.read))
+    (whole_input form pumped all e, subst (λ (bytes : List ℕ). IsOk (texts_of_lead_in form lead_in bytes)) same (is_ok_read (texts_of_lead_in form lead_in taken) is_played.written.texts is_played.written.read))
 listed_done form lead_in pumped (Err (Text fault)) (Some all) left' held held' s s' taken blocks w writes lists e =
     let same : taken ≡ all = taken_all all left' taken w.taken_from w.done.0 in
-    (whole_input form pumped all e, subst (λ (bytes : List ℕ). IsTextFault fault (texts_in form lead_in bytes)) same (lists.refused fault refl).1)
+    (whole_input form pumped all e, subst (λ (bytes : List ℕ). IsTextFault fault (texts_of_lead_in form lead_in bytes)) same (lists.refused fault refl).1)
 listed_done form lead_in pumped (Err (Play WriteFault)) (Some all) left' held held' s s' taken blocks w writes lists e = tt
 listed_done form lead_in pumped (Err (Play ReadFault)) (Some all) left' held held' s s' taken blocks w writes lists e = absurd writes
 listed_done form lead_in pumped (Err (Play (Torn block))) (Some all) left' held held' s s' taken blocks w writes lists e = absurd writes

@@ -21,15 +21,15 @@ use Rattle.rw_code.specs.Finding.{finding}
 use Rattle.rw_interleave.specs.Interleave.{whole_packs}
 use Rattle.raw_subcode.specs.Channels.{unit_size, block_of, symbols_of, program_symbols}
 use Rattle.raw_subcode.specs.declared.form.Form.{Form}
-use Rattle.stream_words.specs.Stream.{IsRecovered, bad_count}
+use Rattle.rw_interleave.specs.Stream.{IsRecovered, bad_count}
 use Rattle.cdg_screen.specs.Picture.{Standing, SameStanding, blank, standing_of, standing_after}
 use Rattle.cdg_screen.proofs.Turns.{same_after, same_then}
 use Rattle.subcode_player.specs.Calls.{most_units, IsEarly}
-use Rattle.subcode_player.specs.Steps.{begun, slots_of, window_next, window_gives, words_next, words_give}
+use Rattle.subcode_player.specs.Steps.{fresh_words, slots_of, window_next, window_gives, words_next, words_give}
 use Rattle.subcode_player.specs.Drawn.{draw_after, drawing_next}
 use Rattle.subcode_player.specs.Watch.{IsViewed, Views, Watches, play_stop, viewed}
-use Rattle.subcode_player.specs.Shown.{IsWrittenAt, IsShownBy, Shows}
-use Rattle.subcode_player.specs.declared.words.BlockWords.{BlockWords}
+use Rattle.subcode_player.specs.Screen.{IsWrittenAt, IsShownBy, Shows}
+use Rattle.subcode_player.specs.declared.block_words.BlockWords.{BlockWords}
 use Rattle.subcode_player.specs.declared.drawing.Drawing.{Drawing}
 use Rattle.subcode_player.specs.declared.player.Played.{Played}
 use Rattle.subcode_player.specs.declared.player.PlayStop.{PlayStop}
@@ -49,7 +49,7 @@ drawings_next s x = joined words_next words_give drawing_next s x
 
 -- the state before the first block
 pub record IsReady (form : Form) (lead_in time : ℕ) (s : Drawings) : Type 0 where
-  pub words : s.first ≡ begun form lead_in
+  pub words : s.first ≡ fresh_words form lead_in
   pub left : s.second.left ≡ whole_packs time
   pub bad : s.second.bad ≡ 0
   pub blank : SameStanding (standing_of s.second.picture) blank

@@ -15,7 +15,7 @@ use Rattle.raw_subcode.specs.declared.form.Form.{Form}
 use Rattle.raw_subcode.specs.declared.form.Form.TheVariants.{Sector}
 use Rattle.subcode_player.specs.Calls.{most_units}
 use Rattle.subcode_player.specs.Watch.{Watches}
-use Rattle.subcode_player.specs.declared.sectors.SectorBlocks.{SectorBlocks}
+use Rattle.subcode_player.specs.declared.sector_blocks.SectorBlocks.{SectorBlocks}
 use Rattle.subcode_player.proofs.PlayRuns.{plain_blocks, cut_next, cut_give, cut_all}
 
 abbrev error : PumpStop → Result Pumped PumpStop

@@ -3,8 +3,8 @@ use Rattle.std.specs.Prelude.{◌≡◌, ℕ, ◌*◌, ◌%◌, ◌≤◌, ⊤, 
 use Rattle.std.specs.Io.KnownBytes.{Appends}
 use Rattle.rw_interleave.specs.Interleave.{Carries}
 use Rattle.raw_subcode.specs.Channels.{unit_size, program_symbols}
-use Rattle.stream_words.specs.Stream.{IsRecovered, IsDamaged, bad_count}
-use Rattle.stream_words.specs.Texts.{cdg_bytes}
+use Rattle.rw_interleave.specs.Stream.{IsRecovered, IsDamaged, bad_count}
+use Rattle.rw_interleave.specs.Texts.{cdg_bytes}
 use Rattle.subcode_player.specs.Calls.{most_units, PlaysInTurn}
 use Rattle.raw_subcode.specs.declared.form.Form.{Form}
 use Rattle.subcode_player.specs.declared.player.Played.{Played}

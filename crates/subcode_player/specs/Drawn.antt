@@ -4,7 +4,7 @@ use Rattle.arrayvec.specs.ArrayVec.{ArrayVec}
 use Rattle.rw_code.specs.Finding.{finding}
 use Rattle.cdg_instructions.specs.Meaning.{meaning}
 use Rattle.cdg_screen.specs.Picture.{Display}
-use Rattle.subcode_player.specs.Standings.{obeyed}
+use Rattle.cdg_screen.specs.Standings.{obeyed}
 use Rattle.subcode_player.specs.Steps.{bad_next}
 use Rattle.subcode_player.specs.declared.drawing.Drawing.{Drawing}
 

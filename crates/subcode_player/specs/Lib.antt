@@ -1,11 +1,10 @@
 pub mod Steps
 pub mod Calls
 pub mod Convert
-pub mod Standings
 pub mod Drawn
-pub mod Shown
+pub mod Screen
 pub mod Watch
 pub mod Pictured
-pub mod Counts
-pub mod CountSteps
-pub mod TextList
+pub mod Check
+pub mod CheckSteps
+pub mod TextListing

@@ -6,10 +6,10 @@ use Rattle.rw_code.specs.Finding.{finding}
 use Rattle.bit_lists.specs.Counting.{below}
 use Rattle.rw_interleave.specs.Gathering.{gather_next, gather_gives}
 use Rattle.raw_subcode.specs.Channels.{symbols_of}
-use Rattle.stream_words.specs.Texts.{cdg_bytes}
+use Rattle.rw_interleave.specs.Texts.{cdg_bytes}
 use Rattle.raw_subcode.specs.declared.form.Form.{Form}
 use Rattle.raw_subcode.specs.declared.form.Form.TheVariants.{Raw, Sector, Cooked}
-use Rattle.subcode_player.specs.declared.words.BlockWords.{BlockWords}
+use Rattle.subcode_player.specs.declared.block_words.BlockWords.{BlockWords}
 use Rattle.subcode_player.specs.declared.correction.Correction.{Correction}
 
 -- slot i of a block
@@ -33,8 +33,8 @@ window_gives Sector window slot = gather_gives window slot
 window_gives Cooked window slot = Some slot
 
 -- the state at the start of a stream
-abbrev pub begun : Form → ℕ → BlockWords
-begun form lead_in = record { form = form; lead_in = lead_in; gather = [] }
+abbrev pub fresh_words : Form → ℕ → BlockWords
+fresh_words form lead_in = record { form = form; lead_in = lead_in; gather = [] }
 
 -- a block of the lead-in is passed over, and one of the program is taken slot by slot
 unfoldable pub words_next : BlockWords → List ℕ → BlockWords

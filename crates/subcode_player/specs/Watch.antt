@@ -10,21 +10,21 @@ use Rattle.cdg_io.specs.declared.pumping.PumpStop.TheVariants as pump_stop
 use Rattle.rw_interleave.specs.Interleave.{whole_packs}
 use Rattle.raw_subcode.specs.Channels.{unit_size, block_of, program_symbols}
 use Rattle.raw_subcode.specs.declared.form.Form.{Form}
-use Rattle.stream_words.specs.Stream.{IsRecovered, bad_count}
+use Rattle.rw_interleave.specs.Stream.{IsRecovered, bad_count}
 use Rattle.cdg_instructions.specs.declared.instr.Instr.{Instr}
 use Rattle.cdg_screen.specs.Picture.{Standing, SameStanding, blank, standing_after}
 use Rattle.cdtext_packs.specs.Reading.{read_texts}
 use Rattle.cdtext_packs.specs.Texts.{Texts}
-use Rattle.cdtext_lines.specs.Lines.{counted_lines}
-use Rattle.lead_in_texts.specs.declared.LeadInTexts.{LeadInTexts}
+use Rattle.cdtext_packs.specs.TextLines.{counted_lines}
+use Rattle.cdtext_packs.specs.declared.lead_in_texts.LeadInTexts.{LeadInTexts}
 use Rattle.subcode_player.specs.Calls.{most_units, IsEarly}
-use Rattle.subcode_player.specs.Shown.{AreShown}
-use Rattle.subcode_player.specs.TextList.{IsTextFault}
+use Rattle.subcode_player.specs.Screen.{AreShown}
+use Rattle.subcode_player.specs.TextListing.{IsTextFault}
 use Rattle.subcode_player.specs.declared.player.Played.{Played}
 use Rattle.subcode_player.specs.declared.player.PlayStop.{PlayStop}
 use Rattle.subcode_player.specs.declared.player.PlayStop.TheVariants.{ReadFault, WriteFault, Torn, TooLong, PastEnd}
-use Rattle.subcode_player.specs.declared.text_listing.TextStop.{TextStop}
-use Rattle.subcode_player.specs.declared.text_listing.TextStop.TheVariants.{Play, Text}
+use Rattle.subcode_player.specs.declared.text.TextStop.{TextStop}
+use Rattle.subcode_player.specs.declared.text.TextStop.TheVariants.{Play, Text}
 
 -- These bytes were taken, and where they are whole units to the end, the stage is in the last state of its run over their blocks.
 pub record Watches {S : Type 0} (form : Form) (next : S → List ℕ → S) (left left' : Option (List ℕ)) (s s' : S) (result : Result Pumped PumpStop) (taken : List ℕ) : Type 0 where

@@ -1,11 +1,11 @@
 // Counts of words, packs and frames.
 ghost use Rattle.std.specs.Prelude.{◌≡◌, ◌≤◌, ◌+◌, ◌++◌, ◌==◌, length, Some, None};
 ghost use Rattle.rw_code.specs.Codeword.{IsWord, differences};
-ghost use Rattle.subcode_player.specs.Steps.{begun};
-ghost use Rattle.subcode_player.specs.Counts.{is_known};
-ghost use Rattle.subcode_player.specs.CountSteps.{tick, wrong_counted, kind_counted, count_found, count_next, counts_next, counts_give, frames_next, counting_next, counting_gives};
+ghost use Rattle.subcode_player.specs.Steps.{fresh_words};
+ghost use Rattle.subcode_player.specs.Check.{is_known};
+ghost use Rattle.subcode_player.specs.CheckSteps.{tick, wrong_counted, kind_counted, count_found, count_next, counts_next, counts_give, frames_next, counting_next, counting_gives};
 
-use crate::words::{BLOCK, BlockOfWords};
+use crate::block_words::{BLOCK, BlockOfWords};
 use crate::{BlockWords, Form};
 use cdg_io::{Piece, Stage, Then};
 use q_channel::decode;
@@ -53,7 +53,7 @@ pub struct Counting {
 }
 
 /// Counts one more, up to the last value.
-#[tactic(auto, unfolding(crate::specs::CountSteps::tick))]
+#[tactic(auto, unfolding(crate::specs::CheckSteps::tick))]
 fn tick(count: &mut u32, hit: bool)
     ensures { count.new ≡ tick hit count.old }
 {
@@ -113,7 +113,7 @@ impl WordCounts {
     }
 
     /// Counts a word with no codeword near.
-    #[tactic(auto, unfolding(crate::specs::CountSteps::count_found, crate::specs::CountSteps::tick))]
+    #[tactic(auto, unfolding(crate::specs::CheckSteps::count_found, crate::specs::CheckSteps::tick))]
     fn count_bad(&mut self, word: &Word)
         ensures { self.new ≡ count_found self.old word.now None }
     {
@@ -140,7 +140,7 @@ impl Stage for WordCounts {
 
 impl FrameCounts {
     /// Counts the frame of a block, where frames are read.
-    #[tactic(auto, unfolding(crate::specs::CountSteps::frames_next))]
+    #[tactic(auto, unfolding(crate::specs::CheckSteps::frames_next))]
     fn count(&mut self, block: &[u8; BLOCK])
         ensures { self.new ≡ frames_next self.old block.now }
     {
@@ -155,7 +155,7 @@ impl FrameCounts {
 impl Counting {
     /// Counts of no stream yet.
     pub(crate) fn new() -> Counting
-        ensures { result.words.first ≡ begun Form.Raw 0 }
+        ensures { result.words.first ≡ fresh_words Form.Raw 0 }
     {
         Counting {
             frames: FrameCounts::default(),
@@ -173,7 +173,7 @@ impl Stage for Counting {
 
     ghost gives = { counting_gives };
 
-    #[tactic(auto, unfolding(crate::specs::CountSteps::counting_next, crate::specs::CountSteps::counting_gives))]
+    #[tactic(auto, unfolding(crate::specs::CheckSteps::counting_next, crate::specs::CheckSteps::counting_gives))]
     fn feed(&mut self, block: &[u8; BLOCK]) -> Option<Piece> {
         self.frames.count(block);
         self.words.feed(block)

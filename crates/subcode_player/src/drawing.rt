@@ -5,7 +5,7 @@ ghost use Rattle.subcode_player.specs.Steps.{bad_next};
 ghost use Rattle.subcode_player.specs.Drawn.{entry_drawn, draw_next, drawing_next, drawing_gives};
 
 use crate::Picture;
-use crate::words::BlockOfWords;
+use crate::block_words::BlockOfWords;
 use cdg_io::{Piece, Stage};
 use rw_code::{Word, correct};
 

@@ -1,30 +1,30 @@
 //! A player of subcode streams: it reads blocks, gathers and corrects packs, and writes them.
 #![tactic(auto)]
 
-mod checking;
-mod converting;
+mod block_words;
+mod check;
+mod convert;
 mod correction;
 mod counting;
 mod drawing;
 mod outputs;
 mod picture;
-mod pictures;
 mod player;
-mod q_listing;
-mod sectors;
-mod showing;
-mod text_listing;
-mod watching;
-mod words;
+mod q;
+mod scheduled_screens;
+mod screen;
+mod sector_blocks;
+mod text;
+mod watch;
 
+pub use block_words::BlockWords;
 pub use correction::Correction;
 pub use counting::{Counting, FrameCounts, WordCounts};
 pub use drawing::Drawing;
 pub use outputs::one_text_is_written;
 pub use picture::Picture;
-pub use pictures::screens_show_pictures;
 pub use player::{PlayStop, Played, Player};
 pub use raw_subcode::Form;
-pub use sectors::SectorBlocks;
-pub use text_listing::TextStop;
-pub use words::BlockWords;
+pub use scheduled_screens::screens_show_pictures;
+pub use sector_blocks::SectorBlocks;
+pub use text::TextStop;

@@ -1,11 +1,11 @@
 // What is written is one function of the bytes.
 ghost use Rattle.std.specs.Prelude.{◌≡◌, List, ℕ};
-ghost use Rattle.block_stages.specs.QList.{IsQListed};
+ghost use Rattle.q_channel.specs.QList.{IsQListed};
 ghost use Rattle.raw_subcode.specs.declared.form.Form.{Form};
 ghost use Rattle.subcode_player.specs.Convert.{IsConverted};
-ghost use Rattle.subcode_player.specs.Counts.{IsChecked};
-ghost use Rattle.subcode_player.specs.Shown.{IsScreenAt, IsStateAt};
-ghost use Rattle.subcode_player.specs.TextList.{IsTextListed};
+ghost use Rattle.subcode_player.specs.Check.{IsCheckListed};
+ghost use Rattle.subcode_player.specs.Screen.{IsScreenAt, IsStateAt};
+ghost use Rattle.subcode_player.specs.TextListing.{IsTextListed};
 
 use cdg_instructions::only_one_meaning;
 use q_channel::readings_are_functions;
@@ -20,7 +20,7 @@ pub fn one_text_is_written()
     ensures state { (form : Form) (lead_in at : ℕ) (bytes one other : List ℕ) (bad another : ℕ)
         → IsStateAt form lead_in at bytes one bad → IsStateAt form lead_in at bytes other another → (one ≡ other) × (bad ≡ another) }
     ensures checked { (form : Form) (lead_in : ℕ) (bytes one other : List ℕ) (bad another : ℕ)
-        → IsChecked form lead_in bytes one bad → IsChecked form lead_in bytes other another → (one ≡ other) × (bad ≡ another) }
+        → IsCheckListed form lead_in bytes one bad → IsCheckListed form lead_in bytes other another → (one ≡ other) × (bad ≡ another) }
     ensures frames { (form : Form) (bytes one other : List ℕ) (bad another : ℕ)
         → IsQListed form bytes one bad → IsQListed form bytes other another → (one ≡ other) × (bad ≡ another) }
     ensures texts { (form : Form) (lead_in : ℕ) (bytes one other : List ℕ) (bad another : ℕ)

@@ -6,7 +6,7 @@ ghost use Rattle.cdg_io.specs.Moves.{AppendsPrefix};
 ghost use Rattle.cdg_instructions.specs.Meaning.{meaning};
 ghost use Rattle.cdg_screen.specs.Picture.{Standing, SameStanding, blank, standing_of};
 ghost use Rattle.cdg_screen.specs.Texts.{pixmap, state_text};
-ghost use Rattle.subcode_player.specs.Standings.{obeyed};
+ghost use Rattle.cdg_screen.specs.Standings.{obeyed};
 
 use cdg_instructions::read;
 use cdg_io::{Failed, Sink};
@@ -23,7 +23,7 @@ pub struct Picture {
 
 impl Model for Picture {
     ghost use Rattle.cdg_screen.specs.Picture.{Display, standing_of};
-    ghost use Rattle.subcode_player.specs.Standings.{display_of};
+    ghost use Rattle.cdg_screen.specs.Standings.{display_of};
 
     ghost Value = { Display };
 

@@ -1,11 +1,11 @@
 // A player, and what its calls share.
 ghost use Rattle.std.specs.Prelude.{◌≡◌, ◌-◌, IfOk};
 ghost use Rattle.subcode_player.specs.Watch.{play_stop};
-ghost use Rattle.subcode_player.specs.Steps.{begun};
+ghost use Rattle.subcode_player.specs.Steps.{fresh_words};
 
 use crate::{BlockWords, Correction, Counting, Drawing, Form, Picture, SectorBlocks};
 use cdg_io::{PumpStop, Pumped, Then};
-use lead_in_texts::LeadInTexts;
+use cdtext_packs::LeadInTexts;
 use std::alloc::{AllocError, Global};
 
 /// The most units that a call reads.
@@ -54,7 +54,7 @@ pub struct Player {
 impl Player {
     /// Takes the memory of the screen and of the texts.
     pub fn start(alloc: Global) -> Result<Player, AllocError>
-        ensures { IfOk result (λ p. (p.stages.second.first ≡ begun Form.Raw 0) × (p.stages.second.second.bad ≡ 0)) }
+        ensures { IfOk result (λ p. (p.stages.second.first ≡ fresh_words Form.Raw 0) × (p.stages.second.second.bad ≡ 0)) }
     {
         let drawing = Drawing {
             picture: Picture::start(alloc)?,
@@ -85,7 +85,7 @@ impl Player {
 
     /// Brings back the state after the start, for a stream of this form.
     pub(crate) fn begin(&mut self, lead_in: u32, form: Form)
-        ensures words { self.new.stages.second.first ≡ begun form lead_in }
+        ensures words { self.new.stages.second.first ≡ fresh_words form lead_in }
         ensures bad { self.new.stages.second.second.bad ≡ 0 }
     {
         self.stages.second.first.begin(lead_in, form);

@@ -8,7 +8,7 @@ use Rattle.std.proofs.lemmas.Nat.Bits.{bit_at_cat_low, bit_at_cat_high, bit_at_a
 use Rattle.std.proofs.lemmas.Bool.Decides.{eqb_tells}
 use Rattle.bit_lists.specs.Bits.{has_bit}
 use Rattle.tile_author.proofs.Span.{Spans, Free}
-use Rattle.tile_author.specs.Plan.{is_combination, selection, combination, basis, differences}
+use Rattle.tile_author.specs.Plan.{is_combination, selection, combination, basis, differences_from_first}
 use Rattle.tile_author.specs.Table.{entry}
 use Rattle.tile_author.proofs.Combine.{twice}
 use Rattle.tile_author.proofs.Exchange.{Spans-same, Spans-sum}
@@ -159,4 +159,4 @@ selection-makes w p h =
 
 pub selection-only : (w : List ℕ) (s : ℕ) → s < 2 ^ length (basis w) → selection (basis w) (combination (basis w) s) ≡ s
 unfolding basis Free
-selection-only w s h = selection-unique (basis w) s (combination (basis w) s) (basis-free [] (differences w) tt) h (sym (combination-partial (basis w) s))
+selection-only w s h = selection-unique (basis w) s (combination (basis w) s) (basis-free [] (differences_from_first w) tt) h (sym (combination-partial (basis w) s))

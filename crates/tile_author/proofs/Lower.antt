@@ -11,7 +11,7 @@ use Rattle.cdg_instructions.specs.Drawing.{IsOfPlace, drawn, tile_from}
 use Rattle.cdg_instructions.specs.declared.instr.Instr.{Instr}
 use Rattle.cdg_instructions.specs.declared.instr.Instr.TheVariants.{Idle, Foreign, Unknown, MemoryPreset, BorderPreset, SetTile, XorTile, ScrollPreset, ScrollCopy, Transparency, ColoursLow, ColoursHigh}
 use Rattle.tile_author.proofs.Span.{Spans, Spanned}
-use Rattle.tile_author.specs.Plan.{differences, basis}
+use Rattle.tile_author.specs.Plan.{differences_from_first, basis}
 use Rattle.tile_author.proofs.Combine.{twice, swap, middle, both}
 use Rattle.tile_author.proofs.Exchange.{Spans-same, Spans-sum}
 use Rattle.tile_author.proofs.BasisLaws.{rank_within}
@@ -115,8 +115,8 @@ Spanned-map gs a (x ∷ w) h = (h 0 (omega arith), Spanned-map gs a w (λ p p_lt
 
 -- flat pixels need no more numbers than those over which they are flat
 pub flat_rank : (gs : List ℕ) (base : ℕ) (w : List ℕ) → length w ≡ 72 → Flat gs base (λ p. slice_index w p) → length (basis w) ≤ length gs
-unfolding Flat basis differences
+unfolding Flat basis differences_from_first
 flat_rank gs base w size flat =
-    rank_within gs (differences w) (Spanned-map gs (slice_index w 0) w (λ p p_lt.
+    rank_within gs (differences_from_first w) (Spanned-map gs (slice_index w 0) w (λ p p_lt.
     Spans-same gs _ _ (both base (slice_index w 0) (slice_index w p))
     (Spans-sum gs (bit_xor base (slice_index w 0)) (bit_xor base (slice_index w p)) (flat 0 (omega arith)) (flat p (omega arith)))))

@@ -5,7 +5,7 @@ use Rattle.std.proofs.lemmas.List.{ext_get_or, length-map, get_or-map}
 use Rattle.std.proofs.lemmas.List.Elements.{All-nil, All-cons}
 use Rattle.cdg_instructions.specs.Instruction.{IsTilePixels}
 use Rattle.cdg_instructions.specs.Drawing.{IsLeast}
-use Rattle.tile_author.specs.Plan.{basis, basis_from, differences, weight, delta, steps}
+use Rattle.tile_author.specs.Plan.{basis, basis_from, differences_from_first, weight, delta, steps}
 use Rattle.tile_author.proofs.Combine.{both}
 use Rattle.tile_author.proofs.Needed.{length-delta, delta_at, equal_tells}
 use Rattle.tile_author.proofs.Shortest.{least}
@@ -26,8 +26,8 @@ All-replicate P (suc n) c h = All-cons P c (replicate n c) h (All-replicate P n 
 pub one_colour : (c : ℕ) → c < 16 → IsTilePixels (replicate 72 c)
 one_colour c h = record { count = length-replicate 72 c; below = All-replicate (λ n. n < 16) 72 c h }
 
-same_differences : (c : ℕ) (new : List ℕ) → length new ≡ 72 → differences (delta (replicate 72 c) new) ≡ differences new
-unfolding differences
+same_differences : (c : ℕ) (new : List ℕ) → length new ≡ 72 → differences_from_first (delta (replicate 72 c) new) ≡ differences_from_first new
+unfolding differences_from_first
 same_differences c new size =
     let old = replicate 72 c in
     let d = delta old new in

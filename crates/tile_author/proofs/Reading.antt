@@ -8,7 +8,7 @@ use Rattle.std.proofs.lemmas.Bool.Decides.{eqb_tells}
 use Rattle.std.proofs.lemmas.List.{length-map, length-take, length-drop, length-append, get_or-drop, get_or-map, take_more}
 use Rattle.bit_lists.specs.Counting.{below, parts}
 use Rattle.bit_lists.specs.Bits.{has_bit, number_of}
-use Rattle.tile_author.specs.Plan.{is_combination, basis, differences, selection, member_bits, lines_of, planned, weight}
+use Rattle.tile_author.specs.Plan.{is_combination, basis, differences_from_first, selection, member_bits, tile_lines, planned, weight}
 use Rattle.cdg_instructions.specs.declared.instr.Instr.{Instr}
 use Rattle.cdg_instructions.specs.declared.instr.Instr.TheVariants.{SetTile, XorTile}
 use Rattle.std.proofs.lemmas.List.FromFn.{map-range_with_len_more, length-map-range_with_len}
@@ -71,7 +71,7 @@ unfolding read_bits number_of
 no_bits pixels j q = refl
 
 member_bit_at : (pixels : List ℕ) (j p : ℕ) → p < length pixels → get_or (member_bits pixels j) p false ≡ has_bit j (selection (basis pixels) (bit_xor (slice_index pixels 0) (slice_index pixels p)))
-unfolding member_bits differences
+unfolding member_bits differences_from_first
 member_bit_at pixels j p h =
     let chosen : ℕ → Bool = λ d. has_bit j (selection (basis pixels) d) in
     let ds = map (bit_xor (slice_index pixels 0)) pixels in
@@ -79,7 +79,7 @@ member_bit_at pixels j p h =
     get_or-map chosen ds p 0 false (omega arith) ∙ ap chosen (get_or-map (bit_xor (slice_index pixels 0)) pixels p 0 0 h)
 
 length-member_bits : (pixels : List ℕ) (j : ℕ) → length (member_bits pixels j) ≡ length pixels
-unfolding member_bits differences
+unfolding member_bits differences_from_first
 length-member_bits pixels j = length-map (map (bit_xor (slice_index pixels 0)) pixels) (λ d. has_bit j (selection (basis pixels) d)) ∙ length-map pixels (bit_xor (slice_index pixels 0))
 
 pub one_more_bit : (pixels : List ℕ) (j q i : ℕ) → length pixels ≡ 72 → q < 12 → i < 6 →
@@ -102,15 +102,15 @@ bits_small pixels j q i i_le =
     let size : length bs ≤ 6 = length-take-at_most i 6 (drop (q * 6) (member_bits pixels j)) i_le in
     power_below (length bs) (number_of bs) size (number_of-lt bs)
 
-pub all_bits : (pixels : List ℕ) (j q i : ℕ) → q < 12 → i ≡ 6 → number_of (read_bits pixels j q i) ≡ slice_index (lines_of pixels j) q
-unfolding read_bits lines_of
+pub all_bits : (pixels : List ℕ) (j q i : ℕ) → q < 12 → i ≡ 6 → number_of (read_bits pixels j q i) ≡ slice_index (tile_lines pixels j) q
+unfolding read_bits tile_lines
 all_bits pixels j q i q_lt i_is =
     let bs = member_bits pixels j in
     let count = length-parts 12 6 bs in
     ap (λ n. number_of (take n (drop (q * 6) bs))) i_is
     ∙ sym (get_or-map number_of (parts 12 6 bs) q [] 0 (omega arith) ∙ ap number_of (parts_at 12 6 bs q [] q_lt))
 
-pub planned_when : (draws : Bool) (row column : ℕ) (pixels : List ℕ) (j : ℕ) (b : Bool) (c0 c1 : ℕ) (lines : List ℕ) → (draws && (j == 0)) ≡ b → c0 ≡ (if j == 0 then slice_index pixels 0 else 0) → c1 ≡ bit_xor c0 (slice_index (basis pixels) j) → lines ≡ lines_of pixels j → (if b then SetTile c0 c1 row column lines else XorTile c0 c1 row column lines) ≡ planned draws row column pixels j
+pub planned_when : (draws : Bool) (row column : ℕ) (pixels : List ℕ) (j : ℕ) (b : Bool) (c0 c1 : ℕ) (lines : List ℕ) → (draws && (j == 0)) ≡ b → c0 ≡ (if j == 0 then slice_index pixels 0 else 0) → c1 ≡ bit_xor c0 (slice_index (basis pixels) j) → lines ≡ tile_lines pixels j → (if b then SetTile c0 c1 row column lines else XorTile c0 c1 row column lines) ≡ planned draws row column pixels j
 unfolding planned
 planned_when draws row column pixels j b c0 c1 lines test first second drawn =
     let both_colours : c1 ≡ bit_xor (if j == 0 then slice_index pixels 0 else 0) (slice_index (basis pixels) j) =

@@ -13,7 +13,7 @@ use Rattle.cdg_instructions.specs.Instruction.{InTileRange}
 use Rattle.cdg_instructions.specs.Drawing.{tile_from, Turns, IsOfPlace, IsLeast}
 use Rattle.cdg_instructions.specs.declared.instr.Instr.{Instr}
 use Rattle.cdg_instructions.specs.declared.instr.Instr.TheVariants.{SetTile, XorTile}
-use Rattle.tile_author.specs.Plan.{basis, basis_from, differences, selection, member_bits, lines_of, planned, weight, delta, are_equal, plan, steps}
+use Rattle.tile_author.specs.Plan.{basis, basis_from, differences_from_first, selection, member_bits, tile_lines, planned, weight, delta, are_equal, plan, steps}
 use Rattle.tile_author.proofs.BasisLaws.{spans_tells}
 use Rattle.bit_lists.proofs.BitsLemmas.{number_of-lt}
 use Rattle.tile_author.proofs.Lines.{length-parts, parts_at}
@@ -38,27 +38,27 @@ basis_from-small ms (d ∷ ds) old new =
       | inr fails ↦ rw fails.0 (basis_from-small (ms ++ d ∷ []) ds (All-push (λ n. n < 16) ms d old (All-head (λ n. n < 16) d ds new)) rest)
     ]
 
-pub differences-small : (w : List ℕ) → All (λ n. n < 16) w → All (λ n. n < 16) (differences w)
-unfolding differences
+pub differences-small : (w : List ℕ) → All (λ n. n < 16) w → All (λ n. n < 16) (differences_from_first w)
+unfolding differences_from_first
 differences-small w h =
     All-map (λ n. n < 16) (bit_xor (slice_index w 0)) w
     (All-from_get_or (λ n. bit_xor (slice_index w 0) n < 16) w 0 (λ p p_lt. small_xor (slice_index w 0) (get_or w p 0) (small_at w 0 h) (small_at w p h)))
 
 pub basis-small : (w : List ℕ) → All (λ n. n < 16) w → All (λ n. n < 16) (basis w)
 unfolding basis
-basis-small w h = basis_from-small [] (differences w) (All-nil (λ n. n < 16)) (differences-small w h)
+basis-small w h = basis_from-small [] (differences_from_first w) (All-nil (λ n. n < 16)) (differences-small w h)
 
 line-small : (bs : List Bool) → length bs ≡ 6 → number_of bs < 64
 line-small bs size = subst (λ n. number_of bs < 2 ^ n) size (number_of-lt bs)
 
-pub lines-count : (w : List ℕ) (j : ℕ) → length (lines_of w j) ≡ 12
-unfolding lines_of member_bits
+pub lines-count : (w : List ℕ) (j : ℕ) → length (tile_lines w j) ≡ 12
+unfolding tile_lines member_bits
 lines-count w j =
-    let bs = map (λ d. has_bit j (selection (basis w) d)) (differences w) in
+    let bs = map (λ d. has_bit j (selection (basis w) d)) (differences_from_first w) in
     length-map (parts 12 6 bs) number_of ∙ length-parts 12 6 bs
 
-lines-small : (w : List ℕ) (j : ℕ) → length w ≡ 72 → All (λ line. line < 64) (lines_of w j)
-unfolding lines_of member_bits differences
+lines-small : (w : List ℕ) (j : ℕ) → length w ≡ 72 → All (λ line. line < 64) (tile_lines w j)
+unfolding tile_lines member_bits differences_from_first
 lines-small w j size =
     let f : ℕ → Bool = λ d. has_bit j (selection (basis w) d) in
     let ds = map (bit_xor (slice_index w 0)) w in
@@ -79,7 +79,7 @@ choice_of_place : (b : Bool) (row column c0 c1 : ℕ) (lines : List ℕ) → InT
 choice_of_place true row column c0 c1 lines h = (refl, refl, h)
 choice_of_place false row column c0 c1 lines h = (refl, refl, h)
 
-formed-range : (draws is_first : Bool) (row column j : ℕ) (w : List ℕ) → row < 32 → column < 64 → IsTilePixels w → InTileRange (if is_first then slice_index w 0 else 0) (bit_xor (if is_first then slice_index w 0 else 0) (slice_index (basis w) j)) row column (lines_of w j)
+formed-range : (draws is_first : Bool) (row column j : ℕ) (w : List ℕ) → row < 32 → column < 64 → IsTilePixels w → InTileRange (if is_first then slice_index w 0 else 0) (bit_xor (if is_first then slice_index w 0 else 0) (slice_index (basis w) j)) row column (tile_lines w j)
 formed-range draws is_first row column j w row_lt column_lt h =
     let colour0_lt : (if is_first then slice_index w 0 else 0) < 16 = chosen_small is_first (slice_index w 0) (small_at w 0 h.below) in
     record {
@@ -94,7 +94,7 @@ formed-range draws is_first row column j w row_lt column_lt h =
 pub planned-of_place : (draws : Bool) (row column j : ℕ) (w : List ℕ) → row < 32 → column < 64 → IsTilePixels w → IsOfPlace row column (planned draws row column w j)
 unfolding planned
 planned-of_place draws row column j w row_lt column_lt h =
-    choice_of_place (draws && (j == 0)) row column _ _ (lines_of w j) (formed-range draws (j == 0) row column j w row_lt column_lt h)
+    choice_of_place (draws && (j == 0)) row column _ _ (tile_lines w j) (formed-range draws (j == 0) row column j w row_lt column_lt h)
 
 whole-of_place : (draws : Bool) (row column n : ℕ) (w : List ℕ) → row < 32 → column < 64 → IsTilePixels w → All (IsOfPlace row column) (map (planned draws row column w) (below n))
 whole-of_place draws row column n w row_lt column_lt h =

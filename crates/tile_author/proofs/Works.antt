@@ -14,7 +14,7 @@ use Rattle.cdg_instructions.specs.Drawing.{drawn, tile_from, tile_after}
 use Rattle.cdg_instructions.specs.declared.instr.Instr.{Instr}
 use Rattle.cdg_instructions.specs.declared.instr.Instr.TheVariants.{Idle, Foreign, Unknown, MemoryPreset, BorderPreset, SetTile, XorTile, ScrollPreset, ScrollCopy, Transparency, ColoursLow, ColoursHigh}
 use Rattle.tile_author.proofs.Span.{Spans}
-use Rattle.tile_author.specs.Plan.{is_combination, basis, selection, lines_of, planned, weight, delta}
+use Rattle.tile_author.specs.Plan.{is_combination, basis, selection, tile_lines, planned, weight, delta}
 use Rattle.tile_author.proofs.Combine.{twice, swap, both}
 use Rattle.tile_author.proofs.BasisLaws.{spans_tells, spans_difference}
 use Rattle.tile_author.proofs.Lower.{at_below}
@@ -125,15 +125,15 @@ formed : Bool → Bool → ℕ → ℕ → List ℕ → ℕ → Instr
 formed draws is_first row column w j =
     let colour0 = if is_first then slice_index w 0 else 0 in
     let colour1 = bit_xor colour0 (slice_index (basis w) j) in
-    let lines = lines_of w j in
+    let lines = tile_lines w j in
     if draws && is_first then SetTile colour0 colour1 row column lines else XorTile colour0 colour1 row column lines
 
-formed_later : (draws : Bool) (row column : ℕ) (w : List ℕ) (j : ℕ) → formed draws false row column w j ≡ XorTile 0 (bit_xor 0 (slice_index (basis w) j)) row column (lines_of w j)
+formed_later : (draws : Bool) (row column : ℕ) (w : List ℕ) (j : ℕ) → formed draws false row column w j ≡ XorTile 0 (bit_xor 0 (slice_index (basis w) j)) row column (tile_lines w j)
 unfolding formed
 formed_later true row column w j = refl
 formed_later false row column w j = refl
 
-planned_later : (draws : Bool) (row column : ℕ) (w : List ℕ) (n : ℕ) → planned draws row column w (suc n) ≡ XorTile 0 (bit_xor 0 (slice_index (basis w) (suc n))) row column (lines_of w (suc n))
+planned_later : (draws : Bool) (row column : ℕ) (w : List ℕ) (n : ℕ) → planned draws row column w (suc n) ≡ XorTile 0 (bit_xor 0 (slice_index (basis w) (suc n))) row column (tile_lines w (suc n))
 unfolding planned formed
 planned_later draws row column w n =
     let not_first : (suc n == 0) ≡ false = elim (eqb_tells (suc n) 0) [ inl same ↦ absurd (omega (arith, same.1)) | inr differ ↦ differ.0 ] in
@@ -151,7 +151,7 @@ pixel_so_far true row column old w zero p size h =
     let m = slice_index (basis w) 0 in
     let chosen = selection (basis w) (bit_xor first (slice_index w p)) in
     ap (λ rs. slice_index (tile_from old rs) p) (so_far-more true row column w 0)
-    ∙ at_below 72 p (drawn first (bit_xor first m) (lines_of w 0)) 0 h
+    ∙ at_below 72 p (drawn first (bit_xor first m) (tile_lines w 0)) 0 h
     ∙ drawn_member w 0 first (bit_xor first m) p size h
     ∙ first_choice (has_bit 0 chosen) first m
 pixel_so_far false row column old w zero p size h =
@@ -159,7 +159,7 @@ pixel_so_far false row column old w zero p size h =
     let m = slice_index (basis w) 0 in
     let chosen = selection (basis w) (bit_xor first (slice_index w p)) in
     ap (λ rs. slice_index (tile_from old rs) p) (so_far-more false row column w 0)
-    ∙ at_below 72 p (λ q. bit_xor (drawn first (bit_xor first m) (lines_of w 0) q) (slice_index old q)) 0 h
+    ∙ at_below 72 p (λ q. bit_xor (drawn first (bit_xor first m) (tile_lines w 0) q) (slice_index old q)) 0 h
     ∙ ap (λ n. bit_xor n (slice_index old p)) (drawn_member w 0 first (bit_xor first m) p size h ∙ first_choice (has_bit 0 chosen) first m)
     ∙ xor_assoc (bit_xor (if has_bit 0 chosen then m else 0) 0) first (slice_index old p)
 pixel_so_far draws row column old w (suc n) p size h =
@@ -167,7 +167,7 @@ pixel_so_far draws row column old w (suc n) p size h =
     let chosen = selection (basis w) (bit_xor (slice_index w 0) (slice_index w p)) in
     let before = so_far draws row column w (suc n) in
     ap (λ rs. slice_index (tile_from old rs) p) (so_far-more draws row column w (suc n) ∙ ap (λ i. i ∷ before) (planned_later draws row column w n))
-    ∙ at_below 72 p (λ q. bit_xor (drawn 0 (bit_xor 0 m) (lines_of w (suc n)) q) (slice_index (tile_from old before) q)) 0 h
+    ∙ at_below 72 p (λ q. bit_xor (drawn 0 (bit_xor 0 m) (tile_lines w (suc n)) q) (slice_index (tile_from old before) q)) 0 h
     ∙ ap₂ bit_xor (drawn_member w (suc n) 0 (bit_xor 0 m) p size h ∙ later_choice (has_bit (suc n) chosen) m) (pixel_so_far draws row column old w n p size h)
     ∙ sym (xor_assoc (if has_bit (suc n) chosen then m else 0) (partial (basis w) chosen (suc n)) (ground_of draws old w p))
 

@@ -16,13 +16,13 @@ unfoldable pub basis_from : List ℕ → List ℕ → List ℕ
 basis_from members [] = members
 basis_from members (number ∷ rest) = basis_from (if is_combination members number then members else members ++ number ∷ []) rest
 
--- the differences of the pixels from the first pixel
-unfoldable pub differences : List ℕ → List ℕ
-differences pixels = map (bit_xor (slice_index pixels 0)) pixels
+-- the differences_from_first of the pixels from the first pixel
+unfoldable pub differences_from_first : List ℕ → List ℕ
+differences_from_first pixels = map (bit_xor (slice_index pixels 0)) pixels
 
--- those differences that are no combination of the ones before them
+-- those differences_from_first that are no combination of the ones before them
 unfoldable pub basis : List ℕ → List ℕ
-basis pixels = basis_from [] (differences pixels)
+basis pixels = basis_from [] (differences_from_first pixels)
 
 -- how many instructions draw the pixels where nothing stands, or everywhere the same
 unfoldable pub weight : List ℕ → ℕ
@@ -41,18 +41,18 @@ combination (first ∷ rest) chosen = bit_xor (if has_bit 0 chosen then first el
 
 -- for each pixel, whether member j has a part in its difference
 unfoldable pub member_bits : List ℕ → ℕ → List Bool
-member_bits pixels j = map (λ d. has_bit j (selection (basis pixels) d)) (differences pixels)
+member_bits pixels j = map (λ d. has_bit j (selection (basis pixels) d)) (differences_from_first pixels)
 
 -- the same as twelve lines of six bits, the leftmost the highest
-unfoldable pub lines_of : List ℕ → ℕ → List ℕ
-lines_of pixels j = map number_of (parts 12 6 (member_bits pixels j))
+unfoldable pub tile_lines : List ℕ → ℕ → List ℕ
+tile_lines pixels j = map number_of (parts 12 6 (member_bits pixels j))
 
 -- instruction j of those that draw the pixels, or that combine them with what stands; the first is number 0
 unfoldable pub planned : Bool → ℕ → ℕ → List ℕ → ℕ → Instr
 planned draws row column pixels j =
     let colour0 = if j == 0 then slice_index pixels 0 else 0 in
     let colour1 = bit_xor colour0 (slice_index (basis pixels) j) in
-    let lines = lines_of pixels j in
+    let lines = tile_lines pixels j in
     if draws && j == 0 then SetTile colour0 colour1 row column lines else XorTile colour0 colour1 row column lines
 
 -- what is to be combined with the old pixels

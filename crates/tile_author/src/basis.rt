@@ -3,7 +3,7 @@ ghost use Rattle.std.specs.Prelude.{◌≡◌, ◌==◌, ℕ, ◌+◌, ◌<◌, 
 ghost use Rattle.cdg_instructions.specs.Instruction.{IsTilePixels};
 ghost use Rattle.bit_lists.specs.Bits.{has_bit};
 ghost use Rattle.bit_lists.specs.Counting.{below};
-ghost use Rattle.tile_author.specs.Plan.{is_combination, selection, basis, lines_of, planned, weight};
+ghost use Rattle.tile_author.specs.Plan.{is_combination, selection, basis, tile_lines, planned, weight};
 ghost use Rattle.tile_author.specs.Table.{entry, IsBasis};
 
 use arrayvec::ArrayVec;
@@ -158,7 +158,7 @@ impl Basis {
         requires members { self.now ≡ basis pixels.now }
         requires line { line < 12 }
         requires member { j < 4 }
-        ensures { result ≡ slice_index (lines_of pixels.now j) line }
+        ensures { result ≡ slice_index (tile_lines pixels.now j) line }
     {
         let mut bits = 0;
         for i in 0..6 {
@@ -172,7 +172,7 @@ impl Basis {
         requires tile { IsTilePixels pixels.now }
         requires members { self.now ≡ basis pixels.now }
         requires member { j < 4 }
-        ensures { result ≡ lines_of pixels.now j }
+        ensures { result ≡ tile_lines pixels.now j }
     {
         let mut lines = [0; 12];
         for i in 0..12 {

@@ -6,10 +6,10 @@ use Rattle.std.specs.Option.{ForSome}
 use Rattle.disc_time.specs.Time.{frame_of}
 use Rattle.cue_sheet.specs.CueSheet.{AreIndices, is_catalogue_number, is_capital_code}
 use Rattle.toc_model.specs.Places.{TrackPlace, DiscLayout, no_place}
-use Rattle.q_frame.specs.declared.frame.QFrame.{QFrame}
-use Rattle.q_frame.specs.declared.frame.QFrame.TheVariants.{Program, Toc, Catalogue, Isrc}
-use Rattle.q_frame.specs.declared.frame.TocPoint.{TocPoint}
-use Rattle.q_frame.specs.declared.frame.TocPoint.TheVariants.{Track, First, Last, LeadOut}
+use Rattle.q_channel.specs.declared.frame.QFrame.{QFrame}
+use Rattle.q_channel.specs.declared.frame.QFrame.TheVariants.{Program, Toc, Catalogue, Isrc}
+use Rattle.q_channel.specs.declared.frame.TocPoint.{TocPoint}
+use Rattle.q_channel.specs.declared.frame.TocPoint.TheVariants.{Track, First, Last, LeadOut}
 
 -- the track of a block: the last one that begins at the block or before it
 unfoldable pub track_at : DiscLayout → ℕ → TrackPlace

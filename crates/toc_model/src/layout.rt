@@ -1,16 +1,15 @@
 // The layout of a disc.
 ghost use Rattle.std.specs.Prelude.{◌≡◌, ◌<◌, ◌≤◌, ◌+◌, ◌*◌, ℕ, length, slice_index_or};
-ghost use Rattle.q_frame.specs.QFrame.{IsValid};
+ghost use Rattle.q_channel.specs.QFrame.{IsValid, IsValidPoint};
 ghost use Rattle.toc_model.specs.Places.{DiscLayout, layout_of, audio_need, program_blocks};
 ghost use Rattle.toc_model.specs.Layout.{IsLayout, p_bit, program_frame, toc_entries, toc_frame, track_at};
-ghost use Rattle.q_frame.specs.declared.frame.TocPoint.TheVariants.{First};
-ghost use Rattle.q_frame.specs.QFrame.{IsValidPoint};
+ghost use Rattle.q_channel.specs.declared.frame.TocPoint.TheVariants.{First};
 
 use crate::place::Place;
 use crate::places::{catalogue, gaps, need, places};
 use cue_sheet::Sheet;
 use disc_time::Msf;
-use q_frame::{QFrame, TocPoint};
+use q_channel::{QFrame, TocPoint};
 use std::alloc::{AllocError, Global};
 use std::marker::Model;
 

@@ -4,11 +4,11 @@ ghost use Rattle.toc_model.specs.Places.{TrackPlace};
 ghost use Rattle.toc_model.specs.Layout.{IsPlace, music_begin, index_at, is_paused_for, time_frame, catalogue_frame, isrc_frame};
 ghost use Rattle.std.specs.Option.{ForSome};
 ghost use Rattle.cue_sheet.specs.CueSheet.{is_catalogue_number};
-ghost use Rattle.q_frame.specs.declared.frame.TocPoint.TheVariants.{Track};
-ghost use Rattle.q_frame.specs.QFrame.{IsValid, IsValidPoint};
+ghost use Rattle.q_channel.specs.declared.frame.TocPoint.TheVariants.{Track};
+ghost use Rattle.q_channel.specs.QFrame.{IsValid, IsValidPoint};
 
 use disc_time::Msf;
-use q_frame::{QFrame, TocPoint};
+use q_channel::{QFrame, TocPoint};
 use std::marker::Model;
 
 /// A track on the disc. Its index lines are kept by number and block.

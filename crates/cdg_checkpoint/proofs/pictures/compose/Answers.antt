@@ -1,5 +1,5 @@
 use Rattle.cdg_screen.specs.Picture.{standing_of}
-use Rattle.subcode_player.proofs.StandingLemmas.{seen_as}
+use Rattle.cdg_screen.proofs.StandingLemmas.{seen_as}
 use Rattle.cdg_checkpoint.proofs.SavedStreams.{same_refl}
 use Rattle.cdg_checkpoint.proofs.pictures.compose.Goals as goal
 

@@ -1,5 +1,5 @@
 use Rattle.std.proofs.Common.{codes, ◌++◌, ap, sym, refl, ◌∙◌}
-use Rattle.cdg_cmd.specs.Line.{refusal_words, counted}
+use Rattle.cdg_cmd.specs.Line.{refusal_words, words_and_count}
 use Rattle.cdg_cmd.specs.declared.status.Refusal.{Refusal}
 use Rattle.cdg_cmd.proofs.LineWords.{counted_is, with_number}
 use Rattle.cdg_cmd.proofs.line.push_refusal.Goals as goal
@@ -15,7 +15,7 @@ returns-in-TextNoSize-clause-text c =
 
 pub returns-in-TextMalformed-clause-text : goal.returns-in-TextMalformed-clause-text
 returns-in-TextMalformed-clause-text c =
-    with_number c.args.text.now.bytes _ _ (counted (codes "text-malformed") c.in-TextMalformed.seq) c.in-TextMalformed.byte _
+    with_number c.args.text.now.bytes _ _ (words_and_count (codes "text-malformed") c.in-TextMalformed.seq) c.in-TextMalformed.byte _
     (counted_is c.args.text.now.bytes _ (codes "text-malformed") c.in-TextMalformed.seq _ c.from-in-TextMalformed.ensures c.push_counted-in-TextMalformed.ensures.text)
     c.from-in-TextMalformed-2.ensures c.push_number.ensures.text
     ∙ ap (λ (r : Refusal). c.args.text.now.bytes ++ refusal_words r) (sym c.in-TextMalformed.is)
@@ -27,6 +27,6 @@ returns-in-Gap-clause-text c =
 
 pub returns-in-CdgTooLong-clause-text : goal.returns-in-CdgTooLong-clause-text
 returns-in-CdgTooLong-clause-text c =
-    with_number c.args.text.now.bytes _ _ (counted (codes "cdg-too-long") c.in-CdgTooLong.packs) c.in-CdgTooLong.room _
+    with_number c.args.text.now.bytes _ _ (words_and_count (codes "cdg-too-long") c.in-CdgTooLong.packs) c.in-CdgTooLong.room _
     c.push_counted-in-CdgTooLong.ensures.text refl c.push_number-in-CdgTooLong.ensures.text
     ∙ ap (λ (r : Refusal). c.args.text.now.bytes ++ refusal_words r) (sym c.in-CdgTooLong.is)

@@ -1,6 +1,5 @@
-use Rattle.std.proofs.Common.{Some, None, ◌≡◌, ◌+◌, ◌∙◌, sym, ap, arith, rules}
+use Rattle.std.proofs.Common.{Some, None, ◌≡◌, ◌+◌, ◌∙◌, sym, ap, arith, rules, take, subst, List, Option, ℕ}
 use Rattle.std.proofs.lemmas.List.{take_all}
-use Rattle.std.proofs.Common.{take, subst, List, Option, ℕ}
 use Rattle.cdtext_packs.specs.Writing.{type_of}
 use Rattle.cdtext_packs.specs.Packs.{pack_type}
 use Rattle.cdtext_packs.specs.Reading.{ends_in}

@@ -1,7 +1,7 @@
 use Rattle.std.proofs.Common.{◌≡◌, length}
 use Rattle.std.specs.List.{list_all}
 use Rattle.text_lines.specs.Text.{words_in}
-use Rattle.cue_sheet.specs.Lines.{is_flag}
+use Rattle.cue_sheet.specs.CueLines.{is_flag}
 use Rattle.cue_sheet.proofs.argument.are_flags.Given as goal
 
 abbrev pub invariant-loop-word : goal.invariant-loop-word

@@ -1,5 +1,5 @@
 use Rattle.std.proofs.Common.{rules, tests}
-use Rattle.cue_sheet.specs.Lines.{is_plain}
+use Rattle.cue_sheet.specs.CueLines.{is_plain}
 use Rattle.std.proofs.lemmas.Iterator.{YieldsList-from_slice}
 use Rattle.std.proofs.lemmas.Iterator.Search.{all_from_yields_List}
 use Rattle.cue_sheet.proofs.argument.are_plain.Goals as goal

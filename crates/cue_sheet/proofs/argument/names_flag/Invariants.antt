@@ -1,6 +1,6 @@
 use Rattle.std.proofs.Common.{◌≡◌, length}
 use Rattle.text_lines.specs.Text.{words_in}
-use Rattle.cue_sheet.specs.Lines.{names_flag}
+use Rattle.cue_sheet.specs.CueLines.{names_flag}
 use Rattle.cue_sheet.proofs.argument.names_flag.Given as goal
 
 abbrev pub invariant-loop-word : goal.invariant-loop-word

@@ -1,7 +1,7 @@
 use Rattle.std.proofs.Common.{◌∙◌}
 use Rattle.cdg_screen.specs.Picture.{standing_of}
 use Rattle.live_player.proofs.LiveViews.{itself}
-use Rattle.subcode_player.proofs.StandingLemmas.{seen_as}
+use Rattle.cdg_screen.proofs.StandingLemmas.{seen_as}
 use Rattle.live_player.proofs.looking.colour.Goals as goal
 
 pub returns-clause-colour : goal.returns-clause-colour

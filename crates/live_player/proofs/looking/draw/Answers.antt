@@ -6,7 +6,7 @@ use Rattle.cdg_screen.specs.Picture.{SameStanding, standing_of, standing_after}
 use Rattle.cdg_screen.proofs.Turns.{same_after, same_then}
 use Rattle.live_player.specs.Lives.{instruction_of}
 use Rattle.live_player.proofs.LiveViews.{itself}
-use Rattle.subcode_player.proofs.StandingLemmas.{display_is, seen_as}
+use Rattle.cdg_screen.proofs.StandingLemmas.{display_is, seen_as}
 use Rattle.live_player.proofs.looking.draw.Goals as goal
 
 pub returns : goal.returns

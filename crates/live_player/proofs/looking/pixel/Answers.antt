@@ -1,7 +1,7 @@
 use Rattle.std.proofs.Common.{◌∙◌, subst, ◌≤◌}
 use Rattle.cdg_screen.specs.Picture.{standing_of}
 use Rattle.live_player.proofs.LiveViews.{pixel_same, itself}
-use Rattle.subcode_player.proofs.StandingLemmas.{seen_as}
+use Rattle.cdg_screen.proofs.StandingLemmas.{seen_as}
 use Rattle.live_player.proofs.looking.pixel.Goals as goal
 
 pub returns-clause-pixel : goal.returns-clause-pixel

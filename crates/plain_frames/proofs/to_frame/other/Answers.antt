@@ -1,5 +1,5 @@
 use Rattle.std.proofs.Common.{List, ℕ, subst}
-use Rattle.q_frame.specs.declared.frame.QFrame.TheVariants.{Other}
+use Rattle.q_channel.specs.declared.frame.QFrame.TheVariants.{Other}
 use Rattle.plain_frames.specs.Plain.{IsWhereValid}
 use Rattle.plain_frames.proofs.to_frame.other.Goals as goal
 

@@ -1,6 +1,6 @@
 use Rattle.std.proofs.Common.{rules, ◌≡◌, ◌++◌, sym, ap, ◌∙◌}
 use Rattle.bit_lists.specs.Bits.{bits_of_bytes}
-use Rattle.q_frame.specs.QFrame.{field_value}
+use Rattle.q_channel.specs.QFrame.{field_value}
 use Rattle.q_channel.specs.QReading.{first_bad_field, first_outside}
 use Rattle.q_channel.specs.Kinds.{frame_at}
 use Rattle.q_channel.proofs.Layouts.{check_agrees, check_differs}

@@ -1,5 +1,5 @@
 use Rattle.std.proofs.Common.{sym, subst, ◌∙◌}
-use Rattle.q_frame.specs.QFrame.{IsFrame}
+use Rattle.q_channel.specs.QFrame.{IsFrame}
 use Rattle.stream_writer.specs.Blocks.{frame_bits, IsBuilt}
 use Rattle.stream_writer.proofs.Built.{made_of}
 use Rattle.stream_writer.proofs.blocks.built.Goals as goal

@@ -9,7 +9,7 @@ use prog.Memory.{Memory}
 use prog.Routine.{Routine}
 use prog.Wp.{WpFn, Tables}
 use types.Logic.{Logic}
-use contract.Monad.{Fun}
+use contract.Monad.{Fun, fact}
 use contract.Running.{tables, tables_of}
 use sound.WpLaws.{WpFn-mono}
 use types.Kit.{Item, ‵, raw, ◌⊛◌, ◌$◌, ◌∵◌, !, qed, by, move, drop, use1, rewrite, join, split, fsplit, fjoin, suffices, done}
@@ -19,7 +19,6 @@ use types.ByLocal.{alloc_all, pass_all, free_all, look_at, get, get_in, sets}
 use denote.Exit.{yes}
 use denote.Signature.{type_at}
 use denote.Steps.{heard, nothing}
-use contract.Monad.{fact}
 use Rattle.std.proofs.Common.{◌≡◌, length}
 use Rattle.ribjasper_c.proofs.Ones.{the_one}
 use Rattle.live_player.specs.declared.live.LivePlayer.{LivePlayer}

@@ -1,5 +1,5 @@
 use Rattle.std.proofs.Common.{ap, ◌∙◌}
-use Rattle.subcode_player.specs.CountSteps.{count_found}
+use Rattle.subcode_player.specs.CheckSteps.{count_found}
 use Rattle.subcode_player.proofs.Recovers.{found_some, found_none}
 use Rattle.subcode_player.proofs.counting.WordCounts.count.Goals as goal
 

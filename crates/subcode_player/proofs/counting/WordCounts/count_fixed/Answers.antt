@@ -1,5 +1,5 @@
 use Rattle.std.proofs.Common.{ℕ, List, get_or, ap, ◌∙◌}
-use Rattle.subcode_player.specs.CountSteps.{kind_counted}
+use Rattle.subcode_player.specs.CheckSteps.{kind_counted}
 use Rattle.subcode_player.specs.declared.counting.WordCounts.{WordCounts}
 use Rattle.subcode_player.proofs.Counted.{fixed_counted}
 use Rattle.subcode_player.proofs.counting.WordCounts.count_fixed.Goals as goal

@@ -1,6 +1,6 @@
 use Rattle.std.proofs.Common.{◌∙◌, ap, refl, arith}
 use Rattle.std.proofs.lemmas.List.{take_all}
-use Rattle.subcode_player.specs.CountSteps.{count_after, counts_next, counts_give}
+use Rattle.subcode_player.specs.CheckSteps.{count_after, counts_next, counts_give}
 use Rattle.subcode_player.proofs.Counted.{count_step, counted_none_yet}
 use Rattle.subcode_player.proofs.counting.WordCountsStage.feed.Goals as goal
 

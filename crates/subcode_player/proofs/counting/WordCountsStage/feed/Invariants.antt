@@ -1,5 +1,5 @@
 use Rattle.std.proofs.Common.{◌≡◌, take}
-use Rattle.subcode_player.specs.CountSteps.{count_after}
+use Rattle.subcode_player.specs.CheckSteps.{count_after}
 use Rattle.subcode_player.proofs.counting.WordCountsStage.feed.Given as goal
 
 abbrev pub invariant-loop-word : goal.invariant-loop-word

@@ -2,7 +2,7 @@ use Rattle.std.proofs.Common.{[], ◌∷◌, subst}
 use Rattle.cdg_instructions.proofs.Meaning.{only_meaning}
 use Rattle.cdg_screen.specs.Picture.{SameStanding, standing_of, standing_after}
 use Rattle.cdg_instructions.specs.declared.instr.Instr.{Instr}
-use Rattle.subcode_player.proofs.StandingLemmas.{display_after}
+use Rattle.cdg_screen.proofs.StandingLemmas.{display_after}
 use Rattle.subcode_player.proofs.picture.Picture.obey.Goals as goal
 
 pub returns : goal.returns

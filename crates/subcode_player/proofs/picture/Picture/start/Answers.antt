@@ -1,6 +1,6 @@
 use Rattle.cdg_screen.specs.Picture.{standing_of, blank}
 use Rattle.cdg_screen.proofs.Turns.{same_then}
-use Rattle.subcode_player.proofs.StandingLemmas.{display_is}
+use Rattle.cdg_screen.proofs.StandingLemmas.{display_is}
 use Rattle.subcode_player.proofs.picture.Picture.start.Goals as goal
 
 pub returns : goal.returns

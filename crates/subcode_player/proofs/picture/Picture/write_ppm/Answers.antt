@@ -2,7 +2,8 @@ use Rattle.std.proofs.Common.{subst}
 use Rattle.std.specs.Io.KnownBytes.{Appends}
 use Rattle.cdg_io.specs.Moves.{AppendsPrefix}
 use Rattle.cdg_screen.specs.Picture.{standing_of}
-use Rattle.subcode_player.proofs.StandingLemmas.{seen_as, ok_map, err_map}
+use Rattle.cdg_screen.proofs.StandingLemmas.{seen_as}
+use Rattle.subcode_player.proofs.Outcomes.{ok_map, err_map}
 use Rattle.subcode_player.proofs.picture.Picture.write_ppm.Goals as goal
 
 pub returns-clause-ok : goal.returns-clause-ok

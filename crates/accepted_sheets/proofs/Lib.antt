@@ -1,4 +1,0 @@
-pub mod LineBytes
-pub mod SaidRanges
-pub mod AcceptedLines
-pub mod SheetTexts

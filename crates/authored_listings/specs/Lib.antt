@@ -1,5 +1,0 @@
-pub mod FrameLines
-pub mod Slots
-pub mod SheetLines
-pub mod Damage
-pub mod Answers

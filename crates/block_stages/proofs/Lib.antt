@@ -1,2 +1,0 @@
-pub mod QRuns
-pub mod TurnRuns

@@ -1,3 +1,0 @@
-pub mod QSteps
-pub mod QList
-pub mod PlanarStream

@@ -1,0 +1,56 @@
+// A stage at work on the blocks of a whole input, of which nothing is written.
+ghost use Rattle.std.specs.Prelude.{◌≡◌, ◌≢◌, ◌≤◌, List, ℕ, length, IfSome, IsErrOf, Err};
+ghost use Rattle.cdg_io.specs.Causes.{Rose};
+ghost use Rattle.cdg_io.specs.Pump.{IsUnlessFault, TellsEndOf, answer_of};
+ghost use Rattle.cdg_checkpoint.specs.Tracked.{TracksBlocks};
+
+use crate::tracking::BLOCK;
+use cdg_io::{Failed, Piece, PumpStop, Pumped, Source, Stage, SteadySink, pump};
+
+/// Feeds the blocks of an input, at most `limit`, to a stage, which keeps what it learns of them.
+pub(crate) fn watch<S: Source, G: Stage<Item = [u8; BLOCK], Out = Piece>>(
+    limit: u32,
+    source: &mut S,
+    stage: &mut G,
+) -> Result<Pumped, PumpStop>
+    requires { 1 ≤ limit }
+    ensures watches { (taken : List ℕ)
+        × TracksBlocks limit G.next (S.left source.old) (S.left source.new) stage.old stage.new result taken }
+    // Where nothing failed, the answer is that of the whole input's length.
+    ensures answer { IfSome (S.left source.old)
+        (λ all. IsUnlessFault result (answer_of 96 limit (length all))) }
+    ensures source_later { S.faults source.old ≤ S.faults source.new }
+    ensures read_fault { IsErrOf result PumpStop.ReadFault
+        → Rose (S.faults source.old) (S.faults source.new) }
+    ensures no_read_fault { result ≢ Err PumpStop.ReadFault → S.faults source.new ≡ S.faults source.old }
+    ensures ended { TellsEndOf result (S.ends source.old) (S.ends source.new) }
+{
+    pump(source, limit, stage, &mut SteadySink::new())
+}
+
+/// The same where no block may be left: then the input has to be empty.
+pub(crate) fn watch_some<S: Source, G: Stage<Item = [u8; BLOCK], Out = Piece>>(
+    limit: u32,
+    source: &mut S,
+    stage: &mut G,
+) -> Result<Pumped, PumpStop>
+    ensures watches { (taken : List ℕ)
+        × TracksBlocks limit G.next (S.left source.old) (S.left source.new) stage.old stage.new result taken }
+    ensures answer { IfSome (S.left source.old)
+        (λ all. IsUnlessFault result (answer_of 96 limit (length all))) }
+    ensures source_later { S.faults source.old ≤ S.faults source.new }
+    ensures read_fault { IsErrOf result PumpStop.ReadFault
+        → Rose (S.faults source.old) (S.faults source.new) }
+    ensures no_read_fault { result ≢ Err PumpStop.ReadFault → S.faults source.new ≡ S.faults source.old }
+    ensures ended { TellsEndOf result (S.ends source.old) (S.ends source.new) }
+{
+    if limit > 0 {
+        return watch(limit, source, stage);
+    }
+    let mut byte = [0; 1];
+    match source.take(&mut byte) {
+        Ok(0) => Ok(Pumped { units: 0 }),
+        Ok(_) => Err(PumpStop::TooLong),
+        Err(Failed) => Err(PumpStop::ReadFault),
+    }
+}

@@ -1,3 +1,0 @@
-pub mod Hex
-pub mod Pieces
-pub mod TextLines

@@ -1,0 +1,95 @@
+// The stage that reads the text packs of the lead-in.
+ghost use Rattle.std.specs.Prelude.{◌≡◌, ◌≤◌, ◌*◌, ◌<◌, ◌^◌, List, ℕ, None, IfOk, length, take};
+ghost use Rattle.cdg_io.specs.Run.{run_state};
+ghost use Rattle.cdtext_packs.specs.Kept.{nothing_kept};
+ghost use Rattle.cdtext_packs.specs.LeadIn.{lead_in_packs};
+ghost use Rattle.cdtext_packs.specs.TextSteps.{fresh_texts, offered, text_next, HasRead};
+
+use crate::{Offer, TextReader, offers_keep_the_first};
+use cdg_io::{Piece, Stage};
+use raw_subcode::Block;
+use std::alloc::{AllocError, Global};
+
+/// Offers the packs of the lead-in's blocks to a reader, four of each block, and counts what became of them.
+#[derive(Drop)]
+pub struct LeadInTexts {
+    /// The blocks of the lead-in that are still to come.
+    pub left: u32,
+    pub reader: TextReader,
+    /// The packs that can be kept.
+    pub good: u32,
+    /// The packs whose check does not match.
+    pub bad: u32,
+    /// The good packs of other blocks of text than the first.
+    pub other: u32,
+}
+
+impl LeadInTexts {
+    /// A lead-in of no blocks, with room for all packs.
+    pub fn start(alloc: Global) -> Result<LeadInTexts, AllocError>
+        ensures { IfOk result (λ texts. texts ≡ fresh_texts 0) }
+    {
+        Ok(LeadInTexts {
+            left: 0,
+            reader: TextReader::start(alloc)?,
+            good: 0,
+            bad: 0,
+            other: 0,
+        })
+    }
+
+    /// Begins with a lead-in of so many blocks.
+    pub fn begin(&mut self, lead_in: u32)
+        ensures { self.new ≡ fresh_texts lead_in }
+    {
+        self.left = lead_in;
+        self.reader.reset();
+        self.good = 0;
+        self.bad = 0;
+        self.other = 0;
+    }
+
+    /// Offers a pack to the reader, and counts the answer.
+    #[tactic(auto, unfolding(crate::specs::TextSteps::offered))]
+    fn offer(&mut self, pack: &[u8; 18])
+        ensures { self.new ≡ offered self.old pack.now }
+    {
+        match self.reader.offer(pack) {
+            Offer::Kept | Offer::Again => self.good = self.good.saturating_add(1),
+            Offer::BadCrc => self.bad = self.bad.saturating_add(1),
+            Offer::OtherBlock => self.other = self.other.saturating_add(1),
+        }
+    }
+}
+
+impl Stage for LeadInTexts {
+    type Item = [u8; 96];
+
+    type Out = Piece;
+
+    ghost next = { text_next };
+
+    ghost gives = { λ _ _. None };
+
+    #[tactic(auto, unfolding(crate::specs::TextSteps::text_next))]
+    fn feed(&mut self, block: &[u8; 96]) -> Option<Piece> {
+        if self.left > 0 {
+            self.left -= 1;
+            let block = Block::from_bytes(block);
+            self.offer(&block.text_pack(0));
+            self.offer(&block.text_pack(1));
+            self.offer(&block.text_pack(2));
+            self.offer(&block.text_pack(3));
+        }
+        None
+    }
+}
+
+/// A law: after a stream, the reader keeps for each number the first good pack of the lead-in with it, and the counts
+/// are those of the lead-in's packs.
+pub fn lead_in_packs_are_read()
+    ensures { (lead_in : ℕ) (blocks : List (List ℕ)) → lead_in ≤ 450000
+        → HasRead (lead_in_packs (take lead_in blocks)) (run_state text_next (fresh_texts lead_in) blocks) }
+{
+    offers_keep_the_first();
+}

@@ -1,0 +1,157 @@
+-- The lines of a cue sheet, one by one: commands and arguments.
+use Rattle.std.specs.Prelude.{◌≤◌, ◌<◌, IsTrue, ℕ, ◌+◌, Bool, false, not, ◌&&◌, ◌||◌, List, [], ◌∷◌, length, take, drop, slice_index, Option, Some, None, option_map, find, codes, ◌==◌, nat_le, if◌then◌else◌, bytes_eq}
+use Rattle.std.specs.List.{list_any, list_all, position}
+use Rattle.std.specs.Str.{str_to_ascii_uppercase, str_eq_ignore_ascii_case}
+use Rattle.text_lines.specs.Text.{words_in, is_some_bytes, two_digit_number, parsed_time}
+use Rattle.cue_sheet.specs.CueSheet.{IsText, is_catalogue_number, is_capital_code}
+use Rattle.cue_sheet.specs.declared.command.Command.{Command}
+use Rattle.cue_sheet.specs.declared.command.Command.TheVariants.{Remark, Catalogue, File, Title, Performer, Songwriter, Track, Flags, Isrc, Pregap, Index, Postgap}
+
+-- a line that is spelled as it must be
+pub data CueLine : Type 0 where
+  SaysNothing : CueLine
+  SaysCatalogue : List ℕ → CueLine
+  SaysFile : CueLine
+  SaysTitle : List ℕ → CueLine
+  SaysPerformer : List ℕ → CueLine
+  SaysSongwriter : List ℕ → CueLine
+  SaysTrack : ℕ → Bool → CueLine
+  SaysFlags : ℕ → CueLine
+  SaysIsrc : List ℕ → CueLine
+  SaysPregap : ℕ → CueLine
+  SaysIndex : ℕ → ℕ → CueLine
+  SaysPostgap : ℕ → CueLine
+
+-- the words of commands, their letters in either case
+abbrev pub command_words : List (List ℕ × Command)
+command_words =
+    (codes "REM", Remark) ∷ (codes "CDTEXTFILE", Remark) ∷ (codes "CATALOG", Catalogue)
+    ∷ (codes "FILE", File)
+    ∷ (codes "TITLE", Title) ∷ (codes "PERFORMER", Performer) ∷ (codes "SONGWRITER", Songwriter)
+    ∷ (codes "TRACK", Track) ∷ (codes "FLAGS", Flags) ∷ (codes "ISRC", Isrc)
+    ∷ (codes "PREGAP", Pregap) ∷ (codes "INDEX", Index) ∷ (codes "POSTGAP", Postgap) ∷ []
+
+-- the command of a word
+unfoldable pub command_named : List ℕ → Option Command
+command_named word =
+    option_map (λ (entry : List ℕ × Command). entry.1)
+    (find (λ (entry : List ℕ × Command). str_eq_ignore_ascii_case word entry.0) command_words)
+
+-- a byte that is no control byte
+abbrev pub is_plain : ℕ → Bool
+is_plain b = nat_le 32 b && not (b == 127)
+
+-- a text, if it holds no control bytes
+unfoldable pub plain : List ℕ → Option (List ℕ)
+plain s = if list_all is_plain s then Some s else None
+
+-- the quotation mark
+abbrev pub is_quote : ℕ → Bool
+is_quote b = b == 34
+
+-- whether a text begins with a quotation mark
+abbrev pub begins_quoted : List ℕ → Bool
+begins_quoted s = is_some_bytes s && is_quote (slice_index s 0)
+
+-- of an argument that begins with a quote: what stands up to the next one, and what follows that
+unfoldable pub quoted : List ℕ → Option (List ℕ × List ℕ)
+quoted s =
+    option_map (λ (end : ℕ). (take end (drop 1 s), drop (end + 1) (drop 1 s))) (position is_quote (drop 1 s))
+
+-- the text of what stands in quotes, if nothing follows it
+abbrev pub quoted_text : Option (List ℕ × List ℕ) → Option (List ℕ)
+quoted_text (Some (inside, after)) = if length after == 0 then plain inside else None
+quoted_text None = None
+
+-- a text: in quotes, with nothing after them, or as it stands and not empty
+unfoldable pub text_argument : List ℕ → Option (List ℕ)
+text_argument s =
+    if begins_quoted s then quoted_text (quoted s) else (if is_some_bytes s then plain s else None)
+
+-- whether one word follows what stands in quotes
+abbrev pub is_quoted_file : Option (List ℕ × List ℕ) → Bool
+is_quoted_file (Some (name, after)) = length (words_in after) == 1
+is_quoted_file None = false
+
+-- a file: a name in quotes and then one word, or two or more words
+unfoldable pub is_file : List ℕ → Bool
+is_file s = if begins_quoted s then is_quoted_file (quoted s) else nat_le 2 (length (words_in s))
+
+-- a catalogue number
+unfoldable pub catalogue_argument : List ℕ → Option (List ℕ)
+catalogue_argument s = if is_catalogue_number s then Some s else None
+
+-- a track's code: two letters, three letters or digits, seven digits; its letters are taken as capital ones
+unfoldable pub code_argument : List ℕ → Option (List ℕ)
+code_argument s = if is_capital_code (str_to_ascii_uppercase s) then Some (str_to_ascii_uppercase s) else None
+
+-- whether some word is this flag
+abbrev pub names_flag : List ℕ → List (List ℕ) → Bool
+names_flag flag words = list_any (λ word. bytes_eq word flag) words
+
+-- the control bits of flags, each once however often it is named
+abbrev pub control_of : List (List ℕ) → ℕ
+control_of words =
+    (if names_flag (codes "4CH") words then 8 else 0) + (if names_flag (codes "DCP") words then 2 else 0)
+    + (if names_flag (codes "PRE") words then 1 else 0)
+
+-- the words that are flags
+abbrev pub is_flag : List ℕ → Bool
+is_flag word =
+    bytes_eq word (codes "4CH") || bytes_eq word (codes "DCP") || bytes_eq word (codes "PRE")
+    || bytes_eq word (codes "SCMS")
+
+-- flags: one word or more, each of them a flag
+unfoldable pub flags_argument : List (List ℕ) → Option ℕ
+flags_argument words =
+    if nat_le 1 (length words) && list_all is_flag words then Some (control_of words) else None
+
+-- a track's number, 01 to 99, and whether its type is AUDIO
+abbrev pub track_of_words : Option ℕ → List ℕ → Option (ℕ × Bool)
+track_of_words (Some number) type =
+    if nat_le 1 number then Some (number, str_eq_ignore_ascii_case type (codes "AUDIO")) else None
+track_of_words None type = None
+
+-- a track: two words, its number and its type
+abbrev pub track_argument : List (List ℕ) → Option (ℕ × Bool)
+track_argument (number ∷ type ∷ []) = track_of_words (two_digit_number number) type
+track_argument _ = None
+
+-- an index line's number and time
+abbrev pub index_of_words : Option ℕ → Option ℕ → Option (ℕ × ℕ)
+index_of_words (Some number) (Some time) = Some (number, time)
+index_of_words _ _ = None
+
+-- an index line: two words, its number and its time
+abbrev pub index_argument : List (List ℕ) → Option (ℕ × ℕ)
+index_argument (number ∷ time ∷ []) = index_of_words (two_digit_number number) (parsed_time time)
+index_argument _ = None
+
+-- what a command says with its argument, if that is spelled as it must be
+abbrev pub said_by : Command → List ℕ → Option CueLine
+said_by Remark s = Some SaysNothing
+said_by Catalogue s = option_map SaysCatalogue (catalogue_argument s)
+said_by File s = if is_file s then Some SaysFile else None
+said_by Title s = option_map SaysTitle (text_argument s)
+said_by Performer s = option_map SaysPerformer (text_argument s)
+said_by Songwriter s = option_map SaysSongwriter (text_argument s)
+said_by Track s = option_map (λ (t : ℕ × Bool). SaysTrack t.0 t.1) (track_argument (words_in s))
+said_by Flags s = option_map SaysFlags (flags_argument (words_in s))
+said_by Isrc s = option_map SaysIsrc (code_argument s)
+said_by Pregap s = option_map SaysPregap (parsed_time s)
+said_by Index s = option_map (λ (i : ℕ × ℕ). SaysIndex i.0 i.1) (index_argument (words_in s))
+said_by Postgap s = option_map SaysPostgap (parsed_time s)
+
+-- the ranges of what lines say
+abbrev pub IsLineInRange : CueLine → Type 0
+IsLineInRange (SaysCatalogue s) = IsTrue (is_catalogue_number s)
+IsLineInRange (SaysTitle s) = IsText s
+IsLineInRange (SaysPerformer s) = IsText s
+IsLineInRange (SaysSongwriter s) = IsText s
+IsLineInRange (SaysTrack number audio) = (1 ≤ number) × (number ≤ 99)
+IsLineInRange (SaysFlags control) = control < 16
+IsLineInRange (SaysIsrc s) = IsTrue (is_capital_code s)
+IsLineInRange (SaysPregap time) = time < 450000
+IsLineInRange (SaysIndex number time) = (number ≤ 99) × (time < 450000)
+IsLineInRange (SaysPostgap time) = time < 450000
+IsLineInRange _ = Unit {0}

@@ -1,4 +1,0 @@
-pub mod Pixels
-pub mod Ready
-pub mod Sheets
-pub mod Scratched

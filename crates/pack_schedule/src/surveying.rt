@@ -1,0 +1,146 @@
+// The pictures of a script in turn: what each needs, and whether it is in time.
+ghost use Rattle.std.specs.Prelude.{◌≡◌, ◌<◌, ◌≤◌, ◌+◌, ◌-◌, ◌*◌, ℕ, length, slice_index_or, IfOk, IfErr, Err, nat_le};
+ghost use Rattle.picture_script.specs.Script.{pictures, hold_time, ready_time};
+ghost use Rattle.picture_script.specs.Board.{IsPicture};
+ghost use Rattle.picture_changes.specs.Schedule.{start_of, free_packs};
+ghost use Rattle.picture_changes.specs.PlannedChange.{chosen_start, planned_change};
+ghost use Rattle.picture_changes.specs.Brings.{CannotBeReady, IsNeed};
+ghost use Rattle.pack_schedule.specs.Survey.{nothing_planned, IsSurvey, IsWithin, IsPastEnd, IsStop};
+ghost use Rattle.pack_schedule.specs.Weights.{AreWeights};
+
+use crate::choice::choose_start;
+use crate::planned::{Planned, Stop};
+use crate::surveyed::Survey;
+use crate::weights::{NOT_WEIGHED, TILES, Weighed};
+use picture_changes::{
+    changes_have_planned_lengths, needs_are_fewest, planned_changes_are_changes,
+};
+use picture_script::{Canvas, Script};
+use std::alloc::Global;
+
+/// Plans the change of each picture, for a program of so many blocks, which are below 450,000.
+///
+/// A picture is in time where the packs of its change are whole by its ready time. They are sent from the first pack on
+/// that is not whole at the hold time of the picture before.
+///
+/// # Errors
+///
+/// `PastEnd` where the last picture is held for longer than the blocks. Otherwise `Late` at the first picture that is not
+/// in time, with the packs that it needs and those that are free for it. `NoMemory` where there is no memory.
+pub fn survey(alloc: Global, script: &Script, blocks: u32) -> Result<Survey, Stop>
+    requires { blocks < 450000 }
+    ensures within { IfOk result (λ _. IsWithin script.now blocks) }
+    ensures planned { IfOk result (IsSurvey script.now) }
+    ensures err { IfErr result (IsStop script.now blocks) }
+    ensures past_end { IsPastEnd script.now blocks → result ≡ Err (Stop.PastEnd blocks) }
+
+    // What a picture needs is the fewest instructions that bring it, of whatever form without scrolls; and a late picture cannot be ready.
+    ensures fewest { IfOk result (λ planned. (k : ℕ) → k < pictures script.now → IsNeed script.now k (slice_index_or planned k nothing_planned).need) }
+    ensures late { (picture need free : ℕ) → result ≡ Err (Stop.Late picture need free) → CannotBeReady script.now picture need free }
+{
+    needs_are_fewest();
+    let pictures = script.pictures();
+    if last_hold(script) > blocks {
+        return Err(Stop::PastEnd { blocks });
+    }
+    let mut before = Canvas::start(alloc)?;
+    let mut now = Canvas::start(alloc)?;
+    let mut weights = [NOT_WEIGHED; TILES];
+    let mut planned = Vec::new(alloc);
+    for k in 0..pictures {
+        now.draw_until(script, k);
+        let change = plan_picture(script, k, &before, &now, &mut weights);
+        if !is_in_time(script, k, change.start, change.need) {
+            return Err(Stop::Late {
+                picture: k,
+                need: change.need,
+                free: free_packs(script, k, change.start),
+            });
+        }
+        planned.push(change)?;
+        before.draw_until(script, k);
+    }
+    Ok(Survey { planned })
+}
+
+// Until when the last picture is held, or 0 where there is none.
+fn last_hold(script: &Script) -> u32
+    ensures none { pictures script.now ≡ 0 → result ≡ 0 }
+    ensures last { 0 < pictures script.now → result ≡ hold_time script.now (pictures script.now - 1) }
+{
+    let pictures = script.pictures();
+    if pictures == 0 {
+        0
+    } else {
+        script.hold(pictures - 1)
+    }
+}
+
+// How many packs are whole after so many blocks.
+fn whole_packs(blocks: u32) -> u32
+    requires { blocks < 450000 }
+    ensures { result ≡ 4 * blocks - 7 }
+{
+    (4 * blocks).saturating_sub(7)
+}
+
+// The pack at which the change of picture `k` begins.
+fn start_of(script: &Script, k: u32) -> u32
+    requires { k < pictures script.now }
+    ensures value { result ≡ start_of script.now k }
+    ensures below { result < 1800000 }
+{
+    if k == 0 {
+        0
+    } else {
+        whole_packs(script.hold(k - 1))
+    }
+}
+
+// The change of picture `k`, which stands on `now`, while the picture before it stands on `before`.
+fn plan_picture(
+    script: &Script,
+    k: u32,
+    before: &Canvas,
+    now: &Canvas,
+    weights: &mut [Weighed; TILES],
+) -> Planned
+    requires picture { k < pictures script.now }
+    requires now { IsPicture script.now k now.now }
+    requires before { 0 < k → IsPicture script.now (k - 1) before.now }
+    requires weights { 0 < k → AreWeights script.now (k - 1) weights.old }
+    ensures weights { AreWeights script.now k weights.new }
+    ensures start { result.start ≡ start_of script.now k }
+    ensures preset { result.preset ≡ chosen_start script.now k }
+    ensures need { result.need ≡ length (planned_change script.now k) }
+    ensures below { (result.start < 1800000) × (result.need ≤ 3076) }
+{
+    planned_changes_are_changes();
+    changes_have_planned_lengths();
+    let _ranges = script.pictures();
+    let choice = choose_start(script, k, before, now, weights);
+    Planned {
+        start: start_of(script, k),
+        need: choice.need,
+        preset: choice.preset,
+    }
+}
+
+// Whether a change of so many packs from a start on is whole by the ready time of picture `k`.
+fn is_in_time(script: &Script, k: u32, start: u32, need: u32) -> bool
+    requires picture { k < pictures script.now }
+    requires start { start < 1800000 }
+    requires need { need ≤ 3076 }
+    ensures { result ≡ nat_le (start + need + 7) (4 * ready_time script.now k) }
+{
+    start + need + 7 <= 4 * script.ready(k)
+}
+
+// The packs that are free for picture `k`.
+fn free_packs(script: &Script, k: u32, start: u32) -> u32
+    requires picture { k < pictures script.now }
+    requires start { start ≡ start_of script.now k }
+    ensures { result ≡ free_packs script.now k }
+{
+    whole_packs(script.ready(k)).saturating_sub(start)
+}

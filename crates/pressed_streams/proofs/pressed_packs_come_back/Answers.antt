@@ -1,5 +1,0 @@
-use Rattle.pressed_streams.proofs.Shown.{found_is}
-use Rattle.pressed_streams.proofs.pressed_packs_come_back.Goals as goal
-
-pub returns-clause-found : goal.returns-clause-found
-returns-clause-found c form lead_in others press = found_is form lead_in others press c.packs_are_recovered.ensures

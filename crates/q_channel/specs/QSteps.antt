@@ -1,0 +1,18 @@
+-- The steps of the stage that gives the lines of the Q channel.
+use Rattle.std.specs.Prelude.{ℕ, ◌+◌, ◌-◌, ◌^◌, min, if◌then◌else◌, List, Option, Some, is_err}
+use Rattle.raw_subcode.specs.Channels.{q_bits}
+use Rattle.q_channel.specs.QLine.{q_line}
+use Rattle.q_channel.specs.ReadingOf.{reading_of}
+use Rattle.q_channel.specs.declared.q_lines.QLines.{QLines}
+
+-- a count of 32 bits, which stays at its last value
+abbrev pub counted : ℕ → ℕ
+counted n = min (n + 1) (2 ^ 32 - 1)
+
+-- the counts after a block: of all blocks, and of those whose frame is refused
+unfoldable pub q_next : QLines → List ℕ → QLines
+q_next s block = record { block = counted s.block; bad = if is_err (reading_of (q_bits block)) then counted s.bad else s.bad }
+
+-- the line of a block, with its number, at most 999999
+unfoldable pub q_give : QLines → List ℕ → Option (List ℕ)
+q_give s block = Some (q_line (min s.block 999999) (reading_of (q_bits block)))

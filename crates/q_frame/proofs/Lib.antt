@@ -1,4 +1,0 @@
-pub mod Appended
-pub mod Bytes
-pub mod Spelled
-pub mod Fields

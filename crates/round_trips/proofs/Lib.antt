@@ -1,0 +1,13 @@
+pub mod ListedFrames
+pub mod SlotPacks
+pub mod Found
+pub mod PackBytes
+pub mod SheetTracks
+pub mod StringBytes
+pub mod ListedTexts
+pub mod Answering
+pub mod Meanings
+pub mod Standings
+pub mod Shown
+pub mod Packs
+pub mod Existing

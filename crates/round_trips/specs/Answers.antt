@@ -1,0 +1,17 @@
+-- What a player's list of texts answers.
+use Rattle.std.specs.Prelude.{◌≡◌, ⊤, ℕ, List, Result, Ok, Err}
+use Rattle.std.specs.declared.option.Option.{Option}
+use Rattle.std.specs.Io.KnownBytes.{Appends}
+use Rattle.cdtext_packs.specs.declared.kinds.TextFault.TheVariants.{NoMemory}
+use Rattle.subcode_player.specs.declared.player.Played.{Played}
+use Rattle.subcode_player.specs.declared.player.PlayStop.TheVariants.{ReadFault, WriteFault}
+use Rattle.subcode_player.specs.declared.text.TextStop.{TextStop}
+use Rattle.subcode_player.specs.declared.text.TextStop.TheVariants.{Play, Text}
+
+-- this text was put, unless a read or a write failed or memory was short
+abbrev pub PutsTexts : Result Played TextStop → Option (List ℕ) → Option (List ℕ) → List ℕ → Type 0
+PutsTexts (Ok played) held held' text = Appends held held' text
+PutsTexts (Err (Play ReadFault)) held held' text = ⊤
+PutsTexts (Err (Play WriteFault)) held held' text = ⊤
+PutsTexts (Err (Play stop)) held held' text = ⊥
+PutsTexts (Err (Text fault)) held held' text = fault ≡ NoMemory

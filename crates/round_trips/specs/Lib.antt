@@ -1,0 +1,6 @@
+pub mod FrameLines
+pub mod Slots
+pub mod SheetLines
+pub mod Damage
+pub mod Answers
+pub mod Damaged

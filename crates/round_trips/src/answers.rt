@@ -1,0 +1,90 @@
+// What a player answers to an authored stream.
+ghost use Rattle.std.specs.Prelude.{◌≡◌, ◌*◌, ◌<◌, ◌≤◌, ℕ, List, Bool, true, Some, Result, length};
+ghost use Rattle.std.specs.declared.option.Option.{Option};
+ghost use Rattle.q_channel.specs.QList.{IsQListed};
+ghost use Rattle.cue_sheet.specs.CueSheet.{CueSheet};
+ghost use Rattle.picture_script.specs.Script.{Drawing};
+ghost use Rattle.raw_subcode.specs.declared.form.Form.{Form};
+ghost use Rattle.raw_subcode.specs.declared.form.Form.TheVariants.{Raw};
+ghost use Rattle.toc_model.specs.Places.{layout_of};
+ghost use Rattle.cdtext_packs.specs.SheetTexts.{sheet_texts};
+ghost use Rattle.cdtext_packs.specs.Texts.{has_no_text};
+ghost use Rattle.cdtext_packs.specs.TextLines.{offers_line};
+ghost use Rattle.subcode_author.specs.Authored.{IsAuthored, text_packs};
+ghost use Rattle.subcode_player.specs.Calls.{most_units, PlaysInTurn, IsAnsweredBy};
+ghost use Rattle.subcode_player.specs.Convert.{Restores};
+ghost use Rattle.subcode_player.specs.TextListing.{packs_in, ListsTexts, IsListedBy, IsWholeInput};
+ghost use Rattle.subcode_player.specs.declared.player.Played.{Played};
+ghost use Rattle.subcode_player.specs.declared.player.PlayStop.{PlayStop};
+ghost use Rattle.subcode_player.specs.declared.text.TextStop.{TextStop};
+ghost use Rattle.round_trips.specs.Answers.{PutsTexts};
+ghost use Rattle.round_trips.specs.Damage.{HasHurtSlots, count_whole, count_hurt};
+ghost use Rattle.round_trips.specs.FrameLines.{frame_lines};
+ghost use Rattle.round_trips.specs.SheetLines.{HasText, HasTextPacks, sheet_lines};
+
+use crate::frames::authored_frames_are_listed;
+use crate::texts::{
+    authored_texts_are_listed, damaged_lead_ins_give_the_texts, streams_without_texts_are_listed,
+};
+
+/// A law: a list of the Q channel of an authored stream puts the line of each frame, unless a read or a write fails.
+pub fn frame_lists_are_answered()
+    ensures { (sheet : CueSheet) (script : List Drawing) (lead_in audio : ℕ) (bytes : List ℕ) (packs : List (List ℕ))
+        (given : ℕ) (left held held' : Option (List ℕ)) (result : Result Played PlayStop) (taken : List ℕ)
+        → IsAuthored sheet script lead_in audio bytes packs → length bytes ≤ most_units * 96
+        → PlaysInTurn (IsQListed Raw) Raw given (Some bytes) left held held' result taken → IsAnsweredBy result 96 (length bytes)
+        → Restores result held held' (frame_lines (layout_of sheet audio) lead_in) }
+{
+    authored_frames_are_listed();
+}
+
+/// A law: a list of the texts of an authored stream puts the lines of the sheet's strings, or none where it has no text,
+/// unless a read or a write fails or memory is short.
+pub fn text_lists_are_answered()
+    ensures texts { (sheet : CueSheet) (script : List Drawing) (lead_in audio : ℕ) (bytes : List ℕ) (packs : List (List ℕ))
+        (left held held' : Option (List ℕ)) (result : Result Played TextStop) (taken : List ℕ)
+        → HasTextPacks sheet → HasText sheet → 0 < lead_in
+        → IsAuthored sheet script lead_in audio bytes packs → length bytes ≤ most_units * 96
+        → ListsTexts Raw lead_in (Some bytes) left held held' result taken → IsListedBy result Raw lead_in bytes
+        → PutsTexts result held held' (sheet_lines sheet (4 * lead_in) 0) }
+    ensures none { (sheet : CueSheet) (script : List Drawing) (lead_in audio : ℕ) (bytes : List ℕ) (packs : List (List ℕ))
+        (left held held' : Option (List ℕ)) (result : Result Played TextStop) (taken : List ℕ)
+        → has_no_text (sheet_texts sheet) ≡ true
+        → IsAuthored sheet script lead_in audio bytes packs → length bytes ≤ most_units * 96
+        → ListsTexts Raw lead_in (Some bytes) left held held' result taken → IsListedBy result Raw lead_in bytes
+        → PutsTexts result held held' (offers_line 0 (4 * lead_in) 0) }
+{
+    authored_texts_are_listed();
+    streams_without_texts_are_listed();
+}
+
+/// A law: the same of units of any form, in whose lead-in the text packs of an authored stream stand.
+pub fn copied_text_lists_are_answered()
+    ensures texts { (sheet : CueSheet) (script : List Drawing) (lead_in audio : ℕ) (bytes : List ℕ) (packs : List (List ℕ)) (form : Form) (copy : List ℕ)
+        (left held held' : Option (List ℕ)) (result : Result Played TextStop) (taken : List ℕ)
+        → HasTextPacks sheet → HasText sheet → 0 < lead_in → IsAuthored sheet script lead_in audio bytes packs
+        → packs_in form lead_in copy ≡ packs_in Raw lead_in bytes → IsWholeInput form copy
+        → ListsTexts form lead_in (Some copy) left held held' result taken → IsListedBy result form lead_in copy
+        → PutsTexts result held held' (sheet_lines sheet (4 * lead_in) 0) }
+    ensures none { (sheet : CueSheet) (script : List Drawing) (lead_in audio : ℕ) (bytes : List ℕ) (packs : List (List ℕ)) (form : Form) (copy : List ℕ)
+        (left held held' : Option (List ℕ)) (result : Result Played TextStop) (taken : List ℕ)
+        → has_no_text (sheet_texts sheet) ≡ true → IsAuthored sheet script lead_in audio bytes packs
+        → packs_in form lead_in copy ≡ packs_in Raw lead_in bytes → IsWholeInput form copy
+        → ListsTexts form lead_in (Some copy) left held held' result taken → IsListedBy result form lead_in copy
+        → PutsTexts result held held' (offers_line 0 (4 * lead_in) 0) }
+{
+    authored_texts_are_listed();
+    streams_without_texts_are_listed();
+}
+
+/// A law: the same of units of any form whose lead-in is damaged, where each text pack is left whole in some slot.
+pub fn damaged_text_lists_are_answered()
+    ensures { (sheet : CueSheet) (script : List Drawing) (lead_in audio : ℕ) (bytes : List ℕ) (packs : List (List ℕ)) (whole : List Bool) (form : Form) (changed : List ℕ)
+        (left held held' : Option (List ℕ)) (result : Result Played TextStop) (taken : List ℕ)
+        → HasTextPacks sheet → HasText sheet → IsAuthored sheet script lead_in audio bytes packs
+        → HasHurtSlots (text_packs sheet) whole (packs_in Raw lead_in bytes) (packs_in form lead_in changed) → IsWholeInput form changed
+        → ListsTexts form lead_in (Some changed) left held held' result taken → IsListedBy result form lead_in changed
+        → PutsTexts result held held' (sheet_lines sheet (count_whole whole) (count_hurt whole)) }
+{
+    damaged_lead_ins_give_the_texts();
+}

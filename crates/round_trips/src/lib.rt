@@ -1,0 +1,21 @@
+//! Laws of authored streams: what is listed of their Q channel, and of the texts in their lead-in.
+#![tactic(auto)]
+
+mod answers;
+mod frames;
+mod pressed;
+mod texts;
+
+pub use answers::{
+    copied_text_lists_are_answered, damaged_text_lists_are_answered, frame_lists_are_answered,
+    text_lists_are_answered,
+};
+pub use frames::authored_frames_are_listed;
+pub use pressed::{
+    pressable_files_have_streams, pressed_files_are_shown, pressed_packs_come_back,
+    pressed_streams_are_one,
+};
+pub use texts::{
+    accepted_sheets_have_text_packs, authored_lead_ins_hold_the_packs, authored_texts_are_listed,
+    damaged_lead_ins_give_the_texts, streams_without_texts_are_listed,
+};

@@ -1,0 +1,89 @@
+use Rattle.std.proofs.Common.{◌++◌, [], length, sym, ap, ◌∙◌, refl, subst, arith}
+use Rattle.std.specs.Io.KnownBytes.{Appends}
+use Rattle.rw_merge.proofs.Working.{both_end, end_stops, pair_found, pair_stops, skipped_as, works_more, works_none, write_stops}
+use Rattle.rw_merge.proofs.merge.Merger.merge_pairs.Goals as goal
+use Rattle.rw_merge.proofs.merge.Merger.merge_pairs.Goals.{then-block-lead_in+in-Ok, else-block-lead_in}
+
+pub loop-block-init : goal.loop-block-init
+loop-block-init g c = record {
+  same = ap length (c.requires.first ∙ sym c.requires.second);
+  works = ([], [], works_none c.args.lead_in _ _ _ _ _ c.requires.first c.requires.second);
+  no_first_fault = refl;
+  no_second_fault = refl;
+  no_write_fault = refl;
+  first_told = refl;
+  second_told = refl;
+}
+
+pub returns-in-Ok-false-clause-merges : goal.returns-in-Ok-false-clause-merges
+returns-in-Ok-false-clause-merges g c =
+    let (xs, ys, works) = c.loop-block.invariant.works in
+    let (us, vs, first, second, read, whole) = rw c.in-Ok-false.field-0-test at c.in-Ok-false.ensures.pair in
+    both_end c.args.lead_in c.loop-block.block _ _ _ _ _ _ _ _ _ _ _ _ xs ys us vs works first second read.0 read.1 (omega (arith, c.loop-block-test.true)) c.saturating_sub.ensures
+
+pub returns-in-Err-clause-merges : goal.returns-in-Err-clause-merges
+returns-in-Err-clause-merges g c =
+    let (xs, ys, works) = c.loop-block.invariant.works in
+    let (us, vs, first, second, read, whole) = c.in-Err.ensures.pair in
+    pair_stops c.args.lead_in c.loop-block.block _ _ _ _ _ _ _ _ _ _ _ xs ys us vs c.in-Err.stop works first second read c.loop-block-test.true
+
+pub returns-in-Ok-nothing_follows-clause-merges : goal.returns-in-Ok-nothing_follows-clause-merges
+returns-in-Ok-nothing_follows-clause-merges g c =
+    let (xs, ys, works) = c.loop-block.invariant.works in
+    let (us, vs, first, second, read) = c.in-Ok-nothing_follows.ensures.end in
+    both_end c.args.lead_in c.loop-block.block _ _ _ _ _ _ _ _ _ _ _ _ xs ys us vs works first second read.0 read.1 (omega (arith, c.loop-block.auto.block-end)) (omega (arith, c.loop-block.auto.block-end, c.loop-block-test.false))
+
+pub returns-in-Err-nothing_follows-clause-merges : goal.returns-in-Err-nothing_follows-clause-merges
+returns-in-Err-nothing_follows-clause-merges g c =
+    let (xs, ys, works) = c.loop-block.invariant.works in
+    let (us, vs, first, second, read) = c.in-Err-nothing_follows.ensures.end in
+    end_stops c.args.lead_in c.loop-block.block _ _ _ _ _ _ _ _ _ _ _ xs ys us vs c.in-Err-nothing_follows.stop works first second read (omega (arith, c.loop-block.auto.block-end, c.loop-block-test.false))
+
+pub returns-in-Err-put_all-clause-merges : goal.returns-in-Err-put_all-clause-merges
+returns-in-Err-put_all-clause-merges g c =
+    let (xs, ys, works) = c.loop-block.invariant.works in
+    let (us, vs, first, second, read, whole) = rw c.in-Ok-true.field-0-test at c.in-Ok-true.ensures.pair in
+    let (u_is, v_is) = whole refl in
+    let pair = pair_found c.loop-block.self.first c.loop-block.self.second c.next_pair.new.one c.next_pair.new.other us vs _ _ c.merge-packs.new.self.first c.merge-packs.new.self.second c.merge-packs.result.bytes c.bytes.result.now c.merge-packs.result.bad u_is v_is refl refl c.bytes.ensures.bytes
+    c.merge-packs.ensures.first c.merge-packs.ensures.second c.merge-packs.ensures.packs in
+    write_stops c.args.lead_in c.loop-block.block _ _ _ _ _ _ _ _ _ _ _ _ _ _ _ xs ys us vs _ works first second read.0 read.1 c.if-block-lead_in.true c.loop-block-test.true pair c.in-Err-put_all.ensures.part
+
+pub loop-block-preserved : goal.loop-block-preserved
+loop-block-preserved g c =
+    let before = c.loop-block.invariant in
+    let (xs, ys, works) = before.works in
+    let (us, vs, first, second, read, whole) = rw c.in-Ok-true.field-0-test at c.in-Ok-true.ensures.pair in
+    let (u_is, v_is) = whole refl in
+    elim c.if-block-lead_in.branch [
+      | then-block-lead_in+in-Ok w ↦
+          let first_is = ap (λ s. s.first) w.self-is in
+          let second_is = ap (λ s. s.second) w.self-is in
+          let pair = pair_found c.loop-block.self.first c.loop-block.self.second c.next_pair.new.one c.next_pair.new.other us vs _ _ c.if-block-lead_in.self.first c.if-block-lead_in.self.second w.merge-packs.result.bytes w.bytes.result.now w.merge-packs.result.bad u_is v_is first_is second_is w.bytes.ensures.bytes
+          w.merge-packs.ensures.first w.merge-packs.ensures.second w.merge-packs.ensures.packs in
+          let held = ap g.K.Sink.held w.out-is in
+          let put = subst (λ h. Appends (g.K.Sink.held c.loop-block.out) h w.bytes.result.now) (sym held) w.in-Ok.ensures.ok in
+          record {
+            same = ap length first_is ∙ w.merge-packs.ensures.same ∙ sym (ap length second_is);
+            works = (xs ++ us, ys ++ vs, works_more c.args.lead_in c.loop-block.block _ _ _ _ _ _ _ _ _ _ _ _ _ _ _ xs ys us vs _ works first second read.0 read.1 w.if-block-lead_in.true pair put c.if-block-lead_in.bad w.bad-is);
+            no_first_fault = c.in-Ok-true.ensures.no_first_fault (λ e. (cc)) ∙ before.no_first_fault;
+            no_second_fault = c.in-Ok-true.ensures.no_second_fault (λ e. (cc)) ∙ before.no_second_fault;
+            no_write_fault = ap g.K.Sink.faults w.out-is ∙ w.in-Ok.ensures.cause.same ∙ before.no_write_fault;
+            first_told = (rw c.in-Ok-true.field-0-test at c.in-Ok-true.ensures.first_end) ∙ before.first_told;
+            second_told = (rw c.in-Ok-true.field-0-test at c.in-Ok-true.ensures.second_end) ∙ before.second_told;
+          }
+      | else-block-lead_in w ↦
+          let held = ap g.K.Sink.held w.out-is in
+          record {
+            same = ap (λ s. length s.first) w.self-is ∙ before.same ∙ sym (ap (λ s. length s.second) w.self-is);
+            works = (
+              xs ++ us,
+              ys ++ vs,
+              skipped_as c.args.lead_in c.loop-block.block _ _ _ _ _ _ _ _ _ _ _ _ _ xs ys us vs works first second read.0 read.1 w.if-block-lead_in.false held w.self-is w.bad-is,
+            );
+            no_first_fault = c.in-Ok-true.ensures.no_first_fault (λ e. (cc)) ∙ before.no_first_fault;
+            no_second_fault = c.in-Ok-true.ensures.no_second_fault (λ e. (cc)) ∙ before.no_second_fault;
+            no_write_fault = ap g.K.Sink.faults w.out-is ∙ before.no_write_fault;
+            first_told = (rw c.in-Ok-true.field-0-test at c.in-Ok-true.ensures.first_end) ∙ before.first_told;
+            second_told = (rw c.in-Ok-true.field-0-test at c.in-Ok-true.ensures.second_end) ∙ before.second_told;
+          }
+    ]

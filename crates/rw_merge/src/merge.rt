@@ -1,0 +1,239 @@
+// Two readings of one stream, block by block in turn.
+ghost use Rattle.std.specs.Prelude.{◌≡◌, ◌≢◌, ◌≤◌, ◌<◌, ◌+◌, ◌*◌, [], ◌++◌, List, ℕ, Err, length, take, drop, is_none, if◌then◌else◌, IsErrOf, IfOk, IfSome};
+ghost use Rattle.std.specs.List.{concat};
+ghost use Rattle.std.specs.Io.KnownBytes.{Consumes};
+ghost use Rattle.std.specs.declared.option.Option.{Option};
+ghost use Rattle.cdg_io.specs.Causes.{Rose};
+ghost use Rattle.raw_subcode.specs.Channels.{symbols_of};
+ghost use Rattle.rw_interleave.specs.Stream.{bad_count};
+ghost use Rattle.rw_interleave.specs.Texts.{cdg_bytes, entry_bytes};
+ghost use Rattle.rw_merge.specs.Merging.{FirstIsAtEnd, EndsSecond, IsAnswer, IsMergedText, Merges, TellsFirst, TellsSecond};
+ghost use Rattle.rw_merge.specs.Readings.{IsDamagedTwice, IsReadTwice, MergeRestores};
+ghost use Rattle.rw_merge.specs.Steps.{AreAgreements, leading_slots, window_after, words_after};
+
+use crate::packs::Packs;
+use crate::pairs::{next_pair, nothing_follows};
+use cdg_io::{Failed, Sink, Source, put_all};
+use rw_interleave::{Window, text_of_packs};
+use std::alloc::{AllocError, Global};
+use std::marker::Model;
+
+/// The bytes of a block.
+pub(crate) const BLOCK: usize = 96;
+
+/// The most blocks of an input.
+const MOST_BLOCKS: u32 = 1_000_000;
+
+/// What was merged of two whole inputs.
+#[derive(Clone, Copy, Debug, PartialEq, Eq)]
+pub struct Merged {
+    /// The blocks of the program, which are those after the lead-in.
+    pub blocks: u32,
+    /// The words for which no codeword is agreed.
+    pub bad: u32,
+}
+
+/// Why a merge stopped before the end of two whole inputs. Blocks are counted from 0.
+#[derive(Clone, Copy, Debug, PartialEq, Eq)]
+pub enum MergeStop {
+    /// A read of the first input failed.
+    FirstFault,
+    /// A read of the second input failed.
+    SecondFault,
+    /// A write failed: the sink took a prefix of the text.
+    WriteFault,
+    /// Both inputs have 1,000,000 blocks, and one of them has more.
+    TooLong,
+    /// The first input ended within the block of this number.
+    Torn { block: u32 },
+    /// The second input ended within the block of this number.
+    SecondTorn { block: u32 },
+    /// One input has only this many whole blocks and the other has more.
+    Unequal { blocks: u32 },
+}
+
+/// A law: from two readings that have enough of each word together, every pack is merged. So it is where each
+/// reading is damaged in at most two symbols of each word.
+pub fn two_readings_give_packs()
+    ensures text { (lead_in blocks : ℕ) (packs : List (List ℕ)) (first second text : List ℕ) (bad : ℕ)
+        → IsReadTwice lead_in blocks packs first second → IsMergedText lead_in first second text bad
+        → (text ≡ concat packs) × (bad ≡ 0) }
+    ensures damage { (lead_in blocks : ℕ) (packs : List (List ℕ)) (first second : List ℕ)
+        → IsDamagedTwice lead_in blocks packs first second → IsReadTwice lead_in blocks packs first second }
+{
+    text_of_packs();
+}
+
+/// Merges two readings of one stream, one pair of streams at a time. All its memory is taken at the start; each
+/// call begins anew, whatever stopped the one before. Seen as the last slots of both readings.
+#[derive(Drop)]
+pub struct Merger {
+    first: Window,
+    second: Window,
+}
+
+impl Model for Merger {
+    ghost use Rattle.rw_merge.specs.Windows.{Windows};
+
+    ghost Value = { Windows };
+
+    ghost view = { λ m. record { first = m.first; second = m.second } };
+}
+
+impl Merger {
+    /// Makes both windows, which lie in the merger itself: nothing is taken from the allocator.
+    pub fn start(_alloc: Global) -> Result<Merger, AllocError>
+        ensures { IfOk result (λ m. m ≡ record { first = []; second = [] }) }
+    {
+        Ok(Merger {
+            first: Window::new(),
+            second: Window::new(),
+        })
+    }
+
+    /// Writes the packs on which two readings of a stream agree, as their blocks are read: 24 bytes each, every
+    /// byte below 64.
+    ///
+    /// `lead_in` is at most 450,000 blocks, which are passed over. A block of the first input is read and then one
+    /// of the second. A word for which no codeword is agreed is written as 24 zeros, and counted in `Merged::bad`.
+    /// Of B blocks of the program 4B - 7 packs are written.
+    ///
+    /// # Errors
+    ///
+    /// At the first block that not both inputs have whole: `Torn` where the first ends within it, else `SecondTorn`
+    /// where the second does, else `Unequal`, where one input has it. `TooLong` where both have 1,000,000 blocks and
+    /// a byte follows in either. All these come after the packs of all whole pairs are written, and the faults of
+    /// reading after those of the pairs that were read. After `WriteFault` the sink holds a prefix, and no later
+    /// block was read.
+    pub fn run<S: Source, T: Source, K: Sink>(
+        &mut self,
+        lead_in: u32,
+        first: &mut S,
+        second: &mut T,
+        out: &mut K,
+    ) -> Result<Merged, MergeStop>
+        requires { lead_in ≤ 450000 }
+        ensures merges { (xs ys : List ℕ) × Consumes (S.left first.old) (S.left first.new) xs
+            × Consumes (T.left second.old) (T.left second.new) ys
+            × Merges lead_in (K.held out.old) (K.held out.new) result xs ys }
+        // Every pack comes back where both readings together have enough of each word.
+        ensures restores { IfSome (S.left first.old) (λ xs. IfSome (T.left second.old) (λ ys.
+            (blocks : ℕ) (packs : List (List ℕ)) → IsReadTwice lead_in blocks packs xs ys
+            → MergeRestores result blocks (K.held out.old) (K.held out.new) (concat packs))) }
+        // So it does where each is damaged in at most two symbols of each word, wherever these are.
+        ensures repairs { IfSome (S.left first.old) (λ xs. IfSome (T.left second.old) (λ ys.
+            (blocks : ℕ) (packs : List (List ℕ)) → IsDamagedTwice lead_in blocks packs xs ys
+            → MergeRestores result blocks (K.held out.old) (K.held out.new) (concat packs))) }
+        // Where nothing failed, the answer is that of the lengths of both whole inputs.
+        ensures answer { IfSome (S.left first.old) (λ xs. IfSome (T.left second.old) (λ ys.
+            IsAnswer lead_in result (length xs) (length ys))) }
+        ensures first_end { FirstIsAtEnd result (S.left first.new) }
+        ensures second_end { EndsSecond result (T.left second.new) }
+        ensures first_told { TellsFirst result (S.ends first.old) (S.ends first.new) }
+        ensures second_told { TellsSecond result (T.ends second.old) (T.ends second.new) }
+        ensures first_later { S.faults first.old ≤ S.faults first.new }
+        ensures second_later { T.faults second.old ≤ T.faults second.new }
+        ensures out_later { K.faults out.old ≤ K.faults out.new }
+        ensures first_fault { IsErrOf result MergeStop.FirstFault
+            → Rose (S.faults first.old) (S.faults first.new) }
+        ensures no_first_fault { result ≢ Err MergeStop.FirstFault
+            → S.faults first.new ≡ S.faults first.old }
+        ensures second_fault { IsErrOf result MergeStop.SecondFault
+            → Rose (T.faults second.old) (T.faults second.new) }
+        ensures no_second_fault { result ≢ Err MergeStop.SecondFault
+            → T.faults second.new ≡ T.faults second.old }
+        ensures write_fault { IsErrOf result MergeStop.WriteFault
+            → Rose (K.faults out.old) (K.faults out.new) }
+        ensures no_write_fault { result ≢ Err MergeStop.WriteFault
+            → K.faults out.new ≡ K.faults out.old }
+    {
+        two_readings_give_packs();
+        self.first.reset();
+        self.second.reset();
+        self.merge_pairs(lead_in, first, second, out)
+    }
+
+    /// The same from empty windows on.
+    fn merge_pairs<S: Source, T: Source, K: Sink>(
+        &mut self,
+        lead_in: u32,
+        first: &mut S,
+        second: &mut T,
+        out: &mut K,
+    ) -> Result<Merged, MergeStop>
+        requires lead_in { lead_in ≤ 450000 }
+        requires first { self.old.first ≡ [] }
+        requires second { self.old.second ≡ [] }
+        ensures merges { (xs ys : List ℕ) × Consumes (S.left first.old) (S.left first.new) xs
+            × Consumes (T.left second.old) (T.left second.new) ys
+            × Merges lead_in (K.held out.old) (K.held out.new) result xs ys }
+        ensures answer { IfSome (S.left first.old) (λ xs. IfSome (T.left second.old) (λ ys.
+            IsAnswer lead_in result (length xs) (length ys))) }
+        ensures first_end { FirstIsAtEnd result (S.left first.new) }
+        ensures second_end { EndsSecond result (T.left second.new) }
+        ensures first_told { TellsFirst result (S.ends first.old) (S.ends first.new) }
+        ensures second_told { TellsSecond result (T.ends second.old) (T.ends second.new) }
+        ensures first_later { S.faults first.old ≤ S.faults first.new }
+        ensures second_later { T.faults second.old ≤ T.faults second.new }
+        ensures out_later { K.faults out.old ≤ K.faults out.new }
+        ensures first_fault { IsErrOf result MergeStop.FirstFault
+            → Rose (S.faults first.old) (S.faults first.new) }
+        ensures no_first_fault { result ≢ Err MergeStop.FirstFault
+            → S.faults first.new ≡ S.faults first.old }
+        ensures second_fault { IsErrOf result MergeStop.SecondFault
+            → Rose (T.faults second.old) (T.faults second.new) }
+        ensures no_second_fault { result ≢ Err MergeStop.SecondFault
+            → T.faults second.new ≡ T.faults second.old }
+        ensures write_fault { IsErrOf result MergeStop.WriteFault
+            → Rose (K.faults out.old) (K.faults out.new) }
+        ensures no_write_fault { result ≢ Err MergeStop.WriteFault
+            → K.faults out.new ≡ K.faults out.old }
+    {
+        let mut one = [0; BLOCK];
+        let mut other = [0; BLOCK];
+        let mut bad = 0;
+        for block in 0..MOST_BLOCKS {
+            match next_pair(first, second, &mut one, &mut other, block) {
+                Ok(true) => {}
+                Ok(false) => {
+                    return Ok(Merged {
+                        blocks: block.saturating_sub(lead_in),
+                        bad,
+                    });
+                }
+                Err(stop) => return Err(stop),
+            }
+            if block >= lead_in {
+                let packs = self.merge(&one, &other);
+                bad += packs.bad;
+                match put_all(out, packs.bytes.bytes()) {
+                    Ok(()) => {}
+                    Err(Failed) => return Err(MergeStop::WriteFault),
+                }
+            }
+        }
+        match nothing_follows(first, second) {
+            Ok(()) => Ok(Merged {
+                blocks: MOST_BLOCKS - lead_in,
+                bad,
+            }),
+            Err(stop) => Err(stop),
+        }
+    }
+
+    /// The packs that come with a pair of program blocks.
+    fn merge(&mut self, first: &[u8; BLOCK], second: &[u8; BLOCK]) -> Packs
+        requires { length self.old.first ≡ length self.old.second }
+        ensures first { self.new.first ≡ window_after self.old.first (leading_slots 4 first.now) }
+        ensures second { self.new.second ≡ window_after self.old.second (leading_slots 4 second.now) }
+        ensures same { length self.new.first ≡ length self.new.second }
+        ensures packs { (found : List (Option (List ℕ)))
+            × AreAgreements (words_after self.old.first (leading_slots 4 first.now))
+            (words_after self.old.second (leading_slots 4 second.now)) found
+            × (result.bytes ≡ cdg_bytes found) × (result.bad ≡ bad_count found) × (length found ≤ 4) }
+    {
+        let one = self.first.push_block(first);
+        let other = self.second.push_block(second);
+        Packs::agreed(one.as_slice(), other.as_slice())
+    }
+}

@@ -1,3 +1,0 @@
-pub mod Tiles
-pub mod Schedules
-pub mod Pictures

@@ -1,0 +1,44 @@
+// Generated scripts are in time.
+ghost use Rattle.std.specs.Prelude.{◌≡◌, ◌<◌, ◌≤◌, ◌+◌, ◌*◌, ◌⊎◌, ℕ};
+ghost use Rattle.cue_sheet.specs.CueSheet.{CueSheet};
+ghost use Rattle.toc_model.specs.Places.{program_blocks};
+ghost use Rattle.picture_script.specs.Script.{picture_pixel};
+ghost use Rattle.picture_changes.specs.Schedule.{free_packs};
+ghost use Rattle.pack_schedule.specs.Survey.{IsStop};
+ghost use Rattle.pack_schedule.specs.declared.planned.Stop.{Stop};
+ghost use Rattle.subcode_author.specs.AuthorAnswer.{AreReady, HasLayout, HasRoom, IsAccepted, IsAuthorStop};
+ghost use Rattle.subcode_author.specs.declared.stops.AuthorStop.{AuthorStop};
+ghost use Rattle.cdg_workload.specs.Generated.{generated_drawings};
+
+use cdg_workload::generated_scripts_have_times;
+use pack_schedule::Stop;
+use picture_changes::{needs_are_fewest, planned_changes_are_changes};
+use subcode_author::AuthorStop;
+
+/// A law: each picture of a generated script is ready in time, since at least 3,120 packs are free for it, so a survey refuses none in
+/// a program that lasts until the last one's hold time.
+pub fn generated_scripts_are_ready()
+    ensures pixels { (seed count k x y : ℕ) → picture_pixel (generated_drawings seed count) k x y < 16 }
+    ensures free { (seed count k : ℕ) → k < count → 3120 ≤ free_packs (generated_drawings seed count) k }
+    ensures ready { (seed count : ℕ) → AreReady (generated_drawings seed count) }
+    ensures survey { (seed count blocks : ℕ) (stop : Stop) → 800 * count + 20 ≤ blocks
+        → IsStop (generated_drawings seed count) blocks stop → stop ≡ Stop.NoMemory }
+{
+    generated_scripts_have_times();
+    planned_changes_are_changes();
+    needs_are_fewest();
+}
+
+/// A law: a generated script is written with each sheet that has a layout of so many blocks, and room for its texts in the lead-in.
+pub fn generated_scripts_are_authored()
+    ensures accepted { (sheet : CueSheet) (seed count lead_in audio : ℕ) → HasLayout sheet audio
+        → 800 * count + 20 ≤ program_blocks sheet audio → HasRoom sheet lead_in
+        → IsAccepted sheet (generated_drawings seed count) lead_in audio }
+    ensures stop { (sheet : CueSheet) (seed count lead_in audio : ℕ) (stop : AuthorStop) → HasLayout sheet audio
+        → 800 * count + 20 ≤ program_blocks sheet audio → HasRoom sheet lead_in
+        → IsAuthorStop sheet (generated_drawings seed count) lead_in audio stop
+        → (stop ≡ AuthorStop.NoMemory) ⊎ (stop ≡ AuthorStop.WriteFault) }
+{
+    generated_scripts_are_ready();
+    generated_scripts_have_times();
+}

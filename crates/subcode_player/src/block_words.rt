@@ -1,0 +1,105 @@
+// From blocks to words.
+ghost use Rattle.std.specs.Prelude.{◌≡◌, ◌<◌};
+ghost use Rattle.cdg_io.specs.Run.{run_state, run_gives};
+ghost use Rattle.subcode_player.specs.Steps.{fresh_words, slot_of, slots_of, window_next, window_gives, words_next, words_give};
+
+use crate::Form;
+use arrayvec::ArrayVec;
+use cdg_io::Stage;
+use rw_code::Word;
+use rw_interleave::Window;
+
+/// The bytes of a block.
+pub(crate) const BLOCK: usize = 96;
+
+const SLOT: usize = 24;
+
+const SLOTS: usize = 4;
+
+/// The words that come with a block, at most one with each slot.
+pub(crate) type BlockOfWords = ArrayVec<Word, SLOTS>;
+
+/// Passes over the lead-in blocks, and gives the words that come with each block of the program.
+#[derive(Drop)]
+pub struct BlockWords {
+    /// The form of the stream.
+    pub form: Form,
+    /// The blocks of the lead-in that are still to come.
+    pub lead_in: u32,
+    /// The last slots, from which words are gathered.
+    pub gather: Window,
+}
+
+impl BlockWords {
+    /// The words of no stream yet.
+    pub(crate) fn new() -> BlockWords
+        ensures { result ≡ fresh_words Form.Raw 0 }
+    {
+        BlockWords {
+            form: Form::Raw,
+            lead_in: 0,
+            gather: Window::new(),
+        }
+    }
+
+    /// Begins with a stream of this form.
+    pub(crate) fn begin(&mut self, lead_in: u32, form: Form)
+        ensures { self.new ≡ fresh_words form lead_in }
+    {
+        self.form = form;
+        self.lead_in = lead_in;
+        self.gather.reset();
+    }
+
+    /// The words that come with a block of the program.
+    fn take(&mut self, block: &[u8; BLOCK]) -> BlockOfWords
+        ensures next { self.new ≡ record self.old { gather = run_state (window_next self.old.form) self.old.gather (slots_of block.now) } }
+        ensures gives { result.items ≡ run_gives (window_next self.old.form) (window_gives self.old.form) self.old.gather (slots_of block.now) }
+    {
+        match self.form {
+            Form::Raw | Form::Sector => self.gather.push_block(block),
+            Form::Cooked => slots(block),
+        }
+    }
+}
+
+impl Stage for BlockWords {
+    type Item = [u8; BLOCK];
+
+    type Out = BlockOfWords;
+
+    ghost next = { words_next };
+
+    ghost gives = { words_give };
+
+    #[tactic(auto, unfolding(crate::specs::Steps::words_next, crate::specs::Steps::words_give))]
+    fn feed(&mut self, block: &[u8; BLOCK]) -> Option<BlockOfWords> {
+        if self.lead_in > 0 {
+            self.lead_in -= 1;
+            return None;
+        }
+        Some(self.take(block))
+    }
+}
+
+/// The slots of a block, each as a word.
+fn slots(block: &[u8; BLOCK]) -> BlockOfWords
+    ensures { result.items ≡ slots_of block.now }
+{
+    ArrayVec::from([
+        slot(block, 0),
+        slot(block, 1),
+        slot(block, 2),
+        slot(block, 3),
+    ])
+}
+
+/// A slot of a block.
+fn slot(block: &[u8; BLOCK], i: usize) -> Word
+    requires { i < 4 }
+    ensures { result ≡ slot_of block.now i }
+{
+    let mut bytes = [0; SLOT];
+    bytes.copy_from_slice(&block[SLOT * i..SLOT * i + SLOT]);
+    Word::new(&bytes)
+}

@@ -1,0 +1,196 @@
+// The counts of a stream.
+ghost use Rattle.std.specs.Prelude.{◌≡◌, ◌≢◌, ◌≤◌, ◌-◌, ◌+◌, ◌++◌, min, List, ℕ, length, IfSome, IfOk, IfErr, IsErrOf, Err};
+ghost use Rattle.std.specs.Io.KnownBytes.{Appends};
+ghost use Rattle.cdg_io.specs.Causes.{HasCause, Rose};
+ghost use Rattle.cdg_io.specs.Moves.{AppendsPrefix};
+ghost use Rattle.raw_subcode.specs.Channels.{unit_size};
+ghost use Rattle.rw_interleave.specs.Stream.{word_count};
+ghost use Rattle.subcode_player.specs.Steps.{fresh_words};
+ghost use Rattle.subcode_player.specs.Calls.{EndFirst, IsAnsweredBy, IsStreamStop, PlaysAtEnd};
+ghost use Rattle.subcode_player.specs.Check.{IsCheckListed, count_line, stream_lines, wrong_lines, pack_count_lines, frame_count_lines};
+ghost use Rattle.subcode_player.specs.CheckSteps.{IsFresh, lines_of_counts};
+
+use crate::player::play_stop;
+use crate::watch::watch;
+use crate::{Counting, Form, FrameCounts, PlayStop, Played, Player, WordCounts};
+use arrayvec::ArrayString;
+use cdg_io::{Failed, Sink, Source, put_all};
+use itoa::Buffer;
+
+type Lines = ArrayString<320>;
+
+impl Player {
+    /// Writes the counts of a stream, after all of it is read: of its blocks, of its words by their wrong symbols and by
+    /// what they hold, and of the frames of its Q channel. The packs of a cooked stream have no frames.
+    ///
+    /// `lead_in` is at most 450,000 blocks. `Played::bad` counts the words with no codeword within two symbols; a frame
+    /// that is refused counts in the lines alone.
+    ///
+    /// # Errors
+    ///
+    /// `Torn`, `TooLong` and `ReadFault` as the input says: then nothing is written. After `WriteFault` the sink holds a
+    /// prefix.
+    #[tactic(auto, using(crate::proofs::Ends::ends_first, crate::proofs::Ends::stops_stream))]
+    pub fn check<S: Source, K: Sink>(
+        &mut self,
+        lead_in: u32,
+        form: Form,
+        source: &mut S,
+        out: &mut K,
+    ) -> Result<Played, PlayStop>
+        requires { lead_in ≤ 450000 }
+        ensures checks { (taken : List ℕ) × PlaysAtEnd (IsCheckListed form lead_in) form lead_in
+            (S.left source.old) (S.left source.new) (K.held out.old) (K.held out.new) result taken }
+        // It never answers that a moment is past the end, whatever the input.
+        ensures stops { IfErr result IsStreamStop }
+        // Where nothing failed, the answer is that of the whole input's length.
+        ensures answer { IfSome (S.left source.old) (λ all. IsAnsweredBy result (unit_size form) (length all)) }
+        // Where the output is not written it is as it was.
+        ensures untouched { IfErr result (λ stop. stop ≢ PlayStop.WriteFault → out.new ≡ out.old) }
+        ensures source_later { S.faults source.old ≤ S.faults source.new }
+        ensures out_later { K.faults out.old ≤ K.faults out.new }
+        ensures read_fault { IsErrOf result PlayStop.ReadFault → Rose (S.faults source.old) (S.faults source.new) }
+        ensures no_read_fault { result ≢ Err PlayStop.ReadFault → S.faults source.new ≡ S.faults source.old }
+        ensures ended { EndFirst result (S.ends source.old) (S.ends source.new) }
+        ensures write_fault { IsErrOf result PlayStop.WriteFault → Rose (K.faults out.old) (K.faults out.new) }
+        ensures no_write_fault { result ≢ Err PlayStop.WriteFault → K.faults out.new ≡ K.faults out.old }
+    {
+        self.begin_check(lead_in, form);
+        match watch(form, source, &mut self.checks) {
+            Ok(pumped) => self.write_counts(lead_in, form, pumped.units, out),
+            Err(stop) => Err(play_stop(stop)),
+        }
+    }
+
+    /// Writes what was counted of so many blocks.
+    fn write_counts<K: Sink>(
+        &self,
+        lead_in: u32,
+        form: Form,
+        blocks: u32,
+        out: &mut K,
+    ) -> Result<Played, PlayStop>
+        requires { blocks ≤ 1000000 }
+        ensures ok { IfOk result (λ played. (played.blocks ≡ blocks - lead_in) × (played.bad ≡ self.now.checks.second.words.second.bad)
+            × Appends (K.held out.old) (K.held out.new) (lines_of_counts form lead_in blocks self.now.checks.second)) }
+        ensures part { IfErr result (λ stop. (stop ≡ PlayStop.WriteFault)
+            × AppendsPrefix (K.held out.old) (K.held out.new) (lines_of_counts form lead_in blocks self.now.checks.second)) }
+        ensures untouched { IfErr result (λ stop. stop ≢ PlayStop.WriteFault → out.new ≡ out.old) }
+        ensures cause { HasCause (K.faults out.old) (K.faults out.new) result }
+    {
+        let text = lines(lead_in, form, blocks, &self.checks.second);
+        match put_all(out, text.as_str().as_bytes()) {
+            Ok(()) => Ok(Played {
+                blocks: blocks.saturating_sub(lead_in),
+                bad: self.checks.second.words.second.bad,
+            }),
+            Err(Failed) => Err(PlayStop::WriteFault),
+        }
+    }
+
+    /// Brings back the state after the start, for a stream of this form.
+    fn begin_check(&mut self, lead_in: u32, form: Form)
+        ensures { IsFresh form lead_in self.new.checks.second }
+    {
+        let counting = &mut self.checks.second;
+        counting.words.first.begin(lead_in, form);
+        counting.words.second = WordCounts::default();
+        counting.frames = FrameCounts {
+            read: form != Form::Cooked,
+            good: 0,
+            bad: 0,
+        };
+    }
+}
+
+/// The lines of counts after so many blocks.
+#[tactic(auto, unfolding(crate::specs::CheckSteps::lines_of_counts))]
+fn lines(lead_in: u32, form: Form, blocks: u32, counting: &Counting) -> Lines
+    requires { blocks ≤ 1000000 }
+    ensures { result.bytes ≡ lines_of_counts form lead_in blocks counting.now }
+{
+    let mut text = Lines::new();
+    let program = blocks.saturating_sub(lead_in);
+    push_stream(
+        &mut text,
+        lead_in.min(blocks),
+        program,
+        words_of(form, program),
+    );
+    push_wrong(&mut text, &counting.words.second);
+    push_kinds(&mut text, &counting.words.second);
+    push_frames(&mut text, &counting.frames);
+    text
+}
+
+/// How many words so many blocks hold.
+fn words_of(form: Form, blocks: u32) -> u32
+    requires { blocks ≤ 1000000 }
+    ensures { result ≡ word_count form blocks }
+{
+    match form {
+        Form::Raw | Form::Sector => (4 * blocks).saturating_sub(7),
+        Form::Cooked => 4 * blocks,
+    }
+}
+
+/// A name and a count.
+#[tactic(auto, unfolding(crate::specs::Check::count_line))]
+fn push_count(text: &mut Lines, name: &str, count: u32)
+    requires name { length name.now ≤ 8 }
+    requires room { length text.old.bytes ≤ 300 }
+    ensures text { text.new.bytes ≡ text.old.bytes ++ count_line name.now count }
+    ensures short { length text.new.bytes ≤ length text.old.bytes + length name.now + 12 }
+{
+    let mut digits = Buffer::new();
+    text.push_str(name);
+    text.push_str(" ");
+    text.push_str(digits.format(count));
+    text.push_str("\n");
+}
+
+/// The lines on the blocks and the packs.
+fn push_stream(text: &mut Lines, lead_in: u32, program: u32, packs: u32)
+    requires { length text.old.bytes ≤ 0 }
+    ensures text { text.new.bytes ≡ text.old.bytes ++ stream_lines lead_in program packs }
+    ensures short { length text.new.bytes ≤ length text.old.bytes + 60 }
+{
+    push_count(text, "lead-in", lead_in);
+    push_count(text, "program", program);
+    push_count(text, "packs", packs);
+}
+
+/// The lines on wrong symbols.
+fn push_wrong(text: &mut Lines, counts: &WordCounts)
+    requires { length text.old.bytes ≤ 60 }
+    ensures text { text.new.bytes ≡ text.old.bytes
+        ++ wrong_lines counts.now.clean counts.now.one counts.now.two counts.now.bad }
+    ensures short { length text.new.bytes ≤ length text.old.bytes + 80 }
+{
+    push_count(text, "clean", counts.clean);
+    push_count(text, "one", counts.one);
+    push_count(text, "two", counts.two);
+    push_count(text, "bad", counts.bad);
+}
+
+/// The lines on what packs hold.
+fn push_kinds(text: &mut Lines, counts: &WordCounts)
+    requires { length text.old.bytes ≤ 140 }
+    ensures text { text.new.bytes ≡ text.old.bytes
+        ++ pack_count_lines counts.now.idle counts.now.graphics counts.now.unknown counts.now.foreign }
+    ensures short { length text.new.bytes ≤ length text.old.bytes + 80 }
+{
+    push_count(text, "idle", counts.idle);
+    push_count(text, "graphics", counts.graphics);
+    push_count(text, "unknown", counts.unknown);
+    push_count(text, "foreign", counts.foreign);
+}
+
+/// The lines on frames.
+fn push_frames(text: &mut Lines, frames: &FrameCounts)
+    requires { length text.old.bytes ≤ 220 }
+    ensures text { text.new.bytes ≡ text.old.bytes ++ frame_count_lines frames.now.good frames.now.bad }
+{
+    push_count(text, "q-good", frames.good);
+    push_count(text, "q-bad", frames.bad);
+}

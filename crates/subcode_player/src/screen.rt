@@ -1,0 +1,157 @@
+// The screen at a moment of a stream.
+ghost use Rattle.std.specs.Prelude.{◌≡◌, ◌≢◌, ◌≤◌, ◌-◌, List, ℕ, length, IfSome, IfErr, IsErrOf, Err};
+ghost use Rattle.cdg_io.specs.Causes.{Rose};
+ghost use Rattle.raw_subcode.specs.Channels.{unit_size};
+ghost use Rattle.rw_interleave.specs.Interleave.{whole_packs};
+ghost use Rattle.cdg_screen.specs.Picture.{SameStanding, blank, standing_of};
+ghost use Rattle.picture_script.specs.Script.{Drawing};
+ghost use Rattle.subcode_player.specs.Calls.{EndFirst};
+ghost use Rattle.subcode_player.specs.Steps.{fresh_words};
+ghost use Rattle.subcode_player.specs.Pictured.{GivesPicture, IsHeldAt, IsScheduledStream};
+ghost use Rattle.subcode_player.specs.Screen.{IsScreenAt, IsStateAt, IsShownBy, Shows};
+ghost use Rattle.subcode_player.specs.Watch.{Views, viewed};
+
+use crate::player::play_stop;
+use crate::scheduled_screens::screens_show_pictures;
+use crate::watch::watch;
+use crate::{Form, PlayStop, Played, Player};
+use cdg_io::{Failed, Pumped, Sink, Source};
+
+impl Player {
+    /// Writes the picture at a moment, after all of the stream is read: a pixmap of what stands after the packs that are
+    /// whole at program block `at`, the first 4 * at - 7.
+    ///
+    /// `lead_in` is at most 450,000 blocks, and `at` at most 449,999. A word with no codeword within two symbols changes
+    /// nothing; `Played::bad` counts those among the packs that are drawn.
+    ///
+    /// # Errors
+    ///
+    /// `PastEnd` where the program has fewer than `at` blocks, and `Torn`, `TooLong` and `ReadFault` as the input says:
+    /// then nothing is written. After `WriteFault` the sink holds a prefix.
+    pub fn screen_at<S: Source, K: Sink>(
+        &mut self,
+        lead_in: u32,
+        form: Form,
+        at: u32,
+        source: &mut S,
+        out: &mut K,
+    ) -> Result<Played, PlayStop>
+        requires lead_in { lead_in ≤ 450000 }
+        requires at { at ≤ 449999 }
+        ensures shows { (taken : List ℕ) × Shows (IsScreenAt form lead_in at) form lead_in at
+            (S.left source.old) (S.left source.new) (K.held out.old) (K.held out.new) result taken }
+        // From its ready time to its hold time each picture of a script is shown, whatever damage of at most two symbols a word does.
+        ensures pictures { IfSome (S.left source.old) (λ all. (script : List Drawing) (k : ℕ)
+            → IsScheduledStream form lead_in script all → IsHeldAt script k at
+            → GivesPicture script k result (K.held out.old) (K.held out.new)) }
+        // Where nothing failed, the answer is that of the whole input's length.
+        ensures answer { IfSome (S.left source.old) (λ all. IsShownBy result lead_in at (unit_size form) (length all)) }
+        // Where the output is not written it is as it was.
+        ensures untouched { IfErr result (λ stop. stop ≢ PlayStop.WriteFault → out.new ≡ out.old) }
+        ensures source_later { S.faults source.old ≤ S.faults source.new }
+        ensures out_later { K.faults out.old ≤ K.faults out.new }
+        ensures read_fault { IsErrOf result PlayStop.ReadFault → Rose (S.faults source.old) (S.faults source.new) }
+        ensures no_read_fault { result ≢ Err PlayStop.ReadFault → S.faults source.new ≡ S.faults source.old }
+        ensures ended { EndFirst result (S.ends source.old) (S.ends source.new) }
+        ensures write_fault { IsErrOf result PlayStop.WriteFault → Rose (K.faults out.old) (K.faults out.new) }
+        ensures no_write_fault { result ≢ Err PlayStop.WriteFault → K.faults out.new ≡ K.faults out.old }
+    {
+        screens_show_pictures();
+        match self.view(lead_in, form, at, source) {
+            Ok(played) => match self.views.second.second.picture.write_ppm(out) {
+                Ok(()) => Ok(played),
+                Err(Failed) => Err(PlayStop::WriteFault),
+            },
+            Err(stop) => Err(stop),
+        }
+    }
+
+    /// Writes the state at a moment: border, offsets, colours and levels of what `screen_at` shows, under the same conditions.
+    pub fn state_at<S: Source, K: Sink>(
+        &mut self,
+        lead_in: u32,
+        form: Form,
+        at: u32,
+        source: &mut S,
+        out: &mut K,
+    ) -> Result<Played, PlayStop>
+        requires lead_in { lead_in ≤ 450000 }
+        requires at { at ≤ 449999 }
+        ensures shows { (taken : List ℕ) × Shows (IsStateAt form lead_in at) form lead_in at
+            (S.left source.old) (S.left source.new) (K.held out.old) (K.held out.new) result taken }
+        // Where nothing failed, the answer is that of the whole input's length.
+        ensures answer { IfSome (S.left source.old) (λ all. IsShownBy result lead_in at (unit_size form) (length all)) }
+        // Where the output is not written it is as it was.
+        ensures untouched { IfErr result (λ stop. stop ≢ PlayStop.WriteFault → out.new ≡ out.old) }
+        ensures source_later { S.faults source.old ≤ S.faults source.new }
+        ensures out_later { K.faults out.old ≤ K.faults out.new }
+        ensures read_fault { IsErrOf result PlayStop.ReadFault → Rose (S.faults source.old) (S.faults source.new) }
+        ensures no_read_fault { result ≢ Err PlayStop.ReadFault → S.faults source.new ≡ S.faults source.old }
+        ensures ended { EndFirst result (S.ends source.old) (S.ends source.new) }
+        ensures write_fault { IsErrOf result PlayStop.WriteFault → Rose (K.faults out.old) (K.faults out.new) }
+        ensures no_write_fault { result ≢ Err PlayStop.WriteFault → K.faults out.new ≡ K.faults out.old }
+    {
+        match self.view(lead_in, form, at, source) {
+            Ok(played) => match self.views.second.second.picture.write_state(out) {
+                Ok(()) => Ok(played),
+                Err(Failed) => Err(PlayStop::WriteFault),
+            },
+            Err(stop) => Err(stop),
+        }
+    }
+
+    /// Draws the packs of a whole stream that are whole at a moment.
+    #[tactic(auto, using(crate::proofs::Ends::ends_first))]
+    fn view<S: Source>(
+        &mut self,
+        lead_in: u32,
+        form: Form,
+        at: u32,
+        source: &mut S,
+    ) -> Result<Played, PlayStop>
+        requires lead_in { lead_in ≤ 450000 }
+        requires at { at ≤ 449999 }
+        ensures views { (taken : List ℕ) × Views form lead_in at (S.left source.old) (S.left source.new)
+            (standing_of self.new.views.second.second.picture) result taken }
+        ensures answer { IfSome (S.left source.old) (λ all. IsShownBy result lead_in at (unit_size form) (length all)) }
+        ensures source_later { S.faults source.old ≤ S.faults source.new }
+        ensures read_fault { IsErrOf result PlayStop.ReadFault → Rose (S.faults source.old) (S.faults source.new) }
+        ensures no_read_fault { result ≢ Err PlayStop.ReadFault → S.faults source.new ≡ S.faults source.old }
+        ensures ended { EndFirst result (S.ends source.old) (S.ends source.new) }
+    {
+        self.begin_view(lead_in, form, at);
+        match watch(form, source, &mut self.views) {
+            Ok(pumped) => self.viewed(pumped, lead_in, at),
+            Err(stop) => Err(play_stop(stop)),
+        }
+    }
+
+    /// What was played, where the program reaches the moment.
+    fn viewed(&self, pumped: Pumped, lead_in: u32, at: u32) -> Result<Played, PlayStop>
+        ensures { result ≡ viewed (pumped.units - lead_in) at self.now.views.second.second.bad }
+    {
+        let blocks = pumped.units.saturating_sub(lead_in);
+        if blocks < at {
+            return Err(PlayStop::PastEnd { blocks });
+        }
+        Ok(Played {
+            blocks,
+            bad: self.views.second.second.bad,
+        })
+    }
+
+    /// Brings back the state after the start, for a stream of this form and a moment.
+    fn begin_view(&mut self, lead_in: u32, form: Form, at: u32)
+        requires { at ≤ 449999 }
+        ensures words { self.new.views.second.first ≡ fresh_words form lead_in }
+        ensures left { self.new.views.second.second.left ≡ whole_packs at }
+        ensures bad { self.new.views.second.second.bad ≡ 0 }
+        ensures blank { SameStanding (standing_of self.new.views.second.second.picture) blank }
+    {
+        self.views.second.first.begin(lead_in, form);
+        let drawing = &mut self.views.second.second;
+        drawing.left = (4 * at).saturating_sub(7);
+        drawing.bad = 0;
+        drawing.picture.reset();
+    }
+}
