@@ -19,10 +19,10 @@ example:
 	[ -f lib/libribjasper.a ] || tools/build_library.sh
 	tools/compare_player.sh measure
 
-# A short tour on real input. It builds nothing that is not there yet: without bin/ribjasper the
-# commands run through `rt try`, which compiles them unproved.
+# A tour of each command on one disc. It builds nothing that is not there yet: without bin/ribjasper
+# one `rt try` compiles the program unproved and runs it.
 demo:
-	examples/demo.sh
+	examples/demo.py
 
 # The gate, and then the repository's own checks.
 check:

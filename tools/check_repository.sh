@@ -32,6 +32,14 @@ done
 tools/commands.py --check || complain "share/ is not what tools/commands.py writes"
 tools/run_guide.sh || complain "the guide does not run"
 
+# The tour does what it says, where the program is built.
+for program in bin/ribjasper crates/ribjasper/out/ribjasper; do
+    if [ -x "$program" ]; then
+        told=$(examples/demo.py 2>&1) || complain "the tour fails: $(echo "$told" | tail -n 3)"
+        break
+    fi
+done
+
 # The library and its example do what the program does, where they are built and a C compiler is there.
 tools/compare_player.sh || complain "the library for programs in C is not as the program"
 
@@ -54,7 +62,7 @@ if [ -f README.md ]; then
 fi
 
 # Scripts are programs.
-for script in .ci/run tools/*.sh tools/list_definitions.py tools/commands.py bench/*.py examples/*.sh; do
+for script in .ci/run tools/*.sh tools/list_definitions.py tools/commands.py bench/*.py examples/demo.py; do
     [ -x "$script" ] || complain "$script cannot be run"
 done
 
