@@ -1,6 +1,7 @@
 #!/usr/bin/env python3
-"""A tour of each command on one disc. The stream of a cue sheet and a picture script is authored, and its texts, its
-pictures and its packs are got back from it, also from scratched readings. The files are left in demo/.
+"""A tour of each command on one disc. The stream of a cue sheet and a picture script is authored, and its
+texts, its pictures and its packs are got back from it, also from scratched readings. The files are left in
+demo/.
 
 It runs bin/ribjasper. Where that is not built yet, it compiles the program unproved, once for all calls."""
 import os
