@@ -1,7 +1,7 @@
 #!/usr/bin/env python3
 """A tour of each command on one disc. The stream of a cue sheet and a picture script is authored, and its
 texts, its pictures and its packs are got back from it, also from scratched readings. The files are left in
-demo/.
+demo/, or in the folder that is named.
 
 It runs bin/ribjasper. Where that is not built yet, it compiles the program unproved, once for all calls."""
 import os
@@ -15,7 +15,7 @@ from typing import Callable, NamedTuple
 from pictures import as_png, as_text, is_shown_by
 
 TOP = Path(__file__).resolve().parent.parent
-DEMO = TOP / "demo"
+DEMO = Path(sys.argv[1]).resolve() if sys.argv[1:] else TOP / "demo"
 # What make built, or else what the gate left.
 PROGRAMS = [TOP / "bin" / "ribjasper", TOP / "crates" / "ribjasper" / "out" / "ribjasper"]
 # The lengths of what the files of each kind are made of.

@@ -35,7 +35,9 @@ tools/run_guide.sh || complain "the guide does not run"
 # The tour does what it says, where the program is built.
 for program in bin/ribjasper crates/ribjasper/out/ribjasper; do
     if [ -x "$program" ]; then
-        told=$(examples/demo.py 2>&1) || complain "the tour fails: $(echo "$told" | tail -n 3)"
+        room=$(mktemp -d)
+        told=$(examples/demo.py "$room" 2>&1) || complain "the tour fails: $(echo "$told" | tail -n 3)"
+        rm -rf "$room"
         break
     fi
 done
