@@ -5,6 +5,7 @@ demo/, or in the folder that is named.
 
 It runs bin/ribjasper. Where that is not built yet, it compiles the program unproved, once for all calls."""
 import os
+import shutil
 import subprocess
 import sys
 import tempfile
@@ -59,6 +60,8 @@ class Tried:
     A call waits for its inputs at pipes, so that they may come of the calls before it."""
 
     def __init__(self, calls):
+        if not shutil.which("rt"):
+            sys.exit("Neither bin/ribjasper nor the command rt of the Rattle kit is here.")
         print("No bin/ribjasper stands yet: 'rt try' compiles the program, and proves nothing ('make' does).")
         print("That takes half a minute on a quiet machine.", flush=True)
         self.folder = tempfile.TemporaryDirectory(prefix="ribjasper-")
@@ -76,10 +79,7 @@ class Tried:
         self.output = open(room / "output", "wb")
         trial = ["rt", "try", "--seconds", "110", "--cases", room / "cases"]
         how = dict(stdin=subprocess.DEVNULL, stdout=self.output, stderr=subprocess.PIPE, text=True)
-        try:
-            self.trying = subprocess.Popen(trial, cwd=TOP / "crates" / "ribjasper", **how)
-        except FileNotFoundError:
-            sys.exit("Neither bin/ribjasper nor the command rt of the Rattle kit is here.")
+        self.trying = subprocess.Popen(trial, cwd=TOP / "crates" / "ribjasper", **how)
 
     @staticmethod
     def name_of(number):
