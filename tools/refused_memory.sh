@@ -85,6 +85,6 @@ careless() {
     [ "$failures" -gt 0 ] || { echo "a program that is $1 is not noticed"; exit 1; }
 }
 
-careless hasty 'puts("half"); fputs("no memory\\n", stderr); return 7;'
-careless mistaken 'fputs("usage\\n", stderr); return 2;'
+careless hasty 'puts("half"); fputs("no memory\n", stderr); return 7;'
+careless mistaken 'fputs("usage\n", stderr); return 2;'
 echo "two careless programs are noticed"
