@@ -117,9 +117,7 @@ fn put(bytes: &mut [u8; ALL], block: &[u8; BLOCK])
     ensures before { (n : ℕ) → n < 168 → slice_index bytes.new n ≡ slice_index bytes.old n }
     ensures block { (n : ℕ) → n < 96 → slice_index bytes.new (168 + n) ≡ slice_index block.now n }
 {
-    for i in 0..BLOCK {
-        bytes[BEFORE + i] = block[i];
-    }
+    bytes[BEFORE..].copy_from_slice(block);
 }
 
 /// Moves the last seven slots to the front.
