@@ -2,7 +2,7 @@ use Rattle.std.proofs.Common.{ap₂, ◌∙◌, subst}
 use Rattle.cdg_instructions.specs.Instruction.{IsTilePixels}
 use Rattle.tile_author.proofs.Answering.{steps_least}
 use Rattle.tile_author.specs.Plan.{steps}
-use Rattle.tile_author.proofs.steps.Goals as goal
+use Rattle.tile_author.proofs.steps_of_weight.Goals as goal
 
 pub returns-clause-least : goal.returns-clause-least
 returns-clause-least c row column =
