@@ -4,8 +4,10 @@ ghost use Rattle.bit_lists.specs.Bits.{has_bit};
 ghost use Rattle.bit_lists.specs.Counting.{below};
 ghost use Rattle.raw_subcode.specs.PlanarBytes.{turned_at};
 ghost use Rattle.raw_subcode.specs.Lanes.{lanes_of_byte};
+ghost use Rattle.raw_subcode.specs.Sizes.{block_bytes};
 
 use crate::lane_table::LANES;
+use crate::sizes::BLOCK_BYTES;
 
 /// Eight bytes, of which byte k has the bits at 7 - k of these bytes, that of the first byte highest.
 #[inline]
@@ -42,10 +44,10 @@ pub(crate) fn bits_apart(byte: u8) -> [u8; 8]
 
 /// Eight bytes of a block, from one on and so many apart.
 #[inline]
-pub(crate) fn eight_of(bytes: &[u8; 96], first: usize, step: usize) -> [u8; 8]
-    requires first { first < 96 }
+pub(crate) fn eight_of(bytes: &[u8; BLOCK_BYTES], first: usize, step: usize) -> [u8; 8]
+    requires first { first < block_bytes }
     requires step { step < 13 }
-    requires within { first + 7 * step < 96 }
+    requires within { first + 7 * step < block_bytes }
     ensures bytes { (k : ℕ) → k < 8 → slice_index result k ≡ slice_index bytes.now (first + step * k) }
     ensures size { length result ≡ 8 }
 {
