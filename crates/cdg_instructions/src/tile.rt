@@ -2,10 +2,11 @@
 ghost use Rattle.std.specs.Prelude.{◌≡◌, ◌<◌, ℕ, List, length, slice_index, All, MatchOption, replicate};
 ghost use Rattle.cdg_instructions.specs.Instruction.{IsTilePixels};
 
+use crate::sizes::{TILE_HEIGHT, TILE_WIDTH};
 use std::marker::Model;
 
 /// How many pixels a tile has: twelve lines of six.
-pub const PIXELS: usize = 72;
+pub const PIXELS: usize = TILE_WIDTH * TILE_HEIGHT;
 
 /// 72 numbers below 16, line by line from the left.
 #[derive(Clone, Copy, PartialEq, Eq, Debug)]

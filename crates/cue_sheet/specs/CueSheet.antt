@@ -3,6 +3,8 @@ use Rattle.std.specs.Prelude.{◌≡◌, ◌≢◌, ◌≤◌, ◌<◌, ◌+◌,
 use Rattle.std.specs.Option.{ForSome}
 use Rattle.std.specs.List.{list_all}
 use Rattle.std.specs.Char.{is_ascii_digit, is_ascii_uppercase}
+use Rattle.disc_time.specs.Counts.{most_tracks, time_count}
+use Rattle.text_lines.specs.Text.{most_text_bytes}
 use Rattle.cue_sheet.specs.declared.fault.CueText.{CueText}
 use Rattle.cue_sheet.specs.declared.fault.CueText.TheVariants.{Title, Performer, Songwriter}
 
@@ -92,7 +94,7 @@ text_at kind sheet place = if place == 0 then album_text kind sheet else track_t
 
 -- a text has no byte below 20 hexadecimal and no byte 7F, and is no longer than a sheet
 pub record IsText (s : List ℕ) : Type 0 where
-  pub short : length s ≤ 67108864
+  pub short : length s ≤ most_text_bytes
   pub plain : All (λ b. (32 ≤ b) × (b ≢ 127)) s
 
 -- a catalogue number: thirteen digits
@@ -111,15 +113,15 @@ pub record AreIndices (indices : List (ℕ × ℕ)) : Type 0 where
   pub has_one : 1 < (slice_index_or indices 0 (0, 0)).0 + length indices
   pub next : (j : ℕ) → j < length indices → (slice_index_or indices j (0, 0)).0 ≡ (slice_index_or indices 0 (0, 0)).0 + j
   pub numbers : (j : ℕ) → j < length indices → (slice_index_or indices j (0, 0)).0 ≤ 99
-  pub times : (j : ℕ) → j < length indices → (slice_index_or indices j (0, 0)).1 < 450000
+  pub times : (j : ℕ) → j < length indices → (slice_index_or indices j (0, 0)).1 < time_count
   pub order : (i j : ℕ) → i ≤ j → j < length indices → (slice_index_or indices i (0, 0)).1 ≤ (slice_index_or indices j (0, 0)).1
 
 -- a track: its number 1 to 99, its control below 16, its gaps below 100 minutes, its index lines in order, its code and its texts in form
 pub record IsTrack (track : CueTrack) : Type 0 where
-  pub number : (1 ≤ track.number) × (track.number ≤ 99)
+  pub number : (1 ≤ track.number) × (track.number ≤ most_tracks)
   pub control : track.control < 16
   pub isrc : ForSome track.isrc (λ code. IsTrue (is_capital_code code))
-  pub gaps : (track.pregap < 450000) × (track.postgap < 450000)
+  pub gaps : (track.pregap < time_count) × (track.postgap < time_count)
   pub indices : AreIndices track.indices
   pub title : IsText track.title
   pub performer : IsText track.performer
@@ -131,7 +133,7 @@ pub record IsSheet (sheet : CueSheet) : Type 0 where
   pub title : IsText sheet.title
   pub performer : IsText sheet.performer
   pub songwriter : IsText sheet.songwriter
-  pub count : (1 ≤ length sheet.tracks) × (length sheet.tracks ≤ 99)
+  pub count : (1 ≤ length sheet.tracks) × (length sheet.tracks ≤ most_tracks)
   pub tracks : (k : ℕ) → k < length sheet.tracks → IsTrack (track_of sheet k)
   pub next : (k : ℕ) → k < length sheet.tracks → (track_of sheet k).number ≡ (track_of sheet 0).number + k
   pub order : (j k i : ℕ) → j < k → k < length sheet.tracks → i < length (track_of sheet j).indices

@@ -4,16 +4,18 @@ ghost use Rattle.bit_lists.specs.Bits.{has_bit};
 ghost use Rattle.bit_lists.specs.Counting.{below};
 ghost use Rattle.raw_subcode.specs.PlanarBytes.{eight_from, turned_at};
 ghost use Rattle.raw_subcode.specs.Lanes.{lanes_of_byte};
+ghost use Rattle.raw_subcode.specs.Sizes.{block_bytes};
 
 use crate::lane_table::LANES;
+use crate::sizes::BLOCK_BYTES;
 
 /// Eight bytes of a block, from one on and so many apart, turned: byte k has their bits at 7 - k, that of the first
 /// byte highest.
 #[inline]
-pub(crate) fn turned(bytes: &[u8; 96], first: usize, step: usize) -> [u8; 8]
-    requires first { first < 96 }
+pub(crate) fn turned(bytes: &[u8; BLOCK_BYTES], first: usize, step: usize) -> [u8; 8]
+    requires first { first < block_bytes }
     requires step { step < 13 }
-    requires within { first + 7 * step < 96 }
+    requires within { first + 7 * step < block_bytes }
     ensures { result ≡ map (turned_at (eight_from bytes.now first step)) (below 8) }
 {
     let two = 2 * lanes(bytes[first]) + lanes(bytes[first + step]);

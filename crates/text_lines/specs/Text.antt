@@ -4,6 +4,12 @@ use Rattle.std.specs.List.{slice_split, before_first, list_all, starts_with}
 use Rattle.std.specs.Str.Lines.{lines}
 use Rattle.std.specs.Str.Parse.{digits_value}
 use Rattle.std.specs.Char.{is_ascii_digit}
+use Rattle.disc_time.specs.Counts.{blocks_a_minute, blocks_a_second}
+
+-- the most bytes of a text, 2^26: a sheet and a script of a thousand pictures of the whole window are shorter, and an input
+-- that does not end is refused before it takes all memory
+abbrev pub most_text_bytes : ℕ
+most_text_bytes = 67108864
 
 -- a list that is not empty
 abbrev pub is_some_bytes : List ℕ → Bool
@@ -57,7 +63,7 @@ two_digit_number word = number_in 2 2 word
 
 -- the block of a time, of its minute, second and frame
 abbrev pub time_of : Option ℕ → Option ℕ → Option ℕ → Option ℕ
-time_of (Some min) (Some sec) (Some frame) = if nat_le sec 59 && nat_le frame 74 then Some (4500 * min + 75 * sec + frame) else None
+time_of (Some min) (Some sec) (Some frame) = if nat_le sec 59 && nat_le frame 74 then Some (blocks_a_minute * min + blocks_a_second * sec + frame) else None
 time_of _ _ _ = None
 
 -- the block of a time that is written `MM:SS:FF`, each part two digits and in its range
