@@ -1,0 +1,19 @@
+-- What the reading of a whole input took of it where it stopped.
+use Rattle.std.specs.Prelude.{◌≡◌, ℕ, ◌≤◌, List, length}
+use Rattle.std.specs.Io.KnownBytes.{Consumes, Keeps}
+use Rattle.std.specs.declared.option.Option.{Option}
+
+-- known bytes begin with exactly n bytes, and lose them
+abbrev pub ConsumesExactly : Option (List ℕ) → Option (List ℕ) → ℕ → Type 0
+ConsumesExactly old new n = (bs : List ℕ) × (length bs ≡ n) × Consumes old new bs
+
+-- All that was taken, at most so many bytes, was taken before a read failed: no fault was counted until then, and nothing
+-- was taken by the failed read or after it.
+pub record StopsAtFault {S : Type 0} (left : S → Option (List ℕ)) (faults : S → ℕ) (most : ℕ) (before after : S) : Type 0 where
+  -- the source as the failed read found it
+  pub last : S
+  pub taken : List ℕ
+  pub within : length taken ≤ most
+  pub took : Consumes (left before) (left last) taken
+  pub quiet : faults last ≡ faults before
+  pub nothing : Keeps (left last) (left after)
