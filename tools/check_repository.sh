@@ -32,12 +32,13 @@ done
 tools/commands.py --check || complain "share/ is not what tools/commands.py writes"
 tools/run_guide.sh || complain "the guide does not run"
 
-# The tour does what it says, where the program is built.
+# The tour does what it says, and each example of a refusal is refused so, where the program is built.
 for program in bin/ribjasper crates/ribjasper/out/ribjasper; do
     if [ -x "$program" ]; then
         room=$(mktemp -d)
         told=$(examples/demo.py "$room" 2>&1) || complain "the tour fails: $(echo "$told" | tail -n 3)"
         rm -rf "$room"
+        tools/try_refusals.py "$program" || complain "an example of docs/FORMATS.md is not refused as it says"
         break
     fi
 done
@@ -64,7 +65,7 @@ if [ -f README.md ]; then
 fi
 
 # Scripts are programs.
-for script in .ci/run tools/*.sh tools/list_definitions.py tools/commands.py bench/*.py examples/demo.py; do
+for script in .ci/run tools/*.sh tools/list_definitions.py tools/commands.py tools/try_refusals.py bench/*.py examples/demo.py; do
     [ -x "$script" ] || complain "$script cannot be run"
 done
 
