@@ -7,6 +7,7 @@ mod convert;
 mod correction;
 mod counting;
 mod drawing;
+mod idle_words;
 mod outputs;
 mod picture;
 mod player;
