@@ -27,6 +27,9 @@ for crate in $present; do
     grep -qw "$crate" docs/ARCHITECTURE.md || complain "docs/ARCHITECTURE.md leaves out $crate"
 done
 
+# The tables of numbers are those that are reckoned.
+tools/tables.py || complain "a table of numbers is not what tools/tables.py reckons"
+
 # The manual page and the completions are those of the table of commands, which README.md lists too, and
 # the guide's commands do what it says.
 tools/commands.py --check || complain "share/ is not what tools/commands.py writes"
@@ -65,7 +68,8 @@ if [ -f README.md ]; then
 fi
 
 # Scripts are programs.
-for script in .ci/run tools/*.sh tools/list_definitions.py tools/commands.py tools/try_refusals.py bench/*.py examples/demo.py; do
+for script in .ci/run tools/*.sh tools/list_definitions.py tools/commands.py tools/tables.py tools/try_refusals.py \
+    bench/*.py examples/demo.py; do
     [ -x "$script" ] || complain "$script cannot be run"
 done
 

@@ -8,7 +8,7 @@ use Rattle.cdtext_packs.specs.declared.kinds.TextFault.{TextFault}
 use Rattle.cue_sheet.specs.CueSheet.{CueSheet}
 use Rattle.picture_script.specs.Script.{Drawing}
 use Rattle.toc_model.specs.Places.{program_blocks}
-use Rattle.cdtext_packs.specs.SheetTexts.{sheet_texts}
+use Rattle.stream_writer.specs.SheetTexts.{sheet_texts}
 use Rattle.cdtext_packs.specs.Texts.{has_no_text}
 use Rattle.cdtext_packs.specs.TextLines.{offers_line}
 use Rattle.round_trips.specs.Damage.{HasHurtSlots, count_hurt, count_whole}

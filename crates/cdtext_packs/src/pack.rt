@@ -5,6 +5,9 @@ ghost use Rattle.cdtext_packs.specs.Packs.{pack_type, pack_track, pack_number, p
 use std::marker::Model;
 use subcode_crc::crc16;
 
+/// How many packs a disc has at most: the number of a pack is a byte.
+pub const MOST_PACKS: u32 = 256;
+
 /// A pack: its type, track, number and position, twelve bytes of text, and the check of these sixteen.
 #[derive(Clone, Copy, PartialEq, Eq)]
 pub struct TextPack {

@@ -3,7 +3,7 @@ use Rattle.std.specs.Prelude.{ℕ, ◌+◌, ◌-◌, List, [], length, map, repl
 use Rattle.bit_lists.specs.Counting.{below}
 use Rattle.cue_sheet.specs.CueSheet.{CueSheet, track_of, text_at}
 use Rattle.cue_sheet.specs.declared.fault.CueText.TheVariants.{Title, Performer, Songwriter}
-use Rattle.cdtext_packs.specs.Texts.{Texts, no_texts, has_no_text}
+use Rattle.cdtext_packs.specs.Texts.{Texts, unless_empty}
 
 -- for the album and each track in order
 abbrev pub for_each : CueSheet → (ℕ → List ℕ) → List (List ℕ)
@@ -31,4 +31,4 @@ sheet_texts sheet =
 
 -- the texts of a sheet: none at all where every string is empty
 abbrev pub texts_of_sheet : CueSheet → Texts
-texts_of_sheet sheet = if has_no_text (sheet_texts sheet) then no_texts else sheet_texts sheet
+texts_of_sheet sheet = unless_empty (sheet_texts sheet)

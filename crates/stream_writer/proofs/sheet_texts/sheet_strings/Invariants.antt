@@ -2,7 +2,7 @@ use Rattle.std.proofs.Common.{◌≡◌, map, All}
 use Rattle.bit_lists.specs.Counting.{below}
 use Rattle.cue_sheet.specs.CueSheet.{text_at}
 use Rattle.cdtext_packs.specs.Texts.{IsString}
-use Rattle.cdtext_packs.proofs.sheet.sheet_strings.Given as goal
+use Rattle.stream_writer.proofs.sheet_texts.sheet_strings.Given as goal
 
 abbrev pub invariant-loop-place : goal.invariant-loop-place
 invariant-loop-place l = record {

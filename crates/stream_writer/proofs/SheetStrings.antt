@@ -1,5 +1,5 @@
--- The strings of a sheet have no zero byte.
-use Rattle.std.proofs.Common.{◌≡◌, ◌≢◌, ℕ, ◌+◌, ◌-◌, ◌<◌, ◌≤◌, Bool, true, not, ◌&&◌, ◌||◌, ◌==◌, List, [], ◌∷◌, ◌++◌, length, get_or, take, drop, map, unwrap_or, Option, Some, None, All, IsTrue, inl, inr, refl, sym, ap, ◌∙◌, subst, arith}
+-- The strings of a sheet have no zero byte, and make its texts.
+use Rattle.std.proofs.Common.{◌≡◌, ◌≢◌, ℕ, ◌+◌, ◌-◌, ◌<◌, ◌≤◌, Bool, true, not, ◌&&◌, ◌||◌, ◌==◌, List, [], ◌∷◌, ◌++◌, length, get_or, take, drop, map, replicate, unwrap_or, Option, Some, None, All, IsTrue, inl, inr, refl, sym, ap, ◌∙◌, subst, arith}
 use Rattle.std.specs.List.{list_all}
 use Rattle.std.specs.Char.{is_ascii_digit, is_ascii_uppercase}
 use Rattle.std.specs.Option.{ForSome}
@@ -12,9 +12,8 @@ use Rattle.bit_lists.specs.Counting.{below}
 use Rattle.cue_sheet.specs.CueSheet.{CueSheet, IsSheet, IsText, is_catalogue_number, is_capital_code, text_at, track_text, album_text, track_of}
 use Rattle.cue_sheet.specs.declared.fault.CueText.{CueText}
 use Rattle.cue_sheet.specs.declared.fault.CueText.TheVariants.{Title, Performer, Songwriter}
-use Rattle.cdtext_packs.specs.Texts.{Texts, IsString, AreTexts, strings_of}
-use Rattle.cdtext_packs.specs.declared.kinds.TextKind.TheVariants as kind
-use Rattle.cdtext_packs.specs.SheetTexts.{code_at, for_each}
+use Rattle.cdtext_packs.specs.Texts.{Texts, IsString, texts_with, unless_empty}
+use Rattle.stream_writer.specs.SheetTexts.{code_at, for_each, sheet_texts, texts_of_sheet}
 
 text_string : (s : List ℕ) → IsText s → IsString s
 text_string s text = record {
@@ -105,30 +104,40 @@ code_at_string sheet place is inside =
 pub length-for_each : (sheet : CueSheet) (f : ℕ → List ℕ) (strings : List (List ℕ)) → strings ≡ for_each sheet f → length strings ≡ length sheet.tracks + 1
 length-for_each sheet f strings is = ap length is ∙ length-map-range_with_len f 0 (length sheet.tracks + 1)
 
-pub has_tracks : (texts : Texts) (n : ℕ) → 1 ≤ n → 1 ≤ texts.first → texts.last ≡ texts.first + (n - 1) → texts.last ≤ 99
-    → length texts.title ≡ n + 1 → length texts.performer ≡ n + 1 → length texts.songwriter ≡ n + 1 → length texts.composer ≡ n + 1 → length texts.arranger ≡ n + 1 → length texts.message ≡ n + 1 → length texts.code ≡ n + 1
-    → All IsString texts.title → All IsString texts.performer → All IsString texts.songwriter → All IsString texts.composer → All IsString texts.arranger → All IsString texts.message → All IsString texts.code
-    → AreTexts texts
-has_tracks texts n some first last limit c0 c1 c2 c3 c4 c5 c6 s0 s1 s2 s3 s4 s5 s6 = inr (record {
-  first = first;
-  last = omega arith;
-  limit = limit;
-  count = λ k. elim k as (λ k. length (strings_of k texts) ≡ texts.last - texts.first + 2) [
-    | kind.Title ↦ omega arith
-    | kind.Performer ↦ omega arith
-    | kind.Songwriter ↦ omega arith
-    | kind.Composer ↦ omega arith
-    | kind.Arranger ↦ omega arith
-    | kind.Message ↦ omega arith
-    | kind.Code ↦ omega arith
-  ];
-  strings = λ k. elim k as (λ k. All IsString (strings_of k texts)) [
-    | kind.Title ↦ s0
-    | kind.Performer ↦ s1
-    | kind.Songwriter ↦ s2
-    | kind.Composer ↦ s3
-    | kind.Arranger ↦ s4
-    | kind.Message ↦ s5
-    | kind.Code ↦ s6
-  ];
-})
+-- the texts of a sheet with this last number and so many empty strings of the kinds that it does not have
+abbrev sized : CueSheet → ℕ → ℕ → Texts
+sized sheet last count = record {
+  first = (track_of sheet 0).number;
+  last = last;
+  title = for_each sheet (text_at Title sheet);
+  performer = for_each sheet (text_at Performer sheet);
+  songwriter = for_each sheet (text_at Songwriter sheet);
+  composer = replicate count [];
+  arranger = replicate count [];
+  message = replicate count [];
+  code = for_each sheet (code_at sheet);
+}
+
+pub sheet_texts_are : (sheet : CueSheet) (first : ℕ) (titles performers songwriters codes : List (List ℕ)) → IsSheet sheet
+    → first ≡ (track_of sheet 0).number → titles ≡ for_each sheet (text_at Title sheet) → performers ≡ for_each sheet (text_at Performer sheet)
+    → songwriters ≡ for_each sheet (text_at Songwriter sheet) → codes ≡ for_each sheet (code_at sheet)
+    → unless_empty (texts_with first titles performers songwriters codes) ≡ texts_of_sheet sheet
+sheet_texts_are sheet first titles performers songwriters codes is number t p s c =
+    let n = length sheet.tracks in
+    let zero_ = (track_of sheet 0).number in
+    let ts = for_each sheet (text_at Title sheet) in
+    let ps = for_each sheet (text_at Performer sheet) in
+    let ss = for_each sheet (text_at Songwriter sheet) in
+    let size : length ts ≡ n + 1 = length-for_each sheet (text_at Title sheet) ts refl in
+    let some : 1 ≤ n = is.count.0 in
+    let end : (track_of sheet (n - 1)).number ≡ zero_ + (n - 1) = is.next (n - 1) (omega (arith, some)) in
+    let last : zero_ + (length ts - 2) ≡ (track_of sheet (n - 1)).number = omega (arith, size, some, end) in
+    let given : texts_with first titles performers songwriters codes ≡ texts_with zero_ ts ps ss (for_each sheet (code_at sheet)) =
+    ap (λ (x : ℕ). texts_with x titles performers songwriters codes) number
+    ∙ ap (λ (x : List (List ℕ)). texts_with zero_ x performers songwriters codes) t
+    ∙ ap (λ (x : List (List ℕ)). texts_with zero_ ts x songwriters codes) p
+    ∙ ap (λ (x : List (List ℕ)). texts_with zero_ ts ps x codes) s
+    ∙ ap (λ (x : List (List ℕ)). texts_with zero_ ts ps ss x) c in
+    let whole : texts_with zero_ ts ps ss (for_each sheet (code_at sheet)) ≡ sheet_texts sheet =
+    ap (sized sheet (zero_ + (length ts - 2))) size ∙ ap (λ (k : ℕ). sized sheet k (n + 1)) last in
+    ap unless_empty (given ∙ whole)

@@ -1,8 +1,8 @@
 use Rattle.std.proofs.Common.{◌≡◌, map, All}
 use Rattle.bit_lists.specs.Counting.{below}
-use Rattle.cdtext_packs.specs.SheetTexts.{code_at}
+use Rattle.stream_writer.specs.SheetTexts.{code_at}
 use Rattle.cdtext_packs.specs.Texts.{IsString}
-use Rattle.cdtext_packs.proofs.sheet.sheet_codes.Given as goal
+use Rattle.stream_writer.proofs.sheet_texts.sheet_codes.Given as goal
 
 abbrev pub invariant-loop-place : goal.invariant-loop-place
 invariant-loop-place l = record {
