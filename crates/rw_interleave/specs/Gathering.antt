@@ -22,4 +22,5 @@ gather_next slots slot = last_seven (slots ++ slot ∷ [])
 
 -- a word comes with the eighth slot and with each after it
 unfoldable pub gather_gives : List (List ℕ) → List ℕ → Option (List ℕ)
-gather_gives slots slot = if nat_lt (length slots) packs_kept_back then None else Some (gathered (slots ++ slot ∷ []))
+gather_gives slots slot = if nat_lt (length slots) packs_kept_back then None
+    else Some (gathered (slots ++ slot ∷ []))

@@ -4,8 +4,8 @@ use Rattle.bit_lists.specs.Counting.{below}
 use Rattle.raw_subcode.specs.Sizes.{block_bytes, slots_a_block, symbols_a_slot}
 use Rattle.rw_code.specs.Codeword.{IsCodeword}
 
--- the packs that are kept back: the symbols of a pack are spread over eight slots (IEC 60908), so it is whole only with the
--- seven that follow its own
+-- the packs that are kept back: the symbols of a pack are spread over eight slots (IEC 60908), so it is whole only
+-- with the seven that follow its own
 abbrev pub packs_kept_back : ℕ
 packs_kept_back = 7
 
@@ -39,4 +39,5 @@ pub record Carries (blocks : ℕ) (symbols : List ℕ) (packs : List (List ℕ))
   pub count : length packs ≡ whole_packs blocks
   pub codewords : All IsCodeword packs
   pub words : (n : ℕ) → n < whole_packs blocks → word_of symbols n ≡ slice_index_or packs n []
-  pub others : (p : ℕ) → p < block_bytes * blocks → ((n i : ℕ) → n < whole_packs blocks → i < 24 → place n i ≢ p) → slice_index symbols p ≡ 0
+  pub others : (p : ℕ) → p < block_bytes * blocks
+      → ((n i : ℕ) → n < whole_packs blocks → i < 24 → place n i ≢ p) → slice_index symbols p ≡ 0

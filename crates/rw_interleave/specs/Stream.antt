@@ -26,7 +26,8 @@ form_word _ symbols n = word_of symbols n
 -- what is found for each word of the program symbols
 pub record IsRecovered (form : Form) (symbols : List ℕ) (found : List (Option (List ℕ))) : Type 0 where
   pub count : length found ≡ word_count form (length symbols / block_bytes)
-  pub each : (n : ℕ) → n < word_count form (length symbols / block_bytes) → IsFinding (form_word form symbols n) (slice_index_or found n None)
+  pub each : (n : ℕ) → n < word_count form (length symbols / block_bytes)
+      → IsFinding (form_word form symbols n) (slice_index_or found n None)
 
 -- the words for which nothing is found
 abbrev pub bad_count : List (Option (List ℕ)) → ℕ
@@ -36,18 +37,23 @@ bad_count found = count_by is_none found
 abbrev pub all_packs : Form → ℕ → List (List ℕ) → List (List ℕ)
 all_packs form blocks packs = packs ++ replicate (word_count form blocks - length packs) (replicate 24 0)
 
--- the program symbols of another stream hold each word of these symbols with at most two wrong ones, and further words are nearly zero
+-- the program symbols of another stream hold each word of these symbols with at most two wrong ones, and further
+-- words are nearly zero
 pub record IsDamaged (symbols : List ℕ) (form : Form) (others : List ℕ) : Type 0 where
   pub size : length others ≡ length symbols
-  pub words : (n : ℕ) → n < whole_packs (length symbols / block_bytes) → IsNear (word_of symbols n) (form_word form others n)
-  pub further : (n : ℕ) → whole_packs (length symbols / block_bytes) ≤ n → n < word_count form (length symbols / block_bytes) → IsNear (form_word form others n) (replicate 24 0)
+  pub words : (n : ℕ) → n < whole_packs (length symbols / block_bytes)
+      → IsNear (word_of symbols n) (form_word form others n)
+  pub further : (n : ℕ) → whole_packs (length symbols / block_bytes) ≤ n
+      → n < word_count form (length symbols / block_bytes) → IsNear (form_word form others n) (replicate 24 0)
 
 -- Symbols that differ in bursts
 
--- bursts by their first place and size, from a place on: each has at most sixteen symbols, and each but the first begins at least 192 places after the one before has ended
+-- bursts by their first place and size, from a place on: each has at most sixteen symbols, and each but the first
+-- begins at least 192 places after the one before has ended
 abbrev pub AreBurstsFrom : ℕ → List (ℕ × ℕ) → Type 0
 AreBurstsFrom place [] = ⊤
-AreBurstsFrom place (burst ∷ rest) = (place ≤ burst.0) × (burst.1 ≤ 16) × AreBurstsFrom (burst.0 + burst.1 + 192) rest
+AreBurstsFrom place (burst ∷ rest) = (place ≤ burst.0) × (burst.1 ≤ 16)
+    × AreBurstsFrom (burst.0 + burst.1 + 192) rest
 
 -- whether a burst holds the place
 abbrev pub is_in_burst : ℕ → ℕ × ℕ → Bool
@@ -58,4 +64,5 @@ pub record DiffersInBursts (symbols others : List ℕ) : Type 0 where
   pub size : length others ≡ length symbols
   pub bursts : List (ℕ × ℕ)
   pub apart : AreBurstsFrom 0 bursts
-  pub equal : (p : ℕ) → p < length symbols → list_any (is_in_burst p) bursts ≡ false → slice_index others p ≡ slice_index symbols p
+  pub equal : (p : ℕ) → p < length symbols → list_any (is_in_burst p) bursts ≡ false
+      → slice_index others p ≡ slice_index symbols p

@@ -164,7 +164,8 @@ fn move_slot_up(bytes: &mut [u8; ALL])
 #[inline]
 fn words_of(bytes: &[u8; ALL], count: usize) -> ArrayVec<Word, 4>
     requires { count ≤ 7 }
-    ensures { result.items ≡ run_gives gather_next gather_gives (slots_in bytes.now (7 - count) count) (slots_in bytes.now 7 4) }
+    ensures { result.items ≡ run_gives gather_next gather_gives (slots_in bytes.now (7 - count) count)
+        (slots_in bytes.now 7 4) }
 {
     let mut words = ArrayVec::new();
     for first in 0..4 {
