@@ -7,8 +7,8 @@ ghost use Rattle.raw_subcode.specs.Lanes.{lanes_of_byte};
 
 use crate::lane_table::LANES;
 
-/// Eight bytes of a block, from one on and so many apart, turned: byte k has their bits at 7 - k, that of the first
-/// byte highest.
+/// Eight bytes of a block, from one on and so many apart, turned: byte k has their bits at 7 - k, that of the
+/// first byte highest.
 #[inline]
 pub(crate) fn turned(bytes: &[u8; 96], first: usize, step: usize) -> [u8; 8]
     requires first { first < 96 }
