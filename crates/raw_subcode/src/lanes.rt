@@ -9,8 +9,8 @@ ghost use Rattle.raw_subcode.specs.Sizes.{block_bytes};
 use crate::lane_table::LANES;
 use crate::sizes::BLOCK_BYTES;
 
-/// Eight bytes of a block, from one on and so many apart, turned: byte k has their bits at 7 - k, that of the first
-/// byte highest.
+/// Eight bytes of a block, from one on and so many apart, turned: byte k has their bits at 7 - k, that of the
+/// first byte highest.
 #[inline]
 pub(crate) fn turned(bytes: &[u8; BLOCK_BYTES], first: usize, step: usize) -> [u8; 8]
     requires first { first < block_bytes }

@@ -9,7 +9,7 @@ use crate::block_words::{BLOCK, BlockOfWords};
 use crate::idle_words::is_idle;
 use crate::{BlockWords, Form};
 use cdg_io::{Piece, Stage, Then};
-use q_channel::decode;
+use q_channel::is_frame;
 use raw_subcode::Block;
 use rw_code::{Fixed, Word, correct};
 
@@ -90,7 +90,10 @@ impl WordCounts {
 
     /// Counts an idle word.
     fn count_idle(&mut self)
-        ensures { self.new ≡ record self.old { clean = tick true self.old.clean; idle = tick true self.old.idle } }
+        ensures { self.new ≡ record self.old {
+          clean = tick true self.old.clean;
+          idle = tick true self.old.idle;
+        } }
     {
         tick(&mut self.clean, true);
         tick(&mut self.idle, true);
@@ -159,7 +162,7 @@ impl FrameCounts {
         ensures { self.new ≡ frames_next self.old block.now }
     {
         if self.read {
-            let is_good = decode(&Block::from_bytes(block).q_frame()).is_ok();
+            let is_good = is_frame(&Block::from_bytes(block).q_frame());
             tick(&mut self.good, is_good);
             tick(&mut self.bad, !is_good);
         }
