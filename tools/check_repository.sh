@@ -57,7 +57,7 @@ if [ -f README.md ]; then
 fi
 
 # Scripts are programs.
-for script in .ci/run tools/*.sh tools/list_definitions.py tools/commands.py tools/tables.py bench/*.py examples/*.sh; do
+for script in .ci/run tools/*.sh tools/list_definitions.py tools/commands.py bench/*.py examples/*.sh; do
     [ -x "$script" ] || complain "$script cannot be run"
 done
 
