@@ -2,7 +2,7 @@
 use cdg_io::{MemSink, MemSource};
 use std::alloc::{AllocError, Global};
 use std::test::Fail;
-use subcode_player::{Form, PlayStop, Played, Player, TextStop};
+use subcode_player::{Form, PlayStop, Played, Player};
 
 const FAULT: Result<Played, PlayStop> = Err(PlayStop::ReadFault);
 
@@ -39,7 +39,7 @@ fn stops_q_list(alloc: Global, player: &mut Player) -> Result<bool, AllocError> 
 
 fn stops_text_list(alloc: Global, player: &mut Player) -> Result<bool, AllocError> {
     let answer = player.text_list(alloc, 2, Form::Raw, &mut failing(alloc)?, &mut sink(alloc)?);
-    Ok(answer == Err(TextStop::Play(PlayStop::ReadFault)))
+    Ok(answer == FAULT)
 }
 
 /// Whether two blocks of zeros give one pack of zeros.

@@ -25,7 +25,7 @@ pub use drawing::Drawing;
 pub use outputs::one_text_is_written;
 pub use picture::Picture;
 pub use player::{PlayStop, Played, Player};
+pub use q::list_frames;
 pub use raw_subcode::Form;
 pub use scheduled_screens::screens_show_pictures;
 pub use sector_blocks::SectorBlocks;
-pub use text::TextStop;
