@@ -3,7 +3,7 @@ use Rattle.std.proofs.Common.{◌≡◌, ◌≢◌, ℕ, List, [], Result, Ok, E
 use Rattle.std.specs.Io.KnownBytes.{Appends}
 use Rattle.cue_sheet.specs.CueSheet.{CueSheet}
 use Rattle.picture_script.specs.Script.{Drawing}
-use Rattle.subcode_author.specs.Authored.{IsWrittenStream}
+use Rattle.subcode_author.specs.Authored.{IsWrittenStream, disc_of}
 use Rattle.subcode_author.specs.AuthorAnswer.{IsAccepted, IsAuthorStop}
 use Rattle.subcode_author.specs.declared.stops.AuthorStop.{AuthorStop}
 use Rattle.subcode_author.specs.declared.stops.AuthorStop.TheVariants as stop
@@ -48,10 +48,10 @@ nothing_at held x y (Ok done) same = tt
 nothing_at held x y (Err why) same = λ other. unchanged held x y (same other)
 
 pub put_for : {K : Type 0} (held : K → Bytes) (x y : K) (sheet : CueSheet) (script : List Drawing) (lead_in audio : ℕ) (answer : Result (Unit {0}) AuthorStop)
-    → OnOk answer ((bytes : List ℕ) × (packs : List (List ℕ)) × IsWrittenStream sheet script lead_in audio bytes packs × Appends (held x) (held y) bytes)
+    → OnOk answer ((bytes : List ℕ) × (packs : List (List ℕ)) × IsWrittenStream (disc_of sheet script lead_in audio) bytes packs × Appends (held x) (held y) bytes)
     → OnOk answer (IsAccepted sheet script lead_in audio) → IfErr answer (IsAuthorStop sheet script lead_in audio)
-    → IfErr answer (λ why. why ≢ stop.WriteFault → y ≡ x) → (answer ≡ Err stop.WriteFault → IsAccepted sheet script lead_in audio → PutsPrefix sheet script lead_in audio (change held x y))
-    → IsPutFor sheet script lead_in audio (change held x y) answer
+    → IfErr answer (λ why. why ≢ stop.WriteFault → y ≡ x) → (answer ≡ Err stop.WriteFault → IsAccepted sheet script lead_in audio → PutsPrefix (disc_of sheet script lead_in audio) (change held x y))
+    → IsPutFor (disc_of sheet script lead_in audio) (change held x y) answer
 put_for held x y sheet script lead_in audio answer authored accepted why same part = record {
   done = both_ok answer _ _ accepted authored;
   why = why;

@@ -5,6 +5,7 @@ use Rattle.cue_sheet.specs.Grammar.{read_cue}
 use Rattle.picture_script.specs.Script.{Drawing}
 use Rattle.picture_script.specs.ScriptGrammar.{read_script}
 use Rattle.pack_schedule.specs.Survey.{IsPastEnd}
+use Rattle.subcode_author.specs.Authored.{disc_of}
 use Rattle.subcode_author.specs.AuthorAnswer.{HasRoom, HoldsPictures}
 use Rattle.subcode_author.specs.declared.stops.AuthorStop.{AuthorStop}
 use Rattle.subcode_author.specs.declared.stops.AuthorStop.TheVariants as stop
@@ -22,12 +23,12 @@ same_answer r a b first second = (cc)
 module _ (sheet : CueSheet) (script : List Drawing) (lead_in audio : ℕ) (out : Change Bytes) where
   -- what is put for the sheet and the script that two texts are read as
   pub put_for_texts : (cue text : List ℕ) (other : CueSheet) (lines : List Drawing) (answer : Result (Unit {0}) AuthorStop) → IsSheetText cue sheet → IsScriptText text script
-      → IsSheetText cue other → IsScriptText text lines → IsPutFor other lines lead_in audio out answer → IsPutFor sheet script lead_in audio out answer
+      → IsSheetText cue other → IsScriptText text lines → IsPutFor (disc_of other lines lead_in audio) out answer → IsPutFor (disc_of sheet script lead_in audio) out answer
   put_for_texts cue text other lines answer sheet_is script_is other_is lines_are put =
-      subst (λ (s : CueSheet). IsPutFor s script lead_in audio out answer) (same_answer (read_cue cue) other sheet other_is.reads sheet_is.reads)
-      (subst (λ (l : List Drawing). IsPutFor other l lead_in audio out answer) (same_answer (read_script text) lines script lines_are.reads script_is.reads) put)
+      subst (λ (s : CueSheet). IsPutFor (disc_of s script lead_in audio) out answer) (same_answer (read_cue cue) other sheet other_is.reads sheet_is.reads)
+      (subst (λ (l : List Drawing). IsPutFor (disc_of other l lead_in audio) out answer) (same_answer (read_script text) lines script lines_are.reads script_is.reads) put)
 
-  of_stopped : (status : Status) → IsStopped status → WritesOrIsLate sheet script lead_in audio out status
+  of_stopped : (status : Status) → IsStopped status → WritesOrIsLate (disc_of sheet script lead_in audio) out status
   of_stopped Done stopped = absurd stopped
   of_stopped (Damaged n) stopped = absurd stopped
   of_stopped Usage stopped = absurd stopped
@@ -37,8 +38,8 @@ module _ (sheet : CueSheet) (script : List Drawing) (lead_in audio : ℕ) (out :
   of_stopped WriteFault stopped = absurd stopped
   of_stopped NoMemory stopped = tt
 
-  of_answer : (answer : Result (Unit {0}) AuthorStop) → IsPutFor sheet script lead_in audio out answer → HoldsPictures sheet script audio → HasRoom sheet lead_in
-      → WritesOrIsLate sheet script lead_in audio out (author_status answer)
+  of_answer : (answer : Result (Unit {0}) AuthorStop) → IsPutFor (disc_of sheet script lead_in audio) out answer → HoldsPictures sheet script audio → HasRoom sheet lead_in
+      → WritesOrIsLate (disc_of sheet script lead_in audio) out (author_status answer)
   of_answer (Ok done) put disc room = (put.done.0.ready, put.done.1)
   of_answer (Err (stop.LengthShort need)) put disc room =
       let (is, short) = put.why in
@@ -62,16 +63,16 @@ module _ (sheet : CueSheet) (script : List Drawing) (lead_in audio : ℕ) (out :
   of_answer (Err stop.NoMemory) put disc room = tt
 
   of_texts : (cue more : List ℕ) (left' more' : Bytes) (status : Status) → AuthorsWith lead_in audio (both (Some cue) left' (Some more) more' out) status
-      → IsSheetText cue sheet → IsScriptText more script → HavePlace sheet script lead_in audio → WritesOrIsLate sheet script lead_in audio out status
-  of_texts cue more left' more' status (StopsAtSheet why nothing) sheet_is script_is place = of_stopped status (sheet_stopped cue sheet status sheet_is why)
-  of_texts cue more left' more' status (StopsAtScript other reads why nothing) sheet_is script_is place = of_stopped status (script_stopped more script status script_is why)
+      → IsSheetText cue sheet → IsScriptText more script → HavePlace (disc_of sheet script lead_in audio) → WritesOrIsLate (disc_of sheet script lead_in audio) out status
+  of_texts cue more left' more' status (StopsAtSheet why took nothing) sheet_is script_is place = of_stopped status (sheet_stopped cue sheet status sheet_is why)
+  of_texts cue more left' more' status (StopsAtScript other reads why took nothing) sheet_is script_is place = of_stopped status (script_stopped more script status script_is why)
   of_texts cue more left' more' status (Answers other lines answer reads_sheet reads_script is put) sheet_is script_is place =
-      let same : IsPutFor sheet script lead_in audio out answer = put_for_texts cue more other lines answer sheet_is script_is reads_sheet.1 reads_script.1 put in
-      subst (λ (k : Status). WritesOrIsLate sheet script lead_in audio out k) (sym is) (of_answer answer same place.disc place.room)
+      let same : IsPutFor (disc_of sheet script lead_in audio) out answer = put_for_texts cue more other lines answer sheet_is script_is reads_sheet.1 reads_script.1 put in
+      subst (λ (k : Status). WritesOrIsLate (disc_of sheet script lead_in audio) out k) (sym is) (of_answer answer same place.pictures place.room)
 
   -- of a status that is not want of memory, or of that
-  pub first_half : (left left' more more' : Bytes) (status : Status) → HavePlace sheet script lead_in audio → (status ≢ NoMemory → AuthorsWith lead_in audio (both left left' more more' out) status)
-      → IfSome left (λ cue. IfSome more (λ text. IsSheetText cue sheet → IsScriptText text script → WritesOrIsLate sheet script lead_in audio out status))
+  pub first_half : (left left' more more' : Bytes) (status : Status) → HavePlace (disc_of sheet script lead_in audio) → (status ≢ NoMemory → AuthorsWith lead_in audio (both left left' more more' out) status)
+      → IfSome left (λ cue. IfSome more (λ text. IsSheetText cue sheet → IsScriptText text script → WritesOrIsLate (disc_of sheet script lead_in audio) out status))
   first_half None left' more more' status place authors = tt
   first_half (Some cue) left' None more' status place authors = tt
   first_half (Some cue) left' (Some text) more' NoMemory place authors = λ s t. tt

@@ -5,6 +5,7 @@ use Rattle.picture_script.specs.ScriptGrammar.{read_script}
 use Rattle.picture_changes.specs.Schedule.{IsLate}
 use Rattle.picture_changes.specs.Brings.{CannotBeReady}
 use Rattle.cue_sheet.specs.CueSheet.{CueSheet}
+use Rattle.subcode_author.specs.Authored.{disc_of}
 use Rattle.subcode_author.specs.declared.stops.AuthorStop.{AuthorStop}
 use Rattle.subcode_author.specs.declared.stops.AuthorStop.TheVariants as stop
 use Rattle.cdg_cmd.specs.Call.{Bytes, Change}
@@ -32,7 +33,7 @@ no_script_late more k n f why = why
 
 module _ (lead_in audio : ℕ) (out : Change Bytes) where
   -- the answer tells the first late picture of the script
-  late_of : (sheet : CueSheet) (script : List Drawing) (picture need free : ℕ) (answer : Result (Unit {0}) AuthorStop) → IsPutFor sheet script lead_in audio out answer
+  late_of : (sheet : CueSheet) (script : List Drawing) (picture need free : ℕ) (answer : Result (Unit {0}) AuthorStop) → IsPutFor (disc_of sheet script lead_in audio) out answer
       → author_status answer ≡ Late picture need free → IsLate script picture need free
   late_of sheet script picture need free (Err (stop.Late k n f)) put told = same_late script k n f picture need free told put.why.2
   late_of sheet script picture need free (Ok done) put told = absurd (cc)
@@ -49,8 +50,8 @@ module _ (lead_in audio : ℕ) (out : Change Bytes) where
     same_text text lines k n f one other late = subst (λ (l : List Drawing). IsLate l k n f) (same_script text lines script one.reads other.reads) late
 
     of_late : (text : List ℕ) (left left' more' : Bytes) (k n f : ℕ) → AuthorsWith lead_in audio (both left left' (Some text) more' out) (Late k n f) → IsScriptText text script → IsLate script k n f
-    of_late text left left' more' k n f (StopsAtSheet why nothing) is = absurd (no_sheet_late left k n f why)
-    of_late text left left' more' k n f (StopsAtScript sheet reads why nothing) is = absurd (no_script_late (Some text) k n f why)
+    of_late text left left' more' k n f (StopsAtSheet why took nothing) is = absurd (no_sheet_late left k n f why)
+    of_late text left left' more' k n f (StopsAtScript sheet reads why took nothing) is = absurd (no_script_late (Some text) k n f why)
     of_late text left left' more' k n f (Answers sheet lines answer reads_sheet reads_script same put) is = same_text text lines k n f reads_script.1 is (late_of sheet lines k n f answer put (sym same))
 
     of_status : (text : List ℕ) (left left' more' : Bytes) (picture need free : ℕ) (status : Status) → status ≡ Late picture need free → AuthorsWith lead_in audio (both left left' (Some text) more' out) status

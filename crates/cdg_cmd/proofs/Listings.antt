@@ -13,7 +13,7 @@ use Rattle.cdtext_packs.specs.Texts.{has_no_text}
 use Rattle.cdtext_packs.specs.TextLines.{offers_line}
 use Rattle.round_trips.specs.Damage.{HasHurtSlots, count_hurt, count_whole}
 use Rattle.round_trips.specs.SheetLines.{HasText, HasTextPacks, sheet_lines}
-use Rattle.subcode_author.specs.Authored.{IsAuthored, text_packs}
+use Rattle.subcode_author.specs.Authored.{IsAuthored, text_packs, disc_of}
 use Rattle.subcode_player.specs.Calls.{most_units, IsAnsweredBy, PlaysInTurn}
 use Rattle.subcode_player.specs.Convert.{Restores}
 use Rattle.subcode_player.specs.TextListing.{IsListedBy, IsWholeInput, ListsTexts, packs_in}
@@ -37,7 +37,7 @@ spells_allowed command (name ∷ options) s = s.1
 
 -- an authored stream of a disc has no more blocks than are read
 pub authored_size : (sheet : CueSheet) (script : List Drawing) (lead_in audio : ℕ) (bytes : List ℕ) (packs : List (List ℕ)) → lead_in ≤ 450000 → program_blocks sheet audio ≤ 449999
-    → IsAuthored sheet script lead_in audio bytes packs → length bytes ≤ most_units * 96
+    → IsAuthored (disc_of sheet script lead_in audio) bytes packs → length bytes ≤ most_units * 96
 authored_size sheet script lead_in audio bytes packs short few authored = omega (arith, authored.framing.size, short, few)
 
 -- a player that put texts, as a status
@@ -78,13 +78,13 @@ module _ (lead_in : ℕ) (left' more more' : Bytes) (out : Change Bytes) (status
   strings_given form (Some all) lists puts = λ is. unless_memory _ status (λ found. texts_of form all (lists found) (puts all is))
 
 -- the lines of a sheet, whose strings are found or which has none
-pub lines_given : (sheet : CueSheet) (form : Form) (lead_in : ℕ) (stream all lines : List ℕ) (answer : Result Played PlayStop) (out : Change Bytes)
+pub lines_given : (sheet : CueSheet) (script : List Drawing) (form : Form) (lead_in audio : ℕ) (stream all lines : List ℕ) (answer : Result Played PlayStop) (out : Change Bytes)
     → ((whole : List Bool) → HasTextPacks sheet → HasText sheet → HasHurtSlots (text_packs sheet) whole (packs_in Raw lead_in stream) (packs_in form lead_in all) → IsWholeInput form all
     → PutsTexts answer out.before out.after (sheet_lines sheet (count_whole whole) (count_hurt whole)))
     → (has_no_text (sheet_texts sheet) ≡ true → packs_in form lead_in all ≡ packs_in Raw lead_in stream → IsWholeInput form all
     → PutsTexts answer out.before out.after (offers_line 0 (4 * lead_in) 0))
-    → AreLinesOf sheet form lead_in stream all lines → PutsTexts answer out.before out.after lines
-lines_given sheet form lead_in stream all lines answer out strings none (inl has) =
+    → AreLinesOf (disc_of sheet script lead_in audio) form stream all lines → PutsTexts answer out.before out.after lines
+lines_given sheet script form lead_in audio stream all lines answer out strings none (inl has) =
     subst (λ (t : List ℕ). PutsTexts answer out.before out.after t) (sym has.lines_are) (strings has.whole has.packs has.some has.slots has.input)
-lines_given sheet form lead_in stream all lines answer out strings none (inr has) =
+lines_given sheet script form lead_in audio stream all lines answer out strings none (inr has) =
     subst (λ (t : List ℕ). PutsTexts answer out.before out.after t) (sym has.lines_are) (none has.none has.copy.slots has.copy.input)

@@ -12,7 +12,7 @@ use Rattle.picture_changes.specs.Shown.{AreColoursInRange, AreTimesInOrder}
 use Rattle.rw_interleave.specs.Stream.{all_packs, bad_count}
 use Rattle.rw_interleave.specs.Texts.{cdg_bytes}
 use Rattle.toc_model.specs.Places.{program_blocks}
-use Rattle.subcode_author.specs.Authored.{IsAuthored}
+use Rattle.subcode_author.specs.Authored.{IsAuthored, disc_of}
 use Rattle.subcode_player.specs.Convert.{IsConverted, IsDamagedStream, Restores}
 use Rattle.subcode_player.specs.Pictured.{GivesPicture, IsHeldAt, IsScheduledStream}
 use Rattle.subcode_player.specs.declared.player.Played.{Played}
@@ -105,7 +105,7 @@ packs_written Cooked blocks packs count some =
     let seven : 4 * blocks - length packs ≡ 7 = omega (arith, count, some) in
     ap (λ n. packs ++ replicate n (replicate 24 0)) seven
 
-module _ (sheet : CueSheet) (script : List Drawing) (lead_in audio : ℕ) (stream : List ℕ) (packs : List (List ℕ)) (form : Form) (authored : IsAuthored sheet script lead_in audio stream packs) where
+module _ (sheet : CueSheet) (script : List Drawing) (lead_in audio : ℕ) (stream : List ℕ) (packs : List (List ℕ)) (form : Form) (authored : IsAuthored (disc_of sheet script lead_in audio) stream packs) where
   damaged_stream : (bytes : List ℕ) → IsDamagedCopy form lead_in stream bytes → IsDamagedStream form lead_in (program_blocks sheet audio) packs bytes
   damaged_stream bytes d = record {
     few = d.few;

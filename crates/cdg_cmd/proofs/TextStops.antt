@@ -1,14 +1,24 @@
 -- Why a text is refused: one reason, and none where its grammar reads it.
 use Rattle.std.proofs.Common.{◌≡◌, ◌⊎◌, ◌<◌, ◌≤◌, ℕ, List, length, Result, Ok, Err, Some, refl, sym, ap, ◌∙◌, inl, inr, arith}
+use Rattle.std.proofs.KnownBytes.{Consumes-kept}
+use Rattle.cdg_io.specs.Moves.{ConsumesBelow}
+use Rattle.cdg_io.specs.Whole.{StopsAtFault}
 use Rattle.cue_sheet.specs.CueSheet.{CueSheet}
 use Rattle.cue_sheet.specs.Grammar.{read_cue}
 use Rattle.picture_script.specs.Script.{Drawing}
 use Rattle.picture_script.specs.ScriptGrammar.{read_script}
 use Rattle.cdg_cmd.specs.Authors.{IsScriptStop, IsScriptText, IsSheetStop, IsSheetText, IsStopped, most_text}
+use Rattle.cdg_cmd.specs.Call.{Bytes}
 use Rattle.cdg_cmd.specs.declared.status.Refusal.{Refusal}
 use Rattle.cdg_cmd.specs.declared.status.Refusal.TheVariants.{Torn, TooLong, PastEnd, Cue, Script, LengthShort, DiscTooLong, LeadInShort, TextTooLong, TextMissing, TextNoSize, TextMalformed, SecondTorn, Unequal, PackTorn, Gap, CdgTooLong, BadSave, BeforeSave}
 use Rattle.cdg_cmd.specs.declared.status.Status.{Status}
 use Rattle.cdg_cmd.specs.declared.status.Status.TheVariants.{Done, Damaged, Usage, Refused, Late, ReadFault, WriteFault, NoMemory}
+
+-- what was taken before a read failed is all that was taken
+pub taken_at_fault : {S : Type 0} (left : S → Bytes) (faults : S → ℕ) (most n : ℕ) (before after : S) → most < n
+    → StopsAtFault left faults most before after → ConsumesBelow (left before) (left after) n
+taken_at_fault left faults most n before after below stop =
+    (stop.taken, omega (arith, stop.within, below), Consumes-kept _ _ _ _ stop.took stop.nothing)
 
 both_answers : {A E : Type 0} (r : Result A E) (a : A) (e : E) → r ≡ Ok a → r ≡ Err e → ⊥
 both_answers r a e ok err = (cc)

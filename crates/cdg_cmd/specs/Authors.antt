@@ -1,12 +1,13 @@
 -- What `author` answers to a cue sheet and a picture script, and what it writes.
-use Rattle.std.specs.Prelude.{◌≡◌, ◌≢◌, ℕ, ◌<◌, ◌≤◌, ⊤, List, [], length, Result, Ok, Err, IfErr, IfSome, OnOk}
+use Rattle.std.specs.Prelude.{◌≡◌, ◌≢◌, ℕ, ◌+◌, ◌<◌, ◌≤◌, ⊤, List, [], length, Result, Ok, Err, IfErr, IfSome, OnOk}
 use Rattle.std.specs.Io.KnownBytes.{Appends, IsAtEnd}
-use Rattle.cdg_io.specs.Moves.{AppendsPrefix}
+use Rattle.cdg_io.specs.Moves.{AppendsPrefix, ConsumesBelow}
+use Rattle.cdg_io.specs.Whole.{ConsumesExactly}
 use Rattle.cue_sheet.specs.CueSheet.{CueSheet}
 use Rattle.cue_sheet.specs.Grammar.{read_cue}
 use Rattle.picture_script.specs.Script.{Drawing}
 use Rattle.picture_script.specs.ScriptGrammar.{read_script}
-use Rattle.subcode_author.specs.Authored.{IsWrittenStream}
+use Rattle.subcode_author.specs.Authored.{Disc, IsWrittenStream, disc_of}
 use Rattle.subcode_author.specs.AuthorAnswer.{IsAccepted, IsAuthorStop}
 use Rattle.subcode_author.specs.declared.stops.AuthorStop.{AuthorStop}
 use Rattle.subcode_author.specs.declared.stops.AuthorStop.TheVariants as stop
@@ -54,6 +55,15 @@ IsScriptStop left (Refused (Script line why)) = IfSome left (λ text. (length te
 IsScriptStop left NoMemory = ⊤
 IsScriptStop left status = ⊥
 
+-- What was taken of an input whose text was not accepted: the most that a text has and one byte where it is too
+-- long, no more than the most where a read failed, and all of it where its grammar refuses it.
+abbrev pub TakesAtStop : Change Bytes → Status → Type 0
+TakesAtStop input (ReadFault which) = ConsumesBelow input.before input.after (most_text + 1)
+TakesAtStop input (Refused TooLong) = ConsumesExactly input.before input.after (most_text + 1)
+TakesAtStop input (Refused why) = IsAtEnd input.after
+TakesAtStop input NoMemory = ConsumesBelow input.before input.after (most_text + 2)
+TakesAtStop input status = ⊥
+
 -- a read failed or no memory was found
 abbrev pub IsStopped : Status → Type 0
 IsStopped (ReadFault which) = ⊤
@@ -73,28 +83,32 @@ author_status (Err stop.WriteFault) = WriteFault
 author_status (Err stop.NoMemory) = NoMemory
 
 -- the authored stream with the planned changes was put
-abbrev pub PutsAuthored : CueSheet → List Drawing → ℕ → ℕ → Change Bytes → Type 0
-PutsAuthored sheet script lead_in audio out =
-    (bytes : List ℕ) × (packs : List (List ℕ)) × IsWrittenStream sheet script lead_in audio bytes packs × Appends out.before out.after bytes
+abbrev pub PutsAuthored : Disc → Change Bytes → Type 0
+PutsAuthored disc out =
+    (bytes : List ℕ) × (packs : List (List ℕ)) × IsWrittenStream disc bytes packs
+    × Appends out.before out.after bytes
 
 -- a prefix of that stream was put
-abbrev pub PutsPrefix : CueSheet → List Drawing → ℕ → ℕ → Change Bytes → Type 0
-PutsPrefix sheet script lead_in audio out =
-    (bytes : List ℕ) × (packs : List (List ℕ)) × IsWrittenStream sheet script lead_in audio bytes packs × AppendsPrefix out.before out.after bytes
+abbrev pub PutsPrefix : Disc → Change Bytes → Type 0
+PutsPrefix disc out =
+    (bytes : List ℕ) × (packs : List (List ℕ)) × IsWrittenStream disc bytes packs
+    × AppendsPrefix out.before out.after bytes
 
--- what is put for a sheet and a script, and why it is this answer
-pub record IsPutFor (sheet : CueSheet) (script : List Drawing) (lead_in audio : ℕ) (out : Change Bytes) (answer : Result (Unit {0}) AuthorStop) : Type 0 where
-  pub done : OnOk answer (IsAccepted sheet script lead_in audio × PutsAuthored sheet script lead_in audio out)
-  pub why : IfErr answer (IsAuthorStop sheet script lead_in audio)
+-- what is put for a disc, and why it is this answer
+pub record IsPutFor (disc : Disc) (out : Change Bytes) (answer : Result (Unit {0}) AuthorStop) : Type 0 where
+  pub done : OnOk answer (IsAccepted disc.sheet disc.script disc.lead_in disc.audio × PutsAuthored disc out)
+  pub why : IfErr answer (IsAuthorStop disc.sheet disc.script disc.lead_in disc.audio)
   -- a prefix where a write failed, and else nothing
-  pub cut : answer ≡ Err stop.WriteFault → PutsPrefix sheet script lead_in audio out
+  pub cut : answer ≡ Err stop.WriteFault → PutsPrefix disc out
   pub nothing : IfErr answer (λ why. why ≢ stop.WriteFault → Appends out.before out.after [])
 
 -- `author` ended with this status: at the first input, at the second, or with the answer to the sheet and the script that they say.
 pub data AuthorsWith (lead_in audio : ℕ) (call : Call Bytes) (status : Status) : Type 0 where
-  StopsAtSheet : IsSheetStop call.first.before status → Appends call.out.before call.out.after [] → AuthorsWith lead_in audio call status
-  StopsAtScript : (sheet : CueSheet) → ReadsSheet call.first sheet → IsScriptStop call.second.before status
+  StopsAtSheet : IsSheetStop call.first.before status → TakesAtStop call.first status
       → Appends call.out.before call.out.after [] → AuthorsWith lead_in audio call status
-  Answers : (sheet : CueSheet) (script : List Drawing) (answer : Result (Unit {0}) AuthorStop) → ReadsSheet call.first sheet
-      → ReadsScript call.second script → status ≡ author_status answer → IsPutFor sheet script lead_in audio call.out answer
+  StopsAtScript : (sheet : CueSheet) → ReadsSheet call.first sheet → IsScriptStop call.second.before status
+      → TakesAtStop call.second status → Appends call.out.before call.out.after []
       → AuthorsWith lead_in audio call status
+  Answers : (sheet : CueSheet) (script : List Drawing) (answer : Result (Unit {0}) AuthorStop)
+      → ReadsSheet call.first sheet → ReadsScript call.second script → status ≡ author_status answer
+      → IsPutFor (disc_of sheet script lead_in audio) call.out answer → AuthorsWith lead_in audio call status

@@ -1,6 +1,7 @@
 -- What `save` and `resume` answer, and what they write.
 use Rattle.std.specs.Prelude.{◌≡◌, ◌≢◌, ◌==◌, ◌≤◌, ◌+◌, ℕ, List, length, Result, Ok, Err, IsOk, IfSome, if◌then◌else◌}
 use Rattle.std.specs.Io.KnownBytes.{Consumes, IsAtEnd}
+use Rattle.cdg_io.specs.Moves.{ConsumesBelow}
 use Rattle.cdg_io.specs.Pump.{IsUnlessFault, answer_of}
 use Rattle.checkpoint_files.specs.Checkpoint.{checkpoint_in}
 use Rattle.checkpoint_files.specs.Table.{IsCheckpointFile, file_size}
@@ -50,6 +51,8 @@ pub record ResumesWith (at : ℕ) (call : Call Bytes) (status : Status) : Type 0
   -- at most one byte past that of a checkpoint
   pub most : length file ≤ file_size + 1
   pub taken : answer ≢ Err resume.FirstFault → Consumes call.first.before call.first.after file
+  -- where a read failed, no more than the bytes of one
+  pub cut : answer ≡ Err resume.FirstFault → ConsumesBelow call.first.before call.first.after (file_size + 1)
   pub whole : answer ≢ Err resume.FirstFault → length file ≤ file_size → IsAtEnd call.first.after
   pub accepted : IsAcceptedBy (acceptance answer) at file
   pub goes_on : IsOk (acceptance answer) → (rest : List ℕ) × Resumes file at call.second.before call.second.after call.out.before call.out.after answer rest

@@ -4,10 +4,10 @@ use Rattle.std.specs.Io.KnownBytes.{Appends}
 use Rattle.raw_subcode.specs.Channels.{unit_size, program_symbols}
 use Rattle.raw_subcode.specs.declared.form.Form.{Form}
 use Rattle.raw_subcode.specs.declared.form.Form.TheVariants.{Raw, Sector, Cooked}
-use Rattle.cue_sheet.specs.CueSheet.{CueSheet}
 use Rattle.picture_script.specs.Script.{Drawing}
 use Rattle.picture_changes.specs.Schedule.{IsLate}
 use Rattle.rw_interleave.specs.Stream.{IsDamaged}
+use Rattle.subcode_author.specs.Authored.{Disc}
 use Rattle.subcode_author.specs.AuthorAnswer.{AreReady, HasRoom, HoldsPictures}
 use Rattle.subcode_player.specs.Calls.{most_units}
 use Rattle.subcode_player.specs.Pictured.{IsPictureText}
@@ -17,21 +17,23 @@ use Rattle.cdg_cmd.specs.Call.{Change, Bytes}
 use Rattle.cdg_cmd.specs.declared.status.Status.{Status}
 use Rattle.cdg_cmd.specs.declared.status.Status.TheVariants.{Done, Damaged, Usage, Refused, Late, ReadFault, WriteFault, NoMemory}
 
--- a sheet and a script have a place on a disc of so many blocks of lead-in and of audio: only a picture can be refused
-pub record HavePlace (sheet : CueSheet) (script : List Drawing) (lead_in audio : ℕ) : Type 0 where
-  pub disc : HoldsPictures sheet script audio
-  pub room : HasRoom sheet lead_in
+-- the sheet and the script have a place on the disc: only a picture can be refused
+pub record HavePlace (disc : Disc) : Type 0 where
+  pub pictures : HoldsPictures disc.sheet disc.script disc.audio
+  pub room : HasRoom disc.sheet disc.lead_in
 
--- an authored stream was put, or the first picture that cannot be ready is told and nothing was put; unless a read or a write failed or no memory was found
-abbrev pub WritesOrIsLate : CueSheet → List Drawing → ℕ → ℕ → Change Bytes → Status → Type 0
-WritesOrIsLate sheet script lead_in audio out Done = AreReady script × PutsAuthored sheet script lead_in audio out
-WritesOrIsLate sheet script lead_in audio out (Late picture need free) = IsLate script picture need free × Appends out.before out.after []
-WritesOrIsLate sheet script lead_in audio out (ReadFault which) = ⊤
-WritesOrIsLate sheet script lead_in audio out WriteFault = ⊤
-WritesOrIsLate sheet script lead_in audio out NoMemory = ⊤
-WritesOrIsLate sheet script lead_in audio out (Damaged n) = ⊥
-WritesOrIsLate sheet script lead_in audio out Usage = ⊥
-WritesOrIsLate sheet script lead_in audio out (Refused why) = ⊥
+-- an authored stream was put, or the first picture that cannot be ready is told and nothing was put; unless a read
+-- or a write failed or no memory was found
+abbrev pub WritesOrIsLate : Disc → Change Bytes → Status → Type 0
+WritesOrIsLate disc out Done = AreReady disc.script × PutsAuthored disc out
+WritesOrIsLate disc out (Late picture need free) =
+    IsLate disc.script picture need free × Appends out.before out.after []
+WritesOrIsLate disc out (ReadFault which) = ⊤
+WritesOrIsLate disc out WriteFault = ⊤
+WritesOrIsLate disc out NoMemory = ⊤
+WritesOrIsLate disc out (Damaged n) = ⊥
+WritesOrIsLate disc out Usage = ⊥
+WritesOrIsLate disc out (Refused why) = ⊥
 
 -- Whole units of a form, whose program symbols are those of a raw stream but for at most two in each word.
 pub record IsDamagedCopy (form : Form) (lead_in : ℕ) (stream bytes : List ℕ) : Type 0 where

@@ -2,11 +2,10 @@
 use Rattle.std.specs.Prelude.{◌≡◌, ◌⊎◌, ℕ, ◌*◌, Bool, true, List}
 use Rattle.raw_subcode.specs.declared.form.Form.{Form}
 use Rattle.raw_subcode.specs.declared.form.Form.TheVariants.{Raw}
-use Rattle.cue_sheet.specs.CueSheet.{CueSheet}
 use Rattle.stream_writer.specs.SheetTexts.{sheet_texts}
 use Rattle.cdtext_packs.specs.Texts.{has_no_text}
 use Rattle.cdtext_packs.specs.TextLines.{offers_line}
-use Rattle.subcode_author.specs.Authored.{text_packs}
+use Rattle.subcode_author.specs.Authored.{Disc, text_packs}
 use Rattle.subcode_player.specs.TextListing.{IsWholeInput, packs_in}
 use Rattle.round_trips.specs.Damage.{HasHurtSlots, count_hurt, count_whole}
 use Rattle.round_trips.specs.SheetLines.{HasText, HasTextPacks, sheet_lines}
@@ -16,21 +15,24 @@ pub record HasTextsOf (form : Form) (lead_in : ℕ) (stream bytes : List ℕ) : 
   pub input : IsWholeInput form bytes
   pub slots : packs_in form lead_in bytes ≡ packs_in Raw lead_in stream
 
--- Of an authored stream of a sheet: they hold its packs but for damage that leaves each text pack whole in some slot, and these are the lines of its strings.
-pub record HasStrings (sheet : CueSheet) (form : Form) (lead_in : ℕ) (stream bytes lines : List ℕ) : Type 0 where
+-- Of an authored stream of a disc: they hold its packs but for damage that leaves each text pack whole in some
+-- slot, and these are the lines of the strings of its sheet.
+pub record HasStrings (disc : Disc) (form : Form) (stream bytes lines : List ℕ) : Type 0 where
   pub whole : List Bool
-  pub packs : HasTextPacks sheet
-  pub some : HasText sheet
+  pub packs : HasTextPacks disc.sheet
+  pub some : HasText disc.sheet
   pub input : IsWholeInput form bytes
-  pub slots : HasHurtSlots (text_packs sheet) whole (packs_in Raw lead_in stream) (packs_in form lead_in bytes)
-  pub lines_are : lines ≡ sheet_lines sheet (count_whole whole) (count_hurt whole)
+  pub slots : HasHurtSlots (text_packs disc.sheet) whole (packs_in Raw disc.lead_in stream)
+      (packs_in form disc.lead_in bytes)
+  pub lines_are : lines ≡ sheet_lines disc.sheet (count_whole whole) (count_hurt whole)
 
--- Of a sheet without text: they hold its packs, and this is the line on packs, all bad.
-pub record HasNoStrings (sheet : CueSheet) (form : Form) (lead_in : ℕ) (stream bytes lines : List ℕ) : Type 0 where
-  pub none : has_no_text (sheet_texts sheet) ≡ true
-  pub copy : HasTextsOf form lead_in stream bytes
-  pub lines_are : lines ≡ offers_line 0 (4 * lead_in) 0
+-- Of a disc without text: they hold its packs, and this is the line on packs, all bad.
+pub record HasNoStrings (disc : Disc) (form : Form) (stream bytes lines : List ℕ) : Type 0 where
+  pub none : has_no_text (sheet_texts disc.sheet) ≡ true
+  pub copy : HasTextsOf form disc.lead_in stream bytes
+  pub lines_are : lines ≡ offers_line 0 (4 * disc.lead_in) 0
 
--- the lines that stand for the texts of a sheet in a stream
-abbrev pub AreLinesOf : CueSheet → Form → ℕ → List ℕ → List ℕ → List ℕ → Type 0
-AreLinesOf sheet form lead_in stream bytes lines = HasStrings sheet form lead_in stream bytes lines ⊎ HasNoStrings sheet form lead_in stream bytes lines
+-- the lines that stand for the texts of a disc in a stream
+abbrev pub AreLinesOf : Disc → Form → List ℕ → List ℕ → List ℕ → Type 0
+AreLinesOf disc form stream bytes lines =
+    HasStrings disc form stream bytes lines ⊎ HasNoStrings disc form stream bytes lines

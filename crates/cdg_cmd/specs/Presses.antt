@@ -9,7 +9,7 @@ use Rattle.cdg_press.specs.Pressed.{IsPackAfter, IsPressed, file_begin}
 use Rattle.cdg_press.specs.Refusals.{IsPressable, IsPressStop}
 use Rattle.cdg_press.specs.declared.stops.PressStop.{PressStop}
 use Rattle.cdg_press.specs.declared.stops.PressStop.TheVariants as stop
-use Rattle.cdg_cmd.specs.Authors.{IsSheetStop, ReadsSheet, most_text}
+use Rattle.cdg_cmd.specs.Authors.{IsSheetStop, ReadsSheet, TakesAtStop, most_text}
 use Rattle.cdg_cmd.specs.Call.{Bytes, Call, Change}
 use Rattle.cdg_cmd.specs.declared.status.Which.TheVariants.{Second}
 use Rattle.cdg_cmd.specs.declared.status.Refusal.TheVariants.{TooLong, LengthShort, DiscTooLong, LeadInShort, TextTooLong, PackTorn, Gap, CdgTooLong}
@@ -62,9 +62,11 @@ pub record IsPressedFor (sheet : CueSheet) (file : List ℕ) (lead_in audio : �
 
 -- `press` ended with this status: at the sheet, at the file, or with the answer to both.
 pub data PressesWith (lead_in audio : ℕ) (call : Call Bytes) (status : Status) : Type 0 where
-  RefusesSheet : IsSheetStop call.first.before status → Appends call.out.before call.out.after [] → PressesWith lead_in audio call status
-  RefusesFile : (sheet : CueSheet) → ReadsSheet call.first sheet → IsFileStop call.second.before status
+  RefusesSheet : IsSheetStop call.first.before status → TakesAtStop call.first status
       → Appends call.out.before call.out.after [] → PressesWith lead_in audio call status
+  RefusesFile : (sheet : CueSheet) → ReadsSheet call.first sheet → IsFileStop call.second.before status
+      → TakesAtStop call.second status → Appends call.out.before call.out.after []
+      → PressesWith lead_in audio call status
   Presses : (sheet : CueSheet) (file : List ℕ) (answer : Result (Unit {0}) PressStop) → ReadsSheet call.first sheet
       → ReadsFile call.second file → status ≡ press_status answer → IsPressedFor sheet file lead_in audio call.out answer
       → PressesWith lead_in audio call status

@@ -14,9 +14,13 @@ use Rattle.cdg_cmd.specs.declared.status.Status.{Status}
 abbrev pub PutsFilePicture : List ℕ → ℕ → Change Bytes → Status → Type 0
 PutsFilePicture file many out status = OnDone ((text : List ℕ) × IsFileText file many text × Appends out.before out.after text) status
 
--- What a command puts of bytes that are a pressed stream but for two symbols of each word: a conversion every pack, and a screen, so many blocks after the audio has begun, what stands after four packs of the file for each block, or after all.
+-- What a command puts of bytes that are a pressed stream but for two symbols of each word: a conversion every
+-- pack, and a screen, so many blocks after the audio has begun, what stands after four packs of the file for each
+-- block, or after all.
 abbrev pub Unpresses : Command → List ℕ → Change Bytes → Status → Type 0
-Unpresses (Convert lead_in form) bytes out status = (press : DamagedPress form lead_in bytes) → GivesBack (concat (written_packs form press.packs)) out status
+Unpresses (Convert lead_in form) bytes out status =
+    (press : DamagedPress form lead_in bytes) → GivesBack (concat (written_packs form press.packs)) out status
 Unpresses (Screen lead_in form at) bytes out status =
-    (press : DamagedPress form lead_in bytes) (time : ℕ) → at ≡ 150 + time → time ≤ press.audio → PutsFilePicture press.file (4 * time) out status
+    (press : DamagedPress form lead_in bytes) (time : ℕ) → at ≡ 150 + time → time ≤ press.audio
+    → PutsFilePicture press.file (4 * time) out status
 Unpresses command bytes out status = ⊤

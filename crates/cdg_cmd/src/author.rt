@@ -1,7 +1,7 @@
 // The command that writes the stream of a cue sheet and a picture script.
 ghost use Rattle.std.specs.Prelude.{◌≡◌, ◌≢◌, ◌≤◌, ◌<◌, ◌⊎◌, IfOk, IfErr, OnOk, Err};
 ghost use Rattle.cdg_io.specs.Causes.{Rose};
-ghost use Rattle.cdg_cmd.specs.Authors.{author_status, AuthorsWith, IsScriptStop, IsSheetStop, ReadsScript, ReadsSheet};
+ghost use Rattle.cdg_cmd.specs.Authors.{author_status, AuthorsWith, IsScriptStop, IsSheetStop, ReadsScript, ReadsSheet, TakesAtStop};
 ghost use Rattle.cdg_cmd.specs.Call.{call, change};
 ghost use Rattle.cdg_cmd.specs.Ends.{ScriptEnds, SheetEnds};
 ghost use Rattle.cdg_cmd.specs.Faults.{TellsFaults};
@@ -17,9 +17,11 @@ use subcode_author::{AuthorStop, accepted_scripts_have_streams, author_stream};
 const MOST_TEXT: usize = 67_108_864;
 
 /// The cue sheet of the first input, or the status that says why there is none.
+#[tactic(auto, using(crate::proofs::TextStops::taken_at_fault))]
 pub(crate) fn read_sheet<S: Source>(alloc: Global, first: &mut S) -> Result<Sheet, Status>
     ensures ok { IfOk result (ReadsSheet (change S.left first.old first.new)) }
     ensures err { IfErr result (IsSheetStop (S.left first.old)) }
+    ensures taken { IfErr result (TakesAtStop (change S.left first.old first.new)) }
     ensures later { S.faults first.old ≤ S.faults first.new }
     ensures fault { result ≡ Err (Status.ReadFault Which.First)
         → Rose (S.faults first.old) (S.faults first.new) }
@@ -41,9 +43,11 @@ pub(crate) fn read_sheet<S: Source>(alloc: Global, first: &mut S) -> Result<Shee
 }
 
 // The picture script of the second input, or the status that says why there is none.
+#[tactic(auto, using(crate::proofs::TextStops::taken_at_fault))]
 fn read_script<S: Source>(alloc: Global, second: &mut S) -> Result<Script, Status>
     ensures ok { IfOk result (ReadsScript (change S.left second.old second.new)) }
     ensures err { IfErr result (IsScriptStop (S.left second.old)) }
+    ensures taken { IfErr result (TakesAtStop (change S.left second.old second.new)) }
     ensures later { S.faults second.old ≤ S.faults second.new }
     ensures fault { result ≡ Err (Status.ReadFault Which.Second)
         → Rose (S.faults second.old) (S.faults second.new) }

@@ -1,6 +1,7 @@
 // The command that writes the stream of a cue sheet and a file of packs.
 ghost use Rattle.std.specs.Prelude.{◌≡◌, ◌≢◌, ◌≤◌, ◌<◌, ◌⊎◌, IfOk, IfErr, OnOk, Err};
 ghost use Rattle.cdg_io.specs.Causes.{Rose};
+ghost use Rattle.cdg_cmd.specs.Authors.{TakesAtStop};
 ghost use Rattle.cdg_cmd.specs.Call.{call, change};
 ghost use Rattle.cdg_cmd.specs.Ends.{ScriptEnds, SheetEnds};
 ghost use Rattle.cdg_cmd.specs.Faults.{TellsFaults};
@@ -16,9 +17,11 @@ use std::alloc::Global;
 const MOST_FILE: usize = 67_108_864;
 
 // The file of the second input, or the status that says why there is none.
+#[tactic(auto, using(crate::proofs::TextStops::taken_at_fault))]
 fn read_file<S: Source>(alloc: Global, second: &mut S) -> Result<Vec<u8>, Status>
     ensures ok { IfOk result (λ v. ReadsFile (change S.left second.old second.new) v.items) }
     ensures err { IfErr result (IsFileStop (S.left second.old)) }
+    ensures taken { IfErr result (TakesAtStop (change S.left second.old second.new)) }
     ensures later { S.faults second.old ≤ S.faults second.new }
     ensures fault { result ≡ Err (Status.ReadFault Which.Second)
         → Rose (S.faults second.old) (S.faults second.new) }

@@ -2,11 +2,10 @@
 ghost use Rattle.std.specs.Prelude.{◌≡◌, ◌≢◌, ◌↔◌, ◌≤◌, ◌⊎◌, ℕ, List, Option, Some, None, Ok, IfSome};
 ghost use Rattle.std.specs.List.{concat};
 ghost use Rattle.raw_subcode.specs.declared.form.Form.{Form};
-ghost use Rattle.cue_sheet.specs.CueSheet.{CueSheet};
 ghost use Rattle.picture_script.specs.Script.{Drawing};
 ghost use Rattle.picture_changes.specs.Brings.{CannotBeReady};
 ghost use Rattle.toc_model.specs.Places.{layout_of, program_blocks};
-ghost use Rattle.subcode_author.specs.Authored.{IsAuthored};
+ghost use Rattle.subcode_author.specs.Authored.{Disc, IsAuthored};
 ghost use Rattle.rw_merge.specs.Readings.{IsReadTwice};
 ghost use Rattle.cdg_thin.specs.Calls.{ShowsAll};
 ghost use Rattle.std.specs.Io.KnownBytes.{Appends};
@@ -58,14 +57,17 @@ use subcode_player::screens_show_pictures;
 
 /// Runs the command of the words over its inputs, its output and the error output.
 ///
-/// The first input is the stream of a command, or the cue sheet of `author` and `press`. The second is the picture script of
-/// `author`, the file of packs of `press`, or the other reading of `merge`; a command that needs neither reads neither. An input is read once, in order, and the output written in order. `err` takes the one
-/// line of the status, or nothing where it is `Done`; a failure there changes nothing.
+/// The first input is the stream of a command, the cue sheet of `author` and `press`, or the checkpoint of
+/// `resume`. The second is the picture script of `author`, the file of packs of `press`, the other reading of
+/// `merge`, or the rest of the stream of `resume`; a command that needs neither reads neither. An input is read
+/// once, in order, and the output written in order. `err` takes the one line of the status, or nothing where it
+/// is `Done`; a failure there changes nothing.
 ///
 /// # Errors
 ///
-/// The status says what ended the run: `Usage` before anything is read, a refusal where its reason is the first that holds
-/// in the order of the inputs, a fault as the source or the sink failed, `NoMemory` with an untouched output.
+/// The status says what ended the run: `Usage` before anything is read, a refusal where its reason is the first
+/// that holds in the order of the inputs, a fault as the source or the sink failed, `NoMemory` with an untouched
+/// output.
 #[tactic(auto, using(crate::proofs::Told::tells))]
 pub fn run<S: Source, T: Source, K: Sink, E: Sink>(
     alloc: Global,
@@ -105,13 +107,12 @@ pub fn run<S: Source, T: Source, K: Sink, E: Sink>(
     // The error output took the line of the status, or a prefix of it where its count rose.
     ensures told { Tells E.held E.faults err.old err.new result }
 
-    // Of a sheet and a script that have a place on a disc an authored stream is written, or the first picture
-    // that is late is told.
-    ensures authors { (lead_in audio : ℕ) (sheet : CueSheet) (script : List Drawing)
-        → Spells (Command.Author lead_in audio) (texts words.now) → HavePlace sheet script lead_in audio
-        → IfSome (S.left first.old) (λ cue. IfSome (T.left second.old) (λ text. IsSheetText cue sheet
-        → IsScriptText text script
-        → WritesOrIsLate sheet script lead_in audio (change K.held out.old out.new) result)) }
+    // Of a sheet and a script that have their place on a disc an authored stream is written, or the first
+    // picture that is late is told.
+    ensures authors { (disc : Disc) → Spells (Command.Author disc.lead_in disc.audio) (texts words.now)
+        → HavePlace disc → IfSome (S.left first.old) (λ cue. IfSome (T.left second.old) (λ text.
+        IsSheetText cue disc.sheet → IsScriptText text disc.script
+        → WritesOrIsLate disc (change K.held out.old out.new) result)) }
     // A picture that is told late cannot be ready: no list of instructions without scrolls brings it in the
     // packs that are free for it.
     ensures late { (lead_in audio picture need free : ℕ) (script : List Drawing)
@@ -120,28 +121,27 @@ pub fn run<S: Source, T: Source, K: Sink, E: Sink>(
         → CannotBeReady script picture need free) }
     // From an authored stream, after damage of at most two symbols a word, a conversion gives back every
     // scheduled pack,
-    ensures gives_back { (lead_in audio : ℕ) (form : Form) (sheet : CueSheet) (script : List Drawing)
-        (stream : List ℕ) (packs : List (List ℕ)) → Spells (Command.Convert lead_in form) (texts words.now)
-        → IsAuthored sheet script lead_in audio stream packs
-        → IfSome (S.left first.old) (λ all. IsDamagedCopy form lead_in stream all
+    ensures gives_back { (form : Form) (disc : Disc) (stream : List ℕ) (packs : List (List ℕ))
+        → Spells (Command.Convert disc.lead_in form) (texts words.now) → IsAuthored disc stream packs
+        → IfSome (S.left first.old) (λ all. IsDamagedCopy form disc.lead_in stream all
         → GivesBack (concat (written_packs form packs)) (change K.held out.old out.new) result) }
     // and the screen shows each picture of an accepted script from its ready time to its hold time.
-    ensures shows { (lead_in audio at k : ℕ) (form : Form) (sheet : CueSheet) (script : List Drawing)
-        (stream text : List ℕ) (packs : List (List ℕ))
-        → Spells (Command.Screen lead_in form at) (texts words.now)
-        → IsScriptText text script → IsHeldAt script k at → IsAuthored sheet script lead_in audio stream packs
-        → IfSome (S.left first.old) (λ all. IsDamagedCopy form lead_in stream all
-        → PutsPicture script k (change K.held out.old out.new) result) }
+    ensures shows { (form : Form) (disc : Disc) (stream text : List ℕ) (packs : List (List ℕ)) (k at : ℕ)
+        → Spells (Command.Screen disc.lead_in form at) (texts words.now) → IsScriptText text disc.script
+        → IsHeldAt disc.script k at → IsAuthored disc stream packs
+        → IfSome (S.left first.old) (λ all. IsDamagedCopy form disc.lead_in stream all
+        → PutsPicture disc.script k (change K.held out.old out.new) result) }
     // Of an authored stream the frame of each block is listed,
-    ensures frames { (lead_in audio : ℕ) (sheet : CueSheet) (script : List Drawing) (packs : List (List ℕ))
-        → Spells (Command.Q lead_in Form.Raw) (texts words.now) → program_blocks sheet audio ≤ 449999
-        → IfSome (S.left first.old) (λ all. IsAuthored sheet script lead_in audio all packs
-        → GivesBack (frame_lines (layout_of sheet audio) lead_in) (change K.held out.old out.new) result) }
+    ensures frames { (disc : Disc) (packs : List (List ℕ))
+        → Spells (Command.Q disc.lead_in Form.Raw) (texts words.now)
+        → program_blocks disc.sheet disc.audio ≤ 449999
+        → IfSome (S.left first.old) (λ all. IsAuthored disc all packs
+        → GivesBack (frame_lines (layout_of disc.sheet disc.audio) disc.lead_in)
+        (change K.held out.old out.new) result) }
     // and each string of the sheet that is not empty, also where slots of the lead-in are damaged.
-    ensures strings { (lead_in audio : ℕ) (form : Form) (sheet : CueSheet) (script : List Drawing)
-        (stream lines : List ℕ) (packs : List (List ℕ)) → Spells (Command.Text lead_in form) (texts words.now)
-        → IsAuthored sheet script lead_in audio stream packs
-        → IfSome (S.left first.old) (λ all. AreLinesOf sheet form lead_in stream all lines
+    ensures strings { (form : Form) (disc : Disc) (stream lines : List ℕ) (packs : List (List ℕ))
+        → Spells (Command.Text disc.lead_in form) (texts words.now) → IsAuthored disc stream packs
+        → IfSome (S.left first.old) (λ all. AreLinesOf disc form stream all lines
         → GivesBack lines (change K.held out.old out.new) result) }
     // Of two readings every pack is merged, where in each word twice the symbols that both have equally wrong and
     // those in which they differ are at most four.

@@ -8,7 +8,7 @@ use Rattle.picture_script.specs.Script.{Drawing}
 use Rattle.q_channel.specs.QList.{IsQListed}
 use Rattle.cdtext_packs.specs.Texts.{Texts}
 use Rattle.cdtext_packs.specs.declared.kinds.TextFault.{TextFault}
-use Rattle.subcode_author.specs.Authored.{IsAuthored}
+use Rattle.subcode_author.specs.Authored.{IsAuthored, disc_of}
 use Rattle.subcode_player.specs.Calls.{most_units, PlaysInTurn, IsAnsweredBy}
 use Rattle.subcode_player.specs.Convert.{Restores}
 use Rattle.subcode_player.specs.TextListing.{texts_of_lead_in, IsTextListed, ListsTexts, IsListedBy, IsWholeInput}
@@ -19,7 +19,7 @@ use Rattle.subcode_player.proofs.Restoring.{taken_all}
 use Rattle.round_trips.specs.Answers.{PutsTexts}
 
 -- an authored stream is made of whole blocks
-pub whole_blocks : (sheet : CueSheet) (script : List Drawing) (lead_in audio : ℕ) (bytes : List ℕ) (packs : List (List ℕ)) → IsAuthored sheet script lead_in audio bytes packs
+pub whole_blocks : (sheet : CueSheet) (script : List Drawing) (lead_in audio : ℕ) (bytes : List ℕ) (packs : List (List ℕ)) → IsAuthored (disc_of sheet script lead_in audio) bytes packs
     → length bytes ≤ most_units * 96 → IsWholeInput Raw bytes
 whole_blocks sheet script lead_in audio bytes packs authored few = (few, omega (arith, authored.framing.size))
 

@@ -27,7 +27,7 @@ use Rattle.cdtext_packs.specs.Copies.{IsPack, StandsIn, AreCopies, HasNoTab}
 use Rattle.cdtext_packs.proofs.Back.{contents_are, count_is}
 use Rattle.cdtext_packs.proofs.Seals.{IsContent, numbered_at, seal_good}
 use Rattle.picture_script.specs.Script.{Drawing}
-use Rattle.subcode_author.specs.Authored.{IsAuthored, text_packs}
+use Rattle.subcode_author.specs.Authored.{IsAuthored, text_packs, disc_of}
 use Rattle.subcode_player.specs.TextListing.{IsTextListed, packs_in, texts_of_lead_in}
 use Rattle.round_trips.specs.Damage.{HasHurtSlots, count_whole, count_hurt}
 use Rattle.round_trips.specs.SheetLines.{HasText, HasTextPacks, sheet_lines}
@@ -183,18 +183,18 @@ no_lines bad = refl
 -- The laws
 
 pub packs_held : (sheet : CueSheet) (script : List Drawing) (lead_in audio : ℕ) (bytes : List ℕ) (packs : List (List ℕ))
-    → HasTextPacks sheet → IsAuthored sheet script lead_in audio bytes packs → packs_in Raw lead_in bytes ≡ packs_in_slots (text_packs sheet) (4 * lead_in)
+    → HasTextPacks sheet → IsAuthored (disc_of sheet script lead_in audio) bytes packs → packs_in Raw lead_in bytes ≡ packs_in_slots (text_packs sheet) (4 * lead_in)
 packs_held sheet script lead_in audio bytes packs has authored = lead_in_holds (text_packs sheet) (packs_are sheet has) (layout_of sheet audio) lead_in bytes authored.framing
 
 pub damaged_texts : ComeBack → (sheet : CueSheet) (script : List Drawing) (lead_in audio : ℕ) (bytes : List ℕ) (packs : List (List ℕ)) (whole : List Bool) (form : Form) (changed : List ℕ)
-    → HasTextPacks sheet → HasText sheet → IsAuthored sheet script lead_in audio bytes packs
+    → HasTextPacks sheet → HasText sheet → IsAuthored (disc_of sheet script lead_in audio) bytes packs
     → HasHurtSlots (text_packs sheet) whole (packs_in Raw lead_in bytes) (packs_in form lead_in changed) → texts_of_lead_in form lead_in changed ≡ Ok (texts_of_sheet sheet)
 damaged_texts law sheet script lead_in audio bytes packs whole form changed has some authored damaged =
     texts_found sheet has some (4 * lead_in) law whole (packs_in form lead_in changed)
     (subst (λ (written : List (List ℕ)). HasHurtSlots (text_packs sheet) whole written (packs_in form lead_in changed)) (packs_held sheet script lead_in audio bytes packs has authored) damaged)
 
 pub damaged_lines : ComeBack → (sheet : CueSheet) (script : List Drawing) (lead_in audio : ℕ) (bytes : List ℕ) (packs : List (List ℕ)) (whole : List Bool) (form : Form) (changed text : List ℕ) (bad : ℕ)
-    → HasTextPacks sheet → HasText sheet → IsAuthored sheet script lead_in audio bytes packs
+    → HasTextPacks sheet → HasText sheet → IsAuthored (disc_of sheet script lead_in audio) bytes packs
     → HasHurtSlots (text_packs sheet) whole (packs_in Raw lead_in bytes) (packs_in form lead_in changed)
     → IsTextListed form lead_in changed text bad → text ≡ sheet_lines sheet (count_whole whole) (count_hurt whole)
 damaged_lines law sheet script lead_in audio bytes packs whole form changed text bad has some authored damaged listed =
@@ -208,7 +208,7 @@ all_slots : ℕ → CueSheet → List Bool
 all_slots lead_in sheet = replicate (length (packs_in_slots (text_packs sheet) (4 * lead_in))) true
 
 whole_lead_in : (sheet : CueSheet) (script : List Drawing) (lead_in audio : ℕ) (bytes : List ℕ) (packs : List (List ℕ))
-    → HasTextPacks sheet → HasText sheet → 0 < lead_in → IsAuthored sheet script lead_in audio bytes packs
+    → HasTextPacks sheet → HasText sheet → 0 < lead_in → IsAuthored (disc_of sheet script lead_in audio) bytes packs
     → HasHurtSlots (text_packs sheet) (all_slots lead_in sheet) (packs_in Raw lead_in bytes) (packs_in Raw lead_in bytes)
 unfolding all_slots
 whole_lead_in sheet script lead_in audio bytes packs has some begun authored =
@@ -218,12 +218,12 @@ whole_lead_in sheet script lead_in audio bytes packs has some begun authored =
     (undamaged sheet has some (4 * lead_in) enough)
 
 pub authored_texts : ComeBack → (sheet : CueSheet) (script : List Drawing) (lead_in audio : ℕ) (bytes : List ℕ) (packs : List (List ℕ))
-    → HasTextPacks sheet → HasText sheet → 0 < lead_in → IsAuthored sheet script lead_in audio bytes packs → texts_of_lead_in Raw lead_in bytes ≡ Ok (texts_of_sheet sheet)
+    → HasTextPacks sheet → HasText sheet → 0 < lead_in → IsAuthored (disc_of sheet script lead_in audio) bytes packs → texts_of_lead_in Raw lead_in bytes ≡ Ok (texts_of_sheet sheet)
 authored_texts law sheet script lead_in audio bytes packs has some begun authored =
     damaged_texts law sheet script lead_in audio bytes packs (all_slots lead_in sheet) Raw bytes has some authored (whole_lead_in sheet script lead_in audio bytes packs has some begun authored)
 
 pub authored_lines : ComeBack → (sheet : CueSheet) (script : List Drawing) (lead_in audio : ℕ) (bytes : List ℕ) (packs : List (List ℕ)) (text : List ℕ) (bad : ℕ)
-    → HasTextPacks sheet → HasText sheet → 0 < lead_in → IsAuthored sheet script lead_in audio bytes packs
+    → HasTextPacks sheet → HasText sheet → 0 < lead_in → IsAuthored (disc_of sheet script lead_in audio) bytes packs
     → IsTextListed Raw lead_in bytes text bad → text ≡ sheet_lines sheet (4 * lead_in) 0
 unfolding all_slots
 authored_lines law sheet script lead_in audio bytes packs text bad has some begun authored listed =
@@ -235,19 +235,19 @@ authored_lines law sheet script lead_in audio bytes packs text bad has some begu
 
 -- without text
 zeros_held : (sheet : CueSheet) (script : List Drawing) (lead_in audio : ℕ) (bytes : List ℕ) (packs : List (List ℕ))
-    → has_no_text (sheet_texts sheet) ≡ true → IsAuthored sheet script lead_in audio bytes packs → packs_in Raw lead_in bytes ≡ packs_in_slots [] (4 * lead_in)
+    → has_no_text (sheet_texts sheet) ≡ true → IsAuthored (disc_of sheet script lead_in audio) bytes packs → packs_in Raw lead_in bytes ≡ packs_in_slots [] (4 * lead_in)
 zeros_held sheet script lead_in audio bytes packs none authored =
     lead_in_holds (text_packs sheet) (λ n inside. absurd (omega (arith, ap length (no_packs sheet none), inside))) (layout_of sheet audio) lead_in bytes authored.framing
     ∙ ap (λ (ps : List (List ℕ)). packs_in_slots ps (4 * lead_in)) (no_packs sheet none)
 
 pub no_texts_read : (sheet : CueSheet) (script : List Drawing) (lead_in audio : ℕ) (bytes : List ℕ) (packs : List (List ℕ))
-    → has_no_text (sheet_texts sheet) ≡ true → IsAuthored sheet script lead_in audio bytes packs → texts_of_lead_in Raw lead_in bytes ≡ Ok no_texts
+    → has_no_text (sheet_texts sheet) ≡ true → IsAuthored (disc_of sheet script lead_in audio) bytes packs → texts_of_lead_in Raw lead_in bytes ≡ Ok no_texts
 no_texts_read sheet script lead_in audio bytes packs none authored =
     ap (λ (ps : List (List ℕ)). read_texts (kept_among ps)) (zeros_held sheet script lead_in audio bytes packs none authored)
     ∙ nothing_read (packs_in_slots [] (4 * lead_in)) (zero_slot (4 * lead_in))
 
 pub no_text_lines : (sheet : CueSheet) (script : List Drawing) (lead_in audio : ℕ) (bytes : List ℕ) (packs : List (List ℕ)) (text : List ℕ) (bad : ℕ)
-    → has_no_text (sheet_texts sheet) ≡ true → IsAuthored sheet script lead_in audio bytes packs
+    → has_no_text (sheet_texts sheet) ≡ true → IsAuthored (disc_of sheet script lead_in audio) bytes packs
     → IsTextListed Raw lead_in bytes text bad → text ≡ offers_line 0 (4 * lead_in) 0
 no_text_lines sheet script lead_in audio bytes packs text bad none authored listed =
     let held = zeros_held sheet script lead_in audio bytes packs none authored in

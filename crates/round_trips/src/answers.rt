@@ -10,7 +10,7 @@ ghost use Rattle.toc_model.specs.Places.{layout_of};
 ghost use Rattle.stream_writer.specs.SheetTexts.{sheet_texts};
 ghost use Rattle.cdtext_packs.specs.Texts.{has_no_text};
 ghost use Rattle.cdtext_packs.specs.TextLines.{offers_line};
-ghost use Rattle.subcode_author.specs.Authored.{IsAuthored, text_packs};
+ghost use Rattle.subcode_author.specs.Authored.{IsAuthored, text_packs, disc_of};
 ghost use Rattle.subcode_player.specs.Calls.{most_units, PlaysInTurn, IsAnsweredBy};
 ghost use Rattle.subcode_player.specs.Convert.{Restores};
 ghost use Rattle.subcode_player.specs.TextListing.{packs_in, ListsTexts, IsListedBy, IsWholeInput};
@@ -30,7 +30,7 @@ use crate::texts::{
 pub fn frame_lists_are_answered()
     ensures { (sheet : CueSheet) (script : List Drawing) (lead_in audio : ℕ) (bytes : List ℕ) (packs : List (List ℕ))
         (given : ℕ) (left held held' : Option (List ℕ)) (result : Result Played PlayStop) (taken : List ℕ)
-        → IsAuthored sheet script lead_in audio bytes packs → length bytes ≤ most_units * 96
+        → IsAuthored (disc_of sheet script lead_in audio) bytes packs → length bytes ≤ most_units * 96
         → PlaysInTurn (IsQListed Raw) Raw given (Some bytes) left held held' result taken → IsAnsweredBy result 96 (length bytes)
         → Restores result held held' (frame_lines (layout_of sheet audio) lead_in) }
 {
@@ -43,13 +43,13 @@ pub fn text_lists_are_answered()
     ensures texts { (sheet : CueSheet) (script : List Drawing) (lead_in audio : ℕ) (bytes : List ℕ) (packs : List (List ℕ))
         (left held held' : Option (List ℕ)) (result : Result Played PlayStop) (taken : List ℕ)
         → HasTextPacks sheet → HasText sheet → 0 < lead_in
-        → IsAuthored sheet script lead_in audio bytes packs → length bytes ≤ most_units * 96
+        → IsAuthored (disc_of sheet script lead_in audio) bytes packs → length bytes ≤ most_units * 96
         → ListsTexts Raw lead_in (Some bytes) left held held' result taken → IsListedBy result Raw lead_in bytes
         → PutsTexts result held held' (sheet_lines sheet (4 * lead_in) 0) }
     ensures none { (sheet : CueSheet) (script : List Drawing) (lead_in audio : ℕ) (bytes : List ℕ) (packs : List (List ℕ))
         (left held held' : Option (List ℕ)) (result : Result Played PlayStop) (taken : List ℕ)
         → has_no_text (sheet_texts sheet) ≡ true
-        → IsAuthored sheet script lead_in audio bytes packs → length bytes ≤ most_units * 96
+        → IsAuthored (disc_of sheet script lead_in audio) bytes packs → length bytes ≤ most_units * 96
         → ListsTexts Raw lead_in (Some bytes) left held held' result taken → IsListedBy result Raw lead_in bytes
         → PutsTexts result held held' (offers_line 0 (4 * lead_in) 0) }
 {
@@ -61,13 +61,13 @@ pub fn text_lists_are_answered()
 pub fn copied_text_lists_are_answered()
     ensures texts { (sheet : CueSheet) (script : List Drawing) (lead_in audio : ℕ) (bytes : List ℕ) (packs : List (List ℕ)) (form : Form) (copy : List ℕ)
         (left held held' : Option (List ℕ)) (result : Result Played PlayStop) (taken : List ℕ)
-        → HasTextPacks sheet → HasText sheet → 0 < lead_in → IsAuthored sheet script lead_in audio bytes packs
+        → HasTextPacks sheet → HasText sheet → 0 < lead_in → IsAuthored (disc_of sheet script lead_in audio) bytes packs
         → packs_in form lead_in copy ≡ packs_in Raw lead_in bytes → IsWholeInput form copy
         → ListsTexts form lead_in (Some copy) left held held' result taken → IsListedBy result form lead_in copy
         → PutsTexts result held held' (sheet_lines sheet (4 * lead_in) 0) }
     ensures none { (sheet : CueSheet) (script : List Drawing) (lead_in audio : ℕ) (bytes : List ℕ) (packs : List (List ℕ)) (form : Form) (copy : List ℕ)
         (left held held' : Option (List ℕ)) (result : Result Played PlayStop) (taken : List ℕ)
-        → has_no_text (sheet_texts sheet) ≡ true → IsAuthored sheet script lead_in audio bytes packs
+        → has_no_text (sheet_texts sheet) ≡ true → IsAuthored (disc_of sheet script lead_in audio) bytes packs
         → packs_in form lead_in copy ≡ packs_in Raw lead_in bytes → IsWholeInput form copy
         → ListsTexts form lead_in (Some copy) left held held' result taken → IsListedBy result form lead_in copy
         → PutsTexts result held held' (offers_line 0 (4 * lead_in) 0) }
@@ -80,7 +80,7 @@ pub fn copied_text_lists_are_answered()
 pub fn damaged_text_lists_are_answered()
     ensures { (sheet : CueSheet) (script : List Drawing) (lead_in audio : ℕ) (bytes : List ℕ) (packs : List (List ℕ)) (whole : List Bool) (form : Form) (changed : List ℕ)
         (left held held' : Option (List ℕ)) (result : Result Played PlayStop) (taken : List ℕ)
-        → HasTextPacks sheet → HasText sheet → IsAuthored sheet script lead_in audio bytes packs
+        → HasTextPacks sheet → HasText sheet → IsAuthored (disc_of sheet script lead_in audio) bytes packs
         → HasHurtSlots (text_packs sheet) whole (packs_in Raw lead_in bytes) (packs_in form lead_in changed) → IsWholeInput form changed
         → ListsTexts form lead_in (Some changed) left held held' result taken → IsListedBy result form lead_in changed
         → PutsTexts result held held' (sheet_lines sheet (count_whole whole) (count_hurt whole)) }

@@ -8,7 +8,7 @@ ghost use Rattle.raw_subcode.specs.declared.form.Form.TheVariants.{Raw};
 ghost use Rattle.stream_writer.specs.SheetTexts.{sheet_texts, texts_of_sheet};
 ghost use Rattle.cdtext_packs.specs.Texts.{has_no_text, no_texts};
 ghost use Rattle.cdtext_packs.specs.TextLines.{offers_line};
-ghost use Rattle.subcode_author.specs.Authored.{IsAuthored, text_packs};
+ghost use Rattle.subcode_author.specs.Authored.{IsAuthored, text_packs, disc_of};
 ghost use Rattle.subcode_player.specs.TextListing.{IsTextListed, packs_in, texts_of_lead_in};
 ghost use Rattle.round_trips.specs.Damage.{HasHurtSlots, count_whole, count_hurt};
 ghost use Rattle.round_trips.specs.SheetLines.{HasText, HasTextPacks, sheet_lines};
@@ -28,17 +28,17 @@ pub fn accepted_sheets_have_text_packs()
 /// A law: the slots of an authored lead-in hold the text packs of the sheet, over and over.
 pub fn authored_lead_ins_hold_the_packs()
     ensures { (sheet : CueSheet) (script : List Drawing) (lead_in audio : ℕ) (bytes : List ℕ) (packs : List (List ℕ))
-        → HasTextPacks sheet → IsAuthored sheet script lead_in audio bytes packs
+        → HasTextPacks sheet → IsAuthored (disc_of sheet script lead_in audio) bytes packs
         → packs_in Raw lead_in bytes ≡ packs_in_slots (text_packs sheet) (4 * lead_in) }
 {}
 
 /// A law: where a sheet has text, its strings are listed of an authored stream with a lead-in, and all packs are good.
 pub fn authored_texts_are_listed()
     ensures texts { (sheet : CueSheet) (script : List Drawing) (lead_in audio : ℕ) (bytes : List ℕ) (packs : List (List ℕ))
-        → HasTextPacks sheet → HasText sheet → 0 < lead_in → IsAuthored sheet script lead_in audio bytes packs
+        → HasTextPacks sheet → HasText sheet → 0 < lead_in → IsAuthored (disc_of sheet script lead_in audio) bytes packs
         → texts_of_lead_in Raw lead_in bytes ≡ Ok (texts_of_sheet sheet) }
     ensures lines { (sheet : CueSheet) (script : List Drawing) (lead_in audio : ℕ) (bytes : List ℕ) (packs : List (List ℕ)) (text : List ℕ) (bad : ℕ)
-        → HasTextPacks sheet → HasText sheet → 0 < lead_in → IsAuthored sheet script lead_in audio bytes packs
+        → HasTextPacks sheet → HasText sheet → 0 < lead_in → IsAuthored (disc_of sheet script lead_in audio) bytes packs
         → IsTextListed Raw lead_in bytes text bad → text ≡ sheet_lines sheet (4 * lead_in) 0 }
 {
     texts_come_back();
@@ -47,9 +47,9 @@ pub fn authored_texts_are_listed()
 /// A law: where a sheet has no text, nothing but the count of packs is listed, all of them bad.
 pub fn streams_without_texts_are_listed()
     ensures texts { (sheet : CueSheet) (script : List Drawing) (lead_in audio : ℕ) (bytes : List ℕ) (packs : List (List ℕ))
-        → has_no_text (sheet_texts sheet) ≡ true → IsAuthored sheet script lead_in audio bytes packs → texts_of_lead_in Raw lead_in bytes ≡ Ok no_texts }
+        → has_no_text (sheet_texts sheet) ≡ true → IsAuthored (disc_of sheet script lead_in audio) bytes packs → texts_of_lead_in Raw lead_in bytes ≡ Ok no_texts }
     ensures lines { (sheet : CueSheet) (script : List Drawing) (lead_in audio : ℕ) (bytes : List ℕ) (packs : List (List ℕ)) (text : List ℕ) (bad : ℕ)
-        → has_no_text (sheet_texts sheet) ≡ true → IsAuthored sheet script lead_in audio bytes packs
+        → has_no_text (sheet_texts sheet) ≡ true → IsAuthored (disc_of sheet script lead_in audio) bytes packs
         → IsTextListed Raw lead_in bytes text bad → text ≡ offers_line 0 (4 * lead_in) 0 }
 {}
 
@@ -58,11 +58,11 @@ pub fn streams_without_texts_are_listed()
 /// units of another form.
 pub fn damaged_lead_ins_give_the_texts()
     ensures texts { (sheet : CueSheet) (script : List Drawing) (lead_in audio : ℕ) (bytes : List ℕ) (packs : List (List ℕ)) (whole : List Bool) (form : Form) (changed : List ℕ)
-        → HasTextPacks sheet → HasText sheet → IsAuthored sheet script lead_in audio bytes packs
+        → HasTextPacks sheet → HasText sheet → IsAuthored (disc_of sheet script lead_in audio) bytes packs
         → HasHurtSlots (text_packs sheet) whole (packs_in Raw lead_in bytes) (packs_in form lead_in changed)
         → texts_of_lead_in form lead_in changed ≡ Ok (texts_of_sheet sheet) }
     ensures lines { (sheet : CueSheet) (script : List Drawing) (lead_in audio : ℕ) (bytes : List ℕ) (packs : List (List ℕ)) (whole : List Bool) (form : Form) (changed text : List ℕ) (bad : ℕ)
-        → HasTextPacks sheet → HasText sheet → IsAuthored sheet script lead_in audio bytes packs
+        → HasTextPacks sheet → HasText sheet → IsAuthored (disc_of sheet script lead_in audio) bytes packs
         → HasHurtSlots (text_packs sheet) whole (packs_in Raw lead_in bytes) (packs_in form lead_in changed)
         → IsTextListed form lead_in changed text bad → text ≡ sheet_lines sheet (count_whole whole) (count_hurt whole) }
 {

@@ -4,6 +4,7 @@ use Rattle.cue_sheet.specs.CueSheet.{CueSheet}
 use Rattle.picture_script.specs.Script.{Drawing}
 use Rattle.picture_script.specs.ScriptGrammar.{read_script}
 use Rattle.picture_changes.specs.Schedule.{IsLate}
+use Rattle.subcode_author.specs.Authored.{disc_of}
 use Rattle.subcode_author.specs.AuthorAnswer.{IsAccepted, IsAuthorStop}
 use Rattle.subcode_author.specs.declared.stops.AuthorStop.{AuthorStop}
 use Rattle.subcode_author.specs.declared.stops.AuthorStop.TheVariants as stop
@@ -24,7 +25,7 @@ module _ (sheet : CueSheet) (script : List Drawing) (lead_in audio : ℕ) (out :
       | inr fault ↦ absurd (cc)
     ]
 
-    of_written : (status : Status) → Pixels → WritesOrIsLate sheet script lead_in audio out status → Writes sheet script lead_in audio out status
+    of_written : (status : Status) → Pixels → WritesOrIsLate (disc_of sheet script lead_in audio) out status → Writes (disc_of sheet script lead_in audio) out status
     of_written Done in_range written = written.1
     of_written (Damaged n) in_range written = written
     of_written Usage in_range written = written
@@ -35,8 +36,8 @@ module _ (sheet : CueSheet) (script : List Drawing) (lead_in audio : ℕ) (out :
     of_written NoMemory in_range written = tt
 
     pub accepted_written : (left more : Bytes) (status : Status)
-        → IfSome left (λ cue. IfSome more (λ text. IsSheetText cue sheet → IsScriptText text script → WritesOrIsLate sheet script lead_in audio out status))
-        → IfSome left (λ cue. IfSome more (λ text. IsSheetText cue sheet → IsScriptText text script → Writes sheet script lead_in audio out status))
+        → IfSome left (λ cue. IfSome more (λ text. IsSheetText cue sheet → IsScriptText text script → WritesOrIsLate (disc_of sheet script lead_in audio) out status))
+        → IfSome left (λ cue. IfSome more (λ text. IsSheetText cue sheet → IsScriptText text script → Writes (disc_of sheet script lead_in audio) out status))
     accepted_written None more status written = tt
     accepted_written (Some cue) None status written = tt
     accepted_written (Some cue) (Some text) status written = λ sheet_is script_is.

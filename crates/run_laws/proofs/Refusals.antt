@@ -4,6 +4,7 @@ use Rattle.std.specs.Io.KnownBytes.{Appends}
 use Rattle.cue_sheet.specs.CueSheet.{CueSheet}
 use Rattle.picture_script.specs.Script.{Drawing}
 use Rattle.picture_script.specs.ScriptGrammar.{read_script}
+use Rattle.subcode_author.specs.Authored.{disc_of}
 use Rattle.subcode_author.specs.AuthorAnswer.{IsAccepted, IsAuthorStop}
 use Rattle.subcode_author.specs.declared.stops.AuthorStop.{AuthorStop}
 use Rattle.subcode_author.specs.declared.stops.AuthorStop.TheVariants as stop
@@ -31,17 +32,17 @@ module _ (lead_in audio : ℕ) (out : Change Bytes) where
 
   at_sheet : (cue : List ℕ) (left' more more' : Bytes) (r : Refusal) (status : Status) → IsSheetStop (Some cue) (Refused r)
       → AuthorsWith lead_in audio (both (Some cue) left' more more' out) status → RefusesWith (Refused r) out status
-  at_sheet cue left' more more' r status refused (StopsAtSheet why nothing) = elim (sheet_status cue status why) [
+  at_sheet cue left' more more' r status refused (StopsAtSheet why took nothing) = elim (sheet_status cue status why) [
     | inl stopped ↦ (nothing, inr stopped)
     | inr (q, same, other) ↦ (nothing, inl (same ∙ ap (λ (x : Refusal). Refused x) (one_sheet_stop cue q r other refused)))
   ]
-  at_sheet cue left' more more' r status refused (StopsAtScript sheet reads why nothing) = absurd (no_sheet_stop cue r sheet reads.1 refused)
+  at_sheet cue left' more more' r status refused (StopsAtScript sheet reads why took nothing) = absurd (no_sheet_stop cue r sheet reads.1 refused)
   at_sheet cue left' more more' r status refused (Answers sheet script answer reads_sheet reads_script is put) = absurd (no_sheet_stop cue r sheet reads_sheet.1 refused)
 
   at_script : (cue text : List ℕ) (left' more' : Bytes) (sheet : CueSheet) (r : Refusal) (status : Status) → IsSheetText cue sheet → IsScriptStop (Some text) (Refused r)
       → AuthorsWith lead_in audio (both (Some cue) left' (Some text) more' out) status → RefusesWith (Refused r) out status
-  at_script cue text left' more' sheet r status is refused (StopsAtSheet why nothing) = (nothing, inr (sheet_stopped cue sheet status is why))
-  at_script cue text left' more' sheet r status is refused (StopsAtScript other reads why nothing) = elim (script_status text status why) [
+  at_script cue text left' more' sheet r status is refused (StopsAtSheet why took nothing) = (nothing, inr (sheet_stopped cue sheet status is why))
+  at_script cue text left' more' sheet r status is refused (StopsAtScript other reads why took nothing) = elim (script_status text status why) [
     | inl stopped ↦ (nothing, inr stopped)
     | inr (q, same, found) ↦ (nothing, inl (same ∙ ap (λ (x : Refusal). Refused x) (one_script_stop text q r found refused)))
   ]
@@ -57,11 +58,11 @@ module _ (lead_in audio : ℕ) (out : Change Bytes) where
         | inr fault ↦ early fault
       ]
 
-      same_stop : (w : AuthorStop) → IsPutFor sheet script lead_in audio out (Err w) → w ≢ stop.NoMemory → w ≢ stop.WriteFault
+      same_stop : (w : AuthorStop) → IsPutFor (disc_of sheet script lead_in audio) out (Err w) → w ≢ stop.NoMemory → w ≢ stop.WriteFault
           → RefusesWith (author_status (Err why)) out (author_status (Err w))
       same_stop w put memory fault = (put.nothing fault, inl (ap (λ (x : AuthorStop). author_status (Err x)) (one w put.why memory)))
 
-      of_answer : (answer : Result (Unit {0}) AuthorStop) → IsPutFor sheet script lead_in audio out answer → RefusesWith (author_status (Err why)) out (author_status answer)
+      of_answer : (answer : Result (Unit {0}) AuthorStop) → IsPutFor (disc_of sheet script lead_in audio) out answer → RefusesWith (author_status (Err why)) out (author_status answer)
       of_answer (Ok done) put = absurd (not_accepted put.done.0)
       of_answer (Err (stop.LengthShort need)) put = same_stop (stop.LengthShort need) put (λ e. cc) (λ e. cc)
       of_answer (Err (stop.DiscTooLong blocks)) put = same_stop (stop.DiscTooLong blocks) put (λ e. cc) (λ e. cc)
@@ -77,11 +78,11 @@ module _ (lead_in audio : ℕ) (out : Change Bytes) where
         (one : Pixels → (w : AuthorStop) → IsAuthorStop sheet script lead_in audio w → w ≢ stop.NoMemory → w ≡ why) where
       at_disc : (cue text : List ℕ) (left' more' : Bytes) (status : Status) → IsSheetText cue sheet → IsScriptText text script
           → AuthorsWith lead_in audio (both (Some cue) left' (Some text) more' out) status → RefusesWith (author_status (Err why)) out status
-      at_disc cue text left' more' status sheet_is script_is (StopsAtSheet reason nothing) = (nothing, inr (sheet_stopped cue sheet status sheet_is reason))
-      at_disc cue text left' more' status sheet_is script_is (StopsAtScript other reads reason nothing) = (nothing, inr (script_stopped text script status script_is reason))
+      at_disc cue text left' more' status sheet_is script_is (StopsAtSheet reason took nothing) = (nothing, inr (sheet_stopped cue sheet status sheet_is reason))
+      at_disc cue text left' more' status sheet_is script_is (StopsAtScript other reads reason took nothing) = (nothing, inr (script_stopped text script status script_is reason))
       at_disc cue text left' more' status sheet_is script_is (Answers other lines answer reads_sheet reads_script same put) =
           let in_range : Pixels = pixels text script_is.reads in
-          let put_same : IsPutFor sheet script lead_in audio out answer = put_for_texts sheet script lead_in audio out cue text other lines answer sheet_is script_is reads_sheet.1 reads_script.1 put in
+          let put_same : IsPutFor (disc_of sheet script lead_in audio) out answer = put_for_texts sheet script lead_in audio out cue text other lines answer sheet_is script_is reads_sheet.1 reads_script.1 put in
           subst (λ (k : Status). RefusesWith (author_status (Err why)) out k) (sym same) (of_answer (not_both in_range) (one in_range) answer put_same)
 
       pub disc_refused : (left left' more more' : Bytes) (status : Status) → (status ≡ NoMemory → Appends out.before out.after [])

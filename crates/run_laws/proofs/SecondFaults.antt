@@ -63,8 +63,8 @@ authored (Err stop.WriteFault) e = absurd (cc)
 authored (Err stop.NoMemory) e = absurd (cc)
 
 of_author : (lead_in length : ℕ) (call : Call Bytes) → AuthorsWith lead_in length call (ReadFault Second) → ReadsSecond (Author lead_in length) call.first
-of_author lead_in length call (StopsAtSheet why nothing) = absurd why
-of_author lead_in length call (StopsAtScript sheet reads why nothing) = (sheet, reads)
+of_author lead_in length call (StopsAtSheet why took nothing) = absurd why
+of_author lead_in length call (StopsAtScript sheet reads why took nothing) = (sheet, reads)
 of_author lead_in length call (Answers sheet script answer reads_sheet reads_script is put) = absurd (authored answer (sym is))
 
 pressed : (answer : Result (Unit {0}) PressStop) → press_status answer ≢ ReadFault Second
@@ -80,8 +80,8 @@ pressed (Err press.WriteFault) e = absurd (cc)
 pressed (Err press.NoMemory) e = absurd (cc)
 
 of_press : (lead_in length : ℕ) (call : Call Bytes) → PressesWith lead_in length call (ReadFault Second) → ReadsSecond (Press lead_in length) call.first
-of_press lead_in length call (RefusesSheet why nothing) = absurd why
-of_press lead_in length call (RefusesFile sheet reads why nothing) = (sheet, reads)
+of_press lead_in length call (RefusesSheet why took nothing) = absurd why
+of_press lead_in length call (RefusesFile sheet reads why took nothing) = (sheet, reads)
 of_press lead_in length call (Presses sheet file answer reads_sheet reads_file is put) = absurd (pressed answer (sym is))
 
 thinned : (answer : Result Pumped PumpStop) → thin_status answer ≢ ReadFault Second

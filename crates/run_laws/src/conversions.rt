@@ -9,7 +9,7 @@ ghost use Rattle.picture_script.specs.Script.{Drawing};
 ghost use Rattle.toc_model.specs.Places.{program_blocks};
 ghost use Rattle.cdg_workload.specs.Scratches.{scratched};
 ghost use Rattle.rw_interleave.specs.Stream.{all_packs};
-ghost use Rattle.subcode_author.specs.Authored.{IsAuthored};
+ghost use Rattle.subcode_author.specs.Authored.{IsAuthored, disc_of};
 ghost use Rattle.subcode_player.specs.Convert.{IsDamagedStream};
 ghost use Rattle.subcode_player.specs.Pictured.{IsHeldAt, IsScheduledStream};
 ghost use Rattle.cdg_cmd.specs.Answer.{GivesBack};
@@ -65,7 +65,7 @@ pub fn scratched_streams_give_their_packs()
         (packs : List (List ℕ))
         (call : Call Bytes) (status : Status) → IsRun (Convert lead_in Raw) call status
         → lead_in ≤ 450000 → program_blocks sheet audio ≤ 449999
-        → IsAuthored sheet script lead_in audio bytes packs
+        → IsAuthored (disc_of sheet script lead_in audio) bytes packs
         → IfSome call.first.before (λ all. all ≡ scratched lead_in seed bytes
         → GivesBack (concat packs) call.out status) }
 {

@@ -2,6 +2,7 @@
 ghost use Rattle.std.specs.Prelude.{◌≡◌, ◌≢◌, ℕ, List, Some, Err, IfSome};
 ghost use Rattle.cue_sheet.specs.CueSheet.{CueSheet};
 ghost use Rattle.picture_script.specs.Script.{Drawing};
+ghost use Rattle.subcode_author.specs.Authored.{disc_of};
 ghost use Rattle.subcode_author.specs.AuthorAnswer.{IsAccepted, IsAuthorStop};
 ghost use Rattle.subcode_author.specs.declared.stops.AuthorStop.{AuthorStop};
 ghost use Rattle.subcode_author.specs.declared.stops.AuthorStop.TheVariants as stop;
@@ -23,7 +24,7 @@ pub fn accepted_discs_are_written()
         → IsRun (Author lead_in audio) call status → IsAccepted sheet script lead_in audio
         → IfSome call.first.before (λ cue. IfSome call.second.before (λ text. IsSheetText cue sheet
         → IsScriptText text script
-        → Writes sheet script lead_in audio call.out status)) }
+        → Writes (disc_of sheet script lead_in audio) call.out status)) }
 {
     each_disc_has_one_answer();
     accepted_scripts_are_in_order();

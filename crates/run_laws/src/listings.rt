@@ -8,7 +8,7 @@ ghost use Rattle.toc_model.specs.Places.{program_blocks};
 ghost use Rattle.stream_writer.specs.SheetTexts.{sheet_texts};
 ghost use Rattle.cdtext_packs.specs.Texts.{has_no_text};
 ghost use Rattle.cdtext_packs.specs.TextLines.{offers_line};
-ghost use Rattle.subcode_author.specs.Authored.{IsAuthored};
+ghost use Rattle.subcode_author.specs.Authored.{IsAuthored, disc_of};
 ghost use Rattle.round_trips.specs.SheetLines.{HasText, HasTextPacks, sheet_lines};
 ghost use Rattle.cdg_cmd.specs.Answer.{GivesBack};
 ghost use Rattle.cdg_cmd.specs.Call.{Bytes, Call};
@@ -26,12 +26,12 @@ pub fn authored_texts_are_written()
         (call : Call Bytes) (status : Status) → IsRun (Text lead_in Raw) call status
         → lead_in ≤ 450000 → program_blocks sheet audio ≤ 449999 → HasTextPacks sheet → HasText sheet
         → 0 < lead_in
-        → IfSome call.first.before (λ all. IsAuthored sheet script lead_in audio all packs
+        → IfSome call.first.before (λ all. IsAuthored (disc_of sheet script lead_in audio) all packs
         → GivesBack (sheet_lines sheet (4 * lead_in) 0) call.out status) }
     ensures none { (lead_in audio : ℕ) (sheet : CueSheet) (script : List Drawing) (packs : List (List ℕ))
         (call : Call Bytes) (status : Status) → IsRun (Text lead_in Raw) call status
         → lead_in ≤ 450000 → program_blocks sheet audio ≤ 449999 → has_no_text (sheet_texts sheet) ≡ true
-        → IfSome call.first.before (λ all. IsAuthored sheet script lead_in audio all packs
+        → IfSome call.first.before (λ all. IsAuthored (disc_of sheet script lead_in audio) all packs
         → GivesBack (offers_line 0 (4 * lead_in) 0) call.out status) }
 {
     text_lists_are_answered();
@@ -42,13 +42,13 @@ pub fn copied_texts_are_written()
     ensures strings { (lead_in audio : ℕ) (form : Form) (sheet : CueSheet) (script : List Drawing)
         (bytes : List ℕ)
         (packs : List (List ℕ)) (call : Call Bytes) (status : Status) → IsRun (Text lead_in form) call status
-        → HasTextPacks sheet → HasText sheet → 0 < lead_in → IsAuthored sheet script lead_in audio bytes packs
+        → HasTextPacks sheet → HasText sheet → 0 < lead_in → IsAuthored (disc_of sheet script lead_in audio) bytes packs
         → IfSome call.first.before (λ all. HasTextsOf form lead_in bytes all
         → GivesBack (sheet_lines sheet (4 * lead_in) 0) call.out status) }
     ensures none { (lead_in audio : ℕ) (form : Form) (sheet : CueSheet) (script : List Drawing)
         (bytes : List ℕ)
         (packs : List (List ℕ)) (call : Call Bytes) (status : Status) → IsRun (Text lead_in form) call status
-        → has_no_text (sheet_texts sheet) ≡ true → IsAuthored sheet script lead_in audio bytes packs
+        → has_no_text (sheet_texts sheet) ≡ true → IsAuthored (disc_of sheet script lead_in audio) bytes packs
         → IfSome call.first.before (λ all. HasTextsOf form lead_in bytes all
         → GivesBack (offers_line 0 (4 * lead_in) 0) call.out status) }
 {

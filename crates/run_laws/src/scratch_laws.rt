@@ -7,7 +7,7 @@ ghost use Rattle.toc_model.specs.Places.{program_blocks};
 ghost use Rattle.picture_script.specs.Script.{Drawing};
 ghost use Rattle.picture_changes.specs.Shown.{AreColoursInRange, AreTimesInOrder};
 ghost use Rattle.cdg_workload.specs.Scratches.{scratched};
-ghost use Rattle.subcode_author.specs.Authored.{IsAuthored};
+ghost use Rattle.subcode_author.specs.Authored.{IsAuthored, disc_of};
 ghost use Rattle.subcode_player.specs.Convert.{IsDamagedStream};
 ghost use Rattle.subcode_player.specs.Pictured.{IsScheduledStream};
 
@@ -19,13 +19,13 @@ use stream_trial::scratched_streams_are_recovered;
 /// gives of a raw stream is the packs alone: no zeros follow those of the program.
 pub fn scratched_streams_are_damaged()
     ensures damaged { (sheet : CueSheet) (script : List Drawing) (lead_in audio seed : ℕ) (bytes : List ℕ) (packs : List (List ℕ))
-        → lead_in ≤ 450000 → program_blocks sheet audio ≤ 449999 → IsAuthored sheet script lead_in audio bytes packs
+        → lead_in ≤ 450000 → program_blocks sheet audio ≤ 449999 → IsAuthored (disc_of sheet script lead_in audio) bytes packs
         → IsDamagedStream Form.Raw lead_in (program_blocks sheet audio) packs (scratched lead_in seed bytes) }
     ensures packs { (sheet : CueSheet) (script : List Drawing) (lead_in audio : ℕ) (bytes : List ℕ) (packs : List (List ℕ))
-        → IsAuthored sheet script lead_in audio bytes packs → concat (all_packs Form.Raw (program_blocks sheet audio) packs) ≡ concat packs }
+        → IsAuthored (disc_of sheet script lead_in audio) bytes packs → concat (all_packs Form.Raw (program_blocks sheet audio) packs) ≡ concat packs }
     ensures scheduled { (sheet : CueSheet) (script : List Drawing) (lead_in audio seed : ℕ) (bytes : List ℕ) (packs : List (List ℕ))
         → lead_in ≤ 450000 → program_blocks sheet audio ≤ 449999 → AreTimesInOrder script → AreColoursInRange script
-        → IsAuthored sheet script lead_in audio bytes packs → IsScheduledStream Form.Raw lead_in script (scratched lead_in seed bytes) }
+        → IsAuthored (disc_of sheet script lead_in audio) bytes packs → IsScheduledStream Form.Raw lead_in script (scratched lead_in seed bytes) }
 {
     scratched_streams_are_recovered();
 }

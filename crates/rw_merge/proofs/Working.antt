@@ -12,7 +12,7 @@ use Rattle.rw_interleave.specs.Stream.{bad_count}
 use Rattle.rw_interleave.specs.Texts.{cdg_bytes}
 use Rattle.rw_merge.specs.Merging.{GivesMergedText, IsAnswer, IsMergedText, Merges, most_blocks}
 use Rattle.rw_merge.specs.Windows.{Windows}
-use Rattle.rw_merge.specs.Steps.{AreAgreements, IsEndRead, IsHalfRead, IsPairRead, leading_slots, window_after, words_after}
+use Rattle.rw_merge.specs.Steps.{AreAgreements, IsEndRead, IsHalfRead, IsPairRead, leading_slots, taken_of, window_after, words_after}
 use Rattle.rw_merge.specs.declared.merge.Merged.{Merged}
 use Rattle.rw_merge.specs.declared.merge.MergeStop.{MergeStop}
 use Rattle.rw_merge.specs.declared.merge.MergeStop.TheVariants.{FirstFault, SecondFault, WriteFault, TooLong, Torn, SecondTorn, Unequal}
@@ -130,7 +130,7 @@ half_answer blocks a left us size half =
     ]
 
 pair_answer : (lead_in blocks a b : ℕ) (left other : Option (List ℕ)) (stop : MergeStop) (us vs : List ℕ) → a ≡ blocks * 96 + length us → b ≡ blocks * 96 + length vs → blocks < most_blocks
-    → IsPairRead blocks left other (Err stop) us vs → IsAnswer lead_in (Err stop) a b
+    → IsPairRead blocks (Err stop) (taken_of us left) (taken_of vs other) → IsAnswer lead_in (Err stop) a b
 pair_answer lead_in blocks a b left other FirstFault us vs a_is b_is lt read = tt
 pair_answer lead_in blocks a b left other SecondFault us vs a_is b_is lt read = tt
 pair_answer lead_in blocks a b left other WriteFault us vs a_is b_is lt read = tt
@@ -154,7 +154,7 @@ pair_answer lead_in blocks a b left other (Unequal n) us vs a_is b_is lt (same, 
     ]
 
 end_answer : (lead_in blocks a b : ℕ) (left other : Option (List ℕ)) (stop : MergeStop) (us vs : List ℕ) → a ≡ blocks * 96 + length us → b ≡ blocks * 96 + length vs → blocks ≡ most_blocks
-    → IsEndRead left other (Err stop) us vs → IsAnswer lead_in (Err stop) a b
+    → IsEndRead (Err stop) (taken_of us left) (taken_of vs other) → IsAnswer lead_in (Err stop) a b
 end_answer lead_in blocks a b left other FirstFault us vs a_is b_is all read = tt
 end_answer lead_in blocks a b left other SecondFault us vs a_is b_is all read = tt
 end_answer lead_in blocks a b left other WriteFault us vs a_is b_is all read = tt
@@ -211,7 +211,7 @@ pub record IsShort (us vs : List ℕ) (stop : MergeStop) : Type 0 where
 half_size : (left : Option (List ℕ)) (us : List ℕ) → IsHalfRead left us → length us ≤ 96
 half_size left us half = elim half [ inl whole ↦ omega (arith, whole) | inr none ↦ omega (arith, ap length none.0) ]
 
-pub short_pair : (blocks : ℕ) (left other : Option (List ℕ)) (stop : MergeStop) (us vs : List ℕ) → IsPairRead blocks left other (Err stop) us vs → IsShort us vs stop
+pub short_pair : (blocks : ℕ) (left other : Option (List ℕ)) (stop : MergeStop) (us vs : List ℕ) → IsPairRead blocks (Err stop) (taken_of us left) (taken_of vs other) → IsShort us vs stop
 short_pair blocks left other FirstFault us vs read = record { first = omega (arith, read.0); second = omega (arith, ap length read.1); short = inl read.0; is_other = λ e. (cc) }
 short_pair blocks left other SecondFault us vs read = record { first = half_size left us read.0; second = omega (arith, read.1); short = inr read.1; is_other = λ e. (cc) }
 short_pair blocks left other WriteFault us vs read = absurd read
@@ -224,7 +224,7 @@ short_pair blocks left other (Unequal n) us vs read =
       | inr second ↦ record { first = omega (arith, ap length second.0); second = omega (arith, second.1); short = inl (omega (arith, ap length second.0)); is_other = λ e. (cc) }
     ]
 
-short_end : (left other : Option (List ℕ)) (stop : MergeStop) (us vs : List ℕ) → IsEndRead left other (Err stop) us vs → (length us ≤ 1) × (length vs ≤ 1) × (stop ≢ WriteFault)
+short_end : (left other : Option (List ℕ)) (stop : MergeStop) (us vs : List ℕ) → IsEndRead (Err stop) (taken_of us left) (taken_of vs other) → (length us ≤ 1) × (length vs ≤ 1) × (stop ≢ WriteFault)
 short_end left other FirstFault us vs read = (omega (arith, ap length read.0), omega (arith, ap length read.1), λ e. (cc))
 short_end left other SecondFault us vs read = (omega (arith, ap length read.0), omega (arith, ap length read.1), λ e. (cc))
 short_end left other TooLong us vs read =
@@ -238,7 +238,7 @@ short_end left other (SecondTorn n) us vs read = absurd read
 short_end left other (Unequal n) us vs read = absurd read
 
 pub pair_stops : (lead_in blocks : ℕ) (left left' left'' other other' other'' held held' : Option (List ℕ)) (w v : List (List ℕ)) (bad : ℕ) (xs ys us vs : List ℕ) (stop : MergeStop)
-    → Works lead_in blocks left left' other other' held held' w v bad xs ys → Consumes left' left'' us → Consumes other' other'' vs → IsPairRead blocks left'' other'' (Err stop) us vs → blocks < most_blocks
+    → Works lead_in blocks left left' other other' held held' w v bad xs ys → Consumes left' left'' us → Consumes other' other'' vs → IsPairRead blocks (Err stop) (taken_of us left'') (taken_of vs other'') → blocks < most_blocks
     → (xs' ys' : List ℕ) × Consumes left left'' xs' × Consumes other other'' ys' × Merges lead_in held held' (Err stop) xs' ys'
 pair_stops lead_in blocks left left' left'' other other' other'' held held' w v bad xs ys us vs stop works first second read lt =
     let is = short_pair blocks left'' other'' stop us vs read in (
@@ -251,7 +251,7 @@ pair_stops lead_in blocks left left' left'' other other' other'' held held' w v 
     )
 
 pub end_stops : (lead_in blocks : ℕ) (left left' left'' other other' other'' held held' : Option (List ℕ)) (w v : List (List ℕ)) (bad : ℕ) (xs ys us vs : List ℕ) (stop : MergeStop)
-    → Works lead_in blocks left left' other other' held held' w v bad xs ys → Consumes left' left'' us → Consumes other' other'' vs → IsEndRead left'' other'' (Err stop) us vs → blocks ≡ most_blocks
+    → Works lead_in blocks left left' other other' held held' w v bad xs ys → Consumes left' left'' us → Consumes other' other'' vs → IsEndRead (Err stop) (taken_of us left'') (taken_of vs other'') → blocks ≡ most_blocks
     → (xs' ys' : List ℕ) × Consumes left left'' xs' × Consumes other other'' ys' × Merges lead_in held held' (Err stop) xs' ys'
 end_stops lead_in blocks left left' left'' other other' other'' held held' w v bad xs ys us vs stop works first second read all =
     let (one, two, is_other) = short_end left'' other'' stop us vs read in (

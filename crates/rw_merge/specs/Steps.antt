@@ -33,25 +33,40 @@ AreAgreements xs ys fs = ⊥
 abbrev pub IsHalfRead : Option (List ℕ) → List ℕ → Type 0
 IsHalfRead left taken = (length taken ≡ 96) ⊎ ((taken ≡ []) × IsAtEnd left)
 
--- What was taken of both inputs, and is left of them, where a pair of blocks was asked for after so many.
-abbrev pub IsPairRead : ℕ → Option (List ℕ) → Option (List ℕ) → Result Bool MergeStop → List ℕ → List ℕ → Type 0
-IsPairRead block left left' (Ok true) first second = (length first ≡ 96) × (length second ≡ 96)
-IsPairRead block left left' (Ok false) first second = (first ≡ []) × (second ≡ []) × IsAtEnd left × IsAtEnd left'
-IsPairRead block left left' (Err FirstFault) first second = (length first < 96) × (second ≡ [])
-IsPairRead block left left' (Err (Torn n)) first second = (n ≡ block) × (0 < length first) × (length first < 96) × (second ≡ []) × IsAtEnd left
-IsPairRead block left left' (Err SecondFault) first second = IsHalfRead left first × (length second < 96)
-IsPairRead block left left' (Err (SecondTorn n)) first second = (n ≡ block) × IsHalfRead left first × (0 < length second) × (length second < 96) × IsAtEnd left'
-IsPairRead block left left' (Err (Unequal n)) first second = (n ≡ block)
-    × (((length first ≡ 96) × (second ≡ []) × IsAtEnd left') ⊎ ((first ≡ []) × (length second ≡ 96) × IsAtEnd left))
-IsPairRead block left left' (Err stop) first second = ⊥
+-- what was taken of an input, and what is left of it
+pub record Taken : Type 0 where
+  pub bytes : List ℕ
+  pub left : Option (List ℕ)
+
+-- these bytes were taken, and this is left
+abbrev pub taken_of : List ℕ → Option (List ℕ) → Taken
+taken_of bytes left = record { bytes = bytes; left = left }
+
+-- What was taken of both inputs where a pair of blocks was asked for after so many.
+abbrev pub IsPairRead : ℕ → Result Bool MergeStop → Taken → Taken → Type 0
+IsPairRead block (Ok true) first second = (length first.bytes ≡ 96) × (length second.bytes ≡ 96)
+IsPairRead block (Ok false) first second =
+    (first.bytes ≡ []) × (second.bytes ≡ []) × IsAtEnd first.left × IsAtEnd second.left
+IsPairRead block (Err FirstFault) first second = (length first.bytes < 96) × (second.bytes ≡ [])
+IsPairRead block (Err (Torn n)) first second = (n ≡ block) × (0 < length first.bytes) × (length first.bytes < 96)
+    × (second.bytes ≡ []) × IsAtEnd first.left
+IsPairRead block (Err SecondFault) first second = IsHalfRead first.left first.bytes × (length second.bytes < 96)
+IsPairRead block (Err (SecondTorn n)) first second = (n ≡ block) × IsHalfRead first.left first.bytes
+    × (0 < length second.bytes) × (length second.bytes < 96) × IsAtEnd second.left
+IsPairRead block (Err (Unequal n)) first second = (n ≡ block)
+    × (((length first.bytes ≡ 96) × (second.bytes ≡ []) × IsAtEnd second.left)
+    ⊎ ((first.bytes ≡ []) × (length second.bytes ≡ 96) × IsAtEnd first.left))
+IsPairRead block (Err stop) first second = ⊥
 
 -- the same where nothing more may follow
-abbrev pub IsEndRead : Option (List ℕ) → Option (List ℕ) → Result (Unit {0}) MergeStop → List ℕ → List ℕ → Type 0
-IsEndRead left left' (Ok done) first second = (first ≡ []) × (second ≡ []) × IsAtEnd left × IsAtEnd left'
-IsEndRead left left' (Err TooLong) first second = ((length first ≡ 1) × (second ≡ [])) ⊎ ((first ≡ []) × (length second ≡ 1))
-IsEndRead left left' (Err FirstFault) first second = (first ≡ []) × (second ≡ [])
-IsEndRead left left' (Err SecondFault) first second = (first ≡ []) × (second ≡ [])
-IsEndRead left left' (Err stop) first second = ⊥
+abbrev pub IsEndRead : Result (Unit {0}) MergeStop → Taken → Taken → Type 0
+IsEndRead (Ok done) first second =
+    (first.bytes ≡ []) × (second.bytes ≡ []) × IsAtEnd first.left × IsAtEnd second.left
+IsEndRead (Err TooLong) first second = ((length first.bytes ≡ 1) × (second.bytes ≡ []))
+    ⊎ ((first.bytes ≡ []) × (length second.bytes ≡ 1))
+IsEndRead (Err FirstFault) first second = (first.bytes ≡ []) × (second.bytes ≡ [])
+IsEndRead (Err SecondFault) first second = (first.bytes ≡ []) × (second.bytes ≡ [])
+IsEndRead (Err stop) first second = ⊥
 
 -- How often the end of the first input was told by then,
 abbrev pub TellsFirstOfPair : Result Bool MergeStop → ℕ → ℕ → Type 0

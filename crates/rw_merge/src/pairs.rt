@@ -2,7 +2,7 @@
 ghost use Rattle.std.specs.Prelude.{◌≡◌, ◌≢◌, ◌≤◌, List, ℕ, Ok, Err, true, IsErrOf};
 ghost use Rattle.std.specs.Io.KnownBytes.{Consumes};
 ghost use Rattle.cdg_io.specs.Causes.{Rose};
-ghost use Rattle.rw_merge.specs.Steps.{IsEndRead, IsPairRead, TellsFirstAfter, TellsFirstOfPair, TellsSecondAfter, TellsSecondOfPair};
+ghost use Rattle.rw_merge.specs.Steps.{IsEndRead, IsPairRead, TellsFirstAfter, TellsFirstOfPair, TellsSecondAfter, TellsSecondOfPair, taken_of};
 
 use crate::merge::{BLOCK, MergeStop};
 use cdg_io::{Failed, Source, fill};
@@ -20,7 +20,7 @@ pub(crate) fn next_pair<S: Source, T: Source>(
 ) -> Result<bool, MergeStop>
     ensures pair { (xs ys : List ℕ) × Consumes (S.left first.old) (S.left first.new) xs
         × Consumes (T.left second.old) (T.left second.new) ys
-        × IsPairRead block (S.left first.new) (T.left second.new) result xs ys
+        × IsPairRead block result (taken_of xs (S.left first.new)) (taken_of ys (T.left second.new))
         × (result ≡ Ok true → (xs ≡ one.new) × (ys ≡ other.new)) }
     ensures first_later { S.faults first.old ≤ S.faults first.new }
     ensures second_later { T.faults second.old ≤ T.faults second.new }
@@ -66,7 +66,7 @@ pub(crate) fn nothing_follows<S: Source, T: Source>(
 ) -> Result<(), MergeStop>
     ensures end { (xs ys : List ℕ) × Consumes (S.left first.old) (S.left first.new) xs
         × Consumes (T.left second.old) (T.left second.new) ys
-        × IsEndRead (S.left first.new) (T.left second.new) result xs ys }
+        × IsEndRead result (taken_of xs (S.left first.new)) (taken_of ys (T.left second.new)) }
     ensures first_later { S.faults first.old ≤ S.faults first.new }
     ensures second_later { T.faults second.old ≤ T.faults second.new }
     ensures first_fault { IsErrOf result MergeStop.FirstFault

@@ -14,7 +14,7 @@ use Rattle.cue_sheet.specs.CueSheet.{CueSheet}
 use Rattle.cdg_workload.specs.Scratches.{scratched}
 use Rattle.picture_script.specs.Script.{Drawing}
 use Rattle.toc_model.specs.Places.{program_blocks}
-use Rattle.subcode_author.specs.Authored.{IsAuthored}
+use Rattle.subcode_author.specs.Authored.{IsAuthored, disc_of}
 use Rattle.stream_trial.proofs.Pixels.{every}
 
 pub same_size : (lead_in seed : ℕ) (bytes : List ℕ) → map (λ byte. byte / 64) (scratched lead_in seed bytes) ≡ map (λ byte. byte / 64) bytes → length (scratched lead_in seed bytes) ≡ length bytes
@@ -36,7 +36,7 @@ abbrev pub ScratchesAreDamage : Type 0
 ScratchesAreDamage = (lead_in seed blocks : ℕ) (bytes : List ℕ) → length bytes ≡ 96 * blocks
     → IsDamaged (program_symbols Raw bytes lead_in) Raw (program_symbols Raw (scratched lead_in seed bytes) lead_in)
 
-pub stream_damaged : ScratchesAreDamage → (sheet : CueSheet) (script : List Drawing) (lead_in audio seed : ℕ) (bytes : List ℕ) (packs : List (List ℕ)) → IsAuthored sheet script lead_in audio bytes packs
+pub stream_damaged : ScratchesAreDamage → (sheet : CueSheet) (script : List Drawing) (lead_in audio seed : ℕ) (bytes : List ℕ) (packs : List (List ℕ)) → IsAuthored (disc_of sheet script lead_in audio) bytes packs
     → IsDamaged (program_symbols Raw bytes lead_in) Raw (program_symbols Raw (scratched lead_in seed bytes) lead_in)
 stream_damaged law sheet script lead_in audio seed bytes packs is = law lead_in seed (lead_in + program_blocks sheet audio) bytes is.framing.size
 
@@ -51,7 +51,7 @@ no_more_packs blocks packs count =
     ap (λ (n : ℕ). packs ++ replicate n (replicate 24 0)) none ∙ append-nil packs
 
 pub packs_found : PacksAreRecovered → ScratchesAreDamage → (sheet : CueSheet) (script : List Drawing) (lead_in audio seed : ℕ) (bytes : List ℕ) (packs : List (List ℕ)) (found : List (Option (List ℕ)))
-    → IsAuthored sheet script lead_in audio bytes packs → IsRecovered Raw (program_symbols Raw (scratched lead_in seed bytes) lead_in) found → found ≡ map (λ pack. Some pack) packs
+    → IsAuthored (disc_of sheet script lead_in audio) bytes packs → IsRecovered Raw (program_symbols Raw (scratched lead_in seed bytes) lead_in) found → found ≡ map (λ pack. Some pack) packs
 packs_found law damage sheet script lead_in audio seed bytes packs found is recovered =
     let blocks = program_blocks sheet audio in
     law blocks (program_symbols Raw bytes lead_in) (program_symbols Raw (scratched lead_in seed bytes) lead_in) packs found is.carries (program_small (scratched lead_in seed bytes) lead_in)

@@ -15,7 +15,7 @@ use Rattle.picture_changes.specs.Schedule.{IsSchedule}
 use Rattle.cdg_workload.specs.Script.{generated_script}
 use Rattle.cdg_workload.specs.Scratches.{scratched}
 use Rattle.cdg_workload.specs.Generated.{generated_drawings}
-use Rattle.subcode_author.specs.Authored.{IsAuthored, IsWrittenStream}
+use Rattle.subcode_author.specs.Authored.{IsAuthored, IsWrittenStream, disc_of}
 use Rattle.stream_trial.specs.Counts.{differing}
 use Rattle.stream_trial.specs.TrialLines.{input_lines, output_lines}
 use Rattle.stream_trial.specs.TrialSheet.{trial_text, trial_sheet}
@@ -63,14 +63,14 @@ program_is blocks bytes size =
     ap (λ n. flat_map symbols_of (map (block_of Raw) (parts n 96 bytes))) count ∙ whole_symbols blocks bytes (omega (arith, size))
 
 -- the size of the stream of a sheet
-stream_size : (sheet : CueSheet) (script : List Drawing) (audio : ℕ) (bytes : List ℕ) (packs : List (List ℕ)) → IsAuthored sheet script 0 audio bytes packs → length bytes ≡ 96 * program_blocks sheet audio
+stream_size : (sheet : CueSheet) (script : List Drawing) (audio : ℕ) (bytes : List ℕ) (packs : List (List ℕ)) → IsAuthored (disc_of sheet script 0 audio) bytes packs → length bytes ≡ 96 * program_blocks sheet audio
 stream_size sheet script audio bytes packs authored = authored.framing.size ∙ omega arith
 
-scratched_size : ChannelsStay → (sheet : CueSheet) (script : List Drawing) (audio seed : ℕ) (bytes others : List ℕ) (packs : List (List ℕ)) → others ≡ scratched 0 seed bytes → IsAuthored sheet script 0 audio bytes packs → length others ≡ 96 * program_blocks sheet audio
+scratched_size : ChannelsStay → (sheet : CueSheet) (script : List Drawing) (audio seed : ℕ) (bytes others : List ℕ) (packs : List (List ℕ)) → others ≡ scratched 0 seed bytes → IsAuthored (disc_of sheet script 0 audio) bytes packs → length others ≡ 96 * program_blocks sheet audio
 scratched_size stay sheet script audio seed bytes others packs is authored = ap length is ∙ same_length stay seed bytes ∙ stream_size sheet script audio bytes packs authored
 
 -- the stream with scratches carries its schedule through them
-damaged_schedule : ScratchesDamage → ChannelsStay → (sheet : CueSheet) (script : List Drawing) (audio seed : ℕ) (bytes others : List ℕ) (packs : List (List ℕ)) → others ≡ scratched 0 seed bytes → IsAuthored sheet script 0 audio bytes packs
+damaged_schedule : ScratchesDamage → ChannelsStay → (sheet : CueSheet) (script : List Drawing) (audio seed : ℕ) (bytes others : List ℕ) (packs : List (List ℕ)) → others ≡ scratched 0 seed bytes → IsAuthored (disc_of sheet script 0 audio) bytes packs
     → IsDamagedSchedule script (length others / 96) (program_symbols Raw bytes 0) packs (symbols_of others)
 damaged_schedule damage stay sheet script audio seed bytes others packs is authored =
     let blocks : ℕ = program_blocks sheet audio in
@@ -88,15 +88,15 @@ damaged_schedule damage stay sheet script audio seed bytes others packs is autho
 trial_program : HasBlocks → (sheet : CueSheet) (count : ℕ) → sheet ≡ trial_sheet → program_blocks sheet (trial_audio count) ≡ trial_blocks count
 trial_program has sheet count is = ap (λ (s : CueSheet). program_blocks s (trial_audio count)) is ∙ has (trial_audio count) ∙ omega arith
 
-pub trial_size : HasBlocks → (sheet : CueSheet) (script : List Drawing) (count : ℕ) (bytes : List ℕ) (packs : List (List ℕ)) → sheet ≡ trial_sheet → IsAuthored sheet script 0 (trial_audio count) bytes packs → length bytes ≡ 96 * trial_blocks count
+pub trial_size : HasBlocks → (sheet : CueSheet) (script : List Drawing) (count : ℕ) (bytes : List ℕ) (packs : List (List ℕ)) → sheet ≡ trial_sheet → IsAuthored (disc_of sheet script 0 (trial_audio count)) bytes packs → length bytes ≡ 96 * trial_blocks count
 trial_size has sheet script count bytes packs is authored = stream_size sheet script (trial_audio count) bytes packs authored ∙ ap (λ n. 96 * n) (trial_program has sheet count is)
 
-pub trial_scratched : HasBlocks → ChannelsStay → (sheet : CueSheet) (script : List Drawing) (count seed : ℕ) (bytes others : List ℕ) (packs : List (List ℕ)) → sheet ≡ trial_sheet → others ≡ scratched 0 seed bytes → IsAuthored sheet script 0 (trial_audio count) bytes packs → length others ≡ 96 * trial_blocks count
+pub trial_scratched : HasBlocks → ChannelsStay → (sheet : CueSheet) (script : List Drawing) (count seed : ℕ) (bytes others : List ℕ) (packs : List (List ℕ)) → sheet ≡ trial_sheet → others ≡ scratched 0 seed bytes → IsAuthored (disc_of sheet script 0 (trial_audio count)) bytes packs → length others ≡ 96 * trial_blocks count
 trial_scratched has stay sheet script count seed bytes others packs is scratches authored = ap length scratches ∙ same_length stay seed bytes ∙ trial_size has sheet script count bytes packs is authored
 
 -- what is told of a stream that was played out is the text of a trial
 pub is_trial : SheetIsRead → HasBlocks → ScratchesDamage → ChannelsStay → ScriptsAreRead → ScriptsHavePictures → (seed count : ℕ) (sheet : CueSheet) (script : List Drawing) (bytes others : List ℕ) (packs : List (List ℕ)) (counts : Counts) (report : Report)
-    → count ≤ 500 → sheet ≡ trial_sheet → script ≡ generated_drawings seed count → IsWrittenStream sheet script 0 (trial_audio count) bytes packs → others ≡ scratched 0 seed bytes
+    → count ≤ 500 → sheet ≡ trial_sheet → script ≡ generated_drawings seed count → IsWrittenStream (disc_of sheet script 0 (trial_audio count)) bytes packs → others ≡ scratched 0 seed bytes
     → ((symbols : List ℕ) (packs : List (List ℕ)) → IsDamagedSchedule script (length others / 96) symbols packs (symbols_of others) → IsPlayedOut script (length others / 96) symbols (symbols_of others) counts)
     → report.seed ≡ seed → report.pictures ≡ count → report.blocks ≡ trial_blocks count → report.packs ≡ whole_packs (trial_blocks count) → report.changes ≡ all_changes script
     → report.one ≡ counts.one → report.two ≡ counts.two → report.bad ≡ counts.bad → report.equal ≡ counts.equal → IsTrial seed count (told report)

@@ -12,7 +12,7 @@ use Rattle.picture_changes.specs.PlannedChange.{planned_change}
 use Rattle.cdg_workload.specs.Script.{generated_script}
 use Rattle.cdg_workload.specs.Scratches.{scratched}
 use Rattle.stream_trial.specs.TrialSheet.{trial_text}
-use Rattle.subcode_author.specs.Authored.{IsWrittenStream}
+use Rattle.subcode_author.specs.Authored.{IsWrittenStream, disc_of}
 use Rattle.stream_trial.specs.Counts.{differing}
 use Rattle.stream_trial.specs.TrialLines.{input_lines, output_lines}
 
@@ -37,7 +37,7 @@ pub record IsTrial (seed count : ℕ) (text : List ℕ) : Type 0 where
   pub script_is : read_script (generated_script seed count) ≡ Ok script
   pub bytes : List ℕ
   pub packs : List (List ℕ)
-  pub authored : IsWrittenStream sheet script 0 (trial_audio count) bytes packs
+  pub authored : IsWrittenStream (disc_of sheet script 0 (trial_audio count)) bytes packs
   pub text_is :
       let symbols = program_symbols Raw bytes 0 in
       let others = program_symbols Raw (scratched 0 seed bytes) 0 in

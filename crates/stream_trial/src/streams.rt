@@ -3,7 +3,7 @@ ghost use Rattle.std.specs.Prelude.{◌≡◌, ◌≤◌, ◌%◌, ℕ, List, le
 ghost use Rattle.cdg_workload.specs.Scratches.{scratched};
 ghost use Rattle.cdg_workload.specs.Generated.{generated_drawings};
 ghost use Rattle.stream_trial.specs.TrialSheet.{trial_sheet};
-ghost use Rattle.subcode_author.specs.Authored.{IsWrittenStream};
+ghost use Rattle.subcode_author.specs.Authored.{IsWrittenStream, disc_of};
 ghost use Rattle.stream_trial.specs.Trial.{trial_audio};
 ghost use Rattle.stream_trial.specs.declared.stops.TrialStop.TheVariants.{NoMemory};
 
@@ -31,7 +31,7 @@ pub(crate) fn make_stream(
     requires sheet { sheet.now ≡ trial_sheet }
     requires script { (seed : ℕ) × (script.now ≡ generated_drawings seed pictures) }
     ensures stream { IfOk result (λ stream. (packs : List (List ℕ))
-        × IsWrittenStream sheet.now script.now 0 (trial_audio pictures) stream.held packs) }
+        × IsWrittenStream (disc_of sheet.now script.now 0 (trial_audio pictures)) stream.held packs) }
     ensures err { IfErr result (λ stop. stop ≡ NoMemory) }
 {
     trial_sheet_is_read();

@@ -21,7 +21,7 @@ use Rattle.stream_writer.specs.Needs.{HasLayout}
 use Rattle.raw_subcode.specs.Channels.{program_symbols}
 use Rattle.raw_subcode.specs.declared.form.Form.TheVariants.{Raw}
 use Rattle.subcode_author.proofs.Prompt.{PlannedIsChange, are_prompt}
-use Rattle.subcode_author.specs.Authored.{text_packs, IsWrittenStream}
+use Rattle.subcode_author.specs.Authored.{text_packs, IsWrittenStream, disc_of}
 use Rattle.subcode_author.specs.AuthorAnswer.{IsAccepted}
 use Rattle.stream_writer.proofs.Framed.{AreBuilt, framing, program_is}
 use Rattle.stream_writer.proofs.Whole.{SpreadCarries}
@@ -85,7 +85,7 @@ carrying_stream spread sheet lead_in audio packs is_sheet disc few count codewor
 
 pub has_stream : SpreadCarries → PlannedIsChange → PacksAreSchedule → ChangesAreWritten → (sheet : CueSheet) (script : List Drawing) (lead_in audio : ℕ)
     → IsSheet sheet → AreTimesInOrder script → AreColoursInRange script → ((k x y : ℕ) → picture_pixel script k x y < 16) → lead_in ≤ 450000 → IsAccepted sheet script lead_in audio
-    → (bytes : List ℕ) × (packs : List (List ℕ)) × IsWrittenStream sheet script lead_in audio bytes packs
+    → (bytes : List ℕ) × (packs : List (List ℕ)) × IsWrittenStream (disc_of sheet script lead_in audio) bytes packs
 has_stream spread is_change schedule known sheet script lead_in audio is_sheet order colours pixels few accepted =
     let blocks : ℕ = program_blocks sheet audio in
     let prompt = are_prompt is_change script colours pixels accepted.ready in

@@ -16,7 +16,7 @@ use Rattle.pack_schedule.specs.declared.planned.Planned.{Planned}
 use Rattle.stream_writer.specs.Given.{idle_pack, AreGiven, CarriesComing, PutsStreamPart}
 use Rattle.stream_writer.specs.Needs.{text_packs, HasRoom}
 use Rattle.stream_writer.proofs.Whole.{framing_with, part_with}
-use Rattle.subcode_author.specs.Authored.{IsWrittenStream}
+use Rattle.subcode_author.specs.Authored.{IsWrittenStream, disc_of}
 use Rattle.subcode_author.specs.AuthorAnswer.{AreReady, HoldsPictures, IsAccepted}
 
 -- what is known of a script that has a schedule
@@ -100,7 +100,7 @@ in_turn script blocks packs given n lt =
 is_authored : PacksAreSchedule → (sheet : CueSheet) (script : List Drawing) (texts : List (List ℕ)) (lead_in audio : ℕ) (bytes : List ℕ) (packs : List (List ℕ))
     → (0 < lead_in → texts ≡ text_packs sheet) → HasRoom sheet lead_in → IsPlannedScript script (program_blocks sheet audio)
     → CarriesComing (layout_of sheet audio) (IsPackAt script) texts lead_in bytes packs
-    → IsWrittenStream sheet script lead_in audio bytes packs
+    → IsWrittenStream (disc_of sheet script lead_in audio) bytes packs
 is_authored schedule sheet script texts lead_in audio bytes packs texts_are room known stream = record {
   authored = record {
     schedule = schedule script (program_blocks sheet audio) known.survey packs known.ranges known.pixels known.held known.within known.surveyed stream.given_are.count
@@ -127,7 +127,7 @@ of_script script woven layout texts lead_in bytes packs few first stream = recor
 pub authored : PacksAreSchedule → (sheet : CueSheet) (script : List Drawing) (woven : Woven) (layout : DiscLayout) (texts : List (List ℕ)) (lead_in audio : ℕ) (a b : Option (List ℕ))
     → layout ≡ layout_of sheet audio → layout.blocks ≤ 449999 → IsFirst script woven → (0 < lead_in → texts ≡ text_packs sheet) → HasRoom sheet lead_in → IsPlannedScript script (program_blocks sheet audio)
     → (bytes : List ℕ) × (packs : List (List ℕ)) × CarriesComing layout (PackOf woven) texts lead_in bytes packs × Appends a b bytes
-    → (bytes : List ℕ) × (packs : List (List ℕ)) × IsWrittenStream sheet script lead_in audio bytes packs × Appends a b bytes
+    → (bytes : List ℕ) × (packs : List (List ℕ)) × IsWrittenStream (disc_of sheet script lead_in audio) bytes packs × Appends a b bytes
 authored schedule sheet script woven layout texts lead_in audio a b disc few first texts_are room known w = (
   w.0,
   w.1,

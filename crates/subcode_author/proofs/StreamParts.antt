@@ -20,7 +20,7 @@ use Rattle.stream_writer.specs.Blocks.{carrying_block, lead_in_block, program_bl
 use Rattle.stream_writer.specs.Framing.{HasFraming}
 use Rattle.stream_writer.specs.Given.{symbols_from, AreGiven, PutsStreamPart as PutsPart}
 use Rattle.subcode_author.specs.Given.{PutsScriptPart}
-use Rattle.subcode_author.specs.Authored.{text_packs, IsWrittenStream}
+use Rattle.subcode_author.specs.Authored.{text_packs, IsWrittenStream, disc_of}
 use Rattle.subcode_author.specs.AuthorAnswer.{HoldsPictures}
 use Rattle.stream_writer.proofs.Whole.{SpreadCarries}
 use Rattle.stream_writer.proofs.Pieces.{pieces_front, prefix_first}
@@ -102,8 +102,8 @@ prefix_of_stream spread Comes one layout texts lead_in n bytes packs given held 
     prefix_first held held' (stream_bytes layout texts lead_in n (symbols_from [] given)) rest bytes part.put (sym (stream_is layout texts lead_in bytes framing) ∙ whole)
 
 pub part_is_prefix : SpreadCarries → (sheet : CueSheet) (script : List Drawing) (lead_in audio n : ℕ) (bytes : List ℕ) (packs given : List (List ℕ)) (held held' : Option (List ℕ))
-    → HoldsPictures sheet script audio → ArePrompt script → AreTimesInOrder script → IsWrittenStream sheet script lead_in audio bytes packs
-    → PutsScriptPart (layout_of sheet audio) script (text_packs sheet) lead_in held held' n given → AppendsPrefix held held' bytes
+    → HoldsPictures sheet script audio → ArePrompt script → AreTimesInOrder script → IsWrittenStream (disc_of sheet script lead_in audio) bytes packs
+    → PutsScriptPart (disc_of sheet script lead_in audio) held held' n given → AppendsPrefix held held' bytes
 part_is_prefix spread sheet script lead_in audio n bytes packs given held held' disc prompt order authored part =
     prefix_of_stream spread (IsPackAt script) (one_pack script) (layout_of sheet audio) (text_packs sheet) lead_in n bytes packs given held held' authored.authored.framing authored.authored.carries authored.planned
     (idle_past script (program_blocks sheet audio) order prompt disc.1) part

@@ -13,7 +13,7 @@ use Rattle.cdtext_packs.specs.LeadIn.{lead_in_symbols}
 use Rattle.picture_script.specs.Script.{Drawing}
 use Rattle.stream_writer.specs.Blocks.{built_block, frame_bits, lead_in_block, carrying_block, program_block, symbols_at, stream_bytes, HasChannels}
 use Rattle.stream_writer.specs.Framing.{raw_block, HasFraming}
-use Rattle.subcode_author.specs.Authored.{text_packs, IsWrittenStream}
+use Rattle.subcode_author.specs.Authored.{text_packs, IsWrittenStream, disc_of}
 use Rattle.stream_writer.proofs.Built.{made_of}
 use Rattle.subcode_author.proofs.Cuts.{bytes_at, raw_block_at, symbols_of_block, two_parts}
 use Rattle.subcode_author.proofs.Packs.{same_packs}
@@ -64,11 +64,11 @@ same_bytes layout texts lead_in bytes bytes' packs packs' same framing framing' 
     ∙ stream_is layout texts lead_in bytes' framing'
 
 pub same_authored_packs : (sheet : CueSheet) (script : List Drawing) (lead_in audio : ℕ) (bytes bytes' : List ℕ) (packs packs' : List (List ℕ))
-    → IsWrittenStream sheet script lead_in audio bytes packs → IsWrittenStream sheet script lead_in audio bytes' packs' → packs ≡ packs'
+    → IsWrittenStream (disc_of sheet script lead_in audio) bytes packs → IsWrittenStream (disc_of sheet script lead_in audio) bytes' packs' → packs ≡ packs'
 same_authored_packs sheet script lead_in audio bytes bytes' packs packs' one other = same_packs script packs packs' (one.authored.carries.count ∙ sym other.authored.carries.count) one.planned other.planned
 
 pub same_authored_bytes : (sheet : CueSheet) (script : List Drawing) (lead_in audio : ℕ) (bytes bytes' : List ℕ) (packs packs' : List (List ℕ))
-    → IsWrittenStream sheet script lead_in audio bytes packs → IsWrittenStream sheet script lead_in audio bytes' packs' → bytes ≡ bytes'
+    → IsWrittenStream (disc_of sheet script lead_in audio) bytes packs → IsWrittenStream (disc_of sheet script lead_in audio) bytes' packs' → bytes ≡ bytes'
 same_authored_bytes sheet script lead_in audio bytes bytes' packs packs' one other =
     same_bytes (layout_of sheet audio) (text_packs sheet) lead_in bytes bytes' packs packs' (same_authored_packs sheet script lead_in audio bytes bytes' packs packs' one other)
     one.authored.framing other.authored.framing one.authored.carries other.authored.carries

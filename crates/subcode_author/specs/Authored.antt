@@ -11,14 +11,25 @@ use Rattle.pack_schedule.specs.Woven.{ArePacks}
 use Rattle.stream_writer.specs.Framing.{HasFraming}
 pub use Rattle.stream_writer.specs.Needs.{text_packs, lead_in_need}
 
--- An authored stream of a sheet and a script, whoever made it: it carries packs that are a schedule of the script, in the framing of the sheet.
-pub record IsAuthored (sheet : CueSheet) (script : List Drawing) (lead_in audio : ℕ) (bytes : List ℕ) (packs : List (List ℕ)) : Type 0 where
-  pub schedule : IsSchedule script (program_blocks sheet audio) packs
-  pub framing : HasFraming (layout_of sheet audio) (text_packs sheet) lead_in bytes
-  pub carries : Carries (program_blocks sheet audio) (program_symbols Raw bytes lead_in) packs
-  pub enough : 0 < lead_in → lead_in_need sheet ≤ lead_in
+-- What a disc is made of: a cue sheet and a picture script, and so many blocks of lead-in and of audio.
+pub record Disc : Type 0 where
+  pub sheet : CueSheet
+  pub script : List Drawing
+  pub lead_in : ℕ
+  pub audio : ℕ
+
+-- the disc of these
+abbrev pub disc_of : CueSheet → List Drawing → ℕ → ℕ → Disc
+disc_of sheet script lead_in audio = record { sheet = sheet; script = script; lead_in = lead_in; audio = audio }
+
+-- An authored stream of a disc, whoever made it: it carries a schedule of the script in the framing of the sheet.
+pub record IsAuthored (disc : Disc) (bytes : List ℕ) (packs : List (List ℕ)) : Type 0 where
+  pub schedule : IsSchedule disc.script (program_blocks disc.sheet disc.audio) packs
+  pub framing : HasFraming (layout_of disc.sheet disc.audio) (text_packs disc.sheet) disc.lead_in bytes
+  pub carries : Carries (program_blocks disc.sheet disc.audio) (program_symbols Raw bytes disc.lead_in) packs
+  pub enough : 0 < disc.lead_in → lead_in_need disc.sheet ≤ disc.lead_in
 
 -- The one authored stream that `author_stream` writes: its packs are those of the planned changes.
-pub record IsWrittenStream (sheet : CueSheet) (script : List Drawing) (lead_in audio : ℕ) (bytes : List ℕ) (packs : List (List ℕ)) : Type 0 where
-  pub authored : IsAuthored sheet script lead_in audio bytes packs
-  pub planned : ArePacks script packs
+pub record IsWrittenStream (disc : Disc) (bytes : List ℕ) (packs : List (List ℕ)) : Type 0 where
+  pub authored : IsAuthored disc bytes packs
+  pub planned : ArePacks disc.script packs

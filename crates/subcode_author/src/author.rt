@@ -2,11 +2,10 @@
 ghost use Rattle.std.specs.Prelude.{◌≡◌, ◌≢◌, ◌<◌, ◌≤◌, List, ℕ, IfErr, OnOk, Err};
 ghost use Rattle.std.specs.Io.KnownBytes.{Appends};
 ghost use Rattle.cdg_io.specs.Causes.{Rose};
-ghost use Rattle.toc_model.specs.Places.{layout_of};
 ghost use Rattle.picture_script.specs.Script.{pictures};
 ghost use Rattle.picture_changes.specs.Brings.{CannotBeReady, IsChange};
 ghost use Rattle.picture_changes.specs.PlannedChange.{planned_change};
-ghost use Rattle.subcode_author.specs.Authored.{text_packs, IsWrittenStream};
+ghost use Rattle.subcode_author.specs.Authored.{IsWrittenStream, disc_of};
 ghost use Rattle.subcode_author.specs.AuthorAnswer.{IsAccepted, IsAuthorStop};
 ghost use Rattle.subcode_author.specs.Given.{PutsScriptPart};
 
@@ -45,7 +44,8 @@ pub fn author_stream<K: Sink>(
     requires length { length ≤ 449999 }
     // The authored stream with the planned changes was written.
     ensures authored { OnOk result ((bytes : List ℕ) × (packs : List (List ℕ))
-        × IsWrittenStream sheet.now script.now lead_in length bytes packs × Appends (K.held out.old) (K.held out.new) bytes) }
+        × IsWrittenStream (disc_of sheet.now script.now lead_in length) bytes packs
+        × Appends (K.held out.old) (K.held out.new) bytes) }
     ensures accepted { OnOk result (IsAccepted sheet.now script.now lead_in length) }
     // What is sent for each picture is a change for it: no list without scrolls that brings it is shorter.
     ensures fewest { OnOk result ((k : ℕ) → k < pictures script.now
@@ -62,7 +62,7 @@ pub fn author_stream<K: Sink>(
     ensures write_fault { result ≡ Err AuthorStop.WriteFault → Rose (K.faults out.old) (K.faults out.new) }
     ensures no_write_fault { result ≢ Err AuthorStop.WriteFault → K.faults out.new ≡ K.faults out.old }
     ensures part { result ≡ Err AuthorStop.WriteFault → (n : ℕ) × (packs : List (List ℕ))
-        × PutsScriptPart (layout_of sheet.now length) script.now (text_packs sheet.now) lead_in (K.held out.old) (K.held out.new) n packs }
+        × PutsScriptPart (disc_of sheet.now script.now lead_in length) (K.held out.old) (K.held out.new) n packs }
     ensures later { K.faults out.old ≤ K.faults out.new }
 {
     packs_are_a_schedule();

@@ -4,13 +4,12 @@ ghost use Rattle.std.specs.Prelude.{◌≡◌, ◌<◌, ◌≤◌, List, ℕ, Ok
 ghost use Rattle.std.specs.declared.option.Option.{Option};
 ghost use Rattle.cdg_io.specs.Moves.{AppendsPrefix};
 ghost use Rattle.cue_sheet.specs.CueSheet.{CueSheet, IsSheet};
-ghost use Rattle.toc_model.specs.Places.{layout_of};
 ghost use Rattle.picture_script.specs.Script.{Drawing, picture_pixel, pictures};
 ghost use Rattle.picture_script.specs.ScriptGrammar.{read_script};
 ghost use Rattle.picture_changes.specs.PlannedChange.{planned_change};
 ghost use Rattle.picture_changes.specs.Schedule.{IsInTime};
 ghost use Rattle.picture_changes.specs.Shown.{AreColoursInRange, AreTimesInOrder};
-ghost use Rattle.subcode_author.specs.Authored.{IsWrittenStream, text_packs};
+ghost use Rattle.subcode_author.specs.Authored.{IsWrittenStream, disc_of};
 ghost use Rattle.subcode_author.specs.AuthorAnswer.{HoldsPictures, IsAccepted};
 ghost use Rattle.subcode_author.specs.Given.{PutsScriptPart};
 
@@ -30,9 +29,11 @@ pub fn accepted_scripts_are_in_order()
 /// So what `author_stream` writes is one function of them: no two of its calls write different bytes for the same four.
 pub fn authored_streams_are_one()
     ensures packs { (sheet : CueSheet) (script : List Drawing) (lead_in audio : ℕ) (one other : List ℕ) (packs others : List (List ℕ))
-        → IsWrittenStream sheet script lead_in audio one packs → IsWrittenStream sheet script lead_in audio other others → packs ≡ others }
+        → IsWrittenStream (disc_of sheet script lead_in audio) one packs
+        → IsWrittenStream (disc_of sheet script lead_in audio) other others → packs ≡ others }
     ensures bytes { (sheet : CueSheet) (script : List Drawing) (lead_in audio : ℕ) (one other : List ℕ) (packs others : List (List ℕ))
-        → IsWrittenStream sheet script lead_in audio one packs → IsWrittenStream sheet script lead_in audio other others → one ≡ other }
+        → IsWrittenStream (disc_of sheet script lead_in audio) one packs
+        → IsWrittenStream (disc_of sheet script lead_in audio) other others → one ≡ other }
 {}
 
 /// A law: a part of a stream, which is all that stands after a failed write, is a prefix of the authored stream.
@@ -40,8 +41,8 @@ pub fn parts_are_prefixes()
     ensures { (sheet : CueSheet) (script : List Drawing) (lead_in audio n : ℕ) (bytes : List ℕ) (packs given : List (List ℕ)) (held after : Option (List ℕ))
         → HoldsPictures sheet script audio
         → ((k : ℕ) → k < pictures script → IsInTime script k (length (planned_change script k)))
-        → AreTimesInOrder script → IsWrittenStream sheet script lead_in audio bytes packs
-        → PutsScriptPart (layout_of sheet audio) script (text_packs sheet) lead_in held after n given → AppendsPrefix held after bytes }
+        → AreTimesInOrder script → IsWrittenStream (disc_of sheet script lead_in audio) bytes packs
+        → PutsScriptPart (disc_of sheet script lead_in audio) held after n given → AppendsPrefix held after bytes }
 {
     spread_carries();
 }
@@ -51,12 +52,13 @@ pub fn accepted_scripts_have_streams()
     ensures stream { (sheet : CueSheet) (script : List Drawing) (lead_in audio : ℕ)
         → IsSheet sheet → AreTimesInOrder script → AreColoursInRange script → ((k x y : ℕ) → picture_pixel script k x y < 16)
         → lead_in ≤ 450000 → IsAccepted sheet script lead_in audio
-        → (bytes : List ℕ) × (packs : List (List ℕ)) × IsWrittenStream sheet script lead_in audio bytes packs }
+        → (bytes : List ℕ) × (packs : List (List ℕ)) × IsWrittenStream (disc_of sheet script lead_in audio) bytes packs }
     ensures part { (sheet : CueSheet) (script : List Drawing) (lead_in audio n : ℕ) (given : List (List ℕ)) (held after : Option (List ℕ))
         → IsSheet sheet → AreTimesInOrder script → AreColoursInRange script → ((k x y : ℕ) → picture_pixel script k x y < 16)
         → lead_in ≤ 450000 → IsAccepted sheet script lead_in audio
-        → PutsScriptPart (layout_of sheet audio) script (text_packs sheet) lead_in held after n given
-        → (bytes : List ℕ) × (packs : List (List ℕ)) × IsWrittenStream sheet script lead_in audio bytes packs × AppendsPrefix held after bytes }
+        → PutsScriptPart (disc_of sheet script lead_in audio) held after n given
+        → (bytes : List ℕ) × (packs : List (List ℕ)) × IsWrittenStream (disc_of sheet script lead_in audio) bytes packs
+        × AppendsPrefix held after bytes }
 {
     packs_are_a_schedule();
     needs_are_fewest();

@@ -6,7 +6,7 @@ use Rattle.cdg_cmd.proofs.author.run_author.Goals as goal
 
 pub returns-in-Err-read_script-clause-does : goal.returns-in-Err-read_script-clause-does
 returns-in-Err-read_script-clause-does g c =
-    StopsAtScript c.in-Ok.sheet c.in-Ok.ensures.ok c.in-Err-read_script.ensures.err (Appends-nil (g.K.Sink.held c.args.out.now))
+    StopsAtScript c.in-Ok.sheet c.in-Ok.ensures.ok c.in-Err-read_script.ensures.err c.in-Err-read_script.ensures.taken (Appends-nil (g.K.Sink.held c.args.out.now))
 
 pub returns-clause-does : goal.returns-clause-does
 returns-clause-does g c =

@@ -7,7 +7,7 @@ use Rattle.cdg_cmd.proofs.press.run_press.Goals as goal
 
 pub returns-in-Err-read_file-clause-does : goal.returns-in-Err-read_file-clause-does
 returns-in-Err-read_file-clause-does g c =
-    RefusesFile c.in-Ok.sheet c.in-Ok.ensures.ok c.in-Err-read_file.ensures.err (Appends-nil (g.K.Sink.held c.args.out.now))
+    RefusesFile c.in-Ok.sheet c.in-Ok.ensures.ok c.in-Err-read_file.ensures.err c.in-Err-read_file.ensures.taken (Appends-nil (g.K.Sink.held c.args.out.now))
 
 pub returns-clause-does : goal.returns-clause-does
 returns-clause-does g c =

@@ -11,6 +11,7 @@ returns-in-Ok-clause-does g c = λ found.
       file = c.resume.new.self.file;
       most = done.saved_most;
       taken = done.saved_taken;
+      cut = done.saved_part;
       whole = done.saved_end;
       accepted = done.accepted;
       goes_on = done.resumes;

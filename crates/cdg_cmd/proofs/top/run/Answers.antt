@@ -24,8 +24,8 @@ returns-clause-complete g c = λ command spelled none.
     (λ e. none.second (c.answer-status.ensures.faults.second.rose e)) (λ e. none.out (c.answer-status.ensures.faults.out.rose e))
 
 pub returns-clause-authors : goal.returns-clause-authors
-returns-clause-authors g c = λ lead_in audio sheet script spelled place.
-    first_half sheet script lead_in audio _ _ _ _ _ _ place (c.answer-status.ensures.does (Author lead_in audio) spelled)
+returns-clause-authors g c = λ disc spelled place.
+    first_half disc.sheet disc.script disc.lead_in disc.audio _ _ _ _ _ _ place (c.answer-status.ensures.does (Author disc.lead_in disc.audio) spelled)
 
 pub returns-clause-late : goal.returns-clause-late
 returns-clause-late g c = λ lead_in audio picture need free script spelled told.
@@ -35,32 +35,32 @@ returns-clause-late g c = λ lead_in audio picture need free script spelled told
     _ _ _ _ _ told (c.answer-status.ensures.does (Author lead_in audio) spelled (λ e. cc))
 
 pub returns-clause-gives_back : goal.returns-clause-gives_back
-returns-clause-gives_back g c = λ lead_in audio form sheet script stream packs spelled authored.
+returns-clause-gives_back g c = λ form disc stream packs spelled authored.
     let out : Change Bytes = change g.K.Sink.held c.args.out.now c.answer-status.new.out in
-    packs_back sheet script lead_in audio stream packs form authored _ out c.answer-status.result
-    (converted_back form lead_in _ None None out c.answer-status.result (gives_packs c.packs_are_recovered.ensures c.text_of_packs.ensures.text c.text_of_packs.ensures.bad) (gives_none_bad c.packs_are_recovered.ensures c.text_of_packs.ensures.text c.text_of_packs.ensures.bad) _ (c.answer-status.ensures.does (Convert lead_in form) spelled))
+    packs_back disc.sheet disc.script disc.lead_in disc.audio stream packs form authored _ out c.answer-status.result
+    (converted_back form disc.lead_in _ None None out c.answer-status.result (gives_packs c.packs_are_recovered.ensures c.text_of_packs.ensures.text c.text_of_packs.ensures.bad) (gives_none_bad c.packs_are_recovered.ensures c.text_of_packs.ensures.text c.text_of_packs.ensures.bad) _ (c.answer-status.ensures.does (Convert disc.lead_in form) spelled))
 
 pub returns-clause-shows : goal.returns-clause-shows
-returns-clause-shows g c = λ lead_in audio at k form sheet script stream text packs spelled accepted held authored.
+returns-clause-shows g c = λ form disc stream text packs k at spelled accepted held authored.
     let out : Change Bytes = change g.K.Sink.held c.args.out.now c.answer-status.new.out in
-    pictures_shown sheet script lead_in audio stream packs form authored _ out at k c.answer-status.result (c.accepted_scripts_are_in_order.ensures.times text script accepted.reads)
-    (c.accepted_scripts_are_in_order.ensures.colours text script accepted.reads) held
-    (shown_back form lead_in _ None None out c.answer-status.result c.screens_show_pictures.ensures.text c.screens_show_pictures.ensures.bad at _ (c.answer-status.ensures.does (Screen lead_in form at) spelled))
+    pictures_shown disc.sheet disc.script disc.lead_in disc.audio stream packs form authored _ out at k c.answer-status.result (c.accepted_scripts_are_in_order.ensures.times text disc.script accepted.reads)
+    (c.accepted_scripts_are_in_order.ensures.colours text disc.script accepted.reads) held
+    (shown_back form disc.lead_in _ None None out c.answer-status.result c.screens_show_pictures.ensures.text c.screens_show_pictures.ensures.bad at _ (c.answer-status.ensures.does (Screen disc.lead_in form at) spelled))
 
 pub returns-clause-frames : goal.returns-clause-frames
-returns-clause-frames g c = λ lead_in audio sheet script packs spelled few.
-    frames_given lead_in _ None None _ _ _ (λ all. IsAuthored sheet script lead_in audio all packs) _ (c.answer-status.ensures.does (Q lead_in Raw) spelled)
+returns-clause-frames g c = λ disc packs spelled few.
+    frames_given disc.lead_in _ None None _ _ _ (λ all. IsAuthored disc all packs) _ (c.answer-status.ensures.does (Q disc.lead_in Raw) spelled)
     (λ all authored answer taken plays answered.
-    c.frame_lists_are_answered.ensures sheet script lead_in audio all packs lead_in _ _ _ answer taken authored
-    (authored_size sheet script lead_in audio all packs (spells_allowed (Q lead_in Raw) _ spelled).0 few authored) plays answered)
+    c.frame_lists_are_answered.ensures disc.sheet disc.script disc.lead_in disc.audio all packs disc.lead_in _ _ _ answer taken authored
+    (authored_size disc.sheet disc.script disc.lead_in disc.audio all packs (spells_allowed (Q disc.lead_in Raw) _ spelled).0 few authored) plays answered)
 
 pub returns-clause-strings : goal.returns-clause-strings
-returns-clause-strings g c = λ lead_in audio form sheet script stream lines packs spelled authored.
-    strings_given lead_in _ None None _ _ lines (λ all. AreLinesOf sheet form lead_in stream all lines) form _ (c.answer-status.ensures.does (Text lead_in form) spelled)
+returns-clause-strings g c = λ form disc stream lines packs spelled authored.
+    strings_given disc.lead_in _ None None _ _ lines (λ all. AreLinesOf disc form stream all lines) form _ (c.answer-status.ensures.does (Text disc.lead_in form) spelled)
     (λ all are answer taken lists listed.
-    lines_given sheet form lead_in stream all lines answer _
-    (λ whole fits some slots input. c.damaged_text_lists_are_answered.ensures sheet script lead_in audio stream packs whole form all _ _ _ answer taken fits some authored slots input lists listed)
-    (λ none slots input. c.copied_text_lists_are_answered.ensures.none sheet script lead_in audio stream packs form all _ _ _ answer taken none authored slots input lists listed) are)
+    lines_given disc.sheet disc.script form disc.lead_in disc.audio stream all lines answer _
+    (λ whole fits some slots input. c.damaged_text_lists_are_answered.ensures disc.sheet disc.script disc.lead_in disc.audio stream packs whole form all _ _ _ answer taken fits some authored slots input lists listed)
+    (λ none slots input. c.copied_text_lists_are_answered.ensures.none disc.sheet disc.script disc.lead_in disc.audio stream packs form all _ _ _ answer taken none authored slots input lists listed) are)
 
 pub returns-clause-merges : goal.returns-clause-merges
 returns-clause-merges g c = λ lead_in spelled.

@@ -10,4 +10,4 @@ returns c = λ lead_in audio sheet script call status is accepted.
     (λ text read. c.accepted_scripts_are_in_order.ensures.pixels text script read)
     (λ pixels why stopped. c.each_disc_has_one_answer.ensures.not_both sheet script lead_in audio why accepted stopped) call.first.before call.second.before status
     (first_half sheet script lead_in audio call.out call.first.before call.first.after call.second.before call.second.after status
-    (record { disc = accepted.disc; room = accepted.room }) is.does)
+    (record { pictures = accepted.disc; room = accepted.room }) is.does)
