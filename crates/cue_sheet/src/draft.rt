@@ -193,7 +193,8 @@ impl Draft {
     /// Takes a line, which has this number. An error leaves the draft in a state of which nothing is said.
     pub(crate) fn take(&mut self, alloc: Global, number: u32, line: &[u8]) -> Result<(), CueStop>
         requires { length line.now ≤ most_text_bytes }
-        ensures { MatchResult result (λ _. TakesLine self.old line.now self.new) (RefusesLine self.old number line.now) }
+        ensures { MatchResult result (λ _. TakesLine self.old line.now self.new)
+            (RefusesLine self.old number line.now) }
     {
         let line = trim(line);
         if line.is_empty() {
@@ -240,7 +241,8 @@ fn with_last(
     number: Option<u8>,
     section: Section,
 ) -> Result<Vec<Track>, AllocError>
-    ensures { IfOk result (λ all. map track_value all.items ≡ map track_value tracks.items ++ track_with number (section_of section)) }
+    ensures { IfOk result (λ all. map track_value all.items ≡ map track_value tracks.items
+        ++ track_with number (section_of section)) }
 {
     if let Some(number) = number {
         tracks.push(Track { number, section })?;

@@ -7,7 +7,9 @@ ghost use Rattle.cue_sheet.specs.SheetBytes.{HasByteTexts};
 
 /// A law: every sheet that is accepted is in order, and the sheet of a text of bytes has texts of bytes.
 pub fn accepted_sheets_are_in_order()
-    ensures order { (text : List ℕ) (sheet : CueSheet) → length text ≤ most_text_bytes → read_cue text ≡ Ok sheet → IsSheet sheet }
-    ensures texts { (text : List ℕ) (sheet : CueSheet) → All (λ byte. byte < 256) text → length text ≤ most_text_bytes
+    ensures order { (text : List ℕ) (sheet : CueSheet) → length text ≤ most_text_bytes
+        → read_cue text ≡ Ok sheet → IsSheet sheet }
+    ensures texts { (text : List ℕ) (sheet : CueSheet) → All (λ byte. byte < 256) text
+        → length text ≤ most_text_bytes
         → read_cue text ≡ Ok sheet → HasByteTexts sheet }
 {}

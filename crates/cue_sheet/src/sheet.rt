@@ -94,8 +94,8 @@ impl Sheet {
         }
     }
 
-    /// A text: at place 0 the album's, at place k that of the k-th track, counted from 1. It is empty where none is given,
-    /// has no byte below 20 hexadecimal and no byte 7F, and at most 64 MiB.
+    /// A text: at place 0 the album's, at place k that of the k-th track, counted from 1. It is empty where none is
+    /// given, has no byte below 20 hexadecimal and no byte 7F, and at most 64 MiB.
     pub fn text(&self, kind: CueText, place: usize) -> &[u8]
         requires { place ≤ length self.now.tracks }
         ensures text { result.now ≡ text_at kind self.now place }
@@ -107,7 +107,8 @@ impl Sheet {
         self.track(place - 1).section.text(kind)
     }
 
-    /// The code of track k, counted from 0: two capital letters, three capital letters or digits, and seven digits, in ASCII.
+    /// The code of track k, counted from 0: two capital letters, three capital letters or digits, and seven digits,
+    /// in ASCII.
     pub fn isrc(&self, k: usize) -> Option<&[u8]>
         requires { k < length self.now.tracks }
         ensures code { option_copied result ≡ (track_of self.now k).isrc }

@@ -1,5 +1,5 @@
--- How many blocks there are in a second, a minute, a lead-in and a program, and how many tracks on a disc. Code calls them
--- by the names of src/counts.rt.
+-- How many blocks there are in a second, a minute, a lead-in and a program, and how many tracks on a disc. Code calls
+-- them by the names of src/counts.rt.
 use Rattle.std.specs.Prelude.{ℕ}
 
 -- blocks a second: a block is as long as a sector, 588 of 44,100 samples (IEC 60908)

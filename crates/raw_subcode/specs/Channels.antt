@@ -30,7 +30,8 @@ symbol_bits symbols = flat_map (bits_of 6) symbols
 pub record IsPlanarForm (block planar : List ℕ) : Type 0 where
   pub size : length planar ≡ block_bytes
   pub bit : (channel k j : ℕ) → channel < 8 → k < 12 → j < 8 →
-      has_bit (7 - j) (slice_index planar (12 * channel + k)) ≡ channel_bit channel (slice_index block (8 * k + j))
+      has_bit (7 - j) (slice_index planar (12 * channel + k))
+      ≡ channel_bit channel (slice_index block (8 * k + j))
 
 -- the bytes that hold one block
 abbrev pub unit_size : Form → ℕ

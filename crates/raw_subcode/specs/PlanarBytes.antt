@@ -20,7 +20,8 @@ packed_at block channel first =
 
 -- the byte of the bits at one place of the eight channels of a planar form
 abbrev pub gathered_at : List ℕ → ℕ → ℕ
-gathered_at planar i = number_of (map (λ c. has_bit (7 - i % 8) (slice_index planar (12 * c + i / 8))) (below 8))
+gathered_at planar i = number_of
+    (map (λ c. has_bit (7 - i % 8) (slice_index planar (12 * c + i / 8))) (below 8))
 
 -- the planar form of a block, byte by byte
 abbrev pub planar_form : List ℕ → List ℕ

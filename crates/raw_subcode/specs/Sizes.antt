@@ -21,7 +21,7 @@ audio_bytes = 2352
 abbrev pub sector_bytes : ℕ
 sector_bytes = 2448
 
--- the most units, blocks or sectors, of a stream: the longest lead-in, 450,000 blocks, and the longest program, 449,999, fit,
--- and the number of each unit has at most six digits
+-- the most units, blocks or sectors, of a stream: the longest lead-in, 450,000 blocks, and the longest program,
+-- 449,999, fit, and the number of each unit has at most six digits
 abbrev pub most_units : ℕ
 most_units = 1000000

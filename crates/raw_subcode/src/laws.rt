@@ -9,7 +9,8 @@ ghost use Rattle.raw_subcode.specs.Sizes.{block_bytes, symbols_a_slot};
 pub fn planar_forms_are_unique()
     ensures one_form { (block planar twin : List ℕ) → All (λ b. b < 256) planar → All (λ b. b < 256) twin
         → IsPlanarForm block planar → IsPlanarForm block twin → planar ≡ twin }
-    ensures one_block { (block other planar : List ℕ) → length block ≡ block_bytes → length other ≡ block_bytes
+    ensures one_block { (block other planar : List ℕ) → length block ≡ block_bytes
+        → length other ≡ block_bytes
         → All (λ b. b < 256) block → All (λ b. b < 256) other
         → IsPlanarForm block planar → IsPlanarForm other planar → block ≡ other }
 {}
@@ -31,6 +32,8 @@ pub fn q_bits_are_read()
 /// From a block that carries the symbols of a text pack, this pack is read.
 pub fn carried_packs_are_read()
     ensures { (block pack : List ℕ) (k : ℕ) → length pack ≡ 18 → All (λ b. b < 256) pack
-        → take symbols_a_slot (drop (symbols_a_slot * k) (symbols_of block)) ≡ numbers_of 6 (bits_of_bytes pack)
-        → numbers_of 8 (symbol_bits (take symbols_a_slot (drop (symbols_a_slot * k) (symbols_of block)))) ≡ pack }
+        → take symbols_a_slot (drop (symbols_a_slot * k) (symbols_of block))
+        ≡ numbers_of 6 (bits_of_bytes pack)
+        → numbers_of 8 (symbol_bits (take symbols_a_slot (drop (symbols_a_slot * k) (symbols_of block))))
+        ≡ pack }
 {}

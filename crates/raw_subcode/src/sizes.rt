@@ -15,6 +15,6 @@ pub const AUDIO_BYTES: usize = 2_352;
 /// How many bytes a sector has: its audio and then its block.
 pub const SECTOR_BYTES: usize = AUDIO_BYTES + BLOCK_BYTES;
 
-/// How many units, blocks or sectors, a stream has at most: the longest lead-in, 450,000 blocks, and the longest program,
-/// 449,999, fit, and the number of each unit has at most six digits.
+/// How many units, blocks or sectors, a stream has at most: the longest lead-in, 450,000 blocks, and the longest
+/// program, 449,999, fit, and the number of each unit has at most six digits.
 pub const MOST_UNITS: u32 = 1_000_000;

@@ -40,8 +40,10 @@ pub fn split_command(line: &[u8]) -> (&[u8], &[u8])
 
 /// The first word of a line and what follows it, or nothing where there is no word.
 pub fn next_word(line: &[u8]) -> Option<(&[u8], &[u8])>
-    ensures words { MatchOption result (words_in line.now ≡ []) (λ found. words_in line.now ≡ found.0.now ∷ words_in found.1.now) }
-    ensures shorter { MatchOption result (words_in line.now ≡ []) (λ found. (0 < length found.0.now) × (length found.0.now + length found.1.now ≤ length line.now)) }
+    ensures words { MatchOption result (words_in line.now ≡ [])
+        (λ found. words_in line.now ≡ found.0.now ∷ words_in found.1.now) }
+    ensures shorter { MatchOption result (words_in line.now ≡ [])
+        (λ found. (0 < length found.0.now) × (length found.0.now + length found.1.now ≤ length line.now)) }
 {
     let line = trim_start(line);
     if line.is_empty() {
