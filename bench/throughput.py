@@ -8,7 +8,8 @@ What a time is bound by: `convert`, `check`, `screen`, `state`, `save` and `resu
 gathering of 24 symbols and a look at its sums (on an authored stream nearly all blocks are idle); with a wrong symbol in each
 block by the correction; `merge` by two such streams; `q` by the check and the text of a line a block; `planar` and `raw` by
 the bits; `scratch` by the copy; `author`, `press` and `trial` by the writer of blocks, `author` also by the plans of the
-pictures; `thin` by the drawing. Everything goes through two pipes, as `cat` does.
+pictures; `thin` by the drawing. Everything goes through two pipes, as `cat` does. Long scripts come last: 20,000 `show` lines
+without a change, bound by the comparison of each picture with the one before, and 64 MiB of `fill` lines, by the grammar.
 """
 import hashlib
 import os

@@ -45,13 +45,10 @@ fn single_colour(tile: &Tile) -> Option<u8>
     ensures colour { MatchOption result ((c : ℕ) → tile.now ≢ replicate 72 c) (λ c. (c < 16) × (tile.now ≡ replicate 72 c)) }
 {
     let pixels = tile.pixels();
-    let first = pixels[0];
-    for pixel in pixels {
-        if *pixel != first {
-            return None;
-        }
+    if pixels[1..72] == pixels[0..71] {
+        return Some(pixels[0]);
     }
-    Some(first)
+    None
 }
 
 /// What tile `i` of picture `k`, which stands on `now`, takes where the picture before it stands on `before`.
