@@ -11,7 +11,7 @@ use Rattle.gf64.proofs.Tables.{all_below, all_below-at}
 use Rattle.text_lines.specs.Text.{words_in, without_blanks}
 use Rattle.text_lines.proofs.Times.{time_is}
 use Rattle.picture_script.specs.Script.{Drawing, Rect, Show, pictures}
-use Rattle.picture_script.specs.ScriptGrammar.{small_number, numbers_in, joined, colour_in, colour_of, rect_of, show_of, colour_line, rect_line as read_rect, show_line as read_show, is_in_range, is_after_hold, unless_refused, checked_line, checked_command, checked_words, is_passed_over}
+use Rattle.picture_script.specs.ScriptGrammar.{small_number, numbers_in, number_before, colour_in, colour_of, rect_of, show_of, colour_line, rect_line as read_rect, show_line as read_show, is_in_range, is_after_hold, unless_refused, checked_line, checked_command, checked_words, is_passed_over}
 use Rattle.picture_script.specs.declared.reasons.ScriptWhy.TheVariants.{OutOfRange, TimeOrder, TooMany}
 use Rattle.cdg_workload.specs.Generator.{low_half, high_half}
 use Rattle.cdg_workload.specs.Script.{generated_rect_line, grey_line, generated_show_line}
@@ -70,7 +70,7 @@ rect_of_words a b =
 
 numbers_more : (count : ℕ) (word : List ℕ) (words : List (List ℕ)) (n : ℕ) (ns : List ℕ) → small_number word ≡ Some n → numbers_in count words ≡ Some ns → numbers_in (suc count) (word ∷ words) ≡ Some (n ∷ ns)
 unfolding numbers_in
-numbers_more count word words n ns first others = ap₂ joined first others
+numbers_more count word words n ns first others = ap₂ number_before first others
 
 no_more : numbers_in 0 [] ≡ Some []
 unfolding numbers_in

@@ -12,7 +12,7 @@ use Rattle.picture_script.specs.Lines.{said, all_said, is_kept}
 use Rattle.picture_script.specs.declared.line.Line.{Line}
 use Rattle.picture_script.specs.declared.line.Line.TheVariants.{Filled}
 use Rattle.std.proofs.lemmas.Bool.Decides.{nat_tests}
-use Rattle.picture_script.specs.Board.{Board, IsBlank, IsPicture, IsDrawn, IsSet, Becomes, StandsBefore, pixel_of, tile_of}
+use Rattle.picture_script.specs.Board.{Board, IsBlank, IsPicture, IsDrawn, IsSet, ArePixelsOf, StandsBefore, pixel_of, tile_of}
 use Rattle.picture_script.proofs.Scripts.{before_prefix, before_rising}
 
 pub blank-drawn : (script : List Drawing) (board : Board) → IsBlank board → IsDrawn (drawn_by (take 0 script)) board
@@ -64,7 +64,7 @@ set_before picture board h = record { border_is = h.border_is; colours_are = h.c
 
 -- a line that fills the window leaves nothing of what was drawn before it
 pub filled-drawn : (script : List Drawing) (place colour border : ℕ) (pixels colours : List ℕ) (at : Option ℕ) (old : Board) → place < length script → get_or script place (Fill 0) ≡ Fill colour
-    → Becomes pixels (λ x y. colour) → IsSet (drawn_by (take place script)) old → old.border ≡ border → old.colours ≡ colours
+    → ArePixelsOf pixels (λ x y. colour) → IsSet (drawn_by (take place script)) old → old.border ≡ border → old.colours ≡ colours
     → IsDrawn (drawn_by (take (place + 1) script)) (record { pixels = pixels; border = border; colours = colours; at = at })
 filled-drawn script place colour border pixels colours at old lt is filled h border_is colours_is =
     let more : take (place + 1) script ≡ take place script ++ Fill colour ∷ [] = take_more script place (Fill 0) lt ∙ ap (λ x. take place script ++ x ∷ []) is in

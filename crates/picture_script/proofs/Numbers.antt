@@ -2,7 +2,7 @@
 use Rattle.std.proofs.Common.{◌≡◌, ℕ, suc, ◌+◌, ◌-◌, ◌<◌, ◌≤◌, List, [], ◌∷◌, ◌++◌, length, take, set, refl, ap, sym, ◌∙◌, append_assoc, append-nil, arith}
 use Rattle.std.specs.Prelude.{Option, Some, None}
 use Rattle.std.proofs.lemmas.List.{take_more_set, take_all}
-use Rattle.picture_script.specs.ScriptGrammar.{small_number, numbers_in, joined}
+use Rattle.picture_script.specs.ScriptGrammar.{small_number, numbers_in, number_before}
 
 -- numbers before others
 abbrev pub with_front : List ℕ → Option (List ℕ) → Option (List ℕ)
@@ -13,11 +13,11 @@ pub front_none : (numbers : Option (List ℕ)) → numbers ≡ with_front [] num
 front_none (Some ys) = refl
 front_none None = refl
 
-front_more : (xs : List ℕ) (v : ℕ) (rest : Option (List ℕ)) → with_front xs (joined (Some v) rest) ≡ with_front (xs ++ v ∷ []) rest
+front_more : (xs : List ℕ) (v : ℕ) (rest : Option (List ℕ)) → with_front xs (number_before (Some v) rest) ≡ with_front (xs ++ v ∷ []) rest
 front_more xs v (Some ys) = ap Some (sym (append_assoc xs (v ∷ []) ys))
 front_more xs v None = refl
 
-joined_none : (rest : Option (List ℕ)) → joined None rest ≡ None
+joined_none : (rest : Option (List ℕ)) → number_before None rest ≡ None
 joined_none (Some ys) = refl
 joined_none None = refl
 
@@ -30,7 +30,7 @@ unfolding numbers_in
 one_more all n i v xs word words after i_lt x_lt split read h =
     h ∙ ap (λ ws. with_front (take i xs) (numbers_in (n - i) ws)) split
     ∙ ap (λ m. with_front (take i xs) (numbers_in m (word ∷ after))) (split_count n i i_lt)
-    ∙ ap (λ o. with_front (take i xs) (joined o (numbers_in (n - (i + 1)) after))) read
+    ∙ ap (λ o. with_front (take i xs) (number_before o (numbers_in (n - (i + 1)) after))) read
     ∙ front_more (take i xs) v (numbers_in (n - (i + 1)) after)
     ∙ ap (λ front. with_front front (numbers_in (n - (i + 1)) after)) (sym (take_more_set xs i v x_lt))
 
@@ -45,7 +45,7 @@ unfolding numbers_in
 no_number all n i xs word words after i_lt split read h =
     h ∙ ap (λ ws. with_front xs (numbers_in (n - i) ws)) split
     ∙ ap (λ m. with_front xs (numbers_in m (word ∷ after))) (split_count n i i_lt)
-    ∙ ap (λ o. with_front xs (joined o (numbers_in (n - (i + 1)) after))) read
+    ∙ ap (λ o. with_front xs (number_before o (numbers_in (n - (i + 1)) after))) read
     ∙ ap (with_front xs) (joined_none (numbers_in (n - (i + 1)) after))
 
 no_more : (n i : ℕ) → n ≤ i → n - i ≡ 0

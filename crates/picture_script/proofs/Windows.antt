@@ -6,7 +6,7 @@ use Rattle.std.proofs.lemmas.List.{length-replicate, get_or-replicate, get_or_pa
 use Rattle.std.specs.Prelude.{nat_le, nat_lt}
 use borrow.Rule.Slice.PartMut.{put_mid}
 use Rattle.picture_script.specs.Script.{is_within}
-use Rattle.picture_script.specs.Board.{pixel_of, Becomes, IsWindow, AreColours}
+use Rattle.picture_script.specs.Board.{pixel_of, ArePixelsOf, AreWindowPixels, AreColours}
 
 -- a colour everywhere, and 0 past the end
 pub same-below : (n colour i : ℕ) → colour < 16 → get_or (replicate n colour) i 0 < 16
@@ -15,15 +15,15 @@ same-below n colour i small = elim (cases_lt i n) [
   | inr past ↦ rw (get_or_past {X = ℕ} (replicate n colour) i 0 (omega (arith, length-replicate {A = ℕ}))) (omega arith)
 ]
 
-pub new-is_window : (pixels : List ℕ) (n : ℕ) → pixels ≡ replicate n 0 → n ≡ 55296 → IsWindow pixels
+pub new-is_window : (pixels : List ℕ) (n : ℕ) → pixels ≡ replicate n 0 → n ≡ 55296 → AreWindowPixels pixels
 new-is_window pixels n h size =
     rw h (record { count = length-replicate {A = ℕ} n 0 ∙ size; colours = λ i. same-below n 0 i (omega arith) })
 
-pub new-becomes : (pixels : List ℕ) (n : ℕ) → pixels ≡ replicate n 0 → n ≡ 55296 → Becomes pixels (λ x y. 0)
+pub new-becomes : (pixels : List ℕ) (n : ℕ) → pixels ≡ replicate n 0 → n ≡ 55296 → ArePixelsOf pixels (λ x y. 0)
 unfolding pixel_of
 new-becomes pixels n h size x y x_lt y_lt = rw h (get_or-replicate {A = ℕ} n (288 * y + x) 0 0 (omega arith))
 
-pub all-becomes : (pixels : List ℕ) (colour : ℕ) → ((k : ℕ) → k < 55296 → get_or pixels k 0 ≡ colour) → Becomes pixels (λ x y. colour)
+pub all-becomes : (pixels : List ℕ) (colour : ℕ) → ((k : ℕ) → k < 55296 → get_or pixels k 0 ≡ colour) → ArePixelsOf pixels (λ x y. colour)
 unfolding pixel_of
 all-becomes pixels colour all x y x_lt y_lt = all (288 * y + x) (omega arith)
 
@@ -71,7 +71,7 @@ length-written old piece start count within size =
     let outer = length-append (take start old) (piece ++ drop count (drop start old)) in
     omega arith
 
-pub written-is_window : (old piece : List ℕ) (start count : ℕ) → IsWindow old → AreColours piece → start + count ≤ 55296 → length piece ≡ count → IsWindow (put_mid start count old piece)
+pub written-is_window : (old piece : List ℕ) (start count : ℕ) → AreWindowPixels old → AreColours piece → start + count ≤ 55296 → length piece ≡ count → AreWindowPixels (put_mid start count old piece)
 written-is_window old piece start count w small within size = record {
   count = length-written old piece start count (omega (arith, w.count)) size ∙ w.count;
   colours = λ i.
@@ -82,7 +82,7 @@ written-is_window old piece start count w small within size = record {
 }
 
 pub written-becomes : (old piece : List ℕ) (x y count : ℕ) → length old ≡ 55296 → x + count ≤ 288 → y < 192 → length piece ≡ count
-    → Becomes (put_mid (288 * y + x) count old piece) (λ x' y'. if is_within x count x' && y' == y then get_or piece (x' - x) 0 else pixel_of old x' y')
+    → ArePixelsOf (put_mid (288 * y + x) count old piece) (λ x' y'. if is_within x count x' && y' == y then get_or piece (x' - x) 0 else pixel_of old x' y')
 unfolding pixel_of
 written-becomes old piece x y count whole within down size x' y' x'_lt y'_lt =
     let e = written-at old piece (288 * y + x) count (288 * y' + x') (omega arith) size in
@@ -112,8 +112,8 @@ row-written items old new piece len x y count same written whole full within dow
           (full ∙ sym (length-written items piece (288 * y + x) count (omega arith) size)),
     ) (written-becomes items piece x y count whole within down size x' y' x'_lt y'_lt)
 
-pub row-is_window : (items old new piece : List ℕ) (len start count : ℕ) → old ≡ items → new ≡ piece → IsWindow items → AreColours piece → len ≡ length items → start + count ≤ 55296 → length piece ≡ count
-    → IsWindow (take len (put_mid start (start + count - start) old new ++ drop (length (put_mid start (start + count - start) old new)) items))
+pub row-is_window : (items old new piece : List ℕ) (len start count : ℕ) → old ≡ items → new ≡ piece → AreWindowPixels items → AreColours piece → len ≡ length items → start + count ≤ 55296 → length piece ≡ count
+    → AreWindowPixels (take len (put_mid start (start + count - start) old new ++ drop (length (put_mid start (start + count - start) old new)) items))
 row-is_window items old new piece len start count same written w small full within size =
     let k : start + count - start ≡ count = omega arith in
     rw (

@@ -15,8 +15,8 @@ unfoldable pub pixel_of : List ℕ → ℕ → ℕ → ℕ
 pixel_of pixels x y = slice_index pixels (288 * y + x)
 
 -- the pixels become those of a function of the place
-abbrev pub Becomes : List ℕ → (ℕ → ℕ → ℕ) → Type 0
-Becomes pixels f = (x y : ℕ) → x < 288 → y < 192 → pixel_of pixels x y ≡ f x y
+abbrev pub ArePixelsOf : List ℕ → (ℕ → ℕ → ℕ) → Type 0
+ArePixelsOf pixels f = (x y : ℕ) → x < 288 → y < 192 → pixel_of pixels x y ≡ f x y
 
 -- nothing is drawn
 pub record IsBlank (board : Board) : Type 0 where
@@ -54,12 +54,12 @@ abbrev pub AreColours : List ℕ → Type 0
 AreColours colours = (i : ℕ) → slice_index colours i < 16
 
 -- the pixels of a whole window
-pub record IsWindow (pixels : List ℕ) : Type 0 where
+pub record AreWindowPixels (pixels : List ℕ) : Type 0 where
   pub count : length pixels ≡ 55296
   pub colours : (i : ℕ) → slice_index pixels i < 16
 
 -- the ranges of what stands beside the pixels
-pub record IsInRange (border : ℕ) (colours : List ℕ) : Type 0 where
+pub record IsCanvasInRange (border : ℕ) (colours : List ℕ) : Type 0 where
   pub border_below : border < 16
   pub colours_count : length colours ≡ 16
   pub colours_below : (i : ℕ) → slice_index colours i < 4096

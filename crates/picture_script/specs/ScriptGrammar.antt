@@ -14,16 +14,16 @@ abbrev pub small_number : List ℕ → Option ℕ
 small_number word = number_in 1 3 word
 
 -- a number before others
-abbrev pub joined : Option ℕ → Option (List ℕ) → Option (List ℕ)
-joined (Some number) (Some numbers) = Some (number ∷ numbers)
-joined _ _ = None
+abbrev pub number_before : Option ℕ → Option (List ℕ) → Option (List ℕ)
+number_before (Some number) (Some numbers) = Some (number ∷ numbers)
+number_before _ _ = None
 
 -- the numbers of words, if there are so many words and each is a number
 unfoldable pub numbers_in : ℕ → List (List ℕ) → Option (List ℕ)
 numbers_in zero [] = Some []
 numbers_in zero (word ∷ words) = None
 numbers_in (suc count) [] = None
-numbers_in (suc count) (word ∷ words) = joined (small_number word) (numbers_in count words)
+numbers_in (suc count) (word ∷ words) = number_before (small_number word) (numbers_in count words)
 
 -- a colour: four hexadecimal digits of either case, the first of them 0
 unfoldable pub colour_in : List ℕ → Option ℕ

@@ -16,13 +16,13 @@ pub struct Canvas {
 }
 
 impl Model for Canvas {
-    ghost use Rattle.picture_script.specs.Board.{Board, IsInRange};
+    ghost use Rattle.picture_script.specs.Board.{Board, IsCanvasInRange};
 
     ghost Value = { Board };
 
     ghost view = { λ c. record { pixels = c.window; border = c.border; colours = c.colours; at = c.at } };
 
-    ghost invariant = { λ c. IsInRange c.border c.colours };
+    ghost invariant = { λ c. IsCanvasInRange c.border c.colours };
 }
 
 impl Canvas {

@@ -1,7 +1,7 @@
 // The pixels of a window.
 ghost use Rattle.std.specs.Prelude.{◌≡◌, ◌<◌, ◌≤◌, ◌+◌, ◌-◌, ◌*◌, ◌==◌, ◌&&◌, nat_le, nat_lt, if◌then◌else◌, ℕ, List, length, slice_index, IfOk, IsTrue, ◌↔◌};
 ghost use Rattle.picture_script.specs.Script.{is_within};
-ghost use Rattle.picture_script.specs.Board.{pixel_of, Becomes, IsWindow, AreColours};
+ghost use Rattle.picture_script.specs.Board.{pixel_of, ArePixelsOf, AreWindowPixels, AreColours};
 
 use std::alloc::{AllocError, Global};
 use std::marker::Model;
@@ -22,13 +22,13 @@ impl Model for Window {
 
     ghost view = { λ w. w.pixels.items };
 
-    ghost invariant = { λ w. IsWindow w.pixels.items };
+    ghost invariant = { λ w. AreWindowPixels w.pixels.items };
 }
 
 impl Window {
     /// A window whose pixels are all 0.
     pub(crate) fn new(alloc: Global) -> Result<Window, AllocError>
-        ensures { IfOk result (λ w. Becomes w (λ x y. 0)) }
+        ensures { IfOk result (λ w. ArePixelsOf w (λ x y. 0)) }
     {
         let pixels = vec![in alloc; 0; WIDTH * HEIGHT]?;
         Ok(Window { pixels })
@@ -67,7 +67,7 @@ impl Window {
     /// Sets all pixels.
     pub(crate) fn clear(&mut self, colour: u8)
         requires { colour < 16 }
-        ensures { Becomes self.new (λ x y. colour) }
+        ensures { ArePixelsOf self.new (λ x y. colour) }
     {
         self.pixels.fill(colour);
     }
@@ -77,7 +77,7 @@ impl Window {
         requires width { x + width ≤ 288 }
         requires height { y < 192 }
         requires range { colour < 16 }
-        ensures { Becomes self.new (λ x' y'.
+        ensures { ArePixelsOf self.new (λ x' y'.
             if y' == y && is_within x width x' then colour else pixel_of self.old x' y') }
     {
         let start = WIDTH * y + x;
@@ -89,7 +89,7 @@ impl Window {
         requires width { x + width ≤ 288 }
         requires height { y + height ≤ 192 }
         requires range { colour < 16 }
-        ensures { Becomes self.new (λ x' y'.
+        ensures { ArePixelsOf self.new (λ x' y'.
             if is_within x width x' && is_within y height y' then colour else pixel_of self.old x' y') }
     {
         for j in 0..height {
@@ -102,7 +102,7 @@ impl Window {
         requires width { x + length colours.now ≤ 288 }
         requires height { y < 192 }
         requires range { AreColours colours.now }
-        ensures { Becomes self.new (λ x' y'.
+        ensures { ArePixelsOf self.new (λ x' y'.
             if is_within x (length colours.now) x' && y' == y then slice_index colours.now (x' - x) else pixel_of self.old x' y') }
     {
         let start = WIDTH * y + x;
