@@ -14,13 +14,9 @@ abbrev pub word_count : Form → ℕ → ℕ
 word_count Cooked blocks = 4 * blocks
 word_count _ blocks = whole_packs blocks
 
--- word n of symbols that stand as they are
-abbrev pub plain_word : List ℕ → ℕ → List ℕ
-plain_word symbols n = map (λ i. slice_index symbols (24 * n + i)) (below 24)
-
 -- word n of the program symbols: gathered from its places, or as it stands where the stream is cooked
 abbrev pub form_word : Form → List ℕ → ℕ → List ℕ
-form_word Cooked symbols n = plain_word symbols n
+form_word Cooked symbols n = map (λ i. slice_index symbols (24 * n + i)) (below 24)
 form_word _ symbols n = word_of symbols n
 
 -- what is found for each word of the program symbols
@@ -37,14 +33,11 @@ bad_count found = count_by is_none found
 abbrev pub all_packs : Form → ℕ → List (List ℕ) → List (List ℕ)
 all_packs form blocks packs = packs ++ replicate (word_count form blocks - length packs) (replicate 24 0)
 
--- the program symbols of another stream hold each word of these symbols with at most two wrong ones, and further
--- words are nearly zero
+-- other program symbols hold each word of these with at most two wrong symbols, and further words are nearly zero
 pub record IsDamaged (symbols : List ℕ) (form : Form) (others : List ℕ) : Type 0 where
   pub size : length others ≡ length symbols
-  pub words : (n : ℕ) → n < whole_packs (length symbols / block_bytes)
-      → IsNear (word_of symbols n) (form_word form others n)
-  pub further : (n : ℕ) → whole_packs (length symbols / block_bytes) ≤ n
-      → n < word_count form (length symbols / block_bytes) → IsNear (form_word form others n) (replicate 24 0)
+  pub words : (n : ℕ) → n < whole_packs (length symbols / block_bytes) → IsNear (word_of symbols n) (form_word form others n)
+  pub further : (n : ℕ) → whole_packs (length symbols / block_bytes) ≤ n → n < word_count form (length symbols / block_bytes) → IsNear (form_word form others n) (replicate 24 0)
 
 -- Symbols that differ in bursts
 

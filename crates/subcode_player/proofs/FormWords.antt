@@ -14,7 +14,7 @@ use Rattle.rw_interleave.specs.Gathering.{gather_next, gather_gives}
 use Rattle.rw_interleave.proofs.Gathers.{gathers}
 use Rattle.rw_interleave.proofs.Places.{concat_at}
 use Rattle.raw_subcode.specs.Channels.{symbols_of}
-use Rattle.rw_interleave.specs.Stream.{word_count, plain_word, form_word, IsRecovered}
+use Rattle.rw_interleave.specs.Stream.{word_count, form_word, IsRecovered}
 use Rattle.subcode_player.specs.Steps.{slots_of, window_next, window_gives}
 use Rattle.raw_subcode.specs.declared.form.Form.{Form}
 use Rattle.raw_subcode.specs.declared.form.Form.TheVariants.{Raw, Sector, Cooked}
@@ -45,9 +45,9 @@ size_at (s ∷ slots) zero sized lt = sized.0
 size_at (s ∷ slots) (suc k) sized lt = size_at slots k sized.1 (omega arith)
 
 -- slots are the words of their symbols as they stand
-plain_words : (slots : List (List ℕ)) → Sized 24 slots → slots ≡ map (plain_word (concat slots)) (below (length slots))
+plain_words : (slots : List (List ℕ)) → Sized 24 slots → slots ≡ map (form_word Cooked (concat slots)) (below (length slots))
 plain_words slots sized =
-    fill_by_all (plain_word (concat slots)) slots (length slots) [] refl (λ k lt.
+    fill_by_all (form_word Cooked (concat slots)) slots (length slots) [] refl (λ k lt.
     fill_by_all (λ i. get_or (concat slots) (24 * k + i) 0) (get_or slots k []) 24 0 (size_at slots k sized lt) (λ p within. sym (concat_at slots k p sized within)))
 
 gathered_words : (slots : List (List ℕ)) → Sized 24 slots → run_gives gather_next gather_gives [] slots ≡ map (word_of (concat slots)) (below (length slots - 7))
@@ -57,7 +57,7 @@ gathered_words slots sized = gathers [] slots (omega arith) sized
 pub words_are : (form : Form) (slots : List (List ℕ)) (n : ℕ) → Sized 24 slots → length slots ≡ 4 * n → words_from form slots ≡ map (form_word form (concat slots)) (below (word_count form n))
 words_are Raw slots n sized size = raw_words [] slots ∙ gathered_words slots sized ∙ ap (λ k. map (word_of (concat slots)) (below (k - 7))) size
 words_are Sector slots n sized size = sector_words [] slots ∙ gathered_words slots sized ∙ ap (λ k. map (word_of (concat slots)) (below (k - 7))) size
-words_are Cooked slots n sized size = cooked_words [] slots ∙ plain_words slots sized ∙ ap (λ k. map (plain_word (concat slots)) (below k)) size
+words_are Cooked slots n sized size = cooked_words [] slots ∙ plain_words slots sized ∙ ap (λ k. map (form_word Cooked (concat slots)) (below k)) size
 
 -- 24 small symbols at any places are a word
 placed_word : (symbols : List ℕ) (at : ℕ → ℕ) → ((p : ℕ) → get_or symbols p 0 < 64) → IsWord (map (λ i. get_or symbols (at i) 0) (below 24))
