@@ -5,7 +5,7 @@ use Rattle.std.proofs.lemmas.Bool.{cases_Bool}
 use Rattle.std.proofs.lemmas.Bool.Decides.{nat_tests}
 use Rattle.bit_lists.specs.Digits.{digits, hex_digits, line_feed}
 use Rattle.cdg_screen.specs.Picture.{Standing, SameStanding, screen_pixel}
-use Rattle.cdg_screen.specs.Texts.{colour_bytes, pixmap, pixmap_header, pixmap_row, state_text, state_head, colour_line}
+use Rattle.cdg_screen.specs.Texts.{colour_bytes, pixmap, pixmap_header, pixmap_row, state_text, state_head, state_row}
 
 -- the numbers that stand are colours and offsets of the screen
 pub record IsShowable (now : Standing) : Type 0 where
@@ -41,8 +41,8 @@ pub picture_same : (now other : Standing) → SameStanding now other → IsShowa
 unfolding pixmap
 picture_same now other same ok = ap (λ (rest : List ℕ). pixmap_header ++ rest) (flat_same (pixmap_row now) (pixmap_row other) 0 216 (λ y lt. row_same now other same ok y (omega (arith, lt))))
 
-line_same : (now other : Standing) → SameStanding now other → (k : ℕ) → k < 16 → colour_line now k ≡ colour_line other k
-unfolding colour_line
+line_same : (now other : Standing) → SameStanding now other → (k : ℕ) → k < 16 → state_row now k ≡ state_row other k
+unfolding state_row
 line_same now other same k lt =
     ap₂ (λ c l. codes "colour " ++ digits 2 k ++ codes " " ++ hex_digits 4 c ++ codes " level " ++ digits 2 l ++ line_feed) (same.colour k lt) (same.level k lt)
 
@@ -51,4 +51,4 @@ head_same now other same = rw (same.border, same.h, same.v) refl
 
 pub state_same : (now other : Standing) → SameStanding now other → state_text now ≡ state_text other
 unfolding state_text
-state_same now other same = ap₂ (λ (one : List ℕ) (rest : List ℕ). one ++ rest) (head_same now other same) (flat_same (colour_line now) (colour_line other) 0 16 (λ k lt. line_same now other same k (omega (arith, lt))))
+state_same now other same = ap₂ (λ (one : List ℕ) (rest : List ℕ). one ++ rest) (head_same now other same) (flat_same (state_row now) (state_row other) 0 16 (λ k lt. line_same now other same k (omega (arith, lt))))

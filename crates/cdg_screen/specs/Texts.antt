@@ -21,8 +21,8 @@ pixmap now = pixmap_header ++ flat_map (pixmap_row now) (below 216)
 
 -- The state: the border, the offsets, and the sixteen colours and levels
 
-unfoldable pub colour_line : Standing → ℕ → List ℕ
-colour_line now k = codes "colour " ++ digits 2 k ++ codes " " ++ hex_digits 4 (now.colour k) ++ codes " level " ++ digits 2 (now.level k) ++ line_feed
+unfoldable pub state_row : Standing → ℕ → List ℕ
+state_row now k = codes "colour " ++ digits 2 k ++ codes " " ++ hex_digits 4 (now.colour k) ++ codes " level " ++ digits 2 (now.level k) ++ line_feed
 
 abbrev pub state_head : Standing → List ℕ
 state_head now =
@@ -30,4 +30,4 @@ state_head now =
     ++ codes "offset " ++ digits 1 now.h ++ codes " " ++ digits 2 now.v ++ line_feed
 
 unfoldable pub state_text : Standing → List ℕ
-state_text now = state_head now ++ flat_map (colour_line now) (below 16)
+state_text now = state_head now ++ flat_map (state_row now) (below 16)
