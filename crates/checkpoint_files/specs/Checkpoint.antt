@@ -2,6 +2,7 @@
 use Rattle.std.specs.Prelude.{ℕ, zero, suc, ◌+◌, ◌*◌, ◌/◌, ◌%◌, ◌^◌, List, [], ◌∷◌, ◌++◌, take, drop, flat_map, slice_index}
 use Rattle.bit_lists.specs.Counting.{below}
 use Rattle.bit_lists.specs.Check.{check_of}
+use Rattle.cdg_instructions.specs.Sizes.{screen_width}
 use Rattle.cdg_screen.specs.Picture.{Standing}
 use Rattle.checkpoint_files.specs.declared.counts.Counts.{Counts}
 use Rattle.checkpoint_files.specs.Table.{Part, Mark, ToCome, LeadIn, Program, Bad, Slots, Memory, Border, Across, Down, Colours, Levels, Check, row, body_parts, mark, number}
@@ -29,7 +30,7 @@ value c LeadIn k = c.lead_in
 value c Program k = c.program
 value c Bad k = c.bad
 value c Slots k = slice_index c.slots k
-value c Memory k = c.standing.memory (k % 300) (k / 300)
+value c Memory k = c.standing.memory (k % screen_width) (k / screen_width)
 value c Border k = c.standing.border
 value c Across k = c.standing.h
 value c Down k = c.standing.v
@@ -64,7 +65,7 @@ file_of c = body c ++ bytes_of 2 (check_of (body c))
 -- what stands by a file: row by row from the left
 abbrev pub standing_in : List ℕ → Standing
 standing_in file = record {
-  memory = λ x y. number file Memory (300 * y + x);
+  memory = λ x y. number file Memory (screen_width * y + x);
   border = number file Border 0;
   colour = number file Colours;
   level = number file Levels;

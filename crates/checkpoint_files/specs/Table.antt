@@ -2,7 +2,10 @@
 use Rattle.std.specs.Prelude.{◌≡◌, ℕ, zero, suc, ◌+◌, ◌-◌, ◌*◌, ◌^◌, ◌<◌, ◌≤◌, List, [], ◌∷◌, ◌++◌, length, take, slice_index, min, codes}
 use Rattle.std.specs.List.{AllByRecursion}
 use Rattle.bit_lists.specs.Check.{check_of}
-use Rattle.rw_interleave.specs.Interleave.{whole_packs}
+use Rattle.disc_time.specs.Counts.{most_lead_in}
+use Rattle.raw_subcode.specs.Sizes.{most_units, slots_a_block, symbols_a_slot}
+use Rattle.rw_interleave.specs.Interleave.{packs_kept_back, whole_packs}
+use Rattle.cdg_instructions.specs.Sizes.{screen_pixels}
 
 -- the parts of the file, each of fields of the same size
 pub data Part : Type 0 where
@@ -33,7 +36,7 @@ row LeadIn = record { first = 12; count = 1; size = 4 }
 row Program = record { first = 16; count = 1; size = 4 }
 row Bad = record { first = 20; count = 1; size = 4 }
 row Slots = record { first = 24; count = 168; size = 1 }
-row Memory = record { first = 192; count = 64800; size = 1 }
+row Memory = record { first = 192; count = screen_pixels; size = 1 }
 row Border = record { first = 64992; count = 1; size = 1 }
 row Across = record { first = 64993; count = 1; size = 1 }
 row Down = record { first = 64994; count = 1; size = 1 }
@@ -67,14 +70,14 @@ mark = number_at (codes "CDGSAVE1") 8 0
 
 -- the symbols of the last seven slots that stand for no slot, after so many program blocks
 abbrev pub empty_symbols : ℕ → ℕ
-empty_symbols program = 24 * (7 - min 7 (4 * program))
+empty_symbols program = symbols_a_slot * (packs_kept_back - min packs_kept_back (slots_a_block * program))
 
 -- the number in field k of a part is in its range
 abbrev pub IsFieldInRange : List ℕ → Part → ℕ → Type 0
 IsFieldInRange file Mark k = number file Mark 0 ≡ mark
-IsFieldInRange file ToCome k = number file ToCome 0 ≤ 450000
-IsFieldInRange file LeadIn k = number file ToCome 0 + number file LeadIn 0 ≤ 450000
-IsFieldInRange file Program k = (number file LeadIn 0 + number file Program 0 ≤ 1000000) × (0 < number file ToCome 0 → number file Program 0 ≡ 0)
+IsFieldInRange file ToCome k = number file ToCome 0 ≤ most_lead_in
+IsFieldInRange file LeadIn k = number file ToCome 0 + number file LeadIn 0 ≤ most_lead_in
+IsFieldInRange file Program k = (number file LeadIn 0 + number file Program 0 ≤ most_units) × (0 < number file ToCome 0 → number file Program 0 ≡ 0)
 IsFieldInRange file Bad k = number file Bad 0 ≤ whole_packs (number file Program 0)
 IsFieldInRange file Slots k = (number file Slots k < 64) × (k < empty_symbols (number file Program 0) → number file Slots k ≡ 0)
 IsFieldInRange file Memory k = number file Memory k < 16

@@ -10,14 +10,12 @@ use crate::fields::{
     ACROSS, BAD, BORDER, CHECK, COLOURS, DOWN, LEAD_IN, LEVELS, MEMORY, PROGRAM, SLOTS, TO_COME,
 };
 use crate::file::{CheckpointFile, FILE_BYTES, SLOTS_BYTES};
+use disc_time::MOST_LEAD_IN;
+use raw_subcode::MOST_UNITS;
 use subcode_crc::crc16;
 
 /// The eight bytes at the front, `CDGSAVE1`, as one number.
 const MARK: u64 = 0x4344_4753_4156_4531;
-
-const MOST_LEAD_IN: u32 = 450_000;
-
-const MOST_BLOCKS: u32 = 1_000_000;
 
 /// How many bytes of the slots stand for no slot, after so many blocks of the program.
 fn empty_symbols(program: u32) -> usize
@@ -103,7 +101,7 @@ impl CheckpointFile {
     {
         let counts = self.counts();
         let blocks = u64::from(counts.lead_in) + u64::from(counts.program);
-        if blocks > u64::from(MOST_BLOCKS) || (counts.to_come > 0 && counts.program > 0) {
+        if blocks > u64::from(MOST_UNITS) || (counts.to_come > 0 && counts.program > 0) {
             return Err(PROGRAM as u32);
         }
         Ok(())

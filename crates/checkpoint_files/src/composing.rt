@@ -6,6 +6,7 @@ ghost use Rattle.checkpoint_files.specs.Checkpoint.{bytes_of, file_of, kept, par
 
 use crate::Counts;
 use crate::file::{CheckpointFile, SLOTS_BYTES};
+use cdg_instructions::{SCREEN_PIXELS, SCREEN_WIDTH};
 use cdg_screen::Screen;
 use subcode_crc::crc16;
 
@@ -13,10 +14,10 @@ use subcode_crc::crc16;
 pub(crate) const MARK: &[u8; 8] = b"CDGSAVE1";
 
 /// The pixels of the memory across.
-pub(crate) const WIDTH: u32 = 300;
+pub(crate) const WIDTH: u32 = SCREEN_WIDTH as u32;
 
 /// All pixels of the memory.
-pub(crate) const PIXELS: u32 = 64_800;
+pub(crate) const PIXELS: u32 = SCREEN_PIXELS as u32;
 
 /// The colours of the table.
 pub(crate) const COLOURS: u8 = 16;

@@ -1,5 +1,6 @@
 // What stood, brought back by instructions.
 ghost use Rattle.std.specs.Prelude.{◌≡◌, ◌≤◌, ◌+◌, ◌*◌, ◌/◌, ◌%◌, ◌<◌, ℕ, All, length, drop, slice_index, take};
+ghost use Rattle.cdg_instructions.specs.Sizes.{screen_height, screen_width};
 ghost use Rattle.cdg_screen.specs.Picture.{SameStanding, standing_of};
 ghost use Rattle.checkpoint_files.specs.Checkpoint.{checkpoint_in, standing_in};
 ghost use Rattle.checkpoint_files.specs.Drawn.{DrawsTile, HoldsTiles, set_by};
@@ -7,28 +8,27 @@ ghost use Rattle.checkpoint_files.specs.Table.{IsCheckpointFile};
 
 use crate::fields::{ACROSS, BORDER, COLOURS, DOWN, LEVELS, MEMORY, SLOTS};
 use crate::file::CheckpointFile;
-use cdg_instructions::{Instr, PIXELS, Tile};
+use cdg_instructions::{Instr, PIXELS, SCREEN_COLUMNS, SCREEN_TILES, Tile};
 use cdg_screen::Screen;
+use raw_subcode::SYMBOLS_A_SLOT;
 use tile_author::plan;
 
-/// The tiles of the memory: 18 rows of 50.
-const TILES: u32 = 900;
+/// The tiles of the memory.
+const TILES: u32 = SCREEN_TILES as u32;
 
 /// The tiles of a row.
-const COLUMNS: u32 = 50;
-
-const SLOT_BYTES: usize = 24;
+const COLUMNS: u32 = SCREEN_COLUMNS as u32;
 
 impl CheckpointFile {
     /// Slot k of the last seven of a checkpoint's file, the oldest first.
-    pub fn slot(&self, k: usize) -> [u8; 24]
+    pub fn slot(&self, k: usize) -> [u8; SYMBOLS_A_SLOT]
         requires file { length self.now ≡ 65045 }
         requires k { k < 7 }
         ensures { result ≡ take 24 (drop (24 * k) (checkpoint_in self.now).slots) }
     {
-        let mut slot = [0; SLOT_BYTES];
-        let first = SLOTS + SLOT_BYTES * k;
-        slot.copy_from_slice(&self.bytes()[first..first + SLOT_BYTES]);
+        let mut slot = [0; SYMBOLS_A_SLOT];
+        let first = SLOTS + SYMBOLS_A_SLOT * k;
+        slot.copy_from_slice(&self.bytes()[first..first + SYMBOLS_A_SLOT]);
         slot
     }
 
@@ -57,7 +57,7 @@ impl CheckpointFile {
         requires file { IsCheckpointFile self.now }
         requires row { row < 18 }
         requires column { column < 50 }
-        requires blank { (x y : ℕ) → x < 300 → y < 216 → x / 6 ≡ column → y / 12 ≡ row
+        requires blank { (x y : ℕ) → x < screen_width → y < screen_height → x / 6 ≡ column → y / 12 ≡ row
             → (standing_of screen.old).memory x y ≡ 0 }
         ensures { DrawsTile (standing_in self.now) row column (standing_of screen.old)
             (standing_of screen.new) }
@@ -87,8 +87,8 @@ impl CheckpointFile {
     /// A pixel of the memory.
     fn pixel(&self, x: usize, y: usize) -> u8
         requires file { IsCheckpointFile self.now }
-        requires width { x < 300 }
-        requires height { y < 216 }
+        requires width { x < screen_width }
+        requires height { y < screen_height }
         ensures pixel { result ≡ (standing_in self.now).memory x y }
         ensures range { result < 16 }
     {
