@@ -1,4 +1,4 @@
-use Rattle.std.proofs.Common.{◌≡◌, ◌+◌, ◌-◌, ◌*◌, ◌∙◌, sym, ap, take, drop, arith}
+use Rattle.std.proofs.Common.{◌≡◌, ◌+◌, ◌-◌, ◌*◌, ◌∙◌, sym, ap, arith}
 use Rattle.std.specs.Prelude.{slice_index}
 use Rattle.tile_author.proofs.SameLines.{equal_parts}
 use Rattle.tile_author.proofs.basis.is_line_before.Goals as goal
