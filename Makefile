@@ -19,10 +19,10 @@ example:
 	[ -f lib/libribjasper.a ] || tools/build_library.sh
 	tools/compare_player.sh measure
 
-# A short tour on real input. It builds nothing that is not there yet: without bin/ribjasper the
-# commands run through `rt try`, which compiles them unproved.
+# A tour of each command on one disc. It builds nothing that is not there yet: without bin/ribjasper
+# one `rt try` compiles the program unproved and runs it.
 demo:
-	examples/demo.sh
+	examples/demo.py
 
 # The gate, and then the repository's own checks.
 check:
@@ -46,18 +46,22 @@ install:
 	install -m 644 share/ribjasper.1 $(DESTDIR)$(PREFIX)/share/man/man1/ribjasper.1
 	install -m 644 share/ribjasper.bash $(DESTDIR)$(PREFIX)/share/bash-completion/completions/ribjasper
 	install -m 644 share/_ribjasper $(DESTDIR)$(PREFIX)/share/zsh/site-functions/_ribjasper
-
 	if [ -f lib/libribjasper.a ]; then \
 		install -d $(DESTDIR)$(PREFIX)/lib $(DESTDIR)$(PREFIX)/include && \
 		install -m 644 lib/libribjasper.a $(DESTDIR)$(PREFIX)/lib/libribjasper.a && \
 		install -m 644 include/ribjasper.h $(DESTDIR)$(PREFIX)/include/ribjasper.h; \
 	fi
 
+# What was installed, and the folders that are then empty, but for those of the system.
 uninstall:
 	rm -f $(DESTDIR)$(PREFIX)/lib/libribjasper.a $(DESTDIR)$(PREFIX)/include/ribjasper.h
 	rm -f $(DESTDIR)$(PREFIX)/bin/ribjasper $(DESTDIR)$(PREFIX)/share/man/man1/ribjasper.1
 	rm -f $(DESTDIR)$(PREFIX)/share/bash-completion/completions/ribjasper
 	rm -f $(DESTDIR)$(PREFIX)/share/zsh/site-functions/_ribjasper
+	case $(PREFIX) in /usr | /usr/local) ;; *) \
+		cd $(DESTDIR)$(PREFIX) && rmdir -p share/man/man1 share/bash-completion/completions \
+			share/zsh/site-functions bin lib include 2>/dev/null || true ;; \
+	esac
 
 clean:
 	rm -rf bin lib crates/*/out

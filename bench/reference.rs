@@ -1,7 +1,10 @@
 //! A plain program in Rust that does the work of some commands, to measure ours against: reference COMMAND <in >out.
 //!
-//! It is written to be short and fast, as one would without proofs: `convert`, `check`, `screen TIME`, `q`, `planar`,
-//! `raw`, `scratch SEED`, each of a stream of raw blocks without lead-in. Of Q frames it knows those of a program.
+//! It is written to be short and fast, as one would without proofs: `convert`, `check`, `screen TIME`, `state TIME`, `q`,
+//! `planar`, `raw`, `scratch SEED`, each of a stream of raw blocks without lead-in, `text LEAD-IN`, `thin`,
+//! `author LENGTH -- SHEET SCRIPT`, `press LENGTH -- SHEET FILE` and `trial SEED PICTURES`. Of Q frames it knows those of a
+//! program, of sheets tracks and index lines, and it refuses with few words.
+use std::fs;
 use std::io::{self, BufReader, BufWriter, Read, Stdin, Stdout, Write};
 
 const BLOCK: usize = 96;
@@ -104,7 +107,7 @@ impl Field {
 }
 
 /// Reads a block; false at the end of the input.
-fn read_block(input: &mut Input, block: &mut [u8]) -> io::Result<bool> {
+fn read_block(input: &mut impl Read, block: &mut [u8]) -> io::Result<bool> {
     match input.read_exact(block) {
         Ok(()) => Ok(true),
         Err(error) if error.kind() == io::ErrorKind::UnexpectedEof => Ok(false),
@@ -113,13 +116,16 @@ fn read_block(input: &mut Input, block: &mut [u8]) -> io::Result<bool> {
 }
 
 /// Gives each corrected word of a stream, with the number of wrong symbols.
-fn for_each_word(input: &mut Input, given: impl FnMut(&Word, Option<usize>) -> io::Result<()>) -> io::Result<()> {
+fn for_each_word(
+    input: &mut impl Read,
+    given: impl FnMut(&Word, Option<usize>) -> io::Result<()>,
+) -> io::Result<()> {
     for_each_word_and_block(input, |_| {}, given)
 }
 
 /// Gives each block, and each corrected word.
 fn for_each_word_and_block(
-    input: &mut Input,
+    input: &mut impl Read,
     mut seen: impl FnMut(&[u8]),
     mut given: impl FnMut(&Word, Option<usize>) -> io::Result<()>,
 ) -> io::Result<()> {
@@ -171,9 +177,15 @@ impl Check {
         }))
     }
 
-    fn is_good(&self, frame: &[u8; 12]) -> bool {
-        let check = frame[..10].iter().fold(0u16, |x, &byte| x << 8 ^ self.0[(x >> 8) as usize ^ byte as usize]);
-        !check == u16::from_be_bytes([frame[10], frame[11]])
+    fn of(&self, bytes: &[u8]) -> [u8; 2] {
+        let check = bytes.iter().fold(0u16, |x, &byte| x << 8 ^ self.0[(x >> 8) as usize ^ byte as usize]);
+        (!check).to_be_bytes()
+    }
+
+    /// Whether bytes end with their check.
+    fn is_good(&self, bytes: &[u8]) -> bool {
+        let (bytes, check) = bytes.split_at(bytes.len() - 2);
+        self.of(bytes) == check
     }
 }
 
@@ -214,16 +226,18 @@ fn check(input: &mut Input, out: &mut Output) -> io::Result<()> {
 }
 
 /// The screen of a player.
+#[derive(Clone, PartialEq)]
 struct Screen {
     memory: Vec<u8>,
     border: u8,
     colours: [u16; 16],
+    levels: [u8; 16],
     offsets: (usize, usize),
 }
 
 impl Screen {
     fn new() -> Screen {
-        Screen { memory: vec![0; 300 * 216], border: 0, colours: [0; 16], offsets: (0, 0) }
+        Screen { memory: vec![0; 300 * 216], border: 0, colours: [0; 16], levels: [0; 16], offsets: (0, 0) }
     }
 
     fn tile(&mut self, c: &[u8], combined: bool) {
@@ -271,6 +285,7 @@ impl Screen {
             (9, 38) => self.tile(c, true),
             (9, 20) => self.scroll(c, Some(c[0] & 15)),
             (9, 24) => self.scroll(c, None),
+            (9, 28) => self.levels.copy_from_slice(c),
             (9, part @ (30 | 31)) => {
                 for k in 0..8 {
                     let first = if part == 30 { 0 } else { 8 };
@@ -281,14 +296,18 @@ impl Screen {
         }
     }
 
+    /// The number of the colour that is shown at a place.
+    fn shown(&self, x: usize, y: usize) -> u8 {
+        let (h, v) = self.offsets;
+        let inside = (6..=293).contains(&x) && (12..=203).contains(&y);
+        if inside { self.memory[300 * (y + v) + x + h] } else { self.border }
+    }
+
     fn write(&self, out: &mut Output) -> io::Result<()> {
         out.write_all(b"P6\n300 216\n255\n")?;
         for y in 0..216 {
             for x in 0..300 {
-                let inside = (6..=293).contains(&x) && (12..=203).contains(&y);
-                let (h, v) = self.offsets;
-                let shown = if inside { self.memory[300 * (y + v) + x + h] } else { self.border };
-                let colour = self.colours[shown as usize];
+                let colour = self.colours[self.shown(x, y) as usize];
                 out.write_all(&[8, 4, 0].map(|k| 17 * (colour >> k & 15) as u8))?;
             }
         }
@@ -297,7 +316,7 @@ impl Screen {
 }
 
 /// The screen after so many blocks.
-fn screen(input: &mut Input, out: &mut Output, blocks: usize) -> io::Result<()> {
+fn screen_at(input: &mut Input, blocks: usize) -> io::Result<Screen> {
     let mut screen = Screen::new();
     let mut left = (4 * blocks).saturating_sub(7);
     for_each_word(input, |word, _| {
@@ -307,7 +326,100 @@ fn screen(input: &mut Input, out: &mut Output, blocks: usize) -> io::Result<()> 
         }
         Ok(())
     })?;
-    screen.write(out)
+    Ok(screen)
+}
+
+fn state(screen: &Screen, out: &mut Output) -> io::Result<()> {
+    writeln!(out, "border {:02}\noffset {} {:02}", screen.border, screen.offsets.0, screen.offsets.1)?;
+    for (k, (colour, level)) in screen.colours.iter().zip(screen.levels).enumerate() {
+        writeln!(out, "colour {k:02} {colour:04x} level {level:02}")?;
+    }
+    Ok(())
+}
+
+/// Writes the packs of a file, zeros in place of those that change nothing.
+fn thin(input: &mut Input, out: &mut Output) -> io::Result<()> {
+    let (mut screen, mut pack) = (Screen::new(), [0; WORD]);
+    while read_block(input, &mut pack)? {
+        let word = pack.map(|symbol| symbol & 63);
+        let draws = word[0] == 9 && matches!(word[1], 1 | 2 | 6 | 20 | 24 | 28 | 30 | 31 | 38);
+        let kept = !draws || changes(&mut screen, &word);
+        out.write_all(if kept { &pack } else { &[0; WORD] })?;
+    }
+    Ok(())
+}
+
+/// Obeys an instruction; whether it changes anything.
+fn changes(screen: &mut Screen, word: &Word) -> bool {
+    let c = &word[4..20];
+    // A tile changes its own pixels alone, and is by far the most common instruction.
+    if matches!(word[1], 6 | 38) {
+        let (row, column) = ((c[2] & 31) as usize, c[3] as usize);
+        if row > 17 || column > 49 {
+            return false;
+        }
+        let line = |line: usize| (12 * row + line) * 300 + 6 * column;
+        let old: [[u8; 6]; 12] = std::array::from_fn(|j| std::array::from_fn(|i| screen.memory[line(j) + i]));
+        screen.obey(word);
+        return (0..12).any(|j| screen.memory[line(j)..line(j) + 6] != old[j]);
+    }
+    let before = screen.clone();
+    screen.obey(word);
+    *screen != before
+}
+
+/// The text packs of a lead-in of so many blocks, and how many were good, bad and of another kind.
+fn text(input: &mut Input, out: &mut Output, lead_in: usize) -> io::Result<()> {
+    let (check, mut block, mut kept) = (Check::new(), [0; BLOCK], vec![None; 256]);
+    let (mut good, mut bad, mut other) = (0, 0, 0);
+    for _ in 0..lead_in {
+        if !read_block(input, &mut block)? {
+            break;
+        }
+        for slot in block.chunks(WORD) {
+            let mut pack = [0; 18];
+            for (bytes, symbols) in pack.chunks_mut(3).zip(slot.chunks(4)) {
+                let bits = symbols.iter().fold(0u32, |bits, &symbol| bits << 6 | u32::from(symbol & 63));
+                bytes.copy_from_slice(&bits.to_be_bytes()[1..]);
+            }
+            if !check.is_good(&pack) {
+                bad += 1;
+            } else if pack[3] & 0xF0 != 0 {
+                other += 1;
+            } else {
+                good += 1;
+                kept[pack[2] as usize].get_or_insert(pack);
+            }
+        }
+    }
+    let kept: Vec<[u8; 18]> = kept.into_iter().flatten().collect();
+    let sizes: Vec<&[u8; 18]> = kept.iter().filter(|pack| pack[0] == 0x8F).collect();
+    if let Some(first) = sizes.first() {
+        let tracks = (first[6] + 1 - first[5]) as usize;
+        for (name, kind) in ["title", "performer", "songwriter", "composer", "arranger", "message", "code"]
+            .iter()
+            .zip([0x80, 0x81, 0x82, 0x83, 0x84, 0x85, 0x8E])
+        {
+            let bytes: Vec<u8> = kept.iter().filter(|pack| pack[0] == kind).flat_map(|pack| &pack[4..16]).copied().collect();
+            let mut before = Vec::new();
+            for (k, string) in bytes.split(|&byte| byte == 0).take(tracks + 1).enumerate() {
+                let string = if string == b"\t" && k > 0 { before } else { string.to_vec() };
+                if !string.is_empty() {
+                    let track = if k == 0 { 0 } else { first[5] as usize + k - 1 };
+                    write!(out, "{name} {track:02} ")?;
+                    for &byte in &string {
+                        match byte {
+                            0x20..=0x7E if byte != b'\\' => out.write_all(&[byte])?,
+                            _ => write!(out, "\\{byte:02x}")?,
+                        }
+                    }
+                    writeln!(out)?;
+                }
+                before = string;
+            }
+        }
+    }
+    writeln!(out, "packs good {good} bad {bad} other {other}")
 }
 
 fn q(input: &mut Input, out: &mut Output) -> io::Result<()> {
@@ -386,52 +498,659 @@ impl Random {
     }
 }
 
+/// The bursts of damage of a seed: how many symbols come before the next one, how many it has left, and their change.
+struct Needle {
+    random: Random,
+    gap: usize,
+    left: usize,
+    change: u8,
+}
+
+impl Needle {
+    fn new(seed: u64) -> Needle {
+        let mut needle = Needle { random: Random::new(seed), gap: 0, left: 0, change: 0 };
+        needle.lift();
+        needle
+    }
+
+    fn lift(&mut self) {
+        let a = self.random.next();
+        self.gap = (192 + a % 64) as usize;
+        self.left = (1 + a / 256 % 16) as usize;
+        self.change = (1 + (a >> 16) % 63) as u8;
+    }
+
+    fn scratch(&mut self, bytes: &mut [u8]) {
+        let (mut at, count) = (0, bytes.len());
+        while at < count {
+            let kept = self.gap.min(count - at);
+            self.gap -= kept;
+            at += kept;
+            let hit = if self.gap == 0 { self.left.min(count - at) } else { 0 };
+            for byte in &mut bytes[at..at + hit] {
+                *byte ^= self.change;
+            }
+            at += hit;
+            self.left -= hit;
+            if self.left == 0 {
+                self.lift();
+            }
+        }
+    }
+}
+
 fn scratch(input: &mut Input, out: &mut Output, seed: u64) -> io::Result<()> {
-    let mut random = Random::new(seed);
-    let mut buffer = [0; 65_536];
-    let (mut gap, mut left, mut change);
-    let burst = |random: &mut Random| {
-        let a = random.next();
-        ((192 + a % 64) as usize, (1 + a / 256 % 16) as usize, (1 + (a >> 16) % 63) as u8)
-    };
-    (gap, left, change) = burst(&mut random);
+    let (mut needle, mut buffer) = (Needle::new(seed), [0; 65_536]);
     loop {
         let count = input.read(&mut buffer)?;
         if count == 0 {
             return Ok(());
         }
-        let mut at = 0;
-        while at < count {
-            let kept = gap.min(count - at);
-            gap -= kept;
-            at += kept;
-            let hit = if gap == 0 { left.min(count - at) } else { 0 };
-            for byte in &mut buffer[at..at + hit] {
-                *byte ^= change;
-            }
-            at += hit;
-            left -= hit;
-            if left == 0 {
-                (gap, left, change) = burst(&mut random);
-            }
-        }
+        needle.scratch(&mut buffer[..count]);
         out.write_all(&buffer[..count])?;
     }
 }
 
-fn blocks_of(time: &str) -> usize {
-    let parts: Vec<usize> = time.split(':').map(|part| part.parse().unwrap()).collect();
-    (60 * parts[0] + parts[1]) * 75 + parts[2]
+/// The block of a time `MM:SS:FF`.
+fn blocks_of(time: &[u8]) -> Option<u32> {
+    let digits = |at: usize| match time[at..at + 2] {
+        [a @ b'0'..=b'9', b @ b'0'..=b'9'] => Some(10 * u32::from(a - b'0') + u32::from(b - b'0')),
+        _ => None,
+    };
+    if time.len() != 8 || time[2] != b':' || time[5] != b':' {
+        return None;
+    }
+    let (minutes, seconds, frames) = (digits(0)?, digits(3)?, digits(6)?);
+    (seconds < 60 && frames < 75).then_some((60 * minutes + seconds) * 75 + frames)
+}
+
+/// The words of a line.
+fn words_of(line: &[u8]) -> impl Iterator<Item = &[u8]> {
+    line.split(|byte| matches!(byte, b' ' | b'\t' | b'\r')).filter(|word| !word.is_empty())
+}
+
+/// The number of one to three digits that a word is, if it is below a limit.
+fn number(word: &[u8], limit: usize) -> Option<usize> {
+    if word.is_empty() || word.len() > 3 || !word.iter().all(u8::is_ascii_digit) {
+        return None;
+    }
+    let value = word.iter().fold(0, |value, digit| 10 * value + usize::from(digit - b'0'));
+    (value < limit).then_some(value)
+}
+
+/// A track on the disc: its number, its first block, and its index lines by number and block.
+struct Track {
+    number: u8,
+    begin: u32,
+    lines: Vec<(u8, u32)>,
+}
+
+impl Track {
+    fn music(&self) -> u32 {
+        self.lines.iter().find(|line| line.0 == 1).map_or(self.begin, |line| line.1)
+    }
+}
+
+/// Where the tracks of a sheet lie.
+struct Layout {
+    tracks: Vec<Track>,
+    blocks: u32,
+}
+
+impl Layout {
+    /// The layout of a sheet whose tracks have index lines and nothing else.
+    fn of(sheet: &[u8], length: u32) -> Option<Layout> {
+        let mut tracks: Vec<Track> = Vec::new();
+        for line in sheet.split(|&byte| byte == b'\n') {
+            let mut words = words_of(line);
+            match words.next() {
+                Some(b"TRACK") => {
+                    let number = number(words.next()?, 100)? as u8;
+                    tracks.push(Track { number, begin: 0, lines: Vec::new() });
+                }
+                Some(b"INDEX") => {
+                    let index = number(words.next()?, 100)? as u8;
+                    let block = 150 + blocks_of(words.next()?)?;
+                    let first = tracks.len() == 1;
+                    let track = tracks.last_mut()?;
+                    if track.lines.is_empty() && !first {
+                        track.begin = block;
+                    }
+                    track.lines.push((index, block));
+                }
+                None | Some(b"FILE" | b"REM") => {}
+                Some(_) => return None,
+            }
+        }
+        Some(Layout { tracks, blocks: 150 + length })
+    }
+
+    fn frame(&self, block: u32, check: &Check) -> [u8; 12] {
+        let track = &self.tracks[self.tracks.partition_point(|track| track.begin <= block) - 1];
+        let index = track.lines.iter().rev().find(|line| line.1 <= block).map_or(0, |line| line.0);
+        let bcd = |n: u32| (n / 10 * 16 + n % 10) as u8;
+        let [m, s, f] = [4500, 75, 1].map(|unit| block.abs_diff(track.music()) / unit);
+        let [am, a_s, af] = [4500, 75, 1].map(|unit| block / unit);
+        let number = bcd(track.number.into());
+        let mut frame = [1, number, bcd(index.into()), bcd(m), bcd(s % 60), bcd(f % 75), 0, bcd(am), bcd(a_s % 60), bcd(af % 75), 0, 0];
+        let check = check.of(&frame[..10]);
+        frame[10..].copy_from_slice(&check);
+        frame
+    }
+
+    fn p_bit(&self, block: u32) -> bool {
+        self.tracks.iter().find(|track| block < track.music()).is_some_and(|track| {
+            let pause = (track.music() - track.begin).max(150);
+            track.music() - pause <= block
+        })
+    }
+}
+
+/// The parity of packs.
+struct Parity {
+    /// The remainders of a symbol behind which two and four symbols come, by the polynomials of Q and of P parity.
+    q: [u32; 64],
+    p: [u32; 64],
+}
+
+impl Parity {
+    fn new() -> Parity {
+        let field = Field::new();
+        let table = |count: usize| {
+            // The coefficients of the product of (x - 2^k), without the highest, the next one first.
+            let mut product = vec![1];
+            for k in 0..count {
+                product.push(0);
+                for i in (1..product.len()).rev() {
+                    product[i] ^= field.times(product[i - 1], field.power[k]);
+                }
+            }
+            std::array::from_fn(|value| {
+                product[1..].iter().fold(0, |bits, &it| bits << 6 | u32::from(field.times(it, value as u8)))
+            })
+        };
+        Parity { q: table(2), p: table(4) }
+    }
+
+    /// Puts both parities of a pack.
+    fn seal(&self, word: &mut Word) {
+        let q = word[..2].iter().fold(0, |rest, &it| (rest & 63) << 6 ^ self.q[(rest >> 6 ^ u32::from(it)) as usize]);
+        word[2..4].copy_from_slice(&[6, 0].map(|shift| (q >> shift & 63) as u8));
+        let p = word[..20]
+            .iter()
+            .fold(0, |rest, &it| (rest & 0x3_FFFF) << 6 ^ self.p[(rest >> 18 ^ u32::from(it)) as usize]);
+        word[20..].copy_from_slice(&[18, 12, 6, 0].map(|shift| (p >> shift & 63) as u8));
+    }
+}
+
+/// Writes the program blocks of a layout, which carry packs, none where they are idle.
+fn write_stream(layout: &Layout, mut pack: impl FnMut(u32) -> Option<Word>, out: &mut impl Write) -> io::Result<()> {
+    let (check, lanes) = (Check::new(), lanes());
+    // The symbols of a block and of the seven slots after it.
+    let mut symbols = [0; BLOCK + 168];
+    for b in 0..layout.blocks {
+        for slot in 0..4 {
+            if let Some(word) = pack(4 * b + slot) {
+                for (place, symbol) in PLACES.iter().zip(word) {
+                    symbols[WORD * slot as usize + place] = symbol;
+                }
+            }
+        }
+        let (frame, p) = (layout.frame(b, &check), if layout.p_bit(b) { 0x8080_8080_8080_8080 } else { 0 });
+        let mut block = [0; BLOCK];
+        for (k, bytes) in block.chunks_mut(8).enumerate() {
+            let six = u64::from_le_bytes(symbols[8 * k..8 * k + 8].try_into().unwrap());
+            bytes.copy_from_slice(&(six | lanes[frame[k] as usize] << 6 | p).to_le_bytes());
+        }
+        out.write_all(&block)?;
+        symbols.copy_within(BLOCK.., 0);
+        symbols[168..].fill(0);
+    }
+    Ok(())
+}
+
+/// What a line of a script draws.
+enum Line {
+    Colour { number: usize, value: u16 },
+    Border { colour: u8 },
+    Fill { colour: u8 },
+    Rect { x: u16, y: u8, width: u16, height: u8, colour: u8 },
+    Row { x: u16, y: u8, first: usize, count: u16 },
+}
+
+/// A picture: the lines before its show line, and its times.
+struct Shown {
+    place: usize,
+    ready: u32,
+    hold: u32,
+}
+
+struct Script {
+    lines: Vec<Line>,
+    pixels: Vec<u8>,
+    shown: Vec<Shown>,
+}
+
+impl Script {
+    /// The script of a text, or the number of the first line that is refused.
+    fn parse(text: &[u8]) -> Result<Script, usize> {
+        let mut script = Script { lines: Vec::new(), pixels: Vec::new(), shown: Vec::new() };
+        for (number, line) in text.split(|&byte| byte == b'\n').enumerate() {
+            script.line(line).ok_or(number + 1)?;
+        }
+        Ok(script)
+    }
+
+    fn line(&mut self, line: &[u8]) -> Option<()> {
+        let mut words = words_of(line);
+        let Some(command) = words.next() else {
+            return Some(());
+        };
+        let hex = |byte: &u8| (*byte as char).to_digit(16);
+        let mut next = |limit| number(words.next()?, limit);
+        match command {
+            b"colour" => {
+                let number = next(16)?;
+                let word = words.next()?;
+                if word.len() != 4 || word[0] != b'0' {
+                    return None;
+                }
+                let value = word.iter().try_fold(0, |value, byte| Some(16 * value + hex(byte)? as u16))?;
+                self.lines.push(Line::Colour { number, value });
+            }
+            b"border" => self.lines.push(Line::Border { colour: next(16)? as u8 }),
+            b"fill" => self.lines.push(Line::Fill { colour: next(16)? as u8 }),
+            b"rect" => {
+                let (x, y, width, height, colour) = (next(288)?, next(192)?, next(289)?, next(193)?, next(16)?);
+                if width == 0 || height == 0 || x + width > 288 || y + height > 192 {
+                    return None;
+                }
+                let (x, y, width, height) = (x as u16, y as u8, width as u16, height as u8);
+                self.lines.push(Line::Rect { x, y, width, height, colour: colour as u8 });
+            }
+            b"row" => {
+                let (x, y, digits) = (next(288)?, next(192)?, words.next()?);
+                if x + digits.len() > 288 {
+                    return None;
+                }
+                let first = self.pixels.len();
+                for digit in digits {
+                    self.pixels.push(hex(digit)? as u8);
+                }
+                self.lines.push(Line::Row { x: x as u16, y: y as u8, first, count: digits.len() as u16 });
+            }
+            b"show" => {
+                let (ready, hold) = (blocks_of(words.next()?)?, blocks_of(words.next()?)?);
+                let after = self.shown.last().is_none_or(|before| before.hold < ready);
+                if hold < ready || !after || self.shown.len() == 20_000 {
+                    return None;
+                }
+                self.shown.push(Shown { place: self.lines.len(), ready, hold });
+            }
+            _ if command[0] == b'#' => return Some(()),
+            _ => return None,
+        }
+        words.next().is_none().then_some(())
+    }
+}
+
+const WIDTH: usize = 288;
+const PIXELS: usize = 72;
+type Tile = [u8; PIXELS];
+
+/// A picture of a script.
+#[derive(Clone)]
+struct Canvas {
+    pixels: Vec<u8>,
+    border: u8,
+    colours: [u16; 16],
+    drawn: usize,
+}
+
+impl Canvas {
+    fn new() -> Canvas {
+        Canvas { pixels: vec![0; WIDTH * 192], border: 0, colours: [0; 16], drawn: 0 }
+    }
+
+    /// Draws the lines up to a place, pixels only from the last line on that fills all.
+    fn draw(&mut self, script: &Script, to: usize) {
+        let lines = &script.lines[self.drawn..to];
+        self.drawn = to;
+        let seen = lines.iter().rposition(|line| matches!(line, Line::Fill { .. })).unwrap_or(0);
+        for (i, line) in lines.iter().enumerate() {
+            match *line {
+                Line::Colour { number, value } => self.colours[number] = value,
+                Line::Border { colour } => self.border = colour,
+                _ if i < seen => {}
+                Line::Fill { colour } => self.pixels.fill(colour),
+                Line::Rect { x, y, width, height, colour } => {
+                    let (x, y) = (usize::from(x), usize::from(y));
+                    for row in self.pixels.chunks_mut(WIDTH).skip(y).take(height.into()) {
+                        row[x..x + usize::from(width)].fill(colour);
+                    }
+                }
+                Line::Row { x, y, first, count } => {
+                    let (at, count) = (WIDTH * usize::from(y) + usize::from(x), usize::from(count));
+                    self.pixels[at..at + count].copy_from_slice(&script.pixels[first..first + count]);
+                }
+            }
+        }
+    }
+
+    fn line(&self, tile: usize, line: usize) -> &[u8] {
+        let at = WIDTH * (12 * (tile / 48) + line) + 6 * (tile % 48);
+        &self.pixels[at..at + 6]
+    }
+
+    fn tile(&self, tile: usize) -> Tile {
+        let mut pixels = [0; PIXELS];
+        for (j, line) in pixels.chunks_mut(6).enumerate() {
+            line.copy_from_slice(self.line(tile, j));
+        }
+        pixels
+    }
+
+    /// The tiles that are not those of another canvas.
+    fn changed(&self, other: &Canvas) -> Vec<usize> {
+        let band = 12 * WIDTH;
+        (0..16)
+            .filter(|row| self.pixels[band * row..band * (row + 1)] != other.pixels[band * row..band * (row + 1)])
+            .flat_map(|row| 48 * row..48 * row + 48)
+            .filter(|&tile| (0..12).any(|j| self.line(tile, j) != other.line(tile, j)))
+            .collect()
+    }
+}
+
+/// Independent differences from the first pixel, and which of them make each difference.
+struct Basis {
+    members: [u8; 4],
+    count: usize,
+    made: [u8; 16],
+}
+
+impl Basis {
+    fn of(pixels: &Tile) -> Basis {
+        let mut basis = Basis { members: [0; 4], count: 0, made: [255; 16] };
+        basis.made[0] = 0;
+        let mut last = pixels[0];
+        for &pixel in pixels {
+            let number = pixel ^ pixels[0];
+            if pixel == last || basis.made[number as usize] != 255 {
+                continue;
+            }
+            last = pixel;
+            let before = basis.made;
+            for other in 0..16 {
+                if before[other] != 255 {
+                    basis.made[other ^ number as usize] = before[other] | 1 << basis.count;
+                }
+            }
+            basis.members[basis.count] = number;
+            basis.count += 1;
+            if basis.count == 4 {
+                break;
+            }
+        }
+        basis
+    }
+
+    fn weight(&self) -> usize {
+        self.count.max(1)
+    }
+
+    /// The instructions that draw the pixels, or that combine them with what stands.
+    fn packs(&self, pixels: &Tile, draws: bool, tile: usize, packs: &mut Vec<Word>) {
+        for j in 0..self.weight() {
+            let ground = if j == 0 { pixels[0] } else { 0 };
+            let mut word = [0; WORD];
+            word[0] = 9;
+            word[1] = if draws && j == 0 { 6 } else { 38 };
+            word[4] = ground;
+            word[5] = ground ^ self.members[j];
+            word[6] = (tile / 48 + 1) as u8;
+            word[7] = (tile % 48 + 1) as u8;
+            for (bits, line) in word[8..20].iter_mut().zip(pixels.chunks(6)) {
+                *bits = line.iter().fold(0, |bits, &it| bits << 1 | self.made[(it ^ pixels[0]) as usize] >> j & 1);
+            }
+            packs.push(word);
+        }
+    }
+}
+
+/// How a tile becomes another one with the fewest instructions: what is drawn or combined, and its basis.
+fn shortest(old: &Tile, new: &Tile) -> (Basis, Tile, bool) {
+    let drawn = Basis::of(new);
+    if drawn.weight() > 1 {
+        let changes = std::array::from_fn(|i| old[i] ^ new[i]);
+        let combined = Basis::of(&changes);
+        if combined.weight() < drawn.weight() {
+            return (combined, changes, false);
+        }
+    }
+    (drawn, *new, true)
+}
+
+fn instruction(number: u8, content: &[u8]) -> Word {
+    let mut word = [0; WORD];
+    word[0] = 9;
+    word[1] = number;
+    word[4..4 + content.len()].copy_from_slice(content);
+    word
+}
+
+/// What the tiles of a picture take from a colour: their weight, unless they are that colour.
+struct Weights(Vec<(u32, Option<u8>)>);
+
+impl Weights {
+    fn new() -> Weights {
+        Weights(vec![(1, Some(0)); 768])
+    }
+
+    fn weigh(&mut self, tile: usize, pixels: &Tile) {
+        let single = pixels.iter().all(|&pixel| pixel == pixels[0]).then_some(pixels[0]);
+        self.0[tile] = (Basis::of(pixels).weight() as u32, single);
+    }
+
+    /// The first of the colours from which the fewest instructions are needed, and how many.
+    fn best(&self) -> (u8, u32) {
+        let (mut whole, mut single) = (0, [0; 16]);
+        for &(weight, colour) in &self.0 {
+            whole += weight;
+            if let Some(colour) = colour {
+                single[colour as usize] += weight;
+            }
+        }
+        (0..16).map(|colour| (colour, whole - single[colour as usize])).min_by_key(|it| it.1).unwrap()
+    }
+}
+
+/// The packs that change a picture into the next one.
+fn change(first: bool, before: &Canvas, now: &Canvas, weights: &mut Weights, parity: &Parity) -> Vec<Word> {
+    let mut packs = Vec::new();
+    let changed = now.changed(before);
+    for &tile in &changed {
+        weights.weigh(tile, &now.tile(tile));
+    }
+    for &tile in &changed {
+        let (basis, pixels, draws) = shortest(&before.tile(tile), &now.tile(tile));
+        basis.packs(&pixels, draws, tile, &mut packs);
+    }
+    let (colour, need) = weights.best();
+    let preset = (first || (!changed.is_empty() && need + 1 < packs.len() as u32)).then_some(colour);
+    if let Some(colour) = preset {
+        packs.clear();
+        for tile in 0..768 {
+            let (old, new) = ([colour; PIXELS], now.tile(tile));
+            if old != new {
+                let (basis, pixels, draws) = shortest(&old, &new);
+                basis.packs(&pixels, draws, tile, &mut packs);
+            }
+        }
+    }
+    let mut settings = Vec::new();
+    if let Some(colour) = preset {
+        settings.push(instruction(1, &[colour]));
+    }
+    if first || before.border != now.border {
+        settings.push(instruction(2, &[now.border]));
+    }
+    for (number, from) in [(30, 0), (31, 8)] {
+        let colours = &now.colours[from..from + 8];
+        if first || before.colours[from..from + 8] != *colours {
+            let content: Vec<u8> = colours.iter().flat_map(|it| [(it >> 6) as u8, (it & 63) as u8]).collect();
+            settings.push(instruction(number, &content));
+        }
+    }
+    settings.append(&mut packs);
+    for word in &mut settings {
+        parity.seal(word);
+    }
+    settings
+}
+
+/// The changes of a script with the packs at which they begin, or the first picture that is late.
+fn changes_of(script: &Script) -> Result<Vec<(u32, Vec<Word>)>, usize> {
+    let (mut before, mut now) = (Canvas::new(), Canvas::new());
+    let (mut weights, parity, mut start, mut changes) = (Weights::new(), Parity::new(), 0, Vec::new());
+    for (k, shown) in script.shown.iter().enumerate() {
+        now.draw(script, shown.place);
+        let packs = if k > 0 && now.drawn == before.drawn {
+            Vec::new()
+        } else {
+            change(k == 0, &before, &now, &mut weights, &parity)
+        };
+        if start + packs.len() as u32 + 7 > 4 * shown.ready {
+            return Err(k);
+        }
+        changes.push((start, packs));
+        before.draw(script, shown.place);
+        start = (4 * shown.hold).saturating_sub(7);
+    }
+    Ok(changes)
+}
+
+/// Writes the stream of changes.
+fn write_changes(layout: &Layout, changes: &[(u32, Vec<Word>)], out: &mut impl Write) -> io::Result<()> {
+    let mut left = changes;
+    let pack = |n: u32| {
+        while let [(start, packs), rest @ ..] = left {
+            if n < start + packs.len() as u32 {
+                return packs.get(n.checked_sub(*start)? as usize).copied();
+            }
+            left = rest;
+        }
+        None
+    };
+    write_stream(layout, pack, out)
+}
+
+fn refused(why: &str) -> ! {
+    eprintln!("refused {why}");
+    std::process::exit(3)
+}
+
+fn author(length: u32, sheet: &[u8], script: &[u8], out: &mut Output) -> io::Result<()> {
+    let Some(layout) = Layout::of(sheet, length) else { refused("cue") };
+    let script = Script::parse(script).unwrap_or_else(|line| refused(&format!("script {line}")));
+    if script.shown.last().is_some_and(|last| last.hold > layout.blocks) {
+        refused("past-end");
+    }
+    let changes = changes_of(&script).unwrap_or_else(|picture| refused(&format!("late {picture}")));
+    write_changes(&layout, &changes, out)
+}
+
+fn press(length: u32, sheet: &[u8], file: &[u8], out: &mut Output) -> io::Result<()> {
+    const PAUSE_PACKS: u32 = 593;
+    let Some(layout) = Layout::of(sheet, length) else { refused("cue") };
+    let parity = Parity::new();
+    if file.len() % WORD != 0 || file.len() / WORD > 4 * length as usize {
+        refused("cdg");
+    }
+    let pack = |n: u32| {
+        let at = WORD * n.checked_sub(PAUSE_PACKS)? as usize;
+        let mut word: Word = file.get(at..at + WORD)?.try_into().unwrap();
+        for symbol in &mut word {
+            *symbol &= 63;
+        }
+        (word[..2] != [0; 2] || word[4..20] != [0; 16]).then(|| {
+            parity.seal(&mut word);
+            word
+        })
+    };
+    write_stream(&layout, pack, out)
+}
+
+/// The script of a seed.
+fn generated(seed: u64, pictures: u32) -> Vec<u8> {
+    let (mut random, mut text) = (Random::new(seed), Vec::new());
+    for k in 0..16 {
+        writeln!(text, "colour {k} 0{k:x}{k:x}{k:x}").unwrap();
+    }
+    let time = |block: u32| format!("{:02}:{:02}:{:02}", block / 4500, block / 75 % 60, block % 75);
+    for k in 0..pictures {
+        for _ in 0..3 {
+            let (a, b) = (random.next(), random.next());
+            let (x, y) = ((a & 0xFFFF) % 288, (a >> 16) % 192);
+            let (width, height) = (1 + (b & 0xFFFF) % (288 - x), 1 + (b >> 16) % (192 - y));
+            writeln!(text, "rect {x} {y} {width} {height} {}", b / 256 % 16).unwrap();
+        }
+        let ready = 800 * (k + 1);
+        writeln!(text, "show {} {}", time(ready), time(ready + 20)).unwrap();
+    }
+    text
+}
+
+/// Whether a screen shows a picture.
+fn agrees(screen: &Screen, canvas: &Canvas) -> bool {
+    let row = |y: usize| {
+        (0..300).all(|x| {
+            let inside = (6..=293).contains(&x) && (12..=203).contains(&y);
+            screen.shown(x, y) == if inside { canvas.pixels[WIDTH * (y - 12) + x - 6] } else { canvas.border }
+        })
+    };
+    screen.border == canvas.border && screen.colours == canvas.colours && (0..216).all(row)
+}
+
+fn trial(seed: u64, pictures: u32, out: &mut Output) -> io::Result<()> {
+    let script = Script::parse(&generated(seed, pictures)).unwrap();
+    let layout = Layout::of(b"TRACK 01 AUDIO\nINDEX 01 00:00:00", 800 * pictures + 20).unwrap();
+    let changes = changes_of(&script).unwrap();
+    let mut stream = Vec::with_capacity(BLOCK * layout.blocks as usize);
+    write_changes(&layout, &changes, &mut stream)?;
+    Needle::new(seed).scratch(&mut stream);
+    let (mut screen, mut canvas, mut shown) = (Screen::new(), Canvas::new(), script.shown.iter().peekable());
+    let (mut wrong, mut equal, mut slots) = ([0; 4], 0, 7);
+    for_each_word(&mut stream.as_slice(), |word, corrected| {
+        wrong[corrected.unwrap_or(3)] += 1;
+        screen.obey(word);
+        slots += 1;
+        if let Some(next) = shown.next_if(|next| 4 * next.ready == slots) {
+            canvas.draw(&script, next.place);
+            equal += u32::from(agrees(&screen, &canvas));
+        }
+        Ok(())
+    })?;
+    let needed: usize = changes.iter().map(|change| change.1.len()).sum();
+    let packs = 4 * layout.blocks - 7;
+    writeln!(out, "seed {seed}\npictures {pictures}\nblocks {}\npacks {packs}", layout.blocks)?;
+    writeln!(out, "changes {needed}\none {}\ntwo {}\nbad {}\nequal {equal}", wrong[1], wrong[2], wrong[3])
 }
 
 fn main() -> io::Result<()> {
     let words: Vec<String> = std::env::args().skip(1).collect();
     let input = &mut BufReader::with_capacity(65_536, io::stdin());
     let out = &mut BufWriter::with_capacity(65_536, io::stdout());
+    let time = || blocks_of(words[1].as_bytes()).unwrap();
     match words[0].as_str() {
         "convert" => convert(input, out)?,
         "check" => check(input, out)?,
-        "screen" => screen(input, out, blocks_of(&words[1]))?,
+        "screen" => screen_at(input, time() as usize)?.write(out)?,
+        "state" => state(&screen_at(input, time() as usize)?, out)?,
+        "text" => text(input, out, words[1].parse().unwrap())?,
+        "thin" => thin(input, out)?,
+        "author" => author(time(), &fs::read(&words[3])?, &fs::read(&words[4])?, out)?,
+        "press" => press(time(), &fs::read(&words[3])?, &fs::read(&words[4])?, out)?,
+        "trial" => trial(words[1].parse().unwrap(), words[2].parse().unwrap(), out)?,
         "q" => q(input, out)?,
         "planar" => planar(input, out)?,
         "raw" => raw(input, out)?,

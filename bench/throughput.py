@@ -8,7 +8,8 @@ What a time is bound by: `convert`, `check`, `screen`, `state`, `save` and `resu
 gathering of 24 symbols and a look at its sums (on an authored stream nearly all blocks are idle); with a wrong symbol in each
 block by the correction; `merge` by two such streams; `q` by the check and the text of a line a block; `planar` and `raw` by
 the bits; `scratch` by the copy; `author`, `press` and `trial` by the writer of blocks, `author` also by the plans of the
-pictures; `thin` by the drawing. Everything goes through two pipes, as `cat` does.
+pictures; `thin` by the drawing. Everything goes through two pipes, as `cat` does. Long scripts come last: 20,000 `show` lines
+without a change, bound by the comparison of each picture with the one before, and 64 MiB of `fill` lines, by the grammar.
 """
 import hashlib
 import os
@@ -24,7 +25,9 @@ PROGRAM = TOP / "bin" / "ribjasper"
 BLOCKS = 416_640
 RUNS = 5
 # The commands that the plain program knows.
-PLAIN = ("convert", "check", "screen", "q", "planar", "raw", "scratch")
+PLAIN = (
+    "convert", "check", "screen", "state", "q", "text", "planar", "raw", "scratch", "author", "press", "thin", "trial",
+)
 
 
 def through_pipes(words, files):
@@ -76,16 +79,23 @@ def reference(work):
 
 def plain_words(program, words):
     """What asks the plain program for the work of a command, where it can do it."""
-    parts = words.split()
-    if program is None or parts[0] not in PLAIN:
+    command, *options = words.split()
+    if program is None or command not in PLAIN:
         return None
-    return [program, parts[0], *parts[-1:]] if parts[0] in ("screen", "scratch") else [program, parts[0]]
+    if command == "trial":
+        return [program, command, options[1], options[3]]
+    if command in ("screen", "state", "scratch", "text", "author", "press"):
+        return [program, command, options[-1]]
+    return [program, command]
 
 
 def written(words, files):
     """A digest of what a run writes."""
-    with open(files[0]) as given:
-        ran = subprocess.run(words, stdin=given, stdout=subprocess.PIPE, stderr=subprocess.DEVNULL, check=False)
+    named = ["--", *files] if len(files) > 1 else []
+    with open(files[0] if files else os.devnull) as given:
+        ran = subprocess.run(
+            [*words, *named], stdin=given, stdout=subprocess.PIPE, stderr=subprocess.DEVNULL, check=False
+        )
     return hashlib.sha256(ran.stdout).hexdigest()
 
 
@@ -127,7 +137,18 @@ def inputs(work):
     rest = work / "rest.raw"
     rest.write_bytes(Path(files["authored"]).read_bytes()[96 * 1000 :])
     files["rest"] = str(rest)
+    shows = work / "shows"
+    shows.write_text("".join(f"show {told_time(20 * k + 10)} {told_time(20 * k + 20)}\n" for k in range(20_000)))
+    files["shows"] = str(shows)
+    fills = work / "fills"
+    fills.write_text("fill 1\n" * ((2**26 - 23) // 7) + "show 80:00:00 80:00:00\n")
+    files["fills"] = str(fills)
     return files
+
+
+def told_time(block):
+    """A block as MM:SS:FF."""
+    return f"{block // 4500:02}:{block // 75 % 60:02}:{block % 75:02}"
 
 
 # What is run, the names of its inputs, and how many bytes have to come out (where that is known beforehand).
@@ -153,6 +174,11 @@ ROWS = [
     ("save --lead-in 0", ["authored"], 65_045),
     ("resume --at 88:53:25", ["begun", "rest"], 194_415),
     ("trial --seed 1 --pictures 500", [], None),
+]
+# Long scripts: what they have, the names of the inputs, and within how many seconds their streams are to be written.
+LONG_SCRIPTS = [
+    ("20,000 show lines without a change", ["sheet", "shows"], 1),
+    ("64 MiB of fill lines", ["sheet", "fills"], 10),
 ]
 
 
@@ -188,6 +214,15 @@ def main():
                 f"{words:40} {'+'.join(names):22} {length / 1e6:6.1f} {1e3 * copied:7.0f} {1e3 * took:7.0f}"
                 f" {length / 1e6 / took:6.0f} {times} {plain:>6} {ratio:>6} {peak(ribjasper(words), given):7}"
             )
+        for what, names, limit in LONG_SCRIPTS:
+            words, given = "author --lead-in 0 --length 88:53:45", [files[name] for name in names]
+            seconds, count, status = through_pipes(ribjasper(words), given)
+            other = plain_words(program, words)
+            plain = f", the plain program in {through_pipes(other, given)[0]:.2f} s" if other else ""
+            print(f"author, {what}: {seconds:.2f} s (to be within {limit} s){plain}")
+            if status or count != 96 * 400_170 or (other and written(other, given) != written(ribjasper(words), given)):
+                print(f"author, {what}: wrote {count} bytes with status {status}, or the plain program others", file=sys.stderr)
+                failed = True
     return 1 if failed else 0
 
 

@@ -1,9 +1,9 @@
 #!/usr/bin/env python3
 """Writes a small raw subcode stream with all nine graphics instructions to standard output.
 
-Each pack is made by the rules of docs/FORMATS.md, by its own arithmetic and not by the program's, so that the program can be
-compared with it. With the word `cdg` the packs are written as a .cdg file in place of the stream, and with the word `state` the
-lines of `ribjasper state` at its end.
+Each pack is made by the rules of docs/FORMATS.md, by its own arithmetic and not by the program's, so that the program can
+be compared with it. With the word `cdg` the packs are written as a .cdg file in place of the stream, and with the word
+`state` the lines of `ribjasper state` at its end. With `without CODE` the packs of one instruction are idle.
 """
 import sys
 
@@ -142,10 +142,16 @@ def spread(packs):
     return symbols
 
 
-if __name__ == "__main__":
+def main(words):
     packs = scene()
-    if sys.argv[1:] == ["state"]:
+    if words == ["state"]:
         print("\n".join(state()))
-        sys.exit()
-    out = b"".join(map(bytes, packs)) if sys.argv[1:] == ["cdg"] else bytes(spread(packs))
+        return
+    if words[:1] == ["without"]:
+        packs = [IDLE if word[1] == int(words[1]) else word for word in packs]
+    out = b"".join(map(bytes, packs)) if words == ["cdg"] else bytes(spread(packs))
     sys.stdout.buffer.write(out)
+
+
+if __name__ == "__main__":
+    main(sys.argv[1:])

@@ -2,7 +2,11 @@
 _ribjasper() {
     local word=${COMP_WORDS[COMP_CWORD]} before=${COMP_WORDS[COMP_CWORD-1]} options=
     case " ${COMP_WORDS[*]:1:COMP_CWORD-1} " in
-        *' -- '*) COMPREPLY=($(compgen -f -- "$word")); return ;;
+        *' -- '*)
+            local IFS=$'\n'
+            compopt -o filenames 2>/dev/null
+            COMPREPLY=($(compgen -f -- "$word"))
+            return ;;
     esac
     if [ "$COMP_CWORD" -eq 1 ]; then
         COMPREPLY=($(compgen -W 'convert screen state check q text author press merge thin save resume planar raw gen scratch trial' -- "$word"))

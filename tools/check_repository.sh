@@ -27,10 +27,24 @@ for crate in $present; do
     grep -qw "$crate" docs/ARCHITECTURE.md || complain "docs/ARCHITECTURE.md leaves out $crate"
 done
 
+# The tables of numbers are those that are reckoned.
+tools/tables.py || complain "a table of numbers is not what tools/tables.py reckons"
+
 # The manual page and the completions are those of the table of commands, which README.md lists too, and
 # the guide's commands do what it says.
 tools/commands.py --check || complain "share/ is not what tools/commands.py writes"
 tools/run_guide.sh || complain "the guide does not run"
+
+# The tour does what it says, and each example of a refusal is refused so, where the program is built.
+for program in bin/ribjasper crates/ribjasper/out/ribjasper; do
+    if [ -x "$program" ]; then
+        room=$(mktemp -d)
+        told=$(examples/demo.py "$room" 2>&1) || complain "the tour fails: $(echo "$told" | tail -n 3)"
+        rm -rf "$room"
+        tools/try_refusals.py "$program" || complain "an example of docs/FORMATS.md is not refused as it says"
+        break
+    fi
+done
 
 # The library and its example do what the program does, where they are built and a C compiler is there.
 tools/compare_player.sh || complain "the library for programs in C is not as the program"
@@ -54,7 +68,8 @@ if [ -f README.md ]; then
 fi
 
 # Scripts are programs.
-for script in .ci/run tools/*.sh tools/list_definitions.py tools/commands.py bench/*.py examples/*.sh; do
+for script in .ci/run tools/*.sh tools/list_definitions.py tools/commands.py tools/tables.py tools/try_refusals.py \
+    bench/*.py examples/demo.py; do
     [ -x "$script" ] || complain "$script cannot be run"
 done
 

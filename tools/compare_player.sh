@@ -1,8 +1,9 @@
 #!/bin/sh
-# What lib/libribjasper.a does for programs in C. Builds examples/player.c on it, as C and as C++, and compares its
-# screens with those of the command `screen`, byte for byte, at ten moments of the stream of the tour: fed as blocks and
-# drawn as packs. Runs tools/test_library.c, and all of it once under the address sanitizer where that is there.
-# Skipped where a compiler or what make builds is missing. With the argument `measure` it also tells how many blocks a
+# What lib/libribjasper.a does for programs in C. Builds examples/player.c on it, as C and as C++, and
+# compares its screens with those of the command `screen`, byte for byte, at ten moments of the stream of
+# the tour: fed as blocks and drawn as packs. A stream with twenty blocks lost has to be noticed. Runs
+# tools/test_library.c, and all of it once under the address sanitizer where that is there. Skipped where
+# a compiler or what make builds is missing. With the argument `measure` it also tells how many blocks a
 # second the player takes.
 set -e
 cd "$(dirname "$0")/.."
@@ -44,6 +45,15 @@ for blocks in $moments; do
         echo "compare_player: the screens at $time are equal"
     else
         echo "compare_player: the screens at $time differ"
+        failed=1
+    fi
+done
+mkdir broken
+{ head -c $((96 * 300)) stream; tail -c +$((96 * 320 + 1)) stream; } >shorter
+(cd broken && ../player 449 777 <../shorter)
+for blocks in 449 777; do
+    if cmp -s $blocks.ppm broken/$blocks.ppm; then
+        echo "compare_player: that blocks are lost is not noticed at $blocks" >&2
         failed=1
     fi
 done

@@ -2,7 +2,7 @@
 """Writes docs/DEFINITIONS.md: what a reader has to believe, the claims first and then the definitions that they cite.
 
 An act begins with clauses of the top call `run` (or with definitions), and shows each definition that these rest on, once,
-in the order in which they are met; what an earlier act shows is not shown again. What no act reaches is listed by name at the
+in the order in which they are met, and those that only name a number in a table at its end; what an earlier act shows is not shown again. What no act reaches is listed by name at the
 end. With --check it only says whether the document is the one that would be written; --count prints the lines of each act.
 """
 import re
@@ -212,6 +212,16 @@ def balanced(text):
     return text.count("{") == text.count("}")
 
 
+def number_row(name, lines):
+    """The row of a definition that only names a number: its name, the number and what it means."""
+    said = " ".join(line.removeprefix("--").strip() for line in lines if line.startswith("--"))
+    code = [line for line in lines if not line.startswith("--")]
+    value = re.fullmatch(rf"{re.escape(name)} = ([\w ()+*^-]+)", code[-1])
+    if len(code) == 2 and code[0] == f"abbrev pub {name} : ℕ" and value:
+        return f"| `{name}` | `{value[1]}` | {said} |"
+    return None
+
+
 class Book:
     def __init__(self):
         self.modules = modules()
@@ -289,9 +299,14 @@ class Book:
                 out += ["Shown in a later act: " + ", ".join(f"`{name}`" for name in put_off) + ".", ""]
             for comment, lines in claims:
                 out += [" ".join(comment)] * bool(comment) + [""] * bool(comment) + ["```"] + lines + ["```", ""]
-            before = None
+            before, numbers = None, []
             for where, name in order:
                 module = self.modules[where]
+                row = number_row(name, module.blocks[name])
+                if row:
+                    numbers.append(row)
+                    count += 1
+                    continue
                 if where != before:
                     out += ["```", ""] * (before is not None)
                     out += [f"[{module.crate}, {module.name}]({self.link(module)})", "", "```"]
@@ -301,6 +316,8 @@ class Book:
                 count += len(module.blocks[name])
                 before = where
             out += ["```", ""] * (before is not None)
+            if numbers:
+                out += ["| Number | Is | Means |", "|---|---|---|", *numbers, ""]
             counts.append((title, len(order), count))
         return out, counts
 
@@ -323,7 +340,8 @@ class Book:
             "in the code. A proof shows that a program meets its clauses; that these say what is meant, only reading can show.",
             "",
             f"Acts I and II are what one reads aloud in one sitting: {first[2] + second[2]} lines. Each act shows the claims first and then",
-            "what they cite, each definition once. A line that begins with `--` says in plain words what the next definition is.",
+            "what they cite, each definition once, and at the end the numbers that have names. A line that begins with `--` says in",
+            "plain words what the next definition is.",
             "`tools/list_definitions.py` writes this document from the code, and the repository's own check compares it.",
             "",
             "| Act | Definitions | Lines |",

@@ -1,7 +1,8 @@
 #!/bin/sh
-# Runs bin/ribjasper with each of its requests for memory refused in turn, on some small inputs. Each
-# run has to end as it does with ample memory, or with 'no memory' (7) and nothing written. Not part of
-# the gate; it needs a C compiler for the small library that refuses.
+# Runs bin/ribjasper with each of its requests for memory refused in turn, on some small inputs. Each run
+# has to end as it does with ample memory, or with 'no memory' (7) and nothing written. Two careless
+# programs, one that writes before it says so and one that fails in another way, have to be noticed. Not
+# part of the gate; it needs a C compiler for the small library that refuses.
 set -e
 cd "$(dirname "$0")/.."
 [ -x bin/ribjasper ] || tools/build.sh
@@ -20,13 +21,14 @@ bin/ribjasper author --lead-in 12 --length 00:00:01 -- "$work/titled" "$work/emp
 head -c 96 /dev/zero >"$work/packs"
 bin/ribjasper save --lead-in 0 <"$work/blocks" >"$work/saved"
 
+program=bin/ribjasper
 failures=0
 # Runs a command with a request refused, and says what came of it: run NUMBER OUT ERR WORDS..
 run() {
     number=$1 out=$2 err=$3
     shift 3
     status=0
-    REFUSE=$number COUNT=$work/count LD_PRELOAD=$work/refuse.so bin/ribjasper "$@" >"$out" 2>"$err" || status=$?
+    REFUSE=$number COUNT=$work/count LD_PRELOAD=$work/refuse.so $program "$@" >"$out" 2>"$err" || status=$?
     echo "$status"
 }
 
@@ -39,7 +41,8 @@ try() {
         status=$(run "$number" "$work/out" "$work/err" "$@")
         if [ "$status" = 7 ] && [ ! -s "$work/out" ] && [ "$(cat "$work/err")" = "no memory" ]; then
             refused=$((refused + 1))
-        elif [ "$status" = "$ample" ] && cmp -s "$work/out" "$work/ample.out" && cmp -s "$work/err" "$work/ample.err"; then
+        elif [ "$status" = "$ample" ] && cmp -s "$work/out" "$work/ample.out" &&
+            cmp -s "$work/err" "$work/ample.err"; then
             kept=$((kept + 1))
         else
             failures=$((failures + 1))
@@ -69,3 +72,19 @@ try author --lead-in 0 --length 00:00:01 -- "$work/sheet" "$work/empty"
 try text --lead-in 12 -- "$work/texts"
 try trial --seed 42 --pictures 1
 [ "$failures" = 0 ] || { echo "$failures runs ended in another way"; exit 1; }
+
+# A program that takes memory and does the statement where there is none: careless NAME STATEMENT
+careless() {
+    printf '#include <stdio.h>\n#include <stdlib.h>\nint main(void) {
+    char *volatile memory = malloc(1000);
+    if (!memory) { %s }
+    return 0;\n}\n' "$2" >"$work/$1.c"
+    cc -o "$work/$1" "$work/$1.c"
+    program=$work/$1 failures=0
+    try "$1" >"$work/told"
+    [ "$failures" -gt 0 ] || { echo "a program that is $1 is not noticed"; exit 1; }
+}
+
+careless hasty 'puts("half"); fputs("no memory\n", stderr); return 7;'
+careless mistaken 'fputs("usage\n", stderr); return 2;'
+echo "two careless programs are noticed"

@@ -2,7 +2,6 @@
 # Runs the commands of docs/GUIDE.md, as they stand, in an empty folder. The program is bin/ribjasper, or what
 # the gate left; where there is none, nothing is run.
 cd "$(dirname "$0")/.." || exit 1
-top=$PWD
 for program in bin/ribjasper crates/ribjasper/out/ribjasper; do
     [ -x "$program" ] && break
 done

@@ -2,11 +2,11 @@
 use cdg_io::{MemSink, MemSource};
 use std::alloc::{AllocError, Global};
 use std::test::Fail;
-use subcode_player::{Form, PlayStop, Played, Player, TextStop};
+use subcode_player::{Form, PlayStop, Played, Player};
 
 const FAULT: Result<Played, PlayStop> = Err(PlayStop::ReadFault);
 
-// Five blocks of zeros, of which the third cannot be read.
+/// Five blocks of zeros, of which the third cannot be read.
 fn failing(alloc: Global) -> Result<MemSource, AllocError> {
     let bytes = vec![in alloc; 0u8; 480]?;
     Ok(MemSource::new(bytes, vec![in alloc; 96usize]?, vec![in alloc; 2u32]?))
@@ -16,7 +16,7 @@ fn sink(alloc: Global) -> Result<MemSink, AllocError> {
     MemSink::new(alloc, 4096, Vec::new(alloc), Vec::new(alloc))
 }
 
-// Each of these says whether the fault stopped the call.
+/// Each of these says whether the fault stopped the call.
 fn stops_convert(alloc: Global, player: &mut Player) -> Result<bool, AllocError> {
     Ok(player.convert(0, Form::Raw, &mut failing(alloc)?, &mut sink(alloc)?) == FAULT)
 }
@@ -39,10 +39,10 @@ fn stops_q_list(alloc: Global, player: &mut Player) -> Result<bool, AllocError> 
 
 fn stops_text_list(alloc: Global, player: &mut Player) -> Result<bool, AllocError> {
     let answer = player.text_list(alloc, 2, Form::Raw, &mut failing(alloc)?, &mut sink(alloc)?);
-    Ok(answer == Err(TextStop::Play(PlayStop::ReadFault)))
+    Ok(answer == FAULT)
 }
 
-// Whether two blocks of zeros give one pack of zeros.
+/// Whether two blocks of zeros give one pack of zeros.
 fn is_as_new(alloc: Global, player: &mut Player) -> Result<bool, AllocError> {
     let mut source = MemSource::new(vec![in alloc; 0u8; 192]?, Vec::new(alloc), Vec::new(alloc));
     let mut sink = sink(alloc)?;

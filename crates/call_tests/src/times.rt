@@ -1,4 +1,5 @@
-use disc_time::{Msf, crc16, from_bcd, parse_time, to_bcd, two_digits};
+use disc_time::{Msf, from_bcd, parse_time, to_bcd, two_digits};
+use subcode_crc::crc16;
 
 // The check of the ASCII digits 1 to 9 is that of the catalogue of checks (CRC-16/GSM).
 #[test]

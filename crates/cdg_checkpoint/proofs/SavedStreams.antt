@@ -24,7 +24,7 @@ use Rattle.subcode_player.specs.Watch.{IsViewed}
 use Rattle.subcode_player.specs.declared.block_words.BlockWords.{BlockWords}
 use Rattle.subcode_player.specs.declared.drawing.Drawing.{Drawing}
 use Rattle.subcode_player.proofs.Slots.{Sized, sized_drop, length-all_symbols}
-use Rattle.subcode_player.proofs.PlayRuns.{plain_blocks}
+use Rattle.subcode_player.proofs.PumpedBlocks.{plain_blocks}
 use Rattle.subcode_player.proofs.Conversion.{units_sized, length-units_of}
 use Rattle.subcode_player.proofs.Playing.{units_in}
 use Rattle.subcode_player.proofs.Views.{IsReady, drawings_next, viewed_bytes, whole_taken}

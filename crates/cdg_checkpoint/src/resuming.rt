@@ -89,7 +89,7 @@ impl Checkpointer {
         }
     }
 
-    // Plays the rest of a stream up to a moment, and writes the picture.
+    /// Plays the rest of a stream up to a moment, and writes the picture.
     fn show<T: Source, K: Sink>(
         &mut self,
         at: u32,
@@ -127,7 +127,7 @@ impl Checkpointer {
         }
     }
 
-    // Reads a checkpoint that is not later than a moment.
+    /// Reads a checkpoint that is not later than a moment.
     pub(crate) fn accept<S: Source>(&mut self, at: u32, saved: &mut S) -> Result<(), ResumeStop>
         ensures accepted { IsAcceptedBy result at self.new.file }
         ensures taken { result ≢ Err ResumeStop.FirstFault
@@ -153,7 +153,7 @@ impl Checkpointer {
         }
     }
 
-    // Is what was read a checkpoint that is not later than a moment?
+    /// Is what was read a checkpoint that is not later than a moment?
     fn accepted(&self, at: u32) -> Result<(), ResumeStop>
         ensures accepted { IsAcceptedBy result at self.now.file }
         ensures no_fault { result ≢ Err ResumeStop.FirstFault }
@@ -164,7 +164,7 @@ impl Checkpointer {
         }
     }
 
-    // Is the checkpoint not later than a moment?
+    /// Is the checkpoint not later than a moment?
     fn not_later(&self, at: u32) -> Result<(), ResumeStop>
         requires { IsCheckpointFile self.now.file }
         ensures accepted { IsAcceptedBy result at self.now.file }
@@ -177,7 +177,7 @@ impl Checkpointer {
         Ok(())
     }
 
-    // Plays the rest of a stream up to a moment.
+    /// Plays the rest of a stream up to a moment.
     pub(crate) fn go_on<S: Source>(&mut self, at: u32, rest: &mut S) -> Result<Resumed, ResumeStop>
         requires at { at ≤ 449999 }
         requires file { IsCheckpointFile self.old.file }
@@ -209,7 +209,7 @@ impl Checkpointer {
         }
     }
 
-    // What was played, where the program reaches the moment.
+    /// What was played, where the program reaches the moment.
     fn resumed(&self, counts: &Counts, pumped: Pumped, at: u32) -> Result<Resumed, ResumeStop>
         requires { counts.now.program + pumped.units < 2 ^ 32 }
         ensures accepted { IsOk (acceptance result) }
@@ -226,7 +226,7 @@ impl Checkpointer {
         })
     }
 
-    // Brings back the state of a checkpoint.
+    /// Brings back the state of a checkpoint.
     fn begin_again(&mut self, counts: &Counts, at: u32)
         requires at { at ≤ 449999 }
         requires file { IsCheckpointFile self.old.file }
@@ -254,7 +254,7 @@ impl Checkpointer {
         bring_back(&self.file, &mut drawing.picture);
     }
 
-    // Gathers the saved slots, the oldest first.
+    /// Gathers the saved slots, the oldest first.
     fn gather_slots(&mut self, counts: &Counts)
         requires file { IsCheckpointFile self.old.file }
         requires program { counts.now.program ≡ (checkpoint_in self.old.file).program }

@@ -4,7 +4,6 @@ mod Decimals
 pub mod FirstHalf
 mod LateTold
 mod LineWords
-mod Listed
 pub mod Listings
 mod MergeTold
 pub mod Merged

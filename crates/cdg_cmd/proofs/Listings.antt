@@ -8,7 +8,7 @@ use Rattle.cdtext_packs.specs.declared.kinds.TextFault.{TextFault}
 use Rattle.cue_sheet.specs.CueSheet.{CueSheet}
 use Rattle.picture_script.specs.Script.{Drawing}
 use Rattle.toc_model.specs.Places.{program_blocks}
-use Rattle.cdtext_packs.specs.SheetTexts.{sheet_texts}
+use Rattle.stream_writer.specs.SheetTexts.{sheet_texts}
 use Rattle.cdtext_packs.specs.Texts.{has_no_text}
 use Rattle.cdtext_packs.specs.TextLines.{offers_line}
 use Rattle.round_trips.specs.Damage.{HasHurtSlots, count_hurt, count_whole}
@@ -20,9 +20,7 @@ use Rattle.subcode_player.specs.TextListing.{IsListedBy, IsWholeInput, ListsText
 use Rattle.subcode_player.specs.declared.player.Played.{Played}
 use Rattle.subcode_player.specs.declared.player.PlayStop.{PlayStop}
 use Rattle.subcode_player.specs.declared.player.PlayStop.TheVariants as play
-use Rattle.subcode_player.specs.declared.text.TextStop.{TextStop}
-use Rattle.subcode_player.specs.declared.text.TextStop.TheVariants as texts
-use Rattle.cdg_cmd.specs.Answer.{Does, GivesBack, text_status}
+use Rattle.cdg_cmd.specs.Answer.{Does, GivesBack, play_status}
 use Rattle.cdg_cmd.specs.Call.{Bytes, Change}
 use Rattle.cdg_cmd.specs.LeadInTexts.{AreLinesOf}
 use Rattle.cdg_cmd.specs.Spelling.{IsAllowed, Spells}
@@ -43,14 +41,14 @@ pub authored_size : (sheet : CueSheet) (script : List Drawing) (lead_in audio : 
 authored_size sheet script lead_in audio bytes packs short few authored = omega (arith, authored.framing.size, short, few)
 
 -- a player that put texts, as a status
-texts_back : (answer : Result Played TextStop) (out : Change Bytes) (t : List ℕ) → PutsTexts answer out.before out.after t → GivesBack t out (text_status answer)
-texts_back (Ok played) out t puts = puts
-texts_back (Err (texts.Play play.ReadFault)) out t puts = tt
-texts_back (Err (texts.Play play.WriteFault)) out t puts = tt
-texts_back (Err (texts.Play (play.Torn block))) out t puts = absurd puts
-texts_back (Err (texts.Play play.TooLong)) out t puts = absurd puts
-texts_back (Err (texts.Play (play.PastEnd blocks))) out t puts = absurd puts
-texts_back (Err (texts.Text why)) out t puts = subst (λ (w : TextFault). GivesBack t out (text_status (Err (texts.Text w)))) (sym puts) tt
+texts_back : (answer : Result Played PlayStop) (out : Change Bytes) (t : List ℕ) → PutsTexts answer out.before out.after t → GivesBack t out (play_status answer)
+texts_back (Ok played) out t puts = given_back (Ok played) out t puts
+texts_back (Err play.ReadFault) out t puts = tt
+texts_back (Err play.WriteFault) out t puts = tt
+texts_back (Err (play.Torn block)) out t puts = absurd puts
+texts_back (Err play.TooLong) out t puts = absurd puts
+texts_back (Err (play.PastEnd blocks)) out t puts = absurd puts
+texts_back (Err (play.Text why)) out t puts = subst (λ (w : TextFault). GivesBack t out (play_status (Err (play.Text w)))) (sym puts) tt
 
 module _ (lead_in : ℕ) (left' more more' : Bytes) (out : Change Bytes) (status : Status) (t : List ℕ) (A : List ℕ → Type 0) where
   frames_of : (all : List ℕ) → Does (Q lead_in Raw) (both (Some all) left' more more' out) status
@@ -67,20 +65,20 @@ module _ (lead_in : ℕ) (left' more more' : Bytes) (out : Change Bytes) (status
   frames_given (Some all) lists restores = λ is. unless_memory _ status (λ found. frames_of all (lists found) (restores all is))
 
   texts_of : (form : Form) (all : List ℕ) → Does (Text lead_in form) (both (Some all) left' more more' out) status
-      → ((answer : Result Played TextStop) (taken : List ℕ) → ListsTexts form lead_in (Some all) left' out.before out.after answer taken → IsListedBy answer form lead_in all
+      → ((answer : Result Played PlayStop) (taken : List ℕ) → ListsTexts form lead_in (Some all) left' out.before out.after answer taken → IsListedBy answer form lead_in all
       → PutsTexts answer out.before out.after t) → GivesBack t out status
   texts_of form all l puts =
       subst (λ (s : Status). GivesBack t out s) (sym l.status_is) (texts_back l.answer out t (puts l.answer l.taken l.did l.exactly.1))
 
   -- the texts of streams of some kind
   pub strings_given : (form : Form) (left : Bytes) → (status ≢ NoMemory → Does (Text lead_in form) (both left left' more more' out) status)
-      → ((all : List ℕ) → A all → (answer : Result Played TextStop) (taken : List ℕ) → ListsTexts form lead_in (Some all) left' out.before out.after answer taken → IsListedBy answer form lead_in all
+      → ((all : List ℕ) → A all → (answer : Result Played PlayStop) (taken : List ℕ) → ListsTexts form lead_in (Some all) left' out.before out.after answer taken → IsListedBy answer form lead_in all
       → PutsTexts answer out.before out.after t) → IfSome left (λ all. A all → GivesBack t out status)
   strings_given form None lists puts = tt
   strings_given form (Some all) lists puts = λ is. unless_memory _ status (λ found. texts_of form all (lists found) (puts all is))
 
 -- the lines of a sheet, whose strings are found or which has none
-pub lines_given : (sheet : CueSheet) (script : List Drawing) (form : Form) (lead_in audio : ℕ) (stream all lines : List ℕ) (answer : Result Played TextStop) (out : Change Bytes)
+pub lines_given : (sheet : CueSheet) (script : List Drawing) (form : Form) (lead_in audio : ℕ) (stream all lines : List ℕ) (answer : Result Played PlayStop) (out : Change Bytes)
     → ((whole : List Bool) → HasTextPacks sheet → HasText sheet → HasHurtSlots (text_packs sheet) whole (packs_in Raw lead_in stream) (packs_in form lead_in all) → IsWholeInput form all
     → PutsTexts answer out.before out.after (sheet_lines sheet (count_whole whole) (count_hurt whole)))
     → (has_no_text (sheet_texts sheet) ≡ true → packs_in form lead_in all ≡ packs_in Raw lead_in stream → IsWholeInput form all

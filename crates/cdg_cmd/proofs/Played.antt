@@ -1,11 +1,13 @@
 -- From the answer of a player to the status of a command.
-use Rattle.std.proofs.Common.{◌≡◌, ◌≢◌, ◌≤◌, ◌==◌, ℕ, Bool, true, false, Result, Ok, Err, IfErr, IsErrOf, refl, sym, subst, ◌∙◌, if◌then◌else◌, arith}
+use Rattle.std.proofs.Common.{inr, ◌≡◌, ◌≢◌, ◌≤◌, ◌==◌, ℕ, Bool, true, false, Result, Ok, Err, IfErr, IsErrOf, refl, sym, subst, ◌∙◌, if◌then◌else◌, arith}
 use Rattle.cdg_io.specs.Causes.{Rose}
-use Rattle.subcode_player.specs.Calls.{EndFirst, EndInTurn}
+use Rattle.cdtext_packs.specs.declared.kinds.TextFault.{TextFault}
+use Rattle.cdtext_packs.specs.declared.kinds.TextFault.TheVariants as fault
+use Rattle.subcode_player.specs.Calls.{EndFirst, EndInTurn, IsMomentStop, IsStreamStop}
 use Rattle.subcode_player.specs.declared.player.Played.{Played}
 use Rattle.subcode_player.specs.declared.player.PlayStop.{PlayStop}
 use Rattle.subcode_player.specs.declared.player.PlayStop.TheVariants as play
-use Rattle.cdg_cmd.specs.Answer.{play_status}
+use Rattle.cdg_cmd.specs.Answer.{play_status, text_fault_status}
 use Rattle.cdg_cmd.specs.Ends.{EndsFirst, EndsInTurn, StreamEnds}
 use Rattle.cdg_cmd.specs.Keeps.{MayWrite}
 use Rattle.cdg_cmd.proofs.Quiet.{count}
@@ -20,6 +22,12 @@ whole : (f f' k k' : ℕ) → f ≤ f' → k ≤ k' → (good : Bool) (n : ℕ) 
 whole f f' k k' r w true n same_read same_write = quiet.none f f' k k' r w Done (λ e. cc) (λ e. cc) (λ e. cc) (λ e. cc) same_read same_write
 whole f f' k k' r w false n same_read same_write = quiet.none f f' k k' r w (Damaged n) (λ e. cc) (λ e. cc) (λ e. cc) (λ e. cc) same_read same_write
 
+no_texts : (f f' k k' : ℕ) → f ≤ f' → k ≤ k' → (why : TextFault) → f' ≡ f → k' ≡ k → TellsOne (count f f') (count k k') (text_fault_status why)
+no_texts f f' k k' r w (fault.Missing seq) same_read same_write = quiet.none f f' k k' r w _ (λ e. cc) (λ e. cc) (λ e. cc) (λ e. cc) same_read same_write
+no_texts f f' k k' r w fault.NoSize same_read same_write = quiet.none f f' k k' r w _ (λ e. cc) (λ e. cc) (λ e. cc) (λ e. cc) same_read same_write
+no_texts f f' k k' r w (fault.Malformed seq byte) same_read same_write = quiet.none f f' k k' r w _ (λ e. cc) (λ e. cc) (λ e. cc) (λ e. cc) same_read same_write
+no_texts f f' k k' r w fault.NoMemory same_read same_write = quiet.none f f' k k' r w _ (λ e. cc) (λ e. cc) (λ e. cc) (λ e. cc) same_read same_write
+
 faults : (answer : Result Played PlayStop) (f f' k k' : ℕ) → f ≤ f' → k ≤ k' → (IsErrOf answer play.ReadFault → Rose f f') → (answer ≢ Err play.ReadFault → f' ≡ f)
     → (IsErrOf answer play.WriteFault → Rose k k') → (answer ≢ Err play.WriteFault → k' ≡ k) → TellsOne (count f f') (count k k') (play_status answer)
 faults (Ok played) f f' k k' r w rose same cut kept = whole f f' k k' r w (played.bad == 0) played.bad (same (λ e. cc)) (kept (λ e. cc))
@@ -28,6 +36,7 @@ faults (Err play.WriteFault) f f' k k' r w rose same cut kept = quiet.write f f'
 faults (Err (play.Torn block)) f f' k k' r w rose same cut kept = quiet.none f f' k k' r w _ (λ e. cc) (λ e. cc) (λ e. cc) (λ e. cc) (same (λ e. cc)) (kept (λ e. cc))
 faults (Err play.TooLong) f f' k k' r w rose same cut kept = quiet.none f f' k k' r w _ (λ e. cc) (λ e. cc) (λ e. cc) (λ e. cc) (same (λ e. cc)) (kept (λ e. cc))
 faults (Err (play.PastEnd blocks)) f f' k k' r w rose same cut kept = quiet.none f f' k k' r w _ (λ e. cc) (λ e. cc) (λ e. cc) (λ e. cc) (same (λ e. cc)) (kept (λ e. cc))
+faults (Err (play.Text why)) f f' k k' r w rose same cut kept = no_texts f f' k k' r w why (same (λ e. cc)) (kept (λ e. cc))
 
 pub told_one : (answer : Result Played PlayStop) (status : Status) (f f' k k' : ℕ) → status ≡ play_status answer → f ≤ f' → k ≤ k' → (IsErrOf answer play.ReadFault → Rose f f')
     → (answer ≢ Err play.ReadFault → f' ≡ f) → (IsErrOf answer play.WriteFault → Rose k k') → (answer ≢ Err play.WriteFault → k' ≡ k) → TellsOne (count f f') (count k k') status
@@ -51,6 +60,10 @@ in_turn (Err play.WriteFault) n n' told = told
 in_turn (Err (play.Torn block)) n n' told = told
 in_turn (Err play.TooLong) n n' told = told
 in_turn (Err (play.PastEnd blocks)) n n' told = told
+in_turn (Err (play.Text (fault.Missing seq))) n n' told = told
+in_turn (Err (play.Text fault.NoSize)) n n' told = told
+in_turn (Err (play.Text (fault.Malformed seq byte))) n n' told = told
+in_turn (Err (play.Text fault.NoMemory)) n n' told = inr told
 
 first : (answer : Result Played PlayStop) (n n' : ℕ) → EndFirst answer n n' → EndsFirst (count n n') (play_status answer)
 first (Ok played) n n' told = whole_end (Rose n n') n n' (played.bad == 0) played.bad told
@@ -59,6 +72,10 @@ first (Err play.WriteFault) n n' told = told
 first (Err (play.Torn block)) n n' told = told
 first (Err play.TooLong) n n' told = told
 first (Err (play.PastEnd blocks)) n n' told = told
+first (Err (play.Text (fault.Missing seq))) n n' told = told
+first (Err (play.Text fault.NoSize)) n n' told = told
+first (Err (play.Text (fault.Malformed seq byte))) n n' told = told
+first (Err (play.Text fault.NoMemory)) n n' told = inr told
 
 pub ended_in_turn : (answer : Result Played PlayStop) (status : Status) (n n' : ℕ) → status ≡ play_status answer → EndInTurn answer n n' → EndsInTurn (count n n') status
 ended_in_turn answer status n n' is told = subst (λ (s : Status). EndsInTurn (count n n') s) (sym is) (in_turn answer n n' told)
@@ -79,24 +96,38 @@ untouched_at (Err play.WriteFault) old new same none = absurd (none tt)
 untouched_at (Err (play.Torn block)) old new same none = same (λ e. cc)
 untouched_at (Err play.TooLong) old new same none = same (λ e. cc)
 untouched_at (Err (play.PastEnd blocks)) old new same none = same (λ e. cc)
+untouched_at (Err (play.Text why)) old new same none = same (λ e. cc)
 
 pub untouched : {K : Type 0} (answer : Result Played PlayStop) (status : Status) (old new : K) → status ≡ play_status answer
     → IfErr answer (λ stop. stop ≢ play.WriteFault → new ≡ old) → ¬ (MayWrite status) → new ≡ old
 untouched answer status old new is same none = untouched_at answer old new same (subst (λ (s : Status). ¬ (MayWrite s)) is none)
 
--- A player never lacks memory
+-- A player lacks no memory but for texts
 
 whole_never : (good : Bool) (n : ℕ) → (if good then Done else Damaged n) ≢ NoMemory
 whole_never true n e = absurd (cc)
 whole_never false n e = absurd (cc)
 
-never_memory_at : (answer : Result Played PlayStop) → play_status answer ≢ NoMemory
-never_memory_at (Ok played) e = whole_never (played.bad == 0) played.bad e
-never_memory_at (Err play.ReadFault) e = absurd (cc)
-never_memory_at (Err play.WriteFault) e = absurd (cc)
-never_memory_at (Err (play.Torn block)) e = absurd (cc)
-never_memory_at (Err play.TooLong) e = absurd (cc)
-never_memory_at (Err (play.PastEnd blocks)) e = absurd (cc)
+never_memory_at : (answer : Result Played PlayStop) → IfErr answer IsMomentStop → play_status answer ≢ NoMemory
+never_memory_at (Ok played) stops e = whole_never (played.bad == 0) played.bad e
+never_memory_at (Err play.ReadFault) stops e = absurd (cc)
+never_memory_at (Err play.WriteFault) stops e = absurd (cc)
+never_memory_at (Err (play.Torn block)) stops e = absurd (cc)
+never_memory_at (Err play.TooLong) stops e = absurd (cc)
+never_memory_at (Err (play.PastEnd blocks)) stops e = absurd (cc)
+never_memory_at (Err (play.Text why)) stops e = absurd stops
 
-pub never_memory : (answer : Result Played PlayStop) (status : Status) → status ≡ play_status answer → status ≢ NoMemory
-never_memory answer status is e = never_memory_at answer (sym is ∙ e)
+pub shown_never_memory : (answer : Result Played PlayStop) (status : Status) → status ≡ play_status answer → IfErr answer IsMomentStop → status ≢ NoMemory
+shown_never_memory answer status is stops e = never_memory_at answer stops (sym is ∙ e)
+
+moment_stop : (answer : Result Played PlayStop) → IfErr answer IsStreamStop → IfErr answer IsMomentStop
+moment_stop (Ok played) stops = tt
+moment_stop (Err play.ReadFault) stops = tt
+moment_stop (Err play.WriteFault) stops = tt
+moment_stop (Err (play.Torn block)) stops = tt
+moment_stop (Err play.TooLong) stops = tt
+moment_stop (Err (play.PastEnd blocks)) stops = tt
+moment_stop (Err (play.Text why)) stops = absurd stops
+
+pub never_memory : (answer : Result Played PlayStop) (status : Status) → status ≡ play_status answer → IfErr answer IsStreamStop → status ≢ NoMemory
+never_memory answer status is stops = shown_never_memory answer status is (moment_stop answer stops)

@@ -55,10 +55,11 @@ module _ (law : FilesAreShown) (form : Form) (lead_in time : ℕ) (all : List �
   file_put taken left' out (Err (play.Torn block)) shows answer = absurd (answer.1 press.whole)
   file_put taken left' out (Err play.TooLong) shows answer = absurd (omega (arith, answer, press.few))
   file_put taken left' out (Err (play.PastEnd blocks)) shows answer = absurd (omega (arith, answer.2, answer.3, long_enough))
+  file_put taken left' out (Err (play.Text why)) shows answer = absurd answer
 
   pub file_shown : (left' more more' : Bytes) (out : Change Bytes) (status : Status) → (status ≢ NoMemory → Does (Screen lead_in form (150 + time)) (both (Some all) left' more more' out) status)
       → PutsFilePicture press.file (4 * time) out status
   file_shown left' more more' out status does =
       unless_memory _ status (λ found.
       let d = does found in
-      subst (λ (s : Status). PutsFilePicture press.file (4 * time) out s) (sym d.status_is) (file_put d.taken left' out d.answer d.did d.exactly))
+      subst (λ (s : Status). PutsFilePicture press.file (4 * time) out s) (sym d.status_is) (file_put d.taken left' out d.answer d.did d.exactly.1))

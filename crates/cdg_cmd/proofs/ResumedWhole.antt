@@ -1,5 +1,5 @@
 -- From a checkpoint what stands is shown, and the screen of the whole stream where its first part was saved.
-use Rattle.std.proofs.Common.{◌≡◌, ◌≢◌, ◌==◌, ℕ, ◌≤◌, ◌-◌, ◌*◌, ◌/◌, ◌%◌, List, [], ◌∷◌, ◌++◌, length, refl, sym, ap, subst, ◌∙◌, arith, length-append, Some, None, Result, Ok, Err, IfSome, if◌then◌else◌}
+use Rattle.std.proofs.Common.{◌≡◌, ◌≢◌, ◌==◌, ℕ, ◌≤◌, ◌-◌, ◌*◌, ◌/◌, ◌%◌, List, [], ◌∷◌, ◌++◌, length, refl, sym, ap, subst, ◌∙◌, arith, length-append, Some, None, Result, Ok, Err, IfErr, IfSome, if◌then◌else◌}
 use Rattle.std.specs.Prelude.{IsOk, nat_lt}
 use Rattle.std.specs.List.{AllByRecursion}
 use Rattle.std.specs.declared.option.Option.{Option}
@@ -11,6 +11,7 @@ use Rattle.cdg_io.specs.declared.pumping.PumpStop.TheVariants as pump
 use Rattle.raw_subcode.specs.declared.form.Form.TheVariants.{Raw}
 use Rattle.checkpoint_files.specs.Checkpoint.{checkpoint_in}
 use Rattle.checkpoint_files.specs.Table.{IsBadAt, IsCheckpointFile, IsPartInRange, Part, file_size, all_parts}
+use Rattle.subcode_player.specs.Calls.{IsMomentStop}
 use Rattle.subcode_player.specs.Screen.{IsScreenAt, IsShownBy, Shows}
 use Rattle.subcode_player.specs.declared.player.Played.{Played}
 use Rattle.subcode_player.specs.declared.player.PlayStop.{PlayStop}
@@ -172,6 +173,7 @@ module _ (laws : Laws) (lead_in at : ℕ) (stream : List ℕ) (left left2 : Byte
   same_shown : (one other : Result Played PlayStop) → IsAnswered (play_status one) → IsAnswered (play_status other) → IsShownBy one lead_in at 96 (length stream) → IsShownBy other lead_in at 96 (length stream) → IsShow one → IsOther other → AreSame one other
   same_shown (Err play.ReadFault) other answered answered2 by by2 a b = absurd answered
   same_shown (Err play.WriteFault) other answered answered2 by by2 a b = absurd answered
+  same_shown (Err (play.Text why)) other answered answered2 by by2 a b = absurd by
   same_shown (Ok one) (Ok other) answered answered2 by by2 a b = both_shown one other a b
   same_shown (Ok one) (Err play.ReadFault) answered answered2 by by2 a b = absurd answered2
   same_shown (Ok one) (Err play.WriteFault) answered answered2 by by2 a b = absurd answered2
@@ -196,6 +198,10 @@ module _ (laws : Laws) (lead_in at : ℕ) (stream : List ℕ) (left left2 : Byte
   same_shown (Err (play.PastEnd blocks)) (Err (play.Torn block)) answered answered2 by by2 a b = absurd (by2.1 by.1)
   same_shown (Err (play.PastEnd blocks)) (Err play.TooLong) answered answered2 by by2 a b = absurd (omega (arith, by.0, by2))
   same_shown (Err (play.PastEnd blocks)) (Err (play.PastEnd other)) answered answered2 by by2 a b = both_stopped (play.PastEnd blocks) (play.PastEnd other) (λ e. cc) (λ e. cc) (ap play.PastEnd (by2.2 ∙ sym by.2)) a b
+  same_shown (Ok one) (Err (play.Text why)) answered answered2 by by2 a b = absurd by2
+  same_shown (Err (play.Torn block)) (Err (play.Text why)) answered answered2 by by2 a b = absurd by2
+  same_shown (Err play.TooLong) (Err (play.Text why)) answered answered2 by by2 a b = absurd by2
+  same_shown (Err (play.PastEnd blocks)) (Err (play.Text why)) answered answered2 by by2 a b = absurd by2
 
 -- ---- the whole stream
 
@@ -210,6 +216,18 @@ played_status (Err (resume.BeforeSave blocks)) file rest at answered exactly = a
 played_status (Err (resume.Torn block)) file rest at answered exactly = refl
 played_status (Err resume.TooLong) file rest at answered exactly = refl
 played_status (Err (resume.PastEnd blocks)) file rest at answered exactly = refl
+
+-- no call that goes on from a checkpoint lists texts
+moment_stop : (answer : Result Resumed ResumeStop) → IfErr (as_played answer) IsMomentStop
+moment_stop (Ok resumed) = tt
+moment_stop (Err resume.FirstFault) = tt
+moment_stop (Err resume.SecondFault) = tt
+moment_stop (Err resume.WriteFault) = tt
+moment_stop (Err (resume.BadSave byte)) = tt
+moment_stop (Err (resume.BeforeSave blocks)) = tt
+moment_stop (Err (resume.Torn block)) = tt
+moment_stop (Err resume.TooLong) = tt
+moment_stop (Err (resume.PastEnd blocks)) = tt
 
 module _ (laws : Laws) (lead_in at : ℕ) (part rest file : List ℕ) (pumped : Pumped) (first : IsFirstPart lead_in part) (saved : IsSaved lead_in part pumped file) (not_later : length part / 96 - lead_in ≤ at) (more' : Bytes) (out : Change Bytes) (status : Status)
     (answered : IsAnswered status) (g : GoesOnWith file at rest more' out status) where
@@ -229,14 +247,14 @@ module _ (laws : Laws) (lead_in at : ℕ) (part rest file : List ℕ) (pumped : 
 
   one_screen : (left : Bytes) (second other_out : Change Bytes) (other : Status) → Does (Screen lead_in Raw at) (reading (part ++ rest) left second other_out) other → IsAnswered other → (other ≡ status) × PutSame out other_out
   one_screen left second other_out other d answered2 =
-      let (same, put) = same_shown laws lead_in at (part ++ rest) more' left out other_out (part ++ g.taken) d.taken (as_played g.answer) d.answer (subst IsAnswered as_player answered) (subst IsAnswered d.status_is answered2) shown_by d.exactly shows d.did in
+      let (same, put) = same_shown laws lead_in at (part ++ rest) more' left out other_out (part ++ g.taken) d.taken (as_played g.answer) d.answer (subst IsAnswered as_player answered) (subst IsAnswered d.status_is answered2) shown_by d.exactly.1 shows d.did in
       (d.status_is ∙ same ∙ sym as_player, put)
 
   pub as_screen : IsAsScreen lead_in at (part ++ rest) out status
   as_screen = record {
     left = more';
     second = record { before = None; after = None };
-    does = record { answer = as_played g.answer; status_is = as_player; taken = part ++ g.taken; did = shows; exactly = shown_by };
+    does = record { answer = as_played g.answer; status_is = as_player; taken = part ++ g.taken; did = shows; exactly = (moment_stop g.answer, shown_by) };
     same = one_screen;
   }
 

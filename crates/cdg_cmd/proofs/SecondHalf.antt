@@ -54,6 +54,7 @@ given_back (Err play.WriteFault) out text r = tt
 given_back (Err (play.Torn block)) out text r = absurd r
 given_back (Err play.TooLong) out text r = absurd r
 given_back (Err (play.PastEnd blocks)) out text r = absurd r
+given_back (Err (play.Text why)) out text r = absurd r
 
 -- a player that gave a picture, as a status
 picture_put : (script : List Drawing) (k : ℕ) (answer : Result Played PlayStop) (out : Change Bytes) → GivesPicture script k answer out.before out.after → PutsPicture script k out (play_status answer)
@@ -63,6 +64,7 @@ picture_put script k (Err play.WriteFault) out gives = tt
 picture_put script k (Err (play.Torn block)) out gives = absurd gives
 picture_put script k (Err play.TooLong) out gives = absurd gives
 picture_put script k (Err (play.PastEnd blocks)) out gives = absurd gives
+picture_put script k (Err (play.Text why)) out gives = absurd gives
 
 module _ (form : Form) (lead_in : ℕ) (left' more more' : Bytes) (out : Change Bytes) (status : Status) where
   -- a conversion of a damaged stream
@@ -83,7 +85,7 @@ module _ (form : Form) (lead_in : ℕ) (left' more more' : Bytes) (out : Change 
       → IsScheduledStream form lead_in script all → IsHeldAt script k at → PutsPicture script k out status
   shown picture none at all script k d scheduled held =
       subst (λ (s : Status). PutsPicture script k out s) (sym d.status_is)
-      (picture_put script k d.answer out (gives_picture form lead_in at (Some all) left' out.before out.after d.answer d.taken picture none d.did d.exactly script k scheduled held))
+      (picture_put script k d.answer out (gives_picture form lead_in at (Some all) left' out.before out.after d.answer d.taken picture none d.did d.exactly.1 script k scheduled held))
 
   pub shown_back : TextIsPicture → PictureNoneBad → (at : ℕ) (left : Bytes) → (status ≢ NoMemory → Does (Screen lead_in form at) (both left left' more more' out) status)
       → IfSome left (λ all. (script : List Drawing) (k : ℕ) → IsScheduledStream form lead_in script all → IsHeldAt script k at → PutsPicture script k out status)

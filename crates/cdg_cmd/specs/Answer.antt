@@ -4,13 +4,12 @@ use Rattle.std.specs.Io.KnownBytes.{Appends}
 use Rattle.cdg_io.specs.Moves.{AppendsPrefix}
 use Rattle.raw_subcode.specs.Channels.{unit_size}
 use Rattle.raw_subcode.specs.declared.form.Form.{Form}
-use Rattle.subcode_player.specs.Calls.{IsAnsweredBy, IsStreamStop, PlaysAtEnd, PlaysInTurn}
+use Rattle.subcode_player.specs.Calls.{IsAnsweredBy, IsListStop, IsMomentStop, IsStreamStop, PlaysAtEnd, PlaysInTurn}
 use Rattle.subcode_player.specs.Convert.{IsConverted}
 use Rattle.subcode_player.specs.Check.{IsCheckListed}
 use Rattle.subcode_player.specs.Screen.{IsScreenAt, IsShownBy, IsStateAt, Shows}
-use Rattle.subcode_player.specs.TextListing.{IsListedBy, IsListStop, ListsTexts}
-use Rattle.subcode_player.specs.declared.text.TextStop.{TextStop}
-use Rattle.subcode_player.specs.declared.text.TextStop.TheVariants as texts
+use Rattle.subcode_player.specs.TextListing.{IsListedBy, ListsTexts}
+use Rattle.cdtext_packs.specs.declared.kinds.TextFault.{TextFault}
 use Rattle.cdtext_packs.specs.declared.kinds.TextFault.TheVariants as fault
 use Rattle.subcode_player.specs.declared.player.Played.{Played}
 use Rattle.subcode_player.specs.declared.player.PlayStop.{PlayStop}
@@ -35,6 +34,13 @@ use Rattle.cdg_cmd.specs.declared.status.Refusal.TheVariants.{Torn, TooLong, Pas
 use Rattle.cdg_cmd.specs.declared.status.Status.{Status}
 use Rattle.cdg_cmd.specs.declared.status.Status.TheVariants.{Done, Damaged, Usage, Refused, Late, ReadFault, WriteFault, NoMemory}
 
+-- the status where the text packs of a lead-in give no texts
+abbrev pub text_fault_status : TextFault → Status
+text_fault_status (fault.Missing seq) = Refused (TextMissing seq)
+text_fault_status fault.NoSize = Refused TextNoSize
+text_fault_status (fault.Malformed seq byte) = Refused (TextMalformed seq byte)
+text_fault_status fault.NoMemory = NoMemory
+
 -- the status of what a player answers
 abbrev pub play_status : Result Played PlayStop → Status
 play_status (Ok played) = if played.bad == 0 then Done else Damaged played.bad
@@ -43,9 +49,10 @@ play_status (Err play.WriteFault) = WriteFault
 play_status (Err (play.Torn block)) = Refused (Torn block)
 play_status (Err play.TooLong) = Refused TooLong
 play_status (Err (play.PastEnd blocks)) = Refused (PastEnd blocks)
+play_status (Err (play.Text why)) = text_fault_status why
 
--- whatever the input, a stream that is played is never told to be past its end; where the input tells its bytes, the
--- answer is the exact one, unless a fault is told
+-- whatever the input, a stream that is played is never told to be past its end, nor to have faulty texts; where the input
+-- tells its bytes, the answer is the exact one, unless a fault is told
 abbrev pub IsPlayAnswer : Form → Bytes → Result Played PlayStop → Type 0
 IsPlayAnswer form input answer = IfErr answer IsStreamStop × IfSome input (λ all. IsAnsweredBy answer (unit_size form) (length all))
 
@@ -61,29 +68,25 @@ PlaysWhole writes form lead_in call status =
     EndsWith play_status (PlaysAtEnd writes form lead_in call.first.before call.first.after call.out.before call.out.after)
     (IsPlayAnswer form call.first.before) status
 
+-- the same of the answer to a moment, which can be past the end
+abbrev pub IsMomentAnswer : Form → ℕ → ℕ → Bytes → Result Played PlayStop → Type 0
+IsMomentAnswer form lead_in time input answer =
+    IfErr answer IsMomentStop × IfSome input (λ all. IsShownBy answer lead_in time (unit_size form) (length all))
+
 -- a moment of a stream was shown
 abbrev pub ShowsMoment : (List ℕ → List ℕ → ℕ → Type 0) → Form → ℕ → ℕ → Call Bytes → Status → Type 0
 ShowsMoment writes form lead_in time call status =
     EndsWith play_status (Shows writes form lead_in time call.first.before call.first.after call.out.before call.out.after)
-    (λ answer. IfSome call.first.before (λ all. IsShownBy answer lead_in time (unit_size form) (length all))) status
-
--- the status of what a player answers that lists texts
-abbrev pub text_status : Result Played TextStop → Status
-text_status (Ok played) = Done
-text_status (Err (texts.Play stop)) = play_status (Err stop)
-text_status (Err (texts.Text (fault.Missing seq))) = Refused (TextMissing seq)
-text_status (Err (texts.Text fault.NoSize)) = Refused TextNoSize
-text_status (Err (texts.Text (fault.Malformed seq byte))) = Refused (TextMalformed seq byte)
-text_status (Err (texts.Text fault.NoMemory)) = NoMemory
+    (IsMomentAnswer form lead_in time call.first.before) status
 
 -- the same of the answer to a list of texts
-abbrev pub IsListAnswer : Form → ℕ → Bytes → Result Played TextStop → Type 0
+abbrev pub IsListAnswer : Form → ℕ → Bytes → Result Played PlayStop → Type 0
 IsListAnswer form lead_in input answer = IfErr answer IsListStop × IfSome input (λ all. IsListedBy answer form lead_in all)
 
 -- the texts of the lead-in of a stream were listed
 abbrev pub ListsLeadIn : Form → ℕ → Call Bytes → Status → Type 0
 ListsLeadIn form lead_in call status =
-    EndsWith text_status (ListsTexts form lead_in call.first.before call.first.after call.out.before call.out.after)
+    EndsWith play_status (ListsTexts form lead_in call.first.before call.first.after call.out.before call.out.after)
     (IsListAnswer form lead_in call.first.before) status
 
 -- a text was written, or a prefix of it where a write failed

@@ -2,7 +2,7 @@
 use Rattle.std.specs.Prelude.{◌≡◌, ◌⊎◌, ℕ, ◌*◌, Bool, true, List}
 use Rattle.raw_subcode.specs.declared.form.Form.{Form}
 use Rattle.raw_subcode.specs.declared.form.Form.TheVariants.{Raw}
-use Rattle.cdtext_packs.specs.SheetTexts.{sheet_texts}
+use Rattle.stream_writer.specs.SheetTexts.{sheet_texts}
 use Rattle.cdtext_packs.specs.Texts.{has_no_text}
 use Rattle.cdtext_packs.specs.TextLines.{offers_line}
 use Rattle.subcode_author.specs.Authored.{Disc, text_packs}

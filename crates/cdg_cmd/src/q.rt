@@ -8,13 +8,11 @@ ghost use Rattle.cdg_cmd.specs.Faults.{TellsOne};
 use crate::play::play_status;
 use crate::{Command, Status};
 use cdg_io::{Sink, Source};
-use std::alloc::Global;
-use subcode_player::{Form, Player};
+use subcode_player::{Form, list_frames};
 
 /// Writes the lines of the Q channel as blocks are read.
-#[tactic(auto, using(crate::proofs::Played::told_one, crate::proofs::Played::told_none, crate::proofs::Played::never_memory, crate::proofs::Played::ended_in_turn))]
+#[tactic(auto, using(crate::proofs::Played::told_one, crate::proofs::Played::never_memory, crate::proofs::Played::ended_in_turn))]
 pub(crate) fn run_q<S: Source, K: Sink>(
-    alloc: Global,
     lead_in: u32,
     form: Form,
     source: &mut S,
@@ -22,15 +20,12 @@ pub(crate) fn run_q<S: Source, K: Sink>(
 ) -> Status
     requires lead_in { lead_in ≤ 450000 }
     requires form { form ≢ Form.Cooked }
-    ensures does { result ≢ Status.NoMemory → Does (Command.Q lead_in form)
-        (one_input S.left K.held (source.old, out.old) (source.new, out.new)) result }
-    ensures no_memory { result ≡ Status.NoMemory → (source.new ≡ source.old) × (out.new ≡ out.old) }
+    ensures does { Does (Command.Q lead_in form) (one_input S.left K.held (source.old, out.old)
+        (source.new, out.new)) result }
+    ensures memory { result ≢ Status.NoMemory }
     ensures faults { TellsOne (change S.faults source.old source.new)
         (change K.faults out.old out.new) result }
     ensures ended { EndsInTurn (change S.ends source.old source.new) result }
 {
-    match Player::start(alloc) {
-        Ok(mut player) => play_status(player.q_list(lead_in, form, source, out)),
-        Err(_) => Status::NoMemory,
-    }
+    play_status(list_frames(lead_in, form, source, out))
 }

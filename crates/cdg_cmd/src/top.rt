@@ -242,7 +242,7 @@ fn perform<S: Source, T: Source, K: Sink>(
         Command::Screen { lead_in, form, at } => run_screen(alloc, lead_in, form, at, first, out),
         Command::State { lead_in, form, at } => run_state(alloc, lead_in, form, at, first, out),
         Command::Check { lead_in, form } => run_check(alloc, lead_in, form, first, out),
-        Command::Q { lead_in, form } => run_q(alloc, lead_in, form, first, out),
+        Command::Q { lead_in, form } => run_q(lead_in, form, first, out),
         Command::Text { lead_in, form } => run_text(alloc, lead_in, form, first, out),
         Command::Author { lead_in, length } => {
             run_author(alloc, lead_in, length, first, second, out)

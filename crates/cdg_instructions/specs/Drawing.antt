@@ -3,6 +3,7 @@ use Rattle.std.specs.Prelude.{◌≡◌, ℕ, ◌-◌, ◌/◌, ◌%◌, ◌≤�
 use Rattle.bit_lists.specs.Counting.{below}
 use Rattle.bit_lists.specs.Bits.{has_bit}
 use Rattle.cdg_instructions.specs.Instruction.{InTileRange}
+use Rattle.cdg_instructions.specs.Sizes.{tile_pixels, tile_width}
 use Rattle.cdg_instructions.specs.declared.instr.Instr.{Instr}
 use Rattle.cdg_instructions.specs.declared.instr.Instr.TheVariants.{SetTile, XorTile}
 
@@ -18,15 +19,15 @@ tile_colour colour0 colour1 lines i j = if has_bit (5 - i) (slice_index lines j)
 
 -- the pixels of a tile that an instruction draws, line by line from the left
 abbrev pub drawn : ℕ → ℕ → List ℕ → ℕ → ℕ
-drawn colour0 colour1 lines p = tile_colour colour0 colour1 lines (p % 6) (p / 6)
+drawn colour0 colour1 lines p = tile_colour colour0 colour1 lines (p % tile_width) (p / tile_width)
 
 -- the 72 pixels of a tile after instructions of its place, which are given the last one first
 unfoldable pub tile_from : List ℕ → List Instr → List ℕ
 tile_from old [] = old
-tile_from old (SetTile colour0 colour1 row column lines ∷ before) = map (drawn colour0 colour1 lines) (below 72)
+tile_from old (SetTile colour0 colour1 row column lines ∷ before) = map (drawn colour0 colour1 lines) (below tile_pixels)
 tile_from old (XorTile colour0 colour1 row column lines ∷ before) =
     let older = tile_from old before in
-    map (λ p. bit_xor (drawn colour0 colour1 lines p) (slice_index older p)) (below 72)
+    map (λ p. bit_xor (drawn colour0 colour1 lines p) (slice_index older p)) (below tile_pixels)
 tile_from old (_ ∷ before) = tile_from old before
 
 -- the same of instructions in order

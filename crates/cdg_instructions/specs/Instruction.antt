@@ -4,6 +4,7 @@ use Rattle.bit_lists.specs.Counting.{below}
 use Rattle.rw_code.specs.Codeword.{IsCodeword}
 use Rattle.cdg_instructions.specs.declared.instr.Instr.{Instr}
 use Rattle.cdg_instructions.specs.declared.instr.Instr.TheVariants.{Idle, Foreign, Unknown, MemoryPreset, BorderPreset, SetTile, XorTile, ScrollPreset, ScrollCopy, Transparency, ColoursLow, ColoursHigh}
+use Rattle.cdg_instructions.specs.Sizes.{tile_pixels}
 
 -- the content of a word: symbols 4 to 19
 abbrev pub content_of : List ℕ → List ℕ
@@ -135,5 +136,5 @@ IsKnown instr = (instr ≢ Foreign) × (instr ≢ Unknown)
 
 -- the pixels of a tile
 pub record IsTilePixels (pixels : List ℕ) : Type 0 where
-  pub count : length pixels ≡ 72
+  pub count : length pixels ≡ tile_pixels
   pub below : All (λ pixel. pixel < 16) pixels

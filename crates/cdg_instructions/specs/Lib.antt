@@ -2,3 +2,4 @@ pub mod Instruction
 pub mod Drawing
 pub mod Meaning
 pub mod MadeGood
+pub mod Sizes

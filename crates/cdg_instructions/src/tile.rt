@@ -1,11 +1,13 @@
 // A tile: 6 by 12 numbers of colours.
 ghost use Rattle.std.specs.Prelude.{◌≡◌, ◌<◌, ℕ, List, length, slice_index, All, MatchOption, replicate};
 ghost use Rattle.cdg_instructions.specs.Instruction.{IsTilePixels};
+ghost use Rattle.cdg_instructions.specs.Sizes.{tile_pixels};
 
+use crate::sizes::{TILE_HEIGHT, TILE_WIDTH};
 use std::marker::Model;
 
 /// How many pixels a tile has: twelve lines of six.
-pub const PIXELS: usize = 72;
+pub const PIXELS: usize = TILE_WIDTH * TILE_HEIGHT;
 
 /// 72 numbers below 16, line by line from the left.
 #[derive(Clone, Copy, PartialEq, Eq, Debug)]
@@ -40,7 +42,7 @@ impl Tile {
     /// The tile whose pixels all have the colour number `colour`, which is below 16.
     pub fn solid(colour: u8) -> Tile
         requires { colour < 16 }
-        ensures { result ≡ replicate 72 colour }
+        ensures { result ≡ replicate tile_pixels colour }
     {
         Tile {
             pixels: [colour; PIXELS],
@@ -50,7 +52,7 @@ impl Tile {
     /// The colour number of pixel `i`, which is below 72.
     #[inline]
     pub fn get(&self, i: usize) -> u8
-        requires { i < 72 }
+        requires { i < tile_pixels }
         ensures same { result ≡ slice_index self.now i }
         ensures below { result < 16 }
     {

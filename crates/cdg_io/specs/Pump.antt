@@ -20,7 +20,8 @@ abbrev pub whole : ℕ → ℕ → ℕ → ℕ
 whole size limit len = min (len / size) limit
 
 -- the bytes that the stage gives for the first n units
-abbrev pub given : {S : Type 0} → ℕ → (S → List ℕ → S) → (S → List ℕ → Option (List ℕ)) → S → List ℕ → ℕ → List ℕ
+abbrev pub given : {S : Type 0} → ℕ → (S → List ℕ → S) → (S → List ℕ → Option (List ℕ)) → S → List ℕ → ℕ
+    → List ℕ
 given size next gives s bytes n = concat (run_gives next gives s (units_of size n bytes))
 
 -- the bytes that were given, if any
@@ -30,7 +31,8 @@ given_bytes (Some bytes) = bytes
 
 -- the answer to an input of so many bytes that is read without a fault
 abbrev pub answer_of : ℕ → ℕ → ℕ → Result Pumped PumpStop
-answer_of size limit len = if nat_lt (limit * size) len then Err TooLong else if len % size == 0 then Ok (record { units = len / size }) else Err (Torn (len / size))
+answer_of size limit len = if nat_lt (limit * size) len then Err TooLong
+    else if len % size == 0 then Ok (record { units = len / size }) else Err (Torn (len / size))
 
 -- the answer is this one, or tells a fault
 abbrev pub IsUnlessFault : Result Pumped PumpStop → Result Pumped PumpStop → Type 0
@@ -59,28 +61,37 @@ FillsUnits limit (Err ReadFault) before now = (n : ℕ) × (n ≤ limit) × Rose
 FillsUnits limit (Err WriteFault) before now = (n : ℕ) × (n ≤ limit) × RoseBy n before now
 
 -- The pump is at work: these bytes were taken, they are n whole units, and what the stage gave for them was put.
-pub record Works {S : Type 0} (size : ℕ) (next : S → List ℕ → S) (gives : S → List ℕ → Option (List ℕ)) (left left' : Option (List ℕ)) (s s' : S) (held held' : Option (List ℕ)) (n : ℕ) (taken : List ℕ) : Type 0 where
+pub record Works {S : Type 0} (size : ℕ) (next : S → List ℕ → S) (gives : S → List ℕ → Option (List ℕ))
+    (left left' : Option (List ℕ)) (s s' : S) (held held' : Option (List ℕ)) (n : ℕ)
+    (taken : List ℕ) : Type 0 where
   pub taken_from : Consumes left left' taken
   pub units : length taken ≡ n * size
   pub state : s' ≡ run_state next s (units_of size n taken)
   pub put : Appends held held' (given size next gives s taken n)
 
 -- A write failed within what the unit after n whole ones gave.
-pub record StopsInTurn {S : Type 0} (size : ℕ) (next : S → List ℕ → S) (gives : S → List ℕ → Option (List ℕ)) (s : S) (held held' : Option (List ℕ)) (taken : List ℕ) (n : ℕ) : Type 0 where
+pub record StopsInTurn {S : Type 0} (size : ℕ) (next : S → List ℕ → S) (gives : S → List ℕ → Option (List ℕ))
+    (s : S) (held held' : Option (List ℕ)) (taken : List ℕ) (n : ℕ) : Type 0 where
   -- no byte after that unit was taken
   pub units : length taken ≡ (n + 1) * size
   -- all that the earlier units gave was put, and a prefix of what this one gave
-  pub put : AppendsBetween held held' (given size next gives s taken n) (given size next gives s taken (n + 1))
+  pub put : AppendsBetween held held' (given size next gives s taken n)
+      (given size next gives s taken (n + 1))
 
 -- These bytes were taken, the stage ran over their whole units, and what it gave was put.
-pub record Pumps {S : Type 0} (size limit : ℕ) (next : S → List ℕ → S) (gives : S → List ℕ → Option (List ℕ)) (left left' : Option (List ℕ)) (s s' : S) (held held' : Option (List ℕ)) (result : Result Pumped PumpStop) (taken : List ℕ) : Type 0 where
+pub record Pumps {S : Type 0} (size limit : ℕ) (next : S → List ℕ → S) (gives : S → List ℕ → Option (List ℕ))
+    (left left' : Option (List ℕ)) (s s' : S) (held held' : Option (List ℕ)) (result : Result Pumped PumpStop)
+    (taken : List ℕ) : Type 0 where
   pub taken_from : Consumes left left' taken
   -- at most one byte past the limit
   pub within : length taken ≤ limit * size + 1
   pub state : s' ≡ run_state next s (units_of size (whole size limit (length taken)) taken)
-  pub put : result ≢ Err WriteFault → Appends held held' (given size next gives s taken (whole size limit (length taken)))
-  pub in_turn : result ≡ Err WriteFault → (n : ℕ) × (n < limit) × StopsInTurn size next gives s held held' taken n
+  pub put : result ≢ Err WriteFault
+      → Appends held held' (given size next gives s taken (whole size limit (length taken)))
+  pub in_turn : result ≡ Err WriteFault
+      → (n : ℕ) × (n < limit) × StopsInTurn size next gives s held held' taken n
   pub done : IfOk result (λ p. IsAtEnd left' × (length taken ≡ p.units * size) × (p.units ≤ limit))
-  pub torn : (unit : ℕ) → result ≡ Err (Torn unit) → IsAtEnd left' × (unit < limit) × (unit * size < length taken) × (length taken < unit * size + size)
+  pub torn : (unit : ℕ) → result ≡ Err (Torn unit)
+      → IsAtEnd left' × (unit < limit) × (unit * size < length taken) × (length taken < unit * size + size)
   pub too_long : result ≡ Err TooLong → length taken ≡ limit * size + 1
   pub read_fault : result ≡ Err ReadFault → length taken < limit * size + 1

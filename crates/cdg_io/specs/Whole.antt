@@ -9,7 +9,8 @@ ConsumesExactly old new n = (bs : List ℕ) × (length bs ≡ n) × Consumes old
 
 -- All that was taken, at most so many bytes, was taken before a read failed: no fault was counted until then, and
 -- nothing was taken by the failed read or after it.
-pub record StopsAtFault {S : Type 0} (left : S → Option (List ℕ)) (faults : S → ℕ) (most : ℕ) (before after : S) : Type 0 where
+pub record StopsAtFault {S : Type 0} (left : S → Option (List ℕ)) (faults : S → ℕ) (most : ℕ)
+    (before after : S) : Type 0 where
   -- the source as the failed read found it
   pub last : S
   pub taken : List ℕ

@@ -90,14 +90,14 @@ impl Thinner {
         pump(source, MOST_PACKS, self, out)
     }
 
-    // Makes all zero again.
+    /// Makes all zero again.
     fn reset(&mut self)
         ensures { SameStanding (standing_of self.new) blank }
     {
         self.screen.reset();
     }
 
-    // Carries out an instruction, and tells whether it was needless.
+    /// Carries out an instruction, and tells whether it was needless.
     fn passes_over(&mut self, instr: &Instr) -> bool
         requires { InRange instr.now }
         ensures next { self.new ≡ obeyed self.old instr.now }

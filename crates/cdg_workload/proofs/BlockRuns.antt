@@ -1,8 +1,8 @@
 -- The run of the stage over the blocks of a stream.
-use Rattle.std.proofs.Common.{◌≡◌, ℕ, zero, suc, ◌+◌, ◌-◌, ◌*◌, ◌/◌, ◌%◌, ◌^◌, ◌<◌, ◌≤◌, ◌==◌, cond, Bool, true, false, List, [], ◌∷◌, ◌++◌, length, get_or, set, take, drop, map, bit_xor, Some, Result, Ok, Err, refl, sym, ap, ap₂, ◌∙◌, subst, length-drop, drop-drop, append_assoc, lit<, arith}
+use Rattle.std.proofs.Common.{◌≡◌, ℕ, zero, suc, ◌+◌, ◌-◌, ◌*◌, ◌/◌, ◌%◌, ◌^◌, ◌<◌, ◌≤◌, ◌==◌, cond, Bool, true, false, List, [], ◌∷◌, ◌++◌, length, get_or, set, take, drop, map, bit_xor, Some, Result, Ok, Err, refl, sym, ap, ap₂, ◌∙◌, subst, length-drop, drop-drop, drop-set-lt, append_assoc, lit<, arith}
 use Rattle.std.proofs.Math.Seq.{take-nil, drop-nil, take-add, take-append-add, drop-append-add}
 use Rattle.std.proofs.lemmas.Bool.{ne_eqb}
-use Rattle.std.proofs.lemmas.List.{take_more, take_more_set, length-take}
+use Rattle.std.proofs.lemmas.List.{append-nil, get_or-drop, map-append, take_more, take_more_set, length-take}
 use Rattle.std.proofs.lemmas.Nat.{xor_block}
 use Rattle.std.specs.Int.Bits.{xor_zero_r}
 use Rattle.std.specs.List.{concat, enumerate_from, AllByRecursion}
@@ -22,7 +22,7 @@ use Rattle.cdg_workload.specs.Scratches.{Burst, bursts, change_at, scratched_byt
 use Rattle.cdg_workload.specs.Steps.{byte_next, byte_gives, block_next, block_gives, fresh_scratches}
 use Rattle.cdg_workload.specs.declared.needle.Needle.{Needle}
 use Rattle.cdg_workload.specs.declared.scratching.Scratches.{Scratches}
-use Rattle.cdg_workload.proofs.Needles.{at, run, changed_from, scratches_all, next_before, gives_before}
+use Rattle.cdg_workload.proofs.Needles.{at, run, changed_from, scratches_all, next_before, gives_before, next_within, gives_within}
 
 -- ---- One block, byte by byte.
 
@@ -178,4 +178,74 @@ pass_more s t t' block old i m k sum fits few is now done rest =
       more old ∙ ap₂ (λ (l r : List ℕ). l ++ r) done (ap (take m) rest ∙ given ∙ ap (λ u. run u ys) now)
           ∙ sym (ap (run s) (more block) ∙ run_gives-append byte_next byte_gives s (take i block) ys),
       later old ∙ ap (drop m) rest ∙ sym (later block),
+    )
+
+-- ---- Runs of symbols that a burst changes.
+
+-- the bytes from a place on begin with the same
+pub first_same : (i : ℕ) (now old : List ℕ) → drop i now ≡ drop i old → get_or now i 0 ≡ get_or old i 0
+first_same i now old rest =
+    let place : i ≡ i + 0 = omega arith in
+    ap (λ k. get_or now k 0) place ∙ sym (get_or-drop i now 0 0) ∙ ap (λ (l : List ℕ). get_or l 0 0) rest ∙ get_or-drop i old 0 0 ∙ ap (λ k. get_or old k 0) (sym place)
+
+-- no symbol is changed yet
+pub combined_none : (old : List ℕ) (from n c : ℕ) → n ≡ 0 → take from old ≡ take from old ++ map (λ byte. bit_xor byte c) (take n (drop from old))
+combined_none old from n c none =
+    sym (ap (λ k. take from old ++ map (λ byte. bit_xor byte c) (take k (drop from old))) none ∙ append-nil (take from old))
+
+-- one symbol more is changed
+pub combined_more : (old now : List ℕ) (from i c : ℕ) → length old ≡ 96 → length now ≡ 96 → from ≤ i → i < 96
+    → take i now ≡ take from old ++ map (λ byte. bit_xor byte c) (take (i - from) (drop from old)) → drop i now ≡ drop i old
+    → (take (i + 1) (set now i (bit_xor (get_or now i 0) c)) ≡ take from old ++ map (λ byte. bit_xor byte c) (take (i + 1 - from) (drop from old)))
+    × (drop (i + 1) (set now i (bit_xor (get_or now i 0) c)) ≡ drop (i + 1) old)
+combined_more old now from i c size size' begun lt changed rest =
+    let f : ℕ → ℕ = λ byte. bit_xor byte c in
+    let x = get_or now i 0 in
+    let ys : List ℕ = drop from old in
+    let n : ℕ = i - from in
+    let place : i ≡ from + n = omega (arith, begun) in
+    let same : x ≡ get_or ys n 0 = first_same i now old rest ∙ ap (λ k. get_or old k 0) place ∙ sym (get_or-drop from old n 0) in
+    let more : take (n + 1) ys ≡ take n ys ++ get_or ys n 0 ∷ [] = take_more ys n 0 (omega (arith, length-drop from old, size, place, lt)) in
+    let count : n + 1 ≡ i + 1 - from = omega (arith, begun) in (
+      take_more_set now i (f x) (omega (arith, size', lt)) ∙ ap (λ (l : List ℕ). l ++ f x ∷ []) changed ∙ append_assoc (take from old) (map f (take n ys)) (f x ∷ [])
+          ∙ ap (λ (l : List ℕ). take from old ++ l)
+          (ap (λ y. map f (take n ys) ++ f y ∷ []) same ∙ sym (map-append f (take n ys) (get_or ys n 0 ∷ [])) ∙ ap (map f) (sym more) ∙ ap (λ k. map f (take k ys)) count),
+      drop-set-lt (i + 1) now i (f x) (omega arith) ∙ sym (drop-drop 1 i now) ∙ ap (drop 1) rest ∙ drop-drop 1 i old,
+    )
+
+within_run : (ys : List ℕ) (l c : ℕ) (w : Lcg) → length ys ≤ l → (at 0 (l - length ys) c w ≡ state (at 0 l c w) ys) × (map (λ byte. bit_xor byte c) ys ≡ run (at 0 l c w) ys)
+within_run [] l c w fits = let none : l - 0 ≡ l = omega arith in (ap (λ n. at 0 n c w) none, refl)
+within_run (y ∷ ys) zero c w fits = absurd (omega arith)
+within_run (y ∷ ys) (suc l) c w fits =
+    let (after, given) = within_run ys l c w (omega arith) in
+    let less : suc l - length (y ∷ ys) ≡ l - length ys = omega arith in (
+      ap (λ n. at 0 n c w) less ∙ after ∙ ap (λ u. state u ys) (sym (next_within l c w y)),
+      ap (λ (zs : List ℕ). bit_xor y c ∷ zs) given
+          ∙ ap (λ h. bit_xor y c ∷ run h ys) (sym (next_within l c w y)) ∙ ap (λ o. give o (run (byte_next (at 0 (suc l) c w) y) ys)) (sym (gives_within l c w y)),
+    )
+
+struck_run : (ys : List ℕ) (g l c : ℕ) (w : Lcg) → length ys ≤ l → (0 < length ys → g ≡ 0)
+    → (at g (l - length ys) c w ≡ state (at g l c w) ys) × (map (λ byte. bit_xor byte c) ys ≡ run (at g l c w) ys)
+struck_run [] g l c w fits begun = let none : l - 0 ≡ l = omega arith in (ap (λ n. at g n c w) none, refl)
+struck_run (y ∷ ys) zero l c w fits begun = within_run (y ∷ ys) l c w fits
+struck_run (y ∷ ys) (suc g) l c w fits begun = absurd (omega (arith, begun (omega arith)))
+
+-- some symbols more that a burst changes
+pub strike_more : (s t t' : Needle) (block old new : List ℕ) (i m : ℕ) → i + m ≤ length block → m ≤ t.left → (0 < m → t.gap ≡ 0) → t' ≡ record t { left = t.left - m }
+    → t ≡ state s (take i block) → take i old ≡ run s (take i block) → drop i old ≡ drop i block
+    → take (i + m) new ≡ take i old ++ map (λ byte. bit_xor byte t.change) (take (i + m - i) (drop i old)) → drop (i + m) new ≡ drop (i + m) old
+    → (t' ≡ state s (take (i + m) block)) × (take (i + m) new ≡ run s (take (i + m) block)) × (drop (i + m) new ≡ drop (i + m) block)
+strike_more s t t' block old new i m fits few begun is now done rest changed kept =
+    let f : ℕ → ℕ = λ byte. bit_xor byte t.change in
+    let ys = take m (drop i block) in
+    let size : length ys ≡ m = length-take m (drop i block) ∙ omega (arith, length-drop i block) in
+    let more : take (i + m) block ≡ take i block ++ ys = take-add i m block in
+    let later : (xs : List ℕ) → drop (i + m) xs ≡ drop m (drop i xs) = λ xs. sym (drop-drop m i xs) in
+    let (after, given) = struck_run ys t.gap t.left t.change t.words (omega (arith, size, few)) (λ some. begun (omega (arith, size, some))) in
+    let left : t.left - m ≡ t.left - length ys = ap (λ n. t.left - n) (sym size) in
+    let count : i + m - i ≡ m = omega arith in (
+      is ∙ ap (λ n. at t.gap n t.change t.words) left ∙ after ∙ ap (λ u. state u ys) now ∙ sym (ap (state s) more ∙ run_state-append byte_next s (take i block) ys),
+      changed ∙ ap₂ (λ (l r : List ℕ). l ++ r) done (ap (λ n. map f (take n (drop i old))) count ∙ ap (λ (l : List ℕ). map f (take m l)) rest ∙ given ∙ ap (λ u. run u ys) now)
+          ∙ sym (ap (run s) more ∙ run_gives-append byte_next byte_gives s (take i block) ys),
+      kept ∙ later old ∙ ap (drop m) rest ∙ sym (later block),
     )

@@ -38,11 +38,11 @@ unfolding byte_gives change_now
 gives_before g l c w b =
     ap (λ n. Some (bit_xor b (change_now n))) (ready_before g l c w) ∙ ap (λ t. Some (bit_xor b (cond t c 0))) (not_zero g)
 
-next_within : (l c : ℕ) (w : Lcg) (b : ℕ) → byte_next (at 0 (suc l) c w) b ≡ at 0 l c w
+pub next_within : (l c : ℕ) (w : Lcg) (b : ℕ) → byte_next (at 0 (suc l) c w) b ≡ at 0 l c w
 unfolding byte_next moved
 next_within l c w b = ap moved (ready_within l c w) ∙ ap (λ n. at 0 n c w) (less_one l)
 
-gives_within : (l c : ℕ) (w : Lcg) (b : ℕ) → byte_gives (at 0 (suc l) c w) b ≡ Some (bit_xor b c)
+pub gives_within : (l c : ℕ) (w : Lcg) (b : ℕ) → byte_gives (at 0 (suc l) c w) b ≡ Some (bit_xor b c)
 unfolding byte_gives change_now
 gives_within l c w b = ap (λ n. Some (bit_xor b (change_now n))) (ready_within l c w)
 

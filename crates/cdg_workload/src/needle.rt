@@ -1,5 +1,5 @@
 // The changes of neighbouring symbols, by the words of a generator.
-ghost use Rattle.std.specs.Prelude.{◌≡◌, ◌<◌, ◌≤◌, ◌-◌, ◌^◌, Some};
+ghost use Rattle.std.specs.Prelude.{◌≡◌, ◌<◌, ◌≤◌, ◌-◌, ◌^◌, ◌++◌, Some, bit_xor, drop, map, take};
 ghost use Rattle.rand_pcg.specs.Pcg.{pcg32};
 ghost use Rattle.cdg_io.specs.Run.{run_state, run_gives};
 ghost use Rattle.cdg_workload.specs.Steps.{next_needle, ready, change_now, moved, byte_next, byte_gives};
@@ -70,18 +70,50 @@ impl Needle {
         passed as usize
     }
 
-    /// The bytes of a block with their symbols changed. What stays is gone over at once.
-    pub(crate) fn scratch(&mut self, block: &[u8; 96]) -> [u8; 96]
-        ensures next { self.new ≡ run_state byte_next self.old block.now }
-        ensures gives { result ≡ run_gives byte_next byte_gives self.old block.now }
+    /// Goes over the symbols of a burst that has begun, at most so many: how many they are.
+    #[inline]
+    fn strike(&mut self, most: usize) -> usize
+        requires { most < 2 ^ 32 }
+        ensures next { self.new ≡ record self.old { left = self.old.left - result } }
+        ensures left { result ≤ self.old.left }
+        ensures begun { 0 < result → self.old.gap ≡ 0 }
+        ensures most { result ≤ most }
     {
-        let mut scratched = *block;
+        if self.gap > 0 {
+            return 0;
+        }
+        let struck = self.left.min(most as u32);
+        self.left -= struck;
+        struck as usize
+    }
+
+    /// Changes the symbols of a block. Those that stay, and those of a burst, are gone over at once.
+    pub(crate) fn scratch(&mut self, block: &mut [u8; 96])
+        ensures next { self.new ≡ run_state byte_next self.old block.old }
+        ensures gives { block.new ≡ run_gives byte_next byte_gives self.old block.old }
+    {
         let mut at = self.pass(96);
         while at < 96 {
-            scratched[at] = self.push(block[at]);
+            block[at] = self.push(block[at]);
             at += 1;
             at += self.pass(96 - at);
+            let struck = self.strike(96 - at);
+            combine(block, at, at + struck, self.change);
+            at += struck;
         }
-        scratched
+    }
+}
+
+/// Combines the bytes of a block between two places with a change.
+#[inline]
+fn combine(block: &mut [u8; 96], from: usize, to: usize, change: u8)
+    requires order { from ≤ to }
+    requires within { to ≤ 96 }
+    ensures changed { take to block.new
+        ≡ take from block.old ++ map (λ byte. bit_xor byte change) (take (to - from) (drop from block.old)) }
+    ensures rest { drop to block.new ≡ drop to block.old }
+{
+    for i in from..to {
+        block[i] ^= change;
     }
 }

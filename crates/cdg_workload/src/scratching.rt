@@ -59,7 +59,9 @@ impl Stage for Scratches {
             piece.add(block);
             return Some(piece);
         }
-        piece.add(&self.needle.scratch(block));
+        let mut scratched = *block;
+        self.needle.scratch(&mut scratched);
+        piece.add(&scratched);
         Some(piece)
     }
 }

@@ -4,7 +4,7 @@ pub mod KeptPacks
 pub mod Slots
 pub mod Cuts
 pub mod Steps
-pub mod SheetStrings
+pub mod WholeTexts
 pub mod Offers
 pub mod Damaged
 pub mod Seals

@@ -5,7 +5,6 @@ pub mod Writing
 pub mod Map
 pub mod Reading
 pub mod LeadIn
-pub mod SheetTexts
 pub mod Copies
 pub mod TextLines
 pub mod TextSteps

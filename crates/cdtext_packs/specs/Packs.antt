@@ -2,6 +2,10 @@
 use Rattle.std.specs.Prelude.{ℕ, ◌+◌, ◌*◌, ◌/◌, ◌%◌, Bool, not, ◌&&◌, List, [], ◌∷◌, ◌++◌, take, drop, slice_index, ◌==◌, nat_lt}
 use Rattle.bit_lists.specs.Check.{check_of}
 
+-- the most packs of a disc: the number of a pack is a byte
+abbrev pub most_packs : ℕ
+most_packs = 256
+
 -- the type: 80 to 85 and 8E of the kinds of strings, 8F of the size packs, in hexadecimal
 abbrev pub pack_type : List ℕ → ℕ
 pack_type pack = slice_index pack 0

@@ -2,6 +2,7 @@
 use Rattle.std.specs.Prelude.{ℕ, ◌+◌, ◌-◌, Bool, not, ◌&&◌, ◌||◌, List, [], ◌∷◌, ◌++◌, length, flat_map, filter, find, fold, take, replicate, count_by, slice_index, slice_index_or, Option, Some, None, is_none, Result, Ok, Err, ◌==◌, nat_lt, if◌then◌else◌}
 use Rattle.std.specs.List.{filter_map, slice_split}
 use Rattle.bit_lists.specs.Counting.{below}
+use Rattle.disc_time.specs.Counts.{most_tracks}
 use Rattle.cdtext_packs.specs.Packs.{pack_type, pack_track, pack_number, pack_text}
 use Rattle.cdtext_packs.specs.Kept.{with_number}
 use Rattle.cdtext_packs.specs.Texts.{Texts, no_texts, kinds}
@@ -104,8 +105,8 @@ read_sized kept size0 size1 =
     let first_track = slice_index (pack_text size0) 1 in
     let last_track = slice_index (pack_text size0) 2 in
     let count = slice_index (pack_text size1) 8 + 1 in
-    if nat_lt first_track 1 || nat_lt 99 first_track then Err (Malformed (pack_number size0) 5)
-    else (if nat_lt last_track first_track || nat_lt 99 last_track then Err (Malformed (pack_number size0) 6)
+    if nat_lt first_track 1 || nat_lt most_tracks first_track then Err (Malformed (pack_number size0) 5)
+    else (if nat_lt last_track first_track || nat_lt most_tracks last_track then Err (Malformed (pack_number size0) 6)
     else read_numbers kept count first_track last_track (first_missing kept count))
 
 -- the same where all three size packs are kept

@@ -1,6 +1,8 @@
 -- The texts of a disc: strings of seven kinds for the album and each track.
-use Rattle.std.specs.Prelude.{◌≡◌, ◌≢◌, ◌≤◌, ◌⊎◌, ℕ, ◌+◌, ◌-◌, Bool, List, [], ◌∷◌, length, slice_index_or, All, ◌==◌, nat_lt, if◌then◌else◌}
+use Rattle.std.specs.Prelude.{◌≡◌, ◌≢◌, ◌≤◌, ◌⊎◌, ℕ, ◌+◌, ◌-◌, Bool, List, [], ◌∷◌, length, replicate, slice_index_or, All, ◌==◌, nat_lt, if◌then◌else◌}
 use Rattle.std.specs.List.{list_all}
+use Rattle.disc_time.specs.Counts.{most_tracks}
+use Rattle.text_lines.specs.Text.{most_text_bytes}
 use Rattle.cdtext_packs.specs.declared.kinds.TextKind.{TextKind}
 use Rattle.cdtext_packs.specs.declared.kinds.TextKind.TheVariants.{Title, Performer, Songwriter, Composer, Arranger, Message, Code}
 
@@ -53,16 +55,37 @@ are_empty strings = list_all is_empty strings
 abbrev pub has_no_text : Texts → Bool
 has_no_text texts = list_all (λ kind. are_empty (strings_of kind texts)) kinds
 
+-- these texts, or no texts at all where every string is empty
+abbrev pub unless_empty : Texts → Texts
+unless_empty texts = if has_no_text texts then no_texts else texts
+
+-- the texts of these kinds, each with a string for the album and for each track from the first on, and empty strings of the
+-- other kinds
+abbrev pub texts_with : ℕ → List (List ℕ) → List (List ℕ) → List (List ℕ) → List (List ℕ) → Texts
+texts_with first title performer songwriter code =
+    let none = replicate (length title) [] in
+    record {
+      first = first;
+      last = first + (length title - 2);
+      title = title;
+      performer = performer;
+      songwriter = songwriter;
+      composer = none;
+      arranger = none;
+      message = none;
+      code = code;
+    }
+
 -- a string has no zero byte, and no more bytes than the largest sheet
 pub record IsString (s : List ℕ) : Type 0 where
-  pub size : length s ≤ 67108864
+  pub size : length s ≤ most_text_bytes
   pub nonzero : All (λ byte. byte ≢ 0) s
 
 -- there are tracks, and a string of each kind for the album and each of them
 pub record HasTracks (texts : Texts) : Type 0 where
   pub first : 1 ≤ texts.first
   pub last : texts.first ≤ texts.last
-  pub limit : texts.last ≤ 99
+  pub limit : texts.last ≤ most_tracks
   pub count : (kind : TextKind) → length (strings_of kind texts) ≡ texts.last - texts.first + 2
   pub strings : (kind : TextKind) → All IsString (strings_of kind texts)
 

@@ -1,6 +1,7 @@
 // The stage that reads the text packs of the lead-in.
 ghost use Rattle.std.specs.Prelude.{◌≡◌, ◌≤◌, ◌*◌, ◌<◌, ◌^◌, List, ℕ, None, IfOk, length, take};
 ghost use Rattle.cdg_io.specs.Run.{run_state};
+ghost use Rattle.disc_time.specs.Counts.{most_lead_in};
 ghost use Rattle.cdtext_packs.specs.Kept.{nothing_kept};
 ghost use Rattle.cdtext_packs.specs.LeadIn.{lead_in_packs};
 ghost use Rattle.cdtext_packs.specs.TextSteps.{fresh_texts, offered, text_next, HasRead};
@@ -88,7 +89,7 @@ impl Stage for LeadInTexts {
 /// A law: after a stream, the reader keeps for each number the first good pack of the lead-in with it, and the counts
 /// are those of the lead-in's packs.
 pub fn lead_in_packs_are_read()
-    ensures { (lead_in : ℕ) (blocks : List (List ℕ)) → lead_in ≤ 450000
+    ensures { (lead_in : ℕ) (blocks : List (List ℕ)) → lead_in ≤ most_lead_in
         → HasRead (lead_in_packs (take lead_in blocks)) (run_state text_next (fresh_texts lead_in) blocks) }
 {
     offers_keep_the_first();

@@ -1,15 +1,14 @@
 // The texts of a disc.
-ghost use Rattle.std.specs.Prelude.{◌≡◌, ◌≤◌, ◌+◌, ◌-◌, length, None, IfOk};
-ghost use Rattle.cdtext_packs.specs.Texts.{no_texts, strings_of, text_of, has_no_text, AreTexts};
+ghost use Rattle.std.specs.Prelude.{◌≡◌, ◌≤◌, ◌+◌, ◌-◌, length, None, IfOk, All};
+ghost use Rattle.disc_time.specs.Counts.{most_tracks};
+ghost use Rattle.cdtext_packs.specs.Packs.{most_packs};
+ghost use Rattle.cdtext_packs.specs.Texts.{no_texts, strings_of, text_of, texts_with, has_no_text, unless_empty, AreTexts, IsString};
 ghost use Rattle.cdtext_packs.specs.Reading.{first_short, all_texts};
-ghost use Rattle.cdtext_packs.specs.SheetTexts.{sheet_texts, texts_of_sheet};
 
 use crate::kinds::TextKind;
 use crate::pack::TextPack;
 use crate::reading::{empty_strings, kind_texts};
-use crate::sheet::{sheet_codes, sheet_strings};
 use crate::strings::Strings;
-use cue_sheet::{CueText, Sheet};
 use std::alloc::{AllocError, Global};
 use std::marker::Model;
 
@@ -57,12 +56,26 @@ impl TextMap {
         }
     }
 
-    /// The texts of a sheet: its titles, performers and songwriters, and as codes its catalogue number and its tracks'
-    /// ISRC. It is the empty map where all of them are empty.
-    pub fn from_sheet(alloc: Global, sheet: &Sheet) -> Result<TextMap, AllocError>
-        ensures { IfOk result (λ map. map ≡ texts_of_sheet sheet.now) }
+    /// The titles, performers, songwriters and codes of the album and of the tracks from the number `first` on, and empty
+    /// strings of the other kinds. It is the empty map where all of them are empty.
+    pub fn of_strings(
+        alloc: Global,
+        first: u8,
+        titles: Strings,
+        performers: Strings,
+        songwriters: Strings,
+        codes: Strings,
+    ) -> Result<TextMap, AllocError>
+        requires first { 1 ≤ first }
+        requires some { 2 ≤ length titles }
+        requires last { first + length titles ≤ most_tracks + 2 }
+        requires performers { length performers ≡ length titles }
+        requires songwriters { length songwriters ≡ length titles }
+        requires codes { length codes ≡ length titles }
+        requires strings { All IsString titles × All IsString performers × All IsString songwriters × All IsString codes }
+        ensures { IfOk result (λ map. map ≡ unless_empty (texts_with first titles performers songwriters codes)) }
     {
-        let map = TextMap::of_sheet(alloc, sheet)?;
+        let map = TextMap::with_strings(alloc, first, titles, performers, songwriters, codes)?;
         if map.has_no_text() {
             return Ok(TextMap::empty(alloc));
         }
@@ -70,20 +83,34 @@ impl TextMap {
     }
 
     /// The same, where all of them may be empty.
-    fn of_sheet(alloc: Global, sheet: &Sheet) -> Result<TextMap, AllocError>
-        ensures { IfOk result (λ map. map ≡ sheet_texts sheet.now) }
+    fn with_strings(
+        alloc: Global,
+        first: u8,
+        titles: Strings,
+        performers: Strings,
+        songwriters: Strings,
+        codes: Strings,
+    ) -> Result<TextMap, AllocError>
+        requires first { 1 ≤ first }
+        requires some { 2 ≤ length titles }
+        requires last { first + length titles ≤ most_tracks + 2 }
+        requires performers { length performers ≡ length titles }
+        requires songwriters { length songwriters ≡ length titles }
+        requires codes { length codes ≡ length titles }
+        requires strings { All IsString titles × All IsString performers × All IsString songwriters × All IsString codes }
+        ensures { IfOk result (λ map. map ≡ texts_with first titles performers songwriters codes) }
     {
-        let tracks = sheet.tracks();
+        let count = titles.len();
         Ok(TextMap {
-            first: sheet.first(),
-            last: sheet.first() + (tracks - 1) as u8,
-            title: sheet_strings(alloc, sheet, CueText::Title)?,
-            performer: sheet_strings(alloc, sheet, CueText::Performer)?,
-            songwriter: sheet_strings(alloc, sheet, CueText::Songwriter)?,
-            composer: empty_strings(alloc, tracks + 1)?,
-            arranger: empty_strings(alloc, tracks + 1)?,
-            message: empty_strings(alloc, tracks + 1)?,
-            code: sheet_codes(alloc, sheet)?,
+            first,
+            last: first + (count - 2) as u8,
+            title: titles,
+            performer: performers,
+            songwriter: songwriters,
+            composer: empty_strings(alloc, count)?,
+            arranger: empty_strings(alloc, count)?,
+            message: empty_strings(alloc, count)?,
+            code: codes,
         })
     }
 
@@ -96,8 +123,8 @@ impl TextMap {
     ) -> Result<TextMap, AllocError>
         requires first { 1 ≤ first }
         requires last { first ≤ last }
-        requires limit { last ≤ 99 }
-        requires few { length kept.now ≤ 256 }
+        requires limit { last ≤ most_tracks }
+        requires few { length kept.now ≤ most_packs }
         requires enough { first_short kept.now (last - first + 2) ≡ None }
         ensures { IfOk result (λ map. map ≡ all_texts kept.now first last) }
     {

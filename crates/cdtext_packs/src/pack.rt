@@ -2,8 +2,11 @@
 ghost use Rattle.std.specs.Prelude.{◌≡◌, ◌∷◌, List, ℕ, length};
 ghost use Rattle.cdtext_packs.specs.Packs.{pack_type, pack_track, pack_number, pack_text, check_matches, is_first_block, sealed};
 
-use disc_time::crc16;
 use std::marker::Model;
+use subcode_crc::crc16;
+
+/// How many packs a disc has at most: the number of a pack is a byte.
+pub const MOST_PACKS: u32 = 256;
 
 /// A pack: its type, track, number and position, twelve bytes of text, and the check of these sixteen.
 #[derive(Clone, Copy, PartialEq, Eq)]

@@ -1,12 +1,14 @@
 // The reader of packs in any order, with any repeats.
 ghost use Rattle.std.specs.Prelude.{◌≡◌, ◌⊎◌, List, ℕ, Option, true, length, vec_len, IsOk, IfOk, IfErr, Ok, Err};
 ghost use Rattle.cdtext_packs.specs.Kept.{nothing_kept, offer_of, kept_by};
+ghost use Rattle.cdtext_packs.specs.Packs.{most_packs};
 ghost use Rattle.cdtext_packs.specs.Reading.{keeps_nothing, read_sized, read_texts};
 
 use crate::kinds::{FIRST_TRACK, LAST_NUMBER, LAST_TRACK, Offer, TextFault};
 use crate::map::TextMap;
-use crate::pack::TextPack;
+use crate::pack::{MOST_PACKS, TextPack};
 use crate::reading::{first_missing, first_short, keeps_nothing, size_pack};
+use disc_time::MOST_TRACKS;
 use std::alloc::{AllocError, Global};
 use std::marker::Model;
 
@@ -21,7 +23,7 @@ impl Model for TextReader {
 
     ghost view = { λ r. r.kept.items };
 
-    ghost invariant = { λ r. vec_len r.kept ≡ 256 };
+    ghost invariant = { λ r. vec_len r.kept ≡ most_packs };
 }
 
 impl TextReader {
@@ -29,7 +31,7 @@ impl TextReader {
     pub fn start(alloc: Global) -> Result<TextReader, AllocError>
         ensures { IfOk result (λ reader. reader ≡ nothing_kept) }
     {
-        let kept = vec![in alloc; None; 256]?;
+        let kept = vec![in alloc; None; MOST_PACKS as usize]?;
         Ok(TextReader { kept })
     }
 
@@ -92,7 +94,7 @@ fn read_sized(
     tracks: &TextPack,
     counts: &TextPack,
 ) -> Result<TextMap, TextFault>
-    requires { length kept.now ≡ 256 }
+    requires { length kept.now ≡ most_packs }
     ensures texts { IfOk result (λ map. read_sized kept.now tracks.now counts.now ≡ Ok map) }
     ensures fault { IfErr result (λ fault. (fault ≡ TextFault.NoMemory) ⊎ (read_sized kept.now tracks.now counts.now ≡ Err fault)) }
     ensures refused { IfErr (read_sized kept.now tracks.now counts.now) (λ fault. result ≡ Err fault) }
@@ -100,10 +102,10 @@ fn read_sized(
     let seq = tracks.number();
     let first = tracks.text()[FIRST_TRACK];
     let last = tracks.text()[LAST_TRACK];
-    if first < 1 || first > 99 {
+    if first < 1 || first > MOST_TRACKS {
         return Err(TextFault::Malformed { seq, byte: 5 });
     }
-    if last < first || last > 99 {
+    if last < first || last > MOST_TRACKS {
         return Err(TextFault::Malformed { seq, byte: 6 });
     }
     // The second of the size packs begins with byte 12 of the size bytes.

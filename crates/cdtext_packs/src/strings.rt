@@ -9,7 +9,7 @@ use std::marker::Model;
 
 /// The album's string and each track's.
 #[derive(Drop)]
-pub(crate) struct Strings {
+pub struct Strings {
     items: Vec<Vec<u8>>,
 }
 
@@ -20,7 +20,8 @@ impl Model for Strings {
 }
 
 impl Strings {
-    pub(crate) fn new(alloc: Global) -> Strings
+    /// No strings.
+    pub fn new(alloc: Global) -> Strings
         ensures { result ≡ [] }
     {
         Strings {
@@ -28,7 +29,8 @@ impl Strings {
         }
     }
 
-    pub(crate) fn push(&mut self, string: Vec<u8>) -> Result<(), AllocError>
+    /// Puts a string after the others.
+    pub fn push(&mut self, string: Vec<u8>) -> Result<(), AllocError>
         ensures pushed { MatchResult result (λ _. self.new ≡ self.old ++ string.items ∷ []) (λ _. self.new ≡ self.old) }
     {
         self.items.push(string)?;

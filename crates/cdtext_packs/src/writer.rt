@@ -1,6 +1,6 @@
 // The packs of texts.
 ghost use Rattle.std.specs.Prelude.{◌≡◌, ◌<◌, ◌≤◌, ◌+◌, ◌*◌, ◌++◌, length, flat_map, MatchResult, IfOk};
-ghost use Rattle.cdtext_packs.specs.Packs.{sealed};
+ghost use Rattle.cdtext_packs.specs.Packs.{most_packs, sealed};
 ghost use Rattle.cdtext_packs.specs.Texts.{kinds};
 ghost use Rattle.cdtext_packs.specs.Writing.{joined, twelve, text_content, kind_contents, contents, content_bytes, numbered, packs_of, type_of, size_bytes, size_contents, IsPackStop};
 
@@ -8,16 +8,16 @@ use crate::kinds::{
     FIRST_TRACK, KINDS, LANGUAGE, LAST_NUMBER, LAST_TRACK, PackStop, SIZE_TYPE, TextKind,
 };
 use crate::map::TextMap;
-use crate::pack::TextPack;
+use crate::pack::{MOST_PACKS, TextPack};
 use crate::strings::Strings;
 use std::alloc::{AllocError, Global};
 
 /// The packs of the texts, in order of their numbers. There are none where every string is empty.
 pub fn pack_all(alloc: Global, map: &TextMap) -> Result<Vec<TextPack>, PackStop>
-    ensures { MatchResult result (λ packs. (packs.items ≡ packs_of map.now) × (length packs.items ≤ 256)) (IsPackStop map.now) }
+    ensures { MatchResult result (λ packs. (packs.items ≡ packs_of map.now) × (length packs.items ≤ most_packs)) (IsPackStop map.now) }
 {
     let packs = packs_needed(map);
-    if packs > 256 {
+    if packs > MOST_PACKS {
         return Err(PackStop::TooMany { packs });
     }
     let mut all = Vec::with_capacity(alloc, packs as usize)?;
@@ -66,7 +66,7 @@ fn push_kind(
     map: &TextMap,
     kind: TextKind,
 ) -> Result<(), AllocError>
-    requires { length packs.old.items + length (kind_contents map.now kind) ≤ 256 }
+    requires { length packs.old.items + length (kind_contents map.now kind) ≤ most_packs }
     ensures { IfOk result (λ _. packs.new.items ≡ packs.old.items ++ numbered (length packs.old.items) (kind_contents map.now kind)) }
 {
     let first = map.first();

@@ -1,10 +1,10 @@
--- The table of a checkpoint's file: its all_parts, the numbers in them, and their ranges.
+-- The table of a checkpoint's file: its parts, the numbers in them, and their ranges.
 use Rattle.std.specs.Prelude.{◌≡◌, ℕ, zero, suc, ◌+◌, ◌-◌, ◌*◌, ◌^◌, ◌<◌, ◌≤◌, List, [], ◌∷◌, ◌++◌, length, take, slice_index, min, codes}
 use Rattle.std.specs.List.{AllByRecursion}
 use Rattle.bit_lists.specs.Check.{check_of}
 use Rattle.rw_interleave.specs.Interleave.{whole_packs}
 
--- the all_parts of the file, each of fields of the same size
+-- the parts of the file, each of fields of the same size
 pub data Part : Type 0 where
   Mark : Part
   ToCome : Part
@@ -41,7 +41,7 @@ row Colours = record { first = 64995; count = 16; size = 2 }
 row Levels = record { first = 65027; count = 16; size = 1 }
 row Check = record { first = 65043; count = 1; size = 2 }
 
--- the all_parts in the order of their bytes: those that the check is of, and the check
+-- the parts in the order of their bytes: those that the check is of, and the check
 abbrev pub body_parts : List Part
 body_parts = Mark ∷ ToCome ∷ LeadIn ∷ Program ∷ Bad ∷ Slots ∷ Memory ∷ Border ∷ Across ∷ Down ∷ Colours ∷ Levels ∷ []
 

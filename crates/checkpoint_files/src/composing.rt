@@ -7,7 +7,7 @@ ghost use Rattle.checkpoint_files.specs.Checkpoint.{bytes_of, file_of, kept, par
 use crate::Counts;
 use crate::file::{CheckpointFile, SLOTS_BYTES};
 use cdg_screen::Screen;
-use disc_time::crc16;
+use subcode_crc::crc16;
 
 /// The bytes at the front of the file.
 pub(crate) const MARK: &[u8; 8] = b"CDGSAVE1";
@@ -38,7 +38,7 @@ impl CheckpointFile {
         self.put(&check.to_be_bytes());
     }
 
-    // Appends the mark and the counts.
+    /// Appends the mark and the counts.
     fn put_counts(&mut self, counts: &Counts)
         requires { length self.old ≡ 0 }
         ensures parts { (slots : List ℕ) (now : Standing)
@@ -53,7 +53,7 @@ impl CheckpointFile {
         self.put_number(counts.bad);
     }
 
-    // Appends a number of four bytes.
+    /// Appends a number of four bytes.
     fn put_number(&mut self, number: u32)
         requires { length self.old ≤ 65000 }
         ensures bytes { self.new ≡ self.old ++ bytes_of 4 number }
@@ -62,7 +62,7 @@ impl CheckpointFile {
         self.put(&number.to_be_bytes());
     }
 
-    // Appends the memory of the screen, row by row.
+    /// Appends the memory of the screen, row by row.
     fn put_memory(&mut self, screen: &Screen)
         requires { length self.old ≡ 192 }
         ensures part { (counts : Counts) (slots : List ℕ)
@@ -74,7 +74,7 @@ impl CheckpointFile {
         }
     }
 
-    // Appends the border and both offsets.
+    /// Appends the border and both offsets.
     fn put_places(&mut self, screen: &Screen)
         requires { length self.old ≡ 64992 }
         ensures parts { (counts : Counts) (slots : List ℕ)
@@ -87,7 +87,7 @@ impl CheckpointFile {
         self.put(&[screen.offset_v()]);
     }
 
-    // Appends the sixteen colours.
+    /// Appends the sixteen colours.
     fn put_colours(&mut self, screen: &Screen)
         requires { length self.old ≡ 64995 }
         ensures part { (counts : Counts) (slots : List ℕ)
@@ -99,7 +99,7 @@ impl CheckpointFile {
         }
     }
 
-    // Appends the sixteen levels.
+    /// Appends the sixteen levels.
     fn put_levels(&mut self, screen: &Screen)
         requires { length self.old ≡ 65027 }
         ensures part { (counts : Counts) (slots : List ℕ)

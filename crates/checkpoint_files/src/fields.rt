@@ -48,7 +48,7 @@ impl CheckpointFile {
         }
     }
 
-    // The number in the four bytes from a byte on.
+    /// The number in the four bytes from a byte on.
     fn number(&self, at: usize) -> u32
         requires { at + 4 ≤ length self.now }
         ensures { result ≡ number_at self.now 4 at }
@@ -57,7 +57,7 @@ impl CheckpointFile {
         u32::from_be_bytes([bytes[at], bytes[at + 1], bytes[at + 2], bytes[at + 3]])
     }
 
-    // The number in the two bytes from a byte on.
+    /// The number in the two bytes from a byte on.
     pub(crate) fn short_number(&self, at: usize) -> u16
         requires { at + 2 ≤ length self.now }
         ensures { result ≡ number_at self.now 2 at }
@@ -65,7 +65,7 @@ impl CheckpointFile {
         u16::from_be_bytes([self.bytes[at], self.bytes[at + 1]])
     }
 
-    // The number in the eight bytes at the front.
+    /// The number in the eight bytes at the front.
     pub(crate) fn front(&self) -> u64
         requires { 8 ≤ length self.now }
         ensures { result ≡ number_at self.now 8 0 }
@@ -76,7 +76,7 @@ impl CheckpointFile {
         ])
     }
 
-    // The byte at a place.
+    /// The byte at a place.
     pub(crate) fn byte(&self, at: usize) -> u8
         requires { at < length self.now }
         ensures byte { result ≡ slice_index self.now at }

@@ -3,10 +3,13 @@ use Rattle.std.specs.Prelude.{◌≡◌, ◌≢◌, ◌≤◌, ◌<◌, ◌+◌,
 use Rattle.std.specs.Option.{ForSome}
 use Rattle.std.specs.List.{list_all}
 use Rattle.std.specs.Char.{is_ascii_digit, is_ascii_uppercase}
+use Rattle.disc_time.specs.Counts.{most_tracks, time_count}
+use Rattle.text_lines.specs.Text.{most_text_bytes}
 use Rattle.cue_sheet.specs.declared.fault.CueText.{CueText}
 use Rattle.cue_sheet.specs.declared.fault.CueText.TheVariants.{Title, Performer, Songwriter}
 
--- a track: its number, its control bits, its code, the lengths of its two gaps in blocks, its index lines by number and file time, and its texts
+-- a track: its number, its control bits, its code, the lengths of its two gaps in blocks, its index lines by number
+-- and file time, and its texts
 pub record CueTrack : Type 0 where
   pub number : ℕ
   pub control : ℕ
@@ -64,7 +67,17 @@ sheet_from s tracks = record {
 
 -- no track, for a place where there is none
 abbrev pub no_track : CueTrack
-no_track = record { number = 0; control = 0; isrc = None; pregap = 0; postgap = 0; indices = []; title = []; performer = []; songwriter = [] }
+no_track = record {
+  number = 0;
+  control = 0;
+  isrc = None;
+  pregap = 0;
+  postgap = 0;
+  indices = [];
+  title = [];
+  performer = [];
+  songwriter = [];
+}
 
 -- track k of a sheet, counted from 0
 abbrev pub track_of : CueSheet → ℕ → CueTrack
@@ -88,11 +101,12 @@ track_text Songwriter track = track.songwriter
 
 -- the texts of a sheet: at place 0 those of the album, at place k + 1 those of track k
 abbrev pub text_at : CueText → CueSheet → ℕ → List ℕ
-text_at kind sheet place = if place == 0 then album_text kind sheet else track_text kind (track_of sheet (place - 1))
+text_at kind sheet place = if place == 0 then album_text kind sheet
+    else track_text kind (track_of sheet (place - 1))
 
 -- a text has no byte below 20 hexadecimal and no byte 7F, and is no longer than a sheet
 pub record IsText (s : List ℕ) : Type 0 where
-  pub short : length s ≤ 67108864
+  pub short : length s ≤ most_text_bytes
   pub plain : All (λ b. (32 ≤ b) × (b ≢ 127)) s
 
 -- a catalogue number: thirteen digits
@@ -103,35 +117,40 @@ is_catalogue_number s = length s == 13 && list_all is_ascii_digit s
 abbrev pub is_capital_code : List ℕ → Bool
 is_capital_code s =
     length s == 12 && list_all is_ascii_uppercase (take 2 s)
-    && list_all (λ c. is_ascii_digit c || is_ascii_uppercase c) (take 3 (drop 2 s)) && list_all is_ascii_digit (drop 5 s)
+    && list_all (λ c. is_ascii_digit c || is_ascii_uppercase c) (take 3 (drop 2 s))
+    && list_all is_ascii_digit (drop 5 s)
 
 -- the index lines of a track: their numbers go up by one from 0 or 1 and include 1, and their times do not fall
 pub record AreIndices (indices : List (ℕ × ℕ)) : Type 0 where
   pub first : (slice_index_or indices 0 (0, 0)).0 ≤ 1
   pub has_one : 1 < (slice_index_or indices 0 (0, 0)).0 + length indices
-  pub next : (j : ℕ) → j < length indices → (slice_index_or indices j (0, 0)).0 ≡ (slice_index_or indices 0 (0, 0)).0 + j
+  pub next : (j : ℕ) → j < length indices
+      → (slice_index_or indices j (0, 0)).0 ≡ (slice_index_or indices 0 (0, 0)).0 + j
   pub numbers : (j : ℕ) → j < length indices → (slice_index_or indices j (0, 0)).0 ≤ 99
-  pub times : (j : ℕ) → j < length indices → (slice_index_or indices j (0, 0)).1 < 450000
-  pub order : (i j : ℕ) → i ≤ j → j < length indices → (slice_index_or indices i (0, 0)).1 ≤ (slice_index_or indices j (0, 0)).1
+  pub times : (j : ℕ) → j < length indices → (slice_index_or indices j (0, 0)).1 < time_count
+  pub order : (i j : ℕ) → i ≤ j → j < length indices
+      → (slice_index_or indices i (0, 0)).1 ≤ (slice_index_or indices j (0, 0)).1
 
--- a track: its number 1 to 99, its control below 16, its gaps below 100 minutes, its index lines in order, its code and its texts in form
+-- a track: its number 1 to 99, its control below 16, its gaps below 100 minutes, its index lines in order, its code
+-- and its texts in form
 pub record IsTrack (track : CueTrack) : Type 0 where
-  pub number : (1 ≤ track.number) × (track.number ≤ 99)
+  pub number : (1 ≤ track.number) × (track.number ≤ most_tracks)
   pub control : track.control < 16
   pub isrc : ForSome track.isrc (λ code. IsTrue (is_capital_code code))
-  pub gaps : (track.pregap < 450000) × (track.postgap < 450000)
+  pub gaps : (track.pregap < time_count) × (track.postgap < time_count)
   pub indices : AreIndices track.indices
   pub title : IsText track.title
   pub performer : IsText track.performer
   pub songwriter : IsText track.songwriter
 
--- a sheet has 1 to 99 tracks, whose numbers go up by one, and a track's times are not below those of the tracks before it
+-- a sheet has 1 to 99 tracks, whose numbers go up by one, and a track's times are not below those of the tracks
+-- before it
 pub record IsSheet (sheet : CueSheet) : Type 0 where
   pub catalogue : ForSome sheet.catalogue (λ number. IsTrue (is_catalogue_number number))
   pub title : IsText sheet.title
   pub performer : IsText sheet.performer
   pub songwriter : IsText sheet.songwriter
-  pub count : (1 ≤ length sheet.tracks) × (length sheet.tracks ≤ 99)
+  pub count : (1 ≤ length sheet.tracks) × (length sheet.tracks ≤ most_tracks)
   pub tracks : (k : ℕ) → k < length sheet.tracks → IsTrack (track_of sheet k)
   pub next : (k : ℕ) → k < length sheet.tracks → (track_of sheet k).number ≡ (track_of sheet 0).number + k
   pub order : (j k i : ℕ) → j < k → k < length sheet.tracks → i < length (track_of sheet j).indices

@@ -36,7 +36,14 @@ no_section = record {
 
 -- what is said before the first line
 abbrev pub nothing_said : CueState
-nothing_said = record { has_file = false; latest = 0; album = no_section; tracks = []; number = None; section = no_section }
+nothing_said = record {
+  has_file = false;
+  latest = 0;
+  album = no_section;
+  tracks = [];
+  number = None;
+  section = no_section;
+}
 
 -- whether an index line has the number 1
 abbrev pub has_index_one : CueSection → Bool
@@ -98,7 +105,8 @@ once (Some _) next = Err Repeated
 
 -- what is said with one more index line
 abbrev pub with_index : CueState → ℕ → ℕ → CueState
-with_index s number time = in_section s (record s.section { indices = s.section.indices ++ (number, time) ∷ [] })
+with_index s number time =
+    in_section s (record s.section { indices = s.section.indices ++ (number, time) ∷ [] })
 
 -- what a line that is spelled and placed well makes of what was said, or the first reason for which it is refused
 unfoldable pub taken : CueState → CueLine → Result CueState CueWhy
@@ -107,7 +115,8 @@ taken s SaysFile = Ok (record s { has_file = true })
 taken s (SaysCatalogue t) = once s.section.catalogue (in_section s (record s.section { catalogue = Some t }))
 taken s (SaysTitle t) = once s.section.title (in_section s (record s.section { title = Some t }))
 taken s (SaysPerformer t) = once s.section.performer (in_section s (record s.section { performer = Some t }))
-taken s (SaysSongwriter t) = once s.section.songwriter (in_section s (record s.section { songwriter = Some t }))
+taken s (SaysSongwriter t) =
+    once s.section.songwriter (in_section s (record s.section { songwriter = Some t }))
 taken s (SaysFlags n) = once s.section.control (in_section s (record s.section { control = Some n }))
 taken s (SaysIsrc t) = once s.section.isrc (in_section s (record s.section { isrc = Some t }))
 taken s (SaysPregap n) = once s.section.pregap (in_section s (record s.section { pregap = Some n }))
@@ -134,7 +143,8 @@ obeyed s (Some command) argument =
     else (if not (is_placed s command) then Err Misplaced
     else spelled s (said_by command argument))
 
--- what a line of the text makes of what was said, or the first reason for which it is refused; an empty one changes nothing
+-- what a line of the text makes of what was said, or the first reason for which it is refused; an empty one changes
+-- nothing
 abbrev pub step : CueState → List ℕ → Result CueState CueWhy
 step s line =
     if is_some_bytes (trimmed line)

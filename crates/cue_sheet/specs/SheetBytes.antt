@@ -5,4 +5,5 @@ use Rattle.cue_sheet.specs.declared.fault.CueText.{CueText}
 
 -- the texts of the album and of each track are bytes
 abbrev pub HasByteTexts : CueSheet → Type 0
-HasByteTexts sheet = (kind : CueText) (place : ℕ) → place ≤ length sheet.tracks → All (λ byte. byte < 256) (text_at kind sheet place)
+HasByteTexts sheet = (kind : CueText) (place : ℕ) → place ≤ length sheet.tracks
+    → All (λ byte. byte < 256) (text_at kind sheet place)

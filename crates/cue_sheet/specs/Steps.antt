@@ -45,7 +45,8 @@ later_reason s (SaysTrack number audio) =
     else (if not audio then Some NotAudio
     else (if follows_number s.number number then None else Some NumberOrder))
 later_reason s (SaysIndex number time) =
-    if follows_index s.section.indices number then (if nat_lt time s.latest then Some TimeOrder else None) else Some IndexOrder
+    if follows_index s.section.indices number then (if nat_lt time s.latest then Some TimeOrder else None)
+    else Some IndexOrder
 later_reason s line = if is_repeated s.section line then Some Repeated else None
 
 -- what is line_said after one more line, if it is not refused
@@ -81,13 +82,15 @@ sheet_said s = sheet_from s.album (s.tracks ++ track_with s.number s.section)
 
 -- what a check of a line answers
 abbrev pub IsCheckedLine : CueState → Option Command → List ℕ → Result Line CueWhy → Type 0
-IsCheckedLine s command argument (Ok line) = (obeyed s command argument ≡ Ok (after s (line_said line))) × IsLineInRange (line_said line) × (later_reason s (line_said line) ≡ None)
+IsCheckedLine s command argument (Ok line) = (obeyed s command argument ≡ Ok (after s (line_said line)))
+    × IsLineInRange (line_said line) × (later_reason s (line_said line) ≡ None)
 IsCheckedLine s command argument (Err why) = obeyed s command argument ≡ Err why
 
 -- what a whole line does to what is line_said
 pub data TakesLine (old : CueState) (line : List ℕ) (new : CueState) : Type 0 where
   IsEmpty : step old line ≡ Ok new → new ≡ old → TakesLine old line new
-  Says : (line_said : CueLine) → step old line ≡ Ok new → IsLineInRange line_said → later_reason old line_said ≡ None → new ≡ after old line_said → TakesLine old line new
+  Says : (line_said : CueLine) → step old line ≡ Ok new → IsLineInRange line_said
+      → later_reason old line_said ≡ None → new ≡ after old line_said → TakesLine old line new
 
 -- why a line is not taken
 abbrev pub RefusesLine : CueState → ℕ → List ℕ → CueStop → Type 0

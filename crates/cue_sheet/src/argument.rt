@@ -2,7 +2,8 @@
 ghost use Rattle.std.specs.Prelude.{◌≡◌, ◌≤◌, ◌<◌, ◌||◌, ℕ, IfSome, IsTrue, length, option_map, option_copied};
 ghost use Rattle.std.specs.List.{list_all, position};
 ghost use Rattle.std.specs.Char.{is_ascii_digit, is_ascii_uppercase};
-ghost use Rattle.text_lines.specs.Text.{words_in};
+ghost use Rattle.disc_time.specs.Counts.{most_tracks, time_count};
+ghost use Rattle.text_lines.specs.Text.{most_text_bytes, words_in};
 ghost use Rattle.cue_sheet.specs.CueSheet.{IsText, is_catalogue_number, is_capital_code};
 ghost use Rattle.cue_sheet.specs.CueLines.{IsLineInRange, begins_quoted, catalogue_argument, code_argument, flags_argument, index_argument, is_file, is_flag, is_plain, is_quote, names_flag, plain, quoted, said_by, text_argument, track_argument};
 ghost use Rattle.cue_sheet.specs.Steps.{line_said};
@@ -13,7 +14,7 @@ use text_lines::{next_word, time, two_digits};
 
 /// What a command says with its argument, if that is spelled as it must be.
 pub(crate) fn spelled(command: Command, argument: &[u8]) -> Option<Line<'_>>
-    requires { length argument.now ≤ 67108864 }
+    requires { length argument.now ≤ most_text_bytes }
     ensures line { option_map line_said result ≡ said_by command argument.now }
     ensures range { IfSome result (λ line. IsLineInRange (line_said line)) }
 {
@@ -44,10 +45,10 @@ pub(crate) fn spelled(command: Command, argument: &[u8]) -> Option<Line<'_>>
     }
 }
 
-// The bytes, if they hold no control byte.
+/// The bytes, if they hold no control byte.
 #[tactic(auto, unfolding(crate::specs::CueLines::plain))]
 fn plain(text: &[u8]) -> Option<&[u8]>
-    requires { length text.now ≤ 67108864 }
+    requires { length text.now ≤ most_text_bytes }
     ensures text { option_copied result ≡ plain text.now }
     ensures range { IfSome result (λ s. IsText s.now) }
 {
@@ -75,7 +76,7 @@ fn begins_quoted(argument: &[u8]) -> bool
     matches!(argument, [b'"', ..])
 }
 
-// Of an argument that begins with a quote, what stands up to the next one, and what follows that.
+/// Of an argument that begins with a quote, what stands up to the next one, and what follows that.
 #[tactic(auto, unfolding(crate::specs::CueLines::quoted))]
 fn quoted(argument: &[u8]) -> Option<(&[u8], &[u8])>
     requires { 0 < length argument.now }
@@ -94,10 +95,10 @@ fn closing_quote(text: &[u8]) -> Option<usize>
     text.iter().position(|byte| *byte == b'"')
 }
 
-// A text: in quotes, with nothing after them, or as it stands and not empty.
+/// A text: in quotes, with nothing after them, or as it stands and not empty.
 #[tactic(auto, unfolding(crate::specs::CueLines::text_argument))]
 fn text(argument: &[u8]) -> Option<&[u8]>
-    requires { length argument.now ≤ 67108864 }
+    requires { length argument.now ≤ most_text_bytes }
     ensures text { option_copied result ≡ text_argument argument.now }
     ensures range { IfSome result (λ s. IsText s.now) }
 {
@@ -114,7 +115,7 @@ fn text(argument: &[u8]) -> Option<&[u8]>
     plain(argument)
 }
 
-// A file: a name in quotes and then one word, or two or more words.
+/// A file: a name in quotes and then one word, or two or more words.
 #[tactic(auto, unfolding(crate::specs::CueLines::is_file))]
 fn is_file(argument: &[u8]) -> bool
     ensures { result ≡ is_file argument.now }
@@ -128,7 +129,7 @@ fn is_file(argument: &[u8]) -> bool
     word_count(argument) >= 2
 }
 
-// The number of words.
+/// The number of words.
 fn word_count(line: &[u8]) -> usize
     ensures { result ≡ length (words_in line.now) }
 {
@@ -141,7 +142,7 @@ fn word_count(line: &[u8]) -> usize
     count
 }
 
-// A catalogue number, 13 digits.
+/// A catalogue number, 13 digits.
 #[tactic(auto, unfolding(crate::specs::CueLines::catalogue_argument))]
 fn catalogue(argument: &[u8]) -> Option<[u8; 13]>
     ensures number { result ≡ catalogue_argument argument.now }
@@ -155,7 +156,7 @@ fn catalogue(argument: &[u8]) -> Option<[u8; 13]>
     Some(digits)
 }
 
-// A track's code, its letters as capital ones.
+/// A track's code, its letters as capital ones.
 #[tactic(auto, unfolding(crate::specs::CueLines::code_argument))]
 fn code(argument: &[u8]) -> Option<[u8; 12]>
     ensures code { result ≡ code_argument argument.now }
@@ -204,10 +205,10 @@ fn is_capital_or_digit(byte: u8) -> bool
     byte.is_ascii_digit() || byte.is_ascii_uppercase()
 }
 
-// A track's number, and whether its type is AUDIO.
+/// A track's number, and whether its type is AUDIO.
 fn track(argument: &[u8]) -> Option<(u8, bool)>
     ensures track { result ≡ track_argument (words_in argument.now) }
-    ensures range { IfSome result (λ t. (1 ≤ t.0) × (t.0 ≤ 99)) }
+    ensures range { IfSome result (λ t. (1 ≤ t.0) × (t.0 ≤ most_tracks)) }
 {
     let (number, rest) = next_word(argument)?;
     let (kind, rest) = next_word(rest)?;
@@ -221,10 +222,10 @@ fn track(argument: &[u8]) -> Option<(u8, bool)>
     Some((number, is_word(kind, b"AUDIO")))
 }
 
-// An index line's number and time.
+/// An index line's number and time.
 fn index(argument: &[u8]) -> Option<(u8, u32)>
     ensures line { result ≡ index_argument (words_in argument.now) }
-    ensures range { IfSome result (λ line. (line.0 ≤ 99) × (line.1 < 450000)) }
+    ensures range { IfSome result (λ line. (line.0 ≤ 99) × (line.1 < time_count)) }
 {
     let (number, rest) = next_word(argument)?;
     let (at, rest) = next_word(rest)?;
@@ -236,7 +237,7 @@ fn index(argument: &[u8]) -> Option<(u8, u32)>
     Some((number, at))
 }
 
-// The control bits of flags.
+/// The control bits of flags.
 #[tactic(auto, unfolding(crate::specs::CueLines::flags_argument))]
 fn flags(argument: &[u8]) -> Option<u8>
     ensures control { result ≡ flags_argument (words_in argument.now) }

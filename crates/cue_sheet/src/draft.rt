@@ -1,5 +1,6 @@
 // What the lines of a cue sheet so far say.
 ghost use Rattle.std.specs.Prelude.{◌≡◌, ◌≤◌, [], ◌++◌, true, length, IfOk, MatchResult, map};
+ghost use Rattle.text_lines.specs.Text.{most_text_bytes};
 ghost use Rattle.cue_sheet.specs.Grammar.{CueState, track_with};
 ghost use Rattle.cue_sheet.specs.Views.{section_of, track_value};
 
@@ -143,7 +144,7 @@ impl Draft {
 
     /// What a trimmed line says that is not empty, or the first reason for which it is refused.
     fn checked<'a>(&self, line: &'a [u8]) -> Result<Line<'a>, CueWhy>
-        requires { length line.now ≤ 67108864 }
+        requires { length line.now ≤ most_text_bytes }
         ensures { IsCheckedLine self.now (command_named (first_word line.now)) (argument_of line.now) result }
     {
         let (word, argument) = split_command(line);
@@ -191,8 +192,9 @@ impl Draft {
 
     /// Takes a line, which has this number. An error leaves the draft in a state of which nothing is said.
     pub(crate) fn take(&mut self, alloc: Global, number: u32, line: &[u8]) -> Result<(), CueStop>
-        requires { length line.now ≤ 67108864 }
-        ensures { MatchResult result (λ _. TakesLine self.old line.now self.new) (RefusesLine self.old number line.now) }
+        requires { length line.now ≤ most_text_bytes }
+        ensures { MatchResult result (λ _. TakesLine self.old line.now self.new)
+            (RefusesLine self.old number line.now) }
     {
         let line = trim(line);
         if line.is_empty() {
@@ -239,7 +241,8 @@ fn with_last(
     number: Option<u8>,
     section: Section,
 ) -> Result<Vec<Track>, AllocError>
-    ensures { IfOk result (λ all. map track_value all.items ≡ map track_value tracks.items ++ track_with number (section_of section)) }
+    ensures { IfOk result (λ all. map track_value all.items ≡ map track_value tracks.items
+        ++ track_with number (section_of section)) }
 {
     if let Some(number) = number {
         tracks.push(Track { number, section })?;

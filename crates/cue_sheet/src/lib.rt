@@ -1,4 +1,5 @@
-//! Cue sheets of Compact Discs: what a sheet says of the album and its tracks, or its first line that is refused and why.
+//! Cue sheets of Compact Discs: what a sheet says of the album and its tracks, or its first line that is refused and
+//! why.
 #![tactic(auto)]
 
 mod argument;

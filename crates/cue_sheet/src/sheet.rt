@@ -1,5 +1,7 @@
 // A cue sheet and its readers.
 ghost use Rattle.std.specs.Prelude.{◌≡◌, ◌≤◌, ◌<◌, IfSome, IsTrue, length, option_copied};
+ghost use Rattle.disc_time.specs.Counts.{most_tracks, time_count};
+ghost use Rattle.text_lines.specs.Text.{most_text_bytes};
 ghost use Rattle.cue_sheet.specs.CueSheet.{CueSheet, IsSheet, IsText, IsTrack, is_capital_code, is_catalogue_number, track_of, text_at, index_line_of};
 ghost use Rattle.cue_sheet.specs.Views.{sheet_value, track_value};
 
@@ -32,7 +34,7 @@ impl Sheet {
     /// What the text of a cue sheet says, or its first line that is refused. The text is read once, from front to
     /// end, and nothing is copied but the texts that the sheet keeps.
     pub fn parse(alloc: Global, text: &[u8]) -> Result<Sheet, CueStop>
-        requires { length text.now ≤ 67108864 }
+        requires { length text.now ≤ most_text_bytes }
         ensures { IsCueAnswer (read_cue text.now) result }
     {
         let mut draft = Draft::new(alloc);
@@ -76,7 +78,7 @@ impl Sheet {
     /// The first track's number, 1 to 99.
     pub fn first(&self) -> u8
         ensures number { result ≡ (track_of self.now 0).number }
-        ensures bound { (1 ≤ result) × (result ≤ 99) }
+        ensures bound { (1 ≤ result) × (result ≤ most_tracks) }
     {
         self.tracks[0].number
     }
@@ -92,8 +94,8 @@ impl Sheet {
         }
     }
 
-    /// A text: at place 0 the album's, at place k that of the k-th track, counted from 1. It is empty where none is given,
-    /// has no byte below 20 hexadecimal and no byte 7F, and at most 64 MiB.
+    /// A text: at place 0 the album's, at place k that of the k-th track, counted from 1. It is empty where none is
+    /// given, has no byte below 20 hexadecimal and no byte 7F, and at most 64 MiB.
     pub fn text(&self, kind: CueText, place: usize) -> &[u8]
         requires { place ≤ length self.now.tracks }
         ensures text { result.now ≡ text_at kind self.now place }
@@ -105,7 +107,8 @@ impl Sheet {
         self.track(place - 1).section.text(kind)
     }
 
-    /// The code of track k, counted from 0: two capital letters, three capital letters or digits, and seven digits, in ASCII.
+    /// The code of track k, counted from 0: two capital letters, three capital letters or digits, and seven digits,
+    /// in ASCII.
     pub fn isrc(&self, k: usize) -> Option<&[u8]>
         requires { k < length self.now.tracks }
         ensures code { option_copied result ≡ (track_of self.now k).isrc }
@@ -130,7 +133,7 @@ impl Sheet {
     pub fn pregap(&self, k: usize) -> u32
         requires { k < length self.now.tracks }
         ensures gap { result ≡ (track_of self.now k).pregap }
-        ensures bound { result < 450000 }
+        ensures bound { result < time_count }
     {
         self.track(k).section.pregap.unwrap_or(0)
     }
@@ -139,7 +142,7 @@ impl Sheet {
     pub fn postgap(&self, k: usize) -> u32
         requires { k < length self.now.tracks }
         ensures gap { result ≡ (track_of self.now k).postgap }
-        ensures bound { result < 450000 }
+        ensures bound { result < time_count }
     {
         self.track(k).section.postgap.unwrap_or(0)
     }
@@ -159,7 +162,7 @@ impl Sheet {
         requires track { k < length self.now.tracks }
         requires line { j < length (track_of self.now k).indices }
         ensures line { result ≡ index_line_of (track_of self.now k) j }
-        ensures bound { (result.0 ≤ 99) × (result.1 < 450000) }
+        ensures bound { (result.0 ≤ 99) × (result.1 < time_count) }
     {
         self.track(k).section.indices[j]
     }

@@ -1,9 +1,11 @@
 -- Sums over tiles, from each start at once.
-use Rattle.std.proofs.Common.{◌≡◌, ◌≢◌, ℕ, ◌+◌, ◌-◌, ◌*◌, ◌/◌, ◌%◌, ◌<◌, ◌≤◌, List, [], ◌∷◌, length, map, get_or, set, replicate, refl, ap, sym, subst, ◌∙◌, inl, inr, arith, below_more}
+use Rattle.std.proofs.Common.{◌≡◌, ◌≢◌, ℕ, ◌+◌, ◌-◌, ◌*◌, ◌/◌, ◌%◌, ◌<◌, ◌≤◌, List, [], ◌∷◌, length, map, get_or, set, take, drop, replicate, Bool, true, zero, suc, refl, ap, sym, subst, ◌∙◌, inl, inr, arith, below_more}
 use Rattle.std.specs.Prelude.{Option, Some, None, MatchOption, slice_index, sum_by}
+use Rattle.std.specs.Str.{bytes_eq}
+use Rattle.std.proofs.lemmas.Slice.Eq.{bytes_eq-Decides}
 use Rattle.std.proofs.lemmas.Bool.{cases_eq, cases_lt}
 use Rattle.std.proofs.lemmas.Grind.{same_number_lists}
-use Rattle.std.proofs.lemmas.List.{length-replicate, get_or-replicate, get_or-set_same, get_or-set_other, get_or_past}
+use Rattle.std.proofs.lemmas.List.{length-replicate, get_or-replicate, get_or-take, get_or-drop, get_or-set_same, get_or-set_other, get_or_past}
 use Rattle.std.proofs.lemmas.List.FromFn.{map-range_with_len_more}
 use Rattle.std.proofs.lemmas.List.Sums.{sum_by-append}
 use Rattle.bit_lists.specs.Counting.{below}
@@ -52,11 +54,20 @@ pub all_same : (pixels : List ℕ) (first : ℕ) → length pixels ≡ 72 → ((
 all_same pixels first size all =
     same_number_lists pixels (replicate 72 first) (size ∙ sym (length-replicate {A = ℕ} 72 first)) (λ q lt. all q (omega arith) ∙ sym (get_or-replicate {A = ℕ} 72 q first 0 (omega arith)))
 
-pub first_of : (c : ℕ) (pixels : List ℕ) (i : ℕ) → i < 72 → pixels ≡ replicate 72 c → get_or pixels i 0 ≡ c
-first_of c pixels i lt h = ap (λ xs. get_or xs i 0) h ∙ get_or-replicate {A = ℕ} 72 i c 0 lt
+-- where each pixel is as the one before it, all are as the first
+pub as_before : (pixels : List ℕ) (r : Bool) → length pixels ≡ 72 → r ≡ bytes_eq (take (72 - 1) (drop 1 pixels)) (take (71 - 0) (drop 0 pixels)) → r ≡ true → (q : ℕ) → q < 72 → get_or pixels q 0 ≡ get_or pixels 0 0
+as_before pixels r size e holds zero q_lt = refl
+as_before pixels r size e holds (suc q) q_lt =
+    let same = (bytes_eq-Decides (take (72 - 1) (drop 1 pixels)) (take (71 - 0) (drop 0 pixels))).0 (sym e ∙ holds) in
+    let next : suc q ≡ 1 + q = omega arith in
+    ap (λ n. get_or pixels n 0) next
+    ∙ sym (get_or-take (72 - 1) (drop 1 pixels) q 0 (omega arith) ∙ get_or-drop 1 pixels q 0)
+    ∙ ap (λ xs. get_or xs q 0) same
+    ∙ get_or-take (71 - 0) (drop 0 pixels) q 0 (omega arith)
+    ∙ as_before pixels r size e holds q (omega arith)
 
-pub not_same : (pixels : List ℕ) (i : ℕ) → i < 72 → get_or pixels i 0 ≢ get_or pixels 0 0 → (c : ℕ) → pixels ≢ replicate 72 c
-not_same pixels i lt differ c h = differ (first_of c pixels i lt h ∙ sym (first_of c pixels 0 (omega arith) h))
+first_of : (c : ℕ) (pixels : List ℕ) (i : ℕ) → i < 72 → pixels ≡ replicate 72 c → get_or pixels i 0 ≡ c
+first_of c pixels i lt h = ap (λ xs. get_or xs i 0) h ∙ get_or-replicate {A = ℕ} 72 i c 0 lt
 
 -- what is kept of a tile
 pub weighed : PlansAreShortest → (tile : List ℕ) (w : ℕ) (single : Option ℕ) → IsTilePixels tile → MatchOption single ((c : ℕ) → tile ≢ replicate 72 c) (λ c. (c < 16) × (tile ≡ replicate 72 c)) → w ≤ 4

@@ -18,9 +18,9 @@ pub(crate) struct Loom {
 }
 
 impl Loom {
-    ghost use Rattle.std.specs.Prelude.{◌≡◌, ◌<◌, ◌≤◌, ◌+◌, length, IfOk};
+    ghost use Rattle.std.specs.Prelude.{◌≡◌, ◌<◌, ◌≤◌, ◌+◌, length, unwrap_or, IfOk};
     ghost use Rattle.picture_script.specs.Script.{pictures};
-    ghost use Rattle.picture_changes.specs.Schedule.{start_of};
+    ghost use Rattle.picture_changes.specs.Schedule.{start_of, idle_pack};
     ghost use Rattle.picture_changes.specs.PlannedChange.{planned_change};
     ghost use Rattle.pack_schedule.specs.Survey.{IsSurvey};
     ghost use Rattle.pack_schedule.specs.Woven.{IsPackAt};
@@ -63,7 +63,8 @@ impl Loom {
             .plan(script, self.k, preset, &self.before, &self.now);
     }
 
-    // Goes on to the change of the next picture.
+    // Goes on to the change of the next picture. It stays a call of its own, since most packs are idle.
+    #[inline(never)]
     fn advance(&mut self, script: &Script, given: u32)
         requires weaving { IsWeaving script.now self.old given }
         requires picture { self.old.k < pictures script.now }
@@ -95,20 +96,21 @@ impl Loom {
         }
     }
 
-    /// The pack of this number: that of an instruction of the change, or an idle pack.
-    pub(crate) fn pack(&self, script: &Script, given: u32) -> Pack
+    /// The pack of this number: that of an instruction of the change, or none where it is idle.
+    #[inline]
+    pub(crate) fn pack(&self, script: &Script, given: u32) -> Option<Pack>
         requires weaving { IsWeaving script.now self.now given }
         requires current { self.now.k < pictures script.now → given < start_of script.now self.now.k + length (planned_change script.now self.now.k) }
-        ensures { IsPackAt script.now given result }
+        ensures { IsPackAt script.now given (unwrap_or result idle_pack) }
     {
         planned_changes_are_changes();
         changes_can_be_written();
         if self.k < script.pictures() {
             let start = self.survey.start(self.k);
             if given >= start {
-                return write(&self.change.get((given - start) as usize));
+                return Some(write(&self.change.get((given - start) as usize)));
             }
         }
-        Pack::idle()
+        None
     }
 }

@@ -28,7 +28,8 @@ impl<'a> Model for Weaver<'a> {
 }
 
 impl<'a> Weaver<'a> {
-    ghost use Rattle.std.specs.Prelude.{◌≡◌, ◌+◌, IfOk, min};
+    ghost use Rattle.std.specs.Prelude.{◌≡◌, ◌+◌, IfOk, min, unwrap_or};
+    ghost use Rattle.picture_changes.specs.Schedule.{idle_pack};
     ghost use Rattle.pack_schedule.specs.Survey.{IsSurvey};
     ghost use Rattle.pack_schedule.specs.Woven.{IsPackAt};
 
@@ -50,9 +51,11 @@ impl<'a> Weaver<'a> {
         })
     }
 
-    /// The next pack. After all changes the packs are idle. The number of packs given stays at the last value of its type.
-    pub fn next(&mut self) -> Pack
-        ensures pack { IsPackAt self.old.script self.old.given result }
+    /// The next pack, or none where it is idle, as all are after the changes. The number of packs given stays at the last
+    /// value of its type.
+    #[inline]
+    pub fn next(&mut self) -> Option<Pack>
+        ensures pack { IsPackAt self.old.script self.old.given (unwrap_or result idle_pack) }
         ensures script { self.new.script ≡ self.old.script }
         ensures given { self.new.given ≡ min (self.old.given + 1) 4294967295 }
     {

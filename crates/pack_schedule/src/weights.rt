@@ -1,7 +1,7 @@
 // What is kept of tiles from picture to picture.
 ghost use Rattle.std.specs.Prelude.{◌≡◌, ◌≢◌, ◌<◌, ◌≤◌, ◌+◌, ◌-◌, ◌/◌, ◌%◌, ℕ, replicate, slice_index_or, MatchOption};
 ghost use Rattle.cdg_instructions.specs.Instruction.{IsTilePixels};
-ghost use Rattle.tile_author.specs.Plan.{steps};
+ghost use Rattle.tile_author.specs.Plan.{steps, weight};
 ghost use Rattle.picture_script.specs.Script.{picture_tile};
 ghost use Rattle.picture_script.specs.Board.{IsPicture};
 ghost use Rattle.pack_schedule.specs.SameTiles.{AreSameRows};
@@ -10,7 +10,7 @@ ghost use Rattle.pack_schedule.specs.Weights.{IsWeighed, IsWeighedAt, not_weighe
 use crate::same_tiles::{ROWS, is_same_tile};
 use cdg_instructions::Tile;
 use picture_script::{Canvas, Script};
-use tile_author::{plans_are_shortest, steps, weight};
+use tile_author::{plans_are_shortest, steps_of_weight, weight};
 
 /// How many tiles the window has.
 pub(crate) const TILES: usize = 768;
@@ -30,7 +30,8 @@ pub(crate) const NOT_WEIGHED: Weighed = Weighed {
 
 // What is to be kept of a tile.
 fn weigh(tile: &Tile) -> Weighed
-    ensures { IsWeighed tile.now result }
+    ensures weighed { IsWeighed tile.now result }
+    ensures weight { result.weight ≡ weight tile.now }
 {
     plans_are_shortest();
     let weight = weight(tile);
@@ -44,13 +45,10 @@ fn single_colour(tile: &Tile) -> Option<u8>
     ensures colour { MatchOption result ((c : ℕ) → tile.now ≢ replicate 72 c) (λ c. (c < 16) × (tile.now ≡ replicate 72 c)) }
 {
     let pixels = tile.pixels();
-    let first = pixels[0];
-    for pixel in pixels {
-        if *pixel != first {
-            return None;
-        }
+    if pixels[1..72] == pixels[0..71] {
+        return Some(pixels[0]);
     }
-    Some(first)
+    None
 }
 
 /// What tile `i` of picture `k`, which stands on `now`, takes where the picture before it stands on `before`.
@@ -80,6 +78,7 @@ pub(crate) fn weigh_tile(
         return 0;
     }
     let new = now.tile(row, column);
-    weights[i] = weigh(&new);
-    u32::from(steps(&before.tile(row, column), &new))
+    let kept = weigh(&new);
+    weights[i] = kept;
+    u32::from(steps_of_weight(&before.tile(row, column), &new, kept.weight))
 }

@@ -2,24 +2,25 @@
 ghost use Rattle.std.specs.Prelude.{◌≡◌, ◌≤◌, ◌<◌, ◌↔◌, ◌||◌, All, IsTrue, MatchOption, length, take, drop, true};
 ghost use Rattle.std.specs.Char.{is_ascii_digit, is_ascii_uppercase};
 ghost use Rattle.std.specs.List.{list_all};
+ghost use Rattle.disc_time.specs.Counts.{most_tracks, time_count};
 ghost use Rattle.q_channel.specs.QFrame.{is_bcd_within, is_other, is_point};
 
-use disc_time::Msf;
+use disc_time::{MOST_TRACKS, Msf, TIME_COUNT};
 
 /// The time at which a block begins, where it is one of a disc.
 pub(crate) fn time(block: u32) -> Option<Msf>
-    ensures { MatchOption result (450000 ≤ block) (λ time. (time ≡ block) × (block < 450000)) }
+    ensures { MatchOption result (time_count ≤ block) (λ time. (time ≡ block) × (block < time_count)) }
 {
-    if block >= 450_000 {
+    if block >= TIME_COUNT {
         return None;
     }
     Some(Msf::of_block(block))
 }
 
 pub(crate) fn is_track(number: u8) -> bool
-    ensures { IsTrue result ↔ ((1 ≤ number) × (number ≤ 99)) }
+    ensures { IsTrue result ↔ ((1 ≤ number) × (number ≤ most_tracks)) }
 {
-    (1..=99).contains(&number)
+    (1..=MOST_TRACKS).contains(&number)
 }
 
 pub(crate) fn are_digits(text: &[u8]) -> bool

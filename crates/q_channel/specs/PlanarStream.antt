@@ -2,11 +2,13 @@
 use Rattle.std.specs.Prelude.{◌≡◌, ℕ, ◌*◌, ◌/◌, ◌<◌, List, [], length, slice_index_or}
 use Rattle.bit_lists.specs.Counting.{whole_parts}
 use Rattle.raw_subcode.specs.Channels.{IsPlanarForm}
+use Rattle.raw_subcode.specs.Sizes.{block_bytes}
 
--- each whole 96 bytes are turned into 96 bytes, and nothing more is written
+-- each whole block is turned into a block, and nothing more is written
 pub record TurnsBlocks (turned : List ℕ → List ℕ → Type 0) (bytes text : List ℕ) : Type 0 where
-  pub size : length text ≡ 96 * (length bytes / 96)
-  pub blocks : (n : ℕ) → n < length bytes / 96 → turned (slice_index_or (whole_parts 96 bytes) n []) (slice_index_or (whole_parts 96 text) n [])
+  pub size : length text ≡ block_bytes * (length bytes / block_bytes)
+  pub blocks : (n : ℕ) → n < length bytes / block_bytes
+      → turned (slice_index_or (whole_parts block_bytes bytes) n []) (slice_index_or (whole_parts block_bytes text) n [])
 
 -- the planar form of each block
 abbrev pub IsPlanarStream : List ℕ → List ℕ → Type 0

@@ -1,6 +1,7 @@
 -- The steps of the stage that gives the lines of the Q channel.
 use Rattle.std.specs.Prelude.{ℕ, ◌+◌, ◌-◌, ◌^◌, min, if◌then◌else◌, List, Option, Some, is_err}
 use Rattle.raw_subcode.specs.Channels.{q_bits}
+use Rattle.raw_subcode.specs.Sizes.{most_units}
 use Rattle.q_channel.specs.QLine.{q_line}
 use Rattle.q_channel.specs.ReadingOf.{reading_of}
 use Rattle.q_channel.specs.declared.q_lines.QLines.{QLines}
@@ -13,6 +14,6 @@ counted n = min (n + 1) (2 ^ 32 - 1)
 unfoldable pub q_next : QLines → List ℕ → QLines
 q_next s block = record { block = counted s.block; bad = if is_err (reading_of (q_bits block)) then counted s.bad else s.bad }
 
--- the line of a block, with its number, at most 999999
+-- the line of a block, with its number, at most that of the last block that a stream can have
 unfoldable pub q_give : QLines → List ℕ → Option (List ℕ)
-q_give s block = Some (q_line (min s.block 999999) (reading_of (q_bits block)))
+q_give s block = Some (q_line (min s.block (most_units - 1)) (reading_of (q_bits block)))

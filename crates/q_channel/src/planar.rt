@@ -3,14 +3,14 @@ ghost use Rattle.std.specs.Prelude.{Some};
 ghost use Rattle.raw_subcode.specs.PlanarBytes.{block_from_planar, planar_form};
 
 use cdg_io::{Piece, Stage};
-use raw_subcode::Block;
+use raw_subcode::{BLOCK_BYTES, Block};
 
 /// Gives the planar form of each block of 96 bytes.
 #[derive(Clone, Copy, Debug, PartialEq, Eq)]
 pub struct PlanarForms;
 
 impl Stage for PlanarForms {
-    type Item = [u8; 96];
+    type Item = [u8; BLOCK_BYTES];
 
     type Out = Piece;
 
@@ -18,7 +18,7 @@ impl Stage for PlanarForms {
 
     ghost gives = { λ _ block. Some (planar_form block) };
 
-    fn feed(&mut self, block: &[u8; 96]) -> Option<Piece> {
+    fn feed(&mut self, block: &[u8; BLOCK_BYTES]) -> Option<Piece> {
         Some(Piece::new().with(&Block::from_bytes(block).to_planar()))
     }
 }
@@ -28,7 +28,7 @@ impl Stage for PlanarForms {
 pub struct BlockForms;
 
 impl Stage for BlockForms {
-    type Item = [u8; 96];
+    type Item = [u8; BLOCK_BYTES];
 
     type Out = Piece;
 
@@ -36,7 +36,7 @@ impl Stage for BlockForms {
 
     ghost gives = { λ _ planar. Some (block_from_planar planar) };
 
-    fn feed(&mut self, planar: &[u8; 96]) -> Option<Piece> {
+    fn feed(&mut self, planar: &[u8; BLOCK_BYTES]) -> Option<Piece> {
         Some(Piece::new().with(&Block::from_planar(planar).bytes()))
     }
 }

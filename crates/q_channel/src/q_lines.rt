@@ -3,10 +3,10 @@ ghost use Rattle.q_channel.specs.QSteps.{q_next, q_give};
 
 use crate::{decode, line};
 use cdg_io::{Piece, Stage};
-use raw_subcode::Block;
+use raw_subcode::{BLOCK_BYTES, Block, MOST_UNITS};
 
 /// The greatest number that a line can have.
-const LAST: u32 = 999_999;
+const LAST: u32 = MOST_UNITS - 1;
 
 /// Gives the line of the Q channel of each block, and counts the frames that are refused.
 #[derive(Clone, Copy, Debug, PartialEq, Eq)]
@@ -18,7 +18,7 @@ pub struct QLines {
 }
 
 impl Stage for QLines {
-    type Item = [u8; 96];
+    type Item = [u8; BLOCK_BYTES];
 
     type Out = Piece;
 
@@ -27,7 +27,7 @@ impl Stage for QLines {
     ghost gives = { q_give };
 
     #[tactic(auto, unfolding(crate::specs::QSteps::q_next, crate::specs::QSteps::q_give))]
-    fn feed(&mut self, block: &[u8; 96]) -> Option<Piece> {
+    fn feed(&mut self, block: &[u8; BLOCK_BYTES]) -> Option<Piece> {
         let reading = decode(&Block::from_bytes(block).q_frame());
         let piece = line(self.block.min(LAST), &reading);
         self.block = self.block.saturating_add(1);

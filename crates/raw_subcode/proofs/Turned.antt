@@ -10,7 +10,7 @@ use Rattle.bit_lists.specs.Counting.{below}
 use Rattle.bit_lists.proofs.BitsLemmas.{number_of-lt}
 use Rattle.raw_subcode.specs.declared.lane_table.TheConstants.{LANES}
 use Rattle.raw_subcode.specs.Lanes.{in_lanes, lanes_of_byte}
-use Rattle.raw_subcode.specs.PlanarBytes.{turned_at, packed_at, gathered_at}
+use Rattle.raw_subcode.specs.PlanarBytes.{eight_from, turned_at, packed_at, gathered_at}
 use Rattle.raw_subcode.proofs.Eight.{eight_sum}
 
 -- ---- The table.
@@ -78,7 +78,7 @@ in_lanes-byte (suc n) (suc k) f small lt =
 abbrev worth : ℕ → ℕ → ℕ
 worth k byte = if has_bit (7 - k) byte then 1 else 0
 
-times_worth : (c : Bool) (n : ℕ) → n * (if c then 1 else 0) ≡ (if c then n else 0)
+pub times_worth : (c : Bool) (n : ℕ) → n * (if c then 1 else 0) ≡ (if c then n else 0)
 times_worth true n = omega arith
 times_worth false n = omega arith
 
@@ -154,6 +154,10 @@ turned_byte bytes eight k f lt is each =
     ∙ get_or-map-range_with_len (turned_at bytes) 0 8 k k 0 lt (omega arith)
     ∙ (λ i. number_of (bit 0 (omega arith) i ∷ bit 1 (omega arith) i ∷ bit 2 (omega arith) i ∷ bit 3 (omega arith) i
     ∷ bit 4 (omega arith) i ∷ bit 5 (omega arith) i ∷ bit 6 (omega arith) i ∷ bit 7 (omega arith) i ∷ []))
+
+-- the bytes that stand so many apart
+pub eight_from-at : (bytes : List ℕ) (first step j : ℕ) → j < 8 → slice_index (eight_from bytes first step) j ≡ slice_index bytes (first + step * j)
+eight_from-at bytes first step j lt = get_or-map-range_with_len (λ i. slice_index bytes (first + step * i)) 0 8 j j 0 lt (omega arith)
 
 -- after eight bytes more of a planar form
 pub apart_next : (block bytes eight planar planar' : List ℕ) (k : ℕ) → k < 12 → eight ≡ map (turned_at bytes) (below 8)

@@ -2,6 +2,7 @@
 use Rattle.std.specs.Prelude.{◌≡◌, ℕ, ◌+◌, ◌-◌, ◌*◌, ◌%◌, ◌<◌, Bool, List, length, map, flat_map, drop, slice_index}
 use Rattle.bit_lists.specs.Counting.{whole_parts}
 use Rattle.bit_lists.specs.Bits.{has_bit, bits_of}
+use Rattle.raw_subcode.specs.Sizes.{block_bytes, sector_bytes}
 use Rattle.raw_subcode.specs.declared.form.Form.{Form}
 use Rattle.raw_subcode.specs.declared.form.Form.TheVariants.{Raw, Sector, Cooked}
 
@@ -27,18 +28,19 @@ symbol_bits symbols = flat_map (bits_of 6) symbols
 
 -- the planar form has twelve bytes for each channel, with its bits in order
 pub record IsPlanarForm (block planar : List ℕ) : Type 0 where
-  pub size : length planar ≡ 96
+  pub size : length planar ≡ block_bytes
   pub bit : (channel k j : ℕ) → channel < 8 → k < 12 → j < 8 →
-      has_bit (7 - j) (slice_index planar (12 * channel + k)) ≡ channel_bit channel (slice_index block (8 * k + j))
+      has_bit (7 - j) (slice_index planar (12 * channel + k))
+      ≡ channel_bit channel (slice_index block (8 * k + j))
 
 -- the bytes that hold one block
 abbrev pub unit_size : Form → ℕ
-unit_size Sector = 2448
-unit_size _ = 96
+unit_size Sector = sector_bytes
+unit_size _ = block_bytes
 
 -- the block in these bytes: a sector has 2,352 bytes of audio before its block
 abbrev pub block_of : Form → List ℕ → List ℕ
-block_of form bytes = drop (unit_size form - 96) bytes
+block_of form bytes = drop (unit_size form - block_bytes) bytes
 
 -- the blocks of a stream
 abbrev pub blocks_of : Form → List ℕ → List (List ℕ)

@@ -3,6 +3,11 @@ use Rattle.std.specs.Prelude.{ℕ, ◌+◌, ◌-◌, ◌*◌, ◌%◌, ◌/◌, 
 use Rattle.bit_lists.specs.Counting.{below}
 use Rattle.bit_lists.specs.Bits.{has_bit, number_of}
 use Rattle.raw_subcode.specs.Channels.{channel_bit}
+use Rattle.raw_subcode.specs.Sizes.{block_bytes}
+
+-- eight bytes of a list, from one on and so many apart
+abbrev pub eight_from : List ℕ → ℕ → ℕ → List ℕ
+eight_from bytes first step = map (λ j. slice_index bytes (first + step * j)) (below 8)
 
 -- the byte of the bits at 7 - k of eight bytes, that of the first byte highest
 abbrev pub turned_at : List ℕ → ℕ → ℕ
@@ -15,12 +20,13 @@ packed_at block channel first =
 
 -- the byte of the bits at one place of the eight channels of a planar form
 abbrev pub gathered_at : List ℕ → ℕ → ℕ
-gathered_at planar i = number_of (map (λ c. has_bit (7 - i % 8) (slice_index planar (12 * c + i / 8))) (below 8))
+gathered_at planar i = number_of
+    (map (λ c. has_bit (7 - i % 8) (slice_index planar (12 * c + i / 8))) (below 8))
 
 -- the planar form of a block, byte by byte
 abbrev pub planar_form : List ℕ → List ℕ
-planar_form block = map (λ i. packed_at block (i / 12) (8 * (i % 12))) (below 96)
+planar_form block = map (λ i. packed_at block (i / 12) (8 * (i % 12))) (below block_bytes)
 
 -- the block of a planar form, byte by byte
 abbrev pub block_from_planar : List ℕ → List ℕ
-block_from_planar planar = map (gathered_at planar) (below 96)
+block_from_planar planar = map (gathered_at planar) (below block_bytes)

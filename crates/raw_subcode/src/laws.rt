@@ -3,21 +3,23 @@ ghost use Rattle.std.specs.Prelude.{◌≡◌, ◌<◌, ◌*◌, ℕ, List, All,
 ghost use Rattle.bit_lists.specs.Bits.{bits_of_bytes, numbers_of};
 ghost use Rattle.raw_subcode.specs.Channels.{IsPlanarForm, q_bits, symbol_bits, symbols_of};
 ghost use Rattle.raw_subcode.specs.PlanarBytes.{block_from_planar, planar_form};
+ghost use Rattle.raw_subcode.specs.Sizes.{block_bytes, symbols_a_slot};
 
 /// A block has one planar form, and a planar form is of one block.
 pub fn planar_forms_are_unique()
     ensures one_form { (block planar twin : List ℕ) → All (λ b. b < 256) planar → All (λ b. b < 256) twin
         → IsPlanarForm block planar → IsPlanarForm block twin → planar ≡ twin }
-    ensures one_block { (block other planar : List ℕ) → length block ≡ 96 → length other ≡ 96
+    ensures one_block { (block other planar : List ℕ) → length block ≡ block_bytes
+        → length other ≡ block_bytes
         → All (λ b. b < 256) block → All (λ b. b < 256) other
         → IsPlanarForm block planar → IsPlanarForm other planar → block ≡ other }
 {}
 
 /// The block of the planar form of a block is this block, and the other way round.
 pub fn planar_forms_turn_back()
-    ensures block { (block : List ℕ) → length block ≡ 96 → All (λ b. b < 256) block
+    ensures block { (block : List ℕ) → length block ≡ block_bytes → All (λ b. b < 256) block
         → block_from_planar (planar_form block) ≡ block }
-    ensures form { (planar : List ℕ) → length planar ≡ 96 → All (λ b. b < 256) planar
+    ensures form { (planar : List ℕ) → length planar ≡ block_bytes → All (λ b. b < 256) planar
         → planar_form (block_from_planar planar) ≡ planar }
 {}
 
@@ -30,6 +32,8 @@ pub fn q_bits_are_read()
 /// From a block that carries the symbols of a text pack, this pack is read.
 pub fn carried_packs_are_read()
     ensures { (block pack : List ℕ) (k : ℕ) → length pack ≡ 18 → All (λ b. b < 256) pack
-        → take 24 (drop (24 * k) (symbols_of block)) ≡ numbers_of 6 (bits_of_bytes pack)
-        → numbers_of 8 (symbol_bits (take 24 (drop (24 * k) (symbols_of block)))) ≡ pack }
+        → take symbols_a_slot (drop (symbols_a_slot * k) (symbols_of block))
+        ≡ numbers_of 6 (bits_of_bytes pack)
+        → numbers_of 8 (symbol_bits (take symbols_a_slot (drop (symbols_a_slot * k) (symbols_of block))))
+        ≡ pack }
 {}

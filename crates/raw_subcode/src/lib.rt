@@ -8,6 +8,7 @@ mod lanes;
 mod laws;
 mod packs;
 mod planar;
+mod sizes;
 
 pub use block::Block;
 pub use form::Form;
@@ -15,3 +16,6 @@ pub use laws::{
     carried_packs_are_read, planar_forms_are_unique, planar_forms_turn_back, q_bits_are_read,
 };
 pub use packs::text_symbols;
+pub use sizes::{
+    AUDIO_BYTES, BLOCK_BYTES, MOST_UNITS, SECTOR_BYTES, SLOTS_A_BLOCK, SYMBOLS_A_SLOT,
+};

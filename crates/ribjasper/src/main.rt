@@ -15,7 +15,7 @@ use std::{env, io};
 
 const BUFFER: usize = 65_536;
 
-// All words after the program's own name. Where they are no text, there are none.
+/// All words after the program's own name. Where they are no text, there are none.
 fn words(rt: &HostRuntime) -> io::Result<Vec<String>> {
     let mut words = Vec::new(rt.alloc());
     match env::args(rt) {
@@ -30,7 +30,7 @@ fn words(rt: &HostRuntime) -> io::Result<Vec<String>> {
     Ok(words)
 }
 
-// The two inputs: those that are named, or standard input.
+/// The two inputs: those that are named, or standard input.
 fn inputs<'a>(rt: &'a HostRuntime, names: &'a [String]) -> (Input<'a>, Input<'a>) {
     match names {
         [first, second] => (Input::Unopened(rt, first), Input::Unopened(rt, second)),
@@ -39,7 +39,7 @@ fn inputs<'a>(rt: &'a HostRuntime, names: &'a [String]) -> (Input<'a>, Input<'a>
     }
 }
 
-// Runs the words on the inputs and standard output.
+/// Runs the words on the inputs and standard output.
 fn run_on_streams(rt: &HostRuntime) -> io::Result<Status> {
     let alloc = rt.alloc();
     let line = words(rt)?;

@@ -3,8 +3,8 @@ ghost use Rattle.std.specs.Prelude.{◌≡◌, if◌then◌else◌, pos, All, �
 ghost use Rattle.cdtext_packs.specs.Packs.{check_matches};
 ghost use Rattle.raw_subcode.specs.Channels.{IsPlanarForm};
 
-use disc_time::crc16;
 use raw_subcode::Block;
+use subcode_crc::crc16;
 
 /// Writes the planar form of a block.
 #[unsafe(no_mangle)]

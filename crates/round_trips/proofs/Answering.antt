@@ -14,9 +14,7 @@ use Rattle.subcode_player.specs.Convert.{Restores}
 use Rattle.subcode_player.specs.TextListing.{texts_of_lead_in, IsTextListed, ListsTexts, IsListedBy, IsWholeInput}
 use Rattle.subcode_player.specs.declared.player.Played.{Played}
 use Rattle.subcode_player.specs.declared.player.PlayStop.{PlayStop}
-use Rattle.subcode_player.specs.declared.player.PlayStop.TheVariants.{ReadFault, WriteFault, Torn, TooLong, PastEnd}
-use Rattle.subcode_player.specs.declared.text.TextStop.{TextStop}
-use Rattle.subcode_player.specs.declared.text.TextStop.TheVariants.{Play, Text}
+use Rattle.subcode_player.specs.declared.player.PlayStop.TheVariants.{ReadFault, WriteFault, Torn, TooLong, PastEnd, Text}
 use Rattle.subcode_player.proofs.Restoring.{taken_all}
 use Rattle.round_trips.specs.Answers.{PutsTexts}
 
@@ -38,22 +36,23 @@ lists_frames bytes expected given left held held' (Err WriteFault) taken whole l
 lists_frames bytes expected given left held held' (Err (Torn block)) taken whole lines lists answer = absurd (answer.1 whole.1)
 lists_frames bytes expected given left held held' (Err TooLong) taken whole lines lists answer = absurd (omega (arith, answer, whole.0))
 lists_frames bytes expected given left held held' (Err (PastEnd ended)) taken whole lines lists answer = absurd answer
+lists_frames bytes expected given left held held' (Err (Text fault)) taken whole lines lists answer = absurd answer
 
 not_both : (texts : Texts) (fault : TextFault) (read : Result Texts TextFault) → read ≡ Ok texts → read ≡ Err fault → ⊥
 not_both texts fault read one other = cc
 
-pub lists_texts : (form : Form) (bytes expected : List ℕ) (lead_in : ℕ) (texts : Texts) (left held held' : Option (List ℕ)) (result : Result Played TextStop) (taken : List ℕ)
+pub lists_texts : (form : Form) (bytes expected : List ℕ) (lead_in : ℕ) (texts : Texts) (left held held' : Option (List ℕ)) (result : Result Played PlayStop) (taken : List ℕ)
     → IsWholeInput form bytes → texts_of_lead_in form lead_in bytes ≡ Ok texts → ((text : List ℕ) (bad : ℕ) → IsTextListed form lead_in bytes text bad → text ≡ expected)
     → ListsTexts form lead_in (Some bytes) left held held' result taken → IsListedBy result form lead_in bytes → PutsTexts result held held' expected
 lists_texts form bytes expected lead_in texts left held held' (Ok played) taken whole read lines lists answer =
     let (end, (text, is_played, put)) = lists.plays.done in
     let same : taken ≡ bytes = taken_all bytes left taken lists.plays.taken_from end in
-    subst (Appends held held') (lines text played.bad (subst (λ (b : List ℕ). IsTextListed form lead_in b text played.bad) same is_played.written)) put
-lists_texts form bytes expected lead_in texts left held held' (Err (Play ReadFault)) taken whole read lines lists answer = tt
-lists_texts form bytes expected lead_in texts left held held' (Err (Play WriteFault)) taken whole read lines lists answer = tt
-lists_texts form bytes expected lead_in texts left held held' (Err (Play (Torn block))) taken whole read lines lists answer = absurd (answer.1 whole.1)
-lists_texts form bytes expected lead_in texts left held held' (Err (Play TooLong)) taken whole read lines lists answer = absurd (omega (arith, answer, whole.0))
-lists_texts form bytes expected lead_in texts left held held' (Err (Play (PastEnd ended))) taken whole read lines lists answer = absurd answer
+    (is_played.written.none_bad, subst (Appends held held') (lines text played.bad (subst (λ (b : List ℕ). IsTextListed form lead_in b text played.bad) same is_played.written)) put)
+lists_texts form bytes expected lead_in texts left held held' (Err ReadFault) taken whole read lines lists answer = tt
+lists_texts form bytes expected lead_in texts left held held' (Err WriteFault) taken whole read lines lists answer = tt
+lists_texts form bytes expected lead_in texts left held held' (Err (Torn block)) taken whole read lines lists answer = absurd (answer.1 whole.1)
+lists_texts form bytes expected lead_in texts left held held' (Err TooLong) taken whole read lines lists answer = absurd (omega (arith, answer, whole.0))
+lists_texts form bytes expected lead_in texts left held held' (Err (PastEnd ended)) taken whole read lines lists answer = absurd answer
 lists_texts form bytes expected lead_in texts left held held' (Err (Text fault)) taken whole read lines lists answer = elim answer.1 [
   | inl short ↦ short
   | inr other ↦ absurd (not_both texts fault (texts_of_lead_in form lead_in bytes) read other)

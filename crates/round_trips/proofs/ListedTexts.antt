@@ -18,7 +18,7 @@ use Rattle.cdtext_packs.specs.Kept.{kept_among}
 use Rattle.cdtext_packs.specs.Reading.{read_texts}
 use Rattle.cdtext_packs.specs.Texts.{Texts, HasTracks, strings_of, has_no_text, no_texts}
 use Rattle.cdtext_packs.specs.Writing.{Content, content_bytes, contents, packs_of}
-use Rattle.cdtext_packs.specs.SheetTexts.{sheet_texts, texts_of_sheet}
+use Rattle.stream_writer.specs.SheetTexts.{sheet_texts, texts_of_sheet}
 use Rattle.cdtext_packs.specs.declared.kinds.TextFault.{TextFault}
 use Rattle.cdtext_packs.specs.declared.kinds.TextKind.{TextKind}
 use Rattle.cdtext_packs.proofs.Numbered.{length-numbered}

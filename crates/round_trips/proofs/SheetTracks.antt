@@ -14,8 +14,9 @@ use Rattle.cue_sheet.specs.declared.fault.CueText.{CueText}
 use Rattle.cue_sheet.specs.declared.fault.CueText.TheVariants.{Title, Performer, Songwriter}
 use Rattle.cdtext_packs.specs.Texts.{Texts, IsString, AreTexts, HasTracks, strings_of}
 use Rattle.cdtext_packs.specs.declared.kinds.TextKind.TheVariants as kind
-use Rattle.cdtext_packs.specs.SheetTexts.{code_at, for_each, sheet_texts}
-use Rattle.cdtext_packs.proofs.SheetStrings.{text_is_string, code_at_string, has_tracks}
+use Rattle.stream_writer.specs.SheetTexts.{code_at, for_each, sheet_texts}
+use Rattle.stream_writer.proofs.SheetStrings.{text_is_string, code_at_string}
+use Rattle.cdtext_packs.proofs.WholeTexts.{has_tracks}
 use Rattle.cdtext_packs.specs.Copies.{HasNoTab}
 
 pub for_all : (P : List ℕ → Type 0) (sheet : CueSheet) (f : ℕ → List ℕ) → ((place : ℕ) → place ≤ length sheet.tracks → P (f place)) → All P (for_each sheet f)

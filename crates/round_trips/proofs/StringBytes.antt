@@ -13,7 +13,7 @@ use Rattle.cue_sheet.specs.declared.fault.CueText.TheVariants.{Title, Performer,
 use Rattle.cdtext_packs.specs.Texts.{strings_of}
 use Rattle.cdtext_packs.specs.declared.kinds.TextKind.{TextKind}
 use Rattle.cdtext_packs.specs.declared.kinds.TextKind.TheVariants as kind
-use Rattle.cdtext_packs.specs.SheetTexts.{code_at, for_each, sheet_texts}
+use Rattle.stream_writer.specs.SheetTexts.{code_at, for_each, sheet_texts}
 use Rattle.cue_sheet.specs.SheetBytes.{HasByteTexts}
 use Rattle.round_trips.proofs.PackBytes.{AreBytes, no_bytes, one_byte}
 use Rattle.round_trips.proofs.SheetTracks.{for_all}

@@ -4,14 +4,13 @@ use Rattle.std.specs.declared.option.Option.{Option}
 use Rattle.std.specs.Io.KnownBytes.{Appends}
 use Rattle.cdtext_packs.specs.declared.kinds.TextFault.TheVariants.{NoMemory}
 use Rattle.subcode_player.specs.declared.player.Played.{Played}
-use Rattle.subcode_player.specs.declared.player.PlayStop.TheVariants.{ReadFault, WriteFault}
-use Rattle.subcode_player.specs.declared.text.TextStop.{TextStop}
-use Rattle.subcode_player.specs.declared.text.TextStop.TheVariants.{Play, Text}
+use Rattle.subcode_player.specs.declared.player.PlayStop.{PlayStop}
+use Rattle.subcode_player.specs.declared.player.PlayStop.TheVariants.{ReadFault, WriteFault, Text}
 
--- this text was put, unless a read or a write failed or memory was short
-abbrev pub PutsTexts : Result Played TextStop → Option (List ℕ) → Option (List ℕ) → List ℕ → Type 0
-PutsTexts (Ok played) held held' text = Appends held held' text
-PutsTexts (Err (Play ReadFault)) held held' text = ⊤
-PutsTexts (Err (Play WriteFault)) held held' text = ⊤
-PutsTexts (Err (Play stop)) held held' text = ⊥
+-- this text was put and nothing was bad, unless a read or a write failed or memory was short
+abbrev pub PutsTexts : Result Played PlayStop → Option (List ℕ) → Option (List ℕ) → List ℕ → Type 0
+PutsTexts (Ok played) held held' text = (played.bad ≡ 0) × Appends held held' text
+PutsTexts (Err ReadFault) held held' text = ⊤
+PutsTexts (Err WriteFault) held held' text = ⊤
 PutsTexts (Err (Text fault)) held held' text = fault ≡ NoMemory
+PutsTexts (Err stop) held held' text = ⊥

@@ -1,7 +1,7 @@
 -- The lines of the texts of a sheet.
 use Rattle.std.specs.Prelude.{◌≡◌, ℕ, ◌≤◌, ◌<◌, false, List, ◌++◌, length, flat_map, All}
 use Rattle.cue_sheet.specs.CueSheet.{CueSheet, IsSheet}
-use Rattle.cdtext_packs.specs.SheetTexts.{sheet_texts, texts_of_sheet}
+use Rattle.stream_writer.specs.SheetTexts.{sheet_texts, texts_of_sheet}
 use Rattle.cdtext_packs.specs.Texts.{kinds, strings_of, has_no_text}
 use Rattle.cdtext_packs.specs.declared.kinds.TextKind.{TextKind}
 use Rattle.cdtext_packs.specs.TextLines.{kind_lines, offers_line}

@@ -7,7 +7,7 @@ ghost use Rattle.picture_script.specs.Script.{Drawing};
 ghost use Rattle.raw_subcode.specs.declared.form.Form.{Form};
 ghost use Rattle.raw_subcode.specs.declared.form.Form.TheVariants.{Raw};
 ghost use Rattle.toc_model.specs.Places.{layout_of};
-ghost use Rattle.cdtext_packs.specs.SheetTexts.{sheet_texts};
+ghost use Rattle.stream_writer.specs.SheetTexts.{sheet_texts};
 ghost use Rattle.cdtext_packs.specs.Texts.{has_no_text};
 ghost use Rattle.cdtext_packs.specs.TextLines.{offers_line};
 ghost use Rattle.subcode_author.specs.Authored.{IsAuthored, text_packs, disc_of};
@@ -16,7 +16,6 @@ ghost use Rattle.subcode_player.specs.Convert.{Restores};
 ghost use Rattle.subcode_player.specs.TextListing.{packs_in, ListsTexts, IsListedBy, IsWholeInput};
 ghost use Rattle.subcode_player.specs.declared.player.Played.{Played};
 ghost use Rattle.subcode_player.specs.declared.player.PlayStop.{PlayStop};
-ghost use Rattle.subcode_player.specs.declared.text.TextStop.{TextStop};
 ghost use Rattle.round_trips.specs.Answers.{PutsTexts};
 ghost use Rattle.round_trips.specs.Damage.{HasHurtSlots, count_whole, count_hurt};
 ghost use Rattle.round_trips.specs.FrameLines.{frame_lines};
@@ -42,13 +41,13 @@ pub fn frame_lists_are_answered()
 /// unless a read or a write fails or memory is short.
 pub fn text_lists_are_answered()
     ensures texts { (sheet : CueSheet) (script : List Drawing) (lead_in audio : ℕ) (bytes : List ℕ) (packs : List (List ℕ))
-        (left held held' : Option (List ℕ)) (result : Result Played TextStop) (taken : List ℕ)
+        (left held held' : Option (List ℕ)) (result : Result Played PlayStop) (taken : List ℕ)
         → HasTextPacks sheet → HasText sheet → 0 < lead_in
         → IsAuthored (disc_of sheet script lead_in audio) bytes packs → length bytes ≤ most_units * 96
         → ListsTexts Raw lead_in (Some bytes) left held held' result taken → IsListedBy result Raw lead_in bytes
         → PutsTexts result held held' (sheet_lines sheet (4 * lead_in) 0) }
     ensures none { (sheet : CueSheet) (script : List Drawing) (lead_in audio : ℕ) (bytes : List ℕ) (packs : List (List ℕ))
-        (left held held' : Option (List ℕ)) (result : Result Played TextStop) (taken : List ℕ)
+        (left held held' : Option (List ℕ)) (result : Result Played PlayStop) (taken : List ℕ)
         → has_no_text (sheet_texts sheet) ≡ true
         → IsAuthored (disc_of sheet script lead_in audio) bytes packs → length bytes ≤ most_units * 96
         → ListsTexts Raw lead_in (Some bytes) left held held' result taken → IsListedBy result Raw lead_in bytes
@@ -61,13 +60,13 @@ pub fn text_lists_are_answered()
 /// A law: the same of units of any form, in whose lead-in the text packs of an authored stream stand.
 pub fn copied_text_lists_are_answered()
     ensures texts { (sheet : CueSheet) (script : List Drawing) (lead_in audio : ℕ) (bytes : List ℕ) (packs : List (List ℕ)) (form : Form) (copy : List ℕ)
-        (left held held' : Option (List ℕ)) (result : Result Played TextStop) (taken : List ℕ)
+        (left held held' : Option (List ℕ)) (result : Result Played PlayStop) (taken : List ℕ)
         → HasTextPacks sheet → HasText sheet → 0 < lead_in → IsAuthored (disc_of sheet script lead_in audio) bytes packs
         → packs_in form lead_in copy ≡ packs_in Raw lead_in bytes → IsWholeInput form copy
         → ListsTexts form lead_in (Some copy) left held held' result taken → IsListedBy result form lead_in copy
         → PutsTexts result held held' (sheet_lines sheet (4 * lead_in) 0) }
     ensures none { (sheet : CueSheet) (script : List Drawing) (lead_in audio : ℕ) (bytes : List ℕ) (packs : List (List ℕ)) (form : Form) (copy : List ℕ)
-        (left held held' : Option (List ℕ)) (result : Result Played TextStop) (taken : List ℕ)
+        (left held held' : Option (List ℕ)) (result : Result Played PlayStop) (taken : List ℕ)
         → has_no_text (sheet_texts sheet) ≡ true → IsAuthored (disc_of sheet script lead_in audio) bytes packs
         → packs_in form lead_in copy ≡ packs_in Raw lead_in bytes → IsWholeInput form copy
         → ListsTexts form lead_in (Some copy) left held held' result taken → IsListedBy result form lead_in copy
@@ -80,7 +79,7 @@ pub fn copied_text_lists_are_answered()
 /// A law: the same of units of any form whose lead-in is damaged, where each text pack is left whole in some slot.
 pub fn damaged_text_lists_are_answered()
     ensures { (sheet : CueSheet) (script : List Drawing) (lead_in audio : ℕ) (bytes : List ℕ) (packs : List (List ℕ)) (whole : List Bool) (form : Form) (changed : List ℕ)
-        (left held held' : Option (List ℕ)) (result : Result Played TextStop) (taken : List ℕ)
+        (left held held' : Option (List ℕ)) (result : Result Played PlayStop) (taken : List ℕ)
         → HasTextPacks sheet → HasText sheet → IsAuthored (disc_of sheet script lead_in audio) bytes packs
         → HasHurtSlots (text_packs sheet) whole (packs_in Raw lead_in bytes) (packs_in form lead_in changed) → IsWholeInput form changed
         → ListsTexts form lead_in (Some changed) left held held' result taken → IsListedBy result form lead_in changed

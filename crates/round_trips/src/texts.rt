@@ -5,7 +5,7 @@ ghost use Rattle.cue_sheet.specs.Grammar.{read_cue};
 ghost use Rattle.picture_script.specs.Script.{Drawing};
 ghost use Rattle.raw_subcode.specs.declared.form.Form.{Form};
 ghost use Rattle.raw_subcode.specs.declared.form.Form.TheVariants.{Raw};
-ghost use Rattle.cdtext_packs.specs.SheetTexts.{sheet_texts, texts_of_sheet};
+ghost use Rattle.stream_writer.specs.SheetTexts.{sheet_texts, texts_of_sheet};
 ghost use Rattle.cdtext_packs.specs.Texts.{has_no_text, no_texts};
 ghost use Rattle.cdtext_packs.specs.TextLines.{offers_line};
 ghost use Rattle.subcode_author.specs.Authored.{IsAuthored, text_packs, disc_of};

@@ -50,6 +50,7 @@ module _ (writes : List ℕ → List ℕ → ℕ → Type 0) (form : Form) (lead
   in_turn_given (Err (play.Torn block)) plays exactly input known = absurd (exactly.1 input.1)
   in_turn_given (Err play.TooLong) plays exactly input known = absurd (omega (arith, exactly, input.0))
   in_turn_given (Err (play.PastEnd blocks)) plays exactly input known = absurd exactly
+  in_turn_given (Err (play.Text why)) plays exactly input known = absurd exactly
 
 -- the words of a clean stream are what a conversion writes
 clean_text : (form : Form) (symbols : List ℕ) (found : List (Option (List ℕ))) (text : List ℕ) (bad : ℕ)

@@ -15,9 +15,7 @@ use Rattle.cdg_press.specs.declared.stops.PressStop.TheVariants as press
 use Rattle.subcode_player.specs.declared.player.Played.{Played}
 use Rattle.subcode_player.specs.declared.player.PlayStop.{PlayStop}
 use Rattle.subcode_player.specs.declared.player.PlayStop.TheVariants as play
-use Rattle.subcode_player.specs.declared.text.TextStop.{TextStop}
-use Rattle.subcode_player.specs.declared.text.TextStop.TheVariants as texts
-use Rattle.cdg_cmd.specs.Answer.{Does, play_status, text_status}
+use Rattle.cdg_cmd.specs.Answer.{Does, play_status}
 use Rattle.cdg_cmd.specs.Authors.{Answers, AuthorsWith, StopsAtScript, StopsAtSheet, author_status}
 use Rattle.cdg_cmd.specs.Call.{Bytes, Call}
 use Rattle.cdg_cmd.specs.Checkpoints.{ResumesWith, resume_status}
@@ -41,14 +39,10 @@ played (Err play.WriteFault) e = absurd (cc)
 played (Err (play.Torn block)) e = absurd (cc)
 played (Err play.TooLong) e = absurd (cc)
 played (Err (play.PastEnd blocks)) e = absurd (cc)
-
-listed : (answer : Result Played TextStop) → text_status answer ≢ ReadFault Second
-listed (Ok done) e = absurd (cc)
-listed (Err (texts.Play why)) e = played (Err why) e
-listed (Err (texts.Text (fault.Missing seq))) e = absurd (cc)
-listed (Err (texts.Text fault.NoSize)) e = absurd (cc)
-listed (Err (texts.Text (fault.Malformed seq byte))) e = absurd (cc)
-listed (Err (texts.Text fault.NoMemory)) e = absurd (cc)
+played (Err (play.Text (fault.Missing seq))) e = absurd (cc)
+played (Err (play.Text fault.NoSize)) e = absurd (cc)
+played (Err (play.Text (fault.Malformed seq byte))) e = absurd (cc)
+played (Err (play.Text fault.NoMemory)) e = absurd (cc)
 
 pumped : (answer : Result Pumped PumpStop) → pump_status answer ≢ ReadFault Second
 pumped (Ok done) e = absurd (cc)
@@ -123,7 +117,7 @@ read_first (Screen lead_in form at) call d = played d.answer (sym d.status_is)
 read_first (State lead_in form at) call d = played d.answer (sym d.status_is)
 read_first (Check lead_in form) call d = played d.answer (sym d.status_is)
 read_first (Q lead_in form) call d = played d.answer (sym d.status_is)
-read_first (Text lead_in form) call d = listed d.answer (sym d.status_is)
+read_first (Text lead_in form) call d = played d.answer (sym d.status_is)
 read_first (Author lead_in length) call d = of_author lead_in length call d
 read_first Planar call d = pumped d.answer (sym d.status_is)
 read_first Raw call d = pumped d.answer (sym d.status_is)

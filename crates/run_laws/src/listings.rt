@@ -5,7 +5,7 @@ ghost use Rattle.raw_subcode.specs.declared.form.Form.TheVariants.{Raw};
 ghost use Rattle.cue_sheet.specs.CueSheet.{CueSheet};
 ghost use Rattle.picture_script.specs.Script.{Drawing};
 ghost use Rattle.toc_model.specs.Places.{program_blocks};
-ghost use Rattle.cdtext_packs.specs.SheetTexts.{sheet_texts};
+ghost use Rattle.stream_writer.specs.SheetTexts.{sheet_texts};
 ghost use Rattle.cdtext_packs.specs.Texts.{has_no_text};
 ghost use Rattle.cdtext_packs.specs.TextLines.{offers_line};
 ghost use Rattle.subcode_author.specs.Authored.{IsAuthored, disc_of};

@@ -20,7 +20,8 @@ pub record AreSyndromes (word : List ℕ) (lanes : ℕ) : Type 0 where
 -- what a symbol at a position adds to these lanes
 pub record IsEntry (position symbol lanes : ℕ) : Type 0 where
   pub whole : (j : ℕ) → j < 4 → lane j lanes ≡ product (alpha_power (j * (23 - position))) symbol
-  pub first_four : (j : ℕ) → j < 2 → position < 4 → lane (4 + j) lanes ≡ product (alpha_power (j * (3 - position))) symbol
+  pub first_four : (j : ℕ) → j < 2 → position < 4
+      → lane (4 + j) lanes ≡ product (alpha_power (j * (3 - position))) symbol
   pub later : (j : ℕ) → j < 2 → 4 ≤ position → lane (4 + j) lanes ≡ 0
   pub bound : lanes < 2 ^ 36
 
@@ -58,14 +59,16 @@ pub record AreTwoWrong (lanes i e j f : ℕ) : Type 0 where
 
 -- the lanes of a word with these errors
 abbrev pub AreErrors : ℕ → TwoErrors → Type 0
-AreErrors lanes errors = AreTwoWrong lanes errors.first.position errors.first.value errors.second.position errors.second.value
+AreErrors lanes errors =
+    AreTwoWrong lanes errors.first.position errors.first.value errors.second.position errors.second.value
 
 -- the sums at 0 and 1 of two errors at these positions
 pub record AreTwoSums (sums : Sums) (places : Places) (e f : ℕ) : Type 0 where
   pub first_error : IsError places.first e
   pub second_error : IsError places.second f
   pub zeroth : sums.zeroth ≡ bit_xor e f
-  pub first : sums.first ≡ bit_xor (product (alpha_power (23 - places.first)) e) (product (alpha_power (23 - places.second)) f)
+  pub first : sums.first
+      ≡ bit_xor (product (alpha_power (23 - places.first)) e) (product (alpha_power (23 - places.second)) f)
 
 -- The polynomial of the sums that is 0 at the powers of both wrong positions, where two are wrong: its coefficients.
 pub record IsLocator (sums : Sums) (locator : Locator) : Type 0 where
@@ -78,7 +81,8 @@ pub record IsLocatorOf (locator : Locator) (i j : ℕ) : Type 0 where
   pub square : locator.square ≢ 0
   pub below : locator.square < 64
   pub linear : locator.linear ≡ product (bit_xor (alpha_power (23 - i)) (alpha_power (23 - j))) locator.square
-  pub constant : locator.constant ≡ product (product (alpha_power (23 - i)) (alpha_power (23 - j))) locator.square
+  pub constant : locator.constant
+      ≡ product (product (alpha_power (23 - i)) (alpha_power (23 - j))) locator.square
 
 -- the power d and 1 have as their sum the power z
 pub record IsPair (d z : ℕ) : Type 0 where

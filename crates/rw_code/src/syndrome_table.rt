@@ -1,7 +1,7 @@
 // The part of each symbol at each position in the six sums of a word.
 
-/// The six sums of the word with one symbol, by its position and its number: six bits for each, lowest first the four over all
-/// symbols and then the two over the first four.
+/// The six sums of the word with one symbol, by its position and its number: six bits for each, lowest first the four
+/// over all symbols and then the two over the first four.
 pub(crate) static SYNDROMES: [[u64; 64]; 24] = [
     [
         0,

@@ -2,11 +2,11 @@
 use Rattle.std.specs.Prelude.{ℕ, ◌-◌, ◌%◌, List, [], ◌∷◌, ◌++◌, length, map, drop, slice_index, slice_index_or, nat_lt, if◌then◌else◌, None, Some}
 use Rattle.std.specs.declared.option.Option.{Option}
 use Rattle.bit_lists.specs.Counting.{below}
-use Rattle.rw_interleave.specs.Interleave.{swapped}
+use Rattle.rw_interleave.specs.Interleave.{packs_kept_back, swapped}
 
 -- the last seven
 abbrev pub last_seven : List (List ℕ) → List (List ℕ)
-last_seven slots = drop (length slots - 7) slots
+last_seven slots = drop (length slots - packs_kept_back) slots
 
 -- the symbol at a position of the slot that is so many slots after the first
 abbrev pub symbol_at : List (List ℕ) → ℕ → ℕ
@@ -22,4 +22,5 @@ gather_next slots slot = last_seven (slots ++ slot ∷ [])
 
 -- a word comes with the eighth slot and with each after it
 unfoldable pub gather_gives : List (List ℕ) → List ℕ → Option (List ℕ)
-gather_gives slots slot = if nat_lt (length slots) 7 then None else Some (gathered (slots ++ slot ∷ []))
+gather_gives slots slot = if nat_lt (length slots) packs_kept_back then None
+    else Some (gathered (slots ++ slot ∷ []))

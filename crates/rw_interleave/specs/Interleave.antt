@@ -1,7 +1,13 @@
 -- Where the symbols of the packs stand among the program symbols.
 use Rattle.std.specs.Prelude.{◌≡◌, ◌≢◌, ℕ, ◌+◌, ◌-◌, ◌*◌, ◌%◌, ◌<◌, List, [], length, map, All, slice_index, slice_index_or, ◌==◌, if◌then◌else◌}
 use Rattle.bit_lists.specs.Counting.{below}
+use Rattle.raw_subcode.specs.Sizes.{block_bytes, slots_a_block, symbols_a_slot}
 use Rattle.rw_code.specs.Codeword.{IsCodeword}
+
+-- the packs that are kept back: the symbols of a pack are spread over eight slots (IEC 60908), so it is whole only
+-- with the seven that follow its own
+abbrev pub packs_kept_back : ℕ
+packs_kept_back = 7
 
 -- a and b in each other's place
 abbrev pub exchanged : ℕ → ℕ → ℕ → ℕ
@@ -13,24 +19,25 @@ swapped i = exchanged 1 18 (exchanged 2 5 (exchanged 3 23 i))
 
 -- the place of symbol i of pack n: slot n and up to seven slots later
 abbrev pub place : ℕ → ℕ → ℕ
-place n i = 24 * (n + swapped i % 8) + swapped i
+place n i = symbols_a_slot * (n + swapped i % 8) + swapped i
 
 -- the 24 symbols at the places of pack n
 unfoldable pub word_of : List ℕ → ℕ → List ℕ
 word_of symbols n = map (λ i. slice_index symbols (place n i)) (below 24)
 
--- how many packs of so many slots are whole: seven slots more are needed
+-- how many packs of so many slots are whole
 abbrev pub whole_of_slots : ℕ → ℕ
-whole_of_slots slots = slots - 7
+whole_of_slots slots = slots - packs_kept_back
 
 -- how many packs of so many blocks are whole: each block has four slots
 abbrev pub whole_packs : ℕ → ℕ
-whole_packs blocks = 4 * blocks - 7
+whole_packs blocks = slots_a_block * blocks - packs_kept_back
 
 -- the program symbols of so many blocks hold exactly these packs, and zeros at the other places
 pub record Carries (blocks : ℕ) (symbols : List ℕ) (packs : List (List ℕ)) : Type 0 where
-  pub size : length symbols ≡ 96 * blocks
+  pub size : length symbols ≡ block_bytes * blocks
   pub count : length packs ≡ whole_packs blocks
   pub codewords : All IsCodeword packs
   pub words : (n : ℕ) → n < whole_packs blocks → word_of symbols n ≡ slice_index_or packs n []
-  pub others : (p : ℕ) → p < 96 * blocks → ((n i : ℕ) → n < whole_packs blocks → i < 24 → place n i ≢ p) → slice_index symbols p ≡ 0
+  pub others : (p : ℕ) → p < block_bytes * blocks
+      → ((n i : ℕ) → n < whole_packs blocks → i < 24 → place n i ≢ p) → slice_index symbols p ≡ 0

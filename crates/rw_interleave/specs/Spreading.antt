@@ -5,10 +5,12 @@ use Rattle.bit_lists.specs.Counting.{below}
 use Rattle.rw_interleave.specs.Interleave.{swapped}
 use Rattle.rw_interleave.specs.Gathering.{last_seven}
 
--- the symbol at a position of the slot that comes with the last of some packs: that of the pack whose symbol falls there, and 0 before the first
+-- the symbol at a position of the slot that comes with the last of some packs: that of the pack whose symbol falls
+-- there, and 0 before the first
 unfoldable pub spread_symbol : List (List ℕ) → ℕ → ℕ
 spread_symbol packs position =
-    if nat_lt (position % 8) (length packs) then slice_index (slice_index_or packs (length packs - position % 8 - 1) []) (swapped position) else 0
+    if nat_lt (position % 8) (length packs)
+    then slice_index (slice_index_or packs (length packs - position % 8 - 1) []) (swapped position) else 0
 
 -- the slot that comes with the last of some packs
 unfoldable pub spread_over : List (List ℕ) → List ℕ

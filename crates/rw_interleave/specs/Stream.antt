@@ -2,6 +2,7 @@
 use Rattle.std.specs.List.{list_any}
 use Rattle.std.specs.Prelude.{⊤, Bool, false, nat_le, nat_lt, ◌&&◌, ◌≡◌, ℕ, ◌+◌, ◌-◌, ◌*◌, ◌/◌, ◌<◌, ◌≤◌, List, [], ◌∷◌, ◌++◌, length, map, slice_index, slice_index_or, count_by, replicate, Option, None, is_none}
 use Rattle.bit_lists.specs.Counting.{below}
+use Rattle.raw_subcode.specs.Sizes.{block_bytes}
 use Rattle.rw_code.specs.Codeword.{IsNear}
 use Rattle.rw_code.specs.Finding.{IsFinding}
 use Rattle.rw_interleave.specs.Interleave.{word_of, whole_packs}
@@ -24,8 +25,9 @@ form_word _ symbols n = word_of symbols n
 
 -- what is found for each word of the program symbols
 pub record IsRecovered (form : Form) (symbols : List ℕ) (found : List (Option (List ℕ))) : Type 0 where
-  pub count : length found ≡ word_count form (length symbols / 96)
-  pub each : (n : ℕ) → n < word_count form (length symbols / 96) → IsFinding (form_word form symbols n) (slice_index_or found n None)
+  pub count : length found ≡ word_count form (length symbols / block_bytes)
+  pub each : (n : ℕ) → n < word_count form (length symbols / block_bytes)
+      → IsFinding (form_word form symbols n) (slice_index_or found n None)
 
 -- the words for which nothing is found
 abbrev pub bad_count : List (Option (List ℕ)) → ℕ
@@ -35,18 +37,23 @@ bad_count found = count_by is_none found
 abbrev pub all_packs : Form → ℕ → List (List ℕ) → List (List ℕ)
 all_packs form blocks packs = packs ++ replicate (word_count form blocks - length packs) (replicate 24 0)
 
--- the program symbols of another stream hold each word of these symbols with at most two wrong ones, and further words are nearly zero
+-- the program symbols of another stream hold each word of these symbols with at most two wrong ones, and further
+-- words are nearly zero
 pub record IsDamaged (symbols : List ℕ) (form : Form) (others : List ℕ) : Type 0 where
   pub size : length others ≡ length symbols
-  pub words : (n : ℕ) → n < whole_packs (length symbols / 96) → IsNear (word_of symbols n) (form_word form others n)
-  pub further : (n : ℕ) → whole_packs (length symbols / 96) ≤ n → n < word_count form (length symbols / 96) → IsNear (form_word form others n) (replicate 24 0)
+  pub words : (n : ℕ) → n < whole_packs (length symbols / block_bytes)
+      → IsNear (word_of symbols n) (form_word form others n)
+  pub further : (n : ℕ) → whole_packs (length symbols / block_bytes) ≤ n
+      → n < word_count form (length symbols / block_bytes) → IsNear (form_word form others n) (replicate 24 0)
 
 -- Symbols that differ in bursts
 
--- bursts by their first place and size, from a place on: each has at most sixteen symbols, and each but the first begins at least 192 places after the one before has ended
+-- bursts by their first place and size, from a place on: each has at most sixteen symbols, and each but the first
+-- begins at least 192 places after the one before has ended
 abbrev pub AreBurstsFrom : ℕ → List (ℕ × ℕ) → Type 0
 AreBurstsFrom place [] = ⊤
-AreBurstsFrom place (burst ∷ rest) = (place ≤ burst.0) × (burst.1 ≤ 16) × AreBurstsFrom (burst.0 + burst.1 + 192) rest
+AreBurstsFrom place (burst ∷ rest) = (place ≤ burst.0) × (burst.1 ≤ 16)
+    × AreBurstsFrom (burst.0 + burst.1 + 192) rest
 
 -- whether a burst holds the place
 abbrev pub is_in_burst : ℕ → ℕ × ℕ → Bool
@@ -57,4 +64,5 @@ pub record DiffersInBursts (symbols others : List ℕ) : Type 0 where
   pub size : length others ≡ length symbols
   pub bursts : List (ℕ × ℕ)
   pub apart : AreBurstsFrom 0 bursts
-  pub equal : (p : ℕ) → p < length symbols → list_any (is_in_burst p) bursts ≡ false → slice_index others p ≡ slice_index symbols p
+  pub equal : (p : ℕ) → p < length symbols → list_any (is_in_burst p) bursts ≡ false
+      → slice_index others p ≡ slice_index symbols p

@@ -114,5 +114,6 @@ fn bring(word: &mut [u8; 24], slot: &[u8; 24], position: usize)
 /// A law: for any slots since the start, the words given are those by places, each as soon as its last symbol has come.
 pub fn gather_gives_words()
     ensures { (slots : List (List ℕ)) → All (λ slot. length slot ≡ 24) slots
-        → run_gives gather_next gather_gives [] slots ≡ map (word_of (concat slots)) (below (whole_of_slots (length slots))) }
+        → run_gives gather_next gather_gives [] slots
+        ≡ map (word_of (concat slots)) (below (whole_of_slots (length slots))) }
 {}

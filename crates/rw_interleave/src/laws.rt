@@ -11,12 +11,13 @@ ghost use Rattle.rw_interleave.specs.Texts.{cdg_bytes};
 use raw_subcode::Form;
 use rw_code::{Pack, each_word_has_one_finding, only_one_codeword_is_near};
 
-/// A law: something is recovered from any symbols below 64, and nothing else is, so what is recovered depends on the form
-/// and the symbols alone.
+/// A law: something is recovered from any symbols below 64, and nothing else is, so what is recovered depends on the
+/// form and the symbols alone.
 pub fn one_list_is_recovered()
     ensures some { (form : Form) (symbols : List ℕ) → All (λ symbol. symbol < 64) symbols
         → (found : List (Option (List ℕ))) × IsRecovered form symbols found }
-    ensures one { (form : Form) (symbols : List ℕ) (found other : List (Option (List ℕ))) → All (λ symbol. symbol < 64) symbols
+    ensures one { (form : Form) (symbols : List ℕ) (found other : List (Option (List ℕ)))
+        → All (λ symbol. symbol < 64) symbols
         → IsRecovered form symbols found → IsRecovered form symbols other → found ≡ other }
 {
     each_word_has_one_finding();
@@ -24,7 +25,8 @@ pub fn one_list_is_recovered()
 
 /// A law: from damage of at most two symbols a word every pack is recovered.
 pub fn packs_are_recovered()
-    ensures { (form : Form) (blocks : ℕ) (symbols others : List ℕ) (packs : List (List ℕ)) (found : List (Option (List ℕ)))
+    ensures { (form : Form) (blocks : ℕ) (symbols others : List ℕ) (packs : List (List ℕ))
+        (found : List (Option (List ℕ)))
         → Carries blocks symbols packs → All (λ symbol. symbol < 64) others → IsDamaged symbols form others
         → IsRecovered form others found → found ≡ map (λ pack. Some pack) (all_packs form blocks packs) }
 {
@@ -49,10 +51,13 @@ pub fn text_of_packs()
     ensures bad { (packs : List (List ℕ)) → bad_count (map (λ pack. Some pack) packs) ≡ 0 }
 {}
 
-/// A law: symbols that differ in bursts, each of at most sixteen and at least 192 apart, differ in at most two of each word.
+/// A law: symbols that differ in bursts, each of at most sixteen and at least 192 apart, differ in at most two of
+/// each word.
 pub fn bursts_are_damage()
-    ensures raw { (blocks : ℕ) (symbols others : List ℕ) → length symbols ≡ 96 * blocks → DiffersInBursts symbols others
+    ensures raw { (blocks : ℕ) (symbols others : List ℕ) → length symbols ≡ 96 * blocks
+        → DiffersInBursts symbols others
         → IsDamaged symbols Form.Raw others }
-    ensures sector { (blocks : ℕ) (symbols others : List ℕ) → length symbols ≡ 96 * blocks → DiffersInBursts symbols others
+    ensures sector { (blocks : ℕ) (symbols others : List ℕ) → length symbols ≡ 96 * blocks
+        → DiffersInBursts symbols others
         → IsDamaged symbols Form.Sector others }
 {}

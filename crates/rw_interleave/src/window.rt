@@ -64,6 +64,7 @@ impl Window {
 
     /// Takes the four slots of a block, which are the low six bits of its bytes, and gives the words whose last symbol
     /// came with them.
+    #[inline]
     pub fn push_block(&mut self, block: &[u8; BLOCK]) -> ArrayVec<Word, 4>
         ensures next { self.new ≡ run_state gather_next self.old (slots_in block.now 0 4) }
         ensures gives { result.items ≡ run_gives gather_next gather_gives self.old (slots_in block.now 0 4) }
@@ -72,6 +73,16 @@ impl Window {
         if self.quiet && idle {
             return idle_words();
         }
+        self.gather_block(block, idle)
+    }
+
+    /// The same, where there may be something to gather. It is a function of its own so that idle blocks do not pay for
+    /// its variables.
+    #[inline(never)]
+    fn gather_block(&mut self, block: &[u8; BLOCK], idle: bool) -> ArrayVec<Word, 4>
+        ensures next { self.new ≡ run_state gather_next self.old (slots_in block.now 0 4) }
+        ensures gives { result.items ≡ run_gives gather_next gather_gives self.old (slots_in block.now 0 4) }
+    {
         put(&mut self.bytes, block);
         let words = words_of(&self.bytes, self.count);
         move_up(&mut self.bytes);
@@ -117,9 +128,7 @@ fn put(bytes: &mut [u8; ALL], block: &[u8; BLOCK])
     ensures before { (n : ℕ) → n < 168 → slice_index bytes.new n ≡ slice_index bytes.old n }
     ensures block { (n : ℕ) → n < 96 → slice_index bytes.new (168 + n) ≡ slice_index block.now n }
 {
-    for i in 0..BLOCK {
-        bytes[BEFORE + i] = block[i];
-    }
+    bytes[BEFORE..].copy_from_slice(block);
 }
 
 /// Moves the last seven slots to the front.
@@ -155,7 +164,8 @@ fn move_slot_up(bytes: &mut [u8; ALL])
 #[inline]
 fn words_of(bytes: &[u8; ALL], count: usize) -> ArrayVec<Word, 4>
     requires { count ≤ 7 }
-    ensures { result.items ≡ run_gives gather_next gather_gives (slots_in bytes.now (7 - count) count) (slots_in bytes.now 7 4) }
+    ensures { result.items ≡ run_gives gather_next gather_gives (slots_in bytes.now (7 - count) count)
+        (slots_in bytes.now 7 4) }
 {
     let mut words = ArrayVec::new();
     for first in 0..4 {

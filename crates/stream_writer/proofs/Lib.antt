@@ -4,6 +4,7 @@ pub mod Slots
 pub mod Programs
 pub mod Framed
 pub mod Streams
+pub mod SheetStrings
 pub mod Room
 pub mod Whole
 pub mod Quiet

@@ -8,7 +8,7 @@ use Rattle.toc_model.specs.Places.{DiscLayout, layout_of, place_of}
 use Rattle.cdtext_packs.specs.Packs.{sealed}
 use Rattle.cdtext_packs.specs.Texts.{Texts}
 use Rattle.cdtext_packs.specs.Writing.{Content, contents, content_bytes, packs_of, IsPackStop}
-use Rattle.cdtext_packs.specs.SheetTexts.{texts_of_sheet}
+use Rattle.stream_writer.specs.SheetTexts.{texts_of_sheet}
 use Rattle.cdtext_packs.specs.declared.kinds.PackStop.{PackStop}
 use Rattle.cdtext_packs.specs.declared.kinds.PackStop.TheVariants.{TooMany, NoMemory as pack_memory}
 use Rattle.stream_writer.specs.Needs.{text_packs, lead_in_need, HasRoom, IsLeadInShort}

@@ -3,6 +3,7 @@ use Rattle.std.specs.Prelude.{◌≡◌, ℕ, ◌+◌, ◌*◌, ◌<◌, Bool, f
 use Rattle.bit_lists.specs.Check.{check_bits}
 use Rattle.bit_lists.specs.Counting.{below}
 use Rattle.raw_subcode.specs.Channels.{p_bits, q_bits, symbols_of}
+use Rattle.raw_subcode.specs.Sizes.{block_bytes}
 use Rattle.q_channel.specs.QFrame.{fields_of, spelled, IsFrame}
 use Rattle.q_channel.specs.declared.frame.QFrame.{QFrame}
 use Rattle.toc_model.specs.Places.{DiscLayout}
@@ -29,7 +30,7 @@ lead_in_block layout texts lead_in l = built_block false (frame_bits (toc_frame 
 
 -- the symbols of block b, where these are the symbols of all program blocks
 abbrev pub symbols_at : List ℕ → ℕ → List ℕ
-symbols_at symbols b = take 96 (drop (96 * b) symbols)
+symbols_at symbols b = take block_bytes (drop (block_bytes * b) symbols)
 
 -- program block b with these symbols
 unfoldable pub carrying_block : DiscLayout → ℕ → List ℕ → List ℕ
@@ -45,12 +46,12 @@ stream_bytes layout texts lead_in blocks symbols = flat_map (lead_in_block layou
 
 -- a block with this P bit in all its bytes and this frame
 pub record HasChannels (block : List ℕ) (paused : Bool) (frame : QFrame) : Type 0 where
-  pub p : p_bits block ≡ replicate 96 paused
+  pub p : p_bits block ≡ replicate block_bytes paused
   pub q : IsFrame frame (q_bits block)
 
 -- a block of 96 bytes with these channels and these symbols
 pub record IsBuilt (block : List ℕ) (paused : Bool) (frame : QFrame) (symbols : List ℕ) : Type 0 where
-  pub size : length block ≡ 96
+  pub size : length block ≡ block_bytes
   pub are_bytes : All (λ byte. byte < 256) block
   pub channels : HasChannels block paused frame
   pub carried : symbols_of block ≡ symbols

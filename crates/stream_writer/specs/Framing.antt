@@ -1,6 +1,7 @@
 -- The P bits, the Q frames and the texts of a stream.
 use Rattle.std.specs.Prelude.{◌≡◌, ℕ, ◌+◌, ◌*◌, ◌<◌, false, List, [], length, slice_index_or, All}
 use Rattle.raw_subcode.specs.Channels.{symbols_of, blocks_of}
+use Rattle.raw_subcode.specs.Sizes.{block_bytes}
 use Rattle.raw_subcode.specs.declared.form.Form.TheVariants.{Raw}
 use Rattle.toc_model.specs.Places.{DiscLayout}
 use Rattle.toc_model.specs.Layout.{p_bit, program_frame, toc_frame}
@@ -13,7 +14,7 @@ raw_block bytes n = slice_index_or (blocks_of Raw bytes) n []
 
 -- the program of a disc with its P bits and frames, after so many lead-in blocks with its table of contents and these text packs
 pub record HasFraming (layout : DiscLayout) (packs : List (List ℕ)) (lead_in : ℕ) (bytes : List ℕ) : Type 0 where
-  pub size : length bytes ≡ 96 * (lead_in + layout.blocks)
+  pub size : length bytes ≡ block_bytes * (lead_in + layout.blocks)
   pub are_bytes : All (λ byte. byte < 256) bytes
   pub program : (b : ℕ) → b < layout.blocks → HasChannels (raw_block bytes (lead_in + b)) (p_bit layout b) (program_frame layout b)
   pub contents : (l : ℕ) → l < lead_in → HasChannels (raw_block bytes l) false (toc_frame layout lead_in l)

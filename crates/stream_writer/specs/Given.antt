@@ -9,7 +9,8 @@ use Rattle.cdg_io.specs.Moves.{AppendsPrefix}
 use Rattle.raw_subcode.specs.Channels.{program_symbols}
 use Rattle.raw_subcode.specs.declared.form.Form.TheVariants.{Raw}
 use Rattle.rw_code.specs.Codeword.{IsCodeword}
-use Rattle.rw_interleave.specs.Interleave.{whole_packs, Carries}
+use Rattle.raw_subcode.specs.Sizes.{slots_a_block, symbols_a_slot}
+use Rattle.rw_interleave.specs.Interleave.{packs_kept_back, whole_packs, Carries}
 use Rattle.rw_interleave.specs.Spreading.{spread_next, spread_gives}
 use Rattle.toc_model.specs.Places.{DiscLayout}
 use Rattle.toc_model.specs.Layout.{p_bit, program_frame}
@@ -22,7 +23,7 @@ symbols_from before packs = concat (run_gives spread_next spread_gives before pa
 
 -- an idle pack
 abbrev pub idle_pack : List ℕ
-idle_pack = replicate 24 0
+idle_pack = replicate symbols_a_slot 0
 
 -- after so many packs these come
 abbrev pub ComesLater : (ℕ → List ℕ → Type 0) → ℕ → (ℕ → List ℕ → Type 0) → Type 0
@@ -41,9 +42,9 @@ pub record TakesPack (Comes : ℕ → List ℕ → Type 0) (before after : List 
   pub after_is : after ≡ spread_next before pack
   pub slot_is : Some slot ≡ spread_gives before pack
 
--- of the packs that are still to be spread, at most seven, so many of the last are idle
+-- of the packs that are still to be spread, so many of the last are idle
 pub record AreQuiet (packs : List (List ℕ)) (quiet : ℕ) : Type 0 where
-  pub few : length packs ≤ 7
+  pub few : length packs ≤ packs_kept_back
   pub before : List (List ℕ)
   pub idle : packs ≡ before ++ replicate quiet idle_pack
 
@@ -55,19 +56,19 @@ pub record TakesPacks (Comes : ℕ → List ℕ → Type 0) (many : ℕ) (before
 
 -- program blocks with these packs were put
 pub record PutsProgram (layout : DiscLayout) (Comes : ℕ → List ℕ → Type 0) (blocks : ℕ) (held held' : Option (List ℕ)) (packs : List (List ℕ)) : Type 0 where
-  pub given_are : AreGiven Comes 0 (4 * blocks) packs
+  pub given_are : AreGiven Comes 0 (slots_a_block * blocks) packs
   pub put : Appends held held' (flat_map (program_block layout (symbols_from [] packs)) (below blocks))
   pub built : (b : ℕ) → b < blocks → IsBuilt (program_block layout (symbols_from [] packs) b) (p_bit layout b) (program_frame layout b) (symbols_at (symbols_from [] packs) b)
 
 -- a prefix of so many program blocks with these packs was put
 pub record PutsPart (layout : DiscLayout) (Comes : ℕ → List ℕ → Type 0) (blocks : ℕ) (held held' : Option (List ℕ)) (n : ℕ) (packs : List (List ℕ)) : Type 0 where
   pub within : n ≤ blocks
-  pub given_are : AreGiven Comes 0 (4 * n) packs
+  pub given_are : AreGiven Comes 0 (slots_a_block * n) packs
   pub put : AppendsPrefix held held' (flat_map (program_block layout (symbols_from [] packs)) (below n))
 
 -- a stream with these packs was put
 pub record PutsStream (layout : DiscLayout) (Comes : ℕ → List ℕ → Type 0) (texts : List (List ℕ)) (lead_in : ℕ) (held held' : Option (List ℕ)) (packs : List (List ℕ)) : Type 0 where
-  pub given_are : AreGiven Comes 0 (4 * layout.blocks) packs
+  pub given_are : AreGiven Comes 0 (slots_a_block * layout.blocks) packs
   pub put : Appends held held' (stream_bytes layout texts lead_in layout.blocks (symbols_from [] packs))
   pub framing : HasFraming layout texts lead_in (stream_bytes layout texts lead_in layout.blocks (symbols_from [] packs))
   pub symbols_are : program_symbols Raw (stream_bytes layout texts lead_in layout.blocks (symbols_from [] packs)) lead_in ≡ symbols_from [] packs
@@ -75,7 +76,7 @@ pub record PutsStream (layout : DiscLayout) (Comes : ℕ → List ℕ → Type 0
 -- a prefix of the lead-in and so many program blocks with these packs was put
 pub record PutsStreamPart (layout : DiscLayout) (Comes : ℕ → List ℕ → Type 0) (texts : List (List ℕ)) (lead_in : ℕ) (held held' : Option (List ℕ)) (n : ℕ) (packs : List (List ℕ)) : Type 0 where
   pub within : n ≤ layout.blocks
-  pub given_are : AreGiven Comes 0 (4 * n) packs
+  pub given_are : AreGiven Comes 0 (slots_a_block * n) packs
   pub put : AppendsPrefix held held' (stream_bytes layout texts lead_in n (symbols_from [] packs))
 
 -- the bytes have this framing, and their program carries these packs, which are as they come

@@ -1,13 +1,15 @@
 -- What a sheet needs of a disc and of its lead-in.
 use Rattle.std.specs.Prelude.{◌≡◌, ℕ, ◌+◌, ◌*◌, ◌/◌, ◌<◌, ◌≤◌, List, length, max}
+use Rattle.disc_time.specs.Counts.{most_program}
 use Rattle.cue_sheet.specs.CueSheet.{CueSheet}
 use Rattle.toc_model.specs.Places.{audio_need, program_blocks}
-use Rattle.cdtext_packs.specs.SheetTexts.{texts_of_sheet}
+use Rattle.stream_writer.specs.SheetTexts.{texts_of_sheet}
+use Rattle.cdtext_packs.specs.Packs.{most_packs}
 use Rattle.cdtext_packs.specs.Writing.{packs_of}
 
 -- the sheet has a layout with this audio
 abbrev pub HasLayout : CueSheet → ℕ → Type 0
-HasLayout sheet audio = (audio_need sheet ≤ audio) × (program_blocks sheet audio ≤ 449999)
+HasLayout sheet audio = (audio_need sheet ≤ audio) × (program_blocks sheet audio ≤ most_program)
 
 -- the text packs of a sheet
 abbrev pub text_packs : CueSheet → List (List ℕ)
@@ -19,12 +21,12 @@ lead_in_need sheet = max (3 * (length sheet.tracks + 3)) ((length (text_packs sh
 
 -- a lead-in, if there is one, has room for the texts and the table of contents
 abbrev pub HasRoom : CueSheet → ℕ → Type 0
-HasRoom sheet lead_in = 0 < lead_in → (length (text_packs sheet) ≤ 256) × (lead_in_need sheet ≤ lead_in)
+HasRoom sheet lead_in = 0 < lead_in → (length (text_packs sheet) ≤ most_packs) × (lead_in_need sheet ≤ lead_in)
 
 -- a lead-in was asked for, and its texts need so many packs, which are more than 256
 abbrev pub IsTextTooLong : CueSheet → ℕ → ℕ → Type 0
-IsTextTooLong sheet lead_in packs = (0 < lead_in) × (256 < packs) × (packs ≡ length (text_packs sheet))
+IsTextTooLong sheet lead_in packs = (0 < lead_in) × (most_packs < packs) × (packs ≡ length (text_packs sheet))
 
 -- a lead-in was asked for, its texts have at most 256 packs, and it has fewer blocks than these and the table of contents need
 abbrev pub IsLeadInShort : CueSheet → ℕ → ℕ → Type 0
-IsLeadInShort sheet lead_in need = (0 < lead_in) × (length (text_packs sheet) ≤ 256) × (lead_in < need) × (need ≡ lead_in_need sheet)
+IsLeadInShort sheet lead_in need = (0 < lead_in) × (length (text_packs sheet) ≤ most_packs) × (lead_in < need) × (need ≡ lead_in_need sheet)

@@ -1,5 +1,6 @@
 // The blocks of a stream.
 ghost use Rattle.std.specs.Prelude.{◌≡◌, ◌<◌, ◌≤◌, false, All};
+ghost use Rattle.disc_time.specs.Counts.{most_lead_in};
 ghost use Rattle.q_channel.specs.QFrame.{IsValid};
 ghost use Rattle.toc_model.specs.Layout.{p_bit, program_frame, toc_frame};
 ghost use Rattle.cdtext_packs.specs.LeadIn.{lead_in_symbols};
@@ -7,11 +8,11 @@ ghost use Rattle.stream_writer.specs.Blocks.{built_block, carrying_block, frame_
 
 use cdtext_packs::{TextPack, lead_in_symbols};
 use q_channel::{QFrame, encode};
-use raw_subcode::Block;
+use raw_subcode::{BLOCK_BYTES, Block};
 use toc_model::Layout;
 
 /// The bytes of a block with a P bit, a frame and symbols.
-fn built(p: bool, frame: &QFrame, symbols: &[u8; 96]) -> [u8; 96]
+fn built(p: bool, frame: &QFrame, symbols: &[u8; BLOCK_BYTES]) -> [u8; BLOCK_BYTES]
     requires frame { IsValid frame.now }
     requires symbols { All (λ s. s < 64) symbols.now }
     ensures bytes { result ≡ built_block p (frame_bits frame.now) symbols.now }
@@ -22,9 +23,14 @@ fn built(p: bool, frame: &QFrame, symbols: &[u8; 96]) -> [u8; 96]
 
 /// Block `l` of `n` lead-in blocks.
 #[tactic(auto, unfolding(crate::specs::Blocks::lead_in_block))]
-pub(crate) fn lead_in_block(layout: &Layout, packs: &[TextPack], l: u32, n: u32) -> [u8; 96]
+pub(crate) fn lead_in_block(
+    layout: &Layout,
+    packs: &[TextPack],
+    l: u32,
+    n: u32,
+) -> [u8; BLOCK_BYTES]
     requires block { l < n }
-    requires lead_in { n ≤ 450000 }
+    requires lead_in { n ≤ most_lead_in }
     ensures bytes { result ≡ lead_in_block layout.now packs.now n l }
     ensures built { IsBuilt result false (toc_frame layout.now n l) (lead_in_symbols packs.now l) }
 {
@@ -33,7 +39,11 @@ pub(crate) fn lead_in_block(layout: &Layout, packs: &[TextPack], l: u32, n: u32)
 
 /// Program block `b`, which carries these symbols.
 #[tactic(auto, unfolding(crate::specs::Blocks::carrying_block))]
-pub(crate) fn program_block(layout: &Layout, b: u32, symbols: &[u8; 96]) -> [u8; 96]
+pub(crate) fn program_block(
+    layout: &Layout,
+    b: u32,
+    symbols: &[u8; BLOCK_BYTES],
+) -> [u8; BLOCK_BYTES]
     requires block { b < layout.now.blocks }
     requires symbols { All (λ s. s < 64) symbols.now }
     ensures bytes { result ≡ carrying_block layout.now b symbols.now }

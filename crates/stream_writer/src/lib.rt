@@ -4,11 +4,13 @@
 
 mod blocks;
 mod program;
+mod sheet_texts;
 mod source;
 mod stops;
 mod stream;
 mod texts;
 
+pub use sheet_texts::texts_of_sheet;
 pub use source::{PackSource, unless_idle};
 pub use stops::LeadInStop;
 pub use stream::write_stream;

@@ -2,6 +2,7 @@
 ghost use Rattle.std.specs.Prelude.{◌≡◌, ◌*◌, ◌<◌, ◌≤◌, ℕ, List, [], false, flat_map, OnOk, OnErr};
 ghost use Rattle.std.specs.Io.KnownBytes.{Appends};
 ghost use Rattle.bit_lists.specs.Counting.{below};
+ghost use Rattle.disc_time.specs.Counts.{most_lead_in};
 ghost use Rattle.cdg_io.specs.Causes.{HasCause};
 ghost use Rattle.cdg_io.specs.Moves.{AppendsPrefix};
 ghost use Rattle.rw_interleave.specs.Interleave.{whole_packs};
@@ -25,7 +26,7 @@ fn put_lead_in<K: Sink>(
     lead_in: u32,
     out: &mut K,
 ) -> Result<(), Failed>
-    requires { lead_in ≤ 450000 }
+    requires { lead_in ≤ most_lead_in }
     ensures ok { OnOk result (Appends (K.held out.old) (K.held out.new) (flat_map (lead_in_block layout.now texts.now lead_in) (below lead_in))) }
     ensures part { OnErr result (AppendsPrefix (K.held out.old) (K.held out.new) (flat_map (lead_in_block layout.now texts.now lead_in) (below lead_in))) }
     ensures built { OnOk result ((l : ℕ) → l < lead_in
@@ -72,7 +73,7 @@ fn put_stream<P: PackSource, K: Sink>(
     spread: &mut Spread,
     out: &mut K,
 ) -> Result<(), Failed>
-    requires lead_in { lead_in ≤ 450000 }
+    requires lead_in { lead_in ≤ most_lead_in }
     requires start { spread.old ≡ [] }
     ensures ok { OnOk result ((packs : List (List ℕ))
         × PutsStream layout.now (P.comes source.old) texts.now lead_in (K.held out.old) (K.held out.new) packs) }
@@ -100,7 +101,7 @@ pub fn write_stream<P: PackSource, K: Sink>(
     spread: &mut Spread,
     out: &mut K,
 ) -> Result<(), Failed>
-    requires lead_in { lead_in ≤ 450000 }
+    requires lead_in { lead_in ≤ most_lead_in }
     requires start { spread.old ≡ [] }
     requires cut { (n : ℕ) (pack : List ℕ) → whole_packs layout.now.blocks ≤ n → n < 4 * layout.now.blocks
         → P.comes source.old n pack → pack ≡ idle_pack }

@@ -3,8 +3,9 @@ ghost use Rattle.std.specs.Prelude.{◌≡◌, ◌<◌, length, IfOk, IfErr, OnO
 ghost use Rattle.stream_writer.specs.Needs.{text_packs, HasRoom};
 ghost use Rattle.stream_writer.specs.Stops.{IsLeadInRefusal};
 
+use crate::sheet_texts::texts_of_sheet;
 use crate::stops::LeadInStop;
-use cdtext_packs::{TextMap, TextPack, pack_all};
+use cdtext_packs::{TextPack, pack_all};
 use cue_sheet::Sheet;
 use std::alloc::Global;
 use toc_model::Layout;
@@ -29,7 +30,7 @@ pub fn pack_texts(
     if lead_in == 0 {
         return Ok(Vec::new(alloc));
     }
-    let map = TextMap::from_sheet(alloc, sheet)?;
+    let map = texts_of_sheet(alloc, sheet)?;
     let packs = pack_all(alloc, &map)?;
     let need = layout.toc_blocks().max((packs.len() as u32 + 3) / 4);
     if lead_in < need {

@@ -11,7 +11,7 @@ use Rattle.cue_sheet.specs.CueSheet.{CueSheet, IsSheet}
 use Rattle.toc_model.specs.Places.{DiscLayout, layout_of, program_blocks}
 use Rattle.toc_model.specs.Layout.{p_bit, program_frame, toc_frame}
 use Rattle.cdtext_packs.specs.LeadIn.{lead_in_symbols}
-use Rattle.cdtext_packs.specs.SheetTexts.{texts_of_sheet}
+use Rattle.stream_writer.specs.SheetTexts.{texts_of_sheet}
 use Rattle.picture_script.specs.Script.{Drawing, picture_pixel}
 use Rattle.picture_changes.specs.Shown.{AreTimesInOrder, AreColoursInRange}
 use Rattle.stream_writer.specs.Blocks.{carrying_block, lead_in_block, program_block, stream_bytes, symbols_at, IsBuilt}

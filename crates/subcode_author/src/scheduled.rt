@@ -1,7 +1,7 @@
 // The packs of a script as a source.
 use pack_schedule::Weaver;
 use rw_code::Pack;
-use stream_writer::{PackSource, unless_idle};
+use stream_writer::PackSource;
 
 /// Gives the packs of a script in turn.
 #[derive(Drop)]
@@ -17,6 +17,6 @@ impl<'a> PackSource for Scheduled<'a> {
     ghost comes = { λ s n pack. s.weaver.given + n < 4294967295 → IsPackAt s.weaver.script (s.weaver.given + n) pack };
 
     fn next_pack(&mut self) -> Option<Pack> {
-        unless_idle(self.weaver.next())
+        self.weaver.next()
     }
 }

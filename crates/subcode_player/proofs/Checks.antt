@@ -134,6 +134,41 @@ checked_blocks form lead_in s bytes n end fresh few whole_units e =
       bad_is = counted.bad;
     }
 
+-- a call that writes at the end wrote nothing where the reading stopped
+module _ {S : Type 0} (writes : List ℕ → List ℕ → ℕ → Type 0) (form : Form) (lead_in : ℕ) (next : S → List ℕ → S) (left left' held held' : Option (List ℕ)) (s s' : S) (taken : List ℕ) where
+  abbrev Stops : PlayStop → Type 0
+  Stops stop = PlaysAtEnd writes form lead_in left left' held held' (Err stop) taken
+
+  stopped_early : (stop : PumpStop) → held' ≡ held → Watches form next left left' s s' (Err stop) taken → Stops (play_stop stop)
+  stopped_early pump_stop.ReadFault same w = record {
+    taken_from = w.taken_from;
+    within = w.within;
+    done = tt;
+    stopped = λ other e not. subst (λ (h : Option (List ℕ)). Appends held h []) (sym same) (Appends-nil held);
+    ended = λ stop e not. let told : ReadFault ≡ stop = cc in absurd (not (subst IsEarly told tt));
+    cut = λ e. (cc);
+  }
+  stopped_early pump_stop.WriteFault same w = absurd (w.no_write refl)
+  stopped_early (pump_stop.Torn unit) same w = record {
+    taken_from = w.taken_from;
+    within = w.within;
+    done = tt;
+    stopped = λ other e not. subst (λ (h : Option (List ℕ)). Appends held h []) (sym same) (Appends-nil held);
+    ended = λ stop e not. w.torn unit refl;
+    cut = λ e. (cc);
+  }
+  stopped_early pump_stop.TooLong same w = record {
+    taken_from = w.taken_from;
+    within = w.within;
+    done = tt;
+    stopped = λ other e not. subst (λ (h : Option (List ℕ)). Appends held h []) (sym same) (Appends-nil held);
+    ended = λ stop e not. let told : TooLong ≡ stop = cc in absurd (not (subst IsEarly told tt));
+    cut = λ e. (cc);
+  }
+
+  pub at_end_stop : (stop : PumpStop) (answer : PlayStop) → held' ≡ held → Watches form next left left' s s' (Err stop) taken → answer ≡ play_stop stop → Stops answer
+  at_end_stop stop answer same w e = subst Stops (sym e) (stopped_early stop same w)
+
 -- ---- the answers
 
 module _ (form : Form) (lead_in : ℕ) (left left' held held' : Option (List ℕ)) (s s' : Counting) (taken : List ℕ) where
@@ -171,42 +206,17 @@ module _ (form : Form) (lead_in : ℕ) (left left' held held' : Option (List ℕ
         (w.done.0, (lines_of_counts form lead_in pumped.units s', (played, played_for pumped played fresh w refl refl), part.1));
   }
 
-  checks_stopped : (stop : PumpStop) → held' ≡ held → Watches form counting_next left left' s s' (Err stop) taken → Calls (Err (play_stop stop))
-  checks_stopped pump_stop.ReadFault same w = record {
-    taken_from = w.taken_from;
-    within = w.within;
-    done = tt;
-    stopped = λ other e not. subst (λ (h : Option (List ℕ)). Appends held h []) (sym same) (Appends-nil held);
-    ended = λ stop e not. let told : ReadFault ≡ stop = cc in absurd (not (subst IsEarly told tt));
-    cut = λ e. (cc);
-  }
-  checks_stopped pump_stop.WriteFault same w = absurd (w.no_write refl)
-  checks_stopped (pump_stop.Torn unit) same w = record {
-    taken_from = w.taken_from;
-    within = w.within;
-    done = tt;
-    stopped = λ other e not. subst (λ (h : Option (List ℕ)). Appends held h []) (sym same) (Appends-nil held);
-    ended = λ stop e not. w.torn unit refl;
-    cut = λ e. (cc);
-  }
-  checks_stopped pump_stop.TooLong same w = record {
-    taken_from = w.taken_from;
-    within = w.within;
-    done = tt;
-    stopped = λ other e not. subst (λ (h : Option (List ℕ)). Appends held h []) (sym same) (Appends-nil held);
-    ended = λ stop e not. let told : TooLong ≡ stop = cc in absurd (not (subst IsEarly told tt));
-    cut = λ e. (cc);
-  }
-
-  pub checks_stop : (stop : PumpStop) (answer : PlayStop) → held' ≡ held → Watches form counting_next left left' s s' (Err stop) taken → answer ≡ play_stop stop → Calls (Err answer)
-  checks_stop stop answer same w e = subst (λ (a : PlayStop). Calls (Err a)) (sym e) (checks_stopped stop same w)
+pub answered_done : (size : ℕ) (pumped : Pumped) (played : Played) (left : Option (List ℕ)) → IfSome left (λ all. IsUnlessFault (Ok pumped) (answer_of size most_units (length all)))
+    → IfSome left (λ all. IsAnsweredBy (Ok played) size (length all))
+answered_done size pumped played None e = tt
+answered_done size pumped played (Some all) e =
+    let (within, whole, units) = done_tests (nat_lt (most_units * size) (length all)) (length all % size == 0) (length all / size) pumped e in
+    (not_over (most_units * size) (length all) within, zero_rest (length all % size) whole)
 
 pub checked_done : (size : ℕ) (pumped : Pumped) (answer : Result Played PlayStop) (left : Option (List ℕ)) (X : PlayStop → Type 0) → IfErr answer (λ stop. (stop ≡ WriteFault) × X stop) → IfSome left (λ all. IsUnlessFault (Ok pumped) (answer_of size most_units (length all)))
     → IfSome left (λ all. IsAnsweredBy answer size (length all))
 checked_done size pumped answer None X part e = tt
-checked_done size pumped (Ok played) (Some all) X part e =
-    let (within, whole, units) = done_tests (nat_lt (most_units * size) (length all)) (length all % size == 0) (length all / size) pumped e in
-    (not_over (most_units * size) (length all) within, zero_rest (length all % size) whole)
+checked_done size pumped (Ok played) (Some all) X part e = answered_done size pumped played (Some all) e
 checked_done size pumped (Err stop) (Some all) X part e = subst (λ (a : PlayStop). IsAnsweredBy (Err a) size (length all)) (sym part.0) tt
 
 answered_stop : (size : ℕ) (stop : PumpStop) (all : List ℕ) → IsUnlessFault (Err stop) (answer_of size most_units (length all)) → IsAnsweredBy (Err (play_stop stop)) size (length all)

@@ -1,6 +1,6 @@
 -- What is counted of words and blocks, one after another.
 use Rattle.std.proofs.Common.{◌≡◌, ℕ, ◌+◌, ◌^◌, ◌<◌, ◌≤◌, Bool, true, false, List, [], ◌∷◌, ◌++◌, length, get_or, map, take, Some, refl, sym, ap, ap₂, ◌∙◌, arith}
-use Rattle.std.specs.Prelude.{if◌then◌else◌, count_by, is_none, is_ok, is_err, Result}
+use Rattle.std.specs.Prelude.{if◌then◌else◌, count_by, is_none, is_ok, is_err, replicate, Result}
 use Rattle.std.specs.declared.option.Option.{Option}
 use Rattle.std.specs.List.{zip}
 use Rattle.std.proofs.lemmas.List.{take_more}
@@ -31,6 +31,12 @@ unfolding count_found tick
 fixed_counted s word codeword wrong mode code w m c =
     ap (λ n. kind_counted (wrong_counted s n) mode code) w ∙ ap (λ n. kind_counted (wrong_counted s (differences word codeword)) n code) m
     ∙ ap (λ n. kind_counted (wrong_counted s (differences word codeword)) (get_or codeword 0 0) n) c
+
+-- an idle word
+pub idle_counted : (s : WordCounts) (word : List ℕ) → word ≡ replicate 24 0
+    → record s { clean = tick true s.clean; idle = tick true s.idle } ≡ count_found s word (Some word)
+unfolding count_found tick differences
+idle_counted s word zeros = sym (ap (λ (w : List ℕ). count_found s w (Some w)) zeros)
 
 -- ---- a loop over words
 

@@ -1,20 +1,18 @@
 -- How the end of an input is told by a player.
-use Rattle.std.proofs.Common.{◌≢◌, ℕ, List, Result, Ok, Err, IfErr, refl}
+use Rattle.std.proofs.Common.{◌≢◌, ℕ, Bool, true, false, if◌then◌else◌, List, Result, Ok, Err, IfErr, refl}
+use Rattle.std.specs.Prelude.{nat_lt}
 use Rattle.cdg_io.specs.Pump.{TellsEndOf}
 use Rattle.cdg_io.specs.declared.pumping.Pumped.{Pumped}
 use Rattle.cdg_io.specs.declared.pumping.PumpStop.{PumpStop}
 use Rattle.cdg_io.specs.declared.pumping.PumpStop.TheVariants as pump
-use Rattle.subcode_player.specs.Calls.{EndFirst, EndInTurn, IsStreamStop}
+use Rattle.subcode_player.specs.Calls.{EndFirst, EndInTurn, IsListStop, IsMomentStop, IsStreamStop}
 use Rattle.cdg_io.specs.Causes.{Rose}
 use Rattle.cdtext_packs.specs.declared.lead_in_texts.LeadInTexts.{LeadInTexts}
 use Rattle.std.specs.declared.option.Option.{Option}
-use Rattle.subcode_player.specs.TextListing.{EndOfTexts, IsListStop}
-use Rattle.subcode_player.specs.Watch.{WritesTexts, play_stop}
+use Rattle.subcode_player.specs.Watch.{WritesTexts, play_stop, viewed}
 use Rattle.subcode_player.specs.declared.player.Played.{Played}
 use Rattle.subcode_player.specs.declared.player.PlayStop.{PlayStop}
-use Rattle.subcode_player.specs.declared.player.PlayStop.TheVariants.{ReadFault, WriteFault, Torn, TooLong, PastEnd}
-use Rattle.subcode_player.specs.declared.text.TextStop.{TextStop}
-use Rattle.subcode_player.specs.declared.text.TextStop.TheVariants.{Play, Text}
+use Rattle.subcode_player.specs.declared.player.PlayStop.TheVariants.{ReadFault, WriteFault, Torn, TooLong, PastEnd, Text}
 
 abbrev pump_error : PumpStop → Result Pumped PumpStop
 pump_error stop = Err stop
@@ -41,24 +39,48 @@ ends_first pump.WriteFault before now other told = absurd (other refl)
 ends_first (pump.Torn unit) before now other told = told
 ends_first pump.TooLong before now other told = told
 
+-- nor for texts
+pub stops_moment : (stop : PumpStop) → IsMomentStop (play_stop stop)
+stops_moment pump.ReadFault = tt
+stops_moment pump.WriteFault = tt
+stops_moment (pump.Torn unit) = tt
+stops_moment pump.TooLong = tt
+
+pub stops_before_texts : (stop : PumpStop) → IsListStop (play_stop stop)
+stops_before_texts pump.ReadFault = tt
+stops_before_texts pump.WriteFault = tt
+stops_before_texts (pump.Torn unit) = tt
+stops_before_texts pump.TooLong = tt
+
+abbrev by_test : Bool → ℕ → ℕ → Result Played PlayStop
+by_test past blocks bad = if past then Err (PastEnd blocks) else Ok (record { blocks = blocks; bad = bad })
+
+stops_view : (past : Bool) (blocks bad : ℕ) → IfErr (by_test past blocks bad) IsMomentStop
+stops_view true blocks bad = tt
+stops_view false blocks bad = tt
+
+-- what was drawn up to a moment
+pub viewed_stops : (blocks time bad : ℕ) → IfErr (viewed blocks time bad) IsMomentStop
+viewed_stops blocks time bad = stops_view (nat_lt blocks time) blocks bad
+
 -- once all was read
-pub ends_texts : (s : LeadInTexts) (blocks : ℕ) (held held' : Option (List ℕ)) (result : Result Played TextStop) (before now : ℕ)
-    → WritesTexts s blocks held held' result → Rose before now → EndOfTexts result before now
+pub ends_texts : (s : LeadInTexts) (blocks : ℕ) (held held' : Option (List ℕ)) (result : Result Played PlayStop) (before now : ℕ)
+    → WritesTexts s blocks held held' result → Rose before now → EndFirst result before now
 ends_texts s blocks held held' (Ok played) before now writes told = told
 ends_texts s blocks held held' (Err (Text fault)) before now writes told = told
-ends_texts s blocks held held' (Err (Play WriteFault)) before now writes told = told
-ends_texts s blocks held held' (Err (Play ReadFault)) before now writes told = absurd writes
-ends_texts s blocks held held' (Err (Play (Torn block))) before now writes told = absurd writes
-ends_texts s blocks held held' (Err (Play TooLong)) before now writes told = absurd writes
-ends_texts s blocks held held' (Err (Play (PastEnd past))) before now writes told = absurd writes
+ends_texts s blocks held held' (Err WriteFault) before now writes told = told
+ends_texts s blocks held held' (Err ReadFault) before now writes told = absurd writes
+ends_texts s blocks held held' (Err (Torn block)) before now writes told = absurd writes
+ends_texts s blocks held held' (Err TooLong) before now writes told = absurd writes
+ends_texts s blocks held held' (Err (PastEnd past)) before now writes told = absurd writes
 
 -- the writing of texts asks for no moment
-pub stops_list : (s : LeadInTexts) (blocks : ℕ) (held held' : Option (List ℕ)) (result : Result Played TextStop)
+pub stops_list : (s : LeadInTexts) (blocks : ℕ) (held held' : Option (List ℕ)) (result : Result Played PlayStop)
     → WritesTexts s blocks held held' result → IfErr result IsListStop
 stops_list s blocks held held' (Ok played) writes = tt
 stops_list s blocks held held' (Err (Text fault)) writes = tt
-stops_list s blocks held held' (Err (Play WriteFault)) writes = tt
-stops_list s blocks held held' (Err (Play ReadFault)) writes = tt
-stops_list s blocks held held' (Err (Play (Torn block))) writes = tt
-stops_list s blocks held held' (Err (Play TooLong)) writes = tt
-stops_list s blocks held held' (Err (Play (PastEnd past))) writes = absurd writes
+stops_list s blocks held held' (Err WriteFault) writes = tt
+stops_list s blocks held held' (Err ReadFault) writes = tt
+stops_list s blocks held held' (Err (Torn block)) writes = tt
+stops_list s blocks held held' (Err TooLong) writes = tt
+stops_list s blocks held held' (Err (PastEnd past)) writes = absurd writes

@@ -11,14 +11,14 @@ use Rattle.cdg_instructions.specs.declared.instr.Instr.{Instr}
 use Rattle.cdg_screen.specs.Picture.{blank, standing_after}
 use Rattle.picture_script.specs.Script.{Drawing, pictures, ready_time, hold_time}
 use Rattle.picture_changes.specs.Schedule.{IsSchedule}
-use Rattle.picture_changes.specs.Shown.{ShowsPicture, AreTimesInOrder, AreColoursInRange}
+use Rattle.picture_changes.specs.Shown.{ShowsPicture, AreTimesInOrder}
 use Rattle.picture_changes.specs.Meanings.{AreMeantBy}
 use Rattle.subcode_player.specs.Screen.{AreMeant, IsScreenAt, IsShownBy, Shows}
 use Rattle.subcode_player.specs.Pictured.{IsScheduledStream, IsHeldAt, IsPictureText, GivesPicture}
 use Rattle.raw_subcode.specs.declared.form.Form.{Form}
 use Rattle.subcode_player.specs.declared.player.Played.{Played}
 use Rattle.subcode_player.specs.declared.player.PlayStop.{PlayStop}
-use Rattle.subcode_player.specs.declared.player.PlayStop.TheVariants.{ReadFault, WriteFault, Torn, TooLong, PastEnd}
+use Rattle.subcode_player.specs.declared.player.PlayStop.TheVariants.{ReadFault, WriteFault, Torn, TooLong, PastEnd, Text}
 use Rattle.subcode_player.proofs.Slots.{length-all_symbols, sized_drop}
 use Rattle.subcode_player.proofs.Conversion.{length-units_of, units_sized, blocks_sized}
 use Rattle.subcode_player.proofs.Restoring.{Recovers, program_small, taken_all}
@@ -87,3 +87,4 @@ gives_picture form lead_in time (Some all) left' held held' (Err (Torn block)) t
 gives_picture form lead_in time (Some all) left' held held' (Err TooLong) taken picture none shows answer = λ script k scheduled at. absurd (omega (arith, answer, scheduled.stream.few))
 gives_picture form lead_in time (Some all) left' held held' (Err (PastEnd blocks)) taken picture none shows answer = λ script k scheduled at.
     absurd (omega (arith, answer.2, answer.3, program_blocks form lead_in script all scheduled, at.held, scheduled.schedule.held k at.picture))
+gives_picture form lead_in time (Some all) left' held held' (Err (Text fault)) taken picture none shows answer = λ script k scheduled at. absurd answer

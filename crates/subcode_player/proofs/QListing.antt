@@ -1,13 +1,10 @@
 -- The lines of the Q channel of a stream, from the runs of their stage.
-use Rattle.std.proofs.Common.{◌≡◌, ℕ, List, [], ◌∷◌, length, map, refl, sym, ap, ap₂, ◌∙◌, subst, arith}
+use Rattle.std.proofs.Common.{◌≡◌, ◌≢◌, ℕ, List, length, map, refl, sym, ap, ◌∙◌, subst, arith}
 use Rattle.std.specs.Prelude.{is_err, count_by}
-use Rattle.std.specs.declared.option.Option.{Option}
 use Rattle.std.specs.List.{concat}
 use Rattle.std.proofs.lemmas.List.{length-map}
-use Rattle.cdg_io.specs.Run.{run_state, run_gives, then_gives}
+use Rattle.cdg_io.specs.Run.{run_state, run_gives}
 use Rattle.cdg_io.specs.Pump.{units_of, given}
-use Rattle.cdg_io.specs.declared.stage.Then.{Then}
-use Rattle.cdg_io.proofs.Runs.{joined, joined_second, joined_gives}
 use Rattle.cdg_io.proofs.Streaming.{IsWhole}
 use Rattle.raw_subcode.specs.Channels.{unit_size, block_of, blocks_of}
 use Rattle.q_channel.specs.QSteps.{q_next, q_give}
@@ -15,12 +12,12 @@ use Rattle.q_channel.specs.QList.{q_blocks, q_lines, AreQReadings, IsQListed}
 use Rattle.q_channel.specs.declared.q_lines.QLines.{QLines}
 use Rattle.q_channel.proofs.QRuns.{reading_at, lines_run, counts_run, readings_are}
 use Rattle.raw_subcode.specs.declared.form.Form.{Form}
-use Rattle.raw_subcode.specs.declared.form.Form.TheVariants.{Raw, Sector}
-use Rattle.subcode_player.specs.declared.sector_blocks.SectorBlocks.{SectorBlocks}
+use Rattle.raw_subcode.specs.declared.form.Form.TheVariants.{Raw, Sector, Cooked}
 use Rattle.subcode_player.proofs.Slots.{Sized}
 use Rattle.subcode_player.proofs.Playing.{Plays, units_in}
 use Rattle.subcode_player.proofs.Conversion.{length-units_of, units_sized, blocks_sized}
-use Rattle.subcode_player.proofs.PlayRuns.{cut_next, cut_give, cut_all}
+use Rattle.subcode_player.specs.Watch.{on_units}
+use Rattle.subcode_player.proofs.WatchedBlocks.{given_on_units, run_on_units}
 
 -- the lines of blocks, which are those of a stream
 listed : (form : Form) (bytes text : List ℕ) (bad : ℕ) (blocks : List (List ℕ)) → q_blocks form bytes ≡ blocks → Sized 96 blocks
@@ -39,40 +36,22 @@ start = record { block = 0; bad = 0 }
 blocks_in : (form : Form) (n : ℕ) (bytes : List ℕ) → IsWhole (unit_size form) n bytes → blocks_of form bytes ≡ map (block_of form) (units_of (unit_size form) n bytes)
 blocks_in form n bytes whole = ap (λ k. map (block_of form) (units_of (unit_size form) k bytes)) (units_in form n bytes whole)
 
-plain : (units : List (List ℕ)) → map (block_of Raw) units ≡ units
-plain [] = refl
-plain (u ∷ units) = ap (λ us. u ∷ us) (plain units)
+-- a form in which blocks have a Q channel
+q_blocks_are : (form : Form) (bytes : List ℕ) → form ≢ Cooked → q_blocks form bytes ≡ blocks_of form bytes
+q_blocks_are Raw bytes form_is = refl
+q_blocks_are Sector bytes form_is = refl
+q_blocks_are Cooked bytes form_is = absurd (form_is refl)
 
-pub plays_blocks : Plays (IsQListed Raw) Raw q_next q_give start (λ (t : QLines). t.bad)
-plays_blocks = record {
+pub plays_frames : (form : Form) (s : QLines) → form ≢ Cooked → s ≡ start → Plays (IsQListed form) form (on_units form q_next) (on_units form q_give) s (λ (t : QLines). t.bad)
+plays_frames form s form_is begin = record {
   says = λ bytes n few whole.
-      let units : List (List ℕ) = units_of 96 n bytes in
-      let size : length units ≡ n = length-units_of 96 n bytes in
-      listed Raw bytes (given 96 q_next q_give start bytes n) (run_state q_next start units).bad units (blocks_in Raw n bytes whole ∙ plain units)
-      (units_sized 96 n bytes whole.fits)
-      (lines_run 0 0 units (omega (arith, few, size)))
-      (counts_run 0 0 units (omega (arith, few, size)) ∙ omega arith);
-}
-
-abbrev pub Sectors : Type 0
-Sectors = Then SectorBlocks QLines
-
-abbrev pub sectors_next : Sectors → List ℕ → Sectors
-sectors_next s x = joined cut_next cut_give q_next s x
-
-abbrev pub sectors_give : Sectors → List ℕ → Option (List ℕ)
-sectors_give s x = then_gives q_give s.second (cut_give s.first x)
-
-pub plays_sectors : (s : Sectors) → s.second ≡ start → Plays (IsQListed Sector) Sector sectors_next sectors_give s (λ (t : Sectors). t.second.bad)
-plays_sectors s begin = record {
-  says = λ bytes n few whole.
-      let units : List (List ℕ) = units_of 2448 n bytes in
-      let blocks : List (List ℕ) = map (block_of Sector) units in
-      let size : length blocks ≡ n = length-map units (block_of Sector) ∙ length-units_of 2448 n bytes in
-      listed Sector bytes (given 2448 sectors_next sectors_give s bytes n) (run_state sectors_next s units).second.bad blocks (blocks_in Sector n bytes whole)
-      (blocks_sized Sector units (units_sized 2448 n bytes whole.fits))
-      (ap concat (joined_gives cut_next cut_give q_next q_give s units) ∙ ap₂ (λ (t : QLines) us. concat (run_gives q_next q_give t us)) begin (cut_all s.first units)
-      ∙ lines_run 0 0 blocks (omega (arith, few, size)))
-      (ap (λ (t : QLines). t.bad) (joined_second cut_next cut_give q_next s units) ∙ ap₂ (λ (t : QLines) us. (run_state q_next t us).bad) begin (cut_all s.first units)
+      let units : List (List ℕ) = units_of (unit_size form) n bytes in
+      let blocks : List (List ℕ) = map (block_of form) units in
+      let size : length blocks ≡ n = length-map units (block_of form) ∙ length-units_of (unit_size form) n bytes in
+      listed form bytes (given (unit_size form) (on_units form q_next) (on_units form q_give) s bytes n) (run_state (on_units form q_next) s units).bad blocks
+      (q_blocks_are form bytes form_is ∙ blocks_in form n bytes whole)
+      (blocks_sized form units (units_sized (unit_size form) n bytes whole.fits))
+      (ap concat (given_on_units form q_next q_give s units) ∙ ap (λ (t : QLines). concat (run_gives q_next q_give t blocks)) begin ∙ lines_run 0 0 blocks (omega (arith, few, size)))
+      (ap (λ (t : QLines). t.bad) (run_on_units form q_next s units) ∙ ap (λ (t : QLines). (run_state q_next t blocks).bad) begin
       ∙ counts_run 0 0 blocks (omega (arith, few, size)) ∙ omega arith);
 }

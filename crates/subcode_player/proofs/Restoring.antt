@@ -8,12 +8,11 @@ use Rattle.rw_interleave.specs.Interleave.{Carries}
 use Rattle.raw_subcode.specs.Channels.{unit_size, blocks_of, program_symbols}
 use Rattle.rw_interleave.specs.Stream.{all_packs, IsDamaged, IsRecovered}
 use Rattle.raw_subcode.specs.declared.form.Form.{Form}
-use Rattle.raw_subcode.specs.declared.form.Form.TheVariants.{Sector}
 use Rattle.subcode_player.specs.Calls.{IsAnsweredBy}
 use Rattle.subcode_player.specs.Convert.{Converts, IsConverted, IsDamagedStream, Restores}
 use Rattle.subcode_player.specs.declared.player.Played.{Played}
 use Rattle.subcode_player.specs.declared.player.PlayStop.{PlayStop}
-use Rattle.subcode_player.specs.declared.player.PlayStop.TheVariants.{ReadFault, WriteFault, Torn, TooLong, PastEnd}
+use Rattle.subcode_player.specs.declared.player.PlayStop.TheVariants.{ReadFault, WriteFault, Torn, TooLong, PastEnd, Text}
 use Rattle.subcode_player.proofs.Slots.{symbols_small}
 
 -- the laws on recovered packs
@@ -53,11 +52,4 @@ restores form lead_in (Some all) left' held held' (Err WriteFault) taken gives n
 restores form lead_in (Some all) left' held held' (Err (Torn block)) taken gives none_bad converts answer = λ blocks packs stream. absurd (answer.1 stream.whole)
 restores form lead_in (Some all) left' held held' (Err TooLong) taken gives none_bad converts answer = λ blocks packs stream. absurd (omega (arith, answer, stream.few))
 restores form lead_in (Some all) left' held held' (Err (PastEnd ended)) taken gives none_bad converts answer = λ blocks packs stream. absurd answer
-
--- the same for sectors
-pub restores_sectors : (form : Form) (lead_in : ℕ) (left left' held held' : Option (List ℕ)) (result : Result Played PlayStop) (taken : List ℕ) → form ≡ Sector → GivesPacks → GivesNoneBad → Converts Sector lead_in left left' held held' result taken
-    → IfSome left (λ all. IsAnsweredBy result 2448 (length all))
-    → IfSome left (λ all. (blocks : ℕ) (packs : List (List ℕ)) → IsDamagedStream form lead_in blocks packs all → Restores result held held' (concat (all_packs form blocks packs)))
-restores_sectors form lead_in left left' held held' result taken is gives none_bad converts answer =
-    subst (λ f. IfSome left (λ all. (blocks : ℕ) (packs : List (List ℕ)) → IsDamagedStream f lead_in blocks packs all → Restores result held held' (concat (all_packs f blocks packs)))) (sym is)
-    (restores Sector lead_in left left' held held' result taken gives none_bad converts answer)
+restores form lead_in (Some all) left' held held' (Err (Text fault)) taken gives none_bad converts answer = λ blocks packs stream. absurd answer

@@ -1,9 +1,7 @@
 -- From a stage that reads the lead-in's packs to what a call lists.
-use Rattle.std.proofs.Common.{◌≡◌, ℕ, ◌-◌, ◌*◌, ◌/◌, ◌%◌, ◌≤◌, List, [], length, map, take, refl, sym, ap, ◌∙◌, subst, Some, None, IfSome, Result, Ok, Err, IsOk}
+use Rattle.std.proofs.Common.{◌≡◌, ◌≢◌, ℕ, ◌-◌, ◌*◌, ◌/◌, ◌%◌, ◌≤◌, List, length, map, take, refl, sym, ap, ◌∙◌, subst, Some, None, IfSome, Result, Ok, Err, IsOk}
 use Rattle.std.specs.Prelude.{nat_lt, ◌==◌}
 use Rattle.std.specs.declared.option.Option.{Option}
-use Rattle.std.specs.Io.KnownBytes.{Appends}
-use Rattle.std.proofs.KnownBytes.{Appends-nil}
 use Rattle.std.proofs.Math.Nat.{mul-mod_left}
 use Rattle.cdg_io.specs.Run.{run_state}
 use Rattle.cdg_io.specs.Pump.{units_of, answer_of, IsUnlessFault}
@@ -19,17 +17,15 @@ use Rattle.cdtext_packs.specs.declared.kinds.TextFault.{TextFault}
 use Rattle.cdtext_packs.specs.TextLines.{counted_lines, text_lines}
 use Rattle.cdtext_packs.specs.TextSteps.{fresh_texts, text_next, HasRead}
 use Rattle.cdtext_packs.specs.declared.lead_in_texts.LeadInTexts.{LeadInTexts}
-use Rattle.subcode_player.specs.Calls.{most_units}
+use Rattle.subcode_player.specs.Calls.{most_units, IsAnsweredBy}
 use Rattle.subcode_player.specs.Watch.{Watches, WritesTexts, play_stop}
-use Rattle.subcode_player.specs.TextListing.{packs_in, texts_of_lead_in, IsTextListed, IsTextFault, IsEarlyStop, ListsTexts, IsWholeInput, IsListedBy}
+use Rattle.subcode_player.specs.TextListing.{packs_in, texts_of_lead_in, IsTextListed, IsTextFault, ListsTexts, IsWholeInput, IsListedBy}
 use Rattle.subcode_player.specs.declared.player.Played.{Played}
 use Rattle.subcode_player.specs.declared.player.PlayStop.{PlayStop}
-use Rattle.subcode_player.specs.declared.player.PlayStop.TheVariants.{ReadFault, WriteFault, Torn, TooLong, PastEnd}
-use Rattle.subcode_player.specs.declared.text.TextStop.{TextStop}
-use Rattle.subcode_player.specs.declared.text.TextStop.TheVariants.{Play, Text}
+use Rattle.subcode_player.specs.declared.player.PlayStop.TheVariants.{ReadFault, WriteFault, Torn, TooLong, PastEnd, Text}
 use Rattle.subcode_player.proofs.Playing.{units_in}
 use Rattle.subcode_player.proofs.Views.{whole_taken, done_tests, not_over, zero_rest}
-use Rattle.subcode_player.proofs.Checks.{checked_stop}
+use Rattle.subcode_player.proofs.Checks.{at_end_stop, checked_stop}
 use Rattle.subcode_player.proofs.Restoring.{taken_all}
 
 abbrev pub ReadsLeadIns : Type 0
@@ -66,7 +62,7 @@ module _ (form : Form) (lead_in : ℕ) (left left' held held' : Option (List ℕ
   whole_rest : (pumped : Pumped) → Watches form text_next left left' s s' (Ok pumped) taken → length taken % unit_size form ≡ 0
   whole_rest pumped w = ap (λ n. n % unit_size form) w.done.1 ∙ mul-mod_left pumped.units (unit_size form)
 
-  pub lists_done : (pumped : Pumped) (answer : Result Played TextStop) (blocks : ℕ) → ReadsLeadIns → lead_in ≤ 450000 → s ≡ fresh_texts lead_in → Watches form text_next left left' s s' (Ok pumped) taken
+  pub lists_done : (pumped : Pumped) (answer : Result Played PlayStop) (blocks : ℕ) → ReadsLeadIns → lead_in ≤ 450000 → s ≡ fresh_texts lead_in → Watches form text_next left left' s s' (Ok pumped) taken
       → blocks ≡ pumped.units - lead_in → WritesTexts s' blocks held held' answer → ListsTexts form lead_in left left' held held' answer taken
   lists_done pumped (Ok played) blocks law few fresh w is writes =
       let read = has_read pumped law few fresh w in
@@ -84,7 +80,7 @@ module _ (form : Form) (lead_in : ℕ) (left left' held held' : Option (List ℕ
         };
         refused = λ fault e. (cc);
       }
-  lists_done pumped (Err (Play WriteFault)) blocks law few fresh w is writes =
+  lists_done pumped (Err WriteFault) blocks law few fresh w is writes =
       let read = has_read pumped law few fresh w in
       let (texts, is_read, put) = writes in
       let played : Played = record { blocks = pumped.units - lead_in; bad = 0 } in
@@ -95,7 +91,7 @@ module _ (form : Form) (lead_in : ℕ) (left left' held held' : Option (List ℕ
           taken_from = w.taken_from;
           within = w.within;
           done = tt;
-          stopped = λ stop e not. let same : Play WriteFault ≡ stop = cc in absurd (not (sym same));
+          stopped = λ stop e not. let same : WriteFault ≡ stop = cc in absurd (not (sym same));
           ended = λ stop e not. w.done.0;
           cut = λ e. (w.done.0, (counted_lines texts s'.good s'.bad s'.other, (played, record { blocks = all_blocks; written = listed texts 0 read is_read refl }), put));
         };
@@ -116,50 +112,23 @@ module _ (form : Form) (lead_in : ℕ) (left left' held held' : Option (List ℕ
             let same : fault ≡ other = cc in
             (whole_rest pumped w, subst (λ (f : TextFault). IsTextFault f (texts_of_lead_in form lead_in taken)) same (subst (λ (r : Result Texts TextFault). IsTextFault fault r) (texts_read read) writes.0));
       }
-  lists_done pumped (Err (Play ReadFault)) blocks law few fresh w is writes = absurd writes
-  lists_done pumped (Err (Play (Torn block))) blocks law few fresh w is writes = absurd writes
-  lists_done pumped (Err (Play TooLong)) blocks law few fresh w is writes = absurd writes
-  lists_done pumped (Err (Play (PastEnd past))) blocks law few fresh w is writes = absurd writes
+  lists_done pumped (Err ReadFault) blocks law few fresh w is writes = absurd writes
+  lists_done pumped (Err (Torn block)) blocks law few fresh w is writes = absurd writes
+  lists_done pumped (Err TooLong) blocks law few fresh w is writes = absurd writes
+  lists_done pumped (Err (PastEnd past)) blocks law few fresh w is writes = absurd writes
 
-  lists_stopped : (stop : PumpStop) → held' ≡ held → Watches form text_next left left' s s' (Err stop) taken → ListsTexts form lead_in left left' held held' (Err (Play (play_stop stop))) taken
-  lists_stopped pump_stop.ReadFault same w = record {
-    plays = record {
-      taken_from = w.taken_from;
-      within = w.within;
-      done = tt;
-      stopped = λ other e not. subst (λ (h : Option (List ℕ)). Appends held h []) (sym same) (Appends-nil held);
-      ended = λ stop e not. let told : Play ReadFault ≡ stop = cc in absurd (not (subst IsEarlyStop told tt));
-      cut = λ e. (cc);
-    };
-    refused = λ fault e. (cc);
-  }
-  lists_stopped pump_stop.WriteFault same w = absurd (w.no_write refl)
-  lists_stopped (pump_stop.Torn unit) same w = record {
-    plays = record {
-      taken_from = w.taken_from;
-      within = w.within;
-      done = tt;
-      stopped = λ other e not. subst (λ (h : Option (List ℕ)). Appends held h []) (sym same) (Appends-nil held);
-      ended = λ stop e not. w.torn unit refl;
-      cut = λ e. (cc);
-    };
-    refused = λ fault e. (cc);
-  }
-  lists_stopped pump_stop.TooLong same w = record {
-    plays = record {
-      taken_from = w.taken_from;
-      within = w.within;
-      done = tt;
-      stopped = λ other e not. subst (λ (h : Option (List ℕ)). Appends held h []) (sym same) (Appends-nil held);
-      ended = λ stop e not. let told : Play TooLong ≡ stop = cc in absurd (not (subst IsEarlyStop told tt));
-      cut = λ e. (cc);
-    };
-    refused = λ fault e. (cc);
-  }
+  no_fault_told : (stop : PumpStop) (fault : TextFault) → play_stop stop ≢ Text fault
+  no_fault_told pump_stop.ReadFault fault e = absurd (cc)
+  no_fault_told pump_stop.WriteFault fault e = absurd (cc)
+  no_fault_told (pump_stop.Torn unit) fault e = absurd (cc)
+  no_fault_told pump_stop.TooLong fault e = absurd (cc)
 
   pub lists_stop : (stop : PumpStop) (answer : PlayStop) → held' ≡ held → Watches form text_next left left' s s' (Err stop) taken → answer ≡ play_stop stop
-      → ListsTexts form lead_in left left' held held' (Err (Play answer)) taken
-  lists_stop stop answer same w e = subst (λ (a : PlayStop). ListsTexts form lead_in left left' held held' (Err (Play a)) taken) (sym e) (lists_stopped stop same w)
+      → ListsTexts form lead_in left left' held held' (Err answer) taken
+  lists_stop stop answer same w e = record {
+    plays = at_end_stop (IsTextListed form lead_in) form lead_in text_next left left' held held' s s' taken stop answer same w e;
+    refused = λ fault told. let is : answer ≡ Text fault = cc in absurd (no_fault_told stop fault (sym e ∙ is));
+  }
 
 whole_input : (form : Form) (pumped : Pumped) (all : List ℕ) → IsUnlessFault (Ok pumped) (answer_of (unit_size form) most_units (length all)) → IsWholeInput form all
 whole_input form pumped all e =
@@ -170,7 +139,7 @@ is_ok_read : (r : Result Texts TextFault) (texts : Texts) → r ≡ Ok texts →
 is_ok_read (Ok other) texts e = refl
 is_ok_read (Err fault) texts e = absurd (cc)
 
-pub listed_done : (form : Form) (lead_in : ℕ) (pumped : Pumped) (answer : Result Played TextStop) (left left' held held' : Option (List ℕ)) (s s' : LeadInTexts) (taken : List ℕ) (blocks : ℕ)
+pub listed_done : (form : Form) (lead_in : ℕ) (pumped : Pumped) (answer : Result Played PlayStop) (left left' held held' : Option (List ℕ)) (s s' : LeadInTexts) (taken : List ℕ) (blocks : ℕ)
     → Watches form text_next left left' s s' (Ok pumped) taken → WritesTexts s' blocks held held' answer → ListsTexts form lead_in left left' held held' answer taken
     → IfSome left (λ all. IsUnlessFault (Ok pumped) (answer_of (unit_size form) most_units (length all)))
     → IfSome left (λ all. IsListedBy answer form lead_in all)
@@ -182,12 +151,21 @@ listed_done form lead_in pumped (Ok played) (Some all) left' held held' s s' tak
 listed_done form lead_in pumped (Err (Text fault)) (Some all) left' held held' s s' taken blocks w writes lists e =
     let same : taken ≡ all = taken_all all left' taken w.taken_from w.done.0 in
     (whole_input form pumped all e, subst (λ (bytes : List ℕ). IsTextFault fault (texts_of_lead_in form lead_in bytes)) same (lists.refused fault refl).1)
-listed_done form lead_in pumped (Err (Play WriteFault)) (Some all) left' held held' s s' taken blocks w writes lists e = tt
-listed_done form lead_in pumped (Err (Play ReadFault)) (Some all) left' held held' s s' taken blocks w writes lists e = absurd writes
-listed_done form lead_in pumped (Err (Play (Torn block))) (Some all) left' held held' s s' taken blocks w writes lists e = absurd writes
-listed_done form lead_in pumped (Err (Play TooLong)) (Some all) left' held held' s s' taken blocks w writes lists e = absurd writes
-listed_done form lead_in pumped (Err (Play (PastEnd past))) (Some all) left' held held' s s' taken blocks w writes lists e = absurd writes
+listed_done form lead_in pumped (Err WriteFault) (Some all) left' held held' s s' taken blocks w writes lists e = tt
+listed_done form lead_in pumped (Err ReadFault) (Some all) left' held held' s s' taken blocks w writes lists e = absurd writes
+listed_done form lead_in pumped (Err (Torn block)) (Some all) left' held held' s s' taken blocks w writes lists e = absurd writes
+listed_done form lead_in pumped (Err TooLong) (Some all) left' held held' s s' taken blocks w writes lists e = absurd writes
+listed_done form lead_in pumped (Err (PastEnd past)) (Some all) left' held held' s s' taken blocks w writes lists e = absurd writes
+
+listed_at : (form : Form) (lead_in : ℕ) (stop : PumpStop) (left : Option (List ℕ)) → IfSome left (λ all. IsAnsweredBy (Err (play_stop stop)) (unit_size form) (length all))
+    → IfSome left (λ all. IsListedBy (Err (play_stop stop)) form lead_in all)
+listed_at form lead_in pump_stop.ReadFault left answered = answered
+listed_at form lead_in pump_stop.WriteFault left answered = answered
+listed_at form lead_in (pump_stop.Torn unit) left answered = answered
+listed_at form lead_in pump_stop.TooLong left answered = answered
 
 pub listed_stop : (form : Form) (lead_in : ℕ) (stop : PumpStop) (answer : PlayStop) (left : Option (List ℕ)) → answer ≡ play_stop stop
-    → IfSome left (λ all. IsUnlessFault (Err stop) (answer_of (unit_size form) most_units (length all))) → IfSome left (λ all. IsListedBy (Err (Play answer)) form lead_in all)
-listed_stop form lead_in stop answer left told e = checked_stop (unit_size form) stop answer left told e
+    → IfSome left (λ all. IsUnlessFault (Err stop) (answer_of (unit_size form) most_units (length all))) → IfSome left (λ all. IsListedBy (Err answer) form lead_in all)
+listed_stop form lead_in stop answer left told e =
+    subst (λ (a : PlayStop). IfSome left (λ all. IsListedBy (Err a) form lead_in all)) (sym told)
+    (listed_at form lead_in stop left (checked_stop (unit_size form) stop (play_stop stop) left refl e))

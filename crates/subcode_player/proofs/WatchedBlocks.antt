@@ -1,22 +1,17 @@
 -- From the run of a pump to a stage at work on blocks.
-use Rattle.std.proofs.Common.{◌≡◌, ◌≢◌, ℕ, ◌+◌, ◌*◌, ◌<◌, ◌≤◌, List, length, map, sym, ap, ◌∙◌, subst, arith, Result, Ok, Err}
+use Rattle.std.proofs.Common.{◌≡◌, ◌≢◌, ℕ, ◌+◌, ◌*◌, ◌<◌, ◌≤◌, List, [], ◌∷◌, length, map, refl, sym, ap, ◌∙◌, subst, arith, Result, Ok, Err}
 use Rattle.std.specs.Prelude.{IsErrOf}
 use Rattle.std.specs.declared.option.Option.{Option}
-use Rattle.cdg_io.specs.Run.{run_state}
+use Rattle.cdg_io.specs.Run.{give, run_state, run_gives}
 use Rattle.cdg_io.specs.Pump.{units_of, whole, Pumps}
 use Rattle.cdg_io.specs.declared.pumping.Pumped.{Pumped}
 use Rattle.cdg_io.specs.declared.pumping.PumpStop.{PumpStop}
 use Rattle.cdg_io.specs.declared.pumping.PumpStop.TheVariants.{WriteFault}
-use Rattle.cdg_io.specs.declared.stage.Then.{Then}
 use Rattle.cdg_io.proofs.Units.{whole_within}
-use Rattle.cdg_io.proofs.Runs.{joined, joined_second}
 use Rattle.raw_subcode.specs.Channels.{unit_size, block_of}
 use Rattle.raw_subcode.specs.declared.form.Form.{Form}
-use Rattle.raw_subcode.specs.declared.form.Form.TheVariants.{Sector}
 use Rattle.subcode_player.specs.Calls.{most_units}
-use Rattle.subcode_player.specs.Watch.{Watches}
-use Rattle.subcode_player.specs.declared.sector_blocks.SectorBlocks.{SectorBlocks}
-use Rattle.subcode_player.proofs.PlayRuns.{plain_blocks, cut_next, cut_give, cut_all}
+use Rattle.subcode_player.specs.Watch.{Watches, on_units}
 
 abbrev error : PumpStop → Result Pumped PumpStop
 error stop = Err stop
@@ -58,8 +53,15 @@ module _ {T S : Type 0} (form : Form) (size : ℕ) (whole_next : T → List ℕ 
   watches (Ok pumped) e some no_fault runs p = watches_done pumped e some runs p
   watches (Err stop) e some no_fault runs p = watches_stop stop e (λ same. no_fault (ap error same)) p
 
-pub blocks_alone : {S : Type 0} (form : Form) (next : S → List ℕ → S) → unit_size form ≡ 96 → RunsOnBlocks form next next (λ (s : S). s)
-blocks_alone form next e = record { state = λ s units. ap (run_state next s) (sym (plain_blocks form e units)) }
+-- a run over units is one over their blocks
+pub run_on_units : {S : Type 0} (form : Form) (next : S → List ℕ → S) (s : S) (units : List (List ℕ)) → run_state (on_units form next) s units ≡ run_state next s (map (block_of form) units)
+run_on_units form next s [] = refl
+run_on_units form next s (u ∷ units) = run_on_units form next (next s (block_of form u)) units
 
-pub blocks_of_sectors : {S : Type 0} (next : S → List ℕ → S) → RunsOnBlocks Sector (joined cut_next cut_give next) next (λ (t : Then SectorBlocks S). t.second)
-blocks_of_sectors next = record { state = λ t units. joined_second cut_next cut_give next t units ∙ ap (run_state next t.second) (cut_all t.first units) }
+pub given_on_units : {S : Type 0} (form : Form) (next : S → List ℕ → S) (gives : S → List ℕ → Option (List ℕ)) (s : S) (units : List (List ℕ))
+    → run_gives (on_units form next) (on_units form gives) s units ≡ run_gives next gives s (map (block_of form) units)
+given_on_units form next gives s [] = refl
+given_on_units form next gives s (u ∷ units) = ap (give (gives s (block_of form u))) (given_on_units form next gives (next s (block_of form u)) units)
+
+pub blocks_of_units : {S : Type 0} (form : Form) (next : S → List ℕ → S) → RunsOnBlocks form (on_units form next) next (λ (s : S). s)
+blocks_of_units form next = record { state = λ s units. run_on_units form next s units }

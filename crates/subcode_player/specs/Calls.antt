@@ -8,7 +8,7 @@ use Rattle.raw_subcode.specs.Channels.{unit_size}
 use Rattle.raw_subcode.specs.declared.form.Form.{Form}
 use Rattle.subcode_player.specs.declared.player.Played.{Played}
 use Rattle.subcode_player.specs.declared.player.PlayStop.{PlayStop}
-use Rattle.subcode_player.specs.declared.player.PlayStop.TheVariants.{ReadFault, WriteFault, Torn, TooLong, PastEnd}
+use Rattle.subcode_player.specs.declared.player.PlayStop.TheVariants.{ReadFault, WriteFault, Torn, TooLong, PastEnd, Text}
 
 -- the most units that are read
 abbrev pub most_units : ℕ
@@ -33,19 +33,32 @@ IsEarly stop = ⊥
 abbrev pub PlaysAtEnd : (List ℕ → List ℕ → ℕ → Type 0) → Form → ℕ → Option (List ℕ) → Option (List ℕ) → Option (List ℕ) → Option (List ℕ) → Result Played PlayStop → List ℕ → Type 0
 PlaysAtEnd writes form lead_in left left' held held' result taken = WritesAtEnd (unit_size form) most_units IsEarly WriteFault (IsPlayed writes form lead_in) left left' held held' result taken
 
--- the stops that a call can answer which plays a stream to its end: no moment is asked for, so none is past the end
+-- the stops that a call can answer which plays a stream to its end: no moment is asked for, so none is past the end, and
+-- no texts are
 abbrev pub IsStreamStop : PlayStop → Type 0
 IsStreamStop ReadFault = ⊤
 IsStreamStop WriteFault = ⊤
 IsStreamStop (Torn block) = ⊤
 IsStreamStop TooLong = ⊤
 IsStreamStop (PastEnd blocks) = ⊥
+IsStreamStop (Text fault) = ⊥
+
+-- those of a call that is asked for a moment
+abbrev pub IsMomentStop : PlayStop → Type 0
+IsMomentStop (PastEnd blocks) = ⊤
+IsMomentStop stop = IsStreamStop stop
+
+-- those of a call that lists texts
+abbrev pub IsListStop : PlayStop → Type 0
+IsListStop (Text fault) = ⊤
+IsListStop stop = IsStreamStop stop
 
 -- The count of told ends rose where the input was read to its end, and nowhere else: of a call that writes while it reads,
 abbrev pub EndInTurn : Result Played PlayStop → ℕ → ℕ → Type 0
 EndInTurn (Ok played) before now = Rose before now
 EndInTurn (Err (Torn block)) before now = Rose before now
 EndInTurn (Err (PastEnd blocks)) before now = Rose before now
+EndInTurn (Err (Text fault)) before now = Rose before now
 EndInTurn (Err TooLong) before now = now ≡ before
 EndInTurn (Err ReadFault) before now = now ≡ before
 EndInTurn (Err WriteFault) before now = now ≡ before
@@ -55,6 +68,7 @@ abbrev pub EndFirst : Result Played PlayStop → ℕ → ℕ → Type 0
 EndFirst (Ok played) before now = Rose before now
 EndFirst (Err (Torn block)) before now = Rose before now
 EndFirst (Err (PastEnd blocks)) before now = Rose before now
+EndFirst (Err (Text fault)) before now = Rose before now
 EndFirst (Err TooLong) before now = now ≡ before
 EndFirst (Err ReadFault) before now = now ≡ before
 EndFirst (Err WriteFault) before now = Rose before now
@@ -67,3 +81,4 @@ IsAnsweredBy (Err TooLong) size len = most_units * size < len
 IsAnsweredBy (Err ReadFault) size len = ⊤
 IsAnsweredBy (Err WriteFault) size len = ⊤
 IsAnsweredBy (Err (PastEnd blocks)) size len = ⊥
+IsAnsweredBy (Err (Text fault)) size len = ⊥

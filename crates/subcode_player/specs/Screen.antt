@@ -11,7 +11,7 @@ use Rattle.cdg_screen.specs.Texts.{pixmap, state_text}
 use Rattle.subcode_player.specs.Calls.{most_units, PlaysAtEnd}
 use Rattle.subcode_player.specs.declared.player.Played.{Played}
 use Rattle.subcode_player.specs.declared.player.PlayStop.{PlayStop}
-use Rattle.subcode_player.specs.declared.player.PlayStop.TheVariants.{ReadFault, WriteFault, Torn, TooLong, PastEnd}
+use Rattle.subcode_player.specs.declared.player.PlayStop.TheVariants.{ReadFault, WriteFault, Torn, TooLong, PastEnd, Text}
 
 -- the instructions that the found codewords mean, in order; where nothing is found there is none
 abbrev pub AreMeant : List (Option (List ℕ)) → List Instr → Type 0
@@ -55,3 +55,4 @@ IsShownBy (Err (Torn block)) lead_in time size len = (len ≤ most_units * size)
 IsShownBy (Err TooLong) lead_in time size len = most_units * size < len
 IsShownBy (Err ReadFault) lead_in time size len = ⊤
 IsShownBy (Err WriteFault) lead_in time size len = ⊤
+IsShownBy (Err (Text fault)) lead_in time size len = ⊥

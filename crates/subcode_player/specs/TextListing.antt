@@ -1,5 +1,5 @@
 -- The texts of a stream's lead-in.
-use Rattle.std.specs.Prelude.{◌≡◌, ℕ, ◌*◌, ◌%◌, ◌≤◌, ◌⊎◌, ⊤, List, length, take, Option, Result, Ok, Err, IsOk}
+use Rattle.std.specs.Prelude.{◌≡◌, ℕ, ◌*◌, ◌%◌, ◌≤◌, ◌⊎◌, List, length, take, Option, Result, Ok, Err, IsOk}
 use Rattle.raw_subcode.specs.Channels.{unit_size, blocks_of}
 use Rattle.raw_subcode.specs.declared.form.Form.{Form}
 use Rattle.cdtext_packs.specs.Kept.{kept_among}
@@ -9,13 +9,10 @@ use Rattle.cdtext_packs.specs.Texts.{Texts}
 use Rattle.cdtext_packs.specs.declared.kinds.TextFault.{TextFault}
 use Rattle.cdtext_packs.specs.declared.kinds.TextFault.TheVariants.{NoMemory}
 use Rattle.cdtext_packs.specs.TextLines.{text_lines}
-use Rattle.cdg_io.specs.Causes.{Rose}
-use Rattle.cdg_io.specs.Streams.{WritesAtEnd}
-use Rattle.subcode_player.specs.Calls.{most_units, EndFirst, IsEarly, IsPlayed, IsAnsweredBy, IsStreamStop}
+use Rattle.subcode_player.specs.Calls.{most_units, IsAnsweredBy, PlaysAtEnd}
 use Rattle.subcode_player.specs.declared.player.Played.{Played}
-use Rattle.subcode_player.specs.declared.player.PlayStop.TheVariants.{WriteFault}
-use Rattle.subcode_player.specs.declared.text.TextStop.{TextStop}
-use Rattle.subcode_player.specs.declared.text.TextStop.TheVariants.{Play, Text}
+use Rattle.subcode_player.specs.declared.player.PlayStop.{PlayStop}
+use Rattle.subcode_player.specs.declared.player.PlayStop.TheVariants.{Text}
 
 -- the text packs of the lead-in blocks of a stream
 abbrev pub packs_in : Form → ℕ → List ℕ → List (List ℕ)
@@ -36,33 +33,17 @@ pub record IsTextListed (form : Form) (lead_in : ℕ) (bytes text : List ℕ) (b
 abbrev pub IsTextFault : TextFault → Result Texts TextFault → Type 0
 IsTextFault fault texts = (fault ≡ NoMemory) ⊎ (texts ≡ Err fault)
 
--- it comes before the end of the input
-abbrev pub IsEarlyStop : TextStop → Type 0
-IsEarlyStop (Play stop) = IsEarly stop
-IsEarlyStop (Text fault) = ⊥
-
--- the stops that a call can answer which lists the texts
-abbrev pub IsListStop : TextStop → Type 0
-IsListStop (Play stop) = IsStreamStop stop
-IsListStop (Text fault) = ⊤
-
 -- A call that lists the texts took these bytes: it writes at the end, where the packs give texts.
-pub record ListsTexts (form : Form) (lead_in : ℕ) (left left' held held' : Option (List ℕ)) (result : Result Played TextStop) (taken : List ℕ) : Type 0 where
-  pub plays : WritesAtEnd (unit_size form) most_units IsEarlyStop (Play WriteFault) (IsPlayed (IsTextListed form lead_in) form lead_in) left left' held held' result taken
+pub record ListsTexts (form : Form) (lead_in : ℕ) (left left' held held' : Option (List ℕ)) (result : Result Played PlayStop) (taken : List ℕ) : Type 0 where
+  pub plays : PlaysAtEnd (IsTextListed form lead_in) form lead_in left left' held held' result taken
   pub refused : (fault : TextFault) → result ≡ Err (Text fault) → (length taken % unit_size form ≡ 0) × IsTextFault fault (texts_of_lead_in form lead_in taken)
-
--- The count of told ends rose where the input was read to its end, and nowhere else.
-abbrev pub EndOfTexts : Result Played TextStop → ℕ → ℕ → Type 0
-EndOfTexts (Ok played) before now = Rose before now
-EndOfTexts (Err (Text fault)) before now = Rose before now
-EndOfTexts (Err (Play stop)) before now = EndFirst (Err stop) before now
 
 -- an input of whole units, not too many
 abbrev pub IsWholeInput : Form → List ℕ → Type 0
 IsWholeInput form all = (length all ≤ most_units * unit_size form) × (length all % unit_size form ≡ 0)
 
 -- the answer to an input that is read and written without a fault
-abbrev pub IsListedBy : Result Played TextStop → Form → ℕ → List ℕ → Type 0
+abbrev pub IsListedBy : Result Played PlayStop → Form → ℕ → List ℕ → Type 0
 IsListedBy (Ok played) form lead_in all = IsWholeInput form all × IsOk (texts_of_lead_in form lead_in all)
 IsListedBy (Err (Text fault)) form lead_in all = IsWholeInput form all × IsTextFault fault (texts_of_lead_in form lead_in all)
-IsListedBy (Err (Play stop)) form lead_in all = IsAnsweredBy (Err stop) (unit_size form) (length all)
+IsListedBy (Err stop) form lead_in all = IsAnsweredBy (Err stop) (unit_size form) (length all)

@@ -22,9 +22,11 @@ use Rattle.subcode_player.specs.Screen.{AreShown}
 use Rattle.subcode_player.specs.TextListing.{IsTextFault}
 use Rattle.subcode_player.specs.declared.player.Played.{Played}
 use Rattle.subcode_player.specs.declared.player.PlayStop.{PlayStop}
-use Rattle.subcode_player.specs.declared.player.PlayStop.TheVariants.{ReadFault, WriteFault, Torn, TooLong, PastEnd}
-use Rattle.subcode_player.specs.declared.text.TextStop.{TextStop}
-use Rattle.subcode_player.specs.declared.text.TextStop.TheVariants.{Play, Text}
+use Rattle.subcode_player.specs.declared.player.PlayStop.TheVariants.{ReadFault, WriteFault, Torn, TooLong, PastEnd, Text}
+
+-- a step of a stage on blocks as one on units
+abbrev pub on_units : {S A : Type 0} → Form → (S → List ℕ → A) → S → List ℕ → A
+on_units form step s unit = step s (block_of form unit)
 
 -- These bytes were taken, and where they are whole units to the end, the stage is in the last state of its run over their blocks.
 pub record Watches {S : Type 0} (form : Form) (next : S → List ℕ → S) (left left' : Option (List ℕ)) (s s' : S) (result : Result Pumped PumpStop) (taken : List ℕ) : Type 0 where
@@ -65,12 +67,12 @@ abbrev pub viewed : ℕ → ℕ → ℕ → Result Played PlayStop
 viewed blocks time bad = if nat_lt blocks time then Err (PastEnd blocks) else Ok (record { blocks = blocks; bad = bad })
 
 -- what the packs that were read give, and what is written of it
-abbrev pub WritesTexts : LeadInTexts → ℕ → Option (List ℕ) → Option (List ℕ) → Result Played TextStop → Type 0
+abbrev pub WritesTexts : LeadInTexts → ℕ → Option (List ℕ) → Option (List ℕ) → Result Played PlayStop → Type 0
 WritesTexts s blocks held held' (Ok played) =
     (played.blocks ≡ blocks) × (played.bad ≡ 0) × ((texts : Texts) × (read_texts s.reader ≡ Ok texts) × Appends held held' (counted_lines texts s.good s.bad s.other))
-WritesTexts s blocks held held' (Err (Play WriteFault)) = (texts : Texts) × (read_texts s.reader ≡ Ok texts) × AppendsPrefix held held' (counted_lines texts s.good s.bad s.other)
+WritesTexts s blocks held held' (Err WriteFault) = (texts : Texts) × (read_texts s.reader ≡ Ok texts) × AppendsPrefix held held' (counted_lines texts s.good s.bad s.other)
 WritesTexts s blocks held held' (Err (Text fault)) = IsTextFault fault (read_texts s.reader) × Appends held held' []
-WritesTexts s blocks held held' (Err (Play ReadFault)) = ⊥
-WritesTexts s blocks held held' (Err (Play (Torn block))) = ⊥
-WritesTexts s blocks held held' (Err (Play TooLong)) = ⊥
-WritesTexts s blocks held held' (Err (Play (PastEnd past))) = ⊥
+WritesTexts s blocks held held' (Err ReadFault) = ⊥
+WritesTexts s blocks held held' (Err (Torn block)) = ⊥
+WritesTexts s blocks held held' (Err TooLong) = ⊥
+WritesTexts s blocks held held' (Err (PastEnd past)) = ⊥

@@ -41,7 +41,7 @@ impl Player {
         requires { lead_in ≤ 450000 }
         ensures checks { (taken : List ℕ) × PlaysAtEnd (IsCheckListed form lead_in) form lead_in
             (S.left source.old) (S.left source.new) (K.held out.old) (K.held out.new) result taken }
-        // It never answers that a moment is past the end, whatever the input.
+        // It never answers that a moment is past the end, nor a fault of texts, whatever the input.
         ensures stops { IfErr result IsStreamStop }
         // Where nothing failed, the answer is that of the whole input's length.
         ensures answer { IfSome (S.left source.old) (λ all. IsAnsweredBy result (unit_size form) (length all)) }

@@ -3,15 +3,15 @@ ghost use Rattle.std.specs.Prelude.{◌≡◌, ◌≢◌, ◌≤◌, List, ℕ, 
 ghost use Rattle.std.specs.List.{concat};
 ghost use Rattle.cdg_io.specs.Causes.{Rose};
 ghost use Rattle.raw_subcode.specs.Channels.{unit_size};
-ghost use Rattle.subcode_player.specs.Steps.{fresh_words};
 ghost use Rattle.raw_subcode.specs.declared.form.Form.{Form};
 ghost use Rattle.rw_interleave.specs.Stream.{all_packs};
 ghost use Rattle.subcode_player.specs.Calls.{EndInTurn, IsAnsweredBy, IsStreamStop};
 ghost use Rattle.subcode_player.specs.Convert.{Converts, IsConverted, IsDamagedStream, Restores};
 
-use crate::player::{MOST_UNITS, play_stop};
+use crate::player::play_stop;
+use crate::watch::pump_blocks;
 use crate::{Form, PlayStop, Played, Player};
-use cdg_io::{Sink, Source, pump};
+use cdg_io::{Sink, Source};
 use rw_interleave::{packs_are_recovered, text_of_packs};
 
 /// A law: the conversion of a stream that damage keeps within two symbols a word is its packs.
@@ -37,6 +37,7 @@ impl Player {
     ///
     /// `Torn` and `TooLong` come after the packs of all whole blocks are written, `ReadFault` after those of the blocks
     /// that were read. After `WriteFault` the sink holds a prefix, and no later block was read.
+    #[tactic(auto, using(crate::proofs::Ends::ends_in_turn, crate::proofs::Ends::stops_stream))]
     pub fn convert<S: Source, K: Sink>(
         &mut self,
         lead_in: u32,
@@ -51,7 +52,7 @@ impl Player {
         ensures restores { IfSome (S.left source.old) (λ all. (blocks : ℕ) (packs : List (List ℕ))
             → IsDamagedStream form lead_in blocks packs all
             → Restores result (K.held out.old) (K.held out.new) (concat (all_packs form blocks packs))) }
-        // It never answers that a moment is past the end, whatever the input.
+        // It never answers that a moment is past the end, nor a fault of texts, whatever the input.
         ensures stops { IfErr result IsStreamStop }
         // Where nothing failed, the answer is that of the whole input's length.
         ensures answer { IfSome (S.left source.old) (λ all. IsAnsweredBy result (unit_size form) (length all)) }
@@ -65,65 +66,7 @@ impl Player {
     {
         damaged_streams_give_packs();
         self.begin(lead_in, form);
-        match form {
-            Form::Sector => self.convert_sectors(lead_in, source, out),
-            Form::Raw | Form::Cooked => self.convert_blocks(lead_in, form, source, out),
-        }
-    }
-
-    /// The same for bytes that are blocks, from the start on.
-    #[tactic(auto, using(crate::proofs::Ends::ends_in_turn, crate::proofs::Ends::stops_stream))]
-    fn convert_blocks<S: Source, K: Sink>(
-        &mut self,
-        lead_in: u32,
-        form: Form,
-        source: &mut S,
-        out: &mut K,
-    ) -> Result<Played, PlayStop>
-        requires form { unit_size form ≡ 96 }
-        requires words { self.old.stages.second.first ≡ fresh_words form lead_in }
-        requires bad { self.old.stages.second.second.bad ≡ 0 }
-        ensures converts { (taken : List ℕ) × Converts form lead_in (S.left source.old) (S.left source.new)
-            (K.held out.old) (K.held out.new) result taken }
-        ensures stops { IfErr result IsStreamStop }
-        ensures answer { IfSome (S.left source.old) (λ all. IsAnsweredBy result (unit_size form) (length all)) }
-        ensures source_later { S.faults source.old ≤ S.faults source.new }
-        ensures out_later { K.faults out.old ≤ K.faults out.new }
-        ensures read_fault { IsErrOf result PlayStop.ReadFault → Rose (S.faults source.old) (S.faults source.new) }
-        ensures no_read_fault { result ≢ Err PlayStop.ReadFault → S.faults source.new ≡ S.faults source.old }
-        ensures ended { EndInTurn result (S.ends source.old) (S.ends source.new) }
-        ensures write_fault { IsErrOf result PlayStop.WriteFault → Rose (K.faults out.old) (K.faults out.new) }
-        ensures no_write_fault { result ≢ Err PlayStop.WriteFault → K.faults out.new ≡ K.faults out.old }
-    {
-        match pump(source, MOST_UNITS, &mut self.stages.second, out) {
-            Ok(pumped) => Ok(self.played(pumped, lead_in)),
-            Err(stop) => Err(play_stop(stop)),
-        }
-    }
-
-    /// The same for bytes that are sectors.
-    #[tactic(auto, using(crate::proofs::Ends::ends_in_turn, crate::proofs::Ends::stops_stream))]
-    fn convert_sectors<S: Source, K: Sink>(
-        &mut self,
-        lead_in: u32,
-        source: &mut S,
-        out: &mut K,
-    ) -> Result<Played, PlayStop>
-        requires words { self.old.stages.second.first ≡ fresh_words Form.Sector lead_in }
-        requires bad { self.old.stages.second.second.bad ≡ 0 }
-        ensures converts { (taken : List ℕ) × Converts Form.Sector lead_in (S.left source.old) (S.left source.new)
-            (K.held out.old) (K.held out.new) result taken }
-        ensures stops { IfErr result IsStreamStop }
-        ensures answer { IfSome (S.left source.old) (λ all. IsAnsweredBy result 2448 (length all)) }
-        ensures source_later { S.faults source.old ≤ S.faults source.new }
-        ensures out_later { K.faults out.old ≤ K.faults out.new }
-        ensures read_fault { IsErrOf result PlayStop.ReadFault → Rose (S.faults source.old) (S.faults source.new) }
-        ensures no_read_fault { result ≢ Err PlayStop.ReadFault → S.faults source.new ≡ S.faults source.old }
-        ensures ended { EndInTurn result (S.ends source.old) (S.ends source.new) }
-        ensures write_fault { IsErrOf result PlayStop.WriteFault → Rose (K.faults out.old) (K.faults out.new) }
-        ensures no_write_fault { result ≢ Err PlayStop.WriteFault → K.faults out.new ≡ K.faults out.old }
-    {
-        match pump(source, MOST_UNITS, &mut self.stages, out) {
+        match pump_blocks(form, source, &mut self.stages, out) {
             Ok(pumped) => Ok(self.played(pumped, lead_in)),
             Err(stop) => Err(play_stop(stop)),
         }

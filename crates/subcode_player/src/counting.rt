@@ -1,14 +1,15 @@
 // Counts of words, packs and frames.
-ghost use Rattle.std.specs.Prelude.{◌≡◌, ◌≤◌, ◌+◌, ◌++◌, ◌==◌, length, Some, None};
+ghost use Rattle.std.specs.Prelude.{◌≡◌, ◌≤◌, ◌+◌, ◌++◌, ◌==◌, length, true, Some, None};
 ghost use Rattle.rw_code.specs.Codeword.{IsWord, differences};
 ghost use Rattle.subcode_player.specs.Steps.{fresh_words};
 ghost use Rattle.subcode_player.specs.Check.{is_known};
 ghost use Rattle.subcode_player.specs.CheckSteps.{tick, wrong_counted, kind_counted, count_found, count_next, counts_next, counts_give, frames_next, counting_next, counting_gives};
 
 use crate::block_words::{BLOCK, BlockOfWords};
+use crate::idle_words::is_idle;
 use crate::{BlockWords, Form};
 use cdg_io::{Piece, Stage, Then};
-use q_channel::decode;
+use q_channel::is_frame;
 use raw_subcode::Block;
 use rw_code::{Fixed, Word, correct};
 
@@ -76,10 +77,26 @@ impl WordCounts {
     fn count(&mut self, word: &Word)
         ensures { self.new ≡ count_next self.old word.now }
     {
+        // Most words of a disc are idle.
+        if is_idle(word) {
+            self.count_idle();
+            return;
+        }
         match correct(word) {
             Some(fixed) => self.count_fixed(&fixed, word),
             None => self.count_bad(word),
         }
+    }
+
+    /// Counts an idle word.
+    fn count_idle(&mut self)
+        ensures { self.new ≡ record self.old {
+          clean = tick true self.old.clean;
+          idle = tick true self.old.idle;
+        } }
+    {
+        tick(&mut self.clean, true);
+        tick(&mut self.idle, true);
     }
 
     /// Counts a word that is near a codeword.
@@ -145,7 +162,7 @@ impl FrameCounts {
         ensures { self.new ≡ frames_next self.old block.now }
     {
         if self.read {
-            let is_good = decode(&Block::from_bytes(block).q_frame()).is_ok();
+            let is_good = is_frame(&Block::from_bytes(block).q_frame());
             tick(&mut self.good, is_good);
             tick(&mut self.bad, !is_good);
         }

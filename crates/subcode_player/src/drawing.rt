@@ -6,6 +6,7 @@ ghost use Rattle.subcode_player.specs.Drawn.{entry_drawn, draw_next, drawing_nex
 
 use crate::Picture;
 use crate::block_words::BlockOfWords;
+use crate::idle_words::is_idle;
 use cdg_io::{Piece, Stage};
 use rw_code::{Word, correct};
 
@@ -36,6 +37,11 @@ impl Drawing {
         ensures bad { self.new.bad ≡ bad_next self.old.bad word.now }
         ensures left { self.new.left ≡ self.old.left }
     {
+        // Most words of a disc are idle, and draw nothing.
+        if is_idle(word) {
+            self.picture.stays_at_idle();
+            return;
+        }
         match correct(word) {
             Some(fixed) => self.picture.obey(&fixed.pack),
             None => self.bad = self.bad.saturating_add(1),

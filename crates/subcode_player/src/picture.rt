@@ -1,5 +1,5 @@
 // The screen that the packs of a stream draw on.
-ghost use Rattle.std.specs.Prelude.{◌≡◌, ◌<◌, OnOk, OnErr, IfOk};
+ghost use Rattle.std.specs.Prelude.{◌≡◌, ◌<◌, OnOk, OnErr, IfOk, replicate};
 ghost use Rattle.std.specs.Io.KnownBytes.{Appends};
 ghost use Rattle.cdg_io.specs.Causes.{HasCause};
 ghost use Rattle.cdg_io.specs.Moves.{AppendsPrefix};
@@ -52,6 +52,14 @@ impl Picture {
         ensures { self.new ≡ obeyed self.old (meaning pack.now) }
     {
         self.screen.obey(&read(pack));
+    }
+
+    /// A law: the idle pack leaves it as it is.
+    pub(crate) fn stays_at_idle(&self)
+        ensures { self.now ≡ obeyed self.now (meaning (replicate 24 0)) }
+    {
+        // A proof knows the view where a field is named.
+        let _screen = &self.screen;
     }
 
     /// Writes the picture as a pixmap. After `Failed` a prefix was written.

@@ -5,7 +5,7 @@ ghost use Rattle.subcode_player.specs.Steps.{fresh_words};
 
 use crate::{BlockWords, Correction, Counting, Drawing, Form, Picture, SectorBlocks};
 use cdg_io::{PumpStop, Pumped, Then};
-use cdtext_packs::LeadInTexts;
+use cdtext_packs::{LeadInTexts, TextFault};
 use std::alloc::{AllocError, Global};
 
 /// The most units that a call reads.
@@ -33,6 +33,8 @@ pub enum PlayStop {
     TooLong,
     /// The moment is later than the end of this many program blocks.
     PastEnd { blocks: u32 },
+    /// The text packs of the lead-in give no texts, or no memory is found for them.
+    Text(TextFault),
 }
 
 /// Plays streams, one at a time. All its memory is taken at the start; each call begins anew, whatever stopped the one before.

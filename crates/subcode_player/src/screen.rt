@@ -5,7 +5,7 @@ ghost use Rattle.raw_subcode.specs.Channels.{unit_size};
 ghost use Rattle.rw_interleave.specs.Interleave.{whole_packs};
 ghost use Rattle.cdg_screen.specs.Picture.{SameStanding, blank, standing_of};
 ghost use Rattle.picture_script.specs.Script.{Drawing};
-ghost use Rattle.subcode_player.specs.Calls.{EndFirst};
+ghost use Rattle.subcode_player.specs.Calls.{EndFirst, IsMomentStop};
 ghost use Rattle.subcode_player.specs.Steps.{fresh_words};
 ghost use Rattle.subcode_player.specs.Pictured.{GivesPicture, IsHeldAt, IsScheduledStream};
 ghost use Rattle.subcode_player.specs.Screen.{IsScreenAt, IsStateAt, IsShownBy, Shows};
@@ -44,6 +44,8 @@ impl Player {
         ensures pictures { IfSome (S.left source.old) (λ all. (script : List Drawing) (k : ℕ)
             → IsScheduledStream form lead_in script all → IsHeldAt script k at
             → GivesPicture script k result (K.held out.old) (K.held out.new)) }
+        // It never answers a fault of texts, whatever the input.
+        ensures stops { IfErr result IsMomentStop }
         // Where nothing failed, the answer is that of the whole input's length.
         ensures answer { IfSome (S.left source.old) (λ all. IsShownBy result lead_in at (unit_size form) (length all)) }
         // Where the output is not written it is as it was.
@@ -79,6 +81,8 @@ impl Player {
         requires at { at ≤ 449999 }
         ensures shows { (taken : List ℕ) × Shows (IsStateAt form lead_in at) form lead_in at
             (S.left source.old) (S.left source.new) (K.held out.old) (K.held out.new) result taken }
+        // It never answers a fault of texts, whatever the input.
+        ensures stops { IfErr result IsMomentStop }
         // Where nothing failed, the answer is that of the whole input's length.
         ensures answer { IfSome (S.left source.old) (λ all. IsShownBy result lead_in at (unit_size form) (length all)) }
         // Where the output is not written it is as it was.
@@ -101,7 +105,7 @@ impl Player {
     }
 
     /// Draws the packs of a whole stream that are whole at a moment.
-    #[tactic(auto, using(crate::proofs::Ends::ends_first))]
+    #[tactic(auto, using(crate::proofs::Ends::ends_first, crate::proofs::Ends::stops_moment, crate::proofs::Ends::viewed_stops))]
     fn view<S: Source>(
         &mut self,
         lead_in: u32,
@@ -113,6 +117,7 @@ impl Player {
         requires at { at ≤ 449999 }
         ensures views { (taken : List ℕ) × Views form lead_in at (S.left source.old) (S.left source.new)
             (standing_of self.new.views.second.second.picture) result taken }
+        ensures stops { IfErr result IsMomentStop }
         ensures answer { IfSome (S.left source.old) (λ all. IsShownBy result lead_in at (unit_size form) (length all)) }
         ensures source_later { S.faults source.old ≤ S.faults source.new }
         ensures read_fault { IsErrOf result PlayStop.ReadFault → Rose (S.faults source.old) (S.faults source.new) }

@@ -2,24 +2,16 @@
 ghost use Rattle.std.specs.Prelude.{◌≡◌, ◌≢◌, ◌≤◌, ◌-◌, List, ℕ, IfSome, IfErr, IsErrOf, Err};
 ghost use Rattle.cdg_io.specs.Causes.{Rose};
 ghost use Rattle.cdtext_packs.specs.TextSteps.{fresh_texts};
-ghost use Rattle.subcode_player.specs.TextListing.{EndOfTexts, ListsTexts, IsListStop, IsListedBy};
+ghost use Rattle.subcode_player.specs.Calls.{EndFirst, IsListStop};
+ghost use Rattle.subcode_player.specs.TextListing.{ListsTexts, IsListedBy};
 ghost use Rattle.subcode_player.specs.Watch.{WritesTexts};
 
 use crate::player::play_stop;
 use crate::watch::watch;
 use crate::{Form, PlayStop, Played, Player};
 use cdg_io::{Failed, Sink, Source};
-use cdtext_packs::{TextFault, lead_in_packs_are_read, write_lines};
+use cdtext_packs::{lead_in_packs_are_read, write_lines};
 use std::alloc::Global;
-
-/// Why a list of texts stopped before its end.
-#[derive(Clone, Copy, Debug, PartialEq, Eq)]
-pub enum TextStop {
-    /// The stream was not read or the text not written.
-    Play(PlayStop),
-    /// The text packs of the lead-in give no texts.
-    Text(TextFault),
-}
 
 impl Player {
     /// Writes the texts of a stream's lead-in, after all of it is read: a line for each string that is not empty, and
@@ -29,8 +21,8 @@ impl Player {
     ///
     /// # Errors
     ///
-    /// `Text` where the packs are no texts, or no memory is found for them, and `Play` as the input says: then nothing is
-    /// written, unless a write failed, after which the sink holds a prefix.
+    /// `Text` where the packs are no texts, or no memory is found for them, and `Torn`, `TooLong` and `ReadFault` as the
+    /// input says: then nothing is written. After `WriteFault` the sink holds a prefix.
     #[tactic(auto, using(crate::proofs::Ends::ends_first, crate::proofs::Ends::ends_texts, crate::proofs::Ends::stops_stream, crate::proofs::Ends::stops_list))]
     pub fn text_list<S: Source, K: Sink>(
         &mut self,
@@ -39,7 +31,7 @@ impl Player {
         form: Form,
         source: &mut S,
         out: &mut K,
-    ) -> Result<Played, TextStop>
+    ) -> Result<Played, PlayStop>
         requires lead_in { lead_in ≤ 450000 }
         requires form { form ≢ Form.Cooked }
         ensures lists { (taken : List ℕ) × ListsTexts form lead_in
@@ -49,20 +41,20 @@ impl Player {
         // Where nothing failed, the answer is that of the whole input.
         ensures answer { IfSome (S.left source.old) (λ all. IsListedBy result form lead_in all) }
         // Where the output is not written it is as it was.
-        ensures untouched { IfErr result (λ stop. stop ≢ TextStop.Play PlayStop.WriteFault → out.new ≡ out.old) }
+        ensures untouched { IfErr result (λ stop. stop ≢ PlayStop.WriteFault → out.new ≡ out.old) }
         ensures source_later { S.faults source.old ≤ S.faults source.new }
         ensures out_later { K.faults out.old ≤ K.faults out.new }
-        ensures read_fault { IsErrOf result (TextStop.Play PlayStop.ReadFault) → Rose (S.faults source.old) (S.faults source.new) }
-        ensures no_read_fault { result ≢ Err (TextStop.Play PlayStop.ReadFault) → S.faults source.new ≡ S.faults source.old }
-        ensures ended { EndOfTexts result (S.ends source.old) (S.ends source.new) }
-        ensures write_fault { IsErrOf result (TextStop.Play PlayStop.WriteFault) → Rose (K.faults out.old) (K.faults out.new) }
-        ensures no_write_fault { result ≢ Err (TextStop.Play PlayStop.WriteFault) → K.faults out.new ≡ K.faults out.old }
+        ensures read_fault { IsErrOf result PlayStop.ReadFault → Rose (S.faults source.old) (S.faults source.new) }
+        ensures no_read_fault { result ≢ Err PlayStop.ReadFault → S.faults source.new ≡ S.faults source.old }
+        ensures ended { EndFirst result (S.ends source.old) (S.ends source.new) }
+        ensures write_fault { IsErrOf result PlayStop.WriteFault → Rose (K.faults out.old) (K.faults out.new) }
+        ensures no_write_fault { result ≢ Err PlayStop.WriteFault → K.faults out.new ≡ K.faults out.old }
     {
         lead_in_packs_are_read();
         self.texts.second.begin(lead_in);
         match watch(form, source, &mut self.texts) {
             Ok(pumped) => self.write_texts(alloc, pumped.units.saturating_sub(lead_in), out),
-            Err(stop) => Err(TextStop::Play(play_stop(stop))),
+            Err(stop) => Err(play_stop(stop)),
         }
     }
 
@@ -72,20 +64,20 @@ impl Player {
         alloc: Global,
         blocks: u32,
         out: &mut K,
-    ) -> Result<Played, TextStop>
+    ) -> Result<Played, PlayStop>
         ensures writes { WritesTexts self.now.texts.second blocks (K.held out.old) (K.held out.new) result }
-        ensures untouched { IfErr result (λ stop. stop ≢ TextStop.Play PlayStop.WriteFault → out.new ≡ out.old) }
+        ensures untouched { IfErr result (λ stop. stop ≢ PlayStop.WriteFault → out.new ≡ out.old) }
         ensures later { K.faults out.old ≤ K.faults out.new }
-        ensures write_fault { IsErrOf result (TextStop.Play PlayStop.WriteFault) → Rose (K.faults out.old) (K.faults out.new) }
-        ensures no_write_fault { result ≢ Err (TextStop.Play PlayStop.WriteFault) → K.faults out.new ≡ K.faults out.old }
+        ensures write_fault { IsErrOf result PlayStop.WriteFault → Rose (K.faults out.old) (K.faults out.new) }
+        ensures no_write_fault { result ≢ Err PlayStop.WriteFault → K.faults out.new ≡ K.faults out.old }
     {
         let texts = &self.texts.second;
         match texts.reader.finish(alloc) {
             Ok(map) => match write_lines(&map, texts.good, texts.bad, texts.other, out) {
                 Ok(()) => Ok(Played { blocks, bad: 0 }),
-                Err(Failed) => Err(TextStop::Play(PlayStop::WriteFault)),
+                Err(Failed) => Err(PlayStop::WriteFault),
             },
-            Err(fault) => Err(TextStop::Text(fault)),
+            Err(fault) => Err(PlayStop::Text(fault)),
         }
     }
 }

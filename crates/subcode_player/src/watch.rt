@@ -1,15 +1,42 @@
-// A stage at work on the blocks of a whole input, of which nothing is written.
+// A stage at work on the blocks of a whole input.
 ghost use Rattle.std.specs.Prelude.{◌≡◌, ◌≢◌, ◌≤◌, List, ℕ, length, IfSome, IsErrOf, Err};
 ghost use Rattle.cdg_io.specs.Causes.{Rose};
-ghost use Rattle.cdg_io.specs.Pump.{IsUnlessFault, TellsEndOf, answer_of};
+ghost use Rattle.cdg_io.specs.Pump.{IsUnlessFault, Pumps, TellsEndOf, answer_of};
 ghost use Rattle.raw_subcode.specs.Channels.{unit_size};
 ghost use Rattle.subcode_player.specs.Calls.{most_units};
-ghost use Rattle.subcode_player.specs.Watch.{Watches};
+ghost use Rattle.subcode_player.specs.Watch.{Watches, on_units};
 
 use crate::block_words::BLOCK;
 use crate::player::MOST_UNITS;
 use crate::{Form, SectorBlocks};
-use cdg_io::{Piece, PumpStop, Pumped, Source, Stage, SteadySink, Then, pump};
+use cdg_io::{Piece, PumpStop, Pumped, Sink, Source, Stage, SteadySink, Then, pump};
+
+/// Feeds the blocks of an input to a stage, and writes what it gives for each.
+pub(crate) fn pump_blocks<S: Source, G: Stage<Item = [u8; BLOCK], Out = Piece>, K: Sink>(
+    form: Form,
+    source: &mut S,
+    stages: &mut Then<SectorBlocks, G>,
+    out: &mut K,
+) -> Result<Pumped, PumpStop>
+    ensures pumps { (taken : List ℕ) × Pumps (unit_size form) most_units (on_units form G.next) (on_units form G.gives)
+        (S.left source.old) (S.left source.new) stages.old.second stages.new.second
+        (K.held out.old) (K.held out.new) result taken }
+    // Where nothing failed, the answer is that of the whole input's length.
+    ensures answer { IfSome (S.left source.old) (λ all.
+        IsUnlessFault result (answer_of (unit_size form) most_units (length all))) }
+    ensures source_later { S.faults source.old ≤ S.faults source.new }
+    ensures out_later { K.faults out.old ≤ K.faults out.new }
+    ensures read_fault { IsErrOf result PumpStop.ReadFault → Rose (S.faults source.old) (S.faults source.new) }
+    ensures no_read_fault { result ≢ Err PumpStop.ReadFault → S.faults source.new ≡ S.faults source.old }
+    ensures ended { TellsEndOf result (S.ends source.old) (S.ends source.new) }
+    ensures write_fault { IsErrOf result PumpStop.WriteFault → Rose (K.faults out.old) (K.faults out.new) }
+    ensures no_write_fault { result ≢ Err PumpStop.WriteFault → K.faults out.new ≡ K.faults out.old }
+{
+    match form {
+        Form::Sector => pump(source, MOST_UNITS, stages, out),
+        Form::Raw | Form::Cooked => pump(source, MOST_UNITS, &mut stages.second, out),
+    }
+}
 
 /// Feeds the blocks of an input to a stage, which keeps what it learns of them.
 pub(crate) fn watch<S: Source, G: Stage<Item = [u8; BLOCK], Out = Piece>>(
@@ -20,47 +47,12 @@ pub(crate) fn watch<S: Source, G: Stage<Item = [u8; BLOCK], Out = Piece>>(
     ensures watches { (taken : List ℕ) × Watches form G.next (S.left source.old) (S.left source.new)
         stages.old.second stages.new.second result taken }
     // Where nothing failed, the answer is that of the whole input's length.
-    ensures answer { IfSome (S.left source.old) (λ all. IsUnlessFault result (answer_of (unit_size form) most_units (length all))) }
+    ensures answer { IfSome (S.left source.old) (λ all.
+        IsUnlessFault result (answer_of (unit_size form) most_units (length all))) }
     ensures source_later { S.faults source.old ≤ S.faults source.new }
     ensures read_fault { IsErrOf result PumpStop.ReadFault → Rose (S.faults source.old) (S.faults source.new) }
     ensures no_read_fault { result ≢ Err PumpStop.ReadFault → S.faults source.new ≡ S.faults source.old }
     ensures ended { TellsEndOf result (S.ends source.old) (S.ends source.new) }
 {
-    match form {
-        Form::Sector => watch_sectors(source, stages),
-        Form::Raw | Form::Cooked => watch_blocks(form, source, &mut stages.second),
-    }
-}
-
-/// The same for bytes that are blocks.
-fn watch_blocks<S: Source, G: Stage<Item = [u8; BLOCK], Out = Piece>>(
-    form: Form,
-    source: &mut S,
-    stage: &mut G,
-) -> Result<Pumped, PumpStop>
-    requires { unit_size form ≡ 96 }
-    ensures watches { (taken : List ℕ) × Watches form G.next (S.left source.old) (S.left source.new) stage.old stage.new result taken }
-    ensures answer { IfSome (S.left source.old) (λ all. IsUnlessFault result (answer_of (unit_size form) most_units (length all))) }
-    ensures source_later { S.faults source.old ≤ S.faults source.new }
-    ensures read_fault { IsErrOf result PumpStop.ReadFault → Rose (S.faults source.old) (S.faults source.new) }
-    ensures no_read_fault { result ≢ Err PumpStop.ReadFault → S.faults source.new ≡ S.faults source.old }
-    ensures ended { TellsEndOf result (S.ends source.old) (S.ends source.new) }
-{
-    pump(source, MOST_UNITS, stage, &mut SteadySink::new())
-}
-
-/// The same for bytes that are sectors.
-fn watch_sectors<S: Source, G: Stage<Item = [u8; BLOCK], Out = Piece>>(
-    source: &mut S,
-    stages: &mut Then<SectorBlocks, G>,
-) -> Result<Pumped, PumpStop>
-    ensures watches { (taken : List ℕ) × Watches Form.Sector G.next (S.left source.old) (S.left source.new)
-        stages.old.second stages.new.second result taken }
-    ensures answer { IfSome (S.left source.old) (λ all. IsUnlessFault result (answer_of 2448 most_units (length all))) }
-    ensures source_later { S.faults source.old ≤ S.faults source.new }
-    ensures read_fault { IsErrOf result PumpStop.ReadFault → Rose (S.faults source.old) (S.faults source.new) }
-    ensures no_read_fault { result ≢ Err PumpStop.ReadFault → S.faults source.new ≡ S.faults source.old }
-    ensures ended { TellsEndOf result (S.ends source.old) (S.ends source.new) }
-{
-    pump(source, MOST_UNITS, stages, &mut SteadySink::new())
+    pump_blocks(form, source, stages, &mut SteadySink::new())
 }

@@ -4,6 +4,12 @@ use Rattle.std.specs.List.{slice_split, before_first, list_all, starts_with}
 use Rattle.std.specs.Str.Lines.{lines}
 use Rattle.std.specs.Str.Parse.{digits_value}
 use Rattle.std.specs.Char.{is_ascii_digit}
+use Rattle.disc_time.specs.Counts.{blocks_a_minute, blocks_a_second}
+
+-- the most bytes of a text, 2^26: a sheet and a script of a thousand pictures of the whole window are shorter, and an
+-- input that does not end is refused before it takes all memory
+abbrev pub most_text_bytes : ℕ
+most_text_bytes = 67108864
 
 -- a list that is not empty
 abbrev pub is_some_bytes : List ℕ → Bool
@@ -13,7 +19,8 @@ is_some_bytes s = not (length s == 0)
 unfoldable pub without_mark : List ℕ → List ℕ
 without_mark text = if starts_with nat_eq text (0xef ∷ 0xbb ∷ 0xbf ∷ []) then drop 3 text else text
 
--- the lines: each ends with a line feed, before which one carriage return is left out; what follows the last line feed is a line if it is not empty
+-- the lines: each ends with a line feed, before which one carriage return is left out; what follows the last line
+-- feed is a line if it is not empty
 unfoldable pub lines_in : List ℕ → List (List ℕ)
 lines_in text = lines text
 
@@ -49,7 +56,8 @@ argument_of line = without_blanks (drop (length (first_word line)) line)
 -- the number that a word of at least and at most so many decimal digits writes
 unfoldable pub number_in : ℕ → ℕ → List ℕ → Option ℕ
 number_in least most word =
-    if nat_le least (length word) && nat_le (length word) most && list_all is_ascii_digit word then Some (digits_value 10 word) else None
+    if nat_le least (length word) && nat_le (length word) most
+    && list_all is_ascii_digit word then Some (digits_value 10 word) else None
 
 -- two digits
 abbrev pub two_digit_number : List ℕ → Option ℕ
@@ -57,11 +65,13 @@ two_digit_number word = number_in 2 2 word
 
 -- the block of a time, of its minute, second and frame
 abbrev pub time_of : Option ℕ → Option ℕ → Option ℕ → Option ℕ
-time_of (Some min) (Some sec) (Some frame) = if nat_le sec 59 && nat_le frame 74 then Some (4500 * min + 75 * sec + frame) else None
+time_of (Some min) (Some sec) (Some frame) = if nat_le sec 59
+    && nat_le frame 74 then Some (blocks_a_minute * min + blocks_a_second * sec + frame) else None
 time_of _ _ _ = None
 
 -- the block of a time that is written `MM:SS:FF`, each part two digits and in its range
 unfoldable pub parsed_time : List ℕ → Option ℕ
 parsed_time word =
     if length word == 8 && slice_index word 2 == 58 && slice_index word 5 == 58
-    then time_of (two_digit_number (take 2 word)) (two_digit_number (take 2 (drop 3 word))) (two_digit_number (drop 6 word)) else None
+    then time_of (two_digit_number (take 2 word)) (two_digit_number (take 2 (drop 3 word)))
+    (two_digit_number (drop 6 word)) else None

@@ -20,8 +20,10 @@ pub fn without_mark(text: &[u8]) -> &[u8]
 /// The first line of a text and the text after it, or nothing where the text is empty. A line ends with a line feed
 /// or with the text; a carriage return before the line feed is no part of it.
 pub fn next_line(text: &[u8]) -> Option<(&[u8], &[u8])>
-    ensures lines { MatchOption result (lines_in text.now ≡ []) (λ found. lines_in text.now ≡ found.0.now ∷ lines_in found.1.now) }
-    ensures shorter { MatchOption result (text.now ≡ []) (λ found. length found.0.now + length found.1.now ≤ length text.now) }
+    ensures lines { MatchOption result (lines_in text.now ≡ [])
+        (λ found. lines_in text.now ≡ found.0.now ∷ lines_in found.1.now) }
+    ensures shorter { MatchOption result (text.now ≡ [])
+        (λ found. length found.0.now + length found.1.now ≤ length text.now) }
     ensures ends { MatchOption result (text.now ≡ []) (λ found. length found.1.now < length text.now) }
 {
     if text.is_empty() {
@@ -34,7 +36,7 @@ pub fn next_line(text: &[u8]) -> Option<(&[u8], &[u8])>
     Some((without_return(&text[..end]), &text[end + 1..]))
 }
 
-// Where the first line feed stands, or the length.
+/// Where the first line feed stands, or the length.
 fn line_end(text: &[u8]) -> usize
     ensures place { result ≡ position_or_len (λ b. b == 10) text.now }
     ensures bound { result ≤ length text.now }

@@ -1,5 +1,6 @@
 // Words that are numbers or times.
 ghost use Rattle.std.specs.Prelude.{◌≡◌, ◌<◌, ◌≤◌, ◌^◌, ℕ, length, IfSome, Some};
+ghost use Rattle.disc_time.specs.Counts.{time_count};
 ghost use Rattle.disc_time.specs.Time.{time_text};
 ghost use Rattle.text_lines.specs.Text.{number_in, two_digit_number, parsed_time};
 
@@ -39,8 +40,8 @@ pub fn two_digits(word: &[u8]) -> Option<u8>
 pub fn time(word: &[u8]) -> Option<u32>
     ensures value { result ≡ parsed_time word.now }
     ensures written { IfSome result (λ block. word.now ≡ time_text block) }
-    ensures all { (block : ℕ) → block < 450000 → word.now ≡ time_text block → result ≡ Some block }
-    ensures bound { IfSome result (λ block. block < 450000) }
+    ensures all { (block : ℕ) → block < time_count → word.now ≡ time_text block → result ≡ Some block }
+    ensures bound { IfSome result (λ block. block < time_count) }
 {
     parse_time(word)
 }

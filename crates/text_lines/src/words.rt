@@ -40,8 +40,10 @@ pub fn split_command(line: &[u8]) -> (&[u8], &[u8])
 
 /// The first word of a line and what follows it, or nothing where there is no word.
 pub fn next_word(line: &[u8]) -> Option<(&[u8], &[u8])>
-    ensures words { MatchOption result (words_in line.now ≡ []) (λ found. words_in line.now ≡ found.0.now ∷ words_in found.1.now) }
-    ensures shorter { MatchOption result (words_in line.now ≡ []) (λ found. (0 < length found.0.now) × (length found.0.now + length found.1.now ≤ length line.now)) }
+    ensures words { MatchOption result (words_in line.now ≡ [])
+        (λ found. words_in line.now ≡ found.0.now ∷ words_in found.1.now) }
+    ensures shorter { MatchOption result (words_in line.now ≡ [])
+        (λ found. (0 < length found.0.now) × (length found.0.now + length found.1.now ≤ length line.now)) }
 {
     let line = trim_start(line);
     if line.is_empty() {
@@ -50,7 +52,7 @@ pub fn next_word(line: &[u8]) -> Option<(&[u8], &[u8])>
     Some(split_word(line))
 }
 
-// What stands before the first blank, and the rest from that blank on.
+/// What stands before the first blank, and the rest from that blank on.
 fn split_word(line: &[u8]) -> (&[u8], &[u8])
     ensures word { result.0.now ≡ first_word line.now }
     ensures rest { result.1.now ≡ drop (length result.0.now) line.now }
@@ -59,7 +61,7 @@ fn split_word(line: &[u8]) -> (&[u8], &[u8])
     line.split_at(word_end(line))
 }
 
-// Where the first blank stands, or the length.
+/// Where the first blank stands, or the length.
 fn word_end(line: &[u8]) -> usize
     ensures place { result ≡ position_or_len is_blank line.now }
     ensures bound { result ≤ length line.now }
@@ -69,7 +71,7 @@ fn word_end(line: &[u8]) -> usize
         .unwrap_or(line.len())
 }
 
-// Where the first byte stands that is no blank, or the length.
+/// Where the first byte stands that is no blank, or the length.
 fn text_start(line: &[u8]) -> usize
     ensures place { result ≡ position_or_len (λ b. not (is_blank b)) line.now }
     ensures bound { result ≤ length line.now }
@@ -79,7 +81,7 @@ fn text_start(line: &[u8]) -> usize
         .unwrap_or(line.len())
 }
 
-// One more than the place of the last byte that is no blank, or 0.
+/// One more than the place of the last byte that is no blank, or 0.
 fn text_end(line: &[u8]) -> usize
     ensures bound { result ≤ length line.now }
     ensures text { take result line.now ≡ reverse (without_blanks (reverse line.now)) }

@@ -1,10 +1,10 @@
 // A basis of the differences between pixels.
-ghost use Rattle.std.specs.Prelude.{◌≡◌, ◌==◌, ℕ, ◌+◌, ◌<◌, ◌≤◌, ◌++◌, map, max, true, [], ◌∷◌, List, length, slice_index, if◌then◌else◌, IsTrue, ◌↔◌, false, bit_xor};
+ghost use Rattle.std.specs.Prelude.{◌≡◌, ◌==◌, ℕ, ◌+◌, ◌-◌, ◌*◌, ◌<◌, ◌≤◌, ◌++◌, map, max, true, [], ◌∷◌, List, length, slice_index, if◌then◌else◌, IsTrue, ◌↔◌, false, bit_xor};
 ghost use Rattle.cdg_instructions.specs.Instruction.{IsTilePixels};
 ghost use Rattle.bit_lists.specs.Bits.{has_bit};
 ghost use Rattle.bit_lists.specs.Counting.{below};
 ghost use Rattle.tile_author.specs.Plan.{is_combination, selection, basis, tile_lines, planned, weight};
-ghost use Rattle.tile_author.specs.Table.{entry, IsBasis};
+ghost use Rattle.tile_author.specs.Table.{entry, IsBasis, basis_of_lines};
 
 use arrayvec::ArrayVec;
 use cdg_instructions::{Instr, PIXELS};
@@ -46,23 +46,43 @@ impl Basis {
         }
     }
 
-    /// The basis of the differences of these pixels from the first one.
+    /// The basis of the differences of these pixels from the first one. A line that is as the one before adds nothing.
     pub(crate) fn of(pixels: &[u8; PIXELS]) -> Basis
         requires { IsTilePixels pixels.now }
         ensures { result ≡ basis pixels.now }
     {
-        let first = pixels[0];
         let mut basis = Basis::new();
-        for pixel in pixels {
-            if *pixel == first {
-                continue;
-            }
-            if basis.members.is_full() {
-                return basis;
-            }
-            basis.offer(first ^ *pixel);
+        basis.offer_line(pixels, 0);
+        for line in 1..12 {
+            basis.offer_later_line(pixels, line);
         }
         basis
+    }
+
+    // Takes the differences of a line's pixels as members where they are no combinations.
+    fn offer_line(&mut self, pixels: &[u8; PIXELS], line: usize)
+        requires tile { IsTilePixels pixels.now }
+        requires line { line < 12 }
+        requires before { self.old ≡ basis_of_lines line pixels.now }
+        ensures { self.new ≡ basis_of_lines (line + 1) pixels.now }
+    {
+        for i in 0..6 {
+            self.offer(pixels[0] ^ pixels[6 * line + i]);
+        }
+    }
+
+    // The same for a line after the first: one that is as the line before it adds nothing.
+    fn offer_later_line(&mut self, pixels: &[u8; PIXELS], line: usize)
+        requires tile { IsTilePixels pixels.now }
+        requires first { 0 < line }
+        requires line { line < 12 }
+        requires before { self.old ≡ basis_of_lines line pixels.now }
+        ensures { self.new ≡ basis_of_lines (line + 1) pixels.now }
+    {
+        if is_line_before(pixels, line) {
+            return;
+        }
+        self.offer_line(pixels, line);
     }
 
     /// The least number of instructions that draw pixels with this basis where everywhere the same stands.
@@ -167,6 +187,22 @@ impl Basis {
         bits
     }
 
+    // The six bits of a line, where those of the line before it are known.
+    fn line_after(&self, pixels: &[u8; PIXELS], line: usize, j: usize, before: u8) -> u8
+        requires tile { IsTilePixels pixels.now }
+        requires members { self.now ≡ basis pixels.now }
+        requires first { 0 < line }
+        requires line { line < 12 }
+        requires member { j < 4 }
+        requires before { before ≡ slice_index (tile_lines pixels.now j) (line - 1) }
+        ensures { result ≡ slice_index (tile_lines pixels.now j) line }
+    {
+        if is_line_before(pixels, line) {
+            return before;
+        }
+        self.line(pixels, line, j)
+    }
+
     // The twelve lines of the instruction for member j.
     fn lines(&self, pixels: &[u8; PIXELS], j: usize) -> [u8; 12]
         requires tile { IsTilePixels pixels.now }
@@ -175,8 +211,9 @@ impl Basis {
         ensures { result ≡ tile_lines pixels.now j }
     {
         let mut lines = [0; 12];
-        for i in 0..12 {
-            lines[i] = self.line(pixels, i, j);
+        lines[0] = self.line(pixels, 0, j);
+        for i in 1..12 {
+            lines[i] = self.line_after(pixels, i, j, lines[i - 1]);
         }
         lines
     }
@@ -242,4 +279,15 @@ fn ground(pixels: &[u8; PIXELS], j: usize) -> u8
     ensures { result ≡ (if j == 0 then slice_index pixels.now 0 else 0) }
 {
     if j == 0 { pixels[0] } else { 0 }
+}
+
+// Whether the pixels of a line are those of the line before it.
+#[inline]
+fn is_line_before(pixels: &[u8; PIXELS], line: usize) -> bool
+    requires first { 0 < line }
+    requires last { line < 12 }
+    ensures { IsTrue result → (i : ℕ) → i < 6 → slice_index pixels.now (6 * line + i) ≡ slice_index pixels.now (6 * (line - 1) + i) }
+{
+    let start = 6 * line;
+    pixels[start - 6..start] == pixels[start..start + 6]
 }

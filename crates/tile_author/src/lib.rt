@@ -20,7 +20,18 @@ pub fn steps(old: &Tile, new: &Tile) -> u8
     ensures least { (row column : ℕ) → row < 32 → column < 64 → IsLeast row column old.now new.now result }
     ensures most { result ≤ 4 }
 {
-    count(old.pixels(), new.pixels())
+    steps_of_weight(old, new, weight(new))
+}
+
+/// The length of a shortest list of tile instructions of one place that turns the old tile into the new one, whose weight is
+/// known.
+pub fn steps_of_weight(old: &Tile, new: &Tile, drawn: u8) -> u8
+    requires { drawn ≡ weight new.now }
+    ensures value { result ≡ steps old.now new.now }
+    ensures least { (row column : ℕ) → row < 32 → column < 64 → IsLeast row column old.now new.now result }
+    ensures most { result ≤ 4 }
+{
+    count(old.pixels(), new.pixels(), drawn)
 }
 
 /// A shortest list of tile instructions of this place that turns the old tile into the new one.
@@ -44,10 +55,11 @@ pub fn weight(new: &Tile) -> u8
     Basis::of(new.pixels()).weight() as u8
 }
 
-// The length of the plan for these pixels.
-fn count(old: &[u8; PIXELS], new: &[u8; PIXELS]) -> u8
+// The length of the plan for these pixels, of which the new ones have this weight.
+fn count(old: &[u8; PIXELS], new: &[u8; PIXELS], drawn: u8) -> u8
     requires old { IsTilePixels old.now }
     requires new { IsTilePixels new.now }
+    requires drawn { drawn ≡ weight new.now }
     ensures value { result ≡ steps old.now new.now }
     ensures most { result ≤ 4 }
 {
@@ -55,12 +67,11 @@ fn count(old: &[u8; PIXELS], new: &[u8; PIXELS]) -> u8
     if is_blank(&changes) {
         return 0;
     }
-    let drawn = Basis::of(new).weight();
     if drawn == 1 {
         return 1;
     }
-    let combined = Basis::of(&changes).weight();
-    drawn.min(combined) as u8
+    let combined = Basis::of(&changes).weight() as u8;
+    drawn.min(combined)
 }
 
 // The plan for these pixels.

@@ -3,6 +3,7 @@ use Rattle.std.specs.Prelude.{◌≡◌, ◌≤◌, ◌<◌, IsTrue, reverse, �
 use Rattle.std.specs.List.{list_any}
 use Rattle.std.specs.List.Sorted.{IsNonDecreasingBy}
 use Rattle.std.specs.Option.{ForSome}
+use Rattle.disc_time.specs.Counts.{most_program, most_tracks, time_count}
 use Rattle.disc_time.specs.Time.{frame_of}
 use Rattle.cue_sheet.specs.CueSheet.{AreIndices, is_catalogue_number, is_capital_code}
 use Rattle.toc_model.specs.Places.{TrackPlace, DiscLayout, no_place}
@@ -73,11 +74,11 @@ toc_entries layout =
 abbrev pub toc_frame : DiscLayout → ℕ → ℕ → QFrame
 toc_frame layout lead_in l =
     let entry = slice_index_or (toc_entries layout) (l / 3 % (length layout.tracks + 3)) (0, First 0 0) in
-    Toc entry.0 entry.1 (450000 - lead_in + l)
+    Toc entry.0 entry.1 (time_count - lead_in + l)
 
 -- a place: its numbers in range, its pause before its music, at least two seconds into the disc
 pub record IsPlace (place : TrackPlace) : Type 0 where
-  pub number : (1 ≤ place.number) × (place.number ≤ 99)
+  pub number : (1 ≤ place.number) × (place.number ≤ most_tracks)
   pub control : place.control < 16
   pub isrc : ForSome place.isrc (λ code. IsTrue (is_capital_code code))
   pub lines : AreIndices place.lines
@@ -87,8 +88,8 @@ pub record IsPlace (place : TrackPlace) : Type 0 where
 -- a layout: 1 to 99 tracks in order, the first from block 0, each with its music inside the disc
 pub record IsLayout (layout : DiscLayout) : Type 0 where
   pub catalogue : ForSome layout.catalogue (λ number. IsTrue (is_catalogue_number number))
-  pub count : (1 ≤ length layout.tracks) × (length layout.tracks ≤ 99)
-  pub blocks : layout.blocks ≤ 449999
+  pub count : (1 ≤ length layout.tracks) × (length layout.tracks ≤ most_tracks)
+  pub blocks : layout.blocks ≤ most_program
   pub first : (place_at layout 0).begin ≡ 0
   pub begins : IsNonDecreasingBy (λ (place : TrackPlace). place.begin) layout.tracks
   pub music : IsNonDecreasingBy music_begin layout.tracks

@@ -1,5 +1,6 @@
 // The layout of a disc.
 ghost use Rattle.std.specs.Prelude.{◌≡◌, ◌<◌, ◌≤◌, ◌+◌, ◌*◌, ℕ, length, slice_index_or};
+ghost use Rattle.disc_time.specs.Counts.{most_lead_in, most_program};
 ghost use Rattle.q_channel.specs.QFrame.{IsValid, IsValidPoint};
 ghost use Rattle.toc_model.specs.Places.{DiscLayout, layout_of, audio_need, program_blocks};
 ghost use Rattle.toc_model.specs.Layout.{IsLayout, p_bit, program_frame, toc_entries, toc_frame, track_at};
@@ -8,7 +9,7 @@ ghost use Rattle.q_channel.specs.declared.frame.TocPoint.TheVariants.{First};
 use crate::place::Place;
 use crate::places::{catalogue, gaps, need, places};
 use cue_sheet::Sheet;
-use disc_time::Msf;
+use disc_time::{MOST_PROGRAM, Msf, TIME_COUNT};
 use q_channel::{QFrame, TocPoint};
 use std::alloc::{AllocError, Global};
 use std::marker::Model;
@@ -60,7 +61,7 @@ impl Layout {
     /// `LengthShort` where an index time is not inside the audio; then `DiscTooLong` where the program has more than
     /// 449,999 blocks; then `NoMemory`.
     pub fn from_cue(alloc: Global, sheet: &Sheet, length: u32) -> Result<Layout, LayoutStop>
-        requires { length ≤ 449999 }
+        requires { length ≤ most_program }
         ensures { IsLayoutAnswer sheet.now length result }
     {
         let need = need(sheet);
@@ -68,7 +69,7 @@ impl Layout {
             return Err(LayoutStop::LengthShort { need });
         }
         let blocks = 150 + length + gaps(sheet);
-        if blocks > 449_999 {
+        if blocks > MOST_PROGRAM {
             return Err(LayoutStop::DiscTooLong { blocks });
         }
         Ok(Layout {
@@ -81,7 +82,7 @@ impl Layout {
     /// The number of program blocks, which is where the lead-out begins.
     pub fn blocks(&self) -> u32
         ensures blocks { result ≡ self.now.blocks }
-        ensures bound { result ≤ 449999 }
+        ensures bound { result ≤ most_program }
     {
         self.blocks
     }
@@ -100,7 +101,7 @@ impl Layout {
         }
     }
 
-    // The track of a block.
+    /// The track of a block.
     fn track_at(&self, block: u32) -> &Place
         ensures { result.now ≡ track_at self.now block }
     {
@@ -132,7 +133,7 @@ impl Layout {
     /// The frame of lead-in block `l` of `n`. The lead-in ends at 00:00:00.
     pub fn toc_frame(&self, l: u32, n: u32) -> QFrame
         requires block { l < n }
-        requires lead_in { n ≤ 450000 }
+        requires lead_in { n ≤ most_lead_in }
         ensures frame { result ≡ toc_frame self.now n l }
         ensures valid { IsValid result }
     {
@@ -140,11 +141,11 @@ impl Layout {
         QFrame::Toc {
             control,
             point,
-            time: Msf::of_block(450_000 - n + l),
+            time: Msf::of_block(TIME_COUNT - n + l),
         }
     }
 
-    // An entry of the table of contents with its control bits: the tracks, the first, the last, the lead-out.
+    /// An entry of the table of contents with its control bits: the tracks, the first, the last, the lead-out.
     fn entry(&self, k: usize) -> (u8, TocPoint)
         requires { k < length self.now.tracks + 3 }
         ensures entry { result ≡ slice_index_or (toc_entries self.now) k (0, First 0 0) }

@@ -1,5 +1,6 @@
 // A track on the disc.
 ghost use Rattle.std.specs.Prelude.{◌≡◌, ◌<◌, ◌≤◌, IsTrue};
+ghost use Rattle.disc_time.specs.Counts.{most_tracks, time_count};
 ghost use Rattle.toc_model.specs.Places.{TrackPlace};
 ghost use Rattle.toc_model.specs.Layout.{IsPlace, music_begin, index_at, is_paused_for, time_frame, catalogue_frame, isrc_frame};
 ghost use Rattle.std.specs.Option.{ForSome};
@@ -33,7 +34,7 @@ impl Place {
     /// The track's number.
     pub(crate) fn number(&self) -> u8
         ensures number { result ≡ self.now.number }
-        ensures bound { (1 ≤ result) × (result ≤ 99) }
+        ensures bound { (1 ≤ result) × (result ≤ most_tracks) }
     {
         self.number
     }
@@ -57,7 +58,7 @@ impl Place {
     pub(crate) fn music_begin(&self) -> u32
         ensures block { result ≡ music_begin self.now }
         ensures place { IsPlace self.now }
-        ensures bound { result < 450000 }
+        ensures bound { result < time_count }
     {
         let one = usize::from(1 - self.lines[0].0);
         self.lines[one].1
@@ -86,7 +87,7 @@ impl Place {
 
     /// The frame that says the time of a block of the track.
     pub(crate) fn time_frame(&self, block: u32) -> QFrame
-        requires { block < 450000 }
+        requires { block < time_count }
         ensures frame { result ≡ time_frame self.now block }
         ensures valid { IsValid result }
     {
@@ -107,7 +108,7 @@ impl Place {
 
     /// The frame of a block of the track that may carry the disc's catalogue number.
     pub(crate) fn catalogue_frame(&self, block: u32, number: &Option<[u8; 13]>) -> QFrame
-        requires block { block < 450000 }
+        requires block { block < time_count }
         requires number { ForSome number.now (λ digits. IsTrue (is_catalogue_number digits)) }
         ensures frame { result ≡ catalogue_frame self.now block number.now }
         ensures valid { IsValid result }
@@ -124,7 +125,7 @@ impl Place {
 
     /// The frame of a block of the track that may carry the track's code.
     pub(crate) fn isrc_frame(&self, block: u32) -> QFrame
-        requires { block < 450000 }
+        requires { block < time_count }
         ensures frame { result ≡ isrc_frame self.now block self.now.isrc }
         ensures valid { IsValid result }
     {

@@ -1,6 +1,7 @@
 // The places of a sheet's tracks.
 ghost use Rattle.std.specs.Prelude.{◌≡◌, ◌<◌, ◌≤◌, ◌+◌, ℕ, length, map, IfOk};
 ghost use Rattle.bit_lists.specs.Counting.{below};
+ghost use Rattle.disc_time.specs.Counts.{most_program, time_count};
 ghost use Rattle.cue_sheet.specs.CueSheet.{IsSheet, track_of};
 ghost use Rattle.toc_model.specs.Places.{audio_need, pregaps_to, postgaps_to, place_of, program_blocks, track_begin};
 
@@ -11,7 +12,7 @@ use std::alloc::{AllocError, Global};
 /// The length of the audio that the index lines need, in blocks.
 pub(crate) fn need(sheet: &Sheet) -> u32
     ensures need { result ≡ audio_need sheet.now }
-    ensures bound { result ≤ 450000 }
+    ensures bound { result ≤ time_count }
     ensures sheet { IsSheet sheet.now }
 {
     let last = sheet.tracks() - 1;
@@ -51,7 +52,7 @@ fn isrc(sheet: &Sheet, k: usize) -> Option<[u8; 12]>
     Some(characters)
 }
 
-// The index lines of a track by number and block, where so many blocks lie before file time 0.
+/// The index lines of a track by number and block, where so many blocks lie before file time 0.
 fn lines(alloc: Global, sheet: &Sheet, k: usize, before: u32) -> Result<Vec<(u8, u32)>, AllocError>
     requires track { k < length sheet.now.tracks }
     requires fits { before ≤ 4000000000 }
@@ -66,11 +67,11 @@ fn lines(alloc: Global, sheet: &Sheet, k: usize, before: u32) -> Result<Vec<(u8,
     Ok(lines)
 }
 
-// The block at which track k begins, before which there are so many blocks of gaps.
+/// The block at which track k begins, before which there are so many blocks of gaps.
 fn begin(sheet: &Sheet, k: usize, gaps: u32) -> u32
     requires track { k < length sheet.now.tracks }
     requires gaps { gaps ≡ pregaps_to sheet.now k + postgaps_to sheet.now k }
-    requires small { gaps ≤ 449999 }
+    requires small { gaps ≤ most_program }
     ensures { result ≡ track_begin sheet.now k }
 {
     if k == 0 {
@@ -81,12 +82,12 @@ fn begin(sheet: &Sheet, k: usize, gaps: u32) -> u32
     150 + gaps + sheet.index(k, 0).1
 }
 
-// The place of track k, before which there are so many blocks of gaps.
+/// The place of track k, before which there are so many blocks of gaps.
 fn place(alloc: Global, sheet: &Sheet, k: usize, gaps: u32) -> Result<Place, AllocError>
     requires track { k < length sheet.now.tracks }
     requires gaps { gaps ≡ pregaps_to sheet.now k + postgaps_to sheet.now k }
-    requires fits { program_blocks sheet.now (audio_need sheet.now) ≤ 449999 }
-    requires small { gaps ≤ 449999 }
+    requires fits { program_blocks sheet.now (audio_need sheet.now) ≤ most_program }
+    requires small { gaps ≤ most_program }
     ensures { IfOk result (λ p. p ≡ place_of sheet.now k) }
 {
     // What holds of every sheet: its tracks are in order, and their numbers at most 99.
@@ -102,7 +103,7 @@ fn place(alloc: Global, sheet: &Sheet, k: usize, gaps: u32) -> Result<Place, All
 
 /// The places of all tracks in order.
 pub(crate) fn places(alloc: Global, sheet: &Sheet) -> Result<Vec<Place>, AllocError>
-    requires fits { program_blocks sheet.now (audio_need sheet.now) ≤ 449999 }
+    requires fits { program_blocks sheet.now (audio_need sheet.now) ≤ most_program }
     ensures { IfOk result (λ v. v.items ≡ map (place_of sheet.now) (below (length sheet.now.tracks))) }
 {
     let count = sheet.tracks();

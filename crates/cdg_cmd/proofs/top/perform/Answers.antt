@@ -48,7 +48,7 @@ returns-in-Check-clause-ends g c =
 pub returns-in-Q-clause-does : goal.returns-in-Q-clause-does
 returns-in-Q-clause-does g c = λ found.
     subst (λ (k : Command). Does k (call g.S.Source.left g.T.Source.left g.K.Sink.held (c.args.first.now, c.args.second.now, c.args.out.now) (c.run_q.new.source, c.args.second.now, c.run_q.new.out)) c.run_q.result)
-    (sym c.in-Q.is) (c.run_q.ensures.does found)
+    (sym c.in-Q.is) c.run_q.ensures.does
 
 pub returns-in-Q-clause-ends : goal.returns-in-Q-clause-ends
 returns-in-Q-clause-ends g c =

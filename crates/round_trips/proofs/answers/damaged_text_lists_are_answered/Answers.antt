@@ -1,4 +1,4 @@
-use Rattle.cdtext_packs.specs.SheetTexts.{texts_of_sheet}
+use Rattle.stream_writer.specs.SheetTexts.{texts_of_sheet}
 use Rattle.round_trips.specs.Damage.{count_whole, count_hurt}
 use Rattle.round_trips.specs.SheetLines.{sheet_lines}
 use Rattle.round_trips.proofs.Answering.{lists_texts}

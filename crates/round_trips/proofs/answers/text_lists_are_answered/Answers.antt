@@ -2,7 +2,7 @@ use Rattle.std.proofs.Common.{◌*◌}
 use Rattle.raw_subcode.specs.declared.form.Form.TheVariants.{Raw}
 use Rattle.cdtext_packs.specs.TextLines.{offers_line}
 use Rattle.cdtext_packs.specs.Texts.{no_texts}
-use Rattle.cdtext_packs.specs.SheetTexts.{texts_of_sheet}
+use Rattle.stream_writer.specs.SheetTexts.{texts_of_sheet}
 use Rattle.round_trips.specs.SheetLines.{sheet_lines}
 use Rattle.round_trips.proofs.Answering.{whole_blocks, lists_texts}
 use Rattle.round_trips.proofs.answers.text_lists_are_answered.Goals as goal

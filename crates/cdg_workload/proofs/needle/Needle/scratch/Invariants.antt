@@ -5,11 +5,11 @@ use Rattle.cdg_workload.proofs.needle.Needle.scratch.Given as goal
 
 abbrev pub invariant-loop-at : goal.invariant-loop-at
 invariant-loop-at l = record {
-  size : length l.scratched ≡ 96;
+  size : length l.block ≡ 96;
   within : l.at ≤ 96;
-  next : l.self ≡ run_state byte_next l.fn.self (take l.at l.block);
-  gives : take l.at l.scratched ≡ run_gives byte_next byte_gives l.fn.self (take l.at l.block);
-  rest : drop l.at l.scratched ≡ drop l.at l.block;
+  next : l.self ≡ run_state byte_next l.fn.self (take l.at l.fn.block);
+  gives : take l.at l.block ≡ run_gives byte_next byte_gives l.fn.self (take l.at l.fn.block);
+  rest : drop l.at l.block ≡ drop l.at l.fn.block;
 }
 
 abbrev pub decreases-loop-at : goal.decreases-loop-at

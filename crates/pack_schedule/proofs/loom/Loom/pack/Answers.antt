@@ -1,8 +1,8 @@
-use Rattle.std.proofs.Common.{◌≡◌, ◌-◌, ◌<◌, ◌∙◌, ap₂, sym, subst, arith, get_or}
+use Rattle.std.proofs.Common.{◌≡◌, ◌-◌, ◌<◌, ◌∙◌, ap₂, refl, sym, subst, arith, get_or}
 use Rattle.cdg_instructions.specs.declared.instr.Instr.TheVariants.{Idle}
 use Rattle.cdg_instructions.specs.Instruction.{IsWritten, InRange, IsKnown}
 use Rattle.picture_script.specs.Script.{pictures}
-use Rattle.picture_changes.specs.Schedule.{start_of}
+use Rattle.picture_changes.specs.Schedule.{start_of, idle_pack}
 use Rattle.picture_changes.specs.PlannedChange.{planned_change}
 use Rattle.pack_schedule.proofs.Weaves.{IsFine, change_pack, no_pack, fine_at, at_hand}
 use Rattle.pack_schedule.proofs.loom.Loom.pack.Goals as goal
@@ -49,8 +49,8 @@ pub returns : goal.returns
 returns c =
     let known = c.pictures.ensures in
     let w = c.requires.weaving in
-    no_pack c.args.script.now c.args.self.now c.args.given c.idle.result w known.held known.later c.requires.current
+    no_pack c.args.script.now c.args.self.now c.args.given idle_pack w known.held known.later c.requires.current
     (λ lt. elim c.if-self-pictures.branch [
       | then-self-pictures+else-given-start v ↦ omega (arith, (w.surveyed.each c.args.self.now.k lt).start_is, v.start-start.ensures, v.if-given-start.false)
       | else-self-pictures v ↦ absurd (omega (arith, v.if-self-pictures.false, known.value, lt))
-    ]) c.idle.ensures
+    ]) refl

@@ -1,7 +1,14 @@
 use Rattle.std.proofs.Common.{ap, ◌∙◌}
 use Rattle.subcode_player.specs.CheckSteps.{count_found}
-use Rattle.subcode_player.proofs.Recovers.{found_some, found_none}
+use Rattle.subcode_player.proofs.Recovers.{found_itself, found_some, found_none}
+use Rattle.subcode_player.proofs.Counted.{idle_counted}
 use Rattle.subcode_player.proofs.counting.WordCounts.count.Goals as goal
+
+pub returns-then-is_idle : goal.returns-then-is_idle
+returns-then-is_idle c =
+    let word = c.args.word.now in
+    let (zeros, is_codeword) = c.is_idle.ensures c.if-is_idle.true in
+    c.count_idle.ensures ∙ idle_counted c.args.self.now word zeros ∙ ap (count_found c.args.self.now word) (found_itself word is_codeword)
 
 pub returns-in-Some : goal.returns-in-Some
 returns-in-Some c = c.count_fixed.ensures ∙ ap (count_found c.args.self.now c.args.word.now) (found_some c.args.word.now _ c.correct.ensures.word c.in-Some.ensures.reads.0)

@@ -1,6 +1,6 @@
 use Rattle.std.proofs.Common.{refl}
 use Rattle.raw_subcode.specs.Channels.{unit_size}
-use Rattle.subcode_player.proofs.Checks.{checks_done, checks_stop, checked_done, checked_stop}
+use Rattle.subcode_player.proofs.Checks.{at_end_stop, checks_done, checked_done, checked_stop}
 use Rattle.subcode_player.proofs.player.Player.check.Goals as goal
 
 pub returns-in-Ok-clause-checks : goal.returns-in-Ok-clause-checks
@@ -14,7 +14,7 @@ returns-in-Ok-clause-answer g c = checked_done (unit_size c.args.form) _ _ _ _ c
 pub returns-in-Err-clause-checks : goal.returns-in-Err-clause-checks
 returns-in-Err-clause-checks g c =
     let (taken, w) = c.in-Err.ensures.watches in
-    (taken, checks_stop c.args.form c.args.lead_in _ _ _ _ c.begin_check.new.self.checks.second c.watch.new.stages.second taken _ _ refl w c.play_stop.ensures)
+    (taken, at_end_stop _ c.args.form c.args.lead_in _ _ _ _ _ c.begin_check.new.self.checks.second c.watch.new.stages.second taken _ _ refl w c.play_stop.ensures)
 
 pub returns-in-Err-clause-answer : goal.returns-in-Err-clause-answer
 returns-in-Err-clause-answer g c = checked_stop (unit_size c.args.form) _ _ _ c.play_stop.ensures c.in-Err.ensures.answer

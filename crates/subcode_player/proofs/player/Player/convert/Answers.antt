@@ -1,14 +1,34 @@
-use Rattle.subcode_player.proofs.Restoring.{restores, restores_sectors}
+use Rattle.std.proofs.Common.{refl, Ok}
+use Rattle.raw_subcode.specs.Channels.{unit_size}
+use Rattle.subcode_player.specs.Watch.{on_units}
+use Rattle.subcode_player.proofs.Checks.{answered_done, checked_stop}
+use Rattle.subcode_player.proofs.Playing.{done_at, stop_at}
+use Rattle.subcode_player.proofs.PlayRuns.{Blocks, blocks_next, blocks_give, plays_stream}
+use Rattle.subcode_player.proofs.Restoring.{restores}
 use Rattle.subcode_player.proofs.player.Player.convert.Goals as goal
 
-pub returns-in-Sector-clause-restores : goal.returns-in-Sector-clause-restores
-returns-in-Sector-clause-restores g c =
-    let law = c.damaged_streams_give_packs.ensures in
-    let (taken, converts) = c.convert_sectors.ensures.converts in
-    restores_sectors c.args.form c.args.lead_in _ _ _ _ c.convert_sectors.result taken c.in-Sector.is law.text law.bad converts c.convert_sectors.ensures.answer
+pub returns-in-Ok-clause-converts : goal.returns-in-Ok-clause-converts
+returns-in-Ok-clause-converts g c =
+    let (taken, p) = c.in-Ok.ensures.pumps in
+    let form = c.args.form in
+    let plays = plays_stream form c.args.lead_in _ c.begin.ensures.words c.begin.ensures.bad in
+    (taken, done_at _ form _ (on_units form blocks_next) (on_units form blocks_give) (λ (t : Blocks). t.second.bad) _ _ _ _ _ _ taken (unit_size form) _ _ refl plays p c.played.ensures.blocks c.played.ensures.bad)
 
-pub returns-in-Raw-clause-restores : goal.returns-in-Raw-clause-restores
-returns-in-Raw-clause-restores g c =
+pub returns-in-Err-clause-converts : goal.returns-in-Err-clause-converts
+returns-in-Err-clause-converts g c =
+    let (taken, p) = c.in-Err.ensures.pumps in
+    let form = c.args.form in
+    let plays = plays_stream form c.args.lead_in _ c.begin.ensures.words c.begin.ensures.bad in
+    (taken, stop_at _ form _ (on_units form blocks_next) (on_units form blocks_give) (λ (t : Blocks). t.second.bad) _ _ _ _ _ _ taken (unit_size form) _ _ refl c.play_stop.ensures plays p)
+
+pub returns-in-Ok-clause-restores : goal.returns-in-Ok-clause-restores
+returns-in-Ok-clause-restores g c =
     let law = c.damaged_streams_give_packs.ensures in
-    let (taken, converts) = c.convert_blocks.ensures.converts in
-    restores c.args.form c.args.lead_in _ _ _ _ c.convert_blocks.result taken law.text law.bad converts c.convert_blocks.ensures.answer
+    let (taken, converts) = returns-in-Ok-clause-converts g c in
+    restores c.args.form c.args.lead_in _ _ _ _ (Ok c.played.result) taken law.text law.bad converts (answered_done (unit_size c.args.form) _ c.played.result _ c.in-Ok.ensures.answer)
+
+pub returns-in-Err-clause-restores : goal.returns-in-Err-clause-restores
+returns-in-Err-clause-restores g c =
+    let law = c.damaged_streams_give_packs.ensures in
+    let (taken, converts) = returns-in-Err-clause-converts g c in
+    restores c.args.form c.args.lead_in _ _ _ _ _ taken law.text law.bad converts (checked_stop (unit_size c.args.form) _ _ _ c.play_stop.ensures c.in-Err.ensures.answer)

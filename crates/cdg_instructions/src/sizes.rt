@@ -1,0 +1,40 @@
+// The sizes of tiles, of the screen and of the window in it. Clauses call them by the names of specs/Sizes.antt.
+
+/// How many pixels a tile is wide: a line of a tile is a symbol, with a bit for each of six pixels (IEC 60908).
+pub const TILE_WIDTH: usize = 6;
+
+/// How many lines a tile has: twelve symbols follow those that say where it stands (IEC 60908).
+pub const TILE_HEIGHT: usize = 12;
+
+/// How many columns of tiles the memory has (IEC 60908).
+pub const SCREEN_COLUMNS: usize = 50;
+
+/// How many rows of tiles the memory has (IEC 60908).
+pub const SCREEN_ROWS: usize = 18;
+
+/// How many tiles the memory has.
+pub const SCREEN_TILES: usize = SCREEN_COLUMNS * SCREEN_ROWS;
+
+/// How many pixels the memory, and with it the screen, is wide.
+pub const SCREEN_WIDTH: usize = SCREEN_COLUMNS * TILE_WIDTH;
+
+/// How many pixels the memory, and with it the screen, is high.
+pub const SCREEN_HEIGHT: usize = SCREEN_ROWS * TILE_HEIGHT;
+
+/// How many pixels the memory has.
+pub const SCREEN_PIXELS: usize = SCREEN_WIDTH * SCREEN_HEIGHT;
+
+/// How many columns of tiles the window has: all but one at each side, which the border hides.
+pub const WINDOW_COLUMNS: usize = SCREEN_COLUMNS - 2;
+
+/// How many rows of tiles the window has: all but the first and the last, which the border hides.
+pub const WINDOW_ROWS: usize = SCREEN_ROWS - 2;
+
+/// How many tiles the window has.
+pub const WINDOW_TILES: usize = WINDOW_COLUMNS * WINDOW_ROWS;
+
+/// How many pixels the window is wide.
+pub const WINDOW_WIDTH: usize = WINDOW_COLUMNS * TILE_WIDTH;
+
+/// How many pixels the window is high.
+pub const WINDOW_HEIGHT: usize = WINDOW_ROWS * TILE_HEIGHT;

@@ -1,0 +1,31 @@
+-- How many blocks there are in a second, a minute, a lead-in and a program, and how many tracks on a disc. Code calls
+-- them by the names of src/counts.rt.
+use Rattle.std.specs.Prelude.{ℕ}
+
+-- blocks a second: a block is as long as a sector, 588 of 44,100 samples (IEC 60908)
+abbrev pub blocks_a_second : ℕ
+blocks_a_second = 75
+
+-- blocks a minute of sixty seconds
+abbrev pub blocks_a_minute : ℕ
+blocks_a_minute = 4500
+
+-- how many times can be written: 00:00:00 to 99:59:74, since minutes have two decimal digits
+abbrev pub time_count : ℕ
+time_count = 450000
+
+-- the last block whose time can be written: that at 99:59:74
+abbrev pub last_block : ℕ
+last_block = 449999
+
+-- the most blocks of a lead-in: its blocks have times of their own, of which each is another
+abbrev pub most_lead_in : ℕ
+most_lead_in = time_count
+
+-- the most blocks of a program: the lead-out begins behind them, at a block whose time the table of contents writes
+abbrev pub most_program : ℕ
+most_program = last_block
+
+-- the most tracks of a disc: their numbers are two decimal digits, from 01 on
+abbrev pub most_tracks : ℕ
+most_tracks = 99

@@ -1,0 +1,24 @@
+// How many blocks there are in a second, a minute, a lead-in and a program, and how many tracks on a disc. Clauses call
+// them by the names of specs/Counts.antt.
+
+/// Blocks a second: a block is as long as a sector, 588 of 44,100 samples (IEC 60908).
+pub const BLOCKS_A_SECOND: u32 = 75;
+
+/// Blocks a minute of sixty seconds.
+pub const BLOCKS_A_MINUTE: u32 = 60 * BLOCKS_A_SECOND;
+
+/// How many times can be written: 00:00:00 to 99:59:74, since minutes have two decimal digits.
+pub const TIME_COUNT: u32 = 100 * BLOCKS_A_MINUTE;
+
+/// The last block whose time can be written: that at 99:59:74.
+pub const LAST_BLOCK: u32 = TIME_COUNT - 1;
+
+/// How many blocks a lead-in has at most: its blocks have times of their own, of which each is another.
+pub const MOST_LEAD_IN: u32 = TIME_COUNT;
+
+/// How many blocks a program has at most: the lead-out begins behind them, at a block whose time the table of contents
+/// writes.
+pub const MOST_PROGRAM: u32 = LAST_BLOCK;
+
+/// How many tracks a disc has at most: their numbers are two decimal digits, from 01 on.
+pub const MOST_TRACKS: u8 = 99;

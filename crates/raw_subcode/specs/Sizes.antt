@@ -1,0 +1,27 @@
+-- The sizes of blocks, sectors and slots, and the longest stream. Code calls them by the names of src/sizes.rt.
+use Rattle.std.specs.Prelude.{ℕ}
+
+-- the symbols of a slot: those of a pack, 24 of six bits (IEC 60908)
+abbrev pub symbols_a_slot : ℕ
+symbols_a_slot = 24
+
+-- the slots of a block: four packs stand in a block (IEC 60908)
+abbrev pub slots_a_block : ℕ
+slots_a_block = 4
+
+-- the bytes of a block: one for each symbol of its slots; each channel so has 96 bits in a block
+abbrev pub block_bytes : ℕ
+block_bytes = 96
+
+-- the bytes of audio of a sector: a 75th of a second of 44,100 samples, of two channels of two bytes
+abbrev pub audio_bytes : ℕ
+audio_bytes = 2352
+
+-- the bytes of a sector: its audio and then its block
+abbrev pub sector_bytes : ℕ
+sector_bytes = 2448
+
+-- the most units, blocks or sectors, of a stream: the longest lead-in, 450,000 blocks, and the longest program,
+-- 449,999, fit, and the number of each unit has at most six digits
+abbrev pub most_units : ℕ
+most_units = 1000000

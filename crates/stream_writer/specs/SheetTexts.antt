@@ -1,0 +1,34 @@
+-- The texts of a cue sheet.
+use Rattle.std.specs.Prelude.{ℕ, ◌+◌, ◌-◌, List, [], length, map, replicate, unwrap_or, ◌==◌, if◌then◌else◌}
+use Rattle.bit_lists.specs.Counting.{below}
+use Rattle.cue_sheet.specs.CueSheet.{CueSheet, track_of, text_at}
+use Rattle.cue_sheet.specs.declared.fault.CueText.TheVariants.{Title, Performer, Songwriter}
+use Rattle.cdtext_packs.specs.Texts.{Texts, unless_empty}
+
+-- for the album and each track in order
+abbrev pub for_each : CueSheet → (ℕ → List ℕ) → List (List ℕ)
+for_each sheet string = map string (below (length sheet.tracks + 1))
+
+-- the catalogue number for the album, and a track's code, each empty where there is none
+abbrev pub code_at : CueSheet → ℕ → List ℕ
+code_at sheet place = if place == 0 then unwrap_or sheet.catalogue [] else unwrap_or (track_of sheet (place - 1)).isrc []
+
+-- the texts of a sheet, of which all strings may be empty
+abbrev pub sheet_texts : CueSheet → Texts
+sheet_texts sheet =
+    let none = replicate (length sheet.tracks + 1) [] in
+    record {
+      first = (track_of sheet 0).number;
+      last = (track_of sheet (length sheet.tracks - 1)).number;
+      title = for_each sheet (text_at Title sheet);
+      performer = for_each sheet (text_at Performer sheet);
+      songwriter = for_each sheet (text_at Songwriter sheet);
+      composer = none;
+      arranger = none;
+      message = none;
+      code = for_each sheet (code_at sheet);
+    }
+
+-- the texts of a sheet: none at all where every string is empty
+abbrev pub texts_of_sheet : CueSheet → Texts
+texts_of_sheet sheet = unless_empty (sheet_texts sheet)

@@ -1,0 +1,64 @@
+// The texts of a cue sheet.
+ghost use Rattle.std.specs.Prelude.{◌≡◌, ◌+◌, ◌≤◌, length, IfOk, All};
+ghost use Rattle.cue_sheet.specs.CueSheet.{text_at, IsSheet};
+ghost use Rattle.cdtext_packs.specs.Texts.{IsString};
+ghost use Rattle.stream_writer.specs.SheetTexts.{for_each, code_at, texts_of_sheet};
+
+use cdtext_packs::{Strings, TextMap};
+use cue_sheet::{CueText, Sheet};
+use std::alloc::{AllocError, Global};
+
+/// The texts of a sheet: its titles, performers and songwriters, and as codes its catalogue number and its tracks'
+/// ISRC. It is the empty map where all of them are empty.
+pub fn texts_of_sheet(alloc: Global, sheet: &Sheet) -> Result<TextMap, AllocError>
+    ensures { IfOk result (λ map. map ≡ texts_of_sheet sheet.now) }
+{
+    let titles = sheet_strings(alloc, sheet, CueText::Title)?;
+    let performers = sheet_strings(alloc, sheet, CueText::Performer)?;
+    let songwriters = sheet_strings(alloc, sheet, CueText::Songwriter)?;
+    let codes = sheet_codes(alloc, sheet)?;
+    TextMap::of_strings(alloc, sheet.first(), titles, performers, songwriters, codes)
+}
+
+/// The texts of a kind.
+fn sheet_strings(alloc: Global, sheet: &Sheet, kind: CueText) -> Result<Strings, AllocError>
+    ensures strings { IfOk result (λ strings. strings ≡ for_each sheet.now (text_at kind sheet.now)) }
+    ensures count { IfOk result (λ strings. length strings ≡ length sheet.now.tracks + 1) }
+    ensures each { IfOk result (All IsString) }
+    ensures sheet { IsSheet sheet.now }
+{
+    let mut strings = Strings::new(alloc);
+    for place in 0..sheet.tracks() + 1 {
+        strings.push(sheet.text(kind, place).to_vec(alloc)?)?;
+    }
+    Ok(strings)
+}
+
+/// The catalogue number and the codes of the tracks.
+fn sheet_codes(alloc: Global, sheet: &Sheet) -> Result<Strings, AllocError>
+    ensures strings { IfOk result (λ strings. strings ≡ for_each sheet.now (code_at sheet.now)) }
+    ensures count { IfOk result (λ strings. length strings ≡ length sheet.now.tracks + 1) }
+    ensures each { IfOk result (All IsString) }
+{
+    let mut strings = Strings::new(alloc);
+    for place in 0..sheet.tracks() + 1 {
+        strings.push(code_at(sheet, place).to_vec(alloc)?)?;
+    }
+    Ok(strings)
+}
+
+/// The code of the album or a track.
+fn code_at(sheet: &Sheet, place: usize) -> &[u8]
+    requires { place ≤ length sheet.now.tracks }
+    ensures { result.now ≡ code_at sheet.now place }
+{
+    let code = if place == 0 {
+        sheet.catalogue()
+    } else {
+        sheet.isrc(place - 1)
+    };
+    match code {
+        Some(code) => code,
+        None => &[],
+    }
+}

@@ -1,0 +1,26 @@
+use Rattle.std.proofs.Common.{refl}
+use Rattle.q_channel.specs.QSteps.{q_next, q_give}
+use Rattle.q_channel.specs.declared.q_lines.QLines.{QLines}
+use Rattle.raw_subcode.specs.Channels.{unit_size}
+use Rattle.subcode_player.specs.Watch.{on_units}
+use Rattle.subcode_player.proofs.Playing.{done_at, stop_at}
+use Rattle.subcode_player.proofs.QListing.{plays_frames}
+use Rattle.subcode_player.proofs.q.list_frames.Goals as goal
+
+pub returns-in-Ok-clause-lists : goal.returns-in-Ok-clause-lists
+returns-in-Ok-clause-lists g c =
+    let (taken, p) = c.in-Ok.ensures.pumps in
+    let form = c.args.form in (
+      taken,
+      done_at _ form _ (on_units form q_next) (on_units form q_give) (λ (t : QLines). t.bad) _ _ _ _ _ _ taken (unit_size form) _ _ refl
+          (plays_frames form _ c.requires.form c.new-lines.ensures.second) p c.saturating_sub.ensures refl,
+    )
+
+pub returns-in-Err-clause-lists : goal.returns-in-Err-clause-lists
+returns-in-Err-clause-lists g c =
+    let (taken, p) = c.in-Err.ensures.pumps in
+    let form = c.args.form in (
+      taken,
+      stop_at _ form _ (on_units form q_next) (on_units form q_give) (λ (t : QLines). t.bad) _ _ _ _ _ _ taken (unit_size form) _ _ refl c.play_stop.ensures
+          (plays_frames form _ c.requires.form c.new-lines.ensures.second) p,
+    )

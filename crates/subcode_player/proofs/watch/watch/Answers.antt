@@ -1,0 +1,15 @@
+use Rattle.std.proofs.Common.{refl, arith}
+use Rattle.raw_subcode.specs.Channels.{unit_size}
+use Rattle.subcode_player.specs.Watch.{on_units}
+use Rattle.subcode_player.proofs.Playing.{unit_some}
+use Rattle.subcode_player.proofs.WatchedBlocks.{watches, blocks_of_units}
+use Rattle.subcode_player.proofs.watch.watch.Goals as goal
+
+pub returns-clause-watches : goal.returns-clause-watches
+returns-clause-watches g c =
+    let (taken, p) = c.pump_blocks.ensures.pumps in
+    let form = c.args.form in (
+      taken,
+      watches form (unit_size form) (on_units form g.G.Stage.next) (on_units form g.G.Stage.gives) g.G.Stage.next (λ (s : g.row.G.Denot). s) _ _ _ _ _ _ taken c.pump_blocks.result refl (unit_some form)
+          (λ h. omega (arith, c.pump_blocks.ensures.write_fault h)) (blocks_of_units form g.G.Stage.next) p,
+    )

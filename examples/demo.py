@@ -1,0 +1,318 @@
+#!/usr/bin/env python3
+"""A tour of each command on one disc. The stream of a cue sheet and a picture script is authored, and its
+texts, its pictures and its packs are got back from it, also from scratched readings. The files are left in
+demo/, or in the folder that is named.
+
+It runs bin/ribjasper. Where that is not built yet, it compiles the program unproved, once for all calls."""
+import os
+import shutil
+import subprocess
+import sys
+import tempfile
+import threading
+from pathlib import Path
+from typing import Callable, NamedTuple
+
+from pictures import as_png, as_text, is_shown_by
+
+TOP = Path(__file__).resolve().parent.parent
+DEMO = Path(sys.argv[1]).resolve() if sys.argv[1:] else TOP / "demo"
+# What make built, or else what the gate left.
+PROGRAMS = [TOP / "bin" / "ribjasper", TOP / "crates" / "ribjasper" / "out" / "ribjasper"]
+# The lengths of what the files of each kind are made of.
+UNITS = {".raw": 96, ".sub": 96, ".cdg": 24, ".ppm": 15 + 3 * 300 * 216, ".save": 65_045}
+
+
+class Call(NamedTuple):
+    """A call of the program: its words, the files of demo/ that it reads and the one that it writes."""
+
+    output: str
+    words: str
+    inputs: tuple = ()
+    status: int = 0
+
+    def line(self):
+        names = f" -- {' '.join(self.inputs)}" if self.inputs else ""
+        return f"ribjasper {self.words}{names} >{self.output}"
+
+
+class Built:
+    """The program, which is built."""
+
+    def __init__(self, program):
+        print(f"This is {program.relative_to(TOP)}.")
+        self.program = program
+
+    def run(self, call):
+        names = ["--", *call.inputs] if call.inputs else []
+        with open(DEMO / call.output, "wb") as out:
+            how = dict(cwd=DEMO, stdin=subprocess.DEVNULL, stdout=out, stderr=subprocess.PIPE, text=True)
+            ran = subprocess.run([self.program, *call.words.split(), *names], **how)
+        return ran.returncode, ran.stderr
+
+    def end(self):
+        pass
+
+
+class Tried:
+    """The program as one `rt try` compiles it: it runs the calls one after the other, each as a case.
+
+    A call waits for its inputs at pipes, so that they may come of the calls before it."""
+
+    def __init__(self, calls):
+        if not shutil.which("rt"):
+            sys.exit("Neither bin/ribjasper nor the command rt of the Rattle kit is here.")
+        print("No bin/ribjasper stands yet: 'rt try' compiles the program, and proves nothing ('make' does).")
+        print("That takes half a minute on a quiet machine.", flush=True)
+        self.folder = tempfile.TemporaryDirectory(prefix="ribjasper-")
+        room = Path(self.folder.name)
+        (room / "cases").mkdir()
+        for number, call in enumerate(calls):
+            pipes = self.pipes_of(call)
+            for pipe in pipes:
+                os.mkfifo(pipe)
+            case = room / "cases" / self.name_of(number)
+            case.touch()
+            words = [*call.words.split(), *["--"] * bool(pipes), *pipes]
+            case.with_suffix(".args").write_text("".join(f"{word}\n" for word in words))
+        self.count, self.said = 0, 0
+        self.output = open(room / "output", "wb")
+        trial = ["rt", "try", "--seconds", "110", "--cases", room / "cases"]
+        how = dict(stdin=subprocess.DEVNULL, stdout=self.output, stderr=subprocess.PIPE, text=True)
+        self.trying = subprocess.Popen(trial, cwd=TOP / "crates" / "ribjasper", **how)
+
+    @staticmethod
+    def name_of(number):
+        return f"call{number:02}"
+
+    def pipes_of(self, call):
+        return [f"{self.folder.name}/{place}-{call.output}" for place in range(len(call.inputs))]
+
+    def run(self, call):
+        for pipe, name in zip(self.pipes_of(call), call.inputs):
+            threading.Thread(target=self.feed, args=(pipe, read(name)), daemon=True).start()
+        told = []
+        for line in self.trying.stderr:
+            if line.startswith("case="):
+                break
+            told.append(line)
+        else:
+            sys.exit("".join(told) + "rt try ended before the tour did")
+        self.keep(call)
+        status = line.partition("status=")[2].split()
+        return int(status[0]) if status else line.strip(), "".join(told)
+
+    @staticmethod
+    def feed(pipe, content):
+        with open(pipe, "wb") as to:
+            to.write(content)
+
+    def keep(self, call):
+        """Writes what the call printed, without the line feed that `rt try` adds to it."""
+        printed = Path(self.output.name).read_bytes()
+        content = printed[self.said:].partition(f"== {self.name_of(self.count)}\n".encode())[2]
+        self.count, self.said = self.count + 1, len(printed)
+        unit = UNITS.get(Path(call.output).suffix, 1)
+        (DEMO / call.output).write_bytes(content[: len(content) - len(content) % unit])
+
+    def end(self):
+        self.trying.terminate()
+        self.trying.wait()
+
+
+def read(name):
+    return (DEMO / name).read_bytes()
+
+
+def lines(name):
+    return read(name).decode().splitlines()
+
+
+def tell(rows):
+    print("".join(f"   {row}\n" for row in rows), end="")
+
+
+def must(is_so, what):
+    """Says what is so, or ends the tour."""
+    if not is_so:
+        sys.exit(f"   It is not so: {what}")
+    tell([what])
+
+
+def picture(name):
+    print(as_text(read(name)))
+
+
+def show_screen():
+    picture("hello.ppm")
+    (DEMO / "screen.png").write_bytes(as_png(read("hello.ppm")))
+    readme = TOP / "docs" / "screen.png"
+    must(is_shown_by(read("hello.ppm"), readme), "demo/screen.png: the picture of the README")
+
+
+def with_hole(content, start):
+    """A reading in which 25 bytes in a row are destroyed."""
+    return content[:start] + b"\x15" * 25 + content[start + 25 :]
+
+
+def packs(content):
+    return [content[start : start + 24] for start in range(0, len(content), 24)]
+
+
+def graphics(name):
+    return sum(pack[0] == 9 for pack in packs(read(name)))
+
+
+def show_thin():
+    before, after = graphics("twice.cdg"), graphics("thin.cdg")
+    must(after < before == 2 * graphics("clean.cdg"), f"{before} graphics packs before, {after} after")
+
+
+# The files that no call makes, each by what it is made of.
+MADE = {
+    "hello.cue": lambda: (TOP / "examples" / "hello.cue").read_bytes(),
+    "hello.script": lambda: (TOP / "examples" / "hello.script").read_bytes(),
+    "first.raw": lambda: with_hole(read("hello.raw"), 60_000),
+    "second.raw": lambda: with_hole(read("hello.raw"), 90_000),
+    "song.cdg": lambda: read("clean.cdg")[24 * 593 :],
+    "twice.cdg": lambda: b"".join(2 * pack for pack in packs(read("clean.cdg"))),
+    "begun.raw": lambda: read("hello.raw")[: 96 * 555],
+    "rest.raw": lambda: read("hello.raw")[96 * 555 :],
+    "short.raw": lambda: b"\1" * 17 + bytes(192 - 17),
+}
+
+
+class Step(NamedTuple):
+    title: str
+    calls: list
+    show: Callable
+
+
+N = "--lead-in 30"
+STEPS = [
+    Step(
+        "author: the subcode of examples/hello.cue with the pictures of examples/hello.script",
+        [Call("hello.raw", f"author {N} --length 00:22:00", ("hello.cue", "hello.script"))],
+        lambda: must(len(read("hello.raw")) == 96 * 1830, "demo/hello.raw: 1,830 blocks"),
+    ),
+    Step(
+        "text: the CD-TEXT of its lead-in",
+        [Call("hello.txt", f"text {N}", ("hello.raw",))],
+        lambda: tell(lines("hello.txt")),
+    ),
+    Step(
+        "screen: the picture at 00:07:10, the third letter",
+        [Call("hello.ppm", f"screen {N} --at 00:07:10", ("hello.raw",))],
+        show_screen,
+    ),
+    Step(
+        "q: the Q channel, here the table of contents and the first block of the audio",
+        [Call("frames.txt", f"q {N}", ("hello.raw",))],
+        lambda: tell(lines("frames.txt")[place] for place in (0, 3, 6, 9, 12, 180)),
+    ),
+    Step(
+        "scratch and check: bursts of wrong symbols, as a scratched disc has them",
+        [
+            Call("scratched.raw", f"scratch {N} --seed 7", ("hello.raw",)),
+            Call("check.txt", f"check {N}", ("scratched.raw",)),
+        ],
+        lambda: tell(lines("check.txt")),
+    ),
+    Step(
+        "convert: the packs of the scratched stream, as a .cdg file for a player",
+        [
+            Call("hello.cdg", f"convert {N}", ("scratched.raw",)),
+            Call("clean.cdg", f"convert {N}", ("hello.raw",)),
+        ],
+        lambda: must(read("hello.cdg") == read("clean.cdg"), "the packs of the stream without scratches"),
+    ),
+    Step(
+        "screen and state at 00:17:00 of the scratched stream, the test card",
+        [
+            Call("card.ppm", f"screen {N} --at 00:17:00", ("scratched.raw",)),
+            Call("card.txt", f"state {N} --at 00:17:00", ("scratched.raw",)),
+        ],
+        lambda: (picture("card.ppm"), tell(lines("card.txt")[:4])),
+    ),
+    Step(
+        "merge: two readings with 25 bytes destroyed in each; neither gives all packs back, both together do",
+        [
+            Call("first.cdg", f"convert {N}", ("first.raw",), status=1),
+            Call("second.cdg", f"convert {N}", ("second.raw",), status=1),
+            Call("both.cdg", f"merge {N}", ("first.raw", "second.raw")),
+        ],
+        lambda: must(read("both.cdg") == read("clean.cdg"), "the packs of the stream without damage"),
+    ),
+    Step(
+        "press: the .cdg file of a song on the disc of its cue sheet, in time with the audio",
+        [
+            Call("pressed.raw", f"press {N} --length 00:22:00", ("hello.cue", "song.cdg")),
+            Call("pressed.cdg", f"convert {N}", ("pressed.raw",)),
+        ],
+        lambda: must(packs(read("pressed.cdg"))[593:] == packs(read("song.cdg")), "the same file comes back"),
+    ),
+    Step(
+        "thin: packs that change nothing become idle, here of a file that sends each pack twice",
+        [Call("thin.cdg", "thin", ("twice.cdg",))],
+        show_thin,
+    ),
+    Step(
+        "save and resume: a checkpoint after seven seconds, and a picture from the rest of the stream alone",
+        [
+            Call("begun.save", f"save {N}", ("begun.raw",)),
+            Call("resumed.ppm", "resume --at 00:17:00", ("begun.save", "rest.raw")),
+        ],
+        lambda: must(read("resumed.ppm") == read("card.ppm"), "resume gives the test card of step 7"),
+    ),
+    Step(
+        "planar and raw: the form that some drives give, and back",
+        [
+            Call("hello.sub", "planar", ("hello.raw",)),
+            Call("back.raw", "raw", ("hello.sub",)),
+        ],
+        lambda: must(read("back.raw") == read("hello.raw"), "demo/hello.sub, and back to the same blocks"),
+    ),
+    Step(
+        "gen and trial: a script from a number, authored, scratched, corrected and compared",
+        [
+            Call("gen.script", "gen --seed 42 --pictures 1"),
+            Call("trial.txt", "trial --seed 42 --pictures 1"),
+        ],
+        lambda: tell([*lines("gen.script")[-1:], *lines("trial.txt")]),
+    ),
+    Step(
+        "Three equal wrong symbols in one word are too many: the word is told and written as zeros",
+        [Call("short.cdg", "convert --lead-in 0", ("short.raw",), status=1)],
+        lambda: must(read("short.cdg") == bytes(24), "24 zeros"),
+    ),
+]
+
+
+def run(program, call):
+    print(f"   $ {call.line()}", flush=True)
+    for name in call.inputs:
+        if name in MADE:
+            (DEMO / name).write_bytes(MADE[name]())
+    status, told = program.run(call)
+    if told:
+        tell([f"{told.strip()} (status {status})"])
+    if status != call.status:
+        sys.exit(f"   The status is {status}, and not {call.status}")
+
+
+def main():
+    DEMO.mkdir(exist_ok=True)
+    built = [program for program in PROGRAMS if program.exists()]
+    program = Built(built[0]) if built else Tried([call for step in STEPS for call in step.calls])
+    try:
+        for number, step in enumerate(STEPS, 1):
+            print(f"\n{number}. {step.title}")
+            for call in step.calls:
+                run(program, call)
+            step.show()
+    finally:
+        program.end()
+
+
+if __name__ == "__main__":
+    main()

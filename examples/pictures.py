@@ -1,0 +1,76 @@
+"""Pixmaps of 300 by 216 pixels, as `ribjasper screen` writes them: shown in a terminal, and as PNG files."""
+import os
+import struct
+import sys
+import zlib
+
+WIDTH, HEIGHT = 300, 216
+HEADER = b"P6\n300 216\n255\n"
+# A picture of twice the size.
+SCALE = 2
+
+
+def rows_of(pixmap):
+    """The rows of a pixmap, each a list of its pixels."""
+    if not pixmap.startswith(HEADER) or len(pixmap) != len(HEADER) + 3 * WIDTH * HEIGHT:
+        sys.exit("this is no pixmap of 300 by 216 pixels")
+    pixels = [tuple(pixmap[at : at + 3]) for at in range(len(HEADER), len(pixmap), 3)]
+    return [pixels[WIDTH * y : WIDTH * (y + 1)] for y in range(HEIGHT)]
+
+
+def code_of(pixel):
+    """A colour as a terminal takes it, after its 38 or 48."""
+    if os.environ.get("COLORTERM") in ("truecolor", "24bit"):
+        return "2;{};{};{}".format(*pixel)
+    red, green, blue = (round(part / 51) for part in pixel)
+    return f"5;{16 + 36 * red + 6 * green + blue}"
+
+
+def coloured(rows):
+    """Lines of half blocks, 75 in a line, each of four by eight pixels."""
+    for y in range(0, HEIGHT, 8):
+        above, below = rows[y + 2], rows[y + 6]
+        cells = (f"\033[38;{code_of(above[x])};48;{code_of(below[x])}m▀" for x in range(2, WIDTH, 4))
+        yield f"    {''.join(cells)}\033[0m"
+
+
+def grey(rows):
+    """Lines of a character for each six by twelve pixels."""
+    for y in range(6, HEIGHT, 12):
+        light = ((3 * red + 6 * green + blue) / 2551 for red, green, blue in rows[y][3::6])
+        yield f"    |{''.join(' .:+#'[int(5 * part)] for part in light)}|"
+
+
+def as_text(pixmap):
+    """A picture for the terminal, or in plain characters where the output is none."""
+    is_terminal = sys.stdout.isatty() and os.environ.get("TERM", "dumb") != "dumb"
+    return "\n".join((coloured if is_terminal else grey)(rows_of(pixmap)))
+
+
+def scan_lines(pixmap):
+    """The bytes of a PNG file's picture, before they are packed."""
+    lines = []
+    for row in rows_of(pixmap):
+        lines += SCALE * [b"\0" + b"".join(SCALE * bytes(pixel) for pixel in row)]
+    return b"".join(lines)
+
+
+def chunk(kind, content):
+    return struct.pack(">I", len(content)) + kind + content + struct.pack(">I", zlib.crc32(kind + content))
+
+
+def as_png(pixmap):
+    head = struct.pack(">IIBBBBB", SCALE * WIDTH, SCALE * HEIGHT, 8, 2, 0, 0, 0)
+    packed = zlib.compress(scan_lines(pixmap), 9)
+    return b"\x89PNG\r\n\x1a\n" + chunk(b"IHDR", head) + chunk(b"IDAT", packed) + chunk(b"IEND", b"")
+
+
+def is_shown_by(pixmap, file):
+    """Whether a PNG file as `as_png` writes it shows the picture."""
+    content, packed, at = file.read_bytes(), b"", 8
+    while at < len(content):
+        length, kind = struct.unpack(">I4s", content[at : at + 8])
+        if kind == b"IDAT":
+            packed += content[at + 8 : at + 8 + length]
+        at += 12 + length
+    return zlib.decompress(packed) == scan_lines(pixmap)

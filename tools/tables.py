@@ -1,0 +1,104 @@
+#!/usr/bin/env python3
+"""Reckons the tables that stand as numbers in the sources, and says which differ.
+
+The proofs show each table right by themselves; this is how they were made. `tables.py NAME` prints one table in the
+layout of its source, `tables.py` compares all of them with the sources.
+"""
+
+import pathlib
+import re
+import sys
+
+ROOT = pathlib.Path(__file__).resolve().parent.parent
+
+
+def product(a, b):
+    """The product in the field of 64 elements: polynomials over two elements, less x^6 + x + 1."""
+    result = 0
+    for k in range(6):
+        if b >> k & 1:
+            result ^= a << k
+    for k in range(10, 5, -1):
+        if result >> k & 1:
+            result ^= 0b1000011 << (k - 6)
+    return result
+
+
+def powers():
+    """The powers of alpha, which is x, from 0 to 62."""
+    found = [1]
+    while len(found) < 63:
+        found.append(product(found[-1], 2))
+    return found
+
+
+ALPHA = powers()
+LOG = {element: k for k, element in enumerate(ALPHA)}
+
+
+def sums(position, symbol):
+    """The six sums of the word with one symbol: four over all symbols, two over the first four, six bits each."""
+    lanes = 0
+    for j in range(4):
+        lanes |= product(ALPHA[j * (23 - position) % 63], symbol) << 6 * j
+    if position < 4:
+        for j in range(2):
+            lanes |= product(ALPHA[j * (3 - position) % 63], symbol) << 6 * (4 + j)
+    return lanes
+
+
+def pairs():
+    """By the logarithm of (x + y)^-2 * xy for x = alpha^d, y = 1: d from 1 to 23, and the logarithm of x + y."""
+    differences, logs = [0] * 63, [0] * 63
+    for d in range(1, 24):
+        log = LOG[ALPHA[d] ^ 1]
+        at = (d - 2 * log) % 63
+        differences[at], logs[at] = d, log
+    return differences, logs
+
+
+def remainder(byte):
+    """The remainder of a byte with sixteen zero bits behind it, by x^16 + x^12 + x^5 + 1."""
+    value = byte << 16
+    for k in range(23, 15, -1):
+        if value >> k & 1:
+            value ^= 0x11021 << (k - 16)
+    return value
+
+
+def lanes(byte):
+    """The bits of a byte, each in a byte of a number, the highest bit in the lowest byte."""
+    return sum((byte >> 7 - k & 1) << 8 * k for k in range(8))
+
+
+def tables():
+    differences, logs = pairs()
+    return {
+        "SYNDROMES": ("rw_code/src/syndrome_table.rt", [sums(i, s) for i in range(24) for s in range(64)]),
+        "DIFFERENCES": ("rw_code/src/pair_tables.rt", differences),
+        "SUMS": ("rw_code/src/pair_tables.rt", logs),
+        "REMAINDERS": ("subcode_crc/src/check.rt", [remainder(byte) for byte in range(256)]),
+        "LANES": ("raw_subcode/src/lane_table.rt", [lanes(byte) for byte in range(256)]),
+    }
+
+
+def source_of(name, path):
+    """The numbers of a table as they stand in its source."""
+    text = (ROOT / "crates" / path).read_text()
+    body = re.search(r"static " + name + r": [^=]*= \[(.*?)\n\];", text, re.S).group(1)
+    return [int(number, 0) for number in re.findall(r"0x[0-9a-f]+|\d+", body)]
+
+
+def main():
+    known = tables()
+    if len(sys.argv) > 1:
+        for number in known[sys.argv[1]][1]:
+            print(f"{number},")
+        return 0
+    differing = [name for name, (path, numbers) in known.items() if source_of(name, path) != numbers]
+    for name in differing:
+        print(f"{name} in crates/{known[name][0]} is not as reckoned", file=sys.stderr)
+    return 1 if differing else 0
+
+
+sys.exit(main())
