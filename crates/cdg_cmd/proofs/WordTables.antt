@@ -51,14 +51,14 @@ time_steps name time words is = subst (SpellsTime name time) (sym is) (refl, (re
 -- ---- two options
 
 -- the words are those before the last two and these
-joined : (words first last : List (List ℕ)) → take (length words - 2) words ≡ first → drop (length words - 2) words ≡ last → words ≡ first ++ last
-joined words first last front back = sym (take-append-drop (length words - 2) words) ∙ ap₂ (λ (a b : List (List ℕ)). a ++ b) front back
+front_and_back : (words first last : List (List ℕ)) → take (length words - 2) words ≡ first → drop (length words - 2) words ≡ last → words ≡ first ++ last
+front_and_back words first last front back = sym (take-append-drop (length words - 2) words) ∙ ap₂ (λ (a b : List (List ℕ)). a ++ b) front back
 
 pub timed_table : (lead_in : ℕ) (form : Form) (at : ℕ) (words : List (List ℕ)) → SpellsTimed lead_in form at words → IsTimedOptions lead_in form at words
 timed_table lead_in form at words s = (
   take (length words - 2) words,
   stream_table lead_in form (take (length words - 2) words) s.0,
-  joined words (take (length words - 2) words) (codes "--at" ∷ time_text at ∷ []) refl (time_table (codes "--at") at (drop (length words - 2) words) s.1),
+  front_and_back words (take (length words - 2) words) (codes "--at" ∷ time_text at ∷ []) refl (time_table (codes "--at") at (drop (length words - 2) words) s.1),
 )
 
 -- the words before the last two
@@ -79,14 +79,14 @@ timed_steps lead_in form at words t =
 
 pub two_table : (first : List ℕ) (n : ℕ) (second : List ℕ) (m : ℕ) (words : List (List ℕ)) → SpellsTwo first n second m words → words ≡ first ∷ decimal n ∷ second ∷ decimal m ∷ []
 two_table first n second m words s =
-    joined words (first ∷ decimal n ∷ []) (second ∷ decimal m ∷ []) (number_table first n (take (length words - 2) words) s.0) (number_table second m (drop (length words - 2) words) s.1)
+    front_and_back words (first ∷ decimal n ∷ []) (second ∷ decimal m ∷ []) (number_table first n (take (length words - 2) words) s.0) (number_table second m (drop (length words - 2) words) s.1)
 
 pub two_steps : (first : List ℕ) (n : ℕ) (second : List ℕ) (m : ℕ) (words : List (List ℕ)) → words ≡ first ∷ decimal n ∷ second ∷ decimal m ∷ [] → SpellsTwo first n second m words
 two_steps first n second m words is = subst (SpellsTwo first n second m) (sym is) ((refl, (refl, refl)), (refl, (refl, refl)))
 
 pub lengths_table : (lead_in time : ℕ) (words : List (List ℕ)) → SpellsLengths lead_in time words → words ≡ codes "--lead-in" ∷ decimal lead_in ∷ codes "--length" ∷ time_text time ∷ []
 lengths_table lead_in time words s =
-    joined words (codes "--lead-in" ∷ decimal lead_in ∷ []) (codes "--length" ∷ time_text time ∷ []) (number_table (codes "--lead-in") lead_in (take (length words - 2) words) s.0)
+    front_and_back words (codes "--lead-in" ∷ decimal lead_in ∷ []) (codes "--length" ∷ time_text time ∷ []) (number_table (codes "--lead-in") lead_in (take (length words - 2) words) s.0)
     (time_table (codes "--length") time (drop (length words - 2) words) s.1)
 
 pub lengths_steps : (lead_in time : ℕ) (words : List (List ℕ)) → words ≡ codes "--lead-in" ∷ decimal lead_in ∷ codes "--length" ∷ time_text time ∷ [] → SpellsLengths lead_in time words

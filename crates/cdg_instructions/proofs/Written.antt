@@ -54,21 +54,21 @@ is_scroll word code colour across h down v size range same =
       },
     )
 
-joined : (a b n : ℕ) → a ≡ n / 64 → b ≡ n % 64 → 64 * a + b ≡ n
-joined a b n e f = omega arith
+two_symbols : (a b n : ℕ) → a ≡ n / 64 → b ≡ n % 64 → 64 * a + b ≡ n
+two_symbols a b n e f = omega arith
 
 table_is : (word : List ℕ) (code : ℕ) (colours : List ℕ) → length word ≡ 24 → length colours ≡ 8 → message_of word ≡ 9 ∷ code ∷ flat_map colour_symbols colours
     → colours ≡ map (table_colour word) (below 8)
 table_is word code (c0 ∷ c1 ∷ c2 ∷ c3 ∷ c4 ∷ c5 ∷ c6 ∷ c7 ∷ []) size count same =
     let has = message_of-has word _ size same in
-    let e0 : table_colour word 0 ≡ c0 = joined _ _ c0 (has.body 0 (omega arith)) (has.body 1 (omega arith)) in
-    let e1 : table_colour word 1 ≡ c1 = joined _ _ c1 (has.body 2 (omega arith)) (has.body 3 (omega arith)) in
-    let e2 : table_colour word 2 ≡ c2 = joined _ _ c2 (has.body 4 (omega arith)) (has.body 5 (omega arith)) in
-    let e3 : table_colour word 3 ≡ c3 = joined _ _ c3 (has.body 6 (omega arith)) (has.body 7 (omega arith)) in
-    let e4 : table_colour word 4 ≡ c4 = joined _ _ c4 (has.body 8 (omega arith)) (has.body 9 (omega arith)) in
-    let e5 : table_colour word 5 ≡ c5 = joined _ _ c5 (has.body 10 (omega arith)) (has.body 11 (omega arith)) in
-    let e6 : table_colour word 6 ≡ c6 = joined _ _ c6 (has.body 12 (omega arith)) (has.body 13 (omega arith)) in
-    let e7 : table_colour word 7 ≡ c7 = joined _ _ c7 (has.body 14 (omega arith)) (has.body 15 (omega arith)) in
+    let e0 : table_colour word 0 ≡ c0 = two_symbols _ _ c0 (has.body 0 (omega arith)) (has.body 1 (omega arith)) in
+    let e1 : table_colour word 1 ≡ c1 = two_symbols _ _ c1 (has.body 2 (omega arith)) (has.body 3 (omega arith)) in
+    let e2 : table_colour word 2 ≡ c2 = two_symbols _ _ c2 (has.body 4 (omega arith)) (has.body 5 (omega arith)) in
+    let e3 : table_colour word 3 ≡ c3 = two_symbols _ _ c3 (has.body 6 (omega arith)) (has.body 7 (omega arith)) in
+    let e4 : table_colour word 4 ≡ c4 = two_symbols _ _ c4 (has.body 8 (omega arith)) (has.body 9 (omega arith)) in
+    let e5 : table_colour word 5 ≡ c5 = two_symbols _ _ c5 (has.body 10 (omega arith)) (has.body 11 (omega arith)) in
+    let e6 : table_colour word 6 ≡ c6 = two_symbols _ _ c6 (has.body 12 (omega arith)) (has.body 13 (omega arith)) in
+    let e7 : table_colour word 7 ≡ c7 = two_symbols _ _ c7 (has.body 14 (omega arith)) (has.body 15 (omega arith)) in
     cc
 table_is word code _ size count same = absurd (omega arith)
 

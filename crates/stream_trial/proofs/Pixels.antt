@@ -29,12 +29,12 @@ either_in : (b : Bool) (m n : ℕ) → m < 4096 → n < 4096 → (if b then m el
 either_in true m n p q = p
 either_in false m n p q = q
 
-record IsInRange (p : Picture) : Type 0 where
+record IsPictureInRange (p : Picture) : Type 0 where
   pub pixel : (x y : ℕ) → p.pixel x y < 16
   pub border : p.border < 16
   pub colour : (n : ℕ) → p.colour n < 4096
 
-line_in : (p : Picture) (line : Drawing) → IsInRange p → IsGenerated line → IsInRange (drawn p line)
+line_in : (p : Picture) (line : Drawing) → IsPictureInRange p → IsGenerated line → IsPictureInRange (drawn p line)
 unfolding IsGenerated
 line_in p (Colour number value) h is =
     record { pixel = h.pixel; border = h.border; colour = λ n. either_in (number == n) value (p.colour n) is (h.colour n) }
@@ -45,12 +45,12 @@ line_in p (Border colour) h is = absurd is
 line_in p (Fill colour) h is = absurd is
 line_in p (Row left top colours) h is = absurd is
 
-drawn_in : (lines : List Drawing) (p : Picture) → IsInRange p → All IsGenerated lines → IsInRange (fold drawn p lines)
+drawn_in : (lines : List Drawing) (p : Picture) → IsPictureInRange p → All IsGenerated lines → IsPictureInRange (fold drawn p lines)
 drawn_in [] p h all = h
 drawn_in (line ∷ lines) p h all =
     drawn_in lines (drawn p line) (line_in p line h (All-head IsGenerated line lines all)) (All-tail IsGenerated line lines all)
 
-blank_in : IsInRange blank_picture
+blank_in : IsPictureInRange blank_picture
 blank_in = record { pixel = λ x y. omega arith; border = omega arith; colour = λ n. omega arith }
 
 rect_generated : (a b : ℕ) → IsGenerated (rect a b)
@@ -91,7 +91,7 @@ script_generated : (seed count : ℕ) → All IsGenerated (generated_drawings se
 unfolding generated_drawings
 script_generated seed count = All-append IsGenerated (map grey (below 16)) (flat_map (picture seed) (below count)) greys_generated (pictures_generated seed (below count))
 
-before : (seed count k : ℕ) → IsInRange (drawn_by (lines_before (generated_drawings seed count) k))
+before : (seed count k : ℕ) → IsPictureInRange (drawn_by (lines_before (generated_drawings seed count) k))
 before seed count k =
     let script = generated_drawings seed count in
     let first = lines_before script k in
