@@ -51,10 +51,21 @@ impl<'a> Weaver<'a> {
         })
     }
 
-    /// The next pack, or none where it is idle, as all are after the changes. The number of packs given stays at the last
-    /// value of its type.
+    /// The next pack; after the changes it is idle. The number of packs given stays at the last value of its type.
+    pub fn next(&mut self) -> Pack
+        ensures pack { IsPackAt self.old.script self.old.given result }
+        ensures script { self.new.script ≡ self.old.script }
+        ensures given { self.new.given ≡ min (self.old.given + 1) 4294967295 }
+    {
+        match self.next_unless_idle() {
+            Some(pack) => pack,
+            None => Pack::idle(),
+        }
+    }
+
+    /// The next pack, or none where it is idle. It counts as given all the same.
     #[inline]
-    pub fn next(&mut self) -> Option<Pack>
+    pub fn next_unless_idle(&mut self) -> Option<Pack>
         ensures pack { IsPackAt self.old.script self.old.given (unwrap_or result idle_pack) }
         ensures script { self.new.script ≡ self.old.script }
         ensures given { self.new.given ≡ min (self.old.given + 1) 4294967295 }

@@ -17,6 +17,6 @@ impl<'a> PackSource for Scheduled<'a> {
     ghost comes = { λ s n pack. s.weaver.given + n < 4294967295 → IsPackAt s.weaver.script (s.weaver.given + n) pack };
 
     fn next_pack(&mut self) -> Option<Pack> {
-        self.weaver.next()
+        self.weaver.next_unless_idle()
     }
 }
