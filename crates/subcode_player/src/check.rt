@@ -8,7 +8,8 @@ ghost use Rattle.rw_interleave.specs.Stream.{word_count};
 ghost use Rattle.subcode_player.specs.Faults.{TellsStops};
 ghost use Rattle.subcode_player.specs.Steps.{fresh_words};
 ghost use Rattle.subcode_player.specs.Calls.{EndFirst, IsAnsweredBy, IsStreamStop, PlaysAtEnd};
-ghost use Rattle.subcode_player.specs.Check.{IsCheckListed, count_line, stream_lines, wrong_lines, pack_count_lines, frame_count_lines};
+ghost use Rattle.subcode_player.specs.Check.{IsCheckListed, count_line, stream_lines, wrong_lines};
+ghost use Rattle.subcode_player.specs.Check.{frame_count_lines, pack_count_lines};
 ghost use Rattle.subcode_player.specs.CheckSteps.{IsFresh, lines_of_counts};
 
 use crate::player::play_stop;
@@ -45,7 +46,8 @@ impl Player {
         // It never answers that a moment is past the end, nor a fault of texts, whatever the input.
         ensures stops { IfErr result IsStreamStop }
         // Where nothing failed, the answer is that of the whole input's length.
-        ensures answer { IfSome (S.left source.old) (λ all. IsAnsweredBy result (unit_size form) (length all)) }
+        ensures answer { IfSome (S.left source.old) (λ all.
+            IsAnsweredBy result (unit_size form) (length all)) }
         // Where the output is not written it is as it was.
         ensures untouched { IfErr result (λ stop. stop ≢ PlayStop.WriteFault → out.new ≡ out.old) }
         ensures faults { TellsStops (S.faults source.old) (S.faults source.new)
@@ -68,10 +70,13 @@ impl Player {
         out: &mut K,
     ) -> Result<Played, PlayStop>
         requires { blocks ≤ 1000000 }
-        ensures ok { IfOk result (λ played. (played.blocks ≡ blocks - lead_in) × (played.bad ≡ self.now.checks.second.words.second.bad)
-            × Appends (K.held out.old) (K.held out.new) (lines_of_counts form lead_in blocks self.now.checks.second)) }
+        ensures ok { IfOk result (λ played. (played.blocks ≡ blocks - lead_in)
+            × (played.bad ≡ self.now.checks.second.words.second.bad)
+            × Appends (K.held out.old) (K.held out.new)
+            (lines_of_counts form lead_in blocks self.now.checks.second)) }
         ensures part { IfErr result (λ stop. (stop ≡ PlayStop.WriteFault)
-            × AppendsPrefix (K.held out.old) (K.held out.new) (lines_of_counts form lead_in blocks self.now.checks.second)) }
+            × AppendsPrefix (K.held out.old) (K.held out.new)
+            (lines_of_counts form lead_in blocks self.now.checks.second)) }
         ensures untouched { IfErr result (λ stop. stop ≢ PlayStop.WriteFault → out.new ≡ out.old) }
         ensures cause { HasCause (K.faults out.old) (K.faults out.new) result }
     {

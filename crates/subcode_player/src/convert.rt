@@ -20,7 +20,8 @@ pub fn damaged_streams_give_packs()
         → IsDamagedStream form lead_in blocks packs bytes → IsConverted form lead_in bytes text bad
         → text ≡ concat (all_packs form blocks packs) }
     ensures bad { (form : Form) (lead_in blocks : ℕ) (packs : List (List ℕ)) (bytes text : List ℕ) (bad : ℕ)
-        → IsDamagedStream form lead_in blocks packs bytes → IsConverted form lead_in bytes text bad → bad ≡ 0 }
+        → IsDamagedStream form lead_in blocks packs bytes → IsConverted form lead_in bytes text bad
+        → bad ≡ 0 }
 {
     packs_are_recovered();
     text_of_packs();
@@ -55,7 +56,8 @@ impl Player {
         // It never answers that a moment is past the end, nor a fault of texts, whatever the input.
         ensures stops { IfErr result IsStreamStop }
         // Where nothing failed, the answer is that of the whole input's length.
-        ensures answer { IfSome (S.left source.old) (λ all. IsAnsweredBy result (unit_size form) (length all)) }
+        ensures answer { IfSome (S.left source.old) (λ all.
+            IsAnsweredBy result (unit_size form) (length all)) }
         ensures faults { TellsStops (S.faults source.old) (S.faults source.new)
             (K.faults out.old) (K.faults out.new) result }
         ensures ended { EndInTurn result (S.ends source.old) (S.ends source.new) }

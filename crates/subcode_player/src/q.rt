@@ -23,12 +23,13 @@ impl Player {
     ) -> Result<Played, PlayStop>
         requires lead_in { lead_in ≤ 450000 }
         requires form { form ≢ Form.Cooked }
-        ensures lists { (taken : List ℕ) × PlaysInTurn (IsQListed form) form lead_in (S.left source.old) (S.left source.new)
-            (K.held out.old) (K.held out.new) result taken }
+        ensures lists { (taken : List ℕ) × PlaysInTurn (IsQListed form) form lead_in
+            (S.left source.old) (S.left source.new) (K.held out.old) (K.held out.new) result taken }
         // It never answers that a moment is past the end, nor a fault of texts, whatever the input.
         ensures stops { IfErr result IsStreamStop }
         // Where nothing failed, the answer is that of the whole input's length.
-        ensures answer { IfSome (S.left source.old) (λ all. IsAnsweredBy result (unit_size form) (length all)) }
+        ensures answer { IfSome (S.left source.old) (λ all.
+            IsAnsweredBy result (unit_size form) (length all)) }
         ensures faults { TellsStops (S.faults source.old) (S.faults source.new)
             (K.faults out.old) (K.faults out.new) result }
         ensures ended { EndInTurn result (S.ends source.old) (S.ends source.new) }
@@ -56,8 +57,8 @@ pub fn list_frames<S: Source, K: Sink>(
 ) -> Result<Played, PlayStop>
     requires lead_in { lead_in ≤ 450000 }
     requires form { form ≢ Form.Cooked }
-    ensures lists { (taken : List ℕ) × PlaysInTurn (IsQListed form) form lead_in (S.left source.old) (S.left source.new)
-        (K.held out.old) (K.held out.new) result taken }
+    ensures lists { (taken : List ℕ) × PlaysInTurn (IsQListed form) form lead_in
+        (S.left source.old) (S.left source.new) (K.held out.old) (K.held out.new) result taken }
     // It never answers that a moment is past the end, nor a fault of texts, whatever the input.
     ensures stops { IfErr result IsStreamStop }
     // Where nothing failed, the answer is that of the whole input's length.

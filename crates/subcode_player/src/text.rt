@@ -65,7 +65,8 @@ impl Player {
         ensures writes { WritesTexts self.now.texts.second blocks (K.held out.old) (K.held out.new) result }
         ensures untouched { IfErr result (λ stop. stop ≢ PlayStop.WriteFault → out.new ≡ out.old) }
         ensures later { K.faults out.old ≤ K.faults out.new }
-        ensures write_fault { IsErrOf result PlayStop.WriteFault → Rose (K.faults out.old) (K.faults out.new) }
+        ensures write_fault { IsErrOf result PlayStop.WriteFault
+            → Rose (K.faults out.old) (K.faults out.new) }
         ensures no_write_fault { result ≢ Err PlayStop.WriteFault → K.faults out.new ≡ K.faults out.old }
     {
         let texts = &self.texts.second;
