@@ -4,6 +4,7 @@ use Rattle.cdg_io.specs.Causes.{Rose}
 use Rattle.cdtext_packs.specs.declared.kinds.TextFault.{TextFault}
 use Rattle.cdtext_packs.specs.declared.kinds.TextFault.TheVariants as fault
 use Rattle.subcode_player.specs.Calls.{EndFirst, EndInTurn, IsMomentStop, IsStreamStop}
+use Rattle.subcode_player.specs.Faults.{TellsStops}
 use Rattle.subcode_player.specs.declared.player.Played.{Played}
 use Rattle.subcode_player.specs.declared.player.PlayStop.{PlayStop}
 use Rattle.subcode_player.specs.declared.player.PlayStop.TheVariants as play
@@ -38,10 +39,9 @@ faults (Err play.TooLong) f f' k k' r w rose same cut kept = quiet.none f f' k k
 faults (Err (play.PastEnd blocks)) f f' k k' r w rose same cut kept = quiet.none f f' k k' r w _ (λ e. cc) (λ e. cc) (λ e. cc) (λ e. cc) (same (λ e. cc)) (kept (λ e. cc))
 faults (Err (play.Text why)) f f' k k' r w rose same cut kept = no_texts f f' k k' r w why (same (λ e. cc)) (kept (λ e. cc))
 
-pub told_one : (answer : Result Played PlayStop) (status : Status) (f f' k k' : ℕ) → status ≡ play_status answer → f ≤ f' → k ≤ k' → (IsErrOf answer play.ReadFault → Rose f f')
-    → (answer ≢ Err play.ReadFault → f' ≡ f) → (IsErrOf answer play.WriteFault → Rose k k') → (answer ≢ Err play.WriteFault → k' ≡ k) → TellsOne (count f f') (count k k') status
-told_one answer status f f' k k' is r w rose same cut kept =
-    subst (λ (s : Status). TellsOne (count f f') (count k k') s) (sym is) (faults answer f f' k k' r w rose same cut kept)
+pub told_one : (answer : Result Played PlayStop) (status : Status) (f f' k k' : ℕ) → status ≡ play_status answer → TellsStops f f' k k' answer → TellsOne (count f f') (count k k') status
+told_one answer status f f' k k' is h =
+    subst (λ (s : Status). TellsOne (count f f') (count k k') s) (sym is) (faults answer f f' k k' h.read.later h.write.later h.read.rose h.read.same h.write.rose h.write.same)
 
 -- no memory was found, and nothing was done
 pub told_none : (f k : ℕ) → TellsOne (count f f) (count k k) NoMemory

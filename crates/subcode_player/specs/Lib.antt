@@ -8,3 +8,4 @@ pub mod Pictured
 pub mod Check
 pub mod CheckSteps
 pub mod TextListing
+pub mod Faults

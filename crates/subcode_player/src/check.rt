@@ -1,13 +1,15 @@
 // The counts of a stream.
-ghost use Rattle.std.specs.Prelude.{◌≡◌, ◌≢◌, ◌≤◌, ◌-◌, ◌+◌, ◌++◌, min, List, ℕ, length, IfSome, IfOk, IfErr, IsErrOf, Err};
+ghost use Rattle.std.specs.Prelude.{◌≡◌, ◌≢◌, ◌≤◌, ◌-◌, ◌+◌, ◌++◌, min, List, ℕ, length, IfSome, IfOk, IfErr};
 ghost use Rattle.std.specs.Io.KnownBytes.{Appends};
-ghost use Rattle.cdg_io.specs.Causes.{HasCause, Rose};
+ghost use Rattle.cdg_io.specs.Causes.{HasCause};
 ghost use Rattle.cdg_io.specs.Moves.{AppendsPrefix};
 ghost use Rattle.raw_subcode.specs.Channels.{unit_size};
 ghost use Rattle.rw_interleave.specs.Stream.{word_count};
+ghost use Rattle.subcode_player.specs.Faults.{TellsStops};
 ghost use Rattle.subcode_player.specs.Steps.{fresh_words};
 ghost use Rattle.subcode_player.specs.Calls.{EndFirst, IsAnsweredBy, IsStreamStop, PlaysAtEnd};
-ghost use Rattle.subcode_player.specs.Check.{IsCheckListed, count_line, stream_lines, wrong_lines, pack_count_lines, frame_count_lines};
+ghost use Rattle.subcode_player.specs.Check.{IsCheckListed, count_line, stream_lines, wrong_lines};
+ghost use Rattle.subcode_player.specs.Check.{frame_count_lines, pack_count_lines};
 ghost use Rattle.subcode_player.specs.CheckSteps.{IsFresh, lines_of_counts};
 
 use crate::player::play_stop;
@@ -44,16 +46,13 @@ impl Player {
         // It never answers that a moment is past the end, nor a fault of texts, whatever the input.
         ensures stops { IfErr result IsStreamStop }
         // Where nothing failed, the answer is that of the whole input's length.
-        ensures answer { IfSome (S.left source.old) (λ all. IsAnsweredBy result (unit_size form) (length all)) }
+        ensures answer { IfSome (S.left source.old) (λ all.
+            IsAnsweredBy result (unit_size form) (length all)) }
         // Where the output is not written it is as it was.
         ensures untouched { IfErr result (λ stop. stop ≢ PlayStop.WriteFault → out.new ≡ out.old) }
-        ensures source_later { S.faults source.old ≤ S.faults source.new }
-        ensures out_later { K.faults out.old ≤ K.faults out.new }
-        ensures read_fault { IsErrOf result PlayStop.ReadFault → Rose (S.faults source.old) (S.faults source.new) }
-        ensures no_read_fault { result ≢ Err PlayStop.ReadFault → S.faults source.new ≡ S.faults source.old }
+        ensures faults { TellsStops (S.faults source.old) (S.faults source.new)
+            (K.faults out.old) (K.faults out.new) result }
         ensures ended { EndFirst result (S.ends source.old) (S.ends source.new) }
-        ensures write_fault { IsErrOf result PlayStop.WriteFault → Rose (K.faults out.old) (K.faults out.new) }
-        ensures no_write_fault { result ≢ Err PlayStop.WriteFault → K.faults out.new ≡ K.faults out.old }
     {
         self.begin_check(lead_in, form);
         match watch(form, source, &mut self.checks) {
@@ -71,10 +70,13 @@ impl Player {
         out: &mut K,
     ) -> Result<Played, PlayStop>
         requires { blocks ≤ 1000000 }
-        ensures ok { IfOk result (λ played. (played.blocks ≡ blocks - lead_in) × (played.bad ≡ self.now.checks.second.words.second.bad)
-            × Appends (K.held out.old) (K.held out.new) (lines_of_counts form lead_in blocks self.now.checks.second)) }
+        ensures ok { IfOk result (λ played. (played.blocks ≡ blocks - lead_in)
+            × (played.bad ≡ self.now.checks.second.words.second.bad)
+            × Appends (K.held out.old) (K.held out.new)
+            (lines_of_counts form lead_in blocks self.now.checks.second)) }
         ensures part { IfErr result (λ stop. (stop ≡ PlayStop.WriteFault)
-            × AppendsPrefix (K.held out.old) (K.held out.new) (lines_of_counts form lead_in blocks self.now.checks.second)) }
+            × AppendsPrefix (K.held out.old) (K.held out.new)
+            (lines_of_counts form lead_in blocks self.now.checks.second)) }
         ensures untouched { IfErr result (λ stop. stop ≢ PlayStop.WriteFault → out.new ≡ out.old) }
         ensures cause { HasCause (K.faults out.old) (K.faults out.new) result }
     {

@@ -1,10 +1,10 @@
 // The conversion of a stream to packs.
-ghost use Rattle.std.specs.Prelude.{◌≡◌, ◌≢◌, ◌≤◌, List, ℕ, length, IfSome, IfErr, IsErrOf, Err};
+ghost use Rattle.std.specs.Prelude.{◌≡◌, ◌≢◌, ◌≤◌, List, ℕ, length, IfSome, IfErr};
 ghost use Rattle.std.specs.List.{concat};
-ghost use Rattle.cdg_io.specs.Causes.{Rose};
 ghost use Rattle.raw_subcode.specs.Channels.{unit_size};
 ghost use Rattle.raw_subcode.specs.declared.form.Form.{Form};
 ghost use Rattle.rw_interleave.specs.Stream.{all_packs};
+ghost use Rattle.subcode_player.specs.Faults.{TellsStops};
 ghost use Rattle.subcode_player.specs.Calls.{EndInTurn, IsAnsweredBy, IsStreamStop};
 ghost use Rattle.subcode_player.specs.Convert.{Converts, IsConverted, IsDamagedStream, Restores};
 
@@ -20,7 +20,8 @@ pub fn damaged_streams_give_packs()
         → IsDamagedStream form lead_in blocks packs bytes → IsConverted form lead_in bytes text bad
         → text ≡ concat (all_packs form blocks packs) }
     ensures bad { (form : Form) (lead_in blocks : ℕ) (packs : List (List ℕ)) (bytes text : List ℕ) (bad : ℕ)
-        → IsDamagedStream form lead_in blocks packs bytes → IsConverted form lead_in bytes text bad → bad ≡ 0 }
+        → IsDamagedStream form lead_in blocks packs bytes → IsConverted form lead_in bytes text bad
+        → bad ≡ 0 }
 {
     packs_are_recovered();
     text_of_packs();
@@ -55,14 +56,11 @@ impl Player {
         // It never answers that a moment is past the end, nor a fault of texts, whatever the input.
         ensures stops { IfErr result IsStreamStop }
         // Where nothing failed, the answer is that of the whole input's length.
-        ensures answer { IfSome (S.left source.old) (λ all. IsAnsweredBy result (unit_size form) (length all)) }
-        ensures source_later { S.faults source.old ≤ S.faults source.new }
-        ensures out_later { K.faults out.old ≤ K.faults out.new }
-        ensures read_fault { IsErrOf result PlayStop.ReadFault → Rose (S.faults source.old) (S.faults source.new) }
-        ensures no_read_fault { result ≢ Err PlayStop.ReadFault → S.faults source.new ≡ S.faults source.old }
+        ensures answer { IfSome (S.left source.old) (λ all.
+            IsAnsweredBy result (unit_size form) (length all)) }
+        ensures faults { TellsStops (S.faults source.old) (S.faults source.new)
+            (K.faults out.old) (K.faults out.new) result }
         ensures ended { EndInTurn result (S.ends source.old) (S.ends source.new) }
-        ensures write_fault { IsErrOf result PlayStop.WriteFault → Rose (K.faults out.old) (K.faults out.new) }
-        ensures no_write_fault { result ≢ Err PlayStop.WriteFault → K.faults out.new ≡ K.faults out.old }
     {
         damaged_streams_give_packs();
         self.begin(lead_in, form);

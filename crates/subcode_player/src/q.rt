@@ -1,9 +1,9 @@
 // The lines of the Q channel of a stream.
-ghost use Rattle.std.specs.Prelude.{◌≡◌, ◌≢◌, ◌≤◌, List, ℕ, length, IfSome, IfErr, IsErrOf, Err};
-ghost use Rattle.cdg_io.specs.Causes.{Rose};
+ghost use Rattle.std.specs.Prelude.{◌≡◌, ◌≢◌, ◌≤◌, List, ℕ, length, IfSome, IfErr};
 ghost use Rattle.raw_subcode.specs.Channels.{unit_size};
 ghost use Rattle.q_channel.specs.QList.{IsQListed};
 ghost use Rattle.raw_subcode.specs.declared.form.Form.{Form};
+ghost use Rattle.subcode_player.specs.Faults.{TellsStops};
 ghost use Rattle.subcode_player.specs.Calls.{EndInTurn, IsAnsweredBy, IsStreamStop, PlaysInTurn};
 
 use crate::player::play_stop;
@@ -23,19 +23,16 @@ impl Player {
     ) -> Result<Played, PlayStop>
         requires lead_in { lead_in ≤ 450000 }
         requires form { form ≢ Form.Cooked }
-        ensures lists { (taken : List ℕ) × PlaysInTurn (IsQListed form) form lead_in (S.left source.old) (S.left source.new)
-            (K.held out.old) (K.held out.new) result taken }
+        ensures lists { (taken : List ℕ) × PlaysInTurn (IsQListed form) form lead_in
+            (S.left source.old) (S.left source.new) (K.held out.old) (K.held out.new) result taken }
         // It never answers that a moment is past the end, nor a fault of texts, whatever the input.
         ensures stops { IfErr result IsStreamStop }
         // Where nothing failed, the answer is that of the whole input's length.
-        ensures answer { IfSome (S.left source.old) (λ all. IsAnsweredBy result (unit_size form) (length all)) }
-        ensures source_later { S.faults source.old ≤ S.faults source.new }
-        ensures out_later { K.faults out.old ≤ K.faults out.new }
-        ensures read_fault { IsErrOf result PlayStop.ReadFault → Rose (S.faults source.old) (S.faults source.new) }
-        ensures no_read_fault { result ≢ Err PlayStop.ReadFault → S.faults source.new ≡ S.faults source.old }
+        ensures answer { IfSome (S.left source.old) (λ all.
+            IsAnsweredBy result (unit_size form) (length all)) }
+        ensures faults { TellsStops (S.faults source.old) (S.faults source.new)
+            (K.faults out.old) (K.faults out.new) result }
         ensures ended { EndInTurn result (S.ends source.old) (S.ends source.new) }
-        ensures write_fault { IsErrOf result PlayStop.WriteFault → Rose (K.faults out.old) (K.faults out.new) }
-        ensures no_write_fault { result ≢ Err PlayStop.WriteFault → K.faults out.new ≡ K.faults out.old }
         ensures player { self.new ≡ self.old }
     {
         list_frames(lead_in, form, source, out)
@@ -60,19 +57,15 @@ pub fn list_frames<S: Source, K: Sink>(
 ) -> Result<Played, PlayStop>
     requires lead_in { lead_in ≤ 450000 }
     requires form { form ≢ Form.Cooked }
-    ensures lists { (taken : List ℕ) × PlaysInTurn (IsQListed form) form lead_in (S.left source.old) (S.left source.new)
-        (K.held out.old) (K.held out.new) result taken }
+    ensures lists { (taken : List ℕ) × PlaysInTurn (IsQListed form) form lead_in
+        (S.left source.old) (S.left source.new) (K.held out.old) (K.held out.new) result taken }
     // It never answers that a moment is past the end, nor a fault of texts, whatever the input.
     ensures stops { IfErr result IsStreamStop }
     // Where nothing failed, the answer is that of the whole input's length.
     ensures answer { IfSome (S.left source.old) (λ all. IsAnsweredBy result (unit_size form) (length all)) }
-    ensures source_later { S.faults source.old ≤ S.faults source.new }
-    ensures out_later { K.faults out.old ≤ K.faults out.new }
-    ensures read_fault { IsErrOf result PlayStop.ReadFault → Rose (S.faults source.old) (S.faults source.new) }
-    ensures no_read_fault { result ≢ Err PlayStop.ReadFault → S.faults source.new ≡ S.faults source.old }
+    ensures faults { TellsStops (S.faults source.old) (S.faults source.new)
+        (K.faults out.old) (K.faults out.new) result }
     ensures ended { EndInTurn result (S.ends source.old) (S.ends source.new) }
-    ensures write_fault { IsErrOf result PlayStop.WriteFault → Rose (K.faults out.old) (K.faults out.new) }
-    ensures no_write_fault { result ≢ Err PlayStop.WriteFault → K.faults out.new ≡ K.faults out.old }
 {
     let mut lines = Then::new(SectorBlocks, QLines { block: 0, bad: 0 });
     match pump_blocks(form, source, &mut lines, out) {

@@ -5,6 +5,7 @@ ghost use Rattle.raw_subcode.specs.Channels.{unit_size};
 ghost use Rattle.rw_interleave.specs.Interleave.{whole_packs};
 ghost use Rattle.cdg_screen.specs.Picture.{SameStanding, blank, standing_of};
 ghost use Rattle.picture_script.specs.Script.{Drawing};
+ghost use Rattle.subcode_player.specs.Faults.{TellsStops};
 ghost use Rattle.subcode_player.specs.Calls.{EndFirst, IsMomentStop};
 ghost use Rattle.subcode_player.specs.Steps.{fresh_words};
 ghost use Rattle.subcode_player.specs.Pictured.{GivesPicture, IsHeldAt, IsScheduledStream};
@@ -40,23 +41,21 @@ impl Player {
         requires at { at ≤ 449999 }
         ensures shows { (taken : List ℕ) × Shows (IsScreenAt form lead_in at) form lead_in at
             (S.left source.old) (S.left source.new) (K.held out.old) (K.held out.new) result taken }
-        // From its ready time to its hold time each picture of a script is shown, whatever damage of at most two symbols a word does.
+        // From its ready time to its hold time each picture of a script is shown, whatever damage of at most two
+        // symbols a word does.
         ensures pictures { IfSome (S.left source.old) (λ all. (script : List Drawing) (k : ℕ)
             → IsScheduledStream form lead_in script all → IsHeldAt script k at
             → GivesPicture script k result (K.held out.old) (K.held out.new)) }
         // It never answers a fault of texts, whatever the input.
         ensures stops { IfErr result IsMomentStop }
         // Where nothing failed, the answer is that of the whole input's length.
-        ensures answer { IfSome (S.left source.old) (λ all. IsShownBy result lead_in at (unit_size form) (length all)) }
+        ensures answer { IfSome (S.left source.old) (λ all.
+            IsShownBy result lead_in at (unit_size form) (length all)) }
         // Where the output is not written it is as it was.
         ensures untouched { IfErr result (λ stop. stop ≢ PlayStop.WriteFault → out.new ≡ out.old) }
-        ensures source_later { S.faults source.old ≤ S.faults source.new }
-        ensures out_later { K.faults out.old ≤ K.faults out.new }
-        ensures read_fault { IsErrOf result PlayStop.ReadFault → Rose (S.faults source.old) (S.faults source.new) }
-        ensures no_read_fault { result ≢ Err PlayStop.ReadFault → S.faults source.new ≡ S.faults source.old }
+        ensures faults { TellsStops (S.faults source.old) (S.faults source.new)
+            (K.faults out.old) (K.faults out.new) result }
         ensures ended { EndFirst result (S.ends source.old) (S.ends source.new) }
-        ensures write_fault { IsErrOf result PlayStop.WriteFault → Rose (K.faults out.old) (K.faults out.new) }
-        ensures no_write_fault { result ≢ Err PlayStop.WriteFault → K.faults out.new ≡ K.faults out.old }
     {
         screens_show_pictures();
         match self.view(lead_in, form, at, source) {
@@ -68,7 +67,8 @@ impl Player {
         }
     }
 
-    /// Writes the state at a moment: border, offsets, colours and levels of what `screen_at` shows, under the same conditions.
+    /// Writes the state at a moment: border, offsets, colours and levels of what `screen_at` shows, under the same
+    /// conditions.
     pub fn state_at<S: Source, K: Sink>(
         &mut self,
         lead_in: u32,
@@ -84,16 +84,13 @@ impl Player {
         // It never answers a fault of texts, whatever the input.
         ensures stops { IfErr result IsMomentStop }
         // Where nothing failed, the answer is that of the whole input's length.
-        ensures answer { IfSome (S.left source.old) (λ all. IsShownBy result lead_in at (unit_size form) (length all)) }
+        ensures answer { IfSome (S.left source.old) (λ all.
+            IsShownBy result lead_in at (unit_size form) (length all)) }
         // Where the output is not written it is as it was.
         ensures untouched { IfErr result (λ stop. stop ≢ PlayStop.WriteFault → out.new ≡ out.old) }
-        ensures source_later { S.faults source.old ≤ S.faults source.new }
-        ensures out_later { K.faults out.old ≤ K.faults out.new }
-        ensures read_fault { IsErrOf result PlayStop.ReadFault → Rose (S.faults source.old) (S.faults source.new) }
-        ensures no_read_fault { result ≢ Err PlayStop.ReadFault → S.faults source.new ≡ S.faults source.old }
+        ensures faults { TellsStops (S.faults source.old) (S.faults source.new)
+            (K.faults out.old) (K.faults out.new) result }
         ensures ended { EndFirst result (S.ends source.old) (S.ends source.new) }
-        ensures write_fault { IsErrOf result PlayStop.WriteFault → Rose (K.faults out.old) (K.faults out.new) }
-        ensures no_write_fault { result ≢ Err PlayStop.WriteFault → K.faults out.new ≡ K.faults out.old }
     {
         match self.view(lead_in, form, at, source) {
             Ok(played) => match self.views.second.second.picture.write_state(out) {
@@ -118,9 +115,11 @@ impl Player {
         ensures views { (taken : List ℕ) × Views form lead_in at (S.left source.old) (S.left source.new)
             (standing_of self.new.views.second.second.picture) result taken }
         ensures stops { IfErr result IsMomentStop }
-        ensures answer { IfSome (S.left source.old) (λ all. IsShownBy result lead_in at (unit_size form) (length all)) }
+        ensures answer { IfSome (S.left source.old) (λ all.
+            IsShownBy result lead_in at (unit_size form) (length all)) }
         ensures source_later { S.faults source.old ≤ S.faults source.new }
-        ensures read_fault { IsErrOf result PlayStop.ReadFault → Rose (S.faults source.old) (S.faults source.new) }
+        ensures read_fault { IsErrOf result PlayStop.ReadFault
+            → Rose (S.faults source.old) (S.faults source.new) }
         ensures no_read_fault { result ≢ Err PlayStop.ReadFault → S.faults source.new ≡ S.faults source.old }
         ensures ended { EndFirst result (S.ends source.old) (S.ends source.new) }
     {

@@ -2,6 +2,7 @@
 ghost use Rattle.std.specs.Prelude.{◌≡◌, ◌≢◌, ◌≤◌, ◌-◌, List, ℕ, IfSome, IfErr, IsErrOf, Err};
 ghost use Rattle.cdg_io.specs.Causes.{Rose};
 ghost use Rattle.cdtext_packs.specs.TextSteps.{fresh_texts};
+ghost use Rattle.subcode_player.specs.Faults.{TellsStops};
 ghost use Rattle.subcode_player.specs.Calls.{EndFirst, IsListStop};
 ghost use Rattle.subcode_player.specs.TextListing.{ListsTexts, IsListedBy};
 ghost use Rattle.subcode_player.specs.Watch.{WritesTexts};
@@ -42,13 +43,9 @@ impl Player {
         ensures answer { IfSome (S.left source.old) (λ all. IsListedBy result form lead_in all) }
         // Where the output is not written it is as it was.
         ensures untouched { IfErr result (λ stop. stop ≢ PlayStop.WriteFault → out.new ≡ out.old) }
-        ensures source_later { S.faults source.old ≤ S.faults source.new }
-        ensures out_later { K.faults out.old ≤ K.faults out.new }
-        ensures read_fault { IsErrOf result PlayStop.ReadFault → Rose (S.faults source.old) (S.faults source.new) }
-        ensures no_read_fault { result ≢ Err PlayStop.ReadFault → S.faults source.new ≡ S.faults source.old }
+        ensures faults { TellsStops (S.faults source.old) (S.faults source.new)
+            (K.faults out.old) (K.faults out.new) result }
         ensures ended { EndFirst result (S.ends source.old) (S.ends source.new) }
-        ensures write_fault { IsErrOf result PlayStop.WriteFault → Rose (K.faults out.old) (K.faults out.new) }
-        ensures no_write_fault { result ≢ Err PlayStop.WriteFault → K.faults out.new ≡ K.faults out.old }
     {
         lead_in_packs_are_read();
         self.texts.second.begin(lead_in);
@@ -68,7 +65,8 @@ impl Player {
         ensures writes { WritesTexts self.now.texts.second blocks (K.held out.old) (K.held out.new) result }
         ensures untouched { IfErr result (λ stop. stop ≢ PlayStop.WriteFault → out.new ≡ out.old) }
         ensures later { K.faults out.old ≤ K.faults out.new }
-        ensures write_fault { IsErrOf result PlayStop.WriteFault → Rose (K.faults out.old) (K.faults out.new) }
+        ensures write_fault { IsErrOf result PlayStop.WriteFault
+            → Rose (K.faults out.old) (K.faults out.new) }
         ensures no_write_fault { result ≢ Err PlayStop.WriteFault → K.faults out.new ≡ K.faults out.old }
     {
         let texts = &self.texts.second;

@@ -18,15 +18,16 @@ pub(crate) fn pump_blocks<S: Source, G: Stage<Item = [u8; BLOCK], Out = Piece>, 
     stages: &mut Then<SectorBlocks, G>,
     out: &mut K,
 ) -> Result<Pumped, PumpStop>
-    ensures pumps { (taken : List ℕ) × Pumps (unit_size form) most_units (on_units form G.next) (on_units form G.gives)
-        (S.left source.old) (S.left source.new) stages.old.second stages.new.second
+    ensures pumps { (taken : List ℕ) × Pumps (unit_size form) most_units
+        (on_units form G.next) (on_units form G.gives) (S.left source.old) (S.left source.new) stages.old.second stages.new.second
         (K.held out.old) (K.held out.new) result taken }
     // Where nothing failed, the answer is that of the whole input's length.
     ensures answer { IfSome (S.left source.old) (λ all.
         IsUnlessFault result (answer_of (unit_size form) most_units (length all))) }
     ensures source_later { S.faults source.old ≤ S.faults source.new }
     ensures out_later { K.faults out.old ≤ K.faults out.new }
-    ensures read_fault { IsErrOf result PumpStop.ReadFault → Rose (S.faults source.old) (S.faults source.new) }
+    ensures read_fault { IsErrOf result PumpStop.ReadFault
+        → Rose (S.faults source.old) (S.faults source.new) }
     ensures no_read_fault { result ≢ Err PumpStop.ReadFault → S.faults source.new ≡ S.faults source.old }
     ensures ended { TellsEndOf result (S.ends source.old) (S.ends source.new) }
     ensures write_fault { IsErrOf result PumpStop.WriteFault → Rose (K.faults out.old) (K.faults out.new) }
@@ -50,7 +51,8 @@ pub(crate) fn watch<S: Source, G: Stage<Item = [u8; BLOCK], Out = Piece>>(
     ensures answer { IfSome (S.left source.old) (λ all.
         IsUnlessFault result (answer_of (unit_size form) most_units (length all))) }
     ensures source_later { S.faults source.old ≤ S.faults source.new }
-    ensures read_fault { IsErrOf result PumpStop.ReadFault → Rose (S.faults source.old) (S.faults source.new) }
+    ensures read_fault { IsErrOf result PumpStop.ReadFault
+        → Rose (S.faults source.old) (S.faults source.new) }
     ensures no_read_fault { result ≢ Err PumpStop.ReadFault → S.faults source.new ≡ S.faults source.old }
     ensures ended { TellsEndOf result (S.ends source.old) (S.ends source.new) }
 {

@@ -3,6 +3,7 @@ use Rattle.q_channel.specs.QSteps.{q_next, q_give}
 use Rattle.q_channel.specs.declared.q_lines.QLines.{QLines}
 use Rattle.raw_subcode.specs.Channels.{unit_size}
 use Rattle.subcode_player.specs.Watch.{on_units}
+use Rattle.subcode_player.proofs.Told.{done_told, stop_told}
 use Rattle.subcode_player.proofs.Playing.{done_at, stop_at}
 use Rattle.subcode_player.proofs.QListing.{plays_frames}
 use Rattle.subcode_player.proofs.q.list_frames.Goals as goal
@@ -24,3 +25,13 @@ returns-in-Err-clause-lists g c =
       stop_at _ form _ (on_units form q_next) (on_units form q_give) (λ (t : QLines). t.bad) _ _ _ _ _ _ taken (unit_size form) _ _ refl c.play_stop.ensures
           (plays_frames form _ c.requires.form c.new-lines.ensures.second) p,
     )
+
+pub returns-in-Ok-clause-faults : goal.returns-in-Ok-clause-faults
+returns-in-Ok-clause-faults g c =
+    let read = c.in-Ok.ensures in
+    done_told _ _ _ _ read.source_later read.out_later _ _ read.no_read_fault read.no_write_fault
+
+pub returns-in-Err-clause-faults : goal.returns-in-Err-clause-faults
+returns-in-Err-clause-faults g c =
+    let read = c.in-Err.ensures in
+    stop_told _ _ _ _ read.source_later read.out_later _ _ c.play_stop.ensures read.read_fault read.no_read_fault read.write_fault read.no_write_fault

@@ -1,5 +1,6 @@
 use Rattle.std.proofs.Common.{refl}
 use Rattle.raw_subcode.specs.Channels.{unit_size}
+use Rattle.subcode_player.proofs.Told.{counts_told, unread}
 use Rattle.subcode_player.proofs.Checks.{at_end_stop, checks_done, checked_done, checked_stop}
 use Rattle.subcode_player.proofs.player.Player.check.Goals as goal
 
@@ -18,3 +19,13 @@ returns-in-Err-clause-checks g c =
 
 pub returns-in-Err-clause-answer : goal.returns-in-Err-clause-answer
 returns-in-Err-clause-answer g c = checked_stop (unit_size c.args.form) _ _ _ c.play_stop.ensures c.in-Err.ensures.answer
+
+pub returns-in-Ok-clause-faults : goal.returns-in-Ok-clause-faults
+returns-in-Ok-clause-faults g c =
+    let cause = c.write_counts.ensures.cause in
+    counts_told _ _ _ _ c.in-Ok.ensures.source_later cause.later c.in-Ok.pumped c.write_counts.result _ c.in-Ok.ensures.no_read_fault cause c.write_counts.ensures.part
+
+pub returns-in-Err-clause-faults : goal.returns-in-Err-clause-faults
+returns-in-Err-clause-faults g c =
+    let (taken, w) = c.in-Err.ensures.watches in
+    unread _ _ _ c.in-Err.ensures.source_later _ _ c.play_stop.ensures w.no_write c.in-Err.ensures.read_fault c.in-Err.ensures.no_read_fault

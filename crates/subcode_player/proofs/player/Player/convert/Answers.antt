@@ -1,6 +1,7 @@
 use Rattle.std.proofs.Common.{refl, Ok}
 use Rattle.raw_subcode.specs.Channels.{unit_size}
 use Rattle.subcode_player.specs.Watch.{on_units}
+use Rattle.subcode_player.proofs.Told.{done_told, stop_told}
 use Rattle.subcode_player.proofs.Checks.{answered_done, checked_stop}
 use Rattle.subcode_player.proofs.Playing.{done_at, stop_at}
 use Rattle.subcode_player.proofs.PlayRuns.{Blocks, blocks_next, blocks_give, plays_stream}
@@ -32,3 +33,13 @@ returns-in-Err-clause-restores g c =
     let law = c.damaged_streams_give_packs.ensures in
     let (taken, converts) = returns-in-Err-clause-converts g c in
     restores c.args.form c.args.lead_in _ _ _ _ _ taken law.text law.bad converts (checked_stop (unit_size c.args.form) _ _ _ c.play_stop.ensures c.in-Err.ensures.answer)
+
+pub returns-in-Ok-clause-faults : goal.returns-in-Ok-clause-faults
+returns-in-Ok-clause-faults g c =
+    let read = c.in-Ok.ensures in
+    done_told _ _ _ _ read.source_later read.out_later _ _ read.no_read_fault read.no_write_fault
+
+pub returns-in-Err-clause-faults : goal.returns-in-Err-clause-faults
+returns-in-Err-clause-faults g c =
+    let read = c.in-Err.ensures in
+    stop_told _ _ _ _ read.source_later read.out_later _ _ c.play_stop.ensures read.read_fault read.no_read_fault read.write_fault read.no_write_fault

@@ -1,6 +1,7 @@
 use Rattle.std.proofs.Common.{refl}
 use Rattle.cdg_screen.specs.Picture.{standing_of}
 use Rattle.cdg_screen.specs.Texts.{pixmap}
+use Rattle.subcode_player.proofs.Told.{cut_told, shown_told, unread_view}
 use Rattle.subcode_player.proofs.Views.{shows_done, shows_cut, shows_stop}
 use Rattle.subcode_player.proofs.Pictured.{gives_picture}
 use Rattle.subcode_player.proofs.player.Player.screen_at.Goals as goal
@@ -33,3 +34,18 @@ returns-in-Err-clause-pictures g c =
     let (taken, v) = c.in-Err.ensures.views in
     let shows = shows_stop c.args.form c.args.lead_in c.args.at _ _ taken pixmap (standing_of c.view.new.self.views.second.second.picture) _ _ _ v refl in
     gives_picture c.args.form c.args.lead_in c.args.at _ _ _ _ _ taken law.text law.bad shows c.in-Err.ensures.answer
+
+pub returns-in-Ok-write_ppm-clause-faults : goal.returns-in-Ok-write_ppm-clause-faults
+returns-in-Ok-write_ppm-clause-faults g c =
+    let cause = c.in-Ok-write_ppm.ensures.cause in
+    shown_told _ _ _ _ c.in-Ok.ensures.source_later cause.later _ _ c.in-Ok.ensures.no_read_fault cause.same
+
+pub returns-in-Err-write_ppm-clause-faults : goal.returns-in-Err-write_ppm-clause-faults
+returns-in-Err-write_ppm-clause-faults g c =
+    let cause = c.in-Err-write_ppm.ensures.cause in
+    cut_told _ _ _ _ c.in-Ok.ensures.source_later cause.later _ c.in-Ok.ensures.no_read_fault cause.failed
+
+pub returns-in-Err-clause-faults : goal.returns-in-Err-clause-faults
+returns-in-Err-clause-faults g c =
+    let (taken, v) = c.in-Err.ensures.views in
+    unread_view _ _ _ c.in-Err.ensures.source_later _ v.no_write c.in-Err.ensures.read_fault c.in-Err.ensures.no_read_fault

@@ -1,3 +1,4 @@
+use Rattle.subcode_player.proofs.Told.{texts_told, unread}
 use Rattle.subcode_player.proofs.TextLists.{lists_done, listed_done}
 use Rattle.subcode_player.proofs.player.Player.text_list.Goals as goal
 
@@ -12,3 +13,13 @@ returns-in-Ok-clause-answer g c =
     listed_done c.args.form c.args.lead_in c.in-Ok.pumped _ _ _ _ _ c.begin.new.self c.watch.new.stages.second taken _ w c.write_texts.ensures.writes
     (lists_done c.args.form c.args.lead_in _ _ _ _ c.begin.new.self c.watch.new.stages.second taken c.in-Ok.pumped _ _ c.lead_in_packs_are_read.ensures c.requires.lead_in c.begin.ensures w c.saturating_sub.ensures c.write_texts.ensures.writes)
     c.in-Ok.ensures.answer
+
+pub returns-in-Ok-clause-faults : goal.returns-in-Ok-clause-faults
+returns-in-Ok-clause-faults g c =
+    let wrote = c.write_texts.ensures in
+    texts_told _ _ _ _ c.in-Ok.ensures.source_later wrote.later c.watch.new.stages.second _ (g.K.Sink.held c.args.out.now) (g.K.Sink.held c.write_texts.new.out) c.in-Ok.pumped c.write_texts.result wrote.writes c.in-Ok.ensures.no_read_fault wrote.write_fault wrote.no_write_fault
+
+pub returns-in-Err-clause-faults : goal.returns-in-Err-clause-faults
+returns-in-Err-clause-faults g c =
+    let (taken, w) = c.in-Err.ensures.watches in
+    unread _ _ _ c.in-Err.ensures.source_later _ _ c.play_stop.ensures w.no_write c.in-Err.ensures.read_fault c.in-Err.ensures.no_read_fault
