@@ -33,28 +33,33 @@ packs_until c time = whole_packs time - whole_packs c.program
 abbrev pub blocks_after : Checkpoint → List ℕ → ℕ
 blocks_after c rest = c.program + (length rest / 96 - c.to_come)
 
--- What stands at a time after the checkpoint, and how many words are bad: the words that come with the rest of the stream draw on what stood.
+-- What stands at a time after the checkpoint, and how many words are bad: the words that come with the rest of the
+-- stream draw on what stood.
 pub record IsGoneOn (c : Checkpoint) (time : ℕ) (rest : List ℕ) (now : Standing) (bad : ℕ) : Type 0 where
   pub found : List (Option (List ℕ))
   pub count : length found ≡ packs_until c (blocks_after c rest)
-  pub each : (n : ℕ) → n < length found → IsFinding (word_of (resumed_symbols c rest) n) (slice_index_or found n None)
+  pub each : (n : ℕ) → n < length found
+      → IsFinding (word_of (resumed_symbols c rest) n) (slice_index_or found n None)
   pub instrs : List Instr
   pub shown : AreMeant (take (packs_until c time) found) instrs
   pub stands : SameStanding now (standing_after c.standing instrs)
   pub bad_is : bad ≡ c.bad + bad_count (take (packs_until c time) found)
 
 -- the answer at a time after the checkpoint of a file, and the pixmap that is written
-pub record IsResumed (file : List ℕ) (time : ℕ) (rest : List ℕ) (resumed : Resumed) (text : List ℕ) : Type 0 where
+pub record IsResumed (file : List ℕ) (time : ℕ) (rest : List ℕ) (resumed : Resumed)
+    (text : List ℕ) : Type 0 where
   pub blocks : resumed.blocks ≡ blocks_after (checkpoint_in file) rest
   pub now : Standing
   pub gone_on : IsGoneOn (checkpoint_in file) time rest now resumed.bad
   pub text_is : text ≡ pixmap now
 
--- how the first input is answered to, for a time: it is the file of a checkpoint that is not later, or the first reason why not
+-- how the first input is answered to, for a time: it is the file of a checkpoint that is not later, or the first
+-- reason why not
 abbrev pub IsAcceptedBy : Result (Unit {0}) ResumeStop → ℕ → List ℕ → Type 0
 IsAcceptedBy (Ok done) time file = IsCheckpointFile file × ((checkpoint_in file).program ≤ time)
 IsAcceptedBy (Err (BadSave byte)) time file = IsBadAt file byte
-IsAcceptedBy (Err (BeforeSave blocks)) time file = IsCheckpointFile file × (blocks ≡ (checkpoint_in file).program) × (time < blocks)
+IsAcceptedBy (Err (BeforeSave blocks)) time file = IsCheckpointFile file
+    × (blocks ≡ (checkpoint_in file).program) × (time < blocks)
 IsAcceptedBy (Err FirstFault) time file = ⊤
 IsAcceptedBy (Err stop) time file = ⊥
 
@@ -64,21 +69,27 @@ blocks_left c = most_blocks - (c.lead_in + c.program)
 
 -- how the rest of the stream, of so many bytes, is answered to
 abbrev pub IsGoneOnBy : Result Resumed ResumeStop → Checkpoint → ℕ → ℕ → Type 0
-IsGoneOnBy (Ok resumed) c time len = (len ≤ blocks_left c * 96) × (len % 96 ≡ 0) × (time ≤ c.program + (len / 96 - c.to_come))
+IsGoneOnBy (Ok resumed) c time len = (len ≤ blocks_left c * 96) × (len % 96 ≡ 0)
+    × (time ≤ c.program + (len / 96 - c.to_come))
 IsGoneOnBy (Err TooLong) c time len = blocks_left c * 96 < len
-IsGoneOnBy (Err (Torn block)) c time len = (len ≤ blocks_left c * 96) × (len % 96 ≢ 0) × (block ≡ c.lead_in + c.program + len / 96)
-IsGoneOnBy (Err (PastEnd blocks)) c time len = (len ≤ blocks_left c * 96) × (len % 96 ≡ 0) × (blocks ≡ c.program + (len / 96 - c.to_come)) × (blocks < time)
+IsGoneOnBy (Err (Torn block)) c time len = (len ≤ blocks_left c * 96) × (len % 96 ≢ 0)
+    × (block ≡ c.lead_in + c.program + len / 96)
+IsGoneOnBy (Err (PastEnd blocks)) c time len = (len ≤ blocks_left c * 96) × (len % 96 ≡ 0)
+    × (blocks ≡ c.program + (len / 96 - c.to_come)) × (blocks < time)
 IsGoneOnBy (Err SecondFault) c time len = ⊤
 IsGoneOnBy (Err stop) c time len = ⊥
 
 -- The rest of a stream was taken, and nothing was written.
-pub record GoesOn (c : Checkpoint) (time : ℕ) (left left' : Option (List ℕ)) (now : Standing) (result : Result Resumed ResumeStop) (taken : List ℕ) : Type 0 where
+pub record GoesOn (c : Checkpoint) (time : ℕ) (left left' : Option (List ℕ)) (now : Standing)
+    (result : Result Resumed ResumeStop) (taken : List ℕ) : Type 0 where
   pub taken_from : Consumes left left' taken
   -- at most one byte past the limit
   pub within : length taken ≤ blocks_left c * 96 + 1
-  pub done : IfOk result (λ resumed. IsAtEnd left' × (resumed.blocks ≡ blocks_after c taken) × (time ≤ resumed.blocks) × IsGoneOn c time taken now resumed.bad)
+  pub done : IfOk result (λ resumed. IsAtEnd left' × (resumed.blocks ≡ blocks_after c taken)
+      × (time ≤ resumed.blocks) × IsGoneOn c time taken now resumed.bad)
   pub torn : (block : ℕ) → result ≡ Err (Torn block) → IsAtEnd left'
-  pub past_end : (blocks : ℕ) → result ≡ Err (PastEnd blocks) → IsAtEnd left' × (blocks ≡ blocks_after c taken) × (blocks < time)
+  pub past_end : (blocks : ℕ) → result ≡ Err (PastEnd blocks)
+      → IsAtEnd left' × (blocks ≡ blocks_after c taken) × (blocks < time)
 
 -- The count of told ends rose where the rest was read to its end, and nowhere else.
 abbrev pub EndsAsResumed : Result Resumed ResumeStop → ℕ → ℕ → Type 0
@@ -90,11 +101,15 @@ EndsAsResumed (Err stop) before now = now ≡ before
 
 -- what is answered after so many program blocks
 abbrev pub reached : ℕ → ℕ → ℕ → Result Resumed ResumeStop
-reached blocks time bad = if nat_lt blocks time then Err (PastEnd blocks) else Ok (record { blocks = blocks; bad = bad })
+reached blocks time bad = if nat_lt blocks time then Err (PastEnd blocks) else Ok (record {
+  blocks = blocks;
+  bad = bad;
+})
 
 -- the saved slots after so many blocks of the program, the oldest first
 abbrev pub saved_slots : Checkpoint → List (List ℕ)
-saved_slots c = map (λ k. symbols_of (take 24 (drop (24 * k) c.slots))) (range_with_len (7 - min 7 (4 * c.program)) (min 7 (4 * c.program)))
+saved_slots c = map (λ k. symbols_of (take 24 (drop (24 * k) c.slots)))
+    (range_with_len (7 - min 7 (4 * c.program)) (min 7 (4 * c.program)))
 
 -- what an answer says of the first input: it was refused, or could not be read, or was accepted
 abbrev pub acceptance : Result Resumed ResumeStop → Result (Unit {0}) ResumeStop
@@ -109,14 +124,19 @@ IsResumedBy (Err WriteFault) c time len = ⊤
 IsResumedBy result c time len = IsGoneOnBy result c time len
 
 -- A call that was given an accepted file took the rest of the stream, and wrote the picture at the end.
-pub record Resumes (file : List ℕ) (time : ℕ) (left left' held held' : Option (List ℕ)) (result : Result Resumed ResumeStop) (taken : List ℕ) : Type 0 where
+pub record Resumes (file : List ℕ) (time : ℕ) (left left' held held' : Option (List ℕ))
+    (result : Result Resumed ResumeStop) (taken : List ℕ) : Type 0 where
   pub taken_from : Consumes left left' taken
   -- at most one byte past the limit
   pub within : length taken ≤ blocks_left (checkpoint_in file) * 96 + 1
-  pub done : IfOk result (λ resumed. IsAtEnd left' × (time ≤ resumed.blocks) × ((text : List ℕ) × IsResumed file time taken resumed text × Appends held held' text))
+  pub done : IfOk result (λ resumed. IsAtEnd left' × (time ≤ resumed.blocks)
+      × ((text : List ℕ) × IsResumed file time taken resumed text × Appends held held' text))
   -- any other stop than a failed write: nothing is put
   pub stopped : (stop : ResumeStop) → result ≡ Err stop → stop ≢ WriteFault → Appends held held' []
   pub torn : (block : ℕ) → result ≡ Err (Torn block) → IsAtEnd left'
-  pub past_end : (blocks : ℕ) → result ≡ Err (PastEnd blocks) → IsAtEnd left' × (blocks ≡ blocks_after (checkpoint_in file) taken) × (blocks < time)
+  pub past_end : (blocks : ℕ) → result ≡ Err (PastEnd blocks)
+      → IsAtEnd left' × (blocks ≡ blocks_after (checkpoint_in file) taken) × (blocks < time)
   -- a write failed: the rest is read to its end, and a prefix of the text is put
-  pub cut : result ≡ Err WriteFault → IsAtEnd left' × ((text : List ℕ) × (resumed : Resumed) × IsResumed file time taken resumed text × AppendsPrefix held held' text)
+  pub cut : result ≡ Err WriteFault
+      → IsAtEnd left' × ((text : List ℕ) × (resumed : Resumed) × IsResumed file time taken resumed text
+      × AppendsPrefix held held' text)

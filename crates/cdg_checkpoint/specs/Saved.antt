@@ -48,8 +48,10 @@ IsBeforeEnd TooLong = ⊤
 IsBeforeEnd stop = ⊥
 
 -- A call took these bytes: it writes the file of their checkpoint at the end.
-abbrev pub Saves : ℕ → Option (List ℕ) → Option (List ℕ) → Option (List ℕ) → Option (List ℕ) → Result Pumped PumpStop → List ℕ → Type 0
-Saves lead_in left left' held held' result taken = WritesAtEnd 96 most_blocks IsBeforeEnd WriteFault (IsSaved lead_in) left left' held held' result taken
+abbrev pub Saves : ℕ → Option (List ℕ) → Option (List ℕ) → Option (List ℕ) → Option (List ℕ)
+    → Result Pumped PumpStop → List ℕ → Type 0
+Saves lead_in left left' held held' result taken =
+    WritesAtEnd 96 most_blocks IsBeforeEnd WriteFault (IsSaved lead_in) left left' held held' result taken
 
 -- The count of told ends rose where the input was read to its end, and nowhere else.
 abbrev pub EndsAsSaved : Result Pumped PumpStop → ℕ → ℕ → Type 0

@@ -16,19 +16,28 @@ use Rattle.cdg_checkpoint.specs.declared.tracking.Tracking.{Tracking}
 
 -- the words of a stream, and what they draw, after a block
 abbrev pub words_drawn : Then BlockWords Drawing → List ℕ → Then BlockWords Drawing
-words_drawn s block = record { first = words_next s.first block; second = then_second drawing_next s.second (words_give s.first block) }
+words_drawn s block = record {
+  first = words_next s.first block;
+  second = then_second drawing_next s.second (words_give s.first block);
+}
 
 -- the last symbols of the program after a block: those of a block of the lead-in do not count
 unfoldable pub tail_next : ℕ → List ℕ → List ℕ → List ℕ
 tail_next to_come tail block = if to_come == 0 then drop 96 (tail ++ symbols_of block) else tail
 
 abbrev pub track_next : Tracking → List ℕ → Tracking
-track_next s block = record { words = words_drawn s.words block; tail = tail_next s.words.first.lead_in s.tail block }
+track_next s block = record {
+  words = words_drawn s.words block;
+  tail = tail_next s.words.first.lead_in s.tail block;
+}
 
--- These bytes were taken, and where they are whole blocks to the end, the stage is in the last state of its run over them.
-pub record TracksBlocks {S : Type 0} (limit : ℕ) (next : S → List ℕ → S) (left left' : Option (List ℕ)) (s s' : S) (result : Result Pumped PumpStop) (taken : List ℕ) : Type 0 where
+-- These bytes were taken, and where they are whole blocks to the end, the stage is in the last state of its run over
+-- them.
+pub record TracksBlocks {S : Type 0} (limit : ℕ) (next : S → List ℕ → S) (left left' : Option (List ℕ))
+    (s s' : S) (result : Result Pumped PumpStop) (taken : List ℕ) : Type 0 where
   pub taken_from : Consumes left left' taken
   pub within : length taken ≤ limit * 96 + 1
-  pub done : IfOk result (λ p. IsAtEnd left' × (length taken ≡ p.units * 96) × (p.units ≤ limit) × (s' ≡ run_state next s (units_of 96 p.units taken)))
+  pub done : IfOk result (λ p. IsAtEnd left' × (length taken ≡ p.units * 96) × (p.units ≤ limit)
+      × (s' ≡ run_state next s (units_of 96 p.units taken)))
   pub torn : (unit : ℕ) → result ≡ Err (Torn unit) → IsAtEnd left' × (unit < limit)
   pub no_write : result ≢ Err WriteFault

@@ -81,7 +81,8 @@ impl Checkpointer {
         ensures saved_goes_on { result ≢ Err ResumeStop.FirstFault → 65045 < length self.new.file
             → S.ends saved.new ≡ S.ends saved.old }
         ensures saved_not_told { result ≡ Err ResumeStop.FirstFault → S.ends saved.new ≡ S.ends saved.old }
-        ensures rest_told { IsOk (acceptance result) → EndsAsResumed result (T.ends rest.old) (T.ends rest.new) }
+        ensures rest_told { IsOk (acceptance result)
+            → EndsAsResumed result (T.ends rest.old) (T.ends rest.new) }
     {
         match self.accept(at, saved) {
             Ok(()) => self.show(at, rest, out),

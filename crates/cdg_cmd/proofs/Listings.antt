@@ -14,7 +14,8 @@ use Rattle.cdtext_packs.specs.TextLines.{offers_line}
 use Rattle.round_trips.specs.Damage.{HasHurtSlots, count_hurt, count_whole}
 use Rattle.round_trips.specs.SheetLines.{HasText, HasTextPacks, sheet_lines}
 use Rattle.subcode_author.specs.Authored.{IsAuthored, text_packs, disc_of}
-use Rattle.subcode_player.specs.Calls.{most_units, IsAnsweredBy, PlaysInTurn}
+use Rattle.raw_subcode.specs.Sizes.{most_units}
+use Rattle.subcode_player.specs.Calls.{IsAnsweredBy, PlaysInTurn}
 use Rattle.subcode_player.specs.Convert.{Restores}
 use Rattle.subcode_player.specs.TextListing.{IsListedBy, IsWholeInput, ListsTexts, packs_in}
 use Rattle.subcode_player.specs.declared.player.Played.{Played}

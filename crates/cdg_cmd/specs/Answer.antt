@@ -51,42 +51,49 @@ play_status (Err play.TooLong) = Refused TooLong
 play_status (Err (play.PastEnd blocks)) = Refused (PastEnd blocks)
 play_status (Err (play.Text why)) = text_fault_status why
 
--- whatever the input, a stream that is played is never told to be past its end, nor to have faulty texts; where the input
--- tells its bytes, the answer is the exact one, unless a fault is told
+-- whatever the input, a stream that is played is never told to be past its end, nor to have faulty texts; where the
+-- input tells its bytes, the answer is the exact one, unless a fault is told
 abbrev pub IsPlayAnswer : Form → Bytes → Result Played PlayStop → Type 0
-IsPlayAnswer form input answer = IfErr answer IsStreamStop × IfSome input (λ all. IsAnsweredBy answer (unit_size form) (length all))
+IsPlayAnswer form input answer = IfErr answer IsStreamStop
+    × IfSome input (λ all. IsAnsweredBy answer (unit_size form) (length all))
 
 -- a stream of blocks was played, and the text of its blocks written as they were read
 abbrev pub PlaysAsRead : (List ℕ → List ℕ → ℕ → Type 0) → Form → ℕ → Call Bytes → Status → Type 0
 PlaysAsRead writes form lead_in call status =
-    EndsWith play_status (PlaysInTurn writes form lead_in call.first.before call.first.after call.out.before call.out.after)
+    EndsWith play_status (PlaysInTurn writes form lead_in call.first.before call.first.after call.out.before
+    call.out.after)
     (IsPlayAnswer form call.first.before) status
 
 -- the same, written when all is read
 abbrev pub PlaysWhole : (List ℕ → List ℕ → ℕ → Type 0) → Form → ℕ → Call Bytes → Status → Type 0
 PlaysWhole writes form lead_in call status =
-    EndsWith play_status (PlaysAtEnd writes form lead_in call.first.before call.first.after call.out.before call.out.after)
+    EndsWith play_status (PlaysAtEnd writes form lead_in call.first.before call.first.after call.out.before
+    call.out.after)
     (IsPlayAnswer form call.first.before) status
 
 -- the same of the answer to a moment, which can be past the end
 abbrev pub IsMomentAnswer : Form → ℕ → ℕ → Bytes → Result Played PlayStop → Type 0
 IsMomentAnswer form lead_in time input answer =
-    IfErr answer IsMomentStop × IfSome input (λ all. IsShownBy answer lead_in time (unit_size form) (length all))
+    IfErr answer IsMomentStop
+    × IfSome input (λ all. IsShownBy answer lead_in time (unit_size form) (length all))
 
 -- a moment of a stream was shown
 abbrev pub ShowsMoment : (List ℕ → List ℕ → ℕ → Type 0) → Form → ℕ → ℕ → Call Bytes → Status → Type 0
 ShowsMoment writes form lead_in time call status =
-    EndsWith play_status (Shows writes form lead_in time call.first.before call.first.after call.out.before call.out.after)
+    EndsWith play_status (Shows writes form lead_in time call.first.before call.first.after call.out.before
+    call.out.after)
     (IsMomentAnswer form lead_in time call.first.before) status
 
 -- the same of the answer to a list of texts
 abbrev pub IsListAnswer : Form → ℕ → Bytes → Result Played PlayStop → Type 0
-IsListAnswer form lead_in input answer = IfErr answer IsListStop × IfSome input (λ all. IsListedBy answer form lead_in all)
+IsListAnswer form lead_in input answer = IfErr answer IsListStop
+    × IfSome input (λ all. IsListedBy answer form lead_in all)
 
 -- the texts of the lead-in of a stream were listed
 abbrev pub ListsLeadIn : Form → ℕ → Call Bytes → Status → Type 0
 ListsLeadIn form lead_in call status =
-    EndsWith play_status (ListsTexts form lead_in call.first.before call.first.after call.out.before call.out.after)
+    EndsWith play_status (ListsTexts form lead_in call.first.before call.first.after call.out.before
+    call.out.after)
     (IsListAnswer form lead_in call.first.before) status
 
 -- a text was written, or a prefix of it where a write failed
@@ -102,7 +109,8 @@ Tries seed pictures out status = (text : List ℕ) × IsTrial seed pictures text
 -- what a command does with its two inputs and its output, where memory is found
 abbrev pub Does : Command → Call Bytes → Status → Type 0
 Does (Convert lead_in form) call status = PlaysAsRead (IsConverted form lead_in) form lead_in call status
-Does (Screen lead_in form at) call status = ShowsMoment (IsScreenAt form lead_in at) form lead_in at call status
+Does (Screen lead_in form at) call status =
+    ShowsMoment (IsScreenAt form lead_in at) form lead_in at call status
 Does (State lead_in form at) call status = ShowsMoment (IsStateAt form lead_in at) form lead_in at call status
 Does (Check lead_in form) call status = PlaysWhole (IsCheckListed form lead_in) form lead_in call status
 Does (Q lead_in form) call status = PlaysAsRead (IsQListed form) form lead_in call status

@@ -43,7 +43,8 @@ ReadsScript input script = IsAtEnd input.after × IfSome input.before (λ text. 
 abbrev pub IsSheetStop : Bytes → Status → Type 0
 IsSheetStop left (ReadFault First) = ⊤
 IsSheetStop left (Refused TooLong) = IfSome left (λ text. most_text < length text)
-IsSheetStop left (Refused (Cue line why)) = IfSome left (λ text. (length text ≤ most_text) × (read_cue text ≡ Err (line, why)))
+IsSheetStop left (Refused (Cue line why)) =
+    IfSome left (λ text. (length text ≤ most_text) × (read_cue text ≡ Err (line, why)))
 IsSheetStop left NoMemory = ⊤
 IsSheetStop left status = ⊥
 
@@ -51,7 +52,8 @@ IsSheetStop left status = ⊥
 abbrev pub IsScriptStop : Bytes → Status → Type 0
 IsScriptStop left (ReadFault Second) = ⊤
 IsScriptStop left (Refused TooLong) = IfSome left (λ text. most_text < length text)
-IsScriptStop left (Refused (Script line why)) = IfSome left (λ text. (length text ≤ most_text) × (read_script text ≡ Err (line, why)))
+IsScriptStop left (Refused (Script line why)) =
+    IfSome left (λ text. (length text ≤ most_text) × (read_script text ≡ Err (line, why)))
 IsScriptStop left NoMemory = ⊤
 IsScriptStop left status = ⊥
 
@@ -102,7 +104,8 @@ pub record IsPutFor (disc : Disc) (out : Change Bytes) (answer : Result (Unit {0
   pub cut : answer ≡ Err stop.WriteFault → PutsPrefix disc out
   pub nothing : IfErr answer (λ why. why ≢ stop.WriteFault → Appends out.before out.after [])
 
--- `author` ended with this status: at the first input, at the second, or with the answer to the sheet and the script that they say.
+-- `author` ended with this status: at the first input, at the second, or with the answer to the sheet and the script
+-- that they say.
 pub data AuthorsWith (lead_in audio : ℕ) (call : Call Bytes) (status : Status) : Type 0 where
   StopsAtSheet : IsSheetStop call.first.before status → TakesAtStop call.first status
       → Appends call.out.before call.out.after [] → AuthorsWith lead_in audio call status

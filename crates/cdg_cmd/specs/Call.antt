@@ -23,12 +23,20 @@ pub record Call (A : Type 0) : Type 0 where
 -- what is seen of the two inputs and of the output before and after a call
 abbrev pub call : {A S T K : Type 0} → (S → A) → (T → A) → (K → A) → S × T × K → S × T × K → Call A
 call first second out before after =
-    record { first = change first before.0 after.0; second = change second before.1 after.1; out = change out before.2 after.2 }
+    record {
+      first = change first before.0 after.0;
+      second = change second before.1 after.1;
+      out = change out before.2 after.2;
+    }
 
 -- what is seen of one input and of the output; the second input is not looked at
 abbrev pub one_input : {S K : Type 0} → (S → Bytes) → (K → Bytes) → S × K → S × K → Call Bytes
 one_input first out before after =
-    record { first = change first before.0 after.0; second = record { before = None; after = None }; out = change out before.1 after.1 }
+    record {
+      first = change first before.0 after.0;
+      second = record { before = None; after = None };
+      out = change out before.1 after.1;
+    }
 
 -- two inputs of these bytes, with what they still give after the call, and an output that does not tell what it takes
 abbrev pub dry_call : List ℕ → List ℕ → Bytes → Bytes → Call Bytes

@@ -22,7 +22,8 @@ use Rattle.cdg_cmd.specs.declared.status.Status.TheVariants.{Done, Damaged, Refu
 abbrev pub SavesWith : ℕ → Call Bytes → Status → Type 0
 SavesWith lead_in call status =
     EndsWith pump_status (Saves lead_in call.first.before call.first.after call.out.before call.out.after)
-    (λ answer. IfSome call.first.before (λ all. IsUnlessFault answer (answer_of 96 1000000 (length all)))) status
+    (λ answer. IfSome call.first.before (λ all. IsUnlessFault answer (answer_of 96 1000000 (length all))))
+    status
 
 -- an input was read to its end, and it held the file of a checkpoint that is not later than a time
 pub record ReadsCheckpoint (at : ℕ) (input : Change Bytes) (file : List ℕ) : Type 0 where
@@ -43,7 +44,8 @@ resume_status (Err (resume.Torn block)) = Refused (Torn block)
 resume_status (Err resume.TooLong) = Refused TooLong
 resume_status (Err (resume.PastEnd blocks)) = Refused (PastEnd blocks)
 
--- A stream was resumed: the answer, the file that was read, what was put after it, and the exact answer where no fault is told.
+-- A stream was resumed: the answer, the file that was read, what was put after it, and the exact answer where no
+-- fault is told.
 pub record ResumesWith (at : ℕ) (call : Call Bytes) (status : Status) : Type 0 where
   pub answer : Result Resumed ResumeStop
   pub status_is : status ≡ resume_status answer
@@ -55,5 +57,8 @@ pub record ResumesWith (at : ℕ) (call : Call Bytes) (status : Status) : Type 0
   pub cut : answer ≡ Err resume.FirstFault → ConsumesBelow call.first.before call.first.after (file_size + 1)
   pub whole : answer ≢ Err resume.FirstFault → length file ≤ file_size → IsAtEnd call.first.after
   pub accepted : IsAcceptedBy (acceptance answer) at file
-  pub goes_on : IsOk (acceptance answer) → (rest : List ℕ) × Resumes file at call.second.before call.second.after call.out.before call.out.after answer rest
-  pub exactly : IsOk (acceptance answer) → IfSome call.second.before (λ all. IsResumedBy answer (checkpoint_in file) at (length all))
+  pub goes_on : IsOk (acceptance answer)
+      → (rest : List ℕ) × Resumes file at call.second.before call.second.after call.out.before call.out.after
+      answer rest
+  pub exactly : IsOk (acceptance answer)
+      → IfSome call.second.before (λ all. IsResumedBy answer (checkpoint_in file) at (length all))

@@ -2,8 +2,10 @@
 use Rattle.std.specs.Prelude.{◌≡◌, ℕ, List}
 use Rattle.cdg_cmd.specs.declared.status.Status.{Status}
 
--- A call ended with this status: what it answered, the bytes that it took, what it did, and the exact answer where no fault is told.
-pub record EndsWith {A : Type 0} (status_of : A → Status) (does : A → List ℕ → Type 0) (is_exact : A → Type 0) (status : Status) : Type 0 where
+-- A call ended with this status: what it answered, the bytes that it took, what it did, and the exact answer where no
+-- fault is told.
+pub record EndsWith {A : Type 0} (status_of : A → Status) (does : A → List ℕ → Type 0) (is_exact : A → Type 0)
+    (status : Status) : Type 0 where
   pub answer : A
   pub status_is : status ≡ status_of answer
   pub taken : List ℕ

@@ -1,4 +1,5 @@
--- How often a command comes to the end of an input: the count of told ends rises once, where the input is read to its end, and nowhere else.
+-- How often a command comes to the end of an input: the count of told ends rises once, where the input is read to its
+-- end, and nowhere else.
 use Rattle.std.specs.Prelude.{◌≡◌, ◌⊎◌, ℕ}
 use Rattle.cdg_io.specs.Causes.{Rose}
 use Rattle.cdg_cmd.specs.Call.{Change}

@@ -9,7 +9,7 @@ use Rattle.picture_changes.specs.Schedule.{IsLate}
 use Rattle.rw_interleave.specs.Stream.{IsDamaged}
 use Rattle.subcode_author.specs.Authored.{Disc}
 use Rattle.subcode_author.specs.AuthorAnswer.{AreReady, HasRoom, HoldsPictures}
-use Rattle.subcode_player.specs.Calls.{most_units}
+use Rattle.raw_subcode.specs.Sizes.{most_units}
 use Rattle.subcode_player.specs.Pictured.{IsPictureText}
 use Rattle.cdg_cmd.specs.Answer.{OnDone}
 use Rattle.cdg_cmd.specs.Authors.{PutsAuthored}

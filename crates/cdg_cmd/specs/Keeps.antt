@@ -61,13 +61,15 @@ TakesFirst (Press lead_in length) = ⊥
 TakesFirst command = ⊤
 
 -- Of the two inputs and the output, in this order: what is not read and what is not written is as it was.
-pub record Keeps {S T K : Type 0} (command : Command) (read : Change Bytes) (before after : S × T × K) (status : Status) : Type 0 where
+pub record Keeps {S T K : Type 0} (command : Command) (read : Change Bytes) (before after : S × T × K)
+    (status : Status) : Type 0 where
   pub first : ReadsNone command → after.0 ≡ before.0
   pub second : (after.1 ≡ before.1) ⊎ ReadsSecond command read
   pub out : WritesLast command → ¬ (MayWrite status) → after.2 ≡ before.2
 
 -- Where no memory was found nothing was written, nor read where all memory is taken first.
-pub record WantsMemory {S T K : Type 0} (command : Command) (before after : S × T × K) (status : Status) : Type 0 where
+pub record WantsMemory {S T K : Type 0} (command : Command) (before after : S × T × K)
+    (status : Status) : Type 0 where
   pub out : status ≡ NoMemory → after.2 ≡ before.2
   pub inputs : TakesFirst command → status ≡ NoMemory → (after.0 ≡ before.0) × (after.1 ≡ before.1)
   pub never : TakesNone command → status ≢ NoMemory

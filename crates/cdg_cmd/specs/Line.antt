@@ -78,7 +78,8 @@ refusal_words (BeforeSave blocks) = words_and_count (codes "before-save") blocks
 
 -- the words of a picture that is late: its number, the packs that it needs, and those that are free
 abbrev pub late_words : ℕ → ℕ → ℕ → List ℕ
-late_words picture need free = words_and_count (words_and_count (words_and_count (codes "late") picture ++ codes " need") need ++ codes " free") free
+late_words picture need free = words_and_count (words_and_count
+    (words_and_count (codes "late") picture ++ codes " need") need ++ codes " free") free
 
 -- the name of an input
 abbrev pub input_words : Which → List ℕ

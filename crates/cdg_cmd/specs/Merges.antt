@@ -22,7 +22,8 @@ merge_status (Err (merge.Torn block)) = Refused (Torn block)
 merge_status (Err (merge.SecondTorn block)) = Refused (SecondTorn block)
 merge_status (Err (merge.Unequal blocks)) = Refused (Unequal blocks)
 
--- Two readings were merged: the answer, the bytes that were taken of each, what was put for them, and the exact answer where no fault is told.
+-- Two readings were merged: the answer, the bytes that were taken of each, what was put for them, and the exact
+-- answer where no fault is told.
 pub record MergesWith (lead_in : ℕ) (call : Call Bytes) (status : Status) : Type 0 where
   pub answer : Result Merged MergeStop
   pub status_is : status ≡ merge_status answer
@@ -33,4 +34,5 @@ pub record MergesWith (lead_in : ℕ) (call : Call Bytes) (status : Status) : Ty
   pub put : Merges lead_in call.out.before call.out.after answer taken other_taken
   pub first_end : FirstIsAtEnd answer call.first.after
   pub second_end : EndsSecond answer call.second.after
-  pub exactly : IfSome call.first.before (λ all. IfSome call.second.before (λ other. IsAnswer lead_in answer (length all) (length other)))
+  pub exactly : IfSome call.first.before
+      (λ all. IfSome call.second.before (λ other. IsAnswer lead_in answer (length all) (length other)))

@@ -45,15 +45,19 @@ press_status (Err stop.NoMemory) = NoMemory
 -- a pressed stream was put
 abbrev pub PutsPressed : CueSheet → List ℕ → ℕ → ℕ → Change Bytes → Type 0
 PutsPressed sheet file lead_in audio out =
-    (bytes : List ℕ) × (packs : List (List ℕ)) × IsPressed sheet file lead_in audio bytes packs × Appends out.before out.after bytes
+    (bytes : List ℕ) × (packs : List (List ℕ)) × IsPressed sheet file lead_in audio bytes packs
+    × Appends out.before out.after bytes
 
 -- the lead-in and blocks of the program were put, the last of these maybe in part
 abbrev pub PutsPressedPart : CueSheet → List ℕ → ℕ → ℕ → Change Bytes → Type 0
 PutsPressedPart sheet file lead_in audio out =
-    (n : ℕ) × (packs : List (List ℕ)) × PutsStreamPart (layout_of sheet audio) (IsPackAfter file_begin file) (text_packs sheet) lead_in out.before out.after n packs
+    (n : ℕ) × (packs : List (List ℕ))
+    × PutsStreamPart (layout_of sheet audio) (IsPackAfter file_begin file) (text_packs sheet) lead_in
+    out.before out.after n packs
 
 -- what is put for a sheet and a file, and why it is this answer
-pub record IsPressedFor (sheet : CueSheet) (file : List ℕ) (lead_in audio : ℕ) (out : Change Bytes) (answer : Result (Unit {0}) PressStop) : Type 0 where
+pub record IsPressedFor (sheet : CueSheet) (file : List ℕ) (lead_in audio : ℕ) (out : Change Bytes)
+    (answer : Result (Unit {0}) PressStop) : Type 0 where
   pub done : OnOk answer (IsPressable sheet file lead_in audio × PutsPressed sheet file lead_in audio out)
   pub why : IfErr answer (IsPressStop sheet file lead_in audio)
   -- a part where a write failed, and else nothing
@@ -67,6 +71,8 @@ pub data PressesWith (lead_in audio : ℕ) (call : Call Bytes) (status : Status)
   RefusesFile : (sheet : CueSheet) → ReadsSheet call.first sheet → IsFileStop call.second.before status
       → TakesAtStop call.second status → Appends call.out.before call.out.after []
       → PressesWith lead_in audio call status
-  Presses : (sheet : CueSheet) (file : List ℕ) (answer : Result (Unit {0}) PressStop) → ReadsSheet call.first sheet
-      → ReadsFile call.second file → status ≡ press_status answer → IsPressedFor sheet file lead_in audio call.out answer
+  Presses : (sheet : CueSheet) (file : List ℕ) (answer : Result (Unit {0}) PressStop)
+      → ReadsSheet call.first sheet
+      → ReadsFile call.second file → status ≡ press_status answer
+      → IsPressedFor sheet file lead_in audio call.out answer
       → PressesWith lead_in audio call status

@@ -18,22 +18,31 @@ use Rattle.cdg_cmd.specs.declared.status.Status.TheVariants.{Done}
 
 -- a call that found these bytes as its first input, and what it left of them
 abbrev pub reading : List ℕ → Bytes → Change Bytes → Change Bytes → Call Bytes
-reading bytes left second out = record { first = record { before = Some bytes; after = left }; second = second; out = out }
+reading bytes left second out = record {
+  first = record { before = Some bytes; after = left };
+  second = second;
+  out = out;
+}
 
 -- this file is what `save` wrote of some bytes, and it was done
 pub record IsSaveOf (lead_in : ℕ) (bytes file : List ℕ) : Type 0 where
   pub allowed : IsAllowed (Save lead_in)
   pub left : Bytes
   pub second : Change Bytes
-  pub done : Does (Save lead_in) (reading bytes left second (record { before = Some []; after = Some file })) Done
+  pub done : Does (Save lead_in) (reading bytes left second (record {
+    before = Some [];
+    after = Some file;
+  })) Done
 
 -- what is put with an answer: the pixmap of what stands at the time, or nothing
 abbrev pub PutsMoment : Result Resumed ResumeStop → List ℕ → ℕ → List ℕ → Change Bytes → Type 0
-PutsMoment (Ok resumed) file at rest out = (text : List ℕ) × IsResumed file at rest resumed text × Appends out.before out.after text
+PutsMoment (Ok resumed) file at rest out = (text : List ℕ) × IsResumed file at rest resumed text
+    × Appends out.before out.after text
 PutsMoment (Err stop) file at rest out = Appends out.before out.after []
 
 -- the answer to the checkpoint in a file and to the rest of a stream by its length, and what was put with it
-pub record GoesOnFrom (file : List ℕ) (at : ℕ) (rest : List ℕ) (out : Change Bytes) (status : Status) : Type 0 where
+pub record GoesOnFrom (file : List ℕ) (at : ℕ) (rest : List ℕ) (out : Change Bytes)
+    (status : Status) : Type 0 where
   pub answer : Result Resumed ResumeStop
   pub status_is : status ≡ resume_status answer
   pub exactly : IsResumedBy answer (checkpoint_in file) at (length rest)
@@ -41,7 +50,8 @@ pub record GoesOnFrom (file : List ℕ) (at : ℕ) (rest : List ℕ) (out : Chan
 
 -- two calls put the same
 abbrev pub PutSame : Change Bytes → Change Bytes → Type 0
-PutSame out other = (text : List ℕ) × Appends out.before out.after text × Appends other.before other.after text
+PutSame out other = (text : List ℕ) × Appends out.before out.after text
+    × Appends other.before other.after text
 
 -- The answer and what was put are those of `screen` at a time with a stream.
 pub record IsAsScreen (lead_in at : ℕ) (stream : List ℕ) (out : Change Bytes) (status : Status) : Type 0 where
@@ -49,13 +59,20 @@ pub record IsAsScreen (lead_in at : ℕ) (stream : List ℕ) (out : Change Bytes
   pub left : Bytes
   pub second : Change Bytes
   pub does : Does (Screen lead_in Raw at) (reading stream left second out) status
-  -- and nothing else is: each call of `screen` with it, where no read or write fails, answers the same and puts the same
-  pub same : (other_left : Bytes) (other_second other_out : Change Bytes) (other : Status) → Does (Screen lead_in Raw at) (reading stream other_left other_second other_out) other → IsAnswered other
+  -- and nothing else is: each call of `screen` with it, where no read or write fails, answers the same and puts the
+  -- same
+  pub same : (other_left : Bytes) (other_second other_out : Change Bytes) (other : Status)
+      → Does (Screen lead_in Raw at) (reading stream other_left other_second other_out) other
+      → IsAnswered other
       → (other ≡ status) × PutSame out other_out
 
 -- What `resume` does at a time with a file and the rest of a stream, where no read or write fails and memory is found.
-pub record ResumesFrom (file : List ℕ) (at : ℕ) (rest : List ℕ) (out : Change Bytes) (status : Status) : Type 0 where
-  -- whoever made the file: where it is that of a checkpoint not later than the time, what stands at the time after it is put
+pub record ResumesFrom (file : List ℕ) (at : ℕ) (rest : List ℕ) (out : Change Bytes)
+    (status : Status) : Type 0 where
+  -- whoever made the file: where it is that of a checkpoint not later than the time, what stands at the time after it
+  -- is put
   pub goes_on : IsCheckpointFile file → (checkpoint_in file).program ≤ at → GoesOnFrom file at rest out status
-  -- where `save` wrote it of the first part of a stream, not later than the time, `screen` does the same with the whole stream
-  pub whole : (lead_in : ℕ) (part : List ℕ) → IsSaveOf lead_in part file → length part / 96 - lead_in ≤ at → IsAsScreen lead_in at (part ++ rest) out status
+  -- where `save` wrote it of the first part of a stream, not later than the time, `screen` does the same with the
+  -- whole stream
+  pub whole : (lead_in : ℕ) (part : List ℕ) → IsSaveOf lead_in part file → length part / 96 - lead_in ≤ at
+      → IsAsScreen lead_in at (part ++ rest) out status

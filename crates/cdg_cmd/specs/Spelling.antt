@@ -54,19 +54,25 @@ SpellsOptions (State lead_in form at) options = IsTimedOptions lead_in form at o
 SpellsOptions (Check lead_in form) options = IsStreamOptions lead_in form options
 SpellsOptions (Q lead_in form) options = IsStreamOptions lead_in form options
 SpellsOptions (Text lead_in form) options = IsStreamOptions lead_in form options
-SpellsOptions (Author lead_in length) options = options ≡ codes "--lead-in" ∷ decimal lead_in ∷ codes "--length" ∷ time_text length ∷ []
+SpellsOptions (Author lead_in length) options =
+    options ≡ codes "--lead-in" ∷ decimal lead_in ∷ codes "--length" ∷ time_text length ∷ []
 SpellsOptions Planar options = options ≡ []
 SpellsOptions Raw options = options ≡ []
-SpellsOptions (Scratch lead_in seed) options = options ≡ codes "--lead-in" ∷ decimal lead_in ∷ codes "--seed" ∷ decimal seed ∷ []
-SpellsOptions (Gen seed pictures) options = options ≡ codes "--seed" ∷ decimal seed ∷ codes "--pictures" ∷ decimal pictures ∷ []
-SpellsOptions (Trial seed pictures) options = options ≡ codes "--seed" ∷ decimal seed ∷ codes "--pictures" ∷ decimal pictures ∷ []
+SpellsOptions (Scratch lead_in seed) options =
+    options ≡ codes "--lead-in" ∷ decimal lead_in ∷ codes "--seed" ∷ decimal seed ∷ []
+SpellsOptions (Gen seed pictures) options =
+    options ≡ codes "--seed" ∷ decimal seed ∷ codes "--pictures" ∷ decimal pictures ∷ []
+SpellsOptions (Trial seed pictures) options =
+    options ≡ codes "--seed" ∷ decimal seed ∷ codes "--pictures" ∷ decimal pictures ∷ []
 SpellsOptions (Merge lead_in) options = options ≡ codes "--lead-in" ∷ decimal lead_in ∷ []
 SpellsOptions Thin options = options ≡ []
-SpellsOptions (Press lead_in length) options = options ≡ codes "--lead-in" ∷ decimal lead_in ∷ codes "--length" ∷ time_text length ∷ []
+SpellsOptions (Press lead_in length) options =
+    options ≡ codes "--lead-in" ∷ decimal lead_in ∷ codes "--length" ∷ time_text length ∷ []
 SpellsOptions (Save lead_in) options = options ≡ codes "--lead-in" ∷ decimal lead_in ∷ []
 SpellsOptions (Resume at) options = options ≡ codes "--at" ∷ time_text at ∷ []
 
 -- the words spell an allowed command
 abbrev pub Spells : Command → List (List ℕ) → Type 0
 Spells command [] = ⊥
-Spells command (name ∷ options) = (name ≡ command_name command) × IsAllowed command × SpellsOptions command options
+Spells command (name ∷ options) = (name ≡ command_name command) × IsAllowed command
+    × SpellsOptions command options

@@ -9,7 +9,10 @@ unsplit count = record { words = count; names = 0 }
 -- at a `--` after so many of the words, where at most two words follow it
 abbrev pub split_at : ℕ → Option ℕ → Split
 split_at count None = unsplit count
-split_at count (Some before) = if nat_le (count - before) 3 then record { words = before; names = count - before - 1 } else unsplit count
+split_at count (Some before) = if nat_le (count - before) 3 then record {
+  words = before;
+  names = count - before - 1;
+} else unsplit count
 
 -- at the first `--`
 abbrev pub split_of : {A : Type 0} → List (String A) → Split

@@ -24,4 +24,5 @@ thin_status (Err pump.TooLong) = Refused TooLong
 abbrev pub ThinsWith : Call Bytes → Status → Type 0
 ThinsWith call status =
     EndsWith thin_status (Thins call.first.before call.first.after call.out.before call.out.after)
-    (λ answer. IfSome call.first.before (λ all. IsUnlessFault answer (answer_of 24 4000000 (length all)))) status
+    (λ answer. IfSome call.first.before (λ all. IsUnlessFault answer (answer_of 24 4000000 (length all))))
+    status

@@ -8,8 +8,10 @@ use Rattle.cdg_cmd.specs.Line.{error_line}
 use Rattle.cdg_cmd.specs.declared.status.Status.{Status}
 use Rattle.cdg_cmd.specs.declared.status.Status.TheVariants.{Done}
 
--- The line of the status was written and no write failed, or one failed and a prefix of it was written. Where the work is done nothing is touched.
-pub record Tells {E : Type 0} (held : E → Bytes) (faults : E → ℕ) (before after : E) (status : Status) : Type 0 where
+-- The line of the status was written and no write failed, or one failed and a prefix of it was written. Where the
+-- work is done nothing is touched.
+pub record Tells {E : Type 0} (held : E → Bytes) (faults : E → ℕ) (before after : E)
+    (status : Status) : Type 0 where
   pub line : ((faults after ≡ faults before) × Appends (held before) (held after) (error_line status))
       ⊎ (Rose (faults before) (faults after) × AppendsPrefix (held before) (held after) (error_line status))
   pub silent : status ≡ Done → after ≡ before

@@ -21,16 +21,21 @@ pump_status (Err (pump.Torn unit)) = Refused (Torn unit)
 pump_status (Err pump.TooLong) = Refused TooLong
 
 -- the number of blocks, and the text that is written for them
-pub record IsTurned (turned : List ℕ → List ℕ → Type 0) (bytes : List ℕ) (pumped : Pumped) (text : List ℕ) : Type 0 where
+pub record IsTurned (turned : List ℕ → List ℕ → Type 0) (bytes : List ℕ) (pumped : Pumped)
+    (text : List ℕ) : Type 0 where
   pub units : pumped.units ≡ length bytes / 96
   pub written : turned bytes text
 
 -- blocks are changed and written as they are read
-abbrev pub ChangesBlocks : (List ℕ → Pumped → List ℕ → Type 0) → Change Bytes → Change Bytes → Result Pumped PumpStop → List ℕ → Type 0
-ChangesBlocks gives source out answer taken = Streams 96 1000000 pump.Torn pump.WriteFault gives source.before source.after out.before out.after answer taken
+abbrev pub ChangesBlocks : (List ℕ → Pumped → List ℕ → Type 0) → Change Bytes → Change Bytes
+    → Result Pumped PumpStop → List ℕ → Type 0
+ChangesBlocks gives source out answer taken =
+    Streams 96 1000000 pump.Torn pump.WriteFault gives source.before source.after out.before out.after answer
+    taken
 
 -- it ended with this status
 abbrev pub TurnsWith : (List ℕ → Pumped → List ℕ → Type 0) → Call Bytes → Status → Type 0
 TurnsWith gives call status =
     EndsWith pump_status (ChangesBlocks gives call.first call.out)
-    (λ answer. IfSome call.first.before (λ all. IsUnlessFault answer (answer_of 96 1000000 (length all)))) status
+    (λ answer. IfSome call.first.before (λ all. IsUnlessFault answer (answer_of 96 1000000 (length all))))
+    status

@@ -12,7 +12,8 @@ use Rattle.cdg_cmd.specs.declared.status.Status.{Status}
 
 -- the pixmap after so many packs of a file, or all, was put, unless a read or a write failed or no memory was found
 abbrev pub PutsFilePicture : List ℕ → ℕ → Change Bytes → Status → Type 0
-PutsFilePicture file many out status = OnDone ((text : List ℕ) × IsFileText file many text × Appends out.before out.after text) status
+PutsFilePicture file many out status =
+    OnDone ((text : List ℕ) × IsFileText file many text × Appends out.before out.after text) status
 
 -- What a command puts of bytes that are a pressed stream but for two symbols of each word: a conversion every
 -- pack, and a screen, so many blocks after the audio has begun, what stands after four packs of the file for each

@@ -37,7 +37,8 @@ SpellsTime name time (option ∷ rest) = (option ≡ name) × IsTimeWord time re
 
 -- the words are the options of a stream, and then `--at` and a time
 abbrev pub SpellsTimed : ℕ → Form → ℕ → List (List ℕ) → Type 0
-SpellsTimed lead_in form at words = SpellsStream lead_in form (take (length words - 2) words) × SpellsTime (codes "--at") at (drop (length words - 2) words)
+SpellsTimed lead_in form at words = SpellsStream lead_in form (take (length words - 2) words)
+    × SpellsTime (codes "--at") at (drop (length words - 2) words)
 
 -- the only word is this number, in decimal without a leading zero
 abbrev pub IsNumberWord : ℕ → List (List ℕ) → Type 0
@@ -51,8 +52,10 @@ SpellsNumber name n (option ∷ rest) = (option ≡ name) × IsNumberWord n rest
 
 -- the words are two options, each with a number
 abbrev pub SpellsTwo : List ℕ → ℕ → List ℕ → ℕ → List (List ℕ) → Type 0
-SpellsTwo first n second m words = SpellsNumber first n (take (length words - 2) words) × SpellsNumber second m (drop (length words - 2) words)
+SpellsTwo first n second m words = SpellsNumber first n (take (length words - 2) words)
+    × SpellsNumber second m (drop (length words - 2) words)
 
 -- the words are `--lead-in` and a number, and then `--length` and a time
 abbrev pub SpellsLengths : ℕ → ℕ → List (List ℕ) → Type 0
-SpellsLengths lead_in time words = SpellsNumber (codes "--lead-in") lead_in (take (length words - 2) words) × SpellsTime (codes "--length") time (drop (length words - 2) words)
+SpellsLengths lead_in time words = SpellsNumber (codes "--lead-in") lead_in (take (length words - 2) words)
+    × SpellsTime (codes "--length") time (drop (length words - 2) words)

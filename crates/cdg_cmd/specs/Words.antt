@@ -22,4 +22,5 @@ IsStreamOptions lead_in form options =
 
 -- the options of a stream, and then a moment of it
 abbrev pub IsTimedOptions : ℕ → Form → ℕ → List (List ℕ) → Type 0
-IsTimedOptions lead_in form at words = (options : List (List ℕ)) × IsStreamOptions lead_in form options × (words ≡ options ++ codes "--at" ∷ time_text at ∷ [])
+IsTimedOptions lead_in form at words = (options : List (List ℕ)) × IsStreamOptions lead_in form options
+    × (words ≡ options ++ codes "--at" ∷ time_text at ∷ [])

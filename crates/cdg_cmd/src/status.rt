@@ -19,7 +19,8 @@ pub enum Which {
 pub enum Refusal {
     /// The input ended within the block of this number.
     Torn { block: u32 },
-    /// The input has more than 1,000,000 blocks or 4,000,000 packs, or is a text or a file of more than 67,108,864 bytes.
+    /// The input has more than 1,000,000 blocks or 4,000,000 packs, or is a text or a file of more than 67,108,864
+    /// bytes.
     TooLong,
     /// The moment, or the last hold time of a script, is later than the end of this many program blocks.
     PastEnd { blocks: u32 },

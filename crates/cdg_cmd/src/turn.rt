@@ -31,7 +31,8 @@ pub(crate) fn pump_status(answer: Result<Pumped, PumpStop>) -> Status
 
 /// Writes the planar form of each block as the blocks are read.
 fn planar_stream<S: Source, K: Sink>(source: &mut S, out: &mut K) -> Result<Pumped, PumpStop>
-    ensures turns { (taken : List ℕ) × ChangesBlocks (IsTurned IsPlanarStream) (change S.left source.old source.new)
+    ensures turns { (taken : List ℕ)
+        × ChangesBlocks (IsTurned IsPlanarStream) (change S.left source.old source.new)
         (change K.held out.old out.new) result taken }
     ensures answer { IfSome (S.left source.old) (λ all. IsUnlessFault result (answer_of 96 1000000
         (length all))) }
@@ -49,7 +50,8 @@ fn planar_stream<S: Source, K: Sink>(source: &mut S, out: &mut K) -> Result<Pump
 
 /// Writes the block of each planar form as the blocks are read.
 fn raw_stream<S: Source, K: Sink>(source: &mut S, out: &mut K) -> Result<Pumped, PumpStop>
-    ensures turns { (taken : List ℕ) × ChangesBlocks (IsTurned IsBlockStream) (change S.left source.old source.new)
+    ensures turns { (taken : List ℕ)
+        × ChangesBlocks (IsTurned IsBlockStream) (change S.left source.old source.new)
         (change K.held out.old out.new) result taken }
     ensures answer { IfSome (S.left source.old) (λ all. IsUnlessFault result (answer_of 96 1000000
         (length all))) }

@@ -9,8 +9,10 @@ use Rattle.cdg_instructions.specs.declared.instr.Instr.TheVariants.{SetTile, Xor
 
 -- an instruction that sets or combines the tile of this row and column
 abbrev pub IsOfPlace : ℕ → ℕ → Instr → Type 0
-IsOfPlace row column (SetTile colour0 colour1 r c lines) = (r ≡ row) × (c ≡ column) × InTileRange colour0 colour1 r c lines
-IsOfPlace row column (XorTile colour0 colour1 r c lines) = (r ≡ row) × (c ≡ column) × InTileRange colour0 colour1 r c lines
+IsOfPlace row column (SetTile colour0 colour1 r c lines) = (r ≡ row) × (c ≡ column)
+    × InTileRange colour0 colour1 r c lines
+IsOfPlace row column (XorTile colour0 colour1 r c lines) = (r ≡ row) × (c ≡ column)
+    × InTileRange colour0 colour1 r c lines
 IsOfPlace row column _ = ⊥
 
 -- colour 0 or 1 of pixel i of line j of a tile, by the bit of that pixel, the leftmost at bit 5
@@ -24,7 +26,8 @@ drawn colour0 colour1 lines p = tile_colour colour0 colour1 lines (p % tile_widt
 -- the 72 pixels of a tile after instructions of its place, which are given the last one first
 unfoldable pub tile_from : List ℕ → List Instr → List ℕ
 tile_from old [] = old
-tile_from old (SetTile colour0 colour1 row column lines ∷ before) = map (drawn colour0 colour1 lines) (below tile_pixels)
+tile_from old (SetTile colour0 colour1 row column lines ∷ before) =
+    map (drawn colour0 colour1 lines) (below tile_pixels)
 tile_from old (XorTile colour0 colour1 row column lines ∷ before) =
     let older = tile_from old before in
     map (λ p. bit_xor (drawn colour0 colour1 lines p) (slice_index older p)) (below tile_pixels)

@@ -23,7 +23,8 @@ pub record IsGraphics (word : List ℕ) (code : ℕ) : Type 0 where
   pub mode_is : slice_index word 0 ≡ 9
   pub code_is : slice_index word 1 ≡ code
 
--- a move is bits 5 and 4 of its symbol, where 3 is read as 0, and an offset its low bits, cut off at the greatest that is allowed
+-- a move is bits 5 and 4 of its symbol, where 3 is read as 0, and an offset its low bits, cut off at the greatest
+-- that is allowed
 abbrev pub move : ℕ → ℕ
 move symbol = if symbol / 16 == 3 then 0 else symbol / 16
 
@@ -56,15 +57,18 @@ abbrev pub Means : List ℕ → Instr → Type 0
 Means word Idle = slice_index word 0 ≡ 0
 Means word Foreign = (slice_index word 0 ≢ 0) × (slice_index word 0 ≢ 9)
 Means word Unknown = (slice_index word 0 ≡ 9) × ¬ Contains known_codes (slice_index word 1)
-Means word (MemoryPreset colour repeat) = IsGraphics word 1 × (colour ≡ content word 0 % 16) × (repeat ≡ content word 1 % 16)
+Means word (MemoryPreset colour repeat) = IsGraphics word 1 × (colour ≡ content word 0 % 16)
+    × (repeat ≡ content word 1 % 16)
 Means word (BorderPreset colour) = IsGraphics word 2 × (colour ≡ content word 0 % 16)
-Means word (SetTile colour0 colour1 row column lines) = IsGraphics word 6 × IsTile word colour0 colour1 row column lines
+Means word (SetTile colour0 colour1 row column lines) = IsGraphics word 6
+    × IsTile word colour0 colour1 row column lines
 Means word (ScrollPreset colour across h down v) = IsGraphics word 20 × IsScroll word colour across h down v
 Means word (ScrollCopy colour across h down v) = IsGraphics word 24 × IsScroll word colour across h down v
 Means word (Transparency levels) = IsGraphics word 28 × (levels ≡ content_of word)
 Means word (ColoursLow colours) = IsGraphics word 30 × (colours ≡ map (table_colour word) (below 8))
 Means word (ColoursHigh colours) = IsGraphics word 31 × (colours ≡ map (table_colour word) (below 8))
-Means word (XorTile colour0 colour1 row column lines) = IsGraphics word 38 × IsTile word colour0 colour1 row column lines
+Means word (XorTile colour0 colour1 row column lines) = IsGraphics word 38
+    × IsTile word colour0 colour1 row column lines
 
 -- the two symbols of a table's colour
 abbrev pub colour_symbols : ℕ → List ℕ

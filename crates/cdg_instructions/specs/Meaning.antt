@@ -10,13 +10,17 @@ abbrev pub graphics : List ℕ → ℕ → Instr
 graphics word code =
     if code == 1 then MemoryPreset (content word 0 % 16) (content word 1 % 16)
     else if code == 2 then BorderPreset (content word 0 % 16)
-    else if code == 6 then SetTile (content word 0 % 16) (content word 1 % 16) (content word 2 % 32) (content word 3) (drop 4 (content_of word))
-    else if code == 20 then ScrollPreset (content word 0 % 16) (move (content word 1)) (offset_across (content word 1)) (move (content word 2)) (offset_down (content word 2))
-    else if code == 24 then ScrollCopy (content word 0 % 16) (move (content word 1)) (offset_across (content word 1)) (move (content word 2)) (offset_down (content word 2))
+    else if code == 6 then SetTile (content word 0 % 16) (content word 1 % 16) (content word 2 % 32)
+    (content word 3) (drop 4 (content_of word))
+    else if code == 20 then ScrollPreset (content word 0 % 16) (move (content word 1))
+    (offset_across (content word 1)) (move (content word 2)) (offset_down (content word 2))
+    else if code == 24 then ScrollCopy (content word 0 % 16) (move (content word 1))
+    (offset_across (content word 1)) (move (content word 2)) (offset_down (content word 2))
     else if code == 28 then Transparency (content_of word)
     else if code == 30 then ColoursLow (map (table_colour word) (below 8))
     else if code == 31 then ColoursHigh (map (table_colour word) (below 8))
-    else if code == 38 then XorTile (content word 0 % 16) (content word 1 % 16) (content word 2 % 32) (content word 3) (drop 4 (content_of word))
+    else if code == 38 then XorTile (content word 0 % 16) (content word 1 % 16) (content word 2 % 32)
+    (content word 3) (drop 4 (content_of word))
     else Unknown
 
 abbrev pub meaning_by : List ℕ → ℕ → ℕ → Instr

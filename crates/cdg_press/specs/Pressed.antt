@@ -24,10 +24,13 @@ abbrev pub file_begin : ℕ
 file_begin = 593
 
 -- the stream of a sheet carries the packs of the file, in time with the audio, and else idle ones
-pub record IsPressed (sheet : CueSheet) (file : List ℕ) (lead_in audio : ℕ) (bytes : List ℕ) (packs : List (List ℕ)) : Type 0 where
+pub record IsPressed (sheet : CueSheet) (file : List ℕ) (lead_in audio : ℕ) (bytes : List ℕ)
+    (packs : List (List ℕ)) : Type 0 where
   pub whole : length file % 24 ≡ 0
-  pub of_file : (n : ℕ) → n < length file / 24 → IsMadeGood (file_pack file n) (slice_index_or packs (file_begin + n) [])
-  pub others : (n : ℕ) → n < whole_packs (program_blocks sheet audio) → (n < file_begin) ⊎ (file_begin + length file / 24 ≤ n) → slice_index_or packs n [] ≡ idle_pack
+  pub of_file : (n : ℕ) → n < length file / 24
+      → IsMadeGood (file_pack file n) (slice_index_or packs (file_begin + n) [])
+  pub others : (n : ℕ) → n < whole_packs (program_blocks sheet audio)
+      → (n < file_begin) ⊎ (file_begin + length file / 24 ≤ n) → slice_index_or packs n [] ≡ idle_pack
   pub framing : HasFraming (layout_of sheet audio) (text_packs sheet) lead_in bytes
   pub carries : Carries (program_blocks sheet audio) (program_symbols Raw bytes lead_in) packs
   pub enough : 0 < lead_in → lead_in_need sheet ≤ lead_in

@@ -24,7 +24,8 @@ HasNoGap sheet = (k : ℕ) → k < length sheet.tracks → gaps_of (track_of she
 
 -- the first track with a gap has this number
 abbrev pub IsFirstGap : CueSheet → ℕ → Type 0
-IsFirstGap sheet number = (k : ℕ) × (k < length sheet.tracks) × (0 < gaps_of (track_of sheet k)) × (number ≡ (track_of sheet k).number)
+IsFirstGap sheet number = (k : ℕ) × (k < length sheet.tracks) × (0 < gaps_of (track_of sheet k))
+    × (number ≡ (track_of sheet k).number)
     × ((j : ℕ) → j < k → gaps_of (track_of sheet j) ≡ 0)
 
 -- whole packs and a sheet that has a layout with this audio
@@ -43,12 +44,17 @@ pub record IsPressable (sheet : CueSheet) (file : List ℕ) (lead_in audio : ℕ
 -- why a stream is not pressed: each refusal comes only where those before it do not hold
 abbrev pub IsPressStop : CueSheet → List ℕ → ℕ → ℕ → PressStop → Type 0
 IsPressStop sheet file lead_in audio (PackTorn pack) = (length file % 24 ≢ 0) × (pack ≡ length file / 24)
-IsPressStop sheet file lead_in audio (LengthShort need) = IsWhole file × (need ≡ audio_need sheet) × (audio < audio_need sheet)
-IsPressStop sheet file lead_in audio (DiscTooLong blocks) = IsWhole file × (audio_need sheet ≤ audio) × (blocks ≡ program_blocks sheet audio) × (449999 < blocks)
+IsPressStop sheet file lead_in audio (LengthShort need) = IsWhole file × (need ≡ audio_need sheet)
+    × (audio < audio_need sheet)
+IsPressStop sheet file lead_in audio (DiscTooLong blocks) = IsWhole file × (audio_need sheet ≤ audio)
+    × (blocks ≡ program_blocks sheet audio) × (449999 < blocks)
 IsPressStop sheet file lead_in audio (Gap track) = HasDisc sheet file audio × IsFirstGap sheet track
-IsPressStop sheet file lead_in audio (CdgTooLong packs room) = HasDisc sheet file audio × HasNoGap sheet × (packs ≡ length file / 24) × (room ≡ 4 * audio) × (room < packs)
-IsPressStop sheet file lead_in audio (TextTooLong packs) = RunsInTime sheet file audio × IsTextTooLong sheet lead_in packs
-IsPressStop sheet file lead_in audio (LeadInShort need) = RunsInTime sheet file audio × IsLeadInShort sheet lead_in need
+IsPressStop sheet file lead_in audio (CdgTooLong packs room) = HasDisc sheet file audio × HasNoGap sheet
+    × (packs ≡ length file / 24) × (room ≡ 4 * audio) × (room < packs)
+IsPressStop sheet file lead_in audio (TextTooLong packs) = RunsInTime sheet file audio
+    × IsTextTooLong sheet lead_in packs
+IsPressStop sheet file lead_in audio (LeadInShort need) = RunsInTime sheet file audio
+    × IsLeadInShort sheet lead_in need
 IsPressStop sheet file lead_in audio WriteFault = IsPressable sheet file lead_in audio
 IsPressStop sheet file lead_in audio NoMemory = HasDisc sheet file audio
 

@@ -21,18 +21,18 @@ use toc_model::Layout;
 /// The pack of the stream that is the file's first: its last symbol comes with the first slot of file time 00:00:00.
 const FILE_BEGIN: u32 = 593;
 
-/// Writes the subcode of a disc with a lead-in of so many blocks and an audio of so many blocks: the lead-in with the table
-/// of contents and the texts, and the program with the frames of the sheet and the packs of a `.cdg` file, 24 bytes each, in
-/// time with the audio. Of a pack only symbols 0, 1 and 4 to 19 are taken, the low six bits of these bytes; its parity is
-/// made good.
+/// Writes the subcode of a disc with a lead-in of so many blocks and an audio of so many blocks: the lead-in with the
+/// table of contents and the texts, and the program with the frames of the sheet and the packs of a `.cdg` file, 24
+/// bytes each, in time with the audio. Of a pack only symbols 0, 1 and 4 to 19 are taken, the low six bits of these
+/// bytes; its parity is made good.
 ///
 /// # Errors
 ///
-/// In this order: `PackTorn` where the file is not whole packs; `LengthShort` and `DiscTooLong` where the sheet has no layout
-/// with this audio; `Gap` where a track has a gap; `CdgTooLong` where the file has more than four packs for each block of
-/// audio; where there is a lead-in, `TextTooLong` where its texts need more than 256 packs, and `LeadInShort` where it has no
-/// room for them or for the table of contents. Nothing is written before all of these are passed and all memory is taken.
-/// After `WriteFault` a prefix of the stream was written.
+/// In this order: `PackTorn` where the file is not whole packs; `LengthShort` and `DiscTooLong` where the sheet has
+/// no layout with this audio; `Gap` where a track has a gap; `CdgTooLong` where the file has more than four packs for
+/// each block of audio; where there is a lead-in, `TextTooLong` where its texts need more than 256 packs, and
+/// `LeadInShort` where it has no room for them or for the table of contents. Nothing is written before all of these
+/// are passed and all memory is taken. After `WriteFault` a prefix of the stream was written.
 pub fn press_stream<K: Sink>(
     alloc: Global,
     sheet: &Sheet,
@@ -46,7 +46,8 @@ pub fn press_stream<K: Sink>(
     requires file { IsShort cdg.now }
     // A pressed stream was written.
     ensures pressed { OnOk result ((bytes : List ℕ) × (packs : List (List ℕ))
-        × IsPressed sheet.now cdg.now lead_in length bytes packs × Appends (K.held out.old) (K.held out.new) bytes) }
+        × IsPressed sheet.now cdg.now lead_in length bytes packs
+        × Appends (K.held out.old) (K.held out.new) bytes) }
     ensures accepted { OnOk result (IsPressable sheet.now cdg.now lead_in length) }
 
     // Why none was written, and then nothing was.
@@ -57,7 +58,8 @@ pub fn press_stream<K: Sink>(
     ensures write_fault { result ≡ Err PressStop.WriteFault → Rose (K.faults out.old) (K.faults out.new) }
     ensures no_write_fault { result ≢ Err PressStop.WriteFault → K.faults out.new ≡ K.faults out.old }
     ensures part { result ≡ Err PressStop.WriteFault → (n : ℕ) × (packs : List (List ℕ))
-        × PutsStreamPart (layout_of sheet.now length) (IsPackAfter file_begin cdg.now) (text_packs sheet.now) lead_in (K.held out.old) (K.held out.new) n packs }
+        × PutsStreamPart (layout_of sheet.now length) (IsPackAfter file_begin cdg.now) (text_packs sheet.now)
+        lead_in (K.held out.old) (K.held out.new) n packs }
     ensures later { K.faults out.old ≤ K.faults out.new }
 {
     let packs = whole_packs_of(cdg)?;

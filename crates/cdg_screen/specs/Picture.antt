@@ -17,7 +17,8 @@ pub record Standing : Type 0 where
 abbrev pub blank : Standing
 blank = record { memory = λ x y. 0; border = 0; colour = λ k. 0; level = λ k. 0; h = 0; v = 0 }
 
--- The memory as rows that begin at a moving origin: pixel (0, 0) is element `left` of row `top`, and what is past an end goes on at the other.
+-- The memory as rows that begin at a moving origin: pixel (0, 0) is element `left` of row `top`, and what is past an
+-- end goes on at the other.
 pub record Grid : Type 0 where
   pub rows : List (List ℕ)
   pub left : ℕ
@@ -65,7 +66,8 @@ source_y down y = source 216 12 down y
 abbrev pub is_inside : ℕ → ℕ → Bool
 is_inside size from = nat_le size from && nat_lt from (2 * size)
 
--- In the next five definitions the instructions are given the last one first, and `start` is what stood before all of them.
+-- In the next five definitions the instructions are given the last one first, and `start` is what stood before all of
+-- them.
 
 -- pixel (x, y) of the memory
 abbrev pub memory_from : Standing → List Instr → ℕ → ℕ → ℕ

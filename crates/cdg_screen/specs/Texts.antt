@@ -22,7 +22,8 @@ pixmap now = pixmap_header ++ flat_map (pixmap_row now) (below 216)
 -- The state: the border, the offsets, and the sixteen colours and levels
 
 unfoldable pub state_row : Standing → ℕ → List ℕ
-state_row now k = codes "colour " ++ digits 2 k ++ codes " " ++ hex_digits 4 (now.colour k) ++ codes " level " ++ digits 2 (now.level k) ++ line_feed
+state_row now k = codes "colour " ++ digits 2 k ++ codes " " ++ hex_digits 4 (now.colour k) ++ codes " level "
+    ++ digits 2 (now.level k) ++ line_feed
 
 abbrev pub state_head : Standing → List ℕ
 state_head now =

@@ -32,7 +32,8 @@ impl Memory {
         ensures { IsTrue result ↔ Becomes self.now (λ x y.
             if covers row column x y
             then drawn_over exclusive
-            (tile_colour (slice_index colours 0) (slice_index colours 1) lines.now (x % 6) (y % 12)) (at self.now x y)
+            (tile_colour (slice_index colours 0) (slice_index colours 1) lines.now (x % 6) (y % 12))
+            (at self.now x y)
             else at self.now x y) }
     {
         if row > 17 || column > 49 {

@@ -14,8 +14,10 @@ pub record IsThinnedBy (bytes : List ℕ) (pumped : Pumped) (text : List ℕ) : 
   pub written : IsThinText bytes text
 
 -- The call took these bytes, and put the thin form of their packs as it took them.
-abbrev pub Thins : Option (List ℕ) → Option (List ℕ) → Option (List ℕ) → Option (List ℕ) → Result Pumped PumpStop → List ℕ → Type 0
-Thins left left' held held' result taken = Streams 24 4000000 Torn WriteFault IsThinnedBy left left' held held' result taken
+abbrev pub Thins : Option (List ℕ) → Option (List ℕ) → Option (List ℕ) → Option (List ℕ)
+    → Result Pumped PumpStop → List ℕ → Type 0
+Thins left left' held held' result taken =
+    Streams 24 4000000 Torn WriteFault IsThinnedBy left left' held held' result taken
 
 -- bytes in which the same stands after each number of packs as in others, and which are their own thin form
 pub record ShowsAll (bytes text : List ℕ) : Type 0 where
@@ -25,4 +27,5 @@ pub record ShowsAll (bytes text : List ℕ) : Type 0 where
 
 -- such bytes were put for the whole input
 abbrev pub ThinsAll : List ℕ → Option (List ℕ) → Option (List ℕ) → Result Pumped PumpStop → Type 0
-ThinsAll all held held' result = IfOk result (λ pumped. (text : List ℕ) × ShowsAll all text × Appends held held' text)
+ThinsAll all held held' result =
+    IfOk result (λ pumped. (text : List ℕ) × ShowsAll all text × Appends held held' text)

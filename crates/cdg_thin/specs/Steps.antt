@@ -28,7 +28,8 @@ is_same a b =
 
 -- whether it is a graphics instruction after which the same stands as before
 unfoldable pub is_needless : Display → Instr → Bool
-is_needless now instr = is_graphic instr && is_same (standing_after (standing_of now) (instr ∷ [])) (standing_of now)
+is_needless now instr = is_graphic instr
+    && is_same (standing_after (standing_of now) (instr ∷ [])) (standing_of now)
 
 -- what stands after a pack
 unfoldable pub thin_next : Display → List ℕ → Display

@@ -19,7 +19,8 @@ IsInstructionOf pack instr = (word : List ℕ) × IsMadeGood (low_bits pack) wor
 -- these are the instructions of the packs, one by one
 pub record AreInstructionsOf (packs : List (List ℕ)) (instrs : List Instr) : Type 0 where
   pub count : length instrs ≡ length packs
-  pub each : (n : ℕ) → n < length packs → IsInstructionOf (slice_index_or packs n []) (slice_index_or instrs n Idle)
+  pub each : (n : ℕ) → n < length packs
+      → IsInstructionOf (slice_index_or packs n []) (slice_index_or instrs n Idle)
 
 -- whether it is one of the nine graphics instructions
 abbrev pub is_graphic : Instr → Bool
@@ -37,16 +38,20 @@ pub record IsNeedless (before : List Instr) (instr : Instr) : Type 0 where
 abbrev pub idle_pack : List ℕ
 idle_pack = replicate 24 0
 
--- what stands for a pack in the thin form: an idle one where its instruction is needless after those before it, and else the pack as it is
+-- what stands for a pack in the thin form: an idle one where its instruction is needless after those before it, and
+-- else the pack as it is
 abbrev pub IsThinned : List Instr → Instr → List ℕ → List ℕ → Type 0
-IsThinned before instr pack thin = (IsNeedless before instr × (thin ≡ idle_pack)) ⊎ (¬ IsNeedless before instr × (thin ≡ pack))
+IsThinned before instr pack thin = (IsNeedless before instr × (thin ≡ idle_pack))
+    ⊎ (¬ IsNeedless before instr × (thin ≡ pack))
 
 -- the thin form of a list of packs
 pub record IsThinForm (packs thins : List (List ℕ)) : Type 0 where
   pub instrs : List Instr
   pub read : AreInstructionsOf packs instrs
   pub count : length thins ≡ length packs
-  pub each : (n : ℕ) → n < length packs → IsThinned (take n instrs) (slice_index_or instrs n Idle) (slice_index_or packs n []) (slice_index_or thins n [])
+  pub each : (n : ℕ) → n < length packs
+      → IsThinned (take n instrs) (slice_index_or instrs n Idle) (slice_index_or packs n [])
+      (slice_index_or thins n [])
 
 -- the thin form of the whole packs of some bytes, as bytes
 pub record IsThinText (bytes text : List ℕ) : Type 0 where

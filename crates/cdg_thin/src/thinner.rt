@@ -50,14 +50,14 @@ impl Thinner {
     /// Writes the thin form of a file of packs as it is read: 24 zeros for each pack with a graphics instruction that
     /// changes nothing where it stands, and every other pack as it is. `Ok` tells how many packs there are.
     ///
-    /// A pack is 24 bytes, and at most 4,000,000 are read. Their parity is not looked at. Each call begins anew, with all
-    /// zero, whatever stopped the one before.
+    /// A pack is 24 bytes, and at most 4,000,000 are read. Their parity is not looked at. Each call begins anew, with
+    /// all zero, whatever stopped the one before.
     ///
     /// # Errors
     ///
-    /// `Torn` where the file ends within a pack, `TooLong` where a byte follows the last pack that is read, `ReadFault`
-    /// where a read failed: these come after all is written for the whole packs read. After `WriteFault` the sink holds a
-    /// prefix, and no later pack was read.
+    /// `Torn` where the file ends within a pack, `TooLong` where a byte follows the last pack that is read,
+    /// `ReadFault` where a read failed: these come after all is written for the whole packs read. After `WriteFault`
+    /// the sink holds a prefix, and no later pack was read.
     pub fn run<S: Source, K: Sink>(
         &mut self,
         source: &mut S,

@@ -16,8 +16,10 @@ rect a b = let r = rectangle_of a b in Rect r.x r.y r.width r.height r.colour
 -- the lines of picture k
 unfoldable pub picture : ℕ → ℕ → List Drawing
 picture seed k =
-    rect (generator_word seed (6 * k)) (generator_word seed (6 * k + 1)) ∷ rect (generator_word seed (6 * k + 2)) (generator_word seed (6 * k + 3))
-    ∷ rect (generator_word seed (6 * k + 4)) (generator_word seed (6 * k + 5)) ∷ Show (ready_block k) (hold_block k) ∷ []
+    rect (generator_word seed (6 * k)) (generator_word seed (6 * k + 1)) ∷ rect
+    (generator_word seed (6 * k + 2)) (generator_word seed (6 * k + 3))
+    ∷ rect (generator_word seed (6 * k + 4)) (generator_word seed (6 * k + 5)) ∷ Show (ready_block k)
+    (hold_block k) ∷ []
 
 -- all lines of a script of so many pictures
 unfoldable pub generated_drawings : ℕ → ℕ → List Drawing

@@ -14,4 +14,5 @@ rect_from words = generated_rect_line (pcg32 words).0 (pcg32 (pcg32 words).1).0
 
 -- the lines of picture k
 unfoldable pub picture_from : Lcg → ℕ → List ℕ
-picture_from words k = ((rect_from words ++ rect_from (after_two words)) ++ rect_from (after_two (after_two words))) ++ generated_show_line k
+picture_from words k = ((rect_from words ++ rect_from (after_two words))
+    ++ rect_from (after_two (after_two words))) ++ generated_show_line k

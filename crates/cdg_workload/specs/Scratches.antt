@@ -30,7 +30,11 @@ bursts zero place words = []
 bursts (suc n) place words =
     let word = (pcg32 words).0 in
     let first = place + gap_of word in
-    record { first = first; size = size_of word; change = change_of word } ∷ bursts n (first + size_of word) (pcg32 words).1
+    record {
+      first = first;
+      size = size_of word;
+      change = change_of word;
+    } ∷ bursts n (first + size_of word) (pcg32 words).1
 
 -- whether a burst has the symbol at a place
 abbrev pub holds_place : ℕ → Burst → Bool
@@ -45,12 +49,14 @@ change_at (burst ∷ rest) place = if holds_place place burst then burst.change 
 abbrev pub scratched_byte : List Burst → ℕ × ℕ → ℕ
 scratched_byte those (place, byte) = 64 * (byte / 64) + bit_xor (byte % 64) (change_at those place)
 
--- The bytes of a raw stream with the scratches of a seed: the blocks of the lead-in stay, and places count from the first symbol after
--- them. There are enough bursts for all places, since each ends at least 193 places after the one before.
+-- The bytes of a raw stream with the scratches of a seed: the blocks of the lead-in stay, and places count from the
+-- first symbol after them. There are enough bursts for all places, since each ends at least 193 places after the one
+-- before.
 unfoldable pub scratched : ℕ → ℕ → List ℕ → List ℕ
 scratched lead_in seed bytes =
     let program = drop (96 * lead_in) bytes in
-    take (96 * lead_in) bytes ++ map (scratched_byte (bursts (length program / 192 + 1) 0 (generator seed))) (enumerate_from 0 program)
+    take (96 * lead_in) bytes ++ map (scratched_byte (bursts (length program / 192 + 1) 0 (generator seed)))
+    (enumerate_from 0 program)
 
 -- the answer to some bytes, and the text that is written: their whole blocks with the scratches
 pub record IsScratched (lead_in seed : ℕ) (bytes : List ℕ) (pumped : Pumped) (text : List ℕ) : Type 0 where

@@ -18,13 +18,20 @@ pub record Rectangle : Type 0 where
 abbrev pub rectangle_of : ℕ → ℕ → Rectangle
 rectangle_of a b =
     let x = low_half a % 288 in
-    let y = high_half a % 192 in record { x = x; y = y; width = 1 + low_half b % (288 - x); height = 1 + high_half b % (192 - y); colour = b / 256 % 16 }
+    let y = high_half a % 192 in record {
+      x = x;
+      y = y;
+      width = 1 + low_half b % (288 - x);
+      height = 1 + high_half b % (192 - y);
+      colour = b / 256 % 16;
+    }
 
 -- its line
 unfoldable pub generated_rect_line : ℕ → ℕ → List ℕ
 generated_rect_line a b =
     let rect = rectangle_of a b in
-    codes "rect " ++ decimal rect.x ++ codes " " ++ decimal rect.y ++ codes " " ++ decimal rect.width ++ codes " " ++ decimal rect.height
+    codes "rect " ++ decimal rect.x ++ codes " " ++ decimal rect.y ++ codes " " ++ decimal rect.width
+    ++ codes " " ++ decimal rect.height
     ++ codes " " ++ decimal rect.colour ++ line_feed
 
 -- the block at which picture k is ready
@@ -37,15 +44,19 @@ hold_block k = ready_block k + 20
 
 -- colour k is the grey of that level
 unfoldable pub grey_line : ℕ → List ℕ
-grey_line k = codes "colour " ++ decimal k ++ codes " 0" ++ digit_char k ∷ digit_char k ∷ digit_char k ∷ [] ++ line_feed
+grey_line k = codes "colour " ++ decimal k ++ codes " 0" ++ digit_char k ∷ digit_char k ∷ digit_char k ∷ []
+    ++ line_feed
 
 -- the line with the times at which picture k is ready and until which it is held
 unfoldable pub generated_show_line : ℕ → List ℕ
-generated_show_line k = codes "show " ++ time_text (ready_block k) ++ codes " " ++ time_text (hold_block k) ++ line_feed
+generated_show_line k =
+    codes "show " ++ time_text (ready_block k) ++ codes " " ++ time_text (hold_block k) ++ line_feed
 
 -- the lines of picture k: three rectangles, and its times
 unfoldable pub picture_lines : ℕ → ℕ → List ℕ
-picture_lines seed k = flat_map (λ i. generated_rect_line (generator_word seed (6 * k + 2 * i)) (generator_word seed (6 * k + 2 * i + 1))) (below 3) ++ generated_show_line k
+picture_lines seed k = flat_map
+    (λ i. generated_rect_line (generator_word seed (6 * k + 2 * i)) (generator_word seed (6 * k + 2 * i + 1)))
+    (below 3) ++ generated_show_line k
 
 -- the script of so many pictures
 unfoldable pub generated_script : ℕ → ℕ → List ℕ

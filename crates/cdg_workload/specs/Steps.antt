@@ -10,7 +10,12 @@ use Rattle.cdg_workload.specs.declared.scratching.Scratches.{Scratches}
 
 -- before the next burst
 unfoldable pub next_needle : Lcg → Needle
-next_needle words = record { gap = gap_of (pcg32 words).0; left = size_of (pcg32 words).0; change = change_of (pcg32 words).0; words = (pcg32 words).1 }
+next_needle words = record {
+  gap = gap_of (pcg32 words).0;
+  left = size_of (pcg32 words).0;
+  change = change_of (pcg32 words).0;
+  words = (pcg32 words).1;
+}
 
 -- the same where a burst has ended
 unfoldable pub ready : Needle → Needle
@@ -22,7 +27,8 @@ change_now needle = if needle.gap == 0 then needle.change else 0
 
 -- one symbol on
 unfoldable pub moved : Needle → Needle
-moved needle = if needle.gap == 0 then record needle { left = needle.left - 1 } else record needle { gap = needle.gap - 1 }
+moved needle = if needle.gap == 0 then record needle { left = needle.left - 1 }
+    else record needle { gap = needle.gap - 1 }
 
 -- the needle after a byte of the program
 unfoldable pub byte_next : Needle → ℕ → Needle
@@ -34,12 +40,17 @@ byte_gives needle byte = Some (bit_xor byte (change_now (ready needle)))
 
 -- the stage after a block: one less of the lead-in to come, or the needle after each byte of the program's
 unfoldable pub block_next : Scratches → List ℕ → Scratches
-block_next s block = if s.lead_in == 0 then record s { needle = run_state byte_next s.needle block } else record s { lead_in = s.lead_in - 1 }
+block_next s block = if s.lead_in == 0 then record s { needle = run_state byte_next s.needle block }
+    else record s { lead_in = s.lead_in - 1 }
 
 -- what is given for a block: one of the lead-in stays, and one of the program is taken byte by byte
 unfoldable pub block_gives : Scratches → List ℕ → Option (List ℕ)
-block_gives s block = if s.lead_in == 0 then Some (run_gives byte_next byte_gives s.needle block) else Some block
+block_gives s block = if s.lead_in == 0 then Some (run_gives byte_next byte_gives s.needle block)
+    else Some block
 
 -- before the first block
 abbrev pub fresh_scratches : ℕ → ℕ → Scratches
-fresh_scratches lead_in seed = record { lead_in = lead_in; needle = record { gap = 0; left = 0; change = 0; words = generator seed } }
+fresh_scratches lead_in seed = record {
+  lead_in = lead_in;
+  needle = record { gap = 0; left = 0; change = 0; words = generator seed };
+}

@@ -66,14 +66,15 @@ impl Stage for Scratches {
     }
 }
 
-/// Writes a raw stream with the scratches of a seed, as its blocks are read: bursts of up to sixteen neighbouring symbols, at
-/// least 192 symbols apart, after so many blocks of lead-in. The lead-in and the P and Q bits stay. Blocks have 96 bytes, and at
-/// most 1,000,000 are read. The answer counts them, those of the lead-in included.
+/// Writes a raw stream with the scratches of a seed, as its blocks are read: bursts of up to sixteen neighbouring
+/// symbols, at least 192 symbols apart, after so many blocks of lead-in. The lead-in and the P and Q bits stay.
+/// Blocks have 96 bytes, and at most 1,000,000 are read. The answer counts them, those of the lead-in included.
 ///
 /// # Errors
 ///
-/// `Torn` where a rest of a block follows the last whole one: it is not written. `TooLong` where a byte follows the last block
-/// that may be read. `ReadFault` after the blocks before it. After `WriteFault` a prefix of the stream was written.
+/// `Torn` where a rest of a block follows the last whole one: it is not written. `TooLong` where a byte follows the
+/// last block that may be read. `ReadFault` after the blocks before it. After `WriteFault` a prefix of the stream was
+/// written.
 pub fn scratch<S: Source, K: Sink>(
     lead_in: u32,
     seed: u64,
@@ -84,10 +85,12 @@ pub fn scratch<S: Source, K: Sink>(
     ensures scratches { (taken : List ℕ) × Streams 96 1000000 Torn WriteFault (IsScratched lead_in seed)
         (S.left source.old) (S.left source.new) (K.held out.old) (K.held out.new) result taken }
     // Where nothing failed, the answer is that of the whole input's length.
-    ensures answer { IfSome (S.left source.old) (λ all. IsUnlessFault result (answer_of 96 1000000 (length all))) }
+    ensures answer { IfSome (S.left source.old)
+        (λ all. IsUnlessFault result (answer_of 96 1000000 (length all))) }
     ensures source_later { S.faults source.old ≤ S.faults source.new }
     ensures out_later { K.faults out.old ≤ K.faults out.new }
-    ensures read_fault { IsErrOf result PumpStop.ReadFault → Rose (S.faults source.old) (S.faults source.new) }
+    ensures read_fault { IsErrOf result PumpStop.ReadFault
+        → Rose (S.faults source.old) (S.faults source.new) }
     ensures no_read_fault { result ≢ Err PumpStop.ReadFault → S.faults source.new ≡ S.faults source.old }
     ensures ended { TellsEndOf result (S.ends source.old) (S.ends source.new) }
     ensures write_fault { IsErrOf result PumpStop.WriteFault → Rose (K.faults out.old) (K.faults out.new) }
@@ -101,19 +104,23 @@ pub fn scratch<S: Source, K: Sink>(
     )
 }
 
-/// A law: what scratches change of a stream are bursts of symbols of the program: up to sixteen, and at least 192 apart. The
-/// lead-in and the P and Q bits stay.
+/// A law: what scratches change of a stream are bursts of symbols of the program: up to sixteen, and at least 192
+/// apart. The lead-in and the P and Q bits stay.
 pub fn scratches_are_bursts()
-    ensures bursts { (lead_in seed : ℕ) (bytes : List ℕ) → DiffersInBursts (symbols_of (drop (96 * lead_in) bytes))
+    ensures bursts { (lead_in seed : ℕ) (bytes : List ℕ)
+        → DiffersInBursts (symbols_of (drop (96 * lead_in) bytes))
         (symbols_of (drop (96 * lead_in) (scratched lead_in seed bytes))) }
-    ensures lead_in { (lead_in seed : ℕ) (bytes : List ℕ) → take (96 * lead_in) (scratched lead_in seed bytes) ≡ take (96 * lead_in) bytes }
-    ensures channels { (lead_in seed : ℕ) (bytes : List ℕ) → map (λ byte. byte / 64) (scratched lead_in seed bytes) ≡ map (λ byte. byte / 64) bytes }
+    ensures lead_in { (lead_in seed : ℕ) (bytes : List ℕ)
+        → take (96 * lead_in) (scratched lead_in seed bytes) ≡ take (96 * lead_in) bytes }
+    ensures channels { (lead_in seed : ℕ) (bytes : List ℕ)
+        → map (λ byte. byte / 64) (scratched lead_in seed bytes) ≡ map (λ byte. byte / 64) bytes }
 {}
 
 /// A law: in a stream of whole blocks, scratches change at most two symbols of each word.
 pub fn scratches_are_damage()
     ensures { (lead_in seed blocks : ℕ) (bytes : List ℕ) → length bytes ≡ 96 * blocks
-        → IsDamaged (program_symbols Form.Raw bytes lead_in) Form.Raw (program_symbols Form.Raw (scratched lead_in seed bytes) lead_in) }
+        → IsDamaged (program_symbols Form.Raw bytes lead_in) Form.Raw
+        (program_symbols Form.Raw (scratched lead_in seed bytes) lead_in) }
 {
     bursts_are_damage();
 }

@@ -38,8 +38,9 @@ static GREYS: [u8; 230] = *b"\
     colour 14 0eee\n\
     colour 15 0fff\n";
 
-/// Writes a script of 1 to 500 pictures that a seed determines: a line for each of sixteen greys, and for each picture those of
-/// three more rectangles and of its times. Picture k, from 0, is ready at block 800 (k + 1) and held for twenty blocks.
+/// Writes a script of 1 to 500 pictures that a seed determines: a line for each of sixteen greys, and for each
+/// picture those of three more rectangles and of its times. Picture k, from 0, is ready at block 800 (k + 1) and held
+/// for twenty blocks.
 ///
 /// # Errors
 ///
@@ -47,7 +48,8 @@ static GREYS: [u8; 230] = *b"\
 pub fn write_script<K: Sink>(seed: u64, pictures: u32, out: &mut K) -> Result<(), Failed>
     requires { (1 ≤ pictures) × (pictures ≤ 500) }
     ensures ok { OnOk result (Appends (K.held out.old) (K.held out.new) (generated_script seed pictures)) }
-    ensures part { OnErr result (AppendsPrefix (K.held out.old) (K.held out.new) (generated_script seed pictures)) }
+    ensures part { OnErr result
+        (AppendsPrefix (K.held out.old) (K.held out.new) (generated_script seed pictures)) }
     ensures cause { HasCause (K.faults out.old) (K.faults out.new) result }
 {
     put_all(out, &GREYS)?;

@@ -7,7 +7,8 @@ ghost use Rattle.cdg_workload.specs.Generated.{generated_drawings};
 
 /// A law: every generated script is accepted, and its lines say these drawings.
 pub fn generated_scripts_are_read()
-    ensures { (seed count : ℕ) → count ≤ 500 → read_script (generated_script seed count) ≡ Ok (generated_drawings seed count) }
+    ensures { (seed count : ℕ) → count ≤ 500
+        → read_script (generated_script seed count) ≡ Ok (generated_drawings seed count) }
 {}
 
 /// A law: a generated script has at most 230 bytes of colours, and 95 of each picture.
@@ -15,10 +16,12 @@ pub fn generated_scripts_are_short()
     ensures { (seed count : ℕ) → length (generated_script seed count) ≤ 230 + 95 * count }
 {}
 
-/// A law: picture k of a generated script is ready at block 800 (k + 1) and held for twenty blocks, so 780 blocks come between two
-/// pictures.
+/// A law: picture k of a generated script is ready at block 800 (k + 1) and held for twenty blocks, so 780 blocks
+/// come between two pictures.
 pub fn generated_scripts_have_times()
     ensures pictures { (seed count : ℕ) → pictures (generated_drawings seed count) ≡ count }
-    ensures ready { (seed count k : ℕ) → k < count → ready_time (generated_drawings seed count) k ≡ ready_block k }
-    ensures hold { (seed count k : ℕ) → k < count → hold_time (generated_drawings seed count) k ≡ hold_block k }
+    ensures ready { (seed count k : ℕ) → k < count
+        → ready_time (generated_drawings seed count) k ≡ ready_block k }
+    ensures hold { (seed count k : ℕ) → k < count
+        → hold_time (generated_drawings seed count) k ≡ hold_block k }
 {}

@@ -16,7 +16,9 @@ StandsIn pack packs = (n : ℕ) × (n < length packs) × (pack ≡ slice_index_o
 
 -- each offered pack is one of the texts or its check does not match, and each pack of the texts is offered
 pub record AreCopies (texts : Texts) (offered : List (List ℕ)) : Type 0 where
-  pub each : (i : ℕ) → i < length offered → (check_matches (slice_index_or offered i []) ≡ false) ⊎ StandsIn (slice_index_or offered i []) (packs_of texts)
+  pub each : (i : ℕ) → i < length offered
+      → (check_matches (slice_index_or offered i []) ≡ false)
+      ⊎ StandsIn (slice_index_or offered i []) (packs_of texts)
   pub all : (n : ℕ) → n < length (packs_of texts) → StandsIn (slice_index_or (packs_of texts) n []) offered
 
 -- no string is a single tab

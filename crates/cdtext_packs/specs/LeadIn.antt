@@ -11,15 +11,18 @@ pack_symbols pack = numbers_of 6 (bits_of_bytes pack)
 
 -- the symbols of slot j of the lead-in, which holds the packs over and over, or zeros where there are none
 abbrev pub lead_in_slot : List (List ℕ) → ℕ → List ℕ
-lead_in_slot packs j = if length packs == 0 then replicate symbols_a_slot 0 else pack_symbols (slice_index_or packs (j % length packs) [])
+lead_in_slot packs j = if length packs == 0 then replicate symbols_a_slot 0
+    else pack_symbols (slice_index_or packs (j % length packs) [])
 
 -- the symbols of a block of the lead-in, which has four slots
 abbrev pub lead_in_symbols : List (List ℕ) → ℕ → List ℕ
-lead_in_symbols packs block = flat_map (λ k. lead_in_slot packs (slots_a_block * block + k)) (below slots_a_block)
+lead_in_symbols packs block =
+    flat_map (λ k. lead_in_slot packs (slots_a_block * block + k)) (below slots_a_block)
 
 -- pack k of the four of a block: the bits of 24 symbols
 abbrev pub pack_at : List ℕ → ℕ → List ℕ
-pack_at block k = numbers_of 8 (symbol_bits (take symbols_a_slot (drop (symbols_a_slot * k) (symbols_of block))))
+pack_at block k = numbers_of 8
+    (symbol_bits (take symbols_a_slot (drop (symbols_a_slot * k) (symbols_of block))))
 
 -- the packs of blocks of the lead-in
 abbrev pub lead_in_packs : List (List ℕ) → List (List ℕ)

@@ -46,7 +46,8 @@ strings_in count bytes = take count (slice_split is_zero bytes)
 
 -- what a string means after others: a single tab means the string before it
 abbrev pub meant : List (List ℕ) → List ℕ → List ℕ
-meant before s = if length s == 1 && slice_index s 0 == 9 && not (length before == 0) then slice_index_or before (length before - 1) [] else s
+meant before s = if length s == 1 && slice_index s 0 == 9
+    && not (length before == 0) then slice_index_or before (length before - 1) [] else s
 
 -- what strings mean in a row; the album's, which is the first, stays as it is
 unfoldable pub resolved : List (List ℕ) → List (List ℕ)
@@ -54,11 +55,13 @@ resolved strings = fold (λ before s. before ++ meant before s ∷ []) [] string
 
 -- the strings of a kind, one for the album and each track, all empty where the kind has no packs
 unfoldable pub kind_texts : List (Option (List ℕ)) → ℕ → TextKind → List (List ℕ)
-kind_texts kept count kind = if length (kind_bytes kept kind) == 0 then replicate count [] else resolved (strings_in count (kind_bytes kept kind))
+kind_texts kept count kind = if length (kind_bytes kept kind) == 0 then replicate count []
+    else resolved (strings_in count (kind_bytes kept kind))
 
 -- whether a kind has packs, but with fewer strings than are wanted
 unfoldable pub is_short : List (Option (List ℕ)) → ℕ → TextKind → Bool
-is_short kept count kind = not (length (kind_packs kept kind) == 0) && nat_lt (ends_in (kind_bytes kept kind)) count
+is_short kept count kind = not (length (kind_packs kept kind) == 0)
+    && nat_lt (ends_in (kind_bytes kept kind)) count
 
 -- the number of the last of some packs
 abbrev pub last_number : List (List ℕ) → ℕ
@@ -97,20 +100,24 @@ first_short kept count = find (is_short kept count) kinds
 abbrev pub read_numbers : List (Option (List ℕ)) → ℕ → ℕ → ℕ → Option ℕ → Result Texts TextFault
 read_numbers kept count first_track last_track (Some n) = Err (Missing n)
 read_numbers kept count first_track last_track None =
-    let used = take count kept in read_kinds used first_track last_track (first_short used (last_track - first_track + 2))
+    let used = take count kept in read_kinds used first_track last_track
+    (first_short used (last_track - first_track + 2))
 
--- the texts of kept packs by the first two size packs: of the size bytes 1 is the first track, 2 the last, and 20 the last number
+-- the texts of kept packs by the first two size packs: of the size bytes 1 is the first track, 2 the last, and 20 the
+-- last number
 abbrev pub read_sized : List (Option (List ℕ)) → List ℕ → List ℕ → Result Texts TextFault
 read_sized kept size0 size1 =
     let first_track = slice_index (pack_text size0) 1 in
     let last_track = slice_index (pack_text size0) 2 in
     let count = slice_index (pack_text size1) 8 + 1 in
     if nat_lt first_track 1 || nat_lt most_tracks first_track then Err (Malformed (pack_number size0) 5)
-    else (if nat_lt last_track first_track || nat_lt most_tracks last_track then Err (Malformed (pack_number size0) 6)
+    else (if nat_lt last_track first_track || nat_lt most_tracks last_track
+    then Err (Malformed (pack_number size0) 6)
     else read_numbers kept count first_track last_track (first_missing kept count))
 
 -- the same where all three size packs are kept
-abbrev pub read_sizes : List (Option (List ℕ)) → Option (List ℕ) → Option (List ℕ) → Option (List ℕ) → Result Texts TextFault
+abbrev pub read_sizes : List (Option (List ℕ)) → Option (List ℕ) → Option (List ℕ) → Option (List ℕ)
+    → Result Texts TextFault
 read_sizes kept (Some size0) (Some size1) (Some size2) = read_sized kept size0 size1
 read_sizes kept size0 size1 size2 = Err NoSize
 
@@ -120,4 +127,5 @@ keeps_nothing kept = length (in_order kept) == 0
 
 -- the texts that kept packs give, or the first reason that they give none
 abbrev pub read_texts : List (Option (List ℕ)) → Result Texts TextFault
-read_texts kept = if keeps_nothing kept then Ok no_texts else read_sizes kept (size_pack kept 0) (size_pack kept 1) (size_pack kept 2)
+read_texts kept = if keeps_nothing kept then Ok no_texts
+    else read_sizes kept (size_pack kept 0) (size_pack kept 1) (size_pack kept 2)

@@ -17,9 +17,11 @@ kind_name Arranger = codes "arranger"
 kind_name Message = codes "message"
 kind_name Code = codes "code"
 
--- a byte as it is printed: a printable one but the backslash as itself, and any other as a backslash and two hexadecimal digits
+-- a byte as it is printed: a printable one but the backslash as itself, and any other as a backslash and two
+-- hexadecimal digits
 abbrev pub printed : ℕ → List ℕ
-printed byte = if nat_le 0x20 byte && nat_le byte 0x7e && not (byte == 92) then byte ∷ [] else 92 ∷ hex_digits 2 byte
+printed byte = if nat_le 0x20 byte && nat_le byte 0x7e
+    && not (byte == 92) then byte ∷ [] else 92 ∷ hex_digits 2 byte
 
 -- what stands in a line before its string
 abbrev pub line_head : TextKind → ℕ → List ℕ
@@ -41,7 +43,8 @@ kind_lines texts kind = flat_map (text_line texts kind) (tracks_of texts)
 
 -- the line on offered packs: those that can be kept, those whose check does not match, and those of other blocks
 unfoldable pub offers_line : ℕ → ℕ → ℕ → List ℕ
-offers_line good bad other = codes "packs good " ++ decimal good ++ codes " bad " ++ decimal bad ++ codes " other " ++ decimal other ++ line_feed
+offers_line good bad other = codes "packs good " ++ decimal good ++ codes " bad " ++ decimal bad
+    ++ codes " other " ++ decimal other ++ line_feed
 
 -- the lines of texts, kind by kind, and the line on offered packs
 abbrev pub counted_lines : Texts → ℕ → ℕ → ℕ → List ℕ
@@ -50,4 +53,5 @@ counted_lines texts good bad other = flat_map (kind_lines texts) kinds ++ offers
 -- the lines of texts, and the line on the packs that they were read from
 abbrev pub text_lines : Texts → List (List ℕ) → List ℕ
 text_lines texts packs =
-    counted_lines texts (count_by is_good packs) (count_by (λ pack. not (check_matches pack)) packs) (count_by is_of_other_block packs)
+    counted_lines texts (count_by is_good packs) (count_by (λ pack. not (check_matches pack)) packs)
+    (count_by is_of_other_block packs)

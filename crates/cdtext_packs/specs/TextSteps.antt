@@ -30,7 +30,8 @@ offered s pack = answered (offer_of s.reader pack) s pack
 unfoldable pub text_next : LeadInTexts → List ℕ → LeadInTexts
 text_next s block =
     if s.left == 0 then s
-    else offered (offered (offered (offered (record s { left = s.left - 1 }) (pack_at block 0)) (pack_at block 1)) (pack_at block 2)) (pack_at block 3)
+    else offered (offered (offered (offered (record s { left = s.left - 1 }) (pack_at block 0))
+    (pack_at block 1)) (pack_at block 2)) (pack_at block 3)
 
 -- the packs were offered one after another to a reader that kept nothing, and counted
 pub record HasRead (packs : List (List ℕ)) (s : LeadInTexts) : Type 0 where

@@ -20,7 +20,17 @@ pub record Texts : Type 0 where
 
 -- no tracks and no strings
 abbrev pub no_texts : Texts
-no_texts = record { first = 0; last = 0; title = []; performer = []; songwriter = []; composer = []; arranger = []; message = []; code = [] }
+no_texts = record {
+  first = 0;
+  last = 0;
+  title = [];
+  performer = [];
+  songwriter = [];
+  composer = [];
+  arranger = [];
+  message = [];
+  code = [];
+}
 
 -- all kinds, in the order of the types of their packs
 abbrev pub kinds : List TextKind
@@ -59,8 +69,8 @@ has_no_text texts = list_all (λ kind. are_empty (strings_of kind texts)) kinds
 abbrev pub unless_empty : Texts → Texts
 unless_empty texts = if has_no_text texts then no_texts else texts
 
--- the texts of these kinds, each with a string for the album and for each track from the first on, and empty strings of the
--- other kinds
+-- the texts of these kinds, each with a string for the album and for each track from the first on, and empty strings
+-- of the other kinds
 abbrev pub texts_with : ℕ → List (List ℕ) → List (List ℕ) → List (List ℕ) → List (List ℕ) → Texts
 texts_with first title performer songwriter code =
     let none = replicate (length title) [] in

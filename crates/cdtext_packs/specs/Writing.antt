@@ -34,7 +34,8 @@ pub record Content : Type 0 where
 abbrev pub joined : List (List ℕ) → List ℕ
 joined strings = flat_map (λ s. s ++ 0 ∷ []) strings
 
--- for each of these bytes the place of its string, counted from the first, and how many bytes of the string stand before it
+-- for each of these bytes the place of its string, counted from the first, and how many bytes of the string stand
+-- before it
 abbrev pub holders : ℕ → List (List ℕ) → List (ℕ × ℕ)
 holders first [] = []
 holders first (s ∷ rest) = map (λ offset. (first, offset)) (below (length s + 1)) ++ holders (first + 1) rest
@@ -64,7 +65,8 @@ kind_contents texts kind =
     let strings = strings_of kind texts in
     map (text_content texts.first (type_of kind) strings) (below (pack_count strings))
 
--- the 36 size bytes: the tracks, how many packs each type from 80 to 8F has, the last number of each block, and the languages
+-- the 36 size bytes: the tracks, how many packs each type from 80 to 8F has, the last number of each block, and the
+-- languages
 abbrev pub size_bytes : Texts → List ℕ
 size_bytes texts =
     let count = λ (kind : TextKind). length (kind_contents texts kind) in
@@ -74,7 +76,12 @@ size_bytes texts =
 
 -- what size pack d of the three holds
 abbrev pub size_content : Texts → ℕ → Content
-size_content texts d = record { type = size_type; track = d; position = 0; text = twelve (size_bytes texts) d }
+size_content texts d = record {
+  type = size_type;
+  track = d;
+  position = 0;
+  text = twelve (size_bytes texts) d;
+}
 
 -- what the three size packs hold
 abbrev pub size_contents : Texts → List Content

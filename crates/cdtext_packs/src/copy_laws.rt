@@ -9,8 +9,8 @@ ghost use Rattle.cdtext_packs.specs.Writing.{packs_of};
 ghost use Rattle.cdtext_packs.specs.declared.kinds.Offer.TheVariants.{BadCrc};
 ghost use Rattle.cdtext_packs.specs.Copies.{IsPack, AreCopies, HasNoTab};
 
-/// A law: where the bits of a pack whose check matches change, all within sixteen neighbouring ones, the check no longer
-/// matches.
+/// A law: where the bits of a pack whose check matches change, all within sixteen neighbouring ones, the check no
+/// longer matches.
 pub fn bursts_are_noticed()
     ensures { (kept : List (Option (List ℕ))) (pack changed : List ℕ) (before one other after : List Bool)
         → IsPack pack → IsPack changed → check_matches pack ≡ true
@@ -21,6 +21,8 @@ pub fn bursts_are_noticed()
 /// A law: texts of which some string is not empty and none is a single tab come back from their packs, in any order and
 /// with any repeats, also where damaged packs stand among them.
 pub fn texts_come_back()
-    ensures { (texts : Texts) (offered : List (List ℕ)) → HasTracks texts → has_no_text texts ≡ false → HasNoTab texts
-        → length (packs_of texts) ≤ most_packs → AreCopies texts offered → read_texts (kept_among offered) ≡ Ok texts }
+    ensures { (texts : Texts) (offered : List (List ℕ)) → HasTracks texts → has_no_text texts ≡ false
+        → HasNoTab texts
+        → length (packs_of texts) ≤ most_packs → AreCopies texts offered
+        → read_texts (kept_among offered) ≡ Ok texts }
 {}

@@ -80,9 +80,9 @@ pub enum TextFault {
     Missing { seq: u8 },
     /// One of the three size packs is not kept.
     NoSize,
-    /// A number or a text that cannot be. In size pack 0, byte 5: the first track is not 1 to 99; byte 6: the last track
-    /// is below the first or above 99. Byte 15: a kind ends with fewer strings than the album and the tracks need; `seq`
-    /// is its last pack.
+    /// A number or a text that cannot be. In size pack 0, byte 5: the first track is not 1 to 99; byte 6: the last
+    /// track is below the first or above 99. Byte 15: a kind ends with fewer strings than the album and the tracks
+    /// need; `seq` is its last pack.
     Malformed { seq: u8, byte: u8 },
     NoMemory,
 }

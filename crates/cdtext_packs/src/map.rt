@@ -56,8 +56,8 @@ impl TextMap {
         }
     }
 
-    /// The titles, performers, songwriters and codes of the album and of the tracks from the number `first` on, and empty
-    /// strings of the other kinds. It is the empty map where all of them are empty.
+    /// The titles, performers, songwriters and codes of the album and of the tracks from the number `first` on, and
+    /// empty strings of the other kinds. It is the empty map where all of them are empty.
     pub fn of_strings(
         alloc: Global,
         first: u8,
@@ -72,8 +72,10 @@ impl TextMap {
         requires performers { length performers ≡ length titles }
         requires songwriters { length songwriters ≡ length titles }
         requires codes { length codes ≡ length titles }
-        requires strings { All IsString titles × All IsString performers × All IsString songwriters × All IsString codes }
-        ensures { IfOk result (λ map. map ≡ unless_empty (texts_with first titles performers songwriters codes)) }
+        requires strings { All IsString titles × All IsString performers × All IsString songwriters
+            × All IsString codes }
+        ensures { IfOk result
+            (λ map. map ≡ unless_empty (texts_with first titles performers songwriters codes)) }
     {
         let map = TextMap::with_strings(alloc, first, titles, performers, songwriters, codes)?;
         if map.has_no_text() {
@@ -97,7 +99,8 @@ impl TextMap {
         requires performers { length performers ≡ length titles }
         requires songwriters { length songwriters ≡ length titles }
         requires codes { length codes ≡ length titles }
-        requires strings { All IsString titles × All IsString performers × All IsString songwriters × All IsString codes }
+        requires strings { All IsString titles × All IsString performers × All IsString songwriters
+            × All IsString codes }
         ensures { IfOk result (λ map. map ≡ texts_with first titles performers songwriters codes) }
     {
         let count = titles.len();

@@ -66,7 +66,8 @@ impl TextReader {
     /// comes only where they give texts; where nothing is kept no memory is taken.
     pub fn finish(&self, alloc: Global) -> Result<TextMap, TextFault>
         ensures texts { IfOk result (λ map. read_texts self.now ≡ Ok map) }
-        ensures fault { IfErr result (λ fault. (fault ≡ TextFault.NoMemory) ⊎ (read_texts self.now ≡ Err fault)) }
+        ensures fault { IfErr result
+            (λ fault. (fault ≡ TextFault.NoMemory) ⊎ (read_texts self.now ≡ Err fault)) }
         ensures refused { IfErr (read_texts self.now) (λ fault. result ≡ Err fault) }
         ensures memory { keeps_nothing self.now ≡ true → IsOk result }
     {
@@ -96,7 +97,8 @@ fn read_sized(
 ) -> Result<TextMap, TextFault>
     requires { length kept.now ≡ most_packs }
     ensures texts { IfOk result (λ map. read_sized kept.now tracks.now counts.now ≡ Ok map) }
-    ensures fault { IfErr result (λ fault. (fault ≡ TextFault.NoMemory) ⊎ (read_sized kept.now tracks.now counts.now ≡ Err fault)) }
+    ensures fault { IfErr result
+        (λ fault. (fault ≡ TextFault.NoMemory) ⊎ (read_sized kept.now tracks.now counts.now ≡ Err fault)) }
     ensures refused { IfErr (read_sized kept.now tracks.now counts.now) (λ fault. result ≡ Err fault) }
 {
     let seq = tracks.number();

@@ -56,7 +56,8 @@ pub(crate) fn first_missing(kept: &[Option<TextPack>], count: usize) -> Option<u
 /// The number of the last pack of the first kind with fewer strings than are wanted.
 pub(crate) fn first_short(kept: &[Option<TextPack>], count: usize) -> Option<u8>
     requires { length kept.now ≤ most_packs }
-    ensures { result ≡ option_map (λ kind. last_number (kind_packs kept.now kind)) (first_short kept.now count) }
+    ensures { result ≡ option_map (λ kind. last_number (kind_packs kept.now kind))
+        (first_short kept.now count) }
 {
     for kind in KINDS {
         let short = short_at(kept, count, kind);
@@ -70,7 +71,8 @@ pub(crate) fn first_short(kept: &[Option<TextPack>], count: usize) -> Option<u8>
 /// The number of the last pack of a kind, if it has fewer strings than are wanted.
 fn short_at(kept: &[Option<TextPack>], count: usize, kind: TextKind) -> Option<u8>
     requires { length kept.now ≤ most_packs }
-    ensures { result ≡ (if is_short kept.now count kind then Some (last_number (kind_packs kept.now kind)) else None) }
+    ensures { result ≡ (if is_short kept.now count kind then Some (last_number (kind_packs kept.now kind))
+        else None) }
 {
     let mut ends = 0;
     let mut last = None;

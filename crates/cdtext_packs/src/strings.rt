@@ -31,7 +31,8 @@ impl Strings {
 
     /// Puts a string after the others.
     pub fn push(&mut self, string: Vec<u8>) -> Result<(), AllocError>
-        ensures pushed { MatchResult result (λ _. self.new ≡ self.old ++ string.items ∷ []) (λ _. self.new ≡ self.old) }
+        ensures pushed { MatchResult result (λ _. self.new ≡ self.old ++ string.items ∷ [])
+            (λ _. self.new ≡ self.old) }
     {
         self.items.push(string)?;
         Ok(())

@@ -20,8 +20,10 @@ pub fn write_lines<K: Sink>(
     other: u32,
     out: &mut K,
 ) -> Result<(), Failed>
-    ensures ok { OnOk result (Appends (K.held out.old) (K.held out.new) (counted_lines map.now good bad other)) }
-    ensures part { OnErr result (AppendsPrefix (K.held out.old) (K.held out.new) (counted_lines map.now good bad other)) }
+    ensures ok { OnOk result
+        (Appends (K.held out.old) (K.held out.new) (counted_lines map.now good bad other)) }
+    ensures part { OnErr result
+        (AppendsPrefix (K.held out.old) (K.held out.new) (counted_lines map.now good bad other)) }
     ensures cause { HasCause (K.faults out.old) (K.faults out.new) result }
 {
     for kind in KINDS {
@@ -48,7 +50,8 @@ fn write_kind<K: Sink>(map: &TextMap, kind: TextKind, out: &mut K) -> Result<(),
 fn write_line<K: Sink>(map: &TextMap, kind: TextKind, track: u8, out: &mut K) -> Result<(), Failed>
     requires { track ≤ 99 }
     ensures ok { OnOk result (Appends (K.held out.old) (K.held out.new) (text_line map.now kind track)) }
-    ensures part { OnErr result (AppendsPrefix (K.held out.old) (K.held out.new) (text_line map.now kind track)) }
+    ensures part { OnErr result
+        (AppendsPrefix (K.held out.old) (K.held out.new) (text_line map.now kind track)) }
     ensures cause { HasCause (K.faults out.old) (K.faults out.new) result }
 {
     let string = map.text(kind, track);
@@ -63,7 +66,8 @@ fn write_line<K: Sink>(map: &TextMap, kind: TextKind, track: u8, out: &mut K) ->
 /// Writes bytes as they are printed.
 fn write_bytes<K: Sink>(bytes: &[u8], out: &mut K) -> Result<(), Failed>
     ensures ok { OnOk result (Appends (K.held out.old) (K.held out.new) (flat_map printed bytes.now)) }
-    ensures part { OnErr result (AppendsPrefix (K.held out.old) (K.held out.new) (flat_map printed bytes.now)) }
+    ensures part { OnErr result
+        (AppendsPrefix (K.held out.old) (K.held out.new) (flat_map printed bytes.now)) }
     ensures cause { HasCause (K.faults out.old) (K.faults out.new) result }
 {
     for byte in bytes {

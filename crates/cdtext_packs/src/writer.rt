@@ -14,7 +14,8 @@ use std::alloc::{AllocError, Global};
 
 /// The packs of the texts, in order of their numbers. There are none where every string is empty.
 pub fn pack_all(alloc: Global, map: &TextMap) -> Result<Vec<TextPack>, PackStop>
-    ensures { MatchResult result (λ packs. (packs.items ≡ packs_of map.now) × (length packs.items ≤ most_packs)) (IsPackStop map.now) }
+    ensures { MatchResult result (λ packs. (packs.items ≡ packs_of map.now)
+        × (length packs.items ≤ most_packs)) (IsPackStop map.now) }
 {
     let packs = packs_needed(map);
     if packs > MOST_PACKS {
@@ -67,7 +68,8 @@ fn push_kind(
     kind: TextKind,
 ) -> Result<(), AllocError>
     requires { length packs.old.items + length (kind_contents map.now kind) ≤ most_packs }
-    ensures { IfOk result (λ _. packs.new.items ≡ packs.old.items ++ numbered (length packs.old.items) (kind_contents map.now kind)) }
+    ensures { IfOk result (λ _. packs.new.items ≡ packs.old.items
+        ++ numbered (length packs.old.items) (kind_contents map.now kind)) }
 {
     let first = map.first();
     let strings = map.strings(kind);
@@ -83,7 +85,8 @@ fn push_kind(
 fn push_sizes(packs: &mut Vec<TextPack>, map: &TextMap) -> Result<(), AllocError>
     requires before { length packs.old.items ≡ length (flat_map (kind_contents map.now) kinds) }
     requires few { length packs.old.items ≤ 253 }
-    ensures { IfOk result (λ _. packs.new.items ≡ packs.old.items ++ numbered (length packs.old.items) (size_contents map.now)) }
+    ensures { IfOk result (λ _. packs.new.items ≡ packs.old.items
+        ++ numbered (length packs.old.items) (size_contents map.now)) }
 {
     let count = packs.len() as u8;
     let bytes = size_bytes(map, count + 2);

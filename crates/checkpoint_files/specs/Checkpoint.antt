@@ -7,7 +7,8 @@ use Rattle.cdg_screen.specs.Picture.{Standing}
 use Rattle.checkpoint_files.specs.declared.counts.Counts.{Counts}
 use Rattle.checkpoint_files.specs.Table.{Part, Mark, ToCome, LeadIn, Program, Bad, Slots, Memory, Border, Across, Down, Colours, Levels, Check, row, body_parts, mark, number}
 
--- what a checkpoint keeps: the lead-in blocks still to come and those read, the program blocks read, the bad words so far, the symbols of the last seven slots with zeros before the first, and what stands
+-- what a checkpoint keeps: the lead-in blocks still to come and those read, the program blocks read, the bad words so
+-- far, the symbols of the last seven slots with zeros before the first, and what stands
 pub record Checkpoint : Type 0 where
   pub to_come : ℕ
   pub lead_in : ℕ
@@ -18,7 +19,14 @@ pub record Checkpoint : Type 0 where
 
 -- the checkpoint of these counts and slots, and of what stands
 abbrev pub kept : Counts → List ℕ → Standing → Checkpoint
-kept counts slots now = record { to_come = counts.to_come; lead_in = counts.lead_in; program = counts.program; bad = counts.bad; slots = slots; standing = now }
+kept counts slots now = record {
+  to_come = counts.to_come;
+  lead_in = counts.lead_in;
+  program = counts.program;
+  bad = counts.bad;
+  slots = slots;
+  standing = now;
+}
 
 -- Writing
 

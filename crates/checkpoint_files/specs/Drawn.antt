@@ -9,11 +9,13 @@ tile_number x y = 50 * (y / 12) + x / 6
 
 -- the memory becomes that of the saved one in a tile, and is as it was elsewhere
 abbrev pub DrawsTile : Standing → ℕ → ℕ → Standing → Standing → Type 0
-DrawsTile saved row column old now = (x y : ℕ) → x < screen_width → y < screen_height → now.memory x y ≡ (if covers row column x y then saved.memory x y else old.memory x y)
+DrawsTile saved row column old now = (x y : ℕ) → x < screen_width → y < screen_height
+    → now.memory x y ≡ (if covers row column x y then saved.memory x y else old.memory x y)
 
 -- the first tiles are those of the saved memory, and the others are blank
 abbrev pub HoldsTiles : Standing → ℕ → Standing → Type 0
-HoldsTiles saved count now = (x y : ℕ) → x < screen_width → y < screen_height → now.memory x y ≡ (if nat_lt (tile_number x y) count then saved.memory x y else 0)
+HoldsTiles saved count now = (x y : ℕ) → x < screen_width → y < screen_height
+    → now.memory x y ≡ (if nat_lt (tile_number x y) count then saved.memory x y else 0)
 
 -- all but the memory is that of the saved one
 abbrev pub set_by : Standing → Standing → Standing

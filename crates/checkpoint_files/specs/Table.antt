@@ -46,7 +46,8 @@ row Check = record { first = 65043; count = 1; size = 2 }
 
 -- the parts in the order of their bytes: those that the check is of, and the check
 abbrev pub body_parts : List Part
-body_parts = Mark ∷ ToCome ∷ LeadIn ∷ Program ∷ Bad ∷ Slots ∷ Memory ∷ Border ∷ Across ∷ Down ∷ Colours ∷ Levels ∷ []
+body_parts = Mark ∷ ToCome ∷ LeadIn ∷ Program ∷ Bad ∷ Slots ∷ Memory ∷ Border ∷ Across ∷ Down ∷ Colours ∷
+    Levels ∷ []
 
 abbrev pub all_parts : List Part
 all_parts = body_parts ++ Check ∷ []
@@ -77,9 +78,11 @@ abbrev pub IsFieldInRange : List ℕ → Part → ℕ → Type 0
 IsFieldInRange file Mark k = number file Mark 0 ≡ mark
 IsFieldInRange file ToCome k = number file ToCome 0 ≤ most_lead_in
 IsFieldInRange file LeadIn k = number file ToCome 0 + number file LeadIn 0 ≤ most_lead_in
-IsFieldInRange file Program k = (number file LeadIn 0 + number file Program 0 ≤ most_units) × (0 < number file ToCome 0 → number file Program 0 ≡ 0)
+IsFieldInRange file Program k = (number file LeadIn 0 + number file Program 0 ≤ most_units)
+    × (0 < number file ToCome 0 → number file Program 0 ≡ 0)
 IsFieldInRange file Bad k = number file Bad 0 ≤ whole_packs (number file Program 0)
-IsFieldInRange file Slots k = (number file Slots k < 64) × (k < empty_symbols (number file Program 0) → number file Slots k ≡ 0)
+IsFieldInRange file Slots k = (number file Slots k < 64)
+    × (k < empty_symbols (number file Program 0) → number file Slots k ≡ 0)
 IsFieldInRange file Memory k = number file Memory k < 16
 IsFieldInRange file Border k = number file Border k < 16
 IsFieldInRange file Across k = number file Across k ≤ 5
@@ -118,7 +121,8 @@ pub record IsCheckpointFile (file : List ℕ) : Type 0 where
   pub size : length file ≡ file_size
   pub ranges : AllByRecursion (IsPartInRange file) all_parts
 
--- The bytes are none, and this is the byte that tells it: their length where they are too few, the first byte past the file where they are too many, and else the first byte of the first field out of its range.
+-- The bytes are none, and this is the byte that tells it: their length where they are too few, the first byte past
+-- the file where they are too many, and else the first byte of the first field out of its range.
 pub record IsBadAt (file : List ℕ) (byte : ℕ) : Type 0 where
   pub short : length file < file_size → byte ≡ length file
   pub long : file_size < length file → byte ≡ file_size

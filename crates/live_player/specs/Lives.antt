@@ -29,7 +29,10 @@ standing_on player = standing_of player.stages.second.picture
 
 -- the stages after a block
 abbrev pub live_next : Then BlockWords Drawing → List ℕ → Then BlockWords Drawing
-live_next s block = record { first = words_next s.first block; second = then_second drawing_next s.second (words_give s.first block) }
+live_next s block = record {
+  first = words_next s.first block;
+  second = then_second drawing_next s.second (words_give s.first block);
+}
 
 -- the stages before the first block of a stream
 pub record IsLiveStart (form : Form) (lead_in : ℕ) (s : Then BlockWords Drawing) : Type 0 where
@@ -51,8 +54,10 @@ stream_words form lead_in blocks =
     let symbols = flat_map symbols_of (drop lead_in blocks) in
     map (form_word form symbols) (below (word_count form (length symbols / 96)))
 
--- what these blocks show at a moment: the packs that are whole then, each read as the codeword near it, drawn in turn on a blank screen
-pub record IsLiveViewAt (form : Form) (lead_in time : ℕ) (blocks : List (List ℕ)) (now : Standing) : Type 0 where
+-- what these blocks show at a moment: the packs that are whole then, each read as the codeword near it, drawn in turn
+-- on a blank screen
+pub record IsLiveViewAt (form : Form) (lead_in time : ℕ) (blocks : List (List ℕ))
+    (now : Standing) : Type 0 where
   pub found : List (Option (List ℕ))
   pub recovered : IsRecovered form (flat_map symbols_of (drop lead_in blocks)) found
   pub instrs : List Instr
@@ -73,4 +78,5 @@ pub record HasDrawn (packs : List (List ℕ)) (player : LivePlayer) : Type 0 whe
 
 -- byte n of the picture: red, green or blue of the colour of pixel n / 3, of the pixels row by row
 unfoldable pub picture_byte : Standing → ℕ → ℕ
-picture_byte now n = slice_index (colour_bytes (now.colour (screen_pixel now (n / 3 % 300) (n / 3 / 300)))) (n % 3)
+picture_byte now n = slice_index (colour_bytes (now.colour (screen_pixel now (n / 3 % 300) (n / 3 / 300))))
+    (n % 3)

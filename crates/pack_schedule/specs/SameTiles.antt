@@ -4,7 +4,8 @@ use Rattle.picture_script.specs.Board.{tile_of}
 
 -- the tiles of a row, from 1 to 16, are the same
 abbrev pub SameRow : List ℕ → List ℕ → ℕ → Type 0
-SameRow old new row = (column : ℕ) → 1 ≤ column → column ≤ 48 → tile_of old row column ≡ tile_of new row column
+SameRow old new row = (column : ℕ) → 1 ≤ column → column ≤ 48
+    → tile_of old row column ≡ tile_of new row column
 
 -- all tiles are the same
 abbrev pub SameTiles : List ℕ → List ℕ → Type 0

@@ -16,7 +16,8 @@ pub record IsWeighed (tile : List ℕ) (kept : Weighed) : Type 0 where
 
 -- what is kept of tile i of picture k
 abbrev pub IsWeighedAt : List Drawing → ℕ → ℕ → List Weighed → Type 0
-IsWeighedAt script k i weights = IsWeighed (picture_tile script k (i / 48 + 1) (i % 48 + 1)) (slice_index_or weights i not_weighed)
+IsWeighedAt script k i weights =
+    IsWeighed (picture_tile script k (i / 48 + 1) (i % 48 + 1)) (slice_index_or weights i not_weighed)
 
 -- what is kept of each tile of picture k
 abbrev pub AreWeights : List Drawing → ℕ → List Weighed → Type 0

@@ -13,9 +13,12 @@ pub record Woven : Type 0 where
 
 -- pack n: the written instruction of the planned change that stands there, or an idle pack
 pub record IsPackAt (script : List Drawing) (n : ℕ) (pack : List ℕ) : Type 0 where
-  pub changed : (k : ℕ) → k < pictures script → start_of script k ≤ n → n < start_of script k + length (planned_change script k) →
+  pub changed : (k : ℕ) → k < pictures script → start_of script k ≤ n
+      → n < start_of script k + length (planned_change script k) →
       IsWritten (slice_index_or (planned_change script k) (n - start_of script k) Idle) pack
-  pub idle : ((k : ℕ) → k < pictures script → (n < start_of script k) ⊎ (start_of script k + length (planned_change script k) ≤ n)) → pack ≡ idle_pack
+  pub idle : ((k : ℕ) → k < pictures script
+      → (n < start_of script k) ⊎ (start_of script k + length (planned_change script k) ≤ n))
+      → pack ≡ idle_pack
 
 -- the packs, in order
 abbrev pub ArePacks : List Drawing → List (List ℕ) → Type 0

@@ -39,7 +39,8 @@ impl Choice {
 fn colour_length(script: &Script, k: u32, beside: u32, counts: &Counts, colour: u8) -> u32
     requires beside { beside ≡ length (settings script.now k) }
     requires few_beside { beside ≤ 3 }
-    requires colours { counts.now.whole ≡ slice_index counts.now.single colour + tile_steps script.now k (Some colour) }
+    requires colours { counts.now.whole
+        ≡ slice_index counts.now.single colour + tile_steps script.now k (Some colour) }
     requires few { counts.now.whole ≤ 3072 }
     requires colour { colour < 16 }
     ensures value { result ≡ planned_length script.now k (Some colour) }
@@ -53,7 +54,8 @@ fn first_choice(script: &Script, k: u32, beside: u32, counts: &Counts) -> Choice
     requires beside { beside ≡ length (settings script.now k) }
     requires few_beside { beside ≤ 3 }
     requires stands { 0 < k → counts.now.stands ≡ tile_steps script.now k None }
-    requires colours { (c : ℕ) → c < 16 → counts.now.whole ≡ slice_index counts.now.single c + tile_steps script.now k (Some c) }
+    requires colours { (c : ℕ) → c < 16
+        → counts.now.whole ≡ slice_index counts.now.single c + tile_steps script.now k (Some c) }
     requires few { (counts.now.stands ≤ 3072) × (counts.now.whole ≤ 3072) }
     ensures preset { result.preset ≡ preferred k }
     ensures need { result.need ≡ planned_length script.now k result.preset }
@@ -77,7 +79,8 @@ fn choose(script: &Script, k: u32, beside: u32, counts: &Counts) -> Choice
     requires beside { beside ≡ length (settings script.now k) }
     requires few_beside { beside ≤ 3 }
     requires stands { 0 < k → counts.now.stands ≡ tile_steps script.now k None }
-    requires colours { (c : ℕ) → c < 16 → counts.now.whole ≡ slice_index counts.now.single c + tile_steps script.now k (Some c) }
+    requires colours { (c : ℕ) → c < 16
+        → counts.now.whole ≡ slice_index counts.now.single c + tile_steps script.now k (Some c) }
     requires few { (counts.now.stands ≤ 3072) × (counts.now.whole ≤ 3072) }
     ensures preset { result.preset ≡ chosen_start script.now k }
     ensures need { result.need ≡ planned_length script.now k result.preset }

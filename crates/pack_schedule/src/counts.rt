@@ -12,7 +12,8 @@ use crate::same_tiles::ROWS;
 use crate::weights::{TILES, Weighed, weigh_tile};
 use picture_script::{Canvas, Script};
 
-/// The sums over tiles of what they take: from what stands there, and from a colour; and of the tiles that are all one colour.
+/// The sums over tiles of what they take: from what stands there, and from a colour; and of the tiles that are all
+/// one colour.
 #[derive(Clone, Copy)]
 pub(crate) struct Counts {
     pub(crate) stands: u32,
@@ -29,7 +30,9 @@ impl Counts {
         requires whole { self.old.whole ≤ 4000 }
         requires single { (c : ℕ) → slice_index self.old.single c ≤ 4000 }
         ensures stands { self.new.stands ≡ self.old.stands + taken }
-        ensures colours { (tile : List ℕ) → IsWeighed tile kept → (c : ℕ) → c < 16 → self.new.whole + slice_index self.old.single c ≡ self.old.whole + slice_index self.new.single c + steps (replicate 72 c) tile }
+        ensures colours { (tile : List ℕ) → IsWeighed tile kept → (c : ℕ) → c < 16
+            → self.new.whole + slice_index self.old.single c
+            ≡ self.old.whole + slice_index self.new.single c + steps (replicate 72 c) tile }
         ensures few_stands { self.new.stands ≤ self.old.stands + 4 }
         ensures few_whole { self.new.whole ≤ self.old.whole + 4 }
         ensures few_single { (c : ℕ) → slice_index self.new.single c ≤ slice_index self.old.single c + 4 }
@@ -58,7 +61,8 @@ pub(crate) fn count_tiles(
     requires weights { 0 < k → AreWeights script.now (k - 1) weights.old }
     ensures weights { AreWeights script.now k weights.new }
     ensures stands { 0 < k → result.stands ≡ tile_steps script.now k None }
-    ensures colours { (c : ℕ) → c < 16 → result.whole ≡ slice_index result.single c + tile_steps script.now k (Some c) }
+    ensures colours { (c : ℕ) → c < 16
+        → result.whole ≡ slice_index result.single c + tile_steps script.now k (Some c) }
     ensures few { (result.stands ≤ 3072) × (result.whole ≤ 3072) }
 {
     let mut counts = Counts {

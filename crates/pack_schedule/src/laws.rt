@@ -13,8 +13,10 @@ use picture_changes::needs_are_fewest;
 /// A law: the packs that a weaver gives, as many as are whole in a program of so many blocks, are a schedule.
 pub fn packs_are_a_schedule()
     ensures { (script : List Drawing) (blocks : ℕ) (survey : List Planned) (packs : List (List ℕ))
-        → AreColoursInRange script → ((k x y : ℕ) → picture_pixel script k x y < 16) → ((k : ℕ) → k < pictures script → ready_time script k ≤ hold_time script k)
-        → IsWithin script blocks → IsSurvey script survey → length packs ≡ whole_packs blocks → ArePacks script packs
+        → AreColoursInRange script → ((k x y : ℕ) → picture_pixel script k x y < 16)
+        → ((k : ℕ) → k < pictures script → ready_time script k ≤ hold_time script k)
+        → IsWithin script blocks → IsSurvey script survey → length packs ≡ whole_packs blocks
+        → ArePacks script packs
         → IsSchedule script blocks packs }
 {
     needs_are_fewest();

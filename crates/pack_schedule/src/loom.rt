@@ -68,7 +68,8 @@ impl Loom {
     fn advance(&mut self, script: &Script, given: u32)
         requires weaving { IsWeaving script.now self.old given }
         requires picture { self.old.k < pictures script.now }
-        requires sent { start_of script.now self.old.k + length (planned_change script.now self.old.k) ≤ given }
+        requires sent { start_of script.now self.old.k + length (planned_change script.now self.old.k) ≤
+            given }
         ensures weaving { IsWeaving script.now self.new given }
         ensures next { self.new.k ≡ self.old.k + 1 }
     {
@@ -84,7 +85,8 @@ impl Loom {
     pub(crate) fn skip_sent(&mut self, script: &Script, given: u32)
         requires { IsWeaving script.now self.old given }
         ensures weaving { IsWeaving script.now self.new given }
-        ensures current { self.new.k < pictures script.now → given < start_of script.now self.new.k + length (planned_change script.now self.new.k) }
+        ensures current { self.new.k < pictures script.now
+            → given < start_of script.now self.new.k + length (planned_change script.now self.new.k) }
     {
         let pictures = script.pictures();
         for _k in self.k..pictures {
@@ -100,7 +102,8 @@ impl Loom {
     #[inline]
     pub(crate) fn pack(&self, script: &Script, given: u32) -> Option<Pack>
         requires weaving { IsWeaving script.now self.now given }
-        requires current { self.now.k < pictures script.now → given < start_of script.now self.now.k + length (planned_change script.now self.now.k) }
+        requires current { self.now.k < pictures script.now
+            → given < start_of script.now self.now.k + length (planned_change script.now self.now.k) }
         ensures { IsPackAt script.now given (unwrap_or result idle_pack) }
     {
         planned_changes_are_changes();

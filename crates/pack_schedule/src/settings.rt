@@ -10,7 +10,8 @@ use picture_script::{Canvas, Script};
 /// Whether the colours of the table from a number on, eight of them, are those of another canvas.
 pub(crate) fn has_colours(from: u8, before: &Canvas, now: &Canvas) -> bool
     requires { from ≤ 8 }
-    ensures { result ≡ are_equal (map (λ n. slice_index before.now.colours (from + n)) (below 8)) (map (λ n. slice_index now.now.colours (from + n)) (below 8)) }
+    ensures { result ≡ are_equal (map (λ n. slice_index before.now.colours (from + n)) (below 8))
+        (map (λ n. slice_index now.now.colours (from + n)) (below 8)) }
 {
     for n in 0..8u8 {
         if before.colour(from + n) != now.colour(from + n) {

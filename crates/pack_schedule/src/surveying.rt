@@ -25,8 +25,8 @@ use std::alloc::Global;
 ///
 /// # Errors
 ///
-/// `PastEnd` where the last picture is held for longer than the blocks. Otherwise `Late` at the first picture that is not
-/// in time, with the packs that it needs and those that are free for it. `NoMemory` where there is no memory.
+/// `PastEnd` where the last picture is held for longer than the blocks. Otherwise `Late` at the first picture that is
+/// not in time, with the packs that it needs and those that are free for it. `NoMemory` where there is no memory.
 pub fn survey(alloc: Global, script: &Script, blocks: u32) -> Result<Survey, Stop>
     requires { blocks < 450000 }
     ensures within { IfOk result (λ _. IsWithin script.now blocks) }
@@ -34,9 +34,12 @@ pub fn survey(alloc: Global, script: &Script, blocks: u32) -> Result<Survey, Sto
     ensures err { IfErr result (IsStop script.now blocks) }
     ensures past_end { IsPastEnd script.now blocks → result ≡ Err (Stop.PastEnd blocks) }
 
-    // What a picture needs is the fewest instructions that bring it, of whatever form without scrolls; and a late picture cannot be ready.
-    ensures fewest { IfOk result (λ planned. (k : ℕ) → k < pictures script.now → IsNeed script.now k (slice_index_or planned k nothing_planned).need) }
-    ensures late { (picture need free : ℕ) → result ≡ Err (Stop.Late picture need free) → CannotBeReady script.now picture need free }
+    // What a picture needs is the fewest instructions that bring it, of whatever form without scrolls; and a late
+    // picture cannot be ready.
+    ensures fewest { IfOk result (λ planned. (k : ℕ) → k < pictures script.now
+        → IsNeed script.now k (slice_index_or planned k nothing_planned).need) }
+    ensures late { (picture need free : ℕ) → result ≡ Err (Stop.Late picture need free)
+        → CannotBeReady script.now picture need free }
 {
     needs_are_fewest();
     let pictures = script.pictures();

@@ -42,7 +42,8 @@ fn weigh(tile: &Tile) -> Weighed
 // The colour that all pixels of a tile have.
 fn single_colour(tile: &Tile) -> Option<u8>
     ensures tile { IsTilePixels tile.now }
-    ensures colour { MatchOption result ((c : ℕ) → tile.now ≢ replicate 72 c) (λ c. (c < 16) × (tile.now ≡ replicate 72 c)) }
+    ensures colour { MatchOption result ((c : ℕ) → tile.now ≢ replicate 72 c)
+        (λ c. (c < 16) × (tile.now ≡ replicate 72 c)) }
 {
     let pixels = tile.pixels();
     if pixels[1..72] == pixels[0..71] {
@@ -67,10 +68,12 @@ pub(crate) fn weigh_tile(
     requires now { IsPicture script.now k now.now }
     requires before { 0 < k → IsPicture script.now (k - 1) before.now }
     requires kept { 0 < k → IsWeighedAt script.now (k - 1) i weights.old }
-    ensures taken { 0 < k → result ≡ steps (picture_tile script.now (k - 1) (i / 48 + 1) (i % 48 + 1)) (picture_tile script.now k (i / 48 + 1) (i % 48 + 1)) }
+    ensures taken { 0 < k → result ≡ steps (picture_tile script.now (k - 1) (i / 48 + 1) (i % 48 + 1))
+        (picture_tile script.now k (i / 48 + 1) (i % 48 + 1)) }
     ensures few { result ≤ 4 }
     ensures kept { IsWeighedAt script.now k i weights.new }
-    ensures others { (m : ℕ) → m ≢ i → slice_index_or weights.new m not_weighed ≡ slice_index_or weights.old m not_weighed }
+    ensures others { (m : ℕ) → m ≢ i
+        → slice_index_or weights.new m not_weighed ≡ slice_index_or weights.old m not_weighed }
 {
     let row = (i / 48) as u8 + 1;
     let column = (i % 48) as u8 + 1;

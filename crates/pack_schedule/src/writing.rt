@@ -17,7 +17,8 @@ use tile_author::plan;
 const TILES: usize = 768;
 
 impl Change {
-    /// Makes the list the planned change of picture `k`, which stands on `now`, while the picture before it stands on `before`.
+    /// Makes the list the planned change of picture `k`, which stands on `now`, while the picture before it stands on
+    /// `before`.
     pub(crate) fn plan(
         &mut self,
         script: &Script,

@@ -1,4 +1,5 @@
--- Lists of instructions that bring a picture of a script, of whatever form, but without scrolls, and the fewest that do.
+-- Lists of instructions that bring a picture of a script, of whatever form, but without scrolls, and the fewest that
+-- do.
 use Rattle.std.specs.Prelude.{◌≡◌, ℕ, zero, suc, ◌<◌, ◌≤◌, Bool, true, false, List, length, count_by, All}
 use Rattle.cdg_instructions.specs.Instruction.{InRange}
 use Rattle.cdg_instructions.specs.declared.instr.Instr.{Instr}

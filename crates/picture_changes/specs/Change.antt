@@ -11,13 +11,18 @@ use Rattle.cdg_instructions.specs.declared.instr.Instr.TheVariants.{MemoryPreset
 abbrev pub window_places : List (ℕ × ℕ)
 window_places = flat_map (λ r. map (λ c. (r + 1, c + 1)) (below 48)) (below 16)
 
--- the instructions that set the border and both halves of the colours: all of them for the first picture, and for a later one what differs from the picture before
+-- the instructions that set the border and both halves of the colours: all of them for the first picture, and for a
+-- later one what differs from the picture before
 abbrev pub settings : List Drawing → ℕ → List Instr
-settings script zero = BorderPreset (picture_border script 0) ∷ ColoursLow (low_colours script 0) ∷ ColoursHigh (high_colours script 0) ∷ []
+settings script zero = BorderPreset (picture_border script 0) ∷ ColoursLow (low_colours script 0) ∷
+    ColoursHigh (high_colours script 0) ∷ []
 settings script (suc k) =
-    (if picture_border script k == picture_border script (suc k) then [] else BorderPreset (picture_border script (suc k)) ∷ [])
-    ++ (if are_equal (low_colours script k) (low_colours script (suc k)) then [] else ColoursLow (low_colours script (suc k)) ∷ [])
-    ++ (if are_equal (high_colours script k) (high_colours script (suc k)) then [] else ColoursHigh (high_colours script (suc k)) ∷ [])
+    (if picture_border script k == picture_border script (suc k) then []
+    else BorderPreset (picture_border script (suc k)) ∷ [])
+    ++ (if are_equal (low_colours script k) (low_colours script (suc k)) then []
+    else ColoursLow (low_colours script (suc k)) ∷ [])
+    ++ (if are_equal (high_colours script k) (high_colours script (suc k)) then []
+    else ColoursHigh (high_colours script (suc k)) ∷ [])
 
 -- for each of these places in order, a shortest list of instructions that turns its old tile into its new one
 abbrev pub AreTileChanges : (ℕ → ℕ → List ℕ) → (ℕ → ℕ → List ℕ) → List (ℕ × ℕ) → List Instr → Type 0
@@ -46,7 +51,8 @@ tiles_before script k (Some colour) row column = replicate 72 colour
 tiles_before script k None row column = picture_tile script (k - 1) row column
 
 -- a change for picture k with this start
-pub record IsChangeFrom (script : List Drawing) (k : ℕ) (start : Option ℕ) (instrs : List Instr) : Type 0 where
+pub record IsChangeFrom (script : List Drawing) (k : ℕ) (start : Option ℕ)
+    (instrs : List Instr) : Type 0 where
   pub allowed : IsStart k start
   pub tiles : List Instr
   pub whole : instrs ≡ preset_of start ++ settings script k ++ tiles
@@ -56,4 +62,5 @@ pub record IsChangeFrom (script : List Drawing) (k : ℕ) (start : Option ℕ) (
 pub record IsOrderedChange (script : List Drawing) (k : ℕ) (instrs : List Instr) : Type 0 where
   pub start : Option ℕ
   pub change : IsChangeFrom script k start instrs
-  pub shortest : (other : Option ℕ) (others : List Instr) → IsChangeFrom script k other others → length instrs ≤ length others
+  pub shortest : (other : Option ℕ) (others : List Instr) → IsChangeFrom script k other others
+      → length instrs ≤ length others

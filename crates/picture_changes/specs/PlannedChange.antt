@@ -8,22 +8,26 @@ use Rattle.cdg_instructions.specs.declared.instr.Instr.{Instr}
 
 -- the plans of all tiles of the window, and how many instructions they are
 unfoldable pub planned_tiles : List Drawing → ℕ → Option ℕ → List Instr
-planned_tiles script k start = flat_map (λ p. plan p.0 p.1 (tiles_before script k start p.0 p.1) (picture_tile script k p.0 p.1)) window_places
+planned_tiles script k start = flat_map (λ p. plan p.0 p.1 (tiles_before script k start p.0 p.1)
+    (picture_tile script k p.0 p.1)) window_places
 
 unfoldable pub tile_steps : List Drawing → ℕ → Option ℕ → ℕ
-tile_steps script k start = sum_by (λ p. steps (tiles_before script k start p.0 p.1) (picture_tile script k p.0 p.1)) window_places
+tile_steps script k start =
+    sum_by (λ p. steps (tiles_before script k start p.0 p.1) (picture_tile script k p.0 p.1)) window_places
 
 -- the change with this start and the plan of each tile, and its length
 unfoldable pub planned_from : List Drawing → ℕ → Option ℕ → List Instr
 planned_from script k start = preset_of start ++ settings script k ++ planned_tiles script k start
 
 unfoldable pub planned_length : List Drawing → ℕ → Option ℕ → ℕ
-planned_length script k start = length (preset_of start) + length (settings script k) + tile_steps script k start
+planned_length script k start =
+    length (preset_of start) + length (settings script k) + tile_steps script k start
 
 -- the first of several that has the least number, where one is preferred to all of them
 unfoldable pub first_least : {X : Type 0} → (X → ℕ) → X → List X → X
 first_least number best [] = best
-first_least number best (x ∷ rest) = first_least number (if nat_lt (number x) (number best) then x else best) rest
+first_least number best (x ∷ rest) =
+    first_least number (if nat_lt (number x) (number best) then x else best) rest
 
 -- no start, if the picture is not the first one, and then the sixteen colours, the least of them preferred
 abbrev pub preferred : ℕ → Option ℕ

@@ -11,20 +11,24 @@ use tile_author::plans_are_shortest;
 
 /// A law: for each start the planned change is one with this start, and each of them has its length.
 pub fn changes_have_planned_lengths()
-    ensures planned { (script : List Drawing) (k : ℕ) (start : Option ℕ) → ((k x y : ℕ) → picture_pixel script k x y < 16)
+    ensures planned { (script : List Drawing) (k : ℕ) (start : Option ℕ)
+        → ((k x y : ℕ) → picture_pixel script k x y < 16)
         → IsStart k start → IsChangeFrom script k start (planned_from script k start) }
-    ensures length { (script : List Drawing) (k : ℕ) (start : Option ℕ) (instrs : List Instr) → ((k x y : ℕ) → picture_pixel script k x y < 16)
+    ensures length { (script : List Drawing) (k : ℕ) (start : Option ℕ) (instrs : List Instr)
+        → ((k x y : ℕ) → picture_pixel script k x y < 16)
         → IsChangeFrom script k start instrs → length instrs ≡ planned_length script k start }
 {
     plans_are_shortest();
 }
 
-/// A law: the change that is written for a picture is a change in order for it, of at most 3,076 instructions: four that set all
-/// memory, the border and the colours, and four for each of 768 tiles. That it is a shortest one of any form is a law of the
-/// crate `shortest_changes`.
+/// A law: the change that is written for a picture is a change in order for it, of at most 3,076 instructions: four
+/// that set all memory, the border and the colours, and four for each of 768 tiles. That it is a shortest one of any
+/// form is a law of the crate `shortest_changes`.
 pub fn planned_changes_are_changes()
-    ensures change { (script : List Drawing) (k : ℕ) → ((k x y : ℕ) → picture_pixel script k x y < 16) → IsOrderedChange script k (planned_change script k) }
-    ensures few { (script : List Drawing) (k : ℕ) → ((k x y : ℕ) → picture_pixel script k x y < 16) → length (planned_change script k) ≤ 3076 }
+    ensures change { (script : List Drawing) (k : ℕ) → ((k x y : ℕ) → picture_pixel script k x y < 16)
+        → IsOrderedChange script k (planned_change script k) }
+    ensures few { (script : List Drawing) (k : ℕ) → ((k x y : ℕ) → picture_pixel script k x y < 16)
+        → length (planned_change script k) ≤ 3076 }
     // It begins with the chosen start, which is one.
     ensures start { (script : List Drawing) (k : ℕ) → IsStart k (chosen_start script k) }
     ensures planned { (script : List Drawing) (k : ℕ) → ((k x y : ℕ) → picture_pixel script k x y < 16)
@@ -35,6 +39,7 @@ pub fn planned_changes_are_changes()
 
 /// A law: each instruction of a change has its fields in their ranges and can be written.
 pub fn changes_can_be_written()
-    ensures { (script : List Drawing) (k : ℕ) (start : Option ℕ) (instrs : List Instr) → AreColoursInRange script
+    ensures { (script : List Drawing) (k : ℕ) (start : Option ℕ) (instrs : List Instr)
+        → AreColoursInRange script
         → IsChangeFrom script k start instrs → All (λ instr. InRange instr × IsKnown instr) instrs }
 {}

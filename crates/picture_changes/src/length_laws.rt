@@ -12,8 +12,9 @@ use crate::{changes_can_be_written, changes_have_planned_lengths, planned_change
 use cdg_screen::instructions_in_turn;
 use tile_author::plans_are_shortest;
 
-/// A law: a change in order, as it is written, is a change for its picture: it brings it from whatever may stand before it, and no
-/// list of instructions without scrolls, of whatever form, brings it from any of that with fewer instructions.
+/// A law: a change in order, as it is written, is a change for its picture: it brings it from whatever may stand
+/// before it, and no list of instructions without scrolls, of whatever form, brings it from any of that with fewer
+/// instructions.
 pub fn ordered_changes_are_shortest()
     ensures { (script : List Drawing) (k : ℕ) (instrs : List Instr) → AreColoursInRange script
         → ((k x y : ℕ) → picture_pixel script k x y < 16) → IsOrderedChange script k instrs
@@ -25,8 +26,8 @@ pub fn ordered_changes_are_shortest()
     changes_have_planned_lengths();
 }
 
-/// A law: the change that is written for a picture is a change for it, and what the picture needs is its length, one number. So a
-/// late picture cannot be ready.
+/// A law: the change that is written for a picture is a change for it, and what the picture needs is its length, one
+/// number. So a late picture cannot be ready.
 pub fn needs_are_fewest()
     ensures change { (script : List Drawing) (k : ℕ) → AreColoursInRange script
         → ((k x y : ℕ) → picture_pixel script k x y < 16) → IsChange script k (planned_change script k) }
@@ -35,7 +36,8 @@ pub fn needs_are_fewest()
         → need ≡ length (planned_change script k) }
     ensures one { (script : List Drawing) (k need other : ℕ) → IsNeed script k need → IsNeed script k other
         → need ≡ other }
-    ensures late { (script : List Drawing) (k need free : ℕ) → AreTimesInOrder script → AreColoursInRange script
+    ensures late { (script : List Drawing) (k need free : ℕ) → AreTimesInOrder script
+        → AreColoursInRange script
         → ((k x y : ℕ) → picture_pixel script k x y < 16) → IsLate script k need free
         → CannotBeReady script k need free }
 {

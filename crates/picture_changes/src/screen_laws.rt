@@ -11,8 +11,8 @@ ghost use Rattle.picture_changes.specs.Meanings.{AreMeantBy};
 use cdg_instructions::{only_one_meaning, read_of_written};
 use cdg_screen::instructions_in_turn;
 
-/// A law: from its ready time to its hold time each picture of a script stands on the screen, after the packs of a schedule
-/// that are whole at that time.
+/// A law: from its ready time to its hold time each picture of a script stands on the screen, after the packs of a
+/// schedule that are whole at that time.
 pub fn scheduled_pictures_are_shown()
     ensures { (script : List Drawing) (blocks : ℕ) (packs : List (List ℕ)) (k time : ℕ) (instrs : List Instr)
         → AreTimesInOrder script → IsSchedule script blocks packs

@@ -3,7 +3,8 @@ use Rattle.std.specs.Prelude.{◌≡◌, ℕ, ◌+◌, ◌-◌, ◌*◌, ◌/◌
 use Rattle.bit_lists.specs.Counting.{below}
 use Rattle.picture_script.specs.Script.{Drawing, Picture, picture_pixel, picture_border, picture_colour}
 
--- 288 by 192 pixels, a border, sixteen colours, and the number of the picture that stands there, or none where nothing was drawn
+-- 288 by 192 pixels, a border, sixteen colours, and the number of the picture that stands there, or none where
+-- nothing was drawn
 pub record Board : Type 0 where
   pub pixels : List ℕ
   pub border : ℕ
@@ -47,7 +48,8 @@ pub record IsSet (picture : Picture) (board : Board) : Type 0 where
 
 -- the 72 pixels of the tile at a row from 1 to 16 and a column from 1 to 48, line by line from the left
 unfoldable pub tile_of : List ℕ → ℕ → ℕ → List ℕ
-tile_of pixels row column = map (λ p. pixel_of pixels (6 * (column - 1) + p % 6) (12 * (row - 1) + p / 6)) (below 72)
+tile_of pixels row column =
+    map (λ p. pixel_of pixels (6 * (column - 1) + p % 6) (12 * (row - 1) + p / 6)) (below 72)
 
 -- numbers of colours
 abbrev pub AreColours : List ℕ → Type 0

@@ -28,8 +28,10 @@ abbrev pub is_kept : ℕ → Line → Bool
 is_kept size (TableColour number value) = nat_lt number 16 && nat_lt value 4096
 is_kept size (BorderColour colour) = nat_lt colour 16
 is_kept size (Filled colour) = nat_lt colour 16
-is_kept size (Rectangle x y width height colour) = nat_le (x + width) 288 && nat_le (y + height) 192 && nat_lt colour 16
-is_kept size (PixelRow x y first count) = nat_le (x + count) 288 && nat_lt y 192 && nat_le (first + count) size
+is_kept size (Rectangle x y width height colour) = nat_le (x + width) 288 && nat_le (y + height) 192
+    && nat_lt colour 16
+is_kept size (PixelRow x y first count) = nat_le (x + count) 288 && nat_lt y 192
+    && nat_le (first + count) size
 is_kept size (ShowLine ready hold) = true
 
 abbrev pub no_show : Shown
@@ -43,10 +45,13 @@ pub record IsIndexed (pixels : List ℕ) (lines : List Line) (shown : List Shown
   pub kept : All (λ line. is_kept (length pixels) line ≡ true) lines
   pub colours : AreColours pixels
   pub times : map times_of shown ≡ shows (all_said pixels lines)
-  pub places : (k : ℕ) → k < length shown → (slice_index_or shown k no_show).place ≡ length (lines_before (all_said pixels lines) k)
-  pub lasting : (k : ℕ) → k < length shown → (slice_index_or shown k no_show).ready ≤ (slice_index_or shown k no_show).hold
+  pub places : (k : ℕ) → k < length shown
+      → (slice_index_or shown k no_show).place ≡ length (lines_before (all_said pixels lines) k)
+  pub lasting : (k : ℕ) → k < length shown
+      → (slice_index_or shown k no_show).ready ≤ (slice_index_or shown k no_show).hold
   pub ending : (k : ℕ) → k < length shown → (slice_index_or shown k no_show).hold < 450000
-  pub ordered : (k : ℕ) → k + 1 < length shown → (slice_index_or shown k no_show).hold < (slice_index_or shown (k + 1) no_show).ready
+  pub ordered : (k : ℕ) → k + 1 < length shown
+      → (slice_index_or shown k no_show).hold < (slice_index_or shown (k + 1) no_show).ready
   pub most : length shown ≤ 20000
 
 -- what the lines of a draft say
@@ -68,7 +73,8 @@ Stops checked NoRoom = ⊤
 
 -- a draft takes a line where it is accepted, and else the reason is told
 abbrev pub Takes : Result Drawing ScriptWhy → Draft → Draft → Result (Unit {0}) LineStop → Type 0
-Takes checked old new result = MatchResult result (λ _. IsSound new × (grown (said_in old) checked ≡ Ok (said_in new))) (Stops checked)
+Takes checked old new result = MatchResult result (λ _. IsSound new
+    × (grown (said_in old) checked ≡ Ok (said_in new))) (Stops checked)
 
 -- whether a line draws
 abbrev pub is_drawing : Line → Bool

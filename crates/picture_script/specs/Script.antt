@@ -81,7 +81,8 @@ picture_colour script k number = (drawn_by (lines_before script k)).colour numbe
 
 -- the 72 pixels of the tile at a row from 1 to 16 and a column from 1 to 48, line by line from the left
 unfoldable pub picture_tile : List Drawing → ℕ → ℕ → ℕ → List ℕ
-picture_tile script k row column = map (λ p. picture_pixel script k (6 * (column - 1) + p % 6) (12 * (row - 1) + p / 6)) (below 72)
+picture_tile script k row column =
+    map (λ p. picture_pixel script k (6 * (column - 1) + p % 6) (12 * (row - 1) + p / 6)) (below 72)
 
 -- colours 0 to 7 of a picture, and colours 8 to 15
 unfoldable pub low_colours : List Drawing → ℕ → List ℕ

@@ -17,10 +17,12 @@ StopsAt read NoMemory = ⊤
 
 -- a line is refused, whatever its number and the lines after it
 abbrev pub IsRefused : List Drawing → List ℕ → LineStop → Type 0
-IsRefused before line (Refused why) = (number : ℕ) (rest : List (List ℕ)) → checked_lines number before (line ∷ rest) ≡ Err (number, why)
+IsRefused before line (Refused why) = (number : ℕ) (rest : List (List ℕ))
+    → checked_lines number before (line ∷ rest) ≡ Err (number, why)
 IsRefused before line NoRoom = ⊤
 
 -- a line is read: the lines after it are read on from the new draft
 pub record IsRead (old new : Draft) (line : List ℕ) : Type 0 where
   pub sound : IsSound new
-  pub lines_are : (number : ℕ) (rest : List (List ℕ)) → checked_lines number (said_in old) (line ∷ rest) ≡ checked_lines (number + 1) (said_in new) rest
+  pub lines_are : (number : ℕ) (rest : List (List ℕ))
+      → checked_lines number (said_in old) (line ∷ rest) ≡ checked_lines (number + 1) (said_in new) rest

@@ -66,7 +66,8 @@ impl Canvas {
     fn draw(&mut self, line: Line, pixels: &[u8])
         requires kept { is_kept (length pixels.now) line ≡ true }
         requires colours { AreColours pixels.now }
-        ensures drawn { (before : Picture) → IsDrawn before self.old → IsDrawn (drawn before (said pixels.now line)) self.new }
+        ensures drawn { (before : Picture) → IsDrawn before self.old
+            → IsDrawn (drawn before (said pixels.now line)) self.new }
     {
         match line {
             Line::TableColour { number, value } => self.colours[usize::from(number)] = value,
@@ -97,7 +98,8 @@ impl Canvas {
     // Sets what one line says of the border and the colours.
     fn set(&mut self, line: Line)
         requires kept { (size : ℕ) × (is_kept size line ≡ true) }
-        ensures set { (pixels : List ℕ) (before : Picture) → IsSet before self.old → IsSet (drawn before (said pixels line)) self.new }
+        ensures set { (pixels : List ℕ) (before : Picture) → IsSet before self.old
+            → IsSet (drawn before (said pixels line)) self.new }
     {
         match line {
             Line::TableColour { number, value } => self.colours[usize::from(number)] = value,
@@ -162,7 +164,8 @@ impl Canvas {
     pub fn has_row_of(&self, other: &Canvas, row: u8) -> bool
         requires first { 1 ≤ row }
         requires last { row ≤ 16 }
-        ensures { IsTrue result ↔ ((column : ℕ) → 1 ≤ column → column ≤ 48 → tile_of self.now.pixels row column ≡ tile_of other.now.pixels row column) }
+        ensures { IsTrue result ↔ ((column : ℕ) → 1 ≤ column → column ≤ 48
+            → tile_of self.now.pixels row column ≡ tile_of other.now.pixels row column) }
     {
         let count = 12 * WIDTH;
         self.window
@@ -207,7 +210,8 @@ impl Canvas {
         requires column_first { 1 ≤ column }
         requires column_last { column ≤ 48 }
         ensures tile { result ≡ tile_of self.now.pixels row column }
-        ensures picture { (script : List Drawing) (k : ℕ) → IsPicture script k self.now → result ≡ picture_tile script k row column }
+        ensures picture { (script : List Drawing) (k : ℕ) → IsPicture script k self.now
+            → result ≡ picture_tile script k row column }
     {
         let left = 6 * (usize::from(column) - 1);
         let top = 12 * (usize::from(row) - 1);

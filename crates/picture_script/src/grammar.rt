@@ -14,7 +14,8 @@ impl Draft {
     // Takes the words after `colour`.
     fn take_colour(&mut self, words: &[u8]) -> Result<(), LineStop>
         requires { IsSound self.old }
-        ensures { Takes (checked_line (said_in self.old) (colour_line (words_in words.now))) self.old self.new result }
+        ensures { Takes (checked_line (said_in self.old) (colour_line (words_in words.now))) self.old self.new
+            result }
     {
         let Some((number, value)) = colour_words(words) else {
             return Err(LineStop::Refused(ScriptWhy::BadArgument));
@@ -31,7 +32,8 @@ impl Draft {
     // Takes the words after `border`.
     fn take_border(&mut self, words: &[u8]) -> Result<(), LineStop>
         requires { IsSound self.old }
-        ensures { Takes (checked_line (said_in self.old) (border_line (words_in words.now))) self.old self.new result }
+        ensures { Takes (checked_line (said_in self.old) (border_line (words_in words.now))) self.old self.new
+            result }
     {
         let colour = colour_number(words)?;
         self.push_line(Line::BorderColour { colour })
@@ -40,7 +42,8 @@ impl Draft {
     // Takes the words after `fill`.
     fn take_fill(&mut self, words: &[u8]) -> Result<(), LineStop>
         requires { IsSound self.old }
-        ensures { Takes (checked_line (said_in self.old) (fill_line (words_in words.now))) self.old self.new result }
+        ensures { Takes (checked_line (said_in self.old) (fill_line (words_in words.now))) self.old self.new
+            result }
     {
         let colour = colour_number(words)?;
         self.push_line(Line::Filled { colour })
@@ -49,7 +52,8 @@ impl Draft {
     // Takes the words after `rect`.
     fn take_rect(&mut self, words: &[u8]) -> Result<(), LineStop>
         requires { IsSound self.old }
-        ensures { Takes (checked_line (said_in self.old) (rect_line (words_in words.now))) self.old self.new result }
+        ensures { Takes (checked_line (said_in self.old) (rect_line (words_in words.now))) self.old self.new
+            result }
     {
         let Some(numbers) = numbers::<5>(words) else {
             return Err(LineStop::Refused(ScriptWhy::BadArgument));
@@ -70,7 +74,8 @@ impl Draft {
     // Takes the words after `row`.
     fn take_row(&mut self, words: &[u8]) -> Result<(), LineStop>
         requires { IsSound self.old }
-        ensures { Takes (checked_line (said_in self.old) (row_line (words_in words.now))) self.old self.new result }
+        ensures { Takes (checked_line (said_in self.old) (row_line (words_in words.now))) self.old self.new
+            result }
     {
         let Some((x, y, digits)) = row_words(words) else {
             return Err(LineStop::Refused(ScriptWhy::BadArgument));
@@ -84,7 +89,8 @@ impl Draft {
     // Takes the words after `show`.
     fn take_show(&mut self, words: &[u8]) -> Result<(), LineStop>
         requires { IsSound self.old }
-        ensures { Takes (checked_line (said_in self.old) (show_line (words_in words.now))) self.old self.new result }
+        ensures { Takes (checked_line (said_in self.old) (show_line (words_in words.now))) self.old self.new
+            result }
     {
         let Some((ready, hold)) = show_words(words) else {
             return Err(LineStop::Refused(ScriptWhy::BadArgument));
@@ -104,7 +110,8 @@ impl Draft {
     // Takes a command with the words after it.
     pub(crate) fn take_command(&mut self, command: &[u8], words: &[u8]) -> Result<(), LineStop>
         requires { IsSound self.old }
-        ensures { Takes (checked_command (said_in self.old) command.now (words_in words.now)) self.old self.new result }
+        ensures { Takes (checked_command (said_in self.old) command.now (words_in words.now)) self.old
+            self.new result }
     {
         if command == b"colour".as_slice() {
             self.take_colour(words)
@@ -144,9 +151,12 @@ fn is_row(x: u16, y: u16, count: usize) -> bool
 
 // The number of a colour, which the words after `border` and `fill` are.
 fn colour_number(words: &[u8]) -> Result<u8, LineStop>
-    ensures ok { IfOk result (λ colour. (numbers_in 1 (words_in words.now) ≡ Some (colour ∷ [])) × (colour < 16)) }
-    ensures border { IfErr result (λ stop. (before : List Drawing) → Stops (checked_line before (border_line (words_in words.now))) stop) }
-    ensures fill { IfErr result (λ stop. (before : List Drawing) → Stops (checked_line before (fill_line (words_in words.now))) stop) }
+    ensures ok { IfOk result
+        (λ colour. (numbers_in 1 (words_in words.now) ≡ Some (colour ∷ [])) × (colour < 16)) }
+    ensures border { IfErr result (λ stop. (before : List Drawing)
+        → Stops (checked_line before (border_line (words_in words.now))) stop) }
+    ensures fill { IfErr result (λ stop. (before : List Drawing)
+        → Stops (checked_line before (fill_line (words_in words.now))) stop) }
 {
     let Some(numbers) = numbers::<1>(words) else {
         return Err(LineStop::Refused(ScriptWhy::BadArgument));

@@ -55,7 +55,8 @@ impl Script {
     ///
     /// # Errors
     ///
-    /// `Fault` at the first line that is refused, with its first reason. `NoMemory` where there is no memory for the script.
+    /// `Fault` at the first line that is refused, with its first reason. `NoMemory` where there is no memory for the
+    /// script.
     pub fn parse(alloc: Global, text: &[u8]) -> Result<Script, ScriptStop>
         requires { length text.now ≤ 67108864 }
         ensures ok { IfOk result (λ script. read_script text.now ≡ Ok script) }

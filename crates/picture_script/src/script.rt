@@ -37,7 +37,8 @@ impl Script {
 
         // Each picture is held from its ready time on, and the next one is ready later.
         ensures held { (k : ℕ) → k < pictures self.now → ready_time self.now k ≤ hold_time self.now k }
-        ensures later { (k : ℕ) → k + 1 < pictures self.now → hold_time self.now k < ready_time self.now (k + 1) }
+        ensures later { (k : ℕ) → k + 1 < pictures self.now
+            → hold_time self.now k < ready_time self.now (k + 1) }
         ensures ends { (k : ℕ) → k < pictures self.now → hold_time self.now k < 450000 }
 
         // The numbers of colours are below 16, and the colours of the table have twelve bits.
@@ -48,7 +49,8 @@ impl Script {
         self.shown.len() as u32
     }
 
-    /// The block number at which picture `k` is ready, counted from the absolute time 00:00:00. The pictures are counted from 0.
+    /// The block number at which picture `k` is ready, counted from the absolute time 00:00:00. The pictures are
+    /// counted from 0.
     pub fn ready(&self, k: u32) -> u32
         requires { k < pictures self.now }
         ensures value { result ≡ ready_time self.now k }

@@ -46,7 +46,8 @@ impl Window {
     /// Whether the pixels from a place on, row by row, are those of another window.
     pub(crate) fn has_part_of(&self, other: &Window, start: usize, count: usize) -> bool
         requires { start + count ≤ 55296 }
-        ensures { IsTrue result ↔ ((i : ℕ) → start ≤ i → i < start + count → slice_index self.now i ≡ slice_index other.now i) }
+        ensures { IsTrue result
+            ↔ ((i : ℕ) → start ≤ i → i < start + count → slice_index self.now i ≡ slice_index other.now i) }
     {
         self.pixels[start..start + count] == other.pixels[start..start + count]
     }

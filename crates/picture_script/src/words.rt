@@ -79,7 +79,8 @@ fn are_hex_digits(word: &[u8]) -> bool
 
 /// The number and the value that set a colour of the table.
 pub(crate) fn colour_words(words: &[u8]) -> Option<(u16, u16)>
-    ensures value { MatchOption result (colour_line (words_in words.now) ≡ None) (λ said. colour_line (words_in words.now) ≡ Some (Colour said.0 said.1)) }
+    ensures value { MatchOption result (colour_line (words_in words.now) ≡ None)
+        (λ said. colour_line (words_in words.now) ≡ Some (Colour said.0 said.1)) }
     ensures below { IfSome result (λ said. said.1 < 4096) }
 {
     let (number_word, colour_word) = two_words(words)?;
@@ -90,7 +91,8 @@ pub(crate) fn colour_words(words: &[u8]) -> Option<(u16, u16)>
 
 /// The place of a row of pixels, and their digits.
 pub(crate) fn row_words(words: &[u8]) -> Option<(u16, u16, &[u8])>
-    ensures value { MatchOption result (row_line (words_in words.now) ≡ None) (λ said. row_line (words_in words.now) ≡ Some (Row said.0 said.1 (map digit_value said.2.now))) }
+    ensures value { MatchOption result (row_line (words_in words.now) ≡ None)
+        (λ said. row_line (words_in words.now) ≡ Some (Row said.0 said.1 (map digit_value said.2.now))) }
     ensures digits { IfSome result (λ said. list_all is_ascii_hexdigit said.2.now ≡ true) }
     ensures below { IfSome result (λ said. (said.0 < 1000) × (said.1 < 1000)) }
 {
@@ -105,7 +107,8 @@ pub(crate) fn row_words(words: &[u8]) -> Option<(u16, u16, &[u8])>
 
 /// The two times of a picture.
 pub(crate) fn show_words(words: &[u8]) -> Option<(u32, u32)>
-    ensures value { MatchOption result (show_line (words_in words.now) ≡ None) (λ said. show_line (words_in words.now) ≡ Some (Show said.0 said.1)) }
+    ensures value { MatchOption result (show_line (words_in words.now) ≡ None)
+        (λ said. show_line (words_in words.now) ≡ Some (Show said.0 said.1)) }
     ensures below { IfSome result (λ said. said.1 < 450000) }
 {
     let (ready_word, hold_word) = two_words(words)?;
@@ -116,7 +119,8 @@ pub(crate) fn show_words(words: &[u8]) -> Option<(u32, u32)>
 
 // The words of a line, if there are two.
 fn two_words(line: &[u8]) -> Option<(&[u8], &[u8])>
-    ensures { MatchOption result (length (words_in line.now) ≢ 2) (λ found. words_in line.now ≡ found.0.now ∷ found.1.now ∷ []) }
+    ensures { MatchOption result (length (words_in line.now) ≢ 2)
+        (λ found. words_in line.now ≡ found.0.now ∷ found.1.now ∷ []) }
 {
     let (first, rest) = next_word(line)?;
     let (second, rest) = next_word(rest)?;
@@ -128,7 +132,8 @@ fn two_words(line: &[u8]) -> Option<(&[u8], &[u8])>
 
 // The words of a line, if there are three.
 fn three_words(line: &[u8]) -> Option<(&[u8], &[u8], &[u8])>
-    ensures { MatchOption result (length (words_in line.now) ≢ 3) (λ found. words_in line.now ≡ found.0.now ∷ found.1.now ∷ found.2.now ∷ []) }
+    ensures { MatchOption result (length (words_in line.now) ≢ 3)
+        (λ found. words_in line.now ≡ found.0.now ∷ found.1.now ∷ found.2.now ∷ []) }
 {
     let (first, rest) = next_word(line)?;
     let (second, third) = two_words(rest)?;

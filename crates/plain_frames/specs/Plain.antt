@@ -6,7 +6,8 @@ use Rattle.q_channel.specs.declared.frame.QFrame.TheVariants.{Program, Toc, Cata
 use Rattle.q_channel.specs.declared.frame.TocPoint.TheVariants.{Track, First, Last, LeadOut}
 use Rattle.plain_frames.specs.declared.plain.PlainFrame.{PlainFrame}
 
--- the frame that a plain one stands for, by the number of its kind; the fields that its kind does not name are passed over
+-- the frame that a plain one stands for, by the number of its kind; the fields that its kind does not name are passed
+-- over
 abbrev pub frame_of : PlainFrame → Option QFrame
 frame_of p =
     if p.kind == 0 then Some (Program p.control p.track p.index p.time p.absolute)
@@ -36,9 +37,22 @@ plain_kind kind control = record {
 
 -- the plain frame that stands for a frame: the fields that its kind does not name are zero
 abbrev pub plain_of : QFrame → PlainFrame
-plain_of (Program control track index time absolute) = record (plain_kind 0 control) { track = track; index = index; time = time; absolute = absolute }
-plain_of (Toc control (Track number start) time) = record (plain_kind 1 control) { track = number; absolute = start; time = time }
-plain_of (Toc control (First track kind) time) = record (plain_kind 2 control) { track = track; disc = kind; time = time }
+plain_of (Program control track index time absolute) = record (plain_kind 0 control) {
+  track = track;
+  index = index;
+  time = time;
+  absolute = absolute;
+}
+plain_of (Toc control (Track number start) time) = record (plain_kind 1 control) {
+  track = number;
+  absolute = start;
+  time = time;
+}
+plain_of (Toc control (First track kind) time) = record (plain_kind 2 control) {
+  track = track;
+  disc = kind;
+  time = time;
+}
 plain_of (Toc control (Last track) time) = record (plain_kind 3 control) { track = track; time = time }
 plain_of (Toc control (LeadOut start) time) = record (plain_kind 4 control) { absolute = start; time = time }
 plain_of (Catalogue control digits frame) = record (plain_kind 5 control) { text = digits; frame = frame }
@@ -51,4 +65,5 @@ IsWhereValid result frame = MatchOption result (¬ IsValid frame) (λ found. (fo
 
 -- the frame that a plain one stands for where it is valid, or nothing where there is no such frame
 abbrev pub IsValidOf : Option QFrame → PlainFrame → Type 0
-IsValidOf result plain = MatchOption result (IfSome (frame_of plain) (λ frame. ¬ IsValid frame)) (λ found. (frame_of plain ≡ Some found) × IsValid found)
+IsValidOf result plain = MatchOption result (IfSome (frame_of plain) (λ frame. ¬ IsValid frame))
+    (λ found. (frame_of plain ≡ Some found) × IsValid found)

@@ -8,7 +8,8 @@ use Rattle.raw_subcode.specs.Sizes.{block_bytes}
 pub record TurnsBlocks (turned : List ℕ → List ℕ → Type 0) (bytes text : List ℕ) : Type 0 where
   pub size : length text ≡ block_bytes * (length bytes / block_bytes)
   pub blocks : (n : ℕ) → n < length bytes / block_bytes
-      → turned (slice_index_or (whole_parts block_bytes bytes) n []) (slice_index_or (whole_parts block_bytes text) n [])
+      → turned (slice_index_or (whole_parts block_bytes bytes) n [])
+      (slice_index_or (whole_parts block_bytes text) n [])
 
 -- the planar form of each block
 abbrev pub IsPlanarStream : List ℕ → List ℕ → Type 0

@@ -19,7 +19,8 @@ q_blocks Cooked bytes = []
 abbrev pub AreQReadings : List (List ℕ) → List (Result QFrame QFault) → Type 0
 AreQReadings [] readings = readings ≡ []
 AreQReadings (block ∷ rest) [] = ⊥
-AreQReadings (block ∷ rest) (reading ∷ readings) = IsReading (q_bits block) reading × AreQReadings rest readings
+AreQReadings (block ∷ rest) (reading ∷ readings) = IsReading (q_bits block) reading
+    × AreQReadings rest readings
 
 -- the lines of blocks from a number on, with what each is read as
 abbrev pub q_lines : ℕ → List (Result QFrame QFault) → List ℕ

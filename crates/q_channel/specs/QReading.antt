@@ -50,8 +50,8 @@ characters_at first count allows = map (λ k. range (first + 6 * k) 6 allows) (b
 abbrev pub program_ranges : List FieldRange
 program_ranges = bcd_at 8 1 99 ∷ bcd_at 16 0 99 ∷ (time_at 24 ++ zeros_at 48 8 ∷ time_at 56)
 
--- an entry of the table of contents: a time, a zero byte, and by its point the first track before a byte of any value and a zero byte,
--- the last track before two zero bytes, or a time
+-- an entry of the table of contents: a time, a zero byte, and by its point the first track before a byte of any value
+-- and a zero byte, the last track before two zero bytes, or a time
 abbrev pub toc_ranges : ℕ → List FieldRange
 toc_ranges point = time_at 24 ++ zeros_at 48 8 ∷ (
     if point == 0xa0 then bcd_at 56 1 99 ∷ zeros_at 72 8 ∷ []
@@ -80,7 +80,8 @@ ranges_of message =
 -- the first bit of the first of some fields that is out of its range
 unfoldable pub first_outside : List Bool → List FieldRange → Option ℕ
 first_outside message [] = None
-first_outside message (r ∷ rest) = if r.allows (field_value message r.first r.width) then first_outside message rest else Some r.first
+first_outside message (r ∷ rest) = if r.allows (field_value message r.first r.width)
+    then first_outside message rest else Some r.first
 
 -- the first bit of the first field of these bits that is out of its range
 unfoldable pub first_bad_field : List Bool → Option ℕ
@@ -90,4 +91,5 @@ first_bad_field message = first_outside message (ranges_of message)
 abbrev pub IsReading : List Bool → Result QFrame QFault → Type 0
 IsReading message (Ok frame) = IsFrame frame message
 IsReading message (Err BadCrc) = drop 80 message ≢ check_bits (take 80 message)
-IsReading message (Err (BadField bit)) = (drop 80 message ≡ check_bits (take 80 message)) × (first_bad_field message ≡ Some bit)
+IsReading message (Err (BadField bit)) = (drop 80 message ≡ check_bits (take 80 message))
+    × (first_bad_field message ≡ Some bit)

@@ -12,7 +12,10 @@ counted n = min (n + 1) (2 ^ 32 - 1)
 
 -- the counts after a block: of all blocks, and of those whose frame is refused
 unfoldable pub q_next : QLines → List ℕ → QLines
-q_next s block = record { block = counted s.block; bad = if is_err (reading_of (q_bits block)) then counted s.bad else s.bad }
+q_next s block = record {
+  block = counted s.block;
+  bad = if is_err (reading_of (q_bits block)) then counted s.bad else s.bad;
+}
 
 -- the line of a block, with its number, at most that of the last block that a stream can have
 unfoldable pub q_give : QLines → List ℕ → Option (List ℕ)

@@ -20,4 +20,5 @@ q_check_matches message = number_of (drop 80 message) == number_of (check_bits (
 
 -- what the bits are read as
 unfoldable pub reading_of : List Bool → Result QFrame QFault
-reading_of message = reading_by (q_check_matches message) (first_bad_field message) (frame_at (kind_of message) message)
+reading_of message = reading_by (q_check_matches message) (first_bad_field message)
+    (frame_at (kind_of message) message)

@@ -23,5 +23,6 @@ pub fn readings_are_functions()
 pub fn burst_is_noticed()
     ensures { (frame : QFrame) (before one other after : List Bool) (what : Result QFrame QFault)
         → length one ≤ 16 → length other ≡ length one → one ≢ other
-        → IsFrame frame (before ++ one ++ after) → IsReading (before ++ other ++ after) what → what ≡ Err BadCrc }
+        → IsFrame frame (before ++ one ++ after) → IsReading (before ++ other ++ after) what
+        → what ≡ Err BadCrc }
 {}

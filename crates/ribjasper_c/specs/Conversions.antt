@@ -11,7 +11,8 @@ use Rattle.ribjasper_c.specs.declared.converting.Converted.{Converted}
 abbrev pub stream_form : ℕ → Form
 stream_form n = if n == 2 then Sector else form_of n
 
--- the text of the packs of a stream, and what is told of it: its bytes, the blocks of the program, and the packs with no codeword near
+-- the text of the packs of a stream, and what is told of it: its bytes, the blocks of the program, and the packs with
+-- no codeword near
 pub record IsTold (form : Form) (lead_in : ℕ) (stream text : List ℕ) (told : Converted) : Type 0 where
   pub converted : IsConverted form lead_in stream text told.bad
   pub bytes : told.bytes ≡ length text

@@ -23,7 +23,8 @@ players_coded = coded_list (the_row.coded)
 
 -- there is one player, and it was fed these blocks since it began with a stream of this form
 abbrev pub IsPlaying : Form → ℕ → List (List ℕ) → List LivePlayer → Type 0
-IsPlaying form lead_in blocks players = (player : LivePlayer) × (players ≡ player ∷ []) × HasPlayed form lead_in blocks player
+IsPlaying form lead_in blocks players = (player : LivePlayer) × (players ≡ player ∷ [])
+    × HasPlayed form lead_in blocks player
 
 -- there is one player, and it drew these packs since it began, and nothing else
 abbrev pub IsDrawing : List (List ℕ) → List LivePlayer → Type 0
@@ -32,17 +33,22 @@ IsDrawing packs players = (player : LivePlayer) × (players ≡ player ∷ []) �
 -- What these blocks show; of a raw stream it is also what stands at the moment that the program has come to.
 pub record IsSeen (form : Form) (lead_in : ℕ) (blocks : List (List ℕ)) (now : Standing) : Type 0 where
   pub last : IsLiveView form lead_in blocks now
-  pub so_far : form ≡ Raw → length blocks - lead_in ≤ latest → IsLiveViewAt Raw lead_in (length blocks - lead_in) blocks now
+  pub so_far : form ≡ Raw → length blocks - lead_in ≤ latest
+      → IsLiveViewAt Raw lead_in (length blocks - lead_in) blocks now
 
--- A player shows what the blocks show that it was fed since it began, at most 1,000,000, or what the packs draw that it drew since.
+-- A player shows what the blocks show that it was fed since it began, at most 1,000,000, or what the packs draw that
+-- it drew since.
 pub record IsShownBy (player : LivePlayer) (now : Standing) : Type 0 where
-  pub blocks : (form : Form) (lead_in : ℕ) (blocks : List (List ℕ)) → HasPlayed form lead_in blocks player → length blocks ≤ 1000000
+  pub blocks : (form : Form) (lead_in : ℕ) (blocks : List (List ℕ)) → HasPlayed form lead_in blocks player
+      → length blocks ≤ 1000000
       → IsSeen form lead_in blocks now
-  pub packs : (packs : List (List ℕ)) → HasDrawn packs player → SameStanding now (standing_after blank (map instruction_of packs))
+  pub packs : (packs : List (List ℕ)) → HasDrawn packs player
+      → SameStanding now (standing_after blank (map instruction_of packs))
 
 -- this holds of what the one player shows
 abbrev pub PlayersShow : List LivePlayer → (Standing → Type 0) → Type 0
-PlayersShow players tells = (player : LivePlayer) → players ≡ player ∷ [] → (now : Standing) × IsShownBy player now × tells now
+PlayersShow players tells = (player : LivePlayer) → players ≡ player ∷ []
+    → (now : Standing) × IsShownBy player now × tells now
 
 -- the numbers of the colours of the screen's pixels, row by row
 abbrev pub IsScreen : List ℕ → Standing → Type 0

@@ -9,4 +9,5 @@ no_pack = record { symbols = []; wrong = pos 0 }
 -- The words are told in this order, each by the codeword near it and how many symbols were wrong, or as it is and -1.
 abbrev pub AreReadAs : List (List ℕ) → List ReadPack → Type 0
 AreReadAs words packs = (i : ℕ) → i < length words
-    → IsCorrected (slice_index_or words i []) (slice_index_or words i []) (slice_index_or packs i no_pack).symbols (slice_index_or packs i no_pack).wrong
+    → IsCorrected (slice_index_or words i []) (slice_index_or words i [])
+    (slice_index_or packs i no_pack).symbols (slice_index_or packs i no_pack).wrong

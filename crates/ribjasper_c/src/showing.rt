@@ -81,7 +81,8 @@ pub extern "C" fn ribjasper_player_colour(
     k: u8,
     colour: &mut u16,
 ) -> i32
-    ensures shows { result ≡ pos 0 → PlayersShow player.old.handle.players (λ now. colour.new ≡ now.colour k) }
+    ensures shows { result ≡ pos 0
+        → PlayersShow player.old.handle.players (λ now. colour.new ≡ now.colour k) }
     ensures answer { result ≡ (if player.old.is_open && nat_lt k 16 then pos 0 else negsuc 0) }
     ensures stays { player.new.is_open ≡ player.old.is_open }
     ensures same { player.new.handle.players ≡ player.old.handle.players }
@@ -169,7 +170,8 @@ pub extern "C" fn ribjasper_player_picture(
     player: &mut Playing,
     bytes: &mut [u8; 194_400],
 ) -> i32
-    ensures shows { result ≡ pos 0 → PlayersShow player.old.handle.players (λ now. ArePictureBytes bytes.new now) }
+    ensures shows { result ≡ pos 0
+        → PlayersShow player.old.handle.players (λ now. ArePictureBytes bytes.new now) }
     ensures answer { result ≡ (if player.old.is_open then pos 0 else negsuc 0) }
     ensures stays { player.new.is_open ≡ player.old.is_open }
     ensures same { player.new.handle.players ≡ player.old.handle.players }

@@ -9,7 +9,8 @@ use Rattle.q_channel.specs.QList.{IsQListed}
 use Rattle.cdtext_packs.specs.Texts.{Texts}
 use Rattle.cdtext_packs.specs.declared.kinds.TextFault.{TextFault}
 use Rattle.subcode_author.specs.Authored.{IsAuthored, disc_of}
-use Rattle.subcode_player.specs.Calls.{most_units, PlaysInTurn, IsAnsweredBy}
+use Rattle.raw_subcode.specs.Sizes.{most_units}
+use Rattle.subcode_player.specs.Calls.{PlaysInTurn, IsAnsweredBy}
 use Rattle.subcode_player.specs.Convert.{Restores}
 use Rattle.subcode_player.specs.TextListing.{texts_of_lead_in, IsTextListed, ListsTexts, IsListedBy, IsWholeInput}
 use Rattle.subcode_player.specs.declared.player.Played.{Played}

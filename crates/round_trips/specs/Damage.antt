@@ -7,7 +7,8 @@ use Rattle.cdtext_packs.specs.Copies.{StandsIn}
 abbrev pub AreFound : List Bool → List (List ℕ) → List (List ℕ) → Type 0
 AreFound [] [] [] = Unit {0}
 AreFound (true ∷ whole) (pack ∷ written) (found ∷ rest) = (found ≡ pack) × AreFound whole written rest
-AreFound (false ∷ whole) (pack ∷ written) (found ∷ rest) = (check_matches found ≡ false) × AreFound whole written rest
+AreFound (false ∷ whole) (pack ∷ written) (found ∷ rest) = (check_matches found ≡ false)
+    × AreFound whole written rest
 AreFound whole written rest = ⊥
 
 -- how many slots are whole
@@ -19,6 +20,7 @@ abbrev pub count_hurt : List Bool → ℕ
 count_hurt whole = count_by (λ (is : Bool). not is) whole
 
 -- the slots are found in this state, and each of the packs still stands in some slot
-pub record HasHurtSlots (packs : List (List ℕ)) (whole : List Bool) (written found : List (List ℕ)) : Type 0 where
+pub record HasHurtSlots (packs : List (List ℕ)) (whole : List Bool)
+    (written found : List (List ℕ)) : Type 0 where
   pub slots : AreFound whole written found
   pub left : All (λ (pack : List ℕ). StandsIn pack found) packs

@@ -8,10 +8,11 @@ use Rattle.rw_interleave.specs.Stream.{IsDamaged}
 use Rattle.cdg_instructions.specs.Meaning.{meaning}
 use Rattle.cdg_screen.specs.Picture.{Standing, SameStanding, blank, standing_after}
 use Rattle.cdg_screen.specs.Texts.{pixmap}
-use Rattle.subcode_player.specs.Calls.{most_units}
+use Rattle.raw_subcode.specs.Sizes.{most_units}
 use Rattle.cdg_press.specs.Pressed.{file_packs, IsPressed}
 
--- What was pressed, where these are whole units of a form whose program differs from that of a pressed stream in at most two symbols of each word.
+-- What was pressed, where these are whole units of a form whose program differs from that of a pressed stream in at
+-- most two symbols of each word.
 pub record DamagedPress (form : Form) (lead_in : ℕ) (others : List ℕ) : Type 0 where
   pub sheet : CueSheet
   pub file : List ℕ
@@ -29,4 +30,5 @@ file_standing file many = standing_after blank (map meaning (take many (file_pac
 
 -- the text is the pixmap of what stands then
 abbrev pub IsFileText : List ℕ → ℕ → List ℕ → Type 0
-IsFileText file many text = (now : Standing) × SameStanding now (file_standing file many) × (text ≡ pixmap now)
+IsFileText file many text = (now : Standing) × SameStanding now (file_standing file many)
+    × (text ≡ pixmap now)

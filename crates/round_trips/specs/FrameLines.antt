@@ -8,7 +8,8 @@ use Rattle.q_channel.specs.QList.{q_lines}
 
 -- the frames of so many lead-in blocks of a disc, and then those of its program blocks
 abbrev pub stream_frames : DiscLayout → ℕ → List QFrame
-stream_frames layout lead_in = map (toc_frame layout lead_in) (below lead_in) ++ map (program_frame layout) (below layout.blocks)
+stream_frames layout lead_in =
+    map (toc_frame layout lead_in) (below lead_in) ++ map (program_frame layout) (below layout.blocks)
 
 -- their lines, the first with the number 0
 abbrev pub frame_lines : DiscLayout → ℕ → List ℕ

@@ -4,7 +4,8 @@ use Rattle.bit_lists.specs.Counting.{below}
 
 -- the pack in slot j, where packs stand over and over, and eighteen zeros where there are none
 abbrev pub pack_in_slot : List (List ℕ) → ℕ → List ℕ
-pack_in_slot packs j = if length packs == 0 then replicate 18 0 else slice_index_or packs (j % length packs) []
+pack_in_slot packs j = if length packs == 0 then replicate 18 0
+    else slice_index_or packs (j % length packs) []
 
 -- the packs in so many slots
 abbrev pub packs_in_slots : List (List ℕ) → ℕ → List (List ℕ)

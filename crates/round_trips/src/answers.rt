@@ -11,7 +11,8 @@ ghost use Rattle.stream_writer.specs.SheetTexts.{sheet_texts};
 ghost use Rattle.cdtext_packs.specs.Texts.{has_no_text};
 ghost use Rattle.cdtext_packs.specs.TextLines.{offers_line};
 ghost use Rattle.subcode_author.specs.Authored.{IsAuthored, text_packs, disc_of};
-ghost use Rattle.subcode_player.specs.Calls.{most_units, PlaysInTurn, IsAnsweredBy};
+ghost use Rattle.raw_subcode.specs.Sizes.{most_units};
+ghost use Rattle.subcode_player.specs.Calls.{PlaysInTurn, IsAnsweredBy};
 ghost use Rattle.subcode_player.specs.Convert.{Restores};
 ghost use Rattle.subcode_player.specs.TextListing.{packs_in, ListsTexts, IsListedBy, IsWholeInput};
 ghost use Rattle.subcode_player.specs.declared.player.Played.{Played};
@@ -28,29 +29,35 @@ use crate::texts::{
 
 /// A law: a list of the Q channel of an authored stream puts the line of each frame, unless a read or a write fails.
 pub fn frame_lists_are_answered()
-    ensures { (sheet : CueSheet) (script : List Drawing) (lead_in audio : ℕ) (bytes : List ℕ) (packs : List (List ℕ))
+    ensures { (sheet : CueSheet) (script : List Drawing) (lead_in audio : ℕ) (bytes : List ℕ)
+        (packs : List (List ℕ))
         (given : ℕ) (left held held' : Option (List ℕ)) (result : Result Played PlayStop) (taken : List ℕ)
         → IsAuthored (disc_of sheet script lead_in audio) bytes packs → length bytes ≤ most_units * 96
-        → PlaysInTurn (IsQListed Raw) Raw given (Some bytes) left held held' result taken → IsAnsweredBy result 96 (length bytes)
+        → PlaysInTurn (IsQListed Raw) Raw given (Some bytes) left held held' result taken
+        → IsAnsweredBy result 96 (length bytes)
         → Restores result held held' (frame_lines (layout_of sheet audio) lead_in) }
 {
     authored_frames_are_listed();
 }
 
-/// A law: a list of the texts of an authored stream puts the lines of the sheet's strings, or none where it has no text,
-/// unless a read or a write fails or memory is short.
+/// A law: a list of the texts of an authored stream puts the lines of the sheet's strings, or none where it has no
+/// text, unless a read or a write fails or memory is short.
 pub fn text_lists_are_answered()
-    ensures texts { (sheet : CueSheet) (script : List Drawing) (lead_in audio : ℕ) (bytes : List ℕ) (packs : List (List ℕ))
+    ensures texts { (sheet : CueSheet) (script : List Drawing) (lead_in audio : ℕ) (bytes : List ℕ)
+        (packs : List (List ℕ))
         (left held held' : Option (List ℕ)) (result : Result Played PlayStop) (taken : List ℕ)
         → HasTextPacks sheet → HasText sheet → 0 < lead_in
         → IsAuthored (disc_of sheet script lead_in audio) bytes packs → length bytes ≤ most_units * 96
-        → ListsTexts Raw lead_in (Some bytes) left held held' result taken → IsListedBy result Raw lead_in bytes
+        → ListsTexts Raw lead_in (Some bytes) left held held' result taken
+        → IsListedBy result Raw lead_in bytes
         → PutsTexts result held held' (sheet_lines sheet (4 * lead_in) 0) }
-    ensures none { (sheet : CueSheet) (script : List Drawing) (lead_in audio : ℕ) (bytes : List ℕ) (packs : List (List ℕ))
+    ensures none { (sheet : CueSheet) (script : List Drawing) (lead_in audio : ℕ) (bytes : List ℕ)
+        (packs : List (List ℕ))
         (left held held' : Option (List ℕ)) (result : Result Played PlayStop) (taken : List ℕ)
         → has_no_text (sheet_texts sheet) ≡ true
         → IsAuthored (disc_of sheet script lead_in audio) bytes packs → length bytes ≤ most_units * 96
-        → ListsTexts Raw lead_in (Some bytes) left held held' result taken → IsListedBy result Raw lead_in bytes
+        → ListsTexts Raw lead_in (Some bytes) left held held' result taken
+        → IsListedBy result Raw lead_in bytes
         → PutsTexts result held held' (offers_line 0 (4 * lead_in) 0) }
 {
     authored_texts_are_listed();
@@ -59,17 +66,22 @@ pub fn text_lists_are_answered()
 
 /// A law: the same of units of any form, in whose lead-in the text packs of an authored stream stand.
 pub fn copied_text_lists_are_answered()
-    ensures texts { (sheet : CueSheet) (script : List Drawing) (lead_in audio : ℕ) (bytes : List ℕ) (packs : List (List ℕ)) (form : Form) (copy : List ℕ)
+    ensures texts { (sheet : CueSheet) (script : List Drawing) (lead_in audio : ℕ) (bytes : List ℕ)
+        (packs : List (List ℕ)) (form : Form) (copy : List ℕ)
         (left held held' : Option (List ℕ)) (result : Result Played PlayStop) (taken : List ℕ)
-        → HasTextPacks sheet → HasText sheet → 0 < lead_in → IsAuthored (disc_of sheet script lead_in audio) bytes packs
+        → HasTextPacks sheet → HasText sheet → 0 < lead_in
+        → IsAuthored (disc_of sheet script lead_in audio) bytes packs
         → packs_in form lead_in copy ≡ packs_in Raw lead_in bytes → IsWholeInput form copy
-        → ListsTexts form lead_in (Some copy) left held held' result taken → IsListedBy result form lead_in copy
+        → ListsTexts form lead_in (Some copy) left held held' result taken
+        → IsListedBy result form lead_in copy
         → PutsTexts result held held' (sheet_lines sheet (4 * lead_in) 0) }
-    ensures none { (sheet : CueSheet) (script : List Drawing) (lead_in audio : ℕ) (bytes : List ℕ) (packs : List (List ℕ)) (form : Form) (copy : List ℕ)
+    ensures none { (sheet : CueSheet) (script : List Drawing) (lead_in audio : ℕ) (bytes : List ℕ)
+        (packs : List (List ℕ)) (form : Form) (copy : List ℕ)
         (left held held' : Option (List ℕ)) (result : Result Played PlayStop) (taken : List ℕ)
         → has_no_text (sheet_texts sheet) ≡ true → IsAuthored (disc_of sheet script lead_in audio) bytes packs
         → packs_in form lead_in copy ≡ packs_in Raw lead_in bytes → IsWholeInput form copy
-        → ListsTexts form lead_in (Some copy) left held held' result taken → IsListedBy result form lead_in copy
+        → ListsTexts form lead_in (Some copy) left held held' result taken
+        → IsListedBy result form lead_in copy
         → PutsTexts result held held' (offers_line 0 (4 * lead_in) 0) }
 {
     authored_texts_are_listed();
@@ -78,11 +90,14 @@ pub fn copied_text_lists_are_answered()
 
 /// A law: the same of units of any form whose lead-in is damaged, where each text pack is left whole in some slot.
 pub fn damaged_text_lists_are_answered()
-    ensures { (sheet : CueSheet) (script : List Drawing) (lead_in audio : ℕ) (bytes : List ℕ) (packs : List (List ℕ)) (whole : List Bool) (form : Form) (changed : List ℕ)
+    ensures { (sheet : CueSheet) (script : List Drawing) (lead_in audio : ℕ) (bytes : List ℕ)
+        (packs : List (List ℕ)) (whole : List Bool) (form : Form) (changed : List ℕ)
         (left held held' : Option (List ℕ)) (result : Result Played PlayStop) (taken : List ℕ)
         → HasTextPacks sheet → HasText sheet → IsAuthored (disc_of sheet script lead_in audio) bytes packs
-        → HasHurtSlots (text_packs sheet) whole (packs_in Raw lead_in bytes) (packs_in form lead_in changed) → IsWholeInput form changed
-        → ListsTexts form lead_in (Some changed) left held held' result taken → IsListedBy result form lead_in changed
+        → HasHurtSlots (text_packs sheet) whole (packs_in Raw lead_in bytes) (packs_in form lead_in changed)
+        → IsWholeInput form changed
+        → ListsTexts form lead_in (Some changed) left held held' result taken
+        → IsListedBy result form lead_in changed
         → PutsTexts result held held' (sheet_lines sheet (count_whole whole) (count_hurt whole)) }
 {
     damaged_lead_ins_give_the_texts();

@@ -12,7 +12,8 @@ use q_channel::one_reading;
 
 /// A law: of an authored stream the frame of each block is listed, and none is refused.
 pub fn authored_frames_are_listed()
-    ensures { (sheet : CueSheet) (script : List Drawing) (lead_in audio : ℕ) (bytes : List ℕ) (packs : List (List ℕ)) (text : List ℕ) (bad : ℕ)
+    ensures { (sheet : CueSheet) (script : List Drawing) (lead_in audio : ℕ) (bytes : List ℕ)
+        (packs : List (List ℕ)) (text : List ℕ) (bad : ℕ)
         → IsAuthored (disc_of sheet script lead_in audio) bytes packs → IsQListed Raw bytes text bad
         → (text ≡ frame_lines (layout_of sheet audio) lead_in) × (bad ≡ 0) }
 {

@@ -1,4 +1,5 @@
-// Laws on pressed streams: what can be pressed has one, what a failed write leaves is a prefix of it, and what comes back of it.
+// Laws on pressed streams: what can be pressed has one, what a failed write leaves is a prefix of it, and what comes
+// back of it.
 ghost use Rattle.std.specs.Prelude.{◌≡◌, ◌≤◌, ◌+◌, ◌*◌, List, Option, Some, ℕ, map};
 ghost use Rattle.raw_subcode.specs.Channels.{program_symbols};
 ghost use Rattle.raw_subcode.specs.declared.form.Form.{Form};
@@ -21,46 +22,55 @@ use rw_interleave::{packs_are_recovered, spread_carries, text_of_packs};
 /// A law: a sheet, a file, a lead-in and a length of the audio have one pressed stream, which carries one list of packs. So what
 /// `press_stream` writes is one function of them.
 pub fn pressed_streams_are_one()
-    ensures packs { (sheet : CueSheet) (file : List ℕ) (lead_in audio : ℕ) (one other : List ℕ) (packs others : List (List ℕ))
-        → IsPressed sheet file lead_in audio one packs → IsPressed sheet file lead_in audio other others → packs ≡ others }
-    ensures bytes { (sheet : CueSheet) (file : List ℕ) (lead_in audio : ℕ) (one other : List ℕ) (packs others : List (List ℕ))
-        → IsPressed sheet file lead_in audio one packs → IsPressed sheet file lead_in audio other others → one ≡ other }
+    ensures packs { (sheet : CueSheet) (file : List ℕ) (lead_in audio : ℕ) (one other : List ℕ)
+        (packs others : List (List ℕ))
+        → IsPressed sheet file lead_in audio one packs → IsPressed sheet file lead_in audio other others
+        → packs ≡ others }
+    ensures bytes { (sheet : CueSheet) (file : List ℕ) (lead_in audio : ℕ) (one other : List ℕ)
+        (packs others : List (List ℕ))
+        → IsPressed sheet file lead_in audio one packs → IsPressed sheet file lead_in audio other others
+        → one ≡ other }
 {}
 
-/// A law: every sheet and file, with their lead-in and audio, that are not refused have a pressed stream, and a part of a
-/// stream, which is all that stands after a failed write of `press_stream`, is a prefix of it.
+/// A law: every sheet and file, with their lead-in and audio, that are not refused have a pressed stream, and a part
+/// of a stream, which is all that stands after a failed write of `press_stream`, is a prefix of it.
 pub fn pressable_files_have_streams()
     ensures stream { (sheet : CueSheet) (file : List ℕ) (lead_in audio : ℕ)
         → IsSheet sheet → lead_in ≤ 450000 → IsPressable sheet file lead_in audio
         → (bytes : List ℕ) × (packs : List (List ℕ)) × IsPressed sheet file lead_in audio bytes packs }
-    ensures part { (sheet : CueSheet) (file : List ℕ) (lead_in audio n : ℕ) (bytes : List ℕ) (packs given : List (List ℕ))
+    ensures part { (sheet : CueSheet) (file : List ℕ) (lead_in audio n : ℕ) (bytes : List ℕ)
+        (packs given : List (List ℕ))
         (held after : Option (List ℕ)) → IsPressed sheet file lead_in audio bytes packs
-        → PutsStreamPart (layout_of sheet audio) (IsPackAfter file_begin file) (text_packs sheet) lead_in held after n given
+        → PutsStreamPart (layout_of sheet audio) (IsPackAfter file_begin file) (text_packs sheet) lead_in held
+        after n given
         → AppendsPrefix held after bytes }
 {
     spread_carries();
 }
 
-/// A law: whole units, of any form, that differ from a pressed stream in at most two symbols of a word are damaged from its
-/// packs, and these are recovered.
+/// A law: whole units, of any form, that differ from a pressed stream in at most two symbols of a word are damaged
+/// from its packs, and these are recovered.
 pub fn pressed_packs_come_back()
     ensures stream { (form : Form) (lead_in : ℕ) (others : List ℕ) (press : DamagedPress form lead_in others)
         → IsDamagedStream form lead_in (program_blocks press.sheet press.audio) press.packs others }
     ensures found { (form : Form) (lead_in : ℕ) (others : List ℕ) (press : DamagedPress form lead_in others)
         (found : List (Option (List ℕ)))
         → IsRecovered form (program_symbols form others lead_in) found
-        → found ≡ map (λ pack. Some pack) (all_packs form (program_blocks press.sheet press.audio) press.packs) }
+        → found ≡ map (λ pack. Some pack)
+        (all_packs form (program_blocks press.sheet press.audio) press.packs) }
 {
     packs_are_recovered();
 }
 
-/// A law: so many blocks after the audio has begun, the screen of such a stream is what stands after four packs a block of the
-/// file, or all of them, and no word is bad.
+/// A law: so many blocks after the audio has begun, the screen of such a stream is what stands after four packs a
+/// block of the file, or all of them, and no word is bad.
 pub fn pressed_files_are_shown()
-    ensures text { (form : Form) (lead_in time : ℕ) (others : List ℕ) (press : DamagedPress form lead_in others)
+    ensures text { (form : Form) (lead_in time : ℕ) (others : List ℕ)
+        (press : DamagedPress form lead_in others)
         (text : List ℕ) (bad : ℕ) → time ≤ press.audio
         → IsScreenAt form lead_in (150 + time) others text bad → IsFileText press.file (4 * time) text }
-    ensures bad { (form : Form) (lead_in time : ℕ) (others : List ℕ) (press : DamagedPress form lead_in others)
+    ensures bad { (form : Form) (lead_in time : ℕ) (others : List ℕ)
+        (press : DamagedPress form lead_in others)
         (text : List ℕ) (bad : ℕ) → time ≤ press.audio
         → IsScreenAt form lead_in (150 + time) others text bad → bad ≡ 0 }
 {

@@ -19,7 +19,8 @@ use cue_sheet::accepted_sheets_are_in_order;
 
 /// A law: the texts of every sheet that is accepted can be packed, where they fill no more packs than there may be.
 pub fn accepted_sheets_have_text_packs()
-    ensures { (text : List ℕ) (sheet : CueSheet) → All (λ byte. byte < 256) text → length text ≤ 67108864 → read_cue text ≡ Ok sheet
+    ensures { (text : List ℕ) (sheet : CueSheet) → All (λ byte. byte < 256) text → length text ≤ 67108864
+        → read_cue text ≡ Ok sheet
         → length (text_packs sheet) ≤ 256 → HasTextPacks sheet }
 {
     accepted_sheets_are_in_order();
@@ -27,18 +28,23 @@ pub fn accepted_sheets_have_text_packs()
 
 /// A law: the slots of an authored lead-in hold the text packs of the sheet, over and over.
 pub fn authored_lead_ins_hold_the_packs()
-    ensures { (sheet : CueSheet) (script : List Drawing) (lead_in audio : ℕ) (bytes : List ℕ) (packs : List (List ℕ))
+    ensures { (sheet : CueSheet) (script : List Drawing) (lead_in audio : ℕ) (bytes : List ℕ)
+        (packs : List (List ℕ))
         → HasTextPacks sheet → IsAuthored (disc_of sheet script lead_in audio) bytes packs
         → packs_in Raw lead_in bytes ≡ packs_in_slots (text_packs sheet) (4 * lead_in) }
 {}
 
 /// A law: where a sheet has text, its strings are listed of an authored stream with a lead-in, and all packs are good.
 pub fn authored_texts_are_listed()
-    ensures texts { (sheet : CueSheet) (script : List Drawing) (lead_in audio : ℕ) (bytes : List ℕ) (packs : List (List ℕ))
-        → HasTextPacks sheet → HasText sheet → 0 < lead_in → IsAuthored (disc_of sheet script lead_in audio) bytes packs
+    ensures texts { (sheet : CueSheet) (script : List Drawing) (lead_in audio : ℕ) (bytes : List ℕ)
+        (packs : List (List ℕ))
+        → HasTextPacks sheet → HasText sheet → 0 < lead_in
+        → IsAuthored (disc_of sheet script lead_in audio) bytes packs
         → texts_of_lead_in Raw lead_in bytes ≡ Ok (texts_of_sheet sheet) }
-    ensures lines { (sheet : CueSheet) (script : List Drawing) (lead_in audio : ℕ) (bytes : List ℕ) (packs : List (List ℕ)) (text : List ℕ) (bad : ℕ)
-        → HasTextPacks sheet → HasText sheet → 0 < lead_in → IsAuthored (disc_of sheet script lead_in audio) bytes packs
+    ensures lines { (sheet : CueSheet) (script : List Drawing) (lead_in audio : ℕ) (bytes : List ℕ)
+        (packs : List (List ℕ)) (text : List ℕ) (bad : ℕ)
+        → HasTextPacks sheet → HasText sheet → 0 < lead_in
+        → IsAuthored (disc_of sheet script lead_in audio) bytes packs
         → IsTextListed Raw lead_in bytes text bad → text ≡ sheet_lines sheet (4 * lead_in) 0 }
 {
     texts_come_back();
@@ -46,25 +52,31 @@ pub fn authored_texts_are_listed()
 
 /// A law: where a sheet has no text, nothing but the count of packs is listed, all of them bad.
 pub fn streams_without_texts_are_listed()
-    ensures texts { (sheet : CueSheet) (script : List Drawing) (lead_in audio : ℕ) (bytes : List ℕ) (packs : List (List ℕ))
-        → has_no_text (sheet_texts sheet) ≡ true → IsAuthored (disc_of sheet script lead_in audio) bytes packs → texts_of_lead_in Raw lead_in bytes ≡ Ok no_texts }
-    ensures lines { (sheet : CueSheet) (script : List Drawing) (lead_in audio : ℕ) (bytes : List ℕ) (packs : List (List ℕ)) (text : List ℕ) (bad : ℕ)
+    ensures texts { (sheet : CueSheet) (script : List Drawing) (lead_in audio : ℕ) (bytes : List ℕ)
+        (packs : List (List ℕ))
+        → has_no_text (sheet_texts sheet) ≡ true → IsAuthored (disc_of sheet script lead_in audio) bytes packs
+        → texts_of_lead_in Raw lead_in bytes ≡ Ok no_texts }
+    ensures lines { (sheet : CueSheet) (script : List Drawing) (lead_in audio : ℕ) (bytes : List ℕ)
+        (packs : List (List ℕ)) (text : List ℕ) (bad : ℕ)
         → has_no_text (sheet_texts sheet) ≡ true → IsAuthored (disc_of sheet script lead_in audio) bytes packs
         → IsTextListed Raw lead_in bytes text bad → text ≡ offers_line 0 (4 * lead_in) 0 }
 {}
 
-/// A law: where slots of an authored lead-in are damaged, and each text pack is left whole in some slot, the strings of the
-/// sheet are listed all the same, and the count of good packs is that of the whole slots. The damaged blocks may stand in
-/// units of another form.
+/// A law: where slots of an authored lead-in are damaged, and each text pack is left whole in some slot, the strings
+/// of the sheet are listed all the same, and the count of good packs is that of the whole slots. The damaged blocks
+/// may stand in units of another form.
 pub fn damaged_lead_ins_give_the_texts()
-    ensures texts { (sheet : CueSheet) (script : List Drawing) (lead_in audio : ℕ) (bytes : List ℕ) (packs : List (List ℕ)) (whole : List Bool) (form : Form) (changed : List ℕ)
+    ensures texts { (sheet : CueSheet) (script : List Drawing) (lead_in audio : ℕ) (bytes : List ℕ)
+        (packs : List (List ℕ)) (whole : List Bool) (form : Form) (changed : List ℕ)
         → HasTextPacks sheet → HasText sheet → IsAuthored (disc_of sheet script lead_in audio) bytes packs
         → HasHurtSlots (text_packs sheet) whole (packs_in Raw lead_in bytes) (packs_in form lead_in changed)
         → texts_of_lead_in form lead_in changed ≡ Ok (texts_of_sheet sheet) }
-    ensures lines { (sheet : CueSheet) (script : List Drawing) (lead_in audio : ℕ) (bytes : List ℕ) (packs : List (List ℕ)) (whole : List Bool) (form : Form) (changed text : List ℕ) (bad : ℕ)
+    ensures lines { (sheet : CueSheet) (script : List Drawing) (lead_in audio : ℕ) (bytes : List ℕ)
+        (packs : List (List ℕ)) (whole : List Bool) (form : Form) (changed text : List ℕ) (bad : ℕ)
         → HasTextPacks sheet → HasText sheet → IsAuthored (disc_of sheet script lead_in audio) bytes packs
         → HasHurtSlots (text_packs sheet) whole (packs_in Raw lead_in bytes) (packs_in form lead_in changed)
-        → IsTextListed form lead_in changed text bad → text ≡ sheet_lines sheet (count_whole whole) (count_hurt whole) }
+        → IsTextListed form lead_in changed text bad
+        → text ≡ sheet_lines sheet (count_whole whole) (count_hurt whole) }
 {
     texts_come_back();
 }

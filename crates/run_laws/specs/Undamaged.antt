@@ -14,4 +14,5 @@ words_of form symbols = map (form_word form symbols) (below (word_count form (le
 -- whole units, of which each word is a codeword
 pub record IsCleanStream (form : Form) (lead_in : ℕ) (bytes : List ℕ) : Type 0 where
   pub input : IsWholeInput form bytes
-  pub codewords : (n : ℕ) → n < word_count form (length (program_symbols form bytes lead_in) / 96) → IsCodeword (form_word form (program_symbols form bytes lead_in) n)
+  pub codewords : (n : ℕ) → n < word_count form (length (program_symbols form bytes lead_in) / 96)
+      → IsCodeword (form_word form (program_symbols form bytes lead_in) n)

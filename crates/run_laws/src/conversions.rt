@@ -24,7 +24,8 @@ use crate::scratched_streams_are_damaged;
 use rw_interleave::{clean_words_are_found, packs_are_recovered, text_of_packs};
 use subcode_player::screens_show_pictures;
 
-/// A law: from damage of at most two symbols a word a conversion gives back every pack of a stream, wherever it comes from.
+/// A law: from damage of at most two symbols a word a conversion gives back every pack of a stream, wherever it comes
+/// from.
 pub fn damaged_streams_give_their_packs()
     ensures { (lead_in : ℕ) (form : Form) (call : Call Bytes) (status : Status)
         → IsRun (Convert lead_in form) call status
@@ -36,8 +37,8 @@ pub fn damaged_streams_give_their_packs()
     text_of_packs();
 }
 
-/// A law: from its ready time to its hold time each picture of a script is shown, of any stream whose packs are a schedule of
-/// it, whatever damage of at most two symbols a word does.
+/// A law: from its ready time to its hold time each picture of a script is shown, of any stream whose packs are a
+/// schedule of it, whatever damage of at most two symbols a word does.
 pub fn scheduled_streams_show_their_pictures()
     ensures { (lead_in at : ℕ) (form : Form) (call : Call Bytes) (status : Status)
         → IsRun (Screen lead_in form at) call status

@@ -19,8 +19,8 @@ ghost use Rattle.run_laws.specs.Ran.{IsRun};
 
 use round_trips::{copied_text_lists_are_answered, text_lists_are_answered};
 
-/// A law: of an authored stream with a lead-in `text` writes each string of the sheet that is not empty, or none where the
-/// sheet has no text.
+/// A law: of an authored stream with a lead-in `text` writes each string of the sheet that is not empty, or none
+/// where the sheet has no text.
 pub fn authored_texts_are_written()
     ensures strings { (lead_in audio : ℕ) (sheet : CueSheet) (script : List Drawing) (packs : List (List ℕ))
         (call : Call Bytes) (status : Status) → IsRun (Text lead_in Raw) call status
@@ -42,7 +42,8 @@ pub fn copied_texts_are_written()
     ensures strings { (lead_in audio : ℕ) (form : Form) (sheet : CueSheet) (script : List Drawing)
         (bytes : List ℕ)
         (packs : List (List ℕ)) (call : Call Bytes) (status : Status) → IsRun (Text lead_in form) call status
-        → HasTextPacks sheet → HasText sheet → 0 < lead_in → IsAuthored (disc_of sheet script lead_in audio) bytes packs
+        → HasTextPacks sheet → HasText sheet → 0 < lead_in
+        → IsAuthored (disc_of sheet script lead_in audio) bytes packs
         → IfSome call.first.before (λ all. HasTextsOf form lead_in bytes all
         → GivesBack (sheet_lines sheet (4 * lead_in) 0) call.out status) }
     ensures none { (lead_in audio : ℕ) (form : Form) (sheet : CueSheet) (script : List Drawing)

@@ -10,7 +10,8 @@ ghost use Rattle.run_laws.specs.Ran.{IsRun};
 
 use rw_merge::two_readings_give_packs;
 
-/// A law: from two readings, each damaged in at most two symbols of each word, every pack is merged, wherever the damage is.
+/// A law: from two readings, each damaged in at most two symbols of each word, every pack is merged, wherever the
+/// damage is.
 pub fn damaged_readings_give_their_packs()
     ensures { (lead_in : ℕ) (call : Call Bytes) (status : Status) → IsRun (Merge lead_in) call status
         → IfSome call.first.before (λ one. IfSome call.second.before (λ other. (blocks : ℕ)

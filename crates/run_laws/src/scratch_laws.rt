@@ -14,18 +14,25 @@ ghost use Rattle.subcode_player.specs.Pictured.{IsScheduledStream};
 use raw_subcode::Form;
 use stream_trial::scratched_streams_are_recovered;
 
-/// A law: an authored stream with scratches differs from one that carries its packs, a schedule of the script, in at most two
-/// symbols of each word. From such a stream `Player::convert` gives back every pack, and `Player::screen_at` each picture. What it
-/// gives of a raw stream is the packs alone: no zeros follow those of the program.
+/// A law: an authored stream with scratches differs from one that carries its packs, a schedule of the script, in at
+/// most two symbols of each word. From such a stream `Player::convert` gives back every pack, and `Player::screen_at`
+/// each picture. What it gives of a raw stream is the packs alone: no zeros follow those of the program.
 pub fn scratched_streams_are_damaged()
-    ensures damaged { (sheet : CueSheet) (script : List Drawing) (lead_in audio seed : ℕ) (bytes : List ℕ) (packs : List (List ℕ))
-        → lead_in ≤ 450000 → program_blocks sheet audio ≤ 449999 → IsAuthored (disc_of sheet script lead_in audio) bytes packs
+    ensures damaged { (sheet : CueSheet) (script : List Drawing) (lead_in audio seed : ℕ) (bytes : List ℕ)
+        (packs : List (List ℕ))
+        → lead_in ≤ 450000 → program_blocks sheet audio ≤ 449999
+        → IsAuthored (disc_of sheet script lead_in audio) bytes packs
         → IsDamagedStream Form.Raw lead_in (program_blocks sheet audio) packs (scratched lead_in seed bytes) }
-    ensures packs { (sheet : CueSheet) (script : List Drawing) (lead_in audio : ℕ) (bytes : List ℕ) (packs : List (List ℕ))
-        → IsAuthored (disc_of sheet script lead_in audio) bytes packs → concat (all_packs Form.Raw (program_blocks sheet audio) packs) ≡ concat packs }
-    ensures scheduled { (sheet : CueSheet) (script : List Drawing) (lead_in audio seed : ℕ) (bytes : List ℕ) (packs : List (List ℕ))
-        → lead_in ≤ 450000 → program_blocks sheet audio ≤ 449999 → AreTimesInOrder script → AreColoursInRange script
-        → IsAuthored (disc_of sheet script lead_in audio) bytes packs → IsScheduledStream Form.Raw lead_in script (scratched lead_in seed bytes) }
+    ensures packs { (sheet : CueSheet) (script : List Drawing) (lead_in audio : ℕ) (bytes : List ℕ)
+        (packs : List (List ℕ))
+        → IsAuthored (disc_of sheet script lead_in audio) bytes packs
+        → concat (all_packs Form.Raw (program_blocks sheet audio) packs) ≡ concat packs }
+    ensures scheduled { (sheet : CueSheet) (script : List Drawing) (lead_in audio seed : ℕ) (bytes : List ℕ)
+        (packs : List (List ℕ))
+        → lead_in ≤ 450000 → program_blocks sheet audio ≤ 449999 → AreTimesInOrder script
+        → AreColoursInRange script
+        → IsAuthored (disc_of sheet script lead_in audio) bytes packs
+        → IsScheduledStream Form.Raw lead_in script (scratched lead_in seed bytes) }
 {
     scratched_streams_are_recovered();
 }

@@ -7,9 +7,11 @@ unfoldable pub equally_wrong : List ℕ → List ℕ → List ℕ → ℕ
 equally_wrong [] ys zs = 0
 equally_wrong (x ∷ xs) [] zs = 0
 equally_wrong (x ∷ xs) (y ∷ ys) [] = 0
-equally_wrong (x ∷ xs) (y ∷ ys) (z ∷ zs) = (if x == y then (if x == z then 0 else 1) else 0) + equally_wrong xs ys zs
+equally_wrong (x ∷ xs) (y ∷ ys) (z ∷ zs) =
+    (if x == y then (if x == z then 0 else 1) else 0) + equally_wrong xs ys zs
 
--- The codeword is agreed: twice the symbols that both readings have equally wrong and those in which they differ are at most four.
+-- The codeword is agreed: twice the symbols that both readings have equally wrong and those in which they differ are
+-- at most four.
 pub record IsAgreed (first second codeword : List ℕ) : Type 0 where
   pub is_codeword : IsCodeword codeword
   pub few : 2 * equally_wrong first second codeword + differences first second ≤ 4

@@ -12,10 +12,12 @@ pub record AreFirstSums (n : ℕ) (word : List ℕ) (sums : Sums) : Type 0 where
   pub second : 2 < n → sums.second ≡ weighted_sum 2 word
   pub third : 3 < n → sums.third ≡ weighted_sum 3 word
 
--- each symbol times the sum of its position's power and this one, so that the symbol at the position with this power becomes 0
+-- each symbol times the sum of its position's power and this one, so that the symbol at the position with this power
+-- becomes 0
 unfoldable pub cleared : ℕ → List ℕ → List ℕ
 cleared power [] = []
-cleared power (symbol ∷ rest) = product (bit_xor (alpha_power (length rest)) power) symbol ∷ cleared power rest
+cleared power (symbol ∷ rest) =
+    product (bit_xor (alpha_power (length rest)) power) symbol ∷ cleared power rest
 
 -- a word with these four sums, whose symbols outside of these positions are 0
 pub record AreErrors (sums : Sums) (places errors : List ℕ) : Type 0 where

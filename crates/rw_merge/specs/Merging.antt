@@ -20,44 +20,60 @@ most_blocks = 1000000
 -- what is found for each word of the symbols of two readings of so many program blocks
 pub record IsMerged (blocks : ℕ) (first second : List ℕ) (found : List (Option (List ℕ))) : Type 0 where
   pub count : length found ≡ whole_packs blocks
-  pub each : (n : ℕ) → n < whole_packs blocks → IsAgreement (word_of first n) (word_of second n) (slice_index_or found n None)
+  pub each : (n : ℕ) → n < whole_packs blocks
+      → IsAgreement (word_of first n) (word_of second n) (slice_index_or found n None)
 
--- the text of the packs that are agreed for the bytes of two readings of equally many blocks, and for how many words none is
+-- the text of the packs that are agreed for the bytes of two readings of equally many blocks, and for how many words
+-- none is
 pub record IsMergedText (lead_in : ℕ) (first second text : List ℕ) (bad : ℕ) : Type 0 where
   pub found : List (Option (List ℕ))
-  pub merged : IsMerged (length first / 96 - lead_in) (program_symbols Raw first lead_in) (program_symbols Raw second lead_in) found
+  pub merged : IsMerged (length first / 96 - lead_in) (program_symbols Raw first lead_in)
+      (program_symbols Raw second lead_in) found
   pub text_is : text ≡ cdg_bytes found
   pub bad_is : bad ≡ bad_count found
 
 -- the first n blocks of each give this text
 abbrev pub GivesMergedText : ℕ → ℕ → List ℕ → List ℕ → List ℕ → Type 0
-GivesMergedText n lead_in first second text = (bad : ℕ) × IsMergedText lead_in (take (n * 96) first) (take (n * 96) second) text bad
+GivesMergedText n lead_in first second text = (bad : ℕ)
+    × IsMergedText lead_in (take (n * 96) first) (take (n * 96) second) text bad
 
--- The answer to so many bytes of two inputs, where no read or write fails. The first block that not both have whole is looked at in this order: a rest of the first, a rest of the second, a block that one of them has.
+-- The answer to so many bytes of two inputs, where no read or write fails. The first block that not both have whole
+-- is looked at in this order: a rest of the first, a rest of the second, a block that one of them has.
 abbrev pub IsAnswer : ℕ → Result Merged MergeStop → ℕ → ℕ → Type 0
-IsAnswer lead_in (Ok merged) first second = (first ≤ most_blocks * 96) × (second ≡ first) × (first % 96 ≡ 0) × (merged.blocks ≡ first / 96 - lead_in)
-IsAnswer lead_in (Err TooLong) first second = (most_blocks ≤ first / 96) × (most_blocks ≤ second / 96) × ((most_blocks * 96 < first) ⊎ (most_blocks * 96 < second))
-IsAnswer lead_in (Err (Torn block)) first second = (block < most_blocks) × (block ≤ second / 96) × (first / 96 ≡ block) × (first % 96 ≢ 0)
-IsAnswer lead_in (Err (SecondTorn block)) first second = (block < most_blocks) × (block ≤ first / 96) × (first / 96 ≡ block → first % 96 ≡ 0)
+IsAnswer lead_in (Ok merged) first second = (first ≤ most_blocks * 96) × (second ≡ first) × (first % 96 ≡ 0)
+    × (merged.blocks ≡ first / 96 - lead_in)
+IsAnswer lead_in (Err TooLong) first second = (most_blocks ≤ first / 96) × (most_blocks ≤ second / 96)
+    × ((most_blocks * 96 < first) ⊎ (most_blocks * 96 < second))
+IsAnswer lead_in (Err (Torn block)) first second = (block < most_blocks) × (block ≤ second / 96)
+    × (first / 96 ≡ block) × (first % 96 ≢ 0)
+IsAnswer lead_in (Err (SecondTorn block)) first second = (block < most_blocks) × (block ≤ first / 96)
+    × (first / 96 ≡ block → first % 96 ≡ 0)
     × (second / 96 ≡ block) × (second % 96 ≢ 0)
-IsAnswer lead_in (Err (Unequal blocks)) first second = (blocks < most_blocks) × (blocks ≡ min (first / 96) (second / 96)) × (first / 96 ≢ second / 96)
+IsAnswer lead_in (Err (Unequal blocks)) first second = (blocks < most_blocks)
+    × (blocks ≡ min (first / 96) (second / 96)) × (first / 96 ≢ second / 96)
     × (first / 96 ≡ blocks → first % 96 ≡ 0) × (second / 96 ≡ blocks → second % 96 ≡ 0)
 IsAnswer lead_in (Err FirstFault) first second = ⊤
 IsAnswer lead_in (Err SecondFault) first second = ⊤
 IsAnswer lead_in (Err WriteFault) first second = ⊤
 
 -- Of two inputs these bytes were taken, and the text of their pairs of blocks was put.
-pub record Merges (lead_in : ℕ) (held held' : Option (List ℕ)) (result : Result Merged MergeStop) (first second : List ℕ) : Type 0 where
+pub record Merges (lead_in : ℕ) (held held' : Option (List ℕ)) (result : Result Merged MergeStop)
+    (first second : List ℕ) : Type 0 where
   -- of neither is more taken than a block beyond the other
   pub in_step : (length first ≤ length second + 96) × (length second ≤ length first + 96)
   pub within : length first ≤ most_blocks * 96 + 1
   pub answer : IsAnswer lead_in result (length first) (length second)
-  pub done : IfOk result (λ merged. (text : List ℕ) × IsMergedText lead_in first second text merged.bad × Appends held held' text)
+  pub done : IfOk result (λ merged. (text : List ℕ) × IsMergedText lead_in first second text merged.bad
+      × Appends held held' text)
   -- where no write failed, all is put that the whole pairs of blocks give
-  pub put : result ≢ Err WriteFault → (text : List ℕ) × GivesMergedText (min (length first / 96) (length second / 96)) lead_in first second text × Appends held held' text
+  pub put : result ≢ Err WriteFault
+      → (text : List ℕ) × GivesMergedText (min (length first / 96) (length second / 96)) lead_in first second
+      text × Appends held held' text
   -- a write failed: nothing after the pair whose text was being put was taken, and the text of those before it is put
-  pub in_turn : result ≡ Err WriteFault → (n : ℕ) × (n < most_blocks) × (length first ≡ (n + 1) * 96) × (length second ≡ (n + 1) * 96)
-      × ((low high : List ℕ) × GivesMergedText n lead_in first second low × GivesMergedText (n + 1) lead_in first second high × AppendsBetween held held' low high)
+  pub in_turn : result ≡ Err WriteFault
+      → (n : ℕ) × (n < most_blocks) × (length first ≡ (n + 1) * 96) × (length second ≡ (n + 1) * 96)
+      × ((low high : List ℕ) × GivesMergedText n lead_in first second low
+      × GivesMergedText (n + 1) lead_in first second high × AppendsBetween held held' low high)
 
 -- The end of an input was told once, or not.
 abbrev pub RoseAtMost : ℕ → ℕ → Type 0

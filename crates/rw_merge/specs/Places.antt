@@ -14,7 +14,8 @@ pub record IsNextDifference (from : ℕ) (xs ys : List ℕ) (i : ℕ) : Type 0 w
   pub within : i < 24
   pub differ : slice_index xs i ≢ slice_index ys i
   pub equal : (k : ℕ) → from ≤ k → k < i → slice_index xs k ≡ slice_index ys k
-  pub count : differences (drop from xs) (drop from ys) ≡ suc (differences (drop (i + 1) xs) (drop (i + 1) ys))
+  pub count : differences (drop from xs) (drop from ys)
+      ≡ suc (differences (drop (i + 1) xs) (drop (i + 1) ys))
 
 -- the position is none of these
 abbrev pub IsOutside : ℕ → List ℕ → Type 0

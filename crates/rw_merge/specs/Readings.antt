@@ -18,16 +18,20 @@ pub record AreReadings (lead_in blocks : ℕ) (first second : List ℕ) : Type 0
   pub first_size : length first ≡ (lead_in + blocks) * 96
   pub second_size : length second ≡ (lead_in + blocks) * 96
 
--- Of program symbols that carry these packs there are two readings in which, for each word, twice the symbols that both have equally wrong and those in which they differ are at most four.
+-- Of program symbols that carry these packs there are two readings in which, for each word, twice the symbols that
+-- both have equally wrong and those in which they differ are at most four.
 pub record IsReadTwice (lead_in blocks : ℕ) (packs : List (List ℕ)) (first second : List ℕ) : Type 0 where
   pub readings : AreReadings lead_in blocks first second
   pub symbols : List ℕ
   pub carries : Carries blocks symbols packs
   pub enough : (n : ℕ) → n < whole_packs blocks →
-      2 * equally_wrong (word_of (program_symbols Raw first lead_in) n) (word_of (program_symbols Raw second lead_in) n) (word_of symbols n)
-      + differences (word_of (program_symbols Raw first lead_in) n) (word_of (program_symbols Raw second lead_in) n) ≤ 4
+      2 * equally_wrong (word_of (program_symbols Raw first lead_in) n)
+      (word_of (program_symbols Raw second lead_in) n) (word_of symbols n)
+      + differences (word_of (program_symbols Raw first lead_in) n)
+      (word_of (program_symbols Raw second lead_in) n) ≤ 4
 
--- Of program symbols that carry these packs there are two readings, each damaged in at most two symbols of each word, wherever these are.
+-- Of program symbols that carry these packs there are two readings, each damaged in at most two symbols of each word,
+-- wherever these are.
 pub record IsDamagedTwice (lead_in blocks : ℕ) (packs : List (List ℕ)) (first second : List ℕ) : Type 0 where
   pub readings : AreReadings lead_in blocks first second
   pub symbols : List ℕ
@@ -37,7 +41,8 @@ pub record IsDamagedTwice (lead_in blocks : ℕ) (packs : List (List ℕ)) (firs
 
 -- unless a read or a write failed, so many blocks were merged, none of their words is bad, and this text was put
 abbrev pub MergeRestores : Result Merged MergeStop → ℕ → Option (List ℕ) → Option (List ℕ) → List ℕ → Type 0
-MergeRestores (Ok merged) blocks held held' text = (merged.blocks ≡ blocks) × (merged.bad ≡ 0) × Appends held held' text
+MergeRestores (Ok merged) blocks held held' text = (merged.blocks ≡ blocks) × (merged.bad ≡ 0)
+    × Appends held held' text
 MergeRestores (Err FirstFault) blocks held held' text = ⊤
 MergeRestores (Err SecondFault) blocks held held' text = ⊤
 MergeRestores (Err WriteFault) blocks held held' text = ⊤

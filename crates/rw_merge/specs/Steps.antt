@@ -48,9 +48,11 @@ IsPairRead block (Ok true) first second = (length first.bytes ≡ 96) × (length
 IsPairRead block (Ok false) first second =
     (first.bytes ≡ []) × (second.bytes ≡ []) × IsAtEnd first.left × IsAtEnd second.left
 IsPairRead block (Err FirstFault) first second = (length first.bytes < 96) × (second.bytes ≡ [])
-IsPairRead block (Err (Torn n)) first second = (n ≡ block) × (0 < length first.bytes) × (length first.bytes < 96)
+IsPairRead block (Err (Torn n)) first second = (n ≡ block) × (0 < length first.bytes)
+    × (length first.bytes < 96)
     × (second.bytes ≡ []) × IsAtEnd first.left
-IsPairRead block (Err SecondFault) first second = IsHalfRead first.left first.bytes × (length second.bytes < 96)
+IsPairRead block (Err SecondFault) first second = IsHalfRead first.left first.bytes
+    × (length second.bytes < 96)
 IsPairRead block (Err (SecondTorn n)) first second = (n ≡ block) × IsHalfRead first.left first.bytes
     × (0 < length second.bytes) × (length second.bytes < 96) × IsAtEnd second.left
 IsPairRead block (Err (Unequal n)) first second = (n ≡ block)

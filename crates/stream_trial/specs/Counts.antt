@@ -6,4 +6,5 @@ use Rattle.rw_interleave.specs.Interleave.{word_of}
 
 -- of the first packs, how many have a word in which two streams differ in exactly so many symbols
 unfoldable pub differing : ℕ → ℕ → List ℕ → List ℕ → ℕ
-differing wrong packs symbols others = count_by (λ n. differences (word_of others n) (word_of symbols n) == wrong) (below packs)
+differing wrong packs symbols others =
+    count_by (λ n. differences (word_of others n) (word_of symbols n) == wrong) (below packs)

@@ -17,7 +17,8 @@ use Rattle.stream_trial.specs.declared.playing.Counts.{Counts}
 
 -- the pixel that a screen is to show for a canvas: that of its window, and else the border
 abbrev pub wanted_pixel : Board → ℕ → ℕ → ℕ
-wanted_pixel board x y = if nat_le 6 x && nat_le x 293 && nat_le 12 y && nat_le y 203 then pixel_of board.pixels (x - 6) (y - 12) else board.border
+wanted_pixel board x y = if nat_le 6 x && nat_le x 293 && nat_le 12 y
+    && nat_le y 203 then pixel_of board.pixels (x - 6) (y - 12) else board.border
 
 -- the screen shows what stands on the canvas
 pub record Agrees (now : Standing) (board : Board) : Type 0 where
@@ -63,13 +64,15 @@ unfoldable pub stream_slot : List ℕ → ℕ → List ℕ
 stream_slot bytes n = symbols_of (take 24 (drop (24 * n) bytes))
 
 -- program symbols that are damaged from those which carry a schedule of the script
-pub record IsDamagedSchedule (script : List Drawing) (blocks : ℕ) (symbols : List ℕ) (packs : List (List ℕ)) (others : List ℕ) : Type 0 where
+pub record IsDamagedSchedule (script : List Drawing) (blocks : ℕ) (symbols : List ℕ) (packs : List (List ℕ))
+    (others : List ℕ) : Type 0 where
   pub schedule : IsSchedule script blocks packs
   pub carries : Carries blocks symbols packs
   pub damaged : IsDamaged symbols Raw others
 
 -- what was counted of such a stream
-pub record IsPlayedOut (script : List Drawing) (blocks : ℕ) (symbols others : List ℕ) (counts : Counts) : Type 0 where
+pub record IsPlayedOut (script : List Drawing) (blocks : ℕ) (symbols others : List ℕ)
+    (counts : Counts) : Type 0 where
   pub one : counts.one ≡ differing 1 (whole_packs blocks) symbols others
   pub two : counts.two ≡ differing 2 (whole_packs blocks) symbols others
   pub bad : counts.bad ≡ 0

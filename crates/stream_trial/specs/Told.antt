@@ -5,4 +5,5 @@ use Rattle.stream_trial.specs.declared.lines.Report.{Report}
 
 -- the lines of a report
 abbrev pub told : Report → List ℕ
-told report = input_lines report.seed report.pictures report.blocks report.packs report.changes ++ output_lines report.one report.two report.bad report.equal
+told report = input_lines report.seed report.pictures report.blocks report.packs report.changes
+    ++ output_lines report.one report.two report.bad report.equal

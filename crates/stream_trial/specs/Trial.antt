@@ -28,8 +28,8 @@ trial_blocks count = 800 * count + 170
 unfoldable pub all_changes : List Drawing → ℕ
 all_changes script = sum_by (λ k. length (planned_change script k)) (below (pictures script))
 
--- The text of a trial: from the stream of the generated script and the same stream with scratches, where no word is bad and every picture is
--- shown when it is ready.
+-- The text of a trial: from the stream of the generated script and the same stream with scratches, where no word is
+-- bad and every picture is shown when it is ready.
 pub record IsTrial (seed count : ℕ) (text : List ℕ) : Type 0 where
   pub sheet : CueSheet
   pub sheet_is : read_cue trial_text ≡ Ok sheet

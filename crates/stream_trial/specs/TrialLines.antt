@@ -10,9 +10,12 @@ trial_count_line name n = name ++ codes " " ++ decimal n ++ line_feed
 unfoldable pub input_lines : ℕ → ℕ → ℕ → ℕ → ℕ → List ℕ
 input_lines seed count blocks packs changes =
     trial_count_line (codes "seed") seed ++ (trial_count_line (codes "pictures") count
-    ++ (trial_count_line (codes "blocks") blocks ++ (trial_count_line (codes "packs") packs ++ trial_count_line (codes "changes") changes)))
+    ++ (trial_count_line (codes "blocks") blocks
+    ++ (trial_count_line (codes "packs") packs ++ trial_count_line (codes "changes") changes)))
 
 -- the lines on what was found
 unfoldable pub output_lines : ℕ → ℕ → ℕ → ℕ → List ℕ
 output_lines one two bad equal =
-    trial_count_line (codes "one") one ++ (trial_count_line (codes "two") two ++ (trial_count_line (codes "bad") bad ++ trial_count_line (codes "equal") equal))
+    trial_count_line (codes "one") one
+    ++ (trial_count_line (codes "two") two
+    ++ (trial_count_line (codes "bad") bad ++ trial_count_line (codes "equal") equal))

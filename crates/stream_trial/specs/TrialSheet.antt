@@ -13,5 +13,15 @@ trial_sheet = record {
   title = [];
   performer = [];
   songwriter = [];
-  tracks = record { number = 1; control = 0; isrc = None; pregap = 0; postgap = 0; indices = (1, 0) ∷ []; title = []; performer = []; songwriter = [] } ∷ [];
+  tracks = record {
+    number = 1;
+    control = 0;
+    isrc = None;
+    pregap = 0;
+    postgap = 0;
+    indices = (1, 0) ∷ [];
+    title = [];
+    performer = [];
+    songwriter = [];
+  } ∷ [];
 }

@@ -23,7 +23,8 @@ pub(crate) fn agrees(screen: &Screen, canvas: &Canvas) -> bool
 
 /// Whether all sixteen colours agree.
 fn colours_agree(screen: &Screen, canvas: &Canvas) -> bool
-    ensures { IsTrue result ↔ ((n : ℕ) → n < 16 → (standing_of screen.now).colour n ≡ slice_index canvas.now.colours n) }
+    ensures { IsTrue result
+        ↔ ((n : ℕ) → n < 16 → (standing_of screen.now).colour n ≡ slice_index canvas.now.colours n) }
 {
     for n in 0..16 {
         if screen.colour(n) != canvas.colour(n) {
@@ -35,7 +36,8 @@ fn colours_agree(screen: &Screen, canvas: &Canvas) -> bool
 
 /// Whether all pixels agree.
 fn pixels_agree(screen: &Screen, canvas: &Canvas) -> bool
-    ensures { IsTrue result ↔ ((x y : ℕ) → x < 300 → y < 216 → screen_pixel (standing_of screen.now) x y ≡ wanted_pixel canvas.now x y) }
+    ensures { IsTrue result ↔ ((x y : ℕ) → x < 300 → y < 216 → screen_pixel (standing_of screen.now) x y
+        ≡ wanted_pixel canvas.now x y) }
 {
     for y in 0..HEIGHT {
         if !row_agrees(screen, canvas, y) {
@@ -48,7 +50,8 @@ fn pixels_agree(screen: &Screen, canvas: &Canvas) -> bool
 /// Whether the pixels of a row agree.
 fn row_agrees(screen: &Screen, canvas: &Canvas, y: u32) -> bool
     requires { y < 216 }
-    ensures { IsTrue result ↔ ((x : ℕ) → x < 300 → screen_pixel (standing_of screen.now) x y ≡ wanted_pixel canvas.now x y) }
+    ensures { IsTrue result
+        ↔ ((x : ℕ) → x < 300 → screen_pixel (standing_of screen.now) x y ≡ wanted_pixel canvas.now x y) }
 {
     for x in 0..WIDTH {
         if screen.pixel(x, y) != wanted(canvas, x, y) {

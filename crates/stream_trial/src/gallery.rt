@@ -21,7 +21,8 @@ pub(crate) struct Gallery {
 impl Gallery {
     /// Before the first picture.
     pub(crate) fn start(alloc: Global) -> Result<Gallery, AllocError>
-        ensures canvas { IfOk result (λ gallery. (script : List Drawing) → StandsBefore script 0 gallery.canvas) }
+        ensures canvas { IfOk result
+            (λ gallery. (script : List Drawing) → StandsBefore script 0 gallery.canvas) }
         ensures counts { IfOk result (λ gallery. (gallery.next ≡ 0) × (gallery.equal ≡ 0)) }
     {
         Ok(Gallery {
@@ -39,14 +40,18 @@ impl Gallery {
         ensures canvas { StandsBefore script.now self.new.next self.new.canvas }
         ensures next { self.new.next ≤ pictures script.now }
         ensures equal { self.new.equal ≤ self.new.next }
-        ensures waits { (self.old.next < pictures script.now → slots ≢ 4 * ready_time script.now self.old.next)
+        ensures waits { (self.old.next < pictures script.now
+            → slots ≢ 4 * ready_time script.now self.old.next)
             → (self.new.next ≡ self.old.next) × (self.new.equal ≡ self.old.equal) }
         ensures looks { self.old.next < pictures script.now → slots ≡ 4 * ready_time script.now self.old.next
             → (self.new.next ≡ self.old.next + 1)
-            × ((now : Standing) → SameStanding (standing_of screen.now) now → ShowsPicture script.now self.old.next now
+            × ((now : Standing) → SameStanding (standing_of screen.now) now
+            → ShowsPicture script.now self.old.next now
             → self.new.equal ≡ self.old.equal + 1) }
-        ensures differs { self.old.next < pictures script.now → slots ≡ 4 * ready_time script.now self.old.next
-            → (now : Standing) → SameStanding (standing_of screen.now) now → ¬ ShowsPicture script.now self.old.next now
+        ensures differs { self.old.next < pictures script.now
+            → slots ≡ 4 * ready_time script.now self.old.next
+            → (now : Standing) → SameStanding (standing_of screen.now) now
+            → ¬ ShowsPicture script.now self.old.next now
             → self.new.equal ≡ self.old.equal }
     {
         // What holds of every screen: its offsets are less than a tile.

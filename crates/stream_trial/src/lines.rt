@@ -41,7 +41,8 @@ impl Report {
     #[tactic(auto, unfolding(crate::specs::TrialLines::input_lines))]
     fn push_input(&self, text: &mut Lines)
         requires { length text.old.bytes ≤ 0 }
-        ensures text { text.new.bytes ≡ text.old.bytes ++ input_lines self.now.seed self.now.pictures self.now.blocks self.now.packs self.now.changes }
+        ensures text { text.new.bytes ≡ text.old.bytes ++ input_lines self.now.seed self.now.pictures
+            self.now.blocks self.now.packs self.now.changes }
         ensures short { length text.new.bytes ≤ length text.old.bytes + 150 }
     {
         push_count(text, "seed", self.seed);
@@ -55,7 +56,8 @@ impl Report {
     #[tactic(auto, unfolding(crate::specs::TrialLines::output_lines))]
     fn push_output(&self, text: &mut Lines)
         requires { length text.old.bytes ≤ 150 }
-        ensures text { text.new.bytes ≡ text.old.bytes ++ output_lines self.now.one self.now.two self.now.bad self.now.equal }
+        ensures text { text.new.bytes
+            ≡ text.old.bytes ++ output_lines self.now.one self.now.two self.now.bad self.now.equal }
     {
         push_count(text, "one", self.one);
         push_count(text, "two", self.two);

@@ -13,7 +13,8 @@ use std::alloc::Global;
 /// How many instructions the changes of a generated script have, which fits in so many blocks.
 pub(crate) fn count_changes(alloc: Global, script: &Script, blocks: u32) -> Result<u64, TrialStop>
     requires few { blocks < 450000 }
-    requires script { (seed count : ℕ) × (script.now ≡ generated_drawings seed count) × (800 * count + 20 ≤ blocks) }
+    requires script { (seed count : ℕ) × (script.now ≡ generated_drawings seed count)
+        × (800 * count + 20 ≤ blocks) }
     ensures sum { IfOk result (λ sum. sum ≡ all_changes script.now) }
     ensures err { IfErr result (λ stop. stop ≡ NoMemory) }
 {

@@ -26,7 +26,8 @@ pub(crate) struct Counts {
     pub(crate) equal: u32,
 }
 
-/// Plays a stream of whole blocks with no lead-in, and compares the screen with each picture of a script when it is ready.
+/// Plays a stream of whole blocks with no lead-in, and compares the screen with each picture of a script when it is
+/// ready.
 pub(crate) fn play(alloc: Global, script: &Script, bytes: &[u8]) -> Result<Counts, AllocError>
     requires whole { length bytes.now % 96 ≡ 0 }
     requires few { length bytes.now ≤ 96000000 }

@@ -45,9 +45,11 @@ impl Replay {
         requires { IsBelow 4000000000 self.old }
         ensures gather { self.new.gather ≡ gather_next self.old.gather slot.now }
         ensures none { gather_gives self.old.gather slot.now ≡ None → TakesNothing self.old self.new }
-        ensures word { (word codeword : List ℕ) → gather_gives self.old.gather slot.now ≡ Some word → Reads word codeword
+        ensures word { (word codeword : List ℕ) → gather_gives self.old.gather slot.now ≡ Some word
+            → Reads word codeword
             → TakesWord word codeword self.old self.new }
-        ensures far { (word : List ℕ) → gather_gives self.old.gather slot.now ≡ Some word → ((codeword : List ℕ) → ¬ Reads word codeword)
+        ensures far { (word : List ℕ) → gather_gives self.old.gather slot.now ≡ Some word
+            → ((codeword : List ℕ) → ¬ Reads word codeword)
             → TakesBad self.old self.new }
         ensures more { (most : ℕ) → IsBelow most self.old → IsBelow (most + 1) self.new }
     {
@@ -60,7 +62,8 @@ impl Replay {
     fn take_word(&mut self, word: &Word)
         requires { IsBelow 4000000000 self.old }
         ensures gather { self.new.gather ≡ self.old.gather }
-        ensures near { (codeword : List ℕ) → Reads word.now codeword → TakesWord word.now codeword self.old self.new }
+        ensures near { (codeword : List ℕ) → Reads word.now codeword
+            → TakesWord word.now codeword self.old self.new }
         ensures far { ((codeword : List ℕ) → ¬ Reads word.now codeword) → TakesBad self.old self.new }
         ensures more { (most : ℕ) → IsBelow most self.old → IsBelow (most + 1) self.new }
     {
@@ -79,7 +82,8 @@ impl Replay {
         requires { IsBelow 4000000000 self.old }
         ensures one { self.new.one ≡ self.old.one + one_where wrong 1 }
         ensures two { self.new.two ≡ self.old.two + one_where wrong 2 }
-        ensures same { (self.new.bad ≡ self.old.bad) × (self.new.gather ≡ self.old.gather) × (self.new.screen ≡ self.old.screen) }
+        ensures same { (self.new.bad ≡ self.old.bad) × (self.new.gather ≡ self.old.gather)
+            × (self.new.screen ≡ self.old.screen) }
         ensures more { (most : ℕ) → IsBelow most self.old → IsBelow (most + 1) self.new }
     {
         match wrong {

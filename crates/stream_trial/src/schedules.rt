@@ -15,8 +15,8 @@ use pack_schedule::Stop;
 use picture_changes::{needs_are_fewest, planned_changes_are_changes};
 use subcode_author::AuthorStop;
 
-/// A law: each picture of a generated script is ready in time, since at least 3,120 packs are free for it, so a survey refuses none in
-/// a program that lasts until the last one's hold time.
+/// A law: each picture of a generated script is ready in time, since at least 3,120 packs are free for it, so a
+/// survey refuses none in a program that lasts until the last one's hold time.
 pub fn generated_scripts_are_ready()
     ensures pixels { (seed count k x y : ℕ) → picture_pixel (generated_drawings seed count) k x y < 16 }
     ensures free { (seed count k : ℕ) → k < count → 3120 ≤ free_packs (generated_drawings seed count) k }
@@ -29,12 +29,14 @@ pub fn generated_scripts_are_ready()
     needs_are_fewest();
 }
 
-/// A law: a generated script is written with each sheet that has a layout of so many blocks, and room for its texts in the lead-in.
+/// A law: a generated script is written with each sheet that has a layout of so many blocks, and room for its texts
+/// in the lead-in.
 pub fn generated_scripts_are_authored()
     ensures accepted { (sheet : CueSheet) (seed count lead_in audio : ℕ) → HasLayout sheet audio
         → 800 * count + 20 ≤ program_blocks sheet audio → HasRoom sheet lead_in
         → IsAccepted sheet (generated_drawings seed count) lead_in audio }
-    ensures stop { (sheet : CueSheet) (seed count lead_in audio : ℕ) (stop : AuthorStop) → HasLayout sheet audio
+    ensures stop { (sheet : CueSheet) (seed count lead_in audio : ℕ) (stop : AuthorStop)
+        → HasLayout sheet audio
         → 800 * count + 20 ≤ program_blocks sheet audio → HasRoom sheet lead_in
         → IsAuthorStop sheet (generated_drawings seed count) lead_in audio stop
         → (stop ≡ AuthorStop.NoMemory) ⊎ (stop ≡ AuthorStop.WriteFault) }

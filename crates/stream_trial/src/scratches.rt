@@ -17,11 +17,15 @@ use rw_interleave::packs_are_recovered;
 
 /// A law: from an authored stream with scratches every pack is recovered.
 pub fn scratched_streams_are_recovered()
-    ensures size { (lead_in seed : ℕ) (bytes : List ℕ) → length (scratched lead_in seed bytes) ≡ length bytes }
-    ensures damaged { (sheet : CueSheet) (script : List Drawing) (lead_in audio seed : ℕ) (bytes : List ℕ) (packs : List (List ℕ))
+    ensures size { (lead_in seed : ℕ) (bytes : List ℕ)
+        → length (scratched lead_in seed bytes) ≡ length bytes }
+    ensures damaged { (sheet : CueSheet) (script : List Drawing) (lead_in audio seed : ℕ) (bytes : List ℕ)
+        (packs : List (List ℕ))
         → IsAuthored (disc_of sheet script lead_in audio) bytes packs
-        → IsDamaged (program_symbols Form.Raw bytes lead_in) Form.Raw (program_symbols Form.Raw (scratched lead_in seed bytes) lead_in) }
-    ensures found { (sheet : CueSheet) (script : List Drawing) (lead_in audio seed : ℕ) (bytes : List ℕ) (packs : List (List ℕ))
+        → IsDamaged (program_symbols Form.Raw bytes lead_in) Form.Raw
+        (program_symbols Form.Raw (scratched lead_in seed bytes) lead_in) }
+    ensures found { (sheet : CueSheet) (script : List Drawing) (lead_in audio seed : ℕ) (bytes : List ℕ)
+        (packs : List (List ℕ))
         (found : List (Option (List ℕ))) → IsAuthored (disc_of sheet script lead_in audio) bytes packs
         → IsRecovered Form.Raw (program_symbols Form.Raw (scratched lead_in seed bytes) lead_in) found
         → found ≡ map (λ pack. Some pack) packs }
@@ -31,21 +35,29 @@ pub fn scratched_streams_are_recovered()
     packs_are_recovered();
 }
 
-/// A law: each word of an authored stream with scratches is near its pack and near no other codeword, and it has as many wrong
-/// symbols as differ between the two streams.
+/// A law: each word of an authored stream with scratches is near its pack and near no other codeword, and it has as
+/// many wrong symbols as differ between the two streams.
 pub fn scratched_words_are_near()
-    ensures reads { (sheet : CueSheet) (script : List Drawing) (lead_in audio seed : ℕ) (bytes : List ℕ) (packs : List (List ℕ)) (n : ℕ)
-        → IsAuthored (disc_of sheet script lead_in audio) bytes packs → n < whole_packs (program_blocks sheet audio)
-        → Reads (word_of (program_symbols Form.Raw (scratched lead_in seed bytes) lead_in) n) (slice_index_or packs n []) }
-    ensures only { (sheet : CueSheet) (script : List Drawing) (lead_in audio seed : ℕ) (bytes : List ℕ) (packs : List (List ℕ)) (n : ℕ)
-        (word : List ℕ) → IsAuthored (disc_of sheet script lead_in audio) bytes packs → n < whole_packs (program_blocks sheet audio)
+    ensures reads { (sheet : CueSheet) (script : List Drawing) (lead_in audio seed : ℕ) (bytes : List ℕ)
+        (packs : List (List ℕ)) (n : ℕ)
+        → IsAuthored (disc_of sheet script lead_in audio) bytes packs
+        → n < whole_packs (program_blocks sheet audio)
+        → Reads (word_of (program_symbols Form.Raw (scratched lead_in seed bytes) lead_in) n)
+        (slice_index_or packs n []) }
+    ensures only { (sheet : CueSheet) (script : List Drawing) (lead_in audio seed : ℕ) (bytes : List ℕ)
+        (packs : List (List ℕ)) (n : ℕ)
+        (word : List ℕ) → IsAuthored (disc_of sheet script lead_in audio) bytes packs
+        → n < whole_packs (program_blocks sheet audio)
         → Reads (word_of (program_symbols Form.Raw (scratched lead_in seed bytes) lead_in) n) word
         → word ≡ slice_index_or packs n [] }
-    ensures wrong { (sheet : CueSheet) (script : List Drawing) (lead_in audio seed : ℕ) (bytes : List ℕ) (packs : List (List ℕ)) (n : ℕ)
-        (word : List ℕ) → IsAuthored (disc_of sheet script lead_in audio) bytes packs → n < whole_packs (program_blocks sheet audio)
+    ensures wrong { (sheet : CueSheet) (script : List Drawing) (lead_in audio seed : ℕ) (bytes : List ℕ)
+        (packs : List (List ℕ)) (n : ℕ)
+        (word : List ℕ) → IsAuthored (disc_of sheet script lead_in audio) bytes packs
+        → n < whole_packs (program_blocks sheet audio)
         → Reads (word_of (program_symbols Form.Raw (scratched lead_in seed bytes) lead_in) n) word
         → differences (word_of (program_symbols Form.Raw (scratched lead_in seed bytes) lead_in) n) word
-        ≡ differences (word_of (program_symbols Form.Raw bytes lead_in) n) (word_of (program_symbols Form.Raw (scratched lead_in seed bytes) lead_in) n) }
+        ≡ differences (word_of (program_symbols Form.Raw bytes lead_in) n)
+        (word_of (program_symbols Form.Raw (scratched lead_in seed bytes) lead_in) n) }
 {
     scratched_streams_are_recovered();
     only_one_codeword_is_near();

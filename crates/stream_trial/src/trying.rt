@@ -22,11 +22,12 @@ use cdg_workload::{
 };
 use std::alloc::Global;
 
-/// Writes the stream of the generated script of a seed, scratches it with the same seed, corrects and plays it, and compares
-/// the screen with each picture when it is ready. Then writes nine lines: `seed`, `pictures`, `blocks`, `packs`, `changes`
-/// (the instructions of all changes), `one` and `two` (the words corrected in one symbol and in two), `bad` (the words with no
-/// codeword near) and `equal` (the pictures that stood on the screen), each with its number. There are 1 to 500 pictures. The
-/// stream has 96 bytes for each of its 800 blocks a picture and 170 more, and is held twice.
+/// Writes the stream of the generated script of a seed, scratches it with the same seed, corrects and plays it, and
+/// compares the screen with each picture when it is ready. Then writes nine lines: `seed`, `pictures`, `blocks`,
+/// `packs`, `changes` (the instructions of all changes), `one` and `two` (the words corrected in one symbol and in
+/// two), `bad` (the words with no codeword near) and `equal` (the pictures that stood on the screen), each with its
+/// number. There are 1 to 500 pictures. The stream has 96 bytes for each of its 800 blocks a picture and 170 more,
+/// and is held twice.
 ///
 /// # Errors
 ///
@@ -34,13 +35,15 @@ use std::alloc::Global;
 pub fn trial<K: Sink>(alloc: Global, seed: u64, pictures: u32, out: &mut K) -> Result<(), TrialStop>
     requires { (1 ≤ pictures) × (pictures ≤ 500) }
     // The lines were written.
-    ensures lines { OnOk result ((text : List ℕ) × IsTrial seed pictures text × Appends (K.held out.old) (K.held out.new) text) }
+    ensures lines { OnOk result
+        ((text : List ℕ) × IsTrial seed pictures text × Appends (K.held out.old) (K.held out.new) text) }
 
     // A write failed, and a prefix of them was written.
     ensures write_fault { result ≡ Err TrialStop.WriteFault → Rose (K.faults out.old) (K.faults out.new) }
     ensures no_write_fault { result ≢ Err TrialStop.WriteFault → K.faults out.new ≡ K.faults out.old }
     ensures part { result ≡ Err TrialStop.WriteFault
-        → (text : List ℕ) × IsTrial seed pictures text × AppendsPrefix (K.held out.old) (K.held out.new) text }
+        → (text : List ℕ) × IsTrial seed pictures text
+        × AppendsPrefix (K.held out.old) (K.held out.new) text }
 
     // Memory ran out, and nothing was written.
     ensures untouched { result ≡ Err TrialStop.NoMemory → out.new ≡ out.old }

@@ -26,7 +26,8 @@ frame_bits frame = spelled (fields_of frame) ++ check_bits (spelled (fields_of f
 
 -- block l of so many lead-in blocks: no pause, an entry of the table of contents, and the text packs as they stand
 unfoldable pub lead_in_block : DiscLayout → List (List ℕ) → ℕ → ℕ → List ℕ
-lead_in_block layout texts lead_in l = built_block false (frame_bits (toc_frame layout lead_in l)) (lead_in_symbols texts l)
+lead_in_block layout texts lead_in l =
+    built_block false (frame_bits (toc_frame layout lead_in l)) (lead_in_symbols texts l)
 
 -- the symbols of block b, where these are the symbols of all program blocks
 abbrev pub symbols_at : List ℕ → ℕ → List ℕ
@@ -42,7 +43,9 @@ program_block layout symbols b = carrying_block layout b (symbols_at symbols b)
 
 -- a stream: the lead-in blocks, and so many program blocks of a disc, which have these symbols
 unfoldable pub stream_bytes : DiscLayout → List (List ℕ) → ℕ → ℕ → List ℕ → List ℕ
-stream_bytes layout texts lead_in blocks symbols = flat_map (lead_in_block layout texts lead_in) (below lead_in) ++ flat_map (program_block layout symbols) (below blocks)
+stream_bytes layout texts lead_in blocks symbols =
+    flat_map (lead_in_block layout texts lead_in) (below lead_in)
+    ++ flat_map (program_block layout symbols) (below blocks)
 
 -- a block with this P bit in all its bytes and this frame
 pub record HasChannels (block : List ℕ) (paused : Bool) (frame : QFrame) : Type 0 where

@@ -12,10 +12,13 @@ use Rattle.stream_writer.specs.Blocks.{HasChannels}
 abbrev pub raw_block : List ℕ → ℕ → List ℕ
 raw_block bytes n = slice_index_or (blocks_of Raw bytes) n []
 
--- the program of a disc with its P bits and frames, after so many lead-in blocks with its table of contents and these text packs
-pub record HasFraming (layout : DiscLayout) (packs : List (List ℕ)) (lead_in : ℕ) (bytes : List ℕ) : Type 0 where
+-- the program of a disc with its P bits and frames, after so many lead-in blocks with its table of contents and these
+-- text packs
+pub record HasFraming (layout : DiscLayout) (packs : List (List ℕ)) (lead_in : ℕ)
+    (bytes : List ℕ) : Type 0 where
   pub size : length bytes ≡ block_bytes * (lead_in + layout.blocks)
   pub are_bytes : All (λ byte. byte < 256) bytes
-  pub program : (b : ℕ) → b < layout.blocks → HasChannels (raw_block bytes (lead_in + b)) (p_bit layout b) (program_frame layout b)
+  pub program : (b : ℕ) → b < layout.blocks
+      → HasChannels (raw_block bytes (lead_in + b)) (p_bit layout b) (program_frame layout b)
   pub contents : (l : ℕ) → l < lead_in → HasChannels (raw_block bytes l) false (toc_frame layout lead_in l)
   pub texts : (l : ℕ) → l < lead_in → symbols_of (raw_block bytes l) ≡ lead_in_symbols packs l

@@ -36,7 +36,8 @@ pub record AreGiven (Comes : ℕ → List ℕ → Type 0) (first many : ℕ) (pa
   pub codewords : All IsCodeword packs
 
 -- the slot that comes with one more pack, and the packs that are still to be spread before and after it
-pub record TakesPack (Comes : ℕ → List ℕ → Type 0) (before after : List (List ℕ)) (slot pack : List ℕ) : Type 0 where
+pub record TakesPack (Comes : ℕ → List ℕ → Type 0) (before after : List (List ℕ))
+    (slot pack : List ℕ) : Type 0 where
   pub comes : Comes 0 pack
   pub codeword : IsCodeword pack
   pub after_is : after ≡ spread_next before pack
@@ -49,38 +50,49 @@ pub record AreQuiet (packs : List (List ℕ)) (quiet : ℕ) : Type 0 where
   pub idle : packs ≡ before ++ replicate quiet idle_pack
 
 -- the symbols of so many packs, and the packs that are still to be spread before and after them
-pub record TakesPacks (Comes : ℕ → List ℕ → Type 0) (many : ℕ) (before after : List (List ℕ)) (symbols : List ℕ) (packs : List (List ℕ)) : Type 0 where
+pub record TakesPacks (Comes : ℕ → List ℕ → Type 0) (many : ℕ) (before after : List (List ℕ))
+    (symbols : List ℕ) (packs : List (List ℕ)) : Type 0 where
   pub given_are : AreGiven Comes 0 many packs
   pub symbols_are : symbols ≡ symbols_from before packs
   pub after_is : after ≡ run_state spread_next before packs
 
 -- program blocks with these packs were put
-pub record PutsProgram (layout : DiscLayout) (Comes : ℕ → List ℕ → Type 0) (blocks : ℕ) (held held' : Option (List ℕ)) (packs : List (List ℕ)) : Type 0 where
+pub record PutsProgram (layout : DiscLayout) (Comes : ℕ → List ℕ → Type 0) (blocks : ℕ)
+    (held held' : Option (List ℕ)) (packs : List (List ℕ)) : Type 0 where
   pub given_are : AreGiven Comes 0 (slots_a_block * blocks) packs
   pub put : Appends held held' (flat_map (program_block layout (symbols_from [] packs)) (below blocks))
-  pub built : (b : ℕ) → b < blocks → IsBuilt (program_block layout (symbols_from [] packs) b) (p_bit layout b) (program_frame layout b) (symbols_at (symbols_from [] packs) b)
+  pub built : (b : ℕ) → b < blocks
+      → IsBuilt (program_block layout (symbols_from [] packs) b) (p_bit layout b) (program_frame layout b)
+      (symbols_at (symbols_from [] packs) b)
 
 -- a prefix of so many program blocks with these packs was put
-pub record PutsPart (layout : DiscLayout) (Comes : ℕ → List ℕ → Type 0) (blocks : ℕ) (held held' : Option (List ℕ)) (n : ℕ) (packs : List (List ℕ)) : Type 0 where
+pub record PutsPart (layout : DiscLayout) (Comes : ℕ → List ℕ → Type 0) (blocks : ℕ)
+    (held held' : Option (List ℕ)) (n : ℕ) (packs : List (List ℕ)) : Type 0 where
   pub within : n ≤ blocks
   pub given_are : AreGiven Comes 0 (slots_a_block * n) packs
   pub put : AppendsPrefix held held' (flat_map (program_block layout (symbols_from [] packs)) (below n))
 
 -- a stream with these packs was put
-pub record PutsStream (layout : DiscLayout) (Comes : ℕ → List ℕ → Type 0) (texts : List (List ℕ)) (lead_in : ℕ) (held held' : Option (List ℕ)) (packs : List (List ℕ)) : Type 0 where
+pub record PutsStream (layout : DiscLayout) (Comes : ℕ → List ℕ → Type 0) (texts : List (List ℕ))
+    (lead_in : ℕ) (held held' : Option (List ℕ)) (packs : List (List ℕ)) : Type 0 where
   pub given_are : AreGiven Comes 0 (slots_a_block * layout.blocks) packs
   pub put : Appends held held' (stream_bytes layout texts lead_in layout.blocks (symbols_from [] packs))
-  pub framing : HasFraming layout texts lead_in (stream_bytes layout texts lead_in layout.blocks (symbols_from [] packs))
-  pub symbols_are : program_symbols Raw (stream_bytes layout texts lead_in layout.blocks (symbols_from [] packs)) lead_in ≡ symbols_from [] packs
+  pub framing : HasFraming layout texts lead_in
+      (stream_bytes layout texts lead_in layout.blocks (symbols_from [] packs))
+  pub symbols_are : program_symbols Raw
+      (stream_bytes layout texts lead_in layout.blocks (symbols_from [] packs)) lead_in
+      ≡ symbols_from [] packs
 
 -- a prefix of the lead-in and so many program blocks with these packs was put
-pub record PutsStreamPart (layout : DiscLayout) (Comes : ℕ → List ℕ → Type 0) (texts : List (List ℕ)) (lead_in : ℕ) (held held' : Option (List ℕ)) (n : ℕ) (packs : List (List ℕ)) : Type 0 where
+pub record PutsStreamPart (layout : DiscLayout) (Comes : ℕ → List ℕ → Type 0) (texts : List (List ℕ))
+    (lead_in : ℕ) (held held' : Option (List ℕ)) (n : ℕ) (packs : List (List ℕ)) : Type 0 where
   pub within : n ≤ layout.blocks
   pub given_are : AreGiven Comes 0 (slots_a_block * n) packs
   pub put : AppendsPrefix held held' (stream_bytes layout texts lead_in n (symbols_from [] packs))
 
 -- the bytes have this framing, and their program carries these packs, which are as they come
-pub record CarriesComing (layout : DiscLayout) (Comes : ℕ → List ℕ → Type 0) (texts : List (List ℕ)) (lead_in : ℕ) (bytes : List ℕ) (packs : List (List ℕ)) : Type 0 where
+pub record CarriesComing (layout : DiscLayout) (Comes : ℕ → List ℕ → Type 0) (texts : List (List ℕ))
+    (lead_in : ℕ) (bytes : List ℕ) (packs : List (List ℕ)) : Type 0 where
   pub given_are : AreGiven Comes 0 (whole_packs layout.blocks) packs
   pub framing : HasFraming layout texts lead_in bytes
   pub carries : Carries layout.blocks (program_symbols Raw bytes lead_in) packs

@@ -15,18 +15,22 @@ HasLayout sheet audio = (audio_need sheet ≤ audio) × (program_blocks sheet au
 abbrev pub text_packs : CueSheet → List (List ℕ)
 text_packs sheet = packs_of (texts_of_sheet sheet)
 
--- the least count of lead-in blocks, if there are any: each entry of the table of contents three times, and each text pack once
+-- the least count of lead-in blocks, if there are any: each entry of the table of contents three times, and each text
+-- pack once
 abbrev pub lead_in_need : CueSheet → ℕ
 lead_in_need sheet = max (3 * (length sheet.tracks + 3)) ((length (text_packs sheet) + 3) / 4)
 
 -- a lead-in, if there is one, has room for the texts and the table of contents
 abbrev pub HasRoom : CueSheet → ℕ → Type 0
-HasRoom sheet lead_in = 0 < lead_in → (length (text_packs sheet) ≤ most_packs) × (lead_in_need sheet ≤ lead_in)
+HasRoom sheet lead_in = 0 < lead_in
+    → (length (text_packs sheet) ≤ most_packs) × (lead_in_need sheet ≤ lead_in)
 
 -- a lead-in was asked for, and its texts need so many packs, which are more than 256
 abbrev pub IsTextTooLong : CueSheet → ℕ → ℕ → Type 0
 IsTextTooLong sheet lead_in packs = (0 < lead_in) × (most_packs < packs) × (packs ≡ length (text_packs sheet))
 
--- a lead-in was asked for, its texts have at most 256 packs, and it has fewer blocks than these and the table of contents need
+-- a lead-in was asked for, its texts have at most 256 packs, and it has fewer blocks than these and the table of
+-- contents need
 abbrev pub IsLeadInShort : CueSheet → ℕ → ℕ → Type 0
-IsLeadInShort sheet lead_in need = (0 < lead_in) × (length (text_packs sheet) ≤ most_packs) × (lead_in < need) × (need ≡ lead_in_need sheet)
+IsLeadInShort sheet lead_in need = (0 < lead_in) × (length (text_packs sheet) ≤ most_packs) × (lead_in < need)
+    × (need ≡ lead_in_need sheet)

@@ -11,7 +11,8 @@ for_each sheet string = map string (below (length sheet.tracks + 1))
 
 -- the catalogue number for the album, and a track's code, each empty where there is none
 abbrev pub code_at : CueSheet → ℕ → List ℕ
-code_at sheet place = if place == 0 then unwrap_or sheet.catalogue [] else unwrap_or (track_of sheet (place - 1)).isrc []
+code_at sheet place = if place == 0 then unwrap_or sheet.catalogue []
+    else unwrap_or (track_of sheet (place - 1)).isrc []
 
 -- the texts of a sheet, of which all strings may be empty
 abbrev pub sheet_texts : CueSheet → Texts

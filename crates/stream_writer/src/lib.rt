@@ -1,5 +1,5 @@
-//! Writes a stream block by block: the P bits and Q frames of a layout, the text packs of a lead-in, and the packs of a source
-//! spread over the program.
+//! Writes a stream block by block: the P bits and Q frames of a layout, the text packs of a lead-in, and the packs of
+//! a source spread over the program.
 #![tactic(auto)]
 
 mod blocks;

@@ -18,7 +18,8 @@ pub(crate) fn next_symbols<P: PackSource>(
     quiet: &mut u8,
 ) -> [u8; BLOCK_BYTES]
     requires { AreQuiet spread.old quiet.old }
-    ensures symbols { (packs : List (List ℕ)) × TakesPacks (P.comes source.old) 4 spread.old spread.new result packs }
+    ensures symbols { (packs : List (List ℕ))
+        × TakesPacks (P.comes source.old) 4 spread.old spread.new result packs }
     ensures bound { All (λ s. s < 64) result }
     ensures later { ComesLater (P.comes source.old) 4 (P.comes source.new) }
     ensures quiet { AreQuiet spread.new quiet.new }

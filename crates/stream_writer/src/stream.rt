@@ -27,10 +27,13 @@ fn put_lead_in<K: Sink>(
     out: &mut K,
 ) -> Result<(), Failed>
     requires { lead_in ≤ most_lead_in }
-    ensures ok { OnOk result (Appends (K.held out.old) (K.held out.new) (flat_map (lead_in_block layout.now texts.now lead_in) (below lead_in))) }
-    ensures part { OnErr result (AppendsPrefix (K.held out.old) (K.held out.new) (flat_map (lead_in_block layout.now texts.now lead_in) (below lead_in))) }
+    ensures ok { OnOk result (Appends (K.held out.old) (K.held out.new)
+        (flat_map (lead_in_block layout.now texts.now lead_in) (below lead_in))) }
+    ensures part { OnErr result (AppendsPrefix (K.held out.old) (K.held out.new)
+        (flat_map (lead_in_block layout.now texts.now lead_in) (below lead_in))) }
     ensures built { OnOk result ((l : ℕ) → l < lead_in
-        → IsBuilt (lead_in_block layout.now texts.now lead_in l) false (toc_frame layout.now lead_in l) (lead_in_symbols texts.now l)) }
+        → IsBuilt (lead_in_block layout.now texts.now lead_in l) false (toc_frame layout.now lead_in l)
+        (lead_in_symbols texts.now l)) }
     ensures cause { HasCause (K.faults out.old) (K.faults out.new) result }
 {
     for l in 0..lead_in {
@@ -49,9 +52,11 @@ fn put_program<P: PackSource, K: Sink>(
 ) -> Result<(), Failed>
     requires { spread.old ≡ [] }
     ensures ok { OnOk result ((packs : List (List ℕ))
-        × PutsProgram layout.now (P.comes source.old) layout.now.blocks (K.held out.old) (K.held out.new) packs) }
+        × PutsProgram layout.now (P.comes source.old) layout.now.blocks (K.held out.old) (K.held out.new)
+        packs) }
     ensures part { OnErr result ((n : ℕ) × (packs : List (List ℕ))
-        × PutsPart layout.now (P.comes source.old) layout.now.blocks (K.held out.old) (K.held out.new) n packs) }
+        × PutsPart layout.now (P.comes source.old) layout.now.blocks (K.held out.old) (K.held out.new) n
+        packs) }
     ensures cause { HasCause (K.faults out.old) (K.faults out.new) result }
 {
     let blocks = layout.blocks();
@@ -76,9 +81,11 @@ fn put_stream<P: PackSource, K: Sink>(
     requires lead_in { lead_in ≤ most_lead_in }
     requires start { spread.old ≡ [] }
     ensures ok { OnOk result ((packs : List (List ℕ))
-        × PutsStream layout.now (P.comes source.old) texts.now lead_in (K.held out.old) (K.held out.new) packs) }
+        × PutsStream layout.now (P.comes source.old) texts.now lead_in (K.held out.old) (K.held out.new)
+        packs) }
     ensures part { OnErr result ((n : ℕ) × (packs : List (List ℕ))
-        × PutsStreamPart layout.now (P.comes source.old) texts.now lead_in (K.held out.old) (K.held out.new) n packs) }
+        × PutsStreamPart layout.now (P.comes source.old) texts.now lead_in (K.held out.old) (K.held out.new) n
+        packs) }
     ensures cause { HasCause (K.faults out.old) (K.faults out.new) result }
 {
     put_lead_in(layout, texts, lead_in, out)?;
@@ -86,9 +93,9 @@ fn put_stream<P: PackSource, K: Sink>(
     Ok(())
 }
 
-/// Writes a stream: so many lead-in blocks with the table of contents of a layout and these text packs, and its program
-/// blocks, over which the packs of a source are spread. The packs that the end of the stream cuts are idle. No memory is
-/// taken.
+/// Writes a stream: so many lead-in blocks with the table of contents of a layout and these text packs, and its
+/// program blocks, over which the packs of a source are spread. The packs that the end of the stream cuts are idle.
+/// No memory is taken.
 ///
 /// # Errors
 ///
@@ -106,9 +113,11 @@ pub fn write_stream<P: PackSource, K: Sink>(
     requires cut { (n : ℕ) (pack : List ℕ) → whole_packs layout.now.blocks ≤ n → n < 4 * layout.now.blocks
         → P.comes source.old n pack → pack ≡ idle_pack }
     ensures ok { OnOk result ((bytes : List ℕ) × (packs : List (List ℕ))
-        × CarriesComing layout.now (P.comes source.old) texts.now lead_in bytes packs × Appends (K.held out.old) (K.held out.new) bytes) }
+        × CarriesComing layout.now (P.comes source.old) texts.now lead_in bytes packs
+        × Appends (K.held out.old) (K.held out.new) bytes) }
     ensures part { OnErr result ((n : ℕ) × (packs : List (List ℕ))
-        × PutsStreamPart layout.now (P.comes source.old) texts.now lead_in (K.held out.old) (K.held out.new) n packs) }
+        × PutsStreamPart layout.now (P.comes source.old) texts.now lead_in (K.held out.old) (K.held out.new) n
+        packs) }
     ensures cause { HasCause (K.faults out.old) (K.faults out.new) result }
 {
     spread_carries();

@@ -10,8 +10,8 @@ use cue_sheet::Sheet;
 use std::alloc::Global;
 use toc_model::Layout;
 
-/// The text packs of a sheet for a lead-in of so many blocks, which has room for them and for the table of contents. Without
-/// a lead-in there are none.
+/// The text packs of a sheet for a lead-in of so many blocks, which has room for them and for the table of contents.
+/// Without a lead-in there are none.
 ///
 /// # Errors
 ///

@@ -18,11 +18,14 @@ HoldsPictures sheet script audio = HasLayout sheet audio × ¬ IsPastEnd script 
 abbrev pub AreReady : List Drawing → Type 0
 AreReady script = (k need : ℕ) → k < pictures script → IsNeed script k need → IsInTime script k need
 
--- why a sheet, with its audio and the last picture, has no place on a disc; want of memory comes only where it has a layout
+-- why a sheet, with its audio and the last picture, has no place on a disc; want of memory comes only where it has a
+-- layout
 abbrev pub IsDiscStop : CueSheet → List Drawing → ℕ → AuthorStop → Type 0
 IsDiscStop sheet script audio (LengthShort need) = (need ≡ audio_need sheet) × (audio < audio_need sheet)
-IsDiscStop sheet script audio (DiscTooLong blocks) = (audio_need sheet ≤ audio) × (blocks ≡ program_blocks sheet audio) × (449999 < blocks)
-IsDiscStop sheet script audio (PastEnd blocks) = HasLayout sheet audio × (blocks ≡ program_blocks sheet audio) × IsPastEnd script blocks
+IsDiscStop sheet script audio (DiscTooLong blocks) = (audio_need sheet ≤ audio)
+    × (blocks ≡ program_blocks sheet audio) × (449999 < blocks)
+IsDiscStop sheet script audio (PastEnd blocks) = HasLayout sheet audio × (blocks ≡ program_blocks sheet audio)
+    × IsPastEnd script blocks
 IsDiscStop sheet script audio NoMemory = HasLayout sheet audio
 IsDiscStop sheet script audio _ = ⊥
 
@@ -40,8 +43,11 @@ pub record IsAccepted (sheet : CueSheet) (script : List Drawing) (lead_in audio 
 
 -- why a stream is not written: each refusal comes only where those before it do not hold
 abbrev pub IsAuthorStop : CueSheet → List Drawing → ℕ → ℕ → AuthorStop → Type 0
-IsAuthorStop sheet script lead_in audio (TextTooLong packs) = HoldsPictures sheet script audio × IsTextTooLong sheet lead_in packs
-IsAuthorStop sheet script lead_in audio (LeadInShort need) = HoldsPictures sheet script audio × IsLeadInShort sheet lead_in need
-IsAuthorStop sheet script lead_in audio (Late picture need free) = HoldsPictures sheet script audio × HasRoom sheet lead_in × IsLate script picture need free
+IsAuthorStop sheet script lead_in audio (TextTooLong packs) = HoldsPictures sheet script audio
+    × IsTextTooLong sheet lead_in packs
+IsAuthorStop sheet script lead_in audio (LeadInShort need) = HoldsPictures sheet script audio
+    × IsLeadInShort sheet lead_in need
+IsAuthorStop sheet script lead_in audio (Late picture need free) = HoldsPictures sheet script audio
+    × HasRoom sheet lead_in × IsLate script picture need free
 IsAuthorStop sheet script lead_in audio WriteFault = IsAccepted sheet script lead_in audio
 IsAuthorStop sheet script lead_in audio stop = IsDiscStop sheet script audio stop

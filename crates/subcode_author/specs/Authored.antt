@@ -20,7 +20,12 @@ pub record Disc : Type 0 where
 
 -- the disc of these
 abbrev pub disc_of : CueSheet → List Drawing → ℕ → ℕ → Disc
-disc_of sheet script lead_in audio = record { sheet = sheet; script = script; lead_in = lead_in; audio = audio }
+disc_of sheet script lead_in audio = record {
+  sheet = sheet;
+  script = script;
+  lead_in = lead_in;
+  audio = audio;
+}
 
 -- An authored stream of a disc, whoever made it: it carries a schedule of the script in the framing of the sheet.
 pub record IsAuthored (disc : Disc) (bytes : List ℕ) (packs : List (List ℕ)) : Type 0 where

@@ -9,5 +9,6 @@ use Rattle.subcode_author.specs.Authored.{Disc, text_packs}
 -- a prefix of the lead-in of a disc and so many program blocks with these packs of its script was put
 abbrev pub PutsScriptPart : Disc → Option (List ℕ) → Option (List ℕ) → ℕ → List (List ℕ) → Type 0
 PutsScriptPart disc held held' n packs =
-    PutsPartAsItComes (layout_of disc.sheet disc.audio) (IsPackAt disc.script) (text_packs disc.sheet) disc.lead_in
+    PutsPartAsItComes (layout_of disc.sheet disc.audio) (IsPackAt disc.script) (text_packs disc.sheet)
+    disc.lead_in
     held held' n packs

@@ -21,8 +21,8 @@ use rw_interleave::Spread;
 use std::alloc::Global;
 use stream_writer::{pack_texts, write_stream};
 
-/// Writes the subcode of a disc with a lead-in of so many blocks and an audio of so many blocks: the lead-in with the table
-/// of contents and the texts, and the program with the frames of the sheet and the pictures of the script.
+/// Writes the subcode of a disc with a lead-in of so many blocks and an audio of so many blocks: the lead-in with the
+/// table of contents and the texts, and the program with the frames of the sheet and the pictures of the script.
 ///
 /// # Errors
 ///
@@ -56,13 +56,15 @@ pub fn author_stream<K: Sink>(
     ensures untouched { IfErr result (λ stop. stop ≢ AuthorStop.WriteFault → out.new ≡ out.old) }
 
     // A late picture cannot be ready, whatever instructions without scrolls are sent.
-    ensures late { (picture need free : ℕ) → result ≡ Err (AuthorStop.Late picture need free) → CannotBeReady script.now picture need free }
+    ensures late { (picture need free : ℕ) → result ≡ Err (AuthorStop.Late picture need free)
+        → CannotBeReady script.now picture need free }
 
     // A write failed, and a prefix of the lead-in and of program blocks with packs of the script was written.
     ensures write_fault { result ≡ Err AuthorStop.WriteFault → Rose (K.faults out.old) (K.faults out.new) }
     ensures no_write_fault { result ≢ Err AuthorStop.WriteFault → K.faults out.new ≡ K.faults out.old }
     ensures part { result ≡ Err AuthorStop.WriteFault → (n : ℕ) × (packs : List (List ℕ))
-        × PutsScriptPart (disc_of sheet.now script.now lead_in length) (K.held out.old) (K.held out.new) n packs }
+        × PutsScriptPart (disc_of sheet.now script.now lead_in length) (K.held out.old) (K.held out.new) n
+        packs }
     ensures later { K.faults out.old ≤ K.faults out.new }
 {
     packs_are_a_schedule();

@@ -1,5 +1,5 @@
-// Laws on authored streams: accepted scripts are in order, an accepted sheet and script have one stream with the planned
-// changes, and what a failed write leaves is a prefix of it.
+// Laws on authored streams: accepted scripts are in order, an accepted sheet and script have one stream with the
+// planned changes, and what a failed write leaves is a prefix of it.
 ghost use Rattle.std.specs.Prelude.{◌≡◌, ◌<◌, ◌≤◌, List, ℕ, Ok, length};
 ghost use Rattle.std.specs.declared.option.Option.{Option};
 ghost use Rattle.cdg_io.specs.Moves.{AppendsPrefix};
@@ -19,30 +19,37 @@ use rw_interleave::spread_carries;
 
 /// A law: the pictures of every script that is accepted are shown in order, and all their colours are in range.
 pub fn accepted_scripts_are_in_order()
-    ensures times { (text : List ℕ) (script : List Drawing) → read_script text ≡ Ok script → AreTimesInOrder script }
-    ensures colours { (text : List ℕ) (script : List Drawing) → read_script text ≡ Ok script → AreColoursInRange script }
-    ensures pixels { (text : List ℕ) (script : List Drawing) → read_script text ≡ Ok script → (k x y : ℕ) → picture_pixel script k x y < 16 }
+    ensures times { (text : List ℕ) (script : List Drawing) → read_script text ≡ Ok script
+        → AreTimesInOrder script }
+    ensures colours { (text : List ℕ) (script : List Drawing) → read_script text ≡ Ok script
+        → AreColoursInRange script }
+    ensures pixels { (text : List ℕ) (script : List Drawing) → read_script text ≡ Ok script → (k x y : ℕ)
+        → picture_pixel script k x y < 16 }
 {}
 
-/// A law: a sheet, a script, a lead-in and a length of the audio have one authored stream with the planned changes, which carries
-/// one list of packs.
-/// So what `author_stream` writes is one function of them: no two of its calls write different bytes for the same four.
+/// A law: a sheet, a script, a lead-in and a length of the audio have one authored stream with the planned changes,
+/// which carries one list of packs. So what `author_stream` writes is one function of them: no two of its calls write
+/// different bytes for the same four.
 pub fn authored_streams_are_one()
-    ensures packs { (sheet : CueSheet) (script : List Drawing) (lead_in audio : ℕ) (one other : List ℕ) (packs others : List (List ℕ))
+    ensures packs { (sheet : CueSheet) (script : List Drawing) (lead_in audio : ℕ) (one other : List ℕ)
+        (packs others : List (List ℕ))
         → IsWrittenStream (disc_of sheet script lead_in audio) one packs
         → IsWrittenStream (disc_of sheet script lead_in audio) other others → packs ≡ others }
-    ensures bytes { (sheet : CueSheet) (script : List Drawing) (lead_in audio : ℕ) (one other : List ℕ) (packs others : List (List ℕ))
+    ensures bytes { (sheet : CueSheet) (script : List Drawing) (lead_in audio : ℕ) (one other : List ℕ)
+        (packs others : List (List ℕ))
         → IsWrittenStream (disc_of sheet script lead_in audio) one packs
         → IsWrittenStream (disc_of sheet script lead_in audio) other others → one ≡ other }
 {}
 
 /// A law: a part of a stream, which is all that stands after a failed write, is a prefix of the authored stream.
 pub fn parts_are_prefixes()
-    ensures { (sheet : CueSheet) (script : List Drawing) (lead_in audio n : ℕ) (bytes : List ℕ) (packs given : List (List ℕ)) (held after : Option (List ℕ))
+    ensures { (sheet : CueSheet) (script : List Drawing) (lead_in audio n : ℕ) (bytes : List ℕ)
+        (packs given : List (List ℕ)) (held after : Option (List ℕ))
         → HoldsPictures sheet script audio
         → ((k : ℕ) → k < pictures script → IsInTime script k (length (planned_change script k)))
         → AreTimesInOrder script → IsWrittenStream (disc_of sheet script lead_in audio) bytes packs
-        → PutsScriptPart (disc_of sheet script lead_in audio) held after n given → AppendsPrefix held after bytes }
+        → PutsScriptPart (disc_of sheet script lead_in audio) held after n given
+        → AppendsPrefix held after bytes }
 {
     spread_carries();
 }
@@ -50,14 +57,19 @@ pub fn parts_are_prefixes()
 /// A law: every sheet and every script that are accepted have an authored stream, of which each part is a prefix.
 pub fn accepted_scripts_have_streams()
     ensures stream { (sheet : CueSheet) (script : List Drawing) (lead_in audio : ℕ)
-        → IsSheet sheet → AreTimesInOrder script → AreColoursInRange script → ((k x y : ℕ) → picture_pixel script k x y < 16)
+        → IsSheet sheet → AreTimesInOrder script → AreColoursInRange script
+        → ((k x y : ℕ) → picture_pixel script k x y < 16)
         → lead_in ≤ 450000 → IsAccepted sheet script lead_in audio
-        → (bytes : List ℕ) × (packs : List (List ℕ)) × IsWrittenStream (disc_of sheet script lead_in audio) bytes packs }
-    ensures part { (sheet : CueSheet) (script : List Drawing) (lead_in audio n : ℕ) (given : List (List ℕ)) (held after : Option (List ℕ))
-        → IsSheet sheet → AreTimesInOrder script → AreColoursInRange script → ((k x y : ℕ) → picture_pixel script k x y < 16)
+        → (bytes : List ℕ) × (packs : List (List ℕ))
+        × IsWrittenStream (disc_of sheet script lead_in audio) bytes packs }
+    ensures part { (sheet : CueSheet) (script : List Drawing) (lead_in audio n : ℕ) (given : List (List ℕ))
+        (held after : Option (List ℕ))
+        → IsSheet sheet → AreTimesInOrder script → AreColoursInRange script
+        → ((k x y : ℕ) → picture_pixel script k x y < 16)
         → lead_in ≤ 450000 → IsAccepted sheet script lead_in audio
         → PutsScriptPart (disc_of sheet script lead_in audio) held after n given
-        → (bytes : List ℕ) × (packs : List (List ℕ)) × IsWrittenStream (disc_of sheet script lead_in audio) bytes packs
+        → (bytes : List ℕ) × (packs : List (List ℕ))
+        × IsWrittenStream (disc_of sheet script lead_in audio) bytes packs
         × AppendsPrefix held after bytes }
 {
     packs_are_a_schedule();

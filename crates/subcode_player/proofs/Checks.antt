@@ -26,7 +26,8 @@ use Rattle.q_channel.specs.declared.frame.QFault.{QFault}
 use Rattle.q_channel.specs.QList.{q_blocks, AreQReadings}
 use Rattle.q_channel.proofs.QRuns.{readings_are}
 use Rattle.q_channel.proofs.QRuns as q_runs
-use Rattle.subcode_player.specs.Calls.{most_units, IsEarly, IsPlayed, PlaysAtEnd, IsAnsweredBy}
+use Rattle.raw_subcode.specs.Sizes.{most_units}
+use Rattle.subcode_player.specs.Calls.{IsEarly, IsPlayed, PlaysAtEnd, IsAnsweredBy}
 use Rattle.subcode_player.specs.Steps.{slots_of, words_next, words_give}
 use Rattle.subcode_player.specs.Check.{stream_lines, wrong_lines, pack_count_lines, frame_count_lines, check_text, IsCheckListed}
 use Rattle.subcode_player.specs.CheckSteps.{count_after, counts_next, frames_next, counting_next, lines_of_counts, has_frames, IsFresh}

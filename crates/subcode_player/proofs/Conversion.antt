@@ -8,7 +8,7 @@ use Rattle.cdg_io.specs.Pump.{units_of, given}
 use Rattle.raw_subcode.specs.Channels.{unit_size, block_of, symbols_of}
 use Rattle.rw_interleave.specs.Stream.{IsRecovered, bad_count}
 use Rattle.rw_interleave.specs.Texts.{cdg_bytes}
-use Rattle.subcode_player.specs.Calls.{most_units}
+use Rattle.raw_subcode.specs.Sizes.{most_units}
 use Rattle.subcode_player.specs.Convert.{IsConverted}
 use Rattle.raw_subcode.specs.declared.form.Form.{Form}
 use Rattle.raw_subcode.specs.declared.form.Form.TheVariants.{Raw, Sector, Cooked}

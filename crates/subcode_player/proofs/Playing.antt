@@ -9,7 +9,8 @@ use Rattle.cdg_io.specs.declared.pumping.PumpStop.TheVariants as pump_stop
 use Rattle.cdg_io.proofs.Units.{whole_within}
 use Rattle.cdg_io.proofs.Streaming.{IsWhole, IsTold, streams_done, streams_stop}
 use Rattle.raw_subcode.specs.Channels.{unit_size}
-use Rattle.subcode_player.specs.Calls.{most_units, IsPlayed, PlaysInTurn}
+use Rattle.raw_subcode.specs.Sizes.{most_units}
+use Rattle.subcode_player.specs.Calls.{IsPlayed, PlaysInTurn}
 use Rattle.subcode_player.specs.Watch.{play_stop}
 use Rattle.raw_subcode.specs.declared.form.Form.{Form}
 use Rattle.raw_subcode.specs.declared.form.Form.TheVariants.{Raw, Sector, Cooked}

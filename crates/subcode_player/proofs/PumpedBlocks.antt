@@ -13,7 +13,7 @@ use Rattle.cdg_io.proofs.Runs.{joined}
 use Rattle.raw_subcode.specs.Channels.{unit_size, block_of}
 use Rattle.raw_subcode.specs.declared.form.Form.{Form}
 use Rattle.raw_subcode.specs.declared.form.Form.TheVariants.{Raw, Sector, Cooked}
-use Rattle.subcode_player.specs.Calls.{most_units}
+use Rattle.raw_subcode.specs.Sizes.{most_units}
 use Rattle.subcode_player.specs.Watch.{on_units}
 use Rattle.subcode_player.specs.declared.sector_blocks.SectorBlocks.{SectorBlocks}
 

@@ -17,7 +17,8 @@ use Rattle.cdtext_packs.specs.declared.kinds.TextFault.{TextFault}
 use Rattle.cdtext_packs.specs.TextLines.{counted_lines, text_lines}
 use Rattle.cdtext_packs.specs.TextSteps.{fresh_texts, text_next, HasRead}
 use Rattle.cdtext_packs.specs.declared.lead_in_texts.LeadInTexts.{LeadInTexts}
-use Rattle.subcode_player.specs.Calls.{most_units, IsAnsweredBy}
+use Rattle.raw_subcode.specs.Sizes.{most_units}
+use Rattle.subcode_player.specs.Calls.{IsAnsweredBy}
 use Rattle.subcode_player.specs.Watch.{Watches, WritesTexts, play_stop}
 use Rattle.subcode_player.specs.TextListing.{packs_in, texts_of_lead_in, IsTextListed, IsTextFault, ListsTexts, IsWholeInput, IsListedBy}
 use Rattle.subcode_player.specs.declared.player.Played.{Played}

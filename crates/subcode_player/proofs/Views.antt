@@ -24,7 +24,8 @@ use Rattle.raw_subcode.specs.declared.form.Form.{Form}
 use Rattle.rw_interleave.specs.Stream.{IsRecovered, bad_count}
 use Rattle.cdg_screen.specs.Picture.{Standing, SameStanding, blank, standing_of, standing_after}
 use Rattle.cdg_screen.proofs.Turns.{same_after, same_then}
-use Rattle.subcode_player.specs.Calls.{most_units, IsEarly}
+use Rattle.raw_subcode.specs.Sizes.{most_units}
+use Rattle.subcode_player.specs.Calls.{IsEarly}
 use Rattle.subcode_player.specs.Steps.{fresh_words, slots_of, window_next, window_gives, words_next, words_give}
 use Rattle.subcode_player.specs.Drawn.{draw_after, drawing_next}
 use Rattle.subcode_player.specs.Watch.{IsViewed, Views, Watches, play_stop, viewed}

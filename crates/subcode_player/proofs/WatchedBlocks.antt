@@ -10,7 +10,7 @@ use Rattle.cdg_io.specs.declared.pumping.PumpStop.TheVariants.{WriteFault}
 use Rattle.cdg_io.proofs.Units.{whole_within}
 use Rattle.raw_subcode.specs.Channels.{unit_size, block_of}
 use Rattle.raw_subcode.specs.declared.form.Form.{Form}
-use Rattle.subcode_player.specs.Calls.{most_units}
+use Rattle.raw_subcode.specs.Sizes.{most_units}
 use Rattle.subcode_player.specs.Watch.{Watches, on_units}
 
 abbrev error : PumpStop → Result Pumped PumpStop

@@ -1,27 +1,29 @@
 -- What a call of a player takes, writes and answers.
 --
--- `writes bytes text bad` says of some bytes, whole units and maybe a rest of a unit, which text is written for the units, and how many words or frames are bad.
+-- `writes bytes text bad` says of some bytes, whole units and maybe a rest of a unit, which text is written for the
+-- units, and how many words or frames are bad.
 use Rattle.std.specs.Prelude.{◌≡◌, ◌≢◌, ℕ, ◌-◌, ◌*◌, ◌/◌, ◌%◌, ◌<◌, ◌≤◌, ⊤, List, length, Option, Result, Ok, Err}
 use Rattle.cdg_io.specs.Causes.{Rose}
 use Rattle.cdg_io.specs.Streams.{Streams, WritesAtEnd}
 use Rattle.raw_subcode.specs.Channels.{unit_size}
+use Rattle.raw_subcode.specs.Sizes.{most_units}
 use Rattle.raw_subcode.specs.declared.form.Form.{Form}
 use Rattle.subcode_player.specs.declared.player.Played.{Played}
 use Rattle.subcode_player.specs.declared.player.PlayStop.{PlayStop}
 use Rattle.subcode_player.specs.declared.player.PlayStop.TheVariants.{ReadFault, WriteFault, Torn, TooLong, PastEnd, Text}
 
--- the most units that are read
-abbrev pub most_units : ℕ
-most_units = 1000000
-
 -- the answer to some bytes, and the text that is written for them
-pub record IsPlayed (writes : List ℕ → List ℕ → ℕ → Type 0) (form : Form) (lead_in : ℕ) (bytes : List ℕ) (played : Played) (text : List ℕ) : Type 0 where
+pub record IsPlayed (writes : List ℕ → List ℕ → ℕ → Type 0) (form : Form) (lead_in : ℕ) (bytes : List ℕ)
+    (played : Played) (text : List ℕ) : Type 0 where
   pub blocks : played.blocks ≡ length bytes / unit_size form - lead_in
   pub written : writes bytes text played.bad
 
 -- a call that writes while it reads
-abbrev pub PlaysInTurn : (List ℕ → List ℕ → ℕ → Type 0) → Form → ℕ → Option (List ℕ) → Option (List ℕ) → Option (List ℕ) → Option (List ℕ) → Result Played PlayStop → List ℕ → Type 0
-PlaysInTurn writes form lead_in left left' held held' result taken = Streams (unit_size form) most_units Torn WriteFault (IsPlayed writes form lead_in) left left' held held' result taken
+abbrev pub PlaysInTurn : (List ℕ → List ℕ → ℕ → Type 0) → Form → ℕ → Option (List ℕ) → Option (List ℕ)
+    → Option (List ℕ) → Option (List ℕ) → Result Played PlayStop → List ℕ → Type 0
+PlaysInTurn writes form lead_in left left' held held' result taken =
+    Streams (unit_size form) most_units Torn WriteFault (IsPlayed writes form lead_in) left left' held held'
+    result taken
 
 -- it comes before the end of the input
 abbrev pub IsEarly : PlayStop → Type 0
@@ -30,11 +32,14 @@ IsEarly TooLong = ⊤
 IsEarly stop = ⊥
 
 -- a call that writes nothing before it read all
-abbrev pub PlaysAtEnd : (List ℕ → List ℕ → ℕ → Type 0) → Form → ℕ → Option (List ℕ) → Option (List ℕ) → Option (List ℕ) → Option (List ℕ) → Result Played PlayStop → List ℕ → Type 0
-PlaysAtEnd writes form lead_in left left' held held' result taken = WritesAtEnd (unit_size form) most_units IsEarly WriteFault (IsPlayed writes form lead_in) left left' held held' result taken
+abbrev pub PlaysAtEnd : (List ℕ → List ℕ → ℕ → Type 0) → Form → ℕ → Option (List ℕ) → Option (List ℕ)
+    → Option (List ℕ) → Option (List ℕ) → Result Played PlayStop → List ℕ → Type 0
+PlaysAtEnd writes form lead_in left left' held held' result taken =
+    WritesAtEnd (unit_size form) most_units IsEarly WriteFault (IsPlayed writes form lead_in) left left' held
+    held' result taken
 
--- the stops that a call can answer which plays a stream to its end: no moment is asked for, so none is past the end, and
--- no texts are
+-- the stops that a call can answer which plays a stream to its end: no moment is asked for, so none is past the end,
+-- and no texts are
 abbrev pub IsStreamStop : PlayStop → Type 0
 IsStreamStop ReadFault = ⊤
 IsStreamStop WriteFault = ⊤
@@ -53,7 +58,8 @@ abbrev pub IsListStop : PlayStop → Type 0
 IsListStop (Text fault) = ⊤
 IsListStop stop = IsStreamStop stop
 
--- The count of told ends rose where the input was read to its end, and nowhere else: of a call that writes while it reads,
+-- The count of told ends rose where the input was read to its end, and nowhere else: of a call that writes while it
+-- reads,
 abbrev pub EndInTurn : Result Played PlayStop → ℕ → ℕ → Type 0
 EndInTurn (Ok played) before now = Rose before now
 EndInTurn (Err (Torn block)) before now = Rose before now

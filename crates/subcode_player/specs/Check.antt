@@ -48,27 +48,35 @@ count_line name n = name ++ codes " " ++ decimal n ++ line_feed
 
 -- the lines on the blocks and the packs
 abbrev pub stream_lines : ℕ → ℕ → ℕ → List ℕ
-stream_lines lead_in program packs = count_line (codes "lead-in") lead_in ++ (count_line (codes "program") program ++ count_line (codes "packs") packs)
+stream_lines lead_in program packs =
+    count_line (codes "lead-in") lead_in
+    ++ (count_line (codes "program") program ++ count_line (codes "packs") packs)
 
 -- the lines on wrong symbols
 abbrev pub wrong_lines : ℕ → ℕ → ℕ → ℕ → List ℕ
-wrong_lines clean one two bad = count_line (codes "clean") clean ++ (count_line (codes "one") one ++ (count_line (codes "two") two ++ count_line (codes "bad") bad))
+wrong_lines clean one two bad = count_line (codes "clean") clean
+    ++ (count_line (codes "one") one ++ (count_line (codes "two") two ++ count_line (codes "bad") bad))
 
 -- the lines on what packs hold
 abbrev pub pack_count_lines : ℕ → ℕ → ℕ → ℕ → List ℕ
 pack_count_lines idle graphics unknown foreign =
-    count_line (codes "idle") idle ++ (count_line (codes "graphics") graphics ++ (count_line (codes "unknown") unknown ++ count_line (codes "foreign") foreign))
+    count_line (codes "idle") idle
+    ++ (count_line (codes "graphics") graphics
+    ++ (count_line (codes "unknown") unknown ++ count_line (codes "foreign") foreign))
 
 -- the lines on frames
 abbrev pub frame_count_lines : ℕ → ℕ → List ℕ
 frame_count_lines good bad = count_line (codes "q-good") good ++ count_line (codes "q-bad") bad
 
 -- the words of a stream, what is found for them, and what the Q channel of all its blocks is read as
-unfoldable pub check_text : ℕ → ℕ → List (List ℕ) → List (Option (List ℕ)) → List (Result QFrame QFault) → List ℕ
+unfoldable pub check_text : ℕ → ℕ → List (List ℕ) → List (Option (List ℕ)) → List (Result QFrame QFault)
+    → List ℕ
 check_text lead_in program words found readings =
     stream_lines lead_in program (length words)
-    ++ (wrong_lines (count_by (has_wrong 0) (zip words found)) (count_by (has_wrong 1) (zip words found)) (count_by (has_wrong 2) (zip words found)) (bad_count found)
-    ++ (pack_count_lines (count_by (found_passes is_idle) found) (count_by (found_passes is_graphics) found) (count_by (found_passes is_unknown) found) (count_by (found_passes is_foreign) found)
+    ++ (wrong_lines (count_by (has_wrong 0) (zip words found)) (count_by (has_wrong 1) (zip words found))
+    (count_by (has_wrong 2) (zip words found)) (bad_count found)
+    ++ (pack_count_lines (count_by (found_passes is_idle) found) (count_by (found_passes is_graphics) found)
+    (count_by (found_passes is_unknown) found) (count_by (found_passes is_foreign) found)
     ++ frame_count_lines (count_by is_ok readings) (count_by is_err readings)))
 
 -- the counts of some bytes
@@ -79,6 +87,7 @@ pub record IsCheckListed (form : Form) (lead_in : ℕ) (bytes text : List ℕ) (
   pub read : AreQReadings (q_blocks form bytes) readings
   pub text_is :
       let blocks = length (blocks_of form bytes) in
-      let words = map (form_word form (program_symbols form bytes lead_in)) (below (word_count form (blocks - lead_in))) in
+      let words = map (form_word form (program_symbols form bytes lead_in))
+      (below (word_count form (blocks - lead_in))) in
       text ≡ check_text (min lead_in blocks) (blocks - lead_in) words found readings
   pub bad_is : bad ≡ bad_count found

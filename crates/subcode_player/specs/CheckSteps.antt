@@ -20,7 +20,11 @@ tick hit n = if hit then min (n + 1) (2 ^ 32 - 1) else n
 
 -- after a word with so many wrong symbols
 abbrev pub wrong_counted : WordCounts → ℕ → WordCounts
-wrong_counted s wrong = record s { clean = tick (wrong == 0) s.clean; one = tick (wrong == 1) s.one; two = tick (wrong == 2) s.two }
+wrong_counted s wrong = record s {
+  clean = tick (wrong == 0) s.clean;
+  one = tick (wrong == 1) s.one;
+  two = tick (wrong == 2) s.two;
+}
 
 -- after a pack of this mode and code
 abbrev pub kind_counted : WordCounts → ℕ → ℕ → WordCounts
@@ -64,13 +68,19 @@ counts_give s words = None
 -- the frame of a block, where frames are read
 unfoldable pub frames_next : FrameCounts → List ℕ → FrameCounts
 frames_next s block =
-    if s.read then record s { good = tick (is_ok (reading_of (q_bits block))) s.good; bad = tick (is_err (reading_of (q_bits block))) s.bad } else s
+    if s.read then record s {
+      good = tick (is_ok (reading_of (q_bits block))) s.good;
+      bad = tick (is_err (reading_of (q_bits block))) s.bad;
+    } else s
 
 -- after a block
 unfoldable pub counting_next : Counting → List ℕ → Counting
 counting_next s block = record {
   frames = frames_next s.frames block;
-  words = record { first = words_next s.words.first block; second = then_second counts_next s.words.second (words_give s.words.first block) };
+  words = record {
+    first = words_next s.words.first block;
+    second = then_second counts_next s.words.second (words_give s.words.first block);
+  };
 }
 
 -- nothing is given for a block
@@ -82,7 +92,8 @@ unfoldable pub lines_of_counts : Form → ℕ → ℕ → Counting → List ℕ
 lines_of_counts form lead_in blocks s =
     stream_lines (min lead_in blocks) (blocks - lead_in) (word_count form (blocks - lead_in))
     ++ (wrong_lines s.words.second.clean s.words.second.one s.words.second.two s.words.second.bad
-    ++ (pack_count_lines s.words.second.idle s.words.second.graphics s.words.second.unknown s.words.second.foreign
+    ++ (pack_count_lines s.words.second.idle s.words.second.graphics s.words.second.unknown
+    s.words.second.foreign
     ++ frame_count_lines s.frames.good s.frames.bad))
 
 -- whether the Q channel of its blocks is read
@@ -94,5 +105,14 @@ has_frames Cooked = false
 -- nothing is counted yet of a stream of this form, whose frames are read unless its packs are cooked
 pub record IsFresh (form : Form) (lead_in : ℕ) (s : Counting) : Type 0 where
   pub words : s.words.first ≡ fresh_words form lead_in
-  pub counts : s.words.second ≡ record { clean = 0; one = 0; two = 0; bad = 0; idle = 0; graphics = 0; unknown = 0; foreign = 0 }
+  pub counts : s.words.second ≡ record {
+    clean = 0;
+    one = 0;
+    two = 0;
+    bad = 0;
+    idle = 0;
+    graphics = 0;
+    unknown = 0;
+    foreign = 0;
+  }
   pub frames : s.frames ≡ record { read = has_frames form; good = 0; bad = 0 }

@@ -5,7 +5,8 @@ use Rattle.rw_interleave.specs.Interleave.{Carries}
 use Rattle.raw_subcode.specs.Channels.{unit_size, program_symbols}
 use Rattle.rw_interleave.specs.Stream.{IsRecovered, IsDamaged, bad_count}
 use Rattle.rw_interleave.specs.Texts.{cdg_bytes}
-use Rattle.subcode_player.specs.Calls.{most_units, PlaysInTurn}
+use Rattle.raw_subcode.specs.Sizes.{most_units}
+use Rattle.subcode_player.specs.Calls.{PlaysInTurn}
 use Rattle.raw_subcode.specs.declared.form.Form.{Form}
 use Rattle.subcode_player.specs.declared.player.Played.{Played}
 use Rattle.subcode_player.specs.declared.player.PlayStop.{PlayStop}
@@ -19,11 +20,15 @@ pub record IsConverted (form : Form) (lead_in : ℕ) (bytes text : List ℕ) (ba
   pub bad_is : bad ≡ bad_count found
 
 -- A conversion took these bytes, and put the text of their packs.
-abbrev pub Converts : Form → ℕ → Option (List ℕ) → Option (List ℕ) → Option (List ℕ) → Option (List ℕ) → Result Played PlayStop → List ℕ → Type 0
-Converts form lead_in left left' held held' result taken = PlaysInTurn (IsConverted form lead_in) form lead_in left left' held held' result taken
+abbrev pub Converts : Form → ℕ → Option (List ℕ) → Option (List ℕ) → Option (List ℕ) → Option (List ℕ)
+    → Result Played PlayStop → List ℕ → Type 0
+Converts form lead_in left left' held held' result taken =
+    PlaysInTurn (IsConverted form lead_in) form lead_in left left' held held' result taken
 
--- Whole units whose program symbols are damaged from those of so many blocks that carry these packs: in each word at most two symbols differ.
-pub record IsDamagedStream (form : Form) (lead_in blocks : ℕ) (packs : List (List ℕ)) (bytes : List ℕ) : Type 0 where
+-- Whole units whose program symbols are damaged from those of so many blocks that carry these packs: in each word at
+-- most two symbols differ.
+pub record IsDamagedStream (form : Form) (lead_in blocks : ℕ) (packs : List (List ℕ))
+    (bytes : List ℕ) : Type 0 where
   pub few : length bytes ≤ most_units * unit_size form
   pub whole : length bytes % unit_size form ≡ 0
   pub symbols : List ℕ

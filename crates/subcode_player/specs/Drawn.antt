@@ -15,7 +15,11 @@ entry_drawn picture None = picture
 
 -- after a word: only the packs that are left are drawn
 unfoldable pub draw_next : Drawing → List ℕ → Drawing
-draw_next s word = if s.left == 0 then s else record { picture = entry_drawn s.picture (finding word); left = s.left - 1; bad = bad_next s.bad word }
+draw_next s word = if s.left == 0 then s else record {
+  picture = entry_drawn s.picture (finding word);
+  left = s.left - 1;
+  bad = bad_next s.bad word;
+}
 
 -- after some words
 unfoldable pub draw_after : Drawing → List (List ℕ) → Drawing

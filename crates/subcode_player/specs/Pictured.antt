@@ -13,7 +13,8 @@ use Rattle.subcode_player.specs.declared.player.PlayStop.{PlayStop}
 use Rattle.subcode_player.specs.declared.player.PlayStop.TheVariants.{ReadFault, WriteFault}
 
 -- a stream that is damaged from one whose packs are a schedule of the script
-pub record IsScheduledStream (form : Form) (lead_in : ℕ) (script : List Drawing) (bytes : List ℕ) : Type 0 where
+pub record IsScheduledStream (form : Form) (lead_in : ℕ) (script : List Drawing)
+    (bytes : List ℕ) : Type 0 where
   pub blocks : ℕ
   pub packs : List (List ℕ)
   pub stream : IsDamagedStream form lead_in blocks packs bytes
@@ -32,8 +33,10 @@ abbrev pub IsPictureText : List Drawing → ℕ → List ℕ → Type 0
 IsPictureText script k text = (now : Standing) × ShowsPicture script k now × (text ≡ pixmap now)
 
 -- unless a read or a write failed, nothing was bad and picture k was put
-abbrev pub GivesPicture : List Drawing → ℕ → Result Played PlayStop → Option (List ℕ) → Option (List ℕ) → Type 0
-GivesPicture script k (Ok played) held held' = (played.bad ≡ 0) × ((text : List ℕ) × IsPictureText script k text × Appends held held' text)
+abbrev pub GivesPicture : List Drawing → ℕ → Result Played PlayStop → Option (List ℕ) → Option (List ℕ)
+    → Type 0
+GivesPicture script k (Ok played) held held' = (played.bad ≡ 0)
+    × ((text : List ℕ) × IsPictureText script k text × Appends held held' text)
 GivesPicture script k (Err ReadFault) held held' = ⊤
 GivesPicture script k (Err WriteFault) held held' = ⊤
 GivesPicture script k (Err stop) held held' = ⊥

@@ -39,12 +39,16 @@ fresh_words form lead_in = record { form = form; lead_in = lead_in; gather = [] 
 -- a block of the lead-in is passed over, and one of the program is taken slot by slot
 unfoldable pub words_next : BlockWords → List ℕ → BlockWords
 words_next s block =
-    if s.lead_in == 0 then record s { gather = run_state (window_next s.form) s.gather (slots_of block) } else record s { lead_in = s.lead_in - 1 }
+    if s.lead_in == 0 then record s { gather = run_state (window_next s.form) s.gather (slots_of block) }
+    else record s { lead_in = s.lead_in - 1 }
 
 -- the words that come with a block of the program
 unfoldable pub words_give : BlockWords → List ℕ → Option (ArrayVec (List ℕ))
 words_give s block =
-    if s.lead_in == 0 then Some (record { items = run_gives (window_next s.form) (window_gives s.form) s.gather (slots_of block) }) else None
+    if s.lead_in == 0 then Some (record {
+      items = run_gives (window_next s.form) (window_gives s.form)
+          s.gather (slots_of block);
+    }) else None
 
 -- the count of bad words after a word: a u32 that stays at its last value
 unfoldable pub bad_next : ℕ → List ℕ → ℕ

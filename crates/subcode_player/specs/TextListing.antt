@@ -9,7 +9,8 @@ use Rattle.cdtext_packs.specs.Texts.{Texts}
 use Rattle.cdtext_packs.specs.declared.kinds.TextFault.{TextFault}
 use Rattle.cdtext_packs.specs.declared.kinds.TextFault.TheVariants.{NoMemory}
 use Rattle.cdtext_packs.specs.TextLines.{text_lines}
-use Rattle.subcode_player.specs.Calls.{most_units, IsAnsweredBy, PlaysAtEnd}
+use Rattle.raw_subcode.specs.Sizes.{most_units}
+use Rattle.subcode_player.specs.Calls.{IsAnsweredBy, PlaysAtEnd}
 use Rattle.subcode_player.specs.declared.player.Played.{Played}
 use Rattle.subcode_player.specs.declared.player.PlayStop.{PlayStop}
 use Rattle.subcode_player.specs.declared.player.PlayStop.TheVariants.{Text}
@@ -34,9 +35,11 @@ abbrev pub IsTextFault : TextFault → Result Texts TextFault → Type 0
 IsTextFault fault texts = (fault ≡ NoMemory) ⊎ (texts ≡ Err fault)
 
 -- A call that lists the texts took these bytes: it writes at the end, where the packs give texts.
-pub record ListsTexts (form : Form) (lead_in : ℕ) (left left' held held' : Option (List ℕ)) (result : Result Played PlayStop) (taken : List ℕ) : Type 0 where
+pub record ListsTexts (form : Form) (lead_in : ℕ) (left left' held held' : Option (List ℕ))
+    (result : Result Played PlayStop) (taken : List ℕ) : Type 0 where
   pub plays : PlaysAtEnd (IsTextListed form lead_in) form lead_in left left' held held' result taken
-  pub refused : (fault : TextFault) → result ≡ Err (Text fault) → (length taken % unit_size form ≡ 0) × IsTextFault fault (texts_of_lead_in form lead_in taken)
+  pub refused : (fault : TextFault) → result ≡ Err (Text fault)
+      → (length taken % unit_size form ≡ 0) × IsTextFault fault (texts_of_lead_in form lead_in taken)
 
 -- an input of whole units, not too many
 abbrev pub IsWholeInput : Form → List ℕ → Type 0
@@ -45,5 +48,6 @@ IsWholeInput form all = (length all ≤ most_units * unit_size form) × (length 
 -- the answer to an input that is read and written without a fault
 abbrev pub IsListedBy : Result Played PlayStop → Form → ℕ → List ℕ → Type 0
 IsListedBy (Ok played) form lead_in all = IsWholeInput form all × IsOk (texts_of_lead_in form lead_in all)
-IsListedBy (Err (Text fault)) form lead_in all = IsWholeInput form all × IsTextFault fault (texts_of_lead_in form lead_in all)
+IsListedBy (Err (Text fault)) form lead_in all = IsWholeInput form all
+    × IsTextFault fault (texts_of_lead_in form lead_in all)
 IsListedBy (Err stop) form lead_in all = IsAnsweredBy (Err stop) (unit_size form) (length all)

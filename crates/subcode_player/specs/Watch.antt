@@ -17,7 +17,8 @@ use Rattle.cdtext_packs.specs.Reading.{read_texts}
 use Rattle.cdtext_packs.specs.Texts.{Texts}
 use Rattle.cdtext_packs.specs.TextLines.{counted_lines}
 use Rattle.cdtext_packs.specs.declared.lead_in_texts.LeadInTexts.{LeadInTexts}
-use Rattle.subcode_player.specs.Calls.{most_units, IsEarly}
+use Rattle.raw_subcode.specs.Sizes.{most_units}
+use Rattle.subcode_player.specs.Calls.{IsEarly}
 use Rattle.subcode_player.specs.Screen.{AreShown}
 use Rattle.subcode_player.specs.TextListing.{IsTextFault}
 use Rattle.subcode_player.specs.declared.player.Played.{Played}
@@ -28,11 +29,14 @@ use Rattle.subcode_player.specs.declared.player.PlayStop.TheVariants.{ReadFault,
 abbrev pub on_units : {S A : Type 0} → Form → (S → List ℕ → A) → S → List ℕ → A
 on_units form step s unit = step s (block_of form unit)
 
--- These bytes were taken, and where they are whole units to the end, the stage is in the last state of its run over their blocks.
-pub record Watches {S : Type 0} (form : Form) (next : S → List ℕ → S) (left left' : Option (List ℕ)) (s s' : S) (result : Result Pumped PumpStop) (taken : List ℕ) : Type 0 where
+-- These bytes were taken, and where they are whole units to the end, the stage is in the last state of its run over
+-- their blocks.
+pub record Watches {S : Type 0} (form : Form) (next : S → List ℕ → S) (left left' : Option (List ℕ))
+    (s s' : S) (result : Result Pumped PumpStop) (taken : List ℕ) : Type 0 where
   pub taken_from : Consumes left left' taken
   pub within : length taken ≤ most_units * unit_size form + 1
-  pub done : IfOk result (λ p. IsAtEnd left' × (length taken ≡ p.units * unit_size form) × (p.units ≤ most_units)
+  pub done : IfOk result
+      (λ p. IsAtEnd left' × (length taken ≡ p.units * unit_size form) × (p.units ≤ most_units)
       × (s' ≡ run_state next s (map (block_of form) (units_of (unit_size form) p.units taken))))
   pub torn : (unit : ℕ) → result ≡ Err (pump_stop.Torn unit) → IsAtEnd left'
   pub no_write : result ≢ Err pump_stop.WriteFault
@@ -45,7 +49,8 @@ play_stop (pump_stop.Torn unit) = Torn unit
 play_stop pump_stop.TooLong = TooLong
 
 -- what the drawing of some bytes up to a time leaves: what stands, and how many packs are bad
-pub record IsViewed (form : Form) (lead_in time : ℕ) (bytes : List ℕ) (now : Standing) (bad : ℕ) : Type 0 where
+pub record IsViewed (form : Form) (lead_in time : ℕ) (bytes : List ℕ) (now : Standing)
+    (bad : ℕ) : Type 0 where
   pub found : List (Option (List ℕ))
   pub recovered : IsRecovered form (program_symbols form bytes lead_in) found
   pub instrs : List Instr
@@ -54,24 +59,35 @@ pub record IsViewed (form : Form) (lead_in time : ℕ) (bytes : List ℕ) (now :
   pub bad_is : bad ≡ bad_count (take (whole_packs time) found)
 
 -- a whole input was drawn up to a time, and nothing was written
-pub record Views (form : Form) (lead_in time : ℕ) (left left' : Option (List ℕ)) (now : Standing) (result : Result Played PlayStop) (taken : List ℕ) : Type 0 where
+pub record Views (form : Form) (lead_in time : ℕ) (left left' : Option (List ℕ)) (now : Standing)
+    (result : Result Played PlayStop) (taken : List ℕ) : Type 0 where
   pub taken_from : Consumes left left' taken
   pub within : length taken ≤ most_units * unit_size form + 1
-  pub done : IfOk result (λ played. IsAtEnd left' × (played.blocks ≡ length taken / unit_size form - lead_in) × (time ≤ played.blocks) × IsViewed form lead_in time taken now played.bad)
+  pub done : IfOk result (λ played. IsAtEnd left' × (played.blocks ≡ length taken / unit_size form - lead_in)
+      × (time ≤ played.blocks) × IsViewed form lead_in time taken now played.bad)
   pub ended : (stop : PlayStop) → result ≡ Err stop → ¬ (IsEarly stop) → IsAtEnd left'
-  pub past_end : (blocks : ℕ) → result ≡ Err (PastEnd blocks) → (length taken % unit_size form ≡ 0) × (blocks ≡ length taken / unit_size form - lead_in) × (blocks < time)
+  pub past_end : (blocks : ℕ) → result ≡ Err (PastEnd blocks)
+      → (length taken % unit_size form ≡ 0) × (blocks ≡ length taken / unit_size form - lead_in)
+      × (blocks < time)
   pub no_write : result ≢ Err WriteFault
 
 -- what is answered after so many program blocks
 abbrev pub viewed : ℕ → ℕ → ℕ → Result Played PlayStop
-viewed blocks time bad = if nat_lt blocks time then Err (PastEnd blocks) else Ok (record { blocks = blocks; bad = bad })
+viewed blocks time bad = if nat_lt blocks time then Err (PastEnd blocks) else Ok (record {
+  blocks = blocks;
+  bad = bad;
+})
 
 -- what the packs that were read give, and what is written of it
 abbrev pub WritesTexts : LeadInTexts → ℕ → Option (List ℕ) → Option (List ℕ) → Result Played PlayStop → Type 0
 WritesTexts s blocks held held' (Ok played) =
-    (played.blocks ≡ blocks) × (played.bad ≡ 0) × ((texts : Texts) × (read_texts s.reader ≡ Ok texts) × Appends held held' (counted_lines texts s.good s.bad s.other))
-WritesTexts s blocks held held' (Err WriteFault) = (texts : Texts) × (read_texts s.reader ≡ Ok texts) × AppendsPrefix held held' (counted_lines texts s.good s.bad s.other)
-WritesTexts s blocks held held' (Err (Text fault)) = IsTextFault fault (read_texts s.reader) × Appends held held' []
+    (played.blocks ≡ blocks) × (played.bad ≡ 0)
+    × ((texts : Texts) × (read_texts s.reader ≡ Ok texts)
+    × Appends held held' (counted_lines texts s.good s.bad s.other))
+WritesTexts s blocks held held' (Err WriteFault) = (texts : Texts) × (read_texts s.reader ≡ Ok texts)
+    × AppendsPrefix held held' (counted_lines texts s.good s.bad s.other)
+WritesTexts s blocks held held' (Err (Text fault)) = IsTextFault fault (read_texts s.reader)
+    × Appends held held' []
 WritesTexts s blocks held held' (Err ReadFault) = ⊥
 WritesTexts s blocks held held' (Err (Torn block)) = ⊥
 WritesTexts s blocks held held' (Err TooLong) = ⊥

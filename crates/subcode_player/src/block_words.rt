@@ -53,8 +53,12 @@ impl BlockWords {
 
     /// The words that come with a block of the program.
     fn take(&mut self, block: &[u8; BLOCK]) -> BlockOfWords
-        ensures next { self.new ≡ record self.old { gather = run_state (window_next self.old.form) self.old.gather (slots_of block.now) } }
-        ensures gives { result.items ≡ run_gives (window_next self.old.form) (window_gives self.old.form) self.old.gather (slots_of block.now) }
+        ensures next { self.new ≡ record self.old {
+          gather = run_state (window_next self.old.form)
+              self.old.gather (slots_of block.now);
+        } }
+        ensures gives { result.items ≡ run_gives (window_next self.old.form) (window_gives self.old.form)
+            self.old.gather (slots_of block.now) }
     {
         match self.form {
             Form::Raw | Form::Sector => self.gather.push_block(block),

@@ -22,16 +22,16 @@ use itoa::Buffer;
 type Lines = ArrayString<320>;
 
 impl Player {
-    /// Writes the counts of a stream, after all of it is read: of its blocks, of its words by their wrong symbols and by
-    /// what they hold, and of the frames of its Q channel. The packs of a cooked stream have no frames.
+    /// Writes the counts of a stream, after all of it is read: of its blocks, of its words by their wrong symbols and
+    /// by what they hold, and of the frames of its Q channel. The packs of a cooked stream have no frames.
     ///
     /// `lead_in` is at most 450,000 blocks. `Played::bad` counts the words with no codeword within two symbols; a frame
     /// that is refused counts in the lines alone.
     ///
     /// # Errors
     ///
-    /// `Torn`, `TooLong` and `ReadFault` as the input says: then nothing is written. After `WriteFault` the sink holds a
-    /// prefix.
+    /// `Torn`, `TooLong` and `ReadFault` as the input says: then nothing is written. After `WriteFault` the sink
+    /// holds a prefix.
     #[tactic(auto, using(crate::proofs::Ends::ends_first, crate::proofs::Ends::stops_stream))]
     pub fn check<S: Source, K: Sink>(
         &mut self,

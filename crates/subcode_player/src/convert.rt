@@ -30,9 +30,9 @@ pub fn damaged_streams_give_packs()
 impl Player {
     /// Writes the packs of a stream as its blocks are read: 24 bytes each, every byte below 64.
     ///
-    /// `lead_in` is at most 450,000 blocks, which are passed over. A word with no codeword within two symbols is written
-    /// as 24 zeros, and counted in `Played::bad`. Of B blocks of the program 4B - 7 packs are written, and 4B where they
-    /// are cooked.
+    /// `lead_in` is at most 450,000 blocks, which are passed over. A word with no codeword within two symbols is
+    /// written as 24 zeros, and counted in `Played::bad`. Of B blocks of the program 4B - 7 packs are written, and 4B
+    /// where they are cooked.
     ///
     /// # Errors
     ///

@@ -13,8 +13,8 @@ use q_channel::is_frame;
 use raw_subcode::Block;
 use rw_code::{Fixed, Word, correct};
 
-/// The words of a stream by their wrong symbols, and those that are not bad by their kind: each word counts in one of the
-/// first four, and each that is not bad in one of the last four. A count stays at its last value.
+/// The words of a stream by their wrong symbols, and those that are not bad by their kind: each word counts in one of
+/// the first four, and each that is not bad in one of the last four. A count stays at its last value.
 #[derive(Clone, Copy, Debug, PartialEq, Eq, Default)]
 pub struct WordCounts {
     /// Codewords.

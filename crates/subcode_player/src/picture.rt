@@ -64,8 +64,10 @@ impl Picture {
 
     /// Writes the picture as a pixmap. After `Failed` a prefix was written.
     pub fn write_ppm<K: Sink>(&self, out: &mut K) -> Result<(), Failed>
-        ensures ok { OnOk result ((now : Standing) → SameStanding (standing_of self.now) now → Appends (K.held out.old) (K.held out.new) (pixmap now)) }
-        ensures part { OnErr result ((now : Standing) → SameStanding (standing_of self.now) now → AppendsPrefix (K.held out.old) (K.held out.new) (pixmap now)) }
+        ensures ok { OnOk result ((now : Standing) → SameStanding (standing_of self.now) now
+            → Appends (K.held out.old) (K.held out.new) (pixmap now)) }
+        ensures part { OnErr result ((now : Standing) → SameStanding (standing_of self.now) now
+            → AppendsPrefix (K.held out.old) (K.held out.new) (pixmap now)) }
         ensures cause { HasCause (K.faults out.old) (K.faults out.new) result }
     {
         self.screen.is_written_as_it_stands();
@@ -74,8 +76,10 @@ impl Picture {
 
     /// Writes the border, the offsets, and the colours with their levels. After `Failed` a prefix was written.
     pub fn write_state<K: Sink>(&self, out: &mut K) -> Result<(), Failed>
-        ensures ok { OnOk result ((now : Standing) → SameStanding (standing_of self.now) now → Appends (K.held out.old) (K.held out.new) (state_text now)) }
-        ensures part { OnErr result ((now : Standing) → SameStanding (standing_of self.now) now → AppendsPrefix (K.held out.old) (K.held out.new) (state_text now)) }
+        ensures ok { OnOk result ((now : Standing) → SameStanding (standing_of self.now) now
+            → Appends (K.held out.old) (K.held out.new) (state_text now)) }
+        ensures part { OnErr result ((now : Standing) → SameStanding (standing_of self.now) now
+            → AppendsPrefix (K.held out.old) (K.held out.new) (state_text now)) }
         ensures cause { HasCause (K.faults out.old) (K.faults out.new) result }
     {
         self.screen.is_written_as_it_stands();

@@ -8,9 +8,6 @@ use cdg_io::{PumpStop, Pumped, Then};
 use cdtext_packs::{LeadInTexts, TextFault};
 use std::alloc::{AllocError, Global};
 
-/// The most units that a call reads.
-pub(crate) const MOST_UNITS: u32 = 1_000_000;
-
 /// What was played of a whole input.
 #[derive(Clone, Copy, Debug, PartialEq, Eq)]
 pub struct Played {
@@ -37,10 +34,11 @@ pub enum PlayStop {
     Text(TextFault),
 }
 
-/// Plays streams, one at a time. All its memory is taken at the start; each call begins anew, whatever stopped the one before.
+/// Plays streams, one at a time. All its memory is taken at the start; each call begins anew, whatever stopped the
+/// one before.
 ///
-/// A call takes the blocks of a lead-in, at most 450,000, and the form of the units that it reads: blocks of 96 bytes, or
-/// sectors of 2,448. It reads at most one byte past 1,000,000 units.
+/// A call takes the blocks of a lead-in, at most 450,000, and the form of the units that it reads: blocks of 96
+/// bytes, or sectors of 2,448. It reads at most one byte past 1,000,000 units.
 #[derive(Drop)]
 pub struct Player {
     /// The packs of a stream.
@@ -56,7 +54,8 @@ pub struct Player {
 impl Player {
     /// Takes the memory of the screen and of the texts.
     pub fn start(alloc: Global) -> Result<Player, AllocError>
-        ensures { IfOk result (λ p. (p.stages.second.first ≡ fresh_words Form.Raw 0) × (p.stages.second.second.bad ≡ 0)) }
+        ensures { IfOk result
+            (λ p. (p.stages.second.first ≡ fresh_words Form.Raw 0) × (p.stages.second.second.bad ≡ 0)) }
     {
         let drawing = Drawing {
             picture: Picture::start(alloc)?,

@@ -19,11 +19,11 @@ use crate::{Form, PlayStop, Played, Player};
 use cdg_io::{Failed, Pumped, Sink, Source};
 
 impl Player {
-    /// Writes the picture at a moment, after all of the stream is read: a pixmap of what stands after the packs that are
-    /// whole at program block `at`, the first 4 * at - 7.
+    /// Writes the picture at a moment, after all of the stream is read: a pixmap of what stands after the packs that
+    /// are whole at program block `at`, the first 4 * at - 7.
     ///
-    /// `lead_in` is at most 450,000 blocks, and `at` at most 449,999. A word with no codeword within two symbols changes
-    /// nothing; `Played::bad` counts those among the packs that are drawn.
+    /// `lead_in` is at most 450,000 blocks, and `at` at most 449,999. A word with no codeword within two symbols
+    /// changes nothing; `Played::bad` counts those among the packs that are drawn.
     ///
     /// # Errors
     ///

@@ -18,12 +18,13 @@ impl Player {
     /// Writes the texts of a stream's lead-in, after all of it is read: a line for each string that is not empty, and
     /// one on the packs. Memory is taken for the texts alone, once all is read.
     ///
-    /// `lead_in` is at most 450,000 blocks, and the form is raw or sector: cooked packs have no lead-in. `Played::bad` is 0.
+    /// `lead_in` is at most 450,000 blocks, and the form is raw or sector: cooked packs have no lead-in.
+    /// `Played::bad` is 0.
     ///
     /// # Errors
     ///
-    /// `Text` where the packs are no texts, or no memory is found for them, and `Torn`, `TooLong` and `ReadFault` as the
-    /// input says: then nothing is written. After `WriteFault` the sink holds a prefix.
+    /// `Text` where the packs are no texts, or no memory is found for them, and `Torn`, `TooLong` and `ReadFault` as
+    /// the input says: then nothing is written. After `WriteFault` the sink holds a prefix.
     #[tactic(auto, using(crate::proofs::Ends::ends_first, crate::proofs::Ends::ends_texts, crate::proofs::Ends::stops_stream, crate::proofs::Ends::stops_list))]
     pub fn text_list<S: Source, K: Sink>(
         &mut self,

@@ -3,13 +3,13 @@ ghost use Rattle.std.specs.Prelude.{◌≡◌, ◌≢◌, ◌≤◌, List, ℕ, 
 ghost use Rattle.cdg_io.specs.Causes.{Rose};
 ghost use Rattle.cdg_io.specs.Pump.{IsUnlessFault, Pumps, TellsEndOf, answer_of};
 ghost use Rattle.raw_subcode.specs.Channels.{unit_size};
-ghost use Rattle.subcode_player.specs.Calls.{most_units};
+ghost use Rattle.raw_subcode.specs.Sizes.{most_units};
 ghost use Rattle.subcode_player.specs.Watch.{Watches, on_units};
 
 use crate::block_words::BLOCK;
-use crate::player::MOST_UNITS;
 use crate::{Form, SectorBlocks};
 use cdg_io::{Piece, PumpStop, Pumped, Sink, Source, Stage, SteadySink, Then, pump};
+use raw_subcode::MOST_UNITS;
 
 /// Feeds the blocks of an input to a stage, and writes what it gives for each.
 pub(crate) fn pump_blocks<S: Source, G: Stage<Item = [u8; BLOCK], Out = Piece>, K: Sink>(
@@ -19,7 +19,8 @@ pub(crate) fn pump_blocks<S: Source, G: Stage<Item = [u8; BLOCK], Out = Piece>, 
     out: &mut K,
 ) -> Result<Pumped, PumpStop>
     ensures pumps { (taken : List ℕ) × Pumps (unit_size form) most_units
-        (on_units form G.next) (on_units form G.gives) (S.left source.old) (S.left source.new) stages.old.second stages.new.second
+        (on_units form G.next) (on_units form G.gives) (S.left source.old) (S.left source.new)
+        stages.old.second stages.new.second
         (K.held out.old) (K.held out.new) result taken }
     // Where nothing failed, the answer is that of the whole input's length.
     ensures answer { IfSome (S.left source.old) (λ all.

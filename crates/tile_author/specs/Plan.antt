@@ -9,12 +9,14 @@ use Rattle.cdg_instructions.specs.declared.instr.Instr.TheVariants.{SetTile, Xor
 -- whether a number is the combination by exclusive or of some members: without the first one, or with it
 unfoldable pub is_combination : List ℕ → ℕ → Bool
 is_combination [] number = number == 0
-is_combination (first ∷ rest) number = is_combination rest number || is_combination rest (bit_xor first number)
+is_combination (first ∷ rest) number =
+    is_combination rest number || is_combination rest (bit_xor first number)
 
 -- the members, followed by those numbers that are no combination of the members before them
 unfoldable pub basis_from : List ℕ → List ℕ → List ℕ
 basis_from members [] = members
-basis_from members (number ∷ rest) = basis_from (if is_combination members number then members else members ++ number ∷ []) rest
+basis_from members (number ∷ rest) =
+    basis_from (if is_combination members number then members else members ++ number ∷ []) rest
 
 -- the differences_from_first of the pixels from the first pixel
 unfoldable pub differences_from_first : List ℕ → List ℕ
@@ -32,12 +34,14 @@ weight pixels = max 1 (length (basis pixels))
 unfoldable pub selection : List ℕ → ℕ → ℕ
 selection [] number = 0
 selection (first ∷ rest) number =
-    if is_combination rest number then 2 * selection rest number else 1 + 2 * selection rest (bit_xor first number)
+    if is_combination rest number then 2 * selection rest number
+    else 1 + 2 * selection rest (bit_xor first number)
 
 -- the combination of the members that a selection tells, bit 0 for the first of them
 unfoldable pub combination : List ℕ → ℕ → ℕ
 combination [] chosen = 0
-combination (first ∷ rest) chosen = bit_xor (if has_bit 0 chosen then first else 0) (combination rest (chosen / 2))
+combination (first ∷ rest) chosen =
+    bit_xor (if has_bit 0 chosen then first else 0) (combination rest (chosen / 2))
 
 -- for each pixel, whether member j has a part in its difference
 unfoldable pub member_bits : List ℕ → ℕ → List Bool
@@ -53,7 +57,8 @@ planned draws row column pixels j =
     let colour0 = if j == 0 then slice_index pixels 0 else 0 in
     let colour1 = bit_xor colour0 (slice_index (basis pixels) j) in
     let lines = tile_lines pixels j in
-    if draws && j == 0 then SetTile colour0 colour1 row column lines else XorTile colour0 colour1 row column lines
+    if draws && j == 0 then SetTile colour0 colour1 row column lines
+    else XorTile colour0 colour1 row column lines
 
 -- what is to be combined with the old pixels
 unfoldable pub delta : List ℕ → List ℕ → List ℕ

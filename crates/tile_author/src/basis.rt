@@ -16,7 +16,8 @@ const MOST: usize = 4;
 // How many numbers there are of four bits.
 const NUMBERS: usize = 16;
 
-/// Independent numbers of four bits, in the order in which they came, with the selection of them that makes each number.
+/// Independent numbers of four bits, in the order in which they came, with the selection of them that makes each
+/// number.
 ///
 /// A contract sees the members.
 #[derive(Drop)]
@@ -286,7 +287,8 @@ fn ground(pixels: &[u8; PIXELS], j: usize) -> u8
 fn is_line_before(pixels: &[u8; PIXELS], line: usize) -> bool
     requires first { 0 < line }
     requires last { line < 12 }
-    ensures { IsTrue result → (i : ℕ) → i < 6 → slice_index pixels.now (6 * line + i) ≡ slice_index pixels.now (6 * (line - 1) + i) }
+    ensures { IsTrue result → (i : ℕ) → i < 6
+        → slice_index pixels.now (6 * line + i) ≡ slice_index pixels.now (6 * (line - 1) + i) }
 {
     let start = 6 * line;
     pixels[start - 6..start] == pixels[start..start + 6]

@@ -23,8 +23,8 @@ pub fn steps(old: &Tile, new: &Tile) -> u8
     steps_of_weight(old, new, weight(new))
 }
 
-/// The length of a shortest list of tile instructions of one place that turns the old tile into the new one, whose weight is
-/// known.
+/// The length of a shortest list of tile instructions of one place that turns the old tile into the new one, whose
+/// weight is known.
 pub fn steps_of_weight(old: &Tile, new: &Tile, drawn: u8) -> u8
     requires { drawn ≡ weight new.now }
     ensures value { result ≡ steps old.now new.now }
@@ -45,11 +45,14 @@ pub fn plan(old: &Tile, new: &Tile, row: u8, column: u8) -> ArrayVec<Instr, 4>
     list(old.pixels(), new.pixels(), row, column)
 }
 
-/// The length of a shortest list that draws the tile where everywhere one colour stands, unless the tile is that colour.
+/// The length of a shortest list that draws the tile where everywhere one colour stands, unless the tile is that
+/// colour.
 pub fn weight(new: &Tile) -> u8
     ensures value { result ≡ weight new.now }
-    ensures least { (row column c : ℕ) → row < 32 → column < 64 → c < 16 → new.now ≢ replicate 72 c → IsLeast row column (replicate 72 c) new.now result }
-    ensures none { (row column c : ℕ) → row < 32 → column < 64 → c < 16 → new.now ≡ replicate 72 c → IsLeast row column (replicate 72 c) new.now 0 }
+    ensures least { (row column c : ℕ) → row < 32 → column < 64 → c < 16 → new.now ≢ replicate 72 c
+        → IsLeast row column (replicate 72 c) new.now result }
+    ensures none { (row column c : ℕ) → row < 32 → column < 64 → c < 16 → new.now ≡ replicate 72 c
+        → IsLeast row column (replicate 72 c) new.now 0 }
     ensures most { result ≤ 4 }
 {
     Basis::of(new.pixels()).weight() as u8
@@ -119,18 +122,26 @@ fn is_blank(changes: &[u8; PIXELS]) -> bool
 
 /// Where each of some independent numbers is a combination of others, these are at least as many.
 pub fn independent_are_few()
-    ensures { (given independent : List ℕ) → list_all (is_combination given) independent ≡ true → are_independent independent ≡ true → length independent ≤ length given }
+    ensures { (given independent : List ℕ) → list_all (is_combination given) independent ≡ true
+        → are_independent independent ≡ true → length independent ≤ length given }
 {}
 
-/// Each pixel's difference is the combination of the basis that its selection tells, and each combination has one selection.
+/// Each pixel's difference is the combination of the basis that its selection tells, and each combination has one
+/// selection.
 pub fn selections_are_the_only_ones()
-    ensures makes { (pixels : List ℕ) (p : ℕ) → p < length pixels → let d = bit_xor (slice_index pixels 0) (slice_index pixels p) in combination (basis pixels) (selection (basis pixels) d) ≡ d }
-    ensures only { (pixels : List ℕ) (chosen : ℕ) → chosen < 2 ^ length (basis pixels) → selection (basis pixels) (combination (basis pixels) chosen) ≡ chosen }
+    ensures makes { (pixels : List ℕ) (p : ℕ) → p < length pixels
+        → let d = bit_xor (slice_index pixels 0) (slice_index pixels p) in combination (basis pixels)
+        (selection (basis pixels) d) ≡ d }
+    ensures only { (pixels : List ℕ) (chosen : ℕ) → chosen < 2 ^ length (basis pixels)
+        → selection (basis pixels) (combination (basis pixels) chosen) ≡ chosen }
 {}
 
 /// The plan of each two tiles turns the one into the other, and no list of instructions of their place is shorter.
 pub fn plans_are_shortest()
-    ensures turns { (row column : ℕ) (old new : List ℕ) → row < 18 → column < 50 → IsTilePixels old → IsTilePixels new → Turns row column old new (plan row column old new) }
-    ensures count { (row column : ℕ) (old new : List ℕ) → row < 18 → column < 50 → IsTilePixels old → IsTilePixels new → length (plan row column old new) ≡ steps old new }
-    ensures least { (row column : ℕ) (old new : List ℕ) → row < 32 → column < 64 → IsTilePixels old → IsTilePixels new → IsLeast row column old new (steps old new) }
+    ensures turns { (row column : ℕ) (old new : List ℕ) → row < 18 → column < 50 → IsTilePixels old
+        → IsTilePixels new → Turns row column old new (plan row column old new) }
+    ensures count { (row column : ℕ) (old new : List ℕ) → row < 18 → column < 50 → IsTilePixels old
+        → IsTilePixels new → length (plan row column old new) ≡ steps old new }
+    ensures least { (row column : ℕ) (old new : List ℕ) → row < 32 → column < 64 → IsTilePixels old
+        → IsTilePixels new → IsLeast row column old new (steps old new) }
 {}

@@ -9,10 +9,13 @@ use Rattle.toc_model.specs.declared.layout.LayoutStop.TheVariants.{LengthShort, 
 -- a refusal and its cause, the short audio before the long disc
 abbrev pub IsLayoutRefusal : CueSheet → ℕ → LayoutStop → Type 0
 IsLayoutRefusal sheet audio (LengthShort need) = (need ≡ audio_need sheet) × (audio < audio_need sheet)
-IsLayoutRefusal sheet audio (DiscTooLong blocks) = (audio_need sheet ≤ audio) × (blocks ≡ program_blocks sheet audio) × (most_program < blocks)
-IsLayoutRefusal sheet audio NoMemory = (audio_need sheet ≤ audio) × (program_blocks sheet audio ≤ most_program)
+IsLayoutRefusal sheet audio (DiscTooLong blocks) = (audio_need sheet ≤ audio)
+    × (blocks ≡ program_blocks sheet audio) × (most_program < blocks)
+IsLayoutRefusal sheet audio NoMemory = (audio_need sheet ≤ audio)
+    × (program_blocks sheet audio ≤ most_program)
 
 -- the layout of a sheet and an audio of so many blocks, or why there is none
 abbrev pub IsLayoutAnswer : CueSheet → ℕ → Result DiscLayout LayoutStop → Type 0
-IsLayoutAnswer sheet audio (Ok layout) = (audio_need sheet ≤ audio) × (program_blocks sheet audio ≤ most_program) × (layout ≡ layout_of sheet audio)
+IsLayoutAnswer sheet audio (Ok layout) = (audio_need sheet ≤ audio)
+    × (program_blocks sheet audio ≤ most_program) × (layout ≡ layout_of sheet audio)
 IsLayoutAnswer sheet audio (Err stop) = IsLayoutRefusal sheet audio stop

@@ -14,23 +14,29 @@ use Rattle.q_channel.specs.declared.frame.TocPoint.TheVariants.{Track, First, La
 
 -- the track of a block: the last one that begins at the block or before it
 unfoldable pub track_at : DiscLayout → ℕ → TrackPlace
-track_at layout block = unwrap_or (find (λ (place : TrackPlace). nat_le place.begin block) (reverse layout.tracks)) no_place
+track_at layout block =
+    unwrap_or (find (λ (place : TrackPlace). nat_le place.begin block) (reverse layout.tracks)) no_place
 
 -- the number of the last index line of a track that begins at the block or before it, or 0
 unfoldable pub index_at : TrackPlace → ℕ → ℕ
-index_at place block = unwrap_or (option_map (λ (line : ℕ × ℕ). line.0) (find (λ (line : ℕ × ℕ). nat_le line.1 block) (reverse place.lines))) 0
+index_at place block = unwrap_or
+    (option_map (λ (line : ℕ × ℕ). line.0)
+    (find (λ (line : ℕ × ℕ). nat_le line.1 block) (reverse place.lines))) 0
 
 -- the block at which index 01 of a track begins
 unfoldable pub music_begin : TrackPlace → ℕ
-music_begin place = unwrap_or (option_map (λ (line : ℕ × ℕ). line.1) (find (λ (line : ℕ × ℕ). line.0 == 1) place.lines)) 0
+music_begin place = unwrap_or
+    (option_map (λ (line : ℕ × ℕ). line.1) (find (λ (line : ℕ × ℕ). line.0 == 1) place.lines)) 0
 
 -- the time of a block from the beginning of index 01 of its track, and before it the time that is left
 abbrev pub time_in_track : TrackPlace → ℕ → ℕ
-time_in_track place block = if nat_lt block (music_begin place) then music_begin place - block else block - music_begin place
+time_in_track place block = if nat_lt block (music_begin place) then music_begin place - block
+    else block - music_begin place
 
 -- whether a block lies in the two seconds before index 01 of a track, or in its pause where that is longer
 abbrev pub is_paused_for : ℕ → TrackPlace → Bool
-is_paused_for block place = nat_le (music_begin place - max 150 (music_begin place - place.begin)) block && nat_lt block (music_begin place)
+is_paused_for block place = nat_le (music_begin place - max 150 (music_begin place - place.begin)) block
+    && nat_lt block (music_begin place)
 
 -- whether the P bit of a block is set: the block lies in the pause of some track
 unfoldable pub p_bit : DiscLayout → ℕ → Bool
@@ -38,7 +44,8 @@ p_bit layout block = list_any (is_paused_for block) layout.tracks
 
 -- the frame of a block where it says the time
 abbrev pub time_frame : TrackPlace → ℕ → QFrame
-time_frame place block = Program place.control place.number (index_at place block) (time_in_track place block) block
+time_frame place block =
+    Program place.control place.number (index_at place block) (time_in_track place block) block
 
 -- the frame of a block that may carry the catalogue number: it does where there is one
 abbrev pub catalogue_frame : TrackPlace → ℕ → Option (List ℕ) → QFrame
@@ -48,7 +55,8 @@ catalogue_frame place block (Some number) = Catalogue place.control number (fram
 -- the frame of a block that may carry its track's code: it does where there is one, but in the pause
 abbrev pub isrc_frame : TrackPlace → ℕ → Option (List ℕ) → QFrame
 isrc_frame place block None = time_frame place block
-isrc_frame place block (Some code) = if index_at place block == 0 then time_frame place block else Isrc place.control code (frame_of block)
+isrc_frame place block (Some code) = if index_at place block == 0 then time_frame place block
+    else Isrc place.control code (frame_of block)
 
 -- the frame of a program block: of each hundred blocks one may carry the catalogue number and one the track's code
 abbrev pub program_frame : DiscLayout → ℕ → QFrame
@@ -62,15 +70,18 @@ program_frame layout block =
 abbrev pub place_at : DiscLayout → ℕ → TrackPlace
 place_at layout k = slice_index_or layout.tracks k no_place
 
--- the entries of the table of contents with their control bits: the tracks, the first and the last number, and the lead-out
+-- the entries of the table of contents with their control bits: the tracks, the first and the last number, and the
+-- lead-out
 abbrev pub toc_entries : DiscLayout → List (ℕ × TocPoint)
 toc_entries layout =
     let first = place_at layout 0 in
     let last = place_at layout (length layout.tracks - 1) in
     map (λ (place : TrackPlace). (place.control, Track place.number (music_begin place))) layout.tracks
-    ++ (first.control, First first.number 0) ∷ (last.control, Last last.number) ∷ (last.control, LeadOut layout.blocks) ∷ []
+    ++ (first.control, First first.number 0) ∷ (last.control, Last last.number) ∷
+    (last.control, LeadOut layout.blocks) ∷ []
 
--- the frame of block l of so many lead-in blocks: each entry three times in a row, over and over, and the time that ends at 00:00:00
+-- the frame of block l of so many lead-in blocks: each entry three times in a row, over and over, and the time that
+-- ends at 00:00:00
 abbrev pub toc_frame : DiscLayout → ℕ → ℕ → QFrame
 toc_frame layout lead_in l =
     let entry = slice_index_or (toc_entries layout) (l / 3 % (length layout.tracks + 3)) (0, First 0 0) in

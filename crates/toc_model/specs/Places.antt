@@ -3,7 +3,8 @@ use Rattle.std.specs.Prelude.{ℕ, ◌+◌, List, [], length, ◌∷◌, map, ta
 use Rattle.bit_lists.specs.Counting.{below}
 use Rattle.cue_sheet.specs.CueSheet.{CueTrack, CueSheet, track_of, index_line_of}
 
--- a track on the disc: its number, its control bits, its code, the block at which it begins, and its index lines by number and block
+-- a track on the disc: its number, its control bits, its code, the block at which it begins, and its index lines by
+-- number and block
 pub record TrackPlace : Type 0 where
   pub number : ℕ
   pub control : ℕ
@@ -29,7 +30,8 @@ pregaps_to sheet count = sum_by (λ (t : CueTrack). t.pregap) (take count sheet.
 unfoldable pub postgaps_to : CueSheet → ℕ → ℕ
 postgaps_to sheet count = sum_by (λ (t : CueTrack). t.postgap) (take count sheet.tracks)
 
--- the block at which file time 0 would lie, seen from track k, counted from 0: two seconds, the gaps of the tracks before, and the track's own pregap come first
+-- the block at which file time 0 would lie, seen from track k, counted from 0: two seconds, the gaps of the tracks
+-- before, and the track's own pregap come first
 abbrev pub blocks_before : CueSheet → ℕ → ℕ
 blocks_before sheet k = 150 + pregaps_to sheet (k + 1) + postgaps_to sheet k
 
@@ -39,7 +41,8 @@ first_index_time track = (index_line_of track 0).1
 
 -- the block at which track k begins: the first at the beginning, each other with its pregap
 abbrev pub track_begin : CueSheet → ℕ → ℕ
-track_begin sheet k = if k == 0 then 0 else 150 + pregaps_to sheet k + postgaps_to sheet k + first_index_time (track_of sheet k)
+track_begin sheet k = if k == 0 then 0
+    else 150 + pregaps_to sheet k + postgaps_to sheet k + first_index_time (track_of sheet k)
 
 -- the place of track k, counted from 0
 abbrev pub place_of : CueSheet → ℕ → TrackPlace
@@ -55,7 +58,8 @@ place_of sheet k =
 
 -- the number of program blocks: two seconds, the audio and all gaps
 abbrev pub program_blocks : CueSheet → ℕ → ℕ
-program_blocks sheet audio = 150 + audio + (pregaps_to sheet (length sheet.tracks) + postgaps_to sheet (length sheet.tracks))
+program_blocks sheet audio =
+    150 + audio + (pregaps_to sheet (length sheet.tracks) + postgaps_to sheet (length sheet.tracks))
 
 -- the greatest of some numbers, or 0
 unfoldable pub greatest : List ℕ → ℕ
@@ -72,4 +76,8 @@ audio_need sheet = greatest (map latest_time sheet.tracks) + 1
 
 -- the disc of a sheet and an audio length
 abbrev pub layout_of : CueSheet → ℕ → DiscLayout
-layout_of sheet audio = record { catalogue = sheet.catalogue; tracks = map (place_of sheet) (below (length sheet.tracks)); blocks = program_blocks sheet audio }
+layout_of sheet audio = record {
+  catalogue = sheet.catalogue;
+  tracks = map (place_of sheet) (below (length sheet.tracks));
+  blocks = program_blocks sheet audio;
+}

@@ -22,7 +22,8 @@ pub(crate) fn need(sheet: &Sheet) -> u32
 
 /// The lengths of all gaps, in blocks.
 pub(crate) fn gaps(sheet: &Sheet) -> u32
-    ensures sum { result ≡ pregaps_to sheet.now (length sheet.now.tracks) + postgaps_to sheet.now (length sheet.now.tracks) }
+    ensures sum { result ≡ pregaps_to sheet.now (length sheet.now.tracks) + postgaps_to sheet.now
+        (length sheet.now.tracks) }
     ensures bound { result ≤ 89100000 }
 {
     let mut sum = 0;
@@ -56,7 +57,8 @@ fn isrc(sheet: &Sheet, k: usize) -> Option<[u8; 12]>
 fn lines(alloc: Global, sheet: &Sheet, k: usize, before: u32) -> Result<Vec<(u8, u32)>, AllocError>
     requires track { k < length sheet.now.tracks }
     requires fits { before ≤ 4000000000 }
-    ensures { IfOk result (λ v. v.items ≡ map (λ (line : ℕ × ℕ). (line.0, before + line.1)) (track_of sheet.now k).indices) }
+    ensures { IfOk result
+        (λ v. v.items ≡ map (λ (line : ℕ × ℕ). (line.0, before + line.1)) (track_of sheet.now k).indices) }
 {
     let count = sheet.indices(k);
     let mut lines = Vec::with_capacity(alloc, count)?;
