@@ -23,7 +23,7 @@ ACTS = [
     ("Texts of the lead-in", ["text_packs", "lead_in_need", "run.strings"]),
     ("What is written for a script, and what cannot be ready", ["ArePacks", "HavePlace", "run.authors", "run.late"]),
     ("The two grammars", ["IsSheetText", "IsScriptText", "CueSheet", "Drawing"]),
-    ("Words, answers, and what each command takes and writes", ["Spells", "texts", "error_line", "run.*"]),
+    ("Words, answers, and what each command takes and writes", ["Spells", "texts", "error_line", "pixmap", "run.*"]),
 ]
 # One sitting: the lines of acts I and II together.
 ONE_SITTING = 450

@@ -28,9 +28,11 @@ pub record IsGraphics (word : List ℕ) (code : ℕ) : Type 0 where
 abbrev pub move : ℕ → ℕ
 move symbol = if symbol / 16 == 3 then 0 else symbol / 16
 
+-- the offset across in the low bits of a symbol: more than five pixels count as five
 abbrev pub offset_across : ℕ → ℕ
 offset_across symbol = min (symbol % 8) 5
 
+-- the offset down in the low bits of a symbol: more than eleven pixels count as eleven
 abbrev pub offset_down : ℕ → ℕ
 offset_down symbol = min (symbol % 16) 11
 
@@ -38,6 +40,7 @@ offset_down symbol = min (symbol % 16) 11
 abbrev pub table_colour : List ℕ → ℕ → ℕ
 table_colour word k = 64 * content word (2 * k) + content word (2 * k + 1)
 
+-- the fields of a tile instruction, as a word holds them
 pub record IsTile (word : List ℕ) (colour0 colour1 row column : ℕ) (lines : List ℕ) : Type 0 where
   pub colour0_is : colour0 ≡ content word 0 % 16
   pub colour1_is : colour1 ≡ content word 1 % 16
@@ -45,6 +48,7 @@ pub record IsTile (word : List ℕ) (colour0 colour1 row column : ℕ) (lines : 
   pub column_is : column ≡ content word 3
   pub lines_are : lines ≡ drop 4 (content_of word)
 
+-- the fields of a scroll, as a word holds them
 pub record IsScroll (word : List ℕ) (colour across h down v : ℕ) : Type 0 where
   pub colour_is : colour ≡ content word 0 % 16
   pub across_is : across ≡ move (content word 1)
@@ -74,17 +78,17 @@ Means word (XorTile colour0 colour1 row column lines) = IsGraphics word 38
 abbrev pub colour_symbols : ℕ → List ℕ
 colour_symbols colour = colour / 64 ∷ colour % 64 ∷ []
 
+-- the content of a tile instruction
 abbrev pub tile_symbols : ℕ → ℕ → ℕ → ℕ → List ℕ → List ℕ
 tile_symbols colour0 colour1 row column lines = colour0 ∷ colour1 ∷ row ∷ column ∷ lines
 
+-- the content of a scroll: a colour, and for each direction the move and the offset in one symbol
 abbrev pub scroll_symbols : ℕ → ℕ → ℕ → ℕ → ℕ → List ℕ
 scroll_symbols colour across h down v = colour ∷ (16 * across + h) ∷ (16 * down + v) ∷ replicate 13 0
 
 -- symbols 0 and 1 and then the content of the codeword that is written; Idle is 24 zeros, and Foreign and Unknown have none
 abbrev pub written_symbols : Instr → List ℕ
 written_symbols Idle = replicate 18 0
-written_symbols Foreign = []
-written_symbols Unknown = []
 written_symbols (MemoryPreset colour repeat) = 9 ∷ 1 ∷ colour ∷ repeat ∷ replicate 14 0
 written_symbols (BorderPreset colour) = 9 ∷ 2 ∷ colour ∷ replicate 15 0
 written_symbols (SetTile colour0 colour1 row column lines) = 9 ∷ 6 ∷ tile_symbols colour0 colour1 row column lines
@@ -94,6 +98,7 @@ written_symbols (Transparency levels) = 9 ∷ 28 ∷ levels
 written_symbols (ColoursLow colours) = 9 ∷ 30 ∷ flat_map colour_symbols colours
 written_symbols (ColoursHigh colours) = 9 ∷ 31 ∷ flat_map colour_symbols colours
 written_symbols (XorTile colour0 colour1 row column lines) = 9 ∷ 38 ∷ tile_symbols colour0 colour1 row column lines
+written_symbols _ = []
 
 -- symbols 0, 1 and 4 to 19 of a word: all but the parity
 abbrev pub message_of : List ℕ → List ℕ
@@ -104,7 +109,7 @@ pub record IsWritten (instr : Instr) (word : List ℕ) : Type 0 where
   pub codeword : IsCodeword word
   pub message : message_of word ≡ written_symbols instr
 
--- the ranges of the fields
+-- the ranges of the fields of a tile instruction
 pub record InTileRange (colour0 colour1 row column : ℕ) (lines : List ℕ) : Type 0 where
   pub colour0_below : colour0 < 16
   pub colour1_below : colour1 < 16
@@ -113,6 +118,7 @@ pub record InTileRange (colour0 colour1 row column : ℕ) (lines : List ℕ) : T
   pub lines_count : length lines ≡ 12
   pub lines_below : All (λ line. line < 64) lines
 
+-- the ranges of the fields of a scroll
 pub record InScrollRange (colour across h down v : ℕ) : Type 0 where
   pub colour_below : colour < 16
   pub across_most : across ≤ 2
@@ -120,10 +126,8 @@ pub record InScrollRange (colour across h down v : ℕ) : Type 0 where
   pub down_most : down ≤ 2
   pub v_most : v ≤ 11
 
+-- the fields of the instruction are in their ranges
 abbrev pub InRange : Instr → Type 0
-InRange Idle = ⊤
-InRange Foreign = ⊤
-InRange Unknown = ⊤
 InRange (MemoryPreset colour repeat) = (colour < 16) × (repeat < 16)
 InRange (BorderPreset colour) = colour < 16
 InRange (SetTile colour0 colour1 row column lines) = InTileRange colour0 colour1 row column lines
@@ -133,6 +137,7 @@ InRange (Transparency levels) = (length levels ≡ 16) × All (λ level. level <
 InRange (ColoursLow colours) = (length colours ≡ 8) × All (λ colour. colour < 4096) colours
 InRange (ColoursHigh colours) = (length colours ≡ 8) × All (λ colour. colour < 4096) colours
 InRange (XorTile colour0 colour1 row column lines) = InTileRange colour0 colour1 row column lines
+InRange _ = ⊤
 
 -- an instruction that is written: not Foreign and not Unknown
 abbrev pub IsKnown : Instr → Type 0

@@ -23,6 +23,7 @@ graphics word code =
     (content word 3) (drop 4 (content_of word))
     else Unknown
 
+-- what a word of this mode and this number means: mode 9 is graphics, mode 0 nothing
 abbrev pub meaning_by : List ℕ → ℕ → ℕ → Instr
 meaning_by word mode code = if mode == 0 then Idle else if mode == 9 then graphics word code else Foreign
 

@@ -56,9 +56,11 @@ covers row column x y = nat_le row 17 && nat_le column 49 && x / 6 == column && 
 abbrev pub source : ℕ → ℕ → ℕ → ℕ → ℕ
 source size step direction x = if direction == 1 then x + size - step else (if direction == 2 then x + size + step else x + size)
 
+-- where a pixel comes from across, plus the width of the memory
 abbrev pub source_x : ℕ → ℕ → ℕ
 source_x across x = source 300 6 across x
 
+-- where a pixel comes from down, plus the height of the memory
 abbrev pub source_y : ℕ → ℕ → ℕ
 source_y down y = source 216 12 down y
 
@@ -85,17 +87,20 @@ memory_from start (ScrollPreset colour across h down v ∷ before) x y =
 memory_from start (ScrollCopy colour across h down v ∷ before) x y = memory_from start before (source_x across x % 300) (source_y down y % 216)
 memory_from start (_ ∷ before) x y = memory_from start before x y
 
+-- the border: the last colour that it was set to
 abbrev pub border_from : Standing → List Instr → ℕ
 border_from start [] = start.border
 border_from start (BorderPreset colour ∷ before) = colour
 border_from start (_ ∷ before) = border_from start before
 
+-- colour k of the table: the last value that it was set to
 abbrev pub colour_from : Standing → List Instr → ℕ → ℕ
 colour_from start [] k = start.colour k
 colour_from start (ColoursLow colours ∷ before) k = let old = colour_from start before k in if nat_lt k 8 then slice_index colours k else old
 colour_from start (ColoursHigh colours ∷ before) k = let old = colour_from start before k in if nat_lt k 8 then old else slice_index colours (k - 8)
 colour_from start (_ ∷ before) k = colour_from start before k
 
+-- level k: the last value that it was set to
 abbrev pub level_from : Standing → List Instr → ℕ → ℕ
 level_from start [] k = start.level k
 level_from start (Transparency levels ∷ before) k = slice_index levels k

@@ -4,31 +4,33 @@ use Rattle.bit_lists.specs.Counting.{below}
 use Rattle.bit_lists.specs.Digits.{digits, hex_digits, line_feed}
 use Rattle.cdg_screen.specs.Picture.{Standing, screen_pixel}
 
--- The pixmap: a header, and red, green and blue of each pixel, row by row
-
+-- the header of a pixmap: its kind, its size and the greatest value of a channel
 abbrev pub pixmap_header : List ℕ
 pixmap_header = codes "P6" ++ line_feed ++ codes "300 216" ++ line_feed ++ codes "255" ++ line_feed
 
+-- red, green and blue of a colour of twelve bits, each from 0 to 255
 abbrev pub colour_bytes : ℕ → List ℕ
 colour_bytes colour = (17 * (colour / 256)) ∷ (17 * (colour / 16 % 16)) ∷ (17 * (colour % 16)) ∷ []
 
--- row y
+-- row y of a pixmap
 unfoldable pub pixmap_row : Standing → ℕ → List ℕ
 pixmap_row now y = flat_map (λ x. colour_bytes (now.colour (screen_pixel now x y))) (below 300)
 
+-- the pixmap of a screen: a header, and red, green and blue of each pixel, row by row
 unfoldable pub pixmap : Standing → List ℕ
 pixmap now = pixmap_header ++ flat_map (pixmap_row now) (below 216)
 
--- The state: the border, the offsets, and the sixteen colours and levels
-
+-- the line of colour and level k
 unfoldable pub state_row : Standing → ℕ → List ℕ
 state_row now k = codes "colour " ++ digits 2 k ++ codes " " ++ hex_digits 4 (now.colour k) ++ codes " level "
     ++ digits 2 (now.level k) ++ line_feed
 
+-- the lines of the border and of the offsets
 abbrev pub state_head : Standing → List ℕ
 state_head now =
     codes "border " ++ digits 2 now.border ++ line_feed
     ++ codes "offset " ++ digits 1 now.h ++ codes " " ++ digits 2 now.v ++ line_feed
 
+-- the state of a screen: the border, the offsets, and the sixteen colours and levels
 unfoldable pub state_text : Standing → List ℕ
 state_text now = state_head now ++ flat_map (state_row now) (below 16)

@@ -29,6 +29,7 @@ pub record Row : Type 0 where
   pub count : ℕ
   pub size : ℕ
 
+-- the row of a part in the table of the file
 abbrev pub row : Part → Row
 row Mark = record { first = 0; count = 1; size = 8 }
 row ToCome = record { first = 8; count = 1; size = 4 }
@@ -44,11 +45,12 @@ row Colours = record { first = 64995; count = 16; size = 2 }
 row Levels = record { first = 65027; count = 16; size = 1 }
 row Check = record { first = 65043; count = 1; size = 2 }
 
--- the parts in the order of their bytes: those that the check is of, and the check
+-- the parts that the check is of, in the order of their bytes
 abbrev pub body_parts : List Part
 body_parts = Mark ∷ ToCome ∷ LeadIn ∷ Program ∷ Bad ∷ Slots ∷ Memory ∷ Border ∷ Across ∷ Down ∷ Colours ∷
     Levels ∷ []
 
+-- all parts in the order of their bytes
 abbrev pub all_parts : List Part
 all_parts = body_parts ++ Check ∷ []
 

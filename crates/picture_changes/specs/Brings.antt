@@ -23,19 +23,22 @@ IsStill (ScrollPreset colour across h down v) = ⊥
 IsStill (ScrollCopy colour across h down v) = ⊥
 IsStill instr = InRange instr
 
--- the instructions that set all memory, the border, and the two halves of the colours
+-- the instructions that set all memory
 abbrev pub sets_memory : Instr → Bool
 sets_memory (MemoryPreset colour repeat) = true
 sets_memory _ = false
 
+-- those that set the border
 abbrev pub sets_border : Instr → Bool
 sets_border (BorderPreset colour) = true
 sets_border _ = false
 
+-- those that set colours 0 to 7
 abbrev pub sets_low : Instr → Bool
 sets_low (ColoursLow colours) = true
 sets_low _ = false
 
+-- those that set colours 8 to 15
 abbrev pub sets_high : Instr → Bool
 sets_high (ColoursHigh colours) = true
 sets_high _ = false

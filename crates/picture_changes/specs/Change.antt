@@ -41,6 +41,7 @@ IsStart k (Some colour) = colour < 16
 IsStart zero None = ⊥
 IsStart (suc k) None = ⊤
 
+-- the instruction that a start is, if any
 abbrev pub preset_of : Option ℕ → List Instr
 preset_of (Some colour) = MemoryPreset colour 0 ∷ []
 preset_of None = []

@@ -11,21 +11,24 @@ pub data Drawing : Type 0 where
   Row : ℕ → ℕ → List ℕ → Drawing
   Show : ℕ → ℕ → Drawing
 
--- the ready and hold times of the pictures, in order
+-- the ready and hold time of a show line
 abbrev pub shown_times : Drawing → Option (ℕ × ℕ)
 shown_times (Show ready hold) = Some (ready, hold)
 shown_times _ = None
 
+-- the ready and hold times of the pictures, in order
 unfoldable pub shows : List Drawing → List (ℕ × ℕ)
 shows script = filter_map shown_times script
 
+-- how many pictures a script has
 abbrev pub pictures : List Drawing → ℕ
 pictures script = length (shows script)
 
--- when picture k is ready, and until when it is held
+-- when picture k is ready
 abbrev pub ready_time : List Drawing → ℕ → ℕ
 ready_time script k = (slice_index_or (shows script) k (0, 0)).0
 
+-- until when picture k is held
 abbrev pub hold_time : List Drawing → ℕ → ℕ
 hold_time script k = (slice_index_or (shows script) k (0, 0)).1
 
@@ -84,9 +87,10 @@ unfoldable pub picture_tile : List Drawing → ℕ → ℕ → ℕ → List ℕ
 picture_tile script k row column =
     map (λ p. picture_pixel script k (6 * (column - 1) + p % 6) (12 * (row - 1) + p / 6)) (below 72)
 
--- colours 0 to 7 of a picture, and colours 8 to 15
+-- colours 0 to 7 of picture k
 unfoldable pub low_colours : List Drawing → ℕ → List ℕ
 low_colours script k = map (picture_colour script k) (below 8)
 
+-- colours 8 to 15 of picture k
 unfoldable pub high_colours : List Drawing → ℕ → List ℕ
 high_colours script k = map (λ n. picture_colour script k (8 + n)) (below 8)
