@@ -52,6 +52,7 @@ impl BlockWords {
     }
 
     /// The words that come with a block of the program.
+    #[inline]
     fn take(&mut self, block: &[u8; BLOCK]) -> BlockOfWords
         ensures next { self.new ≡ record self.old {
           gather = run_state (window_next self.old.form)
@@ -76,6 +77,7 @@ impl Stage for BlockWords {
 
     ghost gives = { words_give };
 
+    #[inline]
     #[tactic(auto, unfolding(crate::specs::Steps::words_next, crate::specs::Steps::words_give))]
     fn feed(&mut self, block: &[u8; BLOCK]) -> Option<BlockOfWords> {
         if self.lead_in > 0 {
