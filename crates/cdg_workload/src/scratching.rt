@@ -1,5 +1,5 @@
 // Scratches of a raw stream.
-ghost use Rattle.std.specs.Prelude.{◌≡◌, ◌≢◌, ◌≤◌, ◌*◌, ◌/◌, List, ℕ, length, map, take, drop, IfSome, IsErrOf, Err};
+ghost use Rattle.std.specs.Prelude.{◌≡◌, ◌≢◌, ◌≤◌, ◌*◌, ◌/◌, List, ℕ, [], length, map, take, drop, IfSome, IsErrOf, Some, Err};
 ghost use Rattle.cdg_io.specs.Causes.{Rose};
 ghost use Rattle.cdg_io.specs.Pump.{IsUnlessFault, TellsEndOf, answer_of};
 ghost use Rattle.cdg_io.specs.Streams.{Streams};
@@ -40,6 +40,23 @@ impl Scratches {
             },
         }
     }
+
+    /// Puts a block into an empty piece, scratched where it is one of the program.
+    #[tactic(auto, unfolding(crate::specs::Steps::block_next, crate::specs::Steps::block_gives))]
+    fn pass(&mut self, block: &[u8; 96], piece: &mut Piece)
+        requires { piece.old ≡ [] }
+        ensures next { self.new ≡ block_next self.old block.now }
+        ensures gives { Some piece.new ≡ block_gives self.old block.now }
+    {
+        if self.lead_in > 0 {
+            self.lead_in -= 1;
+            piece.add(block);
+            return;
+        }
+        let mut scratched = *block;
+        self.needle.scratch(&mut scratched);
+        piece.add(&scratched);
+    }
 }
 
 impl Stage for Scratches {
@@ -51,18 +68,20 @@ impl Stage for Scratches {
 
     ghost gives = { block_gives };
 
-    #[tactic(auto, unfolding(crate::specs::Steps::block_next, crate::specs::Steps::block_gives))]
     fn feed(&mut self, block: &[u8; 96]) -> Option<Piece> {
         let mut piece = Piece::new();
-        if self.lead_in > 0 {
-            self.lead_in -= 1;
-            piece.add(block);
-            return Some(piece);
-        }
-        let mut scratched = *block;
-        self.needle.scratch(&mut scratched);
-        piece.add(&scratched);
+        self.pass(block, &mut piece);
         Some(piece)
+    }
+
+    fn emit(&mut self, block: &[u8; 96], out: &mut Option<Piece>) {
+        match out {
+            Some(piece) => {
+                *piece = Piece::new();
+                self.pass(block, piece);
+            }
+            None => *out = self.feed(block),
+        }
     }
 }
 

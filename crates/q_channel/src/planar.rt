@@ -1,5 +1,5 @@
 // From blocks to their planar forms, and back.
-ghost use Rattle.std.specs.Prelude.{Some};
+ghost use Rattle.std.specs.Prelude.{◌≡◌, Some};
 ghost use Rattle.raw_subcode.specs.PlanarBytes.{block_from_planar, planar_form};
 
 use cdg_io::{Piece, Stage};
@@ -21,6 +21,10 @@ impl Stage for PlanarForms {
     fn feed(&mut self, block: &[u8; BLOCK_BYTES]) -> Option<Piece> {
         Some(Piece::new().with(&Block::from_bytes(block).to_planar()))
     }
+
+    fn emit(&mut self, block: &[u8; BLOCK_BYTES], out: &mut Option<Piece>) {
+        leave(&Block::from_bytes(block).to_planar(), out);
+    }
 }
 
 /// Gives the block of each planar form of 96 bytes.
@@ -38,5 +42,23 @@ impl Stage for BlockForms {
 
     fn feed(&mut self, planar: &[u8; BLOCK_BYTES]) -> Option<Piece> {
         Some(Piece::new().with(&Block::from_planar(planar).bytes()))
+    }
+
+    fn emit(&mut self, planar: &[u8; BLOCK_BYTES], out: &mut Option<Piece>) {
+        leave(&Block::from_planar(planar).bytes(), out);
+    }
+}
+
+/// Leaves these bytes in `out`, in the piece that is there where there is one.
+#[inline]
+fn leave(bytes: &[u8; BLOCK_BYTES], out: &mut Option<Piece>)
+    ensures { out.new ≡ Some bytes.now }
+{
+    match out {
+        Some(piece) => {
+            *piece = Piece::new();
+            piece.add(bytes);
+        }
+        None => *out = Some(Piece::new().with(bytes)),
     }
 }

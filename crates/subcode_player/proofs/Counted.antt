@@ -9,12 +9,13 @@ use Rattle.arrayvec.specs.ArrayVec.{ArrayVec}
 use Rattle.cdg_io.specs.Run.{run_state}
 use Rattle.cdg_io.specs.declared.stage.Then.{Then}
 use Rattle.cdg_io.proofs.Runs.{joined}
-use Rattle.rw_code.specs.Codeword.{differences}
+use Rattle.rw_code.specs.Codeword.{IsCodeword, differences}
 use Rattle.rw_code.specs.Finding.{finding}
 use Rattle.raw_subcode.specs.Channels.{q_bits}
 use Rattle.q_channel.specs.ReadingOf.{reading_of}
 use Rattle.q_channel.specs.declared.frame.QFrame.{QFrame}
 use Rattle.q_channel.specs.declared.frame.QFault.{QFault}
+use Rattle.subcode_player.proofs.Recovers.{found_itself}
 use Rattle.subcode_player.specs.Steps.{words_next, words_give}
 use Rattle.subcode_player.specs.Check.{has_wrong, found_passes, is_idle, is_graphics, is_unknown, is_foreign}
 use Rattle.subcode_player.specs.CheckSteps.{tick, wrong_counted, kind_counted, count_found, count_next, count_after, counts_next, frames_next, counting_next}
@@ -37,6 +38,19 @@ pub idle_counted : (s : WordCounts) (word : List ℕ) → word ≡ replicate 24 
     → record s { clean = tick true s.clean; idle = tick true s.idle } ≡ count_found s word (Some word)
 unfolding count_found tick differences
 idle_counted s word zeros = sym (ap (λ (w : List ℕ). count_found s w (Some w)) zeros)
+
+-- ---- four idle words
+
+idle_next : (s t : WordCounts) → IsCodeword (replicate 24 0) → t ≡ record s { clean = tick true s.clean; idle = tick true s.idle } → t ≡ count_next s (replicate 24 0)
+idle_next s t is step = step ∙ idle_counted s (replicate 24 0) refl ∙ ap (count_found s (replicate 24 0)) (found_itself (replicate 24 0) is)
+
+pub four_idle : (s a b c d : WordCounts) → IsCodeword (replicate 24 0) → a ≡ record s { clean = tick true s.clean; idle = tick true s.idle }
+    → b ≡ record a { clean = tick true a.clean; idle = tick true a.idle } → c ≡ record b { clean = tick true b.clean; idle = tick true b.idle }
+    → d ≡ record c { clean = tick true c.clean; idle = tick true c.idle } → d ≡ count_after s (replicate 4 (replicate 24 0))
+unfolding count_after
+four_idle s a b c d is first second third fourth =
+    let next : WordCounts → WordCounts = λ (t : WordCounts). count_next t (replicate 24 0) in
+    idle_next c d is fourth ∙ ap next (idle_next b c is third ∙ ap next (idle_next a b is second ∙ ap next (idle_next s a is first)))
 
 -- ---- a loop over words
 

@@ -5,6 +5,8 @@ use Rattle.std.proofs.lemmas.Bool.Decides.{eqb_tells}
 use Rattle.std.proofs.lemmas.List.{take_more}
 use Rattle.arrayvec.specs.ArrayVec.{ArrayVec}
 use Rattle.cdg_io.specs.Run.{run_state}
+use Rattle.std.specs.Prelude.{replicate}
+use Rattle.rw_code.specs.Codeword.{IsCodeword}
 use Rattle.rw_code.specs.Finding.{finding}
 use Rattle.rw_interleave.specs.Stream.{bad_count}
 use Rattle.cdg_instructions.specs.Meaning.{meaning}
@@ -16,9 +18,13 @@ use Rattle.cdg_screen.specs.Standings.{obeyed}
 use Rattle.subcode_player.specs.Steps.{bad_next}
 use Rattle.subcode_player.specs.Drawn.{entry_drawn, draw_next, draw_after, drawing_next}
 use Rattle.subcode_player.specs.Screen.{AreMeant}
+use Rattle.subcode_player.proofs.Recovers.{found_itself, bad_some}
 use Rattle.subcode_player.specs.declared.drawing.Drawing.{Drawing}
 use Rattle.cdg_screen.proofs.StandingLemmas.{obeyed_is}
 use Rattle.subcode_player.proofs.StageRuns.{all_items, one_bad, count_more, at_most_one}
+
+abbrev state : Display → ℕ → ℕ → Drawing
+state picture left bad = record { picture = picture; left = left; bad = bad }
 
 -- ---- a loop over words
 
@@ -39,6 +45,19 @@ draw_step words i word start old new lt is done step =
 pub drawn_none_yet : (start : Drawing) → start ≡ draw_after start []
 unfolding draw_after
 drawn_none_yet start = refl
+
+-- an idle word, where a pack is left
+pub idle_drawn : (s t : Drawing) → IsCodeword (replicate 24 0) → 0 < s.left → s.picture ≡ obeyed s.picture (meaning (replicate 24 0))
+    → t ≡ record s { left = s.left - 1 } → t ≡ draw_next s (replicate 24 0)
+unfolding draw_next
+idle_drawn s t is left stays step =
+    let word : List ℕ = replicate 24 0 in
+    let picture : s.picture ≡ entry_drawn s.picture (finding word) = stays ∙ ap (entry_drawn s.picture) (found_itself word is) in
+    let bad : s.bad ≡ bad_next s.bad word = bad_some s.bad word word (found_itself word is) in
+    let some : (s.left == 0) ≡ false = elim (eqb_tells s.left 0) [ inl none ↦ absurd (omega (arith, left, none.1)) | inr some ↦ some.0 ] in
+    let drawn : Drawing = record { picture = entry_drawn s.picture (finding word); left = s.left - 1; bad = bad_next s.bad word } in
+    step ∙ ap (λ (p : Display). state p (s.left - 1) s.bad) picture ∙ ap (state (entry_drawn s.picture (finding word)) (s.left - 1)) bad
+    ∙ sym (ap (λ t. cond t s drawn) some)
 
 pub drawing_runs : (s : Drawing) (vs : List (ArrayVec (List ℕ))) → run_state drawing_next s vs ≡ draw_after s (all_items vs)
 unfolding drawing_next draw_after
@@ -74,9 +93,6 @@ entry_before picture (Some word) rest end same =
     (same_then (standing_after (standing_of (obeyed picture instr)) (instrs_of rest)) (standing_after between (instrs_of rest)) (standing_after old (instr ∷ instrs_of rest))
     (same_after (standing_of (obeyed picture instr)) between (instrs_of rest) (obeyed_is picture instr))
     (same_back (standing_after old (instr ∷ instrs_of rest)) (standing_after between (instrs_of rest)) (in_turn old (instr ∷ []) (instrs_of rest))))
-
-abbrev state : Display → ℕ → ℕ → Drawing
-state picture left bad = record { picture = picture; left = left; bad = bad }
 
 next_of : (picture : Display) (left bad : ℕ) (word : List ℕ) → draw_next (state picture (suc left) bad) word ≡ state (entry_drawn picture (finding word)) left (bad_next bad word)
 unfolding draw_next

@@ -50,21 +50,6 @@ impl BlockWords {
         self.lead_in = lead_in;
         self.gather.reset();
     }
-
-    /// The words that come with a block of the program.
-    fn take(&mut self, block: &[u8; BLOCK]) -> BlockOfWords
-        ensures next { self.new ≡ record self.old {
-          gather = run_state (window_next self.old.form)
-              self.old.gather (slots_of block.now);
-        } }
-        ensures gives { result.items ≡ run_gives (window_next self.old.form) (window_gives self.old.form)
-            self.old.gather (slots_of block.now) }
-    {
-        match self.form {
-            Form::Raw | Form::Sector => self.gather.push_block(block),
-            Form::Cooked => slots(block),
-        }
-    }
 }
 
 impl Stage for BlockWords {
@@ -76,13 +61,17 @@ impl Stage for BlockWords {
 
     ghost gives = { words_give };
 
+    #[inline]
     #[tactic(auto, unfolding(crate::specs::Steps::words_next, crate::specs::Steps::words_give))]
     fn feed(&mut self, block: &[u8; BLOCK]) -> Option<BlockOfWords> {
         if self.lead_in > 0 {
             self.lead_in -= 1;
             return None;
         }
-        Some(self.take(block))
+        match self.form {
+            Form::Raw | Form::Sector => Some(self.gather.push_block(block)),
+            Form::Cooked => Some(slots(block)),
+        }
     }
 }
 

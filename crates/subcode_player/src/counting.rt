@@ -1,12 +1,12 @@
 // Counts of words, packs and frames.
-ghost use Rattle.std.specs.Prelude.{◌≡◌, ◌≤◌, ◌+◌, ◌++◌, ◌==◌, length, true, Some, None};
-ghost use Rattle.rw_code.specs.Codeword.{IsWord, differences};
+ghost use Rattle.std.specs.Prelude.{◌≡◌, ◌≤◌, ◌+◌, ◌++◌, ◌==◌, length, replicate, true, Some, None};
+ghost use Rattle.rw_code.specs.Codeword.{IsCodeword, IsWord, differences};
 ghost use Rattle.subcode_player.specs.Steps.{fresh_words};
 ghost use Rattle.subcode_player.specs.Check.{is_known};
-ghost use Rattle.subcode_player.specs.CheckSteps.{tick, wrong_counted, kind_counted, count_found, count_next, counts_next, counts_give, frames_next, counting_next, counting_gives};
+ghost use Rattle.subcode_player.specs.CheckSteps.{tick, wrong_counted, kind_counted, count_found, count_next, count_after, counts_next, counts_give, frames_next, counting_next, counting_gives};
 
 use crate::block_words::{BLOCK, BlockOfWords};
-use crate::idle_words::is_idle;
+use crate::idle_words::{are_idle, is_idle};
 use crate::{BlockWords, Form};
 use cdg_io::{Piece, Stage, Then};
 use q_channel::is_frame;
@@ -73,6 +73,16 @@ fn is_known(code: u8) -> bool
 }
 
 impl WordCounts {
+    /// Counts the words of a block, one by one.
+    #[inline(never)]
+    fn count_each(&mut self, words: &BlockOfWords)
+        ensures { self.new ≡ counts_next self.old words.now }
+    {
+        for word in words.as_slice() {
+            self.count(word);
+        }
+    }
+
     /// Counts a word by what is found for it.
     fn count(&mut self, word: &Word)
         ensures { self.new ≡ count_next self.old word.now }
@@ -97,6 +107,17 @@ impl WordCounts {
     {
         tick(&mut self.clean, true);
         tick(&mut self.idle, true);
+    }
+
+    /// Counts four idle words.
+    fn count_four_idle(&mut self)
+        requires { IsCodeword (replicate 24 0) }
+        ensures { self.new ≡ count_after self.old (replicate 4 (replicate 24 0)) }
+    {
+        self.count_idle();
+        self.count_idle();
+        self.count_idle();
+        self.count_idle();
     }
 
     /// Counts a word that is near a codeword.
@@ -147,10 +168,14 @@ impl Stage for WordCounts {
 
     ghost gives = { counts_give };
 
+    #[tactic(auto, unfolding(crate::specs::CheckSteps::counts_give))]
     fn feed(&mut self, words: &BlockOfWords) -> Option<Piece> {
-        for word in words.as_slice() {
-            self.count(word);
+        // Most blocks of a disc are idle.
+        if are_idle(words) {
+            self.count_four_idle();
+            return None;
         }
+        self.count_each(words);
         None
     }
 }

@@ -1,12 +1,13 @@
 // From words to what stands on a screen.
-ghost use Rattle.std.specs.Prelude.{◌≡◌};
+ghost use Rattle.std.specs.Prelude.{◌≡◌, replicate};
+ghost use Rattle.rw_code.specs.Codeword.{IsCodeword};
 ghost use Rattle.rw_code.specs.Finding.{finding};
 ghost use Rattle.subcode_player.specs.Steps.{bad_next};
-ghost use Rattle.subcode_player.specs.Drawn.{entry_drawn, draw_next, drawing_next, drawing_gives};
+ghost use Rattle.subcode_player.specs.Drawn.{entry_drawn, draw_next, draw_after, drawing_next, drawing_gives};
 
 use crate::Picture;
 use crate::block_words::BlockOfWords;
-use crate::idle_words::is_idle;
+use crate::idle_words::{are_idle, is_idle};
 use cdg_io::{Piece, Stage};
 use rw_code::{Word, correct};
 
@@ -20,6 +21,39 @@ pub struct Drawing {
 }
 
 impl Drawing {
+    /// Draws the words of a block, one by one.
+    #[inline(never)]
+    fn draw_each(&mut self, words: &BlockOfWords)
+        ensures { self.new ≡ drawing_next self.old words.now }
+    {
+        for word in words.as_slice() {
+            self.draw(word);
+        }
+    }
+
+    /// Draws four idle words.
+    fn draw_four_idle(&mut self)
+        requires { IsCodeword (replicate 24 0) }
+        ensures { self.new ≡ draw_after self.old (replicate 4 (replicate 24 0)) }
+    {
+        self.draw_idle();
+        self.draw_idle();
+        self.draw_idle();
+        self.draw_idle();
+    }
+
+    /// Draws an idle word, if a pack is left to be drawn: the picture stays.
+    #[tactic(auto, unfolding(crate::specs::Drawn::draw_next))]
+    fn draw_idle(&mut self)
+        requires { IsCodeword (replicate 24 0) }
+        ensures { self.new ≡ draw_next self.old (replicate 24 0) }
+    {
+        if self.left > 0 {
+            self.left -= 1;
+            self.picture.stays_at_idle();
+        }
+    }
+
     /// Draws what is found for a word, if a pack is left to be drawn.
     #[tactic(auto, unfolding(crate::specs::Drawn::draw_next))]
     fn draw(&mut self, word: &Word)
@@ -58,10 +92,14 @@ impl Stage for Drawing {
 
     ghost gives = { drawing_gives };
 
+    #[tactic(auto, unfolding(crate::specs::Drawn::drawing_gives))]
     fn feed(&mut self, words: &BlockOfWords) -> Option<Piece> {
-        for word in words.as_slice() {
-            self.draw(word);
+        // Most blocks of a disc are idle.
+        if are_idle(words) {
+            self.draw_four_idle();
+            return None;
         }
+        self.draw_each(words);
         None
     }
 }

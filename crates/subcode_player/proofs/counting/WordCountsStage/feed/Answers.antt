@@ -1,21 +1,8 @@
-use Rattle.std.proofs.Common.{◌∙◌, ap, refl, arith}
-use Rattle.std.proofs.lemmas.List.{take_all}
-use Rattle.subcode_player.specs.CheckSteps.{count_after, counts_next, counts_give}
-use Rattle.subcode_player.proofs.Counted.{count_step, counted_none_yet}
+use Rattle.std.proofs.Common.{◌∙◌, ap, sym}
+use Rattle.subcode_player.specs.CheckSteps.{count_after, counts_next}
 use Rattle.subcode_player.proofs.counting.WordCountsStage.feed.Goals as goal
 
-pub loop-word-init : goal.loop-word-init
-loop-word-init c = counted_none_yet _
-
-pub loop-word-preserved : goal.loop-word-preserved
-loop-word-preserved c =
-    count_step c.as_slice-word-items.result.now c.loop-word.word-index _ c.args.self.now c.loop-word.self _ (omega arith) c.word-item.is c.loop-word.invariant c.count.ensures
-
-pub returns-clause-next : goal.returns-clause-next
+pub returns-then-are_idle-clause-next : goal.returns-then-are_idle-clause-next
 unfolding counts_next
-returns-clause-next c =
-    c.loop-word.invariant ∙ ap (count_after c.args.self.now) (take_all c.loop-word.word-index c.as_slice-word-items.result.now (omega arith) ∙ c.as_slice-word-items.ensures.value)
-
-pub returns-clause-gives : goal.returns-clause-gives
-unfolding counts_give
-returns-clause-gives c = refl
+returns-then-are_idle-clause-next c =
+    c.count_four_idle.ensures ∙ ap (count_after c.args.self.now) (sym (c.are_idle.ensures.words c.if-are_idle.true))

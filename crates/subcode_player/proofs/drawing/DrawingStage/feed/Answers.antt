@@ -1,21 +1,8 @@
-use Rattle.std.proofs.Common.{◌∙◌, ap, refl, arith}
-use Rattle.std.proofs.lemmas.List.{take_all}
-use Rattle.subcode_player.specs.Drawn.{draw_after, drawing_next, drawing_gives}
-use Rattle.subcode_player.proofs.Draws.{draw_step, drawn_none_yet}
+use Rattle.std.proofs.Common.{◌∙◌, ap, sym}
+use Rattle.subcode_player.specs.Drawn.{draw_after, drawing_next}
 use Rattle.subcode_player.proofs.drawing.DrawingStage.feed.Goals as goal
 
-pub loop-word-init : goal.loop-word-init
-loop-word-init c = drawn_none_yet _
-
-pub loop-word-preserved : goal.loop-word-preserved
-loop-word-preserved c =
-    draw_step c.as_slice-word-items.result.now c.loop-word.word-index _ c.args.self.now c.loop-word.self _ (omega arith) c.word-item.is c.loop-word.invariant c.draw.ensures
-
-pub returns-clause-next : goal.returns-clause-next
+pub returns-then-are_idle-clause-next : goal.returns-then-are_idle-clause-next
 unfolding drawing_next
-returns-clause-next c =
-    c.loop-word.invariant ∙ ap (draw_after c.args.self.now) (take_all c.loop-word.word-index c.as_slice-word-items.result.now (omega arith) ∙ c.as_slice-word-items.ensures.value)
-
-pub returns-clause-gives : goal.returns-clause-gives
-unfolding drawing_gives
-returns-clause-gives c = refl
+returns-then-are_idle-clause-next c =
+    c.draw_four_idle.ensures ∙ ap (draw_after c.args.self.now) (sym (c.are_idle.ensures.words c.if-are_idle.true))

@@ -1,6 +1,6 @@
 use Rattle.std.proofs.Common.{sym, ◌∙◌}
 use Rattle.subcode_player.proofs.Recovers.{zeros_word}
-use Rattle.subcode_player.proofs.correction.all_idle.Goals as goal
+use Rattle.subcode_player.proofs.idle_words.all_idle.Goals as goal
 
 pub returns-clause-first : goal.returns-clause-first
 returns-clause-first c = λ yes. sym c.bytes.ensures.same ∙ zeros_word _ c.bytes.ensures.word.size (c.are_zeros.ensures.first yes)

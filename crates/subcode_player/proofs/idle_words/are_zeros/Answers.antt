@@ -1,7 +1,7 @@
 use Rattle.std.proofs.Common.{arith}
 use Rattle.std.specs.Prelude.{slice_index}
 use Rattle.subcode_player.proofs.Recovers.{or_none, zeros_on}
-use Rattle.subcode_player.proofs.correction.are_zeros.Goals as goal
+use Rattle.subcode_player.proofs.idle_words.are_zeros.Goals as goal
 
 pub loop-i-preserved : goal.loop-i-preserved
 loop-i-preserved c =
