@@ -43,7 +43,7 @@ unfolding in_lanes
 in_lanes-same zero f g same = refl
 in_lanes-same (suc n) f g same = ap₂ (λ a b. a + 256 * b) (same 0) (in_lanes-same n (λ k. f (suc k)) (λ k. g (suc k)) (λ k. same (suc k)))
 
-in_lanes-times : (n m : ℕ) (f : ℕ → ℕ) → in_lanes n (λ k. m * f k) ≡ m * in_lanes n f
+pub in_lanes-times : (n m : ℕ) (f : ℕ → ℕ) → in_lanes n (λ k. m * f k) ≡ m * in_lanes n f
 unfolding in_lanes
 in_lanes-times zero m f = omega arith
 in_lanes-times (suc n) m f = ap (λ r. m * f 0 + 256 * r) (in_lanes-times n m (λ k. f (suc k))) ∙ omega arith

@@ -60,19 +60,19 @@ in_lanes-double (suc n) f g =
     omega (arith, rest)
 
 -- a byte of a number that holds numbers below 256
-in_lanes-byte : (n k : ℕ) (f : ℕ → ℕ) → ((j : ℕ) → f j < 256) → k < n → in_lanes n f / 256 ^ k % 256 ≡ f k
+pub in_lanes-byte : (n k : ℕ) (f : ℕ → ℕ) → ((j : ℕ) → j < n → f j < 256) → k < n → in_lanes n f / 256 ^ k % 256 ≡ f k
 unfolding in_lanes
 in_lanes-byte zero k f small lt = absurd (omega arith)
-in_lanes-byte (suc n) zero f small lt = let first = small 0 in omega (arith, first)
+in_lanes-byte (suc n) zero f small lt = let first = small 0 (omega arith) in omega (arith, first)
 in_lanes-byte (suc n) (suc k) f small lt =
-    let first = small 0 in
+    let first = small 0 (omega arith) in
     let rest = in_lanes n (λ j. f (suc j)) in
     let power : 256 ^ suc k ≡ 256 * 256 ^ k = omega arith in
     let shifted : (f 0 + 256 * rest) / 256 ≡ rest = omega (arith, first) in
     ap (λ w. (f 0 + 256 * rest) / w % 256) power
     ∙ ap (λ m. m % 256) (sym (div-div-eq-div-mul (f 0 + 256 * rest) 256 (256 ^ k)))
     ∙ ap (λ m. m / 256 ^ k % 256) shifted
-    ∙ in_lanes-byte n k (λ j. f (suc j)) (λ j. small (suc j)) (omega arith)
+    ∙ in_lanes-byte n k (λ j. f (suc j)) (λ j j_lt. small (suc j) (omega arith)) (omega arith)
 
 -- one for a bit that is set
 abbrev worth : ℕ → ℕ → ℕ
@@ -110,11 +110,7 @@ lanes_double f =
 turned_at-lt : (bytes : List ℕ) (k : ℕ) → turned_at bytes k < 256
 turned_at-lt bytes k = number_of-lt (map (λ j. has_bit (7 - k) (slice_index bytes j)) (below 8))
 
-worth_small : (b : Bool) → (if b then 1 else 0) < 256
-worth_small true = omega arith
-worth_small false = omega arith
-
-byte_at : (n j : ℕ) → j < 8 → slice_index (bytes_low_first 0 8 n) j ≡ n / 256 ^ j % 256
+pub byte_at : (n j : ℕ) → j < 8 → slice_index (bytes_low_first 0 8 n) j ≡ n / 256 ^ j % 256
 byte_at n zero lt = omega arith
 byte_at n (suc zero) lt = refl
 byte_at n (suc (suc zero)) lt = refl
@@ -132,18 +128,10 @@ turned_is bytes n is =
     lanes_double (λ j k. worth k (slice_index bytes j)) in
     let small : (k : ℕ) → doubled (λ j. worth k (slice_index bytes j)) < 256 = λ k. let lt = turned_at-lt bytes k in let e = doubled_is bytes k in omega (arith, lt, e) in
     let at : (k : ℕ) → k < 8 → n / 256 ^ k % 256 ≡ turned_at bytes k =
-    λ k lt. ap (λ m. m / 256 ^ k % 256) (is ∙ sums) ∙ in_lanes-byte 8 k (λ k. doubled (λ j. worth k (slice_index bytes j))) small lt ∙ doubled_is bytes k in
+    λ k lt. ap (λ m. m / 256 ^ k % 256) (is ∙ sums) ∙ in_lanes-byte 8 k (λ k. doubled (λ j. worth k (slice_index bytes j))) (λ k k_lt. small k) lt ∙ doubled_is bytes k in
     let first : n % 256 ≡ n / 256 ^ 0 % 256 = omega arith in
     (λ i. (first ∙ at 0 (omega arith)) i ∷ at 1 (omega arith) i ∷ at 2 (omega arith) i ∷ at 3 (omega arith) i
     ∷ at 4 (omega arith) i ∷ at 5 (omega arith) i ∷ at 6 (omega arith) i ∷ at 7 (omega arith) i ∷ [])
-
--- the bits of a byte, each in a byte of its own
-pub apart_is : (byte n j : ℕ) → j < 8 → n ≡ lanes_of_byte byte → slice_index (bytes_low_first 0 8 n) j ≡ (if has_bit (7 - j) byte then 1 else 0)
-unfolding lanes_of_byte
-apart_is byte n j lt is =
-    let small : (k : ℕ) → worth k byte < 256 = λ k. worth_small (has_bit (7 - k) byte) in
-    let all : (k : ℕ) → k < 8 → n / 256 ^ k % 256 ≡ worth k byte = λ k k_lt. ap (λ m. m / 256 ^ k % 256) is ∙ in_lanes-byte 8 k (λ k. worth k byte) small k_lt in
-    byte_at n j lt ∙ all j lt
 
 -- a byte of eight that are turned
 pub turned_byte : (bytes eight : List ℕ) (k : ℕ) (f : ℕ → ℕ) → k < 8 → eight ≡ map (turned_at bytes) (below 8)

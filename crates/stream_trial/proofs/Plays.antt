@@ -1,5 +1,5 @@
--- What a replay and a gallery have after the first slots of a stream.
-use Rattle.std.proofs.Common.{◌≡◌, ◌≢◌, ℕ, zero, suc, ◌+◌, ◌-◌, ◌*◌, ◌/◌, ◌%◌, ◌<◌, ◌≤◌, ◌==◌, List, [], ◌∷◌, ◌++◌, length, get_or, take, inl, inr, refl, sym, ap, ap₂, ◌∙◌, subst, arith, Some, None}
+-- What a replay and a gallery have after the first words and blocks of a stream.
+use Rattle.std.proofs.Common.{◌≡◌, ◌≢◌, ℕ, zero, suc, ◌+◌, ◌-◌, ◌*◌, ◌/◌, ◌%◌, ◌<◌, ◌≤◌, ◌==◌, List, [], ◌∷◌, ◌++◌, length, get_or, take, inl, inr, refl, sym, ap, ap₂, ◌∙◌, subst, arith}
 use Rattle.std.specs.Prelude.{count_by}
 use Rattle.std.specs.List.{range_with_len}
 use Rattle.std.proofs.lemmas.Bool.{cases_lt}
@@ -11,7 +11,6 @@ use Rattle.raw_subcode.specs.Channels.{symbols_of}
 use Rattle.raw_subcode.specs.declared.form.Form.TheVariants.{Raw}
 use Rattle.rw_code.specs.Codeword.{IsCodeword, IsNear, Reads, differences}
 use Rattle.rw_interleave.specs.Interleave.{word_of, whole_packs}
-use Rattle.rw_interleave.specs.Gathering.{gather_gives}
 use Rattle.rw_interleave.proofs.Recovery.{differences-turned, form_words}
 use Rattle.cdg_instructions.specs.Instruction.{Means}
 use Rattle.cdg_instructions.specs.declared.instr.Instr.{Instr}
@@ -21,11 +20,11 @@ use Rattle.picture_changes.specs.Schedule.{IsSchedule}
 use Rattle.picture_changes.specs.Shown.{ShowsPicture, AreTimesInOrder, AreColoursInRange}
 use Rattle.picture_changes.specs.Meanings.{AreMeantBy}
 use Rattle.stream_trial.specs.Counts.{differing}
-use Rattle.stream_trial.specs.Replay.{one_where, TakesWord, TakesNothing, IsBelow, stream_slot, IsDamagedSchedule, IsPlayedOut}
+use Rattle.stream_trial.specs.Replay.{one_where, TakesWord, IsBelow, IsDamagedSchedule, IsPlayedOut}
 use Rattle.stream_trial.specs.declared.replay.Replay.{Replay}
 use Rattle.stream_trial.specs.declared.gallery.Gallery.{Gallery}
 use Rattle.stream_trial.specs.declared.playing.Counts.{Counts}
-use Rattle.stream_trial.proofs.Slots.{GathersWords, gathered_before, gives_none, gives_word}
+use Rattle.stream_trial.proofs.Slots.{GathersWords, given, given_at}
 
 -- the laws that this rests on
 abbrev pub ShowsScheduled : Type 0
@@ -63,31 +62,36 @@ meant_more [] (i ∷ instrs) pack instr meant means = absurd (cc)
 meant_more (p ∷ packs) [] pack instr meant means = absurd meant
 meant_more (p ∷ packs) (i ∷ instrs) pack instr meant means = (meant.0, meant_more packs instrs pack instr meant.1 means)
 
--- ---- what n slots leave
+-- ---- what n words leave
 
 -- the first words were counted, and what their packs mean was carried out
 pub record AreTaken (symbols : List ℕ) (packs : List (List ℕ)) (others : List ℕ) (n : ℕ) (replay : Replay) : Type 0 where
-  pub one : replay.one ≡ differing 1 (n - 7) symbols others
-  pub two : replay.two ≡ differing 2 (n - 7) symbols others
+  pub one : replay.one ≡ differing 1 n symbols others
+  pub two : replay.two ≡ differing 2 n symbols others
   pub bad : replay.bad ≡ 0
   pub instrs : List Instr
-  pub meant : AreMeantBy (take (n - 7) packs) instrs
+  pub meant : AreMeantBy (take n packs) instrs
   pub screen : SameStanding (standing_of replay.screen) (standing_after blank instrs)
 
--- every picture that was ready was shown, and the next one is not ready yet
+-- every picture that was ready after n slots was shown, and the next one is not ready yet
 pub record AreShown (script : List Drawing) (n : ℕ) (gallery : Gallery) : Type 0 where
   pub equal : gallery.equal ≡ gallery.next
   pub later : gallery.next < pictures script → n < 4 * ready_time script gallery.next
 
--- both
+-- both, after n slots
 pub record ArePlayed (script : List Drawing) (symbols : List ℕ) (packs : List (List ℕ)) (others : List ℕ) (n : ℕ) (replay : Replay) (gallery : Gallery) : Type 0 where
-  pub taken : AreTaken symbols packs others n replay
+  pub taken : AreTaken symbols packs others (n - 7) replay
   pub shown : AreShown script n gallery
 
--- so much of any damaged schedule was played
+-- so many words of any damaged schedule were taken
+abbrev pub IsTaken : List Drawing → List ℕ → ℕ → Replay → Type 0
+IsTaken script bytes n replay = (symbols : List ℕ) (packs : List (List ℕ)) → IsDamagedSchedule script (length bytes / 96) symbols packs (symbols_of bytes)
+    → AreTaken symbols packs (symbols_of bytes) n replay
+
+-- so many blocks of any damaged schedule were played
 abbrev pub IsPlayed : List Drawing → List ℕ → ℕ → Replay → Gallery → Type 0
-IsPlayed script bytes n replay gallery = (symbols : List ℕ) (packs : List (List ℕ)) → IsDamagedSchedule script (length bytes / 96) symbols packs (symbols_of bytes)
-    → ArePlayed script symbols packs (symbols_of bytes) n replay gallery
+IsPlayed script bytes b replay gallery = (symbols : List ℕ) (packs : List (List ℕ)) → IsDamagedSchedule script (length bytes / 96) symbols packs (symbols_of bytes)
+    → ArePlayed script symbols packs (symbols_of bytes) (4 * b) replay gallery
 
 nothing_taken : (symbols others : List ℕ) (packs : List (List ℕ)) (replay : Replay) → SameStanding (standing_of replay.screen) blank → (replay.one ≡ 0) × (replay.two ≡ 0) × (replay.bad ≡ 0) → AreTaken symbols packs others 0 replay
 nothing_taken symbols others packs replay screen counts = record {
@@ -127,72 +131,43 @@ module _ (script : List Drawing) (symbols : List ℕ) (packs : List (List ℕ)) 
   one_count wrong k old new lt before step =
       step ∙ ap₂ (λ (d : ℕ) (w : List ℕ). d + one_where (differences (word_of (symbols_of bytes) k) w) wrong) before (sym (pack_is k lt)) ∙ sym (differing_more wrong k symbols (symbols_of bytes))
 
-  -- a slot with which word k comes
-  one_taken : OneMore → (k n : ℕ) (old new : Replay) → k + 7 ≡ n → k < whole_packs (length bytes / 96) → AreTaken symbols packs (symbols_of bytes) n old → TakesWord (word_of (symbols_of bytes) k) (get_or packs k []) old new → AreTaken symbols packs (symbols_of bytes) (n + 1) new
-  one_taken more k n old new last lt before takes =
-      let next : k + 1 ≡ n + 1 - 7 = omega arith in
-      let now : n - 7 ≡ k = omega arith in
+  -- one word more
+  one_taken : OneMore → (k : ℕ) (old new : Replay) → k < whole_packs (length bytes / 96) → AreTaken symbols packs (symbols_of bytes) k old → TakesWord (word_of (symbols_of bytes) k) (get_or packs k []) old new → AreTaken symbols packs (symbols_of bytes) (k + 1) new
+  one_taken more k old new lt before takes =
       let within : k < length packs = omega (arith, lt, damaged.carries.count) in
       record {
-        one = one_count 1 k old.one new.one lt (before.one ∙ ap (λ m. differing 1 m symbols (symbols_of bytes)) now) takes.one ∙ ap (λ m. differing 1 m symbols (symbols_of bytes)) next;
-        two = one_count 2 k old.two new.two lt (before.two ∙ ap (λ m. differing 2 m symbols (symbols_of bytes)) now) takes.two ∙ ap (λ m. differing 2 m symbols (symbols_of bytes)) next;
+        one = one_count 1 k old.one new.one lt before.one takes.one;
+        two = one_count 2 k old.two new.two lt before.two takes.two;
         bad = takes.bad ∙ before.bad;
         instrs = before.instrs ++ takes.instr ∷ [];
-        meant = subst (λ (l : List (List ℕ)). AreMeantBy l (before.instrs ++ takes.instr ∷ [])) (sym (take_more packs k [] within) ∙ ap (λ m. take m packs) next)
-            (meant_more (take k packs) before.instrs (get_or packs k []) takes.instr (subst (λ m. AreMeantBy (take m packs) before.instrs) now before.meant) takes.meant);
+        meant = subst (λ (l : List (List ℕ)). AreMeantBy l (before.instrs ++ takes.instr ∷ [])) (sym (take_more packs k [] within))
+            (meant_more (take k packs) before.instrs (get_or packs k []) takes.instr before.meant takes.meant);
         screen = more blank (standing_of old.screen) (standing_of new.screen) before.instrs takes.instr before.screen takes.screen;
       }
 
-  -- one of the first slots, with which no word comes
-  none_taken : (n : ℕ) (old new : Replay) → n < 7 → AreTaken symbols packs (symbols_of bytes) n old → TakesNothing old new → AreTaken symbols packs (symbols_of bytes) (n + 1) new
-  none_taken n old new few before nothing =
-      let same : n - 7 ≡ n + 1 - 7 = omega arith in
-      record {
-        one = nothing.one ∙ before.one ∙ ap (λ m. differing 1 m symbols (symbols_of bytes)) same;
-        two = nothing.two ∙ before.two ∙ ap (λ m. differing 2 m symbols (symbols_of bytes)) same;
-        bad = nothing.bad ∙ before.bad;
-        instrs = before.instrs;
-        meant = subst (λ m. AreMeantBy (take m packs) before.instrs) same before.meant;
-        screen = subst (λ s. SameStanding (standing_of s) (standing_after blank before.instrs)) (sym nothing.screen) before.screen;
-      }
-
-  -- the next slot
-  slot_taken : GathersWords → OneMore → (n : ℕ) (old new : Replay) → 24 * n + 24 ≤ length bytes → n < 4 * (length bytes / 96) → old.gather ≡ gathered_before bytes n → AreTaken symbols packs (symbols_of bytes) n old
-      → (gather_gives old.gather (stream_slot bytes n) ≡ None → TakesNothing old new)
-      → ((word codeword : List ℕ) → gather_gives old.gather (stream_slot bytes n) ≡ Some word → Reads word codeword → TakesWord word codeword old new)
-      → AreTaken symbols packs (symbols_of bytes) (n + 1) new
-  slot_taken law more n old new fits within gather before none word =
-      elim (cases_lt n 7) [
-        | inl few ↦ none_taken n old new few before (none (ap (λ g. gather_gives g (stream_slot bytes n)) gather ∙ gives_none law bytes n fits few))
-        | inr enough ↦
-            let last : n - 7 + 7 ≡ n = omega arith in
-            let lt : n - 7 < whole_packs (length bytes / 96) = omega arith in
-            one_taken more (n - 7) n old new last lt before (word (word_of (symbols_of bytes) (n - 7)) (get_or packs (n - 7) []) (ap (λ g. gather_gives g (stream_slot bytes n)) gather ∙ gives_word law bytes (n - 7) n fits last) (reads_pack (n - 7) lt))
-      ]
-
   -- a picture that is ready is shown
-  shown_now : ShowsScheduled → AreTimesInOrder script → AreColoursInRange script → (k n : ℕ) (replay : Replay) → k < pictures script → n ≡ 4 * ready_time script k → (taken : AreTaken symbols packs (symbols_of bytes) n replay) → ShowsPicture script k (standing_after blank taken.instrs)
+  shown_now : ShowsScheduled → AreTimesInOrder script → AreColoursInRange script → (k n : ℕ) (replay : Replay) → k < pictures script → n ≡ 4 * ready_time script k → (taken : AreTaken symbols packs (symbols_of bytes) (n - 7) replay) → ShowsPicture script k (standing_after blank taken.instrs)
   shown_now law order ranges k n replay lt now taken =
       let whole : n - 7 ≡ whole_packs (ready_time script k) = omega arith in
       let held : ready_time script k ≤ hold_time script k = order.held k lt in
       let same : ready_time script k ≤ ready_time script k = omega arith in
       law script (length bytes / 96) packs k (ready_time script k) taken.instrs order damaged.schedule lt same held (subst (λ m. AreMeantBy (take m packs) taken.instrs) whole taken.meant)
 
-  -- the gallery after one slot more
-  looked : AreTimesInOrder script → (n : ℕ) (old new : Gallery) → AreShown script n old
-      → ((old.next < pictures script → n + 1 ≢ 4 * ready_time script old.next) → (new.next ≡ old.next) × (new.equal ≡ old.equal))
-      → (old.next < pictures script → n + 1 ≡ 4 * ready_time script old.next → (new.next ≡ old.next + 1) × (new.equal ≡ old.equal + 1)) → AreShown script (n + 1) new
-  looked order n old new before waits looks =
+  -- the gallery after one block more
+  looked : AreTimesInOrder script → (n : ℕ) (old new : Gallery) → n % 4 ≡ 0 → AreShown script n old
+      → ((old.next < pictures script → n + 4 ≢ 4 * ready_time script old.next) → (new.next ≡ old.next) × (new.equal ≡ old.equal))
+      → (old.next < pictures script → n + 4 ≡ 4 * ready_time script old.next → (new.next ≡ old.next + 1) × (new.equal ≡ old.equal + 1)) → AreShown script (n + 4) new
+  looked order n old new blocks_whole before waits looks =
       elim (cases_lt old.next (pictures script)) [
         | inr none ↦
             let (next, equal) = waits (λ lt. absurd (omega arith)) in
             record { equal = equal ∙ before.equal ∙ sym next; later = λ lt. absurd (omega (arith, next, none, lt)) }
         | inl some ↦
             let ahead : n < 4 * ready_time script old.next = before.later some in
-            elim (cases_lt (n + 1) (4 * ready_time script old.next)) [
+            elim (cases_lt (n + 4) (4 * ready_time script old.next)) [
               | inl waiting ↦
                   let (next, equal) = waits (λ lt is. absurd (omega arith)) in
-                  record { equal = equal ∙ before.equal ∙ sym next; later = λ lt. subst (λ k. n + 1 < 4 * ready_time script k) (sym next) waiting }
+                  record { equal = equal ∙ before.equal ∙ sym next; later = λ lt. subst (λ k. n + 4 < 4 * ready_time script k) (sym next) waiting }
               | inr due ↦
                   let (next, equal) = looks some (omega arith) in
                   record {
@@ -201,7 +176,7 @@ module _ (script : List Drawing) (symbols : List ℕ) (packs : List (List ℕ)) 
                         let there : old.next + 1 < pictures script = subst (λ k. k < pictures script) next lt in
                         let held : ready_time script old.next ≤ hold_time script old.next = order.held old.next some in
                         let apart : hold_time script old.next < ready_time script (old.next + 1) = order.later old.next there in
-                        subst (λ k. n + 1 < 4 * ready_time script k) (sym next) (omega (arith, held, apart, due, ahead));
+                        subst (λ k. n + 4 < 4 * ready_time script k) (sym next) (omega (arith, held, apart, due, ahead));
                   }
             ]
       ]
@@ -234,7 +209,7 @@ module _ (script : List Drawing) (symbols : List ℕ) (packs : List (List ℕ)) 
         equal = ap (λ (c : Counts). c.equal) is ∙ played.shown.equal ∙ last;
       }
 
--- ---- the loop over slots
+-- ---- the loops over blocks and their words
 
 pub begins : (script : List Drawing) (bytes : List ℕ) (replay : Replay) (gallery : Gallery) → SameStanding (standing_of replay.screen) blank → (replay.one ≡ 0) × (replay.two ≡ 0) × (replay.bad ≡ 0) → (gallery.next ≡ 0) × (gallery.equal ≡ 0) → IsPlayed script bytes 0 replay gallery
 begins script bytes replay gallery screen counts none = λ symbols packs damaged. record {
@@ -242,29 +217,44 @@ begins script bytes replay gallery screen counts none = λ symbols packs damaged
   shown = first_ahead script symbols packs bytes damaged gallery none.0 none.1;
 }
 
-pub goes_on : GathersWords → OneMore → ShowsScheduled → (script : List Drawing) → AreTimesInOrder script → AreColoursInRange script → (bytes : List ℕ) (n : ℕ) (old new : Replay) (before after : Gallery) → length bytes % 96 ≡ 0 → n < length bytes / 24
-    → old.gather ≡ gathered_before bytes n → IsPlayed script bytes n old before
-    → (gather_gives old.gather (stream_slot bytes n) ≡ None → TakesNothing old new)
-    → ((word codeword : List ℕ) → gather_gives old.gather (stream_slot bytes n) ≡ Some word → Reads word codeword → TakesWord word codeword old new)
-    → ((before.next < pictures script → n + 1 ≢ 4 * ready_time script before.next) → (after.next ≡ before.next) × (after.equal ≡ before.equal))
-    → (before.next < pictures script → n + 1 ≡ 4 * ready_time script before.next → (after.next ≡ before.next + 1) × ((now : Standing) → SameStanding (standing_of new.screen) now → ShowsPicture script before.next now → after.equal ≡ before.equal + 1))
-    → IsPlayed script bytes (n + 1) new after
-goes_on law more shows script order ranges bytes n old new before after whole lt gather played none word waits looks = λ symbols packs damaged.
+-- a further word of block b
+pub takes_on : GathersWords → OneMore → (script : List Drawing) (bytes : List ℕ) (b j : ℕ) (old new : Replay) (words : List (List ℕ)) → b < length bytes / 96
+    → words ≡ given bytes b → 4 * b - 7 + j < whole_packs (length bytes / 96) → j < length words → IsTaken script bytes (4 * b - 7 + j) old
+    → ((codeword : List ℕ) → Reads (get_or words j []) codeword → TakesWord (get_or words j []) codeword old new)
+    → IsTaken script bytes (4 * b - 7 + (j + 1)) new
+takes_on law more script bytes b j old new words b_lt is k_lt lt taken takes = λ symbols packs damaged.
+    let k : ℕ = 4 * b - 7 + j in
+    let next : 4 * b - 7 + j + 1 ≡ 4 * b - 7 + (j + 1) = omega arith in
+    let word : get_or words j [] ≡ word_of (symbols_of bytes) (4 * b - 7 + j) =
+    ap (λ (l : List (List ℕ)). get_or l j []) is ∙ given_at law bytes b j (omega arith) (subst (λ (l : List (List ℕ)). j < length l) is lt) in
+    let pack : List ℕ = get_or packs (4 * b - 7 + j) [] in
+    let reads : Reads (get_or words j []) pack = subst (λ (w : List ℕ). Reads w pack) (sym word) (reads_pack script symbols packs bytes damaged (4 * b - 7 + j) k_lt) in
+    subst (λ m. AreTaken symbols packs (symbols_of bytes) m new) next
+    (one_taken script symbols packs bytes damaged more (4 * b - 7 + j) old new k_lt (taken symbols packs damaged) (subst (λ (w : List ℕ). TakesWord w pack old new) word (takes pack reads)))
+
+pub goes_on : ShowsScheduled → (script : List Drawing) → AreTimesInOrder script → AreColoursInRange script → (bytes : List ℕ) (b m : ℕ) (old new : Replay) (before after : Gallery)
+    → m ≡ 4 * (b + 1) - 7 → IsPlayed script bytes b old before → IsTaken script bytes m new
+    → ((before.next < pictures script → 4 * (b + 1) ≢ 4 * ready_time script before.next) → (after.next ≡ before.next) × (after.equal ≡ before.equal))
+    → (before.next < pictures script → 4 * (b + 1) ≡ 4 * ready_time script before.next → (after.next ≡ before.next + 1) × ((now : Standing) → SameStanding (standing_of new.screen) now → ShowsPicture script before.next now → after.equal ≡ before.equal + 1))
+    → IsPlayed script bytes (b + 1) new after
+goes_on shows script order ranges bytes b m old new before after last played words waits looks = λ symbols packs damaged.
     let so_far = played symbols packs damaged in
-    let taken : AreTaken symbols packs (symbols_of bytes) (n + 1) new =
-    slot_taken script symbols packs bytes damaged law more n old new (omega arith) (omega arith) gather so_far.taken none word in
+    let all : 4 * b + 4 ≡ 4 * (b + 1) = omega arith in
+    let taken : AreTaken symbols packs (symbols_of bytes) (4 * (b + 1) - 7) new = subst (λ k. AreTaken symbols packs (symbols_of bytes) k new) last (words symbols packs damaged) in
     record {
       taken = taken;
-      shown = looked script symbols packs bytes damaged order n before after so_far.shown waits (λ some due.
-          let (next, equal) = looks some due in
-          (next, equal (standing_after blank taken.instrs) taken.screen (shown_now script symbols packs bytes damaged shows order ranges before.next (n + 1) new some due taken)));
+      shown = subst (λ n. AreShown script n after) all (looked script symbols packs bytes damaged order (4 * b) before after (omega arith) so_far.shown
+          (λ early. waits (λ some due. early some (all ∙ due)))
+          (λ some due.
+          let (next, equal) = looks some (sym all ∙ due) in
+          (next, equal (standing_after blank taken.instrs) taken.screen (shown_now script symbols packs bytes damaged shows order ranges before.next (4 * (b + 1)) new some (sym all ∙ due) taken))));
     }
 
-pub ends : (script : List Drawing) → AreTimesInOrder script → (bytes : List ℕ) (n : ℕ) (replay : Replay) (gallery : Gallery) (counts : Counts) → length bytes % 96 ≡ 0 → n ≡ length bytes / 24 → IsPlayed script bytes n replay gallery → gallery.next ≤ pictures script
+pub ends : (script : List Drawing) → AreTimesInOrder script → (bytes : List ℕ) (b : ℕ) (replay : Replay) (gallery : Gallery) (counts : Counts) → b ≡ length bytes / 96 → IsPlayed script bytes b replay gallery → gallery.next ≤ pictures script
     → counts ≡ record { one = replay.one; two = replay.two; bad = replay.bad; equal = gallery.equal }
     → (symbols : List ℕ) (packs : List (List ℕ)) → IsDamagedSchedule script (length bytes / 96) symbols packs (symbols_of bytes) → IsPlayedOut script (length bytes / 96) symbols (symbols_of bytes) counts
-ends script order bytes n replay gallery counts whole last played most is symbols packs damaged =
-    all_out script symbols packs bytes damaged order n replay gallery counts (omega arith) (played symbols packs damaged) most is
+ends script order bytes b replay gallery counts last played most is symbols packs damaged =
+    all_out script symbols packs bytes damaged order (4 * b) replay gallery counts (omega arith) (played symbols packs damaged) most is
 
 -- ---- bounds
 

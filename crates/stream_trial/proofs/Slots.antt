@@ -1,20 +1,26 @@
 -- The words that come with the slots of a stream.
-use Rattle.std.proofs.Common.{◌≡◌, ℕ, zero, suc, ◌+◌, ◌-◌, ◌*◌, ◌%◌, ◌<◌, ◌≤◌, List, [], ◌∷◌, ◌++◌, length, get_or, map, take, drop, refl, sym, ap, ap₂, ◌∙◌, arith, append-nil, length-append, length-drop, All, Some, None}
-use Rattle.std.specs.declared.option.Option.{Option}
+use Rattle.std.proofs.Common.{◌≡◌, ℕ, zero, suc, ◌+◌, ◌-◌, ◌*◌, ◌%◌, ◌<◌, ◌≤◌, List, [], ◌∷◌, ◌++◌, length, get_or, map, take, drop, refl, sym, ap, ap₂, ◌∙◌, arith, append-nil, length-append, length-drop, All, append_assoc}
+use Rattle.std.specs.Prelude.{slice_index}
+use Rattle.std.proofs.lemmas.Grind.{same_number_lists}
 use Rattle.std.specs.List.{concat}
 use Rattle.std.proofs.Math.Seq.{take-add}
-use Rattle.std.proofs.lemmas.List.{length-map, map-append, length-take-le, get_or-append-add, take-map, get_or-take}
+use Rattle.std.proofs.lemmas.List.{length-map, map-append, length-take-le, get_or-append-add, take-map, get_or-take, get_or-drop, get_or-map}
 use Rattle.std.proofs.lemmas.List.FromFn.{map-range_with_len_more, length-map-range_with_len, get_or-map-range_with_len}
 use Rattle.std.proofs.lemmas.List.Folds.{concat-append}
 use Rattle.bit_lists.specs.Counting.{below}
-use Rattle.cdg_io.specs.Run.{give, run_state, run_gives}
+use Rattle.cdg_io.specs.Run.{run_state, run_gives}
 use Rattle.cdg_io.proofs.Runs.{run_state-append, run_gives-append}
 use Rattle.raw_subcode.specs.Channels.{symbols_of}
 use Rattle.rw_interleave.specs.Interleave.{swapped, place, word_of, whole_of_slots}
 use Rattle.rw_interleave.specs.Gathering.{gather_next, gather_gives}
+use Rattle.rw_interleave.specs.Windows.{slot_in, slots_in}
 use Rattle.rw_interleave.proofs.Ranges.{map_range}
 use Rattle.rw_interleave.proofs.Places.{swapped-lt}
-use Rattle.stream_trial.specs.Replay.{stream_slot}
+use Rattle.stream_trial.specs.Replay.{stream_block}
+
+-- the symbols of slot n of a stream
+unfoldable pub stream_slot : List ℕ → ℕ → List ℕ
+stream_slot bytes n = symbols_of (take 24 (drop (24 * n) bytes))
 
 -- what the law on gatherers says
 abbrev pub GathersWords : Type 0
@@ -24,16 +30,12 @@ GathersWords = (slots : List (List ℕ)) → All (λ slot. length slot ≡ 24) s
 abbrev pub slots_before : List ℕ → ℕ → List (List ℕ)
 slots_before bytes n = map (stream_slot bytes) (below n)
 
--- what a gatherer holds after them
+-- what a gatherer holds after the first blocks
 abbrev pub gathered_before : List ℕ → ℕ → List (List ℕ)
-gathered_before bytes n = run_state gather_next [] (slots_before bytes n)
+gathered_before bytes b = run_state gather_next [] (slots_before bytes (4 * b))
 
 slots_more : (bytes : List ℕ) (n : ℕ) → slots_before bytes (n + 1) ≡ slots_before bytes n ++ stream_slot bytes n ∷ []
 slots_more bytes n = map-range_with_len_more (stream_slot bytes) 0 n n (omega arith)
-
--- one slot more
-pub gathered_more : (bytes : List ℕ) (n : ℕ) → gathered_before bytes (n + 1) ≡ gather_next (gathered_before bytes n) (stream_slot bytes n)
-gathered_more bytes n = ap (run_state gather_next []) (slots_more bytes n) ∙ run_state-append gather_next [] (slots_before bytes n) (stream_slot bytes n ∷ [])
 
 length-slot_of : (bytes : List ℕ) (n : ℕ) → 24 * n + 24 ≤ length bytes → length (stream_slot bytes n) ≡ 24
 unfolding stream_slot
@@ -63,55 +65,80 @@ words_before law bytes n fits =
     ∙ ap₂ (λ (s : List ℕ) (k : ℕ). map (word_of s) (below (k - 7))) (slots_together bytes n) (length-map-range_with_len (stream_slot bytes) 0 n)
 
 -- a word that is whole in the first slots is that of all symbols
-word_of_front : (bytes : List ℕ) (k n : ℕ) → k + 7 ≡ n → word_of (symbols_of (take (24 * (n + 1)) bytes)) k ≡ word_of (symbols_of bytes) k
+word_of_front : (bytes : List ℕ) (k n : ℕ) → k + 7 < n → word_of (symbols_of (take (24 * n) bytes)) k ≡ word_of (symbols_of bytes) k
 unfolding word_of
 word_of_front bytes k n last =
     map_range _ _ 0 24 (λ i from to.
     let small : swapped i < 24 = swapped-lt i to in
-    let within : place k i < 24 * (n + 1) = omega (arith, small, last) in
-    ap (λ (s : List ℕ). get_or s (place k i) 0) (sym (take-map (λ (byte : ℕ). byte % 64) (24 * (n + 1)) bytes)) ∙ get_or-take (24 * (n + 1)) (symbols_of bytes) (place k i) 0 within)
+    let within : place k i < 24 * n = omega (arith, small, last) in
+    ap (λ (s : List ℕ). get_or s (place k i) 0) (sym (take-map (λ (byte : ℕ). byte % 64) (24 * n) bytes)) ∙ get_or-take (24 * n) (symbols_of bytes) (place k i) 0 within)
 
-given : List ℕ → ℕ → Option (List ℕ)
-given bytes n = gather_gives (gathered_before bytes n) (stream_slot bytes n)
+-- a slot of a block
+slot_is : (bytes : List ℕ) (b k n : ℕ) → 96 * b + 96 ≤ length bytes → k < 4 → n ≡ 4 * b + k → slot_in (stream_block bytes b) k ≡ stream_slot bytes n
+unfolding slot_in stream_slot
+slot_is bytes b k n fits lt at =
+    let front : List ℕ = take 24 (drop (24 * n) bytes) in
+    let size : length front ≡ 24 = length-take-le 24 (drop (24 * n) bytes) (omega (arith, length-drop (24 * n) bytes)) in
+    let sizes : length (map (λ i. slice_index (stream_block bytes b) (24 * k + i) % 64) (below 24)) ≡ 24 = length-map-range_with_len (λ i. slice_index (stream_block bytes b) (24 * k + i) % 64) 0 24 in
+    same_number_lists _ _ (sizes ∙ sym (length-map front (λ (byte : ℕ). byte % 64) ∙ size)) (λ i i_lt.
+    let within : i < 24 = omega (arith, i_lt, sizes) in
+    let place : 96 * b + (24 * k + i) ≡ 24 * n + i = omega (arith, at) in
+    let here : slice_index (stream_block bytes b) (24 * k + i) ≡ get_or bytes (24 * n + i) 0 =
+    get_or-take 96 (drop (96 * b) bytes) (24 * k + i) 0 (omega arith) ∙ get_or-drop (96 * b) bytes (24 * k + i) 0 ∙ ap (λ p. get_or bytes p 0) place in
+    get_or-map-range_with_len (λ i. slice_index (stream_block bytes b) (24 * k + i) % 64) 0 24 i i 0 within (omega arith)
+    ∙ ap (λ x. x % 64) (here ∙ sym (get_or-take 24 (drop (24 * n) bytes) i 0 within ∙ get_or-drop (24 * n) bytes i 0))
+    ∙ sym (get_or-map (λ (byte : ℕ). byte % 64) front i 0 0 (omega (arith, size))))
 
--- what slot n gives, after the words of the slots before
-words_more : GathersWords → (bytes : List ℕ) (n : ℕ) → 24 * n + 24 ≤ length bytes
-    → map (word_of (symbols_of (take (24 * n) bytes))) (below (n - 7)) ++ give (given bytes n) [] ≡ map (word_of (symbols_of (take (24 * (n + 1)) bytes))) (below (n + 1 - 7))
-unfolding given
-words_more law bytes n fits =
-    ap (λ (l : List (List ℕ)). l ++ give (gather_gives (gathered_before bytes n) (stream_slot bytes n)) []) (sym (words_before law bytes n (omega arith)))
-    ∙ sym (run_gives-append gather_next gather_gives [] (slots_before bytes n) (stream_slot bytes n ∷ []))
-    ∙ ap (run_gives gather_next gather_gives []) (sym (slots_more bytes n)) ∙ words_before law bytes (n + 1) (omega arith)
+-- the slots of a block follow those before it
+block_more : (bytes : List ℕ) (b : ℕ) → 96 * b + 96 ≤ length bytes → slots_before bytes (4 * (b + 1)) ≡ slots_before bytes (4 * b) ++ slots_in (stream_block bytes b) 0 4
+unfolding slots_in
+block_more bytes b fits =
+    let n : ℕ = 4 * b in
+    let s : ℕ → List ℕ = stream_slot bytes in
+    let last : 4 * (b + 1) ≡ 4 * b + 1 + 1 + 1 + 1 = omega arith in
+    let two = slots_more bytes (4 * b + 1) ∙ ap (λ (l : List (List ℕ)). l ++ s (4 * b + 1) ∷ []) (slots_more bytes (4 * b)) ∙ append_assoc (slots_before bytes (4 * b)) (s (4 * b) ∷ []) (s (4 * b + 1) ∷ []) in
+    let three = slots_more bytes (4 * b + 1 + 1) ∙ ap (λ (l : List (List ℕ)). l ++ s (4 * b + 1 + 1) ∷ []) two ∙ append_assoc (slots_before bytes (4 * b)) (s (4 * b) ∷ s (4 * b + 1) ∷ []) (s (4 * b + 1 + 1) ∷ []) in
+    let four = slots_more bytes (4 * b + 1 + 1 + 1) ∙ ap (λ (l : List (List ℕ)). l ++ s (4 * b + 1 + 1 + 1) ∷ []) three ∙ append_assoc (slots_before bytes (4 * b)) (s (4 * b) ∷ s (4 * b + 1) ∷ s (4 * b + 1 + 1) ∷ []) (s (4 * b + 1 + 1 + 1) ∷ []) in
+    ap (slots_before bytes) last ∙ four
+    ∙ ap (λ (l : List (List ℕ)). slots_before bytes (4 * b) ++ l) (λ i. sym (slot_is bytes b 0 (4 * b) fits (omega arith) (omega arith)) i
+    ∷ sym (slot_is bytes b 1 (4 * b + 1) fits (omega arith) (omega arith)) i
+    ∷ sym (slot_is bytes b 2 (4 * b + 1 + 1) fits (omega arith) (omega arith)) i
+    ∷ sym (slot_is bytes b 3 (4 * b + 1 + 1 + 1) fits (omega arith) (omega arith)) i ∷ [])
 
-none_of : (o : Option (List ℕ)) → length (give o []) ≡ 0 → o ≡ None
-none_of None size = refl
-none_of (Some x) size = absurd (omega (arith, size))
+-- one block more
+pub gathered_more : (bytes : List ℕ) (b : ℕ) → 96 * b + 96 ≤ length bytes → gathered_before bytes (b + 1) ≡ run_state gather_next (gathered_before bytes b) (slots_in (stream_block bytes b) 0 4)
+gathered_more bytes b fits =
+    ap (run_state gather_next []) (block_more bytes b fits) ∙ run_state-append gather_next [] (slots_before bytes (4 * b)) (slots_in (stream_block bytes b) 0 4)
 
-some_of : (o : Option (List ℕ)) → length (give o []) ≡ 1 → o ≡ Some (get_or (give o []) 0 [])
-some_of None size = absurd (omega (arith, size))
-some_of (Some x) size = refl
+-- the words that block b gives
+abbrev pub given : List ℕ → ℕ → List (List ℕ)
+given bytes b = run_gives gather_next gather_gives (gathered_before bytes b) (slots_in (stream_block bytes b) 0 4)
 
--- no word comes with the first seven slots
-pub gives_none : GathersWords → (bytes : List ℕ) (n : ℕ) → 24 * n + 24 ≤ length bytes → n < 7 → gather_gives (gathered_before bytes n) (stream_slot bytes n) ≡ None
-unfolding given
-gives_none law bytes n fits few =
-    let before : ℕ → List ℕ = word_of (symbols_of (take (24 * n) bytes)) in
-    let after : ℕ → List ℕ = word_of (symbols_of (take (24 * (n + 1)) bytes)) in
-    let size : length (map before (below (n - 7)) ++ give (given bytes n) []) ≡ length (map after (below (n + 1 - 7))) = ap length (words_more law bytes n fits) in
-    none_of (given bytes n) (omega (arith, size, length-append (map before (below (n - 7))) (give (given bytes n) []), length-map-range_with_len after 0 (n + 1 - 7)))
+-- what block b gives, after the words of the blocks before
+words_more : GathersWords → (bytes : List ℕ) (b : ℕ) → 96 * b + 96 ≤ length bytes
+    → map (word_of (symbols_of (take (24 * (4 * b)) bytes))) (below (4 * b - 7)) ++ given bytes b ≡ map (word_of (symbols_of (take (24 * (4 * (b + 1))) bytes))) (below (4 * (b + 1) - 7))
+words_more law bytes b fits =
+    ap (λ (l : List (List ℕ)). l ++ given bytes b) (sym (words_before law bytes (4 * b) (omega arith)))
+    ∙ sym (run_gives-append gather_next gather_gives [] (slots_before bytes (4 * b)) (slots_in (stream_block bytes b) 0 4))
+    ∙ ap (run_gives gather_next gather_gives []) (sym (block_more bytes b fits)) ∙ words_before law bytes (4 * (b + 1)) (omega arith)
 
--- with each slot after them the word comes whose last symbols it holds
-pub gives_word : GathersWords → (bytes : List ℕ) (k n : ℕ) → 24 * n + 24 ≤ length bytes → k + 7 ≡ n → gather_gives (gathered_before bytes n) (stream_slot bytes n) ≡ Some (word_of (symbols_of bytes) k)
-unfolding given
-gives_word law bytes k n fits last =
-    let before : ℕ → List ℕ = word_of (symbols_of (take (24 * n) bytes)) in
-    let after : ℕ → List ℕ = word_of (symbols_of (take (24 * (n + 1)) bytes)) in
-    let more = words_more law bytes n fits in
-    let early : length (map before (below (n - 7))) ≡ n - 7 = length-map-range_with_len before 0 (n - 7) in
-    let size : length (map before (below (n - 7)) ++ give (given bytes n) []) ≡ length (map after (below (n + 1 - 7))) = ap length more in
-    let one : length (give (given bytes n) []) ≡ 1 = omega (arith, size, early, length-append (map before (below (n - 7))) (give (given bytes n) []), length-map-range_with_len after 0 (n + 1 - 7)) in
-    let place_is : k ≡ length (map before (below (n - 7))) + 0 = omega (arith, early) in
-    let word : get_or (give (given bytes n) []) 0 [] ≡ after k =
-    sym (ap (λ p. get_or (map before (below (n - 7)) ++ give (given bytes n) []) p []) place_is ∙ get_or-append-add (map before (below (n - 7))) (give (given bytes n) []) 0 [])
-    ∙ ap (λ (l : List (List ℕ)). get_or l k []) more ∙ get_or-map-range_with_len after 0 (n + 1 - 7) k k [] (omega arith) (omega arith) in
-    some_of (given bytes n) one ∙ ap (λ (w : List ℕ). Some w) (word ∙ word_of_front bytes k n last)
+-- each slot but the first seven ends a word
+pub length-given : GathersWords → (bytes : List ℕ) (b : ℕ) → 96 * b + 96 ≤ length bytes → 4 * b - 7 + length (given bytes b) ≡ 4 * (b + 1) - 7
+length-given law bytes b fits =
+    let before : ℕ → List ℕ = word_of (symbols_of (take (24 * (4 * b)) bytes)) in
+    let after : ℕ → List ℕ = word_of (symbols_of (take (24 * (4 * (b + 1))) bytes)) in
+    let size : length (map before (below (4 * b - 7)) ++ given bytes b) ≡ length (map after (below (4 * (b + 1) - 7))) = ap length (words_more law bytes b fits) in
+    omega (arith, size, length-append (map before (below (4 * b - 7))) (given bytes b), length-map-range_with_len before 0 (4 * b - 7), length-map-range_with_len after 0 (4 * (b + 1) - 7))
+
+-- the words come in turn
+pub given_at : GathersWords → (bytes : List ℕ) (b j : ℕ) → 96 * b + 96 ≤ length bytes → j < length (given bytes b) → get_or (given bytes b) j [] ≡ word_of (symbols_of bytes) (4 * b - 7 + j)
+given_at law bytes b j fits lt =
+    let before : ℕ → List ℕ = word_of (symbols_of (take (24 * (4 * b)) bytes)) in
+    let after : ℕ → List ℕ = word_of (symbols_of (take (24 * (4 * (b + 1))) bytes)) in
+    let early : length (map before (below (4 * b - 7))) ≡ 4 * b - 7 = length-map-range_with_len before 0 (4 * b - 7) in
+    let size = length-given law bytes b fits in
+    let place_is : 4 * b - 7 + j ≡ length (map before (below (4 * b - 7))) + j = omega (arith, early) in
+    sym (ap (λ p. get_or (map before (below (4 * b - 7)) ++ given bytes b) p []) place_is ∙ get_or-append-add (map before (below (4 * b - 7))) (given bytes b) j [])
+    ∙ ap (λ (l : List (List ℕ)). get_or l (4 * b - 7 + j) []) (words_more law bytes b fits)
+    ∙ get_or-map-range_with_len after 0 (4 * (b + 1) - 7) (4 * b - 7 + j) (4 * b - 7 + j) [] (omega (arith, size, lt)) (omega arith)
+    ∙ word_of_front bytes (4 * b - 7 + j) (4 * (b + 1)) (omega (arith, size, lt))

@@ -1,6 +1,5 @@
 -- What is known while a stream is played again.
 use Rattle.std.specs.Prelude.{◌≡◌, ℕ, ◌+◌, ◌-◌, ◌*◌, ◌<◌, ◌≤◌, ◌==◌, ◌&&◌, nat_le, if◌then◌else◌, List, [], ◌∷◌, take, drop, slice_index}
-use Rattle.raw_subcode.specs.Channels.{symbols_of}
 use Rattle.raw_subcode.specs.declared.form.Form.TheVariants.{Raw}
 use Rattle.rw_code.specs.Codeword.{differences}
 use Rattle.rw_interleave.specs.Interleave.{whole_packs, Carries}
@@ -52,16 +51,9 @@ pub record TakesBad (old new : Replay) : Type 0 where
   pub bad : new.bad ≡ old.bad + 1
   pub screen : new.screen ≡ old.screen
 
--- no word came
-pub record TakesNothing (old new : Replay) : Type 0 where
-  pub one : new.one ≡ old.one
-  pub two : new.two ≡ old.two
-  pub bad : new.bad ≡ old.bad
-  pub screen : new.screen ≡ old.screen
-
--- the symbols of slot n of a stream
-unfoldable pub stream_slot : List ℕ → ℕ → List ℕ
-stream_slot bytes n = symbols_of (take 24 (drop (24 * n) bytes))
+-- block b of a stream
+abbrev pub stream_block : List ℕ → ℕ → List ℕ
+stream_block bytes b = take 96 (drop (96 * b) bytes)
 
 -- program symbols that are damaged from those which carry a schedule of the script
 pub record IsDamagedSchedule (script : List Drawing) (blocks : ℕ) (symbols : List ℕ) (packs : List (List ℕ))

@@ -1,16 +1,10 @@
 // A screen beside a canvas.
-ghost use Rattle.std.specs.Prelude.{◌≡◌, ◌<◌, ◌↔◌, ℕ, slice_index, IsTrue};
+ghost use Rattle.std.specs.Prelude.{◌≡◌, ◌<◌, ◌≤◌, ◌↔◌, ℕ, slice_index, IsTrue};
 ghost use Rattle.cdg_screen.specs.Picture.{standing_of, screen_pixel};
 ghost use Rattle.stream_trial.specs.Replay.{Agrees, wanted_pixel};
 
 use cdg_screen::Screen;
 use picture_script::Canvas;
-
-/// How many pixels a row of the screen has.
-const WIDTH: u32 = 300;
-
-/// How many rows the screen has.
-const HEIGHT: u32 = 216;
 
 /// Whether the screen shows what stands on the canvas: each pixel, the colours and the border.
 pub(crate) fn agrees(screen: &Screen, canvas: &Canvas) -> bool
@@ -34,12 +28,13 @@ fn colours_agree(screen: &Screen, canvas: &Canvas) -> bool
     true
 }
 
-/// Whether all pixels agree.
+/// Whether all pixels agree, where the borders do.
 fn pixels_agree(screen: &Screen, canvas: &Canvas) -> bool
+    requires { (standing_of screen.now).border ≡ canvas.now.border }
     ensures { IsTrue result ↔ ((x y : ℕ) → x < 300 → y < 216 → screen_pixel (standing_of screen.now) x y
         ≡ wanted_pixel canvas.now x y) }
 {
-    for y in 0..HEIGHT {
+    for y in 12..204 {
         if !row_agrees(screen, canvas, y) {
             return false;
         }
@@ -47,13 +42,13 @@ fn pixels_agree(screen: &Screen, canvas: &Canvas) -> bool
     true
 }
 
-/// Whether the pixels of a row agree.
+/// Whether the pixels of a row agree in the window.
 fn row_agrees(screen: &Screen, canvas: &Canvas, y: u32) -> bool
     requires { y < 216 }
-    ensures { IsTrue result
-        ↔ ((x : ℕ) → x < 300 → screen_pixel (standing_of screen.now) x y ≡ wanted_pixel canvas.now x y) }
+    ensures { IsTrue result ↔ ((x : ℕ) → 6 ≤ x → x < 294
+        → screen_pixel (standing_of screen.now) x y ≡ wanted_pixel canvas.now x y) }
 {
-    for x in 0..WIDTH {
+    for x in 6..294 {
         if screen.pixel(x, y) != wanted(canvas, x, y) {
             return false;
         }

@@ -1,18 +1,18 @@
 // A scratched stream, played from its front to its end.
 ghost use Rattle.std.specs.Prelude.{◌≡◌, ◌<◌, ◌≤◌, ◌+◌, ◌*◌, ◌/◌, ◌%◌, ℕ, List, length, take, drop, map, IfOk};
 ghost use Rattle.raw_subcode.specs.Channels.{symbols_of};
-ghost use Rattle.stream_trial.specs.Replay.{stream_slot, IsDamagedSchedule, IsPlayedOut};
+ghost use Rattle.stream_trial.specs.Replay.{stream_block, IsDamagedSchedule, IsPlayedOut};
 
 use crate::gallery::Gallery;
 use crate::replay::Replay;
 use cdg_screen::instructions_in_turn;
 use picture_changes::scheduled_pictures_are_shown;
 use picture_script::Script;
-use rw_interleave::{Slot, gather_gives_words};
+use rw_interleave::{Window, gather_gives_words};
 use std::alloc::{AllocError, Global};
 
-/// The bytes of a slot.
-const SLOT_BYTES: usize = 24;
+/// The bytes of a block.
+const BLOCK_BYTES: usize = 96;
 
 /// What was counted of a stream.
 #[derive(Clone, Copy)]
@@ -40,12 +40,16 @@ pub(crate) fn play(alloc: Global, script: &Script, bytes: &[u8]) -> Result<Count
     scheduled_pictures_are_shown();
     // What holds of every script: its pictures are in order.
     let _times = script.pictures();
+    let mut gather = Window::new();
     let mut replay = Replay::start(alloc)?;
     let mut gallery = Gallery::start(alloc)?;
-    let slots = (bytes.len() / SLOT_BYTES) as u32;
-    for n in 0..slots {
-        replay.take_slot(&slot(bytes, n as usize));
-        gallery.look(script, &replay.screen, n + 1);
+    let blocks = bytes.len() / BLOCK_BYTES;
+    for b in 0..blocks {
+        let words = gather.push_block(&block(bytes, b));
+        for j in 0..words.len() {
+            replay.take_word(&words[j]);
+        }
+        gallery.look(script, &replay.screen, 4 * (b as u32 + 1));
     }
     Ok(Counts {
         one: replay.one,
@@ -55,13 +59,12 @@ pub(crate) fn play(alloc: Global, script: &Script, bytes: &[u8]) -> Result<Count
     })
 }
 
-/// Slot n of a stream.
-#[tactic(auto, unfolding(crate::specs::Replay::stream_slot))]
-fn slot(bytes: &[u8], n: usize) -> Slot
-    requires { 24 * n + 24 ≤ length bytes.now }
-    ensures { result ≡ stream_slot bytes.now n }
+/// Block b of a stream.
+fn block(bytes: &[u8], b: usize) -> [u8; BLOCK_BYTES]
+    requires { 96 * b + 96 ≤ length bytes.now }
+    ensures { result ≡ stream_block bytes.now b }
 {
-    let mut slot = [0; SLOT_BYTES];
-    slot.copy_from_slice(&bytes[SLOT_BYTES * n..SLOT_BYTES * (n + 1)]);
-    Slot::new(&slot)
+    let mut block = [0; BLOCK_BYTES];
+    block.copy_from_slice(&bytes[BLOCK_BYTES * b..BLOCK_BYTES * (b + 1)]);
+    block
 }

@@ -1,20 +1,17 @@
-// A stream that is played again, slot by slot.
-ghost use Rattle.std.specs.Prelude.{◌≡◌, ◌<◌, ◌≤◌, ◌+◌, [], ℕ, List, IfOk, None, Some};
+// A stream that is played again, word by word.
+ghost use Rattle.std.specs.Prelude.{◌≡◌, ◌<◌, ◌≤◌, ◌+◌, ℕ, List, IfOk};
 ghost use Rattle.rw_code.specs.Codeword.{Reads};
-ghost use Rattle.rw_interleave.specs.Gathering.{gather_next, gather_gives};
 ghost use Rattle.cdg_screen.specs.Picture.{blank, standing_of, SameStanding};
-ghost use Rattle.stream_trial.specs.Replay.{IsBelow, TakesWord, TakesBad, TakesNothing, one_where};
+ghost use Rattle.stream_trial.specs.Replay.{IsBelow, TakesWord, TakesBad, one_where};
 
 use cdg_instructions::read;
 use cdg_screen::Screen;
 use rw_code::{Word, correct, only_one_codeword_is_near};
-use rw_interleave::{Gather, Slot};
 use std::alloc::{AllocError, Global};
 
-/// Words are gathered and corrected, and what their packs say is carried out.
+/// Words are corrected, and what their packs say is carried out.
 #[derive(Drop)]
 pub(crate) struct Replay {
-    pub(crate) gather: Gather,
     pub(crate) screen: Screen,
     /// The words that were corrected in one symbol.
     pub(crate) one: u32,
@@ -25,14 +22,12 @@ pub(crate) struct Replay {
 }
 
 impl Replay {
-    /// No slot was taken.
+    /// No word was taken.
     pub(crate) fn start(alloc: Global) -> Result<Replay, AllocError>
-        ensures gather { IfOk result (λ replay. replay.gather ≡ []) }
         ensures screen { IfOk result (λ replay. SameStanding (standing_of replay.screen) blank) }
         ensures counts { IfOk result (λ replay. (replay.one ≡ 0) × (replay.two ≡ 0) × (replay.bad ≡ 0)) }
     {
         Ok(Replay {
-            gather: Gather::start(alloc)?,
             screen: Screen::start(alloc)?,
             one: 0,
             two: 0,
@@ -40,28 +35,9 @@ impl Replay {
         })
     }
 
-    /// Takes the next slot, and the word that comes with it, if any.
-    pub(crate) fn take_slot(&mut self, slot: &Slot)
-        requires { IsBelow 4000000000 self.old }
-        ensures gather { self.new.gather ≡ gather_next self.old.gather slot.now }
-        ensures none { gather_gives self.old.gather slot.now ≡ None → TakesNothing self.old self.new }
-        ensures word { (word codeword : List ℕ) → gather_gives self.old.gather slot.now ≡ Some word
-            → Reads word codeword
-            → TakesWord word codeword self.old self.new }
-        ensures far { (word : List ℕ) → gather_gives self.old.gather slot.now ≡ Some word
-            → ((codeword : List ℕ) → ¬ Reads word codeword)
-            → TakesBad self.old self.new }
-        ensures more { (most : ℕ) → IsBelow most self.old → IsBelow (most + 1) self.new }
-    {
-        if let Some(word) = self.gather.push(slot) {
-            self.take_word(&word);
-        }
-    }
-
     /// Corrects a word, and does what its pack says.
-    fn take_word(&mut self, word: &Word)
+    pub(crate) fn take_word(&mut self, word: &Word)
         requires { IsBelow 4000000000 self.old }
-        ensures gather { self.new.gather ≡ self.old.gather }
         ensures near { (codeword : List ℕ) → Reads word.now codeword
             → TakesWord word.now codeword self.old self.new }
         ensures far { ((codeword : List ℕ) → ¬ Reads word.now codeword) → TakesBad self.old self.new }
@@ -82,8 +58,7 @@ impl Replay {
         requires { IsBelow 4000000000 self.old }
         ensures one { self.new.one ≡ self.old.one + one_where wrong 1 }
         ensures two { self.new.two ≡ self.old.two + one_where wrong 2 }
-        ensures same { (self.new.bad ≡ self.old.bad) × (self.new.gather ≡ self.old.gather)
-            × (self.new.screen ≡ self.old.screen) }
+        ensures same { (self.new.bad ≡ self.old.bad) × (self.new.screen ≡ self.old.screen) }
         ensures more { (most : ℕ) → IsBelow most self.old → IsBelow (most + 1) self.new }
     {
         match wrong {

@@ -17,5 +17,5 @@ returns-in-Some-clause-near c codeword reads =
       bad = c.count.ensures.same.0;
       instr = c.read.result;
       meant = subst (λ (w : List ℕ). Means w c.read.result) same c.read.ensures.meaning;
-      screen = subst (λ s. SameStanding (standing_of c.obey.new.self) (standing_after (standing_of s) (c.read.result ∷ []))) c.count.ensures.same.2 c.obey.ensures;
+      screen = subst (λ s. SameStanding (standing_of c.obey.new.self) (standing_after (standing_of s) (c.read.result ∷ []))) c.count.ensures.same.1 c.obey.ensures;
     }
