@@ -28,10 +28,9 @@ fn planar_form(rt: HostRuntime) {
 fn built_block(rt: HostRuntime) {
     let q = [1, 1, 0, 0, 2, 0, 0, 0, 0, 0, 0xf0, 0xd9];
     let block = Block::build(true, &q, &[0; 96]);
-    let bytes = block.bytes();
-    for i in 0..32 {
+    for (i, byte) in block.bytes().iter().take(32).enumerate() {
         let want = if i == 7 || i == 15 { 0xc0 } else { 0x80 };
-        assert_eq!(rt; bytes[i], want);
+        assert_eq!(rt; *byte, want);
     }
     assert_eq!(rt; block.q_frame(), q);
     assert_eq!(rt; block.symbol(95), 0);

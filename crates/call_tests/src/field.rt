@@ -2,7 +2,7 @@ use gf64::Sym;
 use std::test::Fail;
 
 // The powers of the element 2, as coders of the subcode channels list them.
-const LISTED: [u8; 63] = [
+static LISTED: [u8; 63] = [
     1, 2, 4, 8, 16, 32, 3, 6, 12, 24, 48, 35, 5, 10, 20, 40, 19, 38, 15, 30, 60, 59, 53, 41, 17,
     34, 7, 14, 28, 56, 51, 37, 9, 18, 36, 11, 22, 44, 27, 54, 47, 29, 58, 55, 45, 25, 50, 39, 13,
     26, 52, 43, 21, 42, 23, 46, 31, 62, 63, 61, 57, 49, 33,
@@ -11,9 +11,9 @@ const LISTED: [u8; 63] = [
 #[test]
 fn has_the_listed_powers(rt: HostRuntime) -> Result<(), Fail> {
     let two = Sym::new(2).ok_or("no such element")?;
-    for (exponent, listed) in LISTED.into_iter().enumerate() {
+    for (exponent, listed) in LISTED.iter().enumerate() {
         let power = Sym::alpha(exponent as u32);
-        assert_eq!(rt; power.value(), listed);
+        assert_eq!(rt; power.value(), *listed);
         assert!(rt; power.mul(two) == Sym::alpha(exponent as u32 + 1));
         assert!(rt; power.add(power).is_zero());
         assert!(rt; !power.is_zero());

@@ -6,7 +6,7 @@ use subcode_player::{Form, PlayStop, Played, Player};
 
 const FAULT: Result<Played, PlayStop> = Err(PlayStop::ReadFault);
 
-/// Five blocks of zeros, of which the third cannot be read.
+// Five blocks of zeros, of which the third cannot be read.
 fn failing(alloc: Global) -> Result<MemSource, AllocError> {
     let bytes = vec![in alloc; 0u8; 480]?;
     Ok(MemSource::new(bytes, vec![in alloc; 96usize]?, vec![in alloc; 2u32]?))
@@ -16,33 +16,40 @@ fn sink(alloc: Global) -> Result<MemSink, AllocError> {
     MemSink::new(alloc, 4096, Vec::new(alloc), Vec::new(alloc))
 }
 
-/// Each of these says whether the fault stopped the call.
-fn stops_convert(alloc: Global, player: &mut Player) -> Result<bool, AllocError> {
-    Ok(player.convert(0, Form::Raw, &mut failing(alloc)?, &mut sink(alloc)?) == FAULT)
+#[derive(Clone, Copy)]
+enum Call {
+    Convert,
+    Screen,
+    State,
+    Check,
+    QList,
+    TextList,
 }
 
-fn stops_screen(alloc: Global, player: &mut Player) -> Result<bool, AllocError> {
-    Ok(player.screen_at(0, Form::Raw, 2, &mut failing(alloc)?, &mut sink(alloc)?) == FAULT)
-}
+const CALLS: [Call; 6] = [
+    Call::Convert,
+    Call::Screen,
+    Call::State,
+    Call::Check,
+    Call::QList,
+    Call::TextList,
+];
 
-fn stops_state(alloc: Global, player: &mut Player) -> Result<bool, AllocError> {
-    Ok(player.state_at(0, Form::Raw, 2, &mut failing(alloc)?, &mut sink(alloc)?) == FAULT)
-}
-
-fn stops_check(alloc: Global, player: &mut Player) -> Result<bool, AllocError> {
-    Ok(player.check(0, Form::Raw, &mut failing(alloc)?, &mut sink(alloc)?) == FAULT)
-}
-
-fn stops_q_list(alloc: Global, player: &mut Player) -> Result<bool, AllocError> {
-    Ok(player.q_list(0, Form::Raw, &mut failing(alloc)?, &mut sink(alloc)?) == FAULT)
-}
-
-fn stops_text_list(alloc: Global, player: &mut Player) -> Result<bool, AllocError> {
-    let answer = player.text_list(alloc, 2, Form::Raw, &mut failing(alloc)?, &mut sink(alloc)?);
+// Whether the fault stops the call.
+fn stops(alloc: Global, call: Call, player: &mut Player) -> Result<bool, AllocError> {
+    let (source, sink) = (&mut failing(alloc)?, &mut sink(alloc)?);
+    let answer = match call {
+        Call::Convert => player.convert(0, Form::Raw, source, sink),
+        Call::Screen => player.screen_at(0, Form::Raw, 2, source, sink),
+        Call::State => player.state_at(0, Form::Raw, 2, source, sink),
+        Call::Check => player.check(0, Form::Raw, source, sink),
+        Call::QList => player.q_list(0, Form::Raw, source, sink),
+        Call::TextList => player.text_list(alloc, 2, Form::Raw, source, sink),
+    };
     Ok(answer == FAULT)
 }
 
-/// Whether two blocks of zeros give one pack of zeros.
+// Whether two blocks of zeros give one pack of zeros.
 fn is_as_new(alloc: Global, player: &mut Player) -> Result<bool, AllocError> {
     let mut source = MemSource::new(vec![in alloc; 0u8; 192]?, Vec::new(alloc), Vec::new(alloc));
     let mut sink = sink(alloc)?;
@@ -54,11 +61,8 @@ fn is_as_new(alloc: Global, player: &mut Player) -> Result<bool, AllocError> {
 fn a_player_that_a_fault_stopped_is_as_new(rt: HostRuntime) -> Result<(), Fail> {
     let alloc = rt.alloc();
     let mut player = Player::start(alloc)?;
-    assert!(rt; stops_convert(alloc, &mut player)? && is_as_new(alloc, &mut player)?);
-    assert!(rt; stops_screen(alloc, &mut player)? && is_as_new(alloc, &mut player)?);
-    assert!(rt; stops_state(alloc, &mut player)? && is_as_new(alloc, &mut player)?);
-    assert!(rt; stops_check(alloc, &mut player)? && is_as_new(alloc, &mut player)?);
-    assert!(rt; stops_q_list(alloc, &mut player)? && is_as_new(alloc, &mut player)?);
-    assert!(rt; stops_text_list(alloc, &mut player)? && is_as_new(alloc, &mut player)?);
+    for call in CALLS {
+        assert!(rt; stops(alloc, call, &mut player)? && is_as_new(alloc, &mut player)?);
+    }
     Ok(())
 }

@@ -10,8 +10,8 @@ use std::mem::replace;
 
 /// The first place where two lists differ.
 fn first_difference(wanted: &[u8], got: &[u8]) -> usize {
-    let same = wanted.iter().zip(got.iter()).take_while(|(a, b)| a == b);
-    same.count()
+    let differs = wanted.iter().zip(got.iter()).position(|(a, b)| a != b);
+    differs.unwrap_or(wanted.len().min(got.len()))
 }
 
 /// Up to sixteen bytes from a place on.
