@@ -1,5 +1,5 @@
 // A tile: 6 by 12 numbers of colours.
-ghost use Rattle.std.specs.Prelude.{◌≡◌, ◌<◌, ℕ, List, length, slice_index, All, MatchOption, replicate};
+ghost use Rattle.std.specs.Prelude.{◌≡◌, ◌<◌, ◌↔◌, ℕ, List, length, slice_index, All, MatchOption, IsTrue, replicate};
 ghost use Rattle.cdg_instructions.specs.Instruction.{IsTilePixels};
 ghost use Rattle.cdg_instructions.specs.Sizes.{tile_pixels};
 
@@ -32,7 +32,7 @@ impl Tile {
             (¬ All (λ pixel. pixel < 16) pixels.now)
             (λ t. All (λ pixel. pixel < 16) pixels.now × (t ≡ pixels.now)) }
     {
-        if pixels.iter().all(|pixel| *pixel < 16) {
+        if are_colours(pixels) {
             Some(Tile { pixels: *pixels })
         } else {
             None
@@ -67,4 +67,15 @@ impl Tile {
     {
         &self.pixels
     }
+}
+
+// Whether all numbers are below 16. It looks at all of them, so that many can be compared at once.
+fn are_colours(pixels: &[u8; PIXELS]) -> bool
+    ensures { IsTrue result ↔ ((k : ℕ) → k < tile_pixels → slice_index pixels.now k < 16) }
+{
+    let mut all = true;
+    for pixel in pixels {
+        all &= *pixel < 16;
+    }
+    all
 }

@@ -6,7 +6,7 @@ use Rattle.bit_lists.specs.Counting.{below}
 use Rattle.rw_code.proofs.CodewordLemmas.{idle_is_codeword}
 use Rattle.cdg_instructions.specs.Instruction.{Means, IsGraphics, IsTile, IsScroll, known_codes, content, content_of, message_of, table_colour, move, offset_across, offset_down}
 use Rattle.cdg_instructions.specs.MadeGood.{IsMadeGood}
-use Rattle.cdg_instructions.specs.Meaning.{meaning}
+use Rattle.cdg_instructions.specs.Meaning.{meaning, meaning_by}
 use Rattle.cdg_instructions.proofs.Meaning.{meaning_means, only_meaning}
 use Rattle.cdg_instructions.proofs.Symbols.{message_of-has, head_of_message, body_of_message, content_of-message}
 use Rattle.cdg_instructions.specs.declared.instr.Instr.{Instr}
@@ -117,3 +117,8 @@ has_instruction pack size =
 -- an idle pack says nothing
 pub idle_instruction : IsInstructionOf idle_pack Idle
 idle_instruction = (idle_pack, record { size = refl; codeword = idle_is_codeword; message = refl }, refl)
+
+-- a pack whose mode is 0 says nothing
+pub idle_by_mode : (pack : List ℕ) → get_or (low_bits pack) 0 0 ≡ 0 → instruction_of pack ≡ Idle
+unfolding instruction_of meaning
+idle_by_mode pack mode = ap (λ m. meaning_by (low_bits pack) m (get_or (low_bits pack) 1 0)) mode

@@ -1,5 +1,6 @@
 // The instruction of a pack of a file, whose parity may be anything.
-ghost use Rattle.std.specs.Prelude.{◌≡◌};
+ghost use Rattle.std.specs.Prelude.{◌≡◌, IsTrue};
+ghost use Rattle.cdg_instructions.specs.declared.instr.Instr.TheVariants.{Idle};
 ghost use Rattle.cdg_instructions.specs.Instruction.{InRange};
 ghost use Rattle.cdg_thin.specs.Steps.{instruction_of};
 ghost use Rattle.cdg_thin.specs.Thin.{is_graphic};
@@ -13,6 +14,14 @@ pub(crate) fn instruction(bytes: &[u8; 24]) -> Instr
     ensures range { InRange result }
 {
     read_word(&Word::new(bytes))
+}
+
+/// Whether 24 bytes are seen to say nothing, by the first of them.
+#[inline]
+pub(crate) fn is_idle(bytes: &[u8; 24]) -> bool
+    ensures { IsTrue result → instruction_of bytes.now ≡ Idle }
+{
+    bytes[0] % 64 == 0
 }
 
 /// Whether it is one of the nine graphics instructions.

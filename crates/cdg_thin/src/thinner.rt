@@ -1,14 +1,14 @@
 // From packs to those of the thin form.
-ghost use Rattle.std.specs.Prelude.{◌≡◌, ◌≢◌, ◌≤◌, List, ℕ, length, Err, IfOk, IfSome, IsErrOf};
+ghost use Rattle.std.specs.Prelude.{◌≡◌, ◌≢◌, ◌≤◌, List, ℕ, [], length, Err, IfOk, IfSome, IsErrOf, Some};
 ghost use Rattle.cdg_instructions.specs.Instruction.{InRange};
 ghost use Rattle.cdg_io.specs.Causes.{Rose};
 ghost use Rattle.cdg_io.specs.Pump.{FillsUnits, IsUnlessFault, TellsEndOf, answer_of};
 ghost use Rattle.cdg_screen.specs.Picture.{SameStanding, blank, standing_of};
 ghost use Rattle.cdg_screen.specs.Standings.{obeyed};
 ghost use Rattle.cdg_thin.specs.Calls.{Thins, ThinsAll};
-ghost use Rattle.cdg_thin.specs.Steps.{is_needless, thin_next, thin_gives};
+ghost use Rattle.cdg_thin.specs.Steps.{instruction_of, is_needless, thin_next, thin_gives};
 
-use crate::instruction::{instruction, is_graphic};
+use crate::instruction::{instruction, is_graphic, is_idle};
 use crate::laws::thin_forms_stand_alike;
 use cdg_instructions::Instr;
 use cdg_io::{Piece, PumpStop, Pumped, Sink, Source, Stage, pump};
@@ -109,6 +109,34 @@ impl Thinner {
         }
         is_graphic(instr)
     }
+
+    /// The same of the instruction of a pack. Most packs are idle: those are no graphics instructions.
+    #[inline]
+    fn is_needless(&mut self, pack: &[u8; 24]) -> bool
+        ensures next { self.new ≡ thin_next self.old pack.now }
+        ensures needless { result ≡ is_needless self.old (instruction_of pack.now) }
+    {
+        // A proof knows what a thinner is seen as where a field is named.
+        let _ = &self.screen;
+        if is_idle(pack) {
+            return false;
+        }
+        self.passes_over(&instruction(pack))
+    }
+
+    /// Puts a pack into an empty piece, or an idle one where it is needless.
+    #[tactic(auto, unfolding(crate::specs::Steps::thin_gives))]
+    fn pass(&mut self, pack: &[u8; 24], piece: &mut Piece)
+        requires { piece.old ≡ [] }
+        ensures next { self.new ≡ thin_next self.old pack.now }
+        ensures gives { Some piece.new ≡ thin_gives self.old pack.now }
+    {
+        if self.is_needless(pack) {
+            piece.add(&IDLE);
+        } else {
+            piece.add(pack);
+        }
+    }
 }
 
 impl Stage for Thinner {
@@ -122,11 +150,17 @@ impl Stage for Thinner {
 
     fn feed(&mut self, pack: &[u8; 24]) -> Option<Piece> {
         let mut piece = Piece::new();
-        if self.passes_over(&instruction(pack)) {
-            piece.add(&IDLE);
-        } else {
-            piece.add(pack);
-        }
+        self.pass(pack, &mut piece);
         Some(piece)
+    }
+
+    fn emit(&mut self, pack: &[u8; 24], out: &mut Option<Piece>) {
+        match out {
+            Some(piece) => {
+                *piece = Piece::new();
+                self.pass(pack, piece);
+            }
+            None => *out = self.feed(pack),
+        }
     }
 }

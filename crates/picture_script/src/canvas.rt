@@ -185,7 +185,7 @@ impl Canvas {
         for j in 0..12 {
             if !self
                 .window
-                .has_part_of(&other.window, WIDTH * (top + j) + left, 6)
+                .has_line_of(&other.window, WIDTH * (top + j) + left)
             {
                 return false;
             }

@@ -52,6 +52,20 @@ impl Window {
         self.pixels[start..start + count] == other.pixels[start..start + count]
     }
 
+    /// Whether six pixels from a place on are those of another window. It looks at all of them, without a call.
+    #[inline]
+    pub(crate) fn has_line_of(&self, other: &Window, start: usize) -> bool
+        requires { start + 6 ≤ 55296 }
+        ensures { IsTrue result
+            ↔ ((i : ℕ) → start ≤ i → i < start + 6 → slice_index self.now i ≡ slice_index other.now i) }
+    {
+        let mut same = true;
+        for i in start..start + 6 {
+            same &= self.pixels[i] == other.pixels[i];
+        }
+        same
+    }
+
     /// Reads six pixels of a row.
     pub(crate) fn read_line(&self, x: usize, y: usize, out: &mut [u8])
         requires count { length out.old ≡ 6 }

@@ -10,17 +10,17 @@ use Rattle.bit_lists.specs.Counting.{below}
 use Rattle.bit_lists.proofs.BitsLemmas.{number_of-lt}
 use Rattle.raw_subcode.specs.declared.lane_table.TheConstants.{LANES}
 use Rattle.raw_subcode.specs.Lanes.{in_lanes, lanes_of_byte}
-use Rattle.raw_subcode.specs.PlanarBytes.{eight_from, turned_at, packed_at, gathered_at}
+use Rattle.raw_subcode.specs.PlanarBytes.{eight_from, turned_at, gathered_at}
 use Rattle.raw_subcode.proofs.Eight.{eight_sum}
 
 -- ---- The table.
 
 -- each number below n passes
-unfoldable all_below : (ℕ → Bool) → ℕ → Bool
+unfoldable pub all_below : (ℕ → Bool) → ℕ → Bool
 all_below p zero = true
 all_below p (suc n) = p n && all_below p n
 
-all_below-at : (p : ℕ → Bool) (n k : ℕ) → all_below p n ≡ true → k < n → p k ≡ true
+pub all_below-at : (p : ℕ → Bool) (n k : ℕ) → all_below p n ≡ true → k < n → p k ≡ true
 unfolding all_below
 all_below-at p zero k h lt = absurd (not-suc-le-zero lt)
 all_below-at p (suc n) k h lt =
@@ -146,23 +146,6 @@ turned_byte bytes eight k f lt is each =
 -- the bytes that stand so many apart
 pub eight_from-at : (bytes : List ℕ) (first step j : ℕ) → j < 8 → slice_index (eight_from bytes first step) j ≡ slice_index bytes (first + step * j)
 eight_from-at bytes first step j lt = get_or-map-range_with_len (λ i. slice_index bytes (first + step * i)) 0 8 j j 0 lt (omega arith)
-
--- after eight bytes more of a planar form
-pub apart_next : (block bytes eight planar planar' : List ℕ) (k : ℕ) → k < 12 → eight ≡ map (turned_at bytes) (below 8)
-    → ((j : ℕ) → j < 8 → slice_index bytes j ≡ slice_index block (8 * k + 1 * j))
-    → ((n : ℕ) → n < 96 → n % 12 ≡ k → slice_index planar' n ≡ slice_index eight (n / 12))
-    → ((n : ℕ) → n < 96 → n % 12 ≢ k → slice_index planar' n ≡ slice_index planar n)
-    → ((n : ℕ) → n < 96 → n % 12 < k → slice_index planar n ≡ packed_at block (n / 12) (8 * (n % 12)))
-    → (n : ℕ) → n < 96 → n % 12 < k + 1 → slice_index planar' n ≡ packed_at block (n / 12) (8 * (n % 12))
-apart_next block bytes eight planar planar' k lt is each here elsewhere before n n_lt within =
-    elim (cases_lt (n % 12) k) [
-      | inl early ↦ elsewhere n n_lt (λ e. omega arith) ∙ before n n_lt early
-      | inr late ↦
-          let at : n % 12 ≡ k = omega arith in
-          here n n_lt at
-          ∙ turned_byte bytes eight (n / 12) (λ j. slice_index block (8 * (n % 12) + j)) (omega arith) is
-          (λ j j_lt. let place : 8 * k + 1 * j ≡ 8 * (n % 12) + j = omega arith in each j j_lt ∙ ap (slice_index block) place)
-    ]
 
 -- after eight bytes more of a block
 pub together_next : (planar bytes eight block block' : List ℕ) (k : ℕ) → k < 12 → eight ≡ map (turned_at bytes) (below 8)

@@ -4,7 +4,7 @@ use Rattle.bit_lists.specs.Counting.{whole_parts}
 use Rattle.bit_lists.specs.Bits.{has_bit, bits_of}
 use Rattle.raw_subcode.specs.Sizes.{block_bytes, sector_bytes}
 use Rattle.raw_subcode.specs.declared.form.Form.{Form}
-use Rattle.raw_subcode.specs.declared.form.Form.TheVariants.{Raw, Sector, Cooked}
+use Rattle.raw_subcode.specs.declared.form.Form.TheVariants.{Sector}
 
 -- the bit of a channel in a byte: channel 0 is P and the highest bit, channel 7 is W and the lowest
 abbrev pub channel_bit : ℕ → ℕ → Bool

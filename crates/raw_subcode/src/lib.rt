@@ -2,6 +2,7 @@
 #![tactic(auto)]
 
 mod block;
+mod channel_bytes;
 mod form;
 mod lane_table;
 mod lanes;

@@ -1,6 +1,7 @@
 // The symbols of the program blocks.
-ghost use Rattle.std.specs.Prelude.{◌≡◌, ◌<◌, ℕ, List, All};
-ghost use Rattle.rw_code.specs.Codeword.{IsWord};
+ghost use Rattle.std.specs.Prelude.{◌≡◌, ◌<◌, ℕ, List, All, Some};
+ghost use Rattle.rw_code.specs.Codeword.{IsCodeword, IsWord};
+ghost use Rattle.rw_interleave.specs.Spreading.{spread_gives, spread_next};
 ghost use Rattle.stream_writer.specs.Given.{AreQuiet, ComesLater, TakesPack, TakesPacks};
 
 use crate::source::PackSource;
@@ -41,16 +42,25 @@ fn next_slot<P: PackSource>(source: &mut P, spread: &mut Spread, quiet: &mut u8)
     ensures quiet { AreQuiet spread.new quiet.new }
 {
     let Some(pack) = source.next_pack() else {
-        let idle = Pack::idle();
-        // What holds of every pack: its symbols are a codeword.
-        let _zeros = idle.word();
         if *quiet >= ALL_QUIET {
             return [0; 24];
         }
         *quiet += 1;
-        return spread.push(&idle).bytes();
+        return slot_with(spread, &Pack::idle());
     };
     *quiet = 0;
+    slot_with(spread, &pack)
+}
+
+/// The symbols of the slot that comes with a pack. It stays a call of its own, since most packs are idle.
+#[inline(never)]
+fn slot_with(spread: &mut Spread, pack: &Pack) -> [u8; 24]
+    ensures codeword { IsCodeword pack.now }
+    ensures next { spread.new ≡ spread_next spread.old pack.now }
+    ensures gives { Some result ≡ spread_gives spread.old pack.now }
+    ensures word { IsWord result }
+{
+    // What holds of every pack: its symbols are a codeword.
     let _codeword = pack.word();
-    spread.push(&pack).bytes()
+    spread.push(pack).bytes()
 }

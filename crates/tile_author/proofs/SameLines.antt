@@ -2,6 +2,7 @@
 use Rattle.std.proofs.Common.{◌≡◌, ℕ, zero, suc, ◌+◌, ◌-◌, ◌*◌, ◌<◌, ◌≤◌, Bool, true, List, [], ◌∷◌, ◌++◌, length, take, drop, get_or, refl, sym, ap, ap₂, ◌∙◌, bit_xor, arith}
 use Rattle.std.specs.Prelude.{slice_index, if◌then◌else◌}
 use Rattle.std.proofs.lemmas.List.{take_all, take_more, get_or-take, get_or-drop, length-take}
+use Rattle.std.specs.Int.Bits.{xor_self}
 use Rattle.std.specs.Str.{bytes_eq}
 use Rattle.std.proofs.lemmas.Slice.Eq.{bytes_eq-Decides}
 use Rattle.bit_lists.specs.Bits.{has_bit, number_of}
@@ -110,3 +111,17 @@ same_read pixels j line (suc i) size first last same i_le =
 pub same_bits : (pixels : List ℕ) (j line : ℕ) → length pixels ≡ 72 → 0 < line → line < 12 → AreBefore pixels line → slice_index (tile_lines pixels j) (line - 1) ≡ slice_index (tile_lines pixels j) line
 same_bits pixels j line size first last same =
     sym (all_bits pixels j (line - 1) 6 (omega arith) refl) ∙ sym (same_read pixels j line 6 size first last same (omega arith)) ∙ all_bits pixels j line 6 last refl
+
+one_colour_first : (pixels : List ℕ) (n : ℕ) → length pixels ≡ 72 → n ≤ 72 → ((i : ℕ) → i < 72 → slice_index pixels i ≡ slice_index pixels 0) → basis_of pixels n ≡ []
+unfolding basis_from is_combination
+one_colour_first pixels zero size le same = refl
+one_colour_first pixels (suc n) size le same =
+    let e : suc n ≡ n + 1 = omega arith in
+    let before = one_colour_first pixels n size (omega arith) same in
+    let none : difference pixels n ≡ 0 = ap (bit_xor (slice_index pixels 0)) (same n (omega arith)) ∙ xor_self (slice_index pixels 0) in
+    ap (basis_of pixels) e ∙ one_more_offered pixels n (omega (arith, size)) ∙ ap₂ (λ ms d. if is_combination ms d then ms else ms ++ d ∷ []) before none
+
+-- one colour alone has no differences
+pub basis_of_one_colour : (pixels : List ℕ) → length pixels ≡ 72 → ((i : ℕ) → i < 72 → slice_index pixels i ≡ slice_index pixels 0) → [] ≡ basis pixels
+unfolding basis_of_lines
+basis_of_one_colour pixels size same = sym (one_colour_first pixels 72 size (omega arith) same) ∙ all_lines pixels size

@@ -47,12 +47,16 @@ impl Basis {
         }
     }
 
-    /// The basis of the differences of these pixels from the first one. A line that is as the one before adds nothing.
+    /// The basis of the differences of these pixels from the first one. One colour alone has none, and a line that is as
+    /// the one before adds nothing.
     pub(crate) fn of(pixels: &[u8; PIXELS]) -> Basis
         requires { IsTilePixels pixels.now }
         ensures { result ≡ basis pixels.now }
     {
         let mut basis = Basis::new();
+        if is_one_colour(pixels) {
+            return basis;
+        }
         basis.offer_line(pixels, 0);
         for line in 1..12 {
             basis.offer_later_line(pixels, line);
@@ -292,4 +296,16 @@ fn is_line_before(pixels: &[u8; PIXELS], line: usize) -> bool
 {
     let start = 6 * line;
     pixels[start - 6..start] == pixels[start..start + 6]
+}
+
+// Whether all pixels have the colour of the first. It looks at all of them, so that many can be compared at once.
+fn is_one_colour(pixels: &[u8; PIXELS]) -> bool
+    ensures { IsTrue result → (i : ℕ) → i < 72 → slice_index pixels.now i ≡ slice_index pixels.now 0 }
+{
+    let first = pixels[0];
+    let mut same = true;
+    for pixel in pixels {
+        same &= *pixel == first;
+    }
+    same
 }

@@ -1,4 +1,4 @@
-use Rattle.std.proofs.Common.{◌≡◌, ◌+◌, ◌-◌, length, subst, arith}
+use Rattle.std.proofs.Common.{◌≡◌, ◌-◌, length, subst, arith}
 use Rattle.std.specs.Result.{IfOk}
 use Rattle.cdtext_packs.specs.Texts.{Texts}
 use Rattle.stream_writer.proofs.SheetStrings.{sheet_texts_are}
