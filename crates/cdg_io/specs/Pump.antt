@@ -5,7 +5,7 @@ use Rattle.std.specs.List.{concat}
 use Rattle.std.specs.declared.option.Option.{Option}
 use Rattle.std.specs.Io.KnownBytes.{Appends, Consumes, IsAtEnd}
 use Rattle.cdg_io.specs.Causes.{Rose}
-use Rattle.cdg_io.specs.Change.{Moved}
+use Rattle.cdg_io.specs.Change.{Fed, Moved}
 use Rattle.cdg_io.specs.Moves.{AppendsBetween}
 use Rattle.cdg_io.specs.Run.{run_state, run_gives}
 use Rattle.cdg_io.specs.declared.pumping.Pumped.{Pumped}
@@ -69,6 +69,16 @@ FillsUnits limit (Err (Torn unit)) before now = RoseBy unit before now
 FillsUnits limit (Err TooLong) before now = RoseBy (limit + 1) before now
 FillsUnits limit (Err ReadFault) before now = (n : ℕ) × (n ≤ limit) × RoseBy n before now
 FillsUnits limit (Err WriteFault) before now = (n : ℕ) × (n ≤ limit) × RoseBy n before now
+
+-- These n bytes were taken. A stage was fed them where they are a whole unit, and nothing where the input ended before.
+pub record FeedsUnit {S : Type 0} (size : ℕ) (machine : Machine S) (fed : Fed S) (given : Option (List ℕ)) (n : ℕ)
+    (taken : List ℕ) : Type 0 where
+  pub taken_from : Consumes fed.left.before fed.left.after taken
+  pub count : length taken ≡ n
+  pub step : n ≡ size → fed.state.after ≡ machine.next fed.state.before taken
+  pub gave : n ≡ size → given ≡ machine.gives fed.state.before taken
+  pub stays : n < size → fed.state.after ≡ fed.state.before
+  pub ended : n < size → IsAtEnd fed.left.after
 
 -- The pump is at work: these bytes were taken, they are n whole units, and what the stage gave for them was put.
 pub record Works {S : Type 0} (size : ℕ) (machine : Machine S) (moved : Moved S) (n : ℕ)
