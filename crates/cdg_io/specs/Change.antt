@@ -14,6 +14,10 @@ pub record Change (A : Type 0) : Type 0 where
 abbrev pub change : {A O : Type 0} → (O → A) → O → O → Change A
 change see before after = record { before = see before; after = see after }
 
+-- from one value to another
+abbrev pub from_to : {A : Type 0} → A → A → Change A
+from_to before after = record { before = before; after = after }
+
 -- the bytes of an input and of an output, before and after a call
 pub record Passed : Type 0 where
   pub left : Change Bytes
@@ -35,7 +39,7 @@ pub record Fed (S : Type 0) : Type 0 where
 abbrev pub fed : {I S : Type 0} → (I → Bytes) → I × S → I × S → Fed S
 fed left before after = record {
   left = change left before.0 after.0;
-  state = record { before = before.1; after = after.1 };
+  state = from_to before.1 after.1;
 }
 
 -- the bytes of an input, the state of a stage and the bytes of an output, before and after a call
@@ -48,6 +52,6 @@ pub record Moved (S : Type 0) : Type 0 where
 abbrev pub moved : {I S K : Type 0} → (I → Bytes) → (K → Bytes) → I × S × K → I × S × K → Moved S
 moved left held before after = record {
   left = change left before.0 after.0;
-  state = record { before = before.1; after = after.1 };
+  state = from_to before.1 after.1;
   held = change held before.2 after.2;
 }

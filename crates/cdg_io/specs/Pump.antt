@@ -70,15 +70,14 @@ FillsUnits limit (Err TooLong) before now = RoseBy (limit + 1) before now
 FillsUnits limit (Err ReadFault) before now = (n : ℕ) × (n ≤ limit) × RoseBy n before now
 FillsUnits limit (Err WriteFault) before now = (n : ℕ) × (n ≤ limit) × RoseBy n before now
 
--- These n bytes were taken. A stage was fed them where they are a whole unit, and nothing where the input ended before.
-pub record FeedsUnit {S : Type 0} (size : ℕ) (machine : Machine S) (fed : Fed S) (given : Option (List ℕ)) (n : ℕ)
+-- These bytes were taken. A stage was fed them where they are a whole unit, and nothing where the input ended before.
+pub record FeedsUnit {S : Type 0} (size : ℕ) (machine : Machine S) (fed : Fed S) (given : Option (List ℕ))
     (taken : List ℕ) : Type 0 where
   pub taken_from : Consumes fed.left.before fed.left.after taken
-  pub count : length taken ≡ n
-  pub step : n ≡ size → fed.state.after ≡ machine.next fed.state.before taken
-  pub gave : n ≡ size → given ≡ machine.gives fed.state.before taken
-  pub stays : n < size → fed.state.after ≡ fed.state.before
-  pub ended : n < size → IsAtEnd fed.left.after
+  pub step : length taken ≡ size → fed.state.after ≡ machine.next fed.state.before taken
+  pub gave : length taken ≡ size → given ≡ machine.gives fed.state.before taken
+  pub stays : length taken < size → fed.state.after ≡ fed.state.before
+  pub ended : length taken < size → IsAtEnd fed.left.after
 
 -- The pump is at work: these bytes were taken, they are n whole units, and what the stage gave for them was put.
 pub record Works {S : Type 0} (size : ℕ) (machine : Machine S) (moved : Moved S) (n : ℕ)

@@ -7,6 +7,9 @@ use Rattle.std.specs.Io.KnownBytes.{Appends, Consumes, IsAtEnd}
 use Rattle.cdg_io.specs.Change.{Passed}
 use Rattle.cdg_io.specs.Moves.{AppendsPrefix, AppendsBetween}
 use Rattle.cdg_io.specs.Pump.{Cut}
+use Rattle.cdg_io.specs.declared.pumping.Pumped.{Pumped}
+use Rattle.cdg_io.specs.declared.pumping.PumpStop.{PumpStop}
+use Rattle.cdg_io.specs.declared.pumping.PumpStop.TheVariants.{Torn, WriteFault}
 
 -- some answer and this text
 abbrev pub GivesText : {T : Type 0} → (List ℕ → T → List ℕ → Type 0) → List ℕ → List ℕ → Type 0
@@ -19,6 +22,10 @@ pub record Reading (T E : Type 0) : Type 1 where
   pub torn_at : ℕ → E
   pub write_fault : E
   pub gives : List ℕ → T → List ℕ → Type 0
+
+-- how a call reads that stops as its pump does
+abbrev pub as_pumped : Cut → (List ℕ → Pumped → List ℕ → Type 0) → Reading Pumped PumpStop
+as_pumped cut gives = record { cut = cut; torn_at = Torn; write_fault = WriteFault; gives = gives }
 
 -- A call that writes while it reads took these bytes, and put the text of their units.
 pub record Streams {T E : Type 0} (reading : Reading T E) (passed : Passed) (result : Result T E)
