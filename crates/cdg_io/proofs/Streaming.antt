@@ -4,10 +4,10 @@ use Rattle.std.proofs.Math.Nat.{suc-mul, div-mul-le_self, lt-div-mul-add, lt_of_
 use Rattle.std.specs.List.{concat}
 use Rattle.cdg_io.specs.Run.{run_gives}
 use Rattle.std.proofs.lemmas.List.{length-take-le, take-append-drop}
-use Rattle.std.specs.declared.option.Option.{Option}
 use Rattle.std.specs.Io.KnownBytes.{Appends}
-use Rattle.cdg_io.specs.Pump.{units_of, whole, given, Pumps}
-use Rattle.cdg_io.specs.Streams.{GivesText, Streams}
+use Rattle.cdg_io.specs.Change.{Moved, Passed}
+use Rattle.cdg_io.specs.Pump.{Machine, Pumps, given, units_of, whole}
+use Rattle.cdg_io.specs.Streams.{GivesText, Reading, Streams}
 use Rattle.cdg_io.specs.declared.pumping.Pumped.{Pumped}
 use Rattle.cdg_io.specs.declared.pumping.PumpStop.{PumpStop}
 use Rattle.cdg_io.specs.declared.pumping.PumpStop.TheVariants.{WriteFault, Torn}
@@ -43,52 +43,63 @@ pub record IsTold {E : Type 0} (torn_at : ℕ → E) (fault : E) (stop : PumpSto
   pub fault_only : told ≡ fault → stop ≡ WriteFault
   pub torn_only : (unit : ℕ) → told ≡ torn_at unit → stop ≡ Torn unit
 
-module _ {S T E : Type 0} (size limit : ℕ) (next : S → List ℕ → S) (gives : S → List ℕ → Option (List ℕ)) (torn_at : ℕ → E) (fault : E) (says : List ℕ → T → List ℕ → Type 0) (left left' : Option (List ℕ)) (s s' : S) (held held' : Option (List ℕ)) (taken : List ℕ) where
+-- the bytes of an input and of an output that a stage moved
+abbrev pub bytes_of : {S : Type 0} → Moved S → Passed
+bytes_of moved = record { left = moved.left; held = moved.held }
+
+module _ {S T E : Type 0} (reading : Reading T E) (machine : Machine S) (moved : Moved S) (taken : List ℕ) where
   abbrev Runs : Result Pumped PumpStop → Type 0
-  Runs result = Pumps size limit next gives left left' s s' held held' result taken
+  Runs result = Pumps reading.cut machine moved result taken
+
+  abbrev text_of : List ℕ → ℕ → List ℕ
+  text_of bytes n = given reading.cut.size machine moved.state.before bytes n
+
+  abbrev Puts : List ℕ → Type 0
+  Puts text = Appends moved.held.before moved.held.after text
 
   -- what the stage gives for the whole units of some bytes is what is said of these bytes
   abbrev pub Says : Type 0
-  Says = (bytes : List ℕ) (n : ℕ) → n ≤ limit → IsWhole size n bytes → GivesText says bytes (given size next gives s bytes n)
+  Says = (bytes : List ℕ) (n : ℕ) → n ≤ reading.cut.limit → IsWhole reading.cut.size n bytes → GivesText reading.gives bytes (text_of bytes n)
 
-  put_all : (result : Result Pumped PumpStop) → 1 < size → Says → Runs result → result ≢ pump_error WriteFault → (text : List ℕ) × GivesText says taken text × Appends held held' text
+  put_all : (result : Result Pumped PumpStop) → 1 < reading.cut.size → Says → Runs result → result ≢ pump_error WriteFault → (text : List ℕ) × GivesText reading.gives taken text × Puts text
   put_all result some all p no_fault =
-      let n : ℕ = length taken / size in
-      let whole_taken : IsWhole size n taken = whole_units size taken (omega (arith, some)) in
-      let few : n ≤ limit = within_limit size limit n (length taken) some whole_taken.fits p.within in
-      let count : whole size limit (length taken) ≡ n = omega (arith, few) in
-      (given size next gives s taken n, all taken n few whole_taken, subst (λ k. Appends held held' (given size next gives s taken k)) count (p.put no_fault))
+      let n : ℕ = length taken / reading.cut.size in
+      let whole_taken : IsWhole reading.cut.size n taken = whole_units reading.cut.size taken (omega (arith, some)) in
+      let few : n ≤ reading.cut.limit = within_limit reading.cut.size reading.cut.limit n (length taken) some whole_taken.fits p.within in
+      let count : whole reading.cut.size reading.cut.limit (length taken) ≡ n = omega (arith, few) in
+      (text_of taken n, all taken n few whole_taken, subst (λ k. Puts (text_of taken k)) count (p.put no_fault))
 
-  pub streams_done : (pumped : Pumped) (answer : T) → 1 < size → Says → Runs (Ok pumped) → (IsWhole size pumped.units taken → says taken answer (given size next gives s taken pumped.units))
-      → Streams size limit torn_at fault says left left' held held' (Ok answer) taken
+  pub streams_done : (pumped : Pumped) (answer : T) → 1 < reading.cut.size → Says → Runs (Ok pumped) → (IsWhole reading.cut.size pumped.units taken → reading.gives taken answer (text_of taken pumped.units))
+      → Streams reading (bytes_of moved) (Ok answer) taken
   streams_done pumped answer some all p met =
       let len = p.done.1 in
-      let count : whole size limit (length taken) ≡ pumped.units = ap (whole size limit) (len ∙ omega arith) ∙ whole_within size limit pumped.units 0 (omega (arith, some)) p.done.2 in
-      let put = subst (λ k. Appends held held' (given size next gives s taken k)) count (p.put (λ e. (cc))) in
+      let count : whole reading.cut.size reading.cut.limit (length taken) ≡ pumped.units = ap (whole reading.cut.size reading.cut.limit) (len ∙ omega arith) ∙ whole_within reading.cut.size reading.cut.limit pumped.units 0 (omega (arith, some)) p.done.2 in
+      let put = subst (λ k. Puts (text_of taken k)) count (p.put (λ e. (cc))) in
       record {
         taken_from = p.taken_from;
         within = p.within;
-        done = (p.done.0, (given size next gives s taken pumped.units, met (record { fits = omega (arith, len); rest = omega (arith, len, some) }), put));
+        done = (p.done.0, (text_of taken pumped.units, met (record { fits = omega (arith, len); rest = omega (arith, len, some) }), put));
         torn = λ unit e. (cc);
         put = λ e. put_all (Ok pumped) some all p (λ e. (cc));
         in_turn = λ e. (cc);
       }
 
-  pub streams_stop : (stop : PumpStop) (told : E) → 1 < size → IsTold torn_at fault stop told → Says → Runs (Err stop) → Streams size limit torn_at fault says left left' held held' (Err told) taken
+  pub streams_stop : (stop : PumpStop) (told : E) → 1 < reading.cut.size → IsTold reading.torn_at reading.write_fault stop told → Says → Runs (Err stop) → Streams reading (bytes_of moved) (Err told) taken
   streams_stop stop told some tells all p = record {
     taken_from = p.taken_from;
     within = p.within;
     done = tt;
-    torn = λ unit e. let same : told ≡ torn_at unit = cc in (p.torn unit (ap pump_error (tells.torn_only unit same))).0;
+    torn = λ unit e. let same : told ≡ reading.torn_at unit = cc in (p.torn unit (ap pump_error (tells.torn_only unit same))).0;
     put = λ h. put_all (Err stop) some all p (λ e. let same : stop ≡ WriteFault = cc in h (ap (error T) (tells.fault_kept same)));
     in_turn = λ e.
-        let same : told ≡ fault = cc in
+        let same : told ≡ reading.write_fault = cc in
         let (n, below_limit, stops) = p.in_turn (ap pump_error (tells.fault_only same)) in
+        let size = reading.cut.size in
         let next_size : (n + 1) * size ≡ n * size + size = ap (λ k. k * size) (omega arith) ∙ suc-mul n size in
         let fits : n * size ≤ length taken = omega (arith, stops.units, next_size) in
         let low_len = length-take-le (n * size) taken fits in
-        let low : GivesText says (take (n * size) taken) (given size next gives s (take (n * size) taken) n) = all (take (n * size) taken) n (omega (arith, below_limit)) (record { fits = omega (arith, low_len); rest = omega (arith, low_len, some) }) in
-        let high : GivesText says taken (given size next gives s taken (n + 1)) = all taken (n + 1) (omega (arith, below_limit)) (record { fits = omega (arith, stops.units); rest = omega (arith, stops.units, some) }) in
-        let same_low : given size next gives s (take (n * size) taken) n ≡ given size next gives s taken n = ap (λ (us : List (List ℕ)). concat (run_gives next gives s us)) (units_of-take size n taken fits) in
-        (n, below_limit, stops.units, (_, _, subst (GivesText says (take (n * size) taken)) same_low low, high, stops.put));
+        let low : GivesText reading.gives (take (n * size) taken) (text_of (take (n * size) taken) n) = all (take (n * size) taken) n (omega (arith, below_limit)) (record { fits = omega (arith, low_len); rest = omega (arith, low_len, some) }) in
+        let high : GivesText reading.gives taken (text_of taken (n + 1)) = all taken (n + 1) (omega (arith, below_limit)) (record { fits = omega (arith, stops.units); rest = omega (arith, stops.units, some) }) in
+        let same_low : text_of (take (n * size) taken) n ≡ text_of taken n = ap (λ (us : List (List ℕ)). concat (run_gives machine.next machine.gives moved.state.before us)) (units_of-take size n taken fits) in
+        (n, below_limit, stops.units, (_, _, subst (GivesText reading.gives (take (n * size) taken)) same_low low, high, stops.put));
   }

@@ -5,6 +5,7 @@ use Rattle.std.specs.List.{concat}
 use Rattle.std.specs.declared.option.Option.{Option}
 use Rattle.std.specs.Io.KnownBytes.{Appends, Consumes, IsAtEnd}
 use Rattle.cdg_io.specs.Causes.{Rose}
+use Rattle.cdg_io.specs.Change.{Fed, Moved}
 use Rattle.cdg_io.specs.Moves.{AppendsBetween}
 use Rattle.cdg_io.specs.Run.{run_state, run_gives}
 use Rattle.cdg_io.specs.declared.pumping.Pumped.{Pumped}
@@ -19,10 +20,19 @@ units_of size count bytes = parts count size bytes
 abbrev pub whole : ℕ → ℕ → ℕ → ℕ
 whole size limit len = min (len / size) limit
 
+-- the steps of a stage on units of bytes: from a state and a unit to the next state, and to what is given, if anything
+pub record Machine (S : Type 0) : Type 0 where
+  pub next : S → List ℕ → S
+  pub gives : S → List ℕ → Option (List ℕ)
+
+-- how an input is cut: into units of so many bytes, at most so many of them
+pub record Cut : Type 0 where
+  pub size : ℕ
+  pub limit : ℕ
+
 -- the bytes that the stage gives for the first n units
-abbrev pub given : {S : Type 0} → ℕ → (S → List ℕ → S) → (S → List ℕ → Option (List ℕ)) → S → List ℕ → ℕ
-    → List ℕ
-given size next gives s bytes n = concat (run_gives next gives s (units_of size n bytes))
+abbrev pub given : {S : Type 0} → ℕ → Machine S → S → List ℕ → ℕ → List ℕ
+given size machine s bytes n = concat (run_gives machine.next machine.gives s (units_of size n bytes))
 
 -- the bytes that were given, if any
 abbrev pub given_bytes : Option (List ℕ) → List ℕ
@@ -60,38 +70,51 @@ FillsUnits limit (Err TooLong) before now = RoseBy (limit + 1) before now
 FillsUnits limit (Err ReadFault) before now = (n : ℕ) × (n ≤ limit) × RoseBy n before now
 FillsUnits limit (Err WriteFault) before now = (n : ℕ) × (n ≤ limit) × RoseBy n before now
 
--- The pump is at work: these bytes were taken, they are n whole units, and what the stage gave for them was put.
-pub record Works {S : Type 0} (size : ℕ) (next : S → List ℕ → S) (gives : S → List ℕ → Option (List ℕ))
-    (left left' : Option (List ℕ)) (s s' : S) (held held' : Option (List ℕ)) (n : ℕ)
+-- These bytes were taken. A stage was fed them where they are a whole unit, and nothing where the input ended before.
+pub record FeedsUnit {S : Type 0} (size : ℕ) (machine : Machine S) (fed : Fed S) (given : Option (List ℕ))
     (taken : List ℕ) : Type 0 where
-  pub taken_from : Consumes left left' taken
+  pub taken_from : Consumes fed.left.before fed.left.after taken
+  pub step : length taken ≡ size → fed.state.after ≡ machine.next fed.state.before taken
+  pub gave : length taken ≡ size → given ≡ machine.gives fed.state.before taken
+  pub stays : length taken < size → fed.state.after ≡ fed.state.before
+  pub ended : length taken < size → IsAtEnd fed.left.after
+
+-- The pump is at work: these bytes were taken, they are n whole units, and what the stage gave for them was put.
+pub record Works {S : Type 0} (size : ℕ) (machine : Machine S) (moved : Moved S) (n : ℕ)
+    (taken : List ℕ) : Type 0 where
+  pub taken_from : Consumes moved.left.before moved.left.after taken
   pub units : length taken ≡ n * size
-  pub state : s' ≡ run_state next s (units_of size n taken)
-  pub put : Appends held held' (given size next gives s taken n)
+  pub state : moved.state.after ≡ run_state machine.next moved.state.before (units_of size n taken)
+  pub put : Appends moved.held.before moved.held.after (given size machine moved.state.before taken n)
 
 -- A write failed within what the unit after n whole ones gave.
-pub record StopsInTurn {S : Type 0} (size : ℕ) (next : S → List ℕ → S) (gives : S → List ℕ → Option (List ℕ))
-    (s : S) (held held' : Option (List ℕ)) (taken : List ℕ) (n : ℕ) : Type 0 where
+pub record StopsInTurn {S : Type 0} (size : ℕ) (machine : Machine S) (moved : Moved S) (taken : List ℕ)
+    (n : ℕ) : Type 0 where
   -- no byte after that unit was taken
   pub units : length taken ≡ (n + 1) * size
   -- all that the earlier units gave was put, and a prefix of what this one gave
-  pub put : AppendsBetween held held' (given size next gives s taken n)
-      (given size next gives s taken (n + 1))
+  pub put : AppendsBetween moved.held.before moved.held.after (given size machine moved.state.before taken n)
+      (given size machine moved.state.before taken (n + 1))
+
+-- how many whole units were taken
+abbrev pub units_taken : Cut → List ℕ → ℕ
+units_taken cut taken = whole cut.size cut.limit (length taken)
 
 -- These bytes were taken, the stage ran over their whole units, and what it gave was put.
-pub record Pumps {S : Type 0} (size limit : ℕ) (next : S → List ℕ → S) (gives : S → List ℕ → Option (List ℕ))
-    (left left' : Option (List ℕ)) (s s' : S) (held held' : Option (List ℕ)) (result : Result Pumped PumpStop)
-    (taken : List ℕ) : Type 0 where
-  pub taken_from : Consumes left left' taken
+pub record Pumps {S : Type 0} (cut : Cut) (machine : Machine S) (moved : Moved S)
+    (result : Result Pumped PumpStop) (taken : List ℕ) : Type 0 where
+  pub taken_from : Consumes moved.left.before moved.left.after taken
   -- at most one byte past the limit
-  pub within : length taken ≤ limit * size + 1
-  pub state : s' ≡ run_state next s (units_of size (whole size limit (length taken)) taken)
-  pub put : result ≢ Err WriteFault
-      → Appends held held' (given size next gives s taken (whole size limit (length taken)))
+  pub within : length taken ≤ cut.limit * cut.size + 1
+  pub state : moved.state.after
+      ≡ run_state machine.next moved.state.before (units_of cut.size (units_taken cut taken) taken)
+  pub put : result ≢ Err WriteFault → Appends moved.held.before moved.held.after
+      (given cut.size machine moved.state.before taken (units_taken cut taken))
   pub in_turn : result ≡ Err WriteFault
-      → (n : ℕ) × (n < limit) × StopsInTurn size next gives s held held' taken n
-  pub done : IfOk result (λ p. IsAtEnd left' × (length taken ≡ p.units * size) × (p.units ≤ limit))
-  pub torn : (unit : ℕ) → result ≡ Err (Torn unit)
-      → IsAtEnd left' × (unit < limit) × (unit * size < length taken) × (length taken < unit * size + size)
-  pub too_long : result ≡ Err TooLong → length taken ≡ limit * size + 1
-  pub read_fault : result ≡ Err ReadFault → length taken < limit * size + 1
+      → (n : ℕ) × (n < cut.limit) × StopsInTurn cut.size machine moved taken n
+  pub done : IfOk result
+      (λ p. IsAtEnd moved.left.after × (length taken ≡ p.units * cut.size) × (p.units ≤ cut.limit))
+  pub torn : (unit : ℕ) → result ≡ Err (Torn unit) → IsAtEnd moved.left.after × (unit < cut.limit)
+      × (unit * cut.size < length taken) × (length taken < unit * cut.size + cut.size)
+  pub too_long : result ≡ Err TooLong → length taken ≡ cut.limit * cut.size + 1
+  pub read_fault : result ≡ Err ReadFault → length taken < cut.limit * cut.size + 1

@@ -5,7 +5,7 @@ mod input;
 mod live;
 
 use cdg_cmd::{Status, run, split, tell};
-use cdg_io::{ReadSource, SteadySink, WriteSink};
+use cdg_io::{BufferedSource, SteadySink, WriteSink};
 use input::Input;
 use live::{LiveInput, LiveOutput, flush};
 use std::cell::RefCell;
@@ -55,8 +55,8 @@ fn run_on_streams(rt: &HostRuntime) -> io::Result<Status> {
         input: second,
         waiting: &waiting,
     };
-    let mut first = ReadSource::new(BufReader::with_capacity(alloc, BUFFER, first)?);
-    let mut second = ReadSource::new(BufReader::with_capacity(alloc, BUFFER, second)?);
+    let mut first = BufferedSource::new(BufReader::with_capacity(alloc, BUFFER, first)?);
+    let mut second = BufferedSource::new(BufReader::with_capacity(alloc, BUFFER, second)?);
     let mut out = WriteSink::new(LiveOutput(&waiting));
     let mut err = SteadySink::new();
     let status = run(

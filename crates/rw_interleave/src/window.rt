@@ -62,6 +62,19 @@ impl Window {
         self.quiet = false;
     }
 
+    /// Whether the words that come with a block are four of zeros, and the slots stay as they are.
+    #[inline]
+    pub fn stays_idle(&self, block: &[u8; BLOCK]) -> bool
+        ensures next { result ≡ true → self.now ≡ run_state gather_next self.now (slots_in block.now 0 4) }
+        ensures gives { result ≡ true → replicate 4 (replicate 24 0)
+            ≡ run_gives gather_next gather_gives self.now (slots_in block.now 0 4) }
+    {
+        if self.quiet && are_idle(block) {
+            return true;
+        }
+        false
+    }
+
     /// Takes the four slots of a block, which are the low six bits of its bytes, and gives the words whose last symbol
     /// came with them.
     #[inline]

@@ -1,0 +1,5 @@
+use Rattle.std.proofs.lemmas.List.{take-replicate}
+use Rattle.cdg_io.proofs.piece.zeros.Goals as goal
+
+pub returns : goal.returns
+returns c = take-replicate c.args.count 128 0 c.requires

@@ -1,0 +1,57 @@
+-- What a call found and what it left.
+use Rattle.std.specs.Prelude.{ℕ, List, Option}
+
+-- the bytes that an input still gives, or that an output took, where it tells them
+abbrev pub Bytes : Type 0
+Bytes = Option (List ℕ)
+
+-- a value before and after a call
+pub record Change (A : Type 0) : Type 0 where
+  pub before : A
+  pub after : A
+
+-- what is seen of an object before and after a call
+abbrev pub change : {A O : Type 0} → (O → A) → O → O → Change A
+change see before after = record { before = see before; after = see after }
+
+-- from one value to another
+abbrev pub from_to : {A : Type 0} → A → A → Change A
+from_to before after = record { before = before; after = after }
+
+-- the bytes of an input and of an output, before and after a call
+pub record Passed : Type 0 where
+  pub left : Change Bytes
+  pub held : Change Bytes
+
+-- what is seen of an input and of an output
+abbrev pub passed : {S K : Type 0} → (S → Bytes) → (K → Bytes) → S × K → S × K → Passed
+passed left held before after = record {
+  left = change left before.0 after.0;
+  held = change held before.1 after.1;
+}
+
+-- the bytes of an input and the state of a stage that is fed with them, before and after a call
+pub record Fed (S : Type 0) : Type 0 where
+  pub left : Change Bytes
+  pub state : Change S
+
+-- what is seen of an input and of the stage that is fed with it
+abbrev pub fed : {I S : Type 0} → (I → Bytes) → I × S → I × S → Fed S
+fed left before after = record {
+  left = change left before.0 after.0;
+  state = from_to before.1 after.1;
+}
+
+-- the bytes of an input, the state of a stage and the bytes of an output, before and after a call
+pub record Moved (S : Type 0) : Type 0 where
+  pub left : Change Bytes
+  pub state : Change S
+  pub held : Change Bytes
+
+-- what is seen of an input, of a stage and of an output
+abbrev pub moved : {I S K : Type 0} → (I → Bytes) → (K → Bytes) → I × S × K → I × S × K → Moved S
+moved left held before after = record {
+  left = change left before.0 after.0;
+  state = from_to before.1 after.1;
+  held = change held before.2 after.2;
+}
