@@ -15,6 +15,8 @@ use std::{env, io};
 
 const BUFFER: usize = 65_536;
 
+const READ: usize = 61_440;
+
 /// All words after the program's own name. Where they are no text, there are none.
 fn words(rt: &HostRuntime) -> io::Result<Vec<String>> {
     let mut words = Vec::new(rt.alloc());
@@ -55,8 +57,8 @@ fn run_on_streams(rt: &HostRuntime) -> io::Result<Status> {
         input: second,
         waiting: &waiting,
     };
-    let mut first = BufferedSource::new(BufReader::with_capacity(alloc, BUFFER, first)?);
-    let mut second = BufferedSource::new(BufReader::with_capacity(alloc, BUFFER, second)?);
+    let mut first = BufferedSource::new(BufReader::with_capacity(alloc, READ, first)?);
+    let mut second = BufferedSource::new(BufReader::with_capacity(alloc, READ, second)?);
     let mut out = WriteSink::new(LiveOutput(&waiting));
     let mut err = SteadySink::new();
     let status = run(
