@@ -13,8 +13,10 @@ use std::io::{BufReader, BufWriter, ErrorKind};
 use std::process::ExitCode;
 use std::{env, io};
 
+/// The most that waits to be written.
 const BUFFER: usize = 65_536;
 
+/// The most that a read brings: whole pages and whole blocks, whose packs come out in one write.
 const READ: usize = 61_440;
 
 /// All words after the program's own name. Where they are no text, there are none.

@@ -113,6 +113,9 @@ impl Stage for BlockWords {
     #[inline]
     #[tactic(auto, unfolding(crate::specs::Steps::words_next, crate::specs::Steps::words_give))]
     fn feed(&mut self, block: &[u8; BLOCK]) -> Option<BlockOfWords> {
+        if self.is_idle(block) {
+            return self.feed_idle(block);
+        }
         if self.lead_in > 0 {
             self.lead_in -= 1;
             return None;
