@@ -12,7 +12,9 @@ use Rattle.rw_code.proofs.Finding.{only_finding}
 use Rattle.rw_interleave.specs.Stream.{IsRecovered, bad_count}
 use Rattle.cdg_instructions.proofs.Meaning.{only_meaning}
 use Rattle.rw_interleave.specs.Interleave.{word_of, whole_packs}
+use Rattle.cdg_io.specs.Change.{Bytes, Change, from_to}
 use Rattle.cdg_io.specs.Pump.{units_of}
+use Rattle.cdg_io.proofs.Frames.{passing}
 use Rattle.cdg_io.proofs.Streaming.{IsWhole}
 use Rattle.cdg_io.specs.declared.pumping.Pumped.{Pumped}
 use Rattle.cdg_instructions.specs.declared.instr.Instr.{Instr}
@@ -25,7 +27,7 @@ use Rattle.checkpoint_files.specs.Table.{IsCheckpointFile, empty_symbols}
 use Rattle.checkpoint_files.specs.Sound.{IsSoundStanding, IsSoundCheckpoint, IsSameCheckpoint}
 use Rattle.checkpoint_files.proofs.Accepted.{accepted, same}
 use Rattle.subcode_player.specs.Calls.{IsEarly}
-use Rattle.subcode_player.specs.Screen.{AreMeant, IsScreenAt, IsShownBy, Shows}
+use Rattle.subcode_player.specs.Screen.{AreMeant, IsScreenAt, IsShownBy, Shows, moment}
 use Rattle.subcode_player.specs.Watch.{IsViewed}
 use Rattle.subcode_player.proofs.Slots.{symbols_small}
 use Rattle.subcode_player.proofs.Playing.{units_in}
@@ -150,7 +152,7 @@ same_goes_on a b time rest now bad s g =
 
 -- ---- what is written
 
-pub viewed_screen : (lead_in time : ℕ) (bytes : List ℕ) (now : Standing) (bad : ℕ) → IsViewed Raw lead_in time bytes now bad → IsScreenAt Raw lead_in time bytes (pixmap now) bad
+pub viewed_screen : (lead_in time : ℕ) (bytes : List ℕ) (now : Standing) (bad : ℕ) → IsViewed (moment Raw lead_in time) bytes now bad → IsScreenAt (moment Raw lead_in time) bytes (pixmap now) bad
 viewed_screen lead_in time bytes now bad v =
     let small : AllByRecursion IsSmall v.instrs = meant_small v.found (word_of (program_symbols Raw bytes lead_in)) (whole_packs time) v.instrs (λ k lt. v.recovered.each k (omega (arith, lt, v.recovered.count))) v.shown in
     record {
@@ -181,7 +183,7 @@ one_recovered bytes lead_in one other a b =
     only_finding (word_of (program_symbols Raw bytes lead_in) k) (word k) (get_or one k None) (a.each k (omega (arith, lt, a.count)))
     ∙ sym (only_finding (word_of (program_symbols Raw bytes lead_in) k) (word k) (get_or other k None) (b.each k (omega (arith, lt, a.count)))))
 
-pub one_screen : (lead_in time bad other_bad : ℕ) (bytes text other : List ℕ) → IsScreenAt Raw lead_in time bytes text bad → IsScreenAt Raw lead_in time bytes other other_bad → (text ≡ other) × (bad ≡ other_bad)
+pub one_screen : (lead_in time bad other_bad : ℕ) (bytes text other : List ℕ) → IsScreenAt (moment Raw lead_in time) bytes text bad → IsScreenAt (moment Raw lead_in time) bytes other other_bad → (text ≡ other) × (bad ≡ other_bad)
 one_screen lead_in time bad other_bad bytes text other a b =
     let found : a.found ≡ b.found = one_recovered bytes lead_in a.found b.found a.recovered b.recovered in
     let instrs : a.instrs ≡ b.instrs = one_meant (take (whole_packs time) b.found) a.instrs b.instrs (subst (λ (f : List (Option (List ℕ))). AreMeant (take (whole_packs time) f) a.instrs) found a.shown) b.shown in (
@@ -241,11 +243,11 @@ module _ (lead_in n : ℕ) (bytes file : List ℕ) (pumped : Pumped) (first : Is
       let whole_length : n * 96 + length rest ≡ length (bytes ++ rest) = omega (arith, length-append bytes rest, size) in
       subst (λ (len : ℕ). IsShownBy (as_played result) lead_in time 96 len) whole_length (answered lead_in n (length rest) time (checkpoint_in file) few to_come_of lead_in_of program_of result h)
 
-  shows : (time : ℕ) (rest text : List ℕ) (resumed : Resumed) → length rest % 96 ≡ 0 → length bytes / 96 - lead_in ≤ time → IsResumed file time rest resumed text → IsScreenAt Raw lead_in time (bytes ++ rest) text resumed.bad
+  shows : (time : ℕ) (rest text : List ℕ) (resumed : Resumed) → length rest % 96 ≡ 0 → length bytes / 96 - lead_in ≤ time → IsResumed file time rest resumed text → IsScreenAt (moment Raw lead_in time) (bytes ++ rest) text resumed.bad
   shows time rest text resumed rest_whole reached r =
       let gone : IsGoneOn c time rest r.now resumed.bad = same_goes_on (checkpoint_in file) c time rest r.now resumed.bad says_same r.gone_on in
-      let viewed : IsViewed Raw lead_in time (bytes ++ rest) r.now resumed.bad = resumed_whole bytes rest lead_in time resumed.bad c r.now first.whole rest_whole saved.is (omega (arith, saved.is.program_is, reached)) gone in
-      subst (λ (t : List ℕ). IsScreenAt Raw lead_in time (bytes ++ rest) t resumed.bad) (sym r.text_is) (viewed_screen lead_in time (bytes ++ rest) r.now resumed.bad viewed)
+      let viewed : IsViewed (moment Raw lead_in time) (bytes ++ rest) r.now resumed.bad = resumed_whole bytes rest lead_in time resumed.bad c r.now first.whole rest_whole saved.is (omega (arith, saved.is.program_is, reached)) gone in
+      subst (λ (t : List ℕ). IsScreenAt (moment Raw lead_in time) (bytes ++ rest) t resumed.bad) (sym r.text_is) (viewed_screen lead_in time (bytes ++ rest) r.now resumed.bad viewed)
 
   counts_all : (time : ℕ) (rest text : List ℕ) (resumed : Resumed) → IsResumed file time rest resumed text → resumed.blocks ≡ length (bytes ++ rest) / 96 - lead_in
   counts_all time rest text resumed r = omega (arith, r.blocks, program_of, to_come_of, length-append bytes rest, size)
@@ -264,7 +266,7 @@ module _ (lead_in : ℕ) (bytes : List ℕ) (first : IsFirstPart lead_in bytes) 
   whole_answered time rest file pumped result saved h = answers lead_in (length bytes / 96) bytes file pumped first size_is saved time rest result h
 
   pub whole_shown : (time : ℕ) (rest file text : List ℕ) (pumped : Pumped) (resumed : Resumed) → length rest % 96 ≡ 0 → IsSaved lead_in bytes pumped file → length bytes / 96 - lead_in ≤ time → IsResumed file time rest resumed text
-      → IsScreenAt Raw lead_in time (bytes ++ rest) text resumed.bad × (resumed.blocks ≡ length (bytes ++ rest) / 96 - lead_in)
+      → IsScreenAt (moment Raw lead_in time) (bytes ++ rest) text resumed.bad × (resumed.blocks ≡ length (bytes ++ rest) / 96 - lead_in)
   whole_shown time rest file text pumped resumed rest_whole saved reached r =
       (shows lead_in (length bytes / 96) bytes file pumped first size_is saved time rest text resumed rest_whole reached r, counts_all lead_in (length bytes / 96) bytes file pumped first size_is saved time rest text resumed r)
 
@@ -278,10 +280,10 @@ consumes_after : (bytes rest taken : List ℕ) (left' : Option (List ℕ)) → C
 consumes_after bytes rest taken None c = absurd c
 consumes_after bytes rest taken (Some xs) c = ap (λ (l : List ℕ). bytes ++ l) c ∙ sym (append_assoc bytes taken xs)
 
-module _ (lead_in time : ℕ) (bytes rest file taken : List ℕ) (pumped : Pumped) (left' held held' : Option (List ℕ)) (first : IsFirstPart lead_in bytes) (saved : IsSaved lead_in bytes pumped file) (reached : length bytes / 96 - lead_in ≤ time)
+module _ (lead_in time : ℕ) (bytes rest file taken : List ℕ) (pumped : Pumped) (left' : Bytes) (out : Change Bytes) (first : IsFirstPart lead_in bytes) (saved : IsSaved lead_in bytes pumped file) (reached : length bytes / 96 - lead_in ≤ time)
     (takes : Consumes (Some rest) left' taken) (few_taken : length taken ≤ blocks_left (checkpoint_in file) * 96 + 1) where
   abbrev IsCall : Result Played PlayStop → Type 0
-  IsCall result = Shows (IsScreenAt Raw lead_in time) Raw lead_in time (Some (bytes ++ rest)) left' held held' result (bytes ++ taken)
+  IsCall result = Shows pixmap (moment Raw lead_in time) (passing (from_to (Some (bytes ++ rest)) left') out) result (bytes ++ taken)
 
   few_in_all : length (bytes ++ taken) ≤ 1000000 * 96 + 1
   few_in_all = all_few lead_in (length bytes / 96) bytes file pumped first (size_is lead_in bytes first) saved taken few_taken
@@ -290,7 +292,7 @@ module _ (lead_in time : ℕ) (bytes rest file taken : List ℕ) (pumped : Pumpe
   IsPast blocks = (length (bytes ++ taken) % 96 ≡ 0) × (blocks ≡ length (bytes ++ taken) / 96 - lead_in) × (blocks < time)
 
   -- a call that stopped, and put nothing
-  stopped : (stop : PlayStop) → stop ≢ play.WriteFault → Appends held held' [] → (¬ (IsEarly stop) → IsAtEnd left') → ((blocks : ℕ) → stop ≡ play.PastEnd blocks → IsPast blocks) → IsCall (Err stop)
+  stopped : (stop : PlayStop) → stop ≢ play.WriteFault → Appends out.before out.after [] → (¬ (IsEarly stop) → IsAtEnd left') → ((blocks : ℕ) → stop ≡ play.PastEnd blocks → IsPast blocks) → IsCall (Err stop)
   stopped stop no_write nothing ended past = record {
     plays = record {
       taken_from = consumes_after bytes rest taken left' takes;
@@ -304,7 +306,7 @@ module _ (lead_in time : ℕ) (bytes rest file taken : List ℕ) (pumped : Pumpe
     past_end = λ blocks e. let same : stop ≡ play.PastEnd blocks = cc in past blocks same;
   }
 
-  screened : (text : List ℕ) (resumed : Resumed) → IsAtEnd left' → time ≤ resumed.blocks → length rest % 96 ≡ 0 → IsResumed file time taken resumed text → Appends held held' text → IsCall (as_played (Ok resumed))
+  screened : (text : List ℕ) (resumed : Resumed) → IsAtEnd left' → time ≤ resumed.blocks → length rest % 96 ≡ 0 → IsResumed file time taken resumed text → Appends out.before out.after text → IsCall (as_played (Ok resumed))
   screened text resumed at_end not_before rest_whole is put =
       let all : rest ≡ taken = sym (all_taken rest taken left' takes at_end) in
       let taken_whole : length taken % 96 ≡ 0 = subst (λ (l : List ℕ). length l % 96 ≡ 0) all rest_whole in
@@ -329,22 +331,22 @@ module _ (lead_in time : ℕ) (bytes rest file taken : List ℕ) (pumped : Pumpe
       let same : blocks ≡ other = cc in
       subst (λ (b : ℕ). IsPast b) same (subst (λ (l : List ℕ). (length (bytes ++ l) % 96 ≡ 0) × (blocks ≡ length (bytes ++ l) / 96 - lead_in) × (blocks < time)) all (whole, count, before))
 
-pub called : (lead_in time : ℕ) (bytes rest file taken : List ℕ) (pumped : Pumped) (result : Result Resumed ResumeStop) (left' held held' : Option (List ℕ)) → IsFirstPart lead_in bytes → IsSaved lead_in bytes pumped file → length bytes / 96 - lead_in ≤ time
-    → result ≢ Err WriteFault → IsResumedBy result (checkpoint_in file) time (length rest) → Resumes file time (Some rest) left' held held' result taken
-    → Shows (IsScreenAt Raw lead_in time) Raw lead_in time (Some (bytes ++ rest)) left' held held' (as_played result) (bytes ++ taken)
-called lead_in time bytes rest file taken pumped (Ok resumed) left' held held' first saved reached no_write answer r =
+pub called : (lead_in time : ℕ) (bytes rest file taken : List ℕ) (pumped : Pumped) (result : Result Resumed ResumeStop) (left' : Bytes) (out : Change Bytes) → IsFirstPart lead_in bytes → IsSaved lead_in bytes pumped file → length bytes / 96 - lead_in ≤ time
+    → result ≢ Err WriteFault → IsResumedBy result (checkpoint_in file) time (length rest) → Resumes file time (passing (from_to (Some rest) left') out) result taken
+    → Shows pixmap (moment Raw lead_in time) (passing (from_to (Some (bytes ++ rest)) left') out) (as_played result) (bytes ++ taken)
+called lead_in time bytes rest file taken pumped (Ok resumed) left' out first saved reached no_write answer r =
     let (at_end, not_before, (text, is, put)) = r.done in
-    screened lead_in time bytes rest file taken pumped left' held held' first saved reached r.taken_from r.within text resumed at_end not_before answer.1 is put
-called lead_in time bytes rest file taken pumped (Err FirstFault) left' held held' first saved reached no_write answer r = absurd answer
-called lead_in time bytes rest file taken pumped (Err SecondFault) left' held held' first saved reached no_write answer r =
-    stopped lead_in time bytes rest file taken pumped left' held held' first saved reached r.taken_from r.within play.ReadFault (λ e. cc) (r.stopped SecondFault refl (λ e. cc)) (λ late. absurd (late tt)) (λ blocks e. (cc))
-called lead_in time bytes rest file taken pumped (Err WriteFault) left' held held' first saved reached no_write answer r = absurd (no_write refl)
-called lead_in time bytes rest file taken pumped (Err (BadSave byte)) left' held held' first saved reached no_write answer r = absurd answer
-called lead_in time bytes rest file taken pumped (Err (BeforeSave blocks)) left' held held' first saved reached no_write answer r = absurd answer
-called lead_in time bytes rest file taken pumped (Err (Torn block)) left' held held' first saved reached no_write answer r =
-    stopped lead_in time bytes rest file taken pumped left' held held' first saved reached r.taken_from r.within (play.Torn block) (λ e. cc) (r.stopped (Torn block) refl (λ e. cc)) (λ late. r.torn block refl) (λ blocks e. (cc))
-called lead_in time bytes rest file taken pumped (Err TooLong) left' held held' first saved reached no_write answer r =
-    stopped lead_in time bytes rest file taken pumped left' held held' first saved reached r.taken_from r.within play.TooLong (λ e. cc) (r.stopped TooLong refl (λ e. cc)) (λ late. absurd (late tt)) (λ blocks e. (cc))
-called lead_in time bytes rest file taken pumped (Err (PastEnd blocks)) left' held held' first saved reached no_write answer r =
-    stopped lead_in time bytes rest file taken pumped left' held held' first saved reached r.taken_from r.within (play.PastEnd blocks) (λ e. cc) (r.stopped (PastEnd blocks) refl (λ e. cc)) (λ late. (r.past_end blocks refl).0)
-    (past_all lead_in time bytes rest file taken pumped left' held held' first saved reached r.taken_from r.within blocks (r.past_end blocks refl).0 answer)
+    screened lead_in time bytes rest file taken pumped left' out first saved reached r.taken_from r.within text resumed at_end not_before answer.1 is put
+called lead_in time bytes rest file taken pumped (Err FirstFault) left' out first saved reached no_write answer r = absurd answer
+called lead_in time bytes rest file taken pumped (Err SecondFault) left' out first saved reached no_write answer r =
+    stopped lead_in time bytes rest file taken pumped left' out first saved reached r.taken_from r.within play.ReadFault (λ e. cc) (r.stopped SecondFault refl (λ e. cc)) (λ late. absurd (late tt)) (λ blocks e. (cc))
+called lead_in time bytes rest file taken pumped (Err WriteFault) left' out first saved reached no_write answer r = absurd (no_write refl)
+called lead_in time bytes rest file taken pumped (Err (BadSave byte)) left' out first saved reached no_write answer r = absurd answer
+called lead_in time bytes rest file taken pumped (Err (BeforeSave blocks)) left' out first saved reached no_write answer r = absurd answer
+called lead_in time bytes rest file taken pumped (Err (Torn block)) left' out first saved reached no_write answer r =
+    stopped lead_in time bytes rest file taken pumped left' out first saved reached r.taken_from r.within (play.Torn block) (λ e. cc) (r.stopped (Torn block) refl (λ e. cc)) (λ late. r.torn block refl) (λ blocks e. (cc))
+called lead_in time bytes rest file taken pumped (Err TooLong) left' out first saved reached no_write answer r =
+    stopped lead_in time bytes rest file taken pumped left' out first saved reached r.taken_from r.within play.TooLong (λ e. cc) (r.stopped TooLong refl (λ e. cc)) (λ late. absurd (late tt)) (λ blocks e. (cc))
+called lead_in time bytes rest file taken pumped (Err (PastEnd blocks)) left' out first saved reached no_write answer r =
+    stopped lead_in time bytes rest file taken pumped left' out first saved reached r.taken_from r.within (play.PastEnd blocks) (λ e. cc) (r.stopped (PastEnd blocks) refl (λ e. cc)) (λ late. (r.past_end blocks refl).0)
+    (past_all lead_in time bytes rest file taken pumped left' out first saved reached r.taken_from r.within blocks (r.past_end blocks refl).0 answer)

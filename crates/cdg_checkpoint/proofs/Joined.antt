@@ -20,7 +20,7 @@ use Rattle.cdg_screen.specs.Picture.{Standing, SameStanding, blank, standing_aft
 use Rattle.cdg_screen.proofs.Turns.{in_turn, same_after, same_then, same_back}
 use Rattle.checkpoint_files.specs.Checkpoint.{Checkpoint}
 use Rattle.checkpoint_files.specs.Table.{empty_symbols}
-use Rattle.subcode_player.specs.Screen.{AreMeant}
+use Rattle.subcode_player.specs.Screen.{AreMeant, moment}
 use Rattle.subcode_player.specs.Watch.{IsViewed}
 use Rattle.subcode_player.proofs.Views.{whole_taken}
 use Rattle.cdg_io.proofs.Streaming.{IsWhole}
@@ -157,7 +157,7 @@ module _ (bytes rest : List ℕ) (lead_in time bad n m : ℕ) (c : Checkpoint) (
       let whole_time : whole_packs time ≡ length saved.found + packs_until c time = omega (arith, found_count, not_later) in
       ap (λ k. take k found) whole_time ∙ take-append-add saved.found gone.found (packs_until c time)
 
-  pub whole_viewed : IsViewed Raw lead_in time (bytes ++ rest) now bad
+  pub whole_viewed : IsViewed (moment Raw lead_in time) (bytes ++ rest) now bad
   whole_viewed = record {
     found = found;
     recovered = subst (λ (s : List ℕ). IsRecovered Raw s found) (sym (symbols_join lead_in n m bytes rest size size')) recovered;
@@ -170,6 +170,6 @@ module _ (bytes rest : List ℕ) (lead_in time bad n m : ℕ) (c : Checkpoint) (
     bad_is = gone.bad_is ∙ ap (λ b. b + bad_count (take (packs_until c time) gone.found)) saved.bad_is ∙ sym (ap bad_count cut ∙ bad_both saved.found (take (packs_until c time) gone.found));
   }
 
-pub resumed_whole : (bytes rest : List ℕ) (lead_in time bad : ℕ) (c : Checkpoint) (now : Standing) → length bytes % 96 ≡ 0 → length rest % 96 ≡ 0 → IsCheckpointOf bytes lead_in c → c.program ≤ time → IsGoneOn c time rest now bad → IsViewed Raw lead_in time (bytes ++ rest) now bad
+pub resumed_whole : (bytes rest : List ℕ) (lead_in time bad : ℕ) (c : Checkpoint) (now : Standing) → length bytes % 96 ≡ 0 → length rest % 96 ≡ 0 → IsCheckpointOf bytes lead_in c → c.program ≤ time → IsGoneOn c time rest now bad → IsViewed (moment Raw lead_in time) (bytes ++ rest) now bad
 resumed_whole bytes rest lead_in time bad c now size size' saved not_later gone =
     whole_viewed bytes rest lead_in time bad (length bytes / 96) (length rest / 96) c now (omega (arith, size)) (omega (arith, size')) saved not_later gone

@@ -4,6 +4,8 @@ use Rattle.std.specs.Prelude.{Option, nat_lt, if◌then◌else◌}
 use Rattle.std.proofs.lemmas.Bool.Decides.{leb_tells}
 use Rattle.std.proofs.lemmas.List.{get_or-drop, get_or-take, length-take, length-take-le}
 use Rattle.std.proofs.Math.ListN.{get_or-eq_default}
+use Rattle.cdg_io.specs.Change.{from_to}
+use Rattle.cdg_io.proofs.Frames.{feeding}
 use Rattle.cdg_io.specs.Pump.{IsUnlessFault, answer_of}
 use Rattle.cdg_io.specs.declared.pumping.Pumped.{Pumped}
 use Rattle.cdg_io.specs.declared.pumping.PumpStop.{PumpStop}
@@ -20,7 +22,7 @@ use Rattle.subcode_player.specs.declared.drawing.Drawing.{Drawing}
 use Rattle.subcode_player.proofs.Playing.{units_in}
 use Rattle.subcode_player.proofs.Views.{done_tests, torn_tests, not_over, is_over, zero_rest, some_rest, whole_taken}
 use Rattle.cdg_checkpoint.specs.Tracked.{TracksBlocks, words_drawn}
-use Rattle.cdg_checkpoint.specs.Resumed.{GoesOn, IsGoneOnBy, blocks_after, blocks_left, packs_until, reached, saved_slots}
+use Rattle.cdg_checkpoint.specs.Resumed.{GoesOn, IsGoneOnBy, blocks_after, blocks_left, packs_until, reached, saved_slots, time_after}
 use Rattle.cdg_checkpoint.specs.declared.stops.Resumed.{Resumed}
 use Rattle.cdg_checkpoint.specs.declared.stops.ResumeStop.{ResumeStop}
 use Rattle.cdg_checkpoint.specs.declared.stops.ResumeStop.TheVariants.{PastEnd, Torn}
@@ -56,12 +58,12 @@ pub brought_back : (c : Checkpoint) (time to_come bad : ℕ) (s : Then BlockWord
 brought_back c time to_come bad s words t left b e stands = record { words = words ∙ ap (begun_at c) t; left = left; bad = b ∙ e; stands = stands }
 
 module _ (c : Checkpoint) (time limit : ℕ) (left left' : Option (List ℕ)) (taken : List ℕ) (s s' : Then BlockWords Drawing) (pumped : Pumped) (sound : IsSound c) (back : IsBroughtBack c time s) (fits : limit ≡ blocks_left c)
-    (w : TracksBlocks limit words_drawn left left' s s' (Ok pumped) taken) where
+    (w : TracksBlocks limit words_drawn (feeding (from_to left left') (from_to s s')) (Ok pumped) taken) where
   blocks_are : c.program + (pumped.units - c.to_come) ≡ blocks_after c taken
   blocks_are = ap (λ n. c.program + (n - c.to_come)) (sym (units_in Raw pumped.units taken (whole_taken Raw pumped.units taken w.done.1)))
 
   goes_by : (past : Bool) → nat_lt (c.program + (pumped.units - c.to_come)) time ≡ past
-      → GoesOn c time left left' (standing_of s'.second.picture) (if past then Err (PastEnd (c.program + (pumped.units - c.to_come))) else Ok (record { blocks = c.program + (pumped.units - c.to_come); bad = s'.second.bad })) taken
+      → GoesOn (time_after c time) (from_to left left') (standing_of s'.second.picture) (if past then Err (PastEnd (c.program + (pumped.units - c.to_come))) else Ok (record { blocks = c.program + (pumped.units - c.to_come); bad = s'.second.bad })) taken
   goes_by true past = record {
     taken_from = w.taken_from;
     within = subst (λ n. length taken ≤ n * 96 + 1) fits w.within;
@@ -77,10 +79,10 @@ module _ (c : Checkpoint) (time limit : ℕ) (left left' : Option (List ℕ)) (t
     past_end = λ blocks e. (cc);
   }
 
-  pub goes_on : (result : Result Resumed ResumeStop) (to_come program : ℕ) → to_come ≡ c.to_come → program ≡ c.program → result ≡ reached (program + (pumped.units - to_come)) time s'.second.bad → GoesOn c time left left' (standing_of s'.second.picture) result taken
+  pub goes_on : (result : Result Resumed ResumeStop) (to_come program : ℕ) → to_come ≡ c.to_come → program ≡ c.program → result ≡ reached (program + (pumped.units - to_come)) time s'.second.bad → GoesOn (time_after c time) (from_to left left') (standing_of s'.second.picture) result taken
   goes_on result to_come program t p e =
       let blocks : program + (pumped.units - to_come) ≡ c.program + (pumped.units - c.to_come) = ap₂ (λ a b. a + (pumped.units - b)) p t in
-      subst (λ (r : Result Resumed ResumeStop). GoesOn c time left left' (standing_of s'.second.picture) r taken) (sym (e ∙ ap (λ n. reached n time s'.second.bad) blocks))
+      subst (λ (r : Result Resumed ResumeStop). GoesOn (time_after c time) (from_to left left') (standing_of s'.second.picture) r taken) (sym (e ∙ ap (λ n. reached n time s'.second.bad) blocks))
       (goes_by (nat_lt (c.program + (pumped.units - c.to_come)) time) refl)
 
 -- ---- by the length of the input

@@ -6,6 +6,8 @@ use Rattle.std.specs.Io.KnownBytes.{Appends}
 use Rattle.std.proofs.lemmas.List.{take_all}
 use Rattle.cdg_io.specs.Moves.{AppendsPrefix}
 use Rattle.cdg_io.specs.Run.{run_state}
+use Rattle.cdg_io.specs.Change.{from_to}
+use Rattle.cdg_io.proofs.Frames.{feeding, passing}
 use Rattle.cdg_io.specs.Pump.{units_of}
 use Rattle.cdg_io.specs.declared.pumping.Pumped.{Pumped}
 use Rattle.cdg_io.specs.declared.pumping.PumpStop.{PumpStop}
@@ -19,7 +21,7 @@ use Rattle.rw_interleave.specs.Stream.{bad_count}
 use Rattle.cdg_screen.specs.Picture.{Standing, SameStanding, blank, standing_of, standing_after}
 use Rattle.cdg_screen.proofs.Turns.{same_then}
 use Rattle.checkpoint_files.specs.Checkpoint.{Checkpoint, file_of}
-use Rattle.subcode_player.specs.Screen.{AreMeant}
+use Rattle.subcode_player.specs.Screen.{AreMeant, moment}
 use Rattle.subcode_player.specs.Watch.{IsViewed}
 use Rattle.subcode_player.specs.declared.block_words.BlockWords.{BlockWords}
 use Rattle.subcode_player.specs.declared.drawing.Drawing.{Drawing}
@@ -62,7 +64,7 @@ module _ (lead_in n : ℕ) (bytes file : List ℕ) (s s' : Tracking) (fresh : Is
   units : List (List ℕ)
   units = units_of 96 n bytes
 
-  viewed : IsViewed Raw lead_in 1000000 bytes (standing_of s'.words.second.picture) s'.words.second.bad
+  viewed : IsViewed (moment Raw lead_in 1000000) bytes (standing_of s'.words.second.picture) s'.words.second.bad
   viewed =
       viewed_bytes Raw lead_in 1000000 s.words bytes n s'.words.second fresh.ready few whole
       (ap (λ (t : Tracking). t.words.second) run ∙ ap (λ (t : Then BlockWords Drawing). t.second) (words_alone s (units_of 96 n bytes))
@@ -100,11 +102,11 @@ module _ (lead_in n : ℕ) (bytes file : List ℕ) (s s' : Tracking) (fresh : Is
 
 -- ---- the answers
 
-module _ (lead_in : ℕ) (left left' held held' : Option (List ℕ)) (s s' : Tracking) (taken file : List ℕ) (pumped : Pumped) (fresh : IsFresh lead_in s) (w : TracksBlocks most_blocks track_next left left' s s' (Ok pumped) taken) (kept : IsKept pumped.units lead_in s' file) where
+module _ (lead_in : ℕ) (left left' held held' : Option (List ℕ)) (s s' : Tracking) (taken file : List ℕ) (pumped : Pumped) (fresh : IsFresh lead_in s) (w : TracksBlocks most_blocks track_next (feeding (from_to left left') (from_to s s')) (Ok pumped) taken) (kept : IsKept pumped.units lead_in s' file) where
   saved : IsSaved lead_in taken pumped file
   saved = is_saved lead_in pumped.units taken file s s' fresh w.done.2 w.done.1 w.done.3 kept
 
-  pub saves_done : (text : List ℕ) → text ≡ file → Appends held held' text → Saves lead_in left left' held held' (Ok pumped) taken
+  pub saves_done : (text : List ℕ) → text ≡ file → Appends held held' text → Saves lead_in (passing (from_to left left') (from_to held held')) (Ok pumped) taken
   saves_done text e put = record {
     taken_from = w.taken_from;
     within = w.within;
@@ -114,7 +116,7 @@ module _ (lead_in : ℕ) (left left' held held' : Option (List ℕ)) (s s' : Tra
     cut = λ e. (cc);
   }
 
-  pub saves_cut : (text : List ℕ) → text ≡ file → AppendsPrefix held held' text → Saves lead_in left left' held held' (Err WriteFault) taken
+  pub saves_cut : (text : List ℕ) → text ≡ file → AppendsPrefix held held' text → Saves lead_in (passing (from_to left left') (from_to held held')) (Err WriteFault) taken
   saves_cut text e put = record {
     taken_from = w.taken_from;
     within = w.within;

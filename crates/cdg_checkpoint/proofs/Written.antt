@@ -3,21 +3,23 @@ use Rattle.std.proofs.Common.{◌≡◌, ◌≢◌, ℕ, ◌≤◌, List, [], le
 use Rattle.std.specs.Prelude.{Option}
 use Rattle.std.specs.Io.KnownBytes.{Appends}
 use Rattle.std.proofs.KnownBytes.{Appends-nil}
+use Rattle.cdg_io.specs.Change.{from_to}
 use Rattle.cdg_io.specs.Moves.{AppendsPrefix}
+use Rattle.cdg_io.proofs.Frames.{passing}
 use Rattle.cdg_screen.specs.Picture.{Standing, SameStanding}
 use Rattle.cdg_screen.specs.Texts.{pixmap}
 use Rattle.checkpoint_files.specs.Checkpoint.{Checkpoint, checkpoint_in}
-use Rattle.cdg_checkpoint.specs.Resumed.{GoesOn, IsGoneOnBy, IsResumedBy, IsResumed, Resumes}
+use Rattle.cdg_checkpoint.specs.Resumed.{GoesOn, IsGoneOnBy, IsResumed, IsResumedBy, Resumes, time_after}
 use Rattle.cdg_checkpoint.specs.declared.stops.Resumed.{Resumed}
 use Rattle.cdg_checkpoint.specs.declared.stops.ResumeStop.{ResumeStop}
 use Rattle.cdg_checkpoint.specs.declared.stops.ResumeStop.TheVariants.{WriteFault}
 use Rattle.cdg_checkpoint.proofs.SavedStreams.{same_refl}
 
 module _ (file : List ℕ) (time : ℕ) (left left' held held' : Option (List ℕ)) (now : Standing) (taken : List ℕ) where
-  resumed_to : (resumed : Resumed) → GoesOn (checkpoint_in file) time left left' now (Ok resumed) taken → IsResumed file time taken resumed (pixmap now)
+  resumed_to : (resumed : Resumed) → GoesOn (time_after (checkpoint_in file) time) (from_to left left') now (Ok resumed) taken → IsResumed file time taken resumed (pixmap now)
   resumed_to resumed g = let (at_end, blocks, reached, gone) = g.done in record { blocks = blocks; now = now; gone_on = gone; text_is = refl }
 
-  pub shows_done : (resumed : Resumed) → GoesOn (checkpoint_in file) time left left' now (Ok resumed) taken → ((shown : Standing) → SameStanding now shown → Appends held held' (pixmap shown)) → Resumes file time left left' held held' (Ok resumed) taken
+  pub shows_done : (resumed : Resumed) → GoesOn (time_after (checkpoint_in file) time) (from_to left left') now (Ok resumed) taken → ((shown : Standing) → SameStanding now shown → Appends held held' (pixmap shown)) → Resumes file time (passing (from_to left left') (from_to held held')) (Ok resumed) taken
   shows_done resumed g put = record {
     taken_from = g.taken_from;
     within = g.within;
@@ -28,7 +30,7 @@ module _ (file : List ℕ) (time : ℕ) (left left' held held' : Option (List �
     cut = λ e. (cc);
   }
 
-  pub shows_cut : (resumed : Resumed) → GoesOn (checkpoint_in file) time left left' now (Ok resumed) taken → ((shown : Standing) → SameStanding now shown → AppendsPrefix held held' (pixmap shown)) → Resumes file time left left' held held' (Err WriteFault) taken
+  pub shows_cut : (resumed : Resumed) → GoesOn (time_after (checkpoint_in file) time) (from_to left left') now (Ok resumed) taken → ((shown : Standing) → SameStanding now shown → AppendsPrefix held held' (pixmap shown)) → Resumes file time (passing (from_to left left') (from_to held held')) (Err WriteFault) taken
   shows_cut resumed g put = record {
     taken_from = g.taken_from;
     within = g.within;
@@ -42,7 +44,7 @@ module _ (file : List ℕ) (time : ℕ) (left left' held held' : Option (List �
   abbrev error : ResumeStop → Result Resumed ResumeStop
   error stop = Err stop
 
-  pub shows_stop : (stop : ResumeStop) → GoesOn (checkpoint_in file) time left left' now (Err stop) taken → error stop ≢ Err WriteFault → held' ≡ held → Resumes file time left left' held held' (Err stop) taken
+  pub shows_stop : (stop : ResumeStop) → GoesOn (time_after (checkpoint_in file) time) (from_to left left') now (Err stop) taken → error stop ≢ Err WriteFault → held' ≡ held → Resumes file time (passing (from_to left left') (from_to held held')) (Err stop) taken
   shows_stop stop g no_write same = record {
     taken_from = g.taken_from;
     within = g.within;

@@ -3,6 +3,7 @@ use Rattle.std.specs.Prelude.{◌≡◌, ◌≢◌, ℕ, ◌+◌, ◌-◌, ◌*�
 use Rattle.std.specs.List.{range_with_len}
 use Rattle.std.specs.Io.KnownBytes.{Appends, Consumes, IsAtEnd}
 use Rattle.cdg_io.specs.Causes.{Rose}
+use Rattle.cdg_io.specs.Change.{Bytes, Change, Passed}
 use Rattle.cdg_io.specs.Moves.{AppendsPrefix}
 use Rattle.cdg_io.specs.Run.{run_state}
 use Rattle.rw_code.specs.Finding.{IsFinding}
@@ -79,17 +80,25 @@ IsGoneOnBy (Err (PastEnd blocks)) c time len = (len ≤ blocks_left c * 96) × (
 IsGoneOnBy (Err SecondFault) c time len = ⊤
 IsGoneOnBy (Err stop) c time len = ⊥
 
+-- a time after a checkpoint
+pub record TimeAfter : Type 0 where
+  pub checkpoint : Checkpoint
+  pub time : ℕ
+
+abbrev pub time_after : Checkpoint → ℕ → TimeAfter
+time_after checkpoint time = record { checkpoint = checkpoint; time = time }
+
 -- The rest of a stream was taken, and nothing was written.
-pub record GoesOn (c : Checkpoint) (time : ℕ) (left left' : Option (List ℕ)) (now : Standing)
+pub record GoesOn (to : TimeAfter) (left : Change Bytes) (now : Standing)
     (result : Result Resumed ResumeStop) (taken : List ℕ) : Type 0 where
-  pub taken_from : Consumes left left' taken
+  pub taken_from : Consumes left.before left.after taken
   -- at most one byte past the limit
-  pub within : length taken ≤ blocks_left c * 96 + 1
-  pub done : IfOk result (λ resumed. IsAtEnd left' × (resumed.blocks ≡ blocks_after c taken)
-      × (time ≤ resumed.blocks) × IsGoneOn c time taken now resumed.bad)
-  pub torn : (block : ℕ) → result ≡ Err (Torn block) → IsAtEnd left'
+  pub within : length taken ≤ blocks_left to.checkpoint * 96 + 1
+  pub done : IfOk result (λ resumed. IsAtEnd left.after × (resumed.blocks ≡ blocks_after to.checkpoint taken)
+      × (to.time ≤ resumed.blocks) × IsGoneOn to.checkpoint to.time taken now resumed.bad)
+  pub torn : (block : ℕ) → result ≡ Err (Torn block) → IsAtEnd left.after
   pub past_end : (blocks : ℕ) → result ≡ Err (PastEnd blocks)
-      → IsAtEnd left' × (blocks ≡ blocks_after c taken) × (blocks < time)
+      → IsAtEnd left.after × (blocks ≡ blocks_after to.checkpoint taken) × (blocks < to.time)
 
 -- The count of told ends rose where the rest was read to its end, and nowhere else.
 abbrev pub EndsAsResumed : Result Resumed ResumeStop → ℕ → ℕ → Type 0
@@ -124,19 +133,22 @@ IsResumedBy (Err WriteFault) c time len = ⊤
 IsResumedBy result c time len = IsGoneOnBy result c time len
 
 -- A call that was given an accepted file took the rest of the stream, and wrote the picture at the end.
-pub record Resumes (file : List ℕ) (time : ℕ) (left left' held held' : Option (List ℕ))
-    (result : Result Resumed ResumeStop) (taken : List ℕ) : Type 0 where
-  pub taken_from : Consumes left left' taken
+pub record Resumes (file : List ℕ) (time : ℕ) (passed : Passed) (result : Result Resumed ResumeStop)
+    (taken : List ℕ) : Type 0 where
+  pub taken_from : Consumes passed.left.before passed.left.after taken
   -- at most one byte past the limit
   pub within : length taken ≤ blocks_left (checkpoint_in file) * 96 + 1
-  pub done : IfOk result (λ resumed. IsAtEnd left' × (time ≤ resumed.blocks)
-      × ((text : List ℕ) × IsResumed file time taken resumed text × Appends held held' text))
+  pub done : IfOk result (λ resumed. IsAtEnd passed.left.after × (time ≤ resumed.blocks)
+      × ((text : List ℕ) × IsResumed file time taken resumed text
+      × Appends passed.held.before passed.held.after text))
   -- any other stop than a failed write: nothing is put
-  pub stopped : (stop : ResumeStop) → result ≡ Err stop → stop ≢ WriteFault → Appends held held' []
-  pub torn : (block : ℕ) → result ≡ Err (Torn block) → IsAtEnd left'
+  pub stopped : (stop : ResumeStop) → result ≡ Err stop → stop ≢ WriteFault
+      → Appends passed.held.before passed.held.after []
+  pub torn : (block : ℕ) → result ≡ Err (Torn block) → IsAtEnd passed.left.after
   pub past_end : (blocks : ℕ) → result ≡ Err (PastEnd blocks)
-      → IsAtEnd left' × (blocks ≡ blocks_after (checkpoint_in file) taken) × (blocks < time)
+      → IsAtEnd passed.left.after × (blocks ≡ blocks_after (checkpoint_in file) taken) × (blocks < time)
   -- a write failed: the rest is read to its end, and a prefix of the text is put
   pub cut : result ≡ Err WriteFault
-      → IsAtEnd left' × ((text : List ℕ) × (resumed : Resumed) × IsResumed file time taken resumed text
-      × AppendsPrefix held held' text)
+      → IsAtEnd passed.left.after × ((text : List ℕ) × (resumed : Resumed)
+      × IsResumed file time taken resumed text
+      × AppendsPrefix passed.held.before passed.held.after text)

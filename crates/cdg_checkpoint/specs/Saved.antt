@@ -1,7 +1,8 @@
 -- The checkpoint of a stream.
 use Rattle.std.specs.Prelude.{◌≡◌, ℕ, ◌-◌, ◌/◌, ⊤, List, [], ◌++◌, length, drop, replicate, min, Option, Result, Ok, Err}
-use Rattle.cdg_io.specs.Streams.{WritesAtEnd}
+use Rattle.cdg_io.specs.Streams.{WholeReading, WritesAtEnd}
 use Rattle.cdg_io.specs.Causes.{Rose}
+use Rattle.cdg_io.specs.Change.{Passed}
 use Rattle.cdg_io.specs.declared.pumping.Pumped.{Pumped}
 use Rattle.cdg_io.specs.declared.pumping.PumpStop.{PumpStop}
 use Rattle.cdg_io.specs.declared.pumping.PumpStop.TheVariants.{ReadFault, WriteFault, Torn, TooLong}
@@ -47,11 +48,18 @@ IsBeforeEnd ReadFault = ⊤
 IsBeforeEnd TooLong = ⊤
 IsBeforeEnd stop = ⊥
 
+-- how a call reads that writes the file of a checkpoint
+abbrev pub saving : ℕ → WholeReading Pumped PumpStop
+saving lead_in = record {
+  cut = record { size = 96; limit = most_blocks };
+  is_early = IsBeforeEnd;
+  write_fault = WriteFault;
+  gives = IsSaved lead_in;
+}
+
 -- A call took these bytes: it writes the file of their checkpoint at the end.
-abbrev pub Saves : ℕ → Option (List ℕ) → Option (List ℕ) → Option (List ℕ) → Option (List ℕ)
-    → Result Pumped PumpStop → List ℕ → Type 0
-Saves lead_in left left' held held' result taken =
-    WritesAtEnd 96 most_blocks IsBeforeEnd WriteFault (IsSaved lead_in) left left' held held' result taken
+abbrev pub Saves : ℕ → Passed → Result Pumped PumpStop → List ℕ → Type 0
+Saves lead_in passed result taken = WritesAtEnd (saving lead_in) passed result taken
 
 -- The count of told ends rose where the input was read to its end, and nowhere else.
 abbrev pub EndsAsSaved : Result Pumped PumpStop → ℕ → ℕ → Type 0

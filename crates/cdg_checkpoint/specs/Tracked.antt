@@ -1,6 +1,7 @@
 -- The steps of a stage that draws all packs of a stream and keeps its last slots.
-use Rattle.std.specs.Prelude.{◌≡◌, ℕ, ◌==◌, ◌+◌, ◌*◌, ◌<◌, ◌≤◌, if◌then◌else◌, List, ◌++◌, drop, length, Option, None, Result, Ok, Err, IfOk, ◌≢◌}
+use Rattle.std.specs.Prelude.{◌≡◌, ℕ, ◌==◌, ◌+◌, ◌*◌, ◌<◌, ◌≤◌, if◌then◌else◌, List, ◌++◌, drop, length, None, Result, Ok, Err, IfOk, ◌≢◌}
 use Rattle.std.specs.Io.KnownBytes.{Consumes, IsAtEnd}
+use Rattle.cdg_io.specs.Change.{Fed}
 use Rattle.cdg_io.specs.Pump.{units_of}
 use Rattle.cdg_io.specs.Run.{run_state, then_second}
 use Rattle.cdg_io.specs.declared.pumping.Pumped.{Pumped}
@@ -33,11 +34,12 @@ track_next s block = record {
 
 -- These bytes were taken, and where they are whole blocks to the end, the stage is in the last state of its run over
 -- them.
-pub record TracksBlocks {S : Type 0} (limit : ℕ) (next : S → List ℕ → S) (left left' : Option (List ℕ))
-    (s s' : S) (result : Result Pumped PumpStop) (taken : List ℕ) : Type 0 where
-  pub taken_from : Consumes left left' taken
+pub record TracksBlocks {S : Type 0} (limit : ℕ) (next : S → List ℕ → S) (fed : Fed S)
+    (result : Result Pumped PumpStop) (taken : List ℕ) : Type 0 where
+  pub taken_from : Consumes fed.left.before fed.left.after taken
   pub within : length taken ≤ limit * 96 + 1
-  pub done : IfOk result (λ p. IsAtEnd left' × (length taken ≡ p.units * 96) × (p.units ≤ limit)
-      × (s' ≡ run_state next s (units_of 96 p.units taken)))
-  pub torn : (unit : ℕ) → result ≡ Err (Torn unit) → IsAtEnd left' × (unit < limit)
+  pub done : IfOk result
+      (λ p. IsAtEnd fed.left.after × (length taken ≡ p.units * 96) × (p.units ≤ limit)
+      × (fed.state.after ≡ run_state next fed.state.before (units_of 96 p.units taken)))
+  pub torn : (unit : ℕ) → result ≡ Err (Torn unit) → IsAtEnd fed.left.after × (unit < limit)
   pub no_write : result ≢ Err WriteFault

@@ -1,6 +1,8 @@
 // A stream that goes on from a checkpoint.
-ghost use Rattle.std.specs.Prelude.{◌≡◌, ◌≢◌, ◌≤◌, ◌-◌, ◌/◌, ◌%◌, ◌++◌, List, ℕ, length, Option, Some, Result, Err};
+ghost use Rattle.std.specs.Prelude.{◌≡◌, ◌≢◌, ◌≤◌, ◌-◌, ◌/◌, ◌%◌, ◌++◌, List, ℕ, length, Some, Result, Err};
+ghost use Rattle.cdg_io.specs.Change.{Bytes, Change, from_to};
 ghost use Rattle.cdg_screen.specs.Picture.{Standing};
+ghost use Rattle.cdg_screen.specs.Texts.{pixmap};
 ghost use Rattle.checkpoint_files.specs.Checkpoint.{Checkpoint, checkpoint_in};
 ghost use Rattle.checkpoint_files.specs.Table.{IsCheckpointFile};
 ghost use Rattle.cdg_io.specs.declared.pumping.Pumped.{Pumped};
@@ -9,7 +11,7 @@ ghost use Rattle.cdg_checkpoint.specs.declared.stops.Resumed.{Resumed};
 ghost use Rattle.cdg_checkpoint.specs.declared.stops.ResumeStop.{ResumeStop};
 ghost use Rattle.raw_subcode.specs.declared.form.Form.{Form};
 ghost use Rattle.subcode_player.specs.Watch.{IsViewed};
-ghost use Rattle.subcode_player.specs.Screen.{IsScreenAt, IsShownBy, Shows};
+ghost use Rattle.subcode_player.specs.Screen.{IsScreenAt, IsShownBy, Shows, moment};
 ghost use Rattle.cdg_checkpoint.specs.Resumed.{IsGoneOn, IsResumed, IsResumedBy, Resumes};
 ghost use Rattle.cdg_checkpoint.specs.Saved.{IsCheckpointOf, IsSaved};
 
@@ -18,7 +20,7 @@ ghost use Rattle.cdg_checkpoint.specs.Saved.{IsCheckpointOf, IsSaved};
 pub fn a_resumed_stream_is_the_whole()
     ensures { (bytes rest : List ℕ) (lead_in time bad : ℕ) (c : Checkpoint) (now : Standing)
         → length bytes % 96 ≡ 0 → length rest % 96 ≡ 0 → IsCheckpointOf bytes lead_in c → c.program ≤ time
-        → IsGoneOn c time rest now bad → IsViewed Form.Raw lead_in time (bytes ++ rest) now bad }
+        → IsGoneOn c time rest now bad → IsViewed (moment Form.Raw lead_in time) (bytes ++ rest) now bad }
 {}
 
 /// A law: let a stream be cut after whole blocks. The file that `save` writes of its first part is accepted;
@@ -36,20 +38,21 @@ pub fn a_saved_stream_goes_on_as_the_whole()
     ensures shown { (lead_in time : ℕ) (bytes rest file text : List ℕ) (pumped : Pumped) (resumed : Resumed)
         → IsFirstPart lead_in bytes → length rest % 96 ≡ 0 → IsSaved lead_in bytes pumped file
         → length bytes / 96 - lead_in ≤ time → IsResumed file time rest resumed text
-        → IsScreenAt Form.Raw lead_in time (bytes ++ rest) text resumed.bad
+        → IsScreenAt (moment Form.Raw lead_in time) (bytes ++ rest) text resumed.bad
         × (resumed.blocks ≡ length (bytes ++ rest) / 96 - lead_in) }
     // The same of a call of `resume` that was given this file and this rest: it is a call that shows the time
     // of the whole stream.
     ensures whole { (lead_in time : ℕ) (bytes rest file taken : List ℕ) (pumped : Pumped)
-        (result : Result Resumed ResumeStop) (left held new_held : Option (List ℕ))
+        (result : Result Resumed ResumeStop) (left : Bytes) (out : Change Bytes)
         → IsFirstPart lead_in bytes → IsSaved lead_in bytes pumped file → length bytes / 96 - lead_in ≤ time
         → result ≢ Err ResumeStop.WriteFault → IsResumedBy result (checkpoint_in file) time (length rest)
-        → Resumes file time (Some rest) left held new_held result taken
-        → Shows (IsScreenAt Form.Raw lead_in time) Form.Raw lead_in time (Some (bytes ++ rest)) left held
-        new_held (as_played result) (bytes ++ taken) }
+        → Resumes file time (record { left = from_to (Some rest) left; held = out }) result taken
+        → Shows pixmap (moment Form.Raw lead_in time)
+        (record { left = from_to (Some (bytes ++ rest)) left; held = out })
+        (as_played result) (bytes ++ taken) }
     // One time of a stream has one screen.
     ensures only { (lead_in time bad other_bad : ℕ) (bytes text other : List ℕ)
-        → IsScreenAt Form.Raw lead_in time bytes text bad
-        → IsScreenAt Form.Raw lead_in time bytes other other_bad
+        → IsScreenAt (moment Form.Raw lead_in time) bytes text bad
+        → IsScreenAt (moment Form.Raw lead_in time) bytes other other_bad
         → (text ≡ other) × (bad ≡ other_bad) }
 {}

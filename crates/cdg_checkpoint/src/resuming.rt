@@ -2,6 +2,7 @@
 ghost use Rattle.std.specs.Prelude.{◌≡◌, ◌≢◌, ◌≤◌, ◌<◌, ◌+◌, ◌-◌, ◌^◌, List, ℕ, [], length, IfSome, IfErr, IfOk, IsErr, IsErrOf, IsOk, Err, OnOk};
 ghost use Rattle.std.specs.Io.KnownBytes.{Appends, Consumes, IsAtEnd};
 ghost use Rattle.cdg_io.specs.Causes.{Rose};
+ghost use Rattle.cdg_io.specs.Change.{change, passed};
 ghost use Rattle.cdg_io.specs.Moves.{AppendsPrefix, ConsumesBelow};
 ghost use Rattle.cdg_io.specs.Run.{run_state};
 ghost use Rattle.rw_interleave.specs.Interleave.{whole_packs};
@@ -9,7 +10,7 @@ ghost use Rattle.rw_interleave.specs.Gathering.{gather_next};
 ghost use Rattle.cdg_screen.specs.Picture.{SameStanding, standing_of};
 ghost use Rattle.checkpoint_files.specs.Table.{IsCheckpointFile};
 ghost use Rattle.checkpoint_files.specs.Checkpoint.{checkpoint_in, standing_in};
-ghost use Rattle.cdg_checkpoint.specs.Resumed.{GoesOn, IsAcceptedBy, IsGoneOnBy, IsResumedBy, Resumes, acceptance, EndsAsResumed, packs_until, reached, saved_slots};
+ghost use Rattle.cdg_checkpoint.specs.Resumed.{GoesOn, IsAcceptedBy, IsGoneOnBy, IsResumedBy, Resumes, acceptance, EndsAsResumed, packs_until, reached, saved_slots, time_after};
 
 use crate::pictures::bring_back;
 use crate::saving::MOST_BLOCKS;
@@ -55,8 +56,8 @@ impl Checkpointer {
         // Where it is not, the rest is not touched.
         ensures rest_untouched { IsErr (acceptance result) → rest.new ≡ rest.old }
         ensures resumes { IsOk (acceptance result)
-            → (taken : List ℕ) × Resumes self.new.file at (T.left rest.old) (T.left rest.new)
-            (K.held out.old) (K.held out.new) result taken }
+            → (taken : List ℕ) × Resumes self.new.file at
+            (passed T.left K.held (rest.old, out.old) (rest.new, out.new)) result taken }
         // Where nothing failed, the answer is that of the checkpoint and the length of the rest.
         ensures answer { IsOk (acceptance result) → IfSome (T.left rest.old)
             (λ all. IsResumedBy result (checkpoint_in self.new.file) at (length all)) }
@@ -103,8 +104,8 @@ impl Checkpointer {
         ensures file { self.new.file ≡ self.old.file }
         ensures accepted { IsOk (acceptance result) }
         ensures no_first { result ≢ Err ResumeStop.FirstFault }
-        ensures resumes { (taken : List ℕ) × Resumes self.old.file at (T.left rest.old) (T.left rest.new)
-            (K.held out.old) (K.held out.new) result taken }
+        ensures resumes { (taken : List ℕ) × Resumes self.old.file at
+            (passed T.left K.held (rest.old, out.old) (rest.new, out.new)) result taken }
         ensures answer { IfSome (T.left rest.old)
             (λ all. IsResumedBy result (checkpoint_in self.old.file) at (length all)) }
         ensures untouched { IfErr result (λ stop. stop ≢ ResumeStop.WriteFault → out.new ≡ out.old) }
@@ -184,7 +185,7 @@ impl Checkpointer {
         requires file { IsCheckpointFile self.old.file }
         requires not_later { (checkpoint_in self.old.file).program ≤ at }
         ensures goes_on { (taken : List ℕ)
-            × GoesOn (checkpoint_in self.old.file) at (S.left rest.old) (S.left rest.new)
+            × GoesOn (time_after (checkpoint_in self.old.file) at) (change S.left rest.old rest.new)
             (standing_of self.new.tracking.words.second.picture) result taken }
         ensures answer { IfSome (S.left rest.old)
             (λ all. IsGoneOnBy result (checkpoint_in self.old.file) at (length all)) }

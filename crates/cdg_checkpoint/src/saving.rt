@@ -1,6 +1,7 @@
 // The checkpoint after a stream.
 ghost use Rattle.std.specs.Prelude.{◌≡◌, ◌≢◌, ◌≤◌, ◌-◌, List, ℕ, length, min, replicate, IfSome, IfErr, IsErrOf, Err};
 ghost use Rattle.cdg_io.specs.Causes.{Rose};
+ghost use Rattle.cdg_io.specs.Change.{passed};
 ghost use Rattle.cdg_io.specs.Pump.{IsUnlessFault, answer_of};
 ghost use Rattle.rw_interleave.specs.Interleave.{whole_packs};
 ghost use Rattle.cdg_screen.specs.Picture.{SameStanding, blank, standing_of};
@@ -36,8 +37,8 @@ impl Checkpointer {
         out: &mut K,
     ) -> Result<Pumped, PumpStop>
         requires { lead_in ≤ 450000 }
-        ensures saves { (taken : List ℕ) × Saves lead_in (S.left source.old) (S.left source.new)
-            (K.held out.old) (K.held out.new) result taken }
+        ensures saves { (taken : List ℕ) × Saves lead_in
+            (passed S.left K.held (source.old, out.old) (source.new, out.new)) result taken }
         // Where nothing failed, the answer is that of the whole input's length.
         ensures answer { IfSome (S.left source.old)
             (λ all. IsUnlessFault result (answer_of 96 1000000 (length all))) }

@@ -1,6 +1,7 @@
 // A stage at work on the blocks of a whole input, of which nothing is written.
 ghost use Rattle.std.specs.Prelude.{◌≡◌, ◌≢◌, ◌≤◌, List, ℕ, length, IfSome, IsErrOf, Err};
 ghost use Rattle.cdg_io.specs.Causes.{Rose};
+ghost use Rattle.cdg_io.specs.Change.{fed};
 ghost use Rattle.cdg_io.specs.Pump.{IsUnlessFault, TellsEndOf, answer_of};
 ghost use Rattle.cdg_checkpoint.specs.Tracked.{TracksBlocks};
 
@@ -15,7 +16,8 @@ pub(crate) fn watch<S: Source, G: Stage<Item = [u8; BLOCK], Out = Piece>>(
 ) -> Result<Pumped, PumpStop>
     requires { 1 ≤ limit }
     ensures watches { (taken : List ℕ)
-        × TracksBlocks limit G.next (S.left source.old) (S.left source.new) stage.old stage.new result taken }
+        × TracksBlocks limit G.next (fed S.left (source.old, stage.old) (source.new, stage.new))
+        result taken }
     // Where nothing failed, the answer is that of the whole input's length.
     ensures answer { IfSome (S.left source.old)
         (λ all. IsUnlessFault result (answer_of 96 limit (length all))) }
@@ -35,7 +37,8 @@ pub(crate) fn watch_some<S: Source, G: Stage<Item = [u8; BLOCK], Out = Piece>>(
     stage: &mut G,
 ) -> Result<Pumped, PumpStop>
     ensures watches { (taken : List ℕ)
-        × TracksBlocks limit G.next (S.left source.old) (S.left source.new) stage.old stage.new result taken }
+        × TracksBlocks limit G.next (fed S.left (source.old, stage.old) (source.new, stage.new))
+        result taken }
     ensures answer { IfSome (S.left source.old)
         (λ all. IsUnlessFault result (answer_of 96 limit (length all))) }
     ensures source_later { S.faults source.old ≤ S.faults source.new }

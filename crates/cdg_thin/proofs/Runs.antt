@@ -5,6 +5,7 @@ use Rattle.std.proofs.lemmas.Bool.{cases_Bool}
 use Rattle.std.proofs.lemmas.List.{append-nil, length-take-le}
 use Rattle.cdg_io.specs.Run.{run_gives}
 use Rattle.cdg_io.specs.Pump.{given, units_of}
+use Rattle.cdg_io.proofs.Frames.{machine_of}
 use Rattle.cdg_io.proofs.Streaming.{IsWhole, whole_units}
 use Rattle.cdg_screen.specs.Picture.{Display, Standing, blank, standing_of, standing_after, SameStanding}
 use Rattle.cdg_screen.specs.Standings.{display_of, obeyed}
@@ -116,7 +117,7 @@ unit_sized (suc count) bytes fits zero lt = length-take-le 24 bytes (omega arith
 unit_sized (suc count) bytes fits (suc n) lt = unit_sized count (drop 24 bytes) (omega (arith, length-drop 24 bytes)) n (omega arith)
 
 -- what the stage gives for the whole packs of some bytes is the text of their thin form
-pub given_is_thin : (now : Display) (bytes : List ℕ) (n : ℕ) → SameStanding (standing_of now) blank → IsWhole 24 n bytes → IsThinText bytes (given 24 thin_next thin_gives now bytes n)
+pub given_is_thin : (now : Display) (bytes : List ℕ) (n : ℕ) → SameStanding (standing_of now) blank → IsWhole 24 n bytes → IsThinText bytes (given 24 (machine_of thin_next thin_gives) now bytes n)
 given_is_thin now bytes n same whole =
     let count : length bytes / 24 ≡ n = omega (arith, whole.fits, whole.rest) in
     record {

@@ -1,23 +1,25 @@
 -- What a call that writes the thin form takes, puts and answers.
-use Rattle.std.specs.Prelude.{◌≡◌, ℕ, ◌/◌, List, length, Option, Result, IfOk}
+use Rattle.std.specs.Prelude.{◌≡◌, ℕ, ◌/◌, List, length, Result, IfOk}
 use Rattle.std.specs.Io.KnownBytes.{Appends}
 use Rattle.bit_lists.specs.Counting.{whole_parts}
-use Rattle.cdg_io.specs.Streams.{Streams}
+use Rattle.cdg_io.specs.Change.{Bytes, Change, Passed}
+use Rattle.cdg_io.specs.Streams.{Reading, Streams, as_pumped}
 use Rattle.cdg_thin.specs.Thin.{IsThinText, StandAlike}
 use Rattle.cdg_io.specs.declared.pumping.Pumped.{Pumped}
 use Rattle.cdg_io.specs.declared.pumping.PumpStop.{PumpStop}
-use Rattle.cdg_io.specs.declared.pumping.PumpStop.TheVariants.{WriteFault, Torn}
 
 -- the number of whole packs of some bytes, and the text that is written for them
 pub record IsThinnedBy (bytes : List ℕ) (pumped : Pumped) (text : List ℕ) : Type 0 where
   pub units : pumped.units ≡ length bytes / 24
   pub written : IsThinText bytes text
 
+-- how a call reads packs that writes their thin form
+abbrev pub thinning : Reading Pumped PumpStop
+thinning = as_pumped (record { size = 24; limit = 4000000 }) IsThinnedBy
+
 -- The call took these bytes, and put the thin form of their packs as it took them.
-abbrev pub Thins : Option (List ℕ) → Option (List ℕ) → Option (List ℕ) → Option (List ℕ)
-    → Result Pumped PumpStop → List ℕ → Type 0
-Thins left left' held held' result taken =
-    Streams 24 4000000 Torn WriteFault IsThinnedBy left left' held held' result taken
+abbrev pub Thins : Passed → Result Pumped PumpStop → List ℕ → Type 0
+Thins passed result taken = Streams thinning passed result taken
 
 -- bytes in which the same stands after each number of packs as in others, and which are their own thin form
 pub record ShowsAll (bytes text : List ℕ) : Type 0 where
@@ -26,6 +28,6 @@ pub record ShowsAll (bytes text : List ℕ) : Type 0 where
   pub again : IsThinText text text
 
 -- such bytes were put for the whole input
-abbrev pub ThinsAll : List ℕ → Option (List ℕ) → Option (List ℕ) → Result Pumped PumpStop → Type 0
-ThinsAll all held held' result =
-    IfOk result (λ pumped. (text : List ℕ) × ShowsAll all text × Appends held held' text)
+abbrev pub ThinsAll : List ℕ → Change Bytes → Result Pumped PumpStop → Type 0
+ThinsAll all out result =
+    IfOk result (λ pumped. (text : List ℕ) × ShowsAll all text × Appends out.before out.after text)

@@ -2,6 +2,7 @@
 ghost use Rattle.std.specs.Prelude.{◌≡◌, ◌≢◌, ◌≤◌, List, ℕ, length, Err, IfOk, IfSome, IsErrOf};
 ghost use Rattle.cdg_instructions.specs.Instruction.{InRange};
 ghost use Rattle.cdg_io.specs.Causes.{Rose};
+ghost use Rattle.cdg_io.specs.Change.{change, passed};
 ghost use Rattle.cdg_io.specs.Pump.{FillsUnits, IsUnlessFault, TellsEndOf, answer_of};
 ghost use Rattle.cdg_screen.specs.Picture.{SameStanding, blank, standing_of};
 ghost use Rattle.cdg_screen.specs.Standings.{obeyed};
@@ -63,12 +64,12 @@ impl Thinner {
         source: &mut S,
         out: &mut K,
     ) -> Result<Pumped, PumpStop>
-        ensures thins { (taken : List ℕ) × Thins (S.left source.old) (S.left source.new)
-            (K.held out.old) (K.held out.new) result taken }
+        ensures thins { (taken : List ℕ)
+            × Thins (passed S.left K.held (source.old, out.old) (source.new, out.new)) result taken }
         // Of a whole input: after each number of packs the same stands in what was put, and it is its own
         // thin form.
         ensures whole { IfSome (S.left source.old)
-            (λ all. ThinsAll all (K.held out.old) (K.held out.new) result) }
+            (λ all. ThinsAll all (change K.held out.old out.new) result) }
         // Where nothing failed, the answer is that of the whole input's length.
         ensures answer { IfSome (S.left source.old)
             (λ all. IsUnlessFault result (answer_of 24 4000000 (length all))) }

@@ -6,19 +6,19 @@ use Rattle.std.proofs.lemmas.List.{append-nil, get_or-drop, map-append, take_mor
 use Rattle.std.proofs.lemmas.Nat.{xor_block}
 use Rattle.std.specs.Int.Bits.{xor_zero_r}
 use Rattle.std.specs.List.{concat, enumerate_from, AllByRecursion}
-use Rattle.std.specs.declared.option.Option.{Option}
 use Rattle.rand_pcg.specs.Lcg.{Lcg}
 use Rattle.rand_pcg.specs.Pcg.{pcg32}
-use Rattle.cdg_io.specs.Pump.{units_of, given, Pumps}
+use Rattle.cdg_io.specs.Change.{Moved}
+use Rattle.cdg_io.specs.Pump.{Pumps, given, units_of}
 use Rattle.cdg_io.specs.Run.{give, run_state, run_gives}
 use Rattle.cdg_io.specs.Streams.{Streams}
 use Rattle.cdg_io.specs.declared.pumping.Pumped.{Pumped}
 use Rattle.cdg_io.specs.declared.pumping.PumpStop.{PumpStop}
-use Rattle.cdg_io.specs.declared.pumping.PumpStop.TheVariants.{WriteFault, Torn}
+use Rattle.cdg_io.proofs.Frames.{machine_of}
 use Rattle.cdg_io.proofs.Runs.{run_state-append, run_gives-append}
-use Rattle.cdg_io.proofs.Streaming.{IsWhole, streams_done, streams_stop}
+use Rattle.cdg_io.proofs.Streaming.{IsWhole, bytes_of, streams_done, streams_stop}
 use Rattle.cdg_workload.specs.Generator.{generator}
-use Rattle.cdg_workload.specs.Scratches.{Burst, bursts, change_at, scratched_byte, scratched, IsScratched, gap_of, size_of, change_of}
+use Rattle.cdg_workload.specs.Scratches.{Burst, bursts, change_at, scratched_byte, scratched, scratching, IsScratched, gap_of, size_of, change_of}
 use Rattle.cdg_workload.specs.Steps.{byte_next, byte_gives, block_next, block_gives, fresh_scratches}
 use Rattle.cdg_workload.specs.declared.needle.Needle.{Needle}
 use Rattle.cdg_workload.specs.declared.scratching.Scratches.{Scratches}
@@ -117,7 +117,7 @@ changed_is those p (x ∷ xs) lt = ap₂ (λ (a : ℕ) (l : List ℕ). a ∷ l) 
 
 -- ---- The text.
 
-pub blocks_text : (lead_in seed n : ℕ) (bytes : List ℕ) → n * 96 ≤ length bytes → given 96 block_next block_gives (fresh_scratches lead_in seed) bytes n ≡ scratched lead_in seed (take (n * 96) bytes)
+pub blocks_text : (lead_in seed n : ℕ) (bytes : List ℕ) → n * 96 ≤ length bytes → given 96 (machine_of block_next block_gives) (fresh_scratches lead_in seed) bytes n ≡ scratched lead_in seed (take (n * 96) bytes)
 unfolding scratched
 blocks_text lead_in seed n bytes fits =
     let all : List ℕ = take (n * 96) bytes in
@@ -129,26 +129,30 @@ blocks_text lead_in seed n bytes fits =
     ∙ ap (λ l. take (96 * lead_in) all ++ l)
     (scratches_all program count w (omega arith) ∙ changed_is (bursts count 0 w) 0 program (change_at-lt count 0 w))
 
-text_of : (lead_in seed n : ℕ) (bytes : List ℕ) → IsWhole 96 n bytes → IsScratched lead_in seed bytes (record { units = n }) (given 96 block_next block_gives (fresh_scratches lead_in seed) bytes n)
+text_of : (lead_in seed n : ℕ) (bytes : List ℕ) → IsWhole 96 n bytes → IsScratched lead_in seed bytes (record { units = n }) (given 96 (machine_of block_next block_gives) (fresh_scratches lead_in seed) bytes n)
 text_of lead_in seed n bytes whole =
     let count : n ≡ length bytes / 96 = omega (arith, whole.fits, whole.rest) in
     record { blocks = count; text_is = blocks_text lead_in seed n bytes whole.fits ∙ ap (λ k. scratched lead_in seed (take (k * 96) bytes)) count }
 
-streams_from : (lead_in seed : ℕ) (left left' held held' : Option (List ℕ)) (s' : Scratches) (result : Result Pumped PumpStop) (taken : List ℕ)
-    → Pumps 96 1000000 block_next block_gives left left' (fresh_scratches lead_in seed) s' held held' result taken → Streams 96 1000000 Torn WriteFault (IsScratched lead_in seed) left left' held held' result taken
-streams_from lead_in seed left left' held held' s' (Ok pumped) taken pumps =
-    streams_done 96 1000000 block_next block_gives Torn WriteFault (IsScratched lead_in seed) left left' (fresh_scratches lead_in seed) s' held held' taken pumped pumped (lit< tt)
-    (λ bytes n few whole. (record { units = n }, text_of lead_in seed n bytes whole)) pumps (λ whole. text_of lead_in seed pumped.units taken whole)
-streams_from lead_in seed left left' held held' s' (Err stop) taken pumps =
-    streams_stop 96 1000000 block_next block_gives Torn WriteFault (IsScratched lead_in seed) left left' (fresh_scratches lead_in seed) s' held held' taken stop stop (lit< tt)
+text_from : (lead_in seed : ℕ) (s : Scratches) (n : ℕ) (bytes : List ℕ) → s ≡ fresh_scratches lead_in seed → IsWhole 96 n bytes
+    → IsScratched lead_in seed bytes (record { units = n }) (given 96 (machine_of block_next block_gives) s bytes n)
+text_from lead_in seed s n bytes begins whole =
+    subst (λ (t : Scratches). IsScratched lead_in seed bytes (record { units = n }) (given 96 (machine_of block_next block_gives) t bytes n)) (sym begins) (text_of lead_in seed n bytes whole)
+
+streams_from : (lead_in seed : ℕ) (moved : Moved Scratches) (result : Result Pumped PumpStop) (taken : List ℕ) → moved.state.before ≡ fresh_scratches lead_in seed
+    → Pumps (scratching lead_in seed).cut (machine_of block_next block_gives) moved result taken → Streams (scratching lead_in seed) (bytes_of moved) result taken
+streams_from lead_in seed moved (Ok pumped) taken begins pumps =
+    streams_done (scratching lead_in seed) (machine_of block_next block_gives) moved taken pumped pumped (lit< tt)
+    (λ bytes n few whole. (record { units = n }, text_from lead_in seed moved.state.before n bytes begins whole)) pumps (λ whole. text_from lead_in seed moved.state.before pumped.units taken begins whole)
+streams_from lead_in seed moved (Err stop) taken begins pumps =
+    streams_stop (scratching lead_in seed) (machine_of block_next block_gives) moved taken stop stop (lit< tt)
     (record { fault_kept = λ e. e; fault_only = λ e. e; torn_only = λ unit e. e })
-    (λ bytes n few whole. (record { units = n }, text_of lead_in seed n bytes whole)) pumps
+    (λ bytes n few whole. (record { units = n }, text_from lead_in seed moved.state.before n bytes begins whole)) pumps
 
 -- what a pump of the stage does is what the call promises
-pub streams : (lead_in seed : ℕ) (left left' held held' : Option (List ℕ)) (s s' : Scratches) (result : Result Pumped PumpStop) (taken : List ℕ) → s ≡ fresh_scratches lead_in seed
-    → Pumps 96 1000000 block_next block_gives left left' s s' held held' result taken → Streams 96 1000000 Torn WriteFault (IsScratched lead_in seed) left left' held held' result taken
-streams lead_in seed left left' held held' s s' result taken begins pumps =
-    streams_from lead_in seed left left' held held' s' result taken (subst (λ t. Pumps 96 1000000 block_next block_gives left left' t s' held held' result taken) begins pumps)
+pub streams : (lead_in seed : ℕ) (moved : Moved Scratches) (result : Result Pumped PumpStop) (taken : List ℕ) → moved.state.before ≡ fresh_scratches lead_in seed
+    → Pumps (scratching lead_in seed).cut (machine_of block_next block_gives) moved result taken → Streams (scratching lead_in seed) (bytes_of moved) result taken
+streams lead_in seed moved result taken begins pumps = streams_from lead_in seed moved result taken begins pumps
 
 -- ---- Runs of symbols that stay.
 

@@ -3,7 +3,9 @@ use Rattle.std.specs.Prelude.{◌≡◌, ℕ, zero, suc, ◌+◌, ◌*◌, ◌/�
 use Rattle.std.specs.List.{enumerate_from}
 use Rattle.rand_pcg.specs.Lcg.{Lcg}
 use Rattle.rand_pcg.specs.Pcg.{pcg32}
+use Rattle.cdg_io.specs.Streams.{Reading, as_pumped}
 use Rattle.cdg_io.specs.declared.pumping.Pumped.{Pumped}
+use Rattle.cdg_io.specs.declared.pumping.PumpStop.{PumpStop}
 use Rattle.cdg_workload.specs.Generator.{generator, high_half}
 
 -- a burst by its first place, how many symbols it has, and what they are combined with
@@ -62,3 +64,7 @@ scratched lead_in seed bytes =
 pub record IsScratched (lead_in seed : ℕ) (bytes : List ℕ) (pumped : Pumped) (text : List ℕ) : Type 0 where
   pub blocks : pumped.units ≡ length bytes / 96
   pub text_is : text ≡ scratched lead_in seed (take (length bytes / 96 * 96) bytes)
+
+-- how a call reads raw blocks that scratches them
+abbrev pub scratching : ℕ → ℕ → Reading Pumped PumpStop
+scratching lead_in seed = as_pumped (record { size = 96; limit = 1000000 }) (IsScratched lead_in seed)

@@ -1,12 +1,12 @@
 // Scratches of a raw stream.
 ghost use Rattle.std.specs.Prelude.{◌≡◌, ◌≢◌, ◌≤◌, ◌*◌, ◌/◌, List, ℕ, [], length, map, take, drop, IfSome, IsErrOf, Some, Err};
 ghost use Rattle.cdg_io.specs.Causes.{Rose};
+ghost use Rattle.cdg_io.specs.Change.{passed};
 ghost use Rattle.cdg_io.specs.Pump.{IsUnlessFault, TellsEndOf, answer_of};
 ghost use Rattle.cdg_io.specs.Streams.{Streams};
-ghost use Rattle.cdg_io.specs.declared.pumping.PumpStop.TheVariants.{Torn, WriteFault};
 ghost use Rattle.raw_subcode.specs.Channels.{symbols_of, program_symbols};
 ghost use Rattle.rw_interleave.specs.Stream.{DiffersInBursts, IsDamaged};
-ghost use Rattle.cdg_workload.specs.Scratches.{IsScratched, scratched};
+ghost use Rattle.cdg_workload.specs.Scratches.{scratched, scratching};
 ghost use Rattle.cdg_workload.specs.Steps.{fresh_scratches, block_next, block_gives};
 
 use crate::needle::Needle;
@@ -97,8 +97,8 @@ pub fn scratch<S: Source, K: Sink>(
     out: &mut K,
 ) -> Result<Pumped, PumpStop>
     requires { lead_in ≤ 450000 }
-    ensures scratches { (taken : List ℕ) × Streams 96 1000000 Torn WriteFault (IsScratched lead_in seed)
-        (S.left source.old) (S.left source.new) (K.held out.old) (K.held out.new) result taken }
+    ensures scratches { (taken : List ℕ) × Streams (scratching lead_in seed)
+        (passed S.left K.held (source.old, out.old) (source.new, out.new)) result taken }
     // Where nothing failed, the answer is that of the whole input's length.
     ensures answer { IfSome (S.left source.old)
         (λ all. IsUnlessFault result (answer_of 96 1000000 (length all))) }

@@ -8,6 +8,7 @@ use Rattle.std.proofs.Math.Seq.{take-append_seam, drop-append_seam}
 use Rattle.bit_lists.specs.Counting.{parts, whole_parts}
 use Rattle.cdg_io.specs.Run.{run_gives}
 use Rattle.cdg_io.specs.Pump.{units_of, given}
+use Rattle.cdg_io.proofs.Frames.{machine_of}
 use Rattle.cdg_io.proofs.Streaming.{IsWhole}
 use Rattle.raw_subcode.specs.Channels.{IsPlanarForm}
 use Rattle.raw_subcode.specs.PlanarBytes.{packed_at, gathered_at, planar_form, block_from_planar}
@@ -58,7 +59,7 @@ sized_at (x ∷ xs) (suc k) sized lt = sized_at xs k sized.1 (omega arith)
 -- each whole block is turned
 pub turns : {S : Type 0} (f : List ℕ → List ℕ) (turned : List ℕ → List ℕ → Type 0) (s : S) (bytes : List ℕ) (n : ℕ)
     → ((u : List ℕ) → length (f u) ≡ 96) → ((u : List ℕ) → length u ≡ 96 → turned u (f u)) → IsWhole 96 n bytes
-    → TurnsBlocks turned bytes (given 96 stays (turning f) s bytes n)
+    → TurnsBlocks turned bytes (given 96 (machine_of stays (turning f)) s bytes n)
 turns f turned s bytes n sizes turned_is whole =
     let units : List (List ℕ) = units_of 96 n bytes in
     let count : length bytes / 96 ≡ n = omega (arith, whole.fits, whole.rest) in
@@ -91,7 +92,7 @@ has_planar_form block size =
     to_planar_is block (planar_form block) (length-planar_form block)
     (λ n lt. get_or-map-range_with_len (λ i. packed_at block (i / 12) (8 * (i % 12))) 0 96 n n 0 lt (omega arith))
 
-pub planar_streams : {S : Type 0} (s : S) (bytes : List ℕ) (n : ℕ) → IsWhole 96 n bytes → IsPlanarStream bytes (given 96 stays (turning planar_form) s bytes n)
+pub planar_streams : {S : Type 0} (s : S) (bytes : List ℕ) (n : ℕ) → IsWhole 96 n bytes → IsPlanarStream bytes (given 96 (machine_of stays (turning planar_form)) s bytes n)
 planar_streams s bytes n whole = turns planar_form IsPlanarForm s bytes n length-planar_form has_planar_form whole
 
 is_block_of : (planar : List ℕ) → length planar ≡ 96 → IsPlanarForm (block_from_planar planar) planar
@@ -99,5 +100,5 @@ is_block_of planar size =
     from_planar_is (block_from_planar planar) planar size
     (λ n lt. get_or-map-range_with_len (gathered_at planar) 0 96 n n 0 lt (omega arith))
 
-pub block_streams : {S : Type 0} (s : S) (bytes : List ℕ) (n : ℕ) → IsWhole 96 n bytes → IsBlockStream bytes (given 96 stays (turning block_from_planar) s bytes n)
+pub block_streams : {S : Type 0} (s : S) (bytes : List ℕ) (n : ℕ) → IsWhole 96 n bytes → IsBlockStream bytes (given 96 (machine_of stays (turning block_from_planar)) s bytes n)
 block_streams s bytes n whole = turns block_from_planar (λ planar block. IsPlanarForm block planar) s bytes n length-block_from_planar is_block_of whole

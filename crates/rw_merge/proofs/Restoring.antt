@@ -12,6 +12,7 @@ use Rattle.rw_interleave.specs.Interleave.{word_of, whole_packs}
 use Rattle.rw_interleave.specs.Stream.{bad_count}
 use Rattle.rw_interleave.specs.Texts.{cdg_bytes}
 use Rattle.rw_interleave.proofs.Recovery.{form_words}
+use Rattle.cdg_io.specs.Change.{from_to}
 use Rattle.rw_merge.specs.Agreement.{IsAgreed, IsAgreement, equally_wrong}
 use Rattle.rw_merge.specs.Merging.{FirstIsAtEnd, EndsSecond, IsAnswer, IsMerged, IsMergedText, Merges}
 use Rattle.rw_merge.specs.Readings.{IsDamagedTwice, IsReadTwice, MergeRestores}
@@ -110,7 +111,7 @@ abbrev pub GivesPacks : Type 0
 GivesPacks = (lead_in blocks : ℕ) (packs : List (List ℕ)) (first second text : List ℕ) (bad : ℕ) → IsReadTwice lead_in blocks packs first second → IsMergedText lead_in first second text bad → (text ≡ concat packs) × (bad ≡ 0)
 
 pub restored : GivesPacks → (lead_in : ℕ) (left left' other other' held held' : Option (List ℕ)) (result : Result Merged MergeStop) (xs ys : List ℕ) → Consumes left left' xs → Consumes other other' ys
-    → Merges lead_in held held' result xs ys → FirstIsAtEnd result left' → EndsSecond result other' → IfSome left (λ a. IfSome other (λ b. IsAnswer lead_in result (length a) (length b)))
+    → Merges lead_in (from_to held held') result xs ys → FirstIsAtEnd result left' → EndsSecond result other' → IfSome left (λ a. IfSome other (λ b. IsAnswer lead_in result (length a) (length b)))
     → IfSome left (λ a. IfSome other (λ b. (blocks : ℕ) (packs : List (List ℕ)) → IsReadTwice lead_in blocks packs a b → MergeRestores result blocks held held' (concat packs)))
 restored law lead_in None left' other other' held held' result xs ys first second merges end end' answer = tt
 restored law lead_in (Some a) left' None other' held held' result xs ys first second merges end end' answer = tt

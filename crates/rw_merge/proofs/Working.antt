@@ -10,6 +10,7 @@ use Rattle.cdg_io.proofs.Runs.{run_state-append, run_gives-append}
 use Rattle.rw_interleave.specs.Gathering.{gather_next, gather_gives}
 use Rattle.rw_interleave.specs.Stream.{bad_count}
 use Rattle.rw_interleave.specs.Texts.{cdg_bytes}
+use Rattle.cdg_io.specs.Change.{from_to}
 use Rattle.rw_merge.specs.Merging.{GivesMergedText, IsAnswer, IsMergedText, Merges, most_blocks}
 use Rattle.rw_merge.specs.Windows.{Windows}
 use Rattle.rw_merge.specs.Steps.{AreAgreements, IsEndRead, IsHalfRead, IsPairRead, leading_slots, taken_of, window_after, words_after}
@@ -169,7 +170,7 @@ pub stops : (lead_in blocks : ℕ) (left left' other other' held held' : Option 
     → Works lead_in blocks left left' other other' held held' w v bad xs ys → length us ≤ 96 → length vs ≤ 96 → (length us < 96) ⊎ (length vs < 96) → blocks * 96 + length us ≤ most_blocks * 96 + 1
     → result ≢ Err WriteFault → (((a b : ℕ) → a ≡ blocks * 96 + length us → b ≡ blocks * 96 + length vs → IsAnswer lead_in result a b))
     → IfOk result (λ merged. (text : List ℕ) × IsMergedText lead_in (xs ++ us) (ys ++ vs) text merged.bad × Appends held held' text)
-    → Merges lead_in held held' result (xs ++ us) (ys ++ vs)
+    → Merges lead_in (from_to held held') result (xs ++ us) (ys ++ vs)
 stops lead_in blocks left left' other other' held held' w v bad xs ys us vs result works u_le v_le short within other_result answer done =
     let f = works.is_found in
     let long : length (xs ++ us) ≡ blocks * 96 + length us = length-append xs us ∙ ap (λ n. n + length us) f.first_size in
@@ -187,7 +188,7 @@ stops lead_in blocks left left' other other' held held' w v bad xs ys us vs resu
 -- Both inputs are at their end.
 pub ends : (lead_in blocks total : ℕ) (left left' other other' held held' : Option (List ℕ)) (w v : List (List ℕ)) (bad : ℕ) (xs ys us vs : List ℕ)
     → Works lead_in blocks left left' other other' held held' w v bad xs ys → us ≡ [] → vs ≡ [] → blocks ≤ most_blocks → total ≡ blocks - lead_in
-    → Merges lead_in held held' (Ok (record { blocks = total; bad = bad })) (xs ++ us) (ys ++ vs)
+    → Merges lead_in (from_to held held') (Ok (record { blocks = total; bad = bad })) (xs ++ us) (ys ++ vs)
 ends lead_in blocks total left left' other other' held held' w v bad xs ys us vs works u_is v_is within total_is =
     let f = works.is_found in
     let first : xs ++ us ≡ xs = ap (λ l. xs ++ l) u_is ∙ append-nil xs in
@@ -239,7 +240,7 @@ short_end left other (Unequal n) us vs read = absurd read
 
 pub pair_stops : (lead_in blocks : ℕ) (left left' left'' other other' other'' held held' : Option (List ℕ)) (w v : List (List ℕ)) (bad : ℕ) (xs ys us vs : List ℕ) (stop : MergeStop)
     → Works lead_in blocks left left' other other' held held' w v bad xs ys → Consumes left' left'' us → Consumes other' other'' vs → IsPairRead blocks (Err stop) (taken_of us left'') (taken_of vs other'') → blocks < most_blocks
-    → (xs' ys' : List ℕ) × Consumes left left'' xs' × Consumes other other'' ys' × Merges lead_in held held' (Err stop) xs' ys'
+    → (xs' ys' : List ℕ) × Consumes left left'' xs' × Consumes other other'' ys' × Merges lead_in (from_to held held') (Err stop) xs' ys'
 pair_stops lead_in blocks left left' left'' other other' other'' held held' w v bad xs ys us vs stop works first second read lt =
     let is = short_pair blocks left'' other'' stop us vs read in (
       xs ++ us,
@@ -252,7 +253,7 @@ pair_stops lead_in blocks left left' left'' other other' other'' held held' w v 
 
 pub end_stops : (lead_in blocks : ℕ) (left left' left'' other other' other'' held held' : Option (List ℕ)) (w v : List (List ℕ)) (bad : ℕ) (xs ys us vs : List ℕ) (stop : MergeStop)
     → Works lead_in blocks left left' other other' held held' w v bad xs ys → Consumes left' left'' us → Consumes other' other'' vs → IsEndRead (Err stop) (taken_of us left'') (taken_of vs other'') → blocks ≡ most_blocks
-    → (xs' ys' : List ℕ) × Consumes left left'' xs' × Consumes other other'' ys' × Merges lead_in held held' (Err stop) xs' ys'
+    → (xs' ys' : List ℕ) × Consumes left left'' xs' × Consumes other other'' ys' × Merges lead_in (from_to held held') (Err stop) xs' ys'
 end_stops lead_in blocks left left' left'' other other' other'' held held' w v bad xs ys us vs stop works first second read all =
     let (one, two, is_other) = short_end left'' other'' stop us vs read in (
       xs ++ us,
@@ -265,7 +266,7 @@ end_stops lead_in blocks left left' left'' other other' other'' held held' w v b
 
 pub both_end : (lead_in blocks total : ℕ) (left left' left'' other other' other'' held held' : Option (List ℕ)) (w v : List (List ℕ)) (bad : ℕ) (xs ys us vs : List ℕ)
     → Works lead_in blocks left left' other other' held held' w v bad xs ys → Consumes left' left'' us → Consumes other' other'' vs → us ≡ [] → vs ≡ [] → blocks ≤ most_blocks → total ≡ blocks - lead_in
-    → (xs' ys' : List ℕ) × Consumes left left'' xs' × Consumes other other'' ys' × Merges lead_in held held' (Ok (record { blocks = total; bad = bad })) xs' ys'
+    → (xs' ys' : List ℕ) × Consumes left left'' xs' × Consumes other other'' ys' × Merges lead_in (from_to held held') (Ok (record { blocks = total; bad = bad })) xs' ys'
 both_end lead_in blocks total left left' left'' other other' other'' held held' w v bad xs ys us vs works first second u_is v_is le total_is = (
   xs ++ us,
   ys ++ vs,
@@ -315,7 +316,7 @@ works_skipped lead_in blocks left left' left'' other other' other'' held held' w
 pub write_stops : (lead_in blocks : ℕ) (left left' left'' other other' other'' held held' held'' : Option (List ℕ)) (w v w' v' : List (List ℕ)) (bad more : ℕ) (xs ys us vs text : List ℕ)
     → Works lead_in blocks left left' other other' held held' w v bad xs ys → Consumes left' left'' us → Consumes other' other'' vs → length us ≡ 96 → length vs ≡ 96 → lead_in ≤ blocks → blocks < most_blocks
     → IsPairFound w v us vs w' v' text more → AppendsPrefix held' held'' text
-    → (xs' ys' : List ℕ) × Consumes left left'' xs' × Consumes other other'' ys' × Merges lead_in held held'' (Err WriteFault) xs' ys'
+    → (xs' ys' : List ℕ) × Consumes left left'' xs' × Consumes other other'' ys' × Merges lead_in (from_to held held'') (Err WriteFault) xs' ys'
 write_stops lead_in blocks left left' left'' other other' other'' held held' held'' w v w' v' bad more xs ys us vs text works first second u_size v_size le lt pair put =
     let f = works.is_found in
     let next = found_more lead_in blocks xs ys us vs w v w' v' works.found pair.found f le u_size v_size pair.first_window pair.second_window pair.all pair.few in

@@ -2,6 +2,7 @@
 use Rattle.std.specs.Prelude.{◌≡◌, ◌≢◌, ◌⊎◌, ℕ, ◌+◌, ◌-◌, ◌*◌, ◌/◌, ◌%◌, ◌<◌, ◌≤◌, ⊤, min, List, length, take, slice_index_or, Option, None, Result, Ok, Err, IfOk}
 use Rattle.std.specs.Io.KnownBytes.{Appends, IsAtEnd}
 use Rattle.cdg_io.specs.Causes.{Rose}
+use Rattle.cdg_io.specs.Change.{Bytes, Change}
 use Rattle.cdg_io.specs.Moves.{AppendsBetween}
 use Rattle.raw_subcode.specs.Channels.{program_symbols}
 use Rattle.raw_subcode.specs.declared.form.Form.TheVariants.{Raw}
@@ -57,23 +58,24 @@ IsAnswer lead_in (Err SecondFault) first second = ⊤
 IsAnswer lead_in (Err WriteFault) first second = ⊤
 
 -- Of two inputs these bytes were taken, and the text of their pairs of blocks was put.
-pub record Merges (lead_in : ℕ) (held held' : Option (List ℕ)) (result : Result Merged MergeStop)
+pub record Merges (lead_in : ℕ) (held : Change Bytes) (result : Result Merged MergeStop)
     (first second : List ℕ) : Type 0 where
   -- of neither is more taken than a block beyond the other
   pub in_step : (length first ≤ length second + 96) × (length second ≤ length first + 96)
   pub within : length first ≤ most_blocks * 96 + 1
   pub answer : IsAnswer lead_in result (length first) (length second)
   pub done : IfOk result (λ merged. (text : List ℕ) × IsMergedText lead_in first second text merged.bad
-      × Appends held held' text)
+      × Appends held.before held.after text)
   -- where no write failed, all is put that the whole pairs of blocks give
   pub put : result ≢ Err WriteFault
       → (text : List ℕ) × GivesMergedText (min (length first / 96) (length second / 96)) lead_in first second
-      text × Appends held held' text
+      text × Appends held.before held.after text
   -- a write failed: nothing after the pair whose text was being put was taken, and the text of those before it is put
   pub in_turn : result ≡ Err WriteFault
       → (n : ℕ) × (n < most_blocks) × (length first ≡ (n + 1) * 96) × (length second ≡ (n + 1) * 96)
       × ((low high : List ℕ) × GivesMergedText n lead_in first second low
-      × GivesMergedText (n + 1) lead_in first second high × AppendsBetween held held' low high)
+      × GivesMergedText (n + 1) lead_in first second high
+      × AppendsBetween held.before held.after low high)
 
 -- The end of an input was told once, or not.
 abbrev pub RoseAtMost : ℕ → ℕ → Type 0

@@ -4,6 +4,7 @@ ghost use Rattle.std.specs.List.{concat};
 ghost use Rattle.std.specs.Io.KnownBytes.{Consumes};
 ghost use Rattle.std.specs.declared.option.Option.{Option};
 ghost use Rattle.cdg_io.specs.Causes.{Rose};
+ghost use Rattle.cdg_io.specs.Change.{change};
 ghost use Rattle.raw_subcode.specs.Channels.{symbols_of};
 ghost use Rattle.rw_interleave.specs.Stream.{bad_count};
 ghost use Rattle.rw_interleave.specs.Texts.{cdg_bytes, entry_bytes};
@@ -115,7 +116,7 @@ impl Merger {
         requires { lead_in ≤ 450000 }
         ensures merges { (xs ys : List ℕ) × Consumes (S.left first.old) (S.left first.new) xs
             × Consumes (T.left second.old) (T.left second.new) ys
-            × Merges lead_in (K.held out.old) (K.held out.new) result xs ys }
+            × Merges lead_in (change K.held out.old out.new) result xs ys }
         // Every pack comes back where both readings together have enough of each word.
         ensures restores { IfSome (S.left first.old) (λ xs. IfSome (T.left second.old) (λ ys.
             (blocks : ℕ) (packs : List (List ℕ)) → IsReadTwice lead_in blocks packs xs ys
@@ -166,7 +167,7 @@ impl Merger {
         requires second { self.old.second ≡ [] }
         ensures merges { (xs ys : List ℕ) × Consumes (S.left first.old) (S.left first.new) xs
             × Consumes (T.left second.old) (T.left second.new) ys
-            × Merges lead_in (K.held out.old) (K.held out.new) result xs ys }
+            × Merges lead_in (change K.held out.old out.new) result xs ys }
         ensures answer { IfSome (S.left first.old) (λ xs. IfSome (T.left second.old) (λ ys.
             IsAnswer lead_in result (length xs) (length ys))) }
         ensures first_end { FirstIsAtEnd result (S.left first.new) }

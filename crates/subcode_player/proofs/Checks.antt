@@ -7,12 +7,15 @@ use Rattle.std.specs.Io.KnownBytes.{Appends}
 use Rattle.std.proofs.KnownBytes.{Appends-nil}
 use Rattle.std.proofs.lemmas.List.{length-map}
 use Rattle.std.proofs.lemmas.List.FromFn.{length-map-range_with_len}
+use Rattle.cdg_io.specs.Change.{from_to}
 use Rattle.cdg_io.specs.Moves.{AppendsPrefix}
 use Rattle.cdg_io.specs.Run.{run_state, run_gives}
 use Rattle.cdg_io.specs.Pump.{units_of, answer_of, IsUnlessFault}
 use Rattle.cdg_io.specs.declared.pumping.Pumped.{Pumped}
 use Rattle.cdg_io.specs.declared.pumping.PumpStop.{PumpStop}
 use Rattle.cdg_io.specs.declared.pumping.PumpStop.TheVariants as pump_stop
+use Rattle.cdg_io.specs.Streams.{WritesAtEnd}
+use Rattle.cdg_io.proofs.Frames.{feeding, passing}
 use Rattle.cdg_io.proofs.Runs.{joined_second}
 use Rattle.cdg_io.proofs.Streaming.{IsWhole}
 use Rattle.bit_lists.specs.Counting.{below}
@@ -27,7 +30,7 @@ use Rattle.q_channel.specs.QList.{q_blocks, AreQReadings}
 use Rattle.q_channel.proofs.QRuns.{readings_are}
 use Rattle.q_channel.proofs.QRuns as q_runs
 use Rattle.raw_subcode.specs.Sizes.{most_units}
-use Rattle.subcode_player.specs.Calls.{IsEarly, IsPlayed, PlaysAtEnd, IsAnsweredBy}
+use Rattle.subcode_player.specs.Calls.{IsAnsweredBy, IsEarly, IsPlayed, at_end, blocks_played}
 use Rattle.subcode_player.specs.Steps.{slots_of, words_next, words_give}
 use Rattle.subcode_player.specs.Check.{stream_lines, wrong_lines, pack_count_lines, frame_count_lines, check_text, IsCheckListed}
 use Rattle.subcode_player.specs.CheckSteps.{count_after, counts_next, frames_next, counting_next, lines_of_counts, has_frames, IsFresh}
@@ -138,9 +141,9 @@ checked_blocks form lead_in s bytes n end fresh few whole_units e =
 -- a call that writes at the end wrote nothing where the reading stopped
 module _ {S : Type 0} (writes : List ℕ → List ℕ → ℕ → Type 0) (form : Form) (lead_in : ℕ) (next : S → List ℕ → S) (left left' held held' : Option (List ℕ)) (s s' : S) (taken : List ℕ) where
   abbrev Stops : PlayStop → Type 0
-  Stops stop = PlaysAtEnd writes form lead_in left left' held held' (Err stop) taken
+  Stops stop = WritesAtEnd (at_end writes form lead_in) (passing (from_to left left') (from_to held held')) (Err stop) taken
 
-  stopped_early : (stop : PumpStop) → held' ≡ held → Watches form next left left' s s' (Err stop) taken → Stops (play_stop stop)
+  stopped_early : (stop : PumpStop) → held' ≡ held → Watches form next (feeding (from_to left left') (from_to s s')) (Err stop) taken → Stops (play_stop stop)
   stopped_early pump_stop.ReadFault same w = record {
     taken_from = w.taken_from;
     within = w.within;
@@ -167,17 +170,17 @@ module _ {S : Type 0} (writes : List ℕ → List ℕ → ℕ → Type 0) (form 
     cut = λ e. (cc);
   }
 
-  pub at_end_stop : (stop : PumpStop) (answer : PlayStop) → held' ≡ held → Watches form next left left' s s' (Err stop) taken → answer ≡ play_stop stop → Stops answer
+  pub at_end_stop : (stop : PumpStop) (answer : PlayStop) → held' ≡ held → Watches form next (feeding (from_to left left') (from_to s s')) (Err stop) taken → answer ≡ play_stop stop → Stops answer
   at_end_stop stop answer same w e = subst Stops (sym e) (stopped_early stop same w)
 
 -- ---- the answers
 
 module _ (form : Form) (lead_in : ℕ) (left left' held held' : Option (List ℕ)) (s s' : Counting) (taken : List ℕ) where
   abbrev Calls : Result Played PlayStop → Type 0
-  Calls result = PlaysAtEnd (IsCheckListed form lead_in) form lead_in left left' held held' result taken
+  Calls result = WritesAtEnd (at_end (IsCheckListed form lead_in) form lead_in) (passing (from_to left left') (from_to held held')) result taken
 
-  played_for : (pumped : Pumped) (played : Played) → IsFresh form lead_in s → Watches form counting_next left left' s s' (Ok pumped) taken → played.blocks ≡ pumped.units - lead_in → played.bad ≡ s'.words.second.bad
-      → IsPlayed (IsCheckListed form lead_in) form lead_in taken played (lines_of_counts form lead_in pumped.units s')
+  played_for : (pumped : Pumped) (played : Played) → IsFresh form lead_in s → Watches form counting_next (feeding (from_to left left') (from_to s s')) (Ok pumped) taken → played.blocks ≡ pumped.units - lead_in → played.bad ≡ s'.words.second.bad
+      → IsPlayed (IsCheckListed form lead_in) (blocks_played form lead_in) taken played (lines_of_counts form lead_in pumped.units s')
   played_for pumped played fresh w blocks bad =
       let whole_units = whole_taken form pumped.units taken w.done.1 in
       record {
@@ -185,7 +188,7 @@ module _ (form : Form) (lead_in : ℕ) (left left' held held' : Option (List ℕ
         written = subst (IsCheckListed form lead_in taken (lines_of_counts form lead_in pumped.units s')) (sym bad) (checked_blocks form lead_in s taken pumped.units s' fresh w.done.2 whole_units w.done.3);
       }
 
-  pub checks_done : (pumped : Pumped) (answer : Result Played PlayStop) → IsFresh form lead_in s → Watches form counting_next left left' s s' (Ok pumped) taken
+  pub checks_done : (pumped : Pumped) (answer : Result Played PlayStop) → IsFresh form lead_in s → Watches form counting_next (feeding (from_to left left') (from_to s s')) (Ok pumped) taken
       → IfOk answer (λ played. (played.blocks ≡ pumped.units - lead_in) × (played.bad ≡ s'.words.second.bad) × Appends held held' (lines_of_counts form lead_in pumped.units s'))
       → IfErr answer (λ stop. (stop ≡ WriteFault) × AppendsPrefix held held' (lines_of_counts form lead_in pumped.units s')) → Calls answer
   checks_done pumped (Ok played) fresh w ok part = record {

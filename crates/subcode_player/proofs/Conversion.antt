@@ -1,10 +1,9 @@
 -- From the run of the stages to a conversion.
 use Rattle.std.proofs.Common.{◌≡◌, ℕ, zero, suc, ◌+◌, ◌*◌, ◌/◌, ◌≤◌, List, [], ◌∷◌, length, map, drop, refl, sym, ap, subst, arith, length-drop}
-use Rattle.std.specs.declared.option.Option.{Option}
 use Rattle.std.specs.List.{concat, flat_map}
 use Rattle.std.proofs.lemmas.List.{length-take-le}
 use Rattle.cdg_io.specs.Run.{run_state, run_gives}
-use Rattle.cdg_io.specs.Pump.{units_of, given}
+use Rattle.cdg_io.specs.Pump.{Machine, given, units_of}
 use Rattle.raw_subcode.specs.Channels.{unit_size, block_of, symbols_of}
 use Rattle.rw_interleave.specs.Stream.{IsRecovered, bad_count}
 use Rattle.rw_interleave.specs.Texts.{cdg_bytes}
@@ -50,16 +49,16 @@ by_units form lead_in bytes units same sized = record {
 }
 
 -- A stage that gives the packs of the units, and counts the bad ones, converts.
-pub converts_by : {S : Type 0} (form : Form) (lead_in : ℕ) (next : S → List ℕ → S) (gives : S → List ℕ → Option (List ℕ)) (s : S) (bad_of : S → ℕ)
-    → ((units : List (List ℕ)) → concat (run_gives next gives s units) ≡ cdg_bytes (found_in form (program form lead_in units)))
-    → ((units : List (List ℕ)) → length units ≤ most_units → bad_of (run_state next s units) ≡ bad_count (found_in form (program form lead_in units)))
-    → Plays (IsConverted form lead_in) form next gives s bad_of
-converts_by form lead_in next gives s bad_of text bad = record {
+pub converts_by : {S : Type 0} (form : Form) (lead_in : ℕ) (machine : Machine S) (s : S) (bad_of : S → ℕ)
+    → ((units : List (List ℕ)) → concat (run_gives machine.next machine.gives s units) ≡ cdg_bytes (found_in form (program form lead_in units)))
+    → ((units : List (List ℕ)) → length units ≤ most_units → bad_of (run_state machine.next s units) ≡ bad_count (found_in form (program form lead_in units)))
+    → Plays (IsConverted form lead_in) form machine s bad_of
+converts_by form lead_in machine s bad_of text bad = record {
   says = λ bytes n few whole.
       let size : ℕ = unit_size form in
       let units : List (List ℕ) = units_of size n bytes in
       let converted = by_units form lead_in bytes units (ap (λ k. units_of size k bytes) (units_in form n bytes whole)) (units_sized size n bytes whole.fits) in
       let counted = sym (bad units (omega (arith, few, length-units_of size n bytes))) in
-      subst (λ b. IsConverted form lead_in bytes (given size next gives s bytes n) b) counted
+      subst (λ b. IsConverted form lead_in bytes (given size machine s bytes n) b) counted
       (subst (λ (t : List ℕ). IsConverted form lead_in bytes t (bad_count (found_in form (program form lead_in units)))) (sym (text units)) converted);
 }

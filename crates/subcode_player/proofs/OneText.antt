@@ -28,7 +28,7 @@ use Rattle.cdtext_packs.specs.declared.kinds.TextFault.{TextFault}
 use Rattle.cdtext_packs.specs.TextLines.{text_lines}
 use Rattle.subcode_player.specs.Convert.{IsConverted}
 use Rattle.subcode_player.specs.Check.{IsCheckListed, check_text}
-use Rattle.subcode_player.specs.Screen.{AreMeant, AreShown, IsWrittenAt}
+use Rattle.subcode_player.specs.Screen.{AreMeant, AreShown, IsWrittenAt, moment}
 use Rattle.subcode_player.specs.TextListing.{IsTextListed, packs_in}
 use Rattle.subcode_player.proofs.Slots.{Sized, symbols_small}
 use Rattle.subcode_player.proofs.Conversion.{units_sized, blocks_sized}
@@ -84,8 +84,8 @@ one_conversion law form lead_in bytes one other bad another a b =
     let same = one_found law form lead_in bytes a.found b.found a.recovered b.recovered in
     (a.text_is ∙ ap cdg_bytes same ∙ sym b.text_is, a.bad_is ∙ ap bad_count same ∙ sym b.bad_is)
 
-pub one_showing : OneFinding → OneMeaning → (write : Standing → List ℕ) (form : Form) (lead_in time : ℕ) (bytes one other : List ℕ) (bad another : ℕ) → IsWrittenAt write form lead_in time bytes one bad
-    → IsWrittenAt write form lead_in time bytes other another → (one ≡ other) × (bad ≡ another)
+pub one_showing : OneFinding → OneMeaning → (write : Standing → List ℕ) (form : Form) (lead_in time : ℕ) (bytes one other : List ℕ) (bad another : ℕ) → IsWrittenAt write (moment form lead_in time) bytes one bad
+    → IsWrittenAt write (moment form lead_in time) bytes other another → (one ≡ other) × (bad ≡ another)
 one_showing law meaning write form lead_in time bytes one other bad another a b =
     let same = one_found law form lead_in bytes a.found b.found a.recovered b.recovered in
     let shown : AreShown b.found time a.instrs = subst (λ (l : List (Option (List ℕ))). AreShown l time a.instrs) same a.shown in

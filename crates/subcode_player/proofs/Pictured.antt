@@ -4,16 +4,19 @@ use Rattle.std.specs.declared.option.Option.{Option}
 use Rattle.std.proofs.Math.Nat.{div-mul-le_self}
 use Rattle.std.proofs.lemmas.List.{take-append-le, take-map, length-map}
 use Rattle.cdg_io.specs.Pump.{units_of}
+use Rattle.cdg_io.specs.Change.{from_to}
+use Rattle.cdg_io.proofs.Frames.{passing}
 use Rattle.rw_interleave.specs.Interleave.{whole_packs}
 use Rattle.raw_subcode.specs.Channels.{unit_size, block_of, blocks_of, program_symbols}
 use Rattle.rw_interleave.specs.Stream.{all_packs, word_count, bad_count}
 use Rattle.cdg_instructions.specs.declared.instr.Instr.{Instr}
 use Rattle.cdg_screen.specs.Picture.{blank, standing_after}
+use Rattle.cdg_screen.specs.Texts.{pixmap}
 use Rattle.picture_script.specs.Script.{Drawing, pictures, ready_time, hold_time}
 use Rattle.picture_changes.specs.Schedule.{IsSchedule}
 use Rattle.picture_changes.specs.Shown.{ShowsPicture, AreTimesInOrder}
 use Rattle.picture_changes.specs.Meanings.{AreMeantBy}
-use Rattle.subcode_player.specs.Screen.{AreMeant, IsScreenAt, IsShownBy, Shows}
+use Rattle.subcode_player.specs.Screen.{AreMeant, IsScreenAt, IsShownBy, Shows, moment}
 use Rattle.subcode_player.specs.Pictured.{IsScheduledStream, IsHeldAt, IsPictureText, GivesPicture}
 use Rattle.raw_subcode.specs.declared.form.Form.{Form}
 use Rattle.subcode_player.specs.declared.player.Played.{Played}
@@ -36,7 +39,7 @@ meant_by [] instrs meant = meant
 meant_by (pack ∷ packs) [] meant = meant
 meant_by (pack ∷ packs) (instr ∷ instrs) meant = (meant.0, meant_by packs instrs meant.1)
 
-module _ (recovers : Recovers) (form : Form) (lead_in time : ℕ) (script : List Drawing) (k : ℕ) (bytes text : List ℕ) (bad : ℕ) (scheduled : IsScheduledStream form lead_in script bytes) (held : IsHeldAt script k time) (screen : IsScreenAt form lead_in time bytes text bad) where
+module _ (recovers : Recovers) (form : Form) (lead_in time : ℕ) (script : List Drawing) (k : ℕ) (bytes text : List ℕ) (bad : ℕ) (scheduled : IsScheduledStream form lead_in script bytes) (held : IsHeldAt script k time) (screen : IsScreenAt (moment form lead_in time) bytes text bad) where
   first_packs : take (whole_packs time) screen.found ≡ map (λ pack. Some pack) (take (whole_packs time) scheduled.packs)
   first_packs =
       let within : whole_packs time ≤ length scheduled.packs = omega (arith, held.held, scheduled.schedule.held k held.picture, scheduled.schedule.count) in
@@ -67,19 +70,19 @@ program_blocks : (form : Form) (lead_in : ℕ) (script : List Drawing) (bytes : 
 program_blocks form lead_in script bytes scheduled = omega (arith, program_length form bytes lead_in, scheduled.stream.damaged.size, scheduled.stream.carries.size)
 
 abbrev pub TextIsPicture : Type 0
-TextIsPicture = (form : Form) (lead_in time : ℕ) (script : List Drawing) (k : ℕ) (bytes text : List ℕ) (bad : ℕ) → IsScheduledStream form lead_in script bytes → IsHeldAt script k time → IsScreenAt form lead_in time bytes text bad → IsPictureText script k text
+TextIsPicture = (form : Form) (lead_in time : ℕ) (script : List Drawing) (k : ℕ) (bytes text : List ℕ) (bad : ℕ) → IsScheduledStream form lead_in script bytes → IsHeldAt script k time → IsScreenAt (moment form lead_in time) bytes text bad → IsPictureText script k text
 
 abbrev pub PictureNoneBad : Type 0
-PictureNoneBad = (form : Form) (lead_in time : ℕ) (script : List Drawing) (k : ℕ) (bytes text : List ℕ) (bad : ℕ) → IsScheduledStream form lead_in script bytes → IsHeldAt script k time → IsScreenAt form lead_in time bytes text bad → bad ≡ 0
+PictureNoneBad = (form : Form) (lead_in time : ℕ) (script : List Drawing) (k : ℕ) (bytes text : List ℕ) (bad : ℕ) → IsScheduledStream form lead_in script bytes → IsHeldAt script k time → IsScreenAt (moment form lead_in time) bytes text bad → bad ≡ 0
 
 pub gives_picture : (form : Form) (lead_in time : ℕ) (left left' held held' : Option (List ℕ)) (result : Result Played PlayStop) (taken : List ℕ) → TextIsPicture → PictureNoneBad
-    → Shows (IsScreenAt form lead_in time) form lead_in time left left' held held' result taken → IfSome left (λ all. IsShownBy result lead_in time (unit_size form) (length all))
+    → Shows pixmap (moment form lead_in time) (passing (from_to left left') (from_to held held')) result taken → IfSome left (λ all. IsShownBy result lead_in time (unit_size form) (length all))
     → IfSome left (λ all. (script : List Drawing) (k : ℕ) → IsScheduledStream form lead_in script all → IsHeldAt script k time → GivesPicture script k result held held')
 gives_picture form lead_in time None left' held held' result taken picture none shows answer = tt
 gives_picture form lead_in time (Some all) left' held held' (Ok played) taken picture none shows answer = λ script k scheduled at.
     let (end, (text, is_played, put)) = shows.plays.done in
     let same : taken ≡ all = taken_all all left' taken shows.plays.taken_from end in
-    let screen : IsScreenAt form lead_in time all text played.bad = subst (λ (bytes : List ℕ). IsScreenAt form lead_in time bytes text played.bad) same is_played.written in
+    let screen : IsScreenAt (moment form lead_in time) all text played.bad = subst (λ (bytes : List ℕ). IsScreenAt (moment form lead_in time) bytes text played.bad) same is_played.written in
     (none form lead_in time script k all text played.bad scheduled at screen, (text, picture form lead_in time script k all text played.bad scheduled at screen, put))
 gives_picture form lead_in time (Some all) left' held held' (Err ReadFault) taken picture none shows answer = λ script k scheduled at. tt
 gives_picture form lead_in time (Some all) left' held held' (Err WriteFault) taken picture none shows answer = λ script k scheduled at. tt

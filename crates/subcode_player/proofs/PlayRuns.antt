@@ -5,6 +5,7 @@ use Rattle.std.specs.List.{concat, flat_map}
 use Rattle.std.proofs.lemmas.List.{length-map}
 use Rattle.cdg_io.specs.Run.{give, run_state, run_gives, then_gives}
 use Rattle.cdg_io.specs.declared.stage.Then.{Then}
+use Rattle.cdg_io.proofs.Frames.{machine_of}
 use Rattle.cdg_io.proofs.Runs.{joined, joined_second, joined_gives}
 use Rattle.rw_code.specs.Finding.{finding}
 use Rattle.raw_subcode.specs.Channels.{block_of}
@@ -59,9 +60,9 @@ block_bad form lead_in s blocks start none few =
 
 -- the packs of a stream in each form
 pub plays_stream : (form : Form) (lead_in : ℕ) (s : Blocks) → s.first ≡ fresh_words form lead_in → s.second.bad ≡ 0
-    → Plays (IsConverted form lead_in) form (on_units form blocks_next) (on_units form blocks_give) s (λ (t : Blocks). t.second.bad)
+    → Plays (IsConverted form lead_in) form (machine_of (on_units form blocks_next) (on_units form blocks_give)) s (λ (t : Blocks). t.second.bad)
 plays_stream form lead_in s start none =
-    converts_by form lead_in (on_units form blocks_next) (on_units form blocks_give) s (λ (t : Blocks). t.second.bad)
+    converts_by form lead_in (machine_of (on_units form blocks_next) (on_units form blocks_give)) s (λ (t : Blocks). t.second.bad)
     (λ units. ap concat (given_on_units form blocks_next blocks_give s units) ∙ block_text form lead_in s (map (block_of form) units) start)
     (λ units few. ap (λ (t : Blocks). t.second.bad) (run_on_units form blocks_next s units)
     ∙ block_bad form lead_in s (map (block_of form) units) start none (omega (arith, few, length-map units (block_of form))))

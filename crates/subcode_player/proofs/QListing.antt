@@ -5,6 +5,7 @@ use Rattle.std.specs.List.{concat}
 use Rattle.std.proofs.lemmas.List.{length-map}
 use Rattle.cdg_io.specs.Run.{run_state, run_gives}
 use Rattle.cdg_io.specs.Pump.{units_of, given}
+use Rattle.cdg_io.proofs.Frames.{machine_of}
 use Rattle.cdg_io.proofs.Streaming.{IsWhole}
 use Rattle.raw_subcode.specs.Channels.{unit_size, block_of, blocks_of}
 use Rattle.q_channel.specs.QSteps.{q_next, q_give}
@@ -42,13 +43,13 @@ q_blocks_are Raw bytes form_is = refl
 q_blocks_are Sector bytes form_is = refl
 q_blocks_are Cooked bytes form_is = absurd (form_is refl)
 
-pub plays_frames : (form : Form) (s : QLines) → form ≢ Cooked → s ≡ start → Plays (IsQListed form) form (on_units form q_next) (on_units form q_give) s (λ (t : QLines). t.bad)
+pub plays_frames : (form : Form) (s : QLines) → form ≢ Cooked → s ≡ start → Plays (IsQListed form) form (machine_of (on_units form q_next) (on_units form q_give)) s (λ (t : QLines). t.bad)
 plays_frames form s form_is begin = record {
   says = λ bytes n few whole.
       let units : List (List ℕ) = units_of (unit_size form) n bytes in
       let blocks : List (List ℕ) = map (block_of form) units in
       let size : length blocks ≡ n = length-map units (block_of form) ∙ length-units_of (unit_size form) n bytes in
-      listed form bytes (given (unit_size form) (on_units form q_next) (on_units form q_give) s bytes n) (run_state (on_units form q_next) s units).bad blocks
+      listed form bytes (given (unit_size form) (machine_of (on_units form q_next) (on_units form q_give)) s bytes n) (run_state (on_units form q_next) s units).bad blocks
       (q_blocks_are form bytes form_is ∙ blocks_in form n bytes whole)
       (blocks_sized form units (units_sized (unit_size form) n bytes whole.fits))
       (ap concat (given_on_units form q_next q_give s units) ∙ ap (λ (t : QLines). concat (run_gives q_next q_give t blocks)) begin ∙ lines_run 0 0 blocks (omega (arith, few, size)))

@@ -4,6 +4,8 @@ use Rattle.std.specs.declared.option.Option.{Option}
 use Rattle.std.specs.List.{concat}
 use Rattle.std.specs.Io.KnownBytes.{Appends, Consumes, IsAtEnd}
 use Rattle.std.proofs.lemmas.List.Elements.{All-from_get_or}
+use Rattle.cdg_io.specs.Change.{from_to}
+use Rattle.cdg_io.proofs.Frames.{passing}
 use Rattle.rw_interleave.specs.Interleave.{Carries}
 use Rattle.raw_subcode.specs.Channels.{unit_size, blocks_of, program_symbols}
 use Rattle.rw_interleave.specs.Stream.{all_packs, IsDamaged, IsRecovered}
@@ -38,7 +40,7 @@ GivesPacks = (form : Form) (lead_in blocks : ℕ) (packs : List (List ℕ)) (byt
 abbrev GivesNoneBad : Type 0
 GivesNoneBad = (form : Form) (lead_in blocks : ℕ) (packs : List (List ℕ)) (bytes text : List ℕ) (bad : ℕ) → IsDamagedStream form lead_in blocks packs bytes → IsConverted form lead_in bytes text bad → bad ≡ 0
 
-pub restores : (form : Form) (lead_in : ℕ) (left left' held held' : Option (List ℕ)) (result : Result Played PlayStop) (taken : List ℕ) → GivesPacks → GivesNoneBad → Converts form lead_in left left' held held' result taken
+pub restores : (form : Form) (lead_in : ℕ) (left left' held held' : Option (List ℕ)) (result : Result Played PlayStop) (taken : List ℕ) → GivesPacks → GivesNoneBad → Converts form lead_in (passing (from_to left left') (from_to held held')) result taken
     → IfSome left (λ all. IsAnsweredBy result (unit_size form) (length all))
     → IfSome left (λ all. (blocks : ℕ) (packs : List (List ℕ)) → IsDamagedStream form lead_in blocks packs all → Restores result held held' (concat (all_packs form blocks packs)))
 restores form lead_in None left' held held' result taken gives none_bad converts answer = tt

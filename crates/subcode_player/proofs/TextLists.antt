@@ -3,11 +3,13 @@ use Rattle.std.proofs.Common.{◌≡◌, ◌≢◌, ℕ, ◌-◌, ◌*◌, ◌/�
 use Rattle.std.specs.Prelude.{nat_lt, ◌==◌}
 use Rattle.std.specs.declared.option.Option.{Option}
 use Rattle.std.proofs.Math.Nat.{mul-mod_left}
+use Rattle.cdg_io.specs.Change.{from_to}
 use Rattle.cdg_io.specs.Run.{run_state}
 use Rattle.cdg_io.specs.Pump.{units_of, answer_of, IsUnlessFault}
 use Rattle.cdg_io.specs.declared.pumping.Pumped.{Pumped}
 use Rattle.cdg_io.specs.declared.pumping.PumpStop.{PumpStop}
 use Rattle.cdg_io.specs.declared.pumping.PumpStop.TheVariants as pump_stop
+use Rattle.cdg_io.proofs.Frames.{feeding, passing}
 use Rattle.raw_subcode.specs.Channels.{unit_size, block_of, blocks_of}
 use Rattle.raw_subcode.specs.declared.form.Form.{Form}
 use Rattle.cdtext_packs.specs.LeadIn.{lead_in_packs}
@@ -38,7 +40,7 @@ counted_same texts good bad other good' bad' other' e f g =
 
 module _ (form : Form) (lead_in : ℕ) (left left' held held' : Option (List ℕ)) (s s' : LeadInTexts) (taken : List ℕ) where
   -- the lead-in of what was taken is read
-  has_read : (pumped : Pumped) → ReadsLeadIns → lead_in ≤ 450000 → s ≡ fresh_texts lead_in → Watches form text_next left left' s s' (Ok pumped) taken → HasRead (packs_in form lead_in taken) s'
+  has_read : (pumped : Pumped) → ReadsLeadIns → lead_in ≤ 450000 → s ≡ fresh_texts lead_in → Watches form text_next (feeding (from_to left left') (from_to s s')) (Ok pumped) taken → HasRead (packs_in form lead_in taken) s'
   has_read pumped law few fresh w =
       let units = units_of (unit_size form) pumped.units taken in
       let same : units_of (unit_size form) (length taken / unit_size form) taken ≡ units_of (unit_size form) pumped.units taken
@@ -60,11 +62,11 @@ module _ (form : Form) (lead_in : ℕ) (left left' held held' : Option (List ℕ
   listed : (texts : Texts) (bad : ℕ) → HasRead (packs_in form lead_in taken) s' → read_texts s'.reader ≡ Ok texts → bad ≡ 0 → IsTextListed form lead_in taken (counted_lines texts s'.good s'.bad s'.other) bad
   listed texts bad read is none = record { texts = texts; read = sym (texts_read read) ∙ is; text_is = lines_read texts read; none_bad = none }
 
-  whole_rest : (pumped : Pumped) → Watches form text_next left left' s s' (Ok pumped) taken → length taken % unit_size form ≡ 0
+  whole_rest : (pumped : Pumped) → Watches form text_next (feeding (from_to left left') (from_to s s')) (Ok pumped) taken → length taken % unit_size form ≡ 0
   whole_rest pumped w = ap (λ n. n % unit_size form) w.done.1 ∙ mul-mod_left pumped.units (unit_size form)
 
-  pub lists_done : (pumped : Pumped) (answer : Result Played PlayStop) (blocks : ℕ) → ReadsLeadIns → lead_in ≤ 450000 → s ≡ fresh_texts lead_in → Watches form text_next left left' s s' (Ok pumped) taken
-      → blocks ≡ pumped.units - lead_in → WritesTexts s' blocks held held' answer → ListsTexts form lead_in left left' held held' answer taken
+  pub lists_done : (pumped : Pumped) (answer : Result Played PlayStop) (blocks : ℕ) → ReadsLeadIns → lead_in ≤ 450000 → s ≡ fresh_texts lead_in → Watches form text_next (feeding (from_to left left') (from_to s s')) (Ok pumped) taken
+      → blocks ≡ pumped.units - lead_in → WritesTexts s' blocks held held' answer → ListsTexts form lead_in (passing (from_to left left') (from_to held held')) answer taken
   lists_done pumped (Ok played) blocks law few fresh w is writes =
       let read = has_read pumped law few fresh w in
       let (texts, is_read, put) = writes.2 in
@@ -124,8 +126,8 @@ module _ (form : Form) (lead_in : ℕ) (left left' held held' : Option (List ℕ
   no_fault_told (pump_stop.Torn unit) fault e = absurd (cc)
   no_fault_told pump_stop.TooLong fault e = absurd (cc)
 
-  pub lists_stop : (stop : PumpStop) (answer : PlayStop) → held' ≡ held → Watches form text_next left left' s s' (Err stop) taken → answer ≡ play_stop stop
-      → ListsTexts form lead_in left left' held held' (Err answer) taken
+  pub lists_stop : (stop : PumpStop) (answer : PlayStop) → held' ≡ held → Watches form text_next (feeding (from_to left left') (from_to s s')) (Err stop) taken → answer ≡ play_stop stop
+      → ListsTexts form lead_in (passing (from_to left left') (from_to held held')) (Err answer) taken
   lists_stop stop answer same w e = record {
     plays = at_end_stop (IsTextListed form lead_in) form lead_in text_next left left' held held' s s' taken stop answer same w e;
     refused = λ fault told. let is : answer ≡ Text fault = cc in absurd (no_fault_told stop fault (sym e ∙ is));
@@ -141,7 +143,7 @@ is_ok_read (Ok other) texts e = refl
 is_ok_read (Err fault) texts e = absurd (cc)
 
 pub listed_done : (form : Form) (lead_in : ℕ) (pumped : Pumped) (answer : Result Played PlayStop) (left left' held held' : Option (List ℕ)) (s s' : LeadInTexts) (taken : List ℕ) (blocks : ℕ)
-    → Watches form text_next left left' s s' (Ok pumped) taken → WritesTexts s' blocks held held' answer → ListsTexts form lead_in left left' held held' answer taken
+    → Watches form text_next (feeding (from_to left left') (from_to s s')) (Ok pumped) taken → WritesTexts s' blocks held held' answer → ListsTexts form lead_in (passing (from_to left left') (from_to held held')) answer taken
     → IfSome left (λ all. IsUnlessFault (Ok pumped) (answer_of (unit_size form) most_units (length all)))
     → IfSome left (λ all. IsListedBy answer form lead_in all)
 listed_done form lead_in pumped answer None left' held held' s s' taken blocks w writes lists e = tt

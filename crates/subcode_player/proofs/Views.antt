@@ -7,6 +7,7 @@ use Rattle.std.specs.Io.KnownBytes.{Appends}
 use Rattle.std.proofs.KnownBytes.{Appends-nil}
 use Rattle.std.proofs.lemmas.Bool.Decides.{nat_tests}
 use Rattle.std.proofs.lemmas.List.{length-map}
+use Rattle.cdg_io.specs.Change.{from_to}
 use Rattle.cdg_io.specs.Moves.{AppendsPrefix}
 use Rattle.cdg_io.specs.Run.{run_state, run_gives}
 use Rattle.cdg_io.specs.Pump.{units_of, answer_of, IsUnlessFault}
@@ -15,6 +16,7 @@ use Rattle.cdg_io.specs.declared.pumping.Pumped.{Pumped}
 use Rattle.cdg_io.specs.declared.pumping.PumpStop.{PumpStop}
 use Rattle.cdg_io.specs.declared.pumping.PumpStop.TheVariants as pump_stop
 use Rattle.cdg_io.specs.declared.stage.Then.{Then}
+use Rattle.cdg_io.proofs.Frames.{feeding, passing}
 use Rattle.cdg_io.proofs.Runs.{joined, joined_second}
 use Rattle.cdg_io.proofs.Streaming.{IsWhole}
 use Rattle.rw_code.specs.Finding.{finding}
@@ -29,7 +31,7 @@ use Rattle.subcode_player.specs.Calls.{IsEarly}
 use Rattle.subcode_player.specs.Steps.{fresh_words, slots_of, window_next, window_gives, words_next, words_give}
 use Rattle.subcode_player.specs.Drawn.{draw_after, drawing_next}
 use Rattle.subcode_player.specs.Watch.{IsViewed, Views, Watches, play_stop, viewed}
-use Rattle.subcode_player.specs.Screen.{IsWrittenAt, IsShownBy, Shows}
+use Rattle.subcode_player.specs.Screen.{IsShownBy, IsWrittenAt, Shows, moment}
 use Rattle.subcode_player.specs.declared.block_words.BlockWords.{BlockWords}
 use Rattle.subcode_player.specs.declared.drawing.Drawing.{Drawing}
 use Rattle.subcode_player.specs.declared.player.Played.{Played}
@@ -84,7 +86,7 @@ recovered_units form lead_in bytes units same sized =
 
 -- the same by the bytes
 pub viewed_bytes : (form : Form) (lead_in time : ℕ) (s : Drawings) (bytes : List ℕ) (n : ℕ) (end : Drawing) → IsReady form lead_in time s → n ≤ most_units → IsWhole (unit_size form) n bytes
-    → end ≡ (run_state drawings_next s (map (block_of form) (units_of (unit_size form) n bytes))).second → IsViewed form lead_in time bytes (standing_of end.picture) end.bad
+    → end ≡ (run_state drawings_next s (map (block_of form) (units_of (unit_size form) n bytes))).second → IsViewed (moment form lead_in time) bytes (standing_of end.picture) end.bad
 viewed_bytes form lead_in time s bytes n end ready few whole_units e =
     let size : ℕ = unit_size form in
     let units : List (List ℕ) = units_of size n bytes in
@@ -105,8 +107,8 @@ pub whole_taken : (form : Form) (n : ℕ) (bytes : List ℕ) → length bytes �
 whole_taken form n bytes e = record { fits = omega (arith, e); rest = omega (arith, e, unit_some form) }
 
 module _ (form : Form) (lead_in time : ℕ) (left left' : Option (List ℕ)) (taken : List ℕ) where
-  views_by : (s s' : Drawings) (pumped : Pumped) (past : Bool) → IsReady form lead_in time s → Watches form drawings_next left left' s s' (Ok pumped) taken → nat_lt (pumped.units - lead_in) time ≡ past
-      → Views form lead_in time left left' (standing_of s'.second.picture) (if past then Err (PastEnd (pumped.units - lead_in)) else Ok (record { blocks = pumped.units - lead_in; bad = s'.second.bad })) taken
+  views_by : (s s' : Drawings) (pumped : Pumped) (past : Bool) → IsReady form lead_in time s → Watches form drawings_next (feeding (from_to left left') (from_to s s')) (Ok pumped) taken → nat_lt (pumped.units - lead_in) time ≡ past
+      → Views (moment form lead_in time) (from_to left left') (standing_of s'.second.picture) (if past then Err (PastEnd (pumped.units - lead_in)) else Ok (record { blocks = pumped.units - lead_in; bad = s'.second.bad })) taken
   views_by s s' pumped true ready w past =
       let units : length taken / unit_size form ≡ pumped.units = units_in form pumped.units taken (whole_taken form pumped.units taken w.done.1) in
       let rest : length taken % unit_size form ≡ 0 = ap (λ n. n % unit_size form) w.done.1 ∙ mul-mod_left pumped.units (unit_size form) in
@@ -131,11 +133,11 @@ module _ (form : Form) (lead_in time : ℕ) (left left' : Option (List ℕ)) (ta
         no_write = λ e. (cc);
       }
 
-  views_done : (s s' : Drawings) (pumped : Pumped) → IsReady form lead_in time s → Watches form drawings_next left left' s s' (Ok pumped) taken
-      → Views form lead_in time left left' (standing_of s'.second.picture) (viewed (pumped.units - lead_in) time s'.second.bad) taken
+  views_done : (s s' : Drawings) (pumped : Pumped) → IsReady form lead_in time s → Watches form drawings_next (feeding (from_to left left') (from_to s s')) (Ok pumped) taken
+      → Views (moment form lead_in time) (from_to left left') (standing_of s'.second.picture) (viewed (pumped.units - lead_in) time s'.second.bad) taken
   views_done s s' pumped ready w = views_by s s' pumped (nat_lt (pumped.units - lead_in) time) ready w refl
 
-  views_stop : (s s' : Drawings) (now : Standing) (stop : PumpStop) → Watches form drawings_next left left' s s' (Err stop) taken → Views form lead_in time left left' now (Err (play_stop stop)) taken
+  views_stop : (s s' : Drawings) (now : Standing) (stop : PumpStop) → Watches form drawings_next (feeding (from_to left left') (from_to s s')) (Err stop) taken → Views (moment form lead_in time) (from_to left left') now (Err (play_stop stop)) taken
   views_stop s s' now pump_stop.ReadFault w = record {
     taken_from = w.taken_from;
     within = w.within;
@@ -162,21 +164,21 @@ module _ (form : Form) (lead_in time : ℕ) (left left' : Option (List ℕ)) (ta
     no_write = λ e. (cc);
   }
 
-  pub view_done : (s s' : Drawings) (pumped : Pumped) (answer : Result Played PlayStop) → IsReady form lead_in time s → Watches form drawings_next left left' s s' (Ok pumped) taken → answer ≡ viewed (pumped.units - lead_in) time s'.second.bad
-      → Views form lead_in time left left' (standing_of s'.second.picture) answer taken
-  view_done s s' pumped answer ready w e = subst (λ (r : Result Played PlayStop). Views form lead_in time left left' (standing_of s'.second.picture) r taken) (sym e) (views_done s s' pumped ready w)
+  pub view_done : (s s' : Drawings) (pumped : Pumped) (answer : Result Played PlayStop) → IsReady form lead_in time s → Watches form drawings_next (feeding (from_to left left') (from_to s s')) (Ok pumped) taken → answer ≡ viewed (pumped.units - lead_in) time s'.second.bad
+      → Views (moment form lead_in time) (from_to left left') (standing_of s'.second.picture) answer taken
+  view_done s s' pumped answer ready w e = subst (λ (r : Result Played PlayStop). Views (moment form lead_in time) (from_to left left') (standing_of s'.second.picture) r taken) (sym e) (views_done s s' pumped ready w)
 
-  pub view_stop : (s s' : Drawings) (now : Standing) (stop : PumpStop) (answer : PlayStop) → Watches form drawings_next left left' s s' (Err stop) taken → answer ≡ play_stop stop → Views form lead_in time left left' now (Err answer) taken
-  view_stop s s' now stop answer w e = subst (λ (a : PlayStop). Views form lead_in time left left' now (Err a) taken) (sym e) (views_stop s s' now stop w)
+  pub view_stop : (s s' : Drawings) (now : Standing) (stop : PumpStop) (answer : PlayStop) → Watches form drawings_next (feeding (from_to left left') (from_to s s')) (Err stop) taken → answer ≡ play_stop stop → Views (moment form lead_in time) (from_to left left') now (Err answer) taken
+  view_stop s s' now stop answer w e = subst (λ (a : PlayStop). Views (moment form lead_in time) (from_to left left') now (Err a) taken) (sym e) (views_stop s s' now stop w)
 
   module _ (write : Standing → List ℕ) (now : Standing) (held held' : Option (List ℕ)) where
     abbrev Calls : Result Played PlayStop → Type 0
-    Calls result = Shows (IsWrittenAt write form lead_in time) form lead_in time left left' held held' result taken
+    Calls result = Shows write (moment form lead_in time) (passing (from_to left left') (from_to held held')) result taken
 
-    written : (bad : ℕ) (v : IsViewed form lead_in time taken now bad) → IsWrittenAt write form lead_in time taken (write (standing_after blank v.instrs)) bad
+    written : (bad : ℕ) (v : IsViewed (moment form lead_in time) taken now bad) → IsWrittenAt write (moment form lead_in time) taken (write (standing_after blank v.instrs)) bad
     written bad v = record { found = v.found; recovered = v.recovered; instrs = v.instrs; shown = v.shown; text_is = refl; bad_is = v.bad_is }
 
-    pub shows_done : (played : Played) → Views form lead_in time left left' now (Ok played) taken → ((shown : Standing) → SameStanding now shown → Appends held held' (write shown)) → Calls (Ok played)
+    pub shows_done : (played : Played) → Views (moment form lead_in time) (from_to left left') now (Ok played) taken → ((shown : Standing) → SameStanding now shown → Appends held held' (write shown)) → Calls (Ok played)
     shows_done played v put =
         let (at_end, blocks, reached, view) = v.done in
         record {
@@ -192,7 +194,7 @@ module _ (form : Form) (lead_in time : ℕ) (left left' : Option (List ℕ)) (ta
           past_end = λ blocks e. (cc);
         }
 
-    pub shows_cut : (played : Played) → Views form lead_in time left left' now (Ok played) taken → ((shown : Standing) → SameStanding now shown → AppendsPrefix held held' (write shown)) → Calls (Err WriteFault)
+    pub shows_cut : (played : Played) → Views (moment form lead_in time) (from_to left left') now (Ok played) taken → ((shown : Standing) → SameStanding now shown → AppendsPrefix held held' (write shown)) → Calls (Err WriteFault)
     shows_cut played v put =
         let (at_end, blocks, reached, view) = v.done in
         record {
@@ -208,7 +210,7 @@ module _ (form : Form) (lead_in time : ℕ) (left left' : Option (List ℕ)) (ta
           past_end = λ blocks e. (cc);
         }
 
-    pub shows_stop : (stop : PlayStop) → Views form lead_in time left left' now (Err stop) taken → held' ≡ held → Calls (Err stop)
+    pub shows_stop : (stop : PlayStop) → Views (moment form lead_in time) (from_to left left') now (Err stop) taken → held' ≡ held → Calls (Err stop)
     shows_stop stop v same = record {
       plays = record {
         taken_from = v.taken_from;

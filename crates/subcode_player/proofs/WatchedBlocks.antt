@@ -2,11 +2,13 @@
 use Rattle.std.proofs.Common.{◌≡◌, ◌≢◌, ℕ, ◌+◌, ◌*◌, ◌<◌, ◌≤◌, List, [], ◌∷◌, length, map, refl, sym, ap, ◌∙◌, subst, arith, Result, Ok, Err}
 use Rattle.std.specs.Prelude.{IsErrOf}
 use Rattle.std.specs.declared.option.Option.{Option}
+use Rattle.cdg_io.specs.Change.{Fed, Moved, from_to}
 use Rattle.cdg_io.specs.Run.{give, run_state, run_gives}
-use Rattle.cdg_io.specs.Pump.{units_of, whole, Pumps}
+use Rattle.cdg_io.specs.Pump.{Machine, Pumps, units_of, whole}
 use Rattle.cdg_io.specs.declared.pumping.Pumped.{Pumped}
 use Rattle.cdg_io.specs.declared.pumping.PumpStop.{PumpStop}
 use Rattle.cdg_io.specs.declared.pumping.PumpStop.TheVariants.{WriteFault}
+use Rattle.cdg_io.proofs.Frames.{feeding}
 use Rattle.cdg_io.proofs.Units.{whole_within}
 use Rattle.raw_subcode.specs.Channels.{unit_size, block_of}
 use Rattle.raw_subcode.specs.declared.form.Form.{Form}
@@ -20,9 +22,16 @@ error stop = Err stop
 pub record RunsOnBlocks {T S : Type 0} (form : Form) (whole_next : T → List ℕ → T) (next : S → List ℕ → S) (inner : T → S) : Type 0 where
   pub state : (t : T) (units : List (List ℕ)) → inner (run_state whole_next t units) ≡ run_state next (inner t) (map (block_of form) units)
 
-module _ {T S : Type 0} (form : Form) (size : ℕ) (whole_next : T → List ℕ → T) (gives : T → List ℕ → Option (List ℕ)) (next : S → List ℕ → S) (inner : T → S) (left left' : Option (List ℕ)) (t t' : T) (held held' : Option (List ℕ)) (taken : List ℕ) where
-  pub watches_done : (pumped : Pumped) → unit_size form ≡ size → 1 < size → RunsOnBlocks form whole_next next inner → Pumps size 1000000 whole_next gives left left' t t' held held' (Ok pumped) taken
-      → Watches form next left left' (inner t) (inner t') (Ok pumped) taken
+module _ {T S : Type 0} (form : Form) (size : ℕ) (machine : Machine T) (next : S → List ℕ → S) (inner : T → S) (moved : Moved T) (taken : List ℕ) where
+  -- what was fed to the stage on blocks
+  abbrev fed_within : Fed S
+  fed_within = feeding moved.left (from_to (inner moved.state.before) (inner moved.state.after))
+
+  abbrev Runs : Result Pumped PumpStop → Type 0
+  Runs result = Pumps (record { size = size; limit = 1000000 }) machine moved result taken
+
+  pub watches_done : (pumped : Pumped) → unit_size form ≡ size → 1 < size → RunsOnBlocks form machine.next next inner → Runs (Ok pumped)
+      → Watches form next fed_within (Ok pumped) taken
   watches_done pumped e some runs p =
       let count : whole size 1000000 (length taken) ≡ pumped.units = ap (whole size 1000000) (p.done.1 ∙ omega arith) ∙ whole_within size 1000000 pumped.units 0 (omega (arith, some)) p.done.2 in
       record {
@@ -32,14 +41,14 @@ module _ {T S : Type 0} (form : Form) (size : ℕ) (whole_next : T → List ℕ 
           p.done.0,
           p.done.1 ∙ ap (λ n. pumped.units * n) (sym e),
           p.done.2,
-          ap inner (p.state ∙ ap (λ n. run_state whole_next t (units_of size n taken)) count) ∙ runs.state t (units_of size pumped.units taken) ∙ ap (λ n. run_state next (inner t) (map (block_of form) (units_of n pumped.units taken))) (sym e),
+          ap inner (p.state ∙ ap (λ n. run_state machine.next moved.state.before (units_of size n taken)) count) ∙ runs.state moved.state.before (units_of size pumped.units taken) ∙ ap (λ n. run_state next (inner moved.state.before) (map (block_of form) (units_of n pumped.units taken))) (sym e),
         );
         torn = λ unit h. (cc);
         no_write = λ h. (cc);
       }
 
-  pub watches_stop : (stop : PumpStop) → unit_size form ≡ size → stop ≢ WriteFault → Pumps size 1000000 whole_next gives left left' t t' held held' (Err stop) taken
-      → Watches form next left left' (inner t) (inner t') (Err stop) taken
+  pub watches_stop : (stop : PumpStop) → unit_size form ≡ size → stop ≢ WriteFault → Runs (Err stop)
+      → Watches form next fed_within (Err stop) taken
   watches_stop stop e no_fault p = record {
     taken_from = p.taken_from;
     within = subst (λ n. length taken ≤ most_units * n + 1) (sym e) p.within;
@@ -48,8 +57,8 @@ module _ {T S : Type 0} (form : Form) (size : ℕ) (whole_next : T → List ℕ 
     no_write = λ h. let same : stop ≡ WriteFault = cc in no_fault same;
   }
 
-  pub watches : (result : Result Pumped PumpStop) → unit_size form ≡ size → 1 < size → ¬ IsErrOf result WriteFault → RunsOnBlocks form whole_next next inner → Pumps size 1000000 whole_next gives left left' t t' held held' result taken
-      → Watches form next left left' (inner t) (inner t') result taken
+  pub watches : (result : Result Pumped PumpStop) → unit_size form ≡ size → 1 < size → ¬ IsErrOf result WriteFault → RunsOnBlocks form machine.next next inner → Runs result
+      → Watches form next fed_within result taken
   watches (Ok pumped) e some no_fault runs p = watches_done pumped e some runs p
   watches (Err stop) e some no_fault runs p = watches_stop stop e (λ same. no_fault (ap error same)) p
 

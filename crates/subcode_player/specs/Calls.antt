@@ -2,9 +2,9 @@
 --
 -- `writes bytes text bad` says of some bytes, whole units and maybe a rest of a unit, which text is written for the
 -- units, and how many words or frames are bad.
-use Rattle.std.specs.Prelude.{◌≡◌, ◌≢◌, ℕ, ◌-◌, ◌*◌, ◌/◌, ◌%◌, ◌<◌, ◌≤◌, ⊤, List, length, Option, Result, Ok, Err}
+use Rattle.std.specs.Prelude.{◌≡◌, ◌≢◌, ℕ, ◌-◌, ◌*◌, ◌/◌, ◌%◌, ◌<◌, ◌≤◌, ⊤, List, length, Result, Ok, Err}
 use Rattle.cdg_io.specs.Causes.{Rose}
-use Rattle.cdg_io.specs.Streams.{Streams, WritesAtEnd}
+use Rattle.cdg_io.specs.Streams.{Reading, WholeReading}
 use Rattle.raw_subcode.specs.Channels.{unit_size}
 use Rattle.raw_subcode.specs.Sizes.{most_units}
 use Rattle.raw_subcode.specs.declared.form.Form.{Form}
@@ -12,18 +12,24 @@ use Rattle.subcode_player.specs.declared.player.Played.{Played}
 use Rattle.subcode_player.specs.declared.player.PlayStop.{PlayStop}
 use Rattle.subcode_player.specs.declared.player.PlayStop.TheVariants.{ReadFault, WriteFault, Torn, TooLong, PastEnd, Text}
 
--- the answer to some bytes, and the text that is written for them
-pub record IsPlayed (writes : List ℕ → List ℕ → ℕ → Type 0) (form : Form) (lead_in : ℕ) (bytes : List ℕ)
+-- the answer to some bytes, by the count of their blocks, and the text that is written for them
+pub record IsPlayed (writes : List ℕ → List ℕ → ℕ → Type 0) (count : List ℕ → ℕ) (bytes : List ℕ)
     (played : Played) (text : List ℕ) : Type 0 where
-  pub blocks : played.blocks ≡ length bytes / unit_size form - lead_in
+  pub blocks : played.blocks ≡ count bytes
   pub written : writes bytes text played.bad
 
--- a call that writes while it reads
-abbrev pub PlaysInTurn : (List ℕ → List ℕ → ℕ → Type 0) → Form → ℕ → Option (List ℕ) → Option (List ℕ)
-    → Option (List ℕ) → Option (List ℕ) → Result Played PlayStop → List ℕ → Type 0
-PlaysInTurn writes form lead_in left left' held held' result taken =
-    Streams (unit_size form) most_units Torn WriteFault (IsPlayed writes form lead_in) left left' held held'
-    result taken
+-- how many blocks of some bytes are of the program
+abbrev pub blocks_played : Form → ℕ → List ℕ → ℕ
+blocks_played form lead_in bytes = length bytes / unit_size form - lead_in
+
+-- how a call reads that writes while it reads
+abbrev pub in_turn : (List ℕ → List ℕ → ℕ → Type 0) → Form → ℕ → Reading Played PlayStop
+in_turn writes form lead_in = record {
+  cut = record { size = unit_size form; limit = most_units };
+  torn_at = Torn;
+  write_fault = WriteFault;
+  gives = IsPlayed writes (blocks_played form lead_in);
+}
 
 -- it comes before the end of the input
 abbrev pub IsEarly : PlayStop → Type 0
@@ -31,12 +37,14 @@ IsEarly ReadFault = ⊤
 IsEarly TooLong = ⊤
 IsEarly stop = ⊥
 
--- a call that writes nothing before it read all
-abbrev pub PlaysAtEnd : (List ℕ → List ℕ → ℕ → Type 0) → Form → ℕ → Option (List ℕ) → Option (List ℕ)
-    → Option (List ℕ) → Option (List ℕ) → Result Played PlayStop → List ℕ → Type 0
-PlaysAtEnd writes form lead_in left left' held held' result taken =
-    WritesAtEnd (unit_size form) most_units IsEarly WriteFault (IsPlayed writes form lead_in) left left' held
-    held' result taken
+-- how a call reads that writes nothing before it read all
+abbrev pub at_end : (List ℕ → List ℕ → ℕ → Type 0) → Form → ℕ → WholeReading Played PlayStop
+at_end writes form lead_in = record {
+  cut = record { size = unit_size form; limit = most_units };
+  is_early = IsEarly;
+  write_fault = WriteFault;
+  gives = IsPlayed writes (blocks_played form lead_in);
+}
 
 -- the stops that a call can answer which plays a stream to its end: no moment is asked for, so none is past the end,
 -- and no texts are

@@ -1,12 +1,14 @@
 -- What a conversion writes.
 use Rattle.std.specs.Prelude.{◌≡◌, ℕ, ◌*◌, ◌%◌, ◌≤◌, ⊤, List, length, Option, Result, Ok, Err}
 use Rattle.std.specs.Io.KnownBytes.{Appends}
+use Rattle.cdg_io.specs.Change.{Passed}
+use Rattle.cdg_io.specs.Streams.{Streams}
 use Rattle.rw_interleave.specs.Interleave.{Carries}
 use Rattle.raw_subcode.specs.Channels.{unit_size, program_symbols}
 use Rattle.rw_interleave.specs.Stream.{IsRecovered, IsDamaged, bad_count}
 use Rattle.rw_interleave.specs.Texts.{cdg_bytes}
 use Rattle.raw_subcode.specs.Sizes.{most_units}
-use Rattle.subcode_player.specs.Calls.{PlaysInTurn}
+use Rattle.subcode_player.specs.Calls.{in_turn}
 use Rattle.raw_subcode.specs.declared.form.Form.{Form}
 use Rattle.subcode_player.specs.declared.player.Played.{Played}
 use Rattle.subcode_player.specs.declared.player.PlayStop.{PlayStop}
@@ -20,10 +22,9 @@ pub record IsConverted (form : Form) (lead_in : ℕ) (bytes text : List ℕ) (ba
   pub bad_is : bad ≡ bad_count found
 
 -- A conversion took these bytes, and put the text of their packs.
-abbrev pub Converts : Form → ℕ → Option (List ℕ) → Option (List ℕ) → Option (List ℕ) → Option (List ℕ)
-    → Result Played PlayStop → List ℕ → Type 0
-Converts form lead_in left left' held held' result taken =
-    PlaysInTurn (IsConverted form lead_in) form lead_in left left' held held' result taken
+abbrev pub Converts : Form → ℕ → Passed → Result Played PlayStop → List ℕ → Type 0
+Converts form lead_in passed result taken =
+    Streams (in_turn (IsConverted form lead_in) form lead_in) passed result taken
 
 -- Whole units whose program symbols are damaged from those of so many blocks that carry these packs: in each word at
 -- most two symbols differ.

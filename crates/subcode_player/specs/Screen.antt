@@ -1,5 +1,7 @@
 -- The screen at a moment of a stream.
 use Rattle.std.specs.Prelude.{◌≡◌, ◌≢◌, ℕ, ◌-◌, ◌*◌, ◌/◌, ◌%◌, ◌<◌, ◌≤◌, ⊤, List, [], ◌∷◌, length, take, Option, Some, None, Result, Ok, Err, IfOk}
+use Rattle.cdg_io.specs.Change.{Passed}
+use Rattle.cdg_io.specs.Streams.{WritesAtEnd}
 use Rattle.rw_interleave.specs.Interleave.{whole_packs}
 use Rattle.raw_subcode.specs.Channels.{unit_size, program_symbols}
 use Rattle.raw_subcode.specs.declared.form.Form.{Form}
@@ -9,7 +11,7 @@ use Rattle.cdg_instructions.specs.declared.instr.Instr.{Instr}
 use Rattle.cdg_screen.specs.Picture.{Standing, blank, standing_after}
 use Rattle.cdg_screen.specs.Texts.{pixmap, state_text}
 use Rattle.raw_subcode.specs.Sizes.{most_units}
-use Rattle.subcode_player.specs.Calls.{PlaysAtEnd}
+use Rattle.subcode_player.specs.Calls.{at_end, blocks_played}
 use Rattle.subcode_player.specs.declared.player.Played.{Played}
 use Rattle.subcode_player.specs.declared.player.PlayStop.{PlayStop}
 use Rattle.subcode_player.specs.declared.player.PlayStop.TheVariants.{ReadFault, WriteFault, Torn, TooLong, PastEnd, Text}
@@ -25,33 +27,44 @@ AreMeant (Some word ∷ rest) (instr ∷ instrs) = Means word instr × AreMeant 
 abbrev pub AreShown : List (Option (List ℕ)) → ℕ → List Instr → Type 0
 AreShown found time instrs = AreMeant (take (whole_packs time) found) instrs
 
--- what stands at a time, written in some way
-pub record IsWrittenAt (write : Standing → List ℕ) (form : Form) (lead_in time : ℕ) (bytes text : List ℕ)
+-- a moment of a stream: its form and the blocks of its lead-in, and a time of its program
+pub record Moment : Type 0 where
+  pub form : Form
+  pub lead_in : ℕ
+  pub time : ℕ
+
+abbrev pub moment : Form → ℕ → ℕ → Moment
+moment form lead_in time = record { form = form; lead_in = lead_in; time = time }
+
+-- what stands at a moment, written in some way
+pub record IsWrittenAt (write : Standing → List ℕ) (at : Moment) (bytes text : List ℕ)
     (bad : ℕ) : Type 0 where
   pub found : List (Option (List ℕ))
-  pub recovered : IsRecovered form (program_symbols form bytes lead_in) found
+  pub recovered : IsRecovered at.form (program_symbols at.form bytes at.lead_in) found
   pub instrs : List Instr
-  pub shown : AreShown found time instrs
+  pub shown : AreShown found at.time instrs
   pub text_is : text ≡ write (standing_after blank instrs)
-  pub bad_is : bad ≡ bad_count (take (whole_packs time) found)
+  pub bad_is : bad ≡ bad_count (take (whole_packs at.time) found)
 
 -- the pixmap of what stands
-abbrev pub IsScreenAt : Form → ℕ → ℕ → List ℕ → List ℕ → ℕ → Type 0
-IsScreenAt form lead_in time bytes text bad = IsWrittenAt pixmap form lead_in time bytes text bad
+abbrev pub IsScreenAt : Moment → List ℕ → List ℕ → ℕ → Type 0
+IsScreenAt at bytes text bad = IsWrittenAt pixmap at bytes text bad
 
 -- the lines of its state
-abbrev pub IsStateAt : Form → ℕ → ℕ → List ℕ → List ℕ → ℕ → Type 0
-IsStateAt form lead_in time bytes text bad = IsWrittenAt state_text form lead_in time bytes text bad
+abbrev pub IsStateAt : Moment → List ℕ → List ℕ → ℕ → Type 0
+IsStateAt at bytes text bad = IsWrittenAt state_text at bytes text bad
 
--- A call that shows a time took these bytes: it writes at the end, where the program reaches the time.
-pub record Shows (writes : List ℕ → List ℕ → ℕ → Type 0) (form : Form) (lead_in time : ℕ)
-    (left left' held held' : Option (List ℕ)) (result : Result Played PlayStop)
-    (taken : List ℕ) : Type 0 where
-  pub plays : PlaysAtEnd writes form lead_in left left' held held' result taken
-  pub reached : IfOk result (λ played. time ≤ played.blocks)
-  pub past_end : (blocks : ℕ) → result ≡ Err (PastEnd blocks)
-      → (length taken % unit_size form ≡ 0) × (blocks ≡ length taken / unit_size form - lead_in)
-      × (blocks < time)
+-- the program of some bytes ends, with so many blocks, before a moment
+abbrev pub EndsBefore : Moment → List ℕ → ℕ → Type 0
+EndsBefore at bytes blocks = (length bytes % unit_size at.form ≡ 0)
+    × (blocks ≡ blocks_played at.form at.lead_in bytes) × (blocks < at.time)
+
+-- A call that shows a moment took these bytes: it writes what stands at the end, where the program reaches the moment.
+pub record Shows (write : Standing → List ℕ) (at : Moment) (passed : Passed)
+    (result : Result Played PlayStop) (taken : List ℕ) : Type 0 where
+  pub plays : WritesAtEnd (at_end (IsWrittenAt write at) at.form at.lead_in) passed result taken
+  pub reached : IfOk result (λ played. at.time ≤ played.blocks)
+  pub past_end : (blocks : ℕ) → result ≡ Err (PastEnd blocks) → EndsBefore at taken blocks
 
 -- the answer to an input of so many bytes that is read and written without a fault
 abbrev pub IsShownBy : Result Played PlayStop → ℕ → ℕ → ℕ → ℕ → Type 0

@@ -1,5 +1,7 @@
 -- The texts of a stream's lead-in.
-use Rattle.std.specs.Prelude.{◌≡◌, ℕ, ◌*◌, ◌%◌, ◌≤◌, ◌⊎◌, List, length, take, Option, Result, Ok, Err, IsOk}
+use Rattle.std.specs.Prelude.{◌≡◌, ℕ, ◌*◌, ◌%◌, ◌≤◌, ◌⊎◌, List, length, take, Result, Ok, Err, IsOk}
+use Rattle.cdg_io.specs.Change.{Passed}
+use Rattle.cdg_io.specs.Streams.{WritesAtEnd}
 use Rattle.raw_subcode.specs.Channels.{unit_size, blocks_of}
 use Rattle.raw_subcode.specs.declared.form.Form.{Form}
 use Rattle.cdtext_packs.specs.Kept.{kept_among}
@@ -10,7 +12,7 @@ use Rattle.cdtext_packs.specs.declared.kinds.TextFault.{TextFault}
 use Rattle.cdtext_packs.specs.declared.kinds.TextFault.TheVariants.{NoMemory}
 use Rattle.cdtext_packs.specs.TextLines.{text_lines}
 use Rattle.raw_subcode.specs.Sizes.{most_units}
-use Rattle.subcode_player.specs.Calls.{IsAnsweredBy, PlaysAtEnd}
+use Rattle.subcode_player.specs.Calls.{IsAnsweredBy, at_end}
 use Rattle.subcode_player.specs.declared.player.Played.{Played}
 use Rattle.subcode_player.specs.declared.player.PlayStop.{PlayStop}
 use Rattle.subcode_player.specs.declared.player.PlayStop.TheVariants.{Text}
@@ -35,9 +37,9 @@ abbrev pub IsTextFault : TextFault → Result Texts TextFault → Type 0
 IsTextFault fault texts = (fault ≡ NoMemory) ⊎ (texts ≡ Err fault)
 
 -- A call that lists the texts took these bytes: it writes at the end, where the packs give texts.
-pub record ListsTexts (form : Form) (lead_in : ℕ) (left left' held held' : Option (List ℕ))
-    (result : Result Played PlayStop) (taken : List ℕ) : Type 0 where
-  pub plays : PlaysAtEnd (IsTextListed form lead_in) form lead_in left left' held held' result taken
+pub record ListsTexts (form : Form) (lead_in : ℕ) (passed : Passed) (result : Result Played PlayStop)
+    (taken : List ℕ) : Type 0 where
+  pub plays : WritesAtEnd (at_end (IsTextListed form lead_in) form lead_in) passed result taken
   pub refused : (fault : TextFault) → result ≡ Err (Text fault)
       → (length taken % unit_size form ≡ 0) × IsTextFault fault (texts_of_lead_in form lead_in taken)
 

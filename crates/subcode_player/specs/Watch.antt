@@ -1,6 +1,7 @@
 -- A stage at work on the blocks of a whole input, and what it leaves for the call to write.
-use Rattle.std.specs.Prelude.{◌≡◌, ◌≢◌, ℕ, ◌+◌, ◌-◌, ◌*◌, ◌/◌, ◌%◌, ◌<◌, ◌≤◌, nat_lt, if◌then◌else◌, List, [], length, map, take, Option, Result, Ok, Err, IfOk}
+use Rattle.std.specs.Prelude.{◌≡◌, ◌≢◌, ℕ, ◌+◌, ◌*◌, ◌≤◌, nat_lt, if◌then◌else◌, List, [], length, map, take, Option, Result, Ok, Err, IfOk}
 use Rattle.std.specs.Io.KnownBytes.{Appends, Consumes, IsAtEnd}
+use Rattle.cdg_io.specs.Change.{Bytes, Change, Fed}
 use Rattle.cdg_io.specs.Moves.{AppendsPrefix}
 use Rattle.cdg_io.specs.Pump.{units_of}
 use Rattle.cdg_io.specs.Run.{run_state}
@@ -18,8 +19,8 @@ use Rattle.cdtext_packs.specs.Texts.{Texts}
 use Rattle.cdtext_packs.specs.TextLines.{counted_lines}
 use Rattle.cdtext_packs.specs.declared.lead_in_texts.LeadInTexts.{LeadInTexts}
 use Rattle.raw_subcode.specs.Sizes.{most_units}
-use Rattle.subcode_player.specs.Calls.{IsEarly}
-use Rattle.subcode_player.specs.Screen.{AreShown}
+use Rattle.subcode_player.specs.Calls.{IsEarly, blocks_played}
+use Rattle.subcode_player.specs.Screen.{AreShown, EndsBefore, Moment}
 use Rattle.subcode_player.specs.TextListing.{IsTextFault}
 use Rattle.subcode_player.specs.declared.player.Played.{Played}
 use Rattle.subcode_player.specs.declared.player.PlayStop.{PlayStop}
@@ -31,14 +32,14 @@ on_units form step s unit = step s (block_of form unit)
 
 -- These bytes were taken, and where they are whole units to the end, the stage is in the last state of its run over
 -- their blocks.
-pub record Watches {S : Type 0} (form : Form) (next : S → List ℕ → S) (left left' : Option (List ℕ))
-    (s s' : S) (result : Result Pumped PumpStop) (taken : List ℕ) : Type 0 where
-  pub taken_from : Consumes left left' taken
+pub record Watches {S : Type 0} (form : Form) (next : S → List ℕ → S) (fed : Fed S)
+    (result : Result Pumped PumpStop) (taken : List ℕ) : Type 0 where
+  pub taken_from : Consumes fed.left.before fed.left.after taken
   pub within : length taken ≤ most_units * unit_size form + 1
-  pub done : IfOk result
-      (λ p. IsAtEnd left' × (length taken ≡ p.units * unit_size form) × (p.units ≤ most_units)
-      × (s' ≡ run_state next s (map (block_of form) (units_of (unit_size form) p.units taken))))
-  pub torn : (unit : ℕ) → result ≡ Err (pump_stop.Torn unit) → IsAtEnd left'
+  pub done : IfOk result (λ p. IsAtEnd fed.left.after × (length taken ≡ p.units * unit_size form)
+      × (p.units ≤ most_units) × (fed.state.after
+      ≡ run_state next fed.state.before (map (block_of form) (units_of (unit_size form) p.units taken))))
+  pub torn : (unit : ℕ) → result ≡ Err (pump_stop.Torn unit) → IsAtEnd fed.left.after
   pub no_write : result ≢ Err pump_stop.WriteFault
 
 -- the stop of a pump as that of a player
@@ -48,27 +49,25 @@ play_stop pump_stop.WriteFault = WriteFault
 play_stop (pump_stop.Torn unit) = Torn unit
 play_stop pump_stop.TooLong = TooLong
 
--- what the drawing of some bytes up to a time leaves: what stands, and how many packs are bad
-pub record IsViewed (form : Form) (lead_in time : ℕ) (bytes : List ℕ) (now : Standing)
-    (bad : ℕ) : Type 0 where
+-- what the drawing of some bytes up to a moment leaves: what stands, and how many packs are bad
+pub record IsViewed (at : Moment) (bytes : List ℕ) (now : Standing) (bad : ℕ) : Type 0 where
   pub found : List (Option (List ℕ))
-  pub recovered : IsRecovered form (program_symbols form bytes lead_in) found
+  pub recovered : IsRecovered at.form (program_symbols at.form bytes at.lead_in) found
   pub instrs : List Instr
-  pub shown : AreShown found time instrs
+  pub shown : AreShown found at.time instrs
   pub stands : SameStanding now (standing_after blank instrs)
-  pub bad_is : bad ≡ bad_count (take (whole_packs time) found)
+  pub bad_is : bad ≡ bad_count (take (whole_packs at.time) found)
 
--- a whole input was drawn up to a time, and nothing was written
-pub record Views (form : Form) (lead_in time : ℕ) (left left' : Option (List ℕ)) (now : Standing)
-    (result : Result Played PlayStop) (taken : List ℕ) : Type 0 where
-  pub taken_from : Consumes left left' taken
-  pub within : length taken ≤ most_units * unit_size form + 1
-  pub done : IfOk result (λ played. IsAtEnd left' × (played.blocks ≡ length taken / unit_size form - lead_in)
-      × (time ≤ played.blocks) × IsViewed form lead_in time taken now played.bad)
-  pub ended : (stop : PlayStop) → result ≡ Err stop → ¬ (IsEarly stop) → IsAtEnd left'
-  pub past_end : (blocks : ℕ) → result ≡ Err (PastEnd blocks)
-      → (length taken % unit_size form ≡ 0) × (blocks ≡ length taken / unit_size form - lead_in)
-      × (blocks < time)
+-- a whole input was drawn up to a moment, and nothing was written
+pub record Views (at : Moment) (left : Change Bytes) (now : Standing) (result : Result Played PlayStop)
+    (taken : List ℕ) : Type 0 where
+  pub taken_from : Consumes left.before left.after taken
+  pub within : length taken ≤ most_units * unit_size at.form + 1
+  pub done : IfOk result (λ played. IsAtEnd left.after
+      × (played.blocks ≡ blocks_played at.form at.lead_in taken)
+      × (at.time ≤ played.blocks) × IsViewed at taken now played.bad)
+  pub ended : (stop : PlayStop) → result ≡ Err stop → ¬ (IsEarly stop) → IsAtEnd left.after
+  pub past_end : (blocks : ℕ) → result ≡ Err (PastEnd blocks) → EndsBefore at taken blocks
   pub no_write : result ≢ Err WriteFault
 
 -- what is answered after so many program blocks

@@ -2,12 +2,14 @@
 ghost use Rattle.std.specs.Prelude.{◌≡◌, ◌≢◌, ◌≤◌, ◌-◌, ◌+◌, ◌++◌, min, List, ℕ, length, IfSome, IfOk, IfErr};
 ghost use Rattle.std.specs.Io.KnownBytes.{Appends};
 ghost use Rattle.cdg_io.specs.Causes.{HasCause};
+ghost use Rattle.cdg_io.specs.Change.{passed};
 ghost use Rattle.cdg_io.specs.Moves.{AppendsPrefix};
+ghost use Rattle.cdg_io.specs.Streams.{WritesAtEnd};
 ghost use Rattle.raw_subcode.specs.Channels.{unit_size};
 ghost use Rattle.rw_interleave.specs.Stream.{word_count};
 ghost use Rattle.subcode_player.specs.Faults.{TellsStops};
 ghost use Rattle.subcode_player.specs.Steps.{fresh_words};
-ghost use Rattle.subcode_player.specs.Calls.{EndFirst, IsAnsweredBy, IsStreamStop, PlaysAtEnd};
+ghost use Rattle.subcode_player.specs.Calls.{EndFirst, IsAnsweredBy, IsStreamStop, at_end};
 ghost use Rattle.subcode_player.specs.Check.{IsCheckListed, count_line, stream_lines, wrong_lines};
 ghost use Rattle.subcode_player.specs.Check.{frame_count_lines, pack_count_lines};
 ghost use Rattle.subcode_player.specs.CheckSteps.{IsFresh, lines_of_counts};
@@ -41,8 +43,8 @@ impl Player {
         out: &mut K,
     ) -> Result<Played, PlayStop>
         requires { lead_in ≤ 450000 }
-        ensures checks { (taken : List ℕ) × PlaysAtEnd (IsCheckListed form lead_in) form lead_in
-            (S.left source.old) (S.left source.new) (K.held out.old) (K.held out.new) result taken }
+        ensures checks { (taken : List ℕ) × WritesAtEnd (at_end (IsCheckListed form lead_in) form lead_in)
+            (passed S.left K.held (source.old, out.old) (source.new, out.new)) result taken }
         // It never answers that a moment is past the end, nor a fault of texts, whatever the input.
         ensures stops { IfErr result IsStreamStop }
         // Where nothing failed, the answer is that of the whole input's length.

@@ -1,6 +1,7 @@
 // The conversion of a stream to packs.
 ghost use Rattle.std.specs.Prelude.{◌≡◌, ◌≢◌, ◌≤◌, List, ℕ, length, IfSome, IfErr};
 ghost use Rattle.std.specs.List.{concat};
+ghost use Rattle.cdg_io.specs.Change.{passed};
 ghost use Rattle.raw_subcode.specs.Channels.{unit_size};
 ghost use Rattle.raw_subcode.specs.declared.form.Form.{Form};
 ghost use Rattle.rw_interleave.specs.Stream.{all_packs};
@@ -47,8 +48,8 @@ impl Player {
         out: &mut K,
     ) -> Result<Played, PlayStop>
         requires { lead_in ≤ 450000 }
-        ensures converts { (taken : List ℕ) × Converts form lead_in (S.left source.old) (S.left source.new)
-            (K.held out.old) (K.held out.new) result taken }
+        ensures converts { (taken : List ℕ) × Converts form lead_in
+            (passed S.left K.held (source.old, out.old) (source.new, out.new)) result taken }
         // Every pack comes back from damage of at most two symbols a word.
         ensures restores { IfSome (S.left source.old) (λ all. (blocks : ℕ) (packs : List (List ℕ))
             → IsDamagedStream form lead_in blocks packs all

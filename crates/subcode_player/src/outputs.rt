@@ -4,7 +4,7 @@ ghost use Rattle.q_channel.specs.QList.{IsQListed};
 ghost use Rattle.raw_subcode.specs.declared.form.Form.{Form};
 ghost use Rattle.subcode_player.specs.Convert.{IsConverted};
 ghost use Rattle.subcode_player.specs.Check.{IsCheckListed};
-ghost use Rattle.subcode_player.specs.Screen.{IsScreenAt, IsStateAt};
+ghost use Rattle.subcode_player.specs.Screen.{IsScreenAt, IsStateAt, moment};
 ghost use Rattle.subcode_player.specs.TextListing.{IsTextListed};
 
 use cdg_instructions::only_one_meaning;
@@ -18,10 +18,12 @@ pub fn one_text_is_written()
         → IsConverted form lead_in bytes one bad → IsConverted form lead_in bytes other another
         → (one ≡ other) × (bad ≡ another) }
     ensures screen { (form : Form) (lead_in at : ℕ) (bytes one other : List ℕ) (bad another : ℕ)
-        → IsScreenAt form lead_in at bytes one bad → IsScreenAt form lead_in at bytes other another
+        → IsScreenAt (moment form lead_in at) bytes one bad
+        → IsScreenAt (moment form lead_in at) bytes other another
         → (one ≡ other) × (bad ≡ another) }
     ensures state { (form : Form) (lead_in at : ℕ) (bytes one other : List ℕ) (bad another : ℕ)
-        → IsStateAt form lead_in at bytes one bad → IsStateAt form lead_in at bytes other another
+        → IsStateAt (moment form lead_in at) bytes one bad
+        → IsStateAt (moment form lead_in at) bytes other another
         → (one ≡ other) × (bad ≡ another) }
     ensures checked { (form : Form) (lead_in : ℕ) (bytes one other : List ℕ) (bad another : ℕ)
         → IsCheckListed form lead_in bytes one bad → IsCheckListed form lead_in bytes other another

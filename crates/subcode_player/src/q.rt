@@ -1,10 +1,12 @@
 // The lines of the Q channel of a stream.
 ghost use Rattle.std.specs.Prelude.{◌≡◌, ◌≢◌, ◌≤◌, List, ℕ, length, IfSome, IfErr};
+ghost use Rattle.cdg_io.specs.Change.{passed};
+ghost use Rattle.cdg_io.specs.Streams.{Streams};
 ghost use Rattle.raw_subcode.specs.Channels.{unit_size};
 ghost use Rattle.q_channel.specs.QList.{IsQListed};
 ghost use Rattle.raw_subcode.specs.declared.form.Form.{Form};
 ghost use Rattle.subcode_player.specs.Faults.{TellsStops};
-ghost use Rattle.subcode_player.specs.Calls.{EndInTurn, IsAnsweredBy, IsStreamStop, PlaysInTurn};
+ghost use Rattle.subcode_player.specs.Calls.{EndInTurn, IsAnsweredBy, IsStreamStop, in_turn};
 
 use crate::player::play_stop;
 use crate::watch::pump_blocks;
@@ -23,8 +25,8 @@ impl Player {
     ) -> Result<Played, PlayStop>
         requires lead_in { lead_in ≤ 450000 }
         requires form { form ≢ Form.Cooked }
-        ensures lists { (taken : List ℕ) × PlaysInTurn (IsQListed form) form lead_in
-            (S.left source.old) (S.left source.new) (K.held out.old) (K.held out.new) result taken }
+        ensures lists { (taken : List ℕ) × Streams (in_turn (IsQListed form) form lead_in)
+            (passed S.left K.held (source.old, out.old) (source.new, out.new)) result taken }
         // It never answers that a moment is past the end, nor a fault of texts, whatever the input.
         ensures stops { IfErr result IsStreamStop }
         // Where nothing failed, the answer is that of the whole input's length.
@@ -57,8 +59,8 @@ pub fn list_frames<S: Source, K: Sink>(
 ) -> Result<Played, PlayStop>
     requires lead_in { lead_in ≤ 450000 }
     requires form { form ≢ Form.Cooked }
-    ensures lists { (taken : List ℕ) × PlaysInTurn (IsQListed form) form lead_in
-        (S.left source.old) (S.left source.new) (K.held out.old) (K.held out.new) result taken }
+    ensures lists { (taken : List ℕ) × Streams (in_turn (IsQListed form) form lead_in)
+        (passed S.left K.held (source.old, out.old) (source.new, out.new)) result taken }
     // It never answers that a moment is past the end, nor a fault of texts, whatever the input.
     ensures stops { IfErr result IsStreamStop }
     // Where nothing failed, the answer is that of the whole input's length.

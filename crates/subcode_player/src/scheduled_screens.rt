@@ -2,7 +2,7 @@
 ghost use Rattle.std.specs.Prelude.{◌≡◌, List, ℕ};
 ghost use Rattle.picture_script.specs.Script.{Drawing};
 ghost use Rattle.raw_subcode.specs.declared.form.Form.{Form};
-ghost use Rattle.subcode_player.specs.Screen.{IsScreenAt};
+ghost use Rattle.subcode_player.specs.Screen.{IsScreenAt, moment};
 ghost use Rattle.subcode_player.specs.Pictured.{IsHeldAt, IsPictureText, IsScheduledStream};
 
 use picture_changes::scheduled_pictures_are_shown;
@@ -14,12 +14,12 @@ pub fn screens_show_pictures()
     ensures text { (form : Form) (lead_in time : ℕ) (script : List Drawing) (k : ℕ) (bytes text : List ℕ)
         (bad : ℕ)
         → IsScheduledStream form lead_in script bytes → IsHeldAt script k time
-        → IsScreenAt form lead_in time bytes text bad
+        → IsScreenAt (moment form lead_in time) bytes text bad
         → IsPictureText script k text }
     ensures bad { (form : Form) (lead_in time : ℕ) (script : List Drawing) (k : ℕ) (bytes text : List ℕ)
         (bad : ℕ)
         → IsScheduledStream form lead_in script bytes → IsHeldAt script k time
-        → IsScreenAt form lead_in time bytes text bad
+        → IsScreenAt (moment form lead_in time) bytes text bad
         → bad ≡ 0 }
 {
     packs_are_recovered();

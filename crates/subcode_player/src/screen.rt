@@ -1,15 +1,17 @@
 // The screen at a moment of a stream.
 ghost use Rattle.std.specs.Prelude.{◌≡◌, ◌≢◌, ◌≤◌, ◌-◌, List, ℕ, length, IfSome, IfErr, IsErrOf, Err};
 ghost use Rattle.cdg_io.specs.Causes.{Rose};
+ghost use Rattle.cdg_io.specs.Change.{change, passed};
 ghost use Rattle.raw_subcode.specs.Channels.{unit_size};
 ghost use Rattle.rw_interleave.specs.Interleave.{whole_packs};
 ghost use Rattle.cdg_screen.specs.Picture.{SameStanding, blank, standing_of};
+ghost use Rattle.cdg_screen.specs.Texts.{pixmap, state_text};
 ghost use Rattle.picture_script.specs.Script.{Drawing};
 ghost use Rattle.subcode_player.specs.Faults.{TellsStops};
 ghost use Rattle.subcode_player.specs.Calls.{EndFirst, IsMomentStop};
 ghost use Rattle.subcode_player.specs.Steps.{fresh_words};
 ghost use Rattle.subcode_player.specs.Pictured.{GivesPicture, IsHeldAt, IsScheduledStream};
-ghost use Rattle.subcode_player.specs.Screen.{IsScreenAt, IsStateAt, IsShownBy, Shows};
+ghost use Rattle.subcode_player.specs.Screen.{IsShownBy, Shows, moment};
 ghost use Rattle.subcode_player.specs.Watch.{Views, viewed};
 
 use crate::player::play_stop;
@@ -39,8 +41,8 @@ impl Player {
     ) -> Result<Played, PlayStop>
         requires lead_in { lead_in ≤ 450000 }
         requires at { at ≤ 449999 }
-        ensures shows { (taken : List ℕ) × Shows (IsScreenAt form lead_in at) form lead_in at
-            (S.left source.old) (S.left source.new) (K.held out.old) (K.held out.new) result taken }
+        ensures shows { (taken : List ℕ) × Shows pixmap (moment form lead_in at)
+            (passed S.left K.held (source.old, out.old) (source.new, out.new)) result taken }
         // From its ready time to its hold time each picture of a script is shown, whatever damage of at most two
         // symbols a word does.
         ensures pictures { IfSome (S.left source.old) (λ all. (script : List Drawing) (k : ℕ)
@@ -79,8 +81,8 @@ impl Player {
     ) -> Result<Played, PlayStop>
         requires lead_in { lead_in ≤ 450000 }
         requires at { at ≤ 449999 }
-        ensures shows { (taken : List ℕ) × Shows (IsStateAt form lead_in at) form lead_in at
-            (S.left source.old) (S.left source.new) (K.held out.old) (K.held out.new) result taken }
+        ensures shows { (taken : List ℕ) × Shows state_text (moment form lead_in at)
+            (passed S.left K.held (source.old, out.old) (source.new, out.new)) result taken }
         // It never answers a fault of texts, whatever the input.
         ensures stops { IfErr result IsMomentStop }
         // Where nothing failed, the answer is that of the whole input's length.
@@ -112,7 +114,8 @@ impl Player {
     ) -> Result<Played, PlayStop>
         requires lead_in { lead_in ≤ 450000 }
         requires at { at ≤ 449999 }
-        ensures views { (taken : List ℕ) × Views form lead_in at (S.left source.old) (S.left source.new)
+        ensures views { (taken : List ℕ)
+            × Views (moment form lead_in at) (change S.left source.old source.new)
             (standing_of self.new.views.second.second.picture) result taken }
         ensures stops { IfErr result IsMomentStop }
         ensures answer { IfSome (S.left source.old) (λ all.

@@ -1,6 +1,7 @@
 // The texts of a stream's lead-in.
 ghost use Rattle.std.specs.Prelude.{◌≡◌, ◌≢◌, ◌≤◌, ◌-◌, List, ℕ, IfSome, IfErr, IsErrOf, Err};
 ghost use Rattle.cdg_io.specs.Causes.{Rose};
+ghost use Rattle.cdg_io.specs.Change.{passed};
 ghost use Rattle.cdtext_packs.specs.TextSteps.{fresh_texts};
 ghost use Rattle.subcode_player.specs.Faults.{TellsStops};
 ghost use Rattle.subcode_player.specs.Calls.{EndFirst, IsListStop};
@@ -37,7 +38,7 @@ impl Player {
         requires lead_in { lead_in ≤ 450000 }
         requires form { form ≢ Form.Cooked }
         ensures lists { (taken : List ℕ) × ListsTexts form lead_in
-            (S.left source.old) (S.left source.new) (K.held out.old) (K.held out.new) result taken }
+            (passed S.left K.held (source.old, out.old) (source.new, out.new)) result taken }
         // It never answers that a moment is past the end, whatever the input.
         ensures stops { IfErr result IsListStop }
         // Where nothing failed, the answer is that of the whole input.

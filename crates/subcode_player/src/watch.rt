@@ -1,6 +1,7 @@
 // A stage at work on the blocks of a whole input.
 ghost use Rattle.std.specs.Prelude.{◌≡◌, ◌≢◌, ◌≤◌, List, ℕ, length, IfSome, IsErrOf, Err};
 ghost use Rattle.cdg_io.specs.Causes.{Rose};
+ghost use Rattle.cdg_io.specs.Change.{fed, moved};
 ghost use Rattle.cdg_io.specs.Pump.{IsUnlessFault, Pumps, TellsEndOf, answer_of};
 ghost use Rattle.raw_subcode.specs.Channels.{unit_size};
 ghost use Rattle.raw_subcode.specs.Sizes.{most_units};
@@ -18,10 +19,10 @@ pub(crate) fn pump_blocks<S: Source, G: Stage<Item = [u8; BLOCK], Out = Piece>, 
     stages: &mut Then<SectorBlocks, G>,
     out: &mut K,
 ) -> Result<Pumped, PumpStop>
-    ensures pumps { (taken : List ℕ) × Pumps (unit_size form) most_units
-        (on_units form G.next) (on_units form G.gives) (S.left source.old) (S.left source.new)
-        stages.old.second stages.new.second
-        (K.held out.old) (K.held out.new) result taken }
+    ensures pumps { (taken : List ℕ) × Pumps (record { size = unit_size form; limit = most_units })
+        (record { next = on_units form G.next; gives = on_units form G.gives })
+        (moved S.left K.held (source.old, stages.old.second, out.old)
+        (source.new, stages.new.second, out.new)) result taken }
     // Where nothing failed, the answer is that of the whole input's length.
     ensures answer { IfSome (S.left source.old) (λ all.
         IsUnlessFault result (answer_of (unit_size form) most_units (length all))) }
@@ -46,8 +47,8 @@ pub(crate) fn watch<S: Source, G: Stage<Item = [u8; BLOCK], Out = Piece>>(
     source: &mut S,
     stages: &mut Then<SectorBlocks, G>,
 ) -> Result<Pumped, PumpStop>
-    ensures watches { (taken : List ℕ) × Watches form G.next (S.left source.old) (S.left source.new)
-        stages.old.second stages.new.second result taken }
+    ensures watches { (taken : List ℕ) × Watches form G.next
+        (fed S.left (source.old, stages.old.second) (source.new, stages.new.second)) result taken }
     // Where nothing failed, the answer is that of the whole input's length.
     ensures answer { IfSome (S.left source.old) (λ all.
         IsUnlessFault result (answer_of (unit_size form) most_units (length all))) }

@@ -4,4 +4,4 @@ use Rattle.cdg_workload.proofs.scratching.scratch.Goals as goal
 pub returns-clause-scratches : goal.returns-clause-scratches
 returns-clause-scratches g c =
     let (taken, pumps) = c.pump.ensures.pumps in
-    (taken, streams c.args.lead_in c.args.seed _ _ _ _ c.start.result _ c.pump.result taken c.start.ensures pumps)
+    (taken, streams c.args.lead_in c.args.seed _ c.pump.result taken c.start.ensures pumps)

@@ -1,6 +1,7 @@
 use Rattle.std.proofs.Common.{refl}
 use Rattle.q_channel.specs.QSteps.{q_next, q_give}
 use Rattle.q_channel.specs.declared.q_lines.QLines.{QLines}
+use Rattle.cdg_io.proofs.Frames.{machine_of}
 use Rattle.raw_subcode.specs.Channels.{unit_size}
 use Rattle.subcode_player.specs.Watch.{on_units}
 use Rattle.subcode_player.proofs.Told.{done_told, stop_told}
@@ -13,7 +14,7 @@ returns-in-Ok-clause-lists g c =
     let (taken, p) = c.in-Ok.ensures.pumps in
     let form = c.args.form in (
       taken,
-      done_at _ form _ (on_units form q_next) (on_units form q_give) (λ (t : QLines). t.bad) _ _ _ _ _ _ taken (unit_size form) _ _ refl
+      done_at _ form _ (machine_of (on_units form q_next) (on_units form q_give)) (λ (t : QLines). t.bad) _ taken (unit_size form) _ _ refl
           (plays_frames form _ c.requires.form c.new-lines.ensures.second) p c.saturating_sub.ensures refl,
     )
 
@@ -22,7 +23,7 @@ returns-in-Err-clause-lists g c =
     let (taken, p) = c.in-Err.ensures.pumps in
     let form = c.args.form in (
       taken,
-      stop_at _ form _ (on_units form q_next) (on_units form q_give) (λ (t : QLines). t.bad) _ _ _ _ _ _ taken (unit_size form) _ _ refl c.play_stop.ensures
+      stop_at _ form _ (machine_of (on_units form q_next) (on_units form q_give)) (λ (t : QLines). t.bad) _ taken (unit_size form) _ _ refl c.play_stop.ensures
           (plays_frames form _ c.requires.form c.new-lines.ensures.second) p,
     )
 

@@ -1,4 +1,5 @@
 use Rattle.std.proofs.Common.{refl, Ok}
+use Rattle.cdg_io.proofs.Frames.{machine_of}
 use Rattle.raw_subcode.specs.Channels.{unit_size}
 use Rattle.subcode_player.specs.Watch.{on_units}
 use Rattle.subcode_player.proofs.Told.{done_told, stop_told}
@@ -13,14 +14,14 @@ returns-in-Ok-clause-converts g c =
     let (taken, p) = c.in-Ok.ensures.pumps in
     let form = c.args.form in
     let plays = plays_stream form c.args.lead_in _ c.begin.ensures.words c.begin.ensures.bad in
-    (taken, done_at _ form _ (on_units form blocks_next) (on_units form blocks_give) (λ (t : Blocks). t.second.bad) _ _ _ _ _ _ taken (unit_size form) _ _ refl plays p c.played.ensures.blocks c.played.ensures.bad)
+    (taken, done_at _ form _ (machine_of (on_units form blocks_next) (on_units form blocks_give)) (λ (t : Blocks). t.second.bad) _ taken (unit_size form) _ _ refl plays p c.played.ensures.blocks c.played.ensures.bad)
 
 pub returns-in-Err-clause-converts : goal.returns-in-Err-clause-converts
 returns-in-Err-clause-converts g c =
     let (taken, p) = c.in-Err.ensures.pumps in
     let form = c.args.form in
     let plays = plays_stream form c.args.lead_in _ c.begin.ensures.words c.begin.ensures.bad in
-    (taken, stop_at _ form _ (on_units form blocks_next) (on_units form blocks_give) (λ (t : Blocks). t.second.bad) _ _ _ _ _ _ taken (unit_size form) _ _ refl c.play_stop.ensures plays p)
+    (taken, stop_at _ form _ (machine_of (on_units form blocks_next) (on_units form blocks_give)) (λ (t : Blocks). t.second.bad) _ taken (unit_size form) _ _ refl c.play_stop.ensures plays p)
 
 pub returns-in-Ok-clause-restores : goal.returns-in-Ok-clause-restores
 returns-in-Ok-clause-restores g c =
