@@ -41,21 +41,20 @@ impl Scratches {
         }
     }
 
-    /// Puts a block into an empty piece, scratched where it is one of the program.
+    /// Makes a piece of a block, scratched where it is one of the program.
     #[tactic(auto, unfolding(crate::specs::Steps::block_next, crate::specs::Steps::block_gives))]
     fn pass(&mut self, block: &[u8; 96], piece: &mut Piece)
-        requires { piece.old ≡ [] }
         ensures next { self.new ≡ block_next self.old block.now }
         ensures gives { Some piece.new ≡ block_gives self.old block.now }
     {
         if self.lead_in > 0 {
             self.lead_in -= 1;
-            piece.add(block);
+            piece.set(block);
             return;
         }
         let mut scratched = *block;
         self.needle.scratch(&mut scratched);
-        piece.add(&scratched);
+        piece.set(&scratched);
     }
 }
 
@@ -76,10 +75,7 @@ impl Stage for Scratches {
 
     fn emit(&mut self, block: &[u8; 96], out: &mut Option<Piece>) {
         match out {
-            Some(piece) => {
-                *piece = Piece::new();
-                self.pass(block, piece);
-            }
+            Some(piece) => self.pass(block, piece),
             None => *out = self.feed(block),
         }
     }

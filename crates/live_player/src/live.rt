@@ -11,7 +11,7 @@ use cdg_io::{Stage, Then};
 use rw_code::Word;
 use rw_interleave::Window;
 use std::alloc::{AllocError, Global};
-use subcode_player::{BlockWords, Drawing, Form, Picture};
+use subcode_player::{BlockOfWords, BlockWords, Drawing, Form, Picture};
 
 /// The latest moment of a stream, in blocks.
 const LATEST: u32 = 449_999;
@@ -77,12 +77,12 @@ impl LivePlayer {
             ≡ stream_words form lead_in blocks ++ result.items }
     {
         match self.step(block) {
-            Some(words) => words,
+            Some(words) => words.into_words(),
             None => ArrayVec::new(),
         }
     }
 
-    fn step(&mut self, block: &[u8; 96]) -> Option<ArrayVec<Word, 4>>
+    fn step(&mut self, block: &[u8; 96]) -> Option<BlockOfWords>
         ensures next { self.new.stages ≡ live_next self.old.stages block.now }
         ensures gives { result ≡ words_give self.old.stages.first block.now }
     {

@@ -55,10 +55,7 @@ fn leave(bytes: &[u8; BLOCK_BYTES], out: &mut Option<Piece>)
     ensures { out.new ≡ Some bytes.now }
 {
     match out {
-        Some(piece) => {
-            *piece = Piece::new();
-            piece.add(bytes);
-        }
+        Some(piece) => piece.set(bytes),
         None => *out = Some(Piece::new().with(bytes)),
     }
 }

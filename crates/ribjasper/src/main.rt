@@ -13,7 +13,11 @@ use std::io::{BufReader, BufWriter, ErrorKind};
 use std::process::ExitCode;
 use std::{env, io};
 
+/// The most that waits to be written.
 const BUFFER: usize = 65_536;
+
+/// The most that a read brings: whole pages and whole blocks, whose packs come out in one write.
+const READ: usize = 61_440;
 
 /// All words after the program's own name. Where they are no text, there are none.
 fn words(rt: &HostRuntime) -> io::Result<Vec<String>> {
@@ -55,8 +59,8 @@ fn run_on_streams(rt: &HostRuntime) -> io::Result<Status> {
         input: second,
         waiting: &waiting,
     };
-    let mut first = BufferedSource::new(BufReader::with_capacity(alloc, BUFFER, first)?);
-    let mut second = BufferedSource::new(BufReader::with_capacity(alloc, BUFFER, second)?);
+    let mut first = BufferedSource::new(BufReader::with_capacity(alloc, READ, first)?);
+    let mut second = BufferedSource::new(BufReader::with_capacity(alloc, READ, second)?);
     let mut out = WriteSink::new(LiveOutput(&waiting));
     let mut err = SteadySink::new();
     let status = run(

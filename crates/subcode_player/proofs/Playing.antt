@@ -1,6 +1,5 @@
 -- From the run of a pump to a call of a player that writes while it reads.
 use Rattle.std.proofs.Common.{◌≡◌, ℕ, ◌-◌, ◌/◌, ◌≤◌, ◌<◌, List, length, refl, sym, ap, ◌∙◌, subst, arith, Result, Ok, Err}
-use Rattle.std.specs.declared.option.Option.{Option}
 use Rattle.cdg_io.specs.Change.{Moved}
 use Rattle.cdg_io.specs.Run.{run_state}
 use Rattle.cdg_io.specs.Pump.{Machine, Pumps, given, units_of, whole}

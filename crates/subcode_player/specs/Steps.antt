@@ -1,5 +1,5 @@
 -- The steps of the stages of a player.
-use Rattle.std.specs.Prelude.{ℕ, ◌+◌, ◌-◌, ◌*◌, ◌^◌, ◌==◌, min, if◌then◌else◌, List, [], ◌∷◌, map, take, drop, Option, Some, None, is_none}
+use Rattle.std.specs.Prelude.{◌≡◌, replicate, ℕ, ◌+◌, ◌-◌, ◌*◌, ◌^◌, ◌==◌, min, if◌then◌else◌, List, [], ◌∷◌, map, take, drop, Option, Some, None, is_none}
 use Rattle.arrayvec.specs.ArrayVec.{ArrayVec}
 use Rattle.cdg_io.specs.Run.{run_state, run_gives}
 use Rattle.rw_code.specs.Finding.{finding}
@@ -32,6 +32,11 @@ window_gives Raw window slot = gather_gives window slot
 window_gives Sector window slot = gather_gives window slot
 window_gives Cooked window slot = Some slot
 
+-- these words, or four idle packs
+abbrev pub words_or_idle : Option (ArrayVec (List ℕ)) → ArrayVec (List ℕ)
+words_or_idle (Some words) = words
+words_or_idle None = record { items = replicate 4 (replicate 24 0) }
+
 -- the state at the start of a stream
 abbrev pub fresh_words : Form → ℕ → BlockWords
 fresh_words form lead_in = record { form = form; lead_in = lead_in; gather = [] }
@@ -49,6 +54,11 @@ words_give s block =
       items = run_gives (window_next s.form) (window_gives s.form)
           s.gather (slots_of block);
     }) else None
+
+-- A block changes nothing, and four idle packs come with it.
+abbrev pub IdlesOn : BlockWords → List ℕ → Type 0
+IdlesOn s block = (s ≡ words_next s block)
+    × (Some (record { items = replicate 4 (replicate 24 0) }) ≡ words_give s block)
 
 -- the count of bad words after a word: a u32 that stays at its last value
 unfoldable pub bad_next : ℕ → List ℕ → ℕ

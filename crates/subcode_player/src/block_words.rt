@@ -1,13 +1,15 @@
 // From blocks to words.
-ghost use Rattle.std.specs.Prelude.{◌≡◌, ◌<◌};
+ghost use Rattle.std.specs.Prelude.{◌≡◌, ◌<◌, List, ℕ, MatchOption, replicate};
+ghost use Rattle.arrayvec.specs.ArrayVec.{ArrayVec};
 ghost use Rattle.cdg_io.specs.Run.{run_state, run_gives};
-ghost use Rattle.subcode_player.specs.Steps.{fresh_words, slot_of, slots_of, window_next, window_gives, words_next, words_give};
+ghost use Rattle.subcode_player.specs.Steps.{IdlesOn, fresh_words, words_or_idle, slot_of, slots_of, window_next, window_gives, words_next, words_give};
 
 use crate::Form;
 use arrayvec::ArrayVec;
 use cdg_io::Stage;
 use rw_code::Word;
 use rw_interleave::Window;
+use std::marker::Model;
 
 /// The bytes of a block.
 pub(crate) const BLOCK: usize = 96;
@@ -17,7 +19,52 @@ const SLOT: usize = 24;
 const SLOTS: usize = 4;
 
 /// The words that come with a block, at most one with each slot.
-pub(crate) type BlockOfWords = ArrayVec<Word, SLOTS>;
+#[derive(Drop)]
+pub struct BlockOfWords {
+    /// None where they are four idle packs.
+    words: Option<ArrayVec<Word, SLOTS>>,
+}
+
+impl Model for BlockOfWords {
+    ghost Value = { ArrayVec (List ℕ) };
+
+    ghost view = { λ b. words_or_idle b.words };
+}
+
+impl BlockOfWords {
+    /// Four idle packs.
+    #[inline]
+    fn idle() -> BlockOfWords
+        ensures { result.items ≡ replicate 4 (replicate 24 0) }
+    {
+        BlockOfWords { words: None }
+    }
+
+    fn new(words: ArrayVec<Word, SLOTS>) -> BlockOfWords
+        ensures { result ≡ words }
+    {
+        BlockOfWords { words: Some(words) }
+    }
+
+    /// The words. None says that they are four idle packs.
+    #[inline]
+    pub(crate) fn unless_idle(&self) -> Option<&ArrayVec<Word, SLOTS>>
+        ensures { MatchOption result (self.now.items ≡ replicate 4 (replicate 24 0))
+            (λ words. words.now ≡ self.now) }
+    {
+        self.words.as_ref()
+    }
+
+    /// The words themselves.
+    pub fn into_words(self) -> ArrayVec<Word, SLOTS>
+        ensures { result ≡ self }
+    {
+        match self.words {
+            Some(words) => words,
+            None => ArrayVec::from([Word::default(); SLOTS]),
+        }
+    }
+}
 
 /// Passes over the lead-in blocks, and gives the words that come with each block of the program.
 #[derive(Drop)]
@@ -61,22 +108,43 @@ impl Stage for BlockWords {
 
     ghost gives = { words_give };
 
+    ghost idles = { IdlesOn };
+
     #[inline]
     #[tactic(auto, unfolding(crate::specs::Steps::words_next, crate::specs::Steps::words_give))]
     fn feed(&mut self, block: &[u8; BLOCK]) -> Option<BlockOfWords> {
+        if self.is_idle(block) {
+            return self.feed_idle(block);
+        }
         if self.lead_in > 0 {
             self.lead_in -= 1;
             return None;
         }
         match self.form {
-            Form::Raw | Form::Sector => Some(self.gather.push_block(block)),
-            Form::Cooked => Some(slots(block)),
+            Form::Raw | Form::Sector => Some(BlockOfWords::new(self.gather.push_block(block))),
+            Form::Cooked => Some(BlockOfWords::new(slots(block))),
         }
+    }
+
+    #[inline]
+    fn is_idle(&self, block: &[u8; BLOCK]) -> bool {
+        if self.lead_in > 0 {
+            return false;
+        }
+        match self.form {
+            Form::Raw | Form::Sector => self.gather.stays_idle(block),
+            Form::Cooked => false,
+        }
+    }
+
+    #[inline]
+    fn feed_idle(&mut self, _: &[u8; BLOCK]) -> Option<BlockOfWords> {
+        Some(BlockOfWords::idle())
     }
 }
 
 /// The slots of a block, each as a word.
-fn slots(block: &[u8; BLOCK]) -> BlockOfWords
+fn slots(block: &[u8; BLOCK]) -> ArrayVec<Word, SLOTS>
     ensures { result.items ≡ slots_of block.now }
 {
     ArrayVec::from([

@@ -6,8 +6,9 @@ ghost use Rattle.subcode_player.specs.Check.{is_known};
 ghost use Rattle.subcode_player.specs.CheckSteps.{tick, wrong_counted, kind_counted, count_found, count_next, count_after, counts_next, counts_give, frames_next, counting_next, counting_gives};
 
 use crate::block_words::{BLOCK, BlockOfWords};
-use crate::idle_words::{are_idle, is_idle};
+use crate::idle_words::{idle_is_codeword, is_idle};
 use crate::{BlockWords, Form};
+use arrayvec::ArrayVec;
 use cdg_io::{Piece, Stage, Then};
 use q_channel::is_frame;
 use raw_subcode::Block;
@@ -75,7 +76,7 @@ fn is_known(code: u8) -> bool
 impl WordCounts {
     /// Counts the words of a block, one by one.
     #[inline(never)]
-    fn count_each(&mut self, words: &BlockOfWords)
+    fn count_each(&mut self, words: &ArrayVec<Word, 4>)
         ensures { self.new ≡ counts_next self.old words.now }
     {
         for word in words.as_slice() {
@@ -170,13 +171,18 @@ impl Stage for WordCounts {
 
     #[tactic(auto, unfolding(crate::specs::CheckSteps::counts_give))]
     fn feed(&mut self, words: &BlockOfWords) -> Option<Piece> {
-        // Most blocks of a disc are idle.
-        if are_idle(words) {
-            self.count_four_idle();
-            return None;
+        idle_is_codeword();
+        match words.unless_idle() {
+            // Most blocks of a disc are idle.
+            None => {
+                self.count_four_idle();
+                None
+            }
+            Some(words) => {
+                self.count_each(words);
+                None
+            }
         }
-        self.count_each(words);
-        None
     }
 }
 
@@ -219,5 +225,12 @@ impl Stage for Counting {
     fn feed(&mut self, block: &[u8; BLOCK]) -> Option<Piece> {
         self.frames.count(block);
         self.words.feed(block)
+    }
+
+    #[inline]
+    #[tactic(auto, unfolding(crate::specs::CheckSteps::counting_next, crate::specs::CheckSteps::counting_gives))]
+    fn emit(&mut self, block: &[u8; BLOCK], out: &mut Option<Piece>) {
+        self.frames.count(block);
+        self.words.emit(block, out);
     }
 }

@@ -7,7 +7,8 @@ ghost use Rattle.subcode_player.specs.Drawn.{entry_drawn, draw_next, draw_after,
 
 use crate::Picture;
 use crate::block_words::BlockOfWords;
-use crate::idle_words::{are_idle, is_idle};
+use crate::idle_words::{idle_is_codeword, is_idle};
+use arrayvec::ArrayVec;
 use cdg_io::{Piece, Stage};
 use rw_code::{Word, correct};
 
@@ -23,7 +24,7 @@ pub struct Drawing {
 impl Drawing {
     /// Draws the words of a block, one by one.
     #[inline(never)]
-    fn draw_each(&mut self, words: &BlockOfWords)
+    fn draw_each(&mut self, words: &ArrayVec<Word, 4>)
         ensures { self.new ≡ drawing_next self.old words.now }
     {
         for word in words.as_slice() {
@@ -94,12 +95,17 @@ impl Stage for Drawing {
 
     #[tactic(auto, unfolding(crate::specs::Drawn::drawing_gives))]
     fn feed(&mut self, words: &BlockOfWords) -> Option<Piece> {
-        // Most blocks of a disc are idle.
-        if are_idle(words) {
-            self.draw_four_idle();
-            return None;
+        idle_is_codeword();
+        match words.unless_idle() {
+            // Most blocks of a disc are idle.
+            None => {
+                self.draw_four_idle();
+                None
+            }
+            Some(words) => {
+                self.draw_each(words);
+                None
+            }
         }
-        self.draw_each(words);
-        None
     }
 }

@@ -18,7 +18,7 @@ mod sector_blocks;
 mod text;
 mod watch;
 
-pub use block_words::BlockWords;
+pub use block_words::{BlockOfWords, BlockWords};
 pub use correction::Correction;
 pub use counting::{Counting, FrameCounts, WordCounts};
 pub use drawing::Drawing;

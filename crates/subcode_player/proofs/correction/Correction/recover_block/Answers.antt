@@ -1,20 +1,16 @@
-use Rattle.std.proofs.Common.{ℕ, List, ◌++◌, ◌∙◌, ap, sym, map}
-use Rattle.std.specs.Prelude.{replicate}
+use Rattle.std.proofs.Common.{ℕ, List, ◌∙◌, ap, sym, map}
 use Rattle.rw_code.specs.Finding.{finding}
 use Rattle.rw_interleave.specs.Texts.{cdg_bytes}
 use Rattle.subcode_player.specs.Steps.{bad_after, correction_next}
 use Rattle.subcode_player.proofs.Recovers.{bad_idle, text_idle}
 use Rattle.subcode_player.proofs.correction.Correction.recover_block.Goals as goal
 
-pub returns-then-are_idle-clause-next : goal.returns-then-are_idle-clause-next
+pub returns-in-None-clause-next : goal.returns-in-None-clause-next
 unfolding correction_next
-returns-then-are_idle-clause-next c =
-    let words = c.are_idle.ensures.words c.if-are_idle.true in
-    let bad = bad_idle c.args.self.now.bad (c.are_idle.ensures.codeword c.if-are_idle.true) in
-    ap (λ (b : ℕ). record { bad = b }) (bad ∙ ap (bad_after c.args.self.now.bad) (sym words))
+returns-in-None-clause-next c =
+    let bad = bad_idle c.args.self.now.bad c.idle_is_codeword.ensures in
+    ap (λ (b : ℕ). record { bad = b }) (bad ∙ ap (bad_after c.args.self.now.bad) (sym c.in-None.ensures))
 
-pub returns-then-are_idle-clause-bytes : goal.returns-then-are_idle-clause-bytes
-returns-then-are_idle-clause-bytes c =
-    let words = c.are_idle.ensures.words c.if-are_idle.true in
-    let text = text_idle (c.are_idle.ensures.codeword c.if-are_idle.true) in
-    c.add.ensures ∙ ap (λ (l : List ℕ). l ++ replicate 96 0) c.requires ∙ text ∙ ap (λ (ws : List (List ℕ)). cdg_bytes (map finding ws)) (sym words)
+pub returns-in-None-clause-bytes : goal.returns-in-None-clause-bytes
+returns-in-None-clause-bytes c =
+    c.set_zeros.ensures ∙ text_idle c.idle_is_codeword.ensures ∙ ap (λ (ws : List (List ℕ)). cdg_bytes (map finding ws)) (sym c.in-None.ensures)
