@@ -9,7 +9,7 @@ use Rattle.cdg_io.specs.Pump.{Pumps, given, units_of, whole}
 use Rattle.cdg_io.specs.declared.pumping.Pumped.{Pumped}
 use Rattle.cdg_io.specs.declared.pumping.PumpStop.{PumpStop}
 use Rattle.cdg_io.specs.declared.stage.Then.{Then}
-use Rattle.cdg_io.proofs.Runs.{joined}
+use Rattle.cdg_io.proofs.Runs.{then_next}
 use Rattle.raw_subcode.specs.Channels.{unit_size, block_of}
 use Rattle.raw_subcode.specs.declared.form.Form.{Form}
 use Rattle.raw_subcode.specs.declared.form.Form.TheVariants.{Raw, Sector, Cooked}
@@ -90,9 +90,9 @@ cut_give s x = Some (drop 2352 x)
 module _ {S : Type 0} (next : S → List ℕ → S) (gives : S → List ℕ → Option (List ℕ)) (left left' : Option (List ℕ)) (held held' : Option (List ℕ)) (result : Result Pumped PumpStop) (taken : List ℕ) where
   -- bytes that are sectors
   pub sector_pumps : (form : Form) (t t' : Then SectorBlocks S) → form ≡ Sector
-      → Pumps 2448 most_units (joined cut_next cut_give next) (λ (t : Then SectorBlocks S) x. then_gives gives t.second (cut_give t.first x)) left left' t t' held held' result taken
+      → Pumps 2448 most_units (then_next cut_next cut_give next) (λ (t : Then SectorBlocks S) x. then_gives gives t.second (cut_give t.first x)) left left' t t' held held' result taken
       → OnBlocks form next gives left left' held held' result taken t.second t'.second
   sector_pumps form t t' is p =
       subst (λ (f : Form). OnBlocks f next gives left left' held held' result taken t.second t'.second) (sym is)
-      (pumps_inner (joined cut_next cut_give next) (λ (t : Then SectorBlocks S) x. then_gives gives t.second (cut_give t.first x)) (on_units Sector next) (on_units Sector gives) (λ (t : Then SectorBlocks S). t.second)
+      (pumps_inner (then_next cut_next cut_give next) (λ (t : Then SectorBlocks S) x. then_gives gives t.second (cut_give t.first x)) (on_units Sector next) (on_units Sector gives) (λ (t : Then SectorBlocks S). t.second)
       (record { step = λ t unit. refl; same = λ t unit. refl }) 2448 left left' t t' held held' result taken p)
