@@ -10,7 +10,8 @@ use Rattle.rw_interleave.specs.Spreading.{filled_with_idle}
 use Rattle.toc_model.specs.Places.{DiscLayout}
 use Rattle.stream_writer.specs.Blocks.{stream_bytes}
 use Rattle.stream_writer.specs.Framing.{HasFraming}
-use Rattle.stream_writer.specs.Given.{symbols_from, idle_pack, AreGiven, CarriesComing, PutsStream, PutsStreamPart}
+use Rattle.cdg_instructions.specs.Packs.{idle_pack}
+use Rattle.stream_writer.specs.Given.{symbols_from, AreGiven, CarriesComing, PutsStream, PutsStreamPart}
 
 -- the packs that the end of so many blocks cuts are idle
 abbrev pub AreCutIdle : (ℕ → List ℕ → Type 0) → ℕ → Type 0

@@ -1,6 +1,6 @@
 use Rattle.std.proofs.Common.{◌≡◌, ◌∙◌, ◌++◌, List, ℕ, Some, true, false, sym, ap}
 use Rattle.cdg_screen.specs.Standings.{obeyed}
-use Rattle.cdg_thin.specs.Thin.{idle_pack}
+use Rattle.cdg_instructions.specs.Packs.{idle_pack}
 use Rattle.cdg_thin.specs.Steps.{instruction_of, is_needless, thin_next, thin_gives}
 use Rattle.cdg_thin.proofs.thinner.ThinnerStage.feed.Goals as goal
 use Rattle.cdg_thin.proofs.thinner.ThinnerStage.feed.Goals.{then-passes_over, else-passes_over}
