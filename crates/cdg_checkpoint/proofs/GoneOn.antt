@@ -10,7 +10,7 @@ use Rattle.std.proofs.Math.Seq.{take-add}
 use Rattle.bit_lists.specs.Counting.{below}
 use Rattle.cdg_io.specs.Run.{give, run_state, run_gives}
 use Rattle.cdg_io.specs.Pump.{units_of}
-use Rattle.cdg_io.proofs.Runs.{joined_second, run_gives-append}
+use Rattle.cdg_io.proofs.Runs.{then_next_second, run_gives-append}
 use Rattle.cdg_io.proofs.Streaming.{IsWhole}
 use Rattle.cdg_io.specs.declared.stage.Then.{Then}
 use Rattle.rw_code.specs.Codeword.{IsWord}
@@ -190,7 +190,7 @@ module _ (c : Checkpoint) (time n : ℕ) (bytes : List ℕ) (s s' : Then BlockWo
       ap (λ (w : BlockWords). all_items (run_gives words_next words_give w (units_of 96 n bytes))) back.words ∙ words_run Raw c.to_come (run_state gather_next [] (saved_slots c)) (units_of 96 n bytes)
       ∙ raw_words (run_state gather_next [] (saved_slots c)) (flat_map slots_of program) in
       let end : s'.second ≡ draw_after (record { picture = s.second.picture; left = packs_until c time; bad = c.bad }) words =
-      ap (λ (t : Then BlockWords Drawing). t.second) run ∙ joined_second words_next words_give drawing_next s (units_of 96 n bytes) ∙ drawing_runs s.second (run_gives words_next words_give s.first (units_of 96 n bytes))
+      ap (λ (t : Then BlockWords Drawing). t.second) run ∙ then_next_second words_next words_give drawing_next s (units_of 96 n bytes) ∙ drawing_runs s.second (run_gives words_next words_give s.first (units_of 96 n bytes))
       ∙ ap₂ draw_after start given in
       subst (AreDrawn s.second.picture (packs_until c time) c.bad words) (sym end) (are_drawn s.second.picture (packs_until c time) c.bad words (omega (arith, sound.few_bad, words_count, saved_count, slots_count, few)))
 

@@ -13,11 +13,11 @@ ghost use Rattle.checkpoint_files.specs.Checkpoint.{checkpoint_in, standing_in};
 ghost use Rattle.cdg_checkpoint.specs.Resumed.{GoesOn, IsAcceptedBy, IsGoneOnBy, IsResumedBy, Resumes, acceptance, EndsAsResumed, packs_until, reached, saved_slots, time_after};
 
 use crate::pictures::bring_back;
-use crate::saving::MOST_BLOCKS;
 use crate::watch::watch_some;
 use crate::{Checkpointer, ResumeStop, Resumed};
 use cdg_io::{Failed, PumpStop, Pumped, Sink, Source};
 use checkpoint_files::Counts;
+use raw_subcode::MOST_UNITS;
 use rw_interleave::Slot;
 use subcode_player::Form;
 
@@ -201,7 +201,7 @@ impl Checkpointer {
         let counts = self.file.counts();
         self.begin_again(&counts, at);
         let read = counts.lead_in + counts.program;
-        match watch_some(MOST_BLOCKS - read, rest, &mut self.tracking.words) {
+        match watch_some(MOST_UNITS - read, rest, &mut self.tracking.words) {
             Ok(pumped) => self.resumed(&counts, pumped, at),
             Err(stop) => match stop {
                 PumpStop::ReadFault | PumpStop::WriteFault => Err(ResumeStop::SecondFault),

@@ -15,13 +15,11 @@ use crate::pictures::compose;
 use crate::watch::watch;
 use cdg_io::{Failed, PumpStop, Pumped, Sink, Source, put_all};
 use checkpoint_files::{Counts, SLOTS_BYTES};
+use raw_subcode::MOST_UNITS;
 use subcode_player::Form;
 
-/// The most blocks of a stream.
-pub(crate) const MOST_BLOCKS: u32 = 1_000_000;
-
-/// The packs of as many blocks.
-const MOST_PACKS: u32 = 4 * MOST_BLOCKS - 7;
+/// The packs of the longest stream.
+const MOST_PACKS: u32 = 4 * MOST_UNITS - 7;
 
 impl Checkpointer {
     /// Writes the checkpoint after a stream of raw blocks, once it was read to its end. `lead_in` is at most
@@ -55,7 +53,7 @@ impl Checkpointer {
         ensures no_write_fault { result ≢ Err PumpStop.WriteFault → K.faults out.new ≡ K.faults out.old }
     {
         self.begin(lead_in);
-        match watch(MOST_BLOCKS, source, &mut self.tracking) {
+        match watch(MOST_UNITS, source, &mut self.tracking) {
             Ok(pumped) => {
                 self.keep(pumped, lead_in);
                 match put_all(out, self.file.bytes()) {

@@ -5,10 +5,8 @@ ghost use Rattle.cdg_checkpoint.specs.Tracked.{tail_next, track_next};
 
 use cdg_io::{Piece, Stage, Then};
 use checkpoint_files::SLOTS_BYTES;
+use raw_subcode::BLOCK_BYTES;
 use subcode_player::{BlockWords, Drawing};
-
-/// The bytes of a block.
-pub(crate) const BLOCK: usize = 96;
 
 /// Draws the packs of a stream, and keeps the symbols of its last seven slots.
 #[derive(Drop)]
@@ -19,7 +17,7 @@ pub struct Tracking {
 }
 
 /// The symbols of the last slots after those of a block.
-fn with_block(tail: &[u8; SLOTS_BYTES], block: &[u8; BLOCK]) -> [u8; SLOTS_BYTES]
+fn with_block(tail: &[u8; SLOTS_BYTES], block: &[u8; BLOCK_BYTES]) -> [u8; SLOTS_BYTES]
     ensures { result ≡ drop 96 (tail.now ++ symbols_of block.now) }
 {
     let mut next = [0; SLOTS_BYTES];
@@ -30,20 +28,20 @@ fn with_block(tail: &[u8; SLOTS_BYTES], block: &[u8; BLOCK]) -> [u8; SLOTS_BYTES
 }
 
 /// Symbol i of them.
-fn symbol_after(tail: &[u8; SLOTS_BYTES], block: &[u8; BLOCK], i: usize) -> u8
+fn symbol_after(tail: &[u8; SLOTS_BYTES], block: &[u8; BLOCK_BYTES], i: usize) -> u8
     requires { i < 168 }
     ensures { result ≡ slice_index (drop 96 (tail.now ++ symbols_of block.now)) i }
 {
-    const KEPT: usize = SLOTS_BYTES - BLOCK;
+    const KEPT: usize = SLOTS_BYTES - BLOCK_BYTES;
     if i < KEPT {
-        tail[BLOCK + i]
+        tail[BLOCK_BYTES + i]
     } else {
         block[i - KEPT] % 64
     }
 }
 
 impl Stage for Tracking {
-    type Item = [u8; BLOCK];
+    type Item = [u8; BLOCK_BYTES];
 
     type Out = Piece;
 
@@ -52,7 +50,7 @@ impl Stage for Tracking {
     ghost gives = { λ _ _. None };
 
     #[tactic(auto, unfolding(crate::specs::Tracked::tail_next))]
-    fn feed(&mut self, block: &[u8; BLOCK]) -> Option<Piece> {
+    fn feed(&mut self, block: &[u8; BLOCK_BYTES]) -> Option<Piece> {
         if self.words.first.lead_in == 0 {
             self.tail = with_block(&self.tail, block);
         }

@@ -5,11 +5,11 @@ ghost use Rattle.cdg_io.specs.Change.{fed};
 ghost use Rattle.cdg_io.specs.Pump.{IsUnlessFault, TellsEndOf, answer_of};
 ghost use Rattle.cdg_checkpoint.specs.Tracked.{TracksBlocks};
 
-use crate::tracking::BLOCK;
 use cdg_io::{Failed, Piece, PumpStop, Pumped, Source, Stage, SteadySink, pump};
+use raw_subcode::BLOCK_BYTES;
 
 /// Feeds the blocks of an input, at most `limit`, to a stage, which keeps what it learns of them.
-pub(crate) fn watch<S: Source, G: Stage<Item = [u8; BLOCK], Out = Piece>>(
+pub(crate) fn watch<S: Source, G: Stage<Item = [u8; BLOCK_BYTES], Out = Piece>>(
     limit: u32,
     source: &mut S,
     stage: &mut G,
@@ -31,7 +31,7 @@ pub(crate) fn watch<S: Source, G: Stage<Item = [u8; BLOCK], Out = Piece>>(
 }
 
 /// The same where no block may be left: then the input has to be empty.
-pub(crate) fn watch_some<S: Source, G: Stage<Item = [u8; BLOCK], Out = Piece>>(
+pub(crate) fn watch_some<S: Source, G: Stage<Item = [u8; BLOCK_BYTES], Out = Piece>>(
     limit: u32,
     source: &mut S,
     stage: &mut G,

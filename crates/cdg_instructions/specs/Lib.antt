@@ -1,5 +1,6 @@
 pub mod Instruction
 pub mod Drawing
 pub mod Meaning
+pub mod Packs
 pub mod MadeGood
 pub mod Sizes

@@ -4,9 +4,10 @@ ghost use Rattle.cdg_press.specs.Refusals.{HasNoGap, IsCounted, IsFirstGap, IsSh
 
 use crate::stops::PressStop;
 use cue_sheet::Sheet;
+use rw_code::SYMBOLS;
 
-/// How many bytes a pack of a file has.
-pub(crate) const PACK_BYTES: usize = 24;
+/// How many bytes a pack of a file has: one for each symbol.
+pub(crate) const PACK_BYTES: usize = SYMBOLS;
 
 /// The number of packs of a file.
 pub(crate) fn whole_packs_of(cdg: &[u8]) -> Result<u32, PressStop>

@@ -1,5 +1,6 @@
 // Pressing a file into a stream.
 ghost use Rattle.std.specs.Prelude.{◌≡◌, ◌≢◌, ◌≤◌, List, ℕ, IfErr, OnOk, Err};
+ghost use Rattle.disc_time.specs.Counts.{most_lead_in, most_program};
 ghost use Rattle.std.specs.Io.KnownBytes.{Appends};
 ghost use Rattle.cdg_io.specs.Causes.{Rose};
 ghost use Rattle.cdg_io.specs.Change.{change};
@@ -42,8 +43,8 @@ pub fn press_stream<K: Sink>(
     length: u32,
     out: &mut K,
 ) -> Result<(), PressStop>
-    requires lead_in { lead_in ≤ 450000 }
-    requires audio { length ≤ 449999 }
+    requires lead_in { lead_in ≤ most_lead_in }
+    requires audio { length ≤ most_program }
     requires file { IsShort cdg.now }
     // A pressed stream was written.
     ensures pressed { OnOk result ((bytes : List ℕ) × (packs : List (List ℕ))

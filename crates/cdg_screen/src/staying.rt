@@ -4,14 +4,15 @@ ghost use Rattle.cdg_instructions.specs.Drawing.{tile_colour};
 ghost use Rattle.cdg_screen.specs.Picture.{at, covers, is_inside, source, source_x, source_y};
 ghost use Rattle.cdg_screen.specs.Memory.{Becomes, drawn_over, line_colour};
 
-use crate::memory::{HEIGHT, Memory, TILE_HEIGHT, TILE_WIDTH, WIDTH, colour_of, over};
+use crate::memory::{Memory, colour_of, over};
+use cdg_instructions::{SCREEN_HEIGHT, SCREEN_WIDTH, TILE_HEIGHT, TILE_WIDTH};
 
 impl Memory {
     /// Whether all pixels have a colour.
     pub(crate) fn is_filled(&self, colour: u8) -> bool
         ensures { IsTrue result ↔ Becomes self.now (λ x y. colour) }
     {
-        for y in 0..HEIGHT {
+        for y in 0..SCREEN_HEIGHT {
             if !is_row_filled(&self.rows[y], colour) {
                 return false;
             }
@@ -79,8 +80,8 @@ impl Memory {
         if across == 0 && down == 0 {
             return true;
         }
-        for y in 0..HEIGHT {
-            let from = source(HEIGHT, TILE_HEIGHT, down, y) % HEIGHT;
+        for y in 0..SCREEN_HEIGHT {
+            let from = source(SCREEN_HEIGHT, TILE_HEIGHT, down, y) % SCREEN_HEIGHT;
             if !self.keeps_row_round(across, y, from) {
                 return false;
             }
@@ -96,8 +97,13 @@ impl Memory {
         ensures { IsTrue result
             ↔ ((x : ℕ) → x < 300 → at self.now x y ≡ at self.now (source_x across x % 300) from) }
     {
-        for x in 0..WIDTH {
-            if self.get(x, y) != self.get(source(WIDTH, TILE_WIDTH, across, x) % WIDTH, from) {
+        for x in 0..SCREEN_WIDTH {
+            if self.get(x, y)
+                != self.get(
+                    source(SCREEN_WIDTH, TILE_WIDTH, across, x) % SCREEN_WIDTH,
+                    from,
+                )
+            {
                 return false;
             }
         }
@@ -116,7 +122,7 @@ impl Memory {
         if across == 0 && down == 0 {
             return true;
         }
-        for y in 0..HEIGHT {
+        for y in 0..SCREEN_HEIGHT {
             if !self.keeps_row_in(across, down, colour, y) {
                 return false;
             }
@@ -134,7 +140,7 @@ impl Memory {
             then at self.now (source_x across x - 300) (source_y down y - 216)
             else colour)) }
     {
-        for x in 0..WIDTH {
+        for x in 0..SCREEN_WIDTH {
             if self.get(x, y) != self.scrolled_in(across, down, colour, x, y) {
                 return false;
             }
@@ -152,10 +158,12 @@ impl Memory {
             then at self.now (source_x across x - 300) (source_y down y - 216)
             else colour) }
     {
-        let from_x = source(WIDTH, TILE_WIDTH, across, x);
-        let from_y = source(HEIGHT, TILE_HEIGHT, down, y);
-        if (WIDTH..2 * WIDTH).contains(&from_x) && (HEIGHT..2 * HEIGHT).contains(&from_y) {
-            self.get(from_x - WIDTH, from_y - HEIGHT)
+        let from_x = source(SCREEN_WIDTH, TILE_WIDTH, across, x);
+        let from_y = source(SCREEN_HEIGHT, TILE_HEIGHT, down, y);
+        if (SCREEN_WIDTH..2 * SCREEN_WIDTH).contains(&from_x)
+            && (SCREEN_HEIGHT..2 * SCREEN_HEIGHT).contains(&from_y)
+        {
+            self.get(from_x - SCREEN_WIDTH, from_y - SCREEN_HEIGHT)
         } else {
             colour
         }
@@ -163,7 +171,7 @@ impl Memory {
 }
 
 // Whether all pixels of a row have a colour. It looks at all of them, so that many can be compared at once.
-fn is_row_filled(row: &[u8; WIDTH], colour: u8) -> bool
+fn is_row_filled(row: &[u8; SCREEN_WIDTH], colour: u8) -> bool
     ensures { IsTrue result ↔ ((k : ℕ) → k < 300 → slice_index row.now k ≡ colour) }
 {
     let mut filled = true;

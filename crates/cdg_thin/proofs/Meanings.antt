@@ -11,7 +11,9 @@ use Rattle.cdg_instructions.proofs.Meaning.{meaning_means, only_meaning}
 use Rattle.cdg_instructions.proofs.Symbols.{message_of-has, head_of_message, body_of_message, content_of-message}
 use Rattle.cdg_instructions.specs.declared.instr.Instr.{Instr}
 use Rattle.cdg_instructions.specs.declared.instr.Instr.TheVariants.{Idle, Foreign, Unknown, MemoryPreset, BorderPreset, SetTile, XorTile, ScrollPreset, ScrollCopy, Transparency, ColoursLow, ColoursHigh}
-use Rattle.cdg_thin.specs.Thin.{IsInstructionOf, idle_pack, low_bits}
+use Rattle.cdg_instructions.specs.Packs.{idle_pack}
+use Rattle.raw_subcode.specs.Channels.{symbols_of}
+use Rattle.cdg_thin.specs.Thin.{IsInstructionOf}
 use Rattle.cdg_thin.specs.Steps.{instruction_of}
 use Rattle.cdg_thin.proofs.Sealing.{sealed_word}
 
@@ -73,28 +75,28 @@ means_same w v (Transparency a) s h = (graphics_same w v 28 s h.0, h.1 ∙ s.bod
 means_same w v (ColoursLow a) s h = (graphics_same w v 30 s h.0, h.1 ∙ colours_same w v s)
 means_same w v (ColoursHigh a) s h = (graphics_same w v 31 s h.0, h.1 ∙ colours_same w v s)
 
-length-low_bits : (pack : List ℕ) → length (low_bits pack) ≡ length pack
-length-low_bits pack = length-map pack (λ byte. byte % 64)
+length-symbols_of : (pack : List ℕ) → length (symbols_of pack) ≡ length pack
+length-symbols_of pack = length-map pack (λ byte. byte % 64)
 
 -- the codeword made of a pack means what its symbols mean
-pub made_good_means : (pack word : List ℕ) (instr : Instr) → IsMadeGood (low_bits pack) word → Means word instr → instr ≡ instruction_of pack
+pub made_good_means : (pack word : List ℕ) (instr : Instr) → IsMadeGood (symbols_of pack) word → Means word instr → instr ≡ instruction_of pack
 unfolding instruction_of
 made_good_means pack word instr made means =
-    only_meaning (low_bits pack) instr (means_same word (low_bits pack) instr (alike word (low_bits pack) made.codeword.is_word.size made.size made.message) means)
+    only_meaning (symbols_of pack) instr (means_same word (symbols_of pack) instr (alike word (symbols_of pack) made.codeword.is_word.size made.size made.message) means)
 
 -- 24 bytes have one instruction
 pub only_instruction : (pack : List ℕ) (instr : Instr) → IsInstructionOf pack instr → instr ≡ instruction_of pack
 only_instruction pack instr h = made_good_means pack h.0 instr h.1 h.2
 
 pub instruction_size : (pack : List ℕ) (instr : Instr) → IsInstructionOf pack instr → length pack ≡ 24
-instruction_size pack instr h = sym (length-low_bits pack) ∙ h.1.size
+instruction_size pack instr h = sym (length-symbols_of pack) ∙ h.1.size
 
 -- each symbol is below 64
-low_at : (pack : List ℕ) (k d : ℕ) → k < length pack → get_or (low_bits pack) k d < 64
+low_at : (pack : List ℕ) (k d : ℕ) → k < length pack → get_or (symbols_of pack) k d < 64
 low_at pack k d lt = rw (get_or-map (λ byte. byte % 64) pack k 0 d lt) (omega arith)
 
-low_small : (pack : List ℕ) → All (λ n. n < 64) (low_bits pack)
-low_small pack = λ k d lt. low_at pack k d (omega (arith, length-low_bits pack))
+low_small : (pack : List ℕ) → All (λ n. n < 64) (symbols_of pack)
+low_small pack = λ k d lt. low_at pack k d (omega (arith, length-symbols_of pack))
 
 split_message : (word : List ℕ) → length word ≡ 24 → message_of word ≡ get_or word 0 0 ∷ get_or word 1 0 ∷ content_of word
 split_message [] size = absurd (omega arith)
@@ -105,8 +107,8 @@ split_message (a ∷ b ∷ rest) size = refl
 pub has_instruction : (pack : List ℕ) → length pack ≡ 24 → IsInstructionOf pack (instruction_of pack)
 unfolding instruction_of
 has_instruction pack size =
-    let symbols : List ℕ = low_bits pack in
-    let count : length symbols ≡ 24 = length-low_bits pack ∙ size in
+    let symbols : List ℕ = symbols_of pack in
+    let count : length symbols ≡ 24 = length-symbols_of pack ∙ size in
     let small = low_small pack in
     let body_small : All (λ n. n < 64) (content_of symbols) = All-take (λ n. n < 64) 16 (drop 4 symbols) (All-drop (λ n. n < 64) 4 symbols small) in
     let body_count : length (content_of symbols) ≡ 16 = length-take-le 16 (drop 4 symbols) (omega (arith, length-drop 4 symbols)) in

@@ -5,12 +5,14 @@ use Rattle.bit_lists.specs.Counting.{below}
 use Rattle.cdg_instructions.specs.Meaning.{meaning}
 use Rattle.cdg_screen.specs.Picture.{Display, Standing, standing_of, standing_after}
 use Rattle.cdg_screen.specs.Standings.{obeyed}
-use Rattle.cdg_thin.specs.Thin.{idle_pack, is_graphic, low_bits}
+use Rattle.cdg_instructions.specs.Packs.{idle_pack}
+use Rattle.raw_subcode.specs.Channels.{symbols_of}
+use Rattle.cdg_thin.specs.Thin.{is_graphic}
 use Rattle.cdg_instructions.specs.declared.instr.Instr.{Instr}
 
 -- the instruction of 24 bytes, as a function: the parity has no part in it
 unfoldable pub instruction_of : List ℕ → Instr
-instruction_of pack = meaning (low_bits pack)
+instruction_of pack = meaning (symbols_of pack)
 
 -- whether a test passes at all numbers below n
 unfoldable pub passes_below : ℕ → (ℕ → Bool) → Bool

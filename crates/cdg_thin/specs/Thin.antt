@@ -4,17 +4,15 @@ use Rattle.std.specs.List.{concat}
 use Rattle.bit_lists.specs.Counting.{whole_parts}
 use Rattle.cdg_instructions.specs.Instruction.{Means}
 use Rattle.cdg_instructions.specs.MadeGood.{IsMadeGood}
+use Rattle.cdg_instructions.specs.Packs.{idle_pack}
+use Rattle.raw_subcode.specs.Channels.{symbols_of}
 use Rattle.cdg_screen.specs.Picture.{blank, standing_after, SameStanding}
 use Rattle.cdg_instructions.specs.declared.instr.Instr.{Instr}
 use Rattle.cdg_instructions.specs.declared.instr.Instr.TheVariants.{Idle, Foreign, Unknown}
 
--- the low six bits of each byte
-abbrev pub low_bits : List ℕ → List ℕ
-low_bits bytes = map (λ byte. byte % 64) bytes
-
 -- the instruction of 24 bytes: that of their low six bits, with the parity made good
 abbrev pub IsInstructionOf : List ℕ → Instr → Type 0
-IsInstructionOf pack instr = (word : List ℕ) × IsMadeGood (low_bits pack) word × Means word instr
+IsInstructionOf pack instr = (word : List ℕ) × IsMadeGood (symbols_of pack) word × Means word instr
 
 -- these are the instructions of the packs, one by one
 pub record AreInstructionsOf (packs : List (List ℕ)) (instrs : List Instr) : Type 0 where
@@ -33,10 +31,6 @@ is_graphic instr = true
 pub record IsNeedless (before : List Instr) (instr : Instr) : Type 0 where
   pub graphic : IsTrue (is_graphic instr)
   pub nothing : SameStanding (standing_after blank (before ++ instr ∷ [])) (standing_after blank before)
-
--- the pack that says nothing
-abbrev pub idle_pack : List ℕ
-idle_pack = replicate 24 0
 
 -- what stands for a pack in the thin form: an idle one where its instruction is needless after those before it, and
 -- else the pack as it is

@@ -6,6 +6,11 @@ use Rattle.bit_lists.specs.Digits.{line_feed}
 use Rattle.disc_time.specs.Time.{time_text}
 use Rattle.cdg_workload.specs.Generator.{generator_word, low_half, high_half}
 
+-- the most pictures of a generated script: with them and a pause the longest trial has 400,170 blocks of program,
+-- and a disc holds 449,999
+abbrev pub most_generated : ℕ
+most_generated = 500
+
 -- a rectangle of the window: its place, its size and the number of its colour
 pub record Rectangle : Type 0 where
   pub x : ℕ

@@ -1,11 +1,13 @@
 // The changes of neighbouring symbols, by the words of a generator.
 ghost use Rattle.std.specs.Prelude.{◌≡◌, ◌<◌, ◌≤◌, ◌-◌, ◌^◌, ◌++◌, Some, bit_xor, drop, map, take};
+ghost use Rattle.raw_subcode.specs.Sizes.{block_bytes};
 ghost use Rattle.rand_pcg.specs.Pcg.{pcg32};
 ghost use Rattle.cdg_io.specs.Run.{run_state, run_gives};
 ghost use Rattle.cdg_workload.specs.Steps.{next_needle, ready, change_now, moved, byte_next, byte_gives};
 
 use rand_core::utils::NextWord;
 use rand_pcg::Pcg32;
+use raw_subcode::BLOCK_BYTES;
 
 /// Goes over symbols, and changes them in bursts.
 #[derive(Drop)]
@@ -88,16 +90,16 @@ impl Needle {
     }
 
     /// Changes the symbols of a block. Those that stay, and those of a burst, are gone over at once.
-    pub(crate) fn scratch(&mut self, block: &mut [u8; 96])
+    pub(crate) fn scratch(&mut self, block: &mut [u8; BLOCK_BYTES])
         ensures next { self.new ≡ run_state byte_next self.old block.old }
         ensures gives { block.new ≡ run_gives byte_next byte_gives self.old block.old }
     {
-        let mut at = self.pass(96);
-        while at < 96 {
+        let mut at = self.pass(BLOCK_BYTES);
+        while at < BLOCK_BYTES {
             block[at] = self.push(block[at]);
             at += 1;
-            at += self.pass(96 - at);
-            let struck = self.strike(96 - at);
+            at += self.pass(BLOCK_BYTES - at);
+            let struck = self.strike(BLOCK_BYTES - at);
             combine(block, at, at + struck, self.change);
             at += struck;
         }
@@ -106,9 +108,9 @@ impl Needle {
 
 /// Combines the bytes of a block between two places with a change.
 #[inline]
-fn combine(block: &mut [u8; 96], from: usize, to: usize, change: u8)
+fn combine(block: &mut [u8; BLOCK_BYTES], from: usize, to: usize, change: u8)
     requires order { from ≤ to }
-    requires within { to ≤ 96 }
+    requires within { to ≤ block_bytes }
     ensures changed { take to block.new
         ≡ take from block.old ++ map (λ byte. bit_xor byte change) (take (to - from) (drop from block.old)) }
     ensures rest { drop to block.new ≡ drop to block.old }

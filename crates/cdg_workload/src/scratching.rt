@@ -1,5 +1,7 @@
 // Scratches of a raw stream.
 ghost use Rattle.std.specs.Prelude.{◌≡◌, ◌≢◌, ◌≤◌, ◌*◌, ◌/◌, List, ℕ, [], length, map, take, drop, IfSome, IsErrOf, Some, Err};
+ghost use Rattle.disc_time.specs.Counts.{most_lead_in};
+ghost use Rattle.raw_subcode.specs.Sizes.{block_bytes, most_units};
 ghost use Rattle.cdg_io.specs.Causes.{Rose};
 ghost use Rattle.cdg_io.specs.Change.{passed};
 ghost use Rattle.cdg_io.specs.Pump.{IsUnlessFault, TellsEndOf, answer_of};
@@ -12,11 +14,8 @@ ghost use Rattle.cdg_workload.specs.Steps.{fresh_scratches, block_next, block_gi
 use crate::needle::Needle;
 use crate::words::generator;
 use cdg_io::{Piece, PumpStop, Pumped, Sink, Source, Stage, pump};
-use raw_subcode::Form;
+use raw_subcode::{BLOCK_BYTES, Form, MOST_UNITS};
 use rw_interleave::bursts_are_damage;
-
-/// The most blocks that are read.
-const MOST_BLOCKS: u32 = 1_000_000;
 
 /// Passes the blocks of the lead-in on, and scratches those of the program.
 #[derive(Drop)]
@@ -43,7 +42,7 @@ impl Scratches {
 
     /// Makes a piece of a block, scratched where it is one of the program.
     #[tactic(auto, unfolding(crate::specs::Steps::block_next, crate::specs::Steps::block_gives))]
-    fn pass(&mut self, block: &[u8; 96], piece: &mut Piece)
+    fn pass(&mut self, block: &[u8; BLOCK_BYTES], piece: &mut Piece)
         ensures next { self.new ≡ block_next self.old block.now }
         ensures gives { Some piece.new ≡ block_gives self.old block.now }
     {
@@ -59,7 +58,7 @@ impl Scratches {
 }
 
 impl Stage for Scratches {
-    type Item = [u8; 96];
+    type Item = [u8; BLOCK_BYTES];
 
     type Out = Piece;
 
@@ -67,13 +66,13 @@ impl Stage for Scratches {
 
     ghost gives = { block_gives };
 
-    fn feed(&mut self, block: &[u8; 96]) -> Option<Piece> {
+    fn feed(&mut self, block: &[u8; BLOCK_BYTES]) -> Option<Piece> {
         let mut piece = Piece::new();
         self.pass(block, &mut piece);
         Some(piece)
     }
 
-    fn emit(&mut self, block: &[u8; 96], out: &mut Option<Piece>) {
+    fn emit(&mut self, block: &[u8; BLOCK_BYTES], out: &mut Option<Piece>) {
         match out {
             Some(piece) => self.pass(block, piece),
             None => *out = self.feed(block),
@@ -96,12 +95,12 @@ pub fn scratch<S: Source, K: Sink>(
     source: &mut S,
     out: &mut K,
 ) -> Result<Pumped, PumpStop>
-    requires { lead_in ≤ 450000 }
+    requires { lead_in ≤ most_lead_in }
     ensures scratches { (taken : List ℕ) × Streams (scratching lead_in seed)
         (passed S.left K.held (source.old, out.old) (source.new, out.new)) result taken }
     // Where nothing failed, the answer is that of the whole input's length.
     ensures answer { IfSome (S.left source.old)
-        (λ all. IsUnlessFault result (answer_of 96 1000000 (length all))) }
+        (λ all. IsUnlessFault result (answer_of block_bytes most_units (length all))) }
     ensures source_later { S.faults source.old ≤ S.faults source.new }
     ensures out_later { K.faults out.old ≤ K.faults out.new }
     ensures read_fault { IsErrOf result PumpStop.ReadFault
@@ -113,7 +112,7 @@ pub fn scratch<S: Source, K: Sink>(
 {
     pump(
         source,
-        MOST_BLOCKS,
+        MOST_UNITS,
         &mut Scratches::start(lead_in, seed),
         out,
     )
@@ -123,10 +122,10 @@ pub fn scratch<S: Source, K: Sink>(
 /// apart. The lead-in and the P and Q bits stay.
 pub fn scratches_are_bursts()
     ensures bursts { (lead_in seed : ℕ) (bytes : List ℕ)
-        → DiffersInBursts (symbols_of (drop (96 * lead_in) bytes))
-        (symbols_of (drop (96 * lead_in) (scratched lead_in seed bytes))) }
+        → DiffersInBursts (symbols_of (drop (block_bytes * lead_in) bytes))
+        (symbols_of (drop (block_bytes * lead_in) (scratched lead_in seed bytes))) }
     ensures lead_in { (lead_in seed : ℕ) (bytes : List ℕ)
-        → take (96 * lead_in) (scratched lead_in seed bytes) ≡ take (96 * lead_in) bytes }
+        → take (block_bytes * lead_in) (scratched lead_in seed bytes) ≡ take (block_bytes * lead_in) bytes }
     ensures channels { (lead_in seed : ℕ) (bytes : List ℕ)
         → map (λ byte. byte / 64) (scratched lead_in seed bytes) ≡ map (λ byte. byte / 64) bytes }
 {}

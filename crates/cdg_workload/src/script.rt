@@ -3,7 +3,7 @@ ghost use Rattle.std.specs.Prelude.{◌≡◌, ◌<◌, ◌≤◌, ◌+◌, ◌/
 ghost use Rattle.std.specs.Io.KnownBytes.{Appends};
 ghost use Rattle.cdg_io.specs.Causes.{HasCause};
 ghost use Rattle.cdg_io.specs.Moves.{AppendsPrefix};
-ghost use Rattle.cdg_workload.specs.Script.{generated_show_line, generated_script};
+ghost use Rattle.cdg_workload.specs.Script.{generated_show_line, generated_script, most_generated};
 ghost use Rattle.cdg_workload.specs.Pictures.{after_two, rect_from, picture_from};
 
 use crate::words::generator;
@@ -18,6 +18,10 @@ pub const BLOCKS_A_PICTURE: u32 = 800;
 
 /// How many blocks a picture is held.
 pub const BLOCKS_HELD: u32 = 20;
+
+/// How many pictures a script has at most: with them and a pause the longest trial has 400,170 blocks of program, and
+/// a disc holds 449,999.
+pub const MOST_GENERATED: u32 = 500;
 
 /// Sixteen greys, a line for each colour.
 static GREYS: [u8; 230] = *b"\
@@ -46,7 +50,7 @@ static GREYS: [u8; 230] = *b"\
 ///
 /// After `Failed` a prefix of the script was written.
 pub fn write_script<K: Sink>(seed: u64, pictures: u32, out: &mut K) -> Result<(), Failed>
-    requires { (1 ≤ pictures) × (pictures ≤ 500) }
+    requires { (1 ≤ pictures) × (pictures ≤ most_generated) }
     ensures ok { OnOk result (Appends (K.held out.old) (K.held out.new) (generated_script seed pictures)) }
     ensures part { OnErr result
         (AppendsPrefix (K.held out.old) (K.held out.new) (generated_script seed pictures)) }
@@ -63,7 +67,7 @@ pub fn write_script<K: Sink>(seed: u64, pictures: u32, out: &mut K) -> Result<()
 /// The lines of a picture, by the next six words.
 #[tactic(auto, unfolding(crate::specs::Pictures::picture_from))]
 fn picture(words: &mut Pcg32, k: u32) -> Piece
-    requires { k < 500 }
+    requires { k < most_generated }
     ensures words { words.new ≡ after_two (after_two (after_two words.old)) }
     ensures lines { result ≡ picture_from words.old k }
 {
@@ -125,7 +129,7 @@ fn add_number<I: Integer>(lines: &mut Piece, n: I)
 /// Appends the line of the times of picture k.
 #[tactic(auto, unfolding(crate::specs::Script::generated_show_line))]
 fn add_show(lines: &mut Piece, k: u32)
-    requires number { k < 500 }
+    requires number { k < most_generated }
     requires room { length lines.old ≤ 105 }
     ensures { lines.new ≡ lines.old ++ generated_show_line k }
 {

@@ -1,13 +1,13 @@
 // Generated scripts as scripts: each is accepted, and what its lines say.
 ghost use Rattle.std.specs.Prelude.{◌≡◌, ◌<◌, ◌≤◌, ◌+◌, ◌*◌, ℕ, length, Ok};
-ghost use Rattle.cdg_workload.specs.Script.{generated_script, ready_block, hold_block};
+ghost use Rattle.cdg_workload.specs.Script.{generated_script, most_generated, ready_block, hold_block};
 ghost use Rattle.picture_script.specs.Script.{pictures, ready_time, hold_time};
 ghost use Rattle.picture_script.specs.ScriptGrammar.{read_script};
 ghost use Rattle.cdg_workload.specs.Generated.{generated_drawings};
 
 /// A law: every generated script is accepted, and its lines say these drawings.
 pub fn generated_scripts_are_read()
-    ensures { (seed count : ℕ) → count ≤ 500
+    ensures { (seed count : ℕ) → count ≤ most_generated
         → read_script (generated_script seed count) ≡ Ok (generated_drawings seed count) }
 {}
 

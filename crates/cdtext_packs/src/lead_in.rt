@@ -15,8 +15,8 @@ pub fn lead_in_symbols(packs: &[TextPack], l: u32) -> [u8; BLOCK_BYTES]
 {
     let mut symbols = [0; BLOCK_BYTES];
     for k in 0..SLOTS_A_BLOCK {
-        let slot = slot_symbols(packs, 4 * l as usize + k);
-        symbols[24 * k..24 * k + 24].copy_from_slice(&slot);
+        let slot = slot_symbols(packs, SLOTS_A_BLOCK * l as usize + k);
+        symbols[SYMBOLS_A_SLOT * k..SYMBOLS_A_SLOT * k + SYMBOLS_A_SLOT].copy_from_slice(&slot);
     }
     symbols
 }

@@ -8,7 +8,7 @@ ghost use Rattle.cdtext_packs.specs.TextSteps.{fresh_texts, offered, text_next, 
 
 use crate::{Offer, TextReader, offers_keep_the_first};
 use cdg_io::{Piece, Stage};
-use raw_subcode::Block;
+use raw_subcode::{BLOCK_BYTES, Block};
 use std::alloc::{AllocError, Global};
 
 /// Offers the packs of the lead-in's blocks to a reader, four of each block, and counts what became of them.
@@ -64,7 +64,7 @@ impl LeadInTexts {
 }
 
 impl Stage for LeadInTexts {
-    type Item = [u8; 96];
+    type Item = [u8; BLOCK_BYTES];
 
     type Out = Piece;
 
@@ -73,7 +73,7 @@ impl Stage for LeadInTexts {
     ghost gives = { λ _ _. None };
 
     #[tactic(auto, unfolding(crate::specs::TextSteps::text_next))]
-    fn feed(&mut self, block: &[u8; 96]) -> Option<Piece> {
+    fn feed(&mut self, block: &[u8; BLOCK_BYTES]) -> Option<Piece> {
         if self.left > 0 {
             self.left -= 1;
             let block = Block::from_bytes(block);

@@ -1,5 +1,6 @@
 // The texts of a disc as lines.
 ghost use Rattle.std.specs.Prelude.{◌≡◌, ◌+◌, ◌++◌, ◌<◌, ◌≤◌, OnOk, OnErr, flat_map, length, decimal};
+ghost use Rattle.disc_time.specs.Counts.{most_tracks};
 ghost use Rattle.bit_lists.specs.Digits.{hex_digits};
 ghost use Rattle.std.specs.Io.KnownBytes.{Appends};
 ghost use Rattle.cdg_io.specs.Causes.{HasCause};
@@ -48,7 +49,7 @@ fn write_kind<K: Sink>(map: &TextMap, kind: TextKind, out: &mut K) -> Result<(),
 
 /// Writes the line of a track, or of the album as track 0.
 fn write_line<K: Sink>(map: &TextMap, kind: TextKind, track: u8, out: &mut K) -> Result<(), Failed>
-    requires { track ≤ 99 }
+    requires { track ≤ most_tracks }
     ensures ok { OnOk result (Appends (K.held out.old) (K.held out.new) (text_line map.now kind track)) }
     ensures part { OnErr result
         (AppendsPrefix (K.held out.old) (K.held out.new) (text_line map.now kind track)) }
@@ -102,7 +103,7 @@ fn hex_byte(byte: u8) -> [u8; 2]
 
 /// What stands in a line before its string.
 fn line_head(kind: TextKind, track: u8) -> Piece
-    requires { track ≤ 99 }
+    requires { track ≤ most_tracks }
     ensures { result ≡ line_head kind track }
 {
     let mut piece = Piece::new();

@@ -1,12 +1,13 @@
 -- What stands after the blocks that a player was fed.
 use Rattle.std.proofs.Common.{◌≡◌, ℕ, ◌+◌, ◌-◌, ◌*◌, ◌<◌, ◌≤◌, List, length, refl, ap, ap₂, ◌∙◌, subst, sym, ◌&&◌, nat_le, true, inl, inr, arith}
+use Rattle.disc_time.specs.Counts.{last_block}
 use Rattle.std.proofs.lemmas.Bool.{cases_Bool}
 use Rattle.std.proofs.lemmas.Bool.Decides.{nat_tests}
 use Rattle.rw_interleave.specs.Interleave.{whole_packs}
 use Rattle.raw_subcode.specs.declared.form.Form.{Form}
 use Rattle.std.specs.Prelude.{take, drop}
 use Rattle.cdg_screen.specs.Picture.{Standing, SameStanding, standing_of, screen_pixel}
-use Rattle.live_player.specs.Lives.{latest, HasPlayed, IsLiveView, IsLiveViewAt}
+use Rattle.live_player.specs.Lives.{HasPlayed, IsLiveView, IsLiveViewAt}
 use Rattle.raw_subcode.specs.Channels.{symbols_of}
 use Rattle.raw_subcode.specs.declared.form.Form.TheVariants.{Raw}
 use Rattle.std.specs.List.{flat_map}
@@ -22,13 +23,13 @@ use Rattle.subcode_player.proofs.Views.{Drawings, IsReady, drawn_blocks, IsDrawn
 pub live_view : (form : Form) (lead_in : ℕ) (blocks : List (List ℕ)) (player : LivePlayer) → HasPlayed form lead_in blocks player → length blocks ≤ 1000000
     → IsLiveView form lead_in blocks (standing_of player.stages.second.picture)
 live_view form lead_in blocks player played few =
-    let ready : IsReady form lead_in latest played.start = record { words = played.begun.words; left = played.begun.left; bad = played.begun.bad; blank = played.begun.blank } in
-    let drawn : IsDrawn form lead_in latest blocks (player.stages).second = subst (λ (s : Drawings). IsDrawn form lead_in latest blocks s.second) (sym played.run) (drawn_blocks form lead_in latest played.start blocks ready few) in
+    let ready : IsReady form lead_in last_block played.start = record { words = played.begun.words; left = played.begun.left; bad = played.begun.bad; blank = played.begun.blank } in
+    let drawn : IsDrawn form lead_in last_block blocks (player.stages).second = subst (λ (s : Drawings). IsDrawn form lead_in last_block blocks s.second) (sym played.run) (drawn_blocks form lead_in last_block played.start blocks ready few) in
     record {
       found = found_in form (drop lead_in blocks);
       recovered = recovered form (drop lead_in blocks) (sized_drop 96 lead_in blocks played.sized);
-      instrs = instrs_of (take (whole_packs latest) (found_in form (drop lead_in blocks)));
-      shown = are_meant (take (whole_packs latest) (found_in form (drop lead_in blocks)));
+      instrs = instrs_of (take (whole_packs last_block) (found_in form (drop lead_in blocks)));
+      shown = are_meant (take (whole_packs last_block) (found_in form (drop lead_in blocks)));
       stands = drawn.stands;
     }
 
@@ -49,7 +50,7 @@ pub itself : (now : Standing) → SameStanding now now
 itself now = record { memory = λ x y x_lt y_lt. refl; border = refl; colour = λ k lt. refl; level = λ k lt. refl; h = refl; v = refl }
 
 -- of a raw stream, all packs that came are whole where the program is
-pub live_view_now : (lead_in : ℕ) (blocks : List (List ℕ)) (player : LivePlayer) → HasPlayed Raw lead_in blocks player → length blocks ≤ 1000000 → length blocks - lead_in ≤ latest
+pub live_view_now : (lead_in : ℕ) (blocks : List (List ℕ)) (player : LivePlayer) → HasPlayed Raw lead_in blocks player → length blocks ≤ 1000000 → length blocks - lead_in ≤ last_block
     → IsLiveViewAt Raw lead_in (length blocks - lead_in) blocks (standing_of player.stages.second.picture)
 live_view_now lead_in blocks player played few within =
     let view : IsLiveView Raw lead_in blocks (standing_of player.stages.second.picture) = live_view Raw lead_in blocks player played few in
@@ -58,7 +59,7 @@ live_view_now lead_in blocks player played few within =
     let symbols : length (flat_map symbols_of program) ≡ 96 * length program = length-all_symbols program (sized_drop 96 lead_in blocks played.sized) in
     let blocks_left : length program ≡ n = length-drop lead_in blocks in
     let count : length view.found ≡ whole_packs n = view.recovered.count ∙ ap whole_packs (omega (arith, symbols, blocks_left)) in
-    let same : take (whole_packs latest) view.found ≡ take (whole_packs n) view.found = take_all (whole_packs latest) view.found (omega (arith, count, within)) ∙ sym (take_all (whole_packs n) view.found (omega (arith, count))) in
+    let same : take (whole_packs last_block) view.found ≡ take (whole_packs n) view.found = take_all (whole_packs last_block) view.found (omega (arith, count, within)) ∙ sym (take_all (whole_packs n) view.found (omega (arith, count))) in
     record {
       found = view.found;
       recovered = view.recovered;

@@ -6,7 +6,7 @@ use Rattle.std.specs.List.{concat, flat_map}
 use Rattle.arrayvec.specs.ArrayVec.{ArrayVec}
 use Rattle.bit_lists.specs.Counting.{below}
 use Rattle.cdg_io.specs.Run.{give, run_state, run_gives}
-use Rattle.cdg_io.proofs.Runs.{run_gives-append, joined_first}
+use Rattle.cdg_io.proofs.Runs.{run_gives-append, then_next_first}
 use Rattle.raw_subcode.specs.Channels.{symbols_of}
 use Rattle.raw_subcode.specs.declared.form.Form.{Form}
 use Rattle.rw_interleave.specs.Stream.{form_word, word_count}
@@ -47,7 +47,7 @@ more_words form lead_in blocks block player size played =
     let start = played.start.first in
     let all : List (List ℕ) = blocks ++ block ∷ [] in
     let sized : Sized 96 all = sized_append 96 blocks (block ∷ []) played.sized (size, tt) in
-    let now : player.stages.first ≡ run_state words_next start blocks = ap (λ s. s.first) played.run ∙ joined_first words_next words_give drawing_next played.start blocks in
+    let now : player.stages.first ≡ run_state words_next start blocks = ap (λ s. s.first) played.run ∙ then_next_first words_next words_give drawing_next played.start blocks in
     let gives : run_gives words_next words_give start all ≡ run_gives words_next words_give start blocks ++ give (words_give player.stages.first block) [] =
     run_gives-append words_next words_give start blocks (block ∷ []) ∙ ap (λ b. run_gives words_next words_give start blocks ++ give (words_give b block) []) (sym now) in
     sym (words_of_stream form lead_in all sized) ∙ sym (block_words form lead_in start all played.begun.words) ∙ ap all_items gives

@@ -1,5 +1,6 @@
 -- A player that is fed block by block, and what it shows.
 use Rattle.std.specs.Prelude.{◌≡◌, ◌/◌, ◌%◌, ℕ, List, length, map, drop, slice_index, Option}
+use Rattle.disc_time.specs.Counts.{last_block}
 use Rattle.bit_lists.specs.Counting.{below}
 use Rattle.std.specs.List.{flat_map, AllByRecursion}
 use Rattle.cdg_io.specs.Run.{run_state, then_second}
@@ -19,10 +20,6 @@ use Rattle.subcode_player.specs.declared.block_words.BlockWords.{BlockWords}
 use Rattle.subcode_player.specs.declared.drawing.Drawing.{Drawing}
 use Rattle.live_player.specs.declared.live.LivePlayer.{LivePlayer}
 
--- the latest moment of a stream, in blocks
-abbrev pub latest : ℕ
-latest = 449999
-
 -- what stands on a player's picture
 abbrev pub standing_on : LivePlayer → Standing
 standing_on player = standing_of player.stages.second.picture
@@ -37,7 +34,7 @@ live_next s block = record {
 -- the stages before the first block of a stream
 pub record IsLiveStart (form : Form) (lead_in : ℕ) (s : Then BlockWords Drawing) : Type 0 where
   pub words : s.first ≡ fresh_words form lead_in
-  pub left : s.second.left ≡ whole_packs latest
+  pub left : s.second.left ≡ whole_packs last_block
   pub bad : s.second.bad ≡ 0
   pub blank : SameStanding (standing_of s.second.picture) blank
 
@@ -66,7 +63,7 @@ pub record IsLiveViewAt (form : Form) (lead_in time : ℕ) (blocks : List (List 
 
 -- what they show at last
 abbrev pub IsLiveView : Form → ℕ → List (List ℕ) → Standing → Type 0
-IsLiveView form lead_in blocks now = IsLiveViewAt form lead_in latest blocks now
+IsLiveView form lead_in blocks now = IsLiveViewAt form lead_in last_block blocks now
 
 -- the instruction of 24 bytes, whose low six bits are symbols: the parity has no part in it
 unfoldable pub instruction_of : List ℕ → Instr

@@ -1,20 +1,21 @@
 // A player that is fed blocks as they come.
 ghost use Rattle.std.specs.Prelude.{◌≡◌, ◌<◌, ◌≤◌, ◌-◌, ◌/◌, ◌%◌, ◌++◌, ◌∷◌, [], List, ℕ, length, slice_index, IfOk};
+ghost use Rattle.raw_subcode.specs.Sizes.{most_units};
+ghost use Rattle.disc_time.specs.Counts.{last_block};
 ghost use Rattle.cdg_screen.specs.Picture.{Standing, screen_pixel};
 ghost use Rattle.raw_subcode.specs.declared.form.Form.{Form};
 ghost use Rattle.subcode_player.specs.Steps.{words_give};
-ghost use Rattle.live_player.specs.Lives.{latest, live_next, standing_on, stream_words, picture_byte, HasDrawn, HasPlayed, IsLiveView, IsLiveViewAt};
+ghost use Rattle.live_player.specs.Lives.{live_next, standing_on, stream_words, picture_byte, HasDrawn, HasPlayed, IsLiveView, IsLiveViewAt};
 
 use crate::looking;
 use arrayvec::ArrayVec;
 use cdg_io::{Stage, Then};
-use rw_code::Word;
+use disc_time::LAST_BLOCK;
+use raw_subcode::BLOCK_BYTES;
+use rw_code::{SYMBOLS, Word};
 use rw_interleave::Window;
 use std::alloc::{AllocError, Global};
 use subcode_player::{BlockOfWords, BlockWords, Drawing, Form, Picture};
-
-/// The latest moment of a stream, in blocks.
-const LATEST: u32 = 449_999;
 
 /// Plays a stream as its blocks come. All its memory is taken at the start.
 #[derive(Drop)]
@@ -29,7 +30,7 @@ impl LivePlayer {
     {
         let drawing = Drawing {
             picture: Picture::start(alloc)?,
-            left: 4 * LATEST - 7,
+            left: 4 * LAST_BLOCK - 7,
             bad: 0,
         };
         let words = BlockWords {
@@ -52,13 +53,13 @@ impl LivePlayer {
         words.lead_in = lead_in;
         words.gather.reset();
         let drawing = &mut self.stages.second;
-        drawing.left = 4 * LATEST - 7;
+        drawing.left = 4 * LAST_BLOCK - 7;
         drawing.bad = 0;
         drawing.picture.reset();
     }
 
     /// Takes the next block.
-    pub fn feed(&mut self, block: &[u8; 96])
+    pub fn feed(&mut self, block: &[u8; BLOCK_BYTES])
         ensures { (form : Form) (lead_in : ℕ) (blocks : List (List ℕ))
             → HasPlayed form lead_in blocks self.old
             → HasPlayed form lead_in (blocks ++ block.now ∷ []) self.new }
@@ -67,7 +68,7 @@ impl LivePlayer {
     }
 
     /// Takes the next block, and gives the words that came with it, at most four.
-    pub fn take(&mut self, block: &[u8; 96]) -> ArrayVec<Word, 4>
+    pub fn take(&mut self, block: &[u8; BLOCK_BYTES]) -> ArrayVec<Word, 4>
         ensures fed { (form : Form) (lead_in : ℕ) (blocks : List (List ℕ))
             → HasPlayed form lead_in blocks self.old
             → HasPlayed form lead_in (blocks ++ block.now ∷ []) self.new }
@@ -82,7 +83,7 @@ impl LivePlayer {
         }
     }
 
-    fn step(&mut self, block: &[u8; 96]) -> Option<BlockOfWords>
+    fn step(&mut self, block: &[u8; BLOCK_BYTES]) -> Option<BlockOfWords>
         ensures next { self.new.stages ≡ live_next self.old.stages block.now }
         ensures gives { result ≡ words_give self.old.stages.first block.now }
     {
@@ -95,7 +96,7 @@ impl LivePlayer {
 
     /// Draws a pack of 24 bytes, as a file of packs has them. The low six bits of each byte are its symbols,
     /// and the parity has no part in it.
-    pub fn draw(&mut self, pack: &[u8; 24])
+    pub fn draw(&mut self, pack: &[u8; SYMBOLS])
         ensures { (packs : List (List ℕ)) → HasDrawn packs self.old
             → HasDrawn (packs ++ pack.now ∷ []) self.new }
     {
@@ -105,11 +106,11 @@ impl LivePlayer {
     /// A law: what stands is what the blocks since the start show.
     pub fn shows_its_blocks(&self)
         ensures last { (form : Form) (lead_in : ℕ) (blocks : List (List ℕ))
-            → HasPlayed form lead_in blocks self.now → length blocks ≤ 1000000
+            → HasPlayed form lead_in blocks self.now → length blocks ≤ most_units
             → IsLiveView form lead_in blocks (standing_on self.now) }
         // Of a raw stream it is what stands at the moment that the program has come to.
         ensures so_far { (lead_in : ℕ) (blocks : List (List ℕ)) → HasPlayed Form.Raw lead_in blocks self.now
-            → length blocks ≤ 1000000 → length blocks - lead_in ≤ latest
+            → length blocks ≤ most_units → length blocks - lead_in ≤ last_block
             → IsLiveViewAt Form.Raw lead_in (length blocks - lead_in) blocks (standing_on self.now) }
     {}
 

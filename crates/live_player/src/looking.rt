@@ -4,18 +4,12 @@ ghost use Rattle.cdg_screen.specs.Picture.{screen_pixel, standing_of, standing_a
 ghost use Rattle.cdg_screen.specs.Texts.{colour_bytes};
 ghost use Rattle.live_player.specs.Lives.{instruction_of, picture_byte};
 
-use cdg_instructions::read_word;
-use rw_code::Word;
+use cdg_instructions::{SCREEN_PIXELS, SCREEN_WIDTH, read_word};
+use rw_code::{SYMBOLS, Word};
 use subcode_player::Picture;
 
-/// The pixels of a row of the screen.
-const WIDTH: usize = 300;
-
-/// The pixels of the screen.
-const PIXELS: usize = 64_800;
-
-/// Red, green and blue of each of them.
-const BYTES: usize = 194_400;
+/// Red, green and blue of each pixel.
+const BYTES: usize = 3 * SCREEN_PIXELS;
 
 /// The pixel of the screen at a place.
 pub(crate) fn pixel(picture: &Picture, x: u32, y: u32) -> u8
@@ -40,12 +34,16 @@ pub(crate) fn colour(picture: &Picture, k: u8) -> u16
 }
 
 /// The pixels of the screen, row by row.
-pub(crate) fn screen(picture: &Picture, pixels: &mut [u8; PIXELS])
+pub(crate) fn screen(picture: &Picture, pixels: &mut [u8; SCREEN_PIXELS])
     ensures { (n : ℕ) → n < 64800
         → slice_index pixels.new n ≡ screen_pixel (standing_of picture.now) (n % 300) (n / 300) }
 {
-    for i in 0..PIXELS {
-        pixels[i] = pixel(picture, (i % WIDTH) as u32, (i / WIDTH) as u32);
+    for i in 0..SCREEN_PIXELS {
+        pixels[i] = pixel(
+            picture,
+            (i % SCREEN_WIDTH) as u32,
+            (i / SCREEN_WIDTH) as u32,
+        );
     }
 }
 
@@ -106,7 +104,7 @@ fn part(colour: u16, part: u32) -> u8
 }
 
 /// Carries out the instruction of a pack, whose parity has no part in it.
-pub(crate) fn draw(picture: &mut Picture, pack: &[u8; 24])
+pub(crate) fn draw(picture: &mut Picture, pack: &[u8; SYMBOLS])
     ensures { SameStanding (standing_of picture.new)
         (standing_after (standing_of picture.old) (instruction_of pack.now ∷ [])) }
 {

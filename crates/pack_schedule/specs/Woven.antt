@@ -3,7 +3,8 @@ use Rattle.std.specs.Prelude.{◌≡◌, ℕ, ◌+◌, ◌-◌, ◌<◌, ◌≤�
 use Rattle.cdg_instructions.specs.Instruction.{IsWritten}
 use Rattle.cdg_instructions.specs.declared.instr.Instr.TheVariants.{Idle}
 use Rattle.picture_script.specs.Script.{Drawing, pictures}
-use Rattle.picture_changes.specs.Schedule.{start_of, idle_pack}
+use Rattle.cdg_instructions.specs.Packs.{idle_pack}
+use Rattle.picture_changes.specs.Schedule.{start_of}
 use Rattle.picture_changes.specs.PlannedChange.{planned_change}
 
 -- a script, and how many of its packs were given

@@ -1,6 +1,7 @@
 -- When the packs of a change are sent, so that each picture stands from its ready time to its hold time.
 use Rattle.std.specs.Prelude.{◌≡◌, ℕ, zero, suc, ◌+◌, ◌-◌, ◌*◌, ◌<◌, ◌≤◌, ◌⊎◌, List, [], length, replicate, slice_index_or}
 use Rattle.rw_interleave.specs.Interleave.{whole_packs}
+use Rattle.cdg_instructions.specs.Packs.{idle_pack}
 use Rattle.cdg_instructions.specs.Instruction.{IsWritten}
 use Rattle.picture_script.specs.Script.{Drawing, pictures, ready_time, hold_time}
 use Rattle.picture_changes.specs.Brings.{IsChange, IsNeed}
@@ -19,10 +20,6 @@ IsInTime script k need = start_of script k + need + 7 ≤ 4 * ready_time script 
 -- the packs that are free for picture k
 abbrev pub free_packs : List Drawing → ℕ → ℕ
 free_packs script k = whole_packs (ready_time script k) - start_of script k
-
--- an idle pack
-abbrev pub idle_pack : List ℕ
-idle_pack = replicate 24 0
 
 -- the packs of so many blocks hold the change of each picture from its start on, in time, and else are idle
 pub record IsSchedule (script : List Drawing) (blocks : ℕ) (packs : List (List ℕ)) : Type 0 where

@@ -2,4 +2,5 @@ pub mod Script
 pub mod Board
 pub mod Lines
 pub mod ScriptGrammar
+pub mod Sizes
 pub mod Stops

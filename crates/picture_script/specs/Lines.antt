@@ -1,7 +1,9 @@
 -- How the lines of a script are kept.
 use Rattle.std.specs.Prelude.{◌≡◌, ℕ, ◌+◌, ◌<◌, ◌≤◌, ⊤, Bool, true, false, ◌&&◌, nat_le, nat_lt, List, [], ◌∷◌, ◌++◌, length, map, take, drop, slice_index_or, All, Result, Ok, Err, MatchResult}
+use Rattle.disc_time.specs.Counts.{time_count}
 use Rattle.picture_script.specs.Script.{Drawing, Colour, Border, Fill, Rect, Row, Show, shows, lines_before}
 use Rattle.picture_script.specs.ScriptGrammar.{grown}
+use Rattle.picture_script.specs.Sizes.{most_pictures}
 use Rattle.picture_script.specs.Board.{AreColours}
 use Rattle.picture_script.specs.declared.line.Line.{Line}
 use Rattle.picture_script.specs.declared.line.Line.TheVariants.{TableColour, BorderColour, Filled, Rectangle, PixelRow, ShowLine}
@@ -49,10 +51,10 @@ pub record IsIndexed (pixels : List ℕ) (lines : List Line) (shown : List Shown
       → (slice_index_or shown k no_show).place ≡ length (lines_before (all_said pixels lines) k)
   pub lasting : (k : ℕ) → k < length shown
       → (slice_index_or shown k no_show).ready ≤ (slice_index_or shown k no_show).hold
-  pub ending : (k : ℕ) → k < length shown → (slice_index_or shown k no_show).hold < 450000
+  pub ending : (k : ℕ) → k < length shown → (slice_index_or shown k no_show).hold < time_count
   pub ordered : (k : ℕ) → k + 1 < length shown
       → (slice_index_or shown k no_show).hold < (slice_index_or shown (k + 1) no_show).ready
-  pub most : length shown ≤ 20000
+  pub most : length shown ≤ most_pictures
 
 -- what the lines of a draft say
 abbrev pub said_in : Draft → List Drawing

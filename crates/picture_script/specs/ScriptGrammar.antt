@@ -6,6 +6,7 @@ use Rattle.std.specs.Char.{is_ascii_hexdigit, digit_value}
 use Rattle.text_lines.specs.Text.{lines_of, without_blanks, words_in, is_some_bytes, number_in, parsed_time}
 use Rattle.text_lines.specs.Reading.{read_on}
 use Rattle.picture_script.specs.Script.{Drawing, Colour, Border, Fill, Rect, Row, Show, pictures, hold_time}
+use Rattle.picture_script.specs.Sizes.{most_pictures}
 use Rattle.picture_script.specs.declared.reasons.ScriptWhy.{ScriptWhy}
 use Rattle.picture_script.specs.declared.reasons.ScriptWhy.TheVariants.{UnknownCommand, BadArgument, OutOfRange, TimeOrder, TooMany}
 
@@ -116,7 +117,7 @@ is_after_hold before ready = pictures before == 0 || nat_lt (hold_time before (p
 abbrev pub later_reason : List Drawing → Drawing → Option ScriptWhy
 later_reason before (Show ready hold) =
     if nat_lt hold ready || not (is_after_hold before ready) then Some TimeOrder
-    else (if nat_le 20000 (pictures before) then Some TooMany else None)
+    else (if nat_le most_pictures (pictures before) then Some TooMany else None)
 later_reason before line = if is_in_range line then None else Some OutOfRange
 
 -- a line, unless there is a reason to refuse it

@@ -1,8 +1,8 @@
 // A canvas on which the pictures of a script are drawn.
 use crate::line::Line;
 use crate::script::Script;
-use crate::window::{WIDTH, Window};
-use cdg_instructions::{PIXELS, Tile};
+use crate::window::Window;
+use cdg_instructions::{PIXELS, Tile, WINDOW_WIDTH};
 use std::alloc::{AllocError, Global};
 use std::marker::Model;
 
@@ -167,7 +167,7 @@ impl Canvas {
         ensures { IsTrue result ↔ ((column : ℕ) → 1 ≤ column → column ≤ 48
             → tile_of self.now.pixels row column ≡ tile_of other.now.pixels row column) }
     {
-        let count = 12 * WIDTH;
+        let count = 12 * WINDOW_WIDTH;
         self.window
             .has_part_of(&other.window, count * (usize::from(row) - 1), count)
     }
@@ -185,7 +185,7 @@ impl Canvas {
         for j in 0..12 {
             if !self
                 .window
-                .has_line_of(&other.window, WIDTH * (top + j) + left)
+                .has_line_of(&other.window, WINDOW_WIDTH * (top + j) + left)
             {
                 return false;
             }

@@ -37,8 +37,10 @@ impl<T: Drop> From<AllocFailed<T>> for LineStop {
 
 impl Draft {
     ghost use Rattle.std.specs.Prelude.{◌<◌, ◌≤◌, ◌+◌, [], length};
+    ghost use Rattle.disc_time.specs.Counts.{time_count};
     ghost use Rattle.picture_script.specs.Script.{pictures, Row, Show};
     ghost use Rattle.picture_script.specs.ScriptGrammar.{is_after_hold};
+    ghost use Rattle.picture_script.specs.Sizes.{most_pictures};
     ghost use Rattle.picture_script.specs.Lines.{said, said_in, IsSound, Adds, is_kept, is_drawing};
 
     /// No lines.
@@ -100,9 +102,9 @@ impl Draft {
     pub(crate) fn push_show(&mut self, ready: u32, hold: u32) -> Result<(), LineStop>
         requires sound { IsSound self.old }
         requires order { ready ≤ hold }
-        requires ending { hold < 450000 }
+        requires ending { hold < time_count }
         requires after { is_after_hold (said_in self.old) ready ≡ true }
-        requires room { pictures (said_in self.old) < 20000 }
+        requires room { pictures (said_in self.old) < most_pictures }
         ensures ok { OnOk result (Adds self.old self.new (Show ready hold)) }
         ensures err { IfErr result (λ stop. stop ≡ LineStop.NoRoom) }
     {

@@ -8,6 +8,7 @@ ghost use Rattle.picture_script.specs.Lines.{said_in, IsSound, Stops, Takes};
 use crate::draft::{Draft, LineStop};
 use crate::line::Line;
 use crate::reasons::ScriptWhy;
+use crate::sizes::MOST_PICTURES;
 use crate::words::{colour_words, numbers, row_words, show_words};
 
 impl Draft {
@@ -101,7 +102,7 @@ impl Draft {
         if !self.is_after_hold(ready) {
             return Err(LineStop::Refused(ScriptWhy::TimeOrder));
         }
-        if self.shown.len() >= 20_000 {
+        if self.shown.len() >= MOST_PICTURES {
             return Err(LineStop::Refused(ScriptWhy::TooMany));
         }
         self.push_show(ready, hold)

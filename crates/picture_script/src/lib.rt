@@ -8,9 +8,11 @@ mod line;
 mod parse;
 mod reasons;
 mod script;
+mod sizes;
 mod window;
 mod words;
 
 pub use canvas::Canvas;
 pub use reasons::{ScriptStop, ScriptWhy};
 pub use script::Script;
+pub use sizes::MOST_PICTURES;

@@ -41,6 +41,7 @@ impl Draft {
 
 impl Script {
     ghost use Rattle.std.specs.Prelude.{◌≤◌, length, Ok, IfOk, IfErr};
+    ghost use Rattle.text_lines.specs.Text.{most_text_bytes};
     ghost use Rattle.picture_script.specs.ScriptGrammar.{read_script};
     ghost use Rattle.picture_script.specs.Stops.{StopsAt};
 
@@ -58,7 +59,7 @@ impl Script {
     /// `Fault` at the first line that is refused, with its first reason. `NoMemory` where there is no memory for the
     /// script.
     pub fn parse(alloc: Global, text: &[u8]) -> Result<Script, ScriptStop>
-        requires { length text.now ≤ 67108864 }
+        requires { length text.now ≤ most_text_bytes }
         ensures ok { IfOk result (λ script. read_script text.now ≡ Ok script) }
         ensures err { IfErr result (StopsAt (read_script text.now)) }
     {

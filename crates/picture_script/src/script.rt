@@ -27,19 +27,21 @@ impl Model for Script {
 
 impl Script {
     ghost use Rattle.std.specs.Prelude.{◌≡◌, ◌<◌, ◌≤◌, ◌+◌, ◌++◌, ◌-◌, ℕ, List, [], ◌∷◌, length, take, slice_index, slice_index_or, IfOk, IfSome, OnOk, IsTrue};
+    ghost use Rattle.disc_time.specs.Counts.{time_count};
     ghost use Rattle.picture_script.specs.Script.{pictures, ready_time, hold_time, picture_pixel, picture_border, picture_colour, lines_before, Drawing, Fill, Show, Row};
     ghost use Rattle.picture_script.specs.Lines.{said};
+    ghost use Rattle.picture_script.specs.Sizes.{most_pictures};
 
     /// How many pictures it shows.
     pub fn pictures(&self) -> u32
         ensures value { result ≡ pictures self.now }
-        ensures most { result ≤ 20000 }
+        ensures most { result ≤ most_pictures }
 
         // Each picture is held from its ready time on, and the next one is ready later.
         ensures held { (k : ℕ) → k < pictures self.now → ready_time self.now k ≤ hold_time self.now k }
         ensures later { (k : ℕ) → k + 1 < pictures self.now
             → hold_time self.now k < ready_time self.now (k + 1) }
-        ensures ends { (k : ℕ) → k < pictures self.now → hold_time self.now k < 450000 }
+        ensures ends { (k : ℕ) → k < pictures self.now → hold_time self.now k < time_count }
 
         // The numbers of colours are below 16, and the colours of the table have twelve bits.
         ensures pixels { (k x y : ℕ) → picture_pixel self.now k x y < 16 }
@@ -55,7 +57,7 @@ impl Script {
         requires { k < pictures self.now }
         ensures value { result ≡ ready_time self.now k }
         ensures order { result ≤ hold_time self.now k }
-        ensures below { result < 450000 }
+        ensures below { result < time_count }
     {
         self.shown[k as usize].ready
     }
@@ -65,7 +67,7 @@ impl Script {
         requires { k < pictures self.now }
         ensures value { result ≡ hold_time self.now k }
         ensures order { k + 1 < pictures self.now → result < ready_time self.now (k + 1) }
-        ensures below { result < 450000 }
+        ensures below { result < time_count }
     {
         self.shown[k as usize].hold
     }

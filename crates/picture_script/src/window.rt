@@ -3,13 +3,9 @@ ghost use Rattle.std.specs.Prelude.{◌≡◌, ◌<◌, ◌≤◌, ◌+◌, ◌-
 ghost use Rattle.picture_script.specs.Script.{is_within};
 ghost use Rattle.picture_script.specs.Board.{pixel_of, ArePixelsOf, AreWindowPixels, AreColours};
 
+use cdg_instructions::{WINDOW_HEIGHT, WINDOW_WIDTH};
 use std::alloc::{AllocError, Global};
 use std::marker::Model;
-
-// How many pixels a window has across and down.
-pub(crate) const WIDTH: usize = 288;
-
-const HEIGHT: usize = 192;
 
 /// The colours of the pixels, row by row from the left.
 #[derive(Drop)]
@@ -30,7 +26,7 @@ impl Window {
     pub(crate) fn new(alloc: Global) -> Result<Window, AllocError>
         ensures { IfOk result (λ w. ArePixelsOf w (λ x y. 0)) }
     {
-        let pixels = vec![in alloc; 0; WIDTH * HEIGHT]?;
+        let pixels = vec![in alloc; 0; WINDOW_WIDTH * WINDOW_HEIGHT]?;
         Ok(Window { pixels })
     }
 
@@ -40,7 +36,7 @@ impl Window {
         ensures pixel { result ≡ pixel_of self.now x y }
         ensures range { result < 16 }
     {
-        self.pixels[WIDTH * y + x]
+        self.pixels[WINDOW_WIDTH * y + x]
     }
 
     /// Whether the pixels from a place on, row by row, are those of another window.
@@ -75,7 +71,7 @@ impl Window {
         ensures pixels { (i : ℕ) → i < 6 → slice_index out.new i ≡ pixel_of self.now (x + i) y }
         ensures range { (i : ℕ) → slice_index out.new i < 16 }
     {
-        let start = WIDTH * y + x;
+        let start = WINDOW_WIDTH * y + x;
         out.copy_from_slice(&self.pixels[start..start + 6]);
     }
 
@@ -95,7 +91,7 @@ impl Window {
         ensures { ArePixelsOf self.new (λ x' y'.
             if y' == y && is_within x width x' then colour else pixel_of self.old x' y') }
     {
-        let start = WIDTH * y + x;
+        let start = WINDOW_WIDTH * y + x;
         self.pixels[start..start + width].fill(colour);
     }
 
@@ -120,7 +116,7 @@ impl Window {
         ensures { ArePixelsOf self.new (λ x' y'.
             if is_within x (length colours.now) x' && y' == y then slice_index colours.now (x' - x) else pixel_of self.old x' y') }
     {
-        let start = WIDTH * y + x;
+        let start = WINDOW_WIDTH * y + x;
         self.pixels[start..start + colours.len()].copy_from_slice(colours);
     }
 }

@@ -1,5 +1,6 @@
 // The words of a line.
 ghost use Rattle.std.specs.Prelude.{◌≡◌, ◌≢◌, ◌<◌, ◌≤◌, ◌+◌, ◌∷◌, [], length, MatchOption, Some, None, if◌then◌else◌, IfSome, All, ℕ, List, ◌&&◌, map, true};
+ghost use Rattle.disc_time.specs.Counts.{time_count};
 ghost use Rattle.std.specs.Char.{is_ascii_hexdigit, digit_value};
 ghost use Rattle.std.specs.List.{list_all};
 ghost use Rattle.text_lines.specs.Text.{words_in, is_some_bytes};
@@ -109,7 +110,7 @@ pub(crate) fn row_words(words: &[u8]) -> Option<(u16, u16, &[u8])>
 pub(crate) fn show_words(words: &[u8]) -> Option<(u32, u32)>
     ensures value { MatchOption result (show_line (words_in words.now) ≡ None)
         (λ said. show_line (words_in words.now) ≡ Some (Show said.0 said.1)) }
-    ensures below { IfSome result (λ said. said.1 < 450000) }
+    ensures below { IfSome result (λ said. said.1 < time_count) }
 {
     let (ready_word, hold_word) = two_words(words)?;
     let ready = time(ready_word)?;

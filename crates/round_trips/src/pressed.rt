@@ -1,6 +1,7 @@
 // Laws on pressed streams: what can be pressed has one, what a failed write leaves is a prefix of it, and what comes
 // back of it.
 ghost use Rattle.std.specs.Prelude.{◌≡◌, ◌≤◌, ◌+◌, ◌*◌, List, Option, Some, ℕ, map};
+ghost use Rattle.disc_time.specs.Counts.{most_lead_in};
 ghost use Rattle.raw_subcode.specs.Channels.{program_symbols};
 ghost use Rattle.raw_subcode.specs.declared.form.Form.{Form};
 ghost use Rattle.cue_sheet.specs.CueSheet.{CueSheet, IsSheet};
@@ -39,7 +40,7 @@ pub fn pressed_streams_are_one()
 /// of a stream, which is all that stands after a failed write of `press_stream`, is a prefix of it.
 pub fn pressable_files_have_streams()
     ensures stream { (sheet : CueSheet) (file : List ℕ) (lead_in audio : ℕ)
-        → IsSheet sheet → lead_in ≤ 450000 → IsPressable sheet file lead_in audio
+        → IsSheet sheet → lead_in ≤ most_lead_in → IsPressable sheet file lead_in audio
         → (bytes : List ℕ) × (packs : List (List ℕ))
         × IsPressed (press_of sheet file lead_in audio) bytes packs }
     ensures part { (sheet : CueSheet) (file : List ℕ) (lead_in audio n : ℕ) (bytes : List ℕ)

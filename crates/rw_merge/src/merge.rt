@@ -15,15 +15,10 @@ ghost use Rattle.rw_merge.specs.Steps.{AreAgreements, leading_slots, window_afte
 use crate::packs::Packs;
 use crate::pairs::{next_pair, nothing_follows};
 use cdg_io::{Failed, Sink, Source, put_all};
+use raw_subcode::{BLOCK_BYTES, MOST_UNITS};
 use rw_interleave::{Window, text_of_packs};
 use std::alloc::{AllocError, Global};
 use std::marker::Model;
-
-/// The bytes of a block.
-pub(crate) const BLOCK: usize = 96;
-
-/// The most blocks of an input.
-const MOST_BLOCKS: u32 = 1_000_000;
 
 /// What was merged of two whole inputs.
 #[derive(Clone, Copy, Debug, PartialEq, Eq)]
@@ -190,10 +185,10 @@ impl Merger {
         ensures no_write_fault { result ≢ Err MergeStop.WriteFault
             → K.faults out.new ≡ K.faults out.old }
     {
-        let mut one = [0; BLOCK];
-        let mut other = [0; BLOCK];
+        let mut one = [0; BLOCK_BYTES];
+        let mut other = [0; BLOCK_BYTES];
         let mut bad = 0;
-        for block in 0..MOST_BLOCKS {
+        for block in 0..MOST_UNITS {
             match next_pair(first, second, &mut one, &mut other, block) {
                 Ok(true) => {}
                 Ok(false) => {
@@ -215,7 +210,7 @@ impl Merger {
         }
         match nothing_follows(first, second) {
             Ok(()) => Ok(Merged {
-                blocks: MOST_BLOCKS - lead_in,
+                blocks: MOST_UNITS - lead_in,
                 bad,
             }),
             Err(stop) => Err(stop),
@@ -223,7 +218,7 @@ impl Merger {
     }
 
     /// The packs that come with a pair of program blocks.
-    fn merge(&mut self, first: &[u8; BLOCK], second: &[u8; BLOCK]) -> Packs
+    fn merge(&mut self, first: &[u8; BLOCK_BYTES], second: &[u8; BLOCK_BYTES]) -> Packs
         requires { length self.old.first ≡ length self.old.second }
         ensures first { self.new.first ≡ window_after self.old.first (leading_slots 4 first.now) }
         ensures second { self.new.second ≡ window_after self.old.second (leading_slots 4 second.now) }

@@ -4,8 +4,9 @@ ghost use Rattle.std.specs.Io.KnownBytes.{Consumes};
 ghost use Rattle.cdg_io.specs.Causes.{Rose};
 ghost use Rattle.rw_merge.specs.Steps.{IsEndRead, IsPairRead, TellsFirstAfter, TellsFirstOfPair, TellsSecondAfter, TellsSecondOfPair, taken_of};
 
-use crate::merge::{BLOCK, MergeStop};
+use crate::merge::MergeStop;
 use cdg_io::{Failed, Source, fill};
+use raw_subcode::BLOCK_BYTES;
 
 /// Reads a block of the first input, and then one of the second. False where both inputs are at their end.
 ///
@@ -14,8 +15,8 @@ use cdg_io::{Failed, Source, fill};
 pub(crate) fn next_pair<S: Source, T: Source>(
     first: &mut S,
     second: &mut T,
-    one: &mut [u8; BLOCK],
-    other: &mut [u8; BLOCK],
+    one: &mut [u8; BLOCK_BYTES],
+    other: &mut [u8; BLOCK_BYTES],
     block: u32,
 ) -> Result<bool, MergeStop>
     ensures pair { (xs ys : List ℕ) × Consumes (S.left first.old) (S.left first.new) xs
@@ -37,14 +38,14 @@ pub(crate) fn next_pair<S: Source, T: Source>(
         Ok(count) => count,
         Err(Failed) => return Err(MergeStop::FirstFault),
     };
-    if 0 < from_first && from_first < BLOCK {
+    if 0 < from_first && from_first < BLOCK_BYTES {
         return Err(MergeStop::Torn { block });
     }
     let from_second = match fill(second, other) {
         Ok(count) => count,
         Err(Failed) => return Err(MergeStop::SecondFault),
     };
-    if 0 < from_second && from_second < BLOCK {
+    if 0 < from_second && from_second < BLOCK_BYTES {
         return Err(MergeStop::SecondTorn { block });
     }
     if from_first != from_second {

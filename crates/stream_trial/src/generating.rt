@@ -1,5 +1,6 @@
 // The script and the sheet of a trial.
 ghost use Rattle.std.specs.Prelude.{◌≡◌, ◌≤◌, IfOk, IfErr};
+ghost use Rattle.cdg_workload.specs.Script.{most_generated};
 ghost use Rattle.cdg_workload.specs.Generated.{generated_drawings};
 ghost use Rattle.stream_trial.specs.TrialSheet.{trial_sheet};
 ghost use Rattle.stream_trial.specs.declared.stops.TrialStop.TheVariants.{NoMemory};
@@ -26,7 +27,7 @@ const SHEET: &[u8] = b"\
 
 /// The generated script of a seed.
 pub(crate) fn parse_script(alloc: Global, seed: u64, pictures: u32) -> Result<Script, TrialStop>
-    requires { (1 ≤ pictures) × (pictures ≤ 500) }
+    requires { (1 ≤ pictures) × (pictures ≤ most_generated) }
     ensures script { IfOk result (λ script. script ≡ generated_drawings seed pictures) }
     ensures err { IfErr result (λ stop. stop ≡ NoMemory) }
 {

@@ -1,5 +1,6 @@
 // The instructions of all changes of a script.
 ghost use Rattle.std.specs.Prelude.{◌≡◌, ◌<◌, ◌≤◌, ◌+◌, ◌*◌, ℕ, IfOk, IfErr};
+ghost use Rattle.disc_time.specs.Counts.{time_count};
 ghost use Rattle.cdg_workload.specs.Generated.{generated_drawings};
 ghost use Rattle.stream_trial.specs.Trial.{all_changes};
 ghost use Rattle.stream_trial.specs.declared.stops.TrialStop.TheVariants.{NoMemory};
@@ -12,7 +13,7 @@ use std::alloc::Global;
 
 /// How many instructions the changes of a generated script have, which fits in so many blocks.
 pub(crate) fn count_changes(alloc: Global, script: &Script, blocks: u32) -> Result<u64, TrialStop>
-    requires few { blocks < 450000 }
+    requires few { blocks < time_count }
     requires script { (seed count : ℕ) × (script.now ≡ generated_drawings seed count)
         × (800 * count + 20 ≤ blocks) }
     ensures sum { IfOk result (λ sum. sum ≡ all_changes script.now) }

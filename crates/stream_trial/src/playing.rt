@@ -8,11 +8,9 @@ use crate::replay::Replay;
 use cdg_screen::instructions_in_turn;
 use picture_changes::scheduled_pictures_are_shown;
 use picture_script::Script;
+use raw_subcode::BLOCK_BYTES;
 use rw_interleave::{Window, gather_gives_words};
 use std::alloc::{AllocError, Global};
-
-/// The bytes of a block.
-const BLOCK_BYTES: usize = 96;
 
 /// What was counted of a stream.
 #[derive(Clone, Copy)]

@@ -1,5 +1,6 @@
 // The sheet of a trial.
 ghost use Rattle.std.specs.Prelude.{◌≡◌, ◌≤◌, ◌+◌, ◌*◌, ◌⊎◌, ℕ, Ok};
+ghost use Rattle.cdg_workload.specs.Script.{most_generated};
 ghost use Rattle.cue_sheet.specs.Grammar.{read_cue};
 ghost use Rattle.toc_model.specs.Places.{audio_need, program_blocks};
 ghost use Rattle.subcode_author.specs.AuthorAnswer.{IsAccepted, IsAuthorStop};
@@ -17,9 +18,9 @@ pub fn trial_sheet_is_read()
     ensures read { read_cue trial_text ≡ Ok trial_sheet }
     ensures need { audio_need trial_sheet ≡ 1 }
     ensures blocks { (audio : ℕ) → program_blocks trial_sheet audio ≡ 150 + audio }
-    ensures accepted { (seed count : ℕ) → count ≤ 500
+    ensures accepted { (seed count : ℕ) → count ≤ most_generated
         → IsAccepted trial_sheet (generated_drawings seed count) 0 (800 * count + 20) }
-    ensures stop { (seed count : ℕ) (stop : AuthorStop) → count ≤ 500
+    ensures stop { (seed count : ℕ) (stop : AuthorStop) → count ≤ most_generated
         → IsAuthorStop trial_sheet (generated_drawings seed count) 0 (800 * count + 20) stop
         → (stop ≡ AuthorStop.NoMemory) ⊎ (stop ≡ AuthorStop.WriteFault) }
 {

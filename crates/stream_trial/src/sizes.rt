@@ -1,5 +1,6 @@
 // How long the stream of a trial is.
 ghost use Rattle.std.specs.Prelude.{◌≡◌, ◌≤◌};
+ghost use Rattle.cdg_workload.specs.Script.{most_generated};
 ghost use Rattle.stream_trial.specs.Trial.{trial_audio, trial_blocks};
 
 use cdg_workload::{BLOCKS_A_PICTURE, BLOCKS_HELD};
@@ -9,7 +10,7 @@ const PAUSE_BLOCKS: u32 = 150;
 
 /// How many blocks the audio has.
 pub(crate) fn count_audio(pictures: u32) -> u32
-    requires { pictures ≤ 500 }
+    requires { pictures ≤ most_generated }
     ensures { result ≡ trial_audio pictures }
 {
     BLOCKS_A_PICTURE * pictures + BLOCKS_HELD
@@ -17,7 +18,7 @@ pub(crate) fn count_audio(pictures: u32) -> u32
 
 /// How many blocks the program has.
 pub(crate) fn count_blocks(pictures: u32) -> u32
-    requires { pictures ≤ 500 }
+    requires { pictures ≤ most_generated }
     ensures { result ≡ trial_blocks pictures }
 {
     count_audio(pictures) + PAUSE_BLOCKS

@@ -1,5 +1,6 @@
 // The stream of a trial, and the same with scratches.
 ghost use Rattle.std.specs.Prelude.{◌≡◌, ◌≤◌, ◌%◌, ℕ, List, length, IfOk, IfErr};
+ghost use Rattle.cdg_workload.specs.Script.{most_generated};
 ghost use Rattle.cdg_workload.specs.Scratches.{scratched};
 ghost use Rattle.cdg_workload.specs.Generated.{generated_drawings};
 ghost use Rattle.stream_trial.specs.TrialSheet.{trial_sheet};
@@ -14,11 +15,9 @@ use cdg_io::{MemSink, PumpStop, SteadySource};
 use cdg_workload::scratch;
 use cue_sheet::Sheet;
 use picture_script::Script;
+use raw_subcode::BLOCK_BYTES;
 use std::alloc::Global;
 use subcode_author::{AuthorStop, author_stream};
-
-/// The bytes of a block.
-const BLOCK_BYTES: usize = 96;
 
 /// The stream of the sheet with one track and of a generated script of so many pictures, with no lead-in.
 pub(crate) fn make_stream(
@@ -27,7 +26,7 @@ pub(crate) fn make_stream(
     script: &Script,
     pictures: u32,
 ) -> Result<MemSink, TrialStop>
-    requires few { pictures ≤ 500 }
+    requires few { pictures ≤ most_generated }
     requires sheet { sheet.now ≡ trial_sheet }
     requires script { (seed : ℕ) × (script.now ≡ generated_drawings seed pictures) }
     ensures stream { IfOk result (λ stream. (packs : List (List ℕ))

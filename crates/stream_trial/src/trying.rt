@@ -1,5 +1,6 @@
 // A trial of a seed.
 ghost use Rattle.std.specs.Prelude.{◌≡◌, ◌≢◌, ◌≤◌, ℕ, List, Err, OnOk, IfOk, IfErr};
+ghost use Rattle.cdg_workload.specs.Script.{most_generated};
 ghost use Rattle.std.specs.Io.KnownBytes.{Appends};
 ghost use Rattle.cdg_io.specs.Causes.{Rose};
 ghost use Rattle.cdg_io.specs.Moves.{AppendsPrefix};
@@ -33,7 +34,7 @@ use std::alloc::Global;
 ///
 /// `NoMemory` before anything is written. After `WriteFault` a prefix of the lines was written.
 pub fn trial<K: Sink>(alloc: Global, seed: u64, pictures: u32, out: &mut K) -> Result<(), TrialStop>
-    requires { (1 ≤ pictures) × (pictures ≤ 500) }
+    requires { (1 ≤ pictures) × (pictures ≤ most_generated) }
     // The lines were written.
     ensures lines { OnOk result
         ((text : List ℕ) × IsTrial seed pictures text × Appends (K.held out.old) (K.held out.new) text) }
@@ -56,7 +57,7 @@ pub fn trial<K: Sink>(alloc: Global, seed: u64, pictures: u32, out: &mut K) -> R
 
 /// What the lines of a trial say.
 fn make_report(alloc: Global, seed: u64, pictures: u32) -> Result<Report, TrialStop>
-    requires { (1 ≤ pictures) × (pictures ≤ 500) }
+    requires { (1 ≤ pictures) × (pictures ≤ most_generated) }
     ensures report { IfOk result (λ report. IsTrial seed pictures (told report)) }
     ensures err { IfErr result (λ stop. stop ≡ NoMemory) }
 {

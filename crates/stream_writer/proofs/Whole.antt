@@ -11,7 +11,8 @@ use Rattle.rw_interleave.specs.Spreading.{filled_with_idle}
 use Rattle.toc_model.specs.Places.{DiscLayout}
 use Rattle.stream_writer.specs.Blocks.{stream_bytes}
 use Rattle.stream_writer.specs.Framing.{HasFraming}
-use Rattle.stream_writer.specs.Given.{AreGiven, CarriesComing, PutsStream, PutsStreamPart, framing_of, idle_pack, symbols_from}
+use Rattle.cdg_instructions.specs.Packs.{idle_pack}
+use Rattle.stream_writer.specs.Given.{AreGiven, CarriesComing, PutsStream, PutsStreamPart, framing_of, symbols_from}
 
 -- the packs that the end of so many blocks cuts are idle
 abbrev pub AreCutIdle : (ℕ → List ℕ → Type 0) → ℕ → Type 0

@@ -6,6 +6,7 @@ use Rattle.bit_lists.specs.Counting.{below}
 use Rattle.cdg_io.specs.Change.{Bytes, Change}
 use Rattle.cdg_io.specs.Run.{run_gives, run_state}
 use Rattle.cdg_io.specs.Moves.{AppendsPrefix}
+use Rattle.cdg_instructions.specs.Packs.{idle_pack}
 use Rattle.raw_subcode.specs.Channels.{program_symbols}
 use Rattle.raw_subcode.specs.declared.form.Form.TheVariants.{Raw}
 use Rattle.rw_code.specs.Codeword.{IsCodeword}
@@ -20,10 +21,6 @@ use Rattle.stream_writer.specs.Framing.{HasFraming}
 -- the symbols of all slots over which packs are spread, where these packs came before
 abbrev pub symbols_from : List (List ℕ) → List (List ℕ) → List ℕ
 symbols_from before packs = concat (run_gives spread_next spread_gives before packs)
-
--- an idle pack
-abbrev pub idle_pack : List ℕ
-idle_pack = replicate symbols_a_slot 0
 
 -- after so many packs these come
 abbrev pub ComesLater : (ℕ → List ℕ → Type 0) → ℕ → (ℕ → List ℕ → Type 0) → Type 0

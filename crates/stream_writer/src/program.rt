@@ -6,7 +6,7 @@ ghost use Rattle.rw_interleave.specs.Spreading.{spread_gives, spread_next};
 ghost use Rattle.stream_writer.specs.Given.{AreQuiet, ComesLater, TakesPack, TakesPacks};
 
 use crate::source::PackSource;
-use raw_subcode::{BLOCK_BYTES, SLOTS_A_BLOCK};
+use raw_subcode::{BLOCK_BYTES, SLOTS_A_BLOCK, SYMBOLS_A_SLOT};
 use rw_code::Pack;
 use rw_interleave::{PACKS_KEPT_BACK, Spread};
 
@@ -29,13 +29,17 @@ pub(crate) fn next_symbols<P: PackSource>(
     let mut symbols = [0; BLOCK_BYTES];
     for k in 0..SLOTS_A_BLOCK {
         let slot = next_slot(source, spread, quiet);
-        symbols[24 * k..24 * k + 24].copy_from_slice(&slot);
+        symbols[SYMBOLS_A_SLOT * k..SYMBOLS_A_SLOT * k + SYMBOLS_A_SLOT].copy_from_slice(&slot);
     }
     symbols
 }
 
 /// The symbols of the next slot, which comes with one more pack.
-fn next_slot<P: PackSource>(source: &mut P, spread: &mut Spread, quiet: &mut u8) -> [u8; 24]
+fn next_slot<P: PackSource>(
+    source: &mut P,
+    spread: &mut Spread,
+    quiet: &mut u8,
+) -> [u8; SYMBOLS_A_SLOT]
     requires { AreQuiet spread.old quiet.old }
     ensures slot { (pack : List ℕ) × TakesPack (P.comes source.old) spread.old spread.new result pack }
     ensures word { IsWord result }
@@ -44,7 +48,7 @@ fn next_slot<P: PackSource>(source: &mut P, spread: &mut Spread, quiet: &mut u8)
 {
     let Some(pack) = source.next_pack() else {
         if *quiet >= ALL_QUIET {
-            return [0; 24];
+            return [0; SYMBOLS_A_SLOT];
         }
         *quiet += 1;
         return slot_with(spread, &Pack::idle());

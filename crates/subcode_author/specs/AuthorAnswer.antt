@@ -1,5 +1,6 @@
 -- When a stream is written, and otherwise the first refusal that holds.
 use Rattle.std.specs.Prelude.{◌≡◌, ℕ, ◌<◌, ◌≤◌, ⊤, List}
+use Rattle.disc_time.specs.Counts.{most_program}
 use Rattle.cue_sheet.specs.CueSheet.{CueSheet}
 use Rattle.toc_model.specs.Places.{audio_need, program_blocks}
 use Rattle.picture_script.specs.Script.{Drawing, pictures}
@@ -23,7 +24,7 @@ AreReady script = (k need : ℕ) → k < pictures script → IsNeed script k nee
 abbrev pub IsDiscStop : CueSheet → List Drawing → ℕ → AuthorStop → Type 0
 IsDiscStop sheet script audio (LengthShort need) = (need ≡ audio_need sheet) × (audio < audio_need sheet)
 IsDiscStop sheet script audio (DiscTooLong blocks) = (audio_need sheet ≤ audio)
-    × (blocks ≡ program_blocks sheet audio) × (449999 < blocks)
+    × (blocks ≡ program_blocks sheet audio) × (most_program < blocks)
 IsDiscStop sheet script audio (PastEnd blocks) = HasLayout sheet audio × (blocks ≡ program_blocks sheet audio)
     × IsPastEnd script blocks
 IsDiscStop sheet script audio NoMemory = HasLayout sheet audio

@@ -1,5 +1,6 @@
 // Writing the stream of a sheet and a script.
 ghost use Rattle.std.specs.Prelude.{◌≡◌, ◌≢◌, ◌<◌, ◌≤◌, List, ℕ, IfErr, OnOk, Err};
+ghost use Rattle.disc_time.specs.Counts.{most_lead_in, most_program};
 ghost use Rattle.std.specs.Io.KnownBytes.{Appends};
 ghost use Rattle.cdg_io.specs.Causes.{Rose};
 ghost use Rattle.picture_script.specs.Script.{pictures};
@@ -40,8 +41,8 @@ pub fn author_stream<K: Sink>(
     length: u32,
     out: &mut K,
 ) -> Result<(), AuthorStop>
-    requires lead_in { lead_in ≤ 450000 }
-    requires length { length ≤ 449999 }
+    requires lead_in { lead_in ≤ most_lead_in }
+    requires length { length ≤ most_program }
     // The authored stream with the planned changes was written.
     ensures authored { OnOk result ((bytes : List ℕ) × (packs : List (List ℕ))
         × IsWrittenStream (disc_of sheet.now script.now lead_in length) bytes packs

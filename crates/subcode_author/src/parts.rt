@@ -1,5 +1,6 @@
 // The parts of a stream, which are all at hand before anything is written.
 ghost use Rattle.std.specs.Prelude.{◌≡◌, ◌<◌, ◌↔◌, List, ℕ, IfOk, IfErr, OnOk, IsTrue};
+ghost use Rattle.disc_time.specs.Counts.{time_count};
 ghost use Rattle.toc_model.specs.Places.{layout_of};
 ghost use Rattle.pack_schedule.specs.Survey.{IsPastEnd, IsSurvey, IsWithin};
 ghost use Rattle.pack_schedule.specs.declared.planned.Planned.{Planned};
@@ -19,7 +20,7 @@ pub(crate) fn lay_out(
     script: &Script,
     length: u32,
 ) -> Result<Layout, AuthorStop>
-    requires { length < 450000 }
+    requires { length < time_count }
     ensures layout { IfOk result (λ layout. layout ≡ layout_of sheet.now length) }
     ensures good { OnOk result (HoldsPictures sheet.now script.now length) }
     ensures err { IfErr result (IsDiscStop sheet.now script.now length) }
@@ -46,7 +47,7 @@ pub(crate) fn start_weaver<'a>(
     script: &'a Script,
     blocks: u32,
 ) -> Result<Weaver<'a>, AuthorStop>
-    requires blocks { blocks < 450000 }
+    requires blocks { blocks < time_count }
     requires end { ¬ IsPastEnd script.now blocks }
     ensures script { IfOk result (λ w. w.script ≡ script.now) }
     ensures given { IfOk result (λ w. w.given ≡ 0) }

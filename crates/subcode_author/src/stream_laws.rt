@@ -1,6 +1,7 @@
 // Laws on authored streams: accepted scripts are in order, an accepted sheet and script have one stream with the
 // planned changes, and what a failed write leaves is a prefix of it.
 ghost use Rattle.std.specs.Prelude.{◌≡◌, ◌<◌, ◌≤◌, List, ℕ, Ok, length};
+ghost use Rattle.disc_time.specs.Counts.{most_lead_in};
 ghost use Rattle.std.specs.declared.option.Option.{Option};
 ghost use Rattle.cdg_io.specs.Moves.{AppendsPrefix};
 ghost use Rattle.cue_sheet.specs.CueSheet.{CueSheet, IsSheet};
@@ -59,14 +60,14 @@ pub fn accepted_scripts_have_streams()
     ensures stream { (sheet : CueSheet) (script : List Drawing) (lead_in audio : ℕ)
         → IsSheet sheet → AreTimesInOrder script → AreColoursInRange script
         → ((k x y : ℕ) → picture_pixel script k x y < 16)
-        → lead_in ≤ 450000 → IsAccepted sheet script lead_in audio
+        → lead_in ≤ most_lead_in → IsAccepted sheet script lead_in audio
         → (bytes : List ℕ) × (packs : List (List ℕ))
         × IsWrittenStream (disc_of sheet script lead_in audio) bytes packs }
     ensures part { (sheet : CueSheet) (script : List Drawing) (lead_in audio n : ℕ) (given : List (List ℕ))
         (held after : Option (List ℕ))
         → IsSheet sheet → AreTimesInOrder script → AreColoursInRange script
         → ((k x y : ℕ) → picture_pixel script k x y < 16)
-        → lead_in ≤ 450000 → IsAccepted sheet script lead_in audio
+        → lead_in ≤ most_lead_in → IsAccepted sheet script lead_in audio
         → PutsScriptPart (disc_of sheet script lead_in audio) held after n given
         → (bytes : List ℕ) × (packs : List (List ℕ))
         × IsWrittenStream (disc_of sheet script lead_in audio) bytes packs

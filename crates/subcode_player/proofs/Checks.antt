@@ -16,7 +16,7 @@ use Rattle.cdg_io.specs.declared.pumping.PumpStop.{PumpStop}
 use Rattle.cdg_io.specs.declared.pumping.PumpStop.TheVariants as pump_stop
 use Rattle.cdg_io.specs.Streams.{WritesAtEnd}
 use Rattle.cdg_io.proofs.Frames.{feeding, passing}
-use Rattle.cdg_io.proofs.Runs.{joined_second}
+use Rattle.cdg_io.proofs.Runs.{then_next_second}
 use Rattle.cdg_io.proofs.Streaming.{IsWhole}
 use Rattle.bit_lists.specs.Counting.{below}
 use Rattle.rw_code.specs.Finding.{finding}
@@ -55,7 +55,7 @@ words_counted : (form : Form) (lead_in : ℕ) (s : Counting) (blocks : List (Lis
 words_counted form lead_in s blocks fresh few =
     let words : List (List ℕ) = words_from form (flat_map slots_of (drop lead_in blocks)) in
     let run : (run_state counting_next s blocks).words.second ≡ count_after no_counts words =
-    ap (λ w. w.second) (counting_words s blocks) ∙ joined_second words_next words_give counts_next s.words blocks ∙ counts_run s.words.second (run_gives words_next words_give s.words.first blocks)
+    ap (λ w. w.second) (counting_words s blocks) ∙ then_next_second words_next words_give counts_next s.words blocks ∙ counts_run s.words.second (run_gives words_next words_give s.words.first blocks)
     ∙ ap₂ count_after fresh.counts (block_words form lead_in s.words.first blocks fresh.words) in
     subst (AreCounted words) (sym run) (are_counted words (few_words form lead_in blocks few))
 

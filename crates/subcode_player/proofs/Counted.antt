@@ -8,7 +8,7 @@ use Rattle.std.proofs.lemmas.List.Sums.{sum_by-cons}
 use Rattle.arrayvec.specs.ArrayVec.{ArrayVec}
 use Rattle.cdg_io.specs.Run.{run_state}
 use Rattle.cdg_io.specs.declared.stage.Then.{Then}
-use Rattle.cdg_io.proofs.Runs.{joined}
+use Rattle.cdg_io.proofs.Runs.{then_next}
 use Rattle.rw_code.specs.Codeword.{IsCodeword, differences}
 use Rattle.rw_code.specs.Finding.{finding}
 use Rattle.raw_subcode.specs.Channels.{q_bits}
@@ -124,7 +124,7 @@ zip_found (w ∷ words) = ap (λ (l : List (List ℕ × Option (List ℕ))). (w,
 -- ---- blocks
 
 abbrev pub counted_words : Then BlockWords WordCounts → List ℕ → Then BlockWords WordCounts
-counted_words s block = joined words_next words_give counts_next s block
+counted_words s block = then_next words_next words_give counts_next s block
 
 pub counting_words : (s : Counting) (blocks : List (List ℕ)) → (run_state counting_next s blocks).words ≡ run_state counted_words s.words blocks
 unfolding counting_next

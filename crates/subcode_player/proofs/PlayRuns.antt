@@ -6,7 +6,7 @@ use Rattle.std.proofs.lemmas.List.{length-map}
 use Rattle.cdg_io.specs.Run.{give, run_state, run_gives, then_gives}
 use Rattle.cdg_io.specs.declared.stage.Then.{Then}
 use Rattle.cdg_io.proofs.Frames.{machine_of}
-use Rattle.cdg_io.proofs.Runs.{joined, joined_second, joined_gives}
+use Rattle.cdg_io.proofs.Runs.{then_next, then_next_second, then_next_gives}
 use Rattle.rw_code.specs.Finding.{finding}
 use Rattle.raw_subcode.specs.Channels.{block_of}
 use Rattle.rw_interleave.specs.Texts.{cdg_bytes}
@@ -28,7 +28,7 @@ abbrev pub Blocks : Type 0
 Blocks = Then BlockWords Correction
 
 abbrev pub blocks_next : Blocks → List ℕ → Blocks
-blocks_next s x = joined words_next words_give correction_next s x
+blocks_next s x = then_next words_next words_give correction_next s x
 
 abbrev pub blocks_give : Blocks → List ℕ → Option (List ℕ)
 blocks_give s x = then_gives correction_gives s.second (words_give s.first x)
@@ -47,7 +47,7 @@ block_words form lead_in b blocks start = ap (λ b. all_items (run_gives words_n
 
 pub block_text : (form : Form) (lead_in : ℕ) (s : Blocks) (blocks : List (List ℕ)) → s.first ≡ fresh_words form lead_in → concat (run_gives blocks_next blocks_give s blocks) ≡ cdg_bytes (found_in form (drop lead_in blocks))
 block_text form lead_in s blocks start =
-    ap concat (joined_gives words_next words_give correction_next correction_gives s blocks) ∙ correction_run s.second (run_gives words_next words_give s.first blocks)
+    ap concat (then_next_gives words_next words_give correction_next correction_gives s blocks) ∙ correction_run s.second (run_gives words_next words_give s.first blocks)
     ∙ ap (λ ws. cdg_bytes (map finding ws)) (block_words form lead_in s.first blocks start)
 
 pub block_bad : (form : Form) (lead_in : ℕ) (s : Blocks) (blocks : List (List ℕ)) → s.first ≡ fresh_words form lead_in → s.second.bad ≡ 0 → length blocks ≤ 1000000 → (run_state blocks_next s blocks).second.bad ≡ bad_count (found_in form (drop lead_in blocks))
@@ -55,7 +55,7 @@ block_bad form lead_in s blocks start none few =
     let slots : List (List ℕ) = flat_map slots_of (drop lead_in blocks) in
     let few_words : 0 + length (words_from form slots) < 2 ^ 32 = omega (arith, few, gives_few (window_next form) (window_gives form) [] slots, length-all_slots (drop lead_in blocks), length-drop lead_in blocks) in
     let alone : 0 + bad_count (found_in form (drop lead_in blocks)) ≡ bad_count (found_in form (drop lead_in blocks)) = omega arith in
-    ap (λ (c : Correction). c.bad) (joined_second words_next words_give correction_next s blocks) ∙ correction_counts s.second (run_gives words_next words_give s.first blocks)
+    ap (λ (c : Correction). c.bad) (then_next_second words_next words_give correction_next s blocks) ∙ correction_counts s.second (run_gives words_next words_give s.first blocks)
     ∙ ap₂ bad_after none (block_words form lead_in s.first blocks start) ∙ bad_counts 0 (words_from form slots) few_words ∙ alone
 
 -- the packs of a stream in each form

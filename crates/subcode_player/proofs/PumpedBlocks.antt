@@ -11,7 +11,7 @@ use Rattle.cdg_io.specs.declared.pumping.Pumped.{Pumped}
 use Rattle.cdg_io.specs.declared.pumping.PumpStop.{PumpStop}
 use Rattle.cdg_io.specs.declared.stage.Then.{Then}
 use Rattle.cdg_io.proofs.Frames.{machine_of, moving}
-use Rattle.cdg_io.proofs.Runs.{joined}
+use Rattle.cdg_io.proofs.Runs.{then_next}
 use Rattle.raw_subcode.specs.Channels.{unit_size, block_of}
 use Rattle.raw_subcode.specs.declared.form.Form.{Form}
 use Rattle.raw_subcode.specs.declared.form.Form.TheVariants.{Raw, Sector, Cooked}
@@ -101,7 +101,7 @@ cut_give s x = Some (drop 2352 x)
 
 -- the blocks of sectors, fed to a stage
 abbrev on_sectors : {S : Type 0} → Machine S → Machine (Then SectorBlocks S)
-on_sectors machine = machine_of (joined cut_next cut_give machine.next) (λ t x. then_gives machine.gives t.second (cut_give t.first x))
+on_sectors machine = machine_of (then_next cut_next cut_give machine.next) (λ t x. then_gives machine.gives t.second (cut_give t.first x))
 
 -- bytes that are sectors
 pub sector_pumps : {S : Type 0} (form : Form) (machine : Machine S) (moved : Moved (Then SectorBlocks S)) (result : Result Pumped PumpStop) (taken : List ℕ) → form ≡ Sector

@@ -17,7 +17,7 @@ use Rattle.cdg_io.specs.declared.pumping.PumpStop.{PumpStop}
 use Rattle.cdg_io.specs.declared.pumping.PumpStop.TheVariants as pump_stop
 use Rattle.cdg_io.specs.declared.stage.Then.{Then}
 use Rattle.cdg_io.proofs.Frames.{feeding, passing}
-use Rattle.cdg_io.proofs.Runs.{joined, joined_second}
+use Rattle.cdg_io.proofs.Runs.{then_next, then_next_second}
 use Rattle.cdg_io.proofs.Streaming.{IsWhole}
 use Rattle.rw_code.specs.Finding.{finding}
 use Rattle.rw_interleave.specs.Interleave.{whole_packs}
@@ -48,7 +48,7 @@ abbrev pub Drawings : Type 0
 Drawings = Then BlockWords Drawing
 
 abbrev pub drawings_next : Drawings → List ℕ → Drawings
-drawings_next s x = joined words_next words_give drawing_next s x
+drawings_next s x = then_next words_next words_give drawing_next s x
 
 -- the state before the first block
 pub record IsReady (form : Form) (lead_in time : ℕ) (s : Drawings) : Type 0 where
@@ -71,7 +71,7 @@ drawn_blocks form lead_in time s blocks ready few =
     let words : List (List ℕ) = words_from form (flat_map slots_of (drop lead_in blocks)) in
     let start : s.second ≡ record { picture = s.second.picture; left = whole_packs time; bad = 0 } = ap₂ (λ l b. record { picture = s.second.picture; left = l; bad = b }) ready.left ready.bad in
     let run : (run_state drawings_next s blocks).second ≡ draw_after (record { picture = s.second.picture; left = whole_packs time; bad = 0 }) words =
-    joined_second words_next words_give drawing_next s blocks ∙ drawing_runs s.second (run_gives words_next words_give s.first blocks) ∙ ap₂ draw_after start (block_words form lead_in s.first blocks ready.words) in
+    then_next_second words_next words_give drawing_next s blocks ∙ drawing_runs s.second (run_gives words_next words_give s.first blocks) ∙ ap₂ draw_after start (block_words form lead_in s.first blocks ready.words) in
     let drawn = are_drawn s.second.picture (whole_packs time) 0 words (few_words form lead_in blocks few) in
     subst (IsDrawn form lead_in time blocks) (sym run) (record {
       stands = same_then _ (standing_after (standing_of s.second.picture) (instrs_of (take (whole_packs time) (map finding words)))) _ drawn.stands (same_after (standing_of s.second.picture) blank (instrs_of (take (whole_packs time) (map finding words))) ready.blank);

@@ -1,13 +1,13 @@
 use Rattle.std.proofs.Common.{◌≡◌, ◌≤◌, length, refl, arith, rules}
 use Rattle.cdg_io.proofs.PumpSteps.{Consumes-filled}
 use Rattle.rw_merge.proofs.pairs.next_pair.Goals as goal
-use Rattle.rw_merge.proofs.pairs.next_pair.Goals.{else-from_first-gt0-via-then-from_first-gt0+else-from_first-lt-BLOCK, else-from_first-gt0-via-else-from_first-gt0}
+use Rattle.rw_merge.proofs.pairs.next_pair.Goals.{else-from_first-gt0-via-then-from_first-gt0+else-from_first-lt-BLOCK_BYTES, else-from_first-gt0-via-else-from_first-gt0}
 
 pub returns-clause-pair : goal.returns-clause-pair
 returns-clause-pair g c =
     let full : 96 ≤ c.in-Ok.count =
     elim c.else-from_first-gt0.branch [
-      | else-from_first-gt0-via-then-from_first-gt0+else-from_first-lt-BLOCK w ↦ w.if-from_first-lt-BLOCK.false
+      | else-from_first-gt0-via-then-from_first-gt0+else-from_first-lt-BLOCK_BYTES w ↦ w.if-from_first-lt-BLOCK_BYTES.false
       | else-from_first-gt0-via-else-from_first-gt0 w ↦ absurd (omega (arith, w.if-from_first-gt0.false, c.if-from_first-eq0.false))
     ] in
     let full2 : 96 ≤ c.in-Ok-fill.count = omega (arith, full, c.if-from_first-from_second.false) in

@@ -17,8 +17,8 @@ pub returns-then-not-is_after_hold : goal.returns-then-not-is_after_hold
 returns-then-not-is_after_hold c =
     ready_early (said_in c.args.self.now) (show_line (words_in c.args.words.now)) c.in-Some.ready c.in-Some.hold c.in-Some.ensures.value c.if-hold-ready.false (sym c.is_after_hold.ensures ∙ c.if-not-is_after_hold.true)
 
-pub returns-then-len-ge20000 : goal.returns-then-len-ge20000
-returns-then-len-ge20000 c =
+pub returns-then-len-ge-MOST_PICTURES : goal.returns-then-len-ge-MOST_PICTURES
+returns-then-len-ge-MOST_PICTURES c =
     let count = shown_count c.args.self.now.pixels.items c.args.self.now.lines.items c.args.self.now.shown.items c.requires in
     too_many (said_in c.args.self.now) (show_line (words_in c.args.words.now)) c.in-Some.ready c.in-Some.hold c.in-Some.ensures.value c.if-hold-ready.false (sym c.is_after_hold.ensures ∙ c.if-not-is_after_hold.false)
     (omega (arith, count, c.len.ensures))

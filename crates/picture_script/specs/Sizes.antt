@@ -1,0 +1,6 @@
+-- The sizes of a script. Code calls them by the names of src/sizes.rt.
+use Rattle.std.specs.Prelude.{ℕ}
+
+-- the most pictures that a script shows: more than three for each second of the longest program
+abbrev pub most_pictures : ℕ
+most_pictures = 20000
