@@ -5,10 +5,11 @@ use Rattle.std.specs.Io.KnownBytes.{Appends}
 use Rattle.rw_interleave.specs.Interleave.{whole_packs}
 use Rattle.cue_sheet.specs.CueSheet.{CueSheet}
 use Rattle.toc_model.specs.Places.{DiscLayout, layout_of, program_blocks}
-use Rattle.stream_writer.specs.Given.{AreGiven, CarriesComing, PutsStreamPart}
+use Rattle.cdg_io.specs.Change.{from_to}
+use Rattle.stream_writer.specs.Given.{AreGiven, CarriesComing, PutsStreamPart, framing_of}
 use Rattle.stream_writer.specs.Needs.{text_packs, HasRoom}
 use Rattle.stream_writer.proofs.Whole.{framing_with, part_with}
-use Rattle.cdg_press.specs.Pressed.{file_begin, IsPackAfter, IsPressed}
+use Rattle.cdg_press.specs.Pressed.{file_begin, IsPackAfter, IsPressed, press_of}
 use Rattle.cdg_press.specs.Refusals.{IsWhole}
 
 -- the program has room for the packs of the audio
@@ -22,7 +23,7 @@ pack_is file many packs given n lt =
 
 is_pressed : (sheet : CueSheet) (file : List ℕ) (texts : List (List ℕ)) (lead_in audio : ℕ) (bytes : List ℕ) (packs : List (List ℕ))
     → IsWhole file → length file / 24 ≤ 4 * audio → (0 < lead_in → texts ≡ text_packs sheet) → HasRoom sheet lead_in
-    → CarriesComing (layout_of sheet audio) (IsPackAfter file_begin file) texts lead_in bytes packs → IsPressed sheet file lead_in audio bytes packs
+    → CarriesComing (framing_of (layout_of sheet audio) texts lead_in) (IsPackAfter file_begin file) bytes packs → IsPressed (press_of sheet file lead_in audio) bytes packs
 is_pressed sheet file texts lead_in audio bytes packs whole fits texts_are room stream = record {
   whole = whole;
   of_file = λ n lt.
@@ -35,23 +36,23 @@ is_pressed sheet file texts lead_in audio bytes packs whole fits texts_are room 
 
 pub pressed : (sheet : CueSheet) (file : List ℕ) (layout : DiscLayout) (texts : List (List ℕ)) (lead_in audio : ℕ) (a b : Option (List ℕ))
     → layout ≡ layout_of sheet audio → IsWhole file → length file / 24 ≤ 4 * audio → (0 < lead_in → texts ≡ text_packs sheet) → HasRoom sheet lead_in
-    → (bytes : List ℕ) × (packs : List (List ℕ)) × CarriesComing layout (IsPackAfter file_begin file) texts lead_in bytes packs × Appends a b bytes
-    → (bytes : List ℕ) × (packs : List (List ℕ)) × IsPressed sheet file lead_in audio bytes packs × Appends a b bytes
+    → (bytes : List ℕ) × (packs : List (List ℕ)) × CarriesComing (framing_of layout texts lead_in) (IsPackAfter file_begin file) bytes packs × Appends a b bytes
+    → (bytes : List ℕ) × (packs : List (List ℕ)) × IsPressed (press_of sheet file lead_in audio) bytes packs × Appends a b bytes
 pressed sheet file layout texts lead_in audio a b disc whole fits texts_are room w = (
   w.0,
   w.1,
   is_pressed sheet file texts lead_in audio w.0 w.1 whole fits texts_are room
-      (subst (λ (l : DiscLayout). CarriesComing l (IsPackAfter file_begin file) texts lead_in w.0 w.1) disc w.2),
+      (subst (λ (l : DiscLayout). CarriesComing (framing_of l texts lead_in) (IsPackAfter file_begin file) w.0 w.1) disc w.2),
   w.3,
 )
 
 pub part_pressed : (sheet : CueSheet) (file : List ℕ) (layout : DiscLayout) (texts : List (List ℕ)) (lead_in audio : ℕ) (a b : Option (List ℕ))
     → layout ≡ layout_of sheet audio → (0 < lead_in → texts ≡ text_packs sheet)
-    → (n : ℕ) × (packs : List (List ℕ)) × PutsStreamPart layout (IsPackAfter file_begin file) texts lead_in a b n packs
-    → (n : ℕ) × (packs : List (List ℕ)) × PutsStreamPart (layout_of sheet audio) (IsPackAfter file_begin file) (text_packs sheet) lead_in a b n packs
+    → (n : ℕ) × (packs : List (List ℕ)) × PutsStreamPart (framing_of layout texts lead_in) (IsPackAfter file_begin file) (from_to a b) n packs
+    → (n : ℕ) × (packs : List (List ℕ)) × PutsStreamPart (framing_of (layout_of sheet audio) (text_packs sheet) lead_in) (IsPackAfter file_begin file) (from_to a b) n packs
 part_pressed sheet file layout texts lead_in audio a b disc texts_are w = (
   w.0,
   w.1,
   part_with (layout_of sheet audio) (IsPackAfter file_begin file) texts (text_packs sheet) lead_in a b w.0 w.1 texts_are
-      (subst (λ (l : DiscLayout). PutsStreamPart l (IsPackAfter file_begin file) texts lead_in a b w.0 w.1) disc w.2),
+      (subst (λ (l : DiscLayout). PutsStreamPart (framing_of l texts lead_in) (IsPackAfter file_begin file) (from_to a b) w.0 w.1) disc w.2),
 )

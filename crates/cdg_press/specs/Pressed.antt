@@ -23,17 +23,33 @@ file_pack file n = slice_index_or (file_packs file) n []
 abbrev pub file_begin : ℕ
 file_begin = 593
 
+-- what a disc is pressed from: a cue sheet and a file of packs, and so many blocks of lead-in and of audio
+pub record Press : Type 0 where
+  pub sheet : CueSheet
+  pub file : List ℕ
+  pub lead_in : ℕ
+  pub audio : ℕ
+
+-- a sheet and a file, and the blocks of lead-in and of audio, as one
+abbrev pub press_of : CueSheet → List ℕ → ℕ → ℕ → Press
+press_of sheet file lead_in audio = record {
+  sheet = sheet;
+  file = file;
+  lead_in = lead_in;
+  audio = audio;
+}
+
 -- the stream of a sheet carries the packs of the file, in time with the audio, and else idle ones
-pub record IsPressed (sheet : CueSheet) (file : List ℕ) (lead_in audio : ℕ) (bytes : List ℕ)
-    (packs : List (List ℕ)) : Type 0 where
-  pub whole : length file % 24 ≡ 0
-  pub of_file : (n : ℕ) → n < length file / 24
-      → IsMadeGood (file_pack file n) (slice_index_or packs (file_begin + n) [])
-  pub others : (n : ℕ) → n < whole_packs (program_blocks sheet audio)
-      → (n < file_begin) ⊎ (file_begin + length file / 24 ≤ n) → slice_index_or packs n [] ≡ idle_pack
-  pub framing : HasFraming (layout_of sheet audio) (text_packs sheet) lead_in bytes
-  pub carries : Carries (program_blocks sheet audio) (program_symbols Raw bytes lead_in) packs
-  pub enough : 0 < lead_in → lead_in_need sheet ≤ lead_in
+pub record IsPressed (press : Press) (bytes : List ℕ) (packs : List (List ℕ)) : Type 0 where
+  pub whole : length press.file % 24 ≡ 0
+  pub of_file : (n : ℕ) → n < length press.file / 24
+      → IsMadeGood (file_pack press.file n) (slice_index_or packs (file_begin + n) [])
+  pub others : (n : ℕ) → n < whole_packs (program_blocks press.sheet press.audio)
+      → (n < file_begin) ⊎ (file_begin + length press.file / 24 ≤ n) → slice_index_or packs n [] ≡ idle_pack
+  pub framing : HasFraming (layout_of press.sheet press.audio) (text_packs press.sheet) press.lead_in bytes
+  pub carries : Carries (program_blocks press.sheet press.audio)
+      (program_symbols Raw bytes press.lead_in) packs
+  pub enough : 0 < press.lead_in → lead_in_need press.sheet ≤ press.lead_in
 
 -- pack n, where so many idle packs come before those of a file, and idle ones after them
 pub record IsPackAfter (wait : ℕ) (file : List ℕ) (n : ℕ) (pack : List ℕ) : Type 0 where

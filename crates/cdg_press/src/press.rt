@@ -2,10 +2,11 @@
 ghost use Rattle.std.specs.Prelude.{◌≡◌, ◌≢◌, ◌≤◌, List, ℕ, IfErr, OnOk, Err};
 ghost use Rattle.std.specs.Io.KnownBytes.{Appends};
 ghost use Rattle.cdg_io.specs.Causes.{Rose};
+ghost use Rattle.cdg_io.specs.Change.{change};
 ghost use Rattle.toc_model.specs.Places.{layout_of};
-ghost use Rattle.stream_writer.specs.Given.{PutsStreamPart};
+ghost use Rattle.stream_writer.specs.Given.{PutsStreamPart, framing_of};
 ghost use Rattle.stream_writer.specs.Needs.{text_packs};
-ghost use Rattle.cdg_press.specs.Pressed.{file_begin, IsPackAfter, IsPressed};
+ghost use Rattle.cdg_press.specs.Pressed.{file_begin, IsPackAfter, IsPressed, press_of};
 ghost use Rattle.cdg_press.specs.Refusals.{IsPressable, IsPressStop, IsShort};
 
 use crate::checks::{first_gap, whole_packs_of};
@@ -46,7 +47,7 @@ pub fn press_stream<K: Sink>(
     requires file { IsShort cdg.now }
     // A pressed stream was written.
     ensures pressed { OnOk result ((bytes : List ℕ) × (packs : List (List ℕ))
-        × IsPressed sheet.now cdg.now lead_in length bytes packs
+        × IsPressed (press_of sheet.now cdg.now lead_in length) bytes packs
         × Appends (K.held out.old) (K.held out.new) bytes) }
     ensures accepted { OnOk result (IsPressable sheet.now cdg.now lead_in length) }
 
@@ -58,8 +59,8 @@ pub fn press_stream<K: Sink>(
     ensures write_fault { result ≡ Err PressStop.WriteFault → Rose (K.faults out.old) (K.faults out.new) }
     ensures no_write_fault { result ≢ Err PressStop.WriteFault → K.faults out.new ≡ K.faults out.old }
     ensures part { result ≡ Err PressStop.WriteFault → (n : ℕ) × (packs : List (List ℕ))
-        × PutsStreamPart (layout_of sheet.now length) (IsPackAfter file_begin cdg.now) (text_packs sheet.now)
-        lead_in (K.held out.old) (K.held out.new) n packs }
+        × PutsStreamPart (framing_of (layout_of sheet.now length) (text_packs sheet.now) lead_in)
+        (IsPackAfter file_begin cdg.now) (change K.held out.old out.new) n packs }
     ensures later { K.faults out.old ≤ K.faults out.new }
 {
     let packs = whole_packs_of(cdg)?;

@@ -1,5 +1,5 @@
 -- What a player answers where it is known what is listed.
-use Rattle.std.proofs.Common.{◌≡◌, ℕ, ◌*◌, ◌≤◌, List, length, Option, Some, Result, Ok, Err, inl, inr, subst, arith}
+use Rattle.std.proofs.Common.{◌≡◌, ℕ, ◌*◌, ◌≤◌, List, length, Some, Result, Ok, Err, inl, inr, subst, arith}
 use Rattle.std.specs.Io.KnownBytes.{Appends}
 use Rattle.raw_subcode.specs.declared.form.Form.{Form}
 use Rattle.raw_subcode.specs.declared.form.Form.TheVariants.{Raw}
@@ -10,7 +10,10 @@ use Rattle.cdtext_packs.specs.Texts.{Texts}
 use Rattle.cdtext_packs.specs.declared.kinds.TextFault.{TextFault}
 use Rattle.subcode_author.specs.Authored.{IsAuthored, disc_of}
 use Rattle.raw_subcode.specs.Sizes.{most_units}
-use Rattle.subcode_player.specs.Calls.{PlaysInTurn, IsAnsweredBy}
+use Rattle.cdg_io.specs.Change.{Bytes, Change, from_to}
+use Rattle.cdg_io.specs.Streams.{Streams}
+use Rattle.cdg_io.proofs.Frames.{passing}
+use Rattle.subcode_player.specs.Calls.{IsAnsweredBy, in_turn}
 use Rattle.subcode_player.specs.Convert.{Restores}
 use Rattle.subcode_player.specs.TextListing.{texts_of_lead_in, IsTextListed, ListsTexts, IsListedBy, IsWholeInput}
 use Rattle.subcode_player.specs.declared.player.Played.{Played}
@@ -24,37 +27,37 @@ pub whole_blocks : (sheet : CueSheet) (script : List Drawing) (lead_in audio : �
     → length bytes ≤ most_units * 96 → IsWholeInput Raw bytes
 whole_blocks sheet script lead_in audio bytes packs authored few = (few, omega (arith, authored.framing.size))
 
-pub lists_frames : (bytes expected : List ℕ) (given : ℕ) (left held held' : Option (List ℕ)) (result : Result Played PlayStop) (taken : List ℕ)
+pub lists_frames : (bytes expected : List ℕ) (given : ℕ) (left : Bytes) (out : Change Bytes) (result : Result Played PlayStop) (taken : List ℕ)
     → IsWholeInput Raw bytes → ((text : List ℕ) (bad : ℕ) → IsQListed Raw bytes text bad → (text ≡ expected) × (bad ≡ 0))
-    → PlaysInTurn (IsQListed Raw) Raw given (Some bytes) left held held' result taken → IsAnsweredBy result 96 (length bytes) → Restores result held held' expected
-lists_frames bytes expected given left held held' (Ok played) taken whole lines lists answer =
+    → Streams (in_turn (IsQListed Raw) Raw given) (passing (from_to (Some bytes) left) out) result taken → IsAnsweredBy result 96 (length bytes) → Restores result out.before out.after expected
+lists_frames bytes expected given left out (Ok played) taken whole lines lists answer =
     let (end, (text, is_played, put)) = lists.done in
     let same : taken ≡ bytes = taken_all bytes left taken lists.taken_from end in
     let is = lines text played.bad (subst (λ (b : List ℕ). IsQListed Raw b text played.bad) same is_played.written) in
-    (is.1, subst (Appends held held') is.0 put)
-lists_frames bytes expected given left held held' (Err ReadFault) taken whole lines lists answer = tt
-lists_frames bytes expected given left held held' (Err WriteFault) taken whole lines lists answer = tt
-lists_frames bytes expected given left held held' (Err (Torn block)) taken whole lines lists answer = absurd (answer.1 whole.1)
-lists_frames bytes expected given left held held' (Err TooLong) taken whole lines lists answer = absurd (omega (arith, answer, whole.0))
-lists_frames bytes expected given left held held' (Err (PastEnd ended)) taken whole lines lists answer = absurd answer
-lists_frames bytes expected given left held held' (Err (Text fault)) taken whole lines lists answer = absurd answer
+    (is.1, subst (Appends out.before out.after) is.0 put)
+lists_frames bytes expected given left out (Err ReadFault) taken whole lines lists answer = tt
+lists_frames bytes expected given left out (Err WriteFault) taken whole lines lists answer = tt
+lists_frames bytes expected given left out (Err (Torn block)) taken whole lines lists answer = absurd (answer.1 whole.1)
+lists_frames bytes expected given left out (Err TooLong) taken whole lines lists answer = absurd (omega (arith, answer, whole.0))
+lists_frames bytes expected given left out (Err (PastEnd ended)) taken whole lines lists answer = absurd answer
+lists_frames bytes expected given left out (Err (Text fault)) taken whole lines lists answer = absurd answer
 
 not_both : (texts : Texts) (fault : TextFault) (read : Result Texts TextFault) → read ≡ Ok texts → read ≡ Err fault → ⊥
 not_both texts fault read one other = cc
 
-pub lists_texts : (form : Form) (bytes expected : List ℕ) (lead_in : ℕ) (texts : Texts) (left held held' : Option (List ℕ)) (result : Result Played PlayStop) (taken : List ℕ)
+pub lists_texts : (form : Form) (bytes expected : List ℕ) (lead_in : ℕ) (texts : Texts) (left : Bytes) (out : Change Bytes) (result : Result Played PlayStop) (taken : List ℕ)
     → IsWholeInput form bytes → texts_of_lead_in form lead_in bytes ≡ Ok texts → ((text : List ℕ) (bad : ℕ) → IsTextListed form lead_in bytes text bad → text ≡ expected)
-    → ListsTexts form lead_in (Some bytes) left held held' result taken → IsListedBy result form lead_in bytes → PutsTexts result held held' expected
-lists_texts form bytes expected lead_in texts left held held' (Ok played) taken whole read lines lists answer =
+    → ListsTexts form lead_in (passing (from_to (Some bytes) left) out) result taken → IsListedBy result form lead_in bytes → PutsTexts result out.before out.after expected
+lists_texts form bytes expected lead_in texts left out (Ok played) taken whole read lines lists answer =
     let (end, (text, is_played, put)) = lists.plays.done in
     let same : taken ≡ bytes = taken_all bytes left taken lists.plays.taken_from end in
-    (is_played.written.none_bad, subst (Appends held held') (lines text played.bad (subst (λ (b : List ℕ). IsTextListed form lead_in b text played.bad) same is_played.written)) put)
-lists_texts form bytes expected lead_in texts left held held' (Err ReadFault) taken whole read lines lists answer = tt
-lists_texts form bytes expected lead_in texts left held held' (Err WriteFault) taken whole read lines lists answer = tt
-lists_texts form bytes expected lead_in texts left held held' (Err (Torn block)) taken whole read lines lists answer = absurd (answer.1 whole.1)
-lists_texts form bytes expected lead_in texts left held held' (Err TooLong) taken whole read lines lists answer = absurd (omega (arith, answer, whole.0))
-lists_texts form bytes expected lead_in texts left held held' (Err (PastEnd ended)) taken whole read lines lists answer = absurd answer
-lists_texts form bytes expected lead_in texts left held held' (Err (Text fault)) taken whole read lines lists answer = elim answer.1 [
+    (is_played.written.none_bad, subst (Appends out.before out.after) (lines text played.bad (subst (λ (b : List ℕ). IsTextListed form lead_in b text played.bad) same is_played.written)) put)
+lists_texts form bytes expected lead_in texts left out (Err ReadFault) taken whole read lines lists answer = tt
+lists_texts form bytes expected lead_in texts left out (Err WriteFault) taken whole read lines lists answer = tt
+lists_texts form bytes expected lead_in texts left out (Err (Torn block)) taken whole read lines lists answer = absurd (answer.1 whole.1)
+lists_texts form bytes expected lead_in texts left out (Err TooLong) taken whole read lines lists answer = absurd (omega (arith, answer, whole.0))
+lists_texts form bytes expected lead_in texts left out (Err (PastEnd ended)) taken whole read lines lists answer = absurd answer
+lists_texts form bytes expected lead_in texts left out (Err (Text fault)) taken whole read lines lists answer = elim answer.1 [
   | inl short ↦ short
   | inr other ↦ absurd (not_both texts fault (texts_of_lead_in form lead_in bytes) read other)
 ]

@@ -1,17 +1,17 @@
 -- What can be pressed has one stream.
 use Rattle.std.proofs.Common.{◌≡◌, ℕ, ◌+◌, ◌-◌, ◌*◌, ◌/◌, ◌<◌, ◌≤◌, List, [], length, get_or, ap, sym, refl, subst, ◌∙◌, inl, inr, arith}
-use Rattle.std.specs.declared.option.Option.{Option}
 use Rattle.std.proofs.lemmas.Bool.{cases_lt}
 use Rattle.std.proofs.lemmas.List.{get_or_past}
 use Rattle.cdg_io.specs.Moves.{AppendsPrefix}
 use Rattle.rw_interleave.specs.Interleave.{whole_packs}
 use Rattle.cue_sheet.specs.CueSheet.{CueSheet, IsSheet}
 use Rattle.toc_model.specs.Places.{layout_of, program_blocks}
-use Rattle.stream_writer.specs.Given.{PutsStreamPart, idle_pack}
+use Rattle.cdg_io.specs.Change.{Bytes, Change}
+use Rattle.stream_writer.specs.Given.{PutsStreamPart, framing_of, idle_pack}
 use Rattle.stream_writer.specs.Needs.{text_packs}
 use Rattle.stream_writer.proofs.Whole.{SpreadCarries}
 use Rattle.cdg_instructions.specs.MadeGood.{IsMadeGood}
-use Rattle.cdg_press.specs.Pressed.{file_begin, file_pack, IsPackAfter, IsPressed}
+use Rattle.cdg_press.specs.Pressed.{file_begin, file_pack, IsPackAfter, IsPressed, press_of}
 use Rattle.cdg_press.specs.Refusals.{IsPressable}
 use Rattle.subcode_author.proofs.Existing.{carrying_stream}
 use Rattle.subcode_author.proofs.StreamParts.{prefix_of_stream}
@@ -20,7 +20,7 @@ use Rattle.round_trips.proofs.Packs.{one_pack, packs_exist, same_packs}
 
 module _ (sheet : CueSheet) (file : List ℕ) (lead_in audio : ℕ) where
   pub has_stream : SpreadCarries → IsSheet sheet → lead_in ≤ 450000 → IsPressable sheet file lead_in audio
-      → (bytes : List ℕ) × (packs : List (List ℕ)) × IsPressed sheet file lead_in audio bytes packs
+      → (bytes : List ℕ) × (packs : List (List ℕ)) × IsPressed (press_of sheet file lead_in audio) bytes packs
   has_stream spread is_sheet few pressable =
       let blocks : ℕ = program_blocks sheet audio in
       let room : file_begin + 4 * audio ≤ whole_packs blocks = omega arith in
@@ -38,7 +38,7 @@ module _ (sheet : CueSheet) (file : List ℕ) (lead_in audio : ℕ) where
         },
       )
 
-  module _ (bytes : List ℕ) (packs : List (List ℕ)) (pressed : IsPressed sheet file lead_in audio bytes packs) where
+  module _ (bytes : List ℕ) (packs : List (List ℕ)) (pressed : IsPressed (press_of sheet file lead_in audio) bytes packs) where
     come : (n : ℕ) → n < length packs → IsPackAfter file_begin file n (get_or packs n [])
     come n lt = record {
       of_file = λ k at in_file.
@@ -64,14 +64,14 @@ module _ (sheet : CueSheet) (file : List ℕ) (lead_in audio : ℕ) where
     idle_past : (n : ℕ) (pack : List ℕ) → whole_packs (program_blocks sheet audio) ≤ n → IsPackAfter file_begin file n pack → pack ≡ idle_pack
     idle_past n pack past comes = comes.idle (inr (omega (arith, past, fits, pressed.carries.count)))
 
-    pub part_is_prefix : SpreadCarries → (n : ℕ) (given : List (List ℕ)) (held held' : Option (List ℕ))
-        → PutsStreamPart (layout_of sheet audio) (IsPackAfter file_begin file) (text_packs sheet) lead_in held held' n given → AppendsPrefix held held' bytes
-    part_is_prefix spread n given held held' part =
-        prefix_of_stream spread (IsPackAfter file_begin file) (one_pack file) (layout_of sheet audio) (text_packs sheet) lead_in n bytes packs given held held' pressed.framing pressed.carries come idle_past part
+    pub part_is_prefix : SpreadCarries → (n : ℕ) (given : List (List ℕ)) (held : Change Bytes)
+        → PutsStreamPart (framing_of (layout_of sheet audio) (text_packs sheet) lead_in) (IsPackAfter file_begin file) held n given → AppendsPrefix held.before held.after bytes
+    part_is_prefix spread n given held part =
+        prefix_of_stream spread (IsPackAfter file_begin file) (one_pack file) (layout_of sheet audio) (text_packs sheet) lead_in n bytes packs given held.before held.after pressed.framing pressed.carries come idle_past part
 
-  pub same_pressed_packs : (bytes others : List ℕ) (packs more : List (List ℕ)) → IsPressed sheet file lead_in audio bytes packs → IsPressed sheet file lead_in audio others more → packs ≡ more
+  pub same_pressed_packs : (bytes others : List ℕ) (packs more : List (List ℕ)) → IsPressed (press_of sheet file lead_in audio) bytes packs → IsPressed (press_of sheet file lead_in audio) others more → packs ≡ more
   same_pressed_packs bytes others packs more one other = same_packs file packs more (one.carries.count ∙ sym other.carries.count) (come bytes packs one) (come others more other)
 
-  pub same_pressed_bytes : (bytes others : List ℕ) (packs more : List (List ℕ)) → IsPressed sheet file lead_in audio bytes packs → IsPressed sheet file lead_in audio others more → bytes ≡ others
+  pub same_pressed_bytes : (bytes others : List ℕ) (packs more : List (List ℕ)) → IsPressed (press_of sheet file lead_in audio) bytes packs → IsPressed (press_of sheet file lead_in audio) others more → bytes ≡ others
   same_pressed_bytes bytes others packs more one other =
       same_bytes (layout_of sheet audio) (text_packs sheet) lead_in bytes others packs more (same_pressed_packs bytes others packs more one other) one.framing other.framing one.carries other.carries

@@ -17,10 +17,10 @@ use Rattle.cdg_instructions.specs.declared.instr.Instr.{Instr}
 use Rattle.cdg_instructions.specs.declared.instr.Instr.TheVariants.{Idle}
 use Rattle.cdg_screen.specs.Picture.{SameStanding, blank, standing_after}
 use Rattle.subcode_player.specs.Convert.{IsDamagedStream}
-use Rattle.subcode_player.specs.Screen.{AreMeant, IsScreenAt}
+use Rattle.subcode_player.specs.Screen.{AreMeant, IsScreenAt, moment}
 use Rattle.subcode_player.proofs.Restoring.{Recovers, program_small}
 use Rattle.stream_writer.specs.Given.{idle_pack}
-use Rattle.cdg_press.specs.Pressed.{file_begin, file_pack, file_packs, IsPressed}
+use Rattle.cdg_press.specs.Pressed.{file_begin, file_pack, file_packs, IsPressed, press_of}
 use Rattle.round_trips.specs.Damaged.{file_standing, DamagedPress, IsFileText}
 use Rattle.round_trips.proofs.Meanings.{same_meaning}
 use Rattle.round_trips.proofs.Standings.{idle_around, InTurn}
@@ -74,7 +74,7 @@ of_file_means (file ∷ files) (pack ∷ packs) are =
     }) in
     (rest.0, ap₂ (λ i is. i ∷ is) (same_meaning pack file here.codeword.is_word.size here.size here.message) rest.1)
 
-module _ (sheet : CueSheet) (file : List ℕ) (lead_in audio : ℕ) (bytes : List ℕ) (packs : List (List ℕ)) (pressed : IsPressed sheet file lead_in audio bytes packs) (time : ℕ) (in_audio : time ≤ audio) where
+module _ (sheet : CueSheet) (file : List ℕ) (lead_in audio : ℕ) (bytes : List ℕ) (packs : List (List ℕ)) (pressed : IsPressed (press_of sheet file lead_in audio) bytes packs) (time : ℕ) (in_audio : time ≤ audio) where
   many : file_begin + 4 * time ≤ length packs
   many = omega (arith, pressed.carries.count, in_audio)
 
@@ -144,7 +144,7 @@ module _ (form : Form) (lead_in : ℕ) (others : List ℕ) (press : DamagedPress
   found_is recovers found recovered =
       recovers form (program_blocks press.sheet press.audio) _ (program_symbols form others lead_in) press.packs found press.pressed.carries (program_small form others lead_in) press.damaged recovered
 
-  module _ (recovers : Recovers) (time : ℕ) (text : List ℕ) (bad : ℕ) (in_audio : time ≤ press.audio) (screen : IsScreenAt form lead_in (150 + time) others text bad) where
+  module _ (recovers : Recovers) (time : ℕ) (text : List ℕ) (bad : ℕ) (in_audio : time ≤ press.audio) (screen : IsScreenAt (moment form lead_in (150 + time)) others text bad) where
     first_found : take (whole_packs (150 + time)) screen.found ≡ map (λ pack. Some pack) (take (whole_packs (150 + time)) press.packs)
     first_found =
         let within : whole_packs (150 + time) ≤ length press.packs = omega (arith, many press.sheet press.file lead_in press.audio press.bytes press.packs press.pressed time in_audio) in

@@ -9,7 +9,7 @@ use Rattle.cdg_instructions.specs.Meaning.{meaning}
 use Rattle.cdg_screen.specs.Picture.{Standing, SameStanding, blank, standing_after}
 use Rattle.cdg_screen.specs.Texts.{pixmap}
 use Rattle.raw_subcode.specs.Sizes.{most_units}
-use Rattle.cdg_press.specs.Pressed.{file_packs, IsPressed}
+use Rattle.cdg_press.specs.Pressed.{file_packs, IsPressed, press_of}
 
 -- What was pressed, where these are whole units of a form whose program differs from that of a pressed stream in at
 -- most two symbols of each word.
@@ -19,7 +19,7 @@ pub record DamagedPress (form : Form) (lead_in : ℕ) (others : List ℕ) : Type
   pub audio : ℕ
   pub bytes : List ℕ
   pub packs : List (List ℕ)
-  pub pressed : IsPressed sheet file lead_in audio bytes packs
+  pub pressed : IsPressed (press_of sheet file lead_in audio) bytes packs
   pub few : length others ≤ most_units * unit_size form
   pub whole : length others % unit_size form ≡ 0
   pub damaged : IsDamaged (program_symbols Raw bytes lead_in) form (program_symbols form others lead_in)

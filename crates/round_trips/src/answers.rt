@@ -1,6 +1,7 @@
 // What a player answers to an authored stream.
 ghost use Rattle.std.specs.Prelude.{◌≡◌, ◌*◌, ◌<◌, ◌≤◌, ℕ, List, Bool, true, Some, Result, length};
-ghost use Rattle.std.specs.declared.option.Option.{Option};
+ghost use Rattle.cdg_io.specs.Change.{Bytes, Change, from_to};
+ghost use Rattle.cdg_io.specs.Streams.{Streams};
 ghost use Rattle.q_channel.specs.QList.{IsQListed};
 ghost use Rattle.cue_sheet.specs.CueSheet.{CueSheet};
 ghost use Rattle.picture_script.specs.Script.{Drawing};
@@ -12,7 +13,7 @@ ghost use Rattle.cdtext_packs.specs.Texts.{has_no_text};
 ghost use Rattle.cdtext_packs.specs.TextLines.{offers_line};
 ghost use Rattle.subcode_author.specs.Authored.{IsAuthored, text_packs, disc_of};
 ghost use Rattle.raw_subcode.specs.Sizes.{most_units};
-ghost use Rattle.subcode_player.specs.Calls.{PlaysInTurn, IsAnsweredBy};
+ghost use Rattle.subcode_player.specs.Calls.{IsAnsweredBy, in_turn};
 ghost use Rattle.subcode_player.specs.Convert.{Restores};
 ghost use Rattle.subcode_player.specs.TextListing.{packs_in, ListsTexts, IsListedBy, IsWholeInput};
 ghost use Rattle.subcode_player.specs.declared.player.Played.{Played};
@@ -31,11 +32,12 @@ use crate::texts::{
 pub fn frame_lists_are_answered()
     ensures { (sheet : CueSheet) (script : List Drawing) (lead_in audio : ℕ) (bytes : List ℕ)
         (packs : List (List ℕ))
-        (given : ℕ) (left held held' : Option (List ℕ)) (result : Result Played PlayStop) (taken : List ℕ)
+        (given : ℕ) (left : Bytes) (out : Change Bytes) (result : Result Played PlayStop) (taken : List ℕ)
         → IsAuthored (disc_of sheet script lead_in audio) bytes packs → length bytes ≤ most_units * 96
-        → PlaysInTurn (IsQListed Raw) Raw given (Some bytes) left held held' result taken
+        → Streams (in_turn (IsQListed Raw) Raw given)
+        (record { left = from_to (Some bytes) left; held = out }) result taken
         → IsAnsweredBy result 96 (length bytes)
-        → Restores result held held' (frame_lines (layout_of sheet audio) lead_in) }
+        → Restores result out.before out.after (frame_lines (layout_of sheet audio) lead_in) }
 {
     authored_frames_are_listed();
 }
@@ -45,20 +47,20 @@ pub fn frame_lists_are_answered()
 pub fn text_lists_are_answered()
     ensures texts { (sheet : CueSheet) (script : List Drawing) (lead_in audio : ℕ) (bytes : List ℕ)
         (packs : List (List ℕ))
-        (left held held' : Option (List ℕ)) (result : Result Played PlayStop) (taken : List ℕ)
+        (left : Bytes) (out : Change Bytes) (result : Result Played PlayStop) (taken : List ℕ)
         → HasTextPacks sheet → HasText sheet → 0 < lead_in
         → IsAuthored (disc_of sheet script lead_in audio) bytes packs → length bytes ≤ most_units * 96
-        → ListsTexts Raw lead_in (Some bytes) left held held' result taken
+        → ListsTexts Raw lead_in (record { left = from_to (Some bytes) left; held = out }) result taken
         → IsListedBy result Raw lead_in bytes
-        → PutsTexts result held held' (sheet_lines sheet (4 * lead_in) 0) }
+        → PutsTexts result out.before out.after (sheet_lines sheet (4 * lead_in) 0) }
     ensures none { (sheet : CueSheet) (script : List Drawing) (lead_in audio : ℕ) (bytes : List ℕ)
         (packs : List (List ℕ))
-        (left held held' : Option (List ℕ)) (result : Result Played PlayStop) (taken : List ℕ)
+        (left : Bytes) (out : Change Bytes) (result : Result Played PlayStop) (taken : List ℕ)
         → has_no_text (sheet_texts sheet) ≡ true
         → IsAuthored (disc_of sheet script lead_in audio) bytes packs → length bytes ≤ most_units * 96
-        → ListsTexts Raw lead_in (Some bytes) left held held' result taken
+        → ListsTexts Raw lead_in (record { left = from_to (Some bytes) left; held = out }) result taken
         → IsListedBy result Raw lead_in bytes
-        → PutsTexts result held held' (offers_line 0 (4 * lead_in) 0) }
+        → PutsTexts result out.before out.after (offers_line 0 (4 * lead_in) 0) }
 {
     authored_texts_are_listed();
     streams_without_texts_are_listed();
@@ -68,21 +70,21 @@ pub fn text_lists_are_answered()
 pub fn copied_text_lists_are_answered()
     ensures texts { (sheet : CueSheet) (script : List Drawing) (lead_in audio : ℕ) (bytes : List ℕ)
         (packs : List (List ℕ)) (form : Form) (copy : List ℕ)
-        (left held held' : Option (List ℕ)) (result : Result Played PlayStop) (taken : List ℕ)
+        (left : Bytes) (out : Change Bytes) (result : Result Played PlayStop) (taken : List ℕ)
         → HasTextPacks sheet → HasText sheet → 0 < lead_in
         → IsAuthored (disc_of sheet script lead_in audio) bytes packs
         → packs_in form lead_in copy ≡ packs_in Raw lead_in bytes → IsWholeInput form copy
-        → ListsTexts form lead_in (Some copy) left held held' result taken
+        → ListsTexts form lead_in (record { left = from_to (Some copy) left; held = out }) result taken
         → IsListedBy result form lead_in copy
-        → PutsTexts result held held' (sheet_lines sheet (4 * lead_in) 0) }
+        → PutsTexts result out.before out.after (sheet_lines sheet (4 * lead_in) 0) }
     ensures none { (sheet : CueSheet) (script : List Drawing) (lead_in audio : ℕ) (bytes : List ℕ)
         (packs : List (List ℕ)) (form : Form) (copy : List ℕ)
-        (left held held' : Option (List ℕ)) (result : Result Played PlayStop) (taken : List ℕ)
+        (left : Bytes) (out : Change Bytes) (result : Result Played PlayStop) (taken : List ℕ)
         → has_no_text (sheet_texts sheet) ≡ true → IsAuthored (disc_of sheet script lead_in audio) bytes packs
         → packs_in form lead_in copy ≡ packs_in Raw lead_in bytes → IsWholeInput form copy
-        → ListsTexts form lead_in (Some copy) left held held' result taken
+        → ListsTexts form lead_in (record { left = from_to (Some copy) left; held = out }) result taken
         → IsListedBy result form lead_in copy
-        → PutsTexts result held held' (offers_line 0 (4 * lead_in) 0) }
+        → PutsTexts result out.before out.after (offers_line 0 (4 * lead_in) 0) }
 {
     authored_texts_are_listed();
     streams_without_texts_are_listed();
@@ -92,13 +94,13 @@ pub fn copied_text_lists_are_answered()
 pub fn damaged_text_lists_are_answered()
     ensures { (sheet : CueSheet) (script : List Drawing) (lead_in audio : ℕ) (bytes : List ℕ)
         (packs : List (List ℕ)) (whole : List Bool) (form : Form) (changed : List ℕ)
-        (left held held' : Option (List ℕ)) (result : Result Played PlayStop) (taken : List ℕ)
+        (left : Bytes) (out : Change Bytes) (result : Result Played PlayStop) (taken : List ℕ)
         → HasTextPacks sheet → HasText sheet → IsAuthored (disc_of sheet script lead_in audio) bytes packs
         → HasHurtSlots (text_packs sheet) whole (packs_in Raw lead_in bytes) (packs_in form lead_in changed)
         → IsWholeInput form changed
-        → ListsTexts form lead_in (Some changed) left held held' result taken
+        → ListsTexts form lead_in (record { left = from_to (Some changed) left; held = out }) result taken
         → IsListedBy result form lead_in changed
-        → PutsTexts result held held' (sheet_lines sheet (count_whole whole) (count_hurt whole)) }
+        → PutsTexts result out.before out.after (sheet_lines sheet (count_whole whole) (count_hurt whole)) }
 {
     damaged_lead_ins_give_the_texts();
 }

@@ -5,14 +5,15 @@ ghost use Rattle.raw_subcode.specs.Channels.{program_symbols};
 ghost use Rattle.raw_subcode.specs.declared.form.Form.{Form};
 ghost use Rattle.cue_sheet.specs.CueSheet.{CueSheet, IsSheet};
 ghost use Rattle.toc_model.specs.Places.{layout_of, program_blocks};
-ghost use Rattle.stream_writer.specs.Given.{PutsStreamPart};
+ghost use Rattle.stream_writer.specs.Given.{PutsStreamPart, framing_of};
 ghost use Rattle.stream_writer.specs.Needs.{text_packs};
+ghost use Rattle.cdg_io.specs.Change.{Bytes, Change};
 ghost use Rattle.cdg_io.specs.Moves.{AppendsPrefix};
-ghost use Rattle.cdg_press.specs.Pressed.{file_begin, IsPackAfter, IsPressed};
+ghost use Rattle.cdg_press.specs.Pressed.{file_begin, IsPackAfter, IsPressed, press_of};
 ghost use Rattle.cdg_press.specs.Refusals.{IsPressable};
 ghost use Rattle.rw_interleave.specs.Stream.{IsRecovered, all_packs};
 ghost use Rattle.subcode_player.specs.Convert.{IsDamagedStream};
-ghost use Rattle.subcode_player.specs.Screen.{IsScreenAt};
+ghost use Rattle.subcode_player.specs.Screen.{IsScreenAt, moment};
 ghost use Rattle.round_trips.specs.Damaged.{DamagedPress, IsFileText};
 
 use cdg_instructions::each_pack_has_a_meaning;
@@ -24,11 +25,13 @@ use rw_interleave::{packs_are_recovered, spread_carries, text_of_packs};
 pub fn pressed_streams_are_one()
     ensures packs { (sheet : CueSheet) (file : List ℕ) (lead_in audio : ℕ) (one other : List ℕ)
         (packs others : List (List ℕ))
-        → IsPressed sheet file lead_in audio one packs → IsPressed sheet file lead_in audio other others
+        → IsPressed (press_of sheet file lead_in audio) one packs
+        → IsPressed (press_of sheet file lead_in audio) other others
         → packs ≡ others }
     ensures bytes { (sheet : CueSheet) (file : List ℕ) (lead_in audio : ℕ) (one other : List ℕ)
         (packs others : List (List ℕ))
-        → IsPressed sheet file lead_in audio one packs → IsPressed sheet file lead_in audio other others
+        → IsPressed (press_of sheet file lead_in audio) one packs
+        → IsPressed (press_of sheet file lead_in audio) other others
         → one ≡ other }
 {}
 
@@ -37,13 +40,14 @@ pub fn pressed_streams_are_one()
 pub fn pressable_files_have_streams()
     ensures stream { (sheet : CueSheet) (file : List ℕ) (lead_in audio : ℕ)
         → IsSheet sheet → lead_in ≤ 450000 → IsPressable sheet file lead_in audio
-        → (bytes : List ℕ) × (packs : List (List ℕ)) × IsPressed sheet file lead_in audio bytes packs }
+        → (bytes : List ℕ) × (packs : List (List ℕ))
+        × IsPressed (press_of sheet file lead_in audio) bytes packs }
     ensures part { (sheet : CueSheet) (file : List ℕ) (lead_in audio n : ℕ) (bytes : List ℕ)
         (packs given : List (List ℕ))
-        (held after : Option (List ℕ)) → IsPressed sheet file lead_in audio bytes packs
-        → PutsStreamPart (layout_of sheet audio) (IsPackAfter file_begin file) (text_packs sheet) lead_in held
-        after n given
-        → AppendsPrefix held after bytes }
+        (held : Change Bytes) → IsPressed (press_of sheet file lead_in audio) bytes packs
+        → PutsStreamPart (framing_of (layout_of sheet audio) (text_packs sheet) lead_in)
+        (IsPackAfter file_begin file) held n given
+        → AppendsPrefix held.before held.after bytes }
 {
     spread_carries();
 }
@@ -68,11 +72,12 @@ pub fn pressed_files_are_shown()
     ensures text { (form : Form) (lead_in time : ℕ) (others : List ℕ)
         (press : DamagedPress form lead_in others)
         (text : List ℕ) (bad : ℕ) → time ≤ press.audio
-        → IsScreenAt form lead_in (150 + time) others text bad → IsFileText press.file (4 * time) text }
+        → IsScreenAt (moment form lead_in (150 + time)) others text bad
+        → IsFileText press.file (4 * time) text }
     ensures bad { (form : Form) (lead_in time : ℕ) (others : List ℕ)
         (press : DamagedPress form lead_in others)
         (text : List ℕ) (bad : ℕ) → time ≤ press.audio
-        → IsScreenAt form lead_in (150 + time) others text bad → bad ≡ 0 }
+        → IsScreenAt (moment form lead_in (150 + time)) others text bad → bad ≡ 0 }
 {
     packs_are_recovered();
     text_of_packs();

@@ -7,6 +7,7 @@ use Rattle.std.proofs.KnownBytes.{Appends-nil, Appends-trans}
 use Rattle.std.proofs.lemmas.Bool.{cases_lt}
 use Rattle.std.proofs.lemmas.List.{append-nil}
 use Rattle.bit_lists.specs.Counting.{below}
+use Rattle.cdg_io.specs.Change.{from_to}
 use Rattle.cdg_io.specs.Run.{run_state}
 use Rattle.cdg_io.specs.Moves.{AppendsPrefix}
 use Rattle.rw_interleave.specs.Spreading.{spread_next}
@@ -24,7 +25,7 @@ same_in_range f g a (suc n) same = ap₂ (λ xs ys. xs ++ ys) (same a (omega ari
 -- The first blocks were put, and four packs a block were given.
 pub record AreDone (layout : DiscLayout) (Comes : ℕ → List ℕ → Type 0) (n : ℕ) (held held' : Option (List ℕ)) (spread : List (List ℕ)) : Type 0 where
   pub packs : List (List ℕ)
-  pub puts : PutsProgram layout Comes n held held' packs
+  pub puts : PutsProgram layout Comes n (from_to held held') packs
   pub spread_is : spread ≡ run_state spread_next [] packs
 
 pub none_done : (layout : DiscLayout) (Comes : ℕ → List ℕ → Type 0) (held : Option (List ℕ)) (spread : List (List ℕ)) → spread ≡ [] → AreDone layout Comes 0 held held spread
@@ -42,7 +43,7 @@ record NextBlock (layout : DiscLayout) (Comes : ℕ → List ℕ → Type 0) (n 
   last : symbols_at (symbols_from [] (packs ++ four)) n ≡ symbols
 
 next_block : (layout : DiscLayout) (Comes Later : ℕ → List ℕ → Type 0) (n : ℕ) (before after packs four : List (List ℕ)) (symbols : List ℕ)
-    → AreGiven Comes 0 (4 * n) packs → before ≡ run_state spread_next [] packs → ComesLater Comes (4 * n) Later → TakesPacks Later 4 before after symbols four
+    → AreGiven Comes 0 (4 * n) packs → before ≡ run_state spread_next [] packs → ComesLater Comes (4 * n) Later → TakesPacks Later 4 (from_to before after) symbols four
     → NextBlock layout Comes n packs four symbols
 next_block layout Comes Later n before after packs four symbols given_are spread_is later taken =
     let so_far : List ℕ = symbols_from [] packs in
@@ -67,7 +68,7 @@ next_block layout Comes Later n before after packs four symbols given_are spread
 
 -- one block more
 pub block_more : (layout : DiscLayout) (Comes Later : ℕ → List ℕ → Type 0) (n : ℕ) (held held' held'' : Option (List ℕ)) (before after : List (List ℕ)) (symbols block : List ℕ)
-    → AreDone layout Comes n held held' before → ComesLater Comes (4 * n) Later → (four : List (List ℕ)) × TakesPacks Later 4 before after symbols four
+    → AreDone layout Comes n held held' before → ComesLater Comes (4 * n) Later → (four : List (List ℕ)) × TakesPacks Later 4 (from_to before after) symbols four
     → block ≡ carrying_block layout n symbols → IsBuilt block (p_bit layout n) (program_frame layout n) symbols → Appends held' held'' block
     → AreDone layout Comes (n + 1) held held'' after
 block_more layout Comes Later n held held' held'' before after symbols block done later (four, taken) bytes built put =
@@ -95,11 +96,11 @@ block_more layout Comes Later n held held' held'' before after symbols block don
     }
 
 -- a prefix of one block more
-pub part_more : (layout : DiscLayout) (Comes Later : ℕ → List ℕ → Type 0) (n blocks : ℕ) (held held' held'' : Option (List ℕ)) (before after : List (List ℕ)) (symbols block : List ℕ)
-    → AreDone layout Comes n held held' before → n < blocks → ComesLater Comes (4 * n) Later → (four : List (List ℕ)) × TakesPacks Later 4 before after symbols four
+pub part_more : (layout : DiscLayout) (Comes Later : ℕ → List ℕ → Type 0) (n : ℕ) (held held' held'' : Option (List ℕ)) (before after : List (List ℕ)) (symbols block : List ℕ)
+    → AreDone layout Comes n held held' before → n < layout.blocks → ComesLater Comes (4 * n) Later → (four : List (List ℕ)) × TakesPacks Later 4 (from_to before after) symbols four
     → block ≡ carrying_block layout n symbols → AppendsPrefix held' held'' block
-    → (m : ℕ) × (packs : List (List ℕ)) × PutsPart layout Comes blocks held held'' m packs
-part_more layout Comes Later n blocks held held' held'' before after symbols block done lt later (four, taken) bytes part =
+    → (m : ℕ) × (packs : List (List ℕ)) × PutsPart layout Comes (from_to held held'') m packs
+part_more layout Comes Later n held held' held'' before after symbols block done lt later (four, taken) bytes part =
     let packs = done.packs in
     let puts = done.puts in
     let next = next_block layout Comes Later n before after packs four symbols puts.given_are done.spread_is later taken in
@@ -117,6 +118,6 @@ part_more layout Comes Later n blocks held held' held'' before after symbols blo
 
 -- all blocks
 pub all_done : (layout : DiscLayout) (Comes : ℕ → List ℕ → Type 0) (n blocks : ℕ) (held held' : Option (List ℕ)) (spread : List (List ℕ))
-    → AreDone layout Comes n held held' spread → n ≡ blocks → (packs : List (List ℕ)) × PutsProgram layout Comes blocks held held' packs
+    → AreDone layout Comes n held held' spread → n ≡ blocks → (packs : List (List ℕ)) × PutsProgram layout Comes blocks (from_to held held') packs
 all_done layout Comes n blocks held held' spread done all =
-    (done.packs, subst (λ k. PutsProgram layout Comes k held held' done.packs) all done.puts)
+    (done.packs, subst (λ k. PutsProgram layout Comes k (from_to held held') done.packs) all done.puts)

@@ -11,6 +11,7 @@ use borrow.Rule.Slice.PartMut.{put_mid}
 use Rattle.cdg_io.specs.Run.{give, run_state}
 use Rattle.rw_code.specs.Codeword.{IsCodeword}
 use Rattle.rw_interleave.specs.Spreading.{spread_next, spread_gives, spread_over}
+use Rattle.cdg_io.specs.Change.{from_to}
 use Rattle.stream_writer.specs.Blocks.{symbols_at}
 use Rattle.stream_writer.specs.Given.{symbols_from, AreGiven, ComesLater, TakesPacks}
 
@@ -108,7 +109,7 @@ run_state-append before (x ∷ xs) ys = run_state-append (spread_next before x) 
 -- The slots of k packs are written.
 pub record AreWritten (Comes : ℕ → List ℕ → Type 0) (before after : List (List ℕ)) (k : ℕ) (symbols : List ℕ) : Type 0 where
   pub packs : List (List ℕ)
-  pub taken : TakesPacks Comes k before after (take (24 * k) symbols) packs
+  pub taken : TakesPacks Comes k (from_to before after) (take (24 * k) symbols) packs
   pub size : length symbols ≡ 96
   pub bound : All (λ x. x < 64) (take (24 * k) symbols)
 
@@ -147,7 +148,7 @@ all_of : (k : ℕ) (symbols : List ℕ) → k ≡ 4 → length symbols ≡ 96 �
 all_of k symbols all size = take_all (24 * k) symbols (omega (arith, size))
 
 pub all_taken : (Comes : ℕ → List ℕ → Type 0) (before t : List (List ℕ)) (k : ℕ) (symbols : List ℕ)
-    → AreWritten Comes before t k symbols → k ≡ 4 → (packs : List (List ℕ)) × TakesPacks Comes 4 before t symbols packs
+    → AreWritten Comes before t k symbols → k ≡ 4 → (packs : List (List ℕ)) × TakesPacks Comes 4 (from_to before t) symbols packs
 all_taken Comes before t k symbols written all =
     let taken = written.taken in (
       written.packs,

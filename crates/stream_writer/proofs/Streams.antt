@@ -5,12 +5,13 @@ use Rattle.std.specs.Io.KnownBytes.{Appends}
 use Rattle.std.proofs.KnownBytes.{Appends-trans}
 use Rattle.std.proofs.lemmas.List.{append-nil}
 use Rattle.bit_lists.specs.Counting.{below}
+use Rattle.cdg_io.specs.Change.{from_to}
 use Rattle.cdg_io.specs.Moves.{AppendsPrefix}
 use Rattle.toc_model.specs.Places.{DiscLayout}
 use Rattle.toc_model.specs.Layout.{toc_frame}
 use Rattle.cdtext_packs.specs.LeadIn.{lead_in_symbols}
 use Rattle.stream_writer.specs.Blocks.{lead_in_block, program_block, stream_bytes, IsBuilt}
-use Rattle.stream_writer.specs.Given.{symbols_from, PutsPart, PutsProgram, PutsStream, PutsStreamPart}
+use Rattle.stream_writer.specs.Given.{PutsPart, PutsProgram, PutsStream, PutsStreamPart, framing_of, symbols_from}
 use Rattle.stream_writer.proofs.Pieces.{prefix_first, prefix_on}
 use Rattle.stream_writer.proofs.Slots.{none_given, length-symbols_from}
 use Rattle.stream_writer.proofs.Framed.{AreBuilt, framing, program_is}
@@ -22,8 +23,8 @@ lead_in_bytes layout texts lead_in = flat_map (lead_in_block layout texts lead_i
 pub stream_put : (layout : DiscLayout) (Comes : ℕ → List ℕ → Type 0) (texts : List (List ℕ)) (lead_in : ℕ) (a b c : Option (List ℕ))
     → Appends a b (flat_map (lead_in_block layout texts lead_in) (below lead_in))
     → ((l : ℕ) → l < lead_in → IsBuilt (lead_in_block layout texts lead_in l) false (toc_frame layout lead_in l) (lead_in_symbols texts l))
-    → (packs : List (List ℕ)) × PutsProgram layout Comes layout.blocks b c packs
-    → (packs : List (List ℕ)) × PutsStream layout Comes texts lead_in a c packs
+    → (packs : List (List ℕ)) × PutsProgram layout Comes layout.blocks (from_to b c) packs
+    → (packs : List (List ℕ)) × PutsStream (framing_of layout texts lead_in) Comes (from_to a c) packs
 unfolding stream_bytes
 stream_put layout Comes texts lead_in a b c put contents (packs, puts) =
     let symbols : List ℕ = symbols_from [] packs in
@@ -40,7 +41,7 @@ stream_put layout Comes texts lead_in a b c put contents (packs, puts) =
 
 pub part_of_lead_in : (layout : DiscLayout) (Comes : ℕ → List ℕ → Type 0) (texts : List (List ℕ)) (lead_in : ℕ) (a b : Option (List ℕ))
     → AppendsPrefix a b (flat_map (lead_in_block layout texts lead_in) (below lead_in))
-    → (n : ℕ) × (packs : List (List ℕ)) × PutsStreamPart layout Comes texts lead_in a b n packs
+    → (n : ℕ) × (packs : List (List ℕ)) × PutsStreamPart (framing_of layout texts lead_in) Comes (from_to a b) n packs
 unfolding stream_bytes
 part_of_lead_in layout Comes texts lead_in a b part = (
   0,
@@ -54,8 +55,8 @@ part_of_lead_in layout Comes texts lead_in a b part = (
 
 pub part_of_program : (layout : DiscLayout) (Comes : ℕ → List ℕ → Type 0) (texts : List (List ℕ)) (lead_in : ℕ) (a b c : Option (List ℕ))
     → Appends a b (flat_map (lead_in_block layout texts lead_in) (below lead_in))
-    → (n : ℕ) × (packs : List (List ℕ)) × PutsPart layout Comes layout.blocks b c n packs
-    → (n : ℕ) × (packs : List (List ℕ)) × PutsStreamPart layout Comes texts lead_in a c n packs
+    → (n : ℕ) × (packs : List (List ℕ)) × PutsPart layout Comes (from_to b c) n packs
+    → (n : ℕ) × (packs : List (List ℕ)) × PutsStreamPart (framing_of layout texts lead_in) Comes (from_to a c) n packs
 unfolding stream_bytes
 part_of_program layout Comes texts lead_in a b c put (n, packs, puts) =
     let first : List ℕ = lead_in_bytes layout texts lead_in in

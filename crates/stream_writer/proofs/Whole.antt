@@ -4,13 +4,14 @@ use Rattle.std.specs.declared.option.Option.{Option}
 use Rattle.std.specs.Io.KnownBytes.{Appends}
 use Rattle.std.proofs.lemmas.List.{take-append-drop, length-take-le, length-drop, get_or-take, get_or-drop}
 use Rattle.std.proofs.lemmas.List.Elements.{All-take}
+use Rattle.cdg_io.specs.Change.{from_to}
 use Rattle.rw_code.specs.Codeword.{IsCodeword}
 use Rattle.rw_interleave.specs.Interleave.{whole_packs, Carries}
 use Rattle.rw_interleave.specs.Spreading.{filled_with_idle}
 use Rattle.toc_model.specs.Places.{DiscLayout}
 use Rattle.stream_writer.specs.Blocks.{stream_bytes}
 use Rattle.stream_writer.specs.Framing.{HasFraming}
-use Rattle.stream_writer.specs.Given.{symbols_from, idle_pack, AreGiven, CarriesComing, PutsStream, PutsStreamPart}
+use Rattle.stream_writer.specs.Given.{AreGiven, CarriesComing, PutsStream, PutsStreamPart, framing_of, idle_pack, symbols_from}
 
 -- the packs that the end of so many blocks cuts are idle
 abbrev pub AreCutIdle : (ℕ → List ℕ → Type 0) → ℕ → Type 0
@@ -63,8 +64,8 @@ split Comes blocks packs idle given =
 
 -- the stream that was put carries its whole packs
 pub stream_written : SpreadCarries → (layout : DiscLayout) (Comes : ℕ → List ℕ → Type 0) (texts : List (List ℕ)) (lead_in : ℕ) (a b : Option (List ℕ))
-    → AreCutIdle Comes layout.blocks → (all : List (List ℕ)) × PutsStream layout Comes texts lead_in a b all
-    → (bytes : List ℕ) × (packs : List (List ℕ)) × CarriesComing layout Comes texts lead_in bytes packs × Appends a b bytes
+    → AreCutIdle Comes layout.blocks → (all : List (List ℕ)) × PutsStream (framing_of layout texts lead_in) Comes (from_to a b) all
+    → (bytes : List ℕ) × (packs : List (List ℕ)) × CarriesComing (framing_of layout texts lead_in) Comes bytes packs × Appends a b bytes
 stream_written carries layout Comes texts lead_in a b idle (all, puts) =
     let parts = split Comes layout.blocks all idle puts.given_are in
     let whole : List (List ℕ) = take (whole_packs layout.blocks) all in (
@@ -91,7 +92,7 @@ framing_with layout xs ys zero bytes same framing = record {
 framing_with layout xs ys (suc l) bytes same framing = subst (λ (t : List (List ℕ)). HasFraming layout t (suc l) bytes) (same (omega arith)) framing
 
 pub part_with : (layout : DiscLayout) (Comes : ℕ → List ℕ → Type 0) (xs ys : List (List ℕ)) (lead_in : ℕ) (a b : Option (List ℕ)) (n : ℕ) (packs : List (List ℕ))
-    → (0 < lead_in → xs ≡ ys) → PutsStreamPart layout Comes xs lead_in a b n packs → PutsStreamPart layout Comes ys lead_in a b n packs
+    → (0 < lead_in → xs ≡ ys) → PutsStreamPart (framing_of layout xs lead_in) Comes (from_to a b) n packs → PutsStreamPart (framing_of layout ys lead_in) Comes (from_to a b) n packs
 unfolding stream_bytes
 part_with layout Comes xs ys zero a b n packs same puts = record { within = puts.within; given_are = puts.given_are; put = puts.put }
-part_with layout Comes xs ys (suc l) a b n packs same puts = subst (λ (t : List (List ℕ)). PutsStreamPart layout Comes t (suc l) a b n packs) (same (omega arith)) puts
+part_with layout Comes xs ys (suc l) a b n packs same puts = subst (λ (t : List (List ℕ)). PutsStreamPart (framing_of layout t (suc l)) Comes (from_to a b) n packs) (same (omega arith)) puts

@@ -1,9 +1,9 @@
 -- Packs as they come, and what is put of them. `Comes n pack` says that pack n, counted from 0, may be this.
 use Rattle.std.specs.Prelude.{◌≡◌, ℕ, ◌+◌, ◌*◌, ◌<◌, ◌≤◌, List, [], length, flat_map, replicate, ◌++◌, Some, slice_index_or, All}
 use Rattle.std.specs.List.{concat}
-use Rattle.std.specs.declared.option.Option.{Option}
 use Rattle.std.specs.Io.KnownBytes.{Appends}
 use Rattle.bit_lists.specs.Counting.{below}
+use Rattle.cdg_io.specs.Change.{Bytes, Change}
 use Rattle.cdg_io.specs.Run.{run_gives, run_state}
 use Rattle.cdg_io.specs.Moves.{AppendsPrefix}
 use Rattle.raw_subcode.specs.Channels.{program_symbols}
@@ -50,49 +50,64 @@ pub record AreQuiet (packs : List (List ℕ)) (quiet : ℕ) : Type 0 where
   pub idle : packs ≡ before ++ replicate quiet idle_pack
 
 -- the symbols of so many packs, and the packs that are still to be spread before and after them
-pub record TakesPacks (Comes : ℕ → List ℕ → Type 0) (many : ℕ) (before after : List (List ℕ))
+pub record TakesPacks (Comes : ℕ → List ℕ → Type 0) (many : ℕ) (waiting : Change (List (List ℕ)))
     (symbols : List ℕ) (packs : List (List ℕ)) : Type 0 where
   pub given_are : AreGiven Comes 0 many packs
-  pub symbols_are : symbols ≡ symbols_from before packs
-  pub after_is : after ≡ run_state spread_next before packs
+  pub symbols_are : symbols ≡ symbols_from waiting.before packs
+  pub after_is : waiting.after ≡ run_state spread_next waiting.before packs
 
 -- program blocks with these packs were put
 pub record PutsProgram (layout : DiscLayout) (Comes : ℕ → List ℕ → Type 0) (blocks : ℕ)
-    (held held' : Option (List ℕ)) (packs : List (List ℕ)) : Type 0 where
+    (held : Change Bytes) (packs : List (List ℕ)) : Type 0 where
   pub given_are : AreGiven Comes 0 (slots_a_block * blocks) packs
-  pub put : Appends held held' (flat_map (program_block layout (symbols_from [] packs)) (below blocks))
+  pub put : Appends held.before held.after
+      (flat_map (program_block layout (symbols_from [] packs)) (below blocks))
   pub built : (b : ℕ) → b < blocks
       → IsBuilt (program_block layout (symbols_from [] packs) b) (p_bit layout b) (program_frame layout b)
       (symbols_at (symbols_from [] packs) b)
 
 -- a prefix of so many program blocks with these packs was put
-pub record PutsPart (layout : DiscLayout) (Comes : ℕ → List ℕ → Type 0) (blocks : ℕ)
-    (held held' : Option (List ℕ)) (n : ℕ) (packs : List (List ℕ)) : Type 0 where
-  pub within : n ≤ blocks
+pub record PutsPart (layout : DiscLayout) (Comes : ℕ → List ℕ → Type 0) (held : Change Bytes) (n : ℕ)
+    (packs : List (List ℕ)) : Type 0 where
+  pub within : n ≤ layout.blocks
   pub given_are : AreGiven Comes 0 (slots_a_block * n) packs
-  pub put : AppendsPrefix held held' (flat_map (program_block layout (symbols_from [] packs)) (below n))
+  pub put : AppendsPrefix held.before held.after
+      (flat_map (program_block layout (symbols_from [] packs)) (below n))
+
+-- what stands around the packs of a stream: the places of a disc, and the text packs and blocks of its lead-in
+pub record Framing : Type 0 where
+  pub layout : DiscLayout
+  pub texts : List (List ℕ)
+  pub lead_in : ℕ
+
+-- the places of a disc, and the text packs and blocks of a lead-in, as one
+abbrev pub framing_of : DiscLayout → List (List ℕ) → ℕ → Framing
+framing_of layout texts lead_in = record { layout = layout; texts = texts; lead_in = lead_in }
+
+-- the bytes of the lead-in and of the first n blocks of the program, with these packs
+abbrev pub framed_bytes : Framing → ℕ → List (List ℕ) → List ℕ
+framed_bytes around n packs = stream_bytes around.layout around.texts around.lead_in n (symbols_from [] packs)
 
 -- a stream with these packs was put
-pub record PutsStream (layout : DiscLayout) (Comes : ℕ → List ℕ → Type 0) (texts : List (List ℕ))
-    (lead_in : ℕ) (held held' : Option (List ℕ)) (packs : List (List ℕ)) : Type 0 where
-  pub given_are : AreGiven Comes 0 (slots_a_block * layout.blocks) packs
-  pub put : Appends held held' (stream_bytes layout texts lead_in layout.blocks (symbols_from [] packs))
-  pub framing : HasFraming layout texts lead_in
-      (stream_bytes layout texts lead_in layout.blocks (symbols_from [] packs))
-  pub symbols_are : program_symbols Raw
-      (stream_bytes layout texts lead_in layout.blocks (symbols_from [] packs)) lead_in
+pub record PutsStream (around : Framing) (Comes : ℕ → List ℕ → Type 0) (held : Change Bytes)
+    (packs : List (List ℕ)) : Type 0 where
+  pub given_are : AreGiven Comes 0 (slots_a_block * around.layout.blocks) packs
+  pub put : Appends held.before held.after (framed_bytes around around.layout.blocks packs)
+  pub framing : HasFraming around.layout around.texts around.lead_in
+      (framed_bytes around around.layout.blocks packs)
+  pub symbols_are : program_symbols Raw (framed_bytes around around.layout.blocks packs) around.lead_in
       ≡ symbols_from [] packs
 
 -- a prefix of the lead-in and so many program blocks with these packs was put
-pub record PutsStreamPart (layout : DiscLayout) (Comes : ℕ → List ℕ → Type 0) (texts : List (List ℕ))
-    (lead_in : ℕ) (held held' : Option (List ℕ)) (n : ℕ) (packs : List (List ℕ)) : Type 0 where
-  pub within : n ≤ layout.blocks
+pub record PutsStreamPart (around : Framing) (Comes : ℕ → List ℕ → Type 0) (held : Change Bytes) (n : ℕ)
+    (packs : List (List ℕ)) : Type 0 where
+  pub within : n ≤ around.layout.blocks
   pub given_are : AreGiven Comes 0 (slots_a_block * n) packs
-  pub put : AppendsPrefix held held' (stream_bytes layout texts lead_in n (symbols_from [] packs))
+  pub put : AppendsPrefix held.before held.after (framed_bytes around n packs)
 
 -- the bytes have this framing, and their program carries these packs, which are as they come
-pub record CarriesComing (layout : DiscLayout) (Comes : ℕ → List ℕ → Type 0) (texts : List (List ℕ))
-    (lead_in : ℕ) (bytes : List ℕ) (packs : List (List ℕ)) : Type 0 where
-  pub given_are : AreGiven Comes 0 (whole_packs layout.blocks) packs
-  pub framing : HasFraming layout texts lead_in bytes
-  pub carries : Carries layout.blocks (program_symbols Raw bytes lead_in) packs
+pub record CarriesComing (around : Framing) (Comes : ℕ → List ℕ → Type 0) (bytes : List ℕ)
+    (packs : List (List ℕ)) : Type 0 where
+  pub given_are : AreGiven Comes 0 (whole_packs around.layout.blocks) packs
+  pub framing : HasFraming around.layout around.texts around.lead_in bytes
+  pub carries : Carries around.layout.blocks (program_symbols Raw bytes around.lead_in) packs

@@ -1,5 +1,6 @@
 // The symbols of the program blocks.
 ghost use Rattle.std.specs.Prelude.{◌≡◌, ◌<◌, ℕ, List, All};
+ghost use Rattle.cdg_io.specs.Change.{from_to};
 ghost use Rattle.rw_code.specs.Codeword.{IsWord};
 ghost use Rattle.stream_writer.specs.Given.{AreQuiet, ComesLater, TakesPack, TakesPacks};
 
@@ -19,7 +20,7 @@ pub(crate) fn next_symbols<P: PackSource>(
 ) -> [u8; BLOCK_BYTES]
     requires { AreQuiet spread.old quiet.old }
     ensures symbols { (packs : List (List ℕ))
-        × TakesPacks (P.comes source.old) 4 spread.old spread.new result packs }
+        × TakesPacks (P.comes source.old) 4 (from_to spread.old spread.new) result packs }
     ensures bound { All (λ s. s < 64) result }
     ensures later { ComesLater (P.comes source.old) 4 (P.comes source.new) }
     ensures quiet { AreQuiet spread.new quiet.new }

@@ -4,12 +4,13 @@ ghost use Rattle.std.specs.Io.KnownBytes.{Appends};
 ghost use Rattle.bit_lists.specs.Counting.{below};
 ghost use Rattle.disc_time.specs.Counts.{most_lead_in};
 ghost use Rattle.cdg_io.specs.Causes.{HasCause};
+ghost use Rattle.cdg_io.specs.Change.{change};
 ghost use Rattle.cdg_io.specs.Moves.{AppendsPrefix};
 ghost use Rattle.rw_interleave.specs.Interleave.{whole_packs};
 ghost use Rattle.toc_model.specs.Layout.{toc_frame};
 ghost use Rattle.cdtext_packs.specs.LeadIn.{lead_in_symbols};
 ghost use Rattle.stream_writer.specs.Blocks.{lead_in_block, IsBuilt};
-ghost use Rattle.stream_writer.specs.Given.{idle_pack, CarriesComing, PutsPart, PutsProgram, PutsStream, PutsStreamPart};
+ghost use Rattle.stream_writer.specs.Given.{CarriesComing, PutsPart, PutsProgram, PutsStream, PutsStreamPart, framing_of, idle_pack};
 
 use crate::blocks::{lead_in_block, program_block};
 use crate::program::next_symbols;
@@ -52,11 +53,10 @@ fn put_program<P: PackSource, K: Sink>(
 ) -> Result<(), Failed>
     requires { spread.old ≡ [] }
     ensures ok { OnOk result ((packs : List (List ℕ))
-        × PutsProgram layout.now (P.comes source.old) layout.now.blocks (K.held out.old) (K.held out.new)
+        × PutsProgram layout.now (P.comes source.old) layout.now.blocks (change K.held out.old out.new)
         packs) }
     ensures part { OnErr result ((n : ℕ) × (packs : List (List ℕ))
-        × PutsPart layout.now (P.comes source.old) layout.now.blocks (K.held out.old) (K.held out.new) n
-        packs) }
+        × PutsPart layout.now (P.comes source.old) (change K.held out.old out.new) n packs) }
     ensures cause { HasCause (K.faults out.old) (K.faults out.new) result }
 {
     let blocks = layout.blocks();
@@ -81,11 +81,11 @@ fn put_stream<P: PackSource, K: Sink>(
     requires lead_in { lead_in ≤ most_lead_in }
     requires start { spread.old ≡ [] }
     ensures ok { OnOk result ((packs : List (List ℕ))
-        × PutsStream layout.now (P.comes source.old) texts.now lead_in (K.held out.old) (K.held out.new)
-        packs) }
+        × PutsStream (framing_of layout.now texts.now lead_in) (P.comes source.old)
+        (change K.held out.old out.new) packs) }
     ensures part { OnErr result ((n : ℕ) × (packs : List (List ℕ))
-        × PutsStreamPart layout.now (P.comes source.old) texts.now lead_in (K.held out.old) (K.held out.new) n
-        packs) }
+        × PutsStreamPart (framing_of layout.now texts.now lead_in) (P.comes source.old)
+        (change K.held out.old out.new) n packs) }
     ensures cause { HasCause (K.faults out.old) (K.faults out.new) result }
 {
     put_lead_in(layout, texts, lead_in, out)?;
@@ -113,11 +113,11 @@ pub fn write_stream<P: PackSource, K: Sink>(
     requires cut { (n : ℕ) (pack : List ℕ) → whole_packs layout.now.blocks ≤ n → n < 4 * layout.now.blocks
         → P.comes source.old n pack → pack ≡ idle_pack }
     ensures ok { OnOk result ((bytes : List ℕ) × (packs : List (List ℕ))
-        × CarriesComing layout.now (P.comes source.old) texts.now lead_in bytes packs
+        × CarriesComing (framing_of layout.now texts.now lead_in) (P.comes source.old) bytes packs
         × Appends (K.held out.old) (K.held out.new) bytes) }
     ensures part { OnErr result ((n : ℕ) × (packs : List (List ℕ))
-        × PutsStreamPart layout.now (P.comes source.old) texts.now lead_in (K.held out.old) (K.held out.new) n
-        packs) }
+        × PutsStreamPart (framing_of layout.now texts.now lead_in) (P.comes source.old)
+        (change K.held out.old out.new) n packs) }
     ensures cause { HasCause (K.faults out.old) (K.faults out.new) result }
 {
     spread_carries();

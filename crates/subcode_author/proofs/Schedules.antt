@@ -13,7 +13,8 @@ use Rattle.picture_changes.specs.Shown.{AreColoursInRange}
 use Rattle.pack_schedule.specs.Survey.{IsSurvey, IsWithin}
 use Rattle.pack_schedule.specs.Woven.{Woven, IsPackAt, ArePacks}
 use Rattle.pack_schedule.specs.declared.planned.Planned.{Planned}
-use Rattle.stream_writer.specs.Given.{idle_pack, AreGiven, CarriesComing, PutsStreamPart}
+use Rattle.cdg_io.specs.Change.{from_to}
+use Rattle.stream_writer.specs.Given.{AreGiven, CarriesComing, PutsStreamPart, framing_of, idle_pack}
 use Rattle.stream_writer.specs.Needs.{text_packs, HasRoom}
 use Rattle.stream_writer.proofs.Whole.{framing_with, part_with}
 use Rattle.subcode_author.specs.Authored.{IsWrittenStream, disc_of}
@@ -99,7 +100,7 @@ in_turn script blocks packs given n lt =
 
 is_authored : PacksAreSchedule → (sheet : CueSheet) (script : List Drawing) (texts : List (List ℕ)) (lead_in audio : ℕ) (bytes : List ℕ) (packs : List (List ℕ))
     → (0 < lead_in → texts ≡ text_packs sheet) → HasRoom sheet lead_in → IsPlannedScript script (program_blocks sheet audio)
-    → CarriesComing (layout_of sheet audio) (IsPackAt script) texts lead_in bytes packs
+    → CarriesComing (framing_of (layout_of sheet audio) texts lead_in) (IsPackAt script) bytes packs
     → IsWrittenStream (disc_of sheet script lead_in audio) bytes packs
 is_authored schedule sheet script texts lead_in audio bytes packs texts_are room known stream = record {
   authored = record {
@@ -116,7 +117,7 @@ few_given : (blocks : ℕ) → blocks ≤ 449999 → whole_packs blocks < 429496
 few_given blocks few = omega arith
 
 of_script : (script : List Drawing) (woven : Woven) (layout : DiscLayout) (texts : List (List ℕ)) (lead_in : ℕ) (bytes : List ℕ) (packs : List (List ℕ))
-    → layout.blocks ≤ 449999 → IsFirst script woven → CarriesComing layout (PackOf woven) texts lead_in bytes packs → CarriesComing layout (IsPackAt script) texts lead_in bytes packs
+    → layout.blocks ≤ 449999 → IsFirst script woven → CarriesComing (framing_of layout texts lead_in) (PackOf woven) bytes packs → CarriesComing (framing_of layout texts lead_in) (IsPackAt script) bytes packs
 of_script script woven layout texts lead_in bytes packs few first stream = record {
   given_are = given_of script woven (whole_packs layout.blocks) packs first (few_given layout.blocks few) stream.given_are;
   framing = stream.framing;
@@ -126,18 +127,18 @@ of_script script woven layout texts lead_in bytes packs few first stream = recor
 -- the stream that was written is an authored one
 pub authored : PacksAreSchedule → (sheet : CueSheet) (script : List Drawing) (woven : Woven) (layout : DiscLayout) (texts : List (List ℕ)) (lead_in audio : ℕ) (a b : Option (List ℕ))
     → layout ≡ layout_of sheet audio → layout.blocks ≤ 449999 → IsFirst script woven → (0 < lead_in → texts ≡ text_packs sheet) → HasRoom sheet lead_in → IsPlannedScript script (program_blocks sheet audio)
-    → (bytes : List ℕ) × (packs : List (List ℕ)) × CarriesComing layout (PackOf woven) texts lead_in bytes packs × Appends a b bytes
+    → (bytes : List ℕ) × (packs : List (List ℕ)) × CarriesComing (framing_of layout texts lead_in) (PackOf woven) bytes packs × Appends a b bytes
     → (bytes : List ℕ) × (packs : List (List ℕ)) × IsWrittenStream (disc_of sheet script lead_in audio) bytes packs × Appends a b bytes
 authored schedule sheet script woven layout texts lead_in audio a b disc few first texts_are room known w = (
   w.0,
   w.1,
   is_authored schedule sheet script texts lead_in audio w.0 w.1 texts_are room known
-      (subst (λ (l : DiscLayout). CarriesComing l (IsPackAt script) texts lead_in w.0 w.1) disc (of_script script woven layout texts lead_in w.0 w.1 few first w.2)),
+      (subst (λ (l : DiscLayout). CarriesComing (framing_of l texts lead_in) (IsPackAt script) w.0 w.1) disc (of_script script woven layout texts lead_in w.0 w.1 few first w.2)),
   w.3,
 )
 
 part_of_script : (script : List Drawing) (woven : Woven) (layout : DiscLayout) (texts : List (List ℕ)) (lead_in : ℕ) (a b : Option (List ℕ)) (n : ℕ) (packs : List (List ℕ))
-    → layout.blocks ≤ 449999 → IsFirst script woven → PutsStreamPart layout (PackOf woven) texts lead_in a b n packs → PutsStreamPart layout (IsPackAt script) texts lead_in a b n packs
+    → layout.blocks ≤ 449999 → IsFirst script woven → PutsStreamPart (framing_of layout texts lead_in) (PackOf woven) (from_to a b) n packs → PutsStreamPart (framing_of layout texts lead_in) (IsPackAt script) (from_to a b) n packs
 part_of_script script woven layout texts lead_in a b n packs few first part = record {
   within = part.within;
   given_are = given_of script woven (4 * n) packs first (omega (arith, part.within)) part.given_are;
@@ -147,11 +148,11 @@ part_of_script script woven layout texts lead_in a b n packs few first part = re
 -- the part that was put is one of the stream of the sheet and the script
 pub part_of : (sheet : CueSheet) (script : List Drawing) (woven : Woven) (layout : DiscLayout) (texts : List (List ℕ)) (lead_in audio : ℕ) (a b : Option (List ℕ))
     → layout ≡ layout_of sheet audio → layout.blocks ≤ 449999 → IsFirst script woven → (0 < lead_in → texts ≡ text_packs sheet)
-    → (n : ℕ) × (packs : List (List ℕ)) × PutsStreamPart layout (PackOf woven) texts lead_in a b n packs
-    → (n : ℕ) × (packs : List (List ℕ)) × PutsStreamPart (layout_of sheet audio) (IsPackAt script) (text_packs sheet) lead_in a b n packs
+    → (n : ℕ) × (packs : List (List ℕ)) × PutsStreamPart (framing_of layout texts lead_in) (PackOf woven) (from_to a b) n packs
+    → (n : ℕ) × (packs : List (List ℕ)) × PutsStreamPart (framing_of (layout_of sheet audio) (text_packs sheet) lead_in) (IsPackAt script) (from_to a b) n packs
 part_of sheet script woven layout texts lead_in audio a b disc few first texts_are w = (
   w.0,
   w.1,
   part_with (layout_of sheet audio) (IsPackAt script) texts (text_packs sheet) lead_in a b w.0 w.1 texts_are
-      (subst (λ (l : DiscLayout). PutsStreamPart l (IsPackAt script) texts lead_in a b w.0 w.1) disc (part_of_script script woven layout texts lead_in a b w.0 w.1 few first w.2)),
+      (subst (λ (l : DiscLayout). PutsStreamPart (framing_of l texts lead_in) (IsPackAt script) (from_to a b) w.0 w.1) disc (part_of_script script woven layout texts lead_in a b w.0 w.1 few first w.2)),
 )

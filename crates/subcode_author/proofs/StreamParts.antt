@@ -16,9 +16,10 @@ use Rattle.toc_model.specs.Places.{DiscLayout, layout_of, program_blocks}
 use Rattle.picture_script.specs.Script.{Drawing}
 use Rattle.pack_schedule.specs.Woven.{IsPackAt}
 use Rattle.picture_changes.specs.Shown.{AreTimesInOrder}
+use Rattle.cdg_io.specs.Change.{from_to}
 use Rattle.stream_writer.specs.Blocks.{carrying_block, lead_in_block, program_block, stream_bytes}
 use Rattle.stream_writer.specs.Framing.{HasFraming}
-use Rattle.stream_writer.specs.Given.{symbols_from, AreGiven, PutsStreamPart as PutsPart}
+use Rattle.stream_writer.specs.Given.{AreGiven, PutsStreamPart as PutsPart, framing_of, symbols_from}
 use Rattle.subcode_author.specs.Given.{PutsScriptPart}
 use Rattle.subcode_author.specs.Authored.{text_packs, IsWrittenStream, disc_of}
 use Rattle.subcode_author.specs.AuthorAnswer.{HoldsPictures}
@@ -91,7 +92,7 @@ pub prefix_of_stream : SpreadCarries → (Comes : ℕ → List ℕ → Type 0) �
     → (layout : DiscLayout) (texts : List (List ℕ)) (lead_in n : ℕ) (bytes : List ℕ) (packs given : List (List ℕ)) (held held' : Option (List ℕ))
     → HasFraming layout texts lead_in bytes → Carries layout.blocks (program_symbols Raw bytes lead_in) packs → ((k : ℕ) → k < length packs → Comes k (get_or packs k []))
     → ((k : ℕ) (pack : List ℕ) → whole_packs layout.blocks ≤ k → Comes k pack → pack ≡ replicate 24 0)
-    → PutsPart layout Comes texts lead_in held held' n given → AppendsPrefix held held' bytes
+    → PutsPart (framing_of layout texts lead_in) Comes (from_to held held') n given → AppendsPrefix held held' bytes
 prefix_of_stream spread Comes one layout texts lead_in n bytes packs given held held' framing carries come idle part =
     let blocks : ℕ = layout.blocks in
     let symbols : program_symbols Raw bytes lead_in ≡ symbols_from [] (filled_with_idle (4 * blocks) packs) =

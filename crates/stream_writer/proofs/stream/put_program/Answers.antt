@@ -18,7 +18,7 @@ returns-in_err-put_all-clause-part g c =
     let so_far = c.loop-b.invariant in
     let layout = c.args.layout.now in
     on_err c.from_residual.result _
-    (part_more layout (g.P.PackSource.comes c.args.source.now) (g.P.PackSource.comes c.loop-b.source) c.loop-b.b layout.blocks (g.K.Sink.held c.args.out.now) (g.K.Sink.held c.loop-b.out) _
+    (part_more layout (g.P.PackSource.comes c.args.source.now) (g.P.PackSource.comes c.loop-b.source) c.loop-b.b (g.K.Sink.held c.args.out.now) (g.K.Sink.held c.loop-b.out) _
     c.loop-b.spread c.next_symbols-symbols.new.spread c.next_symbols-symbols.result c.program_block-block.result so_far.done (omega (arith, c.blocks-blocks.ensures.blocks)) so_far.later
     c.next_symbols-symbols.ensures.symbols
     c.program_block-block.ensures.bytes c.in_err-put_all.ensures.part)
