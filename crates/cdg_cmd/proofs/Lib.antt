@@ -1,7 +1,9 @@
 mod AuthorStatus
 mod AuthorTold
+mod Commands
 mod Decimals
 pub mod FirstHalf
+mod LastWords
 mod LateTold
 mod LineWords
 pub mod Listings
@@ -18,14 +20,11 @@ mod ResumedWhole
 mod SaveTold
 pub mod SecondHalf
 mod Statuses
+mod StreamWords
 pub mod TextStops
 mod ThinTold
 mod Thinning
-mod TimedWords
 mod Told
 mod TurnRuns
-mod TwoWords
 pub mod WholeInputs
-mod WordTables
-mod WordsLemmas
 mod Written

@@ -7,7 +7,8 @@ use Rattle.cue_sheet.specs.CueSheet.{CueSheet}
 use Rattle.cue_sheet.specs.Grammar.{read_cue}
 use Rattle.picture_script.specs.Script.{Drawing}
 use Rattle.picture_script.specs.ScriptGrammar.{read_script}
-use Rattle.cdg_cmd.specs.Authors.{IsScriptStop, IsScriptText, IsSheetStop, IsSheetText, IsStopped, most_text}
+use Rattle.text_lines.specs.Text.{most_text_bytes}
+use Rattle.cdg_cmd.specs.Authors.{IsScriptStop, IsScriptText, IsSheetStop, IsSheetText, IsStopped}
 use Rattle.cdg_cmd.specs.Call.{Bytes}
 use Rattle.cdg_cmd.specs.declared.status.Refusal.{Refusal}
 use Rattle.cdg_cmd.specs.declared.status.Refusal.TheVariants.{Torn, TooLong, PastEnd, Cue, Script, LengthShort, DiscTooLong, LeadInShort, TextTooLong, TextMissing, TextNoSize, TextMalformed, SecondTorn, Unequal, PackTorn, Gap, CdgTooLong, BadSave, BeforeSave}
@@ -29,7 +30,7 @@ same_fault r a b first second = (cc)
 -- a text is too long, or a line of it is refused
 abbrev IsRefusal : {W S : Type 0} → (ℕ → W → Refusal) → (List ℕ → Result S (ℕ × W)) → List ℕ → Refusal → Type 0
 IsRefusal {W} {S} named read text r =
-    ((r ≡ TooLong) × (most_text < length text)) ⊎ ((line : ℕ) × (why : W) × (r ≡ named line why) × (length text ≤ most_text) × (read text ≡ Err (line, why)))
+    ((r ≡ TooLong) × (most_text_bytes < length text)) ⊎ ((line : ℕ) × (why : W) × (r ≡ named line why) × (length text ≤ most_text_bytes) × (read text ≡ Err (line, why)))
 
 one_refusal : {W S : Type 0} (named : ℕ → W → Refusal) (read : List ℕ → Result S (ℕ × W)) (text : List ℕ) (r q : Refusal) → IsRefusal named read text r → IsRefusal named read text q → r ≡ q
 one_refusal named read text r q (inl a) (inl b) = a.0 ∙ sym b.0
@@ -38,7 +39,7 @@ one_refusal named read text r q (inr (line, why, is, short, refused)) (inl b) = 
 one_refusal {W} named read text r q (inr (line, why, is, short, refused)) (inr (line', why', is', short', refused')) =
     is ∙ ap (λ (p : ℕ × W). named p.0 p.1) (same_fault (read text) (line, why) (line', why') refused refused') ∙ sym is'
 
-no_refusal : {W S : Type 0} (named : ℕ → W → Refusal) (read : List ℕ → Result S (ℕ × W)) (text : List ℕ) (r : Refusal) (s : S) → length text ≤ most_text → read text ≡ Ok s
+no_refusal : {W S : Type 0} (named : ℕ → W → Refusal) (read : List ℕ → Result S (ℕ × W)) (text : List ℕ) (r : Refusal) (s : S) → length text ≤ most_text_bytes → read text ≡ Ok s
     → IsRefusal named read text r → ⊥
 no_refusal named read text r s within reads (inl a) = omega (arith, a.1, within)
 no_refusal named read text r s within reads (inr (line, why, is, short, refused)) = both_answers (read text) s (line, why) reads refused

@@ -3,6 +3,7 @@ use Rattle.std.specs.Prelude.{◌≡◌, ◌≢◌, ℕ, ◌+◌, ◌<◌, ◌�
 use Rattle.std.specs.Io.KnownBytes.{Appends, IsAtEnd}
 use Rattle.cdg_io.specs.Moves.{AppendsPrefix, ConsumesBelow}
 use Rattle.cdg_io.specs.Whole.{ConsumesExactly}
+use Rattle.text_lines.specs.Text.{most_text_bytes}
 use Rattle.cue_sheet.specs.CueSheet.{CueSheet}
 use Rattle.cue_sheet.specs.Grammar.{read_cue}
 use Rattle.picture_script.specs.Script.{Drawing}
@@ -17,18 +18,14 @@ use Rattle.cdg_cmd.specs.declared.status.Refusal.TheVariants.{TooLong, PastEnd, 
 use Rattle.cdg_cmd.specs.declared.status.Status.{Status}
 use Rattle.cdg_cmd.specs.declared.status.Status.TheVariants.{Done, Refused, Late, ReadFault, WriteFault, NoMemory}
 
--- the most bytes of a text
-abbrev pub most_text : ℕ
-most_text = 67108864
-
 -- the text is not too long, and its grammar reads it as this cue sheet
 pub record IsSheetText (text : List ℕ) (sheet : CueSheet) : Type 0 where
-  pub within : length text ≤ most_text
+  pub within : length text ≤ most_text_bytes
   pub reads : read_cue text ≡ Ok sheet
 
 -- the text is not too long, and its grammar reads it as this script
 pub record IsScriptText (text : List ℕ) (script : List Drawing) : Type 0 where
-  pub within : length text ≤ most_text
+  pub within : length text ≤ most_text_bytes
   pub reads : read_script text ≡ Ok script
 
 -- an input was read to its end, and what it held is the text of this sheet
@@ -42,28 +39,28 @@ ReadsScript input script = IsAtEnd input.after × IfSome input.before (λ text. 
 -- why the first input gives no sheet
 abbrev pub IsSheetStop : Bytes → Status → Type 0
 IsSheetStop left (ReadFault First) = ⊤
-IsSheetStop left (Refused TooLong) = IfSome left (λ text. most_text < length text)
+IsSheetStop left (Refused TooLong) = IfSome left (λ text. most_text_bytes < length text)
 IsSheetStop left (Refused (Cue line why)) =
-    IfSome left (λ text. (length text ≤ most_text) × (read_cue text ≡ Err (line, why)))
+    IfSome left (λ text. (length text ≤ most_text_bytes) × (read_cue text ≡ Err (line, why)))
 IsSheetStop left NoMemory = ⊤
 IsSheetStop left status = ⊥
 
 -- why the second input gives no script
 abbrev pub IsScriptStop : Bytes → Status → Type 0
 IsScriptStop left (ReadFault Second) = ⊤
-IsScriptStop left (Refused TooLong) = IfSome left (λ text. most_text < length text)
+IsScriptStop left (Refused TooLong) = IfSome left (λ text. most_text_bytes < length text)
 IsScriptStop left (Refused (Script line why)) =
-    IfSome left (λ text. (length text ≤ most_text) × (read_script text ≡ Err (line, why)))
+    IfSome left (λ text. (length text ≤ most_text_bytes) × (read_script text ≡ Err (line, why)))
 IsScriptStop left NoMemory = ⊤
 IsScriptStop left status = ⊥
 
 -- What was taken of an input whose text was not accepted: the most that a text has and one byte where it is too
 -- long, no more than the most where a read failed, and all of it where its grammar refuses it.
 abbrev pub TakesAtStop : Change Bytes → Status → Type 0
-TakesAtStop input (ReadFault which) = ConsumesBelow input.before input.after (most_text + 1)
-TakesAtStop input (Refused TooLong) = ConsumesExactly input.before input.after (most_text + 1)
+TakesAtStop input (ReadFault which) = ConsumesBelow input.before input.after (most_text_bytes + 1)
+TakesAtStop input (Refused TooLong) = ConsumesExactly input.before input.after (most_text_bytes + 1)
 TakesAtStop input (Refused why) = IsAtEnd input.after
-TakesAtStop input NoMemory = ConsumesBelow input.before input.after (most_text + 2)
+TakesAtStop input NoMemory = ConsumesBelow input.before input.after (most_text_bytes + 2)
 TakesAtStop input status = ⊥
 
 -- a read failed or no memory was found

@@ -1,5 +1,6 @@
 -- What `save` and `resume` answer, and what they write.
 use Rattle.std.specs.Prelude.{◌≡◌, ◌≢◌, ◌==◌, ◌≤◌, ◌+◌, ℕ, List, length, Result, Ok, Err, IsOk, IfSome, if◌then◌else◌}
+use Rattle.raw_subcode.specs.Sizes.{block_bytes, most_units}
 use Rattle.std.specs.Io.KnownBytes.{Consumes, IsAtEnd}
 use Rattle.cdg_io.specs.Moves.{ConsumesBelow}
 use Rattle.cdg_io.specs.Pump.{IsUnlessFault, answer_of}
@@ -22,7 +23,8 @@ use Rattle.cdg_cmd.specs.declared.status.Status.TheVariants.{Done, Damaged, Refu
 abbrev pub SavesWith : ℕ → Call Bytes → Status → Type 0
 SavesWith lead_in call status =
     EndsWith pump_status (Saves lead_in call.first.before call.first.after call.out.before call.out.after)
-    (λ answer. IfSome call.first.before (λ all. IsUnlessFault answer (answer_of 96 1000000 (length all))))
+    (λ answer. IfSome call.first.before
+    (λ all. IsUnlessFault answer (answer_of block_bytes most_units (length all))))
     status
 
 -- an input was read to its end, and it held the file of a checkpoint that is not later than a time

@@ -18,5 +18,4 @@ pub mod Thinned
 pub mod Told
 pub mod Turns
 pub mod Unpresses
-pub mod WordSteps
 pub mod Words

@@ -1,6 +1,7 @@
 -- What `press` answers to a cue sheet and a file of packs, and what it writes.
 use Rattle.std.specs.Prelude.{◌≡◌, ◌≢◌, ℕ, ◌<◌, ◌≤◌, ⊤, List, [], length, Result, Ok, Err, IfErr, IfSome, OnOk}
 use Rattle.std.specs.Io.KnownBytes.{Appends, IsAtEnd}
+use Rattle.text_lines.specs.Text.{most_text_bytes}
 use Rattle.cue_sheet.specs.CueSheet.{CueSheet}
 use Rattle.toc_model.specs.Places.{layout_of}
 use Rattle.stream_writer.specs.Given.{PutsStreamPart}
@@ -9,7 +10,7 @@ use Rattle.cdg_press.specs.Pressed.{IsPackAfter, IsPressed, file_begin}
 use Rattle.cdg_press.specs.Refusals.{IsPressable, IsPressStop}
 use Rattle.cdg_press.specs.declared.stops.PressStop.{PressStop}
 use Rattle.cdg_press.specs.declared.stops.PressStop.TheVariants as stop
-use Rattle.cdg_cmd.specs.Authors.{IsSheetStop, ReadsSheet, TakesAtStop, most_text}
+use Rattle.cdg_cmd.specs.Authors.{IsSheetStop, ReadsSheet, TakesAtStop}
 use Rattle.cdg_cmd.specs.Call.{Bytes, Call, Change}
 use Rattle.cdg_cmd.specs.declared.status.Which.TheVariants.{Second}
 use Rattle.cdg_cmd.specs.declared.status.Refusal.TheVariants.{TooLong, LengthShort, DiscTooLong, LeadInShort, TextTooLong, PackTorn, Gap, CdgTooLong}
@@ -19,13 +20,13 @@ use Rattle.cdg_cmd.specs.declared.status.Status.TheVariants.{Done, Refused, Read
 -- an input was read to its end, and this file, which is not too long, is what it held
 pub record ReadsFile (input : Change Bytes) (file : List ℕ) : Type 0 where
   pub end : IsAtEnd input.after
-  pub within : length file ≤ most_text
+  pub within : length file ≤ most_text_bytes
   pub held : IfSome input.before (λ bytes. file ≡ bytes)
 
 -- why the second input gives no file
 abbrev pub IsFileStop : Bytes → Status → Type 0
 IsFileStop left (ReadFault Second) = ⊤
-IsFileStop left (Refused TooLong) = IfSome left (λ file. most_text < length file)
+IsFileStop left (Refused TooLong) = IfSome left (λ file. most_text_bytes < length file)
 IsFileStop left NoMemory = ⊤
 IsFileStop left status = ⊥
 

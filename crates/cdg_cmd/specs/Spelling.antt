@@ -1,30 +1,31 @@
 -- How each command is spelled.
-use Rattle.std.specs.Prelude.{◌≡◌, ◌≢◌, ◌≤◌, ◌<◌, ◌^◌, ℕ, List, [], ◌∷◌, codes, decimal, ⊤}
-use Rattle.disc_time.specs.Time.{time_text}
-use Rattle.cdg_cmd.specs.Words.{IsStreamOptions, IsTimedOptions}
+use Rattle.std.specs.Prelude.{◌≡◌, ◌≢◌, ◌≤◌, ◌<◌, ◌^◌, ℕ, List, [], ◌∷◌, codes, ⊤}
+use Rattle.cdg_workload.specs.Script.{most_generated}
+use Rattle.disc_time.specs.Counts.{most_lead_in, time_count}
+use Rattle.cdg_cmd.specs.Words.{IsLeadInOption, IsLengths, IsMoment, IsScratchOptions, IsSeedOptions, IsStreamOptions, IsTimedOptions}
 use Rattle.raw_subcode.specs.declared.form.Form.TheVariants.{Cooked}
 use Rattle.cdg_cmd.specs.declared.command.Command.{Command}
 use Rattle.cdg_cmd.specs.declared.command.Command.TheVariants.{Convert, Screen, State, Check, Q, Text, Author, Planar, Raw, Scratch, Gen, Trial, Merge, Thin, Press, Save, Resume}
 
 -- the numbers and forms that a command may have: cooked blocks have no Q channel and no text packs
 abbrev pub IsAllowed : Command → Type 0
-IsAllowed (Convert lead_in form) = lead_in ≤ 450000
-IsAllowed (Screen lead_in form at) = (lead_in ≤ 450000) × (at < 450000)
-IsAllowed (State lead_in form at) = (lead_in ≤ 450000) × (at < 450000)
-IsAllowed (Check lead_in form) = lead_in ≤ 450000
-IsAllowed (Q lead_in form) = (lead_in ≤ 450000) × (form ≢ Cooked)
-IsAllowed (Text lead_in form) = (lead_in ≤ 450000) × (form ≢ Cooked)
-IsAllowed (Author lead_in length) = (lead_in ≤ 450000) × (length < 450000)
+IsAllowed (Convert lead_in form) = lead_in ≤ most_lead_in
+IsAllowed (Screen lead_in form at) = (lead_in ≤ most_lead_in) × (at < time_count)
+IsAllowed (State lead_in form at) = (lead_in ≤ most_lead_in) × (at < time_count)
+IsAllowed (Check lead_in form) = lead_in ≤ most_lead_in
+IsAllowed (Q lead_in form) = (lead_in ≤ most_lead_in) × (form ≢ Cooked)
+IsAllowed (Text lead_in form) = (lead_in ≤ most_lead_in) × (form ≢ Cooked)
+IsAllowed (Author lead_in length) = (lead_in ≤ most_lead_in) × (length < time_count)
 IsAllowed Planar = ⊤
 IsAllowed Raw = ⊤
-IsAllowed (Scratch lead_in seed) = (lead_in ≤ 450000) × (seed < 2 ^ 64)
-IsAllowed (Gen seed pictures) = (seed < 2 ^ 64) × (1 ≤ pictures) × (pictures ≤ 500)
-IsAllowed (Trial seed pictures) = (seed < 2 ^ 64) × (1 ≤ pictures) × (pictures ≤ 500)
-IsAllowed (Merge lead_in) = lead_in ≤ 450000
+IsAllowed (Scratch lead_in seed) = (lead_in ≤ most_lead_in) × (seed < 2 ^ 64)
+IsAllowed (Gen seed pictures) = (seed < 2 ^ 64) × (1 ≤ pictures) × (pictures ≤ most_generated)
+IsAllowed (Trial seed pictures) = (seed < 2 ^ 64) × (1 ≤ pictures) × (pictures ≤ most_generated)
+IsAllowed (Merge lead_in) = lead_in ≤ most_lead_in
 IsAllowed Thin = ⊤
-IsAllowed (Press lead_in length) = (lead_in ≤ 450000) × (length < 450000)
-IsAllowed (Save lead_in) = lead_in ≤ 450000
-IsAllowed (Resume at) = at < 450000
+IsAllowed (Press lead_in length) = (lead_in ≤ most_lead_in) × (length < time_count)
+IsAllowed (Save lead_in) = lead_in ≤ most_lead_in
+IsAllowed (Resume at) = at < time_count
 
 -- the name of a command
 abbrev pub command_name : Command → List ℕ
@@ -54,22 +55,17 @@ SpellsOptions (State lead_in form at) options = IsTimedOptions lead_in form at o
 SpellsOptions (Check lead_in form) options = IsStreamOptions lead_in form options
 SpellsOptions (Q lead_in form) options = IsStreamOptions lead_in form options
 SpellsOptions (Text lead_in form) options = IsStreamOptions lead_in form options
-SpellsOptions (Author lead_in length) options =
-    options ≡ codes "--lead-in" ∷ decimal lead_in ∷ codes "--length" ∷ time_text length ∷ []
+SpellsOptions (Author lead_in length) options = IsLengths lead_in length options
 SpellsOptions Planar options = options ≡ []
 SpellsOptions Raw options = options ≡ []
-SpellsOptions (Scratch lead_in seed) options =
-    options ≡ codes "--lead-in" ∷ decimal lead_in ∷ codes "--seed" ∷ decimal seed ∷ []
-SpellsOptions (Gen seed pictures) options =
-    options ≡ codes "--seed" ∷ decimal seed ∷ codes "--pictures" ∷ decimal pictures ∷ []
-SpellsOptions (Trial seed pictures) options =
-    options ≡ codes "--seed" ∷ decimal seed ∷ codes "--pictures" ∷ decimal pictures ∷ []
-SpellsOptions (Merge lead_in) options = options ≡ codes "--lead-in" ∷ decimal lead_in ∷ []
+SpellsOptions (Scratch lead_in seed) options = IsScratchOptions lead_in seed options
+SpellsOptions (Gen seed pictures) options = IsSeedOptions seed pictures options
+SpellsOptions (Trial seed pictures) options = IsSeedOptions seed pictures options
+SpellsOptions (Merge lead_in) options = IsLeadInOption lead_in options
 SpellsOptions Thin options = options ≡ []
-SpellsOptions (Press lead_in length) options =
-    options ≡ codes "--lead-in" ∷ decimal lead_in ∷ codes "--length" ∷ time_text length ∷ []
-SpellsOptions (Save lead_in) options = options ≡ codes "--lead-in" ∷ decimal lead_in ∷ []
-SpellsOptions (Resume at) options = options ≡ codes "--at" ∷ time_text at ∷ []
+SpellsOptions (Press lead_in length) options = IsLengths lead_in length options
+SpellsOptions (Save lead_in) options = IsLeadInOption lead_in options
+SpellsOptions (Resume at) options = IsMoment at options
 
 -- the words spell an allowed command
 abbrev pub Spells : Command → List (List ℕ) → Type 0

@@ -1,5 +1,6 @@
 -- What a command that turns each block of a stream takes, writes and answers.
 use Rattle.std.specs.Prelude.{◌≡◌, ℕ, ◌/◌, List, length, Result, Ok, Err, IfSome}
+use Rattle.raw_subcode.specs.Sizes.{block_bytes, most_units}
 use Rattle.cdg_io.specs.Pump.{IsUnlessFault, answer_of}
 use Rattle.cdg_io.specs.Streams.{Streams}
 use Rattle.cdg_io.specs.declared.pumping.Pumped.{Pumped}
@@ -23,19 +24,20 @@ pump_status (Err pump.TooLong) = Refused TooLong
 -- the number of blocks, and the text that is written for them
 pub record IsTurned (turned : List ℕ → List ℕ → Type 0) (bytes : List ℕ) (pumped : Pumped)
     (text : List ℕ) : Type 0 where
-  pub units : pumped.units ≡ length bytes / 96
+  pub units : pumped.units ≡ length bytes / block_bytes
   pub written : turned bytes text
 
 -- blocks are changed and written as they are read
 abbrev pub ChangesBlocks : (List ℕ → Pumped → List ℕ → Type 0) → Change Bytes → Change Bytes
     → Result Pumped PumpStop → List ℕ → Type 0
 ChangesBlocks gives source out answer taken =
-    Streams 96 1000000 pump.Torn pump.WriteFault gives source.before source.after out.before out.after answer
-    taken
+    Streams block_bytes most_units pump.Torn pump.WriteFault gives source.before source.after
+    out.before out.after answer taken
 
 -- it ended with this status
 abbrev pub TurnsWith : (List ℕ → Pumped → List ℕ → Type 0) → Call Bytes → Status → Type 0
 TurnsWith gives call status =
     EndsWith pump_status (ChangesBlocks gives call.first call.out)
-    (λ answer. IfSome call.first.before (λ all. IsUnlessFault answer (answer_of 96 1000000 (length all))))
+    (λ answer. IfSome call.first.before
+    (λ all. IsUnlessFault answer (answer_of block_bytes most_units (length all))))
     status

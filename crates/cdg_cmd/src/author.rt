@@ -1,5 +1,6 @@
 // The command that writes the stream of a cue sheet and a picture script.
 ghost use Rattle.std.specs.Prelude.{◌≡◌, ◌≢◌, ◌≤◌, ◌<◌, ◌⊎◌, IfOk, IfErr, OnOk, Err};
+ghost use Rattle.disc_time.specs.Counts.{most_lead_in, time_count};
 ghost use Rattle.cdg_io.specs.Causes.{Rose};
 ghost use Rattle.cdg_cmd.specs.Authors.{author_status, AuthorsWith, IsScriptStop, IsSheetStop, ReadsScript, ReadsSheet, TakesAtStop};
 ghost use Rattle.cdg_cmd.specs.Call.{call, change};
@@ -13,8 +14,7 @@ use cue_sheet::{CueStop, Sheet};
 use picture_script::{Script, ScriptStop};
 use std::alloc::Global;
 use subcode_author::{AuthorStop, accepted_scripts_have_streams, author_stream};
-
-const MOST_TEXT: usize = 67_108_864;
+use text_lines::MOST_TEXT_BYTES;
 
 /// The cue sheet of the first input, or the status that says why there is none.
 #[tactic(auto, using(crate::proofs::TextStops::taken_at_fault))]
@@ -29,7 +29,7 @@ pub(crate) fn read_sheet<S: Source>(alloc: Global, first: &mut S) -> Result<Shee
     ensures told { OnOk result (Rose (S.ends first.old) (S.ends first.new)) }
     ensures once { IfErr result (SheetEnds (change S.ends first.old first.new)) }
 {
-    let text = match read_whole(alloc, first, MOST_TEXT) {
+    let text = match read_whole(alloc, first, MOST_TEXT_BYTES) {
         Ok(text) => text,
         Err(ReadStop::Failed) => return Err(Status::ReadFault(Which::First)),
         Err(ReadStop::TooLong) => return Err(Status::Refused(Refusal::TooLong)),
@@ -56,7 +56,7 @@ fn read_script<S: Source>(alloc: Global, second: &mut S) -> Result<Script, Statu
     ensures told { OnOk result (Rose (S.ends second.old) (S.ends second.new)) }
     ensures once { IfErr result (ScriptEnds (change S.ends second.old second.new)) }
 {
-    let text = match read_whole(alloc, second, MOST_TEXT) {
+    let text = match read_whole(alloc, second, MOST_TEXT_BYTES) {
         Ok(text) => text,
         Err(ReadStop::Failed) => return Err(Status::ReadFault(Which::Second)),
         Err(ReadStop::TooLong) => return Err(Status::Refused(Refusal::TooLong)),
@@ -110,8 +110,8 @@ pub(crate) fn run_author<S: Source, T: Source, K: Sink>(
     second: &mut T,
     out: &mut K,
 ) -> Status
-    requires lead_in { lead_in ≤ 450000 }
-    requires length { length < 450000 }
+    requires lead_in { lead_in ≤ most_lead_in }
+    requires length { length < time_count }
     ensures does { AuthorsWith lead_in length (call S.left T.left K.held (first.old, second.old, out.old)
         (first.new, second.new, out.new)) result }
     ensures never { result ≢ Status.Usage }

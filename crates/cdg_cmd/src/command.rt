@@ -1,13 +1,13 @@
 // The words of the command line.
-ghost use Rattle.std.specs.Prelude.{◌≡◌, ◌∷◌, codes, IfSome, Some};
+ghost use Rattle.std.specs.Prelude.{◌≡◌, IfSome, Some};
 ghost use Rattle.cdg_cmd.specs.Words.{texts};
 ghost use Rattle.cdg_cmd.specs.Spelling.{Spells};
 
-use crate::lengths::read_lengths;
-use crate::numbers::{read_option, read_seeded, read_two};
-use crate::options::{MOST_LEAD_IN, read_blocks, read_stream};
-use crate::times::{read_time, read_timed};
-use subcode_player::Form;
+use crate::option_lists::{
+    Lengths, ScratchOptions, SeedOptions, StreamOptions, TimedOptions, only_lead_in, only_moment,
+    read_blocks, read_lengths, read_scratches, read_seeded, read_stream, read_timed,
+};
+use raw_subcode::Form;
 
 /// A command with its numbers. A time is the number of its block.
 #[derive(Clone, Copy, Debug, PartialEq, Eq)]
@@ -55,249 +55,58 @@ pub fn read_words(words: &[String]) -> Option<Command>
 {
     let (name, options) = words.split_first()?;
     match name.as_str() {
-        "convert" => read_convert(options),
-        "screen" => read_screen(options),
-        "state" => read_state(options),
-        "check" => read_check(options),
-        "q" => read_q(options),
-        "text" => read_text(options),
-        "author" => read_author(options),
-        "planar" => read_planar(options),
-        "raw" => read_raw(options),
-        "scratch" => read_scratch(options),
-        "gen" => read_gen(options),
-        "trial" => read_trial(options),
-        "merge" => read_merge(options),
-        "thin" => read_thin(options),
-        "press" => read_press(options),
-        "save" => read_save(options),
-        "resume" => read_resume(options),
+        "convert" => read_stream(options).map(|StreamOptions { lead_in, form }| Command::Convert {
+            lead_in,
+            form,
+        }),
+        "screen" => read_timed(options).map(|TimedOptions { lead_in, form, at }| Command::Screen {
+            lead_in,
+            form,
+            at,
+        }),
+        "state" => read_timed(options).map(|TimedOptions { lead_in, form, at }| Command::State {
+            lead_in,
+            form,
+            at,
+        }),
+        "check" => read_stream(options).map(|StreamOptions { lead_in, form }| Command::Check {
+            lead_in,
+            form,
+        }),
+        "q" => read_blocks(options).map(|StreamOptions { lead_in, form }| Command::Q {
+            lead_in,
+            form,
+        }),
+        "text" => read_blocks(options).map(|StreamOptions { lead_in, form }| Command::Text {
+            lead_in,
+            form,
+        }),
+        "author" => read_lengths(options).map(|Lengths { lead_in, length }| Command::Author {
+            lead_in,
+            length,
+        }),
+        "planar" if options.is_empty() => Some(Command::Planar),
+        "raw" if options.is_empty() => Some(Command::Raw),
+        "scratch" => read_scratches(options).map(|ScratchOptions {
+            lead_in,
+            seed,
+        }| Command::Scratch { lead_in, seed }),
+        "gen" => read_seeded(options).map(|SeedOptions { seed, pictures }| Command::Gen {
+            seed,
+            pictures,
+        }),
+        "trial" => read_seeded(options).map(|SeedOptions { seed, pictures }| Command::Trial {
+            seed,
+            pictures,
+        }),
+        "merge" => only_lead_in(options).map(|lead_in| Command::Merge { lead_in }),
+        "thin" if options.is_empty() => Some(Command::Thin),
+        "press" => read_lengths(options).map(|Lengths { lead_in, length }| Command::Press {
+            lead_in,
+            length,
+        }),
+        "save" => only_lead_in(options).map(|lead_in| Command::Save { lead_in }),
+        "resume" => only_moment(options).map(|at| Command::Resume { at }),
         _ => None,
-    }
-}
-
-fn read_convert(options: &[String]) -> Option<Command>
-    ensures spelled { IfSome result (λ command. Spells command (codes "convert" ∷ texts options.now)) }
-    ensures all { (command : Command) → Spells command (codes "convert" ∷ texts options.now)
-        → result ≡ Some command }
-{
-    match read_stream(options) {
-        Some(stream) => Some(Command::Convert {
-            lead_in: stream.lead_in,
-            form: stream.form,
-        }),
-        None => None,
-    }
-}
-
-fn read_screen(options: &[String]) -> Option<Command>
-    ensures spelled { IfSome result (λ command. Spells command (codes "screen" ∷ texts options.now)) }
-    ensures all { (command : Command) → Spells command (codes "screen" ∷ texts options.now)
-        → result ≡ Some command }
-{
-    match read_timed(options) {
-        Some(timed) => Some(Command::Screen {
-            lead_in: timed.lead_in,
-            form: timed.form,
-            at: timed.at,
-        }),
-        None => None,
-    }
-}
-
-fn read_state(options: &[String]) -> Option<Command>
-    ensures spelled { IfSome result (λ command. Spells command (codes "state" ∷ texts options.now)) }
-    ensures all { (command : Command) → Spells command (codes "state" ∷ texts options.now)
-        → result ≡ Some command }
-{
-    match read_timed(options) {
-        Some(timed) => Some(Command::State {
-            lead_in: timed.lead_in,
-            form: timed.form,
-            at: timed.at,
-        }),
-        None => None,
-    }
-}
-
-fn read_check(options: &[String]) -> Option<Command>
-    ensures spelled { IfSome result (λ command. Spells command (codes "check" ∷ texts options.now)) }
-    ensures all { (command : Command) → Spells command (codes "check" ∷ texts options.now)
-        → result ≡ Some command }
-{
-    match read_stream(options) {
-        Some(stream) => Some(Command::Check {
-            lead_in: stream.lead_in,
-            form: stream.form,
-        }),
-        None => None,
-    }
-}
-
-fn read_q(options: &[String]) -> Option<Command>
-    ensures spelled { IfSome result (λ command. Spells command (codes "q" ∷ texts options.now)) }
-    ensures all { (command : Command) → Spells command (codes "q" ∷ texts options.now)
-        → result ≡ Some command }
-{
-    match read_blocks(options) {
-        Some(stream) => Some(Command::Q {
-            lead_in: stream.lead_in,
-            form: stream.form,
-        }),
-        None => None,
-    }
-}
-
-fn read_text(options: &[String]) -> Option<Command>
-    ensures spelled { IfSome result (λ command. Spells command (codes "text" ∷ texts options.now)) }
-    ensures all { (command : Command) → Spells command (codes "text" ∷ texts options.now)
-        → result ≡ Some command }
-{
-    match read_blocks(options) {
-        Some(stream) => Some(Command::Text {
-            lead_in: stream.lead_in,
-            form: stream.form,
-        }),
-        None => None,
-    }
-}
-
-fn read_author(options: &[String]) -> Option<Command>
-    ensures spelled { IfSome result (λ command. Spells command (codes "author" ∷ texts options.now)) }
-    ensures all { (command : Command) → Spells command (codes "author" ∷ texts options.now)
-        → result ≡ Some command }
-{
-    match read_lengths(options) {
-        Some(lengths) => Some(Command::Author {
-            lead_in: lengths.lead_in,
-            length: lengths.audio,
-        }),
-        None => None,
-    }
-}
-
-fn read_planar(options: &[String]) -> Option<Command>
-    ensures spelled { IfSome result (λ command. Spells command (codes "planar" ∷ texts options.now)) }
-    ensures all { (command : Command) → Spells command (codes "planar" ∷ texts options.now)
-        → result ≡ Some command }
-{
-    match options {
-        [] => Some(Command::Planar),
-        _ => None,
-    }
-}
-
-fn read_raw(options: &[String]) -> Option<Command>
-    ensures spelled { IfSome result (λ command. Spells command (codes "raw" ∷ texts options.now)) }
-    ensures all { (command : Command) → Spells command (codes "raw" ∷ texts options.now)
-        → result ≡ Some command }
-{
-    match options {
-        [] => Some(Command::Raw),
-        _ => None,
-    }
-}
-
-fn read_scratch(options: &[String]) -> Option<Command>
-    ensures spelled { IfSome result (λ command. Spells command (codes "scratch" ∷ texts options.now)) }
-    ensures all { (command : Command) → Spells command (codes "scratch" ∷ texts options.now)
-        → result ≡ Some command }
-{
-    match read_two(options, "--lead-in", MOST_LEAD_IN, "--seed", u64::MAX) {
-        Some(two) => Some(Command::Scratch {
-            lead_in: two.first as u32,
-            seed: two.second,
-        }),
-        None => None,
-    }
-}
-
-fn read_gen(options: &[String]) -> Option<Command>
-    ensures spelled { IfSome result (λ command. Spells command (codes "gen" ∷ texts options.now)) }
-    ensures all { (command : Command) → Spells command (codes "gen" ∷ texts options.now)
-        → result ≡ Some command }
-{
-    match read_seeded(options) {
-        Some(two) => Some(Command::Gen {
-            seed: two.first,
-            pictures: two.second as u32,
-        }),
-        None => None,
-    }
-}
-
-fn read_trial(options: &[String]) -> Option<Command>
-    ensures spelled { IfSome result (λ command. Spells command (codes "trial" ∷ texts options.now)) }
-    ensures all { (command : Command) → Spells command (codes "trial" ∷ texts options.now)
-        → result ≡ Some command }
-{
-    match read_seeded(options) {
-        Some(two) => Some(Command::Trial {
-            seed: two.first,
-            pictures: two.second as u32,
-        }),
-        None => None,
-    }
-}
-
-fn read_merge(options: &[String]) -> Option<Command>
-    ensures spelled { IfSome result (λ command. Spells command (codes "merge" ∷ texts options.now)) }
-    ensures all { (command : Command) → Spells command (codes "merge" ∷ texts options.now)
-        → result ≡ Some command }
-{
-    match read_option(options, "--lead-in", MOST_LEAD_IN) {
-        Some(lead_in) => Some(Command::Merge {
-            lead_in: lead_in as u32,
-        }),
-        None => None,
-    }
-}
-
-fn read_thin(options: &[String]) -> Option<Command>
-    ensures spelled { IfSome result (λ command. Spells command (codes "thin" ∷ texts options.now)) }
-    ensures all { (command : Command) → Spells command (codes "thin" ∷ texts options.now)
-        → result ≡ Some command }
-{
-    match options {
-        [] => Some(Command::Thin),
-        _ => None,
-    }
-}
-
-fn read_press(options: &[String]) -> Option<Command>
-    ensures spelled { IfSome result (λ command. Spells command (codes "press" ∷ texts options.now)) }
-    ensures all { (command : Command) → Spells command (codes "press" ∷ texts options.now)
-        → result ≡ Some command }
-{
-    match read_lengths(options) {
-        Some(lengths) => Some(Command::Press {
-            lead_in: lengths.lead_in,
-            length: lengths.audio,
-        }),
-        None => None,
-    }
-}
-
-fn read_save(options: &[String]) -> Option<Command>
-    ensures spelled { IfSome result (λ command. Spells command (codes "save" ∷ texts options.now)) }
-    ensures all { (command : Command) → Spells command (codes "save" ∷ texts options.now)
-        → result ≡ Some command }
-{
-    match read_option(options, "--lead-in", MOST_LEAD_IN) {
-        Some(lead_in) => Some(Command::Save {
-            lead_in: lead_in as u32,
-        }),
-        None => None,
-    }
-}
-
-fn read_resume(options: &[String]) -> Option<Command>
-    ensures spelled { IfSome result (λ command. Spells command (codes "resume" ∷ texts options.now)) }
-    ensures all { (command : Command) → Spells command (codes "resume" ∷ texts options.now)
-        → result ≡ Some command }
-{
-    match read_time(options, "--at") {
-        Some(at) => Some(Command::Resume { at }),
-        None => None,
     }
 }

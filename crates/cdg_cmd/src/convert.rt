@@ -1,5 +1,6 @@
 // The command that writes the packs of a stream.
 ghost use Rattle.std.specs.Prelude.{◌≡◌, ◌≢◌, ◌≤◌};
+ghost use Rattle.disc_time.specs.Counts.{most_lead_in};
 ghost use Rattle.cdg_cmd.specs.Answer.{Does};
 ghost use Rattle.cdg_cmd.specs.Call.{change, one_input};
 ghost use Rattle.cdg_cmd.specs.Ends.{EndsInTurn};
@@ -20,7 +21,7 @@ pub(crate) fn run_convert<S: Source, K: Sink>(
     source: &mut S,
     out: &mut K,
 ) -> Status
-    requires { lead_in ≤ 450000 }
+    requires { lead_in ≤ most_lead_in }
     ensures does { result ≢ Status.NoMemory → Does (Command.Convert lead_in form)
         (one_input S.left K.held (source.old, out.old) (source.new, out.new)) result }
     ensures no_memory { result ≡ Status.NoMemory → (source.new ≡ source.old) × (out.new ≡ out.old) }

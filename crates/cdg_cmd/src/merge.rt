@@ -1,5 +1,6 @@
 // The command that merges two readings of a stream.
 ghost use Rattle.std.specs.Prelude.{◌≡◌, ◌≢◌, ◌≤◌};
+ghost use Rattle.disc_time.specs.Counts.{most_lead_in};
 ghost use Rattle.cdg_cmd.specs.Answer.{Does};
 ghost use Rattle.cdg_cmd.specs.Call.{call, change};
 ghost use Rattle.cdg_cmd.specs.Ends.{OtherEnds, ReadingEnds};
@@ -37,7 +38,7 @@ pub(crate) fn run_merge<S: Source, T: Source, K: Sink>(
     second: &mut T,
     out: &mut K,
 ) -> Status
-    requires { lead_in ≤ 450000 }
+    requires { lead_in ≤ most_lead_in }
     ensures does { result ≢ Status.NoMemory → Does (Command.Merge lead_in)
         (call S.left T.left K.held (first.old, second.old, out.old) (first.new, second.new, out.new)) result }
     ensures no_memory { result ≡ Status.NoMemory

@@ -1,14 +1,15 @@
-// The options of a command.
-ghost use Rattle.std.specs.Prelude.{◌≡◌, ◌≢◌, ◌↔◌, ◌≤◌, ℕ, decimal, IfSome, IsTrue, Some};
-ghost use Rattle.cdg_cmd.specs.Words.{texts, form_name};
-ghost use Rattle.cdg_cmd.specs.WordSteps.{NamesForm, SpellsForm, SpellsStream, SpellsValues};
+// The options of a command, each read in one place.
+ghost use Rattle.std.specs.Prelude.{◌≡◌, ◌↔◌, ◌≤◌, ◌<◌, ◌^◌, ℕ, codes, decimal, IfSome, IsTrue, Some};
+ghost use Rattle.cdg_workload.specs.Script.{most_generated};
+ghost use Rattle.disc_time.specs.Counts.{most_lead_in, time_count};
+ghost use Rattle.disc_time.specs.Time.{time_text};
+ghost use Rattle.cdg_cmd.specs.Words.{texts, form_name, IsFormOption};
 ghost use Rattle.raw_subcode.specs.declared.form.Form.{Form};
 
+use cdg_workload::MOST_GENERATED;
+use disc_time::{MOST_LEAD_IN, parse_time};
 use itoa::Buffer;
-use subcode_player::Form;
-
-/// The most blocks of a lead-in.
-pub(crate) const MOST_LEAD_IN: u64 = 450_000;
+use raw_subcode::Form;
 
 // Is this the number in decimal, with no leading zero?
 fn is_decimal(word: &str, number: u64) -> bool
@@ -17,9 +18,9 @@ fn is_decimal(word: &str, number: u64) -> bool
     Buffer::new().format(number) == word
 }
 
-/// The number that a word writes in decimal, with no leading zero, where it is at most `most`.
+// The number that a word writes in decimal, with no leading zero, where it is at most `most`.
 #[tactic(auto, using(crate::proofs::Decimals::parsed_back))]
-pub(crate) fn read_number(word: &str, most: u64) -> Option<u64>
+fn read_number(word: &str, most: u64) -> Option<u64>
     ensures written { IfSome result (λ n. (n ≤ most) × (word.now ≡ decimal n)) }
     ensures all { (n : ℕ) → n ≤ most → word.now ≡ decimal n → result ≡ Some n }
 {
@@ -35,107 +36,87 @@ pub(crate) fn read_number(word: &str, most: u64) -> Option<u64>
     Some(number)
 }
 
-/// The blocks of a lead-in that a word writes.
-fn read_lead_in(word: &str) -> Option<u32>
-    ensures written { IfSome result (λ n. (n ≤ 450000) × (word.now ≡ decimal n)) }
-    ensures all { (n : ℕ) → n ≤ 450000 → word.now ≡ decimal n → result ≡ Some n }
+/// The blocks of a lead-in.
+pub(crate) fn read_lead_in(option: &str, number: &str) -> Option<u32>
+    ensures spelled { IfSome result (λ n. (n ≤ most_lead_in) × (option.now ≡ codes "--lead-in")
+        × (number.now ≡ decimal n)) }
+    ensures all { (n : ℕ) → n ≤ most_lead_in → option.now ≡ codes "--lead-in" → number.now ≡ decimal n
+        → result ≡ Some n }
 {
-    match read_number(word, MOST_LEAD_IN) {
-        Some(number) => Some(number as u32),
-        None => None,
+    if option != "--lead-in" {
+        return None;
     }
+    let lead_in = read_number(number, u64::from(MOST_LEAD_IN))?;
+    Some(lead_in as u32)
 }
 
-/// The form that words name: raw where they name none.
+/// A seed.
+pub(crate) fn read_seed(option: &str, number: &str) -> Option<u64>
+    ensures spelled { IfSome result (λ n. (option.now ≡ codes "--seed") × (number.now ≡ decimal n)) }
+    ensures all { (n : ℕ) → n < 2 ^ 64 → option.now ≡ codes "--seed" → number.now ≡ decimal n
+        → result ≡ Some n }
+{
+    if option != "--seed" {
+        return None;
+    }
+    read_number(number, u64::MAX)
+}
+
+/// How many pictures there are: 1 to 500.
+pub(crate) fn read_pictures(option: &str, number: &str) -> Option<u32>
+    ensures spelled { IfSome result (λ n. (1 ≤ n) × (n ≤ most_generated) × (option.now ≡ codes "--pictures")
+        × (number.now ≡ decimal n)) }
+    ensures all { (n : ℕ) → 1 ≤ n → n ≤ most_generated → option.now ≡ codes "--pictures" → number.now ≡ decimal n
+        → result ≡ Some n }
+{
+    if option != "--pictures" {
+        return None;
+    }
+    let pictures = read_number(number, u64::from(MOST_GENERATED))?;
+    if pictures == 0 {
+        return None;
+    }
+    Some(pictures as u32)
+}
+
+/// The block of the time of the option with this name.
+pub(crate) fn read_time(name: &str, option: &str, time: &str) -> Option<u32>
+    ensures spelled { IfSome result (λ n. (n < time_count) × (option.now ≡ name.now)
+        × (time.now ≡ time_text n)) }
+    ensures all { (n : ℕ) → n < time_count → option.now ≡ name.now → time.now ≡ time_text n
+        → result ≡ Some n }
+{
+    if option != name {
+        return None;
+    }
+    parse_time(time.as_bytes())
+}
+
+/// The form that words name: raw where there are none.
 pub(crate) fn read_form(words: &[String]) -> Option<Form>
-    ensures spelled { IfSome result (λ form. SpellsForm form (texts words.now)) }
-    ensures all { (form : Form) → SpellsForm form (texts words.now) → result ≡ Some form }
+    ensures spelled { IfSome result (λ form. IsFormOption form (texts words.now)) }
+    ensures all { (form : Form) → IsFormOption form (texts words.now) → result ≡ Some form }
 {
-    let Some((option, rest)) = words.split_first() else {
-        return Some(Form::Raw);
-    };
-    if option.as_str() != "--form" {
-        return None;
+    match words {
+        [] => Some(Form::Raw),
+        [option, name] => named_form(option, name),
+        _ => None,
     }
-    only_form(rest)
 }
 
-// The form that the only word names.
-fn only_form(words: &[String]) -> Option<Form>
-    ensures spelled { IfSome result (λ form. NamesForm form (texts words.now)) }
-    ensures all { (form : Form) → NamesForm form (texts words.now) → result ≡ Some form }
+// The form that the option names.
+fn named_form(option: &str, name: &str) -> Option<Form>
+    ensures spelled { IfSome result (λ form. (option.now ≡ codes "--form") × (name.now ≡ form_name form)) }
+    ensures all { (form : Form) → option.now ≡ codes "--form" → name.now ≡ form_name form
+        → result ≡ Some form }
 {
-    let (name, rest) = words.split_first()?;
-    if !rest.is_empty() {
+    if option != "--form" {
         return None;
     }
-    form_named(name)
-}
-
-// The form of this name.
-fn form_named(name: &str) -> Option<Form>
-    ensures named { IfSome result (λ form. name.now ≡ form_name form) }
-    ensures all { (form : Form) → name.now ≡ form_name form → result ≡ Some form }
-{
     match name {
         "raw" => Some(Form::Raw),
         "sector" => Some(Form::Sector),
         "cooked" => Some(Form::Cooked),
         _ => None,
-    }
-}
-
-/// How a stream stands in the input: the blocks of its lead-in, and its form.
-#[derive(Clone, Copy, Debug, PartialEq, Eq)]
-pub(crate) struct StreamOptions {
-    pub lead_in: u32,
-    pub form: Form,
-}
-
-/// The options of a stream: its lead-in, and its form where one is named.
-pub(crate) fn read_stream(words: &[String]) -> Option<StreamOptions>
-    ensures spelled { IfSome result (λ o. (o.lead_in ≤ 450000)
-        × SpellsStream o.lead_in o.form (texts words.now)) }
-    ensures all { (lead_in : ℕ) (form : Form) → lead_in ≤ 450000 → SpellsStream lead_in form (texts words.now)
-        → result ≡ Some (record { lead_in = lead_in; form = form }) }
-{
-    let (option, rest) = words.split_first()?;
-    if option.as_str() != "--lead-in" {
-        return None;
-    }
-    read_values(rest)
-}
-
-// The blocks of the lead-in, and a form where one is named.
-fn read_values(words: &[String]) -> Option<StreamOptions>
-    ensures spelled { IfSome result (λ o. (o.lead_in ≤ 450000)
-        × SpellsValues o.lead_in o.form (texts words.now)) }
-    ensures all { (lead_in : ℕ) (form : Form) → lead_in ≤ 450000 → SpellsValues lead_in form (texts words.now)
-        → result ≡ Some (record { lead_in = lead_in; form = form }) }
-{
-    let (number, rest) = words.split_first()?;
-    let lead_in = read_lead_in(number)?;
-    match read_form(rest) {
-        Some(form) => Some(StreamOptions { lead_in, form }),
-        None => None,
-    }
-}
-
-/// The options of a stream whose blocks have a Q channel.
-pub(crate) fn read_blocks(words: &[String]) -> Option<StreamOptions>
-    ensures spelled { IfSome result (λ o. (o.lead_in ≤ 450000) × (o.form ≢ Form.Cooked)
-        × SpellsStream o.lead_in o.form (texts words.now)) }
-    ensures all { (lead_in : ℕ) (form : Form) → lead_in ≤ 450000 → form ≢ Form.Cooked
-        → SpellsStream lead_in form (texts words.now)
-        → result ≡ Some (record { lead_in = lead_in; form = form }) }
-{
-    match read_stream(words) {
-        Some(stream) => {
-            if stream.form == Form::Cooked {
-                return None;
-            }
-            Some(stream)
-        }
-        None => None,
     }
 }

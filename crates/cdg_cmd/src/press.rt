@@ -1,5 +1,6 @@
 // The command that writes the stream of a cue sheet and a file of packs.
 ghost use Rattle.std.specs.Prelude.{◌≡◌, ◌≢◌, ◌≤◌, ◌<◌, ◌⊎◌, IfOk, IfErr, OnOk, Err};
+ghost use Rattle.disc_time.specs.Counts.{most_lead_in, time_count};
 ghost use Rattle.cdg_io.specs.Causes.{Rose};
 ghost use Rattle.cdg_cmd.specs.Authors.{TakesAtStop};
 ghost use Rattle.cdg_cmd.specs.Call.{call, change};
@@ -13,10 +14,9 @@ use crate::{Command, Refusal, Status, Which};
 use cdg_io::{ReadStop, Sink, Source, read_whole};
 use cdg_press::{PressStop, press_stream};
 use std::alloc::Global;
+use text_lines::MOST_TEXT_BYTES;
 
-const MOST_FILE: usize = 67_108_864;
-
-// The file of the second input, or the status that says why there is none.
+// The file of the second input, which may be as long as a text, or the status that says why there is none.
 #[tactic(auto, using(crate::proofs::TextStops::taken_at_fault))]
 fn read_file<S: Source>(alloc: Global, second: &mut S) -> Result<Vec<u8>, Status>
     ensures ok { IfOk result (λ v. ReadsFile (change S.left second.old second.new) v.items) }
@@ -30,7 +30,7 @@ fn read_file<S: Source>(alloc: Global, second: &mut S) -> Result<Vec<u8>, Status
     ensures told { OnOk result (Rose (S.ends second.old) (S.ends second.new)) }
     ensures once { IfErr result (ScriptEnds (change S.ends second.old second.new)) }
 {
-    match read_whole(alloc, second, MOST_FILE) {
+    match read_whole(alloc, second, MOST_TEXT_BYTES) {
         Ok(file) => Ok(file),
         Err(ReadStop::Failed) => Err(Status::ReadFault(Which::Second)),
         Err(ReadStop::TooLong) => Err(Status::Refused(Refusal::TooLong)),
@@ -68,8 +68,8 @@ pub(crate) fn run_press<S: Source, T: Source, K: Sink>(
     second: &mut T,
     out: &mut K,
 ) -> Status
-    requires lead_in { lead_in ≤ 450000 }
-    requires length { length < 450000 }
+    requires lead_in { lead_in ≤ most_lead_in }
+    requires length { length < time_count }
     ensures does { PressesWith lead_in length (call S.left T.left K.held (first.old, second.old, out.old)
         (first.new, second.new, out.new)) result }
     ensures never { result ≢ Status.Usage }

@@ -1,5 +1,6 @@
 // The command that lists the Q channel of a stream.
 ghost use Rattle.std.specs.Prelude.{◌≡◌, ◌≢◌, ◌≤◌};
+ghost use Rattle.disc_time.specs.Counts.{most_lead_in};
 ghost use Rattle.cdg_cmd.specs.Answer.{Does};
 ghost use Rattle.cdg_cmd.specs.Call.{change, one_input};
 ghost use Rattle.cdg_cmd.specs.Ends.{EndsInTurn};
@@ -18,7 +19,7 @@ pub(crate) fn run_q<S: Source, K: Sink>(
     source: &mut S,
     out: &mut K,
 ) -> Status
-    requires lead_in { lead_in ≤ 450000 }
+    requires lead_in { lead_in ≤ most_lead_in }
     requires form { form ≢ Form.Cooked }
     ensures does { Does (Command.Q lead_in form) (one_input S.left K.held (source.old, out.old)
         (source.new, out.new)) result }

@@ -1,5 +1,6 @@
 // The command that shows a moment of a stream from a checkpoint of it.
 ghost use Rattle.std.specs.Prelude.{◌≡◌, ◌≢◌, ◌<◌, ◌⊎◌};
+ghost use Rattle.disc_time.specs.Counts.{time_count};
 ghost use Rattle.cdg_cmd.specs.Answer.{Does};
 ghost use Rattle.cdg_cmd.specs.Call.{call, change};
 ghost use Rattle.cdg_cmd.specs.Checkpoints.{resume_status};
@@ -39,7 +40,7 @@ pub(crate) fn run_resume<S: Source, T: Source, K: Sink>(
     second: &mut T,
     out: &mut K,
 ) -> Status
-    requires { at < 450000 }
+    requires { at < time_count }
     ensures does { result ≢ Status.NoMemory → Does (Command.Resume at)
         (call S.left T.left K.held (first.old, second.old, out.old) (first.new, second.new, out.new)) result }
     ensures no_memory { result ≡ Status.NoMemory

@@ -1,5 +1,6 @@
 // The command that shows a moment of a stream.
 ghost use Rattle.std.specs.Prelude.{◌≡◌, ◌≢◌, ◌≤◌, ◌<◌};
+ghost use Rattle.disc_time.specs.Counts.{most_lead_in, time_count};
 ghost use Rattle.cdg_cmd.specs.Answer.{Does};
 ghost use Rattle.cdg_cmd.specs.Call.{change, one_input};
 ghost use Rattle.cdg_cmd.specs.Ends.{EndsFirst};
@@ -22,8 +23,8 @@ pub(crate) fn run_screen<S: Source, K: Sink>(
     source: &mut S,
     out: &mut K,
 ) -> Status
-    requires lead_in { lead_in ≤ 450000 }
-    requires at { at < 450000 }
+    requires lead_in { lead_in ≤ most_lead_in }
+    requires at { at < time_count }
     ensures does { result ≢ Status.NoMemory → Does (Command.Screen lead_in form at)
         (one_input S.left K.held (source.old, out.old) (source.new, out.new)) result }
     ensures no_memory { result ≡ Status.NoMemory → (source.new ≡ source.old) × (out.new ≡ out.old) }

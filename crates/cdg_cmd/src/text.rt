@@ -1,5 +1,6 @@
 // The command that lists the texts of a lead-in.
 ghost use Rattle.std.specs.Prelude.{◌≡◌, ◌≢◌, ◌≤◌};
+ghost use Rattle.disc_time.specs.Counts.{most_lead_in};
 ghost use Rattle.cdg_cmd.specs.Answer.{Does};
 ghost use Rattle.cdg_cmd.specs.Call.{change, one_input};
 ghost use Rattle.cdg_cmd.specs.Ends.{EndsFirst};
@@ -21,7 +22,7 @@ pub(crate) fn run_text<S: Source, K: Sink>(
     source: &mut S,
     out: &mut K,
 ) -> Status
-    requires lead_in { lead_in ≤ 450000 }
+    requires lead_in { lead_in ≤ most_lead_in }
     requires form { form ≢ Form.Cooked }
     ensures does { result ≢ Status.NoMemory → Does (Command.Text lead_in form)
         (one_input S.left K.held (source.old, out.old) (source.new, out.new)) result }

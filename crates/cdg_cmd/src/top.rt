@@ -1,5 +1,6 @@
 // The top call.
 ghost use Rattle.std.specs.Prelude.{◌≡◌, ◌≢◌, ◌↔◌, ◌≤◌, ◌⊎◌, ℕ, List, Option, Some, None, Ok, IfSome};
+ghost use Rattle.disc_time.specs.Counts.{most_program};
 ghost use Rattle.std.specs.List.{concat};
 ghost use Rattle.raw_subcode.specs.declared.form.Form.{Form};
 ghost use Rattle.picture_script.specs.Script.{Drawing};
@@ -134,7 +135,7 @@ pub fn run<S: Source, T: Source, K: Sink, E: Sink>(
     // Of an authored stream the frame of each block is listed,
     ensures frames { (disc : Disc) (packs : List (List ℕ))
         → Spells (Command.Q disc.lead_in Form.Raw) (texts words.now)
-        → program_blocks disc.sheet disc.audio ≤ 449999
+        → program_blocks disc.sheet disc.audio ≤ most_program
         → IfSome (S.left first.old) (λ all. IsAuthored disc all packs
         → GivesBack (frame_lines (layout_of disc.sheet disc.audio) disc.lead_in)
         (change K.held out.old out.new) result) }

@@ -1,5 +1,6 @@
 // The command that tries a seed.
 ghost use Rattle.std.specs.Prelude.{◌≡◌, ◌≢◌, ◌≤◌, ◌⊎◌};
+ghost use Rattle.cdg_workload.specs.Script.{most_generated};
 ghost use Rattle.cdg_cmd.specs.Answer.{Tries};
 ghost use Rattle.cdg_cmd.specs.Call.{change};
 ghost use Rattle.cdg_cmd.specs.Faults.{IsTold};
@@ -12,7 +13,7 @@ use stream_trial::{TrialStop, trial};
 /// Writes the lines of a trial of a seed.
 #[tactic(auto, using(crate::proofs::Written::told_done, crate::proofs::Written::told_cut, crate::proofs::Written::told_nothing))]
 pub(crate) fn run_trial<K: Sink>(alloc: Global, seed: u64, pictures: u32, out: &mut K) -> Status
-    requires { (1 ≤ pictures) × (pictures ≤ 500) }
+    requires { (1 ≤ pictures) × (pictures ≤ most_generated) }
     ensures does { result ≢ Status.NoMemory → Tries seed pictures (change K.held out.old out.new) result }
     ensures never { (result ≡ Status.Done) ⊎ (result ≡ Status.WriteFault) ⊎ (result ≡ Status.NoMemory) }
     ensures no_memory { result ≡ Status.NoMemory → out.new ≡ out.old }

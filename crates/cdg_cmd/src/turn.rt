@@ -1,5 +1,7 @@
 // The commands that turn each block of a stream.
 ghost use Rattle.std.specs.Prelude.{◌≡◌, ◌≢◌, ◌≤◌, List, ℕ, length, IfSome, IsErrOf, Err};
+ghost use Rattle.raw_subcode.specs.Sizes.{block_bytes, most_units};
+ghost use Rattle.disc_time.specs.Counts.{most_lead_in};
 ghost use Rattle.cdg_io.specs.Causes.{Rose};
 ghost use Rattle.cdg_io.specs.Pump.{IsUnlessFault, TellsEndOf, answer_of};
 ghost use Rattle.q_channel.specs.PlanarStream.{IsBlockStream, IsPlanarStream};
@@ -13,8 +15,7 @@ use crate::{Command, Refusal, Status, Which};
 use cdg_io::{PumpStop, Pumped, Sink, Source, pump};
 use cdg_workload::scratch;
 use q_channel::{BlockForms, PlanarForms};
-
-const MOST_BLOCKS: u32 = 1_000_000;
+use raw_subcode::MOST_UNITS;
 
 // The status of what a pump answers.
 pub(crate) fn pump_status(answer: Result<Pumped, PumpStop>) -> Status
@@ -34,8 +35,8 @@ fn planar_stream<S: Source, K: Sink>(source: &mut S, out: &mut K) -> Result<Pump
     ensures turns { (taken : List ℕ)
         × ChangesBlocks (IsTurned IsPlanarStream) (change S.left source.old source.new)
         (change K.held out.old out.new) result taken }
-    ensures answer { IfSome (S.left source.old) (λ all. IsUnlessFault result (answer_of 96 1000000
-        (length all))) }
+    ensures answer { IfSome (S.left source.old)
+        (λ all. IsUnlessFault result (answer_of block_bytes most_units (length all))) }
     ensures source_later { S.faults source.old ≤ S.faults source.new }
     ensures out_later { K.faults out.old ≤ K.faults out.new }
     ensures read_fault { IsErrOf result PumpStop.ReadFault
@@ -45,7 +46,7 @@ fn planar_stream<S: Source, K: Sink>(source: &mut S, out: &mut K) -> Result<Pump
     ensures write_fault { IsErrOf result PumpStop.WriteFault → Rose (K.faults out.old) (K.faults out.new) }
     ensures no_write_fault { result ≢ Err PumpStop.WriteFault → K.faults out.new ≡ K.faults out.old }
 {
-    pump(source, MOST_BLOCKS, &mut PlanarForms, out)
+    pump(source, MOST_UNITS, &mut PlanarForms, out)
 }
 
 /// Writes the block of each planar form as the blocks are read.
@@ -53,8 +54,8 @@ fn raw_stream<S: Source, K: Sink>(source: &mut S, out: &mut K) -> Result<Pumped,
     ensures turns { (taken : List ℕ)
         × ChangesBlocks (IsTurned IsBlockStream) (change S.left source.old source.new)
         (change K.held out.old out.new) result taken }
-    ensures answer { IfSome (S.left source.old) (λ all. IsUnlessFault result (answer_of 96 1000000
-        (length all))) }
+    ensures answer { IfSome (S.left source.old)
+        (λ all. IsUnlessFault result (answer_of block_bytes most_units (length all))) }
     ensures source_later { S.faults source.old ≤ S.faults source.new }
     ensures out_later { K.faults out.old ≤ K.faults out.new }
     ensures read_fault { IsErrOf result PumpStop.ReadFault
@@ -64,7 +65,7 @@ fn raw_stream<S: Source, K: Sink>(source: &mut S, out: &mut K) -> Result<Pumped,
     ensures write_fault { IsErrOf result PumpStop.WriteFault → Rose (K.faults out.old) (K.faults out.new) }
     ensures no_write_fault { result ≢ Err PumpStop.WriteFault → K.faults out.new ≡ K.faults out.old }
 {
-    pump(source, MOST_BLOCKS, &mut BlockForms, out)
+    pump(source, MOST_UNITS, &mut BlockForms, out)
 }
 
 /// Writes a stream with the scratches of a seed as its blocks are read.
@@ -75,7 +76,7 @@ pub(crate) fn run_scratch<S: Source, K: Sink>(
     source: &mut S,
     out: &mut K,
 ) -> Status
-    requires { lead_in ≤ 450000 }
+    requires { lead_in ≤ most_lead_in }
     ensures does { Does (Command.Scratch lead_in seed) (one_input S.left K.held (source.old, out.old)
         (source.new, out.new)) result }
     ensures memory { result ≢ Status.NoMemory }

@@ -5,7 +5,7 @@ use Rattle.cdg_cmd.specs.Ends.{TellsEnds}
 use Rattle.cdg_cmd.specs.Keeps.{Keeps, WantsMemory}
 use Rattle.cdg_cmd.specs.declared.command.Command.{Command}
 use Rattle.cdg_cmd.proofs.Told.{unchanged}
-use Rattle.cdg_cmd.proofs.WordsLemmas.{no_command, same_command}
+use Rattle.cdg_cmd.proofs.Commands.{no_command, same_command}
 use Rattle.cdg_cmd.proofs.top.answer.Goals as goal
 
 pub returns-in-Some-clause-usage : goal.returns-in-Some-clause-usage
