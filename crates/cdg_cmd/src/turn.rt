@@ -17,7 +17,7 @@ use cdg_workload::scratch;
 use q_channel::{BlockForms, PlanarForms};
 use raw_subcode::MOST_UNITS;
 
-// The status of what a pump answers.
+/// The status of what a pump answers.
 pub(crate) fn pump_status(answer: Result<Pumped, PumpStop>) -> Status
     ensures { result ≡ pump_status answer }
 {
@@ -30,7 +30,7 @@ pub(crate) fn pump_status(answer: Result<Pumped, PumpStop>) -> Status
     }
 }
 
-/// Writes the planar form of each block as the blocks are read.
+// Writes the planar form of each block as the blocks are read.
 fn planar_stream<S: Source, K: Sink>(source: &mut S, out: &mut K) -> Result<Pumped, PumpStop>
     ensures turns { (taken : List ℕ)
         × ChangesBlocks (IsTurned IsPlanarStream) (change S.left source.old source.new)
@@ -49,7 +49,7 @@ fn planar_stream<S: Source, K: Sink>(source: &mut S, out: &mut K) -> Result<Pump
     pump(source, MOST_UNITS, &mut PlanarForms, out)
 }
 
-/// Writes the block of each planar form as the blocks are read.
+// Writes the block of each planar form as the blocks are read.
 fn raw_stream<S: Source, K: Sink>(source: &mut S, out: &mut K) -> Result<Pumped, PumpStop>
     ensures turns { (taken : List ℕ)
         × ChangesBlocks (IsTurned IsBlockStream) (change S.left source.old source.new)

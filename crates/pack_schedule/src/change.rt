@@ -3,7 +3,7 @@ use cdg_instructions::Instr;
 use std::alloc::{AllocError, Global};
 use std::marker::Model;
 
-/// The most instructions that a change has: a preset, three settings and four for each tile.
+// The most instructions that a change has: a preset, three settings and four for each tile.
 const MOST: usize = 3076;
 
 /// A list of at most 3,076 instructions.

@@ -13,7 +13,7 @@ use cdg_instructions::{Instr, PIXELS, Tile};
 use picture_script::{Canvas, Script};
 use tile_author::plan;
 
-/// How many tiles the window has.
+// How many tiles the window has.
 const TILES: usize = 768;
 
 impl Change {

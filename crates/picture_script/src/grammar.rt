@@ -108,7 +108,7 @@ impl Draft {
         self.push_show(ready, hold)
     }
 
-    // Takes a command with the words after it.
+    /// Takes a command with the words after it.
     pub(crate) fn take_command(&mut self, command: &[u8], words: &[u8]) -> Result<(), LineStop>
         requires { IsSound self.old }
         ensures { Takes (checked_command (said_in self.old) command.now (words_in words.now)) self.old

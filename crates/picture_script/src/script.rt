@@ -72,7 +72,7 @@ impl Script {
         self.shown[k as usize].hold
     }
 
-    // How many lines stand before the show line of picture `k`.
+    /// How many lines stand before the show line of picture `k`.
     pub(crate) fn place(&self, k: u32) -> usize
         requires { k < pictures self.now }
         ensures { result ≡ length (lines_before self.now k) }
@@ -80,7 +80,7 @@ impl Script {
         self.shown[k as usize].place
     }
 
-    // The place of the last of some lines that fills the window, and its colour, if one does.
+    /// The place of the last of some lines that fills the window, and its colour, if one does.
     pub(crate) fn last_fill(&self, from: usize, to: usize) -> Option<(usize, u8)>
         requires { to ≤ length self.now }
         ensures place { IfSome result (λ found. (from ≤ found.0) × (found.0 < to)) }

@@ -1,5 +1,6 @@
 // What conversions and screens give of streams.
 ghost use Rattle.std.specs.Prelude.{◌≡◌, ◌≤◌, ℕ, List, IfSome};
+ghost use Rattle.disc_time.specs.Counts.{most_lead_in, most_program};
 ghost use Rattle.std.specs.List.{concat};
 ghost use Rattle.raw_subcode.specs.Channels.{program_symbols};
 ghost use Rattle.raw_subcode.specs.declared.form.Form.{Form};
@@ -65,7 +66,7 @@ pub fn scratched_streams_give_their_packs()
     ensures { (lead_in audio seed : ℕ) (sheet : CueSheet) (script : List Drawing) (bytes : List ℕ)
         (packs : List (List ℕ))
         (call : Call Bytes) (status : Status) → IsRun (Convert lead_in Raw) call status
-        → lead_in ≤ 450000 → program_blocks sheet audio ≤ 449999
+        → lead_in ≤ most_lead_in → program_blocks sheet audio ≤ most_program
         → IsAuthored (disc_of sheet script lead_in audio) bytes packs
         → IfSome call.first.before (λ all. all ≡ scratched lead_in seed bytes
         → GivesBack (concat packs) call.out status) }

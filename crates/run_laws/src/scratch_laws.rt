@@ -1,5 +1,6 @@
 // Scratched streams, as a player meets them.
 ghost use Rattle.std.specs.Prelude.{◌≡◌, ◌≤◌, List, ℕ};
+ghost use Rattle.disc_time.specs.Counts.{most_lead_in, most_program};
 ghost use Rattle.std.specs.List.{concat};
 ghost use Rattle.rw_interleave.specs.Stream.{all_packs};
 ghost use Rattle.cue_sheet.specs.CueSheet.{CueSheet};
@@ -20,7 +21,7 @@ use stream_trial::scratched_streams_are_recovered;
 pub fn scratched_streams_are_damaged()
     ensures damaged { (sheet : CueSheet) (script : List Drawing) (lead_in audio seed : ℕ) (bytes : List ℕ)
         (packs : List (List ℕ))
-        → lead_in ≤ 450000 → program_blocks sheet audio ≤ 449999
+        → lead_in ≤ most_lead_in → program_blocks sheet audio ≤ most_program
         → IsAuthored (disc_of sheet script lead_in audio) bytes packs
         → IsDamagedStream Form.Raw lead_in (program_blocks sheet audio) packs (scratched lead_in seed bytes) }
     ensures packs { (sheet : CueSheet) (script : List Drawing) (lead_in audio : ℕ) (bytes : List ℕ)
@@ -29,7 +30,7 @@ pub fn scratched_streams_are_damaged()
         → concat (all_packs Form.Raw (program_blocks sheet audio) packs) ≡ concat packs }
     ensures scheduled { (sheet : CueSheet) (script : List Drawing) (lead_in audio seed : ℕ) (bytes : List ℕ)
         (packs : List (List ℕ))
-        → lead_in ≤ 450000 → program_blocks sheet audio ≤ 449999 → AreTimesInOrder script
+        → lead_in ≤ most_lead_in → program_blocks sheet audio ≤ most_program → AreTimesInOrder script
         → AreColoursInRange script
         → IsAuthored (disc_of sheet script lead_in audio) bytes packs
         → IsScheduledStream Form.Raw lead_in script (scratched lead_in seed bytes) }
