@@ -1,7 +1,8 @@
 // The command that shows a moment of a stream from a checkpoint of it.
 ghost use Rattle.std.specs.Prelude.{◌≡◌, ◌≢◌, ◌<◌, ◌⊎◌};
 ghost use Rattle.cdg_cmd.specs.Answer.{Does};
-ghost use Rattle.cdg_cmd.specs.Call.{call, change};
+ghost use Rattle.cdg_io.specs.Change.{change};
+ghost use Rattle.cdg_cmd.specs.Call.{call};
 ghost use Rattle.cdg_cmd.specs.Checkpoints.{resume_status};
 ghost use Rattle.cdg_cmd.specs.Ends.{CheckpointEnds, RestEnds};
 ghost use Rattle.cdg_cmd.specs.Faults.{TellsFaults};

@@ -1,7 +1,8 @@
 // The command that writes the state of the screen at a moment of a stream.
 ghost use Rattle.std.specs.Prelude.{◌≡◌, ◌≢◌, ◌≤◌, ◌<◌};
 ghost use Rattle.cdg_cmd.specs.Answer.{Does};
-ghost use Rattle.cdg_cmd.specs.Call.{change, one_input};
+ghost use Rattle.cdg_io.specs.Change.{change};
+ghost use Rattle.cdg_cmd.specs.Call.{one_input};
 ghost use Rattle.cdg_cmd.specs.Ends.{EndsFirst};
 ghost use Rattle.cdg_cmd.specs.Faults.{TellsOne};
 ghost use Rattle.cdg_cmd.specs.Keeps.{MayWrite};

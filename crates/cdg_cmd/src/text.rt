@@ -1,7 +1,8 @@
 // The command that lists the texts of a lead-in.
 ghost use Rattle.std.specs.Prelude.{◌≡◌, ◌≢◌, ◌≤◌};
 ghost use Rattle.cdg_cmd.specs.Answer.{Does};
-ghost use Rattle.cdg_cmd.specs.Call.{change, one_input};
+ghost use Rattle.cdg_io.specs.Change.{change};
+ghost use Rattle.cdg_cmd.specs.Call.{one_input};
 ghost use Rattle.cdg_cmd.specs.Ends.{EndsFirst};
 ghost use Rattle.cdg_cmd.specs.Faults.{TellsOne};
 ghost use Rattle.cdg_cmd.specs.Keeps.{MayWrite};
