@@ -31,7 +31,7 @@ use Rattle.subcode_player.proofs.Conversion.{units_sized, length-units_of}
 use Rattle.subcode_player.proofs.Playing.{units_in}
 use Rattle.subcode_player.proofs.Views.{IsReady, drawings_next, viewed_bytes, whole_taken}
 use Rattle.cdg_checkpoint.specs.Tracked.{TracksBlocks, track_next}
-use Rattle.cdg_checkpoint.specs.Saved.{IsCheckpointOf, IsBeforeEnd, IsSaved, Saves, last_symbols, most_blocks}
+use Rattle.cdg_checkpoint.specs.Saved.{IsCheckpointOf, IsBeforeEnd, IsSaved, Saves, last_symbols}
 use Rattle.cdg_checkpoint.specs.Keeping.{IsKept}
 use Rattle.cdg_checkpoint.specs.declared.tracking.Tracking.{Tracking}
 use Rattle.cdg_checkpoint.proofs.Tails.{after, tail_after, words_alone}

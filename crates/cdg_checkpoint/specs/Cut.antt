@@ -3,15 +3,16 @@ use Rattle.std.specs.Prelude.{◌≡◌, ℕ, ◌*◌, ◌%◌, ◌≤◌, List,
 use Rattle.subcode_player.specs.declared.player.Played.{Played}
 use Rattle.subcode_player.specs.declared.player.PlayStop.{PlayStop}
 use Rattle.subcode_player.specs.declared.player.PlayStop.TheVariants as play
-use Rattle.cdg_checkpoint.specs.Saved.{most_blocks}
+use Rattle.disc_time.specs.Counts.{most_lead_in}
+use Rattle.raw_subcode.specs.Sizes.{block_bytes, most_units}
 use Rattle.cdg_checkpoint.specs.declared.stops.Resumed.{Resumed}
 use Rattle.cdg_checkpoint.specs.declared.stops.ResumeStop.{ResumeStop}
 use Rattle.cdg_checkpoint.specs.declared.stops.ResumeStop.TheVariants.{WriteFault, Torn, TooLong, PastEnd}
 
 -- the first part of a stream is whole blocks, no more than are read
 pub record IsFirstPart (lead_in : ℕ) (bytes : List ℕ) : Type 0 where
-  pub lead_in_most : lead_in ≤ 450000
-  pub most : length bytes ≤ most_blocks * 96
+  pub lead_in_most : lead_in ≤ most_lead_in
+  pub most : length bytes ≤ most_units * block_bytes
   pub whole : length bytes % 96 ≡ 0
 
 -- the answer as that of a player of the whole stream, who reads one input

@@ -17,7 +17,7 @@ use Rattle.cdg_screen.specs.Texts.{pixmap}
 use Rattle.checkpoint_files.specs.Table.{IsBadAt, IsCheckpointFile, empty_symbols}
 use Rattle.checkpoint_files.specs.Checkpoint.{Checkpoint, checkpoint_in}
 use Rattle.subcode_player.specs.Screen.{AreMeant}
-use Rattle.cdg_checkpoint.specs.Saved.{most_blocks}
+use Rattle.raw_subcode.specs.Sizes.{most_units}
 use Rattle.cdg_checkpoint.specs.declared.stops.Resumed.{Resumed}
 use Rattle.cdg_checkpoint.specs.declared.stops.ResumeStop.{ResumeStop}
 use Rattle.cdg_checkpoint.specs.declared.stops.ResumeStop.TheVariants.{FirstFault, SecondFault, WriteFault, BadSave, BeforeSave, Torn, TooLong, PastEnd}
@@ -66,7 +66,7 @@ IsAcceptedBy (Err stop) time file = ⊥
 
 -- the most blocks that may follow a checkpoint
 abbrev pub blocks_left : Checkpoint → ℕ
-blocks_left c = most_blocks - (c.lead_in + c.program)
+blocks_left c = most_units - (c.lead_in + c.program)
 
 -- how the rest of the stream, of so many bytes, is answered to
 abbrev pub IsGoneOnBy : Result Resumed ResumeStop → Checkpoint → ℕ → ℕ → Type 0

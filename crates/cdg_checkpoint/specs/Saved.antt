@@ -7,16 +7,13 @@ use Rattle.cdg_io.specs.declared.pumping.Pumped.{Pumped}
 use Rattle.cdg_io.specs.declared.pumping.PumpStop.{PumpStop}
 use Rattle.cdg_io.specs.declared.pumping.PumpStop.TheVariants.{ReadFault, WriteFault, Torn, TooLong}
 use Rattle.raw_subcode.specs.Channels.{program_symbols}
+use Rattle.raw_subcode.specs.Sizes.{block_bytes, most_units}
 use Rattle.raw_subcode.specs.declared.form.Form.TheVariants.{Raw}
 use Rattle.rw_interleave.specs.Stream.{IsRecovered, bad_count}
 use Rattle.cdg_instructions.specs.declared.instr.Instr.{Instr}
 use Rattle.cdg_screen.specs.Picture.{SameStanding, blank, standing_after}
 use Rattle.checkpoint_files.specs.Checkpoint.{Checkpoint, file_of}
 use Rattle.subcode_player.specs.Screen.{AreMeant}
-
--- the most blocks that are read
-abbrev pub most_blocks : ℕ
-most_blocks = 1000000
 
 -- the last of so many symbols, with zeros before the first
 abbrev pub last_symbols : ℕ → List ℕ → List ℕ
@@ -51,7 +48,7 @@ IsBeforeEnd stop = ⊥
 -- how a call reads that writes the file of a checkpoint
 abbrev pub saving : ℕ → WholeReading Pumped PumpStop
 saving lead_in = record {
-  cut = record { size = 96; limit = most_blocks };
+  cut = record { size = block_bytes; limit = most_units };
   is_early = IsBeforeEnd;
   write_fault = WriteFault;
   gives = IsSaved lead_in;

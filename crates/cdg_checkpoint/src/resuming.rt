@@ -1,10 +1,12 @@
 // Playing that goes on from a checkpoint.
 ghost use Rattle.std.specs.Prelude.{◌≡◌, ◌≢◌, ◌≤◌, ◌<◌, ◌+◌, ◌-◌, ◌^◌, List, ℕ, [], length, IfSome, IfErr, IfOk, IsErr, IsErrOf, IsOk, Err, OnOk};
 ghost use Rattle.std.specs.Io.KnownBytes.{Appends, Consumes, IsAtEnd};
+ghost use Rattle.disc_time.specs.Counts.{last_block};
 ghost use Rattle.cdg_io.specs.Causes.{Rose};
 ghost use Rattle.cdg_io.specs.Change.{change, passed};
 ghost use Rattle.cdg_io.specs.Moves.{AppendsPrefix, ConsumesBelow};
 ghost use Rattle.cdg_io.specs.Run.{run_state};
+ghost use Rattle.raw_subcode.specs.Sizes.{most_units};
 ghost use Rattle.rw_interleave.specs.Interleave.{whole_packs};
 ghost use Rattle.rw_interleave.specs.Gathering.{gather_next};
 ghost use Rattle.cdg_screen.specs.Picture.{SameStanding, standing_of};
@@ -43,7 +45,7 @@ impl Checkpointer {
         rest: &mut T,
         out: &mut K,
     ) -> Result<Resumed, ResumeStop>
-        requires { at ≤ 449999 }
+        requires { at ≤ last_block }
         // The checkpoint is accepted, or refused for the first reason.
         ensures accepted { IsAcceptedBy (acceptance result) at self.new.file }
         ensures saved_taken { result ≢ Err ResumeStop.FirstFault
@@ -98,7 +100,7 @@ impl Checkpointer {
         rest: &mut T,
         out: &mut K,
     ) -> Result<Resumed, ResumeStop>
-        requires at { at ≤ 449999 }
+        requires at { at ≤ last_block }
         requires file { IsCheckpointFile self.old.file }
         requires not_later { (checkpoint_in self.old.file).program ≤ at }
         ensures file { self.new.file ≡ self.old.file }
@@ -181,7 +183,7 @@ impl Checkpointer {
 
     /// Plays the rest of a stream up to a moment.
     pub(crate) fn go_on<S: Source>(&mut self, at: u32, rest: &mut S) -> Result<Resumed, ResumeStop>
-        requires at { at ≤ 449999 }
+        requires at { at ≤ last_block }
         requires file { IsCheckpointFile self.old.file }
         requires not_later { (checkpoint_in self.old.file).program ≤ at }
         ensures goes_on { (taken : List ℕ)
@@ -230,7 +232,7 @@ impl Checkpointer {
 
     /// Brings back the state of a checkpoint.
     fn begin_again(&mut self, counts: &Counts, at: u32)
-        requires at { at ≤ 449999 }
+        requires at { at ≤ last_block }
         requires file { IsCheckpointFile self.old.file }
         requires to_come { counts.now.to_come ≡ (checkpoint_in self.old.file).to_come }
         requires program { counts.now.program ≡ (checkpoint_in self.old.file).program }
@@ -276,7 +278,7 @@ impl Checkpointer {
 
 /// The packs that are whole after so many blocks of the program.
 fn whole_packs(blocks: u32) -> u32
-    requires { blocks ≤ 1000000 }
+    requires { blocks ≤ most_units }
     ensures { result ≡ whole_packs blocks }
 {
     (4 * blocks).saturating_sub(7)

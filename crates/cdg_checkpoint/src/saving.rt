@@ -1,8 +1,10 @@
 // The checkpoint after a stream.
 ghost use Rattle.std.specs.Prelude.{◌≡◌, ◌≢◌, ◌≤◌, ◌-◌, List, ℕ, length, min, replicate, IfSome, IfErr, IsErrOf, Err};
+ghost use Rattle.disc_time.specs.Counts.{most_lead_in};
 ghost use Rattle.cdg_io.specs.Causes.{Rose};
 ghost use Rattle.cdg_io.specs.Change.{passed};
 ghost use Rattle.cdg_io.specs.Pump.{IsUnlessFault, answer_of};
+ghost use Rattle.raw_subcode.specs.Sizes.{block_bytes, most_units};
 ghost use Rattle.rw_interleave.specs.Interleave.{whole_packs};
 ghost use Rattle.cdg_screen.specs.Picture.{SameStanding, blank, standing_of};
 ghost use Rattle.checkpoint_files.specs.Checkpoint.{Checkpoint, file_of};
@@ -34,12 +36,12 @@ impl Checkpointer {
         source: &mut S,
         out: &mut K,
     ) -> Result<Pumped, PumpStop>
-        requires { lead_in ≤ 450000 }
+        requires { lead_in ≤ most_lead_in }
         ensures saves { (taken : List ℕ) × Saves lead_in
             (passed S.left K.held (source.old, out.old) (source.new, out.new)) result taken }
         // Where nothing failed, the answer is that of the whole input's length.
         ensures answer { IfSome (S.left source.old)
-            (λ all. IsUnlessFault result (answer_of 96 1000000 (length all))) }
+            (λ all. IsUnlessFault result (answer_of block_bytes most_units (length all))) }
         // Where the output is not written it is as it was.
         ensures untouched { IfErr result (λ stop. stop ≢ PumpStop.WriteFault → out.new ≡ out.old) }
         ensures source_later { S.faults source.old ≤ S.faults source.new }
@@ -68,7 +70,7 @@ impl Checkpointer {
     /// Brings back the state before a stream, all of whose packs are drawn.
     fn begin(&mut self, lead_in: u32)
         ensures words { self.new.tracking.words.first ≡ fresh_words Form.Raw lead_in }
-        ensures left { self.new.tracking.words.second.left ≡ whole_packs 1000000 }
+        ensures left { self.new.tracking.words.second.left ≡ whole_packs most_units }
         ensures bad { self.new.tracking.words.second.bad ≡ 0 }
         ensures blank { SameStanding (standing_of self.new.tracking.words.second.picture) blank }
         ensures tail { self.new.tracking.tail ≡ replicate 168 0 }

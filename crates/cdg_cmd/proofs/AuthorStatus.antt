@@ -9,7 +9,7 @@ use Rattle.subcode_author.specs.declared.stops.AuthorStop.{AuthorStop}
 use Rattle.subcode_author.specs.declared.stops.AuthorStop.TheVariants as stop
 use Rattle.cdg_cmd.specs.Authors.{author_status, IsPutFor, PutsPrefix}
 use Rattle.cdg_cmd.specs.declared.status.Status.TheVariants.{Done, Usage, WriteFault}
-use Rattle.cdg_cmd.specs.Call.{Bytes, change}
+use Rattle.cdg_io.specs.Change.{Bytes, change}
 use Rattle.std.proofs.KnownBytes.{Appends-nil}
 
 -- it is never one of these

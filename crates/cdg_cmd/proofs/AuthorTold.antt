@@ -4,7 +4,7 @@ use Rattle.cdg_io.specs.Causes.{Rose}
 use Rattle.subcode_author.specs.declared.stops.AuthorStop.{AuthorStop}
 use Rattle.subcode_author.specs.declared.stops.AuthorStop.TheVariants as stop
 use Rattle.cdg_cmd.specs.Authors.{IsScriptStop, IsSheetStop, author_status}
-use Rattle.cdg_cmd.specs.Call.{Bytes}
+use Rattle.cdg_io.specs.Change.{Bytes}
 use Rattle.cdg_cmd.specs.Ends.{ScriptEnds, SheetEnds}
 use Rattle.cdg_cmd.specs.Faults.{IsTold, TellsFaults}
 use Rattle.cdg_cmd.specs.declared.status.Which.TheVariants.{First, Second}

@@ -8,7 +8,7 @@ use Rattle.cue_sheet.specs.CueSheet.{CueSheet}
 use Rattle.subcode_author.specs.Authored.{disc_of}
 use Rattle.subcode_author.specs.declared.stops.AuthorStop.{AuthorStop}
 use Rattle.subcode_author.specs.declared.stops.AuthorStop.TheVariants as stop
-use Rattle.cdg_cmd.specs.Call.{Bytes, Change}
+use Rattle.cdg_io.specs.Change.{Bytes, Change}
 use Rattle.cdg_cmd.proofs.WholeInputs.{both}
 use Rattle.cdg_cmd.specs.Authors.{author_status, AuthorsWith, IsPutFor, IsScriptStop, IsScriptText, IsSheetStop, StopsAtSheet, StopsAtScript, Answers}
 use Rattle.cdg_cmd.specs.declared.status.Status.{Status}

@@ -15,14 +15,16 @@ use Rattle.round_trips.specs.Damage.{HasHurtSlots, count_hurt, count_whole}
 use Rattle.round_trips.specs.SheetLines.{HasText, HasTextPacks, sheet_lines}
 use Rattle.subcode_author.specs.Authored.{IsAuthored, text_packs, disc_of}
 use Rattle.raw_subcode.specs.Sizes.{most_units}
-use Rattle.subcode_player.specs.Calls.{IsAnsweredBy, PlaysInTurn}
+use Rattle.subcode_player.specs.Calls.{IsAnsweredBy, in_turn}
 use Rattle.subcode_player.specs.Convert.{Restores}
 use Rattle.subcode_player.specs.TextListing.{IsListedBy, IsWholeInput, ListsTexts, packs_in}
 use Rattle.subcode_player.specs.declared.player.Played.{Played}
 use Rattle.subcode_player.specs.declared.player.PlayStop.{PlayStop}
 use Rattle.subcode_player.specs.declared.player.PlayStop.TheVariants as play
 use Rattle.cdg_cmd.specs.Answer.{Does, GivesBack, play_status}
-use Rattle.cdg_cmd.specs.Call.{Bytes, Change}
+use Rattle.cdg_io.specs.Change.{Bytes, Change, from_to}
+use Rattle.cdg_io.specs.Streams.{Streams}
+use Rattle.cdg_io.proofs.Frames.{passing}
 use Rattle.cdg_cmd.specs.LeadInTexts.{AreLinesOf}
 use Rattle.cdg_cmd.specs.Spelling.{IsAllowed, Spells}
 use Rattle.cdg_cmd.specs.declared.command.Command.{Command}
@@ -53,27 +55,27 @@ texts_back (Err (play.Text why)) out t puts = subst (λ (w : TextFault). GivesBa
 
 module _ (lead_in : ℕ) (left' more more' : Bytes) (out : Change Bytes) (status : Status) (t : List ℕ) (A : List ℕ → Type 0) where
   frames_of : (all : List ℕ) → Does (Q lead_in Raw) (both (Some all) left' more more' out) status
-      → ((answer : Result Played PlayStop) (taken : List ℕ) → PlaysInTurn (IsQListed Raw) Raw lead_in (Some all) left' out.before out.after answer taken
+      → ((answer : Result Played PlayStop) (taken : List ℕ) → Streams (in_turn (IsQListed Raw) Raw lead_in) (passing (from_to (Some all) left') out) answer taken
       → IsAnsweredBy answer 96 (length all) → Restores answer out.before out.after t) → GivesBack t out status
   frames_of all l restores =
       subst (λ (s : Status). GivesBack t out s) (sym l.status_is) (given_back l.answer out t (restores l.answer l.taken l.did l.exactly.1))
 
   -- the frames of streams of some kind
   pub frames_given : (left : Bytes) → (status ≢ NoMemory → Does (Q lead_in Raw) (both left left' more more' out) status)
-      → ((all : List ℕ) → A all → (answer : Result Played PlayStop) (taken : List ℕ) → PlaysInTurn (IsQListed Raw) Raw lead_in (Some all) left' out.before out.after answer taken
+      → ((all : List ℕ) → A all → (answer : Result Played PlayStop) (taken : List ℕ) → Streams (in_turn (IsQListed Raw) Raw lead_in) (passing (from_to (Some all) left') out) answer taken
       → IsAnsweredBy answer 96 (length all) → Restores answer out.before out.after t) → IfSome left (λ all. A all → GivesBack t out status)
   frames_given None lists restores = tt
   frames_given (Some all) lists restores = λ is. unless_memory _ status (λ found. frames_of all (lists found) (restores all is))
 
   texts_of : (form : Form) (all : List ℕ) → Does (Text lead_in form) (both (Some all) left' more more' out) status
-      → ((answer : Result Played PlayStop) (taken : List ℕ) → ListsTexts form lead_in (Some all) left' out.before out.after answer taken → IsListedBy answer form lead_in all
+      → ((answer : Result Played PlayStop) (taken : List ℕ) → ListsTexts form lead_in (passing (from_to (Some all) left') out) answer taken → IsListedBy answer form lead_in all
       → PutsTexts answer out.before out.after t) → GivesBack t out status
   texts_of form all l puts =
       subst (λ (s : Status). GivesBack t out s) (sym l.status_is) (texts_back l.answer out t (puts l.answer l.taken l.did l.exactly.1))
 
   -- the texts of streams of some kind
   pub strings_given : (form : Form) (left : Bytes) → (status ≢ NoMemory → Does (Text lead_in form) (both left left' more more' out) status)
-      → ((all : List ℕ) → A all → (answer : Result Played PlayStop) (taken : List ℕ) → ListsTexts form lead_in (Some all) left' out.before out.after answer taken → IsListedBy answer form lead_in all
+      → ((all : List ℕ) → A all → (answer : Result Played PlayStop) (taken : List ℕ) → ListsTexts form lead_in (passing (from_to (Some all) left') out) answer taken → IsListedBy answer form lead_in all
       → PutsTexts answer out.before out.after t) → IfSome left (λ all. A all → GivesBack t out status)
   strings_given form None lists puts = tt
   strings_given form (Some all) lists puts = λ is. unless_memory _ status (λ found. texts_of form all (lists found) (puts all is))

@@ -3,11 +3,11 @@ use Rattle.std.proofs.Common.{◌≡◌, ◌≢◌, ◌≤◌, ℕ, List, [], Re
 use Rattle.std.specs.Io.KnownBytes.{Appends}
 use Rattle.cdg_io.specs.Causes.{Rose}
 use Rattle.cue_sheet.specs.CueSheet.{CueSheet}
-use Rattle.cdg_press.specs.Pressed.{IsPressed}
+use Rattle.cdg_press.specs.Pressed.{IsPressed, press_of}
 use Rattle.cdg_press.specs.Refusals.{IsPressable, IsPressStop}
 use Rattle.cdg_press.specs.declared.stops.PressStop.{PressStop}
 use Rattle.cdg_press.specs.declared.stops.PressStop.TheVariants as stop
-use Rattle.cdg_cmd.specs.Call.{Bytes, change}
+use Rattle.cdg_io.specs.Change.{Bytes, change}
 use Rattle.cdg_cmd.specs.Ends.{ScriptEnds, SheetEnds}
 use Rattle.cdg_cmd.specs.Faults.{IsTold, TellsFaults}
 use Rattle.cdg_cmd.specs.Presses.{IsFileStop, IsPressedFor, PutsPressedPart, press_status}
@@ -152,10 +152,10 @@ nothing_at held x y (Ok done) same = tt
 nothing_at held x y (Err why) same = λ other. unchanged held x y (same other)
 
 pub pressed_for : {K : Type 0} (held : K → Bytes) (x y : K) (sheet : CueSheet) (file : List ℕ) (lead_in audio : ℕ) (answer : Result (Unit {0}) PressStop)
-    → OnOk answer ((bytes : List ℕ) × (packs : List (List ℕ)) × IsPressed sheet file lead_in audio bytes packs × Appends (held x) (held y) bytes)
+    → OnOk answer ((bytes : List ℕ) × (packs : List (List ℕ)) × IsPressed (press_of sheet file lead_in audio) bytes packs × Appends (held x) (held y) bytes)
     → OnOk answer (IsPressable sheet file lead_in audio) → IfErr answer (IsPressStop sheet file lead_in audio)
-    → IfErr answer (λ why. why ≢ stop.WriteFault → y ≡ x) → (answer ≡ Err stop.WriteFault → PutsPressedPart sheet file lead_in audio (change held x y))
-    → IsPressedFor sheet file lead_in audio (change held x y) answer
+    → IfErr answer (λ why. why ≢ stop.WriteFault → y ≡ x) → (answer ≡ Err stop.WriteFault → PutsPressedPart (press_of sheet file lead_in audio) (change held x y))
+    → IsPressedFor (press_of sheet file lead_in audio) (change held x y) answer
 pressed_for held x y sheet file lead_in audio answer pressed accepted why same part = record {
   done = both_ok answer _ _ accepted pressed;
   why = why;

@@ -7,7 +7,7 @@ use Rattle.toc_model.specs.Places.{program_blocks}
 use Rattle.subcode_player.specs.Convert.{IsDamagedStream}
 use Rattle.round_trips.specs.Damaged.{DamagedPress}
 use Rattle.cdg_cmd.specs.Answer.{Does, GivesBack}
-use Rattle.cdg_cmd.specs.Call.{Bytes, Change}
+use Rattle.cdg_io.specs.Change.{Bytes, Change}
 use Rattle.cdg_cmd.specs.Headline.{written_packs}
 use Rattle.cdg_cmd.specs.Unpresses.{PutsFilePicture, Unpresses}
 use Rattle.cdg_cmd.specs.declared.command.Command.{Command}

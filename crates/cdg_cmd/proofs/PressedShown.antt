@@ -6,7 +6,7 @@ use Rattle.cdg_io.specs.Pump.{units_of}
 use Rattle.raw_subcode.specs.Channels.{unit_size, block_of, blocks_of, program_symbols}
 use Rattle.raw_subcode.specs.declared.form.Form.{Form}
 use Rattle.round_trips.specs.Damaged.{DamagedPress, IsFileText}
-use Rattle.subcode_player.specs.Screen.{IsScreenAt, IsShownBy, Shows}
+use Rattle.subcode_player.specs.Screen.{IsScreenAt, IsShownBy, Shows, moment}
 use Rattle.subcode_player.specs.declared.player.Played.{Played}
 use Rattle.subcode_player.specs.declared.player.PlayStop.{PlayStop}
 use Rattle.subcode_player.specs.declared.player.PlayStop.TheVariants as play
@@ -14,7 +14,9 @@ use Rattle.subcode_player.proofs.Slots.{length-all_symbols, sized_drop}
 use Rattle.subcode_player.proofs.Conversion.{length-units_of, units_sized, blocks_sized}
 use Rattle.subcode_player.proofs.Restoring.{taken_all}
 use Rattle.cdg_cmd.specs.Answer.{Does, play_status}
-use Rattle.cdg_cmd.specs.Call.{Bytes, Change}
+use Rattle.cdg_io.specs.Change.{Bytes, Change, from_to}
+use Rattle.cdg_io.proofs.Frames.{passing}
+use Rattle.cdg_screen.specs.Texts.{pixmap}
 use Rattle.cdg_cmd.specs.declared.command.Command.TheVariants.{Screen}
 use Rattle.cdg_cmd.specs.declared.status.Status.{Status}
 use Rattle.cdg_cmd.specs.declared.status.Status.TheVariants.{Done, Damaged, NoMemory}
@@ -32,9 +34,9 @@ program_length form bytes lead_in =
 -- what the law of the layer below says
 pub record FilesAreShown : Type 0 where
   pub text : (form : Form) (lead_in time : ℕ) (others : List ℕ) (press : DamagedPress form lead_in others) (text : List ℕ) (bad : ℕ) → time ≤ press.audio
-      → IsScreenAt form lead_in (150 + time) others text bad → IsFileText press.file (4 * time) text
+      → IsScreenAt (moment form lead_in (150 + time)) others text bad → IsFileText press.file (4 * time) text
   pub bad : (form : Form) (lead_in time : ℕ) (others : List ℕ) (press : DamagedPress form lead_in others) (text : List ℕ) (bad : ℕ) → time ≤ press.audio
-      → IsScreenAt form lead_in (150 + time) others text bad → bad ≡ 0
+      → IsScreenAt (moment form lead_in (150 + time)) others text bad → bad ≡ 0
 
 module _ (law : FilesAreShown) (form : Form) (lead_in time : ℕ) (all : List ℕ) (press : DamagedPress form lead_in all) (in_audio : time ≤ press.audio) where
   -- the program is longer than that time
@@ -42,12 +44,12 @@ module _ (law : FilesAreShown) (form : Form) (lead_in time : ℕ) (all : List �
   long_enough = omega (arith, program_length form all lead_in, press.damaged.size, press.pressed.carries.size, in_audio)
 
   file_put : (taken : List ℕ) (left' : Bytes) (out : Change Bytes) (answer : Result Played PlayStop)
-      → Shows (IsScreenAt form lead_in (150 + time)) form lead_in (150 + time) (Some all) left' out.before out.after answer taken
+      → Shows pixmap (moment form lead_in (150 + time)) (passing (from_to (Some all) left') out) answer taken
       → IsShownBy answer lead_in (150 + time) (unit_size form) (length all) → PutsFilePicture press.file (4 * time) out (play_status answer)
   file_put taken left' out (Ok played) shows answer =
       let (end, (text, is_played, put)) = shows.plays.done in
       let same : taken ≡ all = taken_all all left' taken shows.plays.taken_from end in
-      let screen : IsScreenAt form lead_in (150 + time) all text played.bad = subst (λ (bytes : List ℕ). IsScreenAt form lead_in (150 + time) bytes text played.bad) same is_played.written in
+      let screen : IsScreenAt (moment form lead_in (150 + time)) all text played.bad = subst (λ (bytes : List ℕ). IsScreenAt (moment form lead_in (150 + time)) bytes text played.bad) same is_played.written in
       subst (λ (n : ℕ). PutsFilePicture press.file (4 * time) out (if n == 0 then Done else Damaged n)) (sym (law.bad form lead_in time all press text played.bad in_audio screen))
       (text, law.text form lead_in time all press text played.bad in_audio screen, put)
   file_put taken left' out (Err play.ReadFault) shows answer = tt

@@ -1,7 +1,7 @@
 -- Counts of faults at a status: which one rose.
 use Rattle.std.proofs.Common.{◌≡◌, ◌≢◌, ◌≤◌, ℕ, refl}
 use Rattle.cdg_io.specs.Causes.{Rose}
-use Rattle.cdg_cmd.specs.Call.{Change}
+use Rattle.cdg_io.specs.Change.{Change}
 use Rattle.cdg_cmd.specs.Faults.{IsTold, TellsOne}
 use Rattle.cdg_cmd.specs.declared.status.Which.TheVariants.{First, Second}
 use Rattle.cdg_cmd.specs.declared.status.Status.{Status}

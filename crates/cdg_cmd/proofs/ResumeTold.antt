@@ -9,7 +9,7 @@ use Rattle.cdg_checkpoint.specs.Resumed.{IsAcceptedBy, acceptance, EndsAsResumed
 use Rattle.cdg_checkpoint.specs.declared.stops.Resumed.{Resumed}
 use Rattle.cdg_checkpoint.specs.declared.stops.ResumeStop.{ResumeStop}
 use Rattle.cdg_checkpoint.specs.declared.stops.ResumeStop.TheVariants as resume
-use Rattle.cdg_cmd.specs.Call.{Bytes, Change}
+use Rattle.cdg_io.specs.Change.{Bytes, Change}
 use Rattle.cdg_cmd.specs.Checkpoints.{ReadsCheckpoint, resume_status}
 use Rattle.cdg_cmd.specs.Ends.{AtMostOnce, CheckpointEnds, RestEnds}
 use Rattle.cdg_cmd.specs.Faults.{TellsFaults}

@@ -2,7 +2,6 @@
 use Rattle.std.proofs.Common.{◌≡◌, ◌≢◌, ◌==◌, ℕ, ◌≤◌, ◌-◌, ◌*◌, ◌/◌, ◌%◌, List, [], ◌∷◌, ◌++◌, length, refl, sym, ap, subst, ◌∙◌, arith, length-append, Some, None, Result, Ok, Err, IfErr, IfSome, if◌then◌else◌}
 use Rattle.std.specs.Prelude.{IsOk, nat_lt}
 use Rattle.std.specs.List.{AllByRecursion}
-use Rattle.std.specs.declared.option.Option.{Option}
 use Rattle.std.specs.Io.KnownBytes.{Appends, Consumes, IsAtEnd}
 use Rattle.cdg_io.specs.Pump.{IsUnlessFault, answer_of}
 use Rattle.cdg_io.specs.declared.pumping.Pumped.{Pumped}
@@ -12,7 +11,7 @@ use Rattle.raw_subcode.specs.declared.form.Form.TheVariants.{Raw}
 use Rattle.checkpoint_files.specs.Checkpoint.{checkpoint_in}
 use Rattle.checkpoint_files.specs.Table.{IsBadAt, IsCheckpointFile, IsPartInRange, Part, file_size, all_parts}
 use Rattle.subcode_player.specs.Calls.{IsMomentStop}
-use Rattle.subcode_player.specs.Screen.{IsScreenAt, IsShownBy, Shows}
+use Rattle.subcode_player.specs.Screen.{IsScreenAt, IsShownBy, Shows, moment}
 use Rattle.subcode_player.specs.declared.player.Played.{Played}
 use Rattle.subcode_player.specs.declared.player.PlayStop.{PlayStop}
 use Rattle.subcode_player.specs.declared.player.PlayStop.TheVariants as play
@@ -25,7 +24,9 @@ use Rattle.cdg_checkpoint.specs.declared.stops.Resumed.{Resumed}
 use Rattle.cdg_checkpoint.specs.declared.stops.ResumeStop.{ResumeStop}
 use Rattle.cdg_checkpoint.specs.declared.stops.ResumeStop.TheVariants as resume
 use Rattle.cdg_cmd.specs.Answer.{Does, play_status}
-use Rattle.cdg_cmd.specs.Call.{Bytes, Change}
+use Rattle.cdg_io.specs.Change.{Bytes, Change, from_to}
+use Rattle.cdg_io.proofs.Frames.{passing}
+use Rattle.cdg_screen.specs.Texts.{pixmap}
 use Rattle.cdg_cmd.specs.Checkpoints.{ResumesWith, SavesWith, resume_status}
 use Rattle.cdg_cmd.specs.Faults.{IsAnswered}
 use Rattle.cdg_cmd.specs.Resumes.{GoesOnFrom, IsAsScreen, IsSaveOf, PutSame, PutsMoment, ResumesFrom, reading}
@@ -40,14 +41,14 @@ pub record Laws : Type 0 where
   pub accepted : (lead_in : ℕ) (bytes file : List ℕ) (pumped : Pumped) → IsFirstPart lead_in bytes → IsSaved lead_in bytes pumped file → IsCheckpointFile file × ((checkpoint_in file).program ≡ length bytes / 96 - lead_in)
   pub answer : (lead_in time : ℕ) (bytes rest file : List ℕ) (pumped : Pumped) (result : Result Resumed ResumeStop) → IsFirstPart lead_in bytes → IsSaved lead_in bytes pumped file
       → IsResumedBy result (checkpoint_in file) time (length rest) → IsShownBy (as_played result) lead_in time 96 (length (bytes ++ rest))
-  pub whole : (lead_in time : ℕ) (bytes rest file taken : List ℕ) (pumped : Pumped) (result : Result Resumed ResumeStop) (left held held' : Option (List ℕ)) → IsFirstPart lead_in bytes → IsSaved lead_in bytes pumped file
-      → length bytes / 96 - lead_in ≤ time → result ≢ Err resume.WriteFault → IsResumedBy result (checkpoint_in file) time (length rest) → Resumes file time (Some rest) left held held' result taken
-      → Shows (IsScreenAt Raw lead_in time) Raw lead_in time (Some (bytes ++ rest)) left held held' (as_played result) (bytes ++ taken)
-  pub only : (lead_in time bad other_bad : ℕ) (bytes text other : List ℕ) → IsScreenAt Raw lead_in time bytes text bad → IsScreenAt Raw lead_in time bytes other other_bad → (text ≡ other) × (bad ≡ other_bad)
+  pub whole : (lead_in time : ℕ) (bytes rest file taken : List ℕ) (pumped : Pumped) (result : Result Resumed ResumeStop) (left : Bytes) (out : Change Bytes) → IsFirstPart lead_in bytes → IsSaved lead_in bytes pumped file
+      → length bytes / 96 - lead_in ≤ time → result ≢ Err resume.WriteFault → IsResumedBy result (checkpoint_in file) time (length rest) → Resumes file time (passing (from_to (Some rest) left) out) result taken
+      → Shows pixmap (moment Raw lead_in time) (passing (from_to (Some (bytes ++ rest)) left) out) (as_played result) (bytes ++ taken)
+  pub only : (lead_in time bad other_bad : ℕ) (bytes text other : List ℕ) → IsScreenAt (moment Raw lead_in time) bytes text bad → IsScreenAt (moment Raw lead_in time) bytes other other_bad → (text ≡ other) × (bad ≡ other_bad)
 
 -- ---- what was saved
 
-saved_of : (lead_in : ℕ) (bytes file taken : List ℕ) (left' : Bytes) (answer : Result Pumped PumpStop) → lead_in ≤ 450000 → Saves lead_in (Some bytes) left' (Some []) (Some file) answer taken
+saved_of : (lead_in : ℕ) (bytes file taken : List ℕ) (left' : Bytes) (answer : Result Pumped PumpStop) → lead_in ≤ 450000 → Saves lead_in (passing (from_to (Some bytes) left') (from_to (Some []) (Some file))) answer taken
     → IsUnlessFault answer (answer_of 96 1000000 (length bytes)) → Done ≡ pump_status answer → (pumped : Pumped) × IsSaved lead_in bytes pumped file × IsFirstPart lead_in bytes
 saved_of lead_in bytes file taken left' (Ok pumped) most saves exactly is =
     let (end, (text, is_saved, put)) = saves.done in
@@ -86,22 +87,22 @@ pub record GoesOnWith (file : List ℕ) (at : ℕ) (rest : List ℕ) (more' : By
   pub status_is : status ≡ resume_status answer
   pub exactly : IsResumedBy answer (checkpoint_in file) at (length rest)
   pub taken : List ℕ
-  pub resumes : Resumes file at (Some rest) more' out.before out.after answer taken
+  pub resumes : Resumes file at (passing (from_to (Some rest) more') out) answer taken
 
 module _ (at : ℕ) (file rest read : List ℕ) (left' more' : Bytes) (out : Change Bytes) (is_file : IsCheckpointFile file) (not_later : (checkpoint_in file).program ≤ at) where
-  accepted : (answer : Result Resumed ResumeStop) → read ≡ file → (taken : List ℕ) × Resumes read at (Some rest) more' out.before out.after answer taken → IsResumedBy answer (checkpoint_in read) at (length rest)
+  accepted : (answer : Result Resumed ResumeStop) → read ≡ file → (taken : List ℕ) × Resumes read at (passing (from_to (Some rest) more') out) answer taken → IsResumedBy answer (checkpoint_in read) at (length rest)
       → GoesOnWith file at rest more' out (resume_status answer)
   accepted answer same resumed exactly = record {
     answer = answer;
     status_is = refl;
     exactly = subst (λ (f : List ℕ). IsResumedBy answer (checkpoint_in f) at (length rest)) same exactly;
     taken = resumed.0;
-    resumes = subst (λ (f : List ℕ). Resumes f at (Some rest) more' out.before out.after answer resumed.0) same resumed.1;
+    resumes = subst (λ (f : List ℕ). Resumes f at (passing (from_to (Some rest) more') out) answer resumed.0) same resumed.1;
   }
 
   of_answer : (answer : Result Resumed ResumeStop) → IsAnswered (resume_status answer) → (answer ≢ Err resume.FirstFault → Consumes (Some file) left' read)
       → (answer ≢ Err resume.FirstFault → length read ≤ file_size → IsAtEnd left') → IsAcceptedBy (acceptance answer) at read
-      → (IsOk (acceptance answer) → (taken : List ℕ) × Resumes read at (Some rest) more' out.before out.after answer taken)
+      → (IsOk (acceptance answer) → (taken : List ℕ) × Resumes read at (passing (from_to (Some rest) more') out) answer taken)
       → (IsOk (acceptance answer) → IsResumedBy answer (checkpoint_in read) at (length rest)) → GoesOnWith file at rest more' out (resume_status answer)
   of_answer (Ok done) answered takes ends reads goes_on exactly = accepted (Ok done) (read_is file read left' is_file.size (takes (λ e. cc)) (ends (λ e. cc))) (goes_on refl) (exactly refl)
   of_answer (Err resume.FirstFault) answered takes ends reads goes_on exactly = absurd answered
@@ -125,7 +126,7 @@ gone_on at file rest left' more' out status answered d is_file not_later =
 
 -- ---- what is put
 
-puts : (file : List ℕ) (at : ℕ) (rest taken : List ℕ) (more' : Bytes) (out : Change Bytes) (answer : Result Resumed ResumeStop) → IsAnswered (resume_status answer) → Resumes file at (Some rest) more' out.before out.after answer taken → PutsMoment answer file at rest out
+puts : (file : List ℕ) (at : ℕ) (rest taken : List ℕ) (more' : Bytes) (out : Change Bytes) (answer : Result Resumed ResumeStop) → IsAnswered (resume_status answer) → Resumes file at (passing (from_to (Some rest) more') out) answer taken → PutsMoment answer file at rest out
 puts file at rest taken more' out (Ok resumed) answered r =
     let (end, reached, (text, is, put)) = r.done in
     (text, subst (λ (l : List ℕ). IsResumed file at l resumed text) (taken_all rest more' taken r.taken_from end) is, put)
@@ -150,10 +151,10 @@ put_from file at rest more' out status answered g = record {
 
 module _ (laws : Laws) (lead_in at : ℕ) (stream : List ℕ) (left left2 : Bytes) (out out2 : Change Bytes) (taken taken2 : List ℕ) where
   abbrev IsShow : Result Played PlayStop → Type 0
-  IsShow answer = Shows (IsScreenAt Raw lead_in at) Raw lead_in at (Some stream) left out.before out.after answer taken
+  IsShow answer = Shows pixmap (moment Raw lead_in at) (passing (from_to (Some stream) left) out) answer taken
 
   abbrev IsOther : Result Played PlayStop → Type 0
-  IsOther answer = Shows (IsScreenAt Raw lead_in at) Raw lead_in at (Some stream) left2 out2.before out2.after answer taken2
+  IsOther answer = Shows pixmap (moment Raw lead_in at) (passing (from_to (Some stream) left2) out2) answer taken2
 
   abbrev AreSame : Result Played PlayStop → Result Played PlayStop → Type 0
   AreSame one other = (play_status other ≡ play_status one) × PutSame out out2
@@ -162,8 +163,8 @@ module _ (laws : Laws) (lead_in at : ℕ) (stream : List ℕ) (left left2 : Byte
   both_shown one other a b =
       let (end, (text, is, put)) = a.plays.done in
       let (end2, (text2, is2, put2)) = b.plays.done in
-      let shown : IsScreenAt Raw lead_in at stream text one.bad = subst (λ (l : List ℕ). IsScreenAt Raw lead_in at l text one.bad) (taken_all stream left taken a.plays.taken_from end) is.written in
-      let shown2 : IsScreenAt Raw lead_in at stream text2 other.bad = subst (λ (l : List ℕ). IsScreenAt Raw lead_in at l text2 other.bad) (taken_all stream left2 taken2 b.plays.taken_from end2) is2.written in
+      let shown : IsScreenAt (moment Raw lead_in at) stream text one.bad = subst (λ (l : List ℕ). IsScreenAt (moment Raw lead_in at) l text one.bad) (taken_all stream left taken a.plays.taken_from end) is.written in
+      let shown2 : IsScreenAt (moment Raw lead_in at) stream text2 other.bad = subst (λ (l : List ℕ). IsScreenAt (moment Raw lead_in at) l text2 other.bad) (taken_all stream left2 taken2 b.plays.taken_from end2) is2.written in
       let (same_text, same_bad) = laws.only lead_in at one.bad other.bad stream text text2 shown shown2 in
       (ap (λ (n : ℕ). if n == 0 then Done else Damaged n) (sym same_bad), (text, put, subst (λ (t : List ℕ). Appends out2.before out2.after t) (sym same_text) put2))
 
@@ -237,9 +238,9 @@ module _ (laws : Laws) (lead_in at : ℕ) (part rest file : List ℕ) (pumped : 
   as_player : status ≡ play_status (as_played g.answer)
   as_player = g.status_is ∙ played_status g.answer file rest at told g.exactly
 
-  shows : Shows (IsScreenAt Raw lead_in at) Raw lead_in at (Some (part ++ rest)) more' out.before out.after (as_played g.answer) (part ++ g.taken)
+  shows : Shows pixmap (moment Raw lead_in at) (passing (from_to (Some (part ++ rest)) more') out) (as_played g.answer) (part ++ g.taken)
   shows =
-      laws.whole lead_in at part rest file g.taken pumped g.answer more' out.before out.after first saved not_later
+      laws.whole lead_in at part rest file g.taken pumped g.answer more' out first saved not_later
       (λ e. absurd (subst (λ (r : Result Resumed ResumeStop). IsAnswered (resume_status r)) e told)) g.exactly g.resumes
 
   shown_by : IsShownBy (as_played g.answer) lead_in at 96 (length (part ++ rest))

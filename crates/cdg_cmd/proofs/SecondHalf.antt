@@ -21,7 +21,7 @@ use Rattle.subcode_player.specs.declared.player.PlayStop.TheVariants as play
 use Rattle.subcode_player.proofs.Pictured.{PictureNoneBad, TextIsPicture, gives_picture}
 use Rattle.subcode_player.proofs.Restoring.{Recovers, found_packs, restores}
 use Rattle.cdg_cmd.specs.Answer.{Does, GivesBack, play_status}
-use Rattle.cdg_cmd.specs.Call.{Bytes, Change}
+use Rattle.cdg_io.specs.Change.{Bytes, Change}
 use Rattle.cdg_cmd.specs.Headline.{IsDamagedCopy, PutsPicture, written_packs}
 use Rattle.cdg_cmd.specs.declared.command.Command.TheVariants.{Convert, Screen}
 use Rattle.cdg_cmd.specs.declared.status.Status.{Status}

@@ -9,7 +9,7 @@ use Rattle.picture_script.specs.Script.{Drawing}
 use Rattle.picture_script.specs.ScriptGrammar.{read_script}
 use Rattle.text_lines.specs.Text.{most_text_bytes}
 use Rattle.cdg_cmd.specs.Authors.{IsScriptStop, IsScriptText, IsSheetStop, IsSheetText, IsStopped}
-use Rattle.cdg_cmd.specs.Call.{Bytes}
+use Rattle.cdg_io.specs.Change.{Bytes}
 use Rattle.cdg_cmd.specs.declared.status.Refusal.{Refusal}
 use Rattle.cdg_cmd.specs.declared.status.Refusal.TheVariants.{Torn, TooLong, PastEnd, Cue, Script, LengthShort, DiscTooLong, LeadInShort, TextTooLong, TextMissing, TextNoSize, TextMalformed, SecondTorn, Unequal, PackTorn, Gap, CdgTooLong, BadSave, BeforeSave}
 use Rattle.cdg_cmd.specs.declared.status.Status.{Status}

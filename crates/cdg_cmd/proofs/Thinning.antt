@@ -6,13 +6,13 @@ use Rattle.cdg_io.specs.declared.pumping.PumpStop.{PumpStop}
 use Rattle.cdg_io.specs.declared.pumping.PumpStop.TheVariants as pump
 use Rattle.cdg_thin.specs.Calls.{ShowsAll, ThinsAll}
 use Rattle.cdg_thin.proofs.Calls.{whole}
-use Rattle.cdg_cmd.specs.Call.{Bytes, Change}
+use Rattle.cdg_io.specs.Change.{Bytes, Change}
 use Rattle.cdg_cmd.specs.Thinned.{ThinsWith, thin_status}
 use Rattle.cdg_cmd.specs.declared.status.Status.{Status}
 use Rattle.cdg_cmd.specs.declared.status.Status.TheVariants.{Done, NoMemory}
 use Rattle.cdg_cmd.proofs.WholeInputs.{both}
 
-thinned : (answer : Result Pumped PumpStop) (all : List ℕ) (out : Change Bytes) → ThinsAll all out.before out.after answer → thin_status answer ≡ Done
+thinned : (answer : Result Pumped PumpStop) (all : List ℕ) (out : Change Bytes) → ThinsAll all out answer → thin_status answer ≡ Done
     → (text : List ℕ) × ShowsAll all text × Appends out.before out.after text
 thinned (Ok pumped) all out thins is = thins
 thinned (Err pump.ReadFault) all out thins is = absurd (cc)
@@ -25,4 +25,4 @@ pub all_thinned : (left left' more more' : Bytes) (out : Change Bytes) (status :
 all_thinned None left' more more' out status is does = tt
 all_thinned (Some all) left' more more' out status is does =
     let d = does (λ memory. let both_are = sym is ∙ memory in cc) in
-    thinned d.answer all out (whole (Some all) left' out.before out.after d.answer d.taken d.did) (sym d.status_is ∙ is)
+    thinned d.answer all out (whole (Some all) left' out d.answer d.taken d.did) (sym d.status_is ∙ is)

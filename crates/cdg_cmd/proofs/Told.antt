@@ -3,7 +3,7 @@ use Rattle.std.proofs.Common.{◌≡◌, ◌≢◌, ◌⊎◌, ℕ, Result, Ok, 
 use Rattle.std.specs.Io.KnownBytes.{Appends}
 use Rattle.cdg_io.specs.Causes.{HasCause}
 use Rattle.cdg_io.specs.Moves.{AppendsPrefix}
-use Rattle.cdg_cmd.specs.Call.{Bytes, Change}
+use Rattle.cdg_io.specs.Change.{Bytes, Change}
 use Rattle.cdg_cmd.specs.Faults.{IsTold, TellsFaults, TellsOne}
 use Rattle.cdg_cmd.specs.Line.{error_line}
 use Rattle.cdg_cmd.specs.Told.{Tells}

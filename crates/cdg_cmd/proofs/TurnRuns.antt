@@ -1,23 +1,28 @@
 -- A stage that turns each block, from the run of its pump.
 use Rattle.std.proofs.Common.{◌≡◌, ℕ, zero, suc, ◌+◌, ◌*◌, ◌/◌, ◌%◌, ◌<◌, ◌≤◌, List, [], ◌∷◌, ◌++◌, length, map, take, drop, refl, sym, ap, ap₂, ◌∙◌, subst, arith, Some, Result, Ok, Err}
 use Rattle.std.specs.Prelude.{slice_index_or, slice_index}
-use Rattle.std.specs.declared.option.Option.{Option}
 use Rattle.std.specs.List.{concat, flat_map}
 use Rattle.std.proofs.lemmas.List.{length-append, length-drop, length-take-le}
 use Rattle.std.proofs.lemmas.List.FromFn.{length-map-range_with_len, get_or-map-range_with_len}
 use Rattle.std.proofs.Math.Seq.{take-append_seam, drop-append_seam}
 use Rattle.bit_lists.specs.Counting.{below, parts, whole_parts}
 use Rattle.cdg_io.specs.Run.{run_gives}
-use Rattle.cdg_io.specs.Pump.{units_of, given, Pumps}
+use Rattle.cdg_io.specs.Change.{Moved}
+use Rattle.cdg_io.specs.Pump.{Machine, Pumps, given, units_of}
+use Rattle.cdg_io.specs.Streams.{Reading, as_pumped}
 use Rattle.cdg_io.specs.declared.pumping.Pumped.{Pumped}
 use Rattle.cdg_io.specs.declared.pumping.PumpStop.{PumpStop}
 use Rattle.cdg_io.specs.declared.pumping.PumpStop.TheVariants as pump
-use Rattle.cdg_io.proofs.Streaming.{IsWhole, IsTold, streams_done, streams_stop}
+use Rattle.cdg_io.proofs.Streaming.{IsWhole, IsTold, bytes_of, streams_done, streams_stop}
 use Rattle.raw_subcode.specs.Channels.{IsPlanarForm}
 use Rattle.raw_subcode.specs.PlanarBytes.{block_from_planar, gathered_at, packed_at, planar_form}
 use Rattle.raw_subcode.proofs.Eight.{from_planar_is, to_planar_is}
 use Rattle.q_channel.specs.PlanarStream.{TurnsBlocks}
 use Rattle.cdg_cmd.specs.Turns.{IsTurned, ChangesBlocks}
+
+-- a stage that maps each unit
+abbrev turner : {S : Type 0} → (List ℕ → List ℕ) → Machine S
+turner f = record { next = λ t _. t; gives = λ _ x. Some (f x) }
 
 -- the run of a stage that maps each unit
 map_gives : {S : Type 0} (f : List ℕ → List ℕ) (s : S) (xs : List (List ℕ)) → concat (run_gives (λ t _. t) (λ _ x. Some (f x)) s xs) ≡ flat_map f xs
@@ -73,7 +78,7 @@ module _ (turned : List ℕ → List ℕ → Type 0) (f : List ℕ → List ℕ)
       }
 
   says : {S : Type 0} (s : S) (bytes : List ℕ) (n : ℕ) → IsWhole 96 n bytes
-      → IsTurned (TurnsBlocks turned) bytes (record { units = n }) (given 96 (λ t _. t) (λ _ x. Some (f x)) s bytes n)
+      → IsTurned (TurnsBlocks turned) bytes (record { units = n }) (given 96 (turner f) s bytes n)
   says s bytes n whole = record {
     units = omega (arith, whole.fits, whole.rest);
     written = subst (TurnsBlocks turned bytes) (sym (map_gives f s (units_of 96 n bytes))) (turned_text bytes n whole);
@@ -82,22 +87,15 @@ module _ (turned : List ℕ → List ℕ → Type 0) (f : List ℕ → List ℕ)
   told : (stop : PumpStop) → IsTold pump.Torn pump.WriteFault stop stop
   told stop = record { fault_kept = λ e. e; fault_only = λ e. e; torn_only = λ n e. e }
 
-  turns_done : {S : Type 0} (left left' : Option (List ℕ)) (s s' : S) (held held' : Option (List ℕ)) (taken : List ℕ) (pumped : Pumped)
-      → Pumps 96 1000000 (λ t _. t) (λ _ x. Some (f x)) left left' s s' held held' (Ok pumped) taken → ChangesBlocks (IsTurned (TurnsBlocks turned)) (record { before = left; after = left' }) (record { before = held; after = held' }) (Ok pumped) taken
-  turns_done left left' s s' held held' taken pumped p =
-      streams_done 96 1000000 (λ t _. t) (λ _ x. Some (f x)) pump.Torn pump.WriteFault (IsTurned (TurnsBlocks turned)) left left' s s' held held' taken
-      pumped pumped (omega arith) (λ bytes n few whole. (record { units = n }, says s bytes n whole)) p (λ whole. says s taken pumped.units whole)
+  abbrev turning : Reading Pumped PumpStop
+  turning = as_pumped (record { size = 96; limit = 1000000 }) (IsTurned (TurnsBlocks turned))
 
-  turns_stop : {S : Type 0} (left left' : Option (List ℕ)) (s s' : S) (held held' : Option (List ℕ)) (taken : List ℕ) (stop : PumpStop)
-      → Pumps 96 1000000 (λ t _. t) (λ _ x. Some (f x)) left left' s s' held held' (Err stop) taken → ChangesBlocks (IsTurned (TurnsBlocks turned)) (record { before = left; after = left' }) (record { before = held; after = held' }) (Err stop) taken
-  turns_stop left left' s s' held held' taken stop p =
-      streams_stop 96 1000000 (λ t _. t) (λ _ x. Some (f x)) pump.Torn pump.WriteFault (IsTurned (TurnsBlocks turned)) left left' s s' held held' taken
-      stop stop (omega arith) (told stop) (λ bytes n few whole. (record { units = n }, says s bytes n whole)) p
-
-  pub turns : {S : Type 0} (left left' : Option (List ℕ)) (s s' : S) (held held' : Option (List ℕ)) (taken : List ℕ) (result : Result Pumped PumpStop)
-      → Pumps 96 1000000 (λ t _. t) (λ _ x. Some (f x)) left left' s s' held held' result taken → ChangesBlocks (IsTurned (TurnsBlocks turned)) (record { before = left; after = left' }) (record { before = held; after = held' }) result taken
-  turns left left' s s' held held' taken (Ok pumped) p = turns_done left left' s s' held held' taken pumped p
-  turns left left' s s' held held' taken (Err stop) p = turns_stop left left' s s' held held' taken stop p
+  pub turns : {S : Type 0} (moved : Moved S) (taken : List ℕ) (result : Result Pumped PumpStop)
+      → Pumps turning.cut (turner f) moved result taken → ChangesBlocks (IsTurned (TurnsBlocks turned)) (bytes_of moved) result taken
+  turns moved taken (Ok pumped) p =
+      streams_done turning (turner f) moved taken pumped pumped (omega arith) (λ bytes n few whole. (record { units = n }, says moved.state.before bytes n whole)) p (λ whole. says moved.state.before taken pumped.units whole)
+  turns moved taken (Err stop) p =
+      streams_stop turning (turner f) moved taken stop stop (omega arith) (told stop) (λ bytes n few whole. (record { units = n }, says moved.state.before bytes n whole)) p
 
 -- the two turns
 

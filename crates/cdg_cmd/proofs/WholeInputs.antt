@@ -1,7 +1,8 @@
 -- Calls on known bytes, and where memory may be wanting.
 use Rattle.std.proofs.Common.{◌≢◌}
 use Rattle.cdg_cmd.specs.Answer.{OnDone}
-use Rattle.cdg_cmd.specs.Call.{Bytes, Call, Change}
+use Rattle.cdg_io.specs.Change.{Bytes, Change}
+use Rattle.cdg_cmd.specs.Call.{Call}
 use Rattle.cdg_cmd.specs.declared.status.Status.{Status}
 use Rattle.cdg_cmd.specs.declared.status.Status.TheVariants.{Done, Damaged, Usage, Refused, Late, ReadFault, WriteFault, NoMemory}
 

@@ -2,12 +2,15 @@
 use Rattle.std.specs.Prelude.{IfErr, IfSome, ℕ, ◌==◌, ⊤, List, length, Result, Ok, Err, if◌then◌else◌}
 use Rattle.std.specs.Io.KnownBytes.{Appends}
 use Rattle.cdg_io.specs.Moves.{AppendsPrefix}
+use Rattle.cdg_io.specs.Streams.{Streams, WritesAtEnd}
+use Rattle.cdg_screen.specs.Picture.{Standing}
+use Rattle.cdg_screen.specs.Texts.{pixmap, state_text}
 use Rattle.raw_subcode.specs.Channels.{unit_size}
 use Rattle.raw_subcode.specs.declared.form.Form.{Form}
-use Rattle.subcode_player.specs.Calls.{IsAnsweredBy, IsListStop, IsMomentStop, IsStreamStop, PlaysAtEnd, PlaysInTurn}
+use Rattle.subcode_player.specs.Calls.{IsAnsweredBy, IsListStop, IsMomentStop, IsStreamStop, at_end, in_turn}
 use Rattle.subcode_player.specs.Convert.{IsConverted}
 use Rattle.subcode_player.specs.Check.{IsCheckListed}
-use Rattle.subcode_player.specs.Screen.{IsScreenAt, IsShownBy, IsStateAt, Shows}
+use Rattle.subcode_player.specs.Screen.{IsShownBy, Moment, Shows, moment}
 use Rattle.subcode_player.specs.TextListing.{IsListedBy, ListsTexts}
 use Rattle.cdtext_packs.specs.declared.kinds.TextFault.{TextFault}
 use Rattle.cdtext_packs.specs.declared.kinds.TextFault.TheVariants as fault
@@ -17,7 +20,8 @@ use Rattle.subcode_player.specs.declared.player.PlayStop.TheVariants as play
 use Rattle.q_channel.specs.QList.{IsQListed}
 use Rattle.q_channel.specs.PlanarStream.{IsBlockStream, IsPlanarStream}
 use Rattle.cdg_cmd.specs.Authors.{AuthorsWith}
-use Rattle.cdg_cmd.specs.Call.{Bytes, Call, Change}
+use Rattle.cdg_io.specs.Change.{Bytes, Change}
+use Rattle.cdg_cmd.specs.Call.{Call, through}
 use Rattle.cdg_cmd.specs.Checkpoints.{ResumesWith, SavesWith}
 use Rattle.cdg_cmd.specs.Endings.{EndsWith}
 use Rattle.cdg_cmd.specs.Merges.{MergesWith}
@@ -60,29 +64,25 @@ IsPlayAnswer form input answer = IfErr answer IsStreamStop
 -- a stream of blocks was played, and the text of its blocks written as they were read
 abbrev pub PlaysAsRead : (List ℕ → List ℕ → ℕ → Type 0) → Form → ℕ → Call Bytes → Status → Type 0
 PlaysAsRead writes form lead_in call status =
-    EndsWith play_status (PlaysInTurn writes form lead_in call.first.before call.first.after call.out.before
-    call.out.after)
+    EndsWith play_status (Streams (in_turn writes form lead_in) (through call))
     (IsPlayAnswer form call.first.before) status
 
 -- the same, written when all is read
 abbrev pub PlaysWhole : (List ℕ → List ℕ → ℕ → Type 0) → Form → ℕ → Call Bytes → Status → Type 0
 PlaysWhole writes form lead_in call status =
-    EndsWith play_status (PlaysAtEnd writes form lead_in call.first.before call.first.after call.out.before
-    call.out.after)
+    EndsWith play_status (WritesAtEnd (at_end writes form lead_in) (through call))
     (IsPlayAnswer form call.first.before) status
 
 -- the same of the answer to a moment, which can be past the end
-abbrev pub IsMomentAnswer : Form → ℕ → ℕ → Bytes → Result Played PlayStop → Type 0
-IsMomentAnswer form lead_in time input answer =
+abbrev pub IsMomentAnswer : Moment → Bytes → Result Played PlayStop → Type 0
+IsMomentAnswer at input answer =
     IfErr answer IsMomentStop
-    × IfSome input (λ all. IsShownBy answer lead_in time (unit_size form) (length all))
+    × IfSome input (λ all. IsShownBy answer at.lead_in at.time (unit_size at.form) (length all))
 
--- a moment of a stream was shown
-abbrev pub ShowsMoment : (List ℕ → List ℕ → ℕ → Type 0) → Form → ℕ → ℕ → Call Bytes → Status → Type 0
-ShowsMoment writes form lead_in time call status =
-    EndsWith play_status (Shows writes form lead_in time call.first.before call.first.after call.out.before
-    call.out.after)
-    (IsMomentAnswer form lead_in time call.first.before) status
+-- what stands at a moment of a stream was written in some way
+abbrev pub ShowsMoment : (Standing → List ℕ) → Moment → Call Bytes → Status → Type 0
+ShowsMoment write at call status =
+    EndsWith play_status (Shows write at (through call)) (IsMomentAnswer at call.first.before) status
 
 -- the same of the answer to a list of texts
 abbrev pub IsListAnswer : Form → ℕ → Bytes → Result Played PlayStop → Type 0
@@ -92,8 +92,7 @@ IsListAnswer form lead_in input answer = IfErr answer IsListStop
 -- the texts of the lead-in of a stream were listed
 abbrev pub ListsLeadIn : Form → ℕ → Call Bytes → Status → Type 0
 ListsLeadIn form lead_in call status =
-    EndsWith play_status (ListsTexts form lead_in call.first.before call.first.after call.out.before
-    call.out.after)
+    EndsWith play_status (ListsTexts form lead_in (through call))
     (IsListAnswer form lead_in call.first.before) status
 
 -- a text was written, or a prefix of it where a write failed
@@ -109,9 +108,8 @@ Tries seed pictures out status = (text : List ℕ) × IsTrial seed pictures text
 -- what a command does with its two inputs and its output, where memory is found
 abbrev pub Does : Command → Call Bytes → Status → Type 0
 Does (Convert lead_in form) call status = PlaysAsRead (IsConverted form lead_in) form lead_in call status
-Does (Screen lead_in form at) call status =
-    ShowsMoment (IsScreenAt form lead_in at) form lead_in at call status
-Does (State lead_in form at) call status = ShowsMoment (IsStateAt form lead_in at) form lead_in at call status
+Does (Screen lead_in form at) call status = ShowsMoment pixmap (moment form lead_in at) call status
+Does (State lead_in form at) call status = ShowsMoment state_text (moment form lead_in at) call status
 Does (Check lead_in form) call status = PlaysWhole (IsCheckListed form lead_in) form lead_in call status
 Does (Q lead_in form) call status = PlaysAsRead (IsQListed form) form lead_in call status
 Does (Text lead_in form) call status = ListsLeadIn form lead_in call status

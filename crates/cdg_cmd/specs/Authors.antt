@@ -12,7 +12,8 @@ use Rattle.subcode_author.specs.Authored.{Disc, IsWrittenStream, disc_of}
 use Rattle.subcode_author.specs.AuthorAnswer.{IsAccepted, IsAuthorStop}
 use Rattle.subcode_author.specs.declared.stops.AuthorStop.{AuthorStop}
 use Rattle.subcode_author.specs.declared.stops.AuthorStop.TheVariants as stop
-use Rattle.cdg_cmd.specs.Call.{Bytes, Call, Change}
+use Rattle.cdg_io.specs.Change.{Bytes, Change}
+use Rattle.cdg_cmd.specs.Call.{Call}
 use Rattle.cdg_cmd.specs.declared.status.Which.TheVariants.{First, Second}
 use Rattle.cdg_cmd.specs.declared.status.Refusal.TheVariants.{TooLong, PastEnd, Cue, Script, LengthShort, DiscTooLong, LeadInShort, TextTooLong}
 use Rattle.cdg_cmd.specs.declared.status.Status.{Status}

@@ -1,18 +1,6 @@
 -- What a call found and what it left.
-use Rattle.std.specs.Prelude.{ℕ, List, Option, Some, None}
-
--- the bytes that an input still gives, or that an output took, where it tells them
-abbrev pub Bytes : Type 0
-Bytes = Option (List ℕ)
-
--- a value before and after a call
-pub record Change (A : Type 0) : Type 0 where
-  pub before : A
-  pub after : A
-
--- what is seen of an object before and after a call
-abbrev pub change : {A O : Type 0} → (O → A) → O → O → Change A
-change see before after = record { before = see before; after = see after }
+use Rattle.std.specs.Prelude.{ℕ, List, Some, None}
+use Rattle.cdg_io.specs.Change.{Bytes, Change, Passed, change}
 
 -- a value of each of the two inputs and of the output, before and after a call
 pub record Call (A : Type 0) : Type 0 where
@@ -37,6 +25,10 @@ one_input first out before after =
       second = record { before = None; after = None };
       out = change out before.1 after.1;
     }
+
+-- what passed from the first input to the output
+abbrev pub through : Call Bytes → Passed
+through call = record { left = call.first; held = call.out }
 
 -- two inputs of these bytes, with what they still give after the call, and an output that does not tell what it takes
 abbrev pub dry_call : List ℕ → List ℕ → Bytes → Bytes → Call Bytes

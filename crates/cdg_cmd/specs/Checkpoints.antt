@@ -11,7 +11,8 @@ use Rattle.cdg_checkpoint.specs.Resumed.{IsAcceptedBy, IsResumedBy, Resumes, acc
 use Rattle.cdg_checkpoint.specs.declared.stops.Resumed.{Resumed}
 use Rattle.cdg_checkpoint.specs.declared.stops.ResumeStop.{ResumeStop}
 use Rattle.cdg_checkpoint.specs.declared.stops.ResumeStop.TheVariants as resume
-use Rattle.cdg_cmd.specs.Call.{Bytes, Call, Change}
+use Rattle.cdg_io.specs.Change.{Bytes, Change}
+use Rattle.cdg_cmd.specs.Call.{Call, through}
 use Rattle.cdg_cmd.specs.Endings.{EndsWith}
 use Rattle.cdg_cmd.specs.Turns.{pump_status}
 use Rattle.cdg_cmd.specs.declared.status.Which.TheVariants.{First, Second}
@@ -22,7 +23,7 @@ use Rattle.cdg_cmd.specs.declared.status.Status.TheVariants.{Done, Damaged, Refu
 -- the checkpoint of a stream was written after it
 abbrev pub SavesWith : ℕ → Call Bytes → Status → Type 0
 SavesWith lead_in call status =
-    EndsWith pump_status (Saves lead_in call.first.before call.first.after call.out.before call.out.after)
+    EndsWith pump_status (Saves lead_in (through call))
     (λ answer. IfSome call.first.before
     (λ all. IsUnlessFault answer (answer_of block_bytes most_units (length all))))
     status
@@ -60,7 +61,6 @@ pub record ResumesWith (at : ℕ) (call : Call Bytes) (status : Status) : Type 0
   pub whole : answer ≢ Err resume.FirstFault → length file ≤ file_size → IsAtEnd call.first.after
   pub accepted : IsAcceptedBy (acceptance answer) at file
   pub goes_on : IsOk (acceptance answer)
-      → (rest : List ℕ) × Resumes file at call.second.before call.second.after call.out.before call.out.after
-      answer rest
+      → (rest : List ℕ) × Resumes file at (record { left = call.second; held = call.out }) answer rest
   pub exactly : IsOk (acceptance answer)
       → IfSome call.second.before (λ all. IsResumedBy answer (checkpoint_in file) at (length all))

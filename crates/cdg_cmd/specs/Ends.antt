@@ -2,7 +2,7 @@
 -- end, and nowhere else.
 use Rattle.std.specs.Prelude.{◌≡◌, ◌⊎◌, ℕ}
 use Rattle.cdg_io.specs.Causes.{Rose}
-use Rattle.cdg_cmd.specs.Call.{Change}
+use Rattle.cdg_io.specs.Change.{Change}
 use Rattle.cdg_cmd.specs.declared.command.Command.{Command}
 use Rattle.cdg_cmd.specs.declared.command.Command.TheVariants.{Convert, Screen, State, Check, Q, Text, Author, Planar, Raw, Scratch, Gen, Trial, Merge, Thin, Press, Save, Resume}
 use Rattle.cdg_cmd.specs.declared.status.Which.TheVariants.{First, Second}

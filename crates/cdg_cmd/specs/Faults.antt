@@ -1,7 +1,8 @@
 -- When a fault is told: where a count of faults rose, and nowhere else.
 use Rattle.std.specs.Prelude.{◌≡◌, ◌≢◌, ◌≤◌, ⊤, ℕ}
 use Rattle.cdg_io.specs.Causes.{Rose}
-use Rattle.cdg_cmd.specs.Call.{Call, Change}
+use Rattle.cdg_io.specs.Change.{Change}
+use Rattle.cdg_cmd.specs.Call.{Call}
 use Rattle.cdg_cmd.specs.declared.status.Status.{Status}
 use Rattle.cdg_cmd.specs.declared.status.Status.TheVariants.{Done, Damaged, Usage, Refused, Late, ReadFault, WriteFault, NoMemory}
 use Rattle.cdg_cmd.specs.declared.status.Which.TheVariants.{First, Second}

@@ -13,7 +13,7 @@ use Rattle.raw_subcode.specs.Sizes.{most_units}
 use Rattle.subcode_player.specs.Pictured.{IsPictureText}
 use Rattle.cdg_cmd.specs.Answer.{OnDone}
 use Rattle.cdg_cmd.specs.Authors.{PutsAuthored}
-use Rattle.cdg_cmd.specs.Call.{Change, Bytes}
+use Rattle.cdg_io.specs.Change.{Change, Bytes}
 use Rattle.cdg_cmd.specs.declared.status.Status.{Status}
 use Rattle.cdg_cmd.specs.declared.status.Status.TheVariants.{Done, Damaged, Usage, Refused, Late, ReadFault, WriteFault, NoMemory}
 

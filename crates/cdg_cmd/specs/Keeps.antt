@@ -2,7 +2,7 @@
 use Rattle.std.specs.Prelude.{◌≡◌, ◌≢◌, ◌⊎◌, ℕ, List, ⊤}
 use Rattle.cue_sheet.specs.CueSheet.{CueSheet}
 use Rattle.cdg_cmd.specs.Authors.{ReadsSheet}
-use Rattle.cdg_cmd.specs.Call.{Bytes, Change}
+use Rattle.cdg_io.specs.Change.{Bytes, Change}
 use Rattle.cdg_cmd.specs.Checkpoints.{ReadsCheckpoint}
 use Rattle.cdg_cmd.specs.declared.command.Command.{Command}
 use Rattle.cdg_cmd.specs.declared.command.Command.TheVariants.{Screen, State, Check, Q, Text, Author, Planar, Raw, Scratch, Gen, Trial, Merge, Press, Save, Resume}

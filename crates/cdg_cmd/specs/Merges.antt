@@ -5,7 +5,8 @@ use Rattle.rw_merge.specs.Merging.{FirstIsAtEnd, EndsSecond, IsAnswer, Merges}
 use Rattle.rw_merge.specs.declared.merge.Merged.{Merged}
 use Rattle.rw_merge.specs.declared.merge.MergeStop.{MergeStop}
 use Rattle.rw_merge.specs.declared.merge.MergeStop.TheVariants as merge
-use Rattle.cdg_cmd.specs.Call.{Bytes, Call}
+use Rattle.cdg_io.specs.Change.{Bytes}
+use Rattle.cdg_cmd.specs.Call.{Call}
 use Rattle.cdg_cmd.specs.declared.status.Which.TheVariants.{First, Second}
 use Rattle.cdg_cmd.specs.declared.status.Refusal.TheVariants.{Torn, TooLong, SecondTorn, Unequal}
 use Rattle.cdg_cmd.specs.declared.status.Status.{Status}
@@ -31,7 +32,7 @@ pub record MergesWith (lead_in : ℕ) (call : Call Bytes) (status : Status) : Ty
   pub other_taken : List ℕ
   pub first : Consumes call.first.before call.first.after taken
   pub second : Consumes call.second.before call.second.after other_taken
-  pub put : Merges lead_in call.out.before call.out.after answer taken other_taken
+  pub put : Merges lead_in call.out answer taken other_taken
   pub first_end : FirstIsAtEnd answer call.first.after
   pub second_end : EndsSecond answer call.second.after
   pub exactly : IfSome call.first.before

@@ -4,14 +4,15 @@ use Rattle.std.specs.Io.KnownBytes.{Appends, IsAtEnd}
 use Rattle.text_lines.specs.Text.{most_text_bytes}
 use Rattle.cue_sheet.specs.CueSheet.{CueSheet}
 use Rattle.toc_model.specs.Places.{layout_of}
-use Rattle.stream_writer.specs.Given.{PutsStreamPart}
+use Rattle.stream_writer.specs.Given.{PutsStreamPart, framing_of}
 use Rattle.stream_writer.specs.Needs.{text_packs}
-use Rattle.cdg_press.specs.Pressed.{IsPackAfter, IsPressed, file_begin}
+use Rattle.cdg_press.specs.Pressed.{IsPackAfter, IsPressed, Press, file_begin, press_of}
 use Rattle.cdg_press.specs.Refusals.{IsPressable, IsPressStop}
 use Rattle.cdg_press.specs.declared.stops.PressStop.{PressStop}
 use Rattle.cdg_press.specs.declared.stops.PressStop.TheVariants as stop
 use Rattle.cdg_cmd.specs.Authors.{IsSheetStop, ReadsSheet, TakesAtStop}
-use Rattle.cdg_cmd.specs.Call.{Bytes, Call, Change}
+use Rattle.cdg_io.specs.Change.{Bytes, Change}
+use Rattle.cdg_cmd.specs.Call.{Call}
 use Rattle.cdg_cmd.specs.declared.status.Which.TheVariants.{Second}
 use Rattle.cdg_cmd.specs.declared.status.Refusal.TheVariants.{TooLong, LengthShort, DiscTooLong, LeadInShort, TextTooLong, PackTorn, Gap, CdgTooLong}
 use Rattle.cdg_cmd.specs.declared.status.Status.{Status}
@@ -44,25 +45,26 @@ press_status (Err stop.WriteFault) = WriteFault
 press_status (Err stop.NoMemory) = NoMemory
 
 -- a pressed stream was put
-abbrev pub PutsPressed : CueSheet → List ℕ → ℕ → ℕ → Change Bytes → Type 0
-PutsPressed sheet file lead_in audio out =
-    (bytes : List ℕ) × (packs : List (List ℕ)) × IsPressed sheet file lead_in audio bytes packs
+abbrev pub PutsPressed : Press → Change Bytes → Type 0
+PutsPressed press out =
+    (bytes : List ℕ) × (packs : List (List ℕ)) × IsPressed press bytes packs
     × Appends out.before out.after bytes
 
 -- the lead-in and blocks of the program were put, the last of these maybe in part
-abbrev pub PutsPressedPart : CueSheet → List ℕ → ℕ → ℕ → Change Bytes → Type 0
-PutsPressedPart sheet file lead_in audio out =
+abbrev pub PutsPressedPart : Press → Change Bytes → Type 0
+PutsPressedPart press out =
     (n : ℕ) × (packs : List (List ℕ))
-    × PutsStreamPart (layout_of sheet audio) (IsPackAfter file_begin file) (text_packs sheet) lead_in
-    out.before out.after n packs
+    × PutsStreamPart (framing_of (layout_of press.sheet press.audio) (text_packs press.sheet) press.lead_in)
+    (IsPackAfter file_begin press.file) out n packs
 
 -- what is put for a sheet and a file, and why it is this answer
-pub record IsPressedFor (sheet : CueSheet) (file : List ℕ) (lead_in audio : ℕ) (out : Change Bytes)
+pub record IsPressedFor (press : Press) (out : Change Bytes)
     (answer : Result (Unit {0}) PressStop) : Type 0 where
-  pub done : OnOk answer (IsPressable sheet file lead_in audio × PutsPressed sheet file lead_in audio out)
-  pub why : IfErr answer (IsPressStop sheet file lead_in audio)
+  pub done : OnOk answer
+      (IsPressable press.sheet press.file press.lead_in press.audio × PutsPressed press out)
+  pub why : IfErr answer (IsPressStop press.sheet press.file press.lead_in press.audio)
   -- a part where a write failed, and else nothing
-  pub cut : answer ≡ Err stop.WriteFault → PutsPressedPart sheet file lead_in audio out
+  pub cut : answer ≡ Err stop.WriteFault → PutsPressedPart press out
   pub nothing : IfErr answer (λ why. why ≢ stop.WriteFault → Appends out.before out.after [])
 
 -- `press` ended with this status: at the sheet, at the file, or with the answer to both.
@@ -75,5 +77,5 @@ pub data PressesWith (lead_in audio : ℕ) (call : Call Bytes) (status : Status)
   Presses : (sheet : CueSheet) (file : List ℕ) (answer : Result (Unit {0}) PressStop)
       → ReadsSheet call.first sheet
       → ReadsFile call.second file → status ≡ press_status answer
-      → IsPressedFor sheet file lead_in audio call.out answer
+      → IsPressedFor (press_of sheet file lead_in audio) call.out answer
       → PressesWith lead_in audio call status

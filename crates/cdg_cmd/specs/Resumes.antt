@@ -8,7 +8,8 @@ use Rattle.cdg_checkpoint.specs.Resumed.{IsResumed, IsResumedBy}
 use Rattle.cdg_checkpoint.specs.declared.stops.Resumed.{Resumed}
 use Rattle.cdg_checkpoint.specs.declared.stops.ResumeStop.{ResumeStop}
 use Rattle.cdg_cmd.specs.Answer.{Does}
-use Rattle.cdg_cmd.specs.Call.{Bytes, Call, Change}
+use Rattle.cdg_io.specs.Change.{Bytes, Change}
+use Rattle.cdg_cmd.specs.Call.{Call}
 use Rattle.cdg_cmd.specs.Checkpoints.{resume_status}
 use Rattle.cdg_cmd.specs.Faults.{IsAnswered}
 use Rattle.cdg_cmd.specs.Spelling.{IsAllowed}

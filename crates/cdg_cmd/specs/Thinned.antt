@@ -5,7 +5,8 @@ use Rattle.cdg_io.specs.declared.pumping.Pumped.{Pumped}
 use Rattle.cdg_io.specs.declared.pumping.PumpStop.{PumpStop}
 use Rattle.cdg_io.specs.declared.pumping.PumpStop.TheVariants as pump
 use Rattle.cdg_thin.specs.Calls.{Thins}
-use Rattle.cdg_cmd.specs.Call.{Bytes, Call}
+use Rattle.cdg_io.specs.Change.{Bytes}
+use Rattle.cdg_cmd.specs.Call.{Call, through}
 use Rattle.cdg_cmd.specs.Endings.{EndsWith}
 use Rattle.cdg_cmd.specs.declared.status.Which.TheVariants.{First}
 use Rattle.cdg_cmd.specs.declared.status.Refusal.TheVariants.{PackTorn, TooLong}
@@ -23,6 +24,6 @@ thin_status (Err pump.TooLong) = Refused TooLong
 -- the thin form of a file was written as its packs were read
 abbrev pub ThinsWith : Call Bytes → Status → Type 0
 ThinsWith call status =
-    EndsWith thin_status (Thins call.first.before call.first.after call.out.before call.out.after)
+    EndsWith thin_status (Thins (through call))
     (λ answer. IfSome call.first.before (λ all. IsUnlessFault answer (answer_of 24 4000000 (length all))))
     status

@@ -3,7 +3,7 @@ use Rattle.std.specs.Prelude.{◌≡◌, ◌⊎◌, ℕ}
 use Rattle.std.specs.Io.KnownBytes.{Appends}
 use Rattle.cdg_io.specs.Causes.{Rose}
 use Rattle.cdg_io.specs.Moves.{AppendsPrefix}
-use Rattle.cdg_cmd.specs.Call.{Bytes}
+use Rattle.cdg_io.specs.Change.{Bytes}
 use Rattle.cdg_cmd.specs.Line.{error_line}
 use Rattle.cdg_cmd.specs.declared.status.Status.{Status}
 use Rattle.cdg_cmd.specs.declared.status.Status.TheVariants.{Done}

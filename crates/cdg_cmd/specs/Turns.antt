@@ -2,11 +2,12 @@
 use Rattle.std.specs.Prelude.{◌≡◌, ℕ, ◌/◌, List, length, Result, Ok, Err, IfSome}
 use Rattle.raw_subcode.specs.Sizes.{block_bytes, most_units}
 use Rattle.cdg_io.specs.Pump.{IsUnlessFault, answer_of}
-use Rattle.cdg_io.specs.Streams.{Streams}
+use Rattle.cdg_io.specs.Streams.{Streams, as_pumped}
 use Rattle.cdg_io.specs.declared.pumping.Pumped.{Pumped}
 use Rattle.cdg_io.specs.declared.pumping.PumpStop.{PumpStop}
 use Rattle.cdg_io.specs.declared.pumping.PumpStop.TheVariants as pump
-use Rattle.cdg_cmd.specs.Call.{Bytes, Call, Change}
+use Rattle.cdg_io.specs.Change.{Bytes, Passed}
+use Rattle.cdg_cmd.specs.Call.{Call, through}
 use Rattle.cdg_cmd.specs.Endings.{EndsWith}
 use Rattle.cdg_cmd.specs.declared.status.Which.TheVariants.{First}
 use Rattle.cdg_cmd.specs.declared.status.Refusal.TheVariants.{Torn, TooLong}
@@ -28,16 +29,15 @@ pub record IsTurned (turned : List ℕ → List ℕ → Type 0) (bytes : List �
   pub written : turned bytes text
 
 -- blocks are changed and written as they are read
-abbrev pub ChangesBlocks : (List ℕ → Pumped → List ℕ → Type 0) → Change Bytes → Change Bytes
-    → Result Pumped PumpStop → List ℕ → Type 0
-ChangesBlocks gives source out answer taken =
-    Streams block_bytes most_units pump.Torn pump.WriteFault gives source.before source.after
-    out.before out.after answer taken
+abbrev pub ChangesBlocks : (List ℕ → Pumped → List ℕ → Type 0) → Passed → Result Pumped PumpStop → List ℕ
+    → Type 0
+ChangesBlocks gives passed answer taken =
+    Streams (as_pumped (record { size = block_bytes; limit = most_units }) gives) passed answer taken
 
 -- it ended with this status
 abbrev pub TurnsWith : (List ℕ → Pumped → List ℕ → Type 0) → Call Bytes → Status → Type 0
 TurnsWith gives call status =
-    EndsWith pump_status (ChangesBlocks gives call.first call.out)
+    EndsWith pump_status (ChangesBlocks gives (through call))
     (λ answer. IfSome call.first.before
     (λ all. IsUnlessFault answer (answer_of block_bytes most_units (length all))))
     status

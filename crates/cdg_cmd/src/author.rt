@@ -3,7 +3,8 @@ ghost use Rattle.std.specs.Prelude.{◌≡◌, ◌≢◌, ◌≤◌, ◌<◌, �
 ghost use Rattle.disc_time.specs.Counts.{most_lead_in, time_count};
 ghost use Rattle.cdg_io.specs.Causes.{Rose};
 ghost use Rattle.cdg_cmd.specs.Authors.{author_status, AuthorsWith, IsScriptStop, IsSheetStop, ReadsScript, ReadsSheet, TakesAtStop};
-ghost use Rattle.cdg_cmd.specs.Call.{call, change};
+ghost use Rattle.cdg_io.specs.Change.{change};
+ghost use Rattle.cdg_cmd.specs.Call.{call};
 ghost use Rattle.cdg_cmd.specs.Ends.{ScriptEnds, SheetEnds};
 ghost use Rattle.cdg_cmd.specs.Faults.{TellsFaults};
 ghost use Rattle.cdg_cmd.specs.Keeps.{ReadsSecond};

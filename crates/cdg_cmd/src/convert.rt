@@ -2,7 +2,8 @@
 ghost use Rattle.std.specs.Prelude.{◌≡◌, ◌≢◌, ◌≤◌};
 ghost use Rattle.disc_time.specs.Counts.{most_lead_in};
 ghost use Rattle.cdg_cmd.specs.Answer.{Does};
-ghost use Rattle.cdg_cmd.specs.Call.{change, one_input};
+ghost use Rattle.cdg_io.specs.Change.{change};
+ghost use Rattle.cdg_cmd.specs.Call.{one_input};
 ghost use Rattle.cdg_cmd.specs.Ends.{EndsInTurn};
 ghost use Rattle.cdg_cmd.specs.Faults.{TellsOne};
 

@@ -2,7 +2,8 @@
 ghost use Rattle.std.specs.Prelude.{◌≡◌, ◌≢◌, ◌≤◌};
 ghost use Rattle.disc_time.specs.Counts.{most_lead_in};
 ghost use Rattle.cdg_cmd.specs.Answer.{Does};
-ghost use Rattle.cdg_cmd.specs.Call.{call, change};
+ghost use Rattle.cdg_io.specs.Change.{change};
+ghost use Rattle.cdg_cmd.specs.Call.{call};
 ghost use Rattle.cdg_cmd.specs.Ends.{OtherEnds, ReadingEnds};
 ghost use Rattle.cdg_cmd.specs.Faults.{TellsFaults};
 ghost use Rattle.cdg_cmd.specs.Merges.{merge_status};

@@ -2,7 +2,8 @@
 ghost use Rattle.std.specs.Prelude.{◌≡◌, ◌≢◌, ◌<◌, ◌⊎◌};
 ghost use Rattle.disc_time.specs.Counts.{time_count};
 ghost use Rattle.cdg_cmd.specs.Answer.{Does};
-ghost use Rattle.cdg_cmd.specs.Call.{call, change};
+ghost use Rattle.cdg_io.specs.Change.{change};
+ghost use Rattle.cdg_cmd.specs.Call.{call};
 ghost use Rattle.cdg_cmd.specs.Checkpoints.{resume_status};
 ghost use Rattle.cdg_cmd.specs.Ends.{CheckpointEnds, RestEnds};
 ghost use Rattle.cdg_cmd.specs.Faults.{TellsFaults};

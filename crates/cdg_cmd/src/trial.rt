@@ -2,7 +2,7 @@
 ghost use Rattle.std.specs.Prelude.{◌≡◌, ◌≢◌, ◌≤◌, ◌⊎◌};
 ghost use Rattle.cdg_workload.specs.Script.{most_generated};
 ghost use Rattle.cdg_cmd.specs.Answer.{Tries};
-ghost use Rattle.cdg_cmd.specs.Call.{change};
+ghost use Rattle.cdg_io.specs.Change.{change};
 ghost use Rattle.cdg_cmd.specs.Faults.{IsTold};
 
 use crate::Status;

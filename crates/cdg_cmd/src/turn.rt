@@ -6,7 +6,8 @@ ghost use Rattle.cdg_io.specs.Causes.{Rose};
 ghost use Rattle.cdg_io.specs.Pump.{IsUnlessFault, TellsEndOf, answer_of};
 ghost use Rattle.q_channel.specs.PlanarStream.{IsBlockStream, IsPlanarStream};
 ghost use Rattle.cdg_cmd.specs.Answer.{Does};
-ghost use Rattle.cdg_cmd.specs.Call.{change, one_input};
+ghost use Rattle.cdg_io.specs.Change.{change, passed};
+ghost use Rattle.cdg_cmd.specs.Call.{one_input};
 ghost use Rattle.cdg_cmd.specs.Ends.{EndsInTurn};
 ghost use Rattle.cdg_cmd.specs.Faults.{TellsOne};
 ghost use Rattle.cdg_cmd.specs.Turns.{IsTurned, ChangesBlocks, pump_status};
@@ -33,8 +34,8 @@ pub(crate) fn pump_status(answer: Result<Pumped, PumpStop>) -> Status
 // Writes the planar form of each block as the blocks are read.
 fn planar_stream<S: Source, K: Sink>(source: &mut S, out: &mut K) -> Result<Pumped, PumpStop>
     ensures turns { (taken : List ℕ)
-        × ChangesBlocks (IsTurned IsPlanarStream) (change S.left source.old source.new)
-        (change K.held out.old out.new) result taken }
+        × ChangesBlocks (IsTurned IsPlanarStream)
+        (passed S.left K.held (source.old, out.old) (source.new, out.new)) result taken }
     ensures answer { IfSome (S.left source.old)
         (λ all. IsUnlessFault result (answer_of block_bytes most_units (length all))) }
     ensures source_later { S.faults source.old ≤ S.faults source.new }
@@ -52,8 +53,8 @@ fn planar_stream<S: Source, K: Sink>(source: &mut S, out: &mut K) -> Result<Pump
 // Writes the block of each planar form as the blocks are read.
 fn raw_stream<S: Source, K: Sink>(source: &mut S, out: &mut K) -> Result<Pumped, PumpStop>
     ensures turns { (taken : List ℕ)
-        × ChangesBlocks (IsTurned IsBlockStream) (change S.left source.old source.new)
-        (change K.held out.old out.new) result taken }
+        × ChangesBlocks (IsTurned IsBlockStream)
+        (passed S.left K.held (source.old, out.old) (source.new, out.new)) result taken }
     ensures answer { IfSome (S.left source.old)
         (λ all. IsUnlessFault result (answer_of block_bytes most_units (length all))) }
     ensures source_later { S.faults source.old ≤ S.faults source.new }

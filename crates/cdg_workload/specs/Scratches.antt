@@ -3,6 +3,7 @@ use Rattle.std.specs.Prelude.{◌≡◌, ℕ, zero, suc, ◌+◌, ◌*◌, ◌/�
 use Rattle.std.specs.List.{enumerate_from}
 use Rattle.rand_pcg.specs.Lcg.{Lcg}
 use Rattle.rand_pcg.specs.Pcg.{pcg32}
+use Rattle.raw_subcode.specs.Sizes.{block_bytes, most_units}
 use Rattle.cdg_io.specs.Streams.{Reading, as_pumped}
 use Rattle.cdg_io.specs.declared.pumping.Pumped.{Pumped}
 use Rattle.cdg_io.specs.declared.pumping.PumpStop.{PumpStop}
@@ -67,4 +68,4 @@ pub record IsScratched (lead_in seed : ℕ) (bytes : List ℕ) (pumped : Pumped)
 
 -- how a call reads raw blocks that scratches them
 abbrev pub scratching : ℕ → ℕ → Reading Pumped PumpStop
-scratching lead_in seed = as_pumped (record { size = 96; limit = 1000000 }) (IsScratched lead_in seed)
+scratching lead_in seed = as_pumped (record { size = block_bytes; limit = most_units }) (IsScratched lead_in seed)

@@ -11,14 +11,16 @@ use Rattle.raw_subcode.specs.declared.form.Form.{Form}
 use Rattle.rw_code.specs.Codeword.{IsCodeword}
 use Rattle.rw_interleave.specs.Stream.{IsRecovered, bad_count, form_word, word_count}
 use Rattle.rw_interleave.specs.Texts.{cdg_bytes}
-use Rattle.subcode_player.specs.Calls.{IsAnsweredBy, IsPlayed, PlaysInTurn}
+use Rattle.subcode_player.specs.Calls.{IsAnsweredBy, IsPlayed, blocks_played, in_turn}
 use Rattle.subcode_player.specs.Convert.{IsConverted}
 use Rattle.subcode_player.specs.TextListing.{IsWholeInput}
 use Rattle.subcode_player.specs.declared.player.Played.{Played}
 use Rattle.subcode_player.specs.declared.player.PlayStop.{PlayStop}
 use Rattle.subcode_player.specs.declared.player.PlayStop.TheVariants as play
 use Rattle.cdg_cmd.specs.Answer.{Does, GivesBack, play_status}
-use Rattle.cdg_cmd.specs.Call.{Bytes, Change}
+use Rattle.cdg_io.specs.Change.{Bytes, Change, from_to}
+use Rattle.cdg_io.specs.Streams.{Streams}
+use Rattle.cdg_io.proofs.Frames.{passing}
 use Rattle.cdg_cmd.specs.declared.command.Command.TheVariants.{Convert}
 use Rattle.cdg_cmd.proofs.WholeInputs.{both, unless_memory}
 use Rattle.run_laws.specs.Undamaged.{IsCleanStream, words_of}
@@ -27,7 +29,7 @@ use Rattle.cdg_cmd.specs.declared.status.Status.TheVariants.{Done, Damaged, NoMe
 
 -- what a call did with all of its input: it played it and put a text
 abbrev IsGiven : (List ℕ → List ℕ → ℕ → Type 0) → Form → ℕ → Change Bytes → Played → List ℕ → Type 0
-IsGiven writes form lead_in out played bytes = (text : List ℕ) × IsPlayed writes form lead_in bytes played text × Appends out.before out.after text
+IsGiven writes form lead_in out played bytes = (text : List ℕ) × IsPlayed writes (blocks_played form lead_in) bytes played text × Appends out.before out.after text
 
 given_text : (writes : List ℕ → List ℕ → ℕ → Type 0) (form : Form) (lead_in : ℕ) (out : Change Bytes) (played : Played) (all t : List ℕ)
     → ((text : List ℕ) (bad : ℕ) → writes all text bad → (text ≡ t) × (bad ≡ 0)) → IsGiven writes form lead_in out played all
@@ -38,7 +40,7 @@ given_text writes form lead_in out played all t known given =
     subst (λ (n : ℕ). GivesBack t out (if n == 0 then Done else Damaged n)) (sym none) (subst (λ (x : List ℕ). Appends out.before out.after x) same put)
 
 module _ (writes : List ℕ → List ℕ → ℕ → Type 0) (form : Form) (lead_in : ℕ) (all : List ℕ) (left' : Bytes) (out : Change Bytes) (taken t : List ℕ) where
-  pub in_turn_given : (answer : Result Played PlayStop) → PlaysInTurn writes form lead_in (Some all) left' out.before out.after answer taken
+  pub in_turn_given : (answer : Result Played PlayStop) → Streams (in_turn writes form lead_in) (passing (from_to (Some all) left') out) answer taken
       → IsAnsweredBy answer (unit_size form) (length all) → IsWholeInput form all
       → ((text : List ℕ) (bad : ℕ) → writes all text bad → (text ≡ t) × (bad ≡ 0)) → GivesBack t out (play_status answer)
   in_turn_given (Ok played) plays exactly input known =

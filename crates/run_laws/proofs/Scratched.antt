@@ -6,7 +6,7 @@ use Rattle.cdg_workload.specs.Scratches.{scratched}
 use Rattle.rw_interleave.specs.Stream.{all_packs}
 use Rattle.subcode_player.specs.Convert.{IsDamagedStream}
 use Rattle.cdg_cmd.specs.Answer.{GivesBack}
-use Rattle.cdg_cmd.specs.Call.{Bytes, Change}
+use Rattle.cdg_io.specs.Change.{Bytes, Change}
 use Rattle.cdg_cmd.specs.declared.status.Status.{Status}
 
 -- packs come back from scratches

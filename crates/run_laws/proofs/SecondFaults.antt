@@ -17,7 +17,8 @@ use Rattle.subcode_player.specs.declared.player.PlayStop.{PlayStop}
 use Rattle.subcode_player.specs.declared.player.PlayStop.TheVariants as play
 use Rattle.cdg_cmd.specs.Answer.{Does, play_status}
 use Rattle.cdg_cmd.specs.Authors.{Answers, AuthorsWith, StopsAtScript, StopsAtSheet, author_status}
-use Rattle.cdg_cmd.specs.Call.{Bytes, Call}
+use Rattle.cdg_io.specs.Change.{Bytes}
+use Rattle.cdg_cmd.specs.Call.{Call}
 use Rattle.cdg_cmd.specs.Checkpoints.{ResumesWith, resume_status}
 use Rattle.cdg_cmd.specs.Keeps.{ReadsSecond}
 use Rattle.cdg_cmd.specs.Presses.{Presses, PressesWith, RefusesFile, RefusesSheet, press_status}

@@ -2,7 +2,8 @@
 use Rattle.std.specs.Prelude.{◌≡◌, ◌≢◌, []}
 use Rattle.std.specs.Io.KnownBytes.{Appends}
 use Rattle.cdg_cmd.specs.Answer.{Does}
-use Rattle.cdg_cmd.specs.Call.{Bytes, Call}
+use Rattle.cdg_io.specs.Change.{Bytes}
+use Rattle.cdg_cmd.specs.Call.{Call}
 use Rattle.cdg_cmd.specs.declared.command.Command.{Command}
 use Rattle.cdg_cmd.specs.declared.status.Status.{Status}
 use Rattle.cdg_cmd.specs.declared.status.Status.TheVariants.{NoMemory}

@@ -4,7 +4,7 @@ use Rattle.std.specs.Io.KnownBytes.{Appends}
 use Rattle.subcode_author.specs.Authored.{Disc}
 use Rattle.cdg_cmd.specs.Answer.{OnDone}
 use Rattle.cdg_cmd.specs.Authors.{IsStopped, PutsAuthored}
-use Rattle.cdg_cmd.specs.Call.{Bytes, Change}
+use Rattle.cdg_io.specs.Change.{Bytes, Change}
 use Rattle.cdg_cmd.specs.declared.status.Status.{Status}
 
 -- an authored stream was put, unless a read or a write failed or no memory was found

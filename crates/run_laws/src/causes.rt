@@ -1,6 +1,7 @@
 // When some answers come.
 ghost use Rattle.std.specs.Prelude.{◌≡◌, ℕ};
-ghost use Rattle.cdg_cmd.specs.Call.{Bytes, Call};
+ghost use Rattle.cdg_io.specs.Change.{Bytes};
+ghost use Rattle.cdg_cmd.specs.Call.{Call};
 ghost use Rattle.cdg_cmd.specs.Keeps.{ReadsSecond};
 ghost use Rattle.cdg_cmd.specs.declared.command.Command.{Command};
 ghost use Rattle.cdg_cmd.specs.declared.status.Status.{Status};

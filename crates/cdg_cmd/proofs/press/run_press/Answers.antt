@@ -1,6 +1,6 @@
 use Rattle.std.proofs.Common.{sym, subst}
 use Rattle.std.proofs.KnownBytes.{Appends-nil}
-use Rattle.cdg_cmd.specs.Call.{change}
+use Rattle.cdg_io.specs.Change.{change}
 use Rattle.cdg_cmd.specs.Presses.{Presses, ReadsFile, RefusesFile}
 use Rattle.cdg_cmd.proofs.PressTold.{pressed_for, told_of_both}
 use Rattle.cdg_cmd.proofs.press.run_press.Goals as goal

@@ -1,6 +1,7 @@
 use Rattle.std.proofs.Common.{refl, subst}
 use Rattle.cdg_cmd.specs.Answer.{Does}
-use Rattle.cdg_cmd.specs.Call.{call, change}
+use Rattle.cdg_io.specs.Change.{change}
+use Rattle.cdg_cmd.specs.Call.{call}
 use Rattle.cdg_cmd.specs.Ends.{TellsEnds}
 use Rattle.cdg_cmd.specs.Keeps.{Keeps, WantsMemory}
 use Rattle.cdg_cmd.specs.declared.command.Command.{Command}

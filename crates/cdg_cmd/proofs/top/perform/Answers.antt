@@ -1,6 +1,7 @@
 use Rattle.std.proofs.Common.{refl, subst, sym}
 use Rattle.cdg_cmd.specs.Answer.{Does}
-use Rattle.cdg_cmd.specs.Call.{call, change}
+use Rattle.cdg_io.specs.Change.{change}
+use Rattle.cdg_cmd.specs.Call.{call}
 use Rattle.cdg_cmd.specs.Ends.{TellsEnds}
 use Rattle.cdg_cmd.specs.declared.command.Command.{Command}
 use Rattle.cdg_cmd.proofs.top.perform.Goals as goal

@@ -1,6 +1,6 @@
 use Rattle.std.proofs.Common.{None}
 use Rattle.subcode_author.specs.Authored.{IsAuthored}
-use Rattle.cdg_cmd.specs.Call.{Bytes, Change, change}
+use Rattle.cdg_io.specs.Change.{Bytes, Change, change}
 use Rattle.cdg_cmd.specs.LeadInTexts.{AreLinesOf}
 use Rattle.cdg_cmd.specs.declared.command.Command.TheVariants.{Author, Convert, Merge, Q, Resume, Screen, Text, Thin}
 use Rattle.cdg_cmd.proofs.FirstHalf.{first_half}
@@ -51,7 +51,7 @@ pub returns-clause-frames : goal.returns-clause-frames
 returns-clause-frames g c = λ disc packs spelled few.
     frames_given disc.lead_in _ None None _ _ _ (λ all. IsAuthored disc all packs) _ (c.answer-status.ensures.does (Q disc.lead_in Raw) spelled)
     (λ all authored answer taken plays answered.
-    c.frame_lists_are_answered.ensures disc.sheet disc.script disc.lead_in disc.audio all packs disc.lead_in _ _ _ answer taken authored
+    c.frame_lists_are_answered.ensures disc.sheet disc.script disc.lead_in disc.audio all packs disc.lead_in _ _ answer taken authored
     (authored_size disc.sheet disc.script disc.lead_in disc.audio all packs (spells_allowed (Q disc.lead_in Raw) _ spelled).0 few authored) plays answered)
 
 pub returns-clause-strings : goal.returns-clause-strings
@@ -59,8 +59,8 @@ returns-clause-strings g c = λ form disc stream lines packs spelled authored.
     strings_given disc.lead_in _ None None _ _ lines (λ all. AreLinesOf disc form stream all lines) form _ (c.answer-status.ensures.does (Text disc.lead_in form) spelled)
     (λ all are answer taken lists listed.
     lines_given disc.sheet disc.script form disc.lead_in disc.audio stream all lines answer _
-    (λ whole fits some slots input. c.damaged_text_lists_are_answered.ensures disc.sheet disc.script disc.lead_in disc.audio stream packs whole form all _ _ _ answer taken fits some authored slots input lists listed)
-    (λ none slots input. c.copied_text_lists_are_answered.ensures.none disc.sheet disc.script disc.lead_in disc.audio stream packs form all _ _ _ answer taken none authored slots input lists listed) are)
+    (λ whole fits some slots input. c.damaged_text_lists_are_answered.ensures disc.sheet disc.script disc.lead_in disc.audio stream packs whole form all _ _ answer taken fits some authored slots input lists listed)
+    (λ none slots input. c.copied_text_lists_are_answered.ensures.none disc.sheet disc.script disc.lead_in disc.audio stream packs form all _ _ answer taken none authored slots input lists listed) are)
 
 pub returns-clause-merges : goal.returns-clause-merges
 returns-clause-merges g c = λ lead_in spelled.
