@@ -1,5 +1,7 @@
 -- What a handle owns: nothing, or a player in a block of its own.
 use Rattle.std.specs.Prelude.{◌≡◌, ◌==◌, ◌<◌, ◌≤◌, ◌-◌, ◌/◌, ◌%◌, if◌then◌else◌, ℕ, List, [], ◌∷◌, length, map, slice_index}
+use Rattle.disc_time.specs.Counts.{last_block}
+use Rattle.raw_subcode.specs.Sizes.{most_units}
 use base.Fml.{Fml, ftrue}
 use base.Stored.{Coded}
 use denote.RawPtr.{Ptr}
@@ -12,7 +14,7 @@ use Rattle.raw_subcode.specs.declared.form.Form.TheVariants.{Raw, Cooked}
 use Rattle.live_player.specs.contracts.live.LivePlayer.{the_row}
 use Rattle.live_player.specs.declared.live.LivePlayer.{LivePlayer}
 use Rattle.cdg_screen.specs.Picture.{Standing, SameStanding, blank, screen_pixel, standing_after}
-use Rattle.live_player.specs.Lives.{instruction_of, latest, picture_byte, HasDrawn, HasPlayed, IsLiveView, IsLiveViewAt}
+use Rattle.live_player.specs.Lives.{instruction_of, picture_byte, HasDrawn, HasPlayed, IsLiveView, IsLiveViewAt}
 
 abbrev pub handle_owns : Global → Ptr → List LivePlayer → Fml
 handle_owns alloc at [] = ftrue
@@ -33,14 +35,14 @@ IsDrawing packs players = (player : LivePlayer) × (players ≡ player ∷ []) �
 -- What these blocks show; of a raw stream it is also what stands at the moment that the program has come to.
 pub record IsSeen (form : Form) (lead_in : ℕ) (blocks : List (List ℕ)) (now : Standing) : Type 0 where
   pub last : IsLiveView form lead_in blocks now
-  pub so_far : form ≡ Raw → length blocks - lead_in ≤ latest
+  pub so_far : form ≡ Raw → length blocks - lead_in ≤ last_block
       → IsLiveViewAt Raw lead_in (length blocks - lead_in) blocks now
 
 -- A player shows what the blocks show that it was fed since it began, at most 1,000,000, or what the packs draw that
 -- it drew since.
 pub record IsShownBy (player : LivePlayer) (now : Standing) : Type 0 where
   pub blocks : (form : Form) (lead_in : ℕ) (blocks : List (List ℕ)) → HasPlayed form lead_in blocks player
-      → length blocks ≤ 1000000
+      → length blocks ≤ most_units
       → IsSeen form lead_in blocks now
   pub packs : (packs : List (List ℕ)) → HasDrawn packs player
       → SameStanding now (standing_after blank (map instruction_of packs))

@@ -3,12 +3,15 @@ ghost use Rattle.std.specs.Prelude.{◌≡◌, if◌then◌else◌, pos, All, �
 ghost use Rattle.cdtext_packs.specs.Packs.{check_matches};
 ghost use Rattle.raw_subcode.specs.Channels.{IsPlanarForm};
 
-use raw_subcode::Block;
+use raw_subcode::{BLOCK_BYTES, Block};
 use subcode_crc::crc16;
 
 /// Writes the planar form of a block.
 #[unsafe(no_mangle)]
-pub extern "C" fn ribjasper_block_to_planar(block: &[u8; 96], planar: &mut [u8; 96])
+pub extern "C" fn ribjasper_block_to_planar(
+    block: &[u8; BLOCK_BYTES],
+    planar: &mut [u8; BLOCK_BYTES],
+)
     ensures form { IsPlanarForm block.now planar.new }
     ensures small { All (λ b. b < 256) planar.new }
 {
@@ -17,7 +20,10 @@ pub extern "C" fn ribjasper_block_to_planar(block: &[u8; 96], planar: &mut [u8; 
 
 /// Writes the block with a planar form.
 #[unsafe(no_mangle)]
-pub extern "C" fn ribjasper_block_from_planar(planar: &[u8; 96], block: &mut [u8; 96])
+pub extern "C" fn ribjasper_block_from_planar(
+    planar: &[u8; BLOCK_BYTES],
+    block: &mut [u8; BLOCK_BYTES],
+)
     ensures { IsPlanarForm block.new planar.now }
 {
     *block = Block::from_planar(planar).bytes();

@@ -1,11 +1,14 @@
 // A whole stream in memory.
 ghost use Rattle.std.specs.Prelude.{◌≡◌, ◌≢◌, ◌<◌, ◌≤◌, ◌*◌, ◌-◌, ◌/◌, ◌%◌, ◌++◌, ◌⊎◌, ◌↔◌, IfOk, IsErrOf, IsTrue, List, ℕ, drop, length, pos};
+ghost use Rattle.raw_subcode.specs.Sizes.{most_units};
+ghost use Rattle.disc_time.specs.Counts.{most_lead_in};
 ghost use Rattle.raw_subcode.specs.Channels.{unit_size};
 ghost use Rattle.ribjasper_c.specs.Conversions.{stream_form, IsTold};
 ghost use Rattle.subcode_player.specs.Convert.{IsConverted};
 
 use crate::playing::form_of;
 use cdg_io::{MemSink, SteadySource};
+use disc_time::MOST_LEAD_IN;
 use std::alloc::Global;
 use subcode_player::{Form, PlayStop, Played, Player};
 
@@ -56,16 +59,16 @@ pub extern "C" fn ribjasper_convert(
         × (packs.new ≡ text ++ drop (length text) packs.old) }
     ensures whole { result ≡ pos 0 → told.new.bad ≡ 0 }
     ensures damaged { result ≡ pos 1 → 0 < told.new.bad }
-    ensures usage { (result ≡ pos 2) ↔ ((2 < form) ⊎ (450000 < lead_in)) }
+    ensures usage { (result ≡ pos 2) ↔ ((2 < form) ⊎ (most_lead_in < lead_in)) }
     ensures refused { result ≡ pos 3 → (length stream.now % unit_size (stream_form form) ≢ 0)
-        ⊎ (1000000 * unit_size (stream_form form) < length stream.now) }
+        ⊎ (most_units * unit_size (stream_form form) < length stream.now) }
     ensures small { result ≡ pos 6 → (text : List ℕ) × (bad : ℕ)
         × IsConverted (stream_form form) lead_in stream.now text bad × (length packs.old < length text) }
     ensures answer { (result ≡ pos 0) ⊎ (result ≡ pos 1) ⊎ (result ≡ pos 2) ⊎ (result ≡ pos 3)
         ⊎ (result ≡ pos 6) ⊎ (result ≡ pos 7) }
     ensures untouched { result ≢ pos 0 → result ≢ pos 1 → (packs.new ≡ packs.old) × (told.new ≡ told.old) }
 {
-    if form > 2 || lead_in > 450_000 {
+    if form > 2 || lead_in > MOST_LEAD_IN {
         return USAGE;
     }
     let (sink, played) = match packs_of(alloc, stream_form(form), lead_in, stream) {
@@ -92,11 +95,11 @@ fn packs_of(
     lead_in: u32,
     stream: &[u8],
 ) -> Result<(MemSink, Played), Stop>
-    requires { lead_in ≤ 450000 }
+    requires { lead_in ≤ most_lead_in }
     ensures text { IfOk result (λ done. IsConverted form lead_in stream.now done.0.held done.1.bad) }
     ensures blocks { IfOk result (λ done. done.1.blocks ≡ length stream.now / unit_size form - lead_in) }
     ensures refused { IsErrOf result Stop.Refused → (length stream.now % unit_size form ≢ 0)
-        ⊎ (1000000 * unit_size form < length stream.now) }
+        ⊎ (most_units * unit_size form < length stream.now) }
 {
     let Ok(mut player) = Player::start(alloc) else {
         return Err(Stop::NoMemory);

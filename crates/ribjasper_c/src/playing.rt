@@ -5,6 +5,8 @@ ghost use Rattle.ribjasper_c.specs.Handles.{form_of, IsDrawing, IsPlaying};
 
 use crate::Handle;
 use live_player::LivePlayer;
+use raw_subcode::BLOCK_BYTES;
+use rw_code::SYMBOLS;
 use std::alloc::Global;
 use std::mem;
 use subcode_player::Form;
@@ -86,7 +88,7 @@ pub extern "C" fn ribjasper_player_close(alloc: Global, player: &mut Playing)
 pub extern "C" fn ribjasper_player_feed(
     alloc: Global,
     player: &mut Playing,
-    block: &[u8; 96],
+    block: &[u8; BLOCK_BYTES],
 ) -> i32
     ensures fed { result ≡ pos 0 → (form : Form) (lead_in : ℕ) (blocks : List (List ℕ))
         → IsPlaying form lead_in blocks player.old.handle.players
@@ -106,7 +108,11 @@ pub extern "C" fn ribjasper_player_feed(
 
 /// Draws a pack of 24 bytes, whose parity has no part in it. 0, or -1 where the player is closed.
 #[unsafe(no_mangle)]
-pub extern "C" fn ribjasper_player_draw(alloc: Global, player: &mut Playing, pack: &[u8; 24]) -> i32
+pub extern "C" fn ribjasper_player_draw(
+    alloc: Global,
+    player: &mut Playing,
+    pack: &[u8; SYMBOLS],
+) -> i32
     ensures drawn { result ≡ pos 0 → (packs : List (List ℕ)) → IsDrawing packs player.old.handle.players
         → IsDrawing (packs ++ pack.now ∷ []) player.new.handle.players }
     ensures answer { result ≡ (if player.old.is_open then pos 0 else negsuc 0) }

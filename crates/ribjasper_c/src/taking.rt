@@ -7,7 +7,8 @@ ghost use Rattle.ribjasper_c.specs.Handles.{IsPlaying};
 ghost use Rattle.ribjasper_c.specs.Packs.{AreReadAs};
 
 use crate::Playing;
-use rw_code::{Word, correct};
+use raw_subcode::BLOCK_BYTES;
+use rw_code::{SYMBOLS, Word, correct};
 use std::alloc::Global;
 use std::mem;
 
@@ -15,7 +16,7 @@ use std::mem;
 #[repr(C)]
 #[derive(Clone, Copy)]
 pub struct ReadPack {
-    pub symbols: [u8; 24],
+    pub symbols: [u8; SYMBOLS],
     pub wrong: i32,
 }
 
@@ -25,7 +26,7 @@ pub struct ReadPack {
 pub extern "C" fn ribjasper_player_take(
     alloc: Global,
     player: &mut Playing,
-    block: &[u8; 96],
+    block: &[u8; BLOCK_BYTES],
     packs: &mut [ReadPack; 4],
 ) -> i32
     ensures fed { player.old.is_open ≡ true → (form : Form) (lead_in : ℕ) (blocks : List (List ℕ))
