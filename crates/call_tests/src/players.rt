@@ -8,7 +8,7 @@ use subcode_player::{
     SectorBlocks, WordCounts,
 };
 
-/// A player has these fields and no others, so it can hold no stream.
+// A player has these fields and no others, so it can hold no stream.
 fn see_player(player: &Player) {
     let Player {
         stages,

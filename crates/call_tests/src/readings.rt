@@ -3,7 +3,7 @@ use rw_code::{Pack, Word};
 use rw_merge::{Merged, Merger, agree};
 use std::test::Fail;
 
-/// The idle word with symbols that are 1 at some positions.
+// The idle word with symbols that are 1 at some positions.
 fn reading(positions: &[usize]) -> Word {
     let mut bytes = [0; 24];
     for i in positions {

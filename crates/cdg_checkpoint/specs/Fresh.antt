@@ -1,5 +1,5 @@
 -- The state before any stream.
-use Rattle.std.specs.Prelude.{◌≡◌, List, ℕ, [], replicate}
+use Rattle.std.specs.Prelude.{◌≡◌, [], replicate}
 use Rattle.cdg_screen.specs.Picture.{SameStanding, blank, standing_of}
 use Rattle.raw_subcode.specs.declared.form.Form.TheVariants.{Raw}
 use Rattle.subcode_player.specs.Steps.{fresh_words}

@@ -5,7 +5,6 @@ use Rattle.std.specs.Io.KnownBytes.{Appends, Consumes, IsAtEnd}
 use Rattle.cdg_io.specs.Causes.{Rose}
 use Rattle.cdg_io.specs.Change.{Bytes, Change, Passed}
 use Rattle.cdg_io.specs.Moves.{AppendsPrefix}
-use Rattle.cdg_io.specs.Run.{run_state}
 use Rattle.rw_code.specs.Finding.{IsFinding}
 use Rattle.rw_interleave.specs.Interleave.{word_of, whole_packs}
 use Rattle.raw_subcode.specs.Channels.{symbols_of, program_symbols}

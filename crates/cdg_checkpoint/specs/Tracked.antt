@@ -1,5 +1,5 @@
 -- The steps of a stage that draws all packs of a stream and keeps its last slots.
-use Rattle.std.specs.Prelude.{◌≡◌, ℕ, ◌==◌, ◌+◌, ◌*◌, ◌<◌, ◌≤◌, if◌then◌else◌, List, ◌++◌, drop, length, None, Result, Ok, Err, IfOk, ◌≢◌}
+use Rattle.std.specs.Prelude.{◌≡◌, ℕ, ◌==◌, ◌+◌, ◌*◌, ◌<◌, ◌≤◌, if◌then◌else◌, List, ◌++◌, drop, length, Result, Err, IfOk, ◌≢◌}
 use Rattle.std.specs.Io.KnownBytes.{Consumes, IsAtEnd}
 use Rattle.cdg_io.specs.Change.{Fed}
 use Rattle.cdg_io.specs.Pump.{units_of}

@@ -23,7 +23,7 @@ use raw_subcode::MOST_UNITS;
 use rw_interleave::Slot;
 use subcode_player::Form;
 
-/// The slots that a checkpoint keeps.
+// The slots that a checkpoint keeps.
 const SLOTS: u32 = 7;
 
 impl Checkpointer {
@@ -93,7 +93,7 @@ impl Checkpointer {
         }
     }
 
-    /// Plays the rest of a stream up to a moment, and writes the picture.
+    // Plays the rest of a stream up to a moment, and writes the picture.
     fn show<T: Source, K: Sink>(
         &mut self,
         at: u32,
@@ -157,7 +157,7 @@ impl Checkpointer {
         }
     }
 
-    /// Is what was read a checkpoint that is not later than a moment?
+    // Is what was read a checkpoint that is not later than a moment?
     fn accepted(&self, at: u32) -> Result<(), ResumeStop>
         ensures accepted { IsAcceptedBy result at self.now.file }
         ensures no_fault { result ≢ Err ResumeStop.FirstFault }
@@ -168,7 +168,7 @@ impl Checkpointer {
         }
     }
 
-    /// Is the checkpoint not later than a moment?
+    // Is the checkpoint not later than a moment?
     fn not_later(&self, at: u32) -> Result<(), ResumeStop>
         requires { IsCheckpointFile self.now.file }
         ensures accepted { IsAcceptedBy result at self.now.file }
@@ -213,7 +213,7 @@ impl Checkpointer {
         }
     }
 
-    /// What was played, where the program reaches the moment.
+    // What was played, where the program reaches the moment.
     fn resumed(&self, counts: &Counts, pumped: Pumped, at: u32) -> Result<Resumed, ResumeStop>
         requires { counts.now.program + pumped.units < 2 ^ 32 }
         ensures accepted { IsOk (acceptance result) }
@@ -230,7 +230,7 @@ impl Checkpointer {
         })
     }
 
-    /// Brings back the state of a checkpoint.
+    // Brings back the state of a checkpoint.
     fn begin_again(&mut self, counts: &Counts, at: u32)
         requires at { at ≤ last_block }
         requires file { IsCheckpointFile self.old.file }
@@ -258,7 +258,7 @@ impl Checkpointer {
         bring_back(&self.file, &mut drawing.picture);
     }
 
-    /// Gathers the saved slots, the oldest first.
+    // Gathers the saved slots, the oldest first.
     fn gather_slots(&mut self, counts: &Counts)
         requires file { IsCheckpointFile self.old.file }
         requires program { counts.now.program ≡ (checkpoint_in self.old.file).program }
@@ -276,7 +276,7 @@ impl Checkpointer {
     }
 }
 
-/// The packs that are whole after so many blocks of the program.
+// The packs that are whole after so many blocks of the program.
 fn whole_packs(blocks: u32) -> u32
     requires { blocks ≤ most_units }
     ensures { result ≡ whole_packs blocks }

@@ -20,7 +20,7 @@ use checkpoint_files::{Counts, SLOTS_BYTES};
 use raw_subcode::MOST_UNITS;
 use subcode_player::Form;
 
-/// The packs of the longest stream.
+// The packs of the longest stream.
 const MOST_PACKS: u32 = 4 * MOST_UNITS - 7;
 
 impl Checkpointer {
@@ -67,7 +67,7 @@ impl Checkpointer {
         }
     }
 
-    /// Brings back the state before a stream, all of whose packs are drawn.
+    // Brings back the state before a stream, all of whose packs are drawn.
     fn begin(&mut self, lead_in: u32)
         ensures words { self.new.tracking.words.first ≡ fresh_words Form.Raw lead_in }
         ensures left { self.new.tracking.words.second.left ≡ whole_packs most_units }
@@ -86,7 +86,7 @@ impl Checkpointer {
         self.tracking.tail = [0; SLOTS_BYTES];
     }
 
-    /// Composes the file of what was read of a stream.
+    // Composes the file of what was read of a stream.
     fn keep(&mut self, pumped: Pumped, lead_in: u32)
         ensures { IsKept pumped.units lead_in self.old.tracking self.new.file }
     {

@@ -16,7 +16,7 @@ pub struct Tracking {
     pub tail: [u8; SLOTS_BYTES],
 }
 
-/// The symbols of the last slots after those of a block.
+// The symbols of the last slots after those of a block.
 fn with_block(tail: &[u8; SLOTS_BYTES], block: &[u8; BLOCK_BYTES]) -> [u8; SLOTS_BYTES]
     ensures { result ≡ drop 96 (tail.now ++ symbols_of block.now) }
 {
@@ -27,7 +27,7 @@ fn with_block(tail: &[u8; SLOTS_BYTES], block: &[u8; BLOCK_BYTES]) -> [u8; SLOTS
     next
 }
 
-/// Symbol i of them.
+// Symbol i of them.
 fn symbol_after(tail: &[u8; SLOTS_BYTES], block: &[u8; BLOCK_BYTES], i: usize) -> u8
     requires { i < 168 }
     ensures { result ≡ slice_index (drop 96 (tail.now ++ symbols_of block.now)) i }

@@ -36,7 +36,7 @@ use Rattle.cdg_cmd.specs.declared.command.Command.TheVariants.{Convert, Screen, 
 use Rattle.cdg_cmd.specs.declared.status.Which.TheVariants.{First}
 use Rattle.cdg_cmd.specs.declared.status.Refusal.TheVariants.{Torn, TooLong, PastEnd, TextMissing, TextNoSize, TextMalformed}
 use Rattle.cdg_cmd.specs.declared.status.Status.{Status}
-use Rattle.cdg_cmd.specs.declared.status.Status.TheVariants.{Done, Damaged, Usage, Refused, Late, ReadFault, WriteFault, NoMemory}
+use Rattle.cdg_cmd.specs.declared.status.Status.TheVariants.{Done, Damaged, Refused, ReadFault, WriteFault, NoMemory}
 
 -- the status where the text packs of a lead-in give no texts
 abbrev pub text_fault_status : TextFault → Status

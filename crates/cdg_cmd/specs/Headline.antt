@@ -3,7 +3,7 @@ use Rattle.std.specs.Prelude.{ℕ, ◌*◌, ◌%◌, ◌≤◌, ⊤, List, [], �
 use Rattle.std.specs.Io.KnownBytes.{Appends}
 use Rattle.raw_subcode.specs.Channels.{unit_size, program_symbols}
 use Rattle.raw_subcode.specs.declared.form.Form.{Form}
-use Rattle.raw_subcode.specs.declared.form.Form.TheVariants.{Raw, Sector, Cooked}
+use Rattle.raw_subcode.specs.declared.form.Form.TheVariants.{Raw, Cooked}
 use Rattle.picture_script.specs.Script.{Drawing}
 use Rattle.picture_changes.specs.Schedule.{IsLate}
 use Rattle.rw_interleave.specs.Stream.{IsDamaged}

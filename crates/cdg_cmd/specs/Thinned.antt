@@ -1,5 +1,5 @@
 -- What `thin` answers to a file of packs, and what it writes.
-use Rattle.std.specs.Prelude.{ℕ, List, length, Result, Ok, Err, IfSome}
+use Rattle.std.specs.Prelude.{length, Result, Ok, Err, IfSome}
 use Rattle.cdg_io.specs.Pump.{IsUnlessFault, answer_of}
 use Rattle.cdg_io.specs.declared.pumping.Pumped.{Pumped}
 use Rattle.cdg_io.specs.declared.pumping.PumpStop.{PumpStop}

@@ -34,7 +34,7 @@ pub fn read_word(word: &Word) -> Instr
     }
 }
 
-/// The instruction that the symbols of a graphics pack say.
+// The instruction that the symbols of a graphics pack say.
 fn graphics(symbols: &[u8; 24]) -> Instr
     requires symbols { IsWord symbols.now }
     requires mode { slice_index symbols.now 0 ≡ 9 }
@@ -64,7 +64,7 @@ fn graphics(symbols: &[u8; 24]) -> Instr
     }
 }
 
-/// The instruction of a pack that sets or combines a tile.
+// The instruction of a pack that sets or combines a tile.
 fn tile(symbols: &[u8; 24]) -> Instr
     requires symbols { IsWord symbols.now }
     requires mode { slice_index symbols.now 0 ≡ 9 }
@@ -96,7 +96,7 @@ fn tile(symbols: &[u8; 24]) -> Instr
     }
 }
 
-/// The instruction of a pack that scrolls.
+// The instruction of a pack that scrolls.
 fn scroll(symbols: &[u8; 24]) -> Instr
     requires symbols { IsWord symbols.now }
     requires mode { slice_index symbols.now 0 ≡ 9 }
@@ -128,7 +128,7 @@ fn scroll(symbols: &[u8; 24]) -> Instr
     }
 }
 
-/// A move, where 3 is read as none.
+// A move, where 3 is read as none.
 fn moved(symbol: u8) -> u8
     requires { symbol < 64 }
     ensures moved { result ≡ move symbol }
@@ -137,7 +137,7 @@ fn moved(symbol: u8) -> u8
     if symbol / 16 == 3 { 0 } else { symbol / 16 }
 }
 
-/// The lines of a tile.
+// The lines of a tile.
 fn lines(symbols: &[u8; 24]) -> [u8; 12]
     requires { IsWord symbols.now }
     ensures lines { result ≡ drop 4 (content_of symbols.now) }
@@ -149,7 +149,7 @@ fn lines(symbols: &[u8; 24]) -> [u8; 12]
     lines
 }
 
-/// Sixteen levels.
+// Sixteen levels.
 fn levels(symbols: &[u8; 24]) -> [u8; 16]
     requires { IsWord symbols.now }
     ensures levels { result ≡ content_of symbols.now }
@@ -161,7 +161,7 @@ fn levels(symbols: &[u8; 24]) -> [u8; 16]
     levels
 }
 
-/// Eight colours of a table.
+// Eight colours of a table.
 fn colours(symbols: &[u8; 24]) -> [u16; 8]
     requires { IsWord symbols.now }
     ensures colours { result ≡ map (table_colour symbols.now) (below 8) }
@@ -175,7 +175,7 @@ fn colours(symbols: &[u8; 24]) -> [u16; 8]
     colours
 }
 
-/// Colour k of a table.
+// Colour k of a table.
 fn colour(symbols: &[u8; 24], k: usize) -> u16
     requires place { k < 8 }
     requires symbols { IsWord symbols.now }

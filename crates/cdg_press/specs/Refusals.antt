@@ -1,5 +1,7 @@
 -- When a file is pressed, and otherwise the first refusal that holds.
 use Rattle.std.specs.Prelude.{◌≡◌, ◌≢◌, ℕ, ◌+◌, ◌*◌, ◌/◌, ◌%◌, ◌<◌, ◌≤◌, List, length, Result, Ok, Err}
+use Rattle.disc_time.specs.Counts.{most_program}
+use Rattle.text_lines.specs.Text.{most_text_bytes}
 use Rattle.cue_sheet.specs.CueSheet.{CueSheet, CueTrack, track_of}
 use Rattle.toc_model.specs.Places.{audio_need, program_blocks}
 use Rattle.stream_writer.specs.Needs.{HasLayout, HasRoom, IsLeadInShort, IsTextTooLong}
@@ -8,7 +10,7 @@ use Rattle.cdg_press.specs.declared.stops.PressStop.TheVariants.{PackTorn, Lengt
 
 -- a file that is pressed has at most 64 MiB
 abbrev pub IsShort : List ℕ → Type 0
-IsShort file = length file ≤ 67108864
+IsShort file = length file ≤ most_text_bytes
 
 -- the file is whole packs
 abbrev pub IsWhole : List ℕ → Type 0
@@ -47,7 +49,7 @@ IsPressStop sheet file lead_in audio (PackTorn pack) = (length file % 24 ≢ 0) 
 IsPressStop sheet file lead_in audio (LengthShort need) = IsWhole file × (need ≡ audio_need sheet)
     × (audio < audio_need sheet)
 IsPressStop sheet file lead_in audio (DiscTooLong blocks) = IsWhole file × (audio_need sheet ≤ audio)
-    × (blocks ≡ program_blocks sheet audio) × (449999 < blocks)
+    × (blocks ≡ program_blocks sheet audio) × (most_program < blocks)
 IsPressStop sheet file lead_in audio (Gap track) = HasDisc sheet file audio × IsFirstGap sheet track
 IsPressStop sheet file lead_in audio (CdgTooLong packs room) = HasDisc sheet file audio × HasNoGap sheet
     × (packs ≡ length file / 24) × (room ≡ 4 * audio) × (room < packs)

@@ -37,8 +37,8 @@ impl<'a> PackSource for FileSource<'a> {
     }
 }
 
-/// The codeword of the symbols of a pack, whatever parity it has, or none where it is idle. Most packs of a file are
-/// idle, and these are told without a look at their sums.
+// The codeword of the symbols of a pack, whatever parity it has, or none where it is idle. Most packs of a file are
+// idle, and these are told without a look at their sums.
 fn made_good(pack: &[u8]) -> Option<Pack>
     requires { length pack.now ≡ 24 }
     ensures { IsMadeGood (symbols_of pack.now) (unwrap_or result idle_pack) }
@@ -55,7 +55,7 @@ fn made_good(pack: &[u8]) -> Option<Pack>
     }
 }
 
-/// The codeword of the symbols of a word, but for its parity.
+// The codeword of the symbols of a word, but for its parity.
 fn sealed(word: &Word) -> Pack
     ensures { IsMadeGood word.now result }
 {

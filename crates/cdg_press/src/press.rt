@@ -20,7 +20,7 @@ use std::alloc::Global;
 use stream_writer::{pack_texts, write_stream};
 use toc_model::Layout;
 
-/// The pack of the stream that is the file's first: its last symbol comes with the first slot of file time 00:00:00.
+// The pack of the stream that is the file's first: its last symbol comes with the first slot of file time 00:00:00.
 const FILE_BEGIN: u32 = 593;
 
 /// Writes the subcode of a disc with a lead-in of so many blocks and an audio of so many blocks: the lead-in with the

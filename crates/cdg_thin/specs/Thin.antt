@@ -1,5 +1,5 @@
 -- The thin form of a file of packs, in which those that change nothing are idle.
-use Rattle.std.specs.Prelude.{◌≡◌, ℕ, ◌%◌, ◌<◌, ◌⊎◌, Bool, true, false, IsTrue, List, [], ◌∷◌, ◌++◌, length, map, take, replicate, slice_index_or}
+use Rattle.std.specs.Prelude.{◌≡◌, ℕ, ◌<◌, ◌⊎◌, Bool, true, false, IsTrue, List, [], ◌∷◌, ◌++◌, length, take, slice_index_or}
 use Rattle.std.specs.List.{concat}
 use Rattle.bit_lists.specs.Counting.{whole_parts}
 use Rattle.cdg_instructions.specs.Instruction.{Means}

@@ -17,10 +17,10 @@ use cdg_screen::Screen;
 use std::alloc::{AllocError, Global};
 use std::marker::Model;
 
-/// The most packs that are read.
+// The most packs that are read.
 const MOST_PACKS: u32 = 4_000_000;
 
-/// The pack that says nothing.
+// The pack that says nothing.
 const IDLE: [u8; 24] = [0; 24];
 
 /// Makes packs that change nothing idle. All its memory is taken at the start.
@@ -91,14 +91,14 @@ impl Thinner {
         pump(source, MOST_PACKS, self, out)
     }
 
-    /// Makes all zero again.
+    // Makes all zero again.
     fn reset(&mut self)
         ensures { SameStanding (standing_of self.new) blank }
     {
         self.screen.reset();
     }
 
-    /// Carries out an instruction, and tells whether it was needless.
+    // Carries out an instruction, and tells whether it was needless.
     fn passes_over(&mut self, instr: &Instr) -> bool
         requires { InRange instr.now }
         ensures next { self.new ≡ obeyed self.old instr.now }
@@ -111,7 +111,7 @@ impl Thinner {
         is_graphic(instr)
     }
 
-    /// The same of the instruction of a pack. Most packs are idle: those are no graphics instructions.
+    // The same of the instruction of a pack. Most packs are idle: those are no graphics instructions.
     #[inline]
     fn is_needless(&mut self, pack: &[u8; 24]) -> bool
         ensures next { self.new ≡ thin_next self.old pack.now }
@@ -125,7 +125,7 @@ impl Thinner {
         self.passes_over(&instruction(pack))
     }
 
-    /// Puts a pack into an empty piece, or an idle one where it is needless.
+    // Puts a pack into an empty piece, or an idle one where it is needless.
     #[tactic(auto, unfolding(crate::specs::Steps::thin_gives))]
     fn pass(&mut self, pack: &[u8; 24], piece: &mut Piece)
         requires { piece.old ≡ [] }

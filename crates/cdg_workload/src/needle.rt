@@ -22,7 +22,7 @@ pub struct Needle {
 }
 
 impl Needle {
-    /// The byte with its symbol changed, if it is the turn of one.
+    // The byte with its symbol changed, if it is the turn of one.
     #[tactic(auto, unfolding(crate::specs::Steps::byte_next, crate::specs::Steps::byte_gives))]
     fn push(&mut self, byte: u8) -> u8
         ensures next { self.new ≡ byte_next self.old byte }
@@ -32,7 +32,7 @@ impl Needle {
         byte ^ self.step()
     }
 
-    /// Where a burst has ended, takes a word for the next one.
+    // Where a burst has ended, takes a word for the next one.
     #[tactic(auto, unfolding(crate::specs::Steps::ready, crate::specs::Steps::next_needle))]
     fn make_ready(&mut self)
         ensures { self.new ≡ ready self.old }
@@ -45,7 +45,7 @@ impl Needle {
         }
     }
 
-    /// One symbol on: what it is combined with.
+    // One symbol on: what it is combined with.
     #[tactic(auto, unfolding(crate::specs::Steps::moved, crate::specs::Steps::change_now))]
     fn step(&mut self) -> u8
         ensures next { self.new ≡ moved self.old }
@@ -59,7 +59,7 @@ impl Needle {
         self.change
     }
 
-    /// Goes over the symbols before the next one that is changed, at most so many: how many they are.
+    // Goes over the symbols before the next one that is changed, at most so many: how many they are.
     #[inline]
     fn pass(&mut self, most: usize) -> usize
         requires { most < 2 ^ 32 }
@@ -72,7 +72,7 @@ impl Needle {
         passed as usize
     }
 
-    /// Goes over the symbols of a burst that has begun, at most so many: how many they are.
+    // Goes over the symbols of a burst that has begun, at most so many: how many they are.
     #[inline]
     fn strike(&mut self, most: usize) -> usize
         requires { most < 2 ^ 32 }
@@ -106,7 +106,7 @@ impl Needle {
     }
 }
 
-/// Combines the bytes of a block between two places with a change.
+// Combines the bytes of a block between two places with a change.
 #[inline]
 fn combine(block: &mut [u8; BLOCK_BYTES], from: usize, to: usize, change: u8)
     requires order { from ≤ to }

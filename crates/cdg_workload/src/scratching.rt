@@ -40,7 +40,7 @@ impl Scratches {
         }
     }
 
-    /// Makes a piece of a block, scratched where it is one of the program.
+    // Makes a piece of a block, scratched where it is one of the program.
     #[tactic(auto, unfolding(crate::specs::Steps::block_next, crate::specs::Steps::block_gives))]
     fn pass(&mut self, block: &[u8; BLOCK_BYTES], piece: &mut Piece)
         ensures next { self.new ≡ block_next self.old block.now }

@@ -23,7 +23,7 @@ pub const BLOCKS_HELD: u32 = 20;
 /// a disc holds 449,999.
 pub const MOST_GENERATED: u32 = 500;
 
-/// Sixteen greys, a line for each colour.
+// Sixteen greys, a line for each colour.
 static GREYS: [u8; 230] = *b"\
     colour 0 0000\n\
     colour 1 0111\n\
@@ -64,7 +64,7 @@ pub fn write_script<K: Sink>(seed: u64, pictures: u32, out: &mut K) -> Result<()
     Ok(())
 }
 
-/// The lines of a picture, by the next six words.
+// The lines of a picture, by the next six words.
 #[tactic(auto, unfolding(crate::specs::Pictures::picture_from))]
 fn picture(words: &mut Pcg32, k: u32) -> Piece
     requires { k < most_generated }
@@ -79,7 +79,7 @@ fn picture(words: &mut Pcg32, k: u32) -> Piece
     lines
 }
 
-/// Appends the line of a rectangle, by the next two words.
+// Appends the line of a rectangle, by the next two words.
 #[tactic(auto, unfolding(crate::specs::Pictures::after_two, crate::specs::Pictures::rect_from, crate::specs::Script::generated_rect_line))]
 fn add_rect(lines: &mut Piece, words: &mut Pcg32)
     requires { length lines.old ≤ 95 }
@@ -116,7 +116,7 @@ fn high_half(word: u32) -> u16
     (word >> 16) as u16
 }
 
-/// Appends a number in decimal.
+// Appends a number in decimal.
 fn add_number<I: Integer>(lines: &mut Piece, n: I)
     requires { length lines.old + I.MAX_STR_LEN ≤ 128 }
     ensures text { lines.new ≡ lines.old ++ I.text n }
@@ -126,7 +126,7 @@ fn add_number<I: Integer>(lines: &mut Piece, n: I)
     lines.add(buffer.format(n).as_bytes());
 }
 
-/// Appends the line of the times of picture k.
+// Appends the line of the times of picture k.
 #[tactic(auto, unfolding(crate::specs::Script::generated_show_line))]
 fn add_show(lines: &mut Piece, k: u32)
     requires number { k < most_generated }

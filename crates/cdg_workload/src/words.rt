@@ -4,7 +4,7 @@ ghost use Rattle.cdg_workload.specs.Generator.{generator};
 
 use rand_pcg::Pcg32;
 
-/// The stream of the generator that scripts and scratches are made by.
+// The stream of the generator that scripts and scratches are made by.
 const STREAM: u64 = 54;
 
 /// The generator of a seed.

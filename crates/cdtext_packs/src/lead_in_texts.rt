@@ -50,7 +50,7 @@ impl LeadInTexts {
         self.other = 0;
     }
 
-    /// Offers a pack to the reader, and counts the answer.
+    // Offers a pack to the reader, and counts the answer.
     #[tactic(auto, unfolding(crate::specs::TextSteps::offered))]
     fn offer(&mut self, pack: &[u8; 18])
         ensures { self.new ≡ offered self.old pack.now }

@@ -84,7 +84,7 @@ impl TextMap {
         Ok(map)
     }
 
-    /// The same, where all of them may be empty.
+    // The same, where all of them may be empty.
     fn with_strings(
         alloc: Global,
         first: u8,

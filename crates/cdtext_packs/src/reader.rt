@@ -88,7 +88,7 @@ impl TextReader {
     }
 }
 
-/// The texts of kept packs by the first two size packs.
+// The texts of kept packs by the first two size packs.
 fn read_sized(
     alloc: Global,
     kept: &[Option<TextPack>],

@@ -68,7 +68,7 @@ pub(crate) fn first_short(kept: &[Option<TextPack>], count: usize) -> Option<u8>
     None
 }
 
-/// The number of the last pack of a kind, if it has fewer strings than are wanted.
+// The number of the last pack of a kind, if it has fewer strings than are wanted.
 fn short_at(kept: &[Option<TextPack>], count: usize, kind: TextKind) -> Option<u8>
     requires { length kept.now ≤ most_packs }
     ensures { result ≡ (if is_short kept.now count kind then Some (last_number (kind_packs kept.now kind))
@@ -87,7 +87,7 @@ fn short_at(kept: &[Option<TextPack>], count: usize, kind: TextKind) -> Option<u
     if ends < count { last } else { None }
 }
 
-/// How many of the bytes are zero.
+// How many of the bytes are zero.
 fn zeros_in(bytes: &[u8]) -> usize
     ensures count { result ≡ ends_in bytes.now }
     ensures bound { result ≤ length bytes.now }
@@ -116,7 +116,7 @@ pub(crate) fn kind_texts(
     }
 }
 
-/// The bytes of text of a kind.
+// The bytes of text of a kind.
 fn kind_bytes(
     alloc: Global,
     kept: &[Option<TextPack>],
@@ -149,7 +149,7 @@ pub(crate) fn empty_strings(alloc: Global, count: usize) -> Result<Strings, Allo
     Ok(strings)
 }
 
-/// The first strings in these bytes, with what a single tab means.
+// The first strings in these bytes, with what a single tab means.
 fn strings_in(alloc: Global, bytes: &[u8], count: usize) -> Result<Strings, AllocError>
     requires size { length bytes.now ≤ most_text_bytes }
     requires count { count ≤ ends_in bytes.now }
@@ -169,7 +169,7 @@ fn strings_in(alloc: Global, bytes: &[u8], count: usize) -> Result<Strings, Allo
     Ok(strings)
 }
 
-/// The place of the first zero byte, or the end.
+// The place of the first zero byte, or the end.
 fn string_end(bytes: &[u8]) -> usize
     ensures end { result ≡ position_or_len is_zero bytes.now }
     ensures bound { result ≤ length bytes.now }

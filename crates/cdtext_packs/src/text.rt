@@ -34,7 +34,7 @@ pub fn write_lines<K: Sink>(
     put_all(out, counts.bytes())
 }
 
-/// Writes the lines of a kind: the album's, then the tracks'.
+// Writes the lines of a kind: the album's, then the tracks'.
 fn write_kind<K: Sink>(map: &TextMap, kind: TextKind, out: &mut K) -> Result<(), Failed>
     ensures ok { OnOk result (Appends (K.held out.old) (K.held out.new) (kind_lines map.now kind)) }
     ensures part { OnErr result (AppendsPrefix (K.held out.old) (K.held out.new) (kind_lines map.now kind)) }
@@ -47,7 +47,7 @@ fn write_kind<K: Sink>(map: &TextMap, kind: TextKind, out: &mut K) -> Result<(),
     Ok(())
 }
 
-/// Writes the line of a track, or of the album as track 0.
+// Writes the line of a track, or of the album as track 0.
 fn write_line<K: Sink>(map: &TextMap, kind: TextKind, track: u8, out: &mut K) -> Result<(), Failed>
     requires { track ≤ most_tracks }
     ensures ok { OnOk result (Appends (K.held out.old) (K.held out.new) (text_line map.now kind track)) }
@@ -64,7 +64,7 @@ fn write_line<K: Sink>(map: &TextMap, kind: TextKind, track: u8, out: &mut K) ->
     put_all(out, b"\n")
 }
 
-/// Writes bytes as they are printed.
+// Writes bytes as they are printed.
 fn write_bytes<K: Sink>(bytes: &[u8], out: &mut K) -> Result<(), Failed>
     ensures ok { OnOk result (Appends (K.held out.old) (K.held out.new) (flat_map printed bytes.now)) }
     ensures part { OnErr result
@@ -77,7 +77,7 @@ fn write_bytes<K: Sink>(bytes: &[u8], out: &mut K) -> Result<(), Failed>
     Ok(())
 }
 
-/// A byte as it is printed.
+// A byte as it is printed.
 fn printed(byte: u8) -> Piece
     ensures { result ≡ printed byte }
 {
@@ -91,7 +91,7 @@ fn printed(byte: u8) -> Piece
     piece
 }
 
-/// The two hexadecimal digits of a byte.
+// The two hexadecimal digits of a byte.
 fn hex_byte(byte: u8) -> [u8; 2]
     ensures { result ≡ hex_digits 2 byte }
 {
@@ -101,7 +101,7 @@ fn hex_byte(byte: u8) -> [u8; 2]
     digits
 }
 
-/// What stands in a line before its string.
+// What stands in a line before its string.
 fn line_head(kind: TextKind, track: u8) -> Piece
     requires { track ≤ most_tracks }
     ensures { result ≡ line_head kind track }
@@ -129,7 +129,7 @@ fn kind_name(kind: TextKind) -> &'static [u8]
     }
 }
 
-/// The line on the packs that were offered.
+// The line on the packs that were offered.
 fn count_line(good: u32, bad: u32, other: u32) -> Piece
     ensures { result ≡ offers_line good bad other }
 {
@@ -141,7 +141,7 @@ fn count_line(good: u32, bad: u32, other: u32) -> Piece
     piece
 }
 
-/// Appends a count under its name.
+// Appends a count under its name.
 fn add_count(piece: &mut Piece, name: &[u8], count: u32)
     requires { length piece.old + length name.now ≤ 100 }
     ensures text { piece.new ≡ (piece.old ++ name.now) ++ decimal count }

@@ -31,7 +31,7 @@ pub fn pack_all(alloc: Global, map: &TextMap) -> Result<Vec<TextPack>, PackStop>
     Ok(all)
 }
 
-/// How many packs the texts need.
+// How many packs the texts need.
 fn packs_needed(map: &TextMap) -> u32
     ensures { result ≡ length (contents map.now) }
 {
@@ -45,7 +45,7 @@ fn packs_needed(map: &TextMap) -> u32
     count
 }
 
-/// How many packs the strings of a kind need.
+// How many packs the strings of a kind need.
 fn kind_packs(map: &TextMap, kind: TextKind) -> u32
     ensures value { result ≡ length (kind_contents map.now kind) }
     ensures bound { result ≤ 559240542 }
@@ -60,7 +60,7 @@ fn kind_packs(map: &TextMap, kind: TextKind) -> u32
     }
 }
 
-/// The next packs, which hold the strings of a kind.
+// The next packs, which hold the strings of a kind.
 fn push_kind(
     alloc: Global,
     packs: &mut Vec<TextPack>,
@@ -81,7 +81,7 @@ fn push_kind(
     Ok(())
 }
 
-/// The last three packs, which tell how many packs there are.
+// The last three packs, which tell how many packs there are.
 fn push_sizes(packs: &mut Vec<TextPack>, map: &TextMap) -> Result<(), AllocError>
     requires before { length packs.old.items ≡ length (flat_map (kind_contents map.now) kinds) }
     requires few { length packs.old.items ≤ 253 }
@@ -96,7 +96,7 @@ fn push_sizes(packs: &mut Vec<TextPack>, map: &TextMap) -> Result<(), AllocError
     Ok(())
 }
 
-/// What the size packs hold.
+// What the size packs hold.
 fn size_bytes(map: &TextMap, last: u8) -> [u8; 36]
     requires last { last ≡ length (flat_map (kind_contents map.now) kinds) + 2 }
     ensures { result ≡ size_bytes map.now }
@@ -119,7 +119,7 @@ fn size_bytes(map: &TextMap, last: u8) -> [u8; 36]
     bytes
 }
 
-/// The number of packs of a kind, where all are few.
+// The number of packs of a kind, where all are few.
 fn count_of(map: &TextMap, kind: TextKind) -> u8
     requires { length (flat_map (kind_contents map.now) kinds) ≤ 253 }
     ensures { result ≡ length (kind_contents map.now kind) }
@@ -127,7 +127,7 @@ fn count_of(map: &TextMap, kind: TextKind) -> u8
     kind_packs(map, kind) as u8
 }
 
-/// Pack k of the strings of a kind, whose bytes in a row these are.
+// Pack k of the strings of a kind, whose bytes in a row these are.
 fn text_pack(
     first: u8,
     kind: TextKind,
@@ -156,7 +156,7 @@ fn text_pack(
     )
 }
 
-/// Part k of bytes that are cut by twelve, with zeros past the end.
+// Part k of bytes that are cut by twelve, with zeros past the end.
 fn twelve(bytes: &[u8], k: usize) -> [u8; 12]
     requires { 12 * k < length bytes.now }
     ensures { result ≡ twelve bytes.now k }

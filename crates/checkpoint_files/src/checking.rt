@@ -14,10 +14,10 @@ use disc_time::MOST_LEAD_IN;
 use raw_subcode::MOST_UNITS;
 use subcode_crc::crc16;
 
-/// The eight bytes at the front, `CDGSAVE1`, as one number.
+// The eight bytes at the front, `CDGSAVE1`, as one number.
 const MARK: u64 = 0x4344_4753_4156_4531;
 
-/// How many bytes of the slots stand for no slot, after so many blocks of the program.
+// How many bytes of the slots stand for no slot, after so many blocks of the program.
 fn empty_symbols(program: u32) -> usize
     ensures value { result ≡ empty_symbols program }
     ensures most { result ≤ 168 }
@@ -41,7 +41,7 @@ impl CheckpointFile {
         self.check_fields()
     }
 
-    /// Are all fields in their ranges? If not, the first byte of the first one.
+    // Are all fields in their ranges? If not, the first byte of the first one.
     fn check_fields(&self) -> Result<(), u32>
         requires { length self.now ≡ 65045 }
         ensures { MatchResult result (λ _. AllByRecursion (IsPartInRange self.now) all_parts)
@@ -185,7 +185,7 @@ impl CheckpointFile {
         Ok(())
     }
 
-    /// The check of all bytes before it.
+    // The check of all bytes before it.
     fn check_of_body(&self) -> u16
         requires { length self.now ≡ 65045 }
         ensures { result ≡ check_of (take 65043 self.now) }
@@ -193,7 +193,7 @@ impl CheckpointFile {
         crc16(&self.bytes()[..CHECK])
     }
 
-    /// Are all these bytes below a bound? If not, where the first one stands.
+    // Are all these bytes below a bound? If not, where the first one stands.
     fn check_bytes(&self, first: usize, count: usize, bound: u8) -> Result<(), u32>
         requires { first + count ≤ length self.now }
         ensures { MatchResult result

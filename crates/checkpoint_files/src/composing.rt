@@ -39,7 +39,7 @@ impl CheckpointFile {
         self.put(&check.to_be_bytes());
     }
 
-    /// Appends the mark and the counts.
+    // Appends the mark and the counts.
     fn put_counts(&mut self, counts: &Counts)
         requires { length self.old ≡ 0 }
         ensures parts { (slots : List ℕ) (now : Standing)
@@ -54,7 +54,7 @@ impl CheckpointFile {
         self.put_number(counts.bad);
     }
 
-    /// Appends a number of four bytes.
+    // Appends a number of four bytes.
     fn put_number(&mut self, number: u32)
         requires { length self.old ≤ 65000 }
         ensures bytes { self.new ≡ self.old ++ bytes_of 4 number }
@@ -63,7 +63,7 @@ impl CheckpointFile {
         self.put(&number.to_be_bytes());
     }
 
-    /// Appends the memory of the screen, row by row.
+    // Appends the memory of the screen, row by row.
     fn put_memory(&mut self, screen: &Screen)
         requires { length self.old ≡ 192 }
         ensures part { (counts : Counts) (slots : List ℕ)
@@ -75,7 +75,7 @@ impl CheckpointFile {
         }
     }
 
-    /// Appends the border and both offsets.
+    // Appends the border and both offsets.
     fn put_places(&mut self, screen: &Screen)
         requires { length self.old ≡ 64992 }
         ensures parts { (counts : Counts) (slots : List ℕ)
@@ -88,7 +88,7 @@ impl CheckpointFile {
         self.put(&[screen.offset_v()]);
     }
 
-    /// Appends the sixteen colours.
+    // Appends the sixteen colours.
     fn put_colours(&mut self, screen: &Screen)
         requires { length self.old ≡ 64995 }
         ensures part { (counts : Counts) (slots : List ℕ)
@@ -100,7 +100,7 @@ impl CheckpointFile {
         }
     }
 
-    /// Appends the sixteen levels.
+    // Appends the sixteen levels.
     fn put_levels(&mut self, screen: &Screen)
         requires { length self.old ≡ 65027 }
         ensures part { (counts : Counts) (slots : List ℕ)

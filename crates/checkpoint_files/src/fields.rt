@@ -48,7 +48,7 @@ impl CheckpointFile {
         }
     }
 
-    /// The number in the four bytes from a byte on.
+    // The number in the four bytes from a byte on.
     fn number(&self, at: usize) -> u32
         requires { at + 4 ≤ length self.now }
         ensures { result ≡ number_at self.now 4 at }

@@ -13,10 +13,10 @@ use cdg_screen::Screen;
 use raw_subcode::SYMBOLS_A_SLOT;
 use tile_author::plan;
 
-/// The tiles of the memory.
+// The tiles of the memory.
 const TILES: u32 = SCREEN_TILES as u32;
 
-/// The tiles of a row.
+// The tiles of a row.
 const COLUMNS: u32 = SCREEN_COLUMNS as u32;
 
 impl CheckpointFile {
@@ -41,7 +41,7 @@ impl CheckpointFile {
         self.set(screen);
     }
 
-    /// Draws the memory.
+    // Draws the memory.
     fn draw(&self, screen: &mut Screen)
         requires { IsCheckpointFile self.now }
         ensures { HoldsTiles (standing_in self.now) 900 (standing_of screen.new) }
@@ -52,7 +52,7 @@ impl CheckpointFile {
         }
     }
 
-    /// Draws a tile where nothing stands.
+    // Draws a tile where nothing stands.
     fn draw_tile(&self, screen: &mut Screen, row: u8, column: u8)
         requires file { IsCheckpointFile self.now }
         requires row { row < 18 }
@@ -66,7 +66,7 @@ impl CheckpointFile {
         screen.obey_all(drawn.as_slice());
     }
 
-    /// A tile of the memory.
+    // A tile of the memory.
     fn tile(&self, row: u8, column: u8) -> Tile
         requires file { IsCheckpointFile self.now }
         requires row { row < 18 }
@@ -84,7 +84,7 @@ impl CheckpointFile {
         Tile::new(&pixels).unwrap()
     }
 
-    /// A pixel of the memory.
+    // A pixel of the memory.
     fn pixel(&self, x: usize, y: usize) -> u8
         requires file { IsCheckpointFile self.now }
         requires width { x < screen_width }
@@ -95,7 +95,7 @@ impl CheckpointFile {
         self.byte(MEMORY + (300 * y + x))
     }
 
-    /// Sets the border, the colours, the levels and the offsets.
+    // Sets the border, the colours, the levels and the offsets.
     fn set(&self, screen: &mut Screen)
         requires { IsCheckpointFile self.now }
         ensures { SameStanding (standing_of screen.new)
@@ -122,7 +122,7 @@ impl CheckpointFile {
         });
     }
 
-    /// Eight colours of the table, from one on.
+    // Eight colours of the table, from one on.
     fn colours(&self, first: usize) -> [u16; 8]
         requires file { IsCheckpointFile self.now }
         requires first { first ≤ 8 }
@@ -136,7 +136,7 @@ impl CheckpointFile {
         colours
     }
 
-    /// The sixteen levels.
+    // The sixteen levels.
     fn levels(&self) -> [u8; 16]
         requires { IsCheckpointFile self.now }
         ensures levels { (k : ℕ) → k < 16 → slice_index result k ≡ (standing_in self.now).level k }

@@ -45,7 +45,7 @@ pub(crate) fn spelled(command: Command, argument: &[u8]) -> Option<Line<'_>>
     }
 }
 
-/// The bytes, if they hold no control byte.
+// The bytes, if they hold no control byte.
 #[tactic(auto, unfolding(crate::specs::CueLines::plain))]
 fn plain(text: &[u8]) -> Option<&[u8]>
     requires { length text.now ≤ most_text_bytes }
@@ -76,7 +76,7 @@ fn begins_quoted(argument: &[u8]) -> bool
     matches!(argument, [b'"', ..])
 }
 
-/// Of an argument that begins with a quote, what stands up to the next one, and what follows that.
+// Of an argument that begins with a quote, what stands up to the next one, and what follows that.
 #[tactic(auto, unfolding(crate::specs::CueLines::quoted))]
 fn quoted(argument: &[u8]) -> Option<(&[u8], &[u8])>
     requires { 0 < length argument.now }
@@ -95,7 +95,7 @@ fn closing_quote(text: &[u8]) -> Option<usize>
     text.iter().position(|byte| *byte == b'"')
 }
 
-/// A text: in quotes, with nothing after them, or as it stands and not empty.
+// A text: in quotes, with nothing after them, or as it stands and not empty.
 #[tactic(auto, unfolding(crate::specs::CueLines::text_argument))]
 fn text(argument: &[u8]) -> Option<&[u8]>
     requires { length argument.now ≤ most_text_bytes }
@@ -115,7 +115,7 @@ fn text(argument: &[u8]) -> Option<&[u8]>
     plain(argument)
 }
 
-/// A file: a name in quotes and then one word, or two or more words.
+// A file: a name in quotes and then one word, or two or more words.
 #[tactic(auto, unfolding(crate::specs::CueLines::is_file))]
 fn is_file(argument: &[u8]) -> bool
     ensures { result ≡ is_file argument.now }
@@ -129,7 +129,7 @@ fn is_file(argument: &[u8]) -> bool
     word_count(argument) >= 2
 }
 
-/// The number of words.
+// The number of words.
 fn word_count(line: &[u8]) -> usize
     ensures { result ≡ length (words_in line.now) }
 {
@@ -142,7 +142,7 @@ fn word_count(line: &[u8]) -> usize
     count
 }
 
-/// A catalogue number, 13 digits.
+// A catalogue number, 13 digits.
 #[tactic(auto, unfolding(crate::specs::CueLines::catalogue_argument))]
 fn catalogue(argument: &[u8]) -> Option<[u8; 13]>
     ensures number { result ≡ catalogue_argument argument.now }
@@ -156,7 +156,7 @@ fn catalogue(argument: &[u8]) -> Option<[u8; 13]>
     Some(digits)
 }
 
-/// A track's code, its letters as capital ones.
+// A track's code, its letters as capital ones.
 #[tactic(auto, unfolding(crate::specs::CueLines::code_argument))]
 fn code(argument: &[u8]) -> Option<[u8; 12]>
     ensures code { result ≡ code_argument argument.now }
@@ -205,7 +205,7 @@ fn is_capital_or_digit(byte: u8) -> bool
     byte.is_ascii_digit() || byte.is_ascii_uppercase()
 }
 
-/// A track's number, and whether its type is AUDIO.
+// A track's number, and whether its type is AUDIO.
 fn track(argument: &[u8]) -> Option<(u8, bool)>
     ensures track { result ≡ track_argument (words_in argument.now) }
     ensures range { IfSome result (λ t. (1 ≤ t.0) × (t.0 ≤ most_tracks)) }
@@ -222,7 +222,7 @@ fn track(argument: &[u8]) -> Option<(u8, bool)>
     Some((number, is_word(kind, b"AUDIO")))
 }
 
-/// An index line's number and time.
+// An index line's number and time.
 fn index(argument: &[u8]) -> Option<(u8, u32)>
     ensures line { result ≡ index_argument (words_in argument.now) }
     ensures range { IfSome result (λ line. (line.0 ≤ 99) × (line.1 < time_count)) }
@@ -237,7 +237,7 @@ fn index(argument: &[u8]) -> Option<(u8, u32)>
     Some((number, at))
 }
 
-/// The control bits of flags.
+// The control bits of flags.
 #[tactic(auto, unfolding(crate::specs::CueLines::flags_argument))]
 fn flags(argument: &[u8]) -> Option<u8>
     ensures control { result ≡ flags_argument (words_in argument.now) }

@@ -60,7 +60,7 @@ impl Draft {
         }
     }
 
-    /// Whether a command is a FILE after a FILE.
+    // Whether a command is a FILE after a FILE.
     fn is_second_file(&self, command: Command) -> bool
         ensures { result ≡ is_second_file self.now command }
     {
@@ -70,7 +70,7 @@ impl Draft {
         }
     }
 
-    /// Whether a command may stand here.
+    // Whether a command may stand here.
     fn is_placed(&self, command: Command) -> bool
         ensures { result ≡ is_placed self.now command }
     {
@@ -85,7 +85,7 @@ impl Draft {
         }
     }
 
-    /// Why a line that is spelled and placed well is refused.
+    // Why a line that is spelled and placed well is refused.
     #[tactic(auto, unfolding(crate::specs::Steps::later_reason))]
     fn later_reason(&self, line: &Line<'_>) -> Option<CueWhy>
         ensures { result ≡ later_reason self.now (line_said line.now) }
@@ -142,7 +142,7 @@ impl Draft {
         }
     }
 
-    /// What a trimmed line says that is not empty, or the first reason for which it is refused.
+    // What a trimmed line says that is not empty, or the first reason for which it is refused.
     fn checked<'a>(&self, line: &'a [u8]) -> Result<Line<'a>, CueWhy>
         requires { length line.now ≤ most_text_bytes }
         ensures { IsCheckedLine self.now (command_named (first_word line.now)) (argument_of line.now) result }
@@ -166,7 +166,7 @@ impl Draft {
         }
     }
 
-    /// Takes a line that is in order. An error leaves the draft in a state of which nothing is said.
+    // Takes a line that is in order. An error leaves the draft in a state of which nothing is said.
     fn add(&mut self, alloc: Global, line: &Line<'_>) -> Result<(), AllocError>
         ensures { IfOk result (λ _. self.new ≡ after self.old (line_said line.now)) }
     {

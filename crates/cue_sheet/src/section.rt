@@ -95,7 +95,7 @@ impl Section {
     }
 }
 
-/// The bytes of a text, or none where it is not given.
+// The bytes of a text, or none where it is not given.
 fn bytes_or_none(text: &Option<Vec<u8>>) -> &[u8]
     ensures { result.now ≡ unwrap_or (option_map (λ v. v.items) text.now) [] }
 {

@@ -66,7 +66,7 @@ impl Sheet {
         self.tracks.len()
     }
 
-    /// Track k, counted from 0.
+    // Track k, counted from 0.
     fn track(&self, k: usize) -> &Track
         requires { k < length self.now.tracks }
         ensures track { track_value result.now ≡ track_of self.now k }

@@ -8,7 +8,7 @@ use cdg_instructions::{SCREEN_PIXELS, SCREEN_WIDTH, read_word};
 use rw_code::{SYMBOLS, Word};
 use subcode_player::Picture;
 
-/// Red, green and blue of each pixel.
+// Red, green and blue of each pixel.
 const BYTES: usize = 3 * SCREEN_PIXELS;
 
 /// The pixel of the screen at a place.
@@ -90,7 +90,7 @@ fn byte(picture: &Picture, n: u32) -> u8
     part(shown, n % 3)
 }
 
-/// A part of a colour as a byte: 0 red, 1 green, 2 blue.
+// A part of a colour as a byte: 0 red, 1 green, 2 blue.
 fn part(colour: u16, part: u32) -> u8
     requires part { part < 3 }
     requires colour { colour < 4096 }

@@ -1,5 +1,6 @@
 // The pictures of a script in turn: what each needs, and whether it is in time.
 ghost use Rattle.std.specs.Prelude.{◌≡◌, ◌<◌, ◌≤◌, ◌+◌, ◌-◌, ◌*◌, ℕ, length, slice_index_or, IfOk, IfErr, Err, nat_le};
+ghost use Rattle.disc_time.specs.Counts.{time_count};
 ghost use Rattle.picture_script.specs.Script.{pictures, hold_time, ready_time};
 ghost use Rattle.picture_script.specs.Board.{IsPicture};
 ghost use Rattle.picture_changes.specs.Schedule.{start_of, free_packs};
@@ -28,7 +29,7 @@ use std::alloc::Global;
 /// `PastEnd` where the last picture is held for longer than the blocks. Otherwise `Late` at the first picture that is
 /// not in time, with the packs that it needs and those that are free for it. `NoMemory` where there is no memory.
 pub fn survey(alloc: Global, script: &Script, blocks: u32) -> Result<Survey, Stop>
-    requires { blocks < 450000 }
+    requires { blocks < time_count }
     ensures within { IfOk result (λ _. IsWithin script.now blocks) }
     ensures planned { IfOk result (IsSurvey script.now) }
     ensures err { IfErr result (IsStop script.now blocks) }
@@ -81,7 +82,7 @@ fn last_hold(script: &Script) -> u32
 
 // How many packs are whole after so many blocks.
 fn whole_packs(blocks: u32) -> u32
-    requires { blocks < 450000 }
+    requires { blocks < time_count }
     ensures { result ≡ 4 * blocks - 7 }
 {
     (4 * blocks).saturating_sub(7)

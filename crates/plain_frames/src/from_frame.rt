@@ -59,7 +59,7 @@ pub fn plain_of(frame: &QFrame) -> PlainFrame
     }
 }
 
-/// An entry of the table of contents, with no time.
+// An entry of the table of contents, with no time.
 fn entry(control: u8, point: &TocPoint) -> PlainFrame
     ensures { result ≡ plain_of (Toc control point.now 0) }
 {
@@ -85,7 +85,7 @@ fn entry(control: u8, point: &TocPoint) -> PlainFrame
     }
 }
 
-/// A frame of a kind, all else zero.
+// A frame of a kind, all else zero.
 fn of_kind(kind: u32, control: u8) -> PlainFrame
     ensures { result ≡ plain_kind kind control }
 {
@@ -103,7 +103,7 @@ fn of_kind(kind: u32, control: u8) -> PlainFrame
     }
 }
 
-/// Bytes with zeros behind them.
+// Bytes with zeros behind them.
 fn text(bytes: &[u8]) -> [u8; 13]
     requires { length bytes.now ≤ 13 }
     ensures bytes { result ≡ bytes.now ++ replicate (13 - length bytes.now) 0 }

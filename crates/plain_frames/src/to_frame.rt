@@ -94,7 +94,7 @@ fn lead_out(plain: &PlainFrame) -> Option<QFrame>
     entry(plain, TocPoint::LeadOut { start })
 }
 
-/// An entry of the table of contents.
+// An entry of the table of contents.
 fn entry(plain: &PlainFrame, point: TocPoint) -> Option<QFrame>
     requires { IsValidPoint point }
     ensures { IsWhereValid result (Toc plain.now.control point plain.now.time) }

@@ -49,7 +49,7 @@ impl Stage for BlockForms {
     }
 }
 
-/// Leaves these bytes in `out`, in the piece that is there where there is one.
+// Leaves these bytes in `out`, in the piece that is there where there is one.
 #[inline]
 fn leave(bytes: &[u8; BLOCK_BYTES], out: &mut Option<Piece>)
     ensures { out.new ≡ Some bytes.now }

@@ -6,7 +6,7 @@ use crate::{decode, line};
 use cdg_io::{Piece, Stage};
 use raw_subcode::{BLOCK_BYTES, Block, MOST_UNITS};
 
-/// The greatest number that a line can have.
+// The greatest number that a line can have.
 const LAST: u32 = MOST_UNITS - 1;
 
 /// Gives the line of the Q channel of each block, and counts the frames that are refused.
@@ -19,7 +19,7 @@ pub struct QLines {
 }
 
 impl QLines {
-    /// The line of the next block.
+    // The line of the next block.
     #[tactic(auto, unfolding(crate::specs::QSteps::q_next, crate::specs::QSteps::q_give))]
     fn next_line(&mut self, block: &[u8; BLOCK_BYTES]) -> Piece
         ensures next { self.new ≡ q_next self.old block.now }

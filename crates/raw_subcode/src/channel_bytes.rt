@@ -30,7 +30,7 @@ pub(crate) fn put_channels(planar: &mut [u8; BLOCK_BYTES], bytes: &[u8; BLOCK_BY
     are_bytes(planar);
 }
 
-/// Sixteen bytes, the last of each eight first.
+// Sixteen bytes, the last of each eight first.
 #[inline]
 fn lanes_from(bytes: &[u8], first: usize) -> u8x16
     requires { first + 16 ≤ length bytes.now }
@@ -43,7 +43,7 @@ fn lanes_from(bytes: &[u8], first: usize) -> u8x16
     ])
 }
 
-/// The bits of a channel in sixteen bytes, of which the last of each eight comes first, as two bytes.
+// The bits of a channel in sixteen bytes, of which the last of each eight comes first, as two bytes.
 #[inline]
 fn channel_pair(lanes: u8x16, channel: u8) -> [u8; 2]
     requires channel { channel < 8 }

@@ -29,7 +29,7 @@ pub(crate) fn turned(bytes: &[u8; BLOCK_BYTES], first: usize, step: usize) -> [u
     eight.to_le_bytes()
 }
 
-/// The bits of a byte, each in a byte of a number, the highest bit in the lowest byte.
+// The bits of a byte, each in a byte of a number, the highest bit in the lowest byte.
 #[inline]
 fn lanes(byte: u8) -> u64
     ensures lanes { result ≡ lanes_of_byte byte }
@@ -61,7 +61,7 @@ pub(crate) fn built(p: bool, q: u8, symbols: &[u8; BLOCK_BYTES], first: usize) -
     (p_bits(p) + 64 * lanes(q) + eight).to_le_bytes()
 }
 
-/// A P bit in eight bytes.
+// A P bit in eight bytes.
 #[inline]
 #[tactic(auto, unfolding(crate::specs::Lanes::in_lanes))]
 fn p_bits(p: bool) -> u64

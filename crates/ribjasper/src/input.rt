@@ -16,7 +16,7 @@ pub enum Input<'a> {
 }
 
 impl Input<'_> {
-    /// Opens a file that is not open yet.
+    // Opens a file that is not open yet.
     fn open(&mut self) {
         if let Input::Unopened(rt, name) = self {
             *self = match File::open(*rt, *name) {

@@ -13,13 +13,13 @@ use std::io::{BufReader, BufWriter, ErrorKind};
 use std::process::ExitCode;
 use std::{env, io};
 
-/// The most that waits to be written.
+// The most that waits to be written.
 const BUFFER: usize = 65_536;
 
-/// The most that a read brings: whole pages and whole blocks, whose packs come out in one write.
+// The most that a read brings: whole pages and whole blocks, whose packs come out in one write.
 const READ: usize = 61_440;
 
-/// All words after the program's own name. Where they are no text, there are none.
+// All words after the program's own name. Where they are no text, there are none.
 fn words(rt: &HostRuntime) -> io::Result<Vec<String>> {
     let mut words = Vec::new(rt.alloc());
     match env::args(rt) {
@@ -34,7 +34,7 @@ fn words(rt: &HostRuntime) -> io::Result<Vec<String>> {
     Ok(words)
 }
 
-/// The two inputs: those that are named, or standard input.
+// The two inputs: those that are named, or standard input.
 fn inputs<'a>(rt: &'a HostRuntime, names: &'a [String]) -> (Input<'a>, Input<'a>) {
     match names {
         [first, second] => (Input::Unopened(rt, first), Input::Unopened(rt, second)),
@@ -43,7 +43,7 @@ fn inputs<'a>(rt: &'a HostRuntime, names: &'a [String]) -> (Input<'a>, Input<'a>
     }
 }
 
-/// Runs the words on the inputs and standard output.
+// Runs the words on the inputs and standard output.
 fn run_on_streams(rt: &HostRuntime) -> io::Result<Status> {
     let alloc = rt.alloc();
     let line = words(rt)?;

@@ -37,7 +37,7 @@ pub struct Converted {
     pub bad: u32,
 }
 
-/// Why a stream is not converted.
+// Why a stream is not converted.
 enum Stop {
     /// Its bytes are not whole units, or too many.
     Refused,

@@ -1,5 +1,6 @@
 // The texts in the lead-in of an authored stream.
 ghost use Rattle.std.specs.Prelude.{◌≡◌, ◌*◌, ◌<◌, ◌≤◌, ℕ, List, Bool, true, Ok, All, length};
+ghost use Rattle.text_lines.specs.Text.{most_text_bytes};
 ghost use Rattle.cue_sheet.specs.CueSheet.{CueSheet};
 ghost use Rattle.cue_sheet.specs.Grammar.{read_cue};
 ghost use Rattle.picture_script.specs.Script.{Drawing};
@@ -19,7 +20,7 @@ use cue_sheet::accepted_sheets_are_in_order;
 
 /// A law: the texts of every sheet that is accepted can be packed, where they fill no more packs than there may be.
 pub fn accepted_sheets_have_text_packs()
-    ensures { (text : List ℕ) (sheet : CueSheet) → All (λ byte. byte < 256) text → length text ≤ 67108864
+    ensures { (text : List ℕ) (sheet : CueSheet) → All (λ byte. byte < 256) text → length text ≤ most_text_bytes
         → read_cue text ≡ Ok sheet
         → length (text_packs sheet) ≤ 256 → HasTextPacks sheet }
 {

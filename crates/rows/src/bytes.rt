@@ -6,7 +6,7 @@ use std::collections::BTreeMap;
 /// What earlier rows wrote, by their names.
 pub(crate) type Outputs = BTreeMap<String, Vec<u8>>;
 
-/// The part of an output that `NAME` or `NAME:24..96` names.
+// The part of an output that `NAME` or `NAME:24..96` names.
 fn part_of<'a>(outputs: &'a Outputs, piece: &str) -> Result<&'a [u8]> {
     let (name, range) = match piece.split_once(':') {
         Some((name, range)) => (name, Some(range)),
@@ -24,7 +24,7 @@ fn part_of<'a>(outputs: &'a Outputs, piece: &str) -> Result<&'a [u8]> {
     part.context("the range does not fit the output")
 }
 
-/// Adds bytes so many times.
+// Adds bytes so many times.
 fn add_times(bytes: &mut Vec<u8>, times: u32, unit: &[u8]) -> Result<(), AllocError> {
     if let [byte] = unit {
         let len = bytes.len().saturating_add(times as usize);
@@ -36,7 +36,7 @@ fn add_times(bytes: &mut Vec<u8>, times: u32, unit: &[u8]) -> Result<(), AllocEr
     Ok(())
 }
 
-/// Adds the bytes of a piece such as `0a`, `192*00`, `@name` or `24*@name:0..96`.
+// Adds the bytes of a piece such as `0a`, `192*00`, `@name` or `24*@name:0..96`.
 fn add_piece(alloc: Global, bytes: &mut Vec<u8>, piece: &str, outputs: &Outputs) -> Result<()> {
     let (times, unit) = match piece.split_once('*') {
         Some((times, unit)) => (times.parse::<u32>()?, unit),

@@ -13,7 +13,7 @@ use std::alloc::Global;
 use std::process::ExitCode;
 use std::{env, fs};
 
-/// Runs a row, and keeps what it wrote under its name.
+// Runs a row, and keeps what it wrote under its name.
 fn run_one(alloc: Global, mut row: Row, outputs: &mut Outputs) -> Result<()> {
     ensure!(!outputs.contains_key(&row.name), "the name is taken");
     let output = trial::run_row(alloc, &mut row)?;
@@ -21,7 +21,7 @@ fn run_one(alloc: Global, mut row: Row, outputs: &mut Outputs) -> Result<()> {
     Ok(())
 }
 
-/// Runs the rows of a text, and answers how many there are.
+// Runs the rows of a text, and answers how many there are.
 fn run_rows(alloc: Global, text: &str, outputs: &mut Outputs) -> Result<u32> {
     let mut count = 0u32;
     for stanza in text.split("\n\n") {
@@ -36,7 +36,7 @@ fn run_rows(alloc: Global, text: &str, outputs: &mut Outputs) -> Result<u32> {
     Ok(count)
 }
 
-/// Prints how many rows a file has, or what is wrong with its first wrong one. Answers whether none is.
+// Prints how many rows a file has, or what is wrong with its first wrong one. Answers whether none is.
 fn run_file(rt: &HostRuntime, name: &str, outputs: &mut Outputs) -> Result<bool> {
     let ran = match fs::read_to_string(rt, name) {
         Ok(text) => run_rows(rt.alloc(), &text, outputs),
@@ -49,7 +49,7 @@ fn run_file(rt: &HostRuntime, name: &str, outputs: &mut Outputs) -> Result<bool>
     Ok(ran.is_ok())
 }
 
-/// Runs the files, and answers whether nothing is wrong with any.
+// Runs the files, and answers whether nothing is wrong with any.
 fn run_files(rt: &HostRuntime) -> Result<bool> {
     let mut outputs = Outputs::new(rt.alloc());
     let mut is_well = true;

@@ -77,7 +77,7 @@ impl Row {
         }
     }
 
-    /// Reads a line that says something of an input or an output; answers whether it is one.
+    // Reads a line that says something of an input or an output; answers whether it is one.
     fn read_side(
         &mut self,
         alloc: Global,
@@ -99,7 +99,7 @@ impl Row {
         Ok(true)
     }
 
-    /// Reads a line that says how much is wanted of the output; answers whether it is one.
+    // Reads a line that says how much is wanted of the output; answers whether it is one.
     fn read_extent(
         &mut self,
         alloc: Global,
@@ -128,7 +128,7 @@ impl Row {
         Ok(true)
     }
 
-    /// Reads any other line.
+    // Reads any other line.
     fn read_rest(&mut self, alloc: Global, key: &str, value: &str) -> Result<()> {
         match key {
             "row" | "bytes" => {
@@ -151,7 +151,7 @@ impl Row {
         Ok(())
     }
 
-    /// Reads a line of a row.
+    // Reads a line of a row.
     fn read_line(&mut self, alloc: Global, line: &str, outputs: &Outputs) -> Result<()> {
         let (key, value) = line.split_once(' ').unwrap_or((line, ""));
         let is_read = self.read_side(alloc, key, value, outputs)?

@@ -8,19 +8,19 @@ use sha2::{Digest, Sha256};
 use std::alloc::{AllocError, Global};
 use std::mem::replace;
 
-/// The first place where two lists differ.
+// The first place where two lists differ.
 fn first_difference(wanted: &[u8], got: &[u8]) -> usize {
     let differs = wanted.iter().zip(got.iter()).position(|(a, b)| a != b);
     differs.unwrap_or(wanted.len().min(got.len()))
 }
 
-/// Up to sixteen bytes from a place on.
+// Up to sixteen bytes from a place on.
 fn shown(alloc: Global, bytes: &[u8], place: usize) -> Result<String, AllocError> {
     let rest = bytes.get(place..).unwrap_or(&[]);
     hex::encode(alloc, &rest[..rest.len().min(16)])
 }
 
-/// Fails where two lists differ.
+// Fails where two lists differ.
 fn compare(alloc: Global, what: &str, wanted: &[u8], got: &[u8]) -> Result<()>
     ensures { OnOk result (wanted.now ≡ got.now) }
 {
@@ -33,7 +33,7 @@ fn compare(alloc: Global, what: &str, wanted: &[u8], got: &[u8]) -> Result<()>
     Ok(())
 }
 
-/// Fails where a number is not the one that is wanted.
+// Fails where a number is not the one that is wanted.
 fn compare_count(what: &str, wanted: Option<usize>, got: usize) -> Result<()> {
     if let Some(wanted) = wanted {
         ensure!(wanted == got, "{what}: wanted {wanted}, got {got}");
@@ -41,14 +41,14 @@ fn compare_count(what: &str, wanted: Option<usize>, got: usize) -> Result<()> {
     Ok(())
 }
 
-/// Fails where these bytes do not stand at their place.
+// Fails where these bytes do not stand at their place.
 fn compare_part(alloc: Global, part: &Part, got: &[u8]) -> Result<()> {
     let rest = got.get(part.place..).unwrap_or(&[]);
     let there = &rest[..rest.len().min(part.bytes.len())];
     compare(alloc, "part of out", &part.bytes, there)
 }
 
-/// Fails where the output is no beginning of the bytes of the row, or as long.
+// Fails where the output is no beginning of the bytes of the row, or as long.
 fn compare_beginning(alloc: Global, row: &Row, got: &[u8]) -> Result<()> {
     let whole = row.out.bytes.as_slice();
     let (most, len) = (whole.len(), got.len());
@@ -56,7 +56,7 @@ fn compare_beginning(alloc: Global, row: &Row, got: &[u8]) -> Result<()> {
     compare(alloc, "out", whole.get(..len).unwrap_or(&[]), got)
 }
 
-/// Whether a text has a line.
+// Whether a text has a line.
 fn has_line(text: &[u8], line: &str) -> bool {
     let mut rest = text;
     for _ in 0..text.len() {
@@ -72,7 +72,7 @@ fn has_line(text: &[u8], line: &str) -> bool {
     false
 }
 
-/// Fails where an output is not what a row wants.
+// Fails where an output is not what a row wants.
 fn compare_output(alloc: Global, row: &Row, got: &[u8]) -> Result<()> {
     match row.extent {
         Extent::Whole if row.has_parts && row.out.bytes.is_empty() => {}

@@ -38,7 +38,7 @@ pub fn correct(received: &Word) -> Option<Fixed>
     correct_by(received, syndromes)
 }
 
-/// The same, for a word that is no codeword, by its syndromes.
+// The same, for a word that is no codeword, by its syndromes.
 fn correct_by(received: &Word, syndromes: Syndromes) -> Option<Fixed>
     requires no_codeword { ¬ IsCodeword received.now }
     requires syndromes { AreSyndromes received.now syndromes.lanes }
@@ -56,7 +56,7 @@ fn correct_by(received: &Word, syndromes: Syndromes) -> Option<Fixed>
     None
 }
 
-/// The codeword that a word is without its error.
+// The codeword that a word is without its error.
 #[inline]
 fn without_one(received: &Word, syndromes: Syndromes, error: SymbolError) -> Fixed
     requires syndromes { AreSyndromes received.now syndromes.lanes }
@@ -73,7 +73,7 @@ fn without_one(received: &Word, syndromes: Syndromes, error: SymbolError) -> Fix
     }
 }
 
-/// The codeword that a word is without its two errors.
+// The codeword that a word is without its two errors.
 #[inline]
 fn without_two(received: &Word, syndromes: Syndromes, errors: TwoErrors) -> Fixed
     requires syndromes { AreSyndromes received.now syndromes.lanes }

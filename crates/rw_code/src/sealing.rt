@@ -6,7 +6,7 @@ ghost use Rattle.rw_code.specs.Syndromes.{ContinuesTo};
 use crate::Word;
 use gf64::Sym;
 
-/// The two parity symbols after some symbols, by which their sums at 0 and 1 are 0.
+// The two parity symbols after some symbols, by which their sums at 0 and 1 are 0.
 #[derive(Clone, Copy)]
 struct FirstParity {
     high: Sym,
@@ -14,7 +14,7 @@ struct FirstParity {
 }
 
 impl FirstParity {
-    /// Those after one more symbol: the remainder by (x + 1)(x + α).
+    // Those after one more symbol: the remainder by (x + 1)(x + α).
     fn push(self, symbol: Sym) -> FirstParity
         ensures { ContinuesTo 2 (self.high ∷ self.low ∷ []) symbol (result.high ∷ result.low ∷ []) }
     {
@@ -26,7 +26,7 @@ impl FirstParity {
     }
 }
 
-/// The four parity symbols after some symbols, by which their sums at 0 to 3 are 0.
+// The four parity symbols after some symbols, by which their sums at 0 to 3 are 0.
 #[derive(Clone, Copy)]
 struct WholeParity {
     first: Sym,
@@ -36,7 +36,7 @@ struct WholeParity {
 }
 
 impl WholeParity {
-    /// Those after one more symbol: the remainder by (x + 1)(x + α)(x + α²)(x + α³).
+    // Those after one more symbol: the remainder by (x + 1)(x + α)(x + α²)(x + α³).
     fn push(self, symbol: Sym) -> WholeParity
         ensures { ContinuesTo 4
             (self.first ∷ self.second ∷ self.third ∷ self.fourth ∷ [])
@@ -84,7 +84,7 @@ pub(crate) fn with_body(word: Word, body: &[Sym; 16]) -> Word
     word
 }
 
-/// The parity symbols for positions 20 to 23.
+// The parity symbols for positions 20 to 23.
 fn whole_parity(word: &Word) -> WholeParity
     ensures { (j : ℕ) → j < 4 → weighted_sum j (take 20 word.now
         ++ result.first ∷ result.second ∷ result.third ∷ result.fourth ∷ []) ≡ 0 }

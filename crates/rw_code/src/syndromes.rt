@@ -59,7 +59,7 @@ impl Syndromes {
         }
     }
 
-    /// One of the six.
+    // One of the six.
     #[inline]
     fn lane(self, j: u32) -> Sym
         requires { j < 6 }

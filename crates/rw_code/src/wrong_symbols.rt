@@ -24,7 +24,7 @@ pub(crate) struct TwoErrors {
 }
 
 impl SymbolError {
-    /// Its part in the six sums.
+    // Its part in the six sums.
     #[inline]
     fn entry(&self) -> u64
         requires { self.now.position < 24 }
@@ -54,7 +54,7 @@ pub(crate) fn one_error(syndromes: Syndromes) -> Option<SymbolError>
     })
 }
 
-/// The position whose power is the first sum over the zeroth.
+// The position whose power is the first sum over the zeroth.
 #[inline]
 fn single_position(zeroth: Sym, first: Sym) -> Option<usize>
     ensures only { (i : ℕ) → IsError i zeroth → product (alpha_power (23 - i)) zeroth ≡ first
@@ -91,7 +91,7 @@ pub(crate) fn two_errors(syndromes: Syndromes) -> Option<TwoErrors>
     Some(errors)
 }
 
-/// A square polynomial that is 0 at the powers of both wrong positions, where two are wrong.
+// A square polynomial that is 0 at the powers of both wrong positions, where two are wrong.
 #[derive(Clone, Copy)]
 struct Locator {
     square: Sym,
@@ -99,14 +99,14 @@ struct Locator {
     constant: Sym,
 }
 
-/// Two positions, in order.
+// Two positions, in order.
 #[derive(Clone, Copy)]
 struct Places {
     first: usize,
     second: usize,
 }
 
-/// How two powers of alpha lie to each other.
+// How two powers of alpha lie to each other.
 #[derive(Clone, Copy)]
 struct Pair {
     difference: usize,
@@ -114,7 +114,7 @@ struct Pair {
 }
 
 impl Locator {
-    /// That of the sums of a word.
+    // That of the sums of a word.
     fn of(sums: &Sums) -> Locator
         ensures { IsLocator sums.now result }
     {
@@ -125,8 +125,8 @@ impl Locator {
         }
     }
 
-    /// The two positions at whose powers it is 0. The logarithm of its constant times its square coefficient over
-    /// the square of its linear one depends on the difference of their exponents alone.
+    // The two positions at whose powers it is 0. The logarithm of its constant times its square coefficient over
+    // the square of its linear one depends on the difference of their exponents alone.
     #[inline]
     fn places(self) -> Option<Places>
         ensures only { (i j : ℕ) → i < j → j < 24 → IsLocatorOf self i j
@@ -152,7 +152,7 @@ impl Locator {
     }
 }
 
-/// The pair of powers of which the product over the square of the sum has this logarithm.
+// The pair of powers of which the product over the square of the sum has this logarithm.
 #[inline]
 fn pair_at(ratio: usize) -> Pair
     requires { ratio < 63 }
@@ -166,7 +166,7 @@ fn pair_at(ratio: usize) -> Pair
     }
 }
 
-/// The errors at two positions that have the first two sums.
+// The errors at two positions that have the first two sums.
 fn errors_at(sums: &Sums, places: Places) -> Option<TwoErrors>
     requires { (places.first < places.second) × (places.second < 24) }
     ensures only { (e f : ℕ) → AreTwoSums sums.now places e f → result ≡ Some (record {
@@ -199,7 +199,7 @@ fn errors_at(sums: &Sums, places: Places) -> Option<TwoErrors>
     })
 }
 
-/// The power of alpha that the sum at 1 has at a position.
+// The power of alpha that the sum at 1 has at a position.
 #[inline]
 fn power_at(i: usize) -> Sym
     requires { i < 24 }

@@ -7,7 +7,7 @@ use Rattle.rw_code.specs.Codeword.{IsNear}
 use Rattle.rw_code.specs.Finding.{IsFinding}
 use Rattle.rw_interleave.specs.Interleave.{word_of, whole_packs}
 use Rattle.raw_subcode.specs.declared.form.Form.{Form}
-use Rattle.raw_subcode.specs.declared.form.Form.TheVariants.{Raw, Sector, Cooked}
+use Rattle.raw_subcode.specs.declared.form.Form.TheVariants.{Cooked}
 
 -- how many words so many blocks hold
 abbrev pub word_count : Form → ℕ → ℕ

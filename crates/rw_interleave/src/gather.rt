@@ -77,7 +77,7 @@ impl Stage for Gather {
     }
 }
 
-/// The word of eight slots.
+// The word of eight slots.
 #[tactic(auto, unfolding(crate::specs::Gathering::gathered))]
 fn gathered(slots: &HeapCircularBuffer<Slot>) -> Word
     requires { length slots.now.items ≡ 8 }
@@ -93,7 +93,7 @@ fn gathered(slots: &HeapCircularBuffer<Slot>) -> Word
     Word::new(&bytes)
 }
 
-/// The symbols of one of eight slots.
+// The symbols of one of eight slots.
 fn slot_at(slots: &HeapCircularBuffer<Slot>, k: usize) -> [u8; 24]
     requires slots { length slots.now.items ≡ 8 }
     requires k { k < 8 }
@@ -103,7 +103,7 @@ fn slot_at(slots: &HeapCircularBuffer<Slot>, k: usize) -> [u8; 24]
     slots.get(k).unwrap().bytes()
 }
 
-/// Brings the symbol at a position of a slot to where it stands in a word.
+// Brings the symbol at a position of a slot to where it stands in a word.
 fn bring(word: &mut [u8; 24], slot: &[u8; 24], position: usize)
     requires { position < 24 }
     ensures { word.new ≡ slice_set word.old (swapped position) (slice_index slot.now position) }

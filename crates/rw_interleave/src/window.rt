@@ -8,17 +8,15 @@ ghost use Rattle.rw_interleave.specs.Windows.{slots_in};
 use crate::Slot;
 use crate::slot::SPAN;
 use arrayvec::ArrayVec;
+use raw_subcode::BLOCK_BYTES;
 use rw_code::{SYMBOLS, Word};
 use std::marker::Model;
 
-/// The bytes of a block of four slots.
-const BLOCK: usize = 96;
-
-/// The bytes of the slots before a block of which a word may have symbols.
+// The bytes of the slots before a block of which a word may have symbols.
 const BEFORE: usize = 168;
 
-/// The bytes of both.
-const ALL: usize = BEFORE + BLOCK;
+// The bytes of both.
+const ALL: usize = BEFORE + BLOCK_BYTES;
 
 /// Gathers words from blocks of four slots. Seen as the last slots, at most seven.
 #[derive(Drop)]
@@ -64,7 +62,7 @@ impl Window {
 
     /// Whether the words that come with a block are four of zeros, and the slots stay as they are.
     #[inline]
-    pub fn stays_idle(&self, block: &[u8; BLOCK]) -> bool
+    pub fn stays_idle(&self, block: &[u8; BLOCK_BYTES]) -> bool
         ensures next { result ≡ true → self.now ≡ run_state gather_next self.now (slots_in block.now 0 4) }
         ensures gives { result ≡ true → replicate 4 (replicate 24 0)
             ≡ run_gives gather_next gather_gives self.now (slots_in block.now 0 4) }
@@ -78,7 +76,7 @@ impl Window {
     /// Takes the four slots of a block, which are the low six bits of its bytes, and gives the words whose last symbol
     /// came with them.
     #[inline]
-    pub fn push_block(&mut self, block: &[u8; BLOCK]) -> ArrayVec<Word, 4>
+    pub fn push_block(&mut self, block: &[u8; BLOCK_BYTES]) -> ArrayVec<Word, 4>
         ensures next { self.new ≡ run_state gather_next self.old (slots_in block.now 0 4) }
         ensures gives { result.items ≡ run_gives gather_next gather_gives self.old (slots_in block.now 0 4) }
     {
@@ -89,10 +87,10 @@ impl Window {
         self.gather_block(block, idle)
     }
 
-    /// The same, where there may be something to gather. It is a function of its own so that idle blocks do not pay for
-    /// its variables.
+    // The same, where there may be something to gather. It is a function of its own so that idle blocks do not pay for
+    // its variables.
     #[inline(never)]
-    fn gather_block(&mut self, block: &[u8; BLOCK], idle: bool) -> ArrayVec<Word, 4>
+    fn gather_block(&mut self, block: &[u8; BLOCK_BYTES], idle: bool) -> ArrayVec<Word, 4>
         ensures next { self.new ≡ run_state gather_next self.old (slots_in block.now 0 4) }
         ensures gives { result.items ≡ run_gives gather_next gather_gives self.old (slots_in block.now 0 4) }
     {
@@ -115,7 +113,7 @@ impl Window {
     }
 }
 
-/// Whether the low six bits of all bytes are 0.
+// Whether the low six bits of all bytes are 0.
 #[inline]
 fn are_idle(bytes: &[u8]) -> bool
     ensures { result ≡ true → (n : ℕ) → n < length bytes.now → slice_index bytes.now n % 64 ≡ 0 }
@@ -127,7 +125,7 @@ fn are_idle(bytes: &[u8]) -> bool
     all % 64 == 0
 }
 
-/// Whether seven slots have come, with no symbol but 0.
+// Whether seven slots have come, with no symbol but 0.
 fn are_quiet(bytes: &[u8; ALL], count: usize) -> bool
     ensures full { result ≡ true → count ≡ 7 }
     ensures zeros { result ≡ true → (n : ℕ) → n < 168 → slice_index bytes.now n % 64 ≡ 0 }
@@ -135,26 +133,26 @@ fn are_quiet(bytes: &[u8; ALL], count: usize) -> bool
     count == SPAN - 1 && are_idle(&bytes[..BEFORE])
 }
 
-/// Puts a block behind the slots before it.
+// Puts a block behind the slots before it.
 #[inline]
-fn put(bytes: &mut [u8; ALL], block: &[u8; BLOCK])
+fn put(bytes: &mut [u8; ALL], block: &[u8; BLOCK_BYTES])
     ensures before { (n : ℕ) → n < 168 → slice_index bytes.new n ≡ slice_index bytes.old n }
     ensures block { (n : ℕ) → n < 96 → slice_index bytes.new (168 + n) ≡ slice_index block.now n }
 {
     bytes[BEFORE..].copy_from_slice(block);
 }
 
-/// Moves the last seven slots to the front.
+// Moves the last seven slots to the front.
 #[inline]
 fn move_up(bytes: &mut [u8; ALL])
     ensures { (n : ℕ) → n < 168 → slice_index bytes.new n ≡ slice_index bytes.old (96 + n) }
 {
     for i in 0..BEFORE {
-        bytes[i] = bytes[BLOCK + i];
+        bytes[i] = bytes[BLOCK_BYTES + i];
     }
 }
 
-/// Puts a slot behind the slots before it.
+// Puts a slot behind the slots before it.
 fn put_slot(bytes: &mut [u8; ALL], slot: &[u8; SYMBOLS])
     ensures before { (n : ℕ) → n < 168 → slice_index bytes.new n ≡ slice_index bytes.old n }
     ensures slot { (n : ℕ) → n < 24 → slice_index bytes.new (168 + n) ≡ slice_index slot.now n }
@@ -164,7 +162,7 @@ fn put_slot(bytes: &mut [u8; ALL], slot: &[u8; SYMBOLS])
     }
 }
 
-/// Moves the last seven slots to the front, where one has come.
+// Moves the last seven slots to the front, where one has come.
 fn move_slot_up(bytes: &mut [u8; ALL])
     ensures { (n : ℕ) → n < 168 → slice_index bytes.new n ≡ slice_index bytes.old (24 + n) }
 {
@@ -173,7 +171,7 @@ fn move_slot_up(bytes: &mut [u8; ALL])
     }
 }
 
-/// The words that come with a block, where so many slots have come before it.
+// The words that come with a block, where so many slots have come before it.
 #[inline]
 fn words_of(bytes: &[u8; ALL], count: usize) -> ArrayVec<Word, 4>
     requires { count ≤ 7 }
@@ -189,7 +187,7 @@ fn words_of(bytes: &[u8; ALL], count: usize) -> ArrayVec<Word, 4>
     words
 }
 
-/// The word of eight slots from one on: its symbols are where a pack's are spread to.
+// The word of eight slots from one on: its symbols are where a pack's are spread to.
 #[inline]
 fn word_at(bytes: &[u8; ALL], first: usize) -> Word
     requires { first < 4 }
@@ -224,7 +222,7 @@ fn word_at(bytes: &[u8; ALL], first: usize) -> Word
     ])
 }
 
-/// Four words of zeros.
+// Four words of zeros.
 #[inline]
 fn idle_words() -> ArrayVec<Word, 4>
     ensures { result.items ≡ replicate 4 (replicate 24 0) }

@@ -11,7 +11,8 @@ use Rattle.rw_interleave.specs.Gathering.{gather_next, gather_gives}
 use Rattle.rw_interleave.specs.Stream.{bad_count}
 use Rattle.rw_interleave.specs.Texts.{cdg_bytes}
 use Rattle.cdg_io.specs.Change.{from_to}
-use Rattle.rw_merge.specs.Merging.{GivesMergedText, IsAnswer, IsMergedText, Merges, most_blocks}
+use Rattle.raw_subcode.specs.Sizes.{most_units}
+use Rattle.rw_merge.specs.Merging.{GivesMergedText, IsAnswer, IsMergedText, Merges}
 use Rattle.rw_merge.specs.Windows.{Windows}
 use Rattle.rw_merge.specs.Steps.{AreAgreements, IsEndRead, IsHalfRead, IsPairRead, leading_slots, taken_of, window_after, words_after}
 use Rattle.rw_merge.specs.declared.merge.Merged.{Merged}
@@ -130,7 +131,7 @@ half_answer blocks a left us size half =
       | inr none ↦ let zero_long : length us ≡ 0 = ap length none.0 in (omega (arith, size, zero_long), λ e. omega (arith, size, zero_long))
     ]
 
-pair_answer : (lead_in blocks a b : ℕ) (left other : Option (List ℕ)) (stop : MergeStop) (us vs : List ℕ) → a ≡ blocks * 96 + length us → b ≡ blocks * 96 + length vs → blocks < most_blocks
+pair_answer : (lead_in blocks a b : ℕ) (left other : Option (List ℕ)) (stop : MergeStop) (us vs : List ℕ) → a ≡ blocks * 96 + length us → b ≡ blocks * 96 + length vs → blocks < most_units
     → IsPairRead blocks (Err stop) (taken_of us left) (taken_of vs other) → IsAnswer lead_in (Err stop) a b
 pair_answer lead_in blocks a b left other FirstFault us vs a_is b_is lt read = tt
 pair_answer lead_in blocks a b left other SecondFault us vs a_is b_is lt read = tt
@@ -154,7 +155,7 @@ pair_answer lead_in blocks a b left other (Unequal n) us vs a_is b_is lt (same, 
           (omega arith, omega arith, λ e. absurd (omega (arith, e)), λ e. omega arith, λ e. absurd (omega (arith, e)))
     ]
 
-end_answer : (lead_in blocks a b : ℕ) (left other : Option (List ℕ)) (stop : MergeStop) (us vs : List ℕ) → a ≡ blocks * 96 + length us → b ≡ blocks * 96 + length vs → blocks ≡ most_blocks
+end_answer : (lead_in blocks a b : ℕ) (left other : Option (List ℕ)) (stop : MergeStop) (us vs : List ℕ) → a ≡ blocks * 96 + length us → b ≡ blocks * 96 + length vs → blocks ≡ most_units
     → IsEndRead (Err stop) (taken_of us left) (taken_of vs other) → IsAnswer lead_in (Err stop) a b
 end_answer lead_in blocks a b left other FirstFault us vs a_is b_is all read = tt
 end_answer lead_in blocks a b left other SecondFault us vs a_is b_is all read = tt
@@ -167,7 +168,7 @@ end_answer lead_in blocks a b left other (Unequal n) us vs a_is b_is all read = 
 
 -- No further pair is whole, and no write failed.
 pub stops : (lead_in blocks : ℕ) (left left' other other' held held' : Option (List ℕ)) (w v : List (List ℕ)) (bad : ℕ) (xs ys us vs : List ℕ) (result : Result Merged MergeStop)
-    → Works lead_in blocks left left' other other' held held' w v bad xs ys → length us ≤ 96 → length vs ≤ 96 → (length us < 96) ⊎ (length vs < 96) → blocks * 96 + length us ≤ most_blocks * 96 + 1
+    → Works lead_in blocks left left' other other' held held' w v bad xs ys → length us ≤ 96 → length vs ≤ 96 → (length us < 96) ⊎ (length vs < 96) → blocks * 96 + length us ≤ most_units * 96 + 1
     → result ≢ Err WriteFault → (((a b : ℕ) → a ≡ blocks * 96 + length us → b ≡ blocks * 96 + length vs → IsAnswer lead_in result a b))
     → IfOk result (λ merged. (text : List ℕ) × IsMergedText lead_in (xs ++ us) (ys ++ vs) text merged.bad × Appends held held' text)
     → Merges lead_in (from_to held held') result (xs ++ us) (ys ++ vs)
@@ -187,7 +188,7 @@ stops lead_in blocks left left' other other' held held' w v bad xs ys us vs resu
 
 -- Both inputs are at their end.
 pub ends : (lead_in blocks total : ℕ) (left left' other other' held held' : Option (List ℕ)) (w v : List (List ℕ)) (bad : ℕ) (xs ys us vs : List ℕ)
-    → Works lead_in blocks left left' other other' held held' w v bad xs ys → us ≡ [] → vs ≡ [] → blocks ≤ most_blocks → total ≡ blocks - lead_in
+    → Works lead_in blocks left left' other other' held held' w v bad xs ys → us ≡ [] → vs ≡ [] → blocks ≤ most_units → total ≡ blocks - lead_in
     → Merges lead_in (from_to held held') (Ok (record { blocks = total; bad = bad })) (xs ++ us) (ys ++ vs)
 ends lead_in blocks total left left' other other' held held' w v bad xs ys us vs works u_is v_is within total_is =
     let f = works.is_found in
@@ -239,7 +240,7 @@ short_end left other (SecondTorn n) us vs read = absurd read
 short_end left other (Unequal n) us vs read = absurd read
 
 pub pair_stops : (lead_in blocks : ℕ) (left left' left'' other other' other'' held held' : Option (List ℕ)) (w v : List (List ℕ)) (bad : ℕ) (xs ys us vs : List ℕ) (stop : MergeStop)
-    → Works lead_in blocks left left' other other' held held' w v bad xs ys → Consumes left' left'' us → Consumes other' other'' vs → IsPairRead blocks (Err stop) (taken_of us left'') (taken_of vs other'') → blocks < most_blocks
+    → Works lead_in blocks left left' other other' held held' w v bad xs ys → Consumes left' left'' us → Consumes other' other'' vs → IsPairRead blocks (Err stop) (taken_of us left'') (taken_of vs other'') → blocks < most_units
     → (xs' ys' : List ℕ) × Consumes left left'' xs' × Consumes other other'' ys' × Merges lead_in (from_to held held') (Err stop) xs' ys'
 pair_stops lead_in blocks left left' left'' other other' other'' held held' w v bad xs ys us vs stop works first second read lt =
     let is = short_pair blocks left'' other'' stop us vs read in (
@@ -252,7 +253,7 @@ pair_stops lead_in blocks left left' left'' other other' other'' held held' w v 
     )
 
 pub end_stops : (lead_in blocks : ℕ) (left left' left'' other other' other'' held held' : Option (List ℕ)) (w v : List (List ℕ)) (bad : ℕ) (xs ys us vs : List ℕ) (stop : MergeStop)
-    → Works lead_in blocks left left' other other' held held' w v bad xs ys → Consumes left' left'' us → Consumes other' other'' vs → IsEndRead (Err stop) (taken_of us left'') (taken_of vs other'') → blocks ≡ most_blocks
+    → Works lead_in blocks left left' other other' held held' w v bad xs ys → Consumes left' left'' us → Consumes other' other'' vs → IsEndRead (Err stop) (taken_of us left'') (taken_of vs other'') → blocks ≡ most_units
     → (xs' ys' : List ℕ) × Consumes left left'' xs' × Consumes other other'' ys' × Merges lead_in (from_to held held') (Err stop) xs' ys'
 end_stops lead_in blocks left left' left'' other other' other'' held held' w v bad xs ys us vs stop works first second read all =
     let (one, two, is_other) = short_end left'' other'' stop us vs read in (
@@ -265,7 +266,7 @@ end_stops lead_in blocks left left' left'' other other' other'' held held' w v b
     )
 
 pub both_end : (lead_in blocks total : ℕ) (left left' left'' other other' other'' held held' : Option (List ℕ)) (w v : List (List ℕ)) (bad : ℕ) (xs ys us vs : List ℕ)
-    → Works lead_in blocks left left' other other' held held' w v bad xs ys → Consumes left' left'' us → Consumes other' other'' vs → us ≡ [] → vs ≡ [] → blocks ≤ most_blocks → total ≡ blocks - lead_in
+    → Works lead_in blocks left left' other other' held held' w v bad xs ys → Consumes left' left'' us → Consumes other' other'' vs → us ≡ [] → vs ≡ [] → blocks ≤ most_units → total ≡ blocks - lead_in
     → (xs' ys' : List ℕ) × Consumes left left'' xs' × Consumes other other'' ys' × Merges lead_in (from_to held held') (Ok (record { blocks = total; bad = bad })) xs' ys'
 both_end lead_in blocks total left left' left'' other other' other'' held held' w v bad xs ys us vs works first second u_is v_is le total_is = (
   xs ++ us,
@@ -314,7 +315,7 @@ works_skipped lead_in blocks left left' left'' other other' other'' held held' w
 
 -- A write failed within the text of the last pair.
 pub write_stops : (lead_in blocks : ℕ) (left left' left'' other other' other'' held held' held'' : Option (List ℕ)) (w v w' v' : List (List ℕ)) (bad more : ℕ) (xs ys us vs text : List ℕ)
-    → Works lead_in blocks left left' other other' held held' w v bad xs ys → Consumes left' left'' us → Consumes other' other'' vs → length us ≡ 96 → length vs ≡ 96 → lead_in ≤ blocks → blocks < most_blocks
+    → Works lead_in blocks left left' other other' held held' w v bad xs ys → Consumes left' left'' us → Consumes other' other'' vs → length us ≡ 96 → length vs ≡ 96 → lead_in ≤ blocks → blocks < most_units
     → IsPairFound w v us vs w' v' text more → AppendsPrefix held' held'' text
     → (xs' ys' : List ℕ) × Consumes left left'' xs' × Consumes other other'' ys' × Merges lead_in (from_to held held'') (Err WriteFault) xs' ys'
 write_stops lead_in blocks left left' left'' other other' other'' held held' held'' w v w' v' bad more xs ys us vs text works first second u_size v_size le lt pair put =

@@ -5,6 +5,7 @@ use Rattle.cdg_io.specs.Causes.{Rose}
 use Rattle.cdg_io.specs.Change.{Bytes, Change}
 use Rattle.cdg_io.specs.Moves.{AppendsBetween}
 use Rattle.raw_subcode.specs.Channels.{program_symbols}
+use Rattle.raw_subcode.specs.Sizes.{most_units}
 use Rattle.raw_subcode.specs.declared.form.Form.TheVariants.{Raw}
 use Rattle.rw_interleave.specs.Interleave.{word_of, whole_packs}
 use Rattle.rw_interleave.specs.Stream.{bad_count}
@@ -13,10 +14,6 @@ use Rattle.rw_merge.specs.Agreement.{IsAgreement}
 use Rattle.rw_merge.specs.declared.merge.Merged.{Merged}
 use Rattle.rw_merge.specs.declared.merge.MergeStop.{MergeStop}
 use Rattle.rw_merge.specs.declared.merge.MergeStop.TheVariants.{FirstFault, SecondFault, WriteFault, TooLong, Torn, SecondTorn, Unequal}
-
--- the most blocks that are read of an input
-abbrev pub most_blocks : ℕ
-most_blocks = 1000000
 
 -- what is found for each word of the symbols of two readings of so many program blocks
 pub record IsMerged (blocks : ℕ) (first second : List ℕ) (found : List (Option (List ℕ))) : Type 0 where
@@ -41,16 +38,16 @@ GivesMergedText n lead_in first second text = (bad : ℕ)
 -- The answer to so many bytes of two inputs, where no read or write fails. The first block that not both have whole
 -- is looked at in this order: a rest of the first, a rest of the second, a block that one of them has.
 abbrev pub IsAnswer : ℕ → Result Merged MergeStop → ℕ → ℕ → Type 0
-IsAnswer lead_in (Ok merged) first second = (first ≤ most_blocks * 96) × (second ≡ first) × (first % 96 ≡ 0)
+IsAnswer lead_in (Ok merged) first second = (first ≤ most_units * 96) × (second ≡ first) × (first % 96 ≡ 0)
     × (merged.blocks ≡ first / 96 - lead_in)
-IsAnswer lead_in (Err TooLong) first second = (most_blocks ≤ first / 96) × (most_blocks ≤ second / 96)
-    × ((most_blocks * 96 < first) ⊎ (most_blocks * 96 < second))
-IsAnswer lead_in (Err (Torn block)) first second = (block < most_blocks) × (block ≤ second / 96)
+IsAnswer lead_in (Err TooLong) first second = (most_units ≤ first / 96) × (most_units ≤ second / 96)
+    × ((most_units * 96 < first) ⊎ (most_units * 96 < second))
+IsAnswer lead_in (Err (Torn block)) first second = (block < most_units) × (block ≤ second / 96)
     × (first / 96 ≡ block) × (first % 96 ≢ 0)
-IsAnswer lead_in (Err (SecondTorn block)) first second = (block < most_blocks) × (block ≤ first / 96)
+IsAnswer lead_in (Err (SecondTorn block)) first second = (block < most_units) × (block ≤ first / 96)
     × (first / 96 ≡ block → first % 96 ≡ 0)
     × (second / 96 ≡ block) × (second % 96 ≢ 0)
-IsAnswer lead_in (Err (Unequal blocks)) first second = (blocks < most_blocks)
+IsAnswer lead_in (Err (Unequal blocks)) first second = (blocks < most_units)
     × (blocks ≡ min (first / 96) (second / 96)) × (first / 96 ≢ second / 96)
     × (first / 96 ≡ blocks → first % 96 ≡ 0) × (second / 96 ≡ blocks → second % 96 ≡ 0)
 IsAnswer lead_in (Err FirstFault) first second = ⊤
@@ -62,7 +59,7 @@ pub record Merges (lead_in : ℕ) (held : Change Bytes) (result : Result Merged 
     (first second : List ℕ) : Type 0 where
   -- of neither is more taken than a block beyond the other
   pub in_step : (length first ≤ length second + 96) × (length second ≤ length first + 96)
-  pub within : length first ≤ most_blocks * 96 + 1
+  pub within : length first ≤ most_units * 96 + 1
   pub answer : IsAnswer lead_in result (length first) (length second)
   pub done : IfOk result (λ merged. (text : List ℕ) × IsMergedText lead_in first second text merged.bad
       × Appends held.before held.after text)
@@ -72,7 +69,7 @@ pub record Merges (lead_in : ℕ) (held : Change Bytes) (result : Result Merged 
       text × Appends held.before held.after text
   -- a write failed: nothing after the pair whose text was being put was taken, and the text of those before it is put
   pub in_turn : result ≡ Err WriteFault
-      → (n : ℕ) × (n < most_blocks) × (length first ≡ (n + 1) * 96) × (length second ≡ (n + 1) * 96)
+      → (n : ℕ) × (n < most_units) × (length first ≡ (n + 1) * 96) × (length second ≡ (n + 1) * 96)
       × ((low high : List ℕ) × GivesMergedText n lead_in first second low
       × GivesMergedText (n + 1) lead_in first second high
       × AppendsBetween held.before held.after low high)

@@ -7,14 +7,14 @@ use Rattle.rw_code.specs.Codeword.{differences}
 use Rattle.rw_interleave.specs.Interleave.{Carries, word_of, whole_packs}
 use Rattle.rw_interleave.specs.Stream.{IsDamaged}
 use Rattle.rw_merge.specs.Agreement.{equally_wrong}
-use Rattle.rw_merge.specs.Merging.{most_blocks}
+use Rattle.raw_subcode.specs.Sizes.{most_units}
 use Rattle.rw_merge.specs.declared.merge.Merged.{Merged}
 use Rattle.rw_merge.specs.declared.merge.MergeStop.{MergeStop}
 use Rattle.rw_merge.specs.declared.merge.MergeStop.TheVariants.{FirstFault, SecondFault, WriteFault}
 
 -- the bytes of two readings of equally many blocks, of which so many belong to the lead-in and to the program
 pub record AreReadings (lead_in blocks : ℕ) (first second : List ℕ) : Type 0 where
-  pub few : lead_in + blocks ≤ most_blocks
+  pub few : lead_in + blocks ≤ most_units
   pub first_size : length first ≡ (lead_in + blocks) * 96
   pub second_size : length second ≡ (lead_in + blocks) * 96
 

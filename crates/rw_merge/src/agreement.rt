@@ -8,7 +8,7 @@ use crate::elimination::{Sums, solved};
 use crate::places::wrong_places;
 use rw_code::{Pack, Word, correct};
 
-/// The most that may stand against an agreed codeword.
+// The most that may stand against an agreed codeword.
 const MOST_DOUBTS: u8 = 4;
 
 /// The codeword that is agreed for two readings of a word: twice the symbols that both have equally wrong and those
@@ -31,7 +31,7 @@ pub fn agree(a: &Word, b: &Word) -> Option<Pack>
     Some(fixed.pack)
 }
 
-/// The same for readings that differ.
+// The same for readings that differ.
 fn agree_apart(a: &Word, b: &Word) -> Option<Pack>
     requires differ { a.now ≢ b.now }
     requires word { IsWord a.now }
@@ -49,7 +49,7 @@ fn agree_apart(a: &Word, b: &Word) -> Option<Pack>
     accept(a, b, &solved(a, &sums, &places))
 }
 
-/// The agreed codeword, where it is quickly found: it is one of the readings, or near the first.
+// The agreed codeword, where it is quickly found: it is one of the readings, or near the first.
 fn likely(a: &Word, b: &Word) -> Option<Pack>
     ensures { IfSome result (λ pack. IsAgreed a.now b.now pack) }
 {
@@ -65,7 +65,7 @@ fn likely(a: &Word, b: &Word) -> Option<Pack>
     accept(a, b, &fixed.pack.word())
 }
 
-/// The candidate, if it is a codeword that is agreed.
+// The candidate, if it is a codeword that is agreed.
 fn accept(a: &Word, b: &Word, candidate: &Word) -> Option<Pack>
     ensures { MatchOption result
         (¬ IsAgreed a.now b.now candidate.now)

@@ -47,7 +47,7 @@ impl Sums {
         }
     }
 
-    /// The error at a position, where only symbols at it and at three others are wrong.
+    // The error at a position, where only symbols at it and at three others are wrong.
     fn error_at(&self, at: usize, one: usize, two: usize, three: usize) -> Sym
         requires at { at < 24 }
         requires one { (one < 24) × (one ≢ at) }
@@ -86,7 +86,7 @@ pub(crate) fn solved(word: &Word, sums: &Sums, places: &Places) -> Word
     plus(&three, fourth, sums.error_at(fourth, first, second, third))
 }
 
-/// The word with an error added at a position.
+// The word with an error added at a position.
 fn plus(word: &Word, i: usize, error: Sym) -> Word
     requires { i < 24 }
     ensures { result ≡ slice_set word.now i (bit_xor (slice_index word.now i) error) }
@@ -94,7 +94,7 @@ fn plus(word: &Word, i: usize, error: Sym) -> Word
     word.with(i, word.get(i).add(error))
 }
 
-/// The sum of a word at j.
+// The sum of a word at j.
 fn sum(word: &Word, j: u32) -> Sym
     requires { IsWord word.now }
     ensures { result ≡ weighted_sum j word.now }

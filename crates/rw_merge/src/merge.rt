@@ -3,6 +3,7 @@ ghost use Rattle.std.specs.Prelude.{◌≡◌, ◌≢◌, ◌≤◌, ◌<◌, �
 ghost use Rattle.std.specs.List.{concat};
 ghost use Rattle.std.specs.Io.KnownBytes.{Consumes};
 ghost use Rattle.std.specs.declared.option.Option.{Option};
+ghost use Rattle.disc_time.specs.Counts.{most_lead_in};
 ghost use Rattle.cdg_io.specs.Causes.{Rose};
 ghost use Rattle.cdg_io.specs.Change.{change};
 ghost use Rattle.raw_subcode.specs.Channels.{symbols_of};
@@ -108,7 +109,7 @@ impl Merger {
         second: &mut T,
         out: &mut K,
     ) -> Result<Merged, MergeStop>
-        requires { lead_in ≤ 450000 }
+        requires { lead_in ≤ most_lead_in }
         ensures merges { (xs ys : List ℕ) × Consumes (S.left first.old) (S.left first.new) xs
             × Consumes (T.left second.old) (T.left second.new) ys
             × Merges lead_in (change K.held out.old out.new) result xs ys }
@@ -149,7 +150,7 @@ impl Merger {
         self.merge_pairs(lead_in, first, second, out)
     }
 
-    /// The same from empty windows on.
+    // The same from empty windows on.
     fn merge_pairs<S: Source, T: Source, K: Sink>(
         &mut self,
         lead_in: u32,
@@ -157,7 +158,7 @@ impl Merger {
         second: &mut T,
         out: &mut K,
     ) -> Result<Merged, MergeStop>
-        requires lead_in { lead_in ≤ 450000 }
+        requires lead_in { lead_in ≤ most_lead_in }
         requires first { self.old.first ≡ [] }
         requires second { self.old.second ≡ [] }
         ensures merges { (xs ys : List ℕ) × Consumes (S.left first.old) (S.left first.new) xs
@@ -217,7 +218,7 @@ impl Merger {
         }
     }
 
-    /// The packs that come with a pair of program blocks.
+    // The packs that come with a pair of program blocks.
     fn merge(&mut self, first: &[u8; BLOCK_BYTES], second: &[u8; BLOCK_BYTES]) -> Packs
         requires { length self.old.first ≡ length self.old.second }
         ensures first { self.new.first ≡ window_after self.old.first (leading_slots 4 first.now) }

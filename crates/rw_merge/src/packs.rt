@@ -34,7 +34,7 @@ impl Packs {
         packs
     }
 
-    /// Adds what is agreed for a word: zeros where nothing is.
+    // Adds what is agreed for a word: zeros where nothing is.
     fn add(&mut self, pack: Option<Pack>)
         requires bytes { length self.old.bytes ≤ 72 }
         requires bad { self.old.bad < 4 }

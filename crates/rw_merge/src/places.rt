@@ -54,7 +54,7 @@ pub(crate) fn wrong_places(first: &Word, second: &Word, sums: &Sums) -> Option<P
     }
 }
 
-/// Four positions at which all errors are, where these are at two positions and at most at one further.
+// Four positions at which all errors are, where these are at two positions and at most at one further.
 fn with_further(sums: &Sums, first: usize, second: usize) -> Option<Places>
     requires first { first < 24 }
     requires second { (second < 24) × (second ≢ first) }
@@ -77,7 +77,7 @@ fn with_further(sums: &Sums, first: usize, second: usize) -> Option<Places>
     Some(with_unused(first, second, third))
 }
 
-/// Three positions and one more.
+// Three positions and one more.
 fn with_unused(first: usize, second: usize, third: usize) -> Places
     requires first { first < 24 }
     requires second { (second < 24) × (second ≢ first) }
@@ -95,7 +95,7 @@ fn with_unused(first: usize, second: usize, third: usize) -> Places
     }
 }
 
-/// The only position whose power leads from the zeroth of the sums to the first.
+// The only position whose power leads from the zeroth of the sums to the first.
 fn further_position(sums: &Sums) -> Option<usize>
     requires { sums.now.zeroth ≢ 0 }
     ensures { MatchOption result
@@ -112,7 +112,7 @@ fn further_position(sums: &Sums) -> Option<usize>
     None
 }
 
-/// A position that is none of these.
+// A position that is none of these.
 fn unused(one: usize, two: usize, three: usize) -> usize
     ensures within { result < 24 }
     ensures one { result ≢ one }

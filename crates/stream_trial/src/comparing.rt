@@ -15,7 +15,7 @@ pub(crate) fn agrees(screen: &Screen, canvas: &Canvas) -> bool
         && pixels_agree(screen, canvas)
 }
 
-/// Whether all sixteen colours agree.
+// Whether all sixteen colours agree.
 fn colours_agree(screen: &Screen, canvas: &Canvas) -> bool
     ensures { IsTrue result
         ↔ ((n : ℕ) → n < 16 → (standing_of screen.now).colour n ≡ slice_index canvas.now.colours n) }
@@ -28,7 +28,7 @@ fn colours_agree(screen: &Screen, canvas: &Canvas) -> bool
     true
 }
 
-/// Whether all pixels agree, where the borders do.
+// Whether all pixels agree, where the borders do.
 fn pixels_agree(screen: &Screen, canvas: &Canvas) -> bool
     requires { (standing_of screen.now).border ≡ canvas.now.border }
     ensures { IsTrue result ↔ ((x y : ℕ) → x < 300 → y < 216 → screen_pixel (standing_of screen.now) x y
@@ -42,7 +42,7 @@ fn pixels_agree(screen: &Screen, canvas: &Canvas) -> bool
     true
 }
 
-/// Whether the pixels of a row agree in the window.
+// Whether the pixels of a row agree in the window.
 fn row_agrees(screen: &Screen, canvas: &Canvas, y: u32) -> bool
     requires { y < 216 }
     ensures { IsTrue result ↔ ((x : ℕ) → 6 ≤ x → x < 294
@@ -56,7 +56,7 @@ fn row_agrees(screen: &Screen, canvas: &Canvas, y: u32) -> bool
     true
 }
 
-/// The pixel that a screen is to show: that of the canvas in its window, and else the border.
+// The pixel that a screen is to show: that of the canvas in its window, and else the border.
 fn wanted(canvas: &Canvas, x: u32, y: u32) -> u8
     requires x { x < 300 }
     requires y { y < 216 }

@@ -13,13 +13,13 @@ use cue_sheet::{CueStop, Sheet};
 use picture_script::{Script, ScriptStop};
 use std::alloc::Global;
 
-/// The most bytes of the lines of colours in a generated script.
+// The most bytes of the lines of colours in a generated script.
 const COLOURS_BYTES: usize = 230;
 
-/// The most bytes of the lines of each picture.
+// The most bytes of the lines of each picture.
 const PICTURE_BYTES: usize = 95;
 
-/// A sheet with one track.
+// A sheet with one track.
 const SHEET: &[u8] = b"\
     FILE \"trial\" WAVE\n\
     TRACK 01 AUDIO\n\

@@ -37,7 +37,7 @@ impl Report {
         text
     }
 
-    /// The lines on what was made.
+    // The lines on what was made.
     #[tactic(auto, unfolding(crate::specs::TrialLines::input_lines))]
     fn push_input(&self, text: &mut Lines)
         requires { length text.old.bytes ≤ 0 }
@@ -52,7 +52,7 @@ impl Report {
         push_count(text, "changes", self.changes);
     }
 
-    /// The lines on what was found.
+    // The lines on what was found.
     #[tactic(auto, unfolding(crate::specs::TrialLines::output_lines))]
     fn push_output(&self, text: &mut Lines)
         requires { length text.old.bytes ≤ 150 }
@@ -66,7 +66,7 @@ impl Report {
     }
 }
 
-/// A name and a count.
+// A name and a count.
 #[tactic(auto, unfolding(crate::specs::TrialLines::trial_count_line))]
 fn push_count(text: &mut Lines, name: &str, count: u64)
     requires name { length name.now ≤ 8 }

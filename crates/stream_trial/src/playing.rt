@@ -57,7 +57,7 @@ pub(crate) fn play(alloc: Global, script: &Script, bytes: &[u8]) -> Result<Count
     })
 }
 
-/// Block b of a stream.
+// Block b of a stream.
 fn block(bytes: &[u8], b: usize) -> [u8; BLOCK_BYTES]
     requires { 96 * b + 96 ≤ length bytes.now }
     ensures { result ≡ stream_block bytes.now b }

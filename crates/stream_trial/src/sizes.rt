@@ -5,7 +5,7 @@ ghost use Rattle.stream_trial.specs.Trial.{trial_audio, trial_blocks};
 
 use cdg_workload::{BLOCKS_A_PICTURE, BLOCKS_HELD};
 
-/// The blocks before the audio.
+// The blocks before the audio.
 const PAUSE_BLOCKS: u32 = 150;
 
 /// How many blocks the audio has.

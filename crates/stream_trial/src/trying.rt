@@ -55,7 +55,7 @@ pub fn trial<K: Sink>(alloc: Global, seed: u64, pictures: u32, out: &mut K) -> R
     Ok(())
 }
 
-/// What the lines of a trial say.
+// What the lines of a trial say.
 fn make_report(alloc: Global, seed: u64, pictures: u32) -> Result<Report, TrialStop>
     requires { (1 ≤ pictures) × (pictures ≤ most_generated) }
     ensures report { IfOk result (λ report. IsTrial seed pictures (told report)) }

@@ -10,7 +10,7 @@ use Rattle.cdg_instructions.specs.Packs.{idle_pack}
 use Rattle.raw_subcode.specs.Channels.{program_symbols}
 use Rattle.raw_subcode.specs.declared.form.Form.TheVariants.{Raw}
 use Rattle.rw_code.specs.Codeword.{IsCodeword}
-use Rattle.raw_subcode.specs.Sizes.{slots_a_block, symbols_a_slot}
+use Rattle.raw_subcode.specs.Sizes.{slots_a_block}
 use Rattle.rw_interleave.specs.Interleave.{packs_kept_back, whole_packs, Carries}
 use Rattle.rw_interleave.specs.Spreading.{spread_next, spread_gives}
 use Rattle.toc_model.specs.Places.{DiscLayout}

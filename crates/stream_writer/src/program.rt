@@ -10,7 +10,7 @@ use raw_subcode::{BLOCK_BYTES, SLOTS_A_BLOCK, SYMBOLS_A_SLOT};
 use rw_code::Pack;
 use rw_interleave::{PACKS_KEPT_BACK, Spread};
 
-/// After so many idle packs another one brings zeros, and leaves what is still to be spread as it is.
+// After so many idle packs another one brings zeros, and leaves what is still to be spread as it is.
 const ALL_QUIET: u8 = PACKS_KEPT_BACK as u8;
 
 /// The symbols of the next block, over which four more packs are spread. So many of the last packs were idle.
@@ -34,7 +34,7 @@ pub(crate) fn next_symbols<P: PackSource>(
     symbols
 }
 
-/// The symbols of the next slot, which comes with one more pack.
+// The symbols of the next slot, which comes with one more pack.
 fn next_slot<P: PackSource>(
     source: &mut P,
     spread: &mut Spread,
@@ -57,7 +57,7 @@ fn next_slot<P: PackSource>(
     slot_with(spread, &pack)
 }
 
-/// The symbols of the slot that comes with a pack. It stays a call of its own, since most packs are idle.
+// The symbols of the slot that comes with a pack. It stays a call of its own, since most packs are idle.
 #[inline(never)]
 fn slot_with(spread: &mut Spread, pack: &Pack) -> [u8; 24]
     ensures codeword { IsCodeword pack.now }

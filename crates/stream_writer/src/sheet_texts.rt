@@ -20,7 +20,7 @@ pub fn texts_of_sheet(alloc: Global, sheet: &Sheet) -> Result<TextMap, AllocErro
     TextMap::of_strings(alloc, sheet.first(), titles, performers, songwriters, codes)
 }
 
-/// The texts of a kind.
+// The texts of a kind.
 fn sheet_strings(alloc: Global, sheet: &Sheet, kind: CueText) -> Result<Strings, AllocError>
     ensures strings { IfOk result (λ strings. strings ≡ for_each sheet.now (text_at kind sheet.now)) }
     ensures count { IfOk result (λ strings. length strings ≡ length sheet.now.tracks + 1) }
@@ -34,7 +34,7 @@ fn sheet_strings(alloc: Global, sheet: &Sheet, kind: CueText) -> Result<Strings,
     Ok(strings)
 }
 
-/// The catalogue number and the codes of the tracks.
+// The catalogue number and the codes of the tracks.
 fn sheet_codes(alloc: Global, sheet: &Sheet) -> Result<Strings, AllocError>
     ensures strings { IfOk result (λ strings. strings ≡ for_each sheet.now (code_at sheet.now)) }
     ensures count { IfOk result (λ strings. length strings ≡ length sheet.now.tracks + 1) }
@@ -47,7 +47,7 @@ fn sheet_codes(alloc: Global, sheet: &Sheet) -> Result<Strings, AllocError>
     Ok(strings)
 }
 
-/// The code of the album or a track.
+// The code of the album or a track.
 fn code_at(sheet: &Sheet, place: usize) -> &[u8]
     requires { place ≤ length sheet.now.tracks }
     ensures { result.now ≡ code_at sheet.now place }

@@ -21,7 +21,7 @@ use cdtext_packs::TextPack;
 use rw_interleave::{Spread, spread_carries};
 use toc_model::Layout;
 
-/// Puts so many lead-in blocks.
+// Puts so many lead-in blocks.
 fn put_lead_in<K: Sink>(
     layout: &Layout,
     texts: &[TextPack],
@@ -45,7 +45,7 @@ fn put_lead_in<K: Sink>(
     Ok(())
 }
 
-/// Puts the program blocks, over which the packs of a source are spread from the first one on.
+// Puts the program blocks, over which the packs of a source are spread from the first one on.
 fn put_program<P: PackSource, K: Sink>(
     layout: &Layout,
     source: &mut P,
@@ -70,7 +70,7 @@ fn put_program<P: PackSource, K: Sink>(
     Ok(())
 }
 
-/// Puts a whole stream. After `Failed` a prefix of it was put.
+// Puts a whole stream. After `Failed` a prefix of it was put.
 fn put_stream<P: PackSource, K: Sink>(
     layout: &Layout,
     texts: &[TextPack],

@@ -7,22 +7,16 @@ ghost use Rattle.subcode_player.specs.Steps.{IdlesOn, fresh_words, words_or_idle
 use crate::Form;
 use arrayvec::ArrayVec;
 use cdg_io::Stage;
+use raw_subcode::{BLOCK_BYTES, SLOTS_A_BLOCK, SYMBOLS_A_SLOT};
 use rw_code::Word;
 use rw_interleave::Window;
 use std::marker::Model;
-
-/// The bytes of a block.
-pub(crate) const BLOCK: usize = 96;
-
-const SLOT: usize = 24;
-
-const SLOTS: usize = 4;
 
 /// The words that come with a block, at most one with each slot.
 #[derive(Drop)]
 pub struct BlockOfWords {
     /// None where they are four idle packs.
-    words: Option<ArrayVec<Word, SLOTS>>,
+    words: Option<ArrayVec<Word, SLOTS_A_BLOCK>>,
 }
 
 impl Model for BlockOfWords {
@@ -32,7 +26,7 @@ impl Model for BlockOfWords {
 }
 
 impl BlockOfWords {
-    /// Four idle packs.
+    // Four idle packs.
     #[inline]
     fn idle() -> BlockOfWords
         ensures { result.items ≡ replicate 4 (replicate 24 0) }
@@ -40,7 +34,7 @@ impl BlockOfWords {
         BlockOfWords { words: None }
     }
 
-    fn new(words: ArrayVec<Word, SLOTS>) -> BlockOfWords
+    fn new(words: ArrayVec<Word, SLOTS_A_BLOCK>) -> BlockOfWords
         ensures { result ≡ words }
     {
         BlockOfWords { words: Some(words) }
@@ -48,7 +42,7 @@ impl BlockOfWords {
 
     /// The words. None says that they are four idle packs.
     #[inline]
-    pub(crate) fn unless_idle(&self) -> Option<&ArrayVec<Word, SLOTS>>
+    pub(crate) fn unless_idle(&self) -> Option<&ArrayVec<Word, SLOTS_A_BLOCK>>
         ensures { MatchOption result (self.now.items ≡ replicate 4 (replicate 24 0))
             (λ words. words.now ≡ self.now) }
     {
@@ -56,12 +50,12 @@ impl BlockOfWords {
     }
 
     /// The words themselves.
-    pub fn into_words(self) -> ArrayVec<Word, SLOTS>
+    pub fn into_words(self) -> ArrayVec<Word, SLOTS_A_BLOCK>
         ensures { result ≡ self }
     {
         match self.words {
             Some(words) => words,
-            None => ArrayVec::from([Word::default(); SLOTS]),
+            None => ArrayVec::from([Word::default(); SLOTS_A_BLOCK]),
         }
     }
 }
@@ -100,7 +94,7 @@ impl BlockWords {
 }
 
 impl Stage for BlockWords {
-    type Item = [u8; BLOCK];
+    type Item = [u8; BLOCK_BYTES];
 
     type Out = BlockOfWords;
 
@@ -112,7 +106,7 @@ impl Stage for BlockWords {
 
     #[inline]
     #[tactic(auto, unfolding(crate::specs::Steps::words_next, crate::specs::Steps::words_give))]
-    fn feed(&mut self, block: &[u8; BLOCK]) -> Option<BlockOfWords> {
+    fn feed(&mut self, block: &[u8; BLOCK_BYTES]) -> Option<BlockOfWords> {
         if self.is_idle(block) {
             return self.feed_idle(block);
         }
@@ -127,7 +121,7 @@ impl Stage for BlockWords {
     }
 
     #[inline]
-    fn is_idle(&self, block: &[u8; BLOCK]) -> bool {
+    fn is_idle(&self, block: &[u8; BLOCK_BYTES]) -> bool {
         if self.lead_in > 0 {
             return false;
         }
@@ -138,13 +132,13 @@ impl Stage for BlockWords {
     }
 
     #[inline]
-    fn feed_idle(&mut self, _: &[u8; BLOCK]) -> Option<BlockOfWords> {
+    fn feed_idle(&mut self, _: &[u8; BLOCK_BYTES]) -> Option<BlockOfWords> {
         Some(BlockOfWords::idle())
     }
 }
 
-/// The slots of a block, each as a word.
-fn slots(block: &[u8; BLOCK]) -> ArrayVec<Word, SLOTS>
+// The slots of a block, each as a word.
+fn slots(block: &[u8; BLOCK_BYTES]) -> ArrayVec<Word, SLOTS_A_BLOCK>
     ensures { result.items ≡ slots_of block.now }
 {
     ArrayVec::from([
@@ -155,12 +149,12 @@ fn slots(block: &[u8; BLOCK]) -> ArrayVec<Word, SLOTS>
     ])
 }
 
-/// A slot of a block.
-fn slot(block: &[u8; BLOCK], i: usize) -> Word
+// A slot of a block.
+fn slot(block: &[u8; BLOCK_BYTES], i: usize) -> Word
     requires { i < 4 }
     ensures { result ≡ slot_of block.now i }
 {
-    let mut bytes = [0; SLOT];
-    bytes.copy_from_slice(&block[SLOT * i..SLOT * i + SLOT]);
+    let mut bytes = [0; SYMBOLS_A_SLOT];
+    bytes.copy_from_slice(&block[SYMBOLS_A_SLOT * i..SYMBOLS_A_SLOT * i + SYMBOLS_A_SLOT]);
     Word::new(&bytes)
 }

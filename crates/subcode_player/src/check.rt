@@ -1,6 +1,8 @@
 // The counts of a stream.
 ghost use Rattle.std.specs.Prelude.{◌≡◌, ◌≢◌, ◌≤◌, ◌-◌, ◌+◌, ◌++◌, min, List, ℕ, length, IfSome, IfOk, IfErr};
 ghost use Rattle.std.specs.Io.KnownBytes.{Appends};
+ghost use Rattle.raw_subcode.specs.Sizes.{most_units};
+ghost use Rattle.disc_time.specs.Counts.{most_lead_in};
 ghost use Rattle.cdg_io.specs.Causes.{HasCause};
 ghost use Rattle.cdg_io.specs.Change.{passed};
 ghost use Rattle.cdg_io.specs.Moves.{AppendsPrefix};
@@ -42,7 +44,7 @@ impl Player {
         source: &mut S,
         out: &mut K,
     ) -> Result<Played, PlayStop>
-        requires { lead_in ≤ 450000 }
+        requires { lead_in ≤ most_lead_in }
         ensures checks { (taken : List ℕ) × WritesAtEnd (at_end (IsCheckListed form lead_in) form lead_in)
             (passed S.left K.held (source.old, out.old) (source.new, out.new)) result taken }
         // It never answers that a moment is past the end, nor a fault of texts, whatever the input.
@@ -63,7 +65,7 @@ impl Player {
         }
     }
 
-    /// Writes what was counted of so many blocks.
+    // Writes what was counted of so many blocks.
     fn write_counts<K: Sink>(
         &self,
         lead_in: u32,
@@ -71,7 +73,7 @@ impl Player {
         blocks: u32,
         out: &mut K,
     ) -> Result<Played, PlayStop>
-        requires { blocks ≤ 1000000 }
+        requires { blocks ≤ most_units }
         ensures ok { IfOk result (λ played. (played.blocks ≡ blocks - lead_in)
             × (played.bad ≡ self.now.checks.second.words.second.bad)
             × Appends (K.held out.old) (K.held out.new)
@@ -92,7 +94,7 @@ impl Player {
         }
     }
 
-    /// Brings back the state after the start, for a stream of this form.
+    // Brings back the state after the start, for a stream of this form.
     fn begin_check(&mut self, lead_in: u32, form: Form)
         ensures { IsFresh form lead_in self.new.checks.second }
     {
@@ -107,10 +109,10 @@ impl Player {
     }
 }
 
-/// The lines of counts after so many blocks.
+// The lines of counts after so many blocks.
 #[tactic(auto, unfolding(crate::specs::CheckSteps::lines_of_counts))]
 fn lines(lead_in: u32, form: Form, blocks: u32, counting: &Counting) -> Lines
-    requires { blocks ≤ 1000000 }
+    requires { blocks ≤ most_units }
     ensures { result.bytes ≡ lines_of_counts form lead_in blocks counting.now }
 {
     let mut text = Lines::new();
@@ -127,9 +129,9 @@ fn lines(lead_in: u32, form: Form, blocks: u32, counting: &Counting) -> Lines
     text
 }
 
-/// How many words so many blocks hold.
+// How many words so many blocks hold.
 fn words_of(form: Form, blocks: u32) -> u32
-    requires { blocks ≤ 1000000 }
+    requires { blocks ≤ most_units }
     ensures { result ≡ word_count form blocks }
 {
     match form {
@@ -138,7 +140,7 @@ fn words_of(form: Form, blocks: u32) -> u32
     }
 }
 
-/// A name and a count.
+// A name and a count.
 #[tactic(auto, unfolding(crate::specs::Check::count_line))]
 fn push_count(text: &mut Lines, name: &str, count: u32)
     requires name { length name.now ≤ 8 }
@@ -153,7 +155,7 @@ fn push_count(text: &mut Lines, name: &str, count: u32)
     text.push_str("\n");
 }
 
-/// The lines on the blocks and the packs.
+// The lines on the blocks and the packs.
 fn push_stream(text: &mut Lines, lead_in: u32, program: u32, packs: u32)
     requires { length text.old.bytes ≤ 0 }
     ensures text { text.new.bytes ≡ text.old.bytes ++ stream_lines lead_in program packs }
@@ -164,7 +166,7 @@ fn push_stream(text: &mut Lines, lead_in: u32, program: u32, packs: u32)
     push_count(text, "packs", packs);
 }
 
-/// The lines on wrong symbols.
+// The lines on wrong symbols.
 fn push_wrong(text: &mut Lines, counts: &WordCounts)
     requires { length text.old.bytes ≤ 60 }
     ensures text { text.new.bytes ≡ text.old.bytes
@@ -177,7 +179,7 @@ fn push_wrong(text: &mut Lines, counts: &WordCounts)
     push_count(text, "bad", counts.bad);
 }
 
-/// The lines on what packs hold.
+// The lines on what packs hold.
 fn push_kinds(text: &mut Lines, counts: &WordCounts)
     requires { length text.old.bytes ≤ 140 }
     ensures text { text.new.bytes ≡ text.old.bytes
@@ -190,7 +192,7 @@ fn push_kinds(text: &mut Lines, counts: &WordCounts)
     push_count(text, "foreign", counts.foreign);
 }
 
-/// The lines on frames.
+// The lines on frames.
 fn push_frames(text: &mut Lines, frames: &FrameCounts)
     requires { length text.old.bytes ≤ 220 }
     ensures text { text.new.bytes ≡ text.old.bytes ++ frame_count_lines frames.now.good frames.now.bad }

@@ -1,6 +1,7 @@
 // The conversion of a stream to packs.
 ghost use Rattle.std.specs.Prelude.{◌≡◌, ◌≢◌, ◌≤◌, List, ℕ, length, IfSome, IfErr};
 ghost use Rattle.std.specs.List.{concat};
+ghost use Rattle.disc_time.specs.Counts.{most_lead_in};
 ghost use Rattle.cdg_io.specs.Change.{passed};
 ghost use Rattle.raw_subcode.specs.Channels.{unit_size};
 ghost use Rattle.raw_subcode.specs.declared.form.Form.{Form};
@@ -47,7 +48,7 @@ impl Player {
         source: &mut S,
         out: &mut K,
     ) -> Result<Played, PlayStop>
-        requires { lead_in ≤ 450000 }
+        requires { lead_in ≤ most_lead_in }
         ensures converts { (taken : List ℕ) × Converts form lead_in
             (passed S.left K.held (source.old, out.old) (source.new, out.new)) result taken }
         // Every pack comes back from damage of at most two symbols a word.

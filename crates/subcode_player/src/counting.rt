@@ -5,13 +5,13 @@ ghost use Rattle.subcode_player.specs.Steps.{fresh_words};
 ghost use Rattle.subcode_player.specs.Check.{is_known};
 ghost use Rattle.subcode_player.specs.CheckSteps.{tick, wrong_counted, kind_counted, count_found, count_next, count_after, counts_next, counts_give, frames_next, counting_next, counting_gives};
 
-use crate::block_words::{BLOCK, BlockOfWords};
+use crate::block_words::BlockOfWords;
 use crate::idle_words::{idle_is_codeword, is_idle};
 use crate::{BlockWords, Form};
 use arrayvec::ArrayVec;
 use cdg_io::{Piece, Stage, Then};
 use q_channel::is_frame;
-use raw_subcode::Block;
+use raw_subcode::{BLOCK_BYTES, Block};
 use rw_code::{Fixed, Word, correct};
 
 /// The words of a stream by their wrong symbols, and those that are not bad by their kind: each word counts in one of
@@ -54,7 +54,7 @@ pub struct Counting {
     pub words: Then<BlockWords, WordCounts>,
 }
 
-/// Counts one more, up to the last value.
+// Counts one more, up to the last value.
 #[tactic(auto, unfolding(crate::specs::CheckSteps::tick))]
 fn tick(count: &mut u32, hit: bool)
     ensures { count.new ≡ tick hit count.old }
@@ -64,7 +64,7 @@ fn tick(count: &mut u32, hit: bool)
     }
 }
 
-/// Whether this number names a graphics instruction.
+// Whether this number names a graphics instruction.
 fn is_known(code: u8) -> bool
     ensures { result ≡ is_known code }
 {
@@ -74,7 +74,7 @@ fn is_known(code: u8) -> bool
 }
 
 impl WordCounts {
-    /// Counts the words of a block, one by one.
+    // Counts the words of a block, one by one.
     #[inline(never)]
     fn count_each(&mut self, words: &ArrayVec<Word, 4>)
         ensures { self.new ≡ counts_next self.old words.now }
@@ -84,7 +84,7 @@ impl WordCounts {
         }
     }
 
-    /// Counts a word by what is found for it.
+    // Counts a word by what is found for it.
     fn count(&mut self, word: &Word)
         ensures { self.new ≡ count_next self.old word.now }
     {
@@ -99,7 +99,7 @@ impl WordCounts {
         }
     }
 
-    /// Counts an idle word.
+    // Counts an idle word.
     fn count_idle(&mut self)
         ensures { self.new ≡ record self.old {
           clean = tick true self.old.clean;
@@ -110,7 +110,7 @@ impl WordCounts {
         tick(&mut self.idle, true);
     }
 
-    /// Counts four idle words.
+    // Counts four idle words.
     fn count_four_idle(&mut self)
         requires { IsCodeword (replicate 24 0) }
         ensures { self.new ≡ count_after self.old (replicate 4 (replicate 24 0)) }
@@ -121,7 +121,7 @@ impl WordCounts {
         self.count_idle();
     }
 
-    /// Counts a word that is near a codeword.
+    // Counts a word that is near a codeword.
     fn count_fixed(&mut self, fixed: &Fixed, word: &Word)
         requires { fixed.now.wrong ≡ differences word.now fixed.now.pack }
         ensures { self.new ≡ count_found self.old word.now (Some fixed.now.pack) }
@@ -131,7 +131,7 @@ impl WordCounts {
         self.count_kind(symbols.get(0).value(), symbols.get(1).value());
     }
 
-    /// Counts a word by the number of its wrong symbols.
+    // Counts a word by the number of its wrong symbols.
     fn count_wrong(&mut self, wrong: u8)
         ensures { self.new ≡ wrong_counted self.old wrong }
     {
@@ -140,7 +140,7 @@ impl WordCounts {
         tick(&mut self.two, wrong == 2);
     }
 
-    /// Counts a pack by its first two symbols.
+    // Counts a pack by its first two symbols.
     fn count_kind(&mut self, mode: u8, code: u8)
         ensures { self.new ≡ kind_counted self.old mode code }
     {
@@ -151,7 +151,7 @@ impl WordCounts {
         tick(&mut self.foreign, !(mode == 0 || mode == 9));
     }
 
-    /// Counts a word with no codeword near.
+    // Counts a word with no codeword near.
     #[tactic(auto, unfolding(crate::specs::CheckSteps::count_found, crate::specs::CheckSteps::tick))]
     fn count_bad(&mut self, word: &Word)
         ensures { self.new ≡ count_found self.old word.now None }
@@ -187,9 +187,9 @@ impl Stage for WordCounts {
 }
 
 impl FrameCounts {
-    /// Counts the frame of a block, where frames are read.
+    // Counts the frame of a block, where frames are read.
     #[tactic(auto, unfolding(crate::specs::CheckSteps::frames_next))]
-    fn count(&mut self, block: &[u8; BLOCK])
+    fn count(&mut self, block: &[u8; BLOCK_BYTES])
         ensures { self.new ≡ frames_next self.old block.now }
     {
         if self.read {
@@ -213,7 +213,7 @@ impl Counting {
 }
 
 impl Stage for Counting {
-    type Item = [u8; BLOCK];
+    type Item = [u8; BLOCK_BYTES];
 
     type Out = Piece;
 
@@ -222,14 +222,14 @@ impl Stage for Counting {
     ghost gives = { counting_gives };
 
     #[tactic(auto, unfolding(crate::specs::CheckSteps::counting_next, crate::specs::CheckSteps::counting_gives))]
-    fn feed(&mut self, block: &[u8; BLOCK]) -> Option<Piece> {
+    fn feed(&mut self, block: &[u8; BLOCK_BYTES]) -> Option<Piece> {
         self.frames.count(block);
         self.words.feed(block)
     }
 
     #[inline]
     #[tactic(auto, unfolding(crate::specs::CheckSteps::counting_next, crate::specs::CheckSteps::counting_gives))]
-    fn emit(&mut self, block: &[u8; BLOCK], out: &mut Option<Piece>) {
+    fn emit(&mut self, block: &[u8; BLOCK_BYTES], out: &mut Option<Piece>) {
         self.frames.count(block);
         self.words.emit(block, out);
     }

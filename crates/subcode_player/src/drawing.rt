@@ -22,7 +22,7 @@ pub struct Drawing {
 }
 
 impl Drawing {
-    /// Draws the words of a block, one by one.
+    // Draws the words of a block, one by one.
     #[inline(never)]
     fn draw_each(&mut self, words: &ArrayVec<Word, 4>)
         ensures { self.new ≡ drawing_next self.old words.now }
@@ -32,7 +32,7 @@ impl Drawing {
         }
     }
 
-    /// Draws four idle words.
+    // Draws four idle words.
     fn draw_four_idle(&mut self)
         requires { IsCodeword (replicate 24 0) }
         ensures { self.new ≡ draw_after self.old (replicate 4 (replicate 24 0)) }
@@ -43,7 +43,7 @@ impl Drawing {
         self.draw_idle();
     }
 
-    /// Draws an idle word, if a pack is left to be drawn: the picture stays.
+    // Draws an idle word, if a pack is left to be drawn: the picture stays.
     #[tactic(auto, unfolding(crate::specs::Drawn::draw_next))]
     fn draw_idle(&mut self)
         requires { IsCodeword (replicate 24 0) }
@@ -55,7 +55,7 @@ impl Drawing {
         }
     }
 
-    /// Draws what is found for a word, if a pack is left to be drawn.
+    // Draws what is found for a word, if a pack is left to be drawn.
     #[tactic(auto, unfolding(crate::specs::Drawn::draw_next))]
     fn draw(&mut self, word: &Word)
         ensures { self.new ≡ draw_next self.old word.now }
@@ -66,7 +66,7 @@ impl Drawing {
         }
     }
 
-    /// Draws the codeword near a word, or counts the word.
+    // Draws the codeword near a word, or counts the word.
     fn take(&mut self, word: &Word)
         ensures picture { self.new.picture ≡ entry_drawn self.old.picture (finding word.now) }
         ensures bad { self.new.bad ≡ bad_next self.old.bad word.now }

@@ -1,5 +1,6 @@
 // The lines of the Q channel of a stream.
 ghost use Rattle.std.specs.Prelude.{◌≡◌, ◌≢◌, ◌≤◌, List, ℕ, length, IfSome, IfErr};
+ghost use Rattle.disc_time.specs.Counts.{most_lead_in};
 ghost use Rattle.cdg_io.specs.Change.{passed};
 ghost use Rattle.cdg_io.specs.Streams.{Streams};
 ghost use Rattle.raw_subcode.specs.Channels.{unit_size};
@@ -23,7 +24,7 @@ impl Player {
         source: &mut S,
         out: &mut K,
     ) -> Result<Played, PlayStop>
-        requires lead_in { lead_in ≤ 450000 }
+        requires lead_in { lead_in ≤ most_lead_in }
         requires form { form ≢ Form.Cooked }
         ensures lists { (taken : List ℕ) × Streams (in_turn (IsQListed form) form lead_in)
             (passed S.left K.held (source.old, out.old) (source.new, out.new)) result taken }
@@ -57,7 +58,7 @@ pub fn list_frames<S: Source, K: Sink>(
     source: &mut S,
     out: &mut K,
 ) -> Result<Played, PlayStop>
-    requires lead_in { lead_in ≤ 450000 }
+    requires lead_in { lead_in ≤ most_lead_in }
     requires form { form ≢ Form.Cooked }
     ensures lists { (taken : List ℕ) × Streams (in_turn (IsQListed form) form lead_in)
         (passed S.left K.held (source.old, out.old) (source.new, out.new)) result taken }

@@ -1,5 +1,6 @@
 // The screen at a moment of a stream.
 ghost use Rattle.std.specs.Prelude.{◌≡◌, ◌≢◌, ◌≤◌, ◌-◌, List, ℕ, length, IfSome, IfErr, IsErrOf, Err};
+ghost use Rattle.disc_time.specs.Counts.{last_block, most_lead_in};
 ghost use Rattle.cdg_io.specs.Causes.{Rose};
 ghost use Rattle.cdg_io.specs.Change.{change, passed};
 ghost use Rattle.raw_subcode.specs.Channels.{unit_size};
@@ -39,8 +40,8 @@ impl Player {
         source: &mut S,
         out: &mut K,
     ) -> Result<Played, PlayStop>
-        requires lead_in { lead_in ≤ 450000 }
-        requires at { at ≤ 449999 }
+        requires lead_in { lead_in ≤ most_lead_in }
+        requires at { at ≤ last_block }
         ensures shows { (taken : List ℕ) × Shows pixmap (moment form lead_in at)
             (passed S.left K.held (source.old, out.old) (source.new, out.new)) result taken }
         // From its ready time to its hold time each picture of a script is shown, whatever damage of at most two
@@ -79,8 +80,8 @@ impl Player {
         source: &mut S,
         out: &mut K,
     ) -> Result<Played, PlayStop>
-        requires lead_in { lead_in ≤ 450000 }
-        requires at { at ≤ 449999 }
+        requires lead_in { lead_in ≤ most_lead_in }
+        requires at { at ≤ last_block }
         ensures shows { (taken : List ℕ) × Shows state_text (moment form lead_in at)
             (passed S.left K.held (source.old, out.old) (source.new, out.new)) result taken }
         // It never answers a fault of texts, whatever the input.
@@ -103,7 +104,7 @@ impl Player {
         }
     }
 
-    /// Draws the packs of a whole stream that are whole at a moment.
+    // Draws the packs of a whole stream that are whole at a moment.
     #[tactic(auto, using(crate::proofs::Ends::ends_first, crate::proofs::Ends::stops_moment, crate::proofs::Ends::viewed_stops))]
     fn view<S: Source>(
         &mut self,
@@ -112,8 +113,8 @@ impl Player {
         at: u32,
         source: &mut S,
     ) -> Result<Played, PlayStop>
-        requires lead_in { lead_in ≤ 450000 }
-        requires at { at ≤ 449999 }
+        requires lead_in { lead_in ≤ most_lead_in }
+        requires at { at ≤ last_block }
         ensures views { (taken : List ℕ)
             × Views (moment form lead_in at) (change S.left source.old source.new)
             (standing_of self.new.views.second.second.picture) result taken }
@@ -133,7 +134,7 @@ impl Player {
         }
     }
 
-    /// What was played, where the program reaches the moment.
+    // What was played, where the program reaches the moment.
     fn viewed(&self, pumped: Pumped, lead_in: u32, at: u32) -> Result<Played, PlayStop>
         ensures { result ≡ viewed (pumped.units - lead_in) at self.now.views.second.second.bad }
     {
@@ -147,9 +148,9 @@ impl Player {
         })
     }
 
-    /// Brings back the state after the start, for a stream of this form and a moment.
+    // Brings back the state after the start, for a stream of this form and a moment.
     fn begin_view(&mut self, lead_in: u32, form: Form, at: u32)
-        requires { at ≤ 449999 }
+        requires { at ≤ last_block }
         ensures words { self.new.views.second.first ≡ fresh_words form lead_in }
         ensures left { self.new.views.second.second.left ≡ whole_packs at }
         ensures bad { self.new.views.second.second.bad ≡ 0 }

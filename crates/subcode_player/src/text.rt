@@ -1,5 +1,6 @@
 // The texts of a stream's lead-in.
 ghost use Rattle.std.specs.Prelude.{◌≡◌, ◌≢◌, ◌≤◌, ◌-◌, List, ℕ, IfSome, IfErr, IsErrOf, Err};
+ghost use Rattle.disc_time.specs.Counts.{most_lead_in};
 ghost use Rattle.cdg_io.specs.Causes.{Rose};
 ghost use Rattle.cdg_io.specs.Change.{passed};
 ghost use Rattle.cdtext_packs.specs.TextSteps.{fresh_texts};
@@ -35,7 +36,7 @@ impl Player {
         source: &mut S,
         out: &mut K,
     ) -> Result<Played, PlayStop>
-        requires lead_in { lead_in ≤ 450000 }
+        requires lead_in { lead_in ≤ most_lead_in }
         requires form { form ≢ Form.Cooked }
         ensures lists { (taken : List ℕ) × ListsTexts form lead_in
             (passed S.left K.held (source.old, out.old) (source.new, out.new)) result taken }
@@ -57,7 +58,7 @@ impl Player {
         }
     }
 
-    /// Writes the texts of the packs that were read.
+    // Writes the texts of the packs that were read.
     fn write_texts<K: Sink>(
         &self,
         alloc: Global,

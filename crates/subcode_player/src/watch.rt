@@ -7,13 +7,12 @@ ghost use Rattle.raw_subcode.specs.Channels.{unit_size};
 ghost use Rattle.raw_subcode.specs.Sizes.{most_units};
 ghost use Rattle.subcode_player.specs.Watch.{Watches, on_units};
 
-use crate::block_words::BLOCK;
 use crate::{Form, SectorBlocks};
 use cdg_io::{Piece, PumpStop, Pumped, Sink, Source, Stage, SteadySink, Then, pump};
-use raw_subcode::MOST_UNITS;
+use raw_subcode::{BLOCK_BYTES, MOST_UNITS};
 
 /// Feeds the blocks of an input to a stage, and writes what it gives for each.
-pub(crate) fn pump_blocks<S: Source, G: Stage<Item = [u8; BLOCK], Out = Piece>, K: Sink>(
+pub(crate) fn pump_blocks<S: Source, G: Stage<Item = [u8; BLOCK_BYTES], Out = Piece>, K: Sink>(
     form: Form,
     source: &mut S,
     stages: &mut Then<SectorBlocks, G>,
@@ -42,7 +41,7 @@ pub(crate) fn pump_blocks<S: Source, G: Stage<Item = [u8; BLOCK], Out = Piece>, 
 }
 
 /// Feeds the blocks of an input to a stage, which keeps what it learns of them.
-pub(crate) fn watch<S: Source, G: Stage<Item = [u8; BLOCK], Out = Piece>>(
+pub(crate) fn watch<S: Source, G: Stage<Item = [u8; BLOCK_BYTES], Out = Piece>>(
     form: Form,
     source: &mut S,
     stages: &mut Then<SectorBlocks, G>,

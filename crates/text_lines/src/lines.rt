@@ -36,7 +36,7 @@ pub fn next_line(text: &[u8]) -> Option<(&[u8], &[u8])>
     Some((without_return(&text[..end]), &text[end + 1..]))
 }
 
-/// Where the first line feed stands, or the length.
+// Where the first line feed stands, or the length.
 fn line_end(text: &[u8]) -> usize
     ensures place { result ≡ position_or_len (λ b. b == 10) text.now }
     ensures bound { result ≤ length text.now }

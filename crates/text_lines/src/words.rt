@@ -52,7 +52,7 @@ pub fn next_word(line: &[u8]) -> Option<(&[u8], &[u8])>
     Some(split_word(line))
 }
 
-/// What stands before the first blank, and the rest from that blank on.
+// What stands before the first blank, and the rest from that blank on.
 fn split_word(line: &[u8]) -> (&[u8], &[u8])
     ensures word { result.0.now ≡ first_word line.now }
     ensures rest { result.1.now ≡ drop (length result.0.now) line.now }
@@ -61,7 +61,7 @@ fn split_word(line: &[u8]) -> (&[u8], &[u8])
     line.split_at(word_end(line))
 }
 
-/// Where the first blank stands, or the length.
+// Where the first blank stands, or the length.
 fn word_end(line: &[u8]) -> usize
     ensures place { result ≡ position_or_len is_blank line.now }
     ensures bound { result ≤ length line.now }
@@ -71,7 +71,7 @@ fn word_end(line: &[u8]) -> usize
         .unwrap_or(line.len())
 }
 
-/// Where the first byte stands that is no blank, or the length.
+// Where the first byte stands that is no blank, or the length.
 fn text_start(line: &[u8]) -> usize
     ensures place { result ≡ position_or_len (λ b. not (is_blank b)) line.now }
     ensures bound { result ≤ length line.now }
@@ -81,7 +81,7 @@ fn text_start(line: &[u8]) -> usize
         .unwrap_or(line.len())
 }
 
-/// One more than the place of the last byte that is no blank, or 0.
+// One more than the place of the last byte that is no blank, or 0.
 fn text_end(line: &[u8]) -> usize
     ensures bound { result ≤ length line.now }
     ensures text { take result line.now ≡ reverse (without_blanks (reverse line.now)) }

@@ -101,7 +101,7 @@ impl Layout {
         }
     }
 
-    /// The track of a block.
+    // The track of a block.
     fn track_at(&self, block: u32) -> &Place
         ensures { result.now ≡ track_at self.now block }
     {
@@ -145,7 +145,7 @@ impl Layout {
         }
     }
 
-    /// An entry of the table of contents with its control bits: the tracks, the first, the last, the lead-out.
+    // An entry of the table of contents with its control bits: the tracks, the first, the last, the lead-out.
     fn entry(&self, k: usize) -> (u8, TocPoint)
         requires { k < length self.now.tracks + 3 }
         ensures entry { result ≡ slice_index_or (toc_entries self.now) k (0, First 0 0) }

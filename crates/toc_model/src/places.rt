@@ -53,7 +53,7 @@ fn isrc(sheet: &Sheet, k: usize) -> Option<[u8; 12]>
     Some(characters)
 }
 
-/// The index lines of a track by number and block, where so many blocks lie before file time 0.
+// The index lines of a track by number and block, where so many blocks lie before file time 0.
 fn lines(alloc: Global, sheet: &Sheet, k: usize, before: u32) -> Result<Vec<(u8, u32)>, AllocError>
     requires track { k < length sheet.now.tracks }
     requires fits { before ≤ 4000000000 }
@@ -69,7 +69,7 @@ fn lines(alloc: Global, sheet: &Sheet, k: usize, before: u32) -> Result<Vec<(u8,
     Ok(lines)
 }
 
-/// The block at which track k begins, before which there are so many blocks of gaps.
+// The block at which track k begins, before which there are so many blocks of gaps.
 fn begin(sheet: &Sheet, k: usize, gaps: u32) -> u32
     requires track { k < length sheet.now.tracks }
     requires gaps { gaps ≡ pregaps_to sheet.now k + postgaps_to sheet.now k }
@@ -84,7 +84,7 @@ fn begin(sheet: &Sheet, k: usize, gaps: u32) -> u32
     150 + gaps + sheet.index(k, 0).1
 }
 
-/// The place of track k, before which there are so many blocks of gaps.
+// The place of track k, before which there are so many blocks of gaps.
 fn place(alloc: Global, sheet: &Sheet, k: usize, gaps: u32) -> Result<Place, AllocError>
     requires track { k < length sheet.now.tracks }
     requires gaps { gaps ≡ pregaps_to sheet.now k + postgaps_to sheet.now k }
