@@ -1,9 +1,9 @@
 -- From the run of the words after a checkpoint to what stands.
-use Rattle.std.proofs.Common.{◌≡◌, ℕ, zero, suc, ◌+◌, ◌-◌, ◌*◌, ◌/◌, ◌%◌, ◌^◌, ◌<◌, ◌≤◌, List, [], ◌∷◌, ◌++◌, length, get_or, map, take, drop, refl, sym, ap, ap₂, ◌∙◌, subst, arith, length-append, length-drop, None, inl, inr, add_assoc}
-use Rattle.std.specs.Prelude.{Option, min}
+use Rattle.std.proofs.Common.{◌≡◌, ℕ, zero, suc, ◌+◌, ◌-◌, ◌*◌, ◌/◌, ◌%◌, ◌<◌, ◌≤◌, List, [], ◌∷◌, ◌++◌, length, get_or, map, take, drop, refl, sym, ap, ap₂, ◌∙◌, subst, arith, length-append, length-drop, None, inl, inr}
+use Rattle.std.specs.Prelude.{min}
 use Rattle.std.specs.List.{concat, flat_map, range_with_len}
 use Rattle.std.proofs.lemmas.Bool.Decides.{leb_tells}
-use Rattle.std.proofs.lemmas.List.{append-nil, length-map, get_or-map, get_or_append_left, get_or-append_right, get_or-drop, map-append, take_all, drop-drop, length-take-le}
+use Rattle.std.proofs.lemmas.List.{length-map, get_or-map, get_or_append_left, get_or-append_right, get_or-drop, map-append, take_all, drop-drop, length-take-le}
 use Rattle.std.proofs.lemmas.List.FromFn.{length-map-range_with_len, get_or-map-range_with_len, map-range_with_len_more}
 use Rattle.std.proofs.lemmas.List.Folds.{concat-append}
 use Rattle.std.proofs.Math.Seq.{take-add}
@@ -16,13 +16,12 @@ use Rattle.cdg_io.specs.declared.stage.Then.{Then}
 use Rattle.rw_code.specs.Codeword.{IsWord}
 use Rattle.rw_code.specs.Finding.{IsFinding, finding}
 use Rattle.rw_code.proofs.Finding.{finding_is}
-use Rattle.rw_interleave.specs.Interleave.{word_of, place, whole_packs}
+use Rattle.rw_interleave.specs.Interleave.{word_of, place}
 use Rattle.rw_interleave.specs.Gathering.{gather_next, gather_gives}
 use Rattle.rw_interleave.proofs.Gathers.{gathers}
 use Rattle.raw_subcode.specs.Channels.{symbols_of, program_symbols}
 use Rattle.raw_subcode.specs.declared.form.Form.TheVariants.{Raw}
-use Rattle.rw_interleave.specs.Stream.{bad_count}
-use Rattle.cdg_screen.specs.Picture.{Display, Standing, SameStanding, standing_of, standing_after}
+use Rattle.cdg_screen.specs.Picture.{SameStanding, standing_of}
 use Rattle.cdg_screen.proofs.Turns.{same_after, same_then}
 use Rattle.checkpoint_files.specs.Checkpoint.{Checkpoint}
 use Rattle.checkpoint_files.specs.Table.{empty_symbols}

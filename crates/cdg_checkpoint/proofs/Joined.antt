@@ -1,12 +1,12 @@
 -- A stream that goes on from a checkpoint is the whole stream.
 use Rattle.std.proofs.Common.{◌≡◌, ℕ, zero, suc, ◌+◌, ◌-◌, ◌*◌, ◌/◌, ◌%◌, ◌<◌, ◌≤◌, List, [], ◌∷◌, ◌++◌, length, get_or, map, take, drop, replicate, refl, sym, ap, ap₂, ◌∙◌, subst, arith, length-append, length-drop, append_assoc, None, Some, inl, inr}
-use Rattle.std.specs.Prelude.{Option, min}
+use Rattle.std.specs.Prelude.{Option}
 use Rattle.std.specs.List.{flat_map, range_with_len}
 use Rattle.std.proofs.lemmas.Bool.Decides.{leb_tells}
-use Rattle.std.proofs.lemmas.List.{append-nil, drop-append-le, drop-drop, get_or_append_left, get_or-append_right, get_or-drop, take-append-le, take_all, drop_all}
-use Rattle.bit_lists.specs.Counting.{below, parts}
+use Rattle.std.proofs.lemmas.List.{drop-append-le, drop-drop, get_or_append_left, get_or-append_right, get_or-drop, take-append-le}
+use Rattle.bit_lists.specs.Counting.{parts}
 use Rattle.rw_code.specs.Finding.{IsFinding}
-use Rattle.rw_interleave.specs.Interleave.{word_of, place, swapped, whole_packs}
+use Rattle.rw_interleave.specs.Interleave.{word_of, place, whole_packs}
 use Rattle.rw_interleave.proofs.Places.{swapped-lt}
 use Rattle.std.proofs.Math.Seq.{drop-append-add, take-append-add}
 use Rattle.subcode_player.proofs.StageRuns.{count_more}
@@ -16,16 +16,15 @@ use Rattle.raw_subcode.specs.Channels.{symbols_of, program_symbols}
 use Rattle.raw_subcode.specs.declared.form.Form.TheVariants.{Raw}
 use Rattle.rw_interleave.specs.Stream.{IsRecovered, bad_count}
 use Rattle.cdg_instructions.specs.declared.instr.Instr.{Instr}
-use Rattle.cdg_screen.specs.Picture.{Standing, SameStanding, blank, standing_after}
+use Rattle.cdg_screen.specs.Picture.{Standing, blank, standing_after}
 use Rattle.cdg_screen.proofs.Turns.{in_turn, same_after, same_then, same_back}
 use Rattle.checkpoint_files.specs.Checkpoint.{Checkpoint}
 use Rattle.checkpoint_files.specs.Table.{empty_symbols}
 use Rattle.subcode_player.specs.Screen.{AreMeant, moment}
 use Rattle.subcode_player.specs.Watch.{IsViewed}
 use Rattle.subcode_player.proofs.Views.{whole_taken}
-use Rattle.cdg_io.proofs.Streaming.{IsWhole}
-use Rattle.cdg_checkpoint.specs.Saved.{IsCheckpointOf, last_symbols}
-use Rattle.cdg_checkpoint.specs.Resumed.{IsGoneOn, blocks_after, packs_until, resumed_symbols}
+use Rattle.cdg_checkpoint.specs.Saved.{IsCheckpointOf}
+use Rattle.cdg_checkpoint.specs.Resumed.{IsGoneOn, packs_until, resumed_symbols}
 use Rattle.cdg_checkpoint.proofs.SavedStreams.{symbols_are, symbols_count}
 
 -- ---- instructions in a row

@@ -1,5 +1,5 @@
 -- The answers of a stream that goes on.
-use Rattle.std.proofs.Common.{◌≡◌, ◌≢◌, ℕ, ◌+◌, ◌-◌, ◌*◌, ◌/◌, ◌%◌, ◌==◌, ◌<◌, ◌≤◌, Bool, true, false, Some, None, List, [], length, get_or, take, drop, refl, sym, ap, ap₂, ◌∙◌, subst, arith, length-drop, Result, Ok, Err, IfSome, inl, inr}
+use Rattle.std.proofs.Common.{◌≡◌, ℕ, ◌+◌, ◌-◌, ◌*◌, ◌/◌, ◌%◌, ◌==◌, ◌<◌, ◌≤◌, Bool, true, false, Some, None, List, [], length, get_or, take, drop, refl, sym, ap, ap₂, ◌∙◌, subst, arith, length-drop, Result, Ok, Err, IfSome, inl, inr}
 use Rattle.std.specs.Prelude.{Option, nat_lt, if◌then◌else◌}
 use Rattle.std.proofs.lemmas.Bool.Decides.{leb_tells}
 use Rattle.std.proofs.lemmas.List.{get_or-drop, get_or-take, length-take, length-take-le}
@@ -16,7 +16,7 @@ use Rattle.cdg_io.specs.Run.{run_state}
 use Rattle.rw_interleave.specs.Gathering.{gather_next}
 use Rattle.cdg_screen.specs.Picture.{SameStanding, standing_of}
 use Rattle.checkpoint_files.specs.Checkpoint.{Checkpoint, checkpoint_in}
-use Rattle.checkpoint_files.specs.Table.{IsCheckpointFile, Slots, number}
+use Rattle.checkpoint_files.specs.Table.{IsCheckpointFile}
 use Rattle.subcode_player.specs.declared.block_words.BlockWords.{BlockWords}
 use Rattle.subcode_player.specs.declared.drawing.Drawing.{Drawing}
 use Rattle.subcode_player.proofs.Playing.{units_in}

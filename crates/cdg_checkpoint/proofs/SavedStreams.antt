@@ -1,5 +1,5 @@
 -- The checkpoint of a whole stream.
-use Rattle.std.proofs.Common.{◌≡◌, ◌≢◌, ℕ, ◌+◌, ◌-◌, ◌*◌, ◌/◌, ◌<◌, ◌≤◌, List, [], length, map, take, drop, replicate, refl, sym, ap, ap₂, ◌∙◌, subst, arith, length-drop, Ok, Err}
+use Rattle.std.proofs.Common.{◌≡◌, ℕ, ◌-◌, ◌*◌, ◌/◌, ◌≤◌, List, length, take, drop, replicate, refl, sym, ap, ap₂, ◌∙◌, subst, arith, length-drop, Ok, Err}
 use Rattle.std.specs.Prelude.{Option, min}
 use Rattle.std.specs.List.{flat_map}
 use Rattle.std.specs.Io.KnownBytes.{Appends}
@@ -10,28 +10,26 @@ use Rattle.cdg_io.specs.Change.{from_to}
 use Rattle.cdg_io.proofs.Frames.{feeding, passing}
 use Rattle.cdg_io.specs.Pump.{units_of}
 use Rattle.cdg_io.specs.declared.pumping.Pumped.{Pumped}
-use Rattle.cdg_io.specs.declared.pumping.PumpStop.{PumpStop}
 use Rattle.cdg_io.specs.declared.pumping.PumpStop.TheVariants.{WriteFault}
 use Rattle.cdg_io.specs.declared.stage.Then.{Then}
 use Rattle.cdg_io.proofs.Streaming.{IsWhole}
 use Rattle.rw_interleave.specs.Interleave.{whole_packs}
-use Rattle.raw_subcode.specs.Channels.{block_of, blocks_of, symbols_of, program_symbols}
+use Rattle.raw_subcode.specs.Channels.{blocks_of, symbols_of, program_symbols}
 use Rattle.raw_subcode.specs.declared.form.Form.TheVariants.{Raw}
 use Rattle.rw_interleave.specs.Stream.{bad_count}
 use Rattle.cdg_screen.specs.Picture.{Standing, SameStanding, blank, standing_of, standing_after}
 use Rattle.cdg_screen.proofs.Turns.{same_then}
-use Rattle.checkpoint_files.specs.Checkpoint.{Checkpoint, file_of}
 use Rattle.subcode_player.specs.Screen.{AreMeant, moment}
 use Rattle.subcode_player.specs.Watch.{IsViewed}
 use Rattle.subcode_player.specs.declared.block_words.BlockWords.{BlockWords}
 use Rattle.subcode_player.specs.declared.drawing.Drawing.{Drawing}
-use Rattle.subcode_player.proofs.Slots.{Sized, sized_drop, length-all_symbols}
+use Rattle.subcode_player.proofs.Slots.{sized_drop, length-all_symbols}
 use Rattle.subcode_player.proofs.PumpedBlocks.{plain_blocks}
 use Rattle.subcode_player.proofs.Conversion.{units_sized, length-units_of}
 use Rattle.subcode_player.proofs.Playing.{units_in}
 use Rattle.subcode_player.proofs.Views.{IsReady, drawings_next, viewed_bytes, whole_taken}
 use Rattle.cdg_checkpoint.specs.Tracked.{TracksBlocks, track_next}
-use Rattle.cdg_checkpoint.specs.Saved.{IsCheckpointOf, IsBeforeEnd, IsSaved, Saves, last_symbols}
+use Rattle.cdg_checkpoint.specs.Saved.{IsSaved, Saves, last_symbols}
 use Rattle.cdg_checkpoint.specs.Keeping.{IsKept}
 use Rattle.cdg_checkpoint.specs.declared.tracking.Tracking.{Tracking}
 use Rattle.cdg_checkpoint.proofs.Tails.{after, tail_after, words_alone}

@@ -1,9 +1,9 @@
 -- The last symbols of a stream, block by block.
-use Rattle.std.proofs.Common.{◌≡◌, ◌==◌, ℕ, zero, suc, ◌+◌, ◌-◌, ◌*◌, ◌%◌, ◌<◌, ◌≤◌, Bool, true, false, cond, List, [], ◌∷◌, ◌++◌, length, get_or, map, drop, refl, sym, ap, ap₂, ◌∙◌, subst, arith, length-append, length-drop, append_assoc, inl, inr}
+use Rattle.std.proofs.Common.{◌≡◌, ◌==◌, ℕ, zero, suc, ◌+◌, ◌-◌, ◌%◌, ◌<◌, ◌≤◌, Bool, true, false, cond, List, [], ◌∷◌, ◌++◌, length, get_or, drop, refl, sym, ap, ap₂, ◌∙◌, arith, length-append, length-drop, append_assoc, inl, inr}
 use Rattle.std.specs.List.{flat_map}
 use Rattle.std.proofs.lemmas.Bool.Decides.{eqb_tells}
 use Rattle.std.proofs.lemmas.List.{append-nil, drop-append-le, drop-drop, length-map, get_or-drop, get_or_append_left, get_or-append_right, get_or-map}
-use Rattle.cdg_io.specs.Run.{run_state, run_gives}
+use Rattle.cdg_io.specs.Run.{run_state}
 use Rattle.raw_subcode.specs.Channels.{symbols_of}
 use Rattle.subcode_player.specs.Steps.{words_next, window_next, slots_of}
 use Rattle.subcode_player.specs.declared.block_words.BlockWords.{BlockWords}

@@ -1,5 +1,5 @@
 -- What is written after a checkpoint.
-use Rattle.std.proofs.Common.{◌≡◌, ◌≢◌, ℕ, ◌≤◌, List, [], length, refl, sym, ap, subst, Result, Ok, Err, Some, None, IfSome}
+use Rattle.std.proofs.Common.{◌≡◌, ◌≢◌, ℕ, List, [], refl, sym, subst, Result, Ok, Err}
 use Rattle.std.specs.Prelude.{Option}
 use Rattle.std.specs.Io.KnownBytes.{Appends}
 use Rattle.std.proofs.KnownBytes.{Appends-nil}
@@ -8,8 +8,8 @@ use Rattle.cdg_io.specs.Moves.{AppendsPrefix}
 use Rattle.cdg_io.proofs.Frames.{passing}
 use Rattle.cdg_screen.specs.Picture.{Standing, SameStanding}
 use Rattle.cdg_screen.specs.Texts.{pixmap}
-use Rattle.checkpoint_files.specs.Checkpoint.{Checkpoint, checkpoint_in}
-use Rattle.cdg_checkpoint.specs.Resumed.{GoesOn, IsGoneOnBy, IsResumed, IsResumedBy, Resumes, time_after}
+use Rattle.checkpoint_files.specs.Checkpoint.{checkpoint_in}
+use Rattle.cdg_checkpoint.specs.Resumed.{GoesOn, IsResumed, Resumes, time_after}
 use Rattle.cdg_checkpoint.specs.declared.stops.Resumed.{Resumed}
 use Rattle.cdg_checkpoint.specs.declared.stops.ResumeStop.{ResumeStop}
 use Rattle.cdg_checkpoint.specs.declared.stops.ResumeStop.TheVariants.{WriteFault}

@@ -1,5 +1,5 @@
 -- From the answer of a merger to the status of a command.
-use Rattle.std.proofs.Common.{◌≡◌, ◌≢◌, ◌≤◌, ◌==◌, ℕ, Bool, true, false, Result, Ok, Err, IsErrOf, refl, sym, subst, ◌∙◌, inl, inr, if◌then◌else◌, arith}
+use Rattle.std.proofs.Common.{◌≡◌, ◌≢◌, ◌≤◌, ◌==◌, ℕ, Bool, true, false, Result, Ok, Err, IsErrOf, refl, sym, subst, ◌∙◌, if◌then◌else◌, arith}
 use Rattle.cdg_io.specs.Causes.{Rose}
 use Rattle.rw_merge.specs.Merging.{TellsFirst, TellsSecond}
 use Rattle.rw_merge.specs.declared.merge.Merged.{Merged}

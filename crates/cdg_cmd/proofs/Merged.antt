@@ -1,5 +1,5 @@
 -- What two readings give together.
-use Rattle.std.proofs.Common.{◌≡◌, ◌≢◌, ◌==◌, ℕ, List, Result, Ok, Err, Some, None, IfSome, if◌then◌else◌, sym, subst}
+use Rattle.std.proofs.Common.{◌≢◌, ◌==◌, ℕ, List, Result, Ok, Err, Some, None, IfSome, if◌then◌else◌, sym, subst}
 use Rattle.std.specs.List.{concat}
 use Rattle.rw_merge.specs.Readings.{IsDamagedTwice, IsReadTwice, MergeRestores}
 use Rattle.rw_merge.specs.declared.merge.Merged.{Merged}

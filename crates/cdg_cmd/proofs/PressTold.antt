@@ -1,5 +1,5 @@
 -- From the answers of the parts of `press` to its status.
-use Rattle.std.proofs.Common.{◌≡◌, ◌≢◌, ◌≤◌, ℕ, List, [], Result, Ok, Err, OnOk, IfErr, refl, sym, ap, subst, inl, inr}
+use Rattle.std.proofs.Common.{◌≡◌, ◌≢◌, ◌≤◌, ℕ, List, [], Result, Ok, Err, OnOk, IfErr, refl, sym, ap, subst, inr}
 use Rattle.std.specs.Io.KnownBytes.{Appends}
 use Rattle.cdg_io.specs.Causes.{Rose}
 use Rattle.cue_sheet.specs.CueSheet.{CueSheet}

@@ -9,7 +9,7 @@ use Rattle.cdg_io.specs.declared.pumping.PumpStop.{PumpStop}
 use Rattle.cdg_io.specs.declared.pumping.PumpStop.TheVariants as pump
 use Rattle.raw_subcode.specs.declared.form.Form.TheVariants.{Raw}
 use Rattle.checkpoint_files.specs.Checkpoint.{checkpoint_in}
-use Rattle.checkpoint_files.specs.Table.{IsBadAt, IsCheckpointFile, IsPartInRange, Part, file_size, all_parts}
+use Rattle.checkpoint_files.specs.Table.{IsBadAt, IsCheckpointFile, IsPartInRange, Part, file_size}
 use Rattle.subcode_player.specs.Calls.{IsMomentStop}
 use Rattle.subcode_player.specs.Screen.{IsScreenAt, IsShownBy, Shows, moment}
 use Rattle.subcode_player.specs.declared.player.Played.{Played}
@@ -27,7 +27,7 @@ use Rattle.cdg_cmd.specs.Answer.{Does, play_status}
 use Rattle.cdg_io.specs.Change.{Bytes, Change, from_to}
 use Rattle.cdg_io.proofs.Frames.{passing}
 use Rattle.cdg_screen.specs.Texts.{pixmap}
-use Rattle.cdg_cmd.specs.Checkpoints.{ResumesWith, SavesWith, resume_status}
+use Rattle.cdg_cmd.specs.Checkpoints.{ResumesWith, resume_status}
 use Rattle.cdg_cmd.specs.Faults.{IsAnswered}
 use Rattle.cdg_cmd.specs.Resumes.{GoesOnFrom, IsAsScreen, IsSaveOf, PutSame, PutsMoment, ResumesFrom, reading}
 use Rattle.cdg_cmd.specs.Turns.{pump_status}

@@ -1,7 +1,7 @@
 -- The first track with a gap.
-use Rattle.std.proofs.Common.{◌≡◌, ℕ, zero, suc, ◌+◌, ◌<◌, ◌≤◌, ◌⊎◌, length, inl, inr, refl, sym, ap, subst, ◌∙◌, arith}
+use Rattle.std.proofs.Common.{◌≡◌, ℕ, zero, suc, ◌<◌, ◌≤◌, ◌⊎◌, length, inl, inr, refl, sym, ap, subst, ◌∙◌, arith}
 use Rattle.std.proofs.lemmas.Bool.{cases_lt}
-use Rattle.cue_sheet.specs.CueSheet.{CueSheet, CueTrack, track_of}
+use Rattle.cue_sheet.specs.CueSheet.{CueSheet, track_of}
 use Rattle.cdg_press.specs.Refusals.{gaps_of, HasNoGap, IsFirstGap}
 
 abbrev NoGapTo : CueSheet → ℕ → Type 0

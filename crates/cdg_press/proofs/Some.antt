@@ -1,10 +1,10 @@
 -- Each file is pressed, or there is a reason to refuse it.
-use Rattle.std.proofs.Common.{◌≡◌, ◌≢◌, ℕ, ◌*◌, ◌/◌, ◌%◌, ◌<◌, ◌≤◌, ◌⊎◌, List, length, refl, inl, inr, arith}
+use Rattle.std.proofs.Common.{◌≢◌, ℕ, ◌*◌, ◌/◌, ◌%◌, ◌⊎◌, List, length, refl, inl, inr, arith}
 use Rattle.std.proofs.lemmas.Bool.{cases_lt}
 use Rattle.cue_sheet.specs.CueSheet.{CueSheet}
 use Rattle.toc_model.specs.Places.{audio_need, program_blocks}
-use Rattle.stream_writer.specs.Needs.{text_packs, lead_in_need, HasRoom}
-use Rattle.cdg_press.specs.Refusals.{HasDisc, HasNoGap, IsPressable, IsPressStop, IsWhole, RunsInTime}
+use Rattle.stream_writer.specs.Needs.{text_packs, lead_in_need}
+use Rattle.cdg_press.specs.Refusals.{HasDisc, IsPressable, IsPressStop, IsWhole, RunsInTime}
 use Rattle.cdg_press.specs.declared.stops.PressStop.{PressStop}
 use Rattle.cdg_press.specs.declared.stops.PressStop.TheVariants.{PackTorn, LengthShort, DiscTooLong, Gap, CdgTooLong, TextTooLong, LeadInShort, WriteFault, NoMemory}
 use Rattle.cdg_press.proofs.Gaps.{first_gap}

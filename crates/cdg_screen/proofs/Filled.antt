@@ -1,7 +1,6 @@
 -- Rows of one colour.
 use Rattle.std.proofs.Common.{◌≡◌, ℕ, ◌+◌, ◌-◌, ◌%◌, ◌<◌, List, sym, ap₂, ◌∙◌, arith}
-use Rattle.cdg_screen.specs.Picture.{at}
-use Rattle.cdg_screen.specs.Memory.{IsGrid, Becomes}
+use Rattle.cdg_screen.specs.Memory.{Becomes}
 use Rattle.cdg_screen.proofs.Grids.{at_is, element}
 
 -- all pixels have the colour of all rows

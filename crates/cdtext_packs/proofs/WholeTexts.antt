@@ -1,5 +1,5 @@
 -- Texts with a string of each kind for the album and each track.
-use Rattle.std.proofs.Common.{◌≡◌, ℕ, ◌+◌, ◌-◌, ◌≤◌, List, length, All, inr, arith}
+use Rattle.std.proofs.Common.{◌≡◌, ℕ, ◌+◌, ◌-◌, ◌≤◌, length, All, inr, arith}
 use Rattle.cdtext_packs.specs.Texts.{Texts, IsString, AreTexts, strings_of}
 use Rattle.cdtext_packs.specs.declared.kinds.TextKind.TheVariants as kind
 

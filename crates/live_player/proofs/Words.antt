@@ -1,8 +1,8 @@
 -- The words that come with one more block.
-use Rattle.std.proofs.Common.{◌≡◌, ℕ, ◌+◌, ◌*◌, ◌/◌, List, [], ◌∷◌, ◌++◌, length, map, refl, ap, ap₂, ◌∙◌, subst, sym, arith, None, Some}
+use Rattle.std.proofs.Common.{◌≡◌, ℕ, ◌+◌, ◌/◌, List, [], ◌∷◌, ◌++◌, length, map, refl, ap, ap₂, ◌∙◌, sym, arith, None, Some}
 use Rattle.std.specs.declared.option.Option.{Option}
 use Rattle.std.specs.Prelude.{drop}
-use Rattle.std.specs.List.{concat, flat_map}
+use Rattle.std.specs.List.{flat_map}
 use Rattle.arrayvec.specs.ArrayVec.{ArrayVec}
 use Rattle.bit_lists.specs.Counting.{below}
 use Rattle.cdg_io.specs.Run.{give, run_state, run_gives}
@@ -16,7 +16,7 @@ use Rattle.subcode_player.proofs.FormWords.{words_from, words_are}
 use Rattle.subcode_player.proofs.PlayRuns.{block_words}
 use Rattle.subcode_player.proofs.Slots.{Sized, sized_append, sized_drop, all_slots_sized, all_slots_together, length-all_slots, length-all_symbols}
 use Rattle.subcode_player.proofs.StageRuns.{all_items}
-use Rattle.live_player.specs.Lives.{live_next, stream_words, HasPlayed}
+use Rattle.live_player.specs.Lives.{stream_words, HasPlayed}
 use Rattle.live_player.specs.declared.live.LivePlayer.{LivePlayer}
 
 words_of_program : (form : Form) (blocks : List (List ℕ)) → Sized 96 blocks

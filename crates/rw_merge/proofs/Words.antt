@@ -9,7 +9,7 @@ use Rattle.std.proofs.lemmas.List.FromFn.{length-map-range_with_len, get_or-map-
 use Rattle.std.proofs.lemmas.List.Sums.{sum_by-append}
 use Rattle.cdg_io.specs.Run.{give, run_gives, run_state}
 use Rattle.bit_lists.specs.Counting.{below}
-use Rattle.raw_subcode.specs.Channels.{symbols_of, program_symbols}
+use Rattle.raw_subcode.specs.Channels.{program_symbols}
 use Rattle.raw_subcode.specs.declared.form.Form.TheVariants.{Raw}
 use Rattle.rw_interleave.specs.Gathering.{gathered, gather_next, gather_gives}
 use Rattle.rw_interleave.specs.Interleave.{word_of, whole_packs}

@@ -1,5 +1,5 @@
-use Rattle.std.proofs.Common.{◌∙◌, ◌++◌, arith, drop, get_or, length, sym, length-append, length-drop}
-use Rattle.std.proofs.lemmas.List.{length-set, length-map}
+use Rattle.std.proofs.Common.{◌∙◌, ◌++◌, arith, drop, get_or, sym}
+use Rattle.std.proofs.lemmas.List.{length-set}
 use Rattle.std.proofs.lemmas.Grind.{same_number_lists}
 use Rattle.raw_subcode.specs.Channels.{symbols_of}
 use Rattle.checkpoint_files.proofs.Restored.{set_below}

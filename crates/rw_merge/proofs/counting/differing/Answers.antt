@@ -1,4 +1,4 @@
-use Rattle.std.proofs.Common.{◌≡◌, ◌<◌, length, take, subst, subst₂, ap₂, ◌∙◌, sym, arith}
+use Rattle.std.proofs.Common.{◌≡◌, ◌<◌, length, take, subst, ap₂, ◌∙◌, sym, arith}
 use Rattle.std.proofs.lemmas.List.{take_all}
 use Rattle.rw_code.specs.Codeword.{IsWord, differences}
 use Rattle.rw_code.proofs.Differing.{differences_same_more, differences_other_more, differences-nil}

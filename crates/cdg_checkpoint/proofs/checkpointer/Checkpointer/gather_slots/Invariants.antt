@@ -1,4 +1,4 @@
-use Rattle.std.proofs.Common.{◌≡◌, ◌*◌, ◌-◌, ℕ, [], map, take, drop}
+use Rattle.std.proofs.Common.{◌≡◌, ◌*◌, ◌-◌, [], map, take, drop}
 use Rattle.std.specs.List.{range_with_len}
 use Rattle.cdg_io.specs.Run.{run_state}
 use Rattle.rw_interleave.specs.Gathering.{gather_next}

@@ -1,4 +1,4 @@
-use Rattle.std.proofs.Common.{◌-◌, ◌+◌, ap, ap₂, ◌∙◌, refl, arith, Result, Err}
+use Rattle.std.proofs.Common.{◌-◌, ◌+◌, ap, ap₂, arith, Result, Err}
 use Rattle.cdg_io.specs.declared.pumping.Pumped.{Pumped}
 use Rattle.cdg_io.specs.declared.pumping.PumpStop.{PumpStop}
 use Rattle.checkpoint_files.specs.Checkpoint.{checkpoint_in}

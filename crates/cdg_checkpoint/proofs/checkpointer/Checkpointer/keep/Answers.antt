@@ -1,4 +1,4 @@
-use Rattle.std.proofs.Common.{refl, arith, ap, ◌∙◌}
+use Rattle.std.proofs.Common.{refl, arith}
 use Rattle.checkpoint_files.specs.Checkpoint.{kept}
 use Rattle.cdg_checkpoint.proofs.checkpointer.Checkpointer.keep.Goals as goal
 

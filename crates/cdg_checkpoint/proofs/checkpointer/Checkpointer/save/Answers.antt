@@ -1,6 +1,3 @@
-use Rattle.std.proofs.Common.{subst, sym, List, ℕ}
-use Rattle.std.specs.Io.KnownBytes.{Appends}
-use Rattle.cdg_io.specs.Moves.{AppendsPrefix}
 use Rattle.cdg_checkpoint.proofs.SavedStreams.{saves_done, saves_cut}
 use Rattle.cdg_checkpoint.proofs.checkpointer.Checkpointer.save.Goals as goal
 
