@@ -84,6 +84,7 @@ pub record TimeAfter : Type 0 where
   pub checkpoint : Checkpoint
   pub time : ℕ
 
+-- a checkpoint and a time, as one
 abbrev pub time_after : Checkpoint → ℕ → TimeAfter
 time_after checkpoint time = record { checkpoint = checkpoint; time = time }
 

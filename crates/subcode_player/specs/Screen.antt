@@ -33,6 +33,7 @@ pub record Moment : Type 0 where
   pub lead_in : ℕ
   pub time : ℕ
 
+-- a form, the blocks of a lead-in and a time, as one
 abbrev pub moment : Form → ℕ → ℕ → Moment
 moment form lead_in time = record { form = form; lead_in = lead_in; time = time }
 
