@@ -15,6 +15,7 @@ use Rattle.cdg_io.specs.declared.stage.Then.{Then}
 use Rattle.cdg_io.proofs.Streaming.{IsWhole}
 use Rattle.rw_interleave.specs.Interleave.{whole_packs}
 use Rattle.raw_subcode.specs.Channels.{blocks_of, symbols_of, program_symbols}
+use Rattle.raw_subcode.specs.Sizes.{most_units}
 use Rattle.raw_subcode.specs.declared.form.Form.TheVariants.{Raw}
 use Rattle.rw_interleave.specs.Stream.{bad_count}
 use Rattle.cdg_screen.specs.Picture.{Standing, SameStanding, blank, standing_of, standing_after}
@@ -100,7 +101,7 @@ module _ (lead_in n : ℕ) (bytes file : List ℕ) (s s' : Tracking) (fresh : Is
 
 -- ---- the answers
 
-module _ (lead_in : ℕ) (left left' held held' : Option (List ℕ)) (s s' : Tracking) (taken file : List ℕ) (pumped : Pumped) (fresh : IsFresh lead_in s) (w : TracksBlocks most_blocks track_next (feeding (from_to left left') (from_to s s')) (Ok pumped) taken) (kept : IsKept pumped.units lead_in s' file) where
+module _ (lead_in : ℕ) (left left' held held' : Option (List ℕ)) (s s' : Tracking) (taken file : List ℕ) (pumped : Pumped) (fresh : IsFresh lead_in s) (w : TracksBlocks most_units track_next (feeding (from_to left left') (from_to s s')) (Ok pumped) taken) (kept : IsKept pumped.units lead_in s' file) where
   saved : IsSaved lead_in taken pumped file
   saved = is_saved lead_in pumped.units taken file s s' fresh w.done.2 w.done.1 w.done.3 kept
 
