@@ -66,7 +66,8 @@ pub(crate) fn read_seed(option: &str, number: &str) -> Option<u64>
 pub(crate) fn read_pictures(option: &str, number: &str) -> Option<u32>
     ensures spelled { IfSome result (λ n. (1 ≤ n) × (n ≤ most_generated) × (option.now ≡ codes "--pictures")
         × (number.now ≡ decimal n)) }
-    ensures all { (n : ℕ) → 1 ≤ n → n ≤ most_generated → option.now ≡ codes "--pictures" → number.now ≡ decimal n
+    ensures all { (n : ℕ) → 1 ≤ n → n ≤ most_generated → option.now ≡ codes "--pictures"
+        → number.now ≡ decimal n
         → result ≡ Some n }
 {
     if option != "--pictures" {

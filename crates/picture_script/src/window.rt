@@ -114,7 +114,8 @@ impl Window {
         requires height { y < 192 }
         requires range { AreColours colours.now }
         ensures { ArePixelsOf self.new (λ x' y'.
-            if is_within x (length colours.now) x' && y' == y then slice_index colours.now (x' - x) else pixel_of self.old x' y') }
+            if is_within x (length colours.now) x' && y' == y then slice_index colours.now (x' - x)
+            else pixel_of self.old x' y') }
     {
         let start = WINDOW_WIDTH * y + x;
         self.pixels[start..start + colours.len()].copy_from_slice(colours);

@@ -20,8 +20,8 @@ use cue_sheet::accepted_sheets_are_in_order;
 
 /// A law: the texts of every sheet that is accepted can be packed, where they fill no more packs than there may be.
 pub fn accepted_sheets_have_text_packs()
-    ensures { (text : List ℕ) (sheet : CueSheet) → All (λ byte. byte < 256) text → length text ≤ most_text_bytes
-        → read_cue text ≡ Ok sheet
+    ensures { (text : List ℕ) (sheet : CueSheet) → All (λ byte. byte < 256) text
+        → length text ≤ most_text_bytes → read_cue text ≡ Ok sheet
         → length (text_packs sheet) ≤ 256 → HasTextPacks sheet }
 {
     accepted_sheets_are_in_order();

@@ -26,13 +26,14 @@ use round_trips::{copied_text_lists_are_answered, text_lists_are_answered};
 pub fn authored_texts_are_written()
     ensures strings { (lead_in audio : ℕ) (sheet : CueSheet) (script : List Drawing) (packs : List (List ℕ))
         (call : Call Bytes) (status : Status) → IsRun (Text lead_in Raw) call status
-        → lead_in ≤ most_lead_in → program_blocks sheet audio ≤ most_program → HasTextPacks sheet → HasText sheet
-        → 0 < lead_in
+        → lead_in ≤ most_lead_in → program_blocks sheet audio ≤ most_program → HasTextPacks sheet
+        → HasText sheet → 0 < lead_in
         → IfSome call.first.before (λ all. IsAuthored (disc_of sheet script lead_in audio) all packs
         → GivesBack (sheet_lines sheet (4 * lead_in) 0) call.out status) }
     ensures none { (lead_in audio : ℕ) (sheet : CueSheet) (script : List Drawing) (packs : List (List ℕ))
         (call : Call Bytes) (status : Status) → IsRun (Text lead_in Raw) call status
-        → lead_in ≤ most_lead_in → program_blocks sheet audio ≤ most_program → has_no_text (sheet_texts sheet) ≡ true
+        → lead_in ≤ most_lead_in → program_blocks sheet audio ≤ most_program
+        → has_no_text (sheet_texts sheet) ≡ true
         → IfSome call.first.before (λ all. IsAuthored (disc_of sheet script lead_in audio) all packs
         → GivesBack (offers_line 0 (4 * lead_in) 0) call.out status) }
 {
