@@ -121,6 +121,6 @@ pub idle_instruction : IsInstructionOf idle_pack Idle
 idle_instruction = (idle_pack, record { size = refl; codeword = idle_is_codeword; message = refl }, refl)
 
 -- a pack whose mode is 0 says nothing
-pub idle_by_mode : (pack : List ℕ) → get_or (low_bits pack) 0 0 ≡ 0 → instruction_of pack ≡ Idle
+pub idle_by_mode : (pack : List ℕ) → get_or (symbols_of pack) 0 0 ≡ 0 → instruction_of pack ≡ Idle
 unfolding instruction_of meaning
-idle_by_mode pack mode = ap (λ m. meaning_by (low_bits pack) m (get_or (low_bits pack) 1 0)) mode
+idle_by_mode pack mode = ap (λ m. meaning_by (symbols_of pack) m (get_or (symbols_of pack) 1 0)) mode
