@@ -21,11 +21,9 @@ fn blank_checkpoint(alloc: Global) -> Result<Vec<u8>, Fail> {
 #[test]
 fn saves_a_blank_checkpoint(rt: HostRuntime) -> Result<(), Fail> {
     let bytes = blank_checkpoint(rt.alloc())?;
-    assert_eq!(rt;
-        bytes.get(..24),
-        Some(b"CDGSAVE1\0\0\0\0\0\0\0\0\0\0\0\x02\0\0\0\0".as_slice())
-    );
-    assert_eq!(rt; bytes.get(65_043..), Some([0x21, 0x3f].as_slice()));
+    assert_eq!(rt; bytes.len(), 65_045);
+    assert!(rt; bytes.starts_with(b"CDGSAVE1\0\0\0\0\0\0\0\0\0\0\0\x02\0\0\0\0"));
+    assert!(rt; bytes.ends_with(b"\x21\x3f"));
     Ok(())
 }
 
