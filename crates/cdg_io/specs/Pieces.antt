@@ -1,6 +1,8 @@
 -- The bytes of a piece.
-use Rattle.std.specs.Prelude.{ℕ, List, Bool, take, replicate, if◌then◌else◌}
+use Rattle.std.specs.Prelude.{ℕ, List, None, Some, replicate}
+use Rattle.std.specs.declared.option.Option.{Option}
 
--- so many zeros, or the first of these bytes
-abbrev pub piece_bytes : Bool → ℕ → List ℕ → List ℕ
-piece_bytes zero len bytes = if zero then replicate len 0 else take len bytes
+-- so many zeros, or these bytes
+abbrev pub piece_bytes : Option ℕ → List ℕ → List ℕ
+piece_bytes None bytes = bytes
+piece_bytes (Some count) bytes = replicate count 0

@@ -6,7 +6,7 @@ use Rattle.rand_pcg.specs.Lcg.{Lcg}
 use Rattle.rand_pcg.specs.Pcg.{pcg32}
 use Rattle.cdg_io.specs.Run.{give, run_gives}
 use Rattle.cdg_workload.specs.Scratches.{Burst, bursts, change_at, gap_of, size_of, change_of}
-use Rattle.cdg_workload.specs.Steps.{next_needle, ready, change_now, moved, byte_next, byte_gives}
+use Rattle.cdg_workload.specs.Steps.{next_needle, ready, change_now, past_byte, byte_next, byte_gives}
 use Rattle.cdg_workload.specs.declared.needle.Needle.{Needle}
 
 -- ---- One symbol.
@@ -29,9 +29,9 @@ unfolding ready
 ready_within l c w = ap (λ t. cond t (next_needle w) (at 0 (suc l) c w)) (not_zero l)
 
 pub next_before : (g l c : ℕ) (w : Lcg) (b : ℕ) → byte_next (at (suc g) l c w) b ≡ at g l c w
-unfolding byte_next moved
+unfolding byte_next past_byte
 next_before g l c w b =
-    ap moved (ready_before g l c w) ∙ ap (λ t. cond t (at (suc g) (l - 1) c w) (at (suc g - 1) l c w)) (not_zero g) ∙ ap (λ n. at n l c w) (less_one g)
+    ap past_byte (ready_before g l c w) ∙ ap (λ t. cond t (at (suc g) (l - 1) c w) (at (suc g - 1) l c w)) (not_zero g) ∙ ap (λ n. at n l c w) (less_one g)
 
 pub gives_before : (g l c : ℕ) (w : Lcg) (b : ℕ) → byte_gives (at (suc g) l c w) b ≡ Some (bit_xor b 0)
 unfolding byte_gives change_now
@@ -39,8 +39,8 @@ gives_before g l c w b =
     ap (λ n. Some (bit_xor b (change_now n))) (ready_before g l c w) ∙ ap (λ t. Some (bit_xor b (cond t c 0))) (not_zero g)
 
 pub next_within : (l c : ℕ) (w : Lcg) (b : ℕ) → byte_next (at 0 (suc l) c w) b ≡ at 0 l c w
-unfolding byte_next moved
-next_within l c w b = ap moved (ready_within l c w) ∙ ap (λ n. at 0 n c w) (less_one l)
+unfolding byte_next past_byte
+next_within l c w b = ap past_byte (ready_within l c w) ∙ ap (λ n. at 0 n c w) (less_one l)
 
 pub gives_within : (l c : ℕ) (w : Lcg) (b : ℕ) → byte_gives (at 0 (suc l) c w) b ≡ Some (bit_xor b c)
 unfolding byte_gives change_now
@@ -62,7 +62,7 @@ ready_drawn c w = drawn_is w ∙ sym (ready_before (gap_less w) (size_of (pcg32 
 
 next_drawn : (c : ℕ) (w : Lcg) (b : ℕ) → byte_next (at 0 0 c w) b ≡ byte_next (at (suc (gap_less w)) (size_of (pcg32 w).0) (change_of (pcg32 w).0) (pcg32 w).1) b
 unfolding byte_next
-next_drawn c w b = ap moved (ready_drawn c w)
+next_drawn c w b = ap past_byte (ready_drawn c w)
 
 gives_drawn : (c : ℕ) (w : Lcg) (b : ℕ) → byte_gives (at 0 0 c w) b ≡ byte_gives (at (suc (gap_less w)) (size_of (pcg32 w).0) (change_of (pcg32 w).0) (pcg32 w).1) b
 unfolding byte_gives

@@ -26,13 +26,13 @@ unfoldable pub change_now : Needle → ℕ
 change_now needle = if needle.gap == 0 then needle.change else 0
 
 -- one symbol on
-unfoldable pub moved : Needle → Needle
-moved needle = if needle.gap == 0 then record needle { left = needle.left - 1 }
+unfoldable pub past_byte : Needle → Needle
+past_byte needle = if needle.gap == 0 then record needle { left = needle.left - 1 }
     else record needle { gap = needle.gap - 1 }
 
 -- the needle after a byte of the program
 unfoldable pub byte_next : Needle → ℕ → Needle
-byte_next needle byte = moved (ready needle)
+byte_next needle byte = past_byte (ready needle)
 
 -- what is given for a byte of the program
 unfoldable pub byte_gives : Needle → ℕ → Option ℕ

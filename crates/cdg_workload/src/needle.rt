@@ -3,7 +3,7 @@ ghost use Rattle.std.specs.Prelude.{◌≡◌, ◌<◌, ◌≤◌, ◌-◌, ◌^
 ghost use Rattle.raw_subcode.specs.Sizes.{block_bytes};
 ghost use Rattle.rand_pcg.specs.Pcg.{pcg32};
 ghost use Rattle.cdg_io.specs.Run.{run_state, run_gives};
-ghost use Rattle.cdg_workload.specs.Steps.{next_needle, ready, change_now, moved, byte_next, byte_gives};
+ghost use Rattle.cdg_workload.specs.Steps.{next_needle, ready, change_now, past_byte, byte_next, byte_gives};
 
 use rand_core::utils::NextWord;
 use rand_pcg::Pcg32;
@@ -46,9 +46,9 @@ impl Needle {
     }
 
     // One symbol on: what it is combined with.
-    #[tactic(auto, unfolding(crate::specs::Steps::moved, crate::specs::Steps::change_now))]
+    #[tactic(auto, unfolding(crate::specs::Steps::past_byte, crate::specs::Steps::change_now))]
     fn step(&mut self) -> u8
-        ensures next { self.new ≡ moved self.old }
+        ensures next { self.new ≡ past_byte self.old }
         ensures change { result ≡ change_now self.old }
     {
         if self.gap > 0 {

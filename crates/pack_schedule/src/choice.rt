@@ -8,7 +8,8 @@ ghost use Rattle.picture_changes.specs.PlannedChange.{tile_steps, planned_length
 use crate::counts::{Counts, count_tiles};
 use crate::same_tiles::{is_same_picture, same_rows};
 use crate::settings::count_settings;
-use crate::weights::{TILES, Weighed};
+use crate::weights::Weighed;
+use cdg_instructions::WINDOW_TILES;
 use picture_script::{Canvas, Script};
 
 /// The colour of which all memory is set first, if one is, and how many instructions the change then has.
@@ -99,7 +100,7 @@ pub(crate) fn choose_start(
     k: u32,
     before: &Canvas,
     now: &Canvas,
-    weights: &mut [Weighed; TILES],
+    weights: &mut [Weighed; WINDOW_TILES],
 ) -> Choice
     requires now { IsPicture script.now k now.now }
     requires before { 0 < k → IsPicture script.now (k - 1) before.now }

@@ -8,8 +8,8 @@ ghost use Rattle.picture_changes.specs.PlannedChange.{tile_steps};
 ghost use Rattle.pack_schedule.specs.SameTiles.{AreSameRows};
 ghost use Rattle.pack_schedule.specs.Weights.{AreWeights, IsWeighed};
 
-use crate::same_tiles::ROWS;
-use crate::weights::{TILES, Weighed, weigh_tile};
+use crate::weights::{Weighed, weigh_tile};
+use cdg_instructions::{WINDOW_ROWS, WINDOW_TILES};
 use picture_script::{Canvas, Script};
 
 /// The sums over tiles of what they take: from what stands there, and from a colour; and of the tiles that are all
@@ -52,8 +52,8 @@ pub(crate) fn count_tiles(
     k: u32,
     before: &Canvas,
     now: &Canvas,
-    same: &[bool; ROWS],
-    weights: &mut [Weighed; TILES],
+    same: &[bool; WINDOW_ROWS],
+    weights: &mut [Weighed; WINDOW_TILES],
 ) -> Counts
     requires same { AreSameRows before.now.pixels now.now.pixels same.now }
     requires now { IsPicture script.now k now.now }
@@ -70,7 +70,7 @@ pub(crate) fn count_tiles(
         whole: 0,
         single: [0; 16],
     };
-    for i in 0..TILES {
+    for i in 0..WINDOW_TILES {
         let taken = weigh_tile(weights, script, k, i, before, now, same);
         counts.add(taken, weights[i]);
     }

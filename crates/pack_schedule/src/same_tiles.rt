@@ -3,17 +3,15 @@ ghost use Rattle.std.specs.Prelude.{◌≡◌, ◌<◌, ◌≤◌, IsTrue, ◌�
 ghost use Rattle.picture_script.specs.Board.{tile_of};
 ghost use Rattle.pack_schedule.specs.SameTiles.{AreSameRows, SameTiles};
 
+use cdg_instructions::WINDOW_ROWS;
 use picture_script::Canvas;
 
-/// How many rows of tiles the window has.
-pub(crate) const ROWS: usize = 16;
-
 /// Whether the tiles of each row are the same on two canvases.
-pub(crate) fn same_rows(before: &Canvas, now: &Canvas) -> [bool; ROWS]
+pub(crate) fn same_rows(before: &Canvas, now: &Canvas) -> [bool; WINDOW_ROWS]
     ensures { AreSameRows before.now.pixels now.now.pixels result }
 {
-    let mut same = [false; ROWS];
-    for r in 0..ROWS {
+    let mut same = [false; WINDOW_ROWS];
+    for r in 0..WINDOW_ROWS {
         same[r] = before.has_row_of(now, r as u8 + 1);
     }
     same
@@ -21,7 +19,7 @@ pub(crate) fn same_rows(before: &Canvas, now: &Canvas) -> [bool; ROWS]
 
 /// Whether the tile at a place is the same on two canvases that share these rows.
 pub(crate) fn is_same_tile(
-    same: &[bool; ROWS],
+    same: &[bool; WINDOW_ROWS],
     before: &Canvas,
     now: &Canvas,
     row: u8,
@@ -38,11 +36,11 @@ pub(crate) fn is_same_tile(
 }
 
 /// Whether all tiles are the same on two canvases that share these rows.
-pub(crate) fn is_same_picture(same: &[bool; ROWS], before: &Canvas, now: &Canvas) -> bool
+pub(crate) fn is_same_picture(same: &[bool; WINDOW_ROWS], before: &Canvas, now: &Canvas) -> bool
     requires { AreSameRows before.now.pixels now.now.pixels same.now }
     ensures { IsTrue result → SameTiles before.now.pixels now.now.pixels }
 {
-    for r in 0..ROWS {
+    for r in 0..WINDOW_ROWS {
         if !same[r] {
             return false;
         }

@@ -12,7 +12,8 @@ ghost use Rattle.pack_schedule.specs.Weights.{AreWeights};
 use crate::choice::choose_start;
 use crate::planned::{Planned, Stop};
 use crate::surveyed::Survey;
-use crate::weights::{NOT_WEIGHED, TILES, Weighed};
+use crate::weights::{NOT_WEIGHED, Weighed};
+use cdg_instructions::WINDOW_TILES;
 use picture_changes::{
     changes_have_planned_lengths, needs_are_fewest, planned_changes_are_changes,
 };
@@ -49,7 +50,7 @@ pub fn survey(alloc: Global, script: &Script, blocks: u32) -> Result<Survey, Sto
     }
     let mut before = Canvas::start(alloc)?;
     let mut now = Canvas::start(alloc)?;
-    let mut weights = [NOT_WEIGHED; TILES];
+    let mut weights = [NOT_WEIGHED; WINDOW_TILES];
     let mut planned = Vec::new(alloc);
     for k in 0..pictures {
         now.draw_until(script, k);
@@ -107,7 +108,7 @@ fn plan_picture(
     k: u32,
     before: &Canvas,
     now: &Canvas,
-    weights: &mut [Weighed; TILES],
+    weights: &mut [Weighed; WINDOW_TILES],
 ) -> Planned
     requires picture { k < pictures script.now }
     requires now { IsPicture script.now k now.now }

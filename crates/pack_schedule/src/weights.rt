@@ -7,13 +7,10 @@ ghost use Rattle.picture_script.specs.Board.{IsPicture};
 ghost use Rattle.pack_schedule.specs.SameTiles.{AreSameRows};
 ghost use Rattle.pack_schedule.specs.Weights.{IsWeighed, IsWeighedAt, not_weighed};
 
-use crate::same_tiles::{ROWS, is_same_tile};
-use cdg_instructions::Tile;
+use crate::same_tiles::is_same_tile;
+use cdg_instructions::{Tile, WINDOW_ROWS, WINDOW_TILES};
 use picture_script::{Canvas, Script};
 use tile_author::{plans_are_shortest, steps_of_weight, weight};
-
-/// How many tiles the window has.
-pub(crate) const TILES: usize = 768;
 
 /// What a tile takes from a colour: nothing from the one that it has alone, and its weight from each other one.
 #[derive(Clone, Copy)]
@@ -55,13 +52,13 @@ fn single_colour(tile: &Tile) -> Option<u8>
 /// What tile `i` of picture `k`, which stands on `now`, takes where the picture before it stands on `before`.
 /// What is kept of the tile becomes that of picture `k`.
 pub(crate) fn weigh_tile(
-    weights: &mut [Weighed; TILES],
+    weights: &mut [Weighed; WINDOW_TILES],
     script: &Script,
     k: u32,
     i: usize,
     before: &Canvas,
     now: &Canvas,
-    same: &[bool; ROWS],
+    same: &[bool; WINDOW_ROWS],
 ) -> u32
     requires place { i < 768 }
     requires same { AreSameRows before.now.pixels now.now.pixels same.now }

@@ -9,12 +9,9 @@ use crate::change::Change;
 use crate::same_tiles::{is_same_tile, same_rows};
 use crate::settings::has_colours;
 use arrayvec::ArrayVec;
-use cdg_instructions::{Instr, PIXELS, Tile};
+use cdg_instructions::{Instr, PIXELS, Tile, WINDOW_TILES};
 use picture_script::{Canvas, Script};
 use tile_author::plan;
-
-// How many tiles the window has.
-const TILES: usize = 768;
 
 impl Change {
     /// Makes the list the planned change of picture `k`, which stands on `now`, while the picture before it stands on
@@ -142,7 +139,7 @@ impl Change {
         ensures { self.new ≡ self.old ++ planned_tiles script.now k preset }
     {
         let same = same_rows(before, now);
-        for i in 0..TILES {
+        for i in 0..WINDOW_TILES {
             let row = (i / 48) as u8 + 1;
             let column = (i % 48) as u8 + 1;
             if preset.is_none() && is_same_tile(&same, before, now, row, column) {

@@ -8,7 +8,7 @@ use std::io::{BufWriter, ErrorKind, Read, Stdout, Write};
 pub type Waiting = RefCell<BufWriter<Stdout>>;
 
 /// Writes what waits.
-pub fn flush(waiting: &Waiting) -> io::Result<()> {
+pub(crate) fn flush(waiting: &Waiting) -> io::Result<()> {
     match waiting.try_borrow_mut() {
         Ok(mut writer) => writer.flush(),
         Err(_) => Err(io::Error::from(ErrorKind::Other)),

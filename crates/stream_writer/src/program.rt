@@ -59,7 +59,7 @@ fn next_slot<P: PackSource>(
 
 // The symbols of the slot that comes with a pack. It stays a call of its own, since most packs are idle.
 #[inline(never)]
-fn slot_with(spread: &mut Spread, pack: &Pack) -> [u8; 24]
+fn slot_with(spread: &mut Spread, pack: &Pack) -> [u8; SYMBOLS_A_SLOT]
     ensures codeword { IsCodeword pack.now }
     ensures next { spread.new ≡ spread_next spread.old pack.now }
     ensures gives { Some result ≡ spread_gives spread.old pack.now }
