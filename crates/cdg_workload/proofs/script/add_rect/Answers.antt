@@ -18,6 +18,6 @@ returns-clause-line c =
     eleven_joined c.args.lines.now c.add.new.self c.add_number.new.lines c.add-2.new.self c.add_number-2.new.lines c.add-3.new.self c.add_number-3.new.lines
     c.add-4.new.self c.add_number-4.new.lines c.add-5.new.self c.add_number-5.new.lines c.add-6.new.self
     (codes "rect ") (decimal (x % 288)) (codes " ") (decimal (y % 192)) (codes " ") (decimal (1 + w % (288 - x % 288))) (codes " ") (decimal (1 + h % (192 - y % 192))) (codes " ") (decimal (size / 256 % 16)) line_feed
-    c.add.ensures c.add_number.ensures.text c.add-2.ensures c.add_number-2.ensures.text c.add-3.ensures c.add_number-3.ensures.text c.add-4.ensures c.add_number-4.ensures.text c.add-5.ensures c.add_number-5.ensures.text c.add-6.ensures
+    c.add.ensures.bytes c.add_number.ensures.text c.add-2.ensures.bytes c.add_number-2.ensures.text c.add-3.ensures.bytes c.add_number-3.ensures.text c.add-4.ensures.bytes c.add_number-4.ensures.text c.add-5.ensures.bytes c.add_number-5.ensures.text c.add-6.ensures.bytes
     ∙ ap (λ l. c.args.lines.now ++ l)
     (halves_text_is c.args.words.now c.next_word-place.result size x y w h place_is size_is c.low_half-x.ensures c.high_half-y.ensures c.low_half.ensures c.high_half.ensures)
