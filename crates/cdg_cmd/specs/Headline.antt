@@ -16,6 +16,7 @@ use Rattle.cdg_cmd.specs.Authors.{PutsAuthored}
 use Rattle.cdg_io.specs.Change.{Change, Bytes}
 use Rattle.cdg_cmd.specs.declared.status.Status.{Status}
 use Rattle.cdg_cmd.specs.declared.status.Status.TheVariants.{Done, Damaged, Usage, Refused, Late, ReadFault, WriteFault, NoMemory}
+use Rattle.rw_code.specs.Packs.{idle_pack}
 
 -- the sheet and the script have a place on the disc: only a picture can be refused
 pub record HavePlace (disc : Disc) : Type 0 where
@@ -43,7 +44,7 @@ pub record IsDamagedCopy (form : Form) (lead_in : ℕ) (stream bytes : List ℕ)
 
 -- scheduled packs as a conversion writes them: in a cooked stream seven packs of zeros follow them
 abbrev pub written_packs : Form → List (List ℕ) → List (List ℕ)
-written_packs Cooked packs = packs ++ replicate 7 (replicate 24 0)
+written_packs Cooked packs = packs ++ replicate 7 idle_pack
 written_packs _ packs = packs
 
 -- the pixmap of a screen that shows picture k was put, unless a read or a write failed or no memory was found

@@ -1,6 +1,5 @@
 pub mod Instruction
 pub mod Drawing
 pub mod Meaning
-pub mod Packs
 pub mod MadeGood
 pub mod Sizes

@@ -8,7 +8,7 @@ use Rattle.cdg_instructions.specs.MadeGood.{IsMadeGood}
 use Rattle.cue_sheet.specs.CueSheet.{CueSheet}
 use Rattle.toc_model.specs.Places.{layout_of, program_blocks}
 use Rattle.stream_writer.specs.Framing.{HasFraming}
-use Rattle.cdg_instructions.specs.Packs.{idle_pack}
+use Rattle.rw_code.specs.Packs.{idle_pack}
 use Rattle.stream_writer.specs.Needs.{text_packs, lead_in_need}
 
 -- the whole packs of a file, as symbols: the low six bits of its bytes

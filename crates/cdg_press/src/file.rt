@@ -2,7 +2,7 @@
 ghost use Rattle.std.specs.Prelude.{◌≡◌, length, unwrap_or};
 ghost use Rattle.raw_subcode.specs.Channels.{symbols_of};
 ghost use Rattle.cdg_instructions.specs.MadeGood.{IsMadeGood};
-ghost use Rattle.cdg_instructions.specs.Packs.{idle_pack};
+ghost use Rattle.rw_code.specs.Packs.{idle_pack};
 
 use crate::checks::PACK_BYTES;
 use gf64::Sym;

@@ -10,7 +10,7 @@ use Rattle.cdg_screen.specs.Picture.{Standing, blank, standing_after, SameStandi
 use Rattle.cdg_screen.proofs.Turns.{in_turn, same_back, same_further, same_then}
 use Rattle.cdg_instructions.specs.declared.instr.Instr.{Instr}
 use Rattle.cdg_instructions.specs.declared.instr.Instr.TheVariants.{Idle}
-use Rattle.cdg_instructions.specs.Packs.{idle_pack}
+use Rattle.rw_code.specs.Packs.{idle_pack}
 use Rattle.cdg_thin.specs.Thin.{AreInstructionsOf, IsInstructionOf, IsNeedless, IsThinned, is_graphic, IsThinForm, IsThinText, StandAlike}
 use Rattle.cdg_thin.specs.Steps.{instruction_of}
 use Rattle.cdg_thin.proofs.Meanings.{only_instruction, instruction_size, idle_instruction}

@@ -11,7 +11,7 @@ use Rattle.cdg_instructions.proofs.Meaning.{meaning_means, only_meaning}
 use Rattle.cdg_instructions.proofs.Symbols.{message_of-has, head_of_message, body_of_message, content_of-message}
 use Rattle.cdg_instructions.specs.declared.instr.Instr.{Instr}
 use Rattle.cdg_instructions.specs.declared.instr.Instr.TheVariants.{Idle, Foreign, Unknown, MemoryPreset, BorderPreset, SetTile, XorTile, ScrollPreset, ScrollCopy, Transparency, ColoursLow, ColoursHigh}
-use Rattle.cdg_instructions.specs.Packs.{idle_pack}
+use Rattle.rw_code.specs.Packs.{idle_pack}
 use Rattle.raw_subcode.specs.Channels.{symbols_of}
 use Rattle.cdg_thin.specs.Thin.{IsInstructionOf}
 use Rattle.cdg_thin.specs.Steps.{instruction_of}

@@ -12,7 +12,7 @@ use Rattle.cdg_screen.specs.Standings.{display_of, obeyed}
 use Rattle.cdg_screen.proofs.StandingLemmas.{display_after, display_is, obeyed_is}
 use Rattle.cdg_screen.proofs.Turns.{in_turn, same_after, same_back, same_then}
 use Rattle.cdg_instructions.specs.declared.instr.Instr.{Instr}
-use Rattle.cdg_instructions.specs.Packs.{idle_pack}
+use Rattle.rw_code.specs.Packs.{idle_pack}
 use Rattle.cdg_instructions.specs.declared.instr.Instr.TheVariants.{Idle}
 use Rattle.cdg_thin.specs.Thin.{IsNeedless, IsThinned, IsThinForm, IsThinText, is_graphic}
 use Rattle.cdg_thin.specs.Steps.{instruction_of, is_needless, thin_next, thin_gives}
@@ -42,14 +42,6 @@ needless_still now instr same = sym (needless_as_graphic (display_of now) instr 
 -- and one that changes something
 pub not_still : (now : Standing) (instr : Instr) → ¬ SameStanding (standing_after now (instr ∷ [])) now → false ≡ is_needless (display_of now) instr
 not_still now instr differs = sym (not_needless (display_of now) instr (λ same. differs (seen_keeps now instr same)))
-
--- what says nothing leaves all as it is
-pub idle_stays : (now : Standing) → display_of now ≡ obeyed (display_of now) Idle
-idle_stays now = obeyed_still now Idle (record { memory = λ x y x_lt y_lt. refl; border = refl; colour = λ k lt. refl; level = λ k lt. refl; h = refl; v = refl })
-
-pub idle_kept : (now : Display) → false ≡ is_needless now Idle
-unfolding is_needless
-idle_kept now = refl
 
 -- ---- the run
 

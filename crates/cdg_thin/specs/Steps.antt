@@ -5,7 +5,7 @@ use Rattle.bit_lists.specs.Counting.{below}
 use Rattle.cdg_instructions.specs.Meaning.{meaning}
 use Rattle.cdg_screen.specs.Picture.{Display, Standing, standing_of, standing_after}
 use Rattle.cdg_screen.specs.Standings.{obeyed}
-use Rattle.cdg_instructions.specs.Packs.{idle_pack}
+use Rattle.rw_code.specs.Packs.{idle_pack}
 use Rattle.raw_subcode.specs.Channels.{symbols_of}
 use Rattle.cdg_thin.specs.Thin.{is_graphic}
 use Rattle.cdg_instructions.specs.declared.instr.Instr.{Instr}

@@ -4,7 +4,7 @@ use Rattle.std.specs.List.{concat}
 use Rattle.bit_lists.specs.Counting.{whole_parts}
 use Rattle.cdg_instructions.specs.Instruction.{Means}
 use Rattle.cdg_instructions.specs.MadeGood.{IsMadeGood}
-use Rattle.cdg_instructions.specs.Packs.{idle_pack}
+use Rattle.rw_code.specs.Packs.{idle_pack}
 use Rattle.raw_subcode.specs.Channels.{symbols_of}
 use Rattle.cdg_screen.specs.Picture.{blank, standing_after, SameStanding}
 use Rattle.cdg_instructions.specs.declared.instr.Instr.{Instr}

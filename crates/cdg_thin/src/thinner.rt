@@ -6,19 +6,20 @@ ghost use Rattle.cdg_io.specs.Change.{change, passed};
 ghost use Rattle.cdg_io.specs.Pump.{FillsUnits, IsUnlessFault, TellsEndOf, answer_of};
 ghost use Rattle.cdg_screen.specs.Picture.{SameStanding, blank, standing_of};
 ghost use Rattle.cdg_screen.specs.Standings.{obeyed};
-ghost use Rattle.cdg_thin.specs.Calls.{Thins, ThinsAll};
+ghost use Rattle.cdg_thin.specs.Calls.{Thins, ThinsAll, most_packs};
 ghost use Rattle.cdg_thin.specs.Steps.{instruction_of, is_needless, thin_next, thin_gives};
 
-use crate::instruction::{instruction, is_graphic, is_idle};
+use crate::instruction::{instruction, is_graphic};
 use crate::laws::thin_forms_stand_alike;
 use cdg_instructions::Instr;
 use cdg_io::{Piece, PumpStop, Pumped, Sink, Source, Stage, pump};
 use cdg_screen::Screen;
+use raw_subcode::{MOST_UNITS, SLOTS_A_BLOCK};
 use std::alloc::{AllocError, Global};
 use std::marker::Model;
 
-// The most packs that are read.
-const MOST_PACKS: u32 = 4_000_000;
+// The most packs that are read: those of the most blocks.
+const MOST_PACKS: u32 = SLOTS_A_BLOCK as u32 * MOST_UNITS;
 
 // The pack that says nothing.
 const IDLE: [u8; 24] = [0; 24];
@@ -72,7 +73,7 @@ impl Thinner {
             (λ all. ThinsAll all (change K.held out.old out.new) result) }
         // Where nothing failed, the answer is that of the whole input's length.
         ensures answer { IfSome (S.left source.old)
-            (λ all. IsUnlessFault result (answer_of 24 4000000 (length all))) }
+            (λ all. IsUnlessFault result (answer_of 24 most_packs (length all))) }
         ensures source_later { S.faults source.old ≤ S.faults source.new }
         ensures out_later { K.faults out.old ≤ K.faults out.new }
         ensures read_fault { IsErrOf result PumpStop.ReadFault
@@ -80,7 +81,7 @@ impl Thinner {
         ensures no_read_fault { result ≢ Err PumpStop.ReadFault
             → S.faults source.new ≡ S.faults source.old }
         ensures ended { TellsEndOf result (S.ends source.old) (S.ends source.new) }
-        ensures rooms { FillsUnits 4000000 result (S.fills source.old) (S.fills source.new) }
+        ensures rooms { FillsUnits most_packs result (S.fills source.old) (S.fills source.new) }
         ensures write_fault { IsErrOf result PumpStop.WriteFault
             → Rose (K.faults out.old) (K.faults out.new) }
         ensures no_write_fault { result ≢ Err PumpStop.WriteFault
@@ -111,17 +112,12 @@ impl Thinner {
         is_graphic(instr)
     }
 
-    // The same of the instruction of a pack. Most packs are idle: those are no graphics instructions.
+    // The same of the instruction of a pack.
     #[inline]
     fn is_needless(&mut self, pack: &[u8; 24]) -> bool
         ensures next { self.new ≡ thin_next self.old pack.now }
         ensures needless { result ≡ is_needless self.old (instruction_of pack.now) }
     {
-        // A proof knows what a thinner is seen as where a field is named.
-        let _ = &self.screen;
-        if is_idle(pack) {
-            return false;
-        }
         self.passes_over(&instruction(pack))
     }
 

@@ -9,7 +9,7 @@ use Rattle.cdg_instructions.specs.declared.instr.Instr.TheVariants.{Idle}
 use Rattle.picture_script.specs.Script.{Drawing, pictures, ready_time, hold_time}
 use Rattle.picture_script.specs.Board.{Board, IsBlank, IsPicture, StandsBefore}
 use Rattle.picture_changes.specs.Change.{IsStart}
-use Rattle.cdg_instructions.specs.Packs.{idle_pack}
+use Rattle.rw_code.specs.Packs.{idle_pack}
 use Rattle.picture_changes.specs.Schedule.{start_of}
 use Rattle.picture_changes.specs.PlannedChange.{chosen_start, planned_from, planned_change}
 use Rattle.pack_schedule.specs.Survey.{nothing_planned, IsSurvey}

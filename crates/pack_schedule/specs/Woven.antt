@@ -3,7 +3,7 @@ use Rattle.std.specs.Prelude.{◌≡◌, ℕ, ◌+◌, ◌-◌, ◌<◌, ◌≤�
 use Rattle.cdg_instructions.specs.Instruction.{IsWritten}
 use Rattle.cdg_instructions.specs.declared.instr.Instr.TheVariants.{Idle}
 use Rattle.picture_script.specs.Script.{Drawing, pictures}
-use Rattle.cdg_instructions.specs.Packs.{idle_pack}
+use Rattle.rw_code.specs.Packs.{idle_pack}
 use Rattle.picture_changes.specs.Schedule.{start_of}
 use Rattle.picture_changes.specs.PlannedChange.{planned_change}
 

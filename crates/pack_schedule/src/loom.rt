@@ -20,7 +20,7 @@ pub(crate) struct Loom {
 impl Loom {
     ghost use Rattle.std.specs.Prelude.{◌≡◌, ◌<◌, ◌≤◌, ◌+◌, length, unwrap_or, IfOk};
     ghost use Rattle.picture_script.specs.Script.{pictures};
-    ghost use Rattle.cdg_instructions.specs.Packs.{idle_pack};
+    ghost use Rattle.rw_code.specs.Packs.{idle_pack};
     ghost use Rattle.picture_changes.specs.Schedule.{start_of};
     ghost use Rattle.picture_changes.specs.PlannedChange.{planned_change};
     ghost use Rattle.pack_schedule.specs.Survey.{IsSurvey};

@@ -29,7 +29,7 @@ impl<'a> Model for Weaver<'a> {
 
 impl<'a> Weaver<'a> {
     ghost use Rattle.std.specs.Prelude.{◌≡◌, ◌+◌, IfOk, min, unwrap_or};
-    ghost use Rattle.cdg_instructions.specs.Packs.{idle_pack};
+    ghost use Rattle.rw_code.specs.Packs.{idle_pack};
     ghost use Rattle.pack_schedule.specs.Survey.{IsSurvey};
     ghost use Rattle.pack_schedule.specs.Woven.{IsPackAt};
 

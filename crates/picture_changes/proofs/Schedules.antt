@@ -13,7 +13,7 @@ use Rattle.cdg_instructions.specs.Instruction.{Means, InRange, IsKnown, IsWritte
 use Rattle.cdg_instructions.specs.declared.instr.Instr.{Instr}
 use Rattle.cdg_instructions.specs.declared.instr.Instr.TheVariants.{Idle, ScrollPreset, ScrollCopy}
 use Rattle.cdg_screen.specs.Picture.{Standing, SameStanding, blank, memory_from, border_from, colour_from, level_from, offsets_from, standing_after}
-use Rattle.cdg_instructions.specs.Packs.{idle_pack}
+use Rattle.rw_code.specs.Packs.{idle_pack}
 use Rattle.picture_changes.specs.Schedule.{start_of, IsSchedule}
 use Rattle.picture_changes.specs.Brings.{IsBefore, IsChange, IsStill, IsUnmoved}
 use Rattle.picture_changes.specs.Shown.{AreTimesInOrder}

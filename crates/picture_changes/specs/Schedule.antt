@@ -1,7 +1,7 @@
 -- When the packs of a change are sent, so that each picture stands from its ready time to its hold time.
 use Rattle.std.specs.Prelude.{◌≡◌, ℕ, zero, suc, ◌+◌, ◌-◌, ◌*◌, ◌<◌, ◌≤◌, ◌⊎◌, List, [], length, slice_index_or}
 use Rattle.rw_interleave.specs.Interleave.{whole_packs}
-use Rattle.cdg_instructions.specs.Packs.{idle_pack}
+use Rattle.rw_code.specs.Packs.{idle_pack}
 use Rattle.cdg_instructions.specs.Instruction.{IsWritten}
 use Rattle.picture_script.specs.Script.{Drawing, pictures, ready_time, hold_time}
 use Rattle.picture_changes.specs.Brings.{IsChange, IsNeed}

@@ -6,7 +6,7 @@ use Rattle.cdg_io.specs.Moves.{AppendsPrefix}
 use Rattle.rw_interleave.specs.Interleave.{whole_packs}
 use Rattle.cue_sheet.specs.CueSheet.{CueSheet, IsSheet}
 use Rattle.toc_model.specs.Places.{layout_of, program_blocks}
-use Rattle.cdg_instructions.specs.Packs.{idle_pack}
+use Rattle.rw_code.specs.Packs.{idle_pack}
 use Rattle.cdg_io.specs.Change.{Bytes, Change}
 use Rattle.stream_writer.specs.Given.{PutsStreamPart, framing_of}
 use Rattle.stream_writer.specs.Needs.{text_packs}

@@ -12,7 +12,7 @@ use Rattle.rw_code.proofs.Parity.{only_one_sealed}
 use Rattle.cdg_instructions.specs.Instruction.{message_of}
 use Rattle.cdg_instructions.specs.MadeGood.{IsMadeGood}
 use Rattle.cdg_instructions.proofs.Symbols.{message_of-has}
-use Rattle.cdg_instructions.specs.Packs.{idle_pack}
+use Rattle.rw_code.specs.Packs.{idle_pack}
 use Rattle.cdg_press.specs.Pressed.{file_begin, file_pack, IsPackAfter}
 use Rattle.subcode_author.proofs.Codewords.{has_codeword}
 

@@ -19,7 +19,7 @@ use Rattle.cdg_screen.specs.Picture.{SameStanding, blank, standing_after}
 use Rattle.subcode_player.specs.Convert.{IsDamagedStream}
 use Rattle.subcode_player.specs.Screen.{AreMeant, IsScreenAt, moment}
 use Rattle.subcode_player.proofs.Restoring.{Recovers, program_small}
-use Rattle.cdg_instructions.specs.Packs.{idle_pack}
+use Rattle.rw_code.specs.Packs.{idle_pack}
 use Rattle.cdg_press.specs.Pressed.{file_begin, file_pack, file_packs, IsPressed, press_of}
 use Rattle.round_trips.specs.Damaged.{file_standing, DamagedPress, IsFileText}
 use Rattle.round_trips.proofs.Meanings.{same_meaning}

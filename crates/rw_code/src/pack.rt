@@ -1,7 +1,8 @@
 // Codewords.
-ghost use Rattle.std.specs.Prelude.{◌≡◌, List, ℕ, replicate, MatchOption};
+ghost use Rattle.std.specs.Prelude.{◌≡◌, List, ℕ, MatchOption};
 ghost use Rattle.rw_code.specs.Codeword.{IsCodeword, HasSymbols};
 ghost use Rattle.rw_code.specs.Syndromes.{AreSyndromes};
+ghost use Rattle.rw_code.specs.Packs.{idle_pack};
 
 use crate::Word;
 use crate::sealing::{with_body, with_head, with_whole_parity};
@@ -78,7 +79,7 @@ impl Pack {
 
     /// The codeword of 24 zeros.
     pub fn idle() -> Pack
-        ensures { result ≡ replicate 24 0 }
+        ensures { result ≡ idle_pack }
     {
         Pack {
             word: Word::default(),

@@ -4,6 +4,7 @@ use Rattle.std.specs.declared.option.Option.{Option}
 use Rattle.bit_lists.specs.Counting.{below}
 use Rattle.rw_interleave.specs.Interleave.{swapped}
 use Rattle.rw_interleave.specs.Gathering.{last_seven}
+use Rattle.rw_code.specs.Packs.{idle_pack}
 
 -- the symbol at a position of the slot that comes with the last of some packs: that of the pack whose symbol falls
 -- there, and 0 before the first
@@ -26,4 +27,4 @@ spread_gives packs pack = Some (spread_over (packs ++ pack ∷ []))
 
 -- packs followed by idle packs, so many in all
 abbrev pub filled_with_idle : ℕ → List (List ℕ) → List (List ℕ)
-filled_with_idle count packs = packs ++ replicate (count - length packs) (replicate 24 0)
+filled_with_idle count packs = packs ++ replicate (count - length packs) idle_pack

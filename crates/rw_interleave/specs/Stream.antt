@@ -8,6 +8,7 @@ use Rattle.rw_code.specs.Finding.{IsFinding}
 use Rattle.rw_interleave.specs.Interleave.{word_of, whole_packs}
 use Rattle.raw_subcode.specs.declared.form.Form.{Form}
 use Rattle.raw_subcode.specs.declared.form.Form.TheVariants.{Cooked}
+use Rattle.rw_code.specs.Packs.{idle_pack}
 
 -- how many words so many blocks hold
 abbrev pub word_count : Form → ℕ → ℕ
@@ -31,13 +32,13 @@ bad_count found = count_by is_none found
 
 -- packs as words of a form: in a cooked stream of so many blocks zeros follow them
 abbrev pub all_packs : Form → ℕ → List (List ℕ) → List (List ℕ)
-all_packs form blocks packs = packs ++ replicate (word_count form blocks - length packs) (replicate 24 0)
+all_packs form blocks packs = packs ++ replicate (word_count form blocks - length packs) idle_pack
 
 -- other program symbols hold each word of these with at most two wrong symbols, and further words are nearly zero
 pub record IsDamaged (symbols : List ℕ) (form : Form) (others : List ℕ) : Type 0 where
   pub size : length others ≡ length symbols
   pub words : (n : ℕ) → n < whole_packs (length symbols / block_bytes) → IsNear (word_of symbols n) (form_word form others n)
-  pub further : (n : ℕ) → whole_packs (length symbols / block_bytes) ≤ n → n < word_count form (length symbols / block_bytes) → IsNear (form_word form others n) (replicate 24 0)
+  pub further : (n : ℕ) → whole_packs (length symbols / block_bytes) ≤ n → n < word_count form (length symbols / block_bytes) → IsNear (form_word form others n) idle_pack
 
 -- Symbols that differ in bursts
 

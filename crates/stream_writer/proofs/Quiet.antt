@@ -4,7 +4,7 @@ use Rattle.std.proofs.lemmas.List.{length-append, length-drop, length-replicate,
 use Rattle.rw_code.specs.Codeword.{IsCodeword}
 use Rattle.rw_interleave.specs.Interleave.{swapped}
 use Rattle.rw_interleave.specs.Spreading.{spread_next, spread_gives, spread_over, spread_symbol}
-use Rattle.cdg_instructions.specs.Packs.{idle_pack}
+use Rattle.rw_code.specs.Packs.{idle_pack}
 use Rattle.stream_writer.specs.Given.{AreQuiet, TakesPack}
 
 one_more : (n : ℕ) → replicate n idle_pack ++ idle_pack ∷ [] ≡ replicate (n + 1) idle_pack

@@ -11,7 +11,7 @@ use Rattle.rw_interleave.specs.Spreading.{filled_with_idle}
 use Rattle.toc_model.specs.Places.{DiscLayout}
 use Rattle.stream_writer.specs.Blocks.{stream_bytes}
 use Rattle.stream_writer.specs.Framing.{HasFraming}
-use Rattle.cdg_instructions.specs.Packs.{idle_pack}
+use Rattle.rw_code.specs.Packs.{idle_pack}
 use Rattle.stream_writer.specs.Given.{AreGiven, CarriesComing, PutsStream, PutsStreamPart, framing_of, symbols_from}
 
 -- the packs that the end of so many blocks cuts are idle

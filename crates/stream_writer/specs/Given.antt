@@ -6,7 +6,7 @@ use Rattle.bit_lists.specs.Counting.{below}
 use Rattle.cdg_io.specs.Change.{Bytes, Change}
 use Rattle.cdg_io.specs.Run.{run_gives, run_state}
 use Rattle.cdg_io.specs.Moves.{AppendsPrefix}
-use Rattle.cdg_instructions.specs.Packs.{idle_pack}
+use Rattle.rw_code.specs.Packs.{idle_pack}
 use Rattle.raw_subcode.specs.Channels.{program_symbols}
 use Rattle.raw_subcode.specs.declared.form.Form.TheVariants.{Raw}
 use Rattle.rw_code.specs.Codeword.{IsCodeword}

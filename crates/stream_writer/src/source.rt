@@ -1,6 +1,6 @@
 // Where the packs of a stream come from.
 ghost use Rattle.std.specs.Prelude.{◌≡◌, ℕ, List, Option, unwrap_or};
-ghost use Rattle.cdg_instructions.specs.Packs.{idle_pack};
+ghost use Rattle.rw_code.specs.Packs.{idle_pack};
 ghost use Rattle.stream_writer.specs.Given.{ComesLater};
 
 use rw_code::Pack;

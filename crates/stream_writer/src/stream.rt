@@ -10,7 +10,7 @@ ghost use Rattle.rw_interleave.specs.Interleave.{whole_packs};
 ghost use Rattle.toc_model.specs.Layout.{toc_frame};
 ghost use Rattle.cdtext_packs.specs.LeadIn.{lead_in_symbols};
 ghost use Rattle.stream_writer.specs.Blocks.{lead_in_block, IsBuilt};
-ghost use Rattle.cdg_instructions.specs.Packs.{idle_pack};
+ghost use Rattle.rw_code.specs.Packs.{idle_pack};
 ghost use Rattle.stream_writer.specs.Given.{CarriesComing, PutsPart, PutsProgram, PutsStream, PutsStreamPart, framing_of};
 
 use crate::blocks::{lead_in_block, program_block};

@@ -13,7 +13,7 @@ use Rattle.picture_changes.specs.Shown.{AreColoursInRange}
 use Rattle.pack_schedule.specs.Survey.{IsSurvey, IsWithin}
 use Rattle.pack_schedule.specs.Woven.{Woven, IsPackAt, ArePacks}
 use Rattle.pack_schedule.specs.declared.planned.Planned.{Planned}
-use Rattle.cdg_instructions.specs.Packs.{idle_pack}
+use Rattle.rw_code.specs.Packs.{idle_pack}
 use Rattle.cdg_io.specs.Change.{from_to}
 use Rattle.stream_writer.specs.Given.{AreGiven, CarriesComing, PutsStreamPart, framing_of}
 use Rattle.stream_writer.specs.Needs.{text_packs, HasRoom}

@@ -11,6 +11,7 @@ use Rattle.raw_subcode.specs.declared.form.Form.{Form}
 use Rattle.raw_subcode.specs.declared.form.Form.TheVariants.{Raw, Sector, Cooked}
 use Rattle.subcode_player.specs.declared.block_words.BlockWords.{BlockWords}
 use Rattle.subcode_player.specs.declared.correction.Correction.{Correction}
+use Rattle.rw_code.specs.Packs.{idle_pack}
 
 -- slot i of a block
 unfoldable pub slot_of : List ℕ → ℕ → List ℕ
@@ -35,7 +36,7 @@ window_gives Cooked window slot = Some slot
 -- these words, or four idle packs
 abbrev pub words_or_idle : Option (ArrayVec (List ℕ)) → ArrayVec (List ℕ)
 words_or_idle (Some words) = words
-words_or_idle None = record { items = replicate 4 (replicate 24 0) }
+words_or_idle None = record { items = replicate 4 idle_pack }
 
 -- the state at the start of a stream
 abbrev pub fresh_words : Form → ℕ → BlockWords
@@ -58,7 +59,7 @@ words_give s block =
 -- A block changes nothing, and four idle packs come with it.
 abbrev pub IdlesOn : BlockWords → List ℕ → Type 0
 IdlesOn s block = (s ≡ words_next s block)
-    × (Some (record { items = replicate 4 (replicate 24 0) }) ≡ words_give s block)
+    × (Some (record { items = replicate 4 idle_pack }) ≡ words_give s block)
 
 -- the count of bad words after a word: a u32 that stays at its last value
 unfoldable pub bad_next : ℕ → List ℕ → ℕ

@@ -2,6 +2,7 @@
 ghost use Rattle.std.specs.Prelude.{◌≡◌, ◌<◌, List, ℕ, MatchOption, replicate};
 ghost use Rattle.arrayvec.specs.ArrayVec.{ArrayVec};
 ghost use Rattle.cdg_io.specs.Run.{run_state, run_gives};
+ghost use Rattle.rw_code.specs.Packs.{idle_pack};
 ghost use Rattle.subcode_player.specs.Steps.{IdlesOn, fresh_words, words_or_idle, slot_of, slots_of, window_next, window_gives, words_next, words_give};
 
 use crate::Form;
@@ -29,7 +30,7 @@ impl BlockOfWords {
     // Four idle packs.
     #[inline]
     fn idle() -> BlockOfWords
-        ensures { result.items ≡ replicate 4 (replicate 24 0) }
+        ensures { result.items ≡ replicate 4 idle_pack }
     {
         BlockOfWords { words: None }
     }
@@ -43,7 +44,7 @@ impl BlockOfWords {
     /// The words. None says that they are four idle packs.
     #[inline]
     pub(crate) fn unless_idle(&self) -> Option<&ArrayVec<Word, SLOTS_A_BLOCK>>
-        ensures { MatchOption result (self.now.items ≡ replicate 4 (replicate 24 0))
+        ensures { MatchOption result (self.now.items ≡ replicate 4 idle_pack)
             (λ words. words.now ≡ self.now) }
     {
         self.words.as_ref()

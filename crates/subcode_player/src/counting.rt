@@ -1,6 +1,7 @@
 // Counts of words, packs and frames.
 ghost use Rattle.std.specs.Prelude.{◌≡◌, ◌≤◌, ◌+◌, ◌++◌, ◌==◌, length, replicate, true, Some, None};
 ghost use Rattle.rw_code.specs.Codeword.{IsCodeword, IsWord, differences};
+ghost use Rattle.rw_code.specs.Packs.{idle_pack};
 ghost use Rattle.subcode_player.specs.Steps.{fresh_words};
 ghost use Rattle.subcode_player.specs.Check.{is_known};
 ghost use Rattle.subcode_player.specs.CheckSteps.{tick, wrong_counted, kind_counted, count_found, count_next, count_after, counts_next, counts_give, frames_next, counting_next, counting_gives};
@@ -112,8 +113,8 @@ impl WordCounts {
 
     // Counts four idle words.
     fn count_four_idle(&mut self)
-        requires { IsCodeword (replicate 24 0) }
-        ensures { self.new ≡ count_after self.old (replicate 4 (replicate 24 0)) }
+        requires { IsCodeword idle_pack }
+        ensures { self.new ≡ count_after self.old (replicate 4 idle_pack) }
     {
         self.count_idle();
         self.count_idle();

@@ -2,6 +2,7 @@
 ghost use Rattle.std.specs.Prelude.{◌≡◌, replicate};
 ghost use Rattle.rw_code.specs.Codeword.{IsCodeword};
 ghost use Rattle.rw_code.specs.Finding.{finding};
+ghost use Rattle.rw_code.specs.Packs.{idle_pack};
 ghost use Rattle.subcode_player.specs.Steps.{bad_next};
 ghost use Rattle.subcode_player.specs.Drawn.{entry_drawn, draw_next, draw_after, drawing_next, drawing_gives};
 
@@ -34,8 +35,8 @@ impl Drawing {
 
     // Draws four idle words.
     fn draw_four_idle(&mut self)
-        requires { IsCodeword (replicate 24 0) }
-        ensures { self.new ≡ draw_after self.old (replicate 4 (replicate 24 0)) }
+        requires { IsCodeword idle_pack }
+        ensures { self.new ≡ draw_after self.old (replicate 4 idle_pack) }
     {
         self.draw_idle();
         self.draw_idle();
@@ -46,8 +47,8 @@ impl Drawing {
     // Draws an idle word, if a pack is left to be drawn: the picture stays.
     #[tactic(auto, unfolding(crate::specs::Drawn::draw_next))]
     fn draw_idle(&mut self)
-        requires { IsCodeword (replicate 24 0) }
-        ensures { self.new ≡ draw_next self.old (replicate 24 0) }
+        requires { IsCodeword idle_pack }
+        ensures { self.new ≡ draw_next self.old idle_pack }
     {
         if self.left > 0 {
             self.left -= 1;

@@ -1,13 +1,14 @@
 // The word that most of a disc is.
-ghost use Rattle.std.specs.Prelude.{◌≡◌, replicate, true};
+ghost use Rattle.std.specs.Prelude.{◌≡◌, true};
 ghost use Rattle.rw_code.specs.Codeword.{IsCodeword};
+ghost use Rattle.rw_code.specs.Packs.{idle_pack};
 
 use rw_code::{Pack, Word};
 
 /// Whether a word is the idle pack.
 #[inline]
 pub(crate) fn is_idle(word: &Word) -> bool
-    ensures { result ≡ true → (word.now ≡ replicate 24 0) × IsCodeword word.now }
+    ensures { result ≡ true → (word.now ≡ idle_pack) × IsCodeword word.now }
 {
     word.bytes() == Pack::idle().word().bytes()
 }
@@ -15,7 +16,7 @@ pub(crate) fn is_idle(word: &Word) -> bool
 /// A law: the idle pack is a codeword.
 #[inline]
 pub(crate) fn idle_is_codeword()
-    ensures { IsCodeword (replicate 24 0) }
+    ensures { IsCodeword idle_pack }
 {
     Pack::idle().word();
 }

@@ -1,5 +1,5 @@
 // The screen that the packs of a stream draw on.
-ghost use Rattle.std.specs.Prelude.{◌≡◌, ◌<◌, OnOk, OnErr, IfOk, replicate};
+ghost use Rattle.std.specs.Prelude.{◌≡◌, ◌<◌, OnOk, OnErr, IfOk};
 ghost use Rattle.std.specs.Io.KnownBytes.{Appends};
 ghost use Rattle.cdg_io.specs.Causes.{HasCause};
 ghost use Rattle.cdg_io.specs.Moves.{AppendsPrefix};
@@ -7,6 +7,7 @@ ghost use Rattle.cdg_instructions.specs.Meaning.{meaning};
 ghost use Rattle.cdg_screen.specs.Picture.{Standing, SameStanding, blank, standing_of};
 ghost use Rattle.cdg_screen.specs.Texts.{pixmap, state_text};
 ghost use Rattle.cdg_screen.specs.Standings.{obeyed};
+ghost use Rattle.rw_code.specs.Packs.{idle_pack};
 
 use cdg_instructions::read;
 use cdg_io::{Failed, Sink};
@@ -56,7 +57,7 @@ impl Picture {
 
     /// A law: the idle pack leaves it as it is.
     pub(crate) fn stays_at_idle(&self)
-        ensures { self.now ≡ obeyed self.now (meaning (replicate 24 0)) }
+        ensures { self.now ≡ obeyed self.now (meaning idle_pack) }
     {
         // A proof knows the view where a field is named.
         let _screen = &self.screen;

@@ -3,7 +3,7 @@ use Rattle.raw_subcode.specs.Channels.{symbols_of}
 use Rattle.rw_code.proofs.CodewordLemmas.{idle_is_codeword}
 use Rattle.cdg_instructions.specs.Instruction.{message_of}
 use Rattle.cdg_instructions.specs.MadeGood.{IsMadeGood}
-use Rattle.cdg_instructions.specs.Packs.{idle_pack}
+use Rattle.rw_code.specs.Packs.{idle_pack}
 use Rattle.cdg_press.proofs.file.made_good.Goals as goal
 
 zeros_made_good : (symbols : List ℕ) → symbols ≡ idle_pack → IsMadeGood symbols idle_pack

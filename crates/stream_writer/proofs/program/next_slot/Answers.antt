@@ -1,7 +1,7 @@
 use Rattle.std.proofs.Common.{ℕ, ◌+◌, List, sym, ap, subst, ◌∙◌, arith}
 use Rattle.rw_code.proofs.CodewordLemmas.{idle_is_codeword}
 use Rattle.rw_interleave.specs.Spreading.{spread_next}
-use Rattle.cdg_instructions.specs.Packs.{idle_pack}
+use Rattle.rw_code.specs.Packs.{idle_pack}
 use Rattle.stream_writer.specs.Given.{AreQuiet}
 use Rattle.stream_writer.proofs.Quiet.{loud, one_quiet, still_quiet}
 use Rattle.stream_writer.proofs.program.next_slot.Goals as goal
