@@ -6,14 +6,14 @@ ghost use Rattle.rw_interleave.specs.Interleave.{swapped};
 ghost use Rattle.rw_interleave.specs.Windows.{slots_in};
 
 use crate::Slot;
-use crate::slot::SPAN;
+use crate::slot::{PACKS_KEPT_BACK, SPAN};
 use arrayvec::ArrayVec;
 use raw_subcode::BLOCK_BYTES;
 use rw_code::{SYMBOLS, Word};
 use std::marker::Model;
 
 // The bytes of the slots before a block of which a word may have symbols.
-const BEFORE: usize = 168;
+const BEFORE: usize = PACKS_KEPT_BACK * SYMBOLS;
 
 // The bytes of both.
 const ALL: usize = BEFORE + BLOCK_BYTES;
