@@ -64,7 +64,7 @@ fn tick(count: &mut u32, hit: bool)
     }
 }
 
-// Leaves nothing where something was.
+// Leaves nothing where something was. It is a function of its own so that blocks do not pay for its variables.
 #[inline(never)]
 fn clear(out: &mut Option<Piece>)
     ensures { out.new ≡ None }

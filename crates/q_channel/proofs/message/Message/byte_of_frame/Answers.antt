@@ -2,7 +2,7 @@ use Rattle.std.proofs.Common.{◌≡◌, ◌+◌, ◌-◌, ◌/◌, ◌%◌, ◌
 use Rattle.bit_lists.proofs.BitsLemmas.{length-bits_of}
 use Rattle.q_channel.specs.QFrame.{field_value}
 use Rattle.q_channel.proofs.Fields.{field_value-bits_of}
-use Rattle.q_channel.proofs.message.Message.byte_of_all.Goals as goal
+use Rattle.q_channel.proofs.message.Message.byte_of_frame.Goals as goal
 
 pub returns : goal.returns
 returns c =

@@ -1,8 +1,7 @@
-use Rattle.std.proofs.Common.{◌≡◌, ◌+◌, ◌*◌, ◌^◌, ◌<◌, rules, ap, ◌∙◌, arith}
-use Rattle.std.specs.Prelude.{length}
+use Rattle.std.proofs.Common.{rules, arith}
 use Rattle.bit_lists.proofs.BitsLemmas.{length-bits_of}
 use Rattle.q_channel.proofs.Bytes.{twelve_bytes}
-use Rattle.q_channel.proofs.message.Message.of.Goals as goal
+use Rattle.q_channel.proofs.message.Message.of_frame.Goals as goal
 
 pub returns-clause-bits : goal.returns-clause-bits
 returns-clause-bits c =
