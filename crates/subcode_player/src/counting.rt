@@ -65,6 +65,14 @@ fn tick(count: &mut u32, hit: bool)
     }
 }
 
+// Leaves nothing where something was. It is a function of its own so that blocks do not pay for its variables.
+#[inline(never)]
+fn clear(out: &mut Option<Piece>)
+    ensures { out.new ≡ None }
+{
+    *out = None;
+}
+
 // Whether this number names a graphics instruction.
 fn is_known(code: u8) -> bool
     ensures { result ≡ is_known code }
@@ -82,6 +90,19 @@ impl WordCounts {
     {
         for word in words.as_slice() {
             self.count(word);
+        }
+    }
+
+    // Counts the words that come with a block.
+    #[inline]
+    fn count_block(&mut self, words: &BlockOfWords)
+        ensures { self.new ≡ counts_next self.old words.now }
+    {
+        idle_is_codeword();
+        match words.unless_idle() {
+            // Most blocks of a disc are idle.
+            None => self.count_four_idle(),
+            Some(words) => self.count_each(words),
         }
     }
 
@@ -172,17 +193,16 @@ impl Stage for WordCounts {
 
     #[tactic(auto, unfolding(crate::specs::CheckSteps::counts_give))]
     fn feed(&mut self, words: &BlockOfWords) -> Option<Piece> {
-        idle_is_codeword();
-        match words.unless_idle() {
-            // Most blocks of a disc are idle.
-            None => {
-                self.count_four_idle();
-                None
-            }
-            Some(words) => {
-                self.count_each(words);
-                None
-            }
+        self.count_block(words);
+        None
+    }
+
+    #[inline]
+    #[tactic(auto, unfolding(crate::specs::CheckSteps::counts_give))]
+    fn emit(&mut self, words: &BlockOfWords, out: &mut Option<Piece>) {
+        self.count_block(words);
+        if out.is_some() {
+            clear(out);
         }
     }
 }
