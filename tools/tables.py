@@ -57,10 +57,10 @@ def pairs():
     return differences, logs
 
 
-def remainder(byte):
-    """The remainder of a byte with sixteen zero bits behind it, by x^16 + x^12 + x^5 + 1."""
-    value = byte << 16
-    for k in range(23, 15, -1):
+def remainder(byte, zeros):
+    """The remainder of a byte with so many zero bits behind it, by x^16 + x^12 + x^5 + 1."""
+    value = byte << zeros
+    for k in range(zeros + 7, 15, -1):
         if value >> k & 1:
             value ^= 0x11021 << (k - 16)
     return value
@@ -77,7 +77,8 @@ def tables():
         "SYNDROMES": ("rw_code/src/syndrome_table.rt", [sums(i, s) for i in range(24) for s in range(64)]),
         "DIFFERENCES": ("rw_code/src/pair_tables.rt", differences),
         "SUMS": ("rw_code/src/pair_tables.rt", logs),
-        "REMAINDERS": ("subcode_crc/src/check.rt", [remainder(byte) for byte in range(256)]),
+        "REMAINDERS": ("subcode_crc/src/check.rt", [remainder(byte, 16) for byte in range(256)]),
+        "HIGH_REMAINDERS": ("subcode_crc/src/check.rt", [remainder(byte, 24) for byte in range(256)]),
         "LANES": ("raw_subcode/src/lane_table.rt", [lanes(byte) for byte in range(256)]),
     }
 
