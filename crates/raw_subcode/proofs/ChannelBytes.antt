@@ -14,7 +14,7 @@ use Rattle.bit_lists.specs.Counting.{below}
 use Rattle.raw_subcode.specs.Channels.{channel_bit}
 use Rattle.raw_subcode.specs.PlanarBytes.{packed_at}
 use Rattle.raw_subcode.proofs.Eight.{eight_sum}
-use Rattle.raw_subcode.proofs.Turned.{all_below, all_below-at, byte_at, times_worth}
+use Rattle.raw_subcode.proofs.LaneNumbers.{all_below, all_below-at, byte_at, times_worth}
 
 -- whether a bit is set, by comparing what is left of a number under it
 is_left : (p b : ℕ) → 0 < p → b < 2 → eqb (b * p) p ≡ (b == 1)

@@ -9,6 +9,7 @@ mod lanes;
 mod laws;
 mod packs;
 mod planar;
+mod rows;
 mod sizes;
 
 pub use block::Block;
