@@ -361,3 +361,97 @@ rows_form bytes planar rows rows' size beside bits channels = record {
       let at : slice_index bytes (8 * k + j) ≡ in_rows rows' j k = beside (8 * k + j) (omega arith) ∙ ap₂ (in_rows rows') row lane in
       sym (ap (has_bit (7 - channel)) at ∙ bits j channel k j_lt channel_lt (omega arith) ∙ ap (has_bit (7 - j)) (channels channel channel_lt k k_lt));
 }
+
+-- ---- Rows one after another.
+
+-- the places of the last four lanes of the first twelve of a row, and of the first twelve of the next
+abbrev from_last : List ℕ
+from_last = 8 ∷ 9 ∷ 10 ∷ 11 ∷ 16 ∷ 17 ∷ 18 ∷ 19 ∷ 20 ∷ 21 ∷ 22 ∷ 23 ∷ 24 ∷ 25 ∷ 26 ∷ 27 ∷ []
+
+abbrev IsFour : ℕ → Bool
+IsFour i = get_or from_last i 0 == 8 + i
+
+test_four : all_below IsFour 4 ≡ true
+unfolding all_below
+test_four = refl
+
+abbrev IsTwelve : ℕ → Bool
+IsTwelve i = get_or from_last (4 + i) 0 == 16 + i
+
+test_twelve : all_below IsTwelve 12 ≡ true
+unfolding all_below
+test_twelve = refl
+
+pub four_of : (row next : List ℕ) → length row ≡ 16 → (i : ℕ) → i < 4
+    → slice_index (map (λ k. get_or (row ++ next) k 0) from_last) i ≡ slice_index row (8 + i)
+four_of row next size i lt =
+    let from : get_or from_last i 0 ≡ 8 + i = eqb-true _ _ (all_below-at IsFour 4 i test_four lt) in
+    get_or-map (λ k. get_or (row ++ next) k 0) from_last i 0 0 (omega arith)
+    ∙ ap (λ k. get_or (row ++ next) k 0) from
+    ∙ get_or_append_left row next 0 (8 + i) (omega arith)
+
+pub twelve_of : (row next : List ℕ) → length row ≡ 16 → (i : ℕ) → i < 12
+    → slice_index (map (λ k. get_or (row ++ next) k 0) from_last) (4 + i) ≡ slice_index next i
+twelve_of row next size i lt =
+    let from : get_or from_last (4 + i) 0 ≡ 16 + i = eqb-true _ _ (all_below-at IsTwelve 12 i test_twelve lt) in
+    let at : 16 + i - 16 ≡ i = omega arith in
+    get_or-map (λ k. get_or (row ++ next) k 0) from_last (4 + i) 0 0 (omega arith)
+    ∙ ap (λ k. get_or (row ++ next) k 0) from
+    ∙ get_or-append_right row next 16 (16 + i) 0 size (omega arith)
+    ∙ ap (λ k. get_or next k 0) at
+
+-- ---- Bytes at each place of eights.
+
+-- a byte of a block by its place in sixteen
+abbrev Placed : List ℕ → ℕ → ℕ → ℕ → List ℕ → Type 0
+Placed bytes j k m row = (p : ℕ) → p < 16 → 8 * k + j ≡ 16 * m + p → slice_index row p ≡ slice_index bytes (8 * k + j)
+
+pub placed_in : (bytes row : List ℕ) (j k m : ℕ) → ((p : ℕ) → p < 16 → slice_index row p ≡ slice_index bytes (16 * m + p)) → Placed bytes j k m row
+placed_in bytes row j k m lanes = λ p lt at. lanes p lt ∙ ap (slice_index bytes) (sym at)
+
+-- rows that are woven four times: k is a lane of the last, and q, s and t are the lanes of those before it
+pub woven_four : (bytes g0 g1 e0 e1 f0 f1 a0 a1 b0 b1 c0 c1 d0 d1 v0 v1 v2 v3 v4 v5 none : List ℕ) (x j k q s t p p' : ℕ)
+    → Placed bytes j k 0 v0 → Placed bytes j k 1 v1 → Placed bytes j k 2 v2 → Placed bytes j k 3 v3 → Placed bytes j k 4 v4 → Placed bytes j k 5 v5
+    → x ≡ slice_index (if k % 2 == 0 then g0 else g1) q
+    → slice_index g0 q ≡ slice_index (if q % 2 == 0 then e0 else f0) s → slice_index g1 q ≡ slice_index (if q % 2 == 0 then e1 else f1) s
+    → slice_index e0 s ≡ slice_index (if s % 2 == 0 then a0 else c0) t → slice_index e1 s ≡ slice_index (if s % 2 == 0 then a1 else c1) t
+    → slice_index f0 s ≡ slice_index (if s % 2 == 0 then b0 else d0) t → slice_index f1 s ≡ slice_index (if s % 2 == 0 then b1 else d1) t
+    → slice_index a0 t ≡ slice_index (if t % 2 == 0 then v0 else v4) p → slice_index a1 t ≡ slice_index (if t % 2 == 0 then v0 else v4) p'
+    → slice_index b0 t ≡ slice_index (if t % 2 == 0 then v1 else v5) p → slice_index b1 t ≡ slice_index (if t % 2 == 0 then v1 else v5) p'
+    → slice_index c0 t ≡ slice_index (if t % 2 == 0 then v2 else none) p → slice_index c1 t ≡ slice_index (if t % 2 == 0 then v2 else none) p'
+    → slice_index d0 t ≡ slice_index (if t % 2 == 0 then v3 else none) p → slice_index d1 t ≡ slice_index (if t % 2 == 0 then v3 else none) p'
+    → j < 8 → k < 12 → p < 8 → p' ≡ 8 + p → 8 * k + j ≡ 16 * (q % 2 + 2 * (s % 2) + 4 * (t % 2)) + 8 * (k % 2) + p
+    → x ≡ slice_index bytes (8 * k + j)
+woven_four bytes g0 g1 e0 e1 f0 f1 a0 a1 b0 b1 c0 c1 d0 d1 v0 v1 v2 v3 v4 v5 none x j k q s t p p' at0 at1 at2 at3 at4 at5
+    x_is g0_is g1_is e0_is e1_is f0_is f1_is a0_is a1_is b0_is b1_is c0_is c1_is d0_is d1_is j_lt k_lt p_lt p'_is place =
+    let v = slice_index bytes (8 * k + j) in
+    by_turns g0 g1 x k q v x_is
+    (λ k0. by_turns e0 f0 (slice_index g0 q) q s v g0_is
+    (λ q0. by_turns a0 c0 (slice_index e0 s) s t v e0_is
+    (λ s0. by_turns v0 v4 (slice_index a0 t) t p v a0_is (λ t0. at0 p (omega arith) (omega arith)) (λ t1. at4 p (omega arith) (omega arith)))
+    (λ s1. by_turns v2 none (slice_index c0 t) t p v c0_is (λ t0. at2 p (omega arith) (omega arith)) (λ t1. absurd (omega arith))))
+    (λ q1. by_turns b0 d0 (slice_index f0 s) s t v f0_is
+    (λ s0. by_turns v1 v5 (slice_index b0 t) t p v b0_is (λ t0. at1 p (omega arith) (omega arith)) (λ t1. at5 p (omega arith) (omega arith)))
+    (λ s1. by_turns v3 none (slice_index d0 t) t p v d0_is (λ t0. at3 p (omega arith) (omega arith)) (λ t1. absurd (omega arith)))))
+    (λ k1. by_turns e1 f1 (slice_index g1 q) q s v g1_is
+    (λ q0. by_turns a1 c1 (slice_index e1 s) s t v e1_is
+    (λ s0. by_turns v0 v4 (slice_index a1 t) t p' v a1_is (λ t0. at0 p' (omega arith) (omega arith)) (λ t1. at4 p' (omega arith) (omega arith)))
+    (λ s1. by_turns v2 none (slice_index c1 t) t p' v c1_is (λ t0. at2 p' (omega arith) (omega arith)) (λ t1. absurd (omega arith))))
+    (λ q1. by_turns b1 d1 (slice_index f1 s) s t v f1_is
+    (λ s0. by_turns v1 v5 (slice_index b1 t) t p' v b1_is (λ t0. at1 p' (omega arith) (omega arith)) (λ t1. at5 p' (omega arith) (omega arith)))
+    (λ s1. by_turns v3 none (slice_index d1 t) t p' v d1_is (λ t0. at3 p' (omega arith) (omega arith)) (λ t1. absurd (omega arith)))))
+
+-- the rows of a block have its planar form as turned rows
+pub form_of_rows : (bytes planar : List ℕ) (rows rows' : List (List ℕ)) → length planar ≡ 96
+    → ((n : ℕ) → n < 96 → slice_index planar n ≡ in_rows rows' (n / 12) (n % 12))
+    → ((r w i : ℕ) → r < 8 → w < 8 → i < 16 → has_bit (7 - w) (in_rows rows' r i) ≡ has_bit (7 - r) (in_rows rows w i))
+    → ((j k : ℕ) → j < 8 → k < 12 → in_rows rows j k ≡ slice_index bytes (8 * k + j))
+    → IsPlanarForm bytes planar
+form_of_rows bytes planar rows rows' size after bits places = record {
+  size = size;
+  bit = λ channel k j channel_lt k_lt j_lt.
+      let row : (12 * channel + k) / 12 ≡ channel = omega arith in
+      let lane : (12 * channel + k) % 12 ≡ k = omega arith in
+      let at : slice_index planar (12 * channel + k) ≡ in_rows rows' channel k = after (12 * channel + k) (omega arith) ∙ ap₂ (in_rows rows') row lane in
+      ap (has_bit (7 - j)) at ∙ bits channel j k channel_lt j_lt (omega arith) ∙ ap (has_bit (7 - channel)) (places j k j_lt k_lt);
+}

@@ -2,7 +2,6 @@
 #![tactic(auto)]
 
 mod block;
-mod channel_bytes;
 mod form;
 mod lane_table;
 mod lanes;

@@ -1,6 +1,6 @@
 // Eight rows of lanes: the twelve bytes of each channel of a planar form, or the bytes at one place of each eight of
 // a block.
-ghost use Rattle.std.specs.Prelude.{◌≡◌, ◌<◌, ◌≤◌, ◌+◌, ◌-◌, ◌*◌, ◌/◌, ◌%◌, ◌^◌, ◌==◌, ◌&&◌, ℕ, All, length, slice_index, nat_le, if◌then◌else◌};
+ghost use Rattle.std.specs.Prelude.{◌≡◌, ◌<◌, ◌≤◌, ◌+◌, ◌-◌, ◌*◌, ◌/◌, ◌%◌, ◌^◌, ◌==◌, ◌&&◌, ℕ, length, slice_index, nat_le, if◌then◌else◌};
 ghost use Rattle.bit_lists.specs.Bits.{has_bit};
 ghost use Rattle.raw_subcode.specs.Channels.{IsPlanarForm};
 ghost use Rattle.raw_subcode.specs.Rows.{AreRows, in_rows};
@@ -24,6 +24,14 @@ pub(crate) fn bytes_from_planar(planar: &[u8; BLOCK_BYTES]) -> [u8; BLOCK_BYTES]
         channel_row(planar, 6),
         channel_row(planar, 7),
     ]))
+}
+
+/// The bytes of the planar form of the block with these bytes.
+#[inline]
+pub(crate) fn bytes_to_planar(bytes: &[u8; BLOCK_BYTES]) -> [u8; BLOCK_BYTES]
+    ensures { IsPlanarForm bytes.now result }
+{
+    one_after_another(turned(place_rows(bytes)))
 }
 
 // The twelve bytes of a channel in a planar form, and four bytes more.
@@ -134,4 +142,83 @@ fn woven(even: u8x16, odd: u8x16) -> (u8x16, u8x16)
         → slice_index result.1 i ≡ slice_index (if i % 2 == 0 then even else odd) (8 + i / 2) }
 {
     even.interleave(odd)
+}
+
+// The bytes at each place of the eights of a block: twelve, and four zeros.
+#[inline]
+fn place_rows(bytes: &[u8]) -> [u8x16; 8]
+    requires { length bytes.now ≡ block_bytes }
+    ensures rows { AreRows result }
+    ensures lanes { (j k : ℕ) → j < 8 → k < 12 → in_rows result j k ≡ slice_index bytes.now (8 * k + j) }
+{
+    let none = u8x16::splat(0);
+    let (a0, a1) = woven(sixteen(bytes, 0), sixteen(bytes, 4));
+    let (b0, b1) = woven(sixteen(bytes, 1), sixteen(bytes, 5));
+    let (c0, c1) = woven(sixteen(bytes, 2), none);
+    let (d0, d1) = woven(sixteen(bytes, 3), none);
+    let (e0, e2) = woven(a0, c0);
+    let (e1, e3) = woven(a1, c1);
+    let (f0, f2) = woven(b0, d0);
+    let (f1, f3) = woven(b1, d1);
+    let (g0, g2) = woven(e0, f0);
+    let (g4, g6) = woven(e2, f2);
+    let (g1, g3) = woven(e1, f1);
+    let (g5, g7) = woven(e3, f3);
+    let (h0, h1) = woven(g0, g1);
+    let (h2, h3) = woven(g2, g3);
+    let (h4, h5) = woven(g4, g5);
+    let (h6, h7) = woven(g6, g7);
+    [h0, h1, h2, h3, h4, h5, h6, h7]
+}
+
+// Sixteen bytes of a block, behind so many other sixteen.
+#[inline]
+fn sixteen(bytes: &[u8], m: usize) -> u8x16
+    requires bytes { length bytes.now ≡ block_bytes }
+    requires place { m < 6 }
+    ensures size { length result ≡ 16 }
+    ensures lanes { (p : ℕ) → p < 16 → slice_index result p ≡ slice_index bytes.now (16 * m + p) }
+{
+    u8x16::from_slice(&bytes[16 * m..])
+}
+
+// The first twelve lanes of each of eight rows, row after row.
+#[inline]
+fn one_after_another(rows: [u8x16; 8]) -> [u8; BLOCK_BYTES]
+    requires { AreRows rows }
+    ensures { (n : ℕ) → n < block_bytes → slice_index result n ≡ in_rows rows (n / 12) (n % 12) }
+{
+    let mut bytes = [0; BLOCK_BYTES];
+    for r in 0..7 {
+        put_row(&mut bytes, 12 * r, rows[r]);
+    }
+    put_row(&mut bytes, 80, last_sixteen(rows[6], rows[7]));
+    bytes
+}
+
+// Puts the lanes of a row from one byte on.
+#[inline]
+fn put_row(bytes: &mut [u8], first: usize, row: u8x16)
+    requires bytes { length bytes.old ≡ block_bytes }
+    requires first { first ≤ 80 }
+    requires row { length row ≡ 16 }
+    ensures here { (n : ℕ) → first ≤ n → n < first + 16 → slice_index bytes.new n ≡ slice_index row (n - first) }
+    ensures before { (n : ℕ) → n < first → slice_index bytes.new n ≡ slice_index bytes.old n }
+{
+    row.copy_to_slice(&mut bytes[first..]);
+}
+
+// The last four of the first twelve lanes of a row, and the first twelve of the next.
+#[inline]
+fn last_sixteen(row: u8x16, next: u8x16) -> u8x16
+    requires row { length row ≡ 16 }
+    requires next { length next ≡ 16 }
+    ensures size { length result ≡ 16 }
+    ensures four { (i : ℕ) → i < 4 → slice_index result i ≡ slice_index row (8 + i) }
+    ensures twelve { (i : ℕ) → i < 12 → slice_index result (4 + i) ≡ slice_index next i }
+{
+    row.shuffle(
+        next,
+        [8, 9, 10, 11, 16, 17, 18, 19, 20, 21, 22, 23, 24, 25, 26, 27],
+    )
 }
