@@ -4,7 +4,7 @@ use Rattle.std.specs.Prelude.{if◌then◌else◌, slice_index}
 use Rattle.std.specs.Int.{bytes_low_first}
 use Rattle.bit_lists.specs.Bits.{has_bit}
 use Rattle.raw_subcode.specs.Lanes.{in_lanes, lanes_of_byte}
-use Rattle.raw_subcode.proofs.Turned.{in_lanes-byte, byte_at}
+use Rattle.raw_subcode.proofs.LaneNumbers.{in_lanes-byte, byte_at}
 use Rattle.raw_subcode.proofs.QBytes.{in_lanes-times}
 
 in_lanes-plus : (n : ℕ) (f g : ℕ → ℕ) → in_lanes n f + in_lanes n g ≡ in_lanes n (λ k. f k + g k)

@@ -9,7 +9,7 @@ use Rattle.bit_lists.specs.Bits.{has_bit, number_of}
 use Rattle.bit_lists.specs.Counting.{below}
 use Rattle.raw_subcode.specs.Lanes.{in_lanes}
 use Rattle.raw_subcode.proofs.Eight.{eight_sum}
-use Rattle.raw_subcode.proofs.Turned.{times_worth}
+use Rattle.raw_subcode.proofs.LaneNumbers.{times_worth}
 
 -- one for a Q bit that is set
 abbrev mark : ℕ → ℕ

@@ -5,14 +5,6 @@ use Rattle.bit_lists.specs.Bits.{has_bit, number_of}
 use Rattle.raw_subcode.specs.Channels.{channel_bit}
 use Rattle.raw_subcode.specs.Sizes.{block_bytes}
 
--- eight bytes of a list, from one on and so many apart
-abbrev pub eight_from : List ℕ → ℕ → ℕ → List ℕ
-eight_from bytes first step = map (λ j. slice_index bytes (first + step * j)) (below 8)
-
--- the byte of the bits at 7 - k of eight bytes, that of the first byte highest
-abbrev pub turned_at : List ℕ → ℕ → ℕ
-turned_at bytes k = number_of (map (λ j. has_bit (7 - k) (slice_index bytes j)) (below 8))
-
 -- the byte of a channel's bits at eight bytes
 abbrev pub packed_at : List ℕ → ℕ → ℕ → ℕ
 packed_at block channel first =

@@ -2,13 +2,13 @@
 #![tactic(auto)]
 
 mod block;
-mod channel_bytes;
 mod form;
 mod lane_table;
 mod lanes;
 mod laws;
 mod packs;
 mod planar;
+mod rows;
 mod sizes;
 
 pub use block::Block;

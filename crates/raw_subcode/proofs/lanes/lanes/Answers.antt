@@ -1,6 +1,6 @@
 use Rattle.std.proofs.Common.{◌∙◌, ap, get_or, refl, arith}
 use Rattle.raw_subcode.specs.declared.lane_table.TheConstants.{LANES}
-use Rattle.raw_subcode.proofs.Turned.{lanes_are, lanes-lt}
+use Rattle.raw_subcode.proofs.LaneNumbers.{lanes_are, lanes-lt}
 use Rattle.raw_subcode.proofs.lanes.lanes.Goals as goal
 
 pub returns-clause-lanes : goal.returns-clause-lanes
