@@ -1,5 +1,5 @@
 // The symbols of the program blocks.
-ghost use Rattle.std.specs.Prelude.{◌≡◌, ◌<◌, ℕ, List, All, Some};
+ghost use Rattle.std.specs.Prelude.{◌≡◌, ◌<◌, ℕ, List, All, Some, replicate};
 ghost use Rattle.cdg_io.specs.Change.{from_to};
 ghost use Rattle.rw_code.specs.Codeword.{IsCodeword, IsWord};
 ghost use Rattle.rw_interleave.specs.Spreading.{spread_gives, spread_next};
@@ -28,33 +28,31 @@ pub(crate) fn next_symbols<P: PackSource>(
 {
     let mut symbols = [0; BLOCK_BYTES];
     for k in 0..SLOTS_A_BLOCK {
-        let slot = next_slot(source, spread, quiet);
-        symbols[SYMBOLS_A_SLOT * k..SYMBOLS_A_SLOT * k + SYMBOLS_A_SLOT].copy_from_slice(&slot);
+        let start = SYMBOLS_A_SLOT * k;
+        let slot = &mut symbols[start..start + SYMBOLS_A_SLOT];
+        next_slot(source, spread, quiet, slot);
     }
     symbols
 }
 
-// The symbols of the next slot, which comes with one more pack.
-fn next_slot<P: PackSource>(
-    source: &mut P,
-    spread: &mut Spread,
-    quiet: &mut u8,
-) -> [u8; SYMBOLS_A_SLOT]
-    requires { AreQuiet spread.old quiet.old }
-    ensures slot { (pack : List ℕ) × TakesPack (P.comes source.old) spread.old spread.new result pack }
-    ensures word { IsWord result }
+// Puts the symbols of the next slot, which comes with one more pack, in place of zeros.
+fn next_slot<P: PackSource>(source: &mut P, spread: &mut Spread, quiet: &mut u8, slot: &mut [u8])
+    requires quiet { AreQuiet spread.old quiet.old }
+    requires zeros { slot.old ≡ replicate 24 0 }
+    ensures slot { (pack : List ℕ) × TakesPack (P.comes source.old) spread.old spread.new slot.new pack }
+    ensures word { IsWord slot.new }
     ensures later { ComesLater (P.comes source.old) 1 (P.comes source.new) }
     ensures quiet { AreQuiet spread.new quiet.new }
 {
     let Some(pack) = source.next_pack() else {
-        if *quiet >= ALL_QUIET {
-            return [0; SYMBOLS_A_SLOT];
+        if *quiet < ALL_QUIET {
+            *quiet += 1;
+            slot.copy_from_slice(&slot_with(spread, &Pack::idle()));
         }
-        *quiet += 1;
-        return slot_with(spread, &Pack::idle());
+        return;
     };
     *quiet = 0;
-    slot_with(spread, &pack)
+    slot.copy_from_slice(&slot_with(spread, &pack));
 }
 
 // The symbols of the slot that comes with a pack. It stays a call of its own, since most packs are idle.
