@@ -127,13 +127,13 @@ pub record AreWritten (Comes : ℕ → List ℕ → Type 0) (before after : List
   pub bound : All (λ x. x < 64) (take (24 * k) symbols)
   pub rest : drop (24 * k) symbols ≡ replicate (96 - 24 * k) 0
 
-pub none_written : (Comes : ℕ → List ℕ → Type 0) (before : List (List ℕ)) → AreWritten Comes before before 0 (replicate 96 0)
-none_written Comes before = record {
+pub none_written : (Comes : ℕ → List ℕ → Type 0) (before : List (List ℕ)) (symbols : List ℕ) → symbols ≡ replicate 96 0 → AreWritten Comes before before 0 symbols
+none_written Comes before symbols zeros = record {
   packs = [];
   taken = record { given_are = none_given Comes 0; symbols_are = refl; after_is = refl };
-  size = refl;
+  size = ap length zeros;
   bound = λ k d lt. absurd (omega arith);
-  rest = refl;
+  rest = zeros;
 }
 
 -- one slot more

@@ -8,7 +8,7 @@ use Rattle.stream_writer.proofs.program.next_slot.Goals as goal
 
 pub returns-then-quiet-lt-ALL_QUIET-clause-quiet : goal.returns-then-quiet-lt-ALL_QUIET-clause-quiet
 returns-then-quiet-lt-ALL_QUIET-clause-quiet g c =
-    subst (λ (xs : List (List ℕ)). AreQuiet xs (c.args.quiet.now + 1)) (sym (c.slot_with.ensures.next ∙ ap (spread_next c.args.spread.now) c.idle.ensures))
+    subst (λ (xs : List (List ℕ)). AreQuiet xs (c.args.quiet.now + 1)) (sym (c.put_slot.ensures.next ∙ ap (spread_next c.args.spread.now) c.idle.ensures))
     (one_quiet c.args.spread.now c.args.quiet.now c.requires.quiet (omega (arith, c.if-quiet-lt-ALL_QUIET.true)))
 
 pub returns-else-quiet-lt-ALL_QUIET-clause-slot : goal.returns-else-quiet-lt-ALL_QUIET-clause-slot
@@ -21,4 +21,4 @@ returns-else-quiet-lt-ALL_QUIET-clause-slot g c =
 
 pub returns-clause-quiet : goal.returns-clause-quiet
 returns-clause-quiet g c =
-    subst (λ (xs : List (List ℕ)). AreQuiet xs 0) (sym c.slot_with-2.ensures.next) (loud c.args.spread.now c.args.quiet.now c.in-Some.pack c.requires.quiet)
+    subst (λ (xs : List (List ℕ)). AreQuiet xs 0) (sym c.put_slot-2.ensures.next) (loud c.args.spread.now c.args.quiet.now c.in-Some.pack c.requires.quiet)

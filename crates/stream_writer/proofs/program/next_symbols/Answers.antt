@@ -5,8 +5,8 @@ use Rattle.stream_writer.proofs.program.next_symbols.Goals as goal
 
 pub loop-k-init : goal.loop-k-init
 loop-k-init g c = record {
-  written = none_written (g.P.PackSource.comes c.args.source.now) c.args.spread.now;
-  quiet = c.requires;
+  written = none_written (g.P.PackSource.comes c.args.source.now) c.args.spread.now c.args.symbols.now c.requires.zeros;
+  quiet = c.requires.quiet;
   later = none_later _;
 }
 
