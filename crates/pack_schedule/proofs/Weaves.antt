@@ -114,11 +114,12 @@ no_pack script loom given pack h held later current early idle = record {
 -- the next picture
 pub advanced : (script : List Drawing) (old new : Loom) (given : ℕ) → IsWeaving script old given → old.k < pictures script → start_of script old.k + length (planned_change script old.k) ≤ given
     → new.k ≡ old.k + 1 → new.survey ≡ old.survey → Stands script (old.k + 1) new.before → (old.k + 1 < pictures script → new.change ≡ planned_change script (old.k + 1))
-    → (old.k + 1 < pictures script → Stands script (old.k + 1 + 1) new.now) → IsWeaving script new given
-advanced script old new given h lt sent next survey before change now = record {
+    → (old.k + 1 < pictures script → new.start ≡ start_of script (old.k + 1)) → (old.k + 1 < pictures script → Stands script (old.k + 1 + 1) new.now) → IsWeaving script new given
+advanced script old new given h lt sent next survey before change start now = record {
   surveyed = subst (IsSurvey script) (sym survey) h.surveyed;
   k_most = omega (arith, next);
   change_is = λ more. subst (λ n. new.change ≡ planned_change script n) (sym next) (change (omega (arith, more, next)));
+  start_is = λ more. subst (λ n. new.start ≡ start_of script n) (sym next) (start (omega (arith, more, next)));
   before_stands = subst (λ n. Stands script n new.before) (sym next) before;
   now_stands = λ more. subst (λ n. Stands script (n + 1) new.now) (sym next) (now (omega (arith, more, next)));
   sent = λ j j_lt. elim (cases_lt j old.k) [
@@ -134,6 +135,7 @@ more_given script loom given more le h = record {
   surveyed = h.surveyed;
   k_most = h.k_most;
   change_is = h.change_is;
+  start_is = h.start_is;
   before_stands = h.before_stands;
   now_stands = h.now_stands;
   sent = λ j lt. omega (arith, h.sent j lt);
@@ -156,11 +158,11 @@ end_fits script survey k start need h lt held ends start_is need_is =
     (start_is ∙ planned.start_is, need_is ∙ planned.need_is, omega (arith, in_time, start_is, need_is, planned.start_is, held k lt, ends k lt))
 
 -- the place of a pack in the change at hand
-pub at_hand : (script : List Drawing) (loom : Loom) (given start : ℕ) → IsWeaving script loom given → loom.k < pictures script
-    → (loom.k < pictures script → given < start_of script loom.k + length (planned_change script loom.k)) → start ≡ (get_or loom.survey loom.k nothing_planned).start → start ≤ given
-    → (start ≡ start_of script loom.k) × (given - start < length loom.change)
-at_hand script loom given start h lt current is le =
-    let starts : start ≡ start_of script loom.k = is ∙ (h.surveyed.each loom.k lt).start_is in
+pub at_hand : (script : List Drawing) (loom : Loom) (given : ℕ) → IsWeaving script loom given → loom.k < pictures script
+    → (loom.k < pictures script → given < start_of script loom.k + length (planned_change script loom.k)) → loom.start ≤ given
+    → given - loom.start < length loom.change
+at_hand script loom given h lt current le =
+    let starts = h.start_is lt in
     let size : length loom.change ≡ length (planned_change script loom.k) = ap length (h.change_is lt) in
     let end = current lt in
-    (starts, omega (arith, starts, size, end, le))
+    omega (arith, starts, size, end, le)

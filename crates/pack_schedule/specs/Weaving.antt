@@ -19,6 +19,7 @@ pub record IsWeaving (script : List Drawing) (loom : Loom) (given : ℕ) : Type 
   pub surveyed : IsSurvey script loom.survey
   pub k_most : loom.k ≤ pictures script
   pub change_is : loom.k < pictures script → loom.change ≡ planned_change script loom.k
+  pub start_is : loom.k < pictures script → loom.start ≡ start_of script loom.k
   pub before_stands : Stands script loom.k loom.before
   pub now_stands : loom.k < pictures script → Stands script (loom.k + 1) loom.now
   pub sent : (j : ℕ) → j < loom.k → start_of script j + length (planned_change script j) ≤ given

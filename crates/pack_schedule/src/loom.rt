@@ -15,6 +15,8 @@ pub(crate) struct Loom {
     pub(crate) now: Canvas,
     pub(crate) change: Change,
     pub(crate) k: u32,
+    // The pack at which the change begins, and a number above all packs after the last change.
+    pub(crate) start: u32,
 }
 
 impl Loom {
@@ -38,6 +40,7 @@ impl Loom {
             now: Canvas::start(alloc)?,
             change: Change::start(alloc)?,
             k: 0,
+            start: 0,
         };
         if script.pictures() > 0 {
             loom.prepare(script);
@@ -53,12 +56,14 @@ impl Loom {
         requires now { Stands script.now self.old.k self.old.now }
         ensures change { self.new.change ≡ planned_change script.now self.old.k }
         ensures now { Stands script.now (self.old.k + 1) self.new.now }
+        ensures start { self.new.start ≡ start_of script.now self.old.k }
         ensures before { self.new.before ≡ self.old.before }
         ensures survey { self.new.survey ≡ self.old.survey }
         ensures k { self.new.k ≡ self.old.k }
     {
         planned_changes_are_changes();
         self.now.draw_until(script, self.k);
+        self.start = self.survey.start(self.k);
         let preset = self.survey.preset(self.k);
         self.change
             .plan(script, self.k, preset, &self.before, &self.now);
@@ -77,6 +82,7 @@ impl Loom {
         let pictures = script.pictures();
         self.before.draw_until(script, self.k);
         self.k += 1;
+        self.start = u32::MAX;
         if self.k < pictures {
             self.prepare(script);
         }
@@ -89,6 +95,9 @@ impl Loom {
         ensures current { self.new.k < pictures script.now
             → given < start_of script.now self.new.k + length (planned_change script.now self.new.k) }
     {
+        if given < self.start {
+            return;
+        }
         let pictures = script.pictures();
         for _k in self.k..pictures {
             let end = self.survey.start(self.k) + self.survey.need(self.k);
@@ -109,12 +118,10 @@ impl Loom {
     {
         planned_changes_are_changes();
         changes_can_be_written();
-        if self.k < script.pictures() {
-            let start = self.survey.start(self.k);
-            if given >= start {
-                return Some(write(&self.change.get((given - start) as usize)));
-            }
+        let pictures = script.pictures();
+        if given < self.start || self.k >= pictures {
+            return None;
         }
-        None
+        Some(write(&self.change.get((given - self.start) as usize)))
     }
 }

@@ -1,6 +1,7 @@
 -- The sums of a word as the code keeps them, and what its steps do with them.
-use Rattle.std.specs.Prelude.{◌≡◌, ◌≢◌, ℕ, ◌+◌, ◌-◌, ◌*◌, ◌/◌, ◌%◌, ◌^◌, ◌<◌, ◌≤◌, List, ◌∷◌, ◌++◌, take, bit_xor}
+use Rattle.std.specs.Prelude.{◌≡◌, ◌≢◌, ℕ, ◌+◌, ◌-◌, ◌*◌, ◌/◌, ◌%◌, ◌^◌, ◌<◌, ◌≤◌, List, [], ◌∷◌, ◌++◌, take, bit_xor}
 use Rattle.gf64.specs.Field.{product, alpha_power}
+use Rattle.rw_code.specs.declared.sealing.LastFour.{LastFour}
 use Rattle.rw_code.specs.declared.syndromes.Sums.{Sums}
 use Rattle.rw_code.specs.declared.wrong_symbols.Locator.{Locator}
 use Rattle.rw_code.specs.declared.wrong_symbols.Places.{Places}
@@ -29,6 +30,10 @@ pub record IsEntry (position symbol lanes : ℕ) : Type 0 where
 abbrev pub ContinuesTo : ℕ → List ℕ → ℕ → List ℕ → Type 0
 ContinuesTo n old symbol new =
     (j : ℕ) → j < n → (xs : List ℕ) → weighted_sum j (xs ++ old) ≡ 0 → weighted_sum j (xs ++ symbol ∷ new) ≡ 0
+
+-- the value of a polynomial at power j of alpha, which is what it adds to sum j as the last four symbols of a word
+abbrev pub value : ℕ → LastFour → ℕ
+value j last = weighted_sum j (last.cubic ∷ last.square ∷ last.linear ∷ last.constant ∷ [])
 
 -- the lanes of the four sums over all symbols
 pub record AreLanes (lanes : ℕ) (sums : Sums) : Type 0 where

@@ -1,9 +1,11 @@
 // The parity symbols of a codeword.
-ghost use Rattle.std.specs.Prelude.{◌≡◌, ◌∷◌, [], ◌++◌, ◌+◌, ◌<◌, ℕ, take, slice_index};
+ghost use Rattle.std.specs.Prelude.{◌≡◌, ◌∷◌, [], ◌+◌, ◌<◌, ℕ, take, slice_index, bit_xor};
+ghost use Rattle.gf64.specs.Field.{product, alpha_power};
 ghost use Rattle.rw_code.specs.Codeword.{weighted_sum};
-ghost use Rattle.rw_code.specs.Syndromes.{ContinuesTo};
+ghost use Rattle.rw_code.specs.Syndromes.{ContinuesTo, lane, value};
 
 use crate::Word;
+use crate::syndromes::Syndromes;
 use gf64::Sym;
 
 // The two parity symbols after some symbols, by which their sums at 0 and 1 are 0.
@@ -26,30 +28,67 @@ impl FirstParity {
     }
 }
 
-// The four parity symbols after some symbols, by which their sums at 0 to 3 are 0.
+// What is added to the last four symbols of a word: the coefficients of a polynomial.
 #[derive(Clone, Copy)]
-struct WholeParity {
-    first: Sym,
-    second: Sym,
-    third: Sym,
-    fourth: Sym,
+struct LastFour {
+    cubic: Sym,
+    square: Sym,
+    linear: Sym,
+    constant: Sym,
 }
 
-impl WholeParity {
-    // Those after one more symbol: the remainder by (x + 1)(x + α)(x + α²)(x + α³).
-    fn push(self, symbol: Sym) -> WholeParity
-        ensures { ContinuesTo 4
-            (self.first ∷ self.second ∷ self.third ∷ self.fourth ∷ [])
-            symbol
-            (result.first ∷ result.second ∷ result.third ∷ result.fourth ∷ []) }
+impl LastFour {
+    // The polynomial whose coefficients are the powers of α with these exponents.
+    #[inline]
+    fn powers(cubic: u32, square: u32, linear: u32, constant: u32) -> LastFour
+        ensures cubic { result.cubic ≡ alpha_power cubic }
+        ensures square { result.square ≡ alpha_power square }
+        ensures linear { result.linear ≡ alpha_power linear }
+        ensures constant { result.constant ≡ alpha_power constant }
     {
-        let feedback = self.first.add(symbol);
-        WholeParity {
-            first: self.second.add(Sym::alpha(18).mul(feedback)),
-            second: self.third.add(Sym::alpha(39).mul(feedback)),
-            third: self.fourth.add(Sym::alpha(21).mul(feedback)),
-            fourth: Sym::alpha(6).mul(feedback),
+        LastFour {
+            cubic: Sym::alpha(cubic),
+            square: Sym::alpha(square),
+            linear: Sym::alpha(linear),
+            constant: Sym::alpha(constant),
         }
+    }
+
+    #[inline]
+    fn times(self, factor: Sym) -> LastFour
+        ensures { (j : ℕ) → value j result ≡ product (value j self) factor }
+    {
+        LastFour {
+            cubic: self.cubic.mul(factor),
+            square: self.square.mul(factor),
+            linear: self.linear.mul(factor),
+            constant: self.constant.mul(factor),
+        }
+    }
+
+    #[inline]
+    fn add(self, other: LastFour) -> LastFour
+        ensures { (j : ℕ) → value j result ≡ bit_xor (value j self) (value j other) }
+    {
+        LastFour {
+            cubic: self.cubic.add(other.cubic),
+            square: self.square.add(other.square),
+            linear: self.linear.add(other.linear),
+            constant: self.constant.add(other.constant),
+        }
+    }
+
+    // The polynomial whose values at 1, α, α² and α³ are the four sums over all symbols: each sum times the polynomial
+    // that is 1 at its own power and 0 at the other three.
+    fn of(syndromes: Syndromes) -> LastFour
+        ensures { (j : ℕ) → j < 4 → value j result ≡ lane j syndromes.lanes }
+    {
+        let sums = syndromes.sums();
+        let zeroth = LastFour::powers(13, 40, 42, 19).times(sums.zeroth);
+        let first = LastFour::powers(37, 22, 11, 42).times(sums.first);
+        let second = LastFour::powers(36, 8, 22, 40).times(sums.second);
+        let third = LastFour::powers(10, 36, 37, 13).times(sums.third);
+        zeroth.add(first).add(second).add(third)
     }
 }
 
@@ -84,34 +123,15 @@ pub(crate) fn with_body(word: Word, body: &[Sym; 16]) -> Word
     word
 }
 
-// The parity symbols for positions 20 to 23.
-fn whole_parity(word: &Word) -> WholeParity
-    ensures { (j : ℕ) → j < 4 → weighted_sum j (take 20 word.now
-        ++ result.first ∷ result.second ∷ result.third ∷ result.fourth ∷ []) ≡ 0 }
-{
-    word.is_word();
-    let zero = Sym::default();
-    let mut parity = WholeParity {
-        first: zero,
-        second: zero,
-        third: zero,
-        fourth: zero,
-    };
-    for i in 0..20 {
-        parity = parity.push(word.get(i));
-    }
-    parity
-}
-
 /// The word with parity symbols at 20 to 23.
 pub(crate) fn with_whole_parity(word: &Word) -> Word
     ensures kept { (k : ℕ) → k < 20 → slice_index result k ≡ slice_index word.now k }
     ensures whole { (j : ℕ) → j < 4 → weighted_sum j result ≡ 0 }
 {
     word.is_word();
-    let parity = whole_parity(word);
-    word.with(20, parity.first)
-        .with(21, parity.second)
-        .with(22, parity.third)
-        .with(23, parity.fourth)
+    let last = LastFour::of(Syndromes::of(word));
+    word.plus(20, last.cubic)
+        .plus(21, last.square)
+        .plus(22, last.linear)
+        .plus(23, last.constant)
 }

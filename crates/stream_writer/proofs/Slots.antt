@@ -1,11 +1,11 @@
 -- The slots over which packs are spread, one after another.
-use Rattle.std.proofs.Common.{◌≡◌, ℕ, ◌+◌, ◌-◌, ◌*◌, ◌<◌, List, [], ◌∷◌, ◌++◌, length, get_or, take, drop, All, Some, inl, inr, refl, sym, ap, ap₂, subst, ◌∙◌, append_assoc, arith}
+use Rattle.std.proofs.Common.{◌≡◌, ℕ, ◌+◌, ◌-◌, ◌*◌, ◌<◌, List, [], ◌∷◌, ◌++◌, length, get_or, take, drop, replicate, All, Some, inl, inr, refl, sym, ap, ap₂, subst, ◌∙◌, append_assoc, arith}
 use Rattle.std.specs.List.{concat}
 use Rattle.std.specs.declared.option.Option.{Option}
 use Rattle.std.proofs.lemmas.Bool.{cases_lt}
-use Rattle.std.proofs.lemmas.List.{length-append, length-take, length-drop, append-nil, take_all, take-append-le, drop-append-le, get_or_append_left, get_or-append_right}
+use Rattle.std.proofs.lemmas.List.{length-append, length-take, length-drop, append-nil, take_all, take-append-le, drop-append-le, drop-drop, drop-replicate, take-replicate, get_or_append_left, get_or-append_right}
 use Rattle.std.proofs.lemmas.List.Elements.{All-append}
-use Rattle.std.proofs.lemmas.Slice.{take-put_mid}
+use Rattle.std.proofs.lemmas.Slice.{take-put_mid, drop-put_mid}
 use Rattle.std.proofs.Math.Seq.{drop-append_seam}
 use borrow.Rule.Slice.PartMut.{put_mid}
 use Rattle.cdg_io.specs.Run.{give, run_state}
@@ -15,22 +15,35 @@ use Rattle.cdg_io.specs.Change.{from_to}
 use Rattle.stream_writer.specs.Blocks.{symbols_at}
 use Rattle.stream_writer.specs.Given.{symbols_from, AreGiven, ComesLater, TakesPacks}
 
-slot_written : (symbols copied slot : List ℕ) (k : ℕ) → length symbols ≡ 96 → length slot ≡ 24 → copied ≡ slot → k < 4
-    → take (24 * (k + 1)) (put_mid (24 * k) (24 * k + 24 - 24 * k) symbols copied) ≡ take (24 * k) symbols ++ slot
-slot_written symbols copied slot k size one same below =
-    let len = ap length same in
-    take-put_mid (24 * k) (24 * k + 24 - 24 * k) symbols copied (24 * (k + 1)) (omega arith) (omega arith) ∙ ap (λ (xs : List ℕ). take (24 * k) symbols ++ xs) same
+slot_written : (symbols slot : List ℕ) (k : ℕ) → length symbols ≡ 96 → length slot ≡ 24 → k < 4
+    → take (24 * (k + 1)) (put_mid (24 * k) (24 * k + 24 - 24 * k) symbols slot) ≡ take (24 * k) symbols ++ slot
+slot_written symbols slot k size one below = take-put_mid (24 * k) (24 * k + 24 - 24 * k) symbols slot (24 * (k + 1)) (omega arith) (omega arith)
 
-length-written : (symbols copied slot : List ℕ) (k : ℕ) → length symbols ≡ 96 → length slot ≡ 24 → copied ≡ slot → k < 4
-    → length (put_mid (24 * k) (24 * k + 24 - 24 * k) symbols copied) ≡ 96
-length-written symbols copied slot k size one same below =
-    let len = ap length same in
+length-written : (symbols slot : List ℕ) (k : ℕ) → length symbols ≡ 96 → length slot ≡ 24 → k < 4
+    → length (put_mid (24 * k) (24 * k + 24 - 24 * k) symbols slot) ≡ 96
+length-written symbols slot k size one below =
     let first = length-take (24 * k) symbols in
     let start = length-drop (24 * k) symbols in
     let rest = length-drop (24 * k + 24 - 24 * k) (drop (24 * k) symbols) in
-    let inner = length-append copied (drop (24 * k + 24 - 24 * k) (drop (24 * k) symbols)) in
-    let outer = length-append (take (24 * k) symbols) (copied ++ drop (24 * k + 24 - 24 * k) (drop (24 * k) symbols)) in
+    let inner = length-append slot (drop (24 * k + 24 - 24 * k) (drop (24 * k) symbols)) in
+    let outer = length-append (take (24 * k) symbols) (slot ++ drop (24 * k + 24 - 24 * k) (drop (24 * k) symbols)) in
     omega arith
+
+-- The zeros that stand where nothing is written yet
+
+pub slot_zeros : (symbols : List ℕ) (k : ℕ) → k < 4 → drop (24 * k) symbols ≡ replicate (96 - 24 * k) 0 → take (24 * k + 24 - 24 * k) (drop (24 * k) symbols) ≡ replicate 24 0
+slot_zeros symbols k below zeros =
+    let size : 24 * k + 24 - 24 * k ≡ 24 = omega arith in
+    ap₂ (λ (n : ℕ) (xs : List ℕ). take n xs) size zeros ∙ take-replicate 24 (96 - 24 * k) 0 (omega arith)
+
+zeros_after : (symbols slot : List ℕ) (k : ℕ) → length symbols ≡ 96 → length slot ≡ 24 → k < 4 → drop (24 * k) symbols ≡ replicate (96 - 24 * k) 0
+    → drop (24 * (k + 1)) (put_mid (24 * k) (24 * k + 24 - 24 * k) symbols slot) ≡ replicate (96 - 24 * (k + 1)) 0
+zeros_after symbols slot k size one below zeros =
+    let there : 24 * k + 24 ≡ 24 * (k + 1) = omega arith in
+    let left : 96 - 24 * k - 24 ≡ 96 - 24 * (k + 1) = omega arith in
+    drop-put_mid (24 * k) (24 * k + 24 - 24 * k) symbols slot (24 * (k + 1)) (omega arith) (omega (arith, size)) (omega (arith, one))
+    ∙ sym (ap (λ n. drop n symbols) there) ∙ sym (drop-drop 24 (24 * k) symbols)
+    ∙ ap (drop 24) zeros ∙ drop-replicate 24 (96 - 24 * k) 0 ∙ ap (λ n. replicate n 0) left
 
 -- Packs that are given
 
@@ -112,23 +125,25 @@ pub record AreWritten (Comes : ℕ → List ℕ → Type 0) (before after : List
   pub taken : TakesPacks Comes k (from_to before after) (take (24 * k) symbols) packs
   pub size : length symbols ≡ 96
   pub bound : All (λ x. x < 64) (take (24 * k) symbols)
+  pub rest : drop (24 * k) symbols ≡ replicate (96 - 24 * k) 0
 
-pub none_written : (Comes : ℕ → List ℕ → Type 0) (before : List (List ℕ)) (symbols : List ℕ) → length symbols ≡ 96 → AreWritten Comes before before 0 symbols
-none_written Comes before symbols size = record {
+pub none_written : (Comes : ℕ → List ℕ → Type 0) (before : List (List ℕ)) (symbols : List ℕ) → symbols ≡ replicate 96 0 → AreWritten Comes before before 0 symbols
+none_written Comes before symbols zeros = record {
   packs = [];
   taken = record { given_are = none_given Comes 0; symbols_are = refl; after_is = refl };
-  size = size;
+  size = ap length zeros;
   bound = λ k d lt. absurd (omega arith);
+  rest = zeros;
 }
 
 -- one slot more
-pub slot_more : (Comes Later : ℕ → List ℕ → Type 0) (before t t' : List (List ℕ)) (k : ℕ) (symbols pack slot copied : List ℕ)
+pub slot_more : (Comes Later : ℕ → List ℕ → Type 0) (before t t' : List (List ℕ)) (k : ℕ) (symbols pack slot : List ℕ)
     → AreWritten Comes before t k symbols → k < 4 → ComesLater Comes k Later → Later 0 pack → IsCodeword pack → t' ≡ spread_next t pack → Some slot ≡ spread_gives t pack
-    → copied ≡ slot → length slot ≡ 24 → All (λ x. x < 64) slot
-    → AreWritten Comes before t' (k + 1) (put_mid (24 * k) (24 * k + 24 - 24 * k) symbols copied)
-slot_more Comes Later before t t' k symbols pack slot copied so_far lt later is_pack codeword window slotted same one small =
+    → length slot ≡ 24 → All (λ x. x < 64) slot
+    → AreWritten Comes before t' (k + 1) (put_mid (24 * k) (24 * k + 24 - 24 * k) symbols slot)
+slot_more Comes Later before t t' k symbols pack slot so_far lt later is_pack codeword window slotted one small =
     let packs = so_far.packs in
-    let written = slot_written symbols copied slot k so_far.size one same lt in
+    let written = slot_written symbols slot k so_far.size one lt in
     let one_slot : symbols_from t (pack ∷ []) ≡ slot = ap (λ (o : Option (List ℕ)). concat (give o [])) (sym slotted) ∙ append-nil slot in
     record {
       packs = packs ++ pack ∷ [];
@@ -139,8 +154,9 @@ slot_more Comes Later before t t' k symbols pack slot copied so_far lt later is_
             ∙ sym (symbols_from-append before packs (pack ∷ []));
         after_is = window ∙ ap (λ (w : List (List ℕ)). spread_next w pack) so_far.taken.after_is ∙ sym (run_state-append before packs (pack ∷ []));
       };
-      size = length-written symbols copied slot k so_far.size one same lt;
+      size = length-written symbols slot k so_far.size one lt;
       bound = subst (All (λ x. x < 64)) (sym written) (All-append (λ x. x < 64) (take (24 * k) symbols) slot so_far.bound small);
+      rest = zeros_after symbols slot k so_far.size one lt so_far.rest;
     }
 
 -- all four are written

@@ -1,5 +1,5 @@
 // The symbols of the program blocks.
-ghost use Rattle.std.specs.Prelude.{◌≡◌, ◌<◌, ℕ, List, All, Some};
+ghost use Rattle.std.specs.Prelude.{◌≡◌, ◌<◌, ℕ, List, All, Some, length, replicate};
 ghost use Rattle.cdg_io.specs.Change.{from_to};
 ghost use Rattle.rw_code.specs.Codeword.{IsCodeword, IsWord};
 ghost use Rattle.rw_interleave.specs.Spreading.{spread_gives, spread_next};
@@ -13,59 +13,59 @@ use rw_interleave::{PACKS_KEPT_BACK, Spread};
 // After so many idle packs another one brings zeros, and leaves what is still to be spread as it is.
 const ALL_QUIET: u8 = PACKS_KEPT_BACK as u8;
 
-/// The symbols of the next block, over which four more packs are spread. So many of the last packs were idle.
+/// Puts the symbols of the next block, over which four more packs are spread, in place of zeros. So many of the last
+/// packs were idle.
 pub(crate) fn next_symbols<P: PackSource>(
     source: &mut P,
     spread: &mut Spread,
     quiet: &mut u8,
-) -> [u8; BLOCK_BYTES]
-    requires { AreQuiet spread.old quiet.old }
+    symbols: &mut [u8; BLOCK_BYTES],
+)
+    requires quiet { AreQuiet spread.old quiet.old }
+    requires zeros { symbols.old ≡ replicate 96 0 }
     ensures symbols { (packs : List (List ℕ))
-        × TakesPacks (P.comes source.old) 4 (from_to spread.old spread.new) result packs }
-    ensures bound { All (λ s. s < 64) result }
+        × TakesPacks (P.comes source.old) 4 (from_to spread.old spread.new) symbols.new packs }
+    ensures bound { All (λ s. s < 64) symbols.new }
     ensures later { ComesLater (P.comes source.old) 4 (P.comes source.new) }
     ensures quiet { AreQuiet spread.new quiet.new }
 {
-    let mut symbols = [0; BLOCK_BYTES];
     for k in 0..SLOTS_A_BLOCK {
-        let slot = next_slot(source, spread, quiet);
-        symbols[SYMBOLS_A_SLOT * k..SYMBOLS_A_SLOT * k + SYMBOLS_A_SLOT].copy_from_slice(&slot);
+        let start = SYMBOLS_A_SLOT * k;
+        let slot = &mut symbols[start..start + SYMBOLS_A_SLOT];
+        next_slot(source, spread, quiet, slot);
     }
-    symbols
 }
 
-// The symbols of the next slot, which comes with one more pack.
-fn next_slot<P: PackSource>(
-    source: &mut P,
-    spread: &mut Spread,
-    quiet: &mut u8,
-) -> [u8; SYMBOLS_A_SLOT]
-    requires { AreQuiet spread.old quiet.old }
-    ensures slot { (pack : List ℕ) × TakesPack (P.comes source.old) spread.old spread.new result pack }
-    ensures word { IsWord result }
+// Puts the symbols of the next slot, which comes with one more pack, in place of zeros.
+fn next_slot<P: PackSource>(source: &mut P, spread: &mut Spread, quiet: &mut u8, slot: &mut [u8])
+    requires quiet { AreQuiet spread.old quiet.old }
+    requires zeros { slot.old ≡ replicate 24 0 }
+    ensures slot { (pack : List ℕ) × TakesPack (P.comes source.old) spread.old spread.new slot.new pack }
+    ensures word { IsWord slot.new }
     ensures later { ComesLater (P.comes source.old) 1 (P.comes source.new) }
     ensures quiet { AreQuiet spread.new quiet.new }
 {
     let Some(pack) = source.next_pack() else {
-        if *quiet >= ALL_QUIET {
-            return [0; SYMBOLS_A_SLOT];
+        if *quiet < ALL_QUIET {
+            *quiet += 1;
+            put_slot(spread, &Pack::idle(), slot);
         }
-        *quiet += 1;
-        return slot_with(spread, &Pack::idle());
+        return;
     };
     *quiet = 0;
-    slot_with(spread, &pack)
+    put_slot(spread, &pack, slot);
 }
 
-// The symbols of the slot that comes with a pack. It stays a call of its own, since most packs are idle.
+// Puts the symbols of the slot that comes with a pack. It stays a call of its own, since most packs are idle.
 #[inline(never)]
-fn slot_with(spread: &mut Spread, pack: &Pack) -> [u8; SYMBOLS_A_SLOT]
+fn put_slot(spread: &mut Spread, pack: &Pack, slot: &mut [u8])
+    requires { length slot.old ≡ 24 }
     ensures codeword { IsCodeword pack.now }
     ensures next { spread.new ≡ spread_next spread.old pack.now }
-    ensures gives { Some result ≡ spread_gives spread.old pack.now }
-    ensures word { IsWord result }
+    ensures gives { Some slot.new ≡ spread_gives spread.old pack.now }
+    ensures word { IsWord slot.new }
 {
     // What holds of every pack: its symbols are a codeword.
     let _codeword = pack.word();
-    spread.push(pack).bytes()
+    slot.copy_from_slice(&spread.push(pack).bytes());
 }

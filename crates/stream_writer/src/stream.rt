@@ -18,6 +18,7 @@ use crate::program::next_symbols;
 use crate::source::PackSource;
 use cdg_io::{Failed, Sink, put_all};
 use cdtext_packs::TextPack;
+use raw_subcode::BLOCK_BYTES;
 use rw_interleave::{Spread, spread_carries};
 use toc_model::Layout;
 
@@ -63,7 +64,8 @@ fn put_program<P: PackSource, K: Sink>(
     let blocks = layout.blocks();
     let mut quiet = 0;
     for b in 0..blocks {
-        let symbols = next_symbols(source, spread, &mut quiet);
+        let mut symbols = [0; BLOCK_BYTES];
+        next_symbols(source, spread, &mut quiet, &mut symbols);
         let block = program_block(layout, b, &symbols);
         put_all(out, &block)?;
     }

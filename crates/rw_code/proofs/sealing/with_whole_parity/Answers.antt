@@ -3,5 +3,5 @@ use Rattle.rw_code.proofs.sealing.with_whole_parity.Goals as goal
 
 pub returns-clause-whole : goal.returns-clause-whole
 returns-clause-whole c =
-    tail_sums c.args.word.now _ _ _ _ _ _ _ _ c.is_word.ensures c.whole_parity-parity.ensures
-    c.with.ensures c.with-2.ensures c.with-3.ensures c.with-4.ensures
+    tail_sums c.args.word.now _ _ _ _ _ _ _ _ _ c.is_word.ensures c.of.ensures c.of-last.ensures
+    c.plus.ensures c.plus-2.ensures c.plus-3.ensures c.plus-4.ensures

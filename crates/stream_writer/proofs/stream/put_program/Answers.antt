@@ -19,8 +19,8 @@ returns-in_err-put_all-clause-part g c =
     let layout = c.args.layout.now in
     on_err c.from_residual.result _
     (part_more layout (g.P.PackSource.comes c.args.source.now) (g.P.PackSource.comes c.loop-b.source) c.loop-b.b (g.K.Sink.held c.args.out.now) (g.K.Sink.held c.loop-b.out) _
-    c.loop-b.spread c.next_symbols-symbols.new.spread c.next_symbols-symbols.result c.program_block-block.result so_far.done (omega (arith, c.blocks-blocks.ensures.blocks)) so_far.later
-    c.next_symbols-symbols.ensures.symbols
+    c.loop-b.spread c.next_symbols.new.spread c.next_symbols.new.symbols c.program_block-block.result so_far.done (omega (arith, c.blocks-blocks.ensures.blocks)) so_far.later
+    c.next_symbols.ensures.symbols
     c.program_block-block.ensures.bytes c.in_err-put_all.ensures.part)
 
 pub loop-b-preserved : goal.loop-b-preserved
@@ -30,11 +30,11 @@ loop-b-preserved g c =
     record {
       done =
           block_more layout (g.P.PackSource.comes c.args.source.now) (g.P.PackSource.comes c.loop-b.source) c.loop-b.b (g.K.Sink.held c.args.out.now) (g.K.Sink.held c.loop-b.out) _
-          c.loop-b.spread c.next_symbols-symbols.new.spread c.next_symbols-symbols.result c.program_block-block.result so_far.done so_far.later
-          c.next_symbols-symbols.ensures.symbols
+          c.loop-b.spread c.next_symbols.new.spread c.next_symbols.new.symbols c.program_block-block.result so_far.done so_far.later
+          c.next_symbols.ensures.symbols
           c.program_block-block.ensures.bytes c.program_block-block.ensures.built c.in_ok-put_all.ensures.ok;
-      quiet = c.next_symbols-symbols.ensures.quiet;
-      later = later_more (g.P.PackSource.comes c.args.source.now) (g.P.PackSource.comes c.loop-b.source) (g.P.PackSource.comes c.next_symbols-symbols.new.source) (4 * c.loop-b.b) 4 (4 * (c.loop-b.b + 1)) so_far.later c.next_symbols-symbols.ensures.later (omega arith);
+      quiet = c.next_symbols.ensures.quiet;
+      later = later_more (g.P.PackSource.comes c.args.source.now) (g.P.PackSource.comes c.loop-b.source) (g.P.PackSource.comes c.next_symbols.new.source) (4 * c.loop-b.b) 4 (4 * (c.loop-b.b + 1)) so_far.later c.next_symbols.ensures.later (omega arith);
       same = c.in_ok-put_all.ensures.cause.same ∙ so_far.same;
     }
 
