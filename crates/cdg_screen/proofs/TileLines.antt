@@ -3,7 +3,7 @@ use Rattle.std.proofs.Common.{◌≡◌, ◌≢◌, ℕ, ◌+◌, ◌-◌, ◌*�
 use Rattle.std.specs.Prelude.{nat_le, nat_lt}
 use Rattle.std.proofs.lemmas.Bool.{cases_eq, cases_lt}
 use Rattle.std.proofs.lemmas.Bool.Decides.{nat_tests}
-use Rattle.std.proofs.lemmas.List.{get_or-set_same, get_or-set_other, get_or_append_left, get_or-append_right, get_or-take, get_or-drop, length-take, length-drop}
+use Rattle.std.proofs.lemmas.List.{get_or-set_same, get_or-set_other, get_or_append_left, get_or_default, get_or-append_right, get_or-take, get_or-drop, length-take, length-drop}
 use Rattle.std.proofs.lemmas.List.Elements.{All-get_or}
 use borrow.Rule.Slice.PartMut.{put_mid}
 use Rattle.cdg_screen.specs.Picture.{at}
@@ -56,6 +56,10 @@ written-small old piece start i within size small olds =
       | inr past ↦ grind (arith, nat_tests)
     ]
 
+-- the pixels of a row are colours
+pub row-below : (rows : List (List ℕ)) (row : List ℕ) (left top r : ℕ) → IsGrid (record { rows = rows; left = left; top = top }) → row ≡ get_or rows r [] → All (λ p. p < 16) row
+row-below rows row left top r g is k d k_lt = omega (arith, get_or_default row k d 0 k_lt, ap (λ xs. get_or xs k 0) is, g.colours r k)
+
 -- the tile of a column begins so far into a row, and goes on at no other end
 tile_there : (left column x : ℕ) → left % 6 ≡ 0 → left < 300 → column ≤ 49 → x < 300 → x / 6 ≡ column
     → ((6 * column + left) % 300 ≤ (x + left) % 300) × ((x + left) % 300 < (6 * column + left) % 300 + 6) × ((x + left) % 300 - (6 * column + left) % 300 ≡ x % 6)
@@ -89,15 +93,13 @@ line-is_grid rows row piece left top r start g r_lt fits is size small =
       ];
     })
 
-pub line-becomes : (rows : List (List ℕ)) (row piece : List ℕ) (left top column y : ℕ) (drawn : ℕ → ℕ → ℕ) → IsGrid (record { rows = rows; left = left; top = top }) → column ≤ 49 → y < 216
-    → row ≡ get_or rows ((y + top) % 216) [] → length piece ≡ 6
-    → ((i : ℕ) → i < 6 → get_or piece i 0 ≡ drawn i (get_or (take ((6 * column + left) % 300 + 6 - (6 * column + left) % 300) (drop ((6 * column + left) % 300) row)) i 0))
+pub line-becomes : (rows : List (List ℕ)) (row piece : List ℕ) (left top column y start r : ℕ) (drawn : ℕ → ℕ → ℕ) → IsGrid (record { rows = rows; left = left; top = top }) → column ≤ 49 → y < 216 → start ≡ (6 * column + left) % 300 → r ≡ (y + top) % 216
+    → row ≡ get_or rows r [] → length piece ≡ 6
+    → ((i : ℕ) → i < 6 → get_or piece i 0 ≡ drawn i (get_or (take (start + 6 - start) (drop start row)) i 0))
     → (x' y' : ℕ) → x' < 300 → y' < 216
-    → at (record { rows = set rows ((y + top) % 216) (put_mid ((6 * column + left) % 300) ((6 * column + left) % 300 + 6 - (6 * column + left) % 300) row piece); left = left; top = top }) x' y'
+    → at (record { rows = set rows r (put_mid start (start + 6 - start) row piece); left = left; top = top }) x' y'
     ≡ (if y' == y && x' / 6 == column then drawn (x' % 6) (at (record { rows = rows; left = left; top = top }) x' y') else at (record { rows = rows; left = left; top = top }) x' y')
-line-becomes rows row piece left top column y drawn g column_le y_lt is size all x' y' x'_lt y'_lt =
-    let start : ℕ = (6 * column + left) % 300 in
-    let r : ℕ = (y + top) % 216 in
+line-becomes rows row piece left top column y start r drawn g column_le y_lt start_is r_is is size all x' y' x'_lt y'_lt =
     let k : ℕ = (x' + left) % 300 in
     let six : start + 6 - start ≡ 6 = omega arith in
     let top_lt = g.top_below in
@@ -115,7 +117,7 @@ line-becomes rows row piece left top column y drawn g column_le y_lt is size all
           let whole = new ∙ e ∙ sym old in
           grind (arith, nat_tests)
       | inl same ↦
-          let here : (y' + top) % 216 ≡ r = ap (λ n. (n + top) % 216) same in
+          let here : (y' + top) % 216 ≡ r = ap (λ n. (n + top) % 216) same ∙ sym r_is in
           let row_new : element (set rows r (put_mid start (start + 6 - start) row piece)) ((y' + top) % 216) k ≡ get_or (put_mid start 6 row piece) k 0 =
           ap (λ n. element (set rows r (put_mid start (start + 6 - start) row piece)) n k) here ∙ ap (λ xs. get_or xs k 0) (get_or-set_same rows r (put_mid start (start + 6 - start) row piece) [] r_in)
           ∙ ap (λ n. get_or (put_mid start n row piece) k 0) six in
@@ -127,12 +129,15 @@ line-becomes rows row piece left top column y drawn g column_le y_lt is size all
                 let d_lt : x' % 6 < 6 = omega arith in
                 let sum : start + x' % 6 ≡ k = omega (arith, t.0, t.2) in
                 let part : get_or (take (start + 6 - start) (drop start row)) (x' % 6) 0 ≡ get_or row k 0 = get_or-take (start + 6 - start) (drop start row) (x' % 6) 0 (omega arith) ∙ get_or-drop start row (x' % 6) 0 ∙ ap (λ n. get_or row n 0) sum in
-                let in_piece : get_or (put_mid start 6 row piece) k 0 ≡ get_or piece (k - start) 0 = (let from = t.0 in let to = t.1 in grind (arith, nat_tests)) in
+                let from : start ≤ k = omega (arith, t.0) in
+                let to : k < start + 6 = omega (arith, t.1) in
+                let place : k - start ≡ x' % 6 = omega (arith, t.2) in
+                let in_piece : get_or (put_mid start 6 row piece) k 0 ≡ get_or piece (k - start) 0 = grind (arith, nat_tests) in
                 let value : at (record { rows = set rows r (put_mid start (start + 6 - start) row piece); left = left; top = top }) x' y' ≡ drawn (x' % 6) (at (record { rows = rows; left = left; top = top }) x' y') =
-                new ∙ row_new ∙ in_piece ∙ ap (λ n. get_or piece n 0) t.2 ∙ all (x' % 6) d_lt ∙ ap (drawn (x' % 6)) (part ∙ sym row_old) in
+                new ∙ row_new ∙ in_piece ∙ ap (λ n. get_or piece n 0) place ∙ all (x' % 6) d_lt ∙ ap (drawn (x' % 6)) (part ∙ sym row_old) in
                 grind (arith, nat_tests)
             | inr other ↦
-                let outside : (start ≤ k) × (k < start + 6) → x' / 6 ≡ column = λ both. tile_apart left column x' g.left_whole left_lt column_le x'_lt both.0 both.1 in
+                let outside : (start ≤ k) × (k < start + 6) → x' / 6 ≡ column = λ both. tile_apart left column x' g.left_whole left_lt column_le x'_lt (omega (arith, both.0)) (omega (arith, both.1)) in
                 let not_in : get_or (put_mid start 6 row piece) k 0 ≡ get_or row k 0 = grind (arith, nat_tests, outside) in
                 let value : at (record { rows = set rows r (put_mid start (start + 6 - start) row piece); left = left; top = top }) x' y' ≡ at (record { rows = rows; left = left; top = top }) x' y' = new ∙ row_new ∙ not_in ∙ sym row_old in
                 grind (arith, nat_tests)

@@ -1,7 +1,7 @@
 -- A line of a tile that is drawn.
-use Rattle.std.proofs.Common.{◌≡◌, ℕ, ◌+◌, ◌-◌, ◌*◌, ◌/◌, ◌%◌, ◌<◌, ◌≤◌, ◌==◌, ◌&&◌, if◌then◌else◌, Bool, true, List, refl, ap₂, ◌∙◌, inl, inr, arith}
+use Rattle.std.proofs.Common.{◌≡◌, ◌≢◌, ℕ, ◌+◌, ◌-◌, ◌*◌, ◌/◌, ◌%◌, ◌<◌, ◌≤◌, ◌==◌, ◌&&◌, if◌then◌else◌, Bool, true, List, refl, sym, ap, ap₂, ◌∙◌, inl, inr, arith}
 use Rattle.std.specs.Prelude.{nat_le, nat_lt, slice_index}
-use Rattle.std.proofs.lemmas.Bool.{cases_Bool}
+use Rattle.std.proofs.lemmas.Bool.{cases_Bool, cases_eq}
 use Rattle.std.proofs.lemmas.Bool.Decides.{nat_tests}
 use Rattle.cdg_instructions.specs.Drawing.{tile_colour}
 use Rattle.cdg_screen.specs.Picture.{Grid, at, covers}
@@ -32,4 +32,32 @@ line_of_tile grid row column colour0 colour1 lines exclusive j j_lt row_le colum
           let here : at grid x y ≡ drawn_over exclusive (tile_colour colour0 colour1 lines (x % 6) (y % 12)) (at grid x y) = rw covered at (whole x y x_lt y_lt) in
           rw inside (here ∙ ap₂ (λ i k. drawn_over exclusive (tile_colour colour0 colour1 lines i k) (at grid x y)) across down)
       | inr outside ↦ rw outside refl
+    ]
+
+-- a tile is drawn as far as one line more
+pub line_more : (old now new : Grid) (row column colour0 colour1 j : ℕ) (lines pixels : List ℕ) (exclusive : Bool) → j < 12 → row ≤ 17 → column ≤ 49
+    → ((i : ℕ) → i < 6 → slice_index pixels i ≡ line_colour colour0 colour1 (slice_index lines j) i)
+    → Becomes now (λ x y. if covers row column x y && nat_lt (y % 12) j then drawn_over exclusive (tile_colour colour0 colour1 lines (x % 6) (y % 12)) (at old x y) else at old x y)
+    → Becomes new (λ x y. if y == 12 * row + j && x / 6 == column then drawn_over exclusive (slice_index pixels (x % 6)) (at now x y) else at now x y)
+    → Becomes new (λ x y. if covers row column x y && nat_lt (y % 12) (j + 1) then drawn_over exclusive (tile_colour colour0 colour1 lines (x % 6) (y % 12)) (at old x y) else at old x y)
+line_more old now new row column colour0 colour1 j lines pixels exclusive j_lt row_le column_le shown before step x y x_lt y_lt =
+    let was = before x y x_lt y_lt in
+    let is = step x y x_lt y_lt in
+    elim (cases_eq y (12 * row + j)) [
+      | inl same ↦ elim (cases_eq (x / 6) column) [
+        | inl there ↦
+            let down : y % 12 ≡ j = omega arith in
+            let same_row : y / 12 ≡ row = omega arith in
+            let stood : at now x y ≡ at old x y = grind (arith, nat_tests) in
+            let pixel : slice_index pixels (x % 6) ≡ tile_colour colour0 colour1 lines (x % 6) (y % 12) = shown (x % 6) (omega arith) ∙ ap (λ k. tile_colour colour0 colour1 lines (x % 6) k) (sym down) in
+            let drawn : at new x y ≡ drawn_over exclusive (slice_index pixels (x % 6)) (at now x y) = grind (arith, nat_tests) in
+            let value : at new x y ≡ drawn_over exclusive (tile_colour colour0 colour1 lines (x % 6) (y % 12)) (at old x y) = drawn ∙ ap₂ (drawn_over exclusive) pixel stood in
+            let covered : (covers row column x y && nat_lt (y % 12) (j + 1)) ≡ true = grind (arith, nat_tests) in
+            rw covered value
+        | inr apart ↦ grind (arith, nat_tests)
+      ]
+      | inr apart ↦
+          let kept : at new x y ≡ at now x y = grind (arith, nat_tests) in
+          let other : y / 12 ≡ row → y % 12 ≢ j = λ same_row down. apart (omega arith) in
+          grind (arith, nat_tests)
     ]

@@ -1,5 +1,5 @@
 -- What is drawn for words, one after another.
-use Rattle.std.proofs.Common.{◌≡◌, ◌==◌, ℕ, zero, suc, ◌+◌, ◌-◌, ◌^◌, ◌<◌, false, cond, List, [], ◌∷◌, ◌++◌, length, get_or, map, take, refl, sym, ap, ◌∙◌, subst, arith, Some, None, inl, inr}
+use Rattle.std.proofs.Common.{◌≡◌, ◌==◌, ℕ, zero, suc, ◌+◌, ◌-◌, ◌^◌, ◌<◌, false, cond, List, [], ◌∷◌, ◌++◌, length, get_or, map, take, refl, sym, ap, ap₂, ◌∙◌, subst, arith, Some, None, inl, inr}
 use Rattle.std.specs.declared.option.Option.{Option}
 use Rattle.std.proofs.lemmas.Bool.Decides.{eqb_tells}
 use Rattle.std.proofs.lemmas.List.{take_more}
@@ -45,19 +45,6 @@ draw_step words i word start old new lt is done step =
 pub drawn_none_yet : (start : Drawing) → start ≡ draw_after start []
 unfolding draw_after
 drawn_none_yet start = refl
-
--- an idle word, where a pack is left
-pub idle_drawn : (s t : Drawing) → IsCodeword (replicate 24 0) → 0 < s.left → s.picture ≡ obeyed s.picture (meaning (replicate 24 0))
-    → t ≡ record s { left = s.left - 1 } → t ≡ draw_next s (replicate 24 0)
-unfolding draw_next
-idle_drawn s t is left stays step =
-    let word : List ℕ = replicate 24 0 in
-    let picture : s.picture ≡ entry_drawn s.picture (finding word) = stays ∙ ap (entry_drawn s.picture) (found_itself word is) in
-    let bad : s.bad ≡ bad_next s.bad word = bad_some s.bad word word (found_itself word is) in
-    let some : (s.left == 0) ≡ false = elim (eqb_tells s.left 0) [ inl none ↦ absurd (omega (arith, left, none.1)) | inr some ↦ some.0 ] in
-    let drawn : Drawing = record { picture = entry_drawn s.picture (finding word); left = s.left - 1; bad = bad_next s.bad word } in
-    step ∙ ap (λ (p : Display). state p (s.left - 1) s.bad) picture ∙ ap (state (entry_drawn s.picture (finding word)) (s.left - 1)) bad
-    ∙ sym (ap (λ t. cond t s drawn) some)
 
 pub drawing_runs : (s : Drawing) (vs : List (ArrayVec (List ℕ))) → run_state drawing_next s vs ≡ draw_after s (all_items vs)
 unfolding drawing_next draw_after
@@ -105,6 +92,28 @@ none_left : (picture : Display) (bad : ℕ) (words : List (List ℕ)) → draw_a
 unfolding draw_after draw_next
 none_left picture bad [] = refl
 none_left picture bad (w ∷ words) = none_left picture bad words
+
+-- an idle word leaves the picture as it is
+idle_drawn : (picture : Display) (left bad : ℕ) → IsCodeword (replicate 24 0) → picture ≡ obeyed picture (meaning (replicate 24 0))
+    → draw_next (state picture left bad) (replicate 24 0) ≡ state picture (left - 1) bad
+unfolding draw_next
+idle_drawn picture zero bad is stays = refl
+idle_drawn picture (suc left) bad is stays =
+    let word : List ℕ = replicate 24 0 in
+    let same : entry_drawn picture (finding word) ≡ picture = sym (stays ∙ ap (entry_drawn picture) (found_itself word is)) in
+    let none : bad_next bad word ≡ bad = sym (bad_some bad word word (found_itself word is)) in
+    let less : left ≡ suc left - 1 = omega arith in
+    next_of picture left bad word ∙ ap₂ (λ (p : Display) (b : ℕ). state p left b) same none ∙ ap (λ n. state picture n bad) less
+
+-- four of them
+pub four_idle_drawn : (s : Drawing) → IsCodeword (replicate 24 0) → s.picture ≡ obeyed s.picture (meaning (replicate 24 0))
+    → record s { left = s.left - 4 } ≡ draw_after s (replicate 4 (replicate 24 0))
+unfolding draw_after
+four_idle_drawn s is stays =
+    let next : Drawing → Drawing = λ (t : Drawing). draw_next t (replicate 24 0) in
+    let at : (left : ℕ) → next (state s.picture left s.bad) ≡ state s.picture (left - 1) s.bad = λ left. idle_drawn s.picture left s.bad is stays in
+    let left : s.left - 1 - 1 - 1 - 1 ≡ s.left - 4 = omega arith in
+    sym (ap next (ap next (ap next (at s.left) ∙ at (s.left - 1)) ∙ at (s.left - 1 - 1)) ∙ at (s.left - 1 - 1 - 1) ∙ ap (λ n. state s.picture n s.bad) left)
 
 -- The words were drawn from this state: what stands, and how many of them are bad.
 pub record AreDrawn (picture : Display) (left bad : ℕ) (words : List (List ℕ)) (end : Drawing) : Type 0 where

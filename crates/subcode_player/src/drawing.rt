@@ -23,6 +23,19 @@ pub struct Drawing {
 }
 
 impl Drawing {
+    // Draws the words of a block.
+    #[inline]
+    fn draw_block(&mut self, words: &BlockOfWords)
+        ensures { self.new ≡ drawing_next self.old words.now }
+    {
+        idle_is_codeword();
+        match words.unless_idle() {
+            // Most blocks of a disc are idle.
+            None => self.draw_four_idle(),
+            Some(words) => self.draw_each(words),
+        }
+    }
+
     // Draws the words of a block, one by one.
     #[inline(never)]
     fn draw_each(&mut self, words: &ArrayVec<Word, 4>)
@@ -33,27 +46,13 @@ impl Drawing {
         }
     }
 
-    // Draws four idle words.
+    // Draws four idle words: the picture stays.
     fn draw_four_idle(&mut self)
         requires { IsCodeword idle_pack }
         ensures { self.new ≡ draw_after self.old (replicate 4 idle_pack) }
     {
-        self.draw_idle();
-        self.draw_idle();
-        self.draw_idle();
-        self.draw_idle();
-    }
-
-    // Draws an idle word, if a pack is left to be drawn: the picture stays.
-    #[tactic(auto, unfolding(crate::specs::Drawn::draw_next))]
-    fn draw_idle(&mut self)
-        requires { IsCodeword idle_pack }
-        ensures { self.new ≡ draw_next self.old idle_pack }
-    {
-        if self.left > 0 {
-            self.left -= 1;
-            self.picture.stays_at_idle();
-        }
+        self.left = self.left.saturating_sub(4);
+        self.picture.stays_at_idle();
     }
 
     // Draws what is found for a word, if a pack is left to be drawn.
@@ -73,8 +72,8 @@ impl Drawing {
         ensures bad { self.new.bad ≡ bad_next self.old.bad word.now }
         ensures left { self.new.left ≡ self.old.left }
     {
-        // Most words of a disc are idle, and draw nothing.
-        if is_idle(word) {
+        // Most words of a disc are idle, and draw nothing. Few others begin with 0.
+        if word.get(0).value() == 0 && is_idle(word) {
             self.picture.stays_at_idle();
             return;
         }
@@ -96,17 +95,17 @@ impl Stage for Drawing {
 
     #[tactic(auto, unfolding(crate::specs::Drawn::drawing_gives))]
     fn feed(&mut self, words: &BlockOfWords) -> Option<Piece> {
-        idle_is_codeword();
-        match words.unless_idle() {
-            // Most blocks of a disc are idle.
-            None => {
-                self.draw_four_idle();
-                None
-            }
-            Some(words) => {
-                self.draw_each(words);
-                None
-            }
+        self.draw_block(words);
+        None
+    }
+
+    #[inline]
+    #[tactic(auto, unfolding(crate::specs::Drawn::drawing_gives))]
+    fn emit(&mut self, words: &BlockOfWords, out: &mut Option<Piece>) {
+        self.draw_block(words);
+        // Nothing is given. Where nothing stands there, nothing is written.
+        if out.is_some() {
+            *out = None;
         }
     }
 }

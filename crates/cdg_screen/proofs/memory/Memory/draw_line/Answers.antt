@@ -1,19 +1,29 @@
-use Rattle.std.proofs.Common.{◌≡◌, ◌+◌, ◌%◌, [], get_or, arith}
+use Rattle.std.proofs.Common.{◌≡◌, ◌+◌, ◌*◌, ◌%◌, ◌<◌, [], get_or, ap, sym, ◌∙◌, arith}
 use Rattle.std.specs.Prelude.{slice_index}
 use Rattle.std.proofs.lemmas.List.{get_or_read}
-use Rattle.cdg_screen.specs.Memory.{drawn_over, line_colour}
-use Rattle.cdg_screen.proofs.TileLines.{line-is_grid, line-becomes, tile_fits}
+use Rattle.std.proofs.lemmas.List.Elements.{All-drop, All-take}
+use Rattle.cdg_screen.specs.Picture.{Grid}
+use Rattle.cdg_screen.specs.Memory.{drawn_over}
+use Rattle.cdg_screen.proofs.TileLines.{row-below, line-is_grid, line-becomes}
 use Rattle.cdg_screen.proofs.memory.Memory.draw_line.Goals as goal
+
+pub draw_over-requires-clause-others : goal.draw_over-requires-clause-others
+draw_over-requires-clause-others c =
+    let g = c.self.invariant in
+    let row : c.index_mut-row.result.now ≡ get_or c.self.inside.rows.items c.args.row [] = get_or_read c.self.inside.rows.items _ _ (omega (arith, g.count)) c.index_mut-row.ensures.value [] in
+    All-take (λ p. p < 16) _ _ (All-drop (λ p. p < 16) c.args.left c.index_mut-row.result.now (row-below c.self.inside.rows.items _ _ _ c.args.row g row))
 
 pub invariant_of-self : goal.invariant_of-self
 invariant_of-self c =
     let g = c.self.invariant in
-    let row : c.index_mut-row.result.now ≡ get_or c.self.inside.rows.items ((c.args.y + c.self.inside.top) % 216) [] = get_or_read c.self.inside.rows.items _ _ (omega (arith, g.count)) c.index_mut-row.ensures.value [] in
-    line-is_grid c.self.inside.rows.items c.index_mut-row.result.now c.draw_over.new.pixels c.self.inside.left c.self.inside.top _ _ g (omega arith) (tile_fits c.self.inside.left c.args.column g.left_whole g.left_below c.requires.column) row c.draw_over.ensures.count c.draw_over.ensures.range
+    let row : c.index_mut-row.result.now ≡ get_or c.self.inside.rows.items c.args.row [] = get_or_read c.self.inside.rows.items _ _ (omega (arith, g.count)) c.index_mut-row.ensures.value [] in
+    line-is_grid c.self.inside.rows.items c.index_mut-row.result.now c.draw_over.new.others c.self.inside.left c.self.inside.top _ _ g c.requires.row (omega arith) row c.draw_over.ensures.count c.draw_over.ensures.range
 
-pub returns : goal.returns
-returns c =
+pub returns-clause-drawn : goal.returns-clause-drawn
+returns-clause-drawn c column y column_le y_lt left_is row_is =
     let g = c.self.invariant in
-    let row : c.index_mut-row.result.now ≡ get_or c.self.inside.rows.items ((c.args.y + c.self.inside.top) % 216) [] = get_or_read c.self.inside.rows.items _ _ (omega (arith, g.count)) c.index_mut-row.ensures.value [] in
-    rw (← c.self.view_is) (line-becomes c.self.inside.rows.items c.index_mut-row.result.now c.draw_over.new.pixels c.self.inside.left c.self.inside.top c.args.column c.args.y
-    (λ i old. drawn_over c.args.exclusive (line_colour (slice_index c.args.colours 0) (slice_index c.args.colours 1) c.args.line i) old) g c.requires.column c.requires.height row c.draw_over.ensures.count c.draw_over.ensures.drawn)
+    let row : c.index_mut-row.result.now ≡ get_or c.self.inside.rows.items c.args.row [] = get_or_read c.self.inside.rows.items _ _ (omega (arith, g.count)) c.index_mut-row.ensures.value [] in
+    let left : c.args.left ≡ (6 * column + c.self.inside.left) % 300 = left_is ∙ ap (λ (grid : Grid). (6 * column + grid.left) % 300) (sym c.self.view_is) in
+    let row_is' : c.args.row ≡ (y + c.self.inside.top) % 216 = row_is ∙ ap (λ (grid : Grid). (y + grid.top) % 216) (sym c.self.view_is) in
+    rw (← c.self.view_is) (line-becomes c.self.inside.rows.items c.index_mut-row.result.now c.draw_over.new.others c.self.inside.left c.self.inside.top column y c.args.left c.args.row
+    (λ i old. drawn_over c.args.exclusive (slice_index c.args.pixels.now i) old) g column_le y_lt left row_is' row c.draw_over.ensures.count c.draw_over.ensures.drawn)
