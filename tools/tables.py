@@ -71,6 +71,11 @@ def lanes(byte):
     return sum((byte >> 7 - k & 1) << 8 * k for k in range(8))
 
 
+def line(bits):
+    """The six bits of a line of a tile, each in a byte of a number, that of the leftmost pixel in the lowest byte."""
+    return sum((bits >> 5 - k & 1) << 8 * k for k in range(6))
+
+
 def tables():
     differences, logs = pairs()
     return {
@@ -79,6 +84,7 @@ def tables():
         "SUMS": ("rw_code/src/pair_tables.rt", logs),
         "REMAINDERS": ("subcode_crc/src/check.rt", [remainder(byte, 16) for byte in range(256)]),
         "HIGH_REMAINDERS": ("subcode_crc/src/check.rt", [remainder(byte, 24) for byte in range(256)]),
+        "LINES": ("cdg_screen/src/line_table.rt", [line(bits) for bits in range(64)]),
         "LANES": ("raw_subcode/src/lane_table.rt", [lanes(byte) for byte in range(256)]),
     }
 
