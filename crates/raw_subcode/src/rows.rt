@@ -151,11 +151,11 @@ fn place_rows(bytes: &[u8]) -> [u8x16; 8]
     ensures rows { AreRows result }
     ensures lanes { (j k : ℕ) → j < 8 → k < 12 → in_rows result j k ≡ slice_index bytes.now (8 * k + j) }
 {
-    let none = u8x16::splat(0);
+    let zeros = u8x16::splat(0);
     let (a0, a1) = woven(sixteen(bytes, 0), sixteen(bytes, 4));
     let (b0, b1) = woven(sixteen(bytes, 1), sixteen(bytes, 5));
-    let (c0, c1) = woven(sixteen(bytes, 2), none);
-    let (d0, d1) = woven(sixteen(bytes, 3), none);
+    let (c0, c1) = woven(sixteen(bytes, 2), zeros);
+    let (d0, d1) = woven(sixteen(bytes, 3), zeros);
     let (e0, e2) = woven(a0, c0);
     let (e1, e3) = woven(a1, c1);
     let (f0, f2) = woven(b0, d0);
