@@ -1,10 +1,10 @@
 // Playing that goes on from a checkpoint.
-ghost use Rattle.std.specs.Prelude.{◌≡◌, ◌≢◌, ◌≤◌, ◌<◌, ◌+◌, ◌-◌, ◌^◌, List, ℕ, [], length, IfSome, IfErr, IfOk, IsErr, IsErrOf, IsOk, Err, OnOk};
-ghost use Rattle.std.specs.Io.KnownBytes.{Appends, Consumes, IsAtEnd};
+ghost use Rattle.std.specs.Prelude.{◌≡◌, ◌≢◌, ◌≤◌, ◌<◌, ◌+◌, ◌-◌, ◌^◌, List, ℕ, [], length, IfSome, IfErr, IsErr, IsErrOf, IsOk, Err};
+ghost use Rattle.std.specs.Io.KnownBytes.{Consumes, IsAtEnd};
 ghost use Rattle.disc_time.specs.Counts.{last_block};
 ghost use Rattle.cdg_io.specs.Causes.{Rose};
 ghost use Rattle.cdg_io.specs.Change.{change, passed};
-ghost use Rattle.cdg_io.specs.Moves.{AppendsPrefix, ConsumesBelow};
+ghost use Rattle.cdg_io.specs.Moves.{ConsumesBelow};
 ghost use Rattle.cdg_io.specs.Run.{run_state};
 ghost use Rattle.raw_subcode.specs.Sizes.{most_units};
 ghost use Rattle.rw_interleave.specs.Interleave.{whole_packs};

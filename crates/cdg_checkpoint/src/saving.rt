@@ -7,7 +7,6 @@ ghost use Rattle.cdg_io.specs.Pump.{IsUnlessFault, answer_of};
 ghost use Rattle.raw_subcode.specs.Sizes.{block_bytes, most_units};
 ghost use Rattle.rw_interleave.specs.Interleave.{whole_packs};
 ghost use Rattle.cdg_screen.specs.Picture.{SameStanding, blank, standing_of};
-ghost use Rattle.checkpoint_files.specs.Checkpoint.{Checkpoint, file_of};
 ghost use Rattle.subcode_player.specs.Steps.{fresh_words};
 ghost use Rattle.cdg_checkpoint.specs.Saved.{EndsAsSaved, Saves};
 ghost use Rattle.cdg_checkpoint.specs.Keeping.{IsKept};

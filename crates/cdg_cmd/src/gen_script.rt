@@ -1,5 +1,5 @@
 // The command that writes the script of a seed.
-ghost use Rattle.std.specs.Prelude.{◌≡◌, ◌≢◌, ◌≤◌, ◌⊎◌};
+ghost use Rattle.std.specs.Prelude.{◌≡◌, ◌≤◌, ◌⊎◌};
 ghost use Rattle.cdg_workload.specs.Script.{generated_script, most_generated};
 ghost use Rattle.cdg_cmd.specs.Answer.{Generates};
 ghost use Rattle.cdg_io.specs.Change.{change};

@@ -1,5 +1,5 @@
 // The command that lists the Q channel of a stream.
-ghost use Rattle.std.specs.Prelude.{◌≡◌, ◌≢◌, ◌≤◌};
+ghost use Rattle.std.specs.Prelude.{◌≢◌, ◌≤◌};
 ghost use Rattle.disc_time.specs.Counts.{most_lead_in};
 ghost use Rattle.cdg_cmd.specs.Answer.{Does};
 ghost use Rattle.cdg_io.specs.Change.{change};

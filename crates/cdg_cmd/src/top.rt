@@ -1,5 +1,5 @@
 // The top call.
-ghost use Rattle.std.specs.Prelude.{◌≡◌, ◌≢◌, ◌↔◌, ◌≤◌, ◌⊎◌, ℕ, List, Option, Some, None, Ok, IfSome};
+ghost use Rattle.std.specs.Prelude.{◌≡◌, ◌≢◌, ◌↔◌, ◌≤◌, ◌⊎◌, ℕ, List, Some, None, IfSome};
 ghost use Rattle.disc_time.specs.Counts.{most_program};
 ghost use Rattle.std.specs.List.{concat};
 ghost use Rattle.raw_subcode.specs.declared.form.Form.{Form};

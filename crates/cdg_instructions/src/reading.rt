@@ -1,7 +1,7 @@
 // What a pack means.
 ghost use Rattle.std.specs.Prelude.{◌≡◌, ◌<◌, ◌≤◌, ◌⊎◌, ℕ, List, drop, length, map, slice_index, All};
 ghost use Rattle.rw_code.specs.Codeword.{IsWord};
-ghost use Rattle.cdg_instructions.specs.Instruction.{Means, InRange, IsScroll, IsTile, InScrollRange, InTileRange, content_of, move, table_colour};
+ghost use Rattle.cdg_instructions.specs.Instruction.{Means, InRange, content_of, move, table_colour};
 ghost use Rattle.cdg_instructions.specs.Meaning.{meaning};
 ghost use Rattle.bit_lists.specs.Counting.{below};
 ghost use Rattle.cdg_instructions.specs.declared.instr.Instr.{Instr};

@@ -1,5 +1,5 @@
 // A tile: 6 by 12 numbers of colours.
-ghost use Rattle.std.specs.Prelude.{◌≡◌, ◌<◌, ◌↔◌, ℕ, List, length, slice_index, All, MatchOption, IsTrue, replicate};
+ghost use Rattle.std.specs.Prelude.{◌≡◌, ◌<◌, ◌↔◌, ℕ, List, slice_index, All, MatchOption, IsTrue, replicate};
 ghost use Rattle.cdg_instructions.specs.Instruction.{IsTilePixels};
 ghost use Rattle.cdg_instructions.specs.Sizes.{tile_pixels};
 

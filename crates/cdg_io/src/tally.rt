@@ -1,5 +1,5 @@
 // What a source counts of its answers.
-ghost use Rattle.std.specs.Prelude.{◌≡◌, ◌<◌, ◌≤◌, ℕ};
+ghost use Rattle.std.specs.Prelude.{◌≡◌, ◌<◌, ◌≤◌};
 ghost use Rattle.cdg_io.specs.Causes.{Rose};
 
 /// How often a source told its end, and how often it gave all that it was offered room for.

@@ -13,7 +13,6 @@ use Rattle.cdg_screen.proofs.StandingLemmas.{display_after, display_is, obeyed_i
 use Rattle.cdg_screen.proofs.Turns.{in_turn, same_after, same_back, same_then}
 use Rattle.cdg_instructions.specs.declared.instr.Instr.{Instr}
 use Rattle.rw_code.specs.Packs.{idle_pack}
-use Rattle.cdg_instructions.specs.declared.instr.Instr.TheVariants.{Idle}
 use Rattle.cdg_thin.specs.Thin.{IsNeedless, IsThinned, IsThinForm, IsThinText, is_graphic}
 use Rattle.cdg_thin.specs.Steps.{instruction_of, is_needless, thin_next, thin_gives}
 use Rattle.cdg_thin.proofs.Forms.{after, instructions_at, instructions_of, read_each}

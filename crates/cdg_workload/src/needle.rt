@@ -1,7 +1,6 @@
 // The changes of neighbouring symbols, by the words of a generator.
 ghost use Rattle.std.specs.Prelude.{◌≡◌, ◌<◌, ◌≤◌, ◌-◌, ◌^◌, ◌++◌, Some, bit_xor, drop, map, take};
 ghost use Rattle.raw_subcode.specs.Sizes.{block_bytes};
-ghost use Rattle.rand_pcg.specs.Pcg.{pcg32};
 ghost use Rattle.cdg_io.specs.Run.{run_state, run_gives};
 ghost use Rattle.cdg_workload.specs.Steps.{next_needle, ready, change_now, past_byte, byte_next, byte_gives};
 

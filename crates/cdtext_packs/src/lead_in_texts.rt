@@ -1,8 +1,7 @@
 // The stage that reads the text packs of the lead-in.
-ghost use Rattle.std.specs.Prelude.{◌≡◌, ◌≤◌, ◌*◌, ◌<◌, ◌^◌, List, ℕ, None, IfOk, length, take};
+ghost use Rattle.std.specs.Prelude.{◌≡◌, ◌≤◌, ◌<◌, List, ℕ, None, IfOk, take};
 ghost use Rattle.cdg_io.specs.Run.{run_state};
 ghost use Rattle.disc_time.specs.Counts.{most_lead_in};
-ghost use Rattle.cdtext_packs.specs.Kept.{nothing_kept};
 ghost use Rattle.cdtext_packs.specs.LeadIn.{lead_in_packs};
 ghost use Rattle.cdtext_packs.specs.TextSteps.{fresh_texts, offered, text_next, HasRead};
 

@@ -1,5 +1,5 @@
 // The strings of one kind.
-ghost use Rattle.std.specs.Prelude.{◌≡◌, ◌<◌, ◌≤◌, ◌+◌, ◌*◌, ◌↔◌, ◌∷◌, ◌++◌, [], List, ℕ, length, IfOk, OnErr, MatchResult, IsTrue, slice_index_or, map, All};
+ghost use Rattle.std.specs.Prelude.{◌≡◌, ◌<◌, ◌≤◌, ◌+◌, ◌*◌, ◌∷◌, ◌++◌, [], List, ℕ, length, IfOk, MatchResult, slice_index_or, map, All};
 ghost use Rattle.cdtext_packs.specs.Texts.{are_empty, IsString};
 ghost use Rattle.cdtext_packs.specs.Writing.{joined, holders};
 ghost use Rattle.cdtext_packs.specs.Reading.{meant};

@@ -2,7 +2,7 @@
 ghost use Rattle.std.specs.Prelude.{◌≡◌, ◌≤◌, ◌+◌, ◌<◌, ℕ, length, MatchResult, slice_index, take};
 ghost use Rattle.bit_lists.specs.Check.{check_of};
 ghost use Rattle.std.specs.List.{AllByRecursion};
-ghost use Rattle.checkpoint_files.specs.Table.{Across, Bad, Border, Check, Colours, Down, IsBadAt, IsCheckpointFile, IsFirstOut, IsOutOfPart, IsPartInRange, LeadIn, Levels, Mark, Memory, Program, Slots, ToCome, empty_symbols, mark, all_parts};
+ghost use Rattle.checkpoint_files.specs.Table.{Across, Bad, Border, Check, Colours, Down, IsBadAt, IsCheckpointFile, IsFirstOut, IsOutOfPart, IsPartInRange, LeadIn, Levels, Mark, Memory, Program, Slots, ToCome, empty_symbols, all_parts};
 ghost use Rattle.checkpoint_files.specs.Scan.{IsFirstAbove};
 
 use crate::composing::PIXELS;

@@ -1,7 +1,7 @@
 // The file of a checkpoint, written.
 ghost use Rattle.std.specs.Prelude.{◌≡◌, ◌≤◌, ◌+◌, ◌++◌, [], ◌∷◌, List, ℕ, length};
 ghost use Rattle.cdg_screen.specs.Picture.{Standing, standing_of};
-ghost use Rattle.checkpoint_files.specs.Table.{Mark, ToCome, LeadIn, Program, Bad, Slots, Memory, Border, Across, Down, Colours, Levels};
+ghost use Rattle.checkpoint_files.specs.Table.{Mark, ToCome, LeadIn, Program, Bad, Memory, Border, Across, Down, Colours, Levels};
 ghost use Rattle.checkpoint_files.specs.Checkpoint.{bytes_of, file_of, kept, part_bytes, with_parts};
 
 use crate::Counts;

@@ -1,6 +1,6 @@
 // The numbers in the fields of a file.
-ghost use Rattle.std.specs.Prelude.{◌≡◌, ◌≤◌, ◌+◌, ◌<◌, ◌*◌, ℕ, length, slice_index};
-ghost use Rattle.checkpoint_files.specs.Table.{Bad, Colours, LeadIn, Program, ToCome, number, number_at};
+ghost use Rattle.std.specs.Prelude.{◌≡◌, ◌≤◌, ◌+◌, ◌<◌, length, slice_index};
+ghost use Rattle.checkpoint_files.specs.Table.{Bad, LeadIn, Program, ToCome, number, number_at};
 
 use crate::Counts;
 use crate::file::CheckpointFile;

@@ -1,5 +1,5 @@
 // What the lines of a cue sheet so far say.
-ghost use Rattle.std.specs.Prelude.{◌≡◌, ◌≤◌, [], ◌++◌, true, length, IfOk, MatchResult, map};
+ghost use Rattle.std.specs.Prelude.{◌≡◌, ◌≤◌, ◌++◌, true, length, IfOk, MatchResult, map};
 ghost use Rattle.text_lines.specs.Text.{most_text_bytes};
 ghost use Rattle.cue_sheet.specs.Grammar.{CueState, track_with};
 ghost use Rattle.cue_sheet.specs.Views.{section_of, track_value};
@@ -40,9 +40,9 @@ impl Model for Draft {
 }
 
 impl Draft {
-    ghost use Rattle.cue_sheet.specs.Grammar.{nothing_said, is_second_file, is_placed, taken};
+    ghost use Rattle.cue_sheet.specs.Grammar.{nothing_said, is_second_file, is_placed};
     ghost use Rattle.cue_sheet.specs.CueSheet.{IsSheet};
-    ghost use Rattle.cue_sheet.specs.Steps.{after, line_said, later_reason, end_reason, sheet_said, unless, IsCheckedLine, TakesLine, RefusesLine};
+    ghost use Rattle.cue_sheet.specs.Steps.{after, line_said, later_reason, end_reason, sheet_said, IsCheckedLine, TakesLine, RefusesLine};
     ghost use Rattle.cue_sheet.specs.CueLines.{SaysTrack, SaysIndex, command_named};
     ghost use Rattle.text_lines.specs.Text.{first_word, argument_of};
 

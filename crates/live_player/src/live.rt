@@ -2,7 +2,7 @@
 ghost use Rattle.std.specs.Prelude.{◌≡◌, ◌<◌, ◌≤◌, ◌-◌, ◌/◌, ◌%◌, ◌++◌, ◌∷◌, [], List, ℕ, length, slice_index, IfOk};
 ghost use Rattle.raw_subcode.specs.Sizes.{most_units};
 ghost use Rattle.disc_time.specs.Counts.{last_block};
-ghost use Rattle.cdg_screen.specs.Picture.{Standing, screen_pixel};
+ghost use Rattle.cdg_screen.specs.Picture.{screen_pixel};
 ghost use Rattle.raw_subcode.specs.declared.form.Form.{Form};
 ghost use Rattle.subcode_player.specs.Steps.{words_give};
 ghost use Rattle.live_player.specs.Lives.{live_next, standing_on, stream_words, picture_byte, HasDrawn, HasPlayed, IsLiveView, IsLiveViewAt};

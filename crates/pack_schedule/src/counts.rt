@@ -1,8 +1,6 @@
 // How many instructions bring the tiles of a picture, from each start at once.
-ghost use Rattle.std.specs.Prelude.{◌≡◌, ◌≢◌, ◌<◌, ◌≤◌, ◌+◌, ◌-◌, ℕ, List, length, slice_index, replicate, MatchOption, Some, None};
+ghost use Rattle.std.specs.Prelude.{◌≡◌, ◌<◌, ◌≤◌, ◌+◌, ◌-◌, ℕ, List, slice_index, replicate, Some, None};
 ghost use Rattle.tile_author.specs.Plan.{steps};
-ghost use Rattle.cdg_instructions.specs.Instruction.{IsTilePixels};
-ghost use Rattle.picture_script.specs.Script.{pictures, picture_pixel};
 ghost use Rattle.picture_script.specs.Board.{IsPicture};
 ghost use Rattle.picture_changes.specs.PlannedChange.{tile_steps};
 ghost use Rattle.pack_schedule.specs.SameTiles.{AreSameRows};

@@ -1,5 +1,5 @@
 // Which tiles two canvases share.
-ghost use Rattle.std.specs.Prelude.{◌≡◌, ◌<◌, ◌≤◌, IsTrue, ◌↔◌};
+ghost use Rattle.std.specs.Prelude.{◌≡◌, ◌≤◌, IsTrue, ◌↔◌};
 ghost use Rattle.picture_script.specs.Board.{tile_of};
 ghost use Rattle.pack_schedule.specs.SameTiles.{AreSameRows, SameTiles};
 

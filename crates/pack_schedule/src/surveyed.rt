@@ -18,7 +18,7 @@ impl Model for Survey {
 }
 
 impl Survey {
-    ghost use Rattle.std.specs.Prelude.{◌≡◌, ◌<◌, ◌≤◌, length, slice_index_or};
+    ghost use Rattle.std.specs.Prelude.{◌≡◌, ◌<◌, length, slice_index_or};
     ghost use Rattle.pack_schedule.specs.Survey.{nothing_planned};
 
     /// The pack at which the change of picture `k` begins.

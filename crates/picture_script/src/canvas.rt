@@ -26,8 +26,8 @@ impl Model for Canvas {
 }
 
 impl Canvas {
-    ghost use Rattle.std.specs.Prelude.{◌≡◌, ◌<◌, ◌≤◌, ◌+◌, ◌-◌, ◌*◌, ℕ, List, [], length, slice_index, slice_index_or, true, IfOk, IsTrue, ◌↔◌, Some, None, take};
-    ghost use Rattle.picture_script.specs.Script.{Drawing, Fill, Picture, drawn, drawn_by, pictures, picture_tile, picture_pixel, picture_border, picture_colour};
+    ghost use Rattle.std.specs.Prelude.{◌≡◌, ◌<◌, ◌≤◌, ◌+◌, ◌-◌, ◌*◌, ℕ, List, length, slice_index, slice_index_or, true, IfOk, IsTrue, ◌↔◌, Some, None, take};
+    ghost use Rattle.picture_script.specs.Script.{Drawing, Fill, Picture, drawn, drawn_by, pictures, picture_tile};
     ghost use Rattle.picture_script.specs.Board.{Board, pixel_of, tile_of, AreColours, IsBlank, IsPicture, IsDrawn, IsSet, StandsBefore};
     ghost use Rattle.picture_script.specs.Lines.{said, is_kept};
 

@@ -1,5 +1,5 @@
 // The grammar of scripts: the lines in turn, or the first that is refused.
-ghost use Rattle.std.specs.Prelude.{◌≡◌, ◌<◌, ◌≤◌, ◌+◌, ◌∷◌, ◌&&◌, [], List, Some, IfOk, IfErr, nat_le, nat_lt};
+ghost use Rattle.std.specs.Prelude.{◌≡◌, ◌<◌, ◌+◌, ◌∷◌, ◌&&◌, [], List, Some, IfOk, IfErr, nat_le};
 ghost use Rattle.picture_script.specs.Script.{Drawing, Rect};
 ghost use Rattle.text_lines.specs.Text.{words_in};
 ghost use Rattle.picture_script.specs.ScriptGrammar.{is_in_range, numbers_in, checked_line, checked_command, colour_line, border_line, fill_line, rect_line, row_line, show_line};

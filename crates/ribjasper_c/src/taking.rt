@@ -1,5 +1,5 @@
 // The packs that come with a block.
-ghost use Rattle.std.specs.Prelude.{◌≡◌, ◌<◌, ◌≤◌, ◌++◌, ◌∷◌, [], List, ℕ, pos, negsuc, length, true, false};
+ghost use Rattle.std.specs.Prelude.{◌≡◌, ◌≤◌, ◌++◌, ◌∷◌, [], List, ℕ, pos, negsuc, length, true, false};
 ghost use Rattle.live_player.specs.Lives.{stream_words};
 ghost use Rattle.raw_subcode.specs.declared.form.Form.{Form};
 ghost use Rattle.ribjasper_c.specs.Answers.{IsCorrected};

@@ -1,5 +1,5 @@
 // When some answers come.
-ghost use Rattle.std.specs.Prelude.{◌≡◌, ℕ};
+ghost use Rattle.std.specs.Prelude.{◌≡◌};
 ghost use Rattle.cdg_io.specs.Change.{Bytes};
 ghost use Rattle.cdg_cmd.specs.Call.{Call};
 ghost use Rattle.cdg_cmd.specs.Keeps.{ReadsSecond};

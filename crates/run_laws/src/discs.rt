@@ -1,5 +1,5 @@
 // What `author` does with a sheet and a script, or why it refuses them.
-ghost use Rattle.std.specs.Prelude.{◌≡◌, ◌≢◌, ℕ, List, Some, Err, IfSome};
+ghost use Rattle.std.specs.Prelude.{◌≢◌, ℕ, List, Some, Err, IfSome};
 ghost use Rattle.cue_sheet.specs.CueSheet.{CueSheet};
 ghost use Rattle.picture_script.specs.Script.{Drawing};
 ghost use Rattle.subcode_author.specs.Authored.{disc_of};

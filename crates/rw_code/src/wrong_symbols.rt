@@ -1,5 +1,5 @@
 // The errors of a word by its syndromes.
-ghost use Rattle.std.specs.Prelude.{◌≡◌, ◌≢◌, ◌<◌, ◌≤◌, ◌+◌, ◌-◌, ◌*◌, ◌%◌, ℕ, Some, IfSome, MatchOption};
+ghost use Rattle.std.specs.Prelude.{◌≡◌, ◌≢◌, ◌<◌, ◌+◌, ◌-◌, ◌*◌, ◌%◌, ℕ, Some, IfSome, MatchOption};
 ghost use Rattle.gf64.specs.Field.{product, alpha_power};
 ghost use Rattle.rw_code.specs.Syndromes.{IsEntry, IsError, IsOneWrong, AreTwoWrong, AreErrors, AreTwoSums, IsLocator, IsLocatorOf, IsPair};
 

@@ -1,5 +1,5 @@
 // From slots to words.
-ghost use Rattle.std.specs.Prelude.{◌≡◌, ◌-◌, ◌≤◌, ◌<◌, [], ◌∷◌, ◌++◌, All, List, ℕ, length, map, slice_index, slice_index_or, slice_set, IfOk};
+ghost use Rattle.std.specs.Prelude.{◌≡◌, ◌-◌, ◌≤◌, ◌<◌, [], All, List, ℕ, length, map, slice_index, slice_index_or, slice_set, IfOk};
 ghost use Rattle.std.specs.List.{concat};
 ghost use Rattle.cdg_io.specs.Run.{run_gives};
 ghost use Rattle.bit_lists.specs.Counting.{below};

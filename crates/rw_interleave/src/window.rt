@@ -2,7 +2,6 @@
 ghost use Rattle.std.specs.Prelude.{◌≡◌, ◌<◌, ◌≤◌, ◌+◌, ◌-◌, ◌*◌, ◌%◌, true, [], List, ℕ, length, replicate, slice_index};
 ghost use Rattle.cdg_io.specs.Run.{run_state, run_gives};
 ghost use Rattle.rw_interleave.specs.Gathering.{gathered, gather_gives, gather_next};
-ghost use Rattle.rw_interleave.specs.Interleave.{swapped};
 ghost use Rattle.rw_interleave.specs.Windows.{slots_in};
 
 use crate::Slot;

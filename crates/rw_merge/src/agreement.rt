@@ -1,5 +1,5 @@
 // The codeword on which two readings of a word agree.
-ghost use Rattle.std.specs.Prelude.{◌≡◌, ◌≢◌, List, ℕ, IfSome, MatchOption};
+ghost use Rattle.std.specs.Prelude.{◌≢◌, List, ℕ, IfSome, MatchOption};
 ghost use Rattle.rw_code.specs.Codeword.{IsWord};
 ghost use Rattle.rw_merge.specs.Agreement.{IsAgreed};
 

@@ -1,6 +1,6 @@
 // Errors at known positions, from the sums of a word.
-ghost use Rattle.std.specs.Prelude.{◌≡◌, ◌≢◌, ◌<◌, ◌-◌, [], ◌∷◌, List, ℕ, suc, bit_xor, slice_index, slice_set, MatchOption};
-ghost use Rattle.gf64.specs.Field.{product, alpha_power};
+ghost use Rattle.std.specs.Prelude.{◌≡◌, ◌≢◌, ◌<◌, ◌-◌, [], ◌∷◌, List, ℕ, suc, bit_xor, slice_index, slice_set};
+ghost use Rattle.gf64.specs.Field.{alpha_power};
 ghost use Rattle.rw_code.specs.Codeword.{IsCodeword, IsWord, weighted_sum};
 ghost use Rattle.rw_merge.specs.Elimination.{AreErrors, AreFirstSums, cleared};
 ghost use Rattle.rw_merge.specs.Places.{AreApart, AreEqualOutside, all_of};

@@ -1,14 +1,13 @@
 // Two readings of one stream, block by block in turn.
-ghost use Rattle.std.specs.Prelude.{◌≡◌, ◌≢◌, ◌≤◌, ◌<◌, ◌+◌, ◌*◌, [], ◌++◌, List, ℕ, Err, length, take, drop, is_none, if◌then◌else◌, IsErrOf, IfOk, IfSome};
+ghost use Rattle.std.specs.Prelude.{◌≡◌, ◌≢◌, ◌≤◌, ◌<◌, ◌+◌, [], List, ℕ, Err, length, IsErrOf, IfOk, IfSome};
 ghost use Rattle.std.specs.List.{concat};
 ghost use Rattle.std.specs.Io.KnownBytes.{Consumes};
 ghost use Rattle.std.specs.declared.option.Option.{Option};
 ghost use Rattle.disc_time.specs.Counts.{most_lead_in};
 ghost use Rattle.cdg_io.specs.Causes.{Rose};
 ghost use Rattle.cdg_io.specs.Change.{change};
-ghost use Rattle.raw_subcode.specs.Channels.{symbols_of};
 ghost use Rattle.rw_interleave.specs.Stream.{bad_count};
-ghost use Rattle.rw_interleave.specs.Texts.{cdg_bytes, entry_bytes};
+ghost use Rattle.rw_interleave.specs.Texts.{cdg_bytes};
 ghost use Rattle.rw_merge.specs.Merging.{FirstIsAtEnd, EndsSecond, IsAnswer, IsMergedText, Merges, TellsFirst, TellsSecond};
 ghost use Rattle.rw_merge.specs.Readings.{IsDamagedTwice, IsReadTwice, MergeRestores};
 ghost use Rattle.rw_merge.specs.Steps.{AreAgreements, leading_slots, window_after, words_after};

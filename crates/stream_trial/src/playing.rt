@@ -1,5 +1,5 @@
 // A scratched stream, played from its front to its end.
-ghost use Rattle.std.specs.Prelude.{◌≡◌, ◌<◌, ◌≤◌, ◌+◌, ◌*◌, ◌/◌, ◌%◌, ℕ, List, length, take, drop, map, IfOk};
+ghost use Rattle.std.specs.Prelude.{◌≡◌, ◌<◌, ◌≤◌, ◌+◌, ◌*◌, ◌/◌, ◌%◌, ℕ, List, length, IfOk};
 ghost use Rattle.raw_subcode.specs.Channels.{symbols_of};
 ghost use Rattle.stream_trial.specs.Replay.{stream_block, IsDamagedSchedule, IsPlayedOut};
 

@@ -1,5 +1,5 @@
 // A stream that is played again, word by word.
-ghost use Rattle.std.specs.Prelude.{◌≡◌, ◌<◌, ◌≤◌, ◌+◌, ℕ, List, IfOk};
+ghost use Rattle.std.specs.Prelude.{◌≡◌, ◌<◌, ◌+◌, ℕ, List, IfOk};
 ghost use Rattle.rw_code.specs.Codeword.{Reads};
 ghost use Rattle.cdg_screen.specs.Picture.{blank, standing_of, SameStanding};
 ghost use Rattle.stream_trial.specs.Replay.{IsBelow, TakesWord, TakesBad, one_where};

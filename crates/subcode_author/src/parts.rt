@@ -1,5 +1,5 @@
 // The parts of a stream, which are all at hand before anything is written.
-ghost use Rattle.std.specs.Prelude.{◌≡◌, ◌<◌, ◌↔◌, List, ℕ, IfOk, IfErr, OnOk, IsTrue};
+ghost use Rattle.std.specs.Prelude.{◌≡◌, ◌<◌, ◌↔◌, List, IfOk, IfErr, OnOk, IsTrue};
 ghost use Rattle.disc_time.specs.Counts.{time_count};
 ghost use Rattle.toc_model.specs.Places.{layout_of};
 ghost use Rattle.pack_schedule.specs.Survey.{IsPastEnd, IsSurvey, IsWithin};

@@ -1,9 +1,8 @@
 // From blocks to words.
 ghost use Rattle.std.specs.Prelude.{◌≡◌, ◌<◌, List, ℕ, MatchOption, replicate};
 ghost use Rattle.arrayvec.specs.ArrayVec.{ArrayVec};
-ghost use Rattle.cdg_io.specs.Run.{run_state, run_gives};
 ghost use Rattle.rw_code.specs.Packs.{idle_pack};
-ghost use Rattle.subcode_player.specs.Steps.{IdlesOn, fresh_words, words_or_idle, slot_of, slots_of, window_next, window_gives, words_next, words_give};
+ghost use Rattle.subcode_player.specs.Steps.{IdlesOn, fresh_words, words_or_idle, slot_of, slots_of, words_next, words_give};
 
 use crate::Form;
 use arrayvec::ArrayVec;

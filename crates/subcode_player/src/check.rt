@@ -10,7 +10,6 @@ ghost use Rattle.cdg_io.specs.Streams.{WritesAtEnd};
 ghost use Rattle.raw_subcode.specs.Channels.{unit_size};
 ghost use Rattle.rw_interleave.specs.Stream.{word_count};
 ghost use Rattle.subcode_player.specs.Faults.{TellsStops};
-ghost use Rattle.subcode_player.specs.Steps.{fresh_words};
 ghost use Rattle.subcode_player.specs.Calls.{EndFirst, IsAnsweredBy, IsStreamStop, at_end};
 ghost use Rattle.subcode_player.specs.Check.{IsCheckListed, count_line, stream_lines, wrong_lines};
 ghost use Rattle.subcode_player.specs.Check.{frame_count_lines, pack_count_lines};

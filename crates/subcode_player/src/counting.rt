@@ -1,6 +1,6 @@
 // Counts of words, packs and frames.
-ghost use Rattle.std.specs.Prelude.{◌≡◌, ◌≤◌, ◌+◌, ◌++◌, ◌==◌, length, replicate, true, Some, None};
-ghost use Rattle.rw_code.specs.Codeword.{IsCodeword, IsWord, differences};
+ghost use Rattle.std.specs.Prelude.{◌≡◌, ◌==◌, replicate, true, Some, None};
+ghost use Rattle.rw_code.specs.Codeword.{IsCodeword, differences};
 ghost use Rattle.rw_code.specs.Packs.{idle_pack};
 ghost use Rattle.subcode_player.specs.Steps.{fresh_words};
 ghost use Rattle.subcode_player.specs.Check.{is_known};

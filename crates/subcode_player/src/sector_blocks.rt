@@ -1,5 +1,5 @@
 // From sectors to blocks.
-ghost use Rattle.std.specs.Prelude.{◌≡◌, Some, drop};
+ghost use Rattle.std.specs.Prelude.{Some, drop};
 
 use cdg_io::Stage;
 use raw_subcode::{BLOCK_BYTES, Block, SECTOR_BYTES};

@@ -1,5 +1,5 @@
 // Words that are numbers or times.
-ghost use Rattle.std.specs.Prelude.{◌≡◌, ◌<◌, ◌≤◌, ◌^◌, ℕ, length, IfSome, Some};
+ghost use Rattle.std.specs.Prelude.{◌≡◌, ◌<◌, ◌≤◌, ◌^◌, ℕ, IfSome, Some};
 ghost use Rattle.disc_time.specs.Counts.{time_count};
 ghost use Rattle.disc_time.specs.Time.{time_text};
 ghost use Rattle.text_lines.specs.Text.{number_in, two_digit_number, parsed_time};

@@ -1,5 +1,5 @@
 // A basis of the differences between pixels.
-ghost use Rattle.std.specs.Prelude.{◌≡◌, ◌==◌, ℕ, ◌+◌, ◌-◌, ◌*◌, ◌<◌, ◌≤◌, ◌++◌, map, max, true, [], ◌∷◌, List, length, slice_index, if◌then◌else◌, IsTrue, ◌↔◌, false, bit_xor};
+ghost use Rattle.std.specs.Prelude.{◌≡◌, ◌==◌, ℕ, ◌+◌, ◌-◌, ◌*◌, ◌<◌, ◌≤◌, ◌++◌, map, max, true, [], ◌∷◌, List, length, slice_index, if◌then◌else◌, IsTrue, false};
 ghost use Rattle.cdg_instructions.specs.Instruction.{IsTilePixels};
 ghost use Rattle.bit_lists.specs.Bits.{has_bit};
 ghost use Rattle.bit_lists.specs.Counting.{below};

@@ -1,8 +1,8 @@
 // The layout of a disc.
-ghost use Rattle.std.specs.Prelude.{◌≡◌, ◌<◌, ◌≤◌, ◌+◌, ◌*◌, ℕ, length, slice_index_or};
+ghost use Rattle.std.specs.Prelude.{◌≡◌, ◌<◌, ◌≤◌, ◌+◌, ◌*◌, length, slice_index_or};
 ghost use Rattle.disc_time.specs.Counts.{most_lead_in, most_program};
 ghost use Rattle.q_channel.specs.QFrame.{IsValid, IsValidPoint};
-ghost use Rattle.toc_model.specs.Places.{DiscLayout, layout_of, audio_need, program_blocks};
+ghost use Rattle.toc_model.specs.Places.{DiscLayout};
 ghost use Rattle.toc_model.specs.Layout.{IsLayout, p_bit, program_frame, toc_entries, toc_frame, track_at};
 ghost use Rattle.q_channel.specs.declared.frame.TocPoint.TheVariants.{First};
 
