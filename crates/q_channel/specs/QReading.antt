@@ -3,6 +3,7 @@ use Rattle.std.specs.Prelude.{◌≡◌, ◌≢◌, ℕ, ◌+◌, ◌*◌, Bool,
 use Rattle.std.specs.Char.{is_ascii_uppercase}
 use Rattle.bit_lists.specs.Counting.{below}
 use Rattle.bit_lists.specs.Check.{check_bits}
+use Rattle.q_channel.specs.Sizes.{field_bits}
 use Rattle.q_channel.specs.QFrame.{field_value, is_bcd_within, is_other, IsFrame}
 use Rattle.q_channel.specs.declared.frame.QFrame.{QFrame}
 use Rattle.q_channel.specs.declared.frame.QFault.{QFault}
@@ -90,6 +91,6 @@ first_bad_field message = first_outside message (ranges_of message)
 -- what 96 bits are read as
 abbrev pub IsReading : List Bool → Result QFrame QFault → Type 0
 IsReading message (Ok frame) = IsFrame frame message
-IsReading message (Err BadCrc) = drop 80 message ≢ check_bits (take 80 message)
-IsReading message (Err (BadField bit)) = (drop 80 message ≡ check_bits (take 80 message))
+IsReading message (Err BadCrc) = drop field_bits message ≢ check_bits (take field_bits message)
+IsReading message (Err (BadField bit)) = (drop field_bits message ≡ check_bits (take field_bits message))
     × (first_bad_field message ≡ Some bit)

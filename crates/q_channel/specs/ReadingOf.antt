@@ -2,6 +2,7 @@
 use Rattle.std.specs.Prelude.{ℕ, Bool, true, false, List, take, drop, Option, Some, None, Result, Ok, Err, ◌==◌}
 use Rattle.bit_lists.specs.Bits.{number_of}
 use Rattle.bit_lists.specs.Check.{check_bits}
+use Rattle.q_channel.specs.Sizes.{field_bits}
 use Rattle.q_channel.specs.QReading.{first_bad_field}
 use Rattle.q_channel.specs.Kinds.{frame_at, kind_of}
 use Rattle.q_channel.specs.declared.frame.QFrame.{QFrame}
@@ -16,7 +17,7 @@ reading_by true None frame = Ok frame
 
 -- whether the last sixteen bits are the check of the first eighty
 abbrev pub q_check_matches : List Bool → Bool
-q_check_matches message = number_of (drop 80 message) == number_of (check_bits (take 80 message))
+q_check_matches message = number_of (drop field_bits message) == number_of (check_bits (take field_bits message))
 
 -- what the bits are read as
 unfoldable pub reading_of : List Bool → Result QFrame QFault

@@ -6,6 +6,7 @@ ghost use Rattle.q_channel.specs.declared.frame.QFault.{QFault};
 ghost use Rattle.q_channel.specs.declared.frame.QFault.TheVariants.{BadCrc};
 ghost use Rattle.q_channel.specs.QReading.{IsReading};
 ghost use Rattle.q_channel.specs.ReadingOf.{reading_of};
+ghost use Rattle.q_channel.specs.Sizes.{frame_bits};
 
 /// Bits that are a frame, as those of a frame that is written, are read as this frame and as nothing else.
 pub fn one_reading()
@@ -15,7 +16,7 @@ pub fn one_reading()
 
 /// 96 bits are read as one thing, which is a function of them.
 pub fn readings_are_functions()
-    ensures { (message : List Bool) (what : Result QFrame QFault) → length message ≡ 96
+    ensures { (message : List Bool) (what : Result QFrame QFault) → length message ≡ frame_bits
         → IsReading message what ↔ (what ≡ reading_of message) }
 {}
 

@@ -1,5 +1,5 @@
 // Words of 24 symbols.
-ghost use Rattle.std.specs.Prelude.{◌≡◌, ◌<◌, ◌%◌, List, ℕ, map, slice_index, slice_set, replicate, bit_xor};
+ghost use Rattle.std.specs.Prelude.{◌≡◌, ◌<◌, ◌+◌, ◌%◌, All, List, ℕ, length, map, slice_index, slice_set, replicate, bit_xor};
 ghost use Rattle.rw_code.specs.Codeword.{IsWord, differences};
 
 use gf64::Sym;
@@ -44,6 +44,17 @@ impl Word {
             low[i] = bytes[i] % 64;
         }
         Word { bytes: low }
+    }
+
+    /// Becomes the word of the low six bits of the bytes at these places, counted from a first byte.
+    #[inline]
+    pub fn set_from(&mut self, bytes: &[u8], first: usize, places: &[u8; SYMBOLS])
+        requires { All (λ place. first + place < length bytes.now) places.now }
+        ensures { self.new ≡ map (λ place. slice_index bytes.now (first + place) % 64) places.now }
+    {
+        for i in 0..SYMBOLS {
+            self.bytes[i] = bytes[first + usize::from(places[i])] % 64;
+        }
     }
 
     /// The symbol at a position.

@@ -1,11 +1,12 @@
 -- What a window of slots gives with a block, and what it is afterwards.
-use Rattle.std.proofs.Common.{◌≡◌, ℕ, zero, suc, ◌+◌, ◌-◌, ◌*◌, ◌%◌, ◌<◌, ◌≤◌, List, [], ◌∷◌, ◌++◌, length, map, min, refl, sym, ap, ap₂, zero-add, ◌∙◌, arith, Some, None, inl, inr, bit_or}
+use Rattle.std.proofs.Common.{◌≡◌, ℕ, zero, suc, ◌+◌, ◌-◌, ◌*◌, ◌%◌, ◌<◌, ◌≤◌, List, [], ◌∷◌, ◌++◌, length, map, min, set, refl, sym, ap, ap₂, zero-add, ◌∙◌, arith, Some, None, inl, inr, bit_or}
 use Rattle.std.specs.Prelude.{slice_index, replicate}
 use Rattle.std.specs.declared.option.Option.{Option}
-use Rattle.std.specs.List.{range_with_len}
+use Rattle.std.specs.List.{range_with_len, refill}
 use Rattle.std.proofs.lemmas.Bool.{cases_lt}
 use Rattle.std.proofs.lemmas.Nat.{or_mod, le_or_l, le_or_r}
-use Rattle.std.proofs.lemmas.List.{append-nil}
+use Rattle.std.proofs.lemmas.List.{append-nil, length-append, length-set, take-append-le, take_all}
+use Rattle.std.proofs.Math.Seq.{set-append_seam}
 use Rattle.std.proofs.lemmas.Grind.{same_number_lists}
 use Rattle.std.proofs.lemmas.List.Elements.{All-get_or}
 use Rattle.std.proofs.lemmas.List.FromFn.{map-range_with_len_more, get_or-map-range_with_len, length-map-range_with_len}
@@ -126,6 +127,17 @@ pub words_full : (b : List ℕ) (count j : ℕ) (words words' : List (List ℕ))
 words_full b count j words words' word few ge done is add =
     add ∙ ap₂ (λ (l : List (List ℕ)) (w : List ℕ). l ++ w ∷ []) done is
     ∙ ap (λ (o : Option (List ℕ)). run_gives gather_next gather_gives (start b count) (slots_in b 7 j) ++ give o []) (sym (step_full b count j ge).1) ∙ sym (given_more b count j few)
+
+-- ---- The last word is written over where it stands.
+
+pub last_written : {X : Type 0} (xs items cells : List X) (first last : X) (n i : ℕ) → items ≡ xs ++ first ∷ [] → cells ≡ items → n ≡ length items → i + 1 ≡ n
+    → refill n items (set cells i last) ≡ xs ++ last ∷ []
+last_written xs items cells first last n i is same size place =
+    let long : length items ≡ length xs + 1 = ap length is ∙ length-append xs (first ∷ []) in
+    let at : i ≡ length xs = omega (arith, long, size, place) in
+    let written : set cells i last ≡ xs ++ last ∷ [] = ap₂ (λ l k. set l k last) (same ∙ is) at ∙ set-append_seam xs first [] last in
+    let whole : length (set cells i last) ≡ n = length-set cells i last ∙ ap length same ∙ sym size in
+    take-append-le n (set cells i last) _ (omega (arith, whole)) ∙ take_all n (set cells i last) (omega (arith, whole)) ∙ written
 
 -- ---- A word.
 

@@ -180,45 +180,27 @@ fn words_of(bytes: &[u8; ALL], count: usize) -> ArrayVec<Word, 4>
     let mut words = ArrayVec::new();
     for first in 0..4 {
         if count + first >= SPAN - 1 {
-            words.push(word_at(bytes, first));
+            words.push(Word::default());
+            let last = words.len() - 1;
+            set_word(&mut words[last], bytes, first);
         }
     }
     words
 }
 
-// The word of eight slots from one on: its symbols are where a pack's are spread to.
+// Where the symbols of a word stand, from the first of its eight slots on: where a pack's are spread to.
+static PLACES: [u8; SYMBOLS] = [
+    0, 66, 125, 191, 100, 50, 150, 175, 8, 33, 58, 83, 108, 133, 158, 183, 16, 41, 25, 91, 116,
+    141, 166, 75,
+];
+
+// Makes a word that of eight slots from one on.
 #[inline]
-fn word_at(bytes: &[u8; ALL], first: usize) -> Word
+fn set_word(word: &mut Word, bytes: &[u8; ALL], first: usize)
     requires { first < 4 }
-    ensures { result ≡ gathered (slots_in bytes.now first 8) }
+    ensures { word.new ≡ gathered (slots_in bytes.now first 8) }
 {
-    let at = SYMBOLS * first;
-    Word::new(&[
-        bytes[at],
-        bytes[at + 66],
-        bytes[at + 125],
-        bytes[at + 191],
-        bytes[at + 100],
-        bytes[at + 50],
-        bytes[at + 150],
-        bytes[at + 175],
-        bytes[at + 8],
-        bytes[at + 33],
-        bytes[at + 58],
-        bytes[at + 83],
-        bytes[at + 108],
-        bytes[at + 133],
-        bytes[at + 158],
-        bytes[at + 183],
-        bytes[at + 16],
-        bytes[at + 41],
-        bytes[at + 25],
-        bytes[at + 91],
-        bytes[at + 116],
-        bytes[at + 141],
-        bytes[at + 166],
-        bytes[at + 75],
-    ])
+    word.set_from(bytes, SYMBOLS * first, &PLACES);
 }
 
 // Four words of zeros.

@@ -2,14 +2,14 @@ use Rattle.std.proofs.Common.{◌+◌, ◌*◌, ◌∙◌, ◌∷◌, [], refl, 
 use Rattle.rw_interleave.specs.Gathering.{gathered}
 use Rattle.rw_interleave.specs.Interleave.{swapped}
 use Rattle.rw_interleave.proofs.Windows.{symbol_is}
-use Rattle.rw_interleave.proofs.window.word_at.Goals as goal
+use Rattle.rw_interleave.proofs.window.set_word.Goals as goal
 
 pub returns : goal.returns
 unfolding gathered swapped
 returns c =
     let b = c.args.bytes.now in
     let j = c.args.first in
-    c.new.ensures ∙ (λ i. symbol_is b j 0 0 (24 * j) refl (omega arith) (omega arith) i
+    c.set_from.ensures ∙ (λ i. symbol_is b j 0 0 (24 * j + 0) refl (omega arith) (omega arith) i
     ∷ symbol_is b j 1 18 (24 * j + 66) refl (omega arith) (omega arith) i
     ∷ symbol_is b j 2 5 (24 * j + 125) refl (omega arith) (omega arith) i
     ∷ symbol_is b j 3 23 (24 * j + 191) refl (omega arith) (omega arith) i
