@@ -6,8 +6,6 @@
 #[cfg(test)]
 mod blocks;
 #[cfg(test)]
-mod checkpoints;
-#[cfg(test)]
 mod field;
 #[cfg(test)]
 mod files;
@@ -25,8 +23,6 @@ mod slots;
 mod stopped;
 #[cfg(test)]
 mod streams;
-#[cfg(test)]
-mod thinning;
 #[cfg(test)]
 mod tiles;
 #[cfg(test)]

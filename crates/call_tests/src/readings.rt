@@ -1,7 +1,5 @@
-use cdg_io::{MemSink, SteadySource};
 use rw_code::{Pack, Word};
-use rw_merge::{Merged, Merger, agree};
-use std::test::Fail;
+use rw_merge::agree;
 
 // The idle word with symbols that are 1 at some positions.
 fn reading(positions: &[usize]) -> Word {
@@ -34,21 +32,4 @@ fn agrees_on_the_idle_pack(rt: HostRuntime) {
             None => assert!(rt; !agreed),
         }
     }
-}
-
-#[test]
-fn merges_two_clean_readings(rt: HostRuntime) -> Result<(), Fail> {
-    let alloc = rt.alloc();
-    let blocks = [0; 192];
-    let mut merger = Merger::start(alloc)?;
-    let mut out = MemSink::new(alloc, 24, Vec::new(alloc), Vec::new(alloc))?;
-    let merged = merger.run(
-        0,
-        &mut SteadySource::new(&blocks),
-        &mut SteadySource::new(&blocks),
-        &mut out,
-    );
-    assert_eq!(rt; merged, Ok(Merged { blocks: 2, bad: 0 }));
-    assert_eq!(rt; out.bytes(), [0; 24].as_slice());
-    Ok(())
 }
