@@ -1,5 +1,6 @@
 // The text packs of a lead-in.
-ghost use Rattle.std.specs.Prelude.{◌≡◌, ◌<◌, length, IfOk, IfErr, OnOk};
+ghost use Rattle.std.specs.Prelude.{◌≡◌, ◌<◌, ◌≤◌, ℕ, length, IfOk, IfErr, OnOk};
+ghost use Rattle.cdtext_packs.specs.Packs.{most_packs};
 ghost use Rattle.stream_writer.specs.Needs.{text_packs, HasRoom};
 ghost use Rattle.stream_writer.specs.Stops.{IsLeadInRefusal};
 
@@ -30,11 +31,21 @@ pub fn pack_texts(
     if lead_in == 0 {
         return Ok(Vec::new(alloc));
     }
-    let map = texts_of_sheet(alloc, sheet)?;
-    let packs = pack_all(alloc, &map)?;
+    let packs = packs_of_sheet(alloc, sheet)?;
     let need = layout.toc_blocks().max((packs.len() as u32 + 3) / 4);
     if lead_in < need {
         return Err(LeadInStop::LeadInShort { need });
     }
+    Ok(packs)
+}
+
+// The text packs of a sheet, at most 256.
+fn packs_of_sheet(alloc: Global, sheet: &Sheet) -> Result<Vec<TextPack>, LeadInStop>
+    ensures packs { IfOk result (λ packs. packs.items ≡ text_packs sheet.now) }
+    ensures few { IfOk result (λ packs. length packs.items ≤ most_packs) }
+    ensures err { IfErr result (λ stop. (lead_in : ℕ) → 0 < lead_in → IsLeadInRefusal sheet.now lead_in stop) }
+{
+    let map = texts_of_sheet(alloc, sheet)?;
+    let packs = pack_all(alloc, &map)?;
     Ok(packs)
 }
