@@ -74,9 +74,9 @@ pub fn author_stream<K: Sink>(
     let _times = script.pictures();
     let layout = lay_out(alloc, sheet, script, length)?;
     let texts = pack_texts(alloc, sheet, &layout, lead_in)?;
+    let mut spread = Spread::start(alloc)?;
     let weaver = start_weaver(alloc, script, layout.blocks())?;
     let mut source = Scheduled { weaver };
-    let mut spread = Spread::start(alloc)?;
     write_stream(&layout, &texts, lead_in, &mut source, &mut spread, out)?;
     Ok(())
 }
