@@ -1,5 +1,5 @@
 // Pressing a file into a stream.
-ghost use Rattle.std.specs.Prelude.{◌≡◌, ◌≢◌, ◌≤◌, List, ℕ, IfErr, OnOk, Err};
+ghost use Rattle.std.specs.Prelude.{◌≡◌, ◌≢◌, ◌≤◌, ◌<◌, [], List, ℕ, IfErr, IfOk, OnOk, Err};
 ghost use Rattle.disc_time.specs.Counts.{most_lead_in, most_program};
 ghost use Rattle.std.specs.Io.KnownBytes.{Appends};
 ghost use Rattle.cdg_io.specs.Causes.{Rose};
@@ -14,6 +14,7 @@ use crate::checks::{first_gap, whole_packs_of};
 use crate::file::FileSource;
 use crate::stops::PressStop;
 use cdg_io::Sink;
+use cdtext_packs::TextPack;
 use cue_sheet::Sheet;
 use rw_interleave::Spread;
 use std::alloc::Global;
@@ -64,6 +65,44 @@ pub fn press_stream<K: Sink>(
         (IsPackAfter file_begin cdg.now) (change K.held out.old out.new) n packs }
     ensures later { K.faults out.old ≤ K.faults out.new }
 {
+    let Ready {
+        layout,
+        texts,
+        mut spread,
+    } = prepared(alloc, sheet, cdg, lead_in, length)?;
+    let mut source = FileSource {
+        wait: FILE_BEGIN,
+        rest: cdg,
+    };
+    write_stream(&layout, &texts, lead_in, &mut source, &mut spread, out)?;
+    Ok(())
+}
+
+// What a stream is written from, and the memory for it.
+#[derive(Drop)]
+struct Ready {
+    layout: Layout,
+    texts: Vec<TextPack>,
+    spread: Spread,
+}
+
+// What the stream is written from, once nothing is refused.
+fn prepared(
+    alloc: Global,
+    sheet: &Sheet,
+    cdg: &[u8],
+    lead_in: u32,
+    length: u32,
+) -> Result<Ready, PressStop>
+    requires audio { length ≤ most_program }
+    requires file { IsShort cdg.now }
+    ensures layout { IfOk result (λ ready. ready.layout ≡ layout_of sheet.now length) }
+    ensures texts { IfOk result (λ ready. 0 < lead_in → ready.texts.items ≡ text_packs sheet.now) }
+    ensures spread { IfOk result (λ ready. ready.spread ≡ []) }
+    ensures accepted { OnOk result (IsPressable sheet.now cdg.now lead_in length) }
+    ensures stop { IfErr result (IsPressStop sheet.now cdg.now lead_in length) }
+    ensures no_write { result ≢ Err PressStop.WriteFault }
+{
     let packs = whole_packs_of(cdg)?;
     let layout = Layout::from_cue(alloc, sheet, length)?;
     if let Some(track) = first_gap(sheet) {
@@ -74,11 +113,10 @@ pub fn press_stream<K: Sink>(
         return Err(PressStop::CdgTooLong { packs, room });
     }
     let texts = pack_texts(alloc, sheet, &layout, lead_in)?;
-    let mut spread = Spread::start(alloc)?;
-    let mut source = FileSource {
-        wait: FILE_BEGIN,
-        rest: cdg,
-    };
-    write_stream(&layout, &texts, lead_in, &mut source, &mut spread, out)?;
-    Ok(())
+    let spread = Spread::start(alloc)?;
+    Ok(Ready {
+        layout,
+        texts,
+        spread,
+    })
 }
