@@ -1,9 +1,11 @@
 // Words of 24 symbols.
-ghost use Rattle.std.specs.Prelude.{◌≡◌, ◌<◌, ◌+◌, ◌%◌, All, List, ℕ, length, map, slice_index, slice_set, replicate, bit_xor};
-ghost use Rattle.rw_code.specs.Codeword.{IsWord, differences};
+ghost use Rattle.std.specs.Prelude.{◌≡◌, ◌<◌, ◌%◌, ◌++◌, ◌+◌, ◌≤◌, take, drop, ◌↔◌, IsTrue, All, List, ℕ, length, map, min, slice_index, slice_set, replicate, bit_xor};
+ghost use Rattle.rw_code.specs.Codeword.{IsWord, IsNear, differences};
+ghost use Rattle.rw_code.specs.Packs.{idle_pack};
 
 use gf64::Sym;
 use std::marker::Model;
+use std::simd::prelude::*;
 
 /// How many symbols a word has.
 pub const SYMBOLS: usize = 24;
@@ -46,14 +48,14 @@ impl Word {
         Word { bytes: low }
     }
 
-    /// Becomes the word of the low six bits of the bytes at these places, counted from a first byte.
+    /// The word of three times eight symbols, each below 64.
     #[inline]
-    pub fn set_from(&mut self, bytes: &[u8], first: usize, places: &[u8; SYMBOLS])
-        requires { All (λ place. first + place < length bytes.now) places.now }
-        ensures { self.new ≡ map (λ place. slice_index bytes.now (first + place) % 64) places.now }
+    pub fn of_eights(low: [u8; 8], middle: [u8; 8], high: [u8; 8]) -> Word
+        requires { All (λ symbol. symbol < 64) (low ++ middle ++ high) }
+        ensures { result ≡ low ++ middle ++ high }
     {
-        for i in 0..SYMBOLS {
-            self.bytes[i] = bytes[first + usize::from(places[i])] % 64;
+        Word {
+            bytes: joined(together(low), together(middle), together(high)),
         }
     }
 
@@ -75,18 +77,25 @@ impl Word {
         self.bytes
     }
 
+    /// Whether the word differs from the idle pack at two positions at most.
+    #[inline]
+    pub fn is_near_idle(&self) -> bool
+        ensures near { IsTrue result ↔ IsNear self.now idle_pack }
+        ensures word { IsWord self.now }
+    {
+        self.is_word();
+        self.weight() <= 2
+    }
+
     /// How many symbols are not 0.
     #[inline]
     pub(crate) fn weight(&self) -> u8
         ensures { result ≡ differences self.now (replicate 24 0) }
     {
-        let mut count = 0;
-        for byte in &self.bytes {
-            if *byte != 0 {
-                count += 1;
-            }
-        }
-        count
+        let low = ones(&self.bytes[..8]);
+        let middle = ones(&self.bytes[8..16]);
+        let high = ones(&self.bytes[16..24]);
+        low.strict_add(middle).strict_add(high).strict_reduce_sum()
     }
 
     /// A law: each word has 24 symbols below 64.
@@ -116,4 +125,43 @@ impl Word {
         bytes[i] = self.get(i).add(error).value();
         Word { bytes }
     }
+}
+
+// Eight bytes, brought together in one number before they are written: bytes that are written one by one are slow to be
+// read together.
+#[inline]
+fn together(bytes: [u8; 8]) -> [u8; 8]
+    ensures { result ≡ bytes }
+{
+    u64::from_le_bytes(bytes).to_le_bytes()
+}
+
+// Three times eight bytes as one array.
+#[inline]
+fn joined(low: [u8; 8], middle: [u8; 8], high: [u8; 8]) -> [u8; SYMBOLS]
+    ensures { result ≡ low ++ middle ++ high }
+{
+    let mut bytes = [0; SYMBOLS];
+    put_eight(&mut bytes, 0, low);
+    put_eight(&mut bytes, 8, middle);
+    put_eight(&mut bytes, 16, high);
+    bytes
+}
+
+// Puts eight bytes at a place.
+#[inline]
+fn put_eight(bytes: &mut [u8; SYMBOLS], at: usize, eight: [u8; 8])
+    requires { at ≤ 16 }
+    ensures { bytes.new ≡ take at bytes.old ++ eight ++ drop (at + 8) bytes.old }
+{
+    bytes[at..at + 8].copy_from_slice(&eight);
+}
+
+// A 1 for each of eight symbols that is not 0.
+#[inline]
+fn ones(symbols: &[u8]) -> u8x8
+    requires { length symbols.now ≡ 8 }
+    ensures { result ≡ map (λ symbol. min symbol 1) symbols.now }
+{
+    u8x8::from_slice(symbols).simd_min(u8x8::splat(1))
 }

@@ -1,12 +1,11 @@
 -- What a window of slots gives with a block, and what it is afterwards.
-use Rattle.std.proofs.Common.{◌≡◌, ℕ, zero, suc, ◌+◌, ◌-◌, ◌*◌, ◌%◌, ◌<◌, ◌≤◌, List, [], ◌∷◌, ◌++◌, length, map, min, set, refl, sym, ap, ap₂, zero-add, ◌∙◌, arith, Some, None, inl, inr, bit_or}
+use Rattle.std.proofs.Common.{◌≡◌, ℕ, zero, suc, ◌+◌, ◌-◌, ◌*◌, ◌%◌, ◌<◌, ◌≤◌, false, List, [], ◌∷◌, ◌++◌, length, map, min, refl, sym, ap, ap₂, zero-add, ◌∙◌, arith, Some, None, inl, inr, bit_or}
 use Rattle.std.specs.Prelude.{slice_index, replicate}
 use Rattle.std.specs.declared.option.Option.{Option}
-use Rattle.std.specs.List.{range_with_len, refill}
+use Rattle.std.specs.List.{range_with_len}
 use Rattle.std.proofs.lemmas.Bool.{cases_lt}
 use Rattle.std.proofs.lemmas.Nat.{or_mod, le_or_l, le_or_r}
-use Rattle.std.proofs.lemmas.List.{append-nil, length-append, length-set, take-append-le, take_all}
-use Rattle.std.proofs.Math.Seq.{set-append_seam}
+use Rattle.std.proofs.lemmas.List.{append-nil, get_or-replicate}
 use Rattle.std.proofs.lemmas.Grind.{same_number_lists}
 use Rattle.std.proofs.lemmas.List.Elements.{All-get_or}
 use Rattle.std.proofs.lemmas.List.FromFn.{map-range_with_len_more, get_or-map-range_with_len, length-map-range_with_len}
@@ -15,7 +14,7 @@ use Rattle.cdg_io.specs.Run.{give, run_state, run_gives}
 use Rattle.cdg_io.proofs.Runs.{run_state-append, run_gives-append}
 use Rattle.rw_interleave.specs.Gathering.{gathered, gather_next, gather_gives, symbol_at}
 use Rattle.rw_interleave.specs.Interleave.{swapped}
-use Rattle.rw_interleave.specs.Windows.{slot_in, slots_in}
+use Rattle.rw_interleave.specs.Windows.{IsWindow, slot_in, slots_in}
 use Rattle.rw_interleave.proofs.Gathers.{gather_short, gather_full}
 use Rattle.rw_interleave.proofs.Ranges.{map_range}
 
@@ -34,16 +33,16 @@ slots_first : (b : List ℕ) (f n : ℕ) → slots_in b f (suc n) ≡ slot_in b 
 unfolding slots_in
 slots_first b f n = refl
 
--- slots with the same bytes
-pub slots_same : (b b' : List ℕ) (f g n : ℕ) → ((k : ℕ) → k < 24 * n → slice_index b (24 * f + k) ≡ slice_index b' (24 * g + k)) → slots_in b f n ≡ slots_in b' g n
+-- slots with the same symbols
+pub slots_same : (b b' : List ℕ) (f g n : ℕ) → ((k : ℕ) → k < 24 * n → slice_index b (24 * f + k) % 64 ≡ slice_index b' (24 * g + k) % 64) → slots_in b f n ≡ slots_in b' g n
 unfolding slots_in slot_in
 slots_same b b' f g zero same = refl
 slots_same b b' f g (suc n) same =
-    let here : slot_in b f ≡ slot_in b' g = map_range (λ i. slice_index b (24 * f + i) % 64) (λ i. slice_index b' (24 * g + i) % 64) 0 24 (λ i from to. ap (λ x. x % 64) (same i (omega arith))) in
+    let here : slot_in b f ≡ slot_in b' g = map_range (λ i. slice_index b (24 * f + i) % 64) (λ i. slice_index b' (24 * g + i) % 64) 0 24 (λ i from to. same i (omega arith)) in
     let rest : slots_in b (f + 1) n ≡ slots_in b' (g + 1) n = slots_same b b' (f + 1) (g + 1) n (λ k lt.
     let left : 24 * (f + 1) + k ≡ 24 * f + (24 + k) = omega arith in
     let right : 24 * g + (24 + k) ≡ 24 * (g + 1) + k = omega arith in
-    ap (slice_index b) left ∙ same (24 + k) (omega arith) ∙ ap (slice_index b') right) in
+    ap (λ n. slice_index b n % 64) left ∙ same (24 + k) (omega arith) ∙ ap (λ n. slice_index b' n % 64) right) in
     ap₂ (λ (x : List ℕ) (l : List (List ℕ)). x ∷ l) here rest
 
 -- ---- A step.
@@ -128,16 +127,15 @@ words_full b count j words words' word few ge done is add =
     add ∙ ap₂ (λ (l : List (List ℕ)) (w : List ℕ). l ++ w ∷ []) done is
     ∙ ap (λ (o : Option (List ℕ)). run_gives gather_next gather_gives (start b count) (slots_in b 7 j) ++ give o []) (sym (step_full b count j ge).1) ∙ sym (given_more b count j few)
 
--- ---- The last word is written over where it stands.
-
-pub last_written : {X : Type 0} (xs items cells : List X) (first last : X) (n i : ℕ) → items ≡ xs ++ first ∷ [] → cells ≡ items → n ≡ length items → i + 1 ≡ n
-    → refill n items (set cells i last) ≡ xs ++ last ∷ []
-last_written xs items cells first last n i is same size place =
-    let long : length items ≡ length xs + 1 = ap length is ∙ length-append xs (first ∷ []) in
-    let at : i ≡ length xs = omega (arith, long, size, place) in
-    let written : set cells i last ≡ xs ++ last ∷ [] = ap₂ (λ l k. set l k last) (same ∙ is) at ∙ set-append_seam xs first [] last in
-    let whole : length (set cells i last) ≡ n = length-set cells i last ∙ ap length same ∙ sym size in
-    take-append-le n (set cells i last) _ (omega (arith, whole)) ∙ take_all n (set cells i last) (omega (arith, whole)) ∙ written
+-- once seven slots have come, four words come with a block
+pub four_words : (b : List ℕ) (one two three four : List ℕ) → one ≡ gathered (slots_in b 0 8) → two ≡ gathered (slots_in b 1 8) → three ≡ gathered (slots_in b 2 8) → four ≡ gathered (slots_in b 3 8)
+    → one ∷ two ∷ three ∷ four ∷ [] ≡ run_gives gather_next gather_gives (start b 7) (slots_in b 7 4)
+four_words b one two three four first second third fourth =
+    let none : [] ≡ run_gives gather_next gather_gives (start b 7) (slots_in b 7 0) = sym (ap (λ l. run_gives gather_next gather_gives (start b 7) l) (none_in b 7)) in
+    let one_there = words_full b 7 0 [] (one ∷ []) one (omega arith) (omega arith) none first refl in
+    let two_there = words_full b 7 1 (one ∷ []) (one ∷ two ∷ []) two (omega arith) (omega arith) one_there second refl in
+    let three_there = words_full b 7 2 (one ∷ two ∷ []) (one ∷ two ∷ three ∷ []) three (omega arith) (omega arith) two_there third refl in
+    words_full b 7 3 (one ∷ two ∷ three ∷ []) (one ∷ two ∷ three ∷ four ∷ []) four (omega arith) (omega arith) three_there fourth refl
 
 -- ---- A word.
 
@@ -151,6 +149,13 @@ pub symbol_is : (b : List ℕ) (j i p x : ℕ) → swapped i ≡ p → p < 24 �
 symbol_is b j i p x at lt place =
     let there : x ≡ 24 * (j + p % 8) + p = omega (arith, place) in
     ap (λ k. slice_index b k % 64) there ∙ sym (symbol_in b j p lt) ∙ ap (symbol_at (slots_in b j 8)) (sym at)
+
+pub symbol_at_place : (b : List ℕ) (j i p x : ℕ) → ((n : ℕ) → n < 264 → slice_index b n < 64) → swapped i ≡ p → p < 24 → 24 * j + (24 * (p % 8) + p) ≡ x → x < 264
+    → slice_index b x ≡ symbol_at (slots_in b j 8) (swapped i)
+symbol_at_place b j i p x small at lt place within =
+    let below = small x within in
+    let low : slice_index b x ≡ slice_index b x % 64 = omega (arith, below) in
+    low ∙ symbol_is b j i p x at lt place
 
 -- ---- Zeros.
 
@@ -197,14 +202,16 @@ or_zeros a b none =
 -- The slots before it stay, and the block follows them.
 pub record IsPut (b p block : List ℕ) : Type 0 where
   pub before : (n : ℕ) → n < 168 → slice_index p n ≡ slice_index b n
-  pub after : (n : ℕ) → n < 96 → slice_index p (168 + n) ≡ slice_index block n
+  pub after : (n : ℕ) → n < 96 → slice_index p (168 + n) ≡ slice_index block n % 64
 
 start_same : (b p block : List ℕ) (count : ℕ) → count ≤ 7 → IsPut b p block → start b count ≡ start p count
 start_same b p block count few put =
-    slots_same b p (7 - count) (7 - count) count (λ k lt. sym (put.before (24 * (7 - count) + k) (omega arith)))
+    slots_same b p (7 - count) (7 - count) count (λ k lt. ap (λ x. x % 64) (sym (put.before (24 * (7 - count) + k) (omega arith))))
 
 block_same : (b p block : List ℕ) → IsPut b p block → slots_in block 0 4 ≡ slots_in p 7 4
-block_same b p block put = slots_same block p 0 7 4 (λ k lt. ap (slice_index block) (zero-add k) ∙ sym (put.after k (omega arith)))
+block_same b p block put = slots_same block p 0 7 4 (λ k lt.
+    let put_there = put.after k (omega arith) in
+    ap (λ n. slice_index block n % 64) (zero-add k) ∙ omega (arith, put_there))
 
 pub block_state : (b p m block : List ℕ) (count : ℕ) → count ≤ 7 → IsPut b p block → ((n : ℕ) → n < 168 → slice_index m n ≡ slice_index p (96 + n))
     → start m (min (count + 4) 7) ≡ run_state gather_next (start b count) (slots_in block 0 4)
@@ -212,7 +219,7 @@ block_state b p m block count few put moved =
     let now = min (count + 4) 7 in
     let back : start m now ≡ slots_in p (7 + 4 - now) now = slots_same m p (7 - now) (7 + 4 - now) now (λ k lt.
     let there : 96 + (24 * (7 - now) + k) ≡ 24 * (7 + 4 - now) + k = omega arith in
-    moved (24 * (7 - now) + k) (omega arith) ∙ ap (slice_index p) there) in
+    ap (λ x. x % 64) (moved (24 * (7 - now) + k) (omega arith) ∙ ap (slice_index p) there)) in
     back ∙ sym (state_after p count 4 few) ∙ sym (ap₂ (run_state gather_next) (start_same b p block count few put) (block_same b p block put))
 
 pub block_gives : (b p block : List ℕ) (count : ℕ) (words : List (List ℕ)) → count ≤ 7 → IsPut b p block → words ≡ run_gives gather_next gather_gives (start p count) (slots_in p 7 4)
@@ -220,7 +227,35 @@ pub block_gives : (b p block : List ℕ) (count : ℕ) (words : List (List ℕ))
 block_gives b p block count words few put is =
     is ∙ sym (ap₂ (run_gives gather_next gather_gives) (start_same b p block count few put) (block_same b p block put))
 
+pub put_symbols : (b p block : List ℕ) → ((n : ℕ) → n < 168 → slice_index b n < 64) → IsPut b p block → (n : ℕ) → n < 264 → slice_index p n < 64
+put_symbols b p block small put n within =
+    elim (cases_lt n 168) [
+      | inl before ↦ let there = small n before in let same = put.before n before in omega (arith, there, same)
+      | inr after ↦
+          let there = put.after (n - 168) (omega arith) in
+          let at : slice_index p (168 + (n - 168)) ≡ slice_index p n = ap (slice_index p) (omega arith) in
+          omega (arith, there, at)
+    ]
+
+pub moved_symbols : (p m : List ℕ) → ((n : ℕ) → n < 264 → slice_index p n < 64) → ((n : ℕ) → n < 168 → slice_index m n ≡ slice_index p (96 + n))
+    → (n : ℕ) → n < 168 → slice_index m n < 64
+moved_symbols p m small moved n within = let there = small (96 + n) (omega arith) in let same = moved n within in omega (arith, there, same)
+
 -- ---- A slot that is put behind the slots before it, and the slots that are then moved up.
+
+pub slot_symbols : (b p m slot : List ℕ) → ((n : ℕ) → n < 168 → slice_index b n < 64) → IsWord slot → ((n : ℕ) → n < 168 → slice_index p n ≡ slice_index b n)
+    → ((n : ℕ) → n < 24 → slice_index p (168 + n) ≡ slice_index slot n) → ((n : ℕ) → n < 168 → slice_index m n ≡ slice_index p (24 + n))
+    → (n : ℕ) → n < 168 → slice_index m n < 64
+slot_symbols b p m slot small word before after moved n within =
+    let here = moved n within in
+    elim (cases_lt n 144) [
+      | inl old ↦ let there = small (24 + n) (omega arith) in let same = before (24 + n) (omega arith) in omega (arith, here, there, same)
+      | inr new ↦
+          let there = after (n - 144) (omega arith) in
+          let at : slice_index p (168 + (n - 144)) ≡ slice_index p (24 + n) = ap (slice_index p) (omega arith) in
+          let low : slice_index slot (n - 144) < 64 = All-get_or (λ s. s < 64) slot (n - 144) 0 (omega (arith, word.size)) word.symbols in
+          omega (arith, here, there, at, low)
+    ]
 
 -- a symbol that is put is itself its low six bits
 low_same : (p slot : List ℕ) (i : ℕ) → IsWord slot → i < 24 → slice_index p (168 + i) ≡ slice_index slot i → slice_index p (24 * 7 + i) % 64 ≡ slice_index slot i
@@ -243,10 +278,20 @@ pub slot_state : (b p m slot : List ℕ) (count : ℕ) → count ≤ 7 → IsWor
     → start m (min (count + 1) 7) ≡ gather_next (start b count) slot
 slot_state b p m slot count few word before after moved =
     let now = min (count + 1) 7 in
-    let old : start p count ≡ start b count = slots_same p b (7 - count) (7 - count) count (λ k lt. before (24 * (7 - count) + k) (omega arith)) in
+    let old : start p count ≡ start b count = slots_same p b (7 - count) (7 - count) count (λ k lt. ap (λ x. x % 64) (before (24 * (7 - count) + k) (omega arith))) in
     let back : start m now ≡ slots_in p (7 + 1 - now) now = slots_same m p (7 - now) (7 + 1 - now) now (λ k lt.
     let there : 24 + (24 * (7 - now) + k) ≡ 24 * (7 + 1 - now) + k = omega arith in
-    moved (24 * (7 - now) + k) (omega arith) ∙ ap (slice_index p) there) in
+    ap (λ x. x % 64) (moved (24 * (7 - now) + k) (omega arith) ∙ ap (slice_index p) there)) in
     let none : min (count + 0) 7 ≡ count = omega arith in
     let first : window_at p count 0 ≡ start p count = ap (λ m. slots_in p (7 - m) m) none in
     back ∙ sym (step_next p count 0) ∙ ap₂ gather_next (first ∙ old) (slot_same p slot word after)
+
+-- a window of zeros of which no slot has come
+pub fresh_window : IsWindow (replicate 264 0) 0 false
+fresh_window = record {
+  size = refl;
+  few = omega arith;
+  symbols = λ n lt. let none = get_or-replicate {A = ℕ} 264 n 0 0 (omega arith) in omega (arith, none);
+  full = λ yes. absurd (cc);
+  zeros = λ yes. absurd (cc);
+}

@@ -132,13 +132,15 @@ fn are_quiet(bytes: &[u8; ALL], count: usize) -> bool
     count == SPAN - 1 && are_idle(&bytes[..BEFORE])
 }
 
-// Puts a block behind the slots before it.
+// Puts the symbols of a block behind the slots before it.
 #[inline]
 fn put(bytes: &mut [u8; ALL], block: &[u8; BLOCK_BYTES])
     ensures before { (n : ℕ) → n < 168 → slice_index bytes.new n ≡ slice_index bytes.old n }
-    ensures block { (n : ℕ) → n < 96 → slice_index bytes.new (168 + n) ≡ slice_index block.now n }
+    ensures block { (n : ℕ) → n < 96 → slice_index bytes.new (168 + n) ≡ slice_index block.now n % 64 }
 {
-    bytes[BEFORE..].copy_from_slice(block);
+    for i in 0..BLOCK_BYTES {
+        bytes[BEFORE + i] = block[i] % 64;
+    }
 }
 
 // Moves the last seven slots to the front.
@@ -173,34 +175,79 @@ fn move_slot_up(bytes: &mut [u8; ALL])
 // The words that come with a block, where so many slots have come before it.
 #[inline]
 fn words_of(bytes: &[u8; ALL], count: usize) -> ArrayVec<Word, 4>
-    requires { count ≤ 7 }
+    requires count { count ≤ 7 }
+    requires symbols { (n : ℕ) → n < 264 → slice_index bytes.now n < 64 }
+    ensures { result.items ≡ run_gives gather_next gather_gives (slots_in bytes.now (7 - count) count)
+        (slots_in bytes.now 7 4) }
+{
+    if count == SPAN - 1 {
+        return ArrayVec::from([
+            word_at(bytes, 0),
+            word_at(bytes, 1),
+            word_at(bytes, 2),
+            word_at(bytes, 3),
+        ]);
+    }
+    first_words(bytes, count)
+}
+
+// The same at the start of a stream, where fewer words come.
+#[inline(never)]
+fn first_words(bytes: &[u8; ALL], count: usize) -> ArrayVec<Word, 4>
+    requires count { count ≤ 7 }
+    requires symbols { (n : ℕ) → n < 264 → slice_index bytes.now n < 64 }
     ensures { result.items ≡ run_gives gather_next gather_gives (slots_in bytes.now (7 - count) count)
         (slots_in bytes.now 7 4) }
 {
     let mut words = ArrayVec::new();
     for first in 0..4 {
         if count + first >= SPAN - 1 {
-            words.push(Word::default());
-            let last = words.len() - 1;
-            set_word(&mut words[last], bytes, first);
+            words.push(word_at(bytes, first));
         }
     }
     words
 }
 
-// Where the symbols of a word stand, from the first of its eight slots on: where a pack's are spread to.
-static PLACES: [u8; SYMBOLS] = [
-    0, 66, 125, 191, 100, 50, 150, 175, 8, 33, 58, 83, 108, 133, 158, 183, 16, 41, 25, 91, 116,
-    141, 166, 75,
-];
-
-// Makes a word that of eight slots from one on.
+// The word of eight slots from one on: a symbol stands where that of a pack is spread to.
 #[inline]
-fn set_word(word: &mut Word, bytes: &[u8; ALL], first: usize)
-    requires { first < 4 }
-    ensures { word.new ≡ gathered (slots_in bytes.now first 8) }
+fn word_at(bytes: &[u8; ALL], first: usize) -> Word
+    requires first { first < 4 }
+    requires symbols { (n : ℕ) → n < 264 → slice_index bytes.now n < 64 }
+    ensures { result ≡ gathered (slots_in bytes.now first 8) }
 {
-    word.set_from(bytes, SYMBOLS * first, &PLACES);
+    let at = SYMBOLS * first;
+    Word::of_eights(
+        [
+            bytes[at],
+            bytes[at + 66],
+            bytes[at + 125],
+            bytes[at + 191],
+            bytes[at + 100],
+            bytes[at + 50],
+            bytes[at + 150],
+            bytes[at + 175],
+        ],
+        [
+            bytes[at + 8],
+            bytes[at + 33],
+            bytes[at + 58],
+            bytes[at + 83],
+            bytes[at + 108],
+            bytes[at + 133],
+            bytes[at + 158],
+            bytes[at + 183],
+        ],
+        [
+            bytes[at + 16],
+            bytes[at + 41],
+            bytes[at + 25],
+            bytes[at + 91],
+            bytes[at + 116],
+            bytes[at + 141],
+            bytes[at + 166],
+            bytes[at + 75],
+        ],
+    )
 }
 
 // Four words of zeros.

@@ -2,7 +2,7 @@ use Rattle.std.proofs.Common.{◌≡◌, ◌≤◌, ◌-◌, length}
 use Rattle.cdg_io.specs.Run.{run_gives}
 use Rattle.rw_interleave.specs.Gathering.{gather_next, gather_gives}
 use Rattle.rw_interleave.specs.Windows.{slots_in}
-use Rattle.rw_interleave.proofs.window.words_of.Given as goal
+use Rattle.rw_interleave.proofs.window.first_words.Given as goal
 
 abbrev pub invariant-loop-first : goal.invariant-loop-first
 invariant-loop-first l = record {
