@@ -22,16 +22,15 @@ fn see_player(player: &Player) {
     see_texts(texts);
 }
 
-fn see_texts(texts: &Then<SectorBlocks, LeadInTexts>) {
-    let Then { first, second } = texts;
-    let _sectors: &SectorBlocks = first;
+fn see_texts(texts: &SectorBlocks<LeadInTexts>) {
+    let SectorBlocks { blocks } = texts;
     let LeadInTexts {
         left,
         reader,
         good,
         bad,
         other,
-    } = second;
+    } = blocks;
     let _left: &u32 = left;
     let _reader: &TextReader = reader;
     let _good: &u32 = good;
@@ -39,10 +38,9 @@ fn see_texts(texts: &Then<SectorBlocks, LeadInTexts>) {
     let _other: &u32 = other;
 }
 
-fn see_checks(checks: &Then<SectorBlocks, Counting>) {
-    let Then { first, second } = checks;
-    let _sectors: &SectorBlocks = first;
-    let Counting { frames, words } = second;
+fn see_checks(checks: &SectorBlocks<Counting>) {
+    let SectorBlocks { blocks } = checks;
+    let Counting { frames, words } = blocks;
     see_frames(frames);
     see_counted_words(words);
 }
@@ -81,16 +79,14 @@ fn see_counts(counts: &WordCounts) {
     let _foreign: &u32 = foreign;
 }
 
-fn see_all_stages(stages: &Then<SectorBlocks, Then<BlockWords, Correction>>) {
-    let Then { first, second } = stages;
-    let _sectors: &SectorBlocks = first;
-    see_stages(second);
+fn see_all_stages(stages: &SectorBlocks<Then<BlockWords, Correction>>) {
+    let SectorBlocks { blocks } = stages;
+    see_stages(blocks);
 }
 
-fn see_all_views(views: &Then<SectorBlocks, Then<BlockWords, Drawing>>) {
-    let Then { first, second } = views;
-    let _sectors: &SectorBlocks = first;
-    see_views(second);
+fn see_all_views(views: &SectorBlocks<Then<BlockWords, Drawing>>) {
+    let SectorBlocks { blocks } = views;
+    see_views(blocks);
 }
 
 fn see_views(views: &Then<BlockWords, Drawing>) {

@@ -3,12 +3,13 @@ use Rattle.std.specs.Prelude.{◌≡◌, [], replicate}
 use Rattle.cdg_screen.specs.Picture.{SameStanding, blank, standing_of}
 use Rattle.raw_subcode.specs.declared.form.Form.TheVariants.{Raw}
 use Rattle.subcode_player.specs.Steps.{fresh_words}
+use Rattle.subcode_player.specs.Stages.{drawing_of, words_of}
 use Rattle.cdg_checkpoint.specs.declared.checkpointer.Checkpointer.{Checkpointer}
 
 -- nothing was read: no slot is kept, no word is bad, all that stands is zero, and there is no file
 pub record IsFresh (c : Checkpointer) : Type 0 where
-  pub words : c.tracking.words.first ≡ fresh_words Raw 0
-  pub bad : c.tracking.words.second.bad ≡ 0
-  pub stands : SameStanding (standing_of c.tracking.words.second.picture) blank
+  pub words : words_of c.tracking.words ≡ fresh_words Raw 0
+  pub bad : (drawing_of c.tracking.words).bad ≡ 0
+  pub stands : SameStanding (standing_of (drawing_of c.tracking.words).picture) blank
   pub slots : c.tracking.tail ≡ replicate 168 0
   pub file : c.file ≡ []

@@ -2,6 +2,7 @@
 use Rattle.std.specs.Prelude.{◌≡◌, ℕ, ◌-◌, List, min}
 use Rattle.cdg_screen.specs.Picture.{SameStanding, standing_of}
 use Rattle.checkpoint_files.specs.Checkpoint.{Checkpoint, file_of}
+use Rattle.subcode_player.specs.Stages.{drawing_of}
 use Rattle.cdg_checkpoint.specs.declared.tracking.Tracking.{Tracking}
 
 -- the file of the checkpoint of this state, after so many blocks of which the first are the lead-in
@@ -10,7 +11,7 @@ pub record IsKept (blocks lead_in : ℕ) (s : Tracking) (file : List ℕ) : Type
   pub to_come_is : checkpoint.to_come ≡ lead_in - blocks
   pub lead_in_is : checkpoint.lead_in ≡ min blocks lead_in
   pub program_is : checkpoint.program ≡ blocks - lead_in
-  pub bad_is : checkpoint.bad ≡ s.words.second.bad
+  pub bad_is : checkpoint.bad ≡ (drawing_of s.words).bad
   pub slots_are : checkpoint.slots ≡ s.tail
-  pub stands : SameStanding checkpoint.standing (standing_of s.words.second.picture)
+  pub stands : SameStanding checkpoint.standing (standing_of (drawing_of s.words).picture)
   pub file_is : file ≡ file_of checkpoint

@@ -10,6 +10,7 @@ use Rattle.cdg_io.specs.declared.pumping.PumpStop.TheVariants.{WriteFault, Torn}
 use Rattle.cdg_io.specs.declared.stage.Then.{Then}
 use Rattle.raw_subcode.specs.Channels.{symbols_of}
 use Rattle.subcode_player.specs.Steps.{words_next, words_give}
+use Rattle.subcode_player.specs.Stages.{words_of}
 use Rattle.subcode_player.specs.Drawn.{drawing_next}
 use Rattle.subcode_player.specs.declared.block_words.BlockWords.{BlockWords}
 use Rattle.subcode_player.specs.declared.drawing.Drawing.{Drawing}
@@ -29,7 +30,7 @@ tail_next to_come tail block = if to_come == 0 then drop 96 (tail ++ symbols_of 
 abbrev pub track_next : Tracking → List ℕ → Tracking
 track_next s block = record {
   words = words_drawn s.words block;
-  tail = tail_next s.words.first.lead_in s.tail block;
+  tail = tail_next (words_of s.words).lead_in s.tail block;
 }
 
 -- These bytes were taken, and where they are whole blocks to the end, the stage is in the last state of its run over

@@ -12,6 +12,7 @@ ghost use Rattle.rw_interleave.specs.Gathering.{gather_next};
 ghost use Rattle.cdg_screen.specs.Picture.{SameStanding, standing_of};
 ghost use Rattle.checkpoint_files.specs.Table.{IsCheckpointFile};
 ghost use Rattle.checkpoint_files.specs.Checkpoint.{checkpoint_in, standing_in};
+ghost use Rattle.subcode_player.specs.Stages.{drawing_of, words_of};
 ghost use Rattle.cdg_checkpoint.specs.Resumed.{GoesOn, IsAcceptedBy, IsGoneOnBy, IsResumedBy, Resumes, acceptance, EndsAsResumed, packs_until, reached, saved_slots, time_after};
 
 use crate::pictures::bring_back;
@@ -123,10 +124,13 @@ impl Checkpointer {
         ensures rest_told { EndsAsResumed result (T.ends rest.old) (T.ends rest.new) }
     {
         match self.go_on(at, rest) {
-            Ok(resumed) => match self.tracking.words.second.picture.write_ppm(out) {
-                Ok(()) => Ok(resumed),
-                Err(Failed) => Err(ResumeStop::WriteFault),
-            },
+            Ok(resumed) => {
+                let drawing = &self.tracking.words.second;
+                match drawing.picture.write_ppm(out) {
+                    Ok(()) => Ok(resumed),
+                    Err(Failed) => Err(ResumeStop::WriteFault),
+                }
+            }
             Err(stop) => Err(stop),
         }
     }
@@ -188,7 +192,7 @@ impl Checkpointer {
         requires not_later { (checkpoint_in self.old.file).program ≤ at }
         ensures goes_on { (taken : List ℕ)
             × GoesOn (time_after (checkpoint_in self.old.file) at) (change S.left rest.old rest.new)
-            (standing_of self.new.tracking.words.second.picture) result taken }
+            (standing_of (drawing_of self.new.tracking.words).picture) result taken }
         ensures answer { IfSome (S.left rest.old)
             (λ all. IsGoneOnBy result (checkpoint_in self.old.file) at (length all)) }
         ensures file { self.new.file ≡ self.old.file }
@@ -218,15 +222,16 @@ impl Checkpointer {
         requires { counts.now.program + pumped.units < 2 ^ 32 }
         ensures accepted { IsOk (acceptance result) }
         ensures answer { result ≡ reached (counts.now.program + (pumped.units - counts.now.to_come)) at
-            self.now.tracking.words.second.bad }
+            (drawing_of self.now.tracking.words).bad }
     {
         let blocks = counts.program + pumped.units.saturating_sub(counts.to_come);
         if blocks < at {
             return Err(ResumeStop::PastEnd { blocks });
         }
+        let drawing = &self.tracking.words.second;
         Ok(Resumed {
             blocks,
-            bad: self.tracking.words.second.bad,
+            bad: drawing.bad,
         })
     }
 
@@ -237,14 +242,14 @@ impl Checkpointer {
         requires to_come { counts.now.to_come ≡ (checkpoint_in self.old.file).to_come }
         requires program { counts.now.program ≡ (checkpoint_in self.old.file).program }
         requires not_later { counts.now.program ≤ at }
-        ensures words { self.new.tracking.words.first ≡ record {
+        ensures words { words_of self.new.tracking.words ≡ record {
           form = Form.Raw;
           lead_in = counts.now.to_come;
           gather = run_state gather_next [] (saved_slots (checkpoint_in self.old.file));
         } }
-        ensures left { self.new.tracking.words.second.left ≡ packs_until (checkpoint_in self.old.file) at }
-        ensures bad { self.new.tracking.words.second.bad ≡ counts.now.bad }
-        ensures stands { SameStanding (standing_of self.new.tracking.words.second.picture)
+        ensures left { (drawing_of self.new.tracking.words).left ≡ packs_until (checkpoint_in self.old.file) at }
+        ensures bad { (drawing_of self.new.tracking.words).bad ≡ counts.now.bad }
+        ensures stands { SameStanding (standing_of (drawing_of self.new.tracking.words).picture)
             (standing_in self.old.file) }
         ensures file { self.new.file ≡ self.old.file }
     {
@@ -262,11 +267,12 @@ impl Checkpointer {
     fn gather_slots(&mut self, counts: &Counts)
         requires file { IsCheckpointFile self.old.file }
         requires program { counts.now.program ≡ (checkpoint_in self.old.file).program }
-        ensures gather { self.new.tracking.words.first.gather
+        ensures gather { (words_of self.new.tracking.words).gather
             ≡ run_state gather_next [] (saved_slots (checkpoint_in self.old.file)) }
         ensures file { self.new.file ≡ self.old.file }
     {
-        let gather = &mut self.tracking.words.first.gather;
+        let words = &mut self.tracking.words.first;
+        let gather = &mut words.gather;
         gather.reset();
         let kept = SLOTS.min(4 * counts.program.min(2));
         for k in 0..kept {

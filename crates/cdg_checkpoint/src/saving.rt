@@ -8,6 +8,7 @@ ghost use Rattle.raw_subcode.specs.Sizes.{block_bytes, most_units};
 ghost use Rattle.rw_interleave.specs.Interleave.{whole_packs};
 ghost use Rattle.cdg_screen.specs.Picture.{SameStanding, blank, standing_of};
 ghost use Rattle.subcode_player.specs.Steps.{fresh_words};
+ghost use Rattle.subcode_player.specs.Stages.{drawing_of, words_of};
 ghost use Rattle.cdg_checkpoint.specs.Saved.{EndsAsSaved, Saves};
 ghost use Rattle.cdg_checkpoint.specs.Keeping.{IsKept};
 
@@ -68,10 +69,10 @@ impl Checkpointer {
 
     // Brings back the state before a stream, all of whose packs are drawn.
     fn begin(&mut self, lead_in: u32)
-        ensures words { self.new.tracking.words.first ≡ fresh_words Form.Raw lead_in }
-        ensures left { self.new.tracking.words.second.left ≡ whole_packs most_units }
-        ensures bad { self.new.tracking.words.second.bad ≡ 0 }
-        ensures blank { SameStanding (standing_of self.new.tracking.words.second.picture) blank }
+        ensures words { words_of self.new.tracking.words ≡ fresh_words Form.Raw lead_in }
+        ensures left { (drawing_of self.new.tracking.words).left ≡ whole_packs most_units }
+        ensures bad { (drawing_of self.new.tracking.words).bad ≡ 0 }
+        ensures blank { SameStanding (standing_of (drawing_of self.new.tracking.words).picture) blank }
         ensures tail { self.new.tracking.tail ≡ replicate 168 0 }
     {
         let words = &mut self.tracking.words.first;
@@ -90,14 +91,14 @@ impl Checkpointer {
         ensures { IsKept pumped.units lead_in self.old.tracking self.new.file }
     {
         let read = pumped.units.min(lead_in);
+        let tracking = &self.tracking;
+        let drawing = &tracking.words.second;
         let counts = Counts {
             to_come: lead_in - read,
             lead_in: read,
             program: pumped.units - read,
-            bad: self.tracking.words.second.bad,
+            bad: drawing.bad,
         };
-        let tracking = &self.tracking;
-        let picture = &tracking.words.second.picture;
-        compose(&mut self.file, &counts, &tracking.tail, picture);
+        compose(&mut self.file, &counts, &tracking.tail, &drawing.picture);
     }
 }

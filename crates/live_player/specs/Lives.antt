@@ -16,13 +16,14 @@ use Rattle.cdg_screen.specs.Texts.{colour_bytes}
 use Rattle.subcode_player.specs.Screen.{AreShown}
 use Rattle.subcode_player.specs.Steps.{fresh_words, words_next, words_give}
 use Rattle.subcode_player.specs.Drawn.{drawing_next}
+use Rattle.subcode_player.specs.Stages.{drawing_of, words_of}
 use Rattle.subcode_player.specs.declared.block_words.BlockWords.{BlockWords}
 use Rattle.subcode_player.specs.declared.drawing.Drawing.{Drawing}
 use Rattle.live_player.specs.declared.live.LivePlayer.{LivePlayer}
 
 -- what stands on a player's picture
 abbrev pub standing_on : LivePlayer → Standing
-standing_on player = standing_of player.stages.second.picture
+standing_on player = standing_of (drawing_of player.stages).picture
 
 -- the stages after a block
 abbrev pub live_next : Then BlockWords Drawing → List ℕ → Then BlockWords Drawing
@@ -33,10 +34,10 @@ live_next s block = record {
 
 -- the stages before the first block of a stream
 pub record IsLiveStart (form : Form) (lead_in : ℕ) (s : Then BlockWords Drawing) : Type 0 where
-  pub words : s.first ≡ fresh_words form lead_in
-  pub left : s.second.left ≡ whole_packs last_block
-  pub bad : s.second.bad ≡ 0
-  pub blank : SameStanding (standing_of s.second.picture) blank
+  pub words : words_of s ≡ fresh_words form lead_in
+  pub left : (drawing_of s).left ≡ whole_packs last_block
+  pub bad : (drawing_of s).bad ≡ 0
+  pub blank : SameStanding (standing_of (drawing_of s).picture) blank
 
 -- the player began with a stream of this form and was fed these blocks since
 pub record HasPlayed (form : Form) (lead_in : ℕ) (blocks : List (List ℕ)) (player : LivePlayer) : Type 0 where

@@ -5,6 +5,7 @@ ghost use Rattle.disc_time.specs.Counts.{last_block};
 ghost use Rattle.cdg_screen.specs.Picture.{screen_pixel};
 ghost use Rattle.raw_subcode.specs.declared.form.Form.{Form};
 ghost use Rattle.subcode_player.specs.Steps.{words_give};
+ghost use Rattle.subcode_player.specs.Stages.{drawing_of, words_of};
 ghost use Rattle.live_player.specs.Lives.{live_next, standing_on, stream_words, picture_byte, HasDrawn, HasPlayed, IsLiveView, IsLiveViewAt};
 
 use crate::looking;
@@ -85,11 +86,13 @@ impl LivePlayer {
 
     fn step(&mut self, block: &[u8; BLOCK_BYTES]) -> Option<BlockOfWords>
         ensures next { self.new.stages ≡ live_next self.old.stages block.now }
-        ensures gives { result ≡ words_give self.old.stages.first block.now }
+        ensures gives { result ≡ words_give (words_of self.old.stages) block.now }
     {
-        let words = self.stages.first.feed(block);
+        let block_words = &mut self.stages.first;
+        let words = block_words.feed(block);
         if let Some(words) = &words {
-            self.stages.second.feed(words);
+            let drawing = &mut self.stages.second;
+            drawing.feed(words);
         }
         words
     }
@@ -100,7 +103,8 @@ impl LivePlayer {
         ensures { (packs : List (List ℕ)) → HasDrawn packs self.old
             → HasDrawn (packs ++ pack.now ∷ []) self.new }
     {
-        looking::draw(&mut self.stages.second.picture, pack);
+        let drawing = &mut self.stages.second;
+        looking::draw(&mut drawing.picture, pack);
     }
 
     /// A law: what stands is what the blocks since the start show.
@@ -114,6 +118,14 @@ impl LivePlayer {
             → IsLiveViewAt Form.Raw lead_in (length blocks - lead_in) blocks (standing_on self.now) }
     {}
 
+    // The picture that is drawn.
+    fn picture(&self) -> &Picture
+        ensures { result.now ≡ (drawing_of self.now.stages).picture }
+    {
+        let drawing = &self.stages.second;
+        &drawing.picture
+    }
+
     /// The pixel of the screen at a place: `x` below 300 from the left, `y` below 216 from the top.
     pub fn pixel(&self, x: u32, y: u32) -> u8
         requires width { x < 300 }
@@ -121,7 +133,7 @@ impl LivePlayer {
         ensures pixel { result ≡ screen_pixel (standing_on self.now) x y }
         ensures range { result < 16 }
     {
-        looking::pixel(&self.stages.second.picture, x, y)
+        looking::pixel(self.picture(), x, y)
     }
 
     /// Colour `k` of the table, as 0xRGB. `k` is below 16.
@@ -130,7 +142,7 @@ impl LivePlayer {
         ensures colour { result ≡ (standing_on self.now).colour k }
         ensures range { result < 4096 }
     {
-        looking::colour(&self.stages.second.picture, k)
+        looking::colour(self.picture(), k)
     }
 
     /// Writes the numbers of the colours of the screen's pixels, row by row: that at (x, y) is number
@@ -139,21 +151,21 @@ impl LivePlayer {
         ensures { (n : ℕ) → n < 64800
             → slice_index pixels.new n ≡ screen_pixel (standing_on self.now) (n % 300) (n / 300) }
     {
-        looking::screen(&self.stages.second.picture, pixels);
+        looking::screen(self.picture(), pixels);
     }
 
     /// Writes the colours of the table, each as 0xRGB.
     pub fn colours(&self, table: &mut [u16; 16])
         ensures { (k : ℕ) → k < 16 → slice_index table.new k ≡ (standing_on self.now).colour k }
     {
-        looking::colours(&self.stages.second.picture, table);
+        looking::colours(self.picture(), table);
     }
 
     /// Writes the levels of the colours.
     pub fn levels(&self, levels: &mut [u8; 16])
         ensures { (k : ℕ) → k < 16 → slice_index levels.new k ≡ (standing_on self.now).level k }
     {
-        looking::levels(&self.stages.second.picture, levels);
+        looking::levels(self.picture(), levels);
     }
 
     /// Writes red, green and blue of the screen's pixels, row by row: those of (x, y) begin at
@@ -162,7 +174,7 @@ impl LivePlayer {
         ensures { (n : ℕ) → n < 194400
             → slice_index bytes.new n ≡ picture_byte (standing_on self.now) n }
     {
-        looking::bytes(&self.stages.second.picture, bytes);
+        looking::bytes(self.picture(), bytes);
     }
 
     /// The number of the border's colour.
@@ -170,7 +182,7 @@ impl LivePlayer {
         ensures border { result ≡ (standing_on self.now).border }
         ensures range { result < 16 }
     {
-        looking::border(&self.stages.second.picture)
+        looking::border(self.picture())
     }
 
     /// How many pixels further right and further down in the memory the screen begins.
@@ -179,6 +191,6 @@ impl LivePlayer {
         ensures down { result.1 ≡ (standing_on self.now).v }
         ensures ranges { (result.0 ≤ 5) × (result.1 ≤ 11) }
     {
-        looking::offsets(&self.stages.second.picture)
+        looking::offsets(self.picture())
     }
 }

@@ -10,7 +10,7 @@ use Rattle.picture_changes.specs.Schedule.{start_of, IsInTime, IsLate, free_pack
 use Rattle.picture_changes.specs.PlannedChange.{planned_change}
 use Rattle.picture_changes.specs.Shown.{AreTimesInOrder, AreColoursInRange}
 use Rattle.picture_changes.specs.Brings.{CannotBeReady, IsChange, IsNeed}
-use Rattle.pack_schedule.specs.Survey.{nothing_planned, IsPlanned, ArePlanned, IsStop, IsSurvey, IsWithin}
+use Rattle.pack_schedule.specs.Survey.{nothing_planned, IsPlanned, ArePlanned, IsPastEnd, IsStop, IsSurvey, IsWithin}
 use Rattle.pack_schedule.specs.declared.planned.Planned.{Planned}
 use Rattle.pack_schedule.specs.declared.planned.Stop.{Stop}
 use Rattle.pack_schedule.specs.declared.planned.Stop.TheVariants.{Late}
@@ -85,9 +85,12 @@ pub late_told : NeedsAreFewest → (script : List Drawing) (blocks : ℕ) (stop 
     → (picture need free : ℕ) → stop ≡ Late picture need free → CannotBeReady script picture need free
 late_told needs script blocks stop order ranges small is picture need free late = needs.late script picture need free order ranges small (subst (IsStop script blocks) late is).1
 
--- all pictures are held until the last one at most
-pub is_within : (script : List Drawing) (blocks last : ℕ) → AreTimesInOrder script → (0 < pictures script → last ≡ hold_time script (pictures script - 1)) → last ≤ blocks → IsWithin script blocks
-is_within script blocks last order last_is le k lt = omega (arith, hold_order script order k (pictures script - 1) (omega (arith, lt)) (omega (arith, lt)), last_is (omega (arith, lt)), le)
+-- where the last picture is not held past the end, none is
+pub is_within : (script : List Drawing) (blocks : ℕ) → AreTimesInOrder script → ¬ IsPastEnd script blocks → IsWithin script blocks
+is_within script blocks order end k lt = elim (cases_lt blocks (hold_time script (pictures script - 1))) [
+  | inl past ↦ absurd (end (omega arith, past))
+  | inr le ↦ omega (arith, hold_order script order k (pictures script - 1) (omega (arith, lt)) (omega (arith, lt)), le)
+]
 
 pub not_in_time : (script : List Drawing) (k start need : ℕ) → start ≡ start_of script k → nat_le (start + need + 7) (4 * ready_time script k) ≡ false → IsInTime script k need → ⊥
 not_in_time script k start need is test h = elim (leb_tells (start + need + 7) (4 * ready_time script k)) [ inl less ↦ absurd (cc) | inr more ↦ omega (arith, more.1, is, h) ]

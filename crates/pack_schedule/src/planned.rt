@@ -15,8 +15,6 @@ pub struct Planned {
 /// Why a script has no schedule.
 #[derive(Clone, Copy, PartialEq, Eq, Debug)]
 pub enum Stop {
-    /// The last picture is held for longer than these blocks.
-    PastEnd { blocks: u32 },
     /// The first picture that cannot be ready: it needs so many packs, and so many are free for it.
     Late { picture: u32, need: u32, free: u32 },
     /// There was no memory.

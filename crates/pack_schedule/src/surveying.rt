@@ -20,21 +20,22 @@ use picture_changes::{
 use picture_script::{Canvas, Script};
 use std::alloc::Global;
 
-/// Plans the change of each picture, for a program of so many blocks, which are below 450,000.
+/// Plans the change of each picture, for a program of so many blocks, which are below 450,000 and last until the last
+/// picture's hold time.
 ///
 /// A picture is in time where the packs of its change are whole by its ready time. They are sent from the first pack on
 /// that is not whole at the hold time of the picture before.
 ///
 /// # Errors
 ///
-/// `PastEnd` where the last picture is held for longer than the blocks. Otherwise `Late` at the first picture that is
-/// not in time, with the packs that it needs and those that are free for it. `NoMemory` where there is no memory.
+/// `Late` at the first picture that is not in time, with the packs that it needs and those that are free for it.
+/// `NoMemory` where there is no memory.
 pub fn survey(alloc: Global, script: &Script, blocks: u32) -> Result<Survey, Stop>
-    requires { blocks < time_count }
+    requires blocks { blocks < time_count }
+    requires end { ¬ IsPastEnd script.now blocks }
     ensures within { IfOk result (λ _. IsWithin script.now blocks) }
     ensures planned { IfOk result (IsSurvey script.now) }
     ensures err { IfErr result (IsStop script.now blocks) }
-    ensures past_end { IsPastEnd script.now blocks → result ≡ Err (Stop.PastEnd blocks) }
 
     // What a picture needs is the fewest instructions that bring it, of whatever form without scrolls; and a late
     // picture cannot be ready.
@@ -45,9 +46,6 @@ pub fn survey(alloc: Global, script: &Script, blocks: u32) -> Result<Survey, Sto
 {
     needs_are_fewest();
     let pictures = script.pictures();
-    if last_hold(script) > blocks {
-        return Err(Stop::PastEnd { blocks });
-    }
     let mut before = Canvas::start(alloc)?;
     let mut now = Canvas::start(alloc)?;
     let mut weights = [NOT_WEIGHED; WINDOW_TILES];
@@ -66,19 +64,6 @@ pub fn survey(alloc: Global, script: &Script, blocks: u32) -> Result<Survey, Sto
         before.draw_until(script, k);
     }
     Ok(Survey { planned })
-}
-
-// Until when the last picture is held, or 0 where there is none.
-fn last_hold(script: &Script) -> u32
-    ensures none { pictures script.now ≡ 0 → result ≡ 0 }
-    ensures last { 0 < pictures script.now → result ≡ hold_time script.now (pictures script.now - 1) }
-{
-    let pictures = script.pictures();
-    if pictures == 0 {
-        0
-    } else {
-        script.hold(pictures - 1)
-    }
 }
 
 // How many packs are whole after so many blocks.

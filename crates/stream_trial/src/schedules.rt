@@ -4,7 +4,7 @@ ghost use Rattle.cue_sheet.specs.CueSheet.{CueSheet};
 ghost use Rattle.toc_model.specs.Places.{program_blocks};
 ghost use Rattle.picture_script.specs.Script.{picture_pixel};
 ghost use Rattle.picture_changes.specs.Schedule.{free_packs};
-ghost use Rattle.pack_schedule.specs.Survey.{IsStop};
+ghost use Rattle.pack_schedule.specs.Survey.{IsPastEnd, IsStop};
 ghost use Rattle.pack_schedule.specs.declared.planned.Stop.{Stop};
 ghost use Rattle.subcode_author.specs.AuthorAnswer.{AreReady, HasLayout, HasRoom, IsAccepted, IsAuthorStop};
 ghost use Rattle.subcode_author.specs.declared.stops.AuthorStop.{AuthorStop};
@@ -16,11 +16,13 @@ use picture_changes::{needs_are_fewest, planned_changes_are_changes};
 use subcode_author::AuthorStop;
 
 /// A law: each picture of a generated script is ready in time, since at least 3,120 packs are free for it, so a
-/// survey refuses none in a program that lasts until the last one's hold time.
+/// survey refuses none in a program that lasts until the last one's hold time, and that program holds them all.
 pub fn generated_scripts_are_ready()
     ensures pixels { (seed count k x y : ℕ) → picture_pixel (generated_drawings seed count) k x y < 16 }
     ensures free { (seed count k : ℕ) → k < count → 3120 ≤ free_packs (generated_drawings seed count) k }
     ensures ready { (seed count : ℕ) → AreReady (generated_drawings seed count) }
+    ensures end { (seed count blocks : ℕ) → 800 * count + 20 ≤ blocks
+        → ¬ IsPastEnd (generated_drawings seed count) blocks }
     ensures survey { (seed count blocks : ℕ) (stop : Stop) → 800 * count + 20 ≤ blocks
         → IsStop (generated_drawings seed count) blocks stop → stop ≡ Stop.NoMemory }
 {

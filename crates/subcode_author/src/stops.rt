@@ -63,7 +63,6 @@ impl From<Stop> for AuthorStop {
 
     fn from(stop: Stop) -> AuthorStop {
         match stop {
-            Stop::PastEnd { blocks } => AuthorStop::PastEnd { blocks },
             Stop::Late {
                 picture,
                 need,

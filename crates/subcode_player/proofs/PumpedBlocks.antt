@@ -1,17 +1,15 @@
 -- A pump at work on units, whose stage is at work on their blocks.
-use Rattle.std.proofs.Common.{◌≡◌, ◌+◌, ℕ, List, [], ◌∷◌, length, map, drop, refl, sym, ap, ap₂, ◌∙◌, subst, arith, Some, Result}
+use Rattle.std.proofs.Common.{◌≡◌, ◌+◌, ℕ, List, [], ◌∷◌, length, map, drop, refl, sym, ap, ap₂, ◌∙◌, subst, arith, Result}
 use Rattle.std.specs.declared.option.Option.{Option}
 use Rattle.std.specs.List.{concat}
 use Rattle.std.specs.Io.KnownBytes.{Appends}
 use Rattle.cdg_io.specs.Change.{Moved, from_to}
 use Rattle.cdg_io.specs.Moves.{AppendsBetween}
-use Rattle.cdg_io.specs.Run.{give, run_state, run_gives, then_gives}
+use Rattle.cdg_io.specs.Run.{give, run_state, run_gives}
 use Rattle.cdg_io.specs.Pump.{Cut, Machine, Pumps, given, units_of, whole}
 use Rattle.cdg_io.specs.declared.pumping.Pumped.{Pumped}
 use Rattle.cdg_io.specs.declared.pumping.PumpStop.{PumpStop}
-use Rattle.cdg_io.specs.declared.stage.Then.{Then}
 use Rattle.cdg_io.proofs.Frames.{machine_of, moving}
-use Rattle.cdg_io.proofs.Runs.{then_next}
 use Rattle.raw_subcode.specs.Channels.{unit_size, block_of}
 use Rattle.raw_subcode.specs.declared.form.Form.{Form}
 use Rattle.raw_subcode.specs.declared.form.Form.TheVariants.{Raw, Sector, Cooked}
@@ -93,19 +91,13 @@ plain_pumps form machine moved result taken size p =
     (record { step = λ s unit. ap (machine.next s) (sym (plain_block form size unit)); same = λ s unit. ap (machine.gives s) (sym (plain_block form size unit)) })
     96 moved result taken p)
 
-abbrev cut_next : SectorBlocks → List ℕ → SectorBlocks
-cut_next s x = s
-
-abbrev cut_give : SectorBlocks → List ℕ → Option (List ℕ)
-cut_give s x = Some (drop 2352 x)
-
 -- the blocks of sectors, fed to a stage
-abbrev on_sectors : {S : Type 0} → Machine S → Machine (Then SectorBlocks S)
-on_sectors machine = machine_of (then_next cut_next cut_give machine.next) (λ t x. then_gives machine.gives t.second (cut_give t.first x))
+abbrev on_sectors : {S : Type 0} → Machine S → Machine (SectorBlocks S)
+on_sectors machine = machine_of (λ t x. record { blocks = machine.next t.blocks (drop 2352 x) }) (λ t x. machine.gives t.blocks (drop 2352 x))
 
 -- bytes that are sectors
-pub sector_pumps : {S : Type 0} (form : Form) (machine : Machine S) (moved : Moved (Then SectorBlocks S)) (result : Result Pumped PumpStop) (taken : List ℕ) → form ≡ Sector
-    → Pumps (units_cut 2448) (on_sectors machine) moved result taken → Pumps (units_cut (unit_size form)) (on_form form machine) (within (λ t. t.second) moved) result taken
+pub sector_pumps : {S : Type 0} (form : Form) (machine : Machine S) (moved : Moved (SectorBlocks S)) (result : Result Pumped PumpStop) (taken : List ℕ) → form ≡ Sector
+    → Pumps (units_cut 2448) (on_sectors machine) moved result taken → Pumps (units_cut (unit_size form)) (on_form form machine) (within (λ t. t.blocks) moved) result taken
 sector_pumps form machine moved result taken is p =
-    subst (λ (f : Form). Pumps (units_cut (unit_size f)) (on_form f machine) (within (λ t. t.second) moved) result taken) (sym is)
-    (pumps_inner (on_sectors machine) (on_form Sector machine) (λ t. t.second) (record { step = λ t unit. refl; same = λ t unit. refl }) 2448 moved result taken p)
+    subst (λ (f : Form). Pumps (units_cut (unit_size f)) (on_form f machine) (within (λ t. t.blocks) moved) result taken) (sym is)
+    (pumps_inner (on_sectors machine) (on_form Sector machine) (λ t. t.blocks) (record { step = λ t unit. refl; same = λ t unit. refl }) 2448 moved result taken p)

@@ -9,6 +9,7 @@ use Rattle.raw_subcode.specs.declared.form.Form.TheVariants.{Raw, Sector, Cooked
 use Rattle.rw_interleave.specs.Stream.{word_count}
 use Rattle.q_channel.specs.ReadingOf.{reading_of}
 use Rattle.subcode_player.specs.Steps.{fresh_words, words_next, words_give}
+use Rattle.subcode_player.specs.Stages.{counts_of, words_of}
 use Rattle.subcode_player.specs.Check.{has_wrong, found_passes, is_idle, is_graphics, is_unknown, is_foreign, stream_lines, wrong_lines, pack_count_lines, frame_count_lines}
 use Rattle.subcode_player.specs.declared.counting.WordCounts.{WordCounts}
 use Rattle.subcode_player.specs.declared.counting.FrameCounts.{FrameCounts}
@@ -90,10 +91,10 @@ counting_gives s block = then_gives counts_give s.words.second (words_give s.wor
 -- the lines of counts after so many blocks
 unfoldable pub lines_of_counts : Form → ℕ → ℕ → Counting → List ℕ
 lines_of_counts form lead_in blocks s =
+    let counts : WordCounts = counts_of s.words in
     stream_lines (min lead_in blocks) (blocks - lead_in) (word_count form (blocks - lead_in))
-    ++ (wrong_lines s.words.second.clean s.words.second.one s.words.second.two s.words.second.bad
-    ++ (pack_count_lines s.words.second.idle s.words.second.graphics s.words.second.unknown
-    s.words.second.foreign
+    ++ (wrong_lines counts.clean counts.one counts.two counts.bad
+    ++ (pack_count_lines counts.idle counts.graphics counts.unknown counts.foreign
     ++ frame_count_lines s.frames.good s.frames.bad))
 
 -- whether the Q channel of its blocks is read
@@ -104,8 +105,8 @@ has_frames Cooked = false
 
 -- nothing is counted yet of a stream of this form, whose frames are read unless its packs are cooked
 pub record IsFresh (form : Form) (lead_in : ℕ) (s : Counting) : Type 0 where
-  pub words : s.words.first ≡ fresh_words form lead_in
-  pub counts : s.words.second ≡ record {
+  pub words : words_of s.words ≡ fresh_words form lead_in
+  pub counts : counts_of s.words ≡ record {
     clean = 0;
     one = 0;
     two = 0;

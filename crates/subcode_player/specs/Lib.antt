@@ -1,3 +1,4 @@
+pub mod Stages
 pub mod Steps
 pub mod Calls
 pub mod Convert

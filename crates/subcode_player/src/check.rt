@@ -14,6 +14,7 @@ ghost use Rattle.subcode_player.specs.Calls.{EndFirst, IsAnsweredBy, IsStreamSto
 ghost use Rattle.subcode_player.specs.Check.{IsCheckListed, count_line, stream_lines, wrong_lines};
 ghost use Rattle.subcode_player.specs.Check.{frame_count_lines, pack_count_lines};
 ghost use Rattle.subcode_player.specs.CheckSteps.{IsFresh, lines_of_counts};
+ghost use Rattle.subcode_player.specs.Stages.{counts_of};
 
 use crate::player::play_stop;
 use crate::watch::watch;
@@ -74,20 +75,21 @@ impl Player {
     ) -> Result<Played, PlayStop>
         requires { blocks ≤ most_units }
         ensures ok { IfOk result (λ played. (played.blocks ≡ blocks - lead_in)
-            × (played.bad ≡ self.now.checks.second.words.second.bad)
+            × (played.bad ≡ (counts_of self.now.checks.blocks.words).bad)
             × Appends (K.held out.old) (K.held out.new)
-            (lines_of_counts form lead_in blocks self.now.checks.second)) }
+            (lines_of_counts form lead_in blocks self.now.checks.blocks)) }
         ensures part { IfErr result (λ stop. (stop ≡ PlayStop.WriteFault)
             × AppendsPrefix (K.held out.old) (K.held out.new)
-            (lines_of_counts form lead_in blocks self.now.checks.second)) }
+            (lines_of_counts form lead_in blocks self.now.checks.blocks)) }
         ensures untouched { IfErr result (λ stop. stop ≢ PlayStop.WriteFault → out.new ≡ out.old) }
         ensures cause { HasCause (K.faults out.old) (K.faults out.new) result }
     {
-        let text = lines(lead_in, form, blocks, &self.checks.second);
+        let text = lines(lead_in, form, blocks, &self.checks.blocks);
+        let counts = &self.checks.blocks.words.second;
         match put_all(out, text.as_str().as_bytes()) {
             Ok(()) => Ok(Played {
                 blocks: blocks.saturating_sub(lead_in),
-                bad: self.checks.second.words.second.bad,
+                bad: counts.bad,
             }),
             Err(Failed) => Err(PlayStop::WriteFault),
         }
@@ -95,11 +97,13 @@ impl Player {
 
     // Brings back the state after the start, for a stream of this form.
     fn begin_check(&mut self, lead_in: u32, form: Form)
-        ensures { IsFresh form lead_in self.new.checks.second }
+        ensures { IsFresh form lead_in self.new.checks.blocks }
     {
-        let counting = &mut self.checks.second;
-        counting.words.first.begin(lead_in, form);
-        counting.words.second = WordCounts::default();
+        let counting = &mut self.checks.blocks;
+        let words = &mut counting.words.first;
+        words.begin(lead_in, form);
+        let counts = &mut counting.words.second;
+        *counts = WordCounts::default();
         counting.frames = FrameCounts {
             read: form != Form::Cooked,
             good: 0,
@@ -122,8 +126,9 @@ fn lines(lead_in: u32, form: Form, blocks: u32, counting: &Counting) -> Lines
         program,
         words_of(form, program),
     );
-    push_wrong(&mut text, &counting.words.second);
-    push_kinds(&mut text, &counting.words.second);
+    let counts = &counting.words.second;
+    push_wrong(&mut text, counts);
+    push_kinds(&mut text, counts);
     push_frames(&mut text, &counting.frames);
     text
 }

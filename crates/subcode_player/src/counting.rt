@@ -3,6 +3,7 @@ ghost use Rattle.std.specs.Prelude.{◌≡◌, ◌==◌, replicate, true, Some, 
 ghost use Rattle.rw_code.specs.Codeword.{IsCodeword, differences};
 ghost use Rattle.rw_code.specs.Packs.{idle_pack};
 ghost use Rattle.subcode_player.specs.Steps.{fresh_words};
+ghost use Rattle.subcode_player.specs.Stages.{words_of};
 ghost use Rattle.subcode_player.specs.Check.{is_known};
 ghost use Rattle.subcode_player.specs.CheckSteps.{tick, wrong_counted, kind_counted, count_found, count_next, count_after, counts_next, counts_give, frames_next, counting_next, counting_gives};
 
@@ -224,7 +225,7 @@ impl FrameCounts {
 impl Counting {
     /// Counts of no stream yet.
     pub(crate) fn new() -> Counting
-        ensures { result.words.first ≡ fresh_words Form.Raw 0 }
+        ensures { words_of result.words ≡ fresh_words Form.Raw 0 }
     {
         Counting {
             frames: FrameCounts::default(),

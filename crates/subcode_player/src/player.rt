@@ -2,6 +2,7 @@
 ghost use Rattle.std.specs.Prelude.{◌≡◌, ◌-◌, IfOk};
 ghost use Rattle.subcode_player.specs.Watch.{play_stop};
 ghost use Rattle.subcode_player.specs.Steps.{fresh_words};
+ghost use Rattle.subcode_player.specs.Stages.{correction_of, words_of};
 
 use crate::{BlockWords, Correction, Counting, Drawing, Form, Picture, SectorBlocks};
 use cdg_io::{PumpStop, Pumped, Then};
@@ -42,20 +43,20 @@ pub enum PlayStop {
 #[derive(Drop)]
 pub struct Player {
     /// The packs of a stream.
-    pub stages: Then<SectorBlocks, Then<BlockWords, Correction>>,
+    pub stages: SectorBlocks<Then<BlockWords, Correction>>,
     /// The picture at a moment of a stream.
-    pub views: Then<SectorBlocks, Then<BlockWords, Drawing>>,
+    pub views: SectorBlocks<Then<BlockWords, Drawing>>,
     /// The counts of a stream.
-    pub checks: Then<SectorBlocks, Counting>,
+    pub checks: SectorBlocks<Counting>,
     /// The texts of a lead-in.
-    pub texts: Then<SectorBlocks, LeadInTexts>,
+    pub texts: SectorBlocks<LeadInTexts>,
 }
 
 impl Player {
     /// Takes the memory of the screen and of the texts.
     pub fn start(alloc: Global) -> Result<Player, AllocError>
         ensures { IfOk result
-            (λ p. (p.stages.second.first ≡ fresh_words Form.Raw 0) × (p.stages.second.second.bad ≡ 0)) }
+            (λ p. (words_of p.stages.blocks ≡ fresh_words Form.Raw 0) × ((correction_of p.stages.blocks).bad ≡ 0)) }
     {
         let drawing = Drawing {
             picture: Picture::start(alloc)?,
@@ -63,34 +64,42 @@ impl Player {
             bad: 0,
         };
         Ok(Player {
-            stages: Then::new(
-                SectorBlocks,
-                Then::new(BlockWords::new(), Correction { bad: 0 }),
-            ),
-            views: Then::new(SectorBlocks, Then::new(BlockWords::new(), drawing)),
-            checks: Then::new(SectorBlocks, Counting::new()),
-            texts: Then::new(SectorBlocks, LeadInTexts::start(alloc)?),
+            stages: SectorBlocks {
+                blocks: Then::new(BlockWords::new(), Correction { bad: 0 }),
+            },
+            views: SectorBlocks {
+                blocks: Then::new(BlockWords::new(), drawing),
+            },
+            checks: SectorBlocks {
+                blocks: Counting::new(),
+            },
+            texts: SectorBlocks {
+                blocks: LeadInTexts::start(alloc)?,
+            },
         })
     }
 
     /// What was played, after a pump that came to the end.
     pub(crate) fn played(&self, pumped: Pumped, lead_in: u32) -> Played
         ensures blocks { result.blocks ≡ pumped.units - lead_in }
-        ensures bad { result.bad ≡ self.now.stages.second.second.bad }
+        ensures bad { result.bad ≡ (correction_of self.now.stages.blocks).bad }
     {
+        let correction = &self.stages.blocks.second;
         Played {
             blocks: pumped.units.saturating_sub(lead_in),
-            bad: self.stages.second.second.bad,
+            bad: correction.bad,
         }
     }
 
     /// Brings back the state after the start, for a stream of this form.
     pub(crate) fn begin(&mut self, lead_in: u32, form: Form)
-        ensures words { self.new.stages.second.first ≡ fresh_words form lead_in }
-        ensures bad { self.new.stages.second.second.bad ≡ 0 }
+        ensures words { words_of self.new.stages.blocks ≡ fresh_words form lead_in }
+        ensures bad { (correction_of self.new.stages.blocks).bad ≡ 0 }
     {
-        self.stages.second.first.begin(lead_in, form);
-        self.stages.second.second.bad = 0;
+        let words = &mut self.stages.blocks.first;
+        words.begin(lead_in, form);
+        let correction = &mut self.stages.blocks.second;
+        correction.bad = 0;
     }
 }
 

@@ -12,7 +12,7 @@ ghost use Rattle.subcode_player.specs.Calls.{EndInTurn, IsAnsweredBy, IsStreamSt
 use crate::player::play_stop;
 use crate::watch::pump_blocks;
 use crate::{Form, PlayStop, Played, Player, SectorBlocks};
-use cdg_io::{Sink, Source, Then};
+use cdg_io::{Sink, Source};
 use q_channel::QLines;
 
 impl Player {
@@ -70,11 +70,13 @@ pub fn list_frames<S: Source, K: Sink>(
         (K.faults out.old) (K.faults out.new) result }
     ensures ended { EndInTurn result (S.ends source.old) (S.ends source.new) }
 {
-    let mut lines = Then::new(SectorBlocks, QLines { block: 0, bad: 0 });
+    let mut lines = SectorBlocks {
+        blocks: QLines { block: 0, bad: 0 },
+    };
     match pump_blocks(form, source, &mut lines, out) {
         Ok(pumped) => Ok(Played {
             blocks: pumped.units.saturating_sub(lead_in),
-            bad: lines.second.bad,
+            bad: lines.blocks.bad,
         }),
         Err(stop) => Err(play_stop(stop)),
     }

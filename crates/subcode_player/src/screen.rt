@@ -11,6 +11,7 @@ ghost use Rattle.picture_script.specs.Script.{Drawing};
 ghost use Rattle.subcode_player.specs.Faults.{TellsStops};
 ghost use Rattle.subcode_player.specs.Calls.{EndFirst, IsMomentStop};
 ghost use Rattle.subcode_player.specs.Steps.{fresh_words};
+ghost use Rattle.subcode_player.specs.Stages.{drawing_of, words_of};
 ghost use Rattle.subcode_player.specs.Pictured.{GivesPicture, IsHeldAt, IsScheduledStream};
 ghost use Rattle.subcode_player.specs.Screen.{IsShownBy, Shows, moment};
 ghost use Rattle.subcode_player.specs.Watch.{Views, viewed};
@@ -62,10 +63,13 @@ impl Player {
     {
         screens_show_pictures();
         match self.view(lead_in, form, at, source) {
-            Ok(played) => match self.views.second.second.picture.write_ppm(out) {
-                Ok(()) => Ok(played),
-                Err(Failed) => Err(PlayStop::WriteFault),
-            },
+            Ok(played) => {
+                let drawing = &self.views.blocks.second;
+                match drawing.picture.write_ppm(out) {
+                    Ok(()) => Ok(played),
+                    Err(Failed) => Err(PlayStop::WriteFault),
+                }
+            }
             Err(stop) => Err(stop),
         }
     }
@@ -96,10 +100,13 @@ impl Player {
         ensures ended { EndFirst result (S.ends source.old) (S.ends source.new) }
     {
         match self.view(lead_in, form, at, source) {
-            Ok(played) => match self.views.second.second.picture.write_state(out) {
-                Ok(()) => Ok(played),
-                Err(Failed) => Err(PlayStop::WriteFault),
-            },
+            Ok(played) => {
+                let drawing = &self.views.blocks.second;
+                match drawing.picture.write_state(out) {
+                    Ok(()) => Ok(played),
+                    Err(Failed) => Err(PlayStop::WriteFault),
+                }
+            }
             Err(stop) => Err(stop),
         }
     }
@@ -117,7 +124,7 @@ impl Player {
         requires at { at ≤ last_block }
         ensures views { (taken : List ℕ)
             × Views (moment form lead_in at) (change S.left source.old source.new)
-            (standing_of self.new.views.second.second.picture) result taken }
+            (standing_of (drawing_of self.new.views.blocks).picture) result taken }
         ensures stops { IfErr result IsMomentStop }
         ensures answer { IfSome (S.left source.old) (λ all.
             IsShownBy result lead_in at (unit_size form) (length all)) }
@@ -136,28 +143,30 @@ impl Player {
 
     // What was played, where the program reaches the moment.
     fn viewed(&self, pumped: Pumped, lead_in: u32, at: u32) -> Result<Played, PlayStop>
-        ensures { result ≡ viewed (pumped.units - lead_in) at self.now.views.second.second.bad }
+        ensures { result ≡ viewed (pumped.units - lead_in) at (drawing_of self.now.views.blocks).bad }
     {
         let blocks = pumped.units.saturating_sub(lead_in);
         if blocks < at {
             return Err(PlayStop::PastEnd { blocks });
         }
+        let drawing = &self.views.blocks.second;
         Ok(Played {
             blocks,
-            bad: self.views.second.second.bad,
+            bad: drawing.bad,
         })
     }
 
     // Brings back the state after the start, for a stream of this form and a moment.
     fn begin_view(&mut self, lead_in: u32, form: Form, at: u32)
         requires { at ≤ last_block }
-        ensures words { self.new.views.second.first ≡ fresh_words form lead_in }
-        ensures left { self.new.views.second.second.left ≡ whole_packs at }
-        ensures bad { self.new.views.second.second.bad ≡ 0 }
-        ensures blank { SameStanding (standing_of self.new.views.second.second.picture) blank }
+        ensures words { words_of self.new.views.blocks ≡ fresh_words form lead_in }
+        ensures left { (drawing_of self.new.views.blocks).left ≡ whole_packs at }
+        ensures bad { (drawing_of self.new.views.blocks).bad ≡ 0 }
+        ensures blank { SameStanding (standing_of (drawing_of self.new.views.blocks).picture) blank }
     {
-        self.views.second.first.begin(lead_in, form);
-        let drawing = &mut self.views.second.second;
+        let words = &mut self.views.blocks.first;
+        words.begin(lead_in, form);
+        let drawing = &mut self.views.blocks.second;
         drawing.left = (4 * at).saturating_sub(7);
         drawing.bad = 0;
         drawing.picture.reset();

@@ -1,23 +1,30 @@
 // From sectors to blocks.
-ghost use Rattle.std.specs.Prelude.{Some, drop};
+ghost use Rattle.std.specs.Prelude.{drop};
 
 use cdg_io::Stage;
 use raw_subcode::{BLOCK_BYTES, Block, SECTOR_BYTES};
 
-/// Gives the block of each sector.
-#[derive(Clone, Copy, Debug, PartialEq, Eq)]
-pub struct SectorBlocks;
+/// A stage on blocks as one on sectors: it is fed the block of each.
+#[derive(Drop)]
+pub struct SectorBlocks<G> {
+    /// The stage on blocks.
+    pub blocks: G,
+}
 
-impl Stage for SectorBlocks {
+impl<G: Stage<Item = [u8; BLOCK_BYTES]>> Stage for SectorBlocks<G> {
     type Item = [u8; SECTOR_BYTES];
 
-    type Out = [u8; BLOCK_BYTES];
+    type Out = G::Out;
 
-    ghost next = { λ s _. s };
+    ghost next = { λ s sector. record { blocks = G.next s.blocks (drop 2352 sector) } };
 
-    ghost gives = { λ _ sector. Some (drop 2352 sector) };
+    ghost gives = { λ s sector. G.gives s.blocks (drop 2352 sector) };
 
-    fn feed(&mut self, sector: &[u8; SECTOR_BYTES]) -> Option<[u8; BLOCK_BYTES]> {
-        Some(Block::from_sector(sector).bytes())
+    fn feed(&mut self, sector: &[u8; SECTOR_BYTES]) -> Option<G::Out> {
+        self.blocks.feed(&Block::from_sector(sector).bytes())
+    }
+
+    fn emit(&mut self, sector: &[u8; SECTOR_BYTES], out: &mut Option<G::Out>) {
+        self.blocks.emit(&Block::from_sector(sector).bytes(), out);
     }
 }

@@ -50,7 +50,7 @@ impl Player {
         ensures ended { EndFirst result (S.ends source.old) (S.ends source.new) }
     {
         lead_in_packs_are_read();
-        self.texts.second.begin(lead_in);
+        self.texts.blocks.begin(lead_in);
         match watch(form, source, &mut self.texts) {
             Ok(pumped) => self.write_texts(alloc, pumped.units.saturating_sub(lead_in), out),
             Err(stop) => Err(play_stop(stop)),
@@ -64,14 +64,14 @@ impl Player {
         blocks: u32,
         out: &mut K,
     ) -> Result<Played, PlayStop>
-        ensures writes { WritesTexts self.now.texts.second blocks (K.held out.old) (K.held out.new) result }
+        ensures writes { WritesTexts self.now.texts.blocks blocks (K.held out.old) (K.held out.new) result }
         ensures untouched { IfErr result (λ stop. stop ≢ PlayStop.WriteFault → out.new ≡ out.old) }
         ensures later { K.faults out.old ≤ K.faults out.new }
         ensures write_fault { IsErrOf result PlayStop.WriteFault
             → Rose (K.faults out.old) (K.faults out.new) }
         ensures no_write_fault { result ≢ Err PlayStop.WriteFault → K.faults out.new ≡ K.faults out.old }
     {
-        let texts = &self.texts.second;
+        let texts = &self.texts.blocks;
         match texts.reader.finish(alloc) {
             Ok(map) => match write_lines(&map, texts.good, texts.bad, texts.other, out) {
                 Ok(()) => Ok(Played { blocks, bad: 0 }),

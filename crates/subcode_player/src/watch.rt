@@ -8,20 +8,20 @@ ghost use Rattle.raw_subcode.specs.Sizes.{most_units};
 ghost use Rattle.subcode_player.specs.Watch.{Watches, on_units};
 
 use crate::{Form, SectorBlocks};
-use cdg_io::{Piece, PumpStop, Pumped, Sink, Source, Stage, SteadySink, Then, pump};
+use cdg_io::{Piece, PumpStop, Pumped, Sink, Source, Stage, SteadySink, pump};
 use raw_subcode::{BLOCK_BYTES, MOST_UNITS};
 
 /// Feeds the blocks of an input to a stage, and writes what it gives for each.
 pub(crate) fn pump_blocks<S: Source, G: Stage<Item = [u8; BLOCK_BYTES], Out = Piece>, K: Sink>(
     form: Form,
     source: &mut S,
-    stages: &mut Then<SectorBlocks, G>,
+    stages: &mut SectorBlocks<G>,
     out: &mut K,
 ) -> Result<Pumped, PumpStop>
     ensures pumps { (taken : List ℕ) × Pumps (record { size = unit_size form; limit = most_units })
         (record { next = on_units form G.next; gives = on_units form G.gives })
-        (moved S.left K.held (source.old, stages.old.second, out.old)
-        (source.new, stages.new.second, out.new)) result taken }
+        (moved S.left K.held (source.old, stages.old.blocks, out.old)
+        (source.new, stages.new.blocks, out.new)) result taken }
     // Where nothing failed, the answer is that of the whole input's length.
     ensures answer { IfSome (S.left source.old) (λ all.
         IsUnlessFault result (answer_of (unit_size form) most_units (length all))) }
@@ -36,7 +36,7 @@ pub(crate) fn pump_blocks<S: Source, G: Stage<Item = [u8; BLOCK_BYTES], Out = Pi
 {
     match form {
         Form::Sector => pump(source, MOST_UNITS, stages, out),
-        Form::Raw | Form::Cooked => pump(source, MOST_UNITS, &mut stages.second, out),
+        Form::Raw | Form::Cooked => pump(source, MOST_UNITS, &mut stages.blocks, out),
     }
 }
 
@@ -44,10 +44,10 @@ pub(crate) fn pump_blocks<S: Source, G: Stage<Item = [u8; BLOCK_BYTES], Out = Pi
 pub(crate) fn watch<S: Source, G: Stage<Item = [u8; BLOCK_BYTES], Out = Piece>>(
     form: Form,
     source: &mut S,
-    stages: &mut Then<SectorBlocks, G>,
+    stages: &mut SectorBlocks<G>,
 ) -> Result<Pumped, PumpStop>
     ensures watches { (taken : List ℕ) × Watches form G.next
-        (fed S.left (source.old, stages.old.second) (source.new, stages.new.second)) result taken }
+        (fed S.left (source.old, stages.old.blocks) (source.new, stages.new.blocks)) result taken }
     // Where nothing failed, the answer is that of the whole input's length.
     ensures answer { IfSome (S.left source.old) (λ all.
         IsUnlessFault result (answer_of (unit_size form) most_units (length all))) }

@@ -27,7 +27,7 @@ returns-then-not-is_in_time-clause-err c =
     let needs : NeedsAreFewest = record { change = n.change; planned = n.planned; late = n.late } in
     let script = c.args.script.now in
     let known = c.pictures-pictures.ensures in (
-      is_within script c.args.blocks c.last_hold.result (record { held = known.held; later = known.later }) c.last_hold.ensures.last c.if-last_hold-blocks.false,
+      is_within script c.args.blocks (record { held = known.held; later = known.later }) c.requires.end,
       is_late needs script c.loop-k.k c.plan_picture-change.result.need c.free_packs.result c.loop-k.planned.items (record { border = known.borders; colour = known.colours }) known.pixels (omega (arith, known.value)) c.loop-k.invariant.0
           c.plan_picture-change.ensures.need c.free_packs.ensures
           (not_in_time script c.loop-k.k c.plan_picture-change.result.start c.plan_picture-change.result.need c.plan_picture-change.ensures.start (sym c.is_in_time.ensures ∙ c.if-not-is_in_time.true)),
@@ -44,7 +44,7 @@ returns-then-not-is_in_time-clause-late c picture need free told =
 pub returns-clause-within : goal.returns-clause-within
 returns-clause-within c =
     let known = c.pictures-pictures.ensures in
-    is_within c.args.script.now c.args.blocks c.last_hold.result (record { held = known.held; later = known.later }) c.last_hold.ensures.last c.if-last_hold-blocks.false
+    is_within c.args.script.now c.args.blocks (record { held = known.held; later = known.later }) c.requires.end
 
 pub returns-clause-fewest : goal.returns-clause-fewest
 returns-clause-fewest c =

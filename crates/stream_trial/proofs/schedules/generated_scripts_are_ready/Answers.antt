@@ -1,6 +1,6 @@
 use Rattle.cdg_workload.specs.Generated.{generated_drawings}
 use Rattle.stream_trial.proofs.Pixels.{colours_small, pixels_small}
-use Rattle.stream_trial.proofs.Ready.{TimesAreKnown, enough_free, all_ready, survey_stop}
+use Rattle.stream_trial.proofs.Ready.{TimesAreKnown, enough_free, all_ready, not_past_end, survey_stop}
 use Rattle.stream_trial.proofs.schedules.generated_scripts_are_ready.Goals as goal
 
 pub returns-clause-pixels : goal.returns-clause-pixels
@@ -17,6 +17,12 @@ returns-clause-ready c seed count =
     let t = c.generated_scripts_have_times.ensures in
     let times : TimesAreKnown = record { count = t.pictures; ready = t.ready; hold = t.hold } in
     all_ready times c.needs_are_fewest.ensures.planned seed count (colours_small seed count) (pixels_small seed count) (λ k. c.planned_changes_are_changes.ensures.few (generated_drawings seed count) k (pixels_small seed count))
+
+pub returns-clause-end : goal.returns-clause-end
+returns-clause-end c =
+    let t = c.generated_scripts_have_times.ensures in
+    let times : TimesAreKnown = record { count = t.pictures; ready = t.ready; hold = t.hold } in
+    not_past_end times
 
 pub returns-clause-survey : goal.returns-clause-survey
 returns-clause-survey c seed count blocks stop enough is =

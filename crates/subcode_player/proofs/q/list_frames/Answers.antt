@@ -15,7 +15,7 @@ returns-in-Ok-clause-lists g c =
     let form = c.args.form in (
       taken,
       done_at _ form _ (machine_of (on_units form q_next) (on_units form q_give)) (λ (t : QLines). t.bad) _ taken (unit_size form) _ _ refl
-          (plays_frames form _ c.requires.form c.new-lines.ensures.second) p c.saturating_sub.ensures refl,
+          (plays_frames form _ c.requires.form refl) p c.saturating_sub.ensures refl,
     )
 
 pub returns-in-Err-clause-lists : goal.returns-in-Err-clause-lists
@@ -24,7 +24,7 @@ returns-in-Err-clause-lists g c =
     let form = c.args.form in (
       taken,
       stop_at _ form _ (machine_of (on_units form q_next) (on_units form q_give)) (λ (t : QLines). t.bad) _ taken (unit_size form) _ _ refl c.play_stop.ensures
-          (plays_frames form _ c.requires.form c.new-lines.ensures.second) p,
+          (plays_frames form _ c.requires.form refl) p,
     )
 
 pub returns-in-Ok-clause-faults : goal.returns-in-Ok-clause-faults

@@ -7,7 +7,7 @@ use Rattle.subcode_player.proofs.player.Player.check.Goals as goal
 pub returns-in-Ok-clause-checks : goal.returns-in-Ok-clause-checks
 returns-in-Ok-clause-checks g c =
     let (taken, w) = c.in-Ok.ensures.watches in
-    (taken, checks_done c.args.form c.args.lead_in _ _ _ _ c.begin_check.new.self.checks.second c.watch.new.stages.second taken _ _ c.begin_check.ensures w c.write_counts.ensures.ok c.write_counts.ensures.part)
+    (taken, checks_done c.args.form c.args.lead_in _ _ _ _ c.begin_check.new.self.checks.blocks c.watch.new.stages.blocks taken _ _ c.begin_check.ensures w c.write_counts.ensures.ok c.write_counts.ensures.part)
 
 pub returns-in-Ok-clause-answer : goal.returns-in-Ok-clause-answer
 returns-in-Ok-clause-answer g c = checked_done (unit_size c.args.form) _ _ _ _ c.write_counts.ensures.part c.in-Ok.ensures.answer
@@ -15,7 +15,7 @@ returns-in-Ok-clause-answer g c = checked_done (unit_size c.args.form) _ _ _ _ c
 pub returns-in-Err-clause-checks : goal.returns-in-Err-clause-checks
 returns-in-Err-clause-checks g c =
     let (taken, w) = c.in-Err.ensures.watches in
-    (taken, at_end_stop _ c.args.form c.args.lead_in _ _ _ _ _ c.begin_check.new.self.checks.second c.watch.new.stages.second taken _ _ refl w c.play_stop.ensures)
+    (taken, at_end_stop _ c.args.form c.args.lead_in _ _ _ _ _ c.begin_check.new.self.checks.blocks c.watch.new.stages.blocks taken _ _ refl w c.play_stop.ensures)
 
 pub returns-in-Err-clause-answer : goal.returns-in-Err-clause-answer
 returns-in-Err-clause-answer g c = checked_stop (unit_size c.args.form) _ _ _ c.play_stop.ensures c.in-Err.ensures.answer

@@ -5,19 +5,19 @@ use Rattle.subcode_player.proofs.player.Player.text_list.Goals as goal
 pub returns-in-Ok-clause-lists : goal.returns-in-Ok-clause-lists
 returns-in-Ok-clause-lists g c =
     let (taken, w) = c.in-Ok.ensures.watches in
-    (taken, lists_done c.args.form c.args.lead_in _ _ _ _ c.begin.new.self c.watch.new.stages.second taken c.in-Ok.pumped _ _ c.lead_in_packs_are_read.ensures c.requires.lead_in c.begin.ensures w c.saturating_sub.ensures c.write_texts.ensures.writes)
+    (taken, lists_done c.args.form c.args.lead_in _ _ _ _ c.begin.new.self c.watch.new.stages.blocks taken c.in-Ok.pumped _ _ c.lead_in_packs_are_read.ensures c.requires.lead_in c.begin.ensures w c.saturating_sub.ensures c.write_texts.ensures.writes)
 
 pub returns-in-Ok-clause-answer : goal.returns-in-Ok-clause-answer
 returns-in-Ok-clause-answer g c =
     let (taken, w) = c.in-Ok.ensures.watches in
-    listed_done c.args.form c.args.lead_in c.in-Ok.pumped _ _ _ _ _ c.begin.new.self c.watch.new.stages.second taken _ w c.write_texts.ensures.writes
-    (lists_done c.args.form c.args.lead_in _ _ _ _ c.begin.new.self c.watch.new.stages.second taken c.in-Ok.pumped _ _ c.lead_in_packs_are_read.ensures c.requires.lead_in c.begin.ensures w c.saturating_sub.ensures c.write_texts.ensures.writes)
+    listed_done c.args.form c.args.lead_in c.in-Ok.pumped _ _ _ _ _ c.begin.new.self c.watch.new.stages.blocks taken _ w c.write_texts.ensures.writes
+    (lists_done c.args.form c.args.lead_in _ _ _ _ c.begin.new.self c.watch.new.stages.blocks taken c.in-Ok.pumped _ _ c.lead_in_packs_are_read.ensures c.requires.lead_in c.begin.ensures w c.saturating_sub.ensures c.write_texts.ensures.writes)
     c.in-Ok.ensures.answer
 
 pub returns-in-Ok-clause-faults : goal.returns-in-Ok-clause-faults
 returns-in-Ok-clause-faults g c =
     let wrote = c.write_texts.ensures in
-    texts_told _ _ _ _ c.in-Ok.ensures.source_later wrote.later c.watch.new.stages.second _ (g.K.Sink.held c.args.out.now) (g.K.Sink.held c.write_texts.new.out) c.in-Ok.pumped c.write_texts.result wrote.writes c.in-Ok.ensures.no_read_fault wrote.write_fault wrote.no_write_fault
+    texts_told _ _ _ _ c.in-Ok.ensures.source_later wrote.later c.watch.new.stages.blocks _ (g.K.Sink.held c.args.out.now) (g.K.Sink.held c.write_texts.new.out) c.in-Ok.pumped c.write_texts.result wrote.writes c.in-Ok.ensures.no_read_fault wrote.write_fault wrote.no_write_fault
 
 pub returns-in-Err-clause-faults : goal.returns-in-Err-clause-faults
 returns-in-Err-clause-faults g c =

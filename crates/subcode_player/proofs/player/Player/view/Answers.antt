@@ -1,5 +1,6 @@
 use Rattle.cdg_screen.specs.Picture.{standing_of}
 use Rattle.raw_subcode.specs.Channels.{unit_size}
+use Rattle.subcode_player.specs.Stages.{drawing_of}
 use Rattle.subcode_player.proofs.Views.{view_done, view_stop, shown_done, shown_stop}
 use Rattle.subcode_player.proofs.player.Player.view.Goals as goal
 
@@ -7,7 +8,7 @@ pub returns-in-Ok-clause-views : goal.returns-in-Ok-clause-views
 returns-in-Ok-clause-views g c =
     let (taken, w) = c.in-Ok.ensures.watches in (
       taken,
-      view_done c.args.form c.args.lead_in c.args.at _ _ taken c.begin_view.new.self.views.second c.watch.new.stages.second _ _
+      view_done c.args.form c.args.lead_in c.args.at _ _ taken c.begin_view.new.self.views.blocks c.watch.new.stages.blocks _ _
           (record { words = c.begin_view.ensures.words; left = c.begin_view.ensures.left; bad = c.begin_view.ensures.bad; blank = c.begin_view.ensures.blank }) w c.viewed.ensures,
     )
 
@@ -17,7 +18,7 @@ returns-in-Ok-clause-answer g c = shown_done c.args.lead_in c.args.at (unit_size
 pub returns-in-Err-clause-views : goal.returns-in-Err-clause-views
 returns-in-Err-clause-views g c =
     let (taken, w) = c.in-Err.ensures.watches in
-    (taken, view_stop c.args.form c.args.lead_in c.args.at _ _ taken c.begin_view.new.self.views.second c.watch.new.stages.second (standing_of c.watch.new.stages.second.second.picture) _ _ w c.play_stop.ensures)
+    (taken, view_stop c.args.form c.args.lead_in c.args.at _ _ taken c.begin_view.new.self.views.blocks c.watch.new.stages.blocks (standing_of (drawing_of c.watch.new.stages.blocks).picture) _ _ w c.play_stop.ensures)
 
 pub returns-in-Err-clause-answer : goal.returns-in-Err-clause-answer
 returns-in-Err-clause-answer g c = shown_stop c.args.lead_in c.args.at (unit_size c.args.form) _ _ _ c.play_stop.ensures c.in-Err.ensures.answer
