@@ -101,9 +101,6 @@ kept_instr : (packs thins : List (List ℕ)) (instrs : List Instr) (n : ℕ) →
 kept_instr packs thins instrs n read lt thin_lt same =
     instructions_at thins n thin_lt ∙ ap instruction_of same ∙ sym (only_instruction (pack_at packs n) (instr_at instrs n) (read.each n lt))
 
-one_more_at : (instrs : List Instr) (m : ℕ) → m < length instrs → after (take (m + 1) instrs) ≡ after (take m instrs ++ instr_at instrs m ∷ [])
-one_more_at instrs m lt = ap after (take_more instrs m Idle lt)
-
 pub stand_alike : (packs thins : List (List ℕ)) (f : IsThinForm packs thins) (m : ℕ) → SameStanding (after (take m f.instrs)) (after (take m (instructions_of thins)))
 stand_alike packs thins f zero = self_same _
 stand_alike packs thins f (suc m) =

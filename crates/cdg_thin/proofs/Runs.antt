@@ -52,10 +52,6 @@ run_of now packs = run_gives thin_next thin_gives now packs
 abbrev given_pack : Display → List ℕ → List ℕ
 given_pack now pack = if is_needless now (instruction_of pack) then idle_pack else pack
 
-run_step : (now : Display) (pack : List ℕ) (packs : List (List ℕ)) → run_of now (pack ∷ packs) ≡ given_pack now pack ∷ run_of (thin_next now pack) packs
-unfolding thin_gives
-run_step now pack packs = refl
-
 -- what stands after one instruction more
 next_stands : (now : Display) (before : List Instr) (pack : List ℕ) → SameStanding (standing_of now) (after before) → SameStanding (standing_of (thin_next now pack)) (after (before ++ instruction_of pack ∷ []))
 unfolding thin_next

@@ -27,9 +27,6 @@ found_none : (p : List ℕ → Bool) (xs : List (List ℕ)) → ((i : ℕ) → i
 found_none p [] fails = refl
 found_none p (y ∷ ys) fails = cond-false (p y) (Some y) (find p ys) (fails 0 (omega arith)) ∙ found_none p ys (λ k less. fails (suc k) (omega arith))
 
-some_pack : List ℕ → Option (List ℕ)
-some_pack pack = Some pack
-
 -- the packs at their numbers, and nothing at the numbers after them
 unfoldable pub placed : List (List ℕ) → List (Option (List ℕ))
 placed packs = map (λ (pack : List ℕ). Some pack) packs ++ replicate (256 - length packs) None

@@ -12,7 +12,6 @@ use Rattle.cdtext_packs.specs.Packs.{sealed}
 use Rattle.cdtext_packs.specs.Texts.{Texts, kinds, strings_of, are_empty, has_no_text}
 use Rattle.cdtext_packs.specs.Writing.{Content, joined, numbered, content_bytes, kind_contents, pack_count, text_content, type_of, holders, twelve, size_contents, contents, packs_of}
 use Rattle.cdtext_packs.specs.declared.kinds.TextKind.{TextKind}
-use Rattle.cdtext_packs.specs.declared.kinds.TextKind.TheVariants.{Title, Performer, Songwriter, Composer, Arranger, Message, Code}
 
 pub numbered-append : (first : ℕ) (xs ys : List Content) → numbered first (xs ++ ys) ≡ numbered first xs ++ numbered (first + length xs) ys
 numbered-append first [] ys = ap (λ (n : ℕ). numbered n ys) (omega arith)
@@ -79,22 +78,6 @@ filled_part rest n is = elim (cases_lt (length rest) 12) [
       ∙ append-nil (take 12 rest)
       ∙ sym (take-append-le 12 rest (replicate 12 0) long)
 ]
-
--- each kind has at most as many packs as all
-pub kind_count : (texts : Texts) (kind : TextKind) → length (kind_contents texts kind) ≤ length (flat_map (kind_contents texts) kinds)
-kind_count texts kind =
-    let f = kind_contents texts in
-    let sizes : length (flat_map f kinds) ≡ length (f Title) + (length (f Performer) + (length (f Songwriter) + (length (f Composer) + (length (f Arranger) + (length (f Message) + length (f Code)))))) =
-    simp (length-append) (omega arith) in
-    elim kind as (λ kind. length (f kind) ≤ length (flat_map f kinds)) [
-      | Title ↦ omega arith
-      | Performer ↦ omega arith
-      | Songwriter ↦ omega arith
-      | Composer ↦ omega arith
-      | Arranger ↦ omega arith
-      | Message ↦ omega arith
-      | Code ↦ omega arith
-    ]
 
 -- the track of a string by its place
 pub track_is : (first place track : ℕ) → ((place ≡ 0) × (track ≡ 0)) ⊎ ((place ≡ 0 → ⊥) × (track ≡ first + (place - 1)))

@@ -3,7 +3,7 @@ use Rattle.std.proofs.Common.{◌≡◌, ℕ, zero, suc, ◌+◌, ◌*◌, ◌/�
 use Rattle.std.proofs.lemmas.List.{append_assoc, take_at, get_or_at, length-append, length-take, length-replicate}
 use Rattle.std.proofs.lemmas.Bool.{eq-eqb, lt-ltb, and_from}
 use Rattle.bit_lists.specs.Check.{check_of}
-use Rattle.cdtext_packs.specs.Packs.{sealed, check_matches, is_first_block, is_good, pack_type, pack_track, pack_number, pack_text}
+use Rattle.cdtext_packs.specs.Packs.{sealed, check_matches, is_first_block, is_good, pack_type, pack_number, pack_text}
 use Rattle.cdtext_packs.specs.Texts.{Texts}
 use Rattle.cdtext_packs.specs.Writing.{Content, content_bytes, numbered, twelve, text_content, size_content, size_bytes, joined}
 
@@ -45,16 +45,9 @@ seal_good n c is =
     let text = is.text in
     and_from (check_matches (sealed (content_bytes n c))) (is_first_block (sealed (content_bytes n c))) (seal_matches (content_bytes n c) (omega arith)) (lt-ltb c.position 16 is.position)
 
-pub seal_checked : (n : ℕ) (c : Content) → IsContent c → check_matches (sealed (content_bytes n c)) ≡ true
-seal_checked n c is = let text = is.text in seal_matches (content_bytes n c) (omega arith)
-
 pub seal_type : (n : ℕ) (c : Content) → pack_type (sealed (content_bytes n c)) ≡ c.type
 unfolding sealed
 seal_type n c = refl
-
-pub seal_track : (n : ℕ) (c : Content) → pack_track (sealed (content_bytes n c)) ≡ c.track
-unfolding sealed
-seal_track n c = refl
 
 pub seal_number : (n : ℕ) (c : Content) → pack_number (sealed (content_bytes n c)) ≡ n
 unfolding sealed

@@ -10,7 +10,7 @@ use Rattle.cdtext_packs.specs.Reading.{kind_packs, is_short, last_number, all_te
 use Rattle.cdtext_packs.specs.declared.kinds.TextKind.{TextKind}
 use Rattle.cdtext_packs.specs.declared.kinds.TextKind.TheVariants.{Title, Performer, Songwriter, Composer, Arranger, Message, Code}
 use Rattle.cdtext_packs.specs.declared.kinds.TextFault.{TextFault}
-use Rattle.cdtext_packs.specs.declared.kinds.TextFault.TheVariants.{Missing, NoSize, Malformed}
+use Rattle.cdtext_packs.specs.declared.kinds.TextFault.TheVariants.{Missing, Malformed}
 
 find_none_at : (p : TextKind → Bool) (xs : List TextKind) (k : ℕ) (d : TextKind) → find p xs ≡ None → k < length xs → p (get_or xs k d) ≡ false
 find_none_at p [] k d none inside = absurd (omega arith)
@@ -65,18 +65,6 @@ outside low high n (inr more) = or_right (nat_lt n low) (nat_lt high n) (lt-ltb 
 within : (low high n : ℕ) → low ≤ n → n ≤ high → (nat_lt n low || nat_lt high n) ≡ false
 within low high n least most = or_from (nat_lt n low) (nat_lt high n) (le-ltb n low least) (le-ltb high n most)
 
-pub first_refused : (kept : List (Option (List ℕ))) (size0 size1 : List ℕ) → (get_or size0 5 0 < 1) ⊎ (99 < get_or size0 5 0)
-    → read_sized kept size0 size1 ≡ Err (Malformed (get_or size0 2 0) 5)
-unfolding after_sizes
-first_refused kept size0 size1 out = sized kept size0 size1 ∙ cond-true (nat_lt (get_or size0 5 0) 1 || nat_lt 99 (get_or size0 5 0)) _ _ (outside 1 99 (get_or size0 5 0) out)
-
-pub last_refused : (kept : List (Option (List ℕ))) (size0 size1 : List ℕ) → 1 ≤ get_or size0 5 0 → get_or size0 5 0 ≤ 99 → (get_or size0 6 0 < get_or size0 5 0) ⊎ (99 < get_or size0 6 0)
-    → read_sized kept size0 size1 ≡ Err (Malformed (get_or size0 2 0) 6)
-unfolding after_sizes
-last_refused kept size0 size1 least most out =
-    sized kept size0 size1 ∙ cond-false (nat_lt (get_or size0 5 0) 1 || nat_lt 99 (get_or size0 5 0)) _ _ (within 1 99 (get_or size0 5 0) least most)
-    ∙ cond-true (nat_lt (get_or size0 6 0) (get_or size0 5 0) || nat_lt 99 (get_or size0 6 0)) _ _ (outside (get_or size0 5 0) 99 (get_or size0 6 0) out)
-
 pub sizes_pass : (kept : List (Option (List ℕ))) (size0 size1 : List ℕ) → 1 ≤ get_or size0 5 0 → get_or size0 5 0 ≤ get_or size0 6 0 → get_or size0 6 0 ≤ 99
     → read_sized kept size0 size1 ≡ read_numbers kept (get_or size1 12 0 + 1) (get_or size0 5 0) (get_or size0 6 0) (first_missing kept (get_or size1 12 0 + 1))
 unfolding after_sizes
@@ -117,20 +105,6 @@ nothing_read kept none = cond-true (keeps_nothing kept) (Ok no_texts) (read_size
 
 some_read : (kept : List (Option (List ℕ))) → keeps_nothing kept ≡ false → read_texts kept ≡ read_sizes kept (size_pack kept 0) (size_pack kept 1) (size_pack kept 2)
 some_read kept some = cond-false (keeps_nothing kept) (Ok no_texts) (read_sizes kept (size_pack kept 0) (size_pack kept 1) (size_pack kept 2)) some
-
-pub no_size0 : (kept : List (Option (List ℕ))) → keeps_nothing kept ≡ false → size_pack kept 0 ≡ None → read_texts kept ≡ Err NoSize
-no_size0 kept some none = some_read kept some ∙ ap (λ (s : Option (List ℕ)). read_sizes kept s (size_pack kept 1) (size_pack kept 2)) none
-
-pub no_size1 : (kept : List (Option (List ℕ))) (size0 : List ℕ) → keeps_nothing kept ≡ false → size_pack kept 0 ≡ Some size0 → size_pack kept 1 ≡ None → read_texts kept ≡ Err NoSize
-no_size1 kept size0 some first none =
-    some_read kept some ∙ ap (λ (s : Option (List ℕ)). read_sizes kept s (size_pack kept 1) (size_pack kept 2)) first
-    ∙ ap (λ (s : Option (List ℕ)). read_sizes kept (Some size0) s (size_pack kept 2)) none
-
-pub no_size2 : (kept : List (Option (List ℕ))) (size0 size1 : List ℕ) → keeps_nothing kept ≡ false → size_pack kept 0 ≡ Some size0 → size_pack kept 1 ≡ Some size1 → size_pack kept 2 ≡ None → read_texts kept ≡ Err NoSize
-no_size2 kept size0 size1 some first second none =
-    some_read kept some ∙ ap (λ (s : Option (List ℕ)). read_sizes kept s (size_pack kept 1) (size_pack kept 2)) first
-    ∙ ap (λ (s : Option (List ℕ)). read_sizes kept (Some size0) s (size_pack kept 2)) second
-    ∙ ap (λ (s : Option (List ℕ)). read_sizes kept (Some size0) (Some size1) s) none
 
 pub sizes_read : (kept : List (Option (List ℕ))) (size0 size1 : List ℕ) (third : Option (List ℕ)) → keeps_nothing kept ≡ false → size_pack kept 0 ≡ Some size0 → size_pack kept 1 ≡ Some size1 → is_none third ≡ false → size_pack kept 2 ≡ third
     → read_texts kept ≡ read_sized kept size0 size1

@@ -46,8 +46,3 @@ pub track_text_is : (kind : CueText) (t : Track) (text : List ℕ) → IsTrack (
 track_text_is Title t text good is = subst IsText (sym is) good.title
 track_text_is Performer t text good is = subst IsText (sym is) good.performer
 track_text_is Songwriter t text good is = subst IsText (sym is) good.songwriter
-
-pub album_text_is : (kind : CueText) (album : Section) (tracks : List Track) (text : List ℕ) → IsSheet (sheet_value album tracks) → text ≡ section_text kind (section_of album) → IsText text
-album_text_is Title album tracks text good is = subst IsText (sym is) good.title
-album_text_is Performer album tracks text good is = subst IsText (sym is) good.performer
-album_text_is Songwriter album tracks text good is = subst IsText (sym is) good.songwriter

@@ -1,5 +1,5 @@
 -- The choice of a start.
-use Rattle.std.proofs.Common.{◌≡◌, ℕ, zero, suc, ◌+◌, ◌<◌, ◌≤◌, Bool, true, false, List, [], ◌∷◌, ◌++◌, map, length, refl, ap, ap₂, sym, ◌∙◌, arith}
+use Rattle.std.proofs.Common.{◌≡◌, ℕ, ◌+◌, ◌≤◌, Bool, true, false, List, [], ◌∷◌, ◌++◌, map, length, refl, ap, ap₂, sym, ◌∙◌, arith}
 use Rattle.std.specs.Prelude.{Option, Some, None, if◌then◌else◌, nat_lt}
 use Rattle.std.proofs.lemmas.List.FromFn.{map-range_with_len_more}
 use Rattle.bit_lists.specs.Counting.{below}
@@ -42,13 +42,6 @@ from_colour script k c n h = h
 pub from_picture : (script : List Drawing) (k n : ℕ) → n ≡ length (settings script k) + tile_steps script k None → n ≡ planned_length script k None
 unfolding planned_length
 from_picture script k n h = omega (arith, h)
-
-pub preferred_first : (k : ℕ) → k ≡ 0 → Some 0 ≡ preferred k
-preferred_first k h = ap preferred (sym h)
-
-pub preferred_later : (k : ℕ) → 0 < k → None ≡ preferred k
-preferred_later zero h = absurd (omega arith)
-preferred_later (suc k) h = refl
 
 pub none_better : (script : List Drawing) (k : ℕ) (start : Option ℕ) → start ≡ preferred k → start ≡ first_least (planned_length script k) (preferred k) (map Some (below 0))
 unfolding first_least

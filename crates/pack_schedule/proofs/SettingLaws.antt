@@ -114,6 +114,3 @@ settings_differ script (suc k) b low high old new pos before now e l h =
     (same_eight (picture_colour script (suc k)) (λ n. slice_index new.colours (0 + n)) (λ n lt. sym (now.colours_are n (omega arith)) ∙ ap (λ j. slice_index new.colours j) (sym (zero_plus n)))) ∙ sym l)
     (ap₂ are_equal (same_eight (λ n. picture_colour script k (8 + n)) (λ n. slice_index old.colours (8 + n)) (λ n lt. sym (was.colours_are (8 + n) (omega arith))))
     (same_eight (λ n. picture_colour script (suc k) (8 + n)) (λ n. slice_index new.colours (8 + n)) (λ n lt. sym (now.colours_are (8 + n) (omega arith)))) ∙ sym h))
-
-pub settings_first : (script : List Drawing) (k : ℕ) → k ≡ 0 → 3 ≡ length (settings script k)
-settings_first script k h = ap (λ j. length (settings script j)) (sym h)

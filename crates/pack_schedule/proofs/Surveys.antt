@@ -1,11 +1,11 @@
 -- The pictures of a script in turn.
-use Rattle.std.proofs.Common.{◌≡◌, ℕ, zero, suc, ◌+◌, ◌-◌, ◌*◌, ◌<◌, ◌≤◌, true, false, List, [], ◌∷◌, ◌++◌, length, get_or, ap, sym, subst, ◌∙◌, inl, inr, arith, length-append}
-use Rattle.std.specs.Prelude.{Some, None, MatchOption, nat_le}
+use Rattle.std.proofs.Common.{◌≡◌, ℕ, zero, suc, ◌+◌, ◌-◌, ◌*◌, ◌<◌, true, false, List, [], ◌∷◌, ◌++◌, length, get_or, ap, sym, subst, ◌∙◌, inl, inr, arith, length-append}
+use Rattle.std.specs.Prelude.{Some, None, nat_le}
 use Rattle.std.proofs.lemmas.Bool.{cases_lt}
 use Rattle.std.proofs.lemmas.Bool.Decides.{leb_tells}
 use Rattle.std.proofs.lemmas.List.{get_or_append_left, get_or-append-add}
 use Rattle.picture_script.specs.Script.{Drawing, pictures, ready_time, hold_time, picture_pixel}
-use Rattle.picture_script.specs.Board.{Board, IsBlank, IsPicture, StandsBefore}
+use Rattle.picture_script.specs.Board.{Board, IsBlank, IsPicture}
 use Rattle.picture_changes.specs.Schedule.{start_of, IsInTime, IsLate, free_packs}
 use Rattle.picture_changes.specs.PlannedChange.{planned_change}
 use Rattle.picture_changes.specs.Shown.{AreTimesInOrder, AreColoursInRange}
@@ -21,27 +21,11 @@ abbrev pub StandsAt : List Drawing → ℕ → Board → Type 0
 StandsAt script zero board = (board.at ≡ None) × IsBlank board
 StandsAt script (suc k) board = (board.at ≡ Some k) × IsPicture script k board
 
-pub stands_before : (script : List Drawing) (k : ℕ) (board : Board) → StandsAt script k board → StandsBefore script k board
-stands_before script zero board h = subst (λ o. MatchOption o (IsBlank board) (λ j. (j ≤ zero) × IsPicture script j board)) (sym h.0) h.1
-stands_before script (suc k) board h = subst (λ o. MatchOption o (IsBlank board) (λ j. (j ≤ suc k) × IsPicture script j board)) (sym h.0) (omega arith, h.1)
-
 pub stands_next : (script : List Drawing) (k : ℕ) (board : Board) → board.at ≡ Some k → IsPicture script k board → StandsAt script (k + 1) board
 stands_next script k board at h =
     let next : suc k ≡ k + 1 = omega arith in
     let stands : StandsAt script (suc k) board = (at, h) in
     subst (λ n. StandsAt script n board) next stands
-
-pub stands_picture : (script : List Drawing) (k : ℕ) (board : Board) → 0 < k → StandsAt script k board → IsPicture script (k - 1) board
-stands_picture script zero board pos h = absurd (omega arith)
-stands_picture script (suc k) board pos h =
-    let at : k ≡ suc k - 1 = omega arith in
-    subst (λ n. IsPicture script n board) at h.1
-
-pub stands_first : (script : List Drawing) (board : Board) → board.at ≡ None → IsBlank board → StandsAt script 0 board
-stands_first script board at h = (at, h)
-
-pub none_planned : (script : List Drawing) (planned : List Planned) → planned ≡ [] → ArePlanned script 0 planned
-none_planned script planned h = record { count_is = ap length h; each = λ k lt. absurd (omega arith) }
 
 pub one_planned : (script : List Drawing) (k : ℕ) (planned more : List Planned) (new : Planned) → ArePlanned script k planned → IsPlanned script k new → more ≡ planned ++ new ∷ [] → ArePlanned script (k + 1) more
 one_planned script k planned more new h is added =

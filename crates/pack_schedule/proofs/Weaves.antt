@@ -1,47 +1,22 @@
 -- The changes of a script, one after another.
 use Rattle.std.proofs.Common.{◌≡◌, ℕ, suc, ◌+◌, ◌-◌, ◌*◌, ◌<◌, ◌≤◌, List, length, get_or, All, ap, sym, subst, ◌∙◌, inl, inr, arith}
-use Rattle.std.specs.Prelude.{Option, Some, None, MatchOption}
+use Rattle.std.specs.Prelude.{Option}
 use Rattle.std.proofs.lemmas.Bool.{cases_lt}
 use Rattle.std.proofs.lemmas.List.Elements.{All-get_or}
 use Rattle.cdg_instructions.specs.Instruction.{InRange, IsKnown, IsWritten}
 use Rattle.cdg_instructions.specs.declared.instr.Instr.{Instr}
 use Rattle.cdg_instructions.specs.declared.instr.Instr.TheVariants.{Idle}
 use Rattle.picture_script.specs.Script.{Drawing, pictures, ready_time, hold_time}
-use Rattle.picture_script.specs.Board.{Board, IsBlank, IsPicture, StandsBefore}
 use Rattle.picture_changes.specs.Change.{IsStart}
 use Rattle.rw_code.specs.Packs.{idle_pack}
 use Rattle.picture_changes.specs.Schedule.{start_of}
 use Rattle.picture_changes.specs.PlannedChange.{chosen_start, planned_from, planned_change}
 use Rattle.pack_schedule.specs.Survey.{nothing_planned, IsSurvey}
 use Rattle.pack_schedule.specs.Woven.{IsPackAt}
-use Rattle.pack_schedule.specs.Weaving.{Stands, IsWeaving}
+use Rattle.pack_schedule.specs.Weaving.{IsWeaving}
 use Rattle.pack_schedule.specs.declared.loom.Loom.{Loom}
 use Rattle.pack_schedule.specs.declared.planned.Planned.{Planned}
 use Rattle.picture_changes.proofs.Times.{hold_order}
-
-pub stands_ready : (script : List Drawing) (k : ℕ) (board : Board) → Stands script k board → StandsBefore script k board
-stands_ready script k board h = elim (cases_lt 0 k) [
-  | inl pos ↦ subst (λ o. MatchOption o (IsBlank board) (λ j. (j ≤ k) × IsPicture script j board)) (sym (h.at_some pos)) (omega arith, h.drawn pos)
-  | inr none ↦ subst (λ o. MatchOption o (IsBlank board) (λ j. (j ≤ k) × IsPicture script j board)) (sym (h.at_none (omega arith))) (h.blank (omega arith))
-]
-
-pub stands_after : (script : List Drawing) (k : ℕ) (board : Board) → board.at ≡ Some k → IsPicture script k board → Stands script (k + 1) board
-stands_after script k board at h =
-    let here : k ≡ k + 1 - 1 = omega arith in
-    record {
-      at_none = λ e. absurd (omega (arith, e));
-      blank = λ e. absurd (omega (arith, e));
-      at_some = λ pos. at ∙ ap Some here;
-      drawn = λ pos. subst (λ n. IsPicture script n board) here h;
-    }
-
-pub stands_blank : (script : List Drawing) (board : Board) → board.at ≡ None → IsBlank board → Stands script 0 board
-stands_blank script board at h = record {
-  at_none = λ e. at;
-  blank = λ e. h;
-  at_some = λ pos. absurd (omega (arith, pos));
-  drawn = λ pos. absurd (omega (arith, pos));
-}
 
 -- what a survey says of a picture
 abbrev pub ChosenIsStart : Type 0
@@ -111,51 +86,12 @@ no_pack script loom given pack h held later current early idle = record {
   idle = λ all. idle;
 }
 
--- the next picture
-pub advanced : (script : List Drawing) (old new : Loom) (given : ℕ) → IsWeaving script old given → old.k < pictures script → start_of script old.k + length (planned_change script old.k) ≤ given
-    → new.k ≡ old.k + 1 → new.survey ≡ old.survey → Stands script (old.k + 1) new.before → (old.k + 1 < pictures script → new.change ≡ planned_change script (old.k + 1))
-    → (old.k + 1 < pictures script → new.start ≡ start_of script (old.k + 1)) → (old.k + 1 < pictures script → Stands script (old.k + 1 + 1) new.now) → IsWeaving script new given
-advanced script old new given h lt sent next survey before change start now = record {
-  surveyed = subst (IsSurvey script) (sym survey) h.surveyed;
-  k_most = omega (arith, next);
-  change_is = λ more. subst (λ n. new.change ≡ planned_change script n) (sym next) (change (omega (arith, more, next)));
-  start_is = λ more. subst (λ n. new.start ≡ start_of script n) (sym next) (start (omega (arith, more, next)));
-  before_stands = subst (λ n. Stands script n new.before) (sym next) before;
-  now_stands = λ more. subst (λ n. Stands script (n + 1) new.now) (sym next) (now (omega (arith, more, next)));
-  sent = λ j j_lt. elim (cases_lt j old.k) [
-    | inl earlier ↦ h.sent j earlier
-    | inr not_earlier ↦
-        let here : old.k ≡ j = omega (arith, next, j_lt) in
-        subst (λ n. start_of script n + length (planned_change script n) ≤ given) here sent
-  ];
-}
-
-pub more_given : (script : List Drawing) (loom : Loom) (given more : ℕ) → given ≤ more → IsWeaving script loom given → IsWeaving script loom more
-more_given script loom given more le h = record {
-  surveyed = h.surveyed;
-  k_most = h.k_most;
-  change_is = h.change_is;
-  start_is = h.start_is;
-  before_stands = h.before_stands;
-  now_stands = h.now_stands;
-  sent = λ j lt. omega (arith, h.sent j lt);
-}
-
 -- each instruction of the change at hand can be written
 abbrev pub IsFine : Instr → Type 0
 IsFine instr = InRange instr × IsKnown instr
 
 pub fine_at : (script : List Drawing) (change : List Instr) (k i : ℕ) → All IsFine (planned_change script k) → change ≡ planned_change script k → i < length change → IsFine (get_or change i Idle)
 fine_at script change k i fine is lt = All-get_or IsFine change i Idle lt (subst (All IsFine) (sym is) fine)
-
--- a change ends in time
-pub end_fits : (script : List Drawing) (survey : List Planned) (k start need : ℕ) → IsSurvey script survey → k < pictures script → ((k : ℕ) → k < pictures script → ready_time script k ≤ hold_time script k)
-    → ((k : ℕ) → k < pictures script → hold_time script k < 450000) → start ≡ (get_or survey k nothing_planned).start → need ≡ (get_or survey k nothing_planned).need
-    → (start ≡ start_of script k) × (need ≡ length (planned_change script k)) × (start + need < 1800000)
-end_fits script survey k start need h lt held ends start_is need_is =
-    let planned = h.each k lt in
-    let in_time = planned.in_time in
-    (start_is ∙ planned.start_is, need_is ∙ planned.need_is, omega (arith, in_time, start_is, need_is, planned.start_is, held k lt, ends k lt))
 
 -- the place of a pack in the change at hand
 pub at_hand : (script : List Drawing) (loom : Loom) (given : ℕ) → IsWeaving script loom given → loom.k < pictures script

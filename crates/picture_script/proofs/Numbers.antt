@@ -9,10 +9,6 @@ abbrev pub with_front : List ℕ → Option (List ℕ) → Option (List ℕ)
 with_front xs (Some ys) = Some (xs ++ ys)
 with_front xs None = None
 
-pub front_none : (numbers : Option (List ℕ)) → numbers ≡ with_front [] numbers
-front_none (Some ys) = refl
-front_none None = refl
-
 front_more : (xs : List ℕ) (v : ℕ) (rest : Option (List ℕ)) → with_front xs (number_before (Some v) rest) ≡ with_front (xs ++ v ∷ []) rest
 front_more xs v (Some ys) = ap Some (sym (append_assoc xs (v ∷ []) ys))
 front_more xs v None = refl

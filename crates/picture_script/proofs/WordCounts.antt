@@ -1,5 +1,5 @@
 -- Lines of a wrong number of words.
-use Rattle.std.proofs.Common.{◌≡◌, ◌≢◌, ℕ, suc, List, [], ◌∷◌, length, refl, ap, arith}
+use Rattle.std.proofs.Common.{◌≡◌, ◌≢◌, ℕ, List, [], ◌∷◌, length, refl, ap}
 use Rattle.std.specs.Prelude.{Some, None, Bool, true, false, ◌&&◌, if◌then◌else◌, map}
 use Rattle.std.specs.List.{list_all}
 use Rattle.std.specs.Char.{is_ascii_hexdigit, digit_value}
@@ -28,10 +28,6 @@ row_none (a ∷ []) h = refl
 row_none (a ∷ b ∷ []) h = refl
 row_none (a ∷ b ∷ c ∷ []) h = absurd (h refl)
 row_none (a ∷ b ∷ c ∷ d ∷ words) h = refl
-
--- two words are those of a line, once another one stands before them
-pub three_none : (words rest : List (List ℕ)) (first : List ℕ) → words ≡ first ∷ rest → length rest ≢ 2 → length words ≢ 3
-three_none words rest first split other three = let size : length words ≡ suc (length rest) = ap length split in other (omega arith)
 
 pub colour_two : (words : List (List ℕ)) (a b : List ℕ) → words ≡ a ∷ b ∷ [] → colour_line words ≡ colour_of (small_number a) (colour_in b)
 unfolding colour_line

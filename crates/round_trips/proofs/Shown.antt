@@ -16,7 +16,6 @@ use Rattle.cdg_instructions.specs.Meaning.{meaning}
 use Rattle.cdg_instructions.specs.declared.instr.Instr.{Instr}
 use Rattle.cdg_instructions.specs.declared.instr.Instr.TheVariants.{Idle}
 use Rattle.cdg_screen.specs.Picture.{SameStanding, blank, standing_after}
-use Rattle.subcode_player.specs.Convert.{IsDamagedStream}
 use Rattle.subcode_player.specs.Screen.{AreMeant, IsScreenAt, moment}
 use Rattle.subcode_player.proofs.Restoring.{Recovers, program_small}
 use Rattle.rw_code.specs.Packs.{idle_pack}
@@ -129,15 +128,6 @@ module _ (sheet : CueSheet) (file : List ℕ) (lead_in audio : ℕ) (bytes : Lis
 module _ (form : Form) (lead_in : ℕ) (others : List ℕ) (press : DamagedPress form lead_in others) where
   abbrev blocks : ℕ
   blocks = program_blocks press.sheet press.audio
-
-  pub stream_of : IsDamagedStream form lead_in (program_blocks press.sheet press.audio) press.packs others
-  stream_of = record {
-    few = press.few;
-    whole = press.whole;
-    symbols = _;
-    carries = press.pressed.carries;
-    damaged = press.damaged;
-  }
 
   pub found_is : Recovers → (found : List (Option (List ℕ))) → IsRecovered form (program_symbols form others lead_in) found
       → found ≡ map (λ pack. Some pack) (all_packs form (program_blocks press.sheet press.audio) press.packs)

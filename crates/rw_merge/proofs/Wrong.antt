@@ -28,9 +28,6 @@ from_next from i places xs ys next rest k le lt out =
       | inr after ↦ rest k (let ne = out.0 in omega arith) lt out.1
     ]
 
-pub outside_all : (places xs ys : List ℕ) → EqualFrom 0 places xs ys → AreEqualOutside places xs ys
-outside_all places xs ys equal k lt out = equal k (omega arith) lt out
-
 -- ---- Codewords that are agreed.
 
 -- where the readings differ at three positions or more, all equal symbols are right

@@ -188,9 +188,6 @@ ranged : (b : Bool) (why : ScriptWhy) → (if b then None else Some why) ≡ Non
 ranged true why h = refl
 ranged false why h = absurd (cc)
 
-last_true : (a b : Bool) → (a && b) ≡ true → b ≡ true
-last_true a b h = (and_true a b h).1
-
 lt_true : (m n : ℕ) → nat_lt m n ≡ true → m < n
 lt_true m n h = grind (arith, nat_tests)
 

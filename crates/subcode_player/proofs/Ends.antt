@@ -46,12 +46,6 @@ stops_moment pump.WriteFault = tt
 stops_moment (pump.Torn unit) = tt
 stops_moment pump.TooLong = tt
 
-pub stops_before_texts : (stop : PumpStop) → IsListStop (play_stop stop)
-stops_before_texts pump.ReadFault = tt
-stops_before_texts pump.WriteFault = tt
-stops_before_texts (pump.Torn unit) = tt
-stops_before_texts pump.TooLong = tt
-
 abbrev by_test : Bool → ℕ → ℕ → Result Played PlayStop
 by_test past blocks bad = if past then Err (PastEnd blocks) else Ok (record { blocks = blocks; bad = bad })
 

@@ -1,5 +1,5 @@
 -- From a stage that reads the lead-in's packs to what a call lists.
-use Rattle.std.proofs.Common.{◌≡◌, ◌≢◌, ℕ, ◌-◌, ◌*◌, ◌/◌, ◌%◌, ◌≤◌, List, length, map, take, refl, sym, ap, ◌∙◌, subst, Some, None, IfSome, Result, Ok, Err, IsOk}
+use Rattle.std.proofs.Common.{◌≡◌, ℕ, ◌-◌, ◌*◌, ◌/◌, ◌%◌, ◌≤◌, List, length, map, take, refl, sym, ap, ◌∙◌, subst, Some, None, IfSome, Result, Ok, Err, IsOk}
 use Rattle.std.specs.Prelude.{nat_lt, ◌==◌}
 use Rattle.std.specs.declared.option.Option.{Option}
 use Rattle.std.proofs.Math.Nat.{mul-mod_left}
@@ -7,8 +7,6 @@ use Rattle.cdg_io.specs.Change.{from_to}
 use Rattle.cdg_io.specs.Run.{run_state}
 use Rattle.cdg_io.specs.Pump.{units_of, answer_of, IsUnlessFault}
 use Rattle.cdg_io.specs.declared.pumping.Pumped.{Pumped}
-use Rattle.cdg_io.specs.declared.pumping.PumpStop.{PumpStop}
-use Rattle.cdg_io.specs.declared.pumping.PumpStop.TheVariants as pump_stop
 use Rattle.cdg_io.proofs.Frames.{feeding, passing}
 use Rattle.raw_subcode.specs.Channels.{unit_size, block_of, blocks_of}
 use Rattle.raw_subcode.specs.declared.form.Form.{Form}
@@ -20,15 +18,13 @@ use Rattle.cdtext_packs.specs.TextLines.{counted_lines, text_lines}
 use Rattle.cdtext_packs.specs.TextSteps.{fresh_texts, text_next, HasRead}
 use Rattle.cdtext_packs.specs.declared.lead_in_texts.LeadInTexts.{LeadInTexts}
 use Rattle.raw_subcode.specs.Sizes.{most_units}
-use Rattle.subcode_player.specs.Calls.{IsAnsweredBy}
-use Rattle.subcode_player.specs.Watch.{Watches, WritesTexts, play_stop}
+use Rattle.subcode_player.specs.Watch.{Watches, WritesTexts}
 use Rattle.subcode_player.specs.TextListing.{packs_in, texts_of_lead_in, IsTextListed, IsTextFault, ListsTexts, IsWholeInput, IsListedBy}
 use Rattle.subcode_player.specs.declared.player.Played.{Played}
 use Rattle.subcode_player.specs.declared.player.PlayStop.{PlayStop}
 use Rattle.subcode_player.specs.declared.player.PlayStop.TheVariants.{ReadFault, WriteFault, Torn, TooLong, PastEnd, Text}
 use Rattle.subcode_player.proofs.Playing.{units_in}
 use Rattle.subcode_player.proofs.Views.{whole_taken, done_tests, not_over, zero_rest}
-use Rattle.subcode_player.proofs.Checks.{at_end_stop, checked_stop}
 use Rattle.subcode_player.proofs.Restoring.{taken_all}
 
 abbrev pub ReadsLeadIns : Type 0
@@ -120,19 +116,6 @@ module _ (form : Form) (lead_in : ℕ) (left left' held held' : Option (List ℕ
   lists_done pumped (Err TooLong) blocks law few fresh w is writes = absurd writes
   lists_done pumped (Err (PastEnd past)) blocks law few fresh w is writes = absurd writes
 
-  no_fault_told : (stop : PumpStop) (fault : TextFault) → play_stop stop ≢ Text fault
-  no_fault_told pump_stop.ReadFault fault e = absurd (cc)
-  no_fault_told pump_stop.WriteFault fault e = absurd (cc)
-  no_fault_told (pump_stop.Torn unit) fault e = absurd (cc)
-  no_fault_told pump_stop.TooLong fault e = absurd (cc)
-
-  pub lists_stop : (stop : PumpStop) (answer : PlayStop) → held' ≡ held → Watches form text_next (feeding (from_to left left') (from_to s s')) (Err stop) taken → answer ≡ play_stop stop
-      → ListsTexts form lead_in (passing (from_to left left') (from_to held held')) (Err answer) taken
-  lists_stop stop answer same w e = record {
-    plays = at_end_stop (IsTextListed form lead_in) form lead_in text_next left left' held held' s s' taken stop answer same w e;
-    refused = λ fault told. let is : answer ≡ Text fault = cc in absurd (no_fault_told stop fault (sym e ∙ is));
-  }
-
 whole_input : (form : Form) (pumped : Pumped) (all : List ℕ) → IsUnlessFault (Ok pumped) (answer_of (unit_size form) most_units (length all)) → IsWholeInput form all
 whole_input form pumped all e =
     let (within, whole, units) = done_tests (nat_lt (most_units * unit_size form) (length all)) (length all % unit_size form == 0) (length all / unit_size form) pumped e in
@@ -159,16 +142,3 @@ listed_done form lead_in pumped (Err ReadFault) (Some all) left' held held' s s'
 listed_done form lead_in pumped (Err (Torn block)) (Some all) left' held held' s s' taken blocks w writes lists e = absurd writes
 listed_done form lead_in pumped (Err TooLong) (Some all) left' held held' s s' taken blocks w writes lists e = absurd writes
 listed_done form lead_in pumped (Err (PastEnd past)) (Some all) left' held held' s s' taken blocks w writes lists e = absurd writes
-
-listed_at : (form : Form) (lead_in : ℕ) (stop : PumpStop) (left : Option (List ℕ)) → IfSome left (λ all. IsAnsweredBy (Err (play_stop stop)) (unit_size form) (length all))
-    → IfSome left (λ all. IsListedBy (Err (play_stop stop)) form lead_in all)
-listed_at form lead_in pump_stop.ReadFault left answered = answered
-listed_at form lead_in pump_stop.WriteFault left answered = answered
-listed_at form lead_in (pump_stop.Torn unit) left answered = answered
-listed_at form lead_in pump_stop.TooLong left answered = answered
-
-pub listed_stop : (form : Form) (lead_in : ℕ) (stop : PumpStop) (answer : PlayStop) (left : Option (List ℕ)) → answer ≡ play_stop stop
-    → IfSome left (λ all. IsUnlessFault (Err stop) (answer_of (unit_size form) most_units (length all))) → IfSome left (λ all. IsListedBy (Err answer) form lead_in all)
-listed_stop form lead_in stop answer left told e =
-    subst (λ (a : PlayStop). IfSome left (λ all. IsListedBy (Err a) form lead_in all)) (sym told)
-    (listed_at form lead_in stop left (checked_stop (unit_size form) stop (play_stop stop) left refl e))

@@ -1,5 +1,5 @@
 -- What the code reads and writes of lines.
-use Rattle.std.proofs.Common.{◌≡◌, ◌≢◌, ℕ, zero, suc, ◌+◌, ◌-◌, ◌*◌, ◌/◌, ◌^◌, ◌<◌, ◌≤◌, Bool, true, false, List, [], ◌∷◌, ◌++◌, length, take, drop, map, get_or, refl, sym, ap, ap₂, ◌∙◌, subst, inl, inr, bit_xor, arith}
+use Rattle.std.proofs.Common.{◌≡◌, ◌≢◌, ℕ, zero, suc, ◌+◌, ◌-◌, ◌*◌, ◌/◌, ◌^◌, ◌<◌, ◌≤◌, Bool, true, false, List, [], ◌∷◌, ◌++◌, length, take, drop, map, get_or, refl, sym, ap, ap₂, ◌∙◌, inl, inr, bit_xor, arith}
 use Rattle.std.specs.Prelude.{slice_index, ◌==◌, ◌&&◌, if◌then◌else◌, Some, None, bit_and, max}
 use Rattle.std.specs.Int.{bit_at}
 use Rattle.std.proofs.lemmas.Nat.Bits.{shr_and_one, bit_at-lt}
@@ -25,9 +25,6 @@ binary (suc (suc n)) h = absurd (omega arith)
 
 pub bit_read : (ms : List ℕ) (v s j : ℕ) → Some s ≡ entry ms v → bit_and (s / 2 ^ j) 1 ≡ (if has_bit j (selection ms v) then 1 else 0)
 bit_read ms v s j h = shr_and_one s j ∙ binary (bit_at s j) (bit_at-lt s j) ∙ ap (λ n. if bit_at n j == 1 then 1 else 0) (sym (made ms v s h).1)
-
-pub bit_below : (s j : ℕ) → bit_and (s / 2 ^ j) 1 < 2
-bit_below s j = subst (λ n. n < 2) (sym (shr_and_one s j)) (bit_at-lt s j)
 
 pub no_entry : (ms : List ℕ) (v : ℕ) → None ≡ entry ms v → is_combination ms v ≡ true → ⊥
 no_entry ms v none h = false≢true (sym (not_made ms v none) ∙ h)

@@ -21,10 +21,6 @@ use Rattle.tile_author.proofs.Lower.{at_below}
 use Rattle.tile_author.proofs.Lines.{drawn_member}
 use Rattle.tile_author.proofs.Needed.{length-delta, delta_at}
 
--- member j where bit j of the selection is set
-picked : List ℕ → ℕ → ℕ → ℕ
-picked ms chosen j = if has_bit j chosen then slice_index ms j else 0
-
 -- the combination of the selected ones of the first n members
 unfoldable pub partial : List ℕ → ℕ → ℕ → ℕ
 partial ms chosen zero = 0
