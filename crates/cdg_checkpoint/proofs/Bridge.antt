@@ -18,7 +18,7 @@ use Rattle.cdg_io.proofs.Frames.{passing}
 use Rattle.cdg_io.proofs.Streaming.{IsWhole}
 use Rattle.cdg_io.specs.declared.pumping.Pumped.{Pumped}
 use Rattle.cdg_instructions.specs.declared.instr.Instr.{Instr}
-use Rattle.cdg_screen.specs.Picture.{Standing, SameStanding, blank, standing_after}
+use Rattle.cdg_screen.specs.Picture.{Standing, blank, standing_after}
 use Rattle.cdg_screen.specs.Texts.{pixmap}
 use Rattle.cdg_screen.proofs.SameTexts.{picture_same}
 use Rattle.cdg_screen.proofs.Turns.{same_after, same_then, same_back}
@@ -58,7 +58,7 @@ zeros_are zero i = refl
 zeros_are (suc n) zero = refl
 zeros_are (suc n) (suc i) = zeros_are n i
 
-sound_same : (one other : Standing) → SameStanding one other → IsSoundStanding other → IsSoundStanding one
+sound_same : (one other : Standing) → one ≡ other → IsSoundStanding other → IsSoundStanding one
 sound_same one other h s = record {
   memory = λ x y x_lt y_lt. omega (arith, h.memory x y x_lt y_lt, s.memory x y x_lt y_lt);
   border = omega (arith, h.border, s.border);
@@ -126,7 +126,7 @@ module _ (lead_in n : ℕ) (bytes : List ℕ) (c : Checkpoint) (lead_in_most : l
 
 -- ---- the same checkpoint goes on the same
 
-same_standing : (a b : Checkpoint) (time : ℕ) (rest : List ℕ) (now : Standing) (bad : ℕ) → a ≡ record b { standing = a.standing } → SameStanding a.standing b.standing → IsGoneOn (record b { standing = a.standing }) time rest now bad → IsGoneOn b time rest now bad
+same_standing : (a b : Checkpoint) (time : ℕ) (rest : List ℕ) (now : Standing) (bad : ℕ) → a ≡ record b { standing = a.standing } → a.standing ≡ b.standing → IsGoneOn (record b { standing = a.standing }) time rest now bad → IsGoneOn b time rest now bad
 same_standing a b time rest now bad e same g = record {
   found = g.found;
   count = g.count;

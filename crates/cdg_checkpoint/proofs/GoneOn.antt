@@ -21,7 +21,6 @@ use Rattle.rw_interleave.specs.Gathering.{gather_next, gather_gives}
 use Rattle.rw_interleave.proofs.Gathers.{gathers}
 use Rattle.raw_subcode.specs.Channels.{symbols_of, program_symbols}
 use Rattle.raw_subcode.specs.declared.form.Form.TheVariants.{Raw}
-use Rattle.cdg_screen.specs.Picture.{SameStanding, standing_of}
 use Rattle.cdg_screen.proofs.Turns.{same_after, same_then}
 use Rattle.checkpoint_files.specs.Checkpoint.{Checkpoint}
 use Rattle.checkpoint_files.specs.Table.{empty_symbols}
@@ -119,7 +118,7 @@ pub record IsBroughtBack (c : Checkpoint) (time : ℕ) (s : Then BlockWords Draw
   pub words : s.first ≡ record { form = Raw; lead_in = c.to_come; gather = run_state gather_next [] (saved_slots c) }
   pub left : s.second.left ≡ packs_until c time
   pub bad : s.second.bad ≡ c.bad
-  pub stands : SameStanding (standing_of s.second.picture) c.standing
+  pub stands : s.second.picture ≡ c.standing
 
 -- the ranges that matter
 pub record IsSound (c : Checkpoint) : Type 0 where
@@ -193,7 +192,7 @@ module _ (c : Checkpoint) (time n : ℕ) (bytes : List ℕ) (s s' : Then BlockWo
       ∙ ap₂ draw_after start given in
       subst (AreDrawn s.second.picture (packs_until c time) c.bad words) (sym end) (are_drawn s.second.picture (packs_until c time) c.bad words (omega (arith, sound.few_bad, words_count, saved_count, slots_count, few)))
 
-  pub gone_on : IsGoneOn c time bytes (standing_of s'.second.picture) s'.second.bad
+  pub gone_on : IsGoneOn c time bytes s'.second.picture s'.second.bad
   gone_on = record {
     found = map finding words;
     count = length-map words finding ∙ words_count ∙ packs_count;
@@ -204,6 +203,6 @@ module _ (c : Checkpoint) (time n : ℕ) (bytes : List ℕ) (s s' : Then BlockWo
         subst (IsFinding (word_of (resumed_symbols c bytes) k)) (sym entry) (finding_is (word_of (resumed_symbols c bytes) k) (gathered_word (resumed_symbols c bytes) k all_small));
     instrs = instrs_of (take (packs_until c time) (map finding words));
     shown = are_meant (take (packs_until c time) (map finding words));
-    stands = same_then _ _ _ drawn.stands (same_after (standing_of s.second.picture) c.standing (instrs_of (take (packs_until c time) (map finding words))) back.stands);
+    stands = same_then _ _ _ drawn.stands (same_after s.second.picture c.standing (instrs_of (take (packs_until c time) (map finding words))) back.stands);
     bad_is = drawn.counted;
   }

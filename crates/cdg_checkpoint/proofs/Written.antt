@@ -6,7 +6,7 @@ use Rattle.std.proofs.KnownBytes.{Appends-nil}
 use Rattle.cdg_io.specs.Change.{from_to}
 use Rattle.cdg_io.specs.Moves.{AppendsPrefix}
 use Rattle.cdg_io.proofs.Frames.{passing}
-use Rattle.cdg_screen.specs.Picture.{Standing, SameStanding}
+use Rattle.cdg_screen.specs.Picture.{Standing}
 use Rattle.cdg_screen.specs.Texts.{pixmap}
 use Rattle.checkpoint_files.specs.Checkpoint.{checkpoint_in}
 use Rattle.cdg_checkpoint.specs.Resumed.{GoesOn, IsResumed, Resumes, time_after}
@@ -19,7 +19,7 @@ module _ (file : List ℕ) (time : ℕ) (left left' held held' : Option (List �
   resumed_to : (resumed : Resumed) → GoesOn (time_after (checkpoint_in file) time) (from_to left left') now (Ok resumed) taken → IsResumed file time taken resumed (pixmap now)
   resumed_to resumed g = let (at_end, blocks, reached, gone) = g.done in record { blocks = blocks; now = now; gone_on = gone; text_is = refl }
 
-  pub shows_done : (resumed : Resumed) → GoesOn (time_after (checkpoint_in file) time) (from_to left left') now (Ok resumed) taken → ((shown : Standing) → SameStanding now shown → Appends held held' (pixmap shown)) → Resumes file time (passing (from_to left left') (from_to held held')) (Ok resumed) taken
+  pub shows_done : (resumed : Resumed) → GoesOn (time_after (checkpoint_in file) time) (from_to left left') now (Ok resumed) taken → ((shown : Standing) → now ≡ shown → Appends held held' (pixmap shown)) → Resumes file time (passing (from_to left left') (from_to held held')) (Ok resumed) taken
   shows_done resumed g put = record {
     taken_from = g.taken_from;
     within = g.within;
@@ -30,7 +30,7 @@ module _ (file : List ℕ) (time : ℕ) (left left' held held' : Option (List �
     cut = λ e. (cc);
   }
 
-  pub shows_cut : (resumed : Resumed) → GoesOn (time_after (checkpoint_in file) time) (from_to left left') now (Ok resumed) taken → ((shown : Standing) → SameStanding now shown → AppendsPrefix held held' (pixmap shown)) → Resumes file time (passing (from_to left left') (from_to held held')) (Err WriteFault) taken
+  pub shows_cut : (resumed : Resumed) → GoesOn (time_after (checkpoint_in file) time) (from_to left left') now (Ok resumed) taken → ((shown : Standing) → now ≡ shown → AppendsPrefix held held' (pixmap shown)) → Resumes file time (passing (from_to left left') (from_to held held')) (Err WriteFault) taken
   shows_cut resumed g put = record {
     taken_from = g.taken_from;
     within = g.within;

@@ -1,6 +1,5 @@
 -- What the state after a stream is saved as.
 use Rattle.std.specs.Prelude.{◌≡◌, ℕ, ◌-◌, List, min}
-use Rattle.cdg_screen.specs.Picture.{SameStanding, standing_of}
 use Rattle.checkpoint_files.specs.Checkpoint.{Checkpoint, file_of}
 use Rattle.cdg_checkpoint.specs.declared.tracking.Tracking.{Tracking}
 
@@ -12,5 +11,5 @@ pub record IsKept (blocks lead_in : ℕ) (s : Tracking) (file : List ℕ) : Type
   pub program_is : checkpoint.program ≡ blocks - lead_in
   pub bad_is : checkpoint.bad ≡ s.words.second.bad
   pub slots_are : checkpoint.slots ≡ s.tail
-  pub stands : SameStanding checkpoint.standing (standing_of s.words.second.picture)
+  pub stands : checkpoint.standing ≡ s.words.second.picture
   pub file_is : file ≡ file_of checkpoint

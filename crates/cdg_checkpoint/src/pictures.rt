@@ -1,6 +1,6 @@
 // What stands, to a file and back.
 ghost use Rattle.std.specs.Prelude.{◌≡◌};
-ghost use Rattle.cdg_screen.specs.Picture.{SameStanding, Standing, standing_of};
+ghost use Rattle.cdg_screen.specs.Picture.{Standing};
 ghost use Rattle.checkpoint_files.specs.Checkpoint.{file_of, kept, standing_in};
 ghost use Rattle.checkpoint_files.specs.Table.{IsCheckpointFile};
 
@@ -14,7 +14,7 @@ pub(crate) fn compose(
     slots: &[u8; SLOTS_BYTES],
     picture: &Picture,
 )
-    ensures { (now : Standing) × SameStanding now (standing_of picture.now)
+    ensures { (now : Standing) × now ≡ picture.now
         × (file.new ≡ file_of (kept counts.now slots.now now)) }
 {
     file.compose(counts, slots, &picture.screen);
@@ -23,7 +23,7 @@ pub(crate) fn compose(
 /// Brings back what stood, by the file of a checkpoint.
 pub(crate) fn bring_back(file: &CheckpointFile, picture: &mut Picture)
     requires { IsCheckpointFile file.now }
-    ensures { SameStanding (standing_of picture.new) (standing_in file.now) }
+    ensures { picture.new ≡ standing_in file.now }
 {
     file.bring_back(&mut picture.screen);
 }

@@ -4,7 +4,7 @@ use Rattle.std.specs.Prelude.{slice_index}
 use Rattle.std.proofs.lemmas.List.{ext_get_or}
 use Rattle.std.proofs.lemmas.List.FromFn.{length-map-range_with_len, get_or-map-range_with_len, fill_by_all}
 use Rattle.bit_lists.specs.Counting.{below}
-use Rattle.cdg_screen.specs.Picture.{pixel_at, rows_of, sixteen}
+use Rattle.cdg_screen.specs.Picture.{IsWhole, Standing, pixel_at, rows_of, sixteen, standing_after}
 
 -- the same pixels stand in both, at each place of the memory
 abbrev pub AreSamePixels : (ℕ → ℕ → ℕ) → (ℕ → ℕ → ℕ) → Type 0
@@ -55,3 +55,30 @@ rows_same one other same = rows_are (rows_of one) other (length-rows_of one) (le
 
 pub sixteen_same : (one other : ℕ → ℕ) → ((k : ℕ) → k < 16 → one k ≡ other k) → sixteen one ≡ sixteen other
 sixteen_same one other same = sixteen_are (sixteen one) other (length-sixteen one) (λ k lt. number_of_sixteen one k lt ∙ same k lt)
+
+-- the same stands in both, place by place
+pub record IsAlike (one other : Standing) : Type 0 where
+  pub memory : AreSamePixels (pixel_at one.memory) (pixel_at other.memory)
+  pub border : one.border ≡ other.border
+  pub colours : (k : ℕ) → k < 16 → slice_index one.colours k ≡ slice_index other.colours k
+  pub levels : (k : ℕ) → k < 16 → slice_index one.levels k ≡ slice_index other.levels k
+  pub h : one.h ≡ other.h
+  pub v : one.v ≡ other.v
+
+-- then it is one value
+pub one_value : (one other : Standing) → IsWhole one → IsWhole other → IsAlike one other → one ≡ other
+one_value one other whole other_whole alike =
+    let memory = rows_same _ _ alike.memory in
+    let colours = sixteen_same _ _ alike.colours in
+    let levels = sixteen_same _ _ alike.levels in
+    let same : standing_after one [] ≡ standing_after other [] =
+    λ i. record { memory = memory i; border = alike.border i; colours = colours i; levels = levels i; h = alike.h i; v = alike.v i } in
+    sym whole ∙ same ∙ other_whole
+
+-- what is built of all rows and numbers is whole
+pub built_is_whole : (pixel : ℕ → ℕ → ℕ) (border : ℕ) (colour level : ℕ → ℕ) (h v : ℕ) → IsWhole (record { memory = rows_of pixel; border = border; colours = sixteen colour; levels = sixteen level; h = h; v = v })
+built_is_whole pixel border colour level h v =
+    let memory = rows_same (pixel_at (rows_of pixel)) pixel (pixel_of_rows pixel) in
+    let colours = sixteen_same (slice_index (sixteen colour)) colour (number_of_sixteen colour) in
+    let levels = sixteen_same (slice_index (sixteen level)) level (number_of_sixteen level) in
+    λ i. record { memory = memory i; border = border; colours = colours i; levels = levels i; h = h; v = v }

@@ -1,5 +1,5 @@
 -- What stands in the memory and on the screen after a list of instructions.
-use Rattle.std.specs.Prelude.{ℕ, ◌+◌, ◌-◌, ◌*◌, ◌/◌, ◌%◌, Bool, List, [], ◌∷◌, map, reverse, slice_index, slice_index_or, ◌==◌, nat_le, nat_lt, ◌&&◌, if◌then◌else◌, bit_xor}
+use Rattle.std.specs.Prelude.{◌≡◌, ℕ, ◌+◌, ◌-◌, ◌*◌, ◌/◌, ◌%◌, Bool, List, [], ◌∷◌, map, reverse, slice_index, slice_index_or, ◌==◌, nat_le, nat_lt, ◌&&◌, if◌then◌else◌, bit_xor}
 use Rattle.bit_lists.specs.Counting.{below}
 use Rattle.cdg_instructions.specs.Drawing.{tile_colour}
 use Rattle.cdg_instructions.specs.declared.instr.Instr.{Instr}
@@ -110,6 +110,10 @@ standing_after start instrs =
       h = offsets.0;
       v = offsets.1;
     }
+
+-- it has the rows and the numbers that a screen has, and no more: it is as after no instructions
+abbrev pub IsWhole : Standing → Type 0
+IsWhole now = standing_after now [] ≡ now
 
 -- pixel (x, y) of the screen: in the window the memory, moved by the offsets, and elsewhere the border
 abbrev pub screen_pixel : Standing → ℕ → ℕ → ℕ

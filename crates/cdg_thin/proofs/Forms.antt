@@ -6,7 +6,7 @@ use Rattle.std.proofs.lemmas.Bool.{cases_lt}
 use Rattle.std.proofs.lemmas.List.{length-map, get_or-map, get_or-take, take_more, take_all, same_lists, length-take-le}
 use Rattle.std.proofs.Math.Seq.{take-append_seam, drop-append_seam}
 use Rattle.bit_lists.specs.Counting.{parts, whole_parts}
-use Rattle.cdg_screen.specs.Picture.{Standing, blank, standing_after, SameStanding}
+use Rattle.cdg_screen.specs.Picture.{Standing, blank, standing_after}
 use Rattle.cdg_screen.proofs.Turns.{in_turn, same_back, same_further, same_then}
 use Rattle.cdg_instructions.specs.declared.instr.Instr.{Instr}
 use Rattle.cdg_instructions.specs.declared.instr.Instr.TheVariants.{Idle}
@@ -30,13 +30,13 @@ instructions_of packs = map instruction_of packs
 abbrev pub after : List Instr → Standing
 after instrs = standing_after blank instrs
 
-pub self_same : (now : Standing) → SameStanding now now
+pub self_same : (now : Standing) → now ≡ now
 self_same now = record { memory = λ x y x_lt y_lt. refl; border = refl; colour = λ k lt. refl; level = λ k lt. refl; h = refl; v = refl }
 
-idle_keeps : (now : Standing) → SameStanding (standing_after now (Idle ∷ [])) now
+idle_keeps : (now : Standing) → standing_after now (Idle ∷ []) ≡ now
 idle_keeps now = record { memory = λ x y x_lt y_lt. refl; border = refl; colour = λ k lt. refl; level = λ k lt. refl; h = refl; v = refl }
 
-idle_changes_nothing : (before : List Instr) → SameStanding (after (before ++ Idle ∷ [])) (after before)
+idle_changes_nothing : (before : List Instr) → after (before ++ Idle ∷ []) ≡ after before
 idle_changes_nothing before = same_then _ _ _ (in_turn blank before (Idle ∷ [])) (idle_keeps (after before))
 
 -- ---- instructions of packs
@@ -104,24 +104,24 @@ kept_instr packs thins instrs n read lt thin_lt same =
 one_more_at : (instrs : List Instr) (m : ℕ) → m < length instrs → after (take (m + 1) instrs) ≡ after (take m instrs ++ instr_at instrs m ∷ [])
 one_more_at instrs m lt = ap after (take_more instrs m Idle lt)
 
-pub stand_alike : (packs thins : List (List ℕ)) (f : IsThinForm packs thins) (m : ℕ) → SameStanding (after (take m f.instrs)) (after (take m (instructions_of thins)))
+pub stand_alike : (packs thins : List (List ℕ)) (f : IsThinForm packs thins) (m : ℕ) → after (take m f.instrs) ≡ after (take m (instructions_of thins))
 stand_alike packs thins f zero = self_same _
 stand_alike packs thins f (suc m) =
     let others : List Instr = instructions_of thins in
     let others_count : length others ≡ length packs = length-map thins instruction_of ∙ f.count in
     let before = stand_alike packs thins f m in
     let next : suc m ≡ m + 1 = omega arith in
-    subst (λ k. SameStanding (after (take k f.instrs)) (after (take k others))) (sym next)
+    subst (λ k. after (take k f.instrs) ≡ after (take k others)) (sym next)
     (elim (cases_lt m (length packs)) [
       | inl lt ↦
           let thin_lt : m < length thins = omega (arith, f.count) in
           rw (take_more f.instrs m Idle (omega (arith, f.read.count)), take_more others m Idle (omega arith))
           (elim (f.each m lt) [
             | inl idle ↦
-                subst (λ (i : Instr). SameStanding (after (take m f.instrs ++ instr_at f.instrs m ∷ [])) (after (take m others ++ i ∷ []))) (sym (idled_instr thins m thin_lt idle.1))
+                subst (λ (i : Instr). after (take m f.instrs ++ instr_at f.instrs m ∷ []) ≡ after (take m others ++ i ∷ [])) (sym (idled_instr thins m thin_lt idle.1))
                 (same_then _ _ _ idle.0.nothing (same_then _ _ _ before (same_back _ _ (idle_changes_nothing (take m others)))))
             | inr kept ↦
-                subst (λ (i : Instr). SameStanding (after (take m f.instrs ++ instr_at f.instrs m ∷ [])) (after (take m others ++ i ∷ []))) (sym (kept_instr packs thins f.instrs m f.read lt thin_lt kept.1))
+                subst (λ (i : Instr). after (take m f.instrs ++ instr_at f.instrs m ∷ []) ≡ after (take m others ++ i ∷ [])) (sym (kept_instr packs thins f.instrs m f.read lt thin_lt kept.1))
                 (same_further blank blank (take m f.instrs) (take m others) (instr_at f.instrs m ∷ []) before)
           ])
       | inr past ↦
@@ -130,7 +130,7 @@ stand_alike packs thins f (suc m) =
     ])
 
 -- an instruction that is needless after some instructions is so after others after which the same stands
-pub needless_alike : (one other : List Instr) (instr : Instr) → SameStanding (after one) (after other) → IsNeedless one instr → IsNeedless other instr
+pub needless_alike : (one other : List Instr) (instr : Instr) → after one ≡ after other → IsNeedless one instr → IsNeedless other instr
 needless_alike one other instr same h = record {
   graphic = h.graphic;
   nothing = same_then _ _ _ (same_back _ _ (same_further blank blank one other (instr ∷ []) same)) (same_then _ _ _ h.nothing same);

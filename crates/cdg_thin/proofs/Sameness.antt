@@ -3,7 +3,7 @@ use Rattle.std.proofs.Common.{◌≡◌, ℕ, zero, suc, ◌+◌, ◌<◌, ◌==
 use Rattle.std.specs.List.{list_all, range_with_len}
 use Rattle.std.proofs.lemmas.Bool.{cases_Bool}
 use Rattle.std.proofs.lemmas.Bool.Decides.{eqb_tells}
-use Rattle.cdg_screen.specs.Picture.{Display, Standing, SameStanding, standing_of, standing_after}
+use Rattle.cdg_screen.specs.Picture.{Standing, standing_after}
 use Rattle.cdg_instructions.specs.declared.instr.Instr.{Instr}
 use Rattle.cdg_thin.specs.Thin.{is_graphic}
 use Rattle.cdg_thin.specs.Steps.{passes_below, is_same, is_needless}
@@ -63,7 +63,7 @@ parts_of a b t =
     let (memory, border) = both_true _ _ two in
     record { memory = memory; border = border; colour = colour; level = level; h = h; v = v }
 
-pub same_standing : (a b : Standing) → is_same a b ≡ true → SameStanding a b
+pub same_standing : (a b : Standing) → is_same a b ≡ true → a ≡ b
 same_standing a b t =
     let p = parts_of a b t in
     record {
@@ -75,7 +75,7 @@ same_standing a b t =
       v = is_number _ _ p.v;
     }
 
-pub tells_same : (a b : Standing) → SameStanding a b → is_same a b ≡ true
+pub tells_same : (a b : Standing) → a ≡ b → is_same a b ≡ true
 unfolding is_same
 tells_same a b s =
     true_both _ _ (true_both _ _ (true_both _ _ (true_both _ _ (true_both _ _
@@ -87,22 +87,22 @@ tells_same a b s =
     (same_number _ _ s.v)
 
 -- what is needless, by what stands
-pub needless_if : (now : Display) (instr : Instr) → is_graphic instr ≡ true → SameStanding (standing_after (standing_of now) (instr ∷ [])) (standing_of now) → is_needless now instr ≡ true
+pub needless_if : (now : Standing) (instr : Instr) → is_graphic instr ≡ true → standing_after now (instr ∷ []) ≡ now → is_needless now instr ≡ true
 unfolding is_needless
 needless_if now instr graphic same = true_both _ _ graphic (tells_same _ _ same)
 
-pub if_needless : (now : Display) (instr : Instr) → is_needless now instr ≡ true → (is_graphic instr ≡ true) × SameStanding (standing_after (standing_of now) (instr ∷ [])) (standing_of now)
+pub if_needless : (now : Standing) (instr : Instr) → is_needless now instr ≡ true → (is_graphic instr ≡ true) × standing_after now (instr ∷ []) ≡ now
 unfolding is_needless
 if_needless now instr t = let both = both_true _ _ t in (both.0, same_standing _ _ both.1)
 
-pub needless_as_graphic : (now : Display) (instr : Instr) → SameStanding (standing_after (standing_of now) (instr ∷ [])) (standing_of now) → is_needless now instr ≡ is_graphic instr
+pub needless_as_graphic : (now : Standing) (instr : Instr) → standing_after now (instr ∷ []) ≡ now → is_needless now instr ≡ is_graphic instr
 unfolding is_needless
 needless_as_graphic now instr same = elim (cases_Bool (is_graphic instr)) [
   | inl holds ↦ needless_if now instr holds same ∙ sym holds
   | inr fails ↦ rw fails refl
 ]
 
-pub not_needless : (now : Display) (instr : Instr) → ¬ SameStanding (standing_after (standing_of now) (instr ∷ [])) (standing_of now) → is_needless now instr ≡ false
+pub not_needless : (now : Standing) (instr : Instr) → ¬ standing_after now (instr ∷ []) ≡ now → is_needless now instr ≡ false
 not_needless now instr differs = elim (cases_Bool (is_needless now instr)) [
   | inl holds ↦ absurd (differs (if_needless now instr holds).1)
   | inr fails ↦ fails

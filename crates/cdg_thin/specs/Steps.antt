@@ -3,8 +3,7 @@ use Rattle.std.specs.Prelude.{ℕ, ◌==◌, ◌&&◌, Bool, if◌then◌else◌
 use Rattle.std.specs.List.{list_all}
 use Rattle.bit_lists.specs.Counting.{below}
 use Rattle.cdg_instructions.specs.Meaning.{meaning}
-use Rattle.cdg_screen.specs.Picture.{Display, Standing, standing_of, standing_after}
-use Rattle.cdg_screen.specs.Standings.{obeyed}
+use Rattle.cdg_screen.specs.Picture.{Standing, standing_after}
 use Rattle.rw_code.specs.Packs.{idle_pack}
 use Rattle.raw_subcode.specs.Channels.{symbols_of}
 use Rattle.cdg_thin.specs.Thin.{is_graphic}
@@ -29,14 +28,14 @@ is_same a b =
     && a.v == b.v
 
 -- whether it is a graphics instruction after which the same stands as before
-unfoldable pub is_needless : Display → Instr → Bool
+unfoldable pub is_needless : Standing → Instr → Bool
 is_needless now instr = is_graphic instr
-    && is_same (standing_after (standing_of now) (instr ∷ [])) (standing_of now)
+    && is_same (standing_after now (instr ∷ [])) now
 
 -- what stands after a pack
-unfoldable pub thin_next : Display → List ℕ → Display
+unfoldable pub thin_next : Standing → List ℕ → Standing
 thin_next now pack = obeyed now (instruction_of pack)
 
 -- the pack, or an idle one in its place
-unfoldable pub thin_gives : Display → List ℕ → Option (List ℕ)
+unfoldable pub thin_gives : Standing → List ℕ → Option (List ℕ)
 thin_gives now pack = Some (if is_needless now (instruction_of pack) then idle_pack else pack)

@@ -11,7 +11,7 @@ use Rattle.cdg_instructions.specs.Instruction.{InRange}
 use Rattle.cdg_instructions.specs.Drawing.{IsOfPlace, drawn, tile_colour, tile_from, Turns}
 use Rattle.cdg_instructions.specs.declared.instr.Instr.{Instr}
 use Rattle.cdg_instructions.specs.declared.instr.Instr.TheVariants.{SetTile, XorTile, BorderPreset, ColoursLow, ColoursHigh, Transparency, ScrollCopy}
-use Rattle.cdg_screen.specs.Picture.{Standing, SameStanding, covers, memory_from, standing_after}
+use Rattle.cdg_screen.specs.Picture.{Standing, covers, memory_from, standing_after}
 use Rattle.checkpoint_files.specs.Drawn.{DrawsTile, HoldsTiles, set_by, tile_number}
 use Rattle.checkpoint_files.specs.Table.{number_at}
 
@@ -97,7 +97,7 @@ blank_small n p = omega (arith, blank_tile n p)
 
 module _ (saved start now : Standing) (row column : ℕ) (tile : List ℕ) (instrs : List Instr) where
   pub tile_drawn : row < 18 → column < 50 → Turns row column (replicate 72 0) tile instrs → ((x y : ℕ) → x < 300 → y < 216 → x / 6 ≡ column → y / 12 ≡ row → start.memory x y ≡ 0)
-      → ((p : ℕ) → p < 72 → get_or tile p 0 ≡ saved.memory (6 * column + p % 6) (12 * row + p / 6)) → SameStanding now (standing_after start instrs) → DrawsTile saved row column start now
+      → ((p : ℕ) → p < 72 → get_or tile p 0 ≡ saved.memory (6 * column + p % 6) (12 * row + p / 6)) → now ≡ standing_after start instrs → DrawsTile saved row column start now
   tile_drawn r c turns blank pixels same x y x_lt y_lt =
       let placed : AllByRecursion (IsOfPlace row column) (reverse instrs) = each_reverse (IsOfPlace row column) instrs (recursion_from_All (IsOfPlace row column) instrs turns.of_place) in
       same.memory x y x_lt y_lt
@@ -154,7 +154,7 @@ no_tiles saved now blank x y x_lt y_lt = blank x y x_lt y_lt ∙ sym (choose (na
 
 -- ---- all else
 
-pub brought_back : (saved mid now : Standing) → HoldsTiles saved 900 mid → SameStanding now (set_by saved mid) → SameStanding now saved
+pub brought_back : (saved mid now : Standing) → HoldsTiles saved 900 mid → now ≡ set_by saved mid → now ≡ saved
 brought_back saved mid now holds same = record {
   memory = λ x y x_lt y_lt. same.memory x y x_lt y_lt ∙ holds x y x_lt y_lt ∙ choose (nat_lt (tile_number x y) 900) true (saved.memory x y) 0 (less (tile_number x y) 900 (omega (arith, x_lt, y_lt)));
   border = same.border;
@@ -165,10 +165,10 @@ brought_back saved mid now holds same = record {
 }
 
 module _ (saved s0 s1 s2 s3 s4 s5 : Standing) (border h v : ℕ) (low high levels : List ℕ) where
-  pub all_set : SameStanding s1 (standing_after s0 (BorderPreset border ∷ [])) → SameStanding s2 (standing_after s1 (ColoursLow low ∷ [])) → SameStanding s3 (standing_after s2 (ColoursHigh high ∷ []))
-      → SameStanding s4 (standing_after s3 (Transparency levels ∷ [])) → SameStanding s5 (standing_after s4 (ScrollCopy 0 0 h 0 v ∷ []))
+  pub all_set : s1 ≡ standing_after s0 (BorderPreset border ∷ []) → s2 ≡ standing_after s1 (ColoursLow low ∷ []) → s3 ≡ standing_after s2 (ColoursHigh high ∷ [])
+      → s4 ≡ standing_after s3 (Transparency levels ∷ []) → s5 ≡ standing_after s4 (ScrollCopy 0 0 h 0 v ∷ [])
       → border ≡ saved.border → ((k : ℕ) → k < 8 → get_or low k 0 ≡ saved.colour (0 + k)) → ((k : ℕ) → k < 8 → get_or high k 0 ≡ saved.colour (8 + k)) → ((k : ℕ) → k < 16 → get_or levels k 0 ≡ saved.level k)
-      → h ≡ saved.h → v ≡ saved.v → SameStanding s5 (set_by saved s0)
+      → h ≡ saved.h → v ≡ saved.v → s5 ≡ set_by saved s0
   all_set a1 a2 a3 a4 a5 b lows highs ls hs vs = record {
     memory = λ x y x_lt y_lt.
         let across : (x + 300) % 300 ≡ x = omega (arith, x_lt) in

@@ -4,7 +4,7 @@ use Rattle.disc_time.specs.Counts.{most_lead_in}
 use Rattle.raw_subcode.specs.Sizes.{most_units}
 use Rattle.rw_interleave.specs.Interleave.{whole_packs}
 use Rattle.cdg_instructions.specs.Sizes.{screen_height, screen_width}
-use Rattle.cdg_screen.specs.Picture.{Standing, SameStanding}
+use Rattle.cdg_screen.specs.Picture.{Standing}
 use Rattle.checkpoint_files.specs.Table.{empty_symbols}
 use Rattle.checkpoint_files.specs.Checkpoint.{Checkpoint}
 
@@ -35,4 +35,4 @@ pub record IsSameCheckpoint (a b : Checkpoint) : Type 0 where
   pub program : a.program ≡ b.program
   pub bad : a.bad ≡ b.bad
   pub slots : a.slots ≡ b.slots
-  pub standing : SameStanding a.standing b.standing
+  pub standing : a.standing ≡ b.standing

@@ -1,7 +1,6 @@
 // What stood, brought back by instructions.
 ghost use Rattle.std.specs.Prelude.{◌≡◌, ◌≤◌, ◌+◌, ◌*◌, ◌/◌, ◌%◌, ◌<◌, ℕ, All, length, drop, slice_index, take};
 ghost use Rattle.cdg_instructions.specs.Sizes.{screen_height, screen_width};
-ghost use Rattle.cdg_screen.specs.Picture.{SameStanding, standing_of};
 ghost use Rattle.checkpoint_files.specs.Checkpoint.{checkpoint_in, standing_in};
 ghost use Rattle.checkpoint_files.specs.Drawn.{DrawsTile, HoldsTiles, set_by};
 ghost use Rattle.checkpoint_files.specs.Table.{IsCheckpointFile};
@@ -35,7 +34,7 @@ impl CheckpointFile {
     /// Brings back what stood, by the file of a checkpoint.
     pub fn bring_back(&self, screen: &mut Screen)
         requires { IsCheckpointFile self.now }
-        ensures { SameStanding (standing_of screen.new) (standing_in self.now) }
+        ensures { screen.new ≡ standing_in self.now }
     {
         self.draw(screen);
         self.set(screen);
@@ -44,7 +43,7 @@ impl CheckpointFile {
     // Draws the memory.
     fn draw(&self, screen: &mut Screen)
         requires { IsCheckpointFile self.now }
-        ensures { HoldsTiles (standing_in self.now) 900 (standing_of screen.new) }
+        ensures { HoldsTiles (standing_in self.now) 900 screen.new }
     {
         screen.reset();
         for k in 0..TILES {
@@ -58,9 +57,9 @@ impl CheckpointFile {
         requires row { row < 18 }
         requires column { column < 50 }
         requires blank { (x y : ℕ) → x < screen_width → y < screen_height → x / 6 ≡ column → y / 12 ≡ row
-            → (standing_of screen.old).memory x y ≡ 0 }
-        ensures { DrawsTile (standing_in self.now) row column (standing_of screen.old)
-            (standing_of screen.new) }
+            → screen.old.memory x y ≡ 0 }
+        ensures { DrawsTile (standing_in self.now) row column screen.old
+            screen.new }
     {
         let drawn = plan(&Tile::solid(0), &self.tile(row, column), row, column);
         screen.obey_all(drawn.as_slice());
@@ -98,8 +97,8 @@ impl CheckpointFile {
     // Sets the border, the colours, the levels and the offsets.
     fn set(&self, screen: &mut Screen)
         requires { IsCheckpointFile self.now }
-        ensures { SameStanding (standing_of screen.new)
-            (set_by (standing_in self.now) (standing_of screen.old)) }
+        ensures { screen.new
+            ≡ set_by (standing_in self.now) screen.old }
     {
         screen.obey(&Instr::BorderPreset {
             colour: self.byte(BORDER),

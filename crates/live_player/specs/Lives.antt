@@ -11,7 +11,7 @@ use Rattle.raw_subcode.specs.declared.form.Form.{Form}
 use Rattle.rw_interleave.specs.Stream.{IsRecovered, form_word, word_count}
 use Rattle.cdg_instructions.specs.declared.instr.Instr.{Instr}
 use Rattle.cdg_instructions.specs.Meaning.{meaning}
-use Rattle.cdg_screen.specs.Picture.{Standing, SameStanding, blank, screen_pixel, standing_of, standing_after}
+use Rattle.cdg_screen.specs.Picture.{Standing, blank, screen_pixel, standing_after}
 use Rattle.cdg_screen.specs.Texts.{colour_bytes}
 use Rattle.subcode_player.specs.Screen.{AreShown}
 use Rattle.subcode_player.specs.Steps.{fresh_words, words_next, words_give}
@@ -22,7 +22,7 @@ use Rattle.live_player.specs.declared.live.LivePlayer.{LivePlayer}
 
 -- what stands on a player's picture
 abbrev pub standing_on : LivePlayer → Standing
-standing_on player = standing_of player.stages.second.picture
+standing_on player = player.stages.second.picture
 
 -- the stages after a block
 abbrev pub live_next : Then BlockWords Drawing → List ℕ → Then BlockWords Drawing
@@ -36,7 +36,7 @@ pub record IsLiveStart (form : Form) (lead_in : ℕ) (s : Then BlockWords Drawin
   pub words : s.first ≡ fresh_words form lead_in
   pub left : s.second.left ≡ whole_packs last_block
   pub bad : s.second.bad ≡ 0
-  pub blank : SameStanding (standing_of s.second.picture) blank
+  pub blank : s.second.picture ≡ blank
 
 -- the player began with a stream of this form and was fed these blocks since
 pub record HasPlayed (form : Form) (lead_in : ℕ) (blocks : List (List ℕ)) (player : LivePlayer) : Type 0 where
@@ -59,7 +59,7 @@ pub record IsLiveViewAt (form : Form) (lead_in time : ℕ) (blocks : List (List 
   pub recovered : IsRecovered form (flat_map symbols_of (drop lead_in blocks)) found
   pub instrs : List Instr
   pub shown : AreShown found time instrs
-  pub stands : SameStanding now (standing_after blank instrs)
+  pub stands : now ≡ standing_after blank instrs
 
 -- what they show at last
 abbrev pub IsLiveView : Form → ℕ → List (List ℕ) → Standing → Type 0
@@ -71,7 +71,7 @@ instruction_of pack = meaning (map (λ byte. byte % 64) pack)
 
 -- the player began and drew these packs since, and nothing else
 pub record HasDrawn (packs : List (List ℕ)) (player : LivePlayer) : Type 0 where
-  pub stands : SameStanding (standing_on player) (standing_after blank (map instruction_of packs))
+  pub stands : standing_on player ≡ standing_after blank (map instruction_of packs)
 
 -- byte n of the picture: red, green or blue of the colour of pixel n / 3, of the pixels row by row
 unfoldable pub picture_byte : Standing → ℕ → ℕ

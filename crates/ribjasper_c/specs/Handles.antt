@@ -13,7 +13,7 @@ use Rattle.raw_subcode.specs.declared.form.Form.{Form}
 use Rattle.raw_subcode.specs.declared.form.Form.TheVariants.{Raw, Cooked}
 use Rattle.live_player.specs.contracts.live.LivePlayer.{the_row}
 use Rattle.live_player.specs.declared.live.LivePlayer.{LivePlayer}
-use Rattle.cdg_screen.specs.Picture.{Standing, SameStanding, blank, screen_pixel, standing_after}
+use Rattle.cdg_screen.specs.Picture.{Standing, blank, screen_pixel, standing_after}
 use Rattle.live_player.specs.Lives.{instruction_of, picture_byte, HasDrawn, HasPlayed, IsLiveView, IsLiveViewAt}
 
 abbrev pub handle_owns : Global → Ptr → List LivePlayer → Fml
@@ -45,7 +45,7 @@ pub record IsShownBy (player : LivePlayer) (now : Standing) : Type 0 where
       → length blocks ≤ most_units
       → IsSeen form lead_in blocks now
   pub packs : (packs : List (List ℕ)) → HasDrawn packs player
-      → SameStanding now (standing_after blank (map instruction_of packs))
+      → now ≡ standing_after blank (map instruction_of packs)
 
 -- this holds of what the one player shows
 abbrev pub PlayersShow : List LivePlayer → (Standing → Type 0) → Type 0

@@ -15,7 +15,7 @@ use Rattle.cdg_instructions.specs.MadeGood.{IsMadeGood}
 use Rattle.cdg_instructions.specs.Meaning.{meaning}
 use Rattle.cdg_instructions.specs.declared.instr.Instr.{Instr}
 use Rattle.cdg_instructions.specs.declared.instr.Instr.TheVariants.{Idle}
-use Rattle.cdg_screen.specs.Picture.{SameStanding, blank, standing_after}
+use Rattle.cdg_screen.specs.Picture.{blank, standing_after}
 use Rattle.subcode_player.specs.Convert.{IsDamagedStream}
 use Rattle.subcode_player.specs.Screen.{AreMeant, IsScreenAt, moment}
 use Rattle.subcode_player.proofs.Restoring.{Recovers, program_small}
@@ -121,9 +121,9 @@ module _ (sheet : CueSheet) (file : List ℕ) (lead_in audio : ℕ) (bytes : Lis
       ∙ ap (λ n. map meaning (take n (file_packs file)) ++ replicate (of_file_means (file_packs file) within within_of_file).0 Idle) within_count)
 
   -- what stands is what stands after the packs of the file
-  pub same_standing : InTurn → (instrs : List Instr) → instrs ≡ map meaning (take (whole_packs (150 + time)) packs) → SameStanding (standing_after blank instrs) (file_standing file (4 * time))
+  pub same_standing : InTurn → (instrs : List Instr) → instrs ≡ map meaning (take (whole_packs (150 + time)) packs) → standing_after blank instrs ≡ file_standing file (4 * time)
   same_standing laws instrs are =
-      subst (λ (is : List Instr). SameStanding (standing_after blank is) (file_standing file (4 * time))) (sym (are ∙ first_mean))
+      subst (λ (is : List Instr). standing_after blank is ≡ file_standing file (4 * time)) (sym (are ∙ first_mean))
       (idle_around laws (length before) (of_file_means (file_packs file) within within_of_file).0 (map meaning (take (4 * time) (file_packs file))))
 
 module _ (form : Form) (lead_in : ℕ) (others : List ℕ) (press : DamagedPress form lead_in others) where

@@ -14,7 +14,7 @@ use Rattle.rw_interleave.specs.Interleave.{word_of, whole_packs}
 use Rattle.rw_interleave.proofs.Recovery.{differences-turned, form_words}
 use Rattle.cdg_instructions.specs.Instruction.{Means}
 use Rattle.cdg_instructions.specs.declared.instr.Instr.{Instr}
-use Rattle.cdg_screen.specs.Picture.{Standing, blank, standing_of, standing_after, SameStanding}
+use Rattle.cdg_screen.specs.Picture.{Standing, blank, standing_after}
 use Rattle.picture_script.specs.Script.{Drawing, pictures, ready_time, hold_time}
 use Rattle.picture_changes.specs.Schedule.{IsSchedule}
 use Rattle.picture_changes.specs.Shown.{ShowsPicture, AreTimesInOrder, AreColoursInRange}
@@ -32,7 +32,7 @@ ShowsScheduled = (script : List Drawing) (blocks : ℕ) (packs : List (List ℕ)
     → k < pictures script → ready_time script k ≤ time → time ≤ hold_time script k → AreMeantBy (take (whole_packs time) packs) instrs → ShowsPicture script k (standing_after blank instrs)
 
 abbrev pub OneMore : Type 0
-OneMore = (start mid end : Standing) (instrs : List Instr) (instr : Instr) → SameStanding mid (standing_after start instrs) → SameStanding end (standing_after mid (instr ∷ [])) → SameStanding end (standing_after start (instrs ++ instr ∷ []))
+OneMore = (start mid end : Standing) (instrs : List Instr) (instr : Instr) → mid ≡ standing_after start instrs → end ≡ standing_after mid (instr ∷ []) → end ≡ standing_after start (instrs ++ instr ∷ [])
 
 -- ---- one word more
 
@@ -71,7 +71,7 @@ pub record AreTaken (symbols : List ℕ) (packs : List (List ℕ)) (others : Lis
   pub bad : replay.bad ≡ 0
   pub instrs : List Instr
   pub meant : AreMeantBy (take n packs) instrs
-  pub screen : SameStanding (standing_of replay.screen) (standing_after blank instrs)
+  pub screen : replay.screen ≡ standing_after blank instrs
 
 -- every picture that was ready after n slots was shown, and the next one is not ready yet
 pub record AreShown (script : List Drawing) (n : ℕ) (gallery : Gallery) : Type 0 where
@@ -93,7 +93,7 @@ abbrev pub IsPlayed : List Drawing → List ℕ → ℕ → Replay → Gallery �
 IsPlayed script bytes b replay gallery = (symbols : List ℕ) (packs : List (List ℕ)) → IsDamagedSchedule script (length bytes / 96) symbols packs (symbols_of bytes)
     → ArePlayed script symbols packs (symbols_of bytes) (4 * b) replay gallery
 
-nothing_taken : (symbols others : List ℕ) (packs : List (List ℕ)) (replay : Replay) → SameStanding (standing_of replay.screen) blank → (replay.one ≡ 0) × (replay.two ≡ 0) × (replay.bad ≡ 0) → AreTaken symbols packs others 0 replay
+nothing_taken : (symbols others : List ℕ) (packs : List (List ℕ)) (replay : Replay) → replay.screen ≡ blank → (replay.one ≡ 0) × (replay.two ≡ 0) × (replay.bad ≡ 0) → AreTaken symbols packs others 0 replay
 nothing_taken symbols others packs replay screen counts = record {
   one = counts.0 ∙ differing_none 1 symbols others;
   two = counts.1 ∙ differing_none 2 symbols others;
@@ -142,7 +142,7 @@ module _ (script : List Drawing) (symbols : List ℕ) (packs : List (List ℕ)) 
         instrs = before.instrs ++ takes.instr ∷ [];
         meant = subst (λ (l : List (List ℕ)). AreMeantBy l (before.instrs ++ takes.instr ∷ [])) (sym (take_more packs k [] within))
             (meant_more (take k packs) before.instrs (get_or packs k []) takes.instr before.meant takes.meant);
-        screen = more blank (standing_of old.screen) (standing_of new.screen) before.instrs takes.instr before.screen takes.screen;
+        screen = more blank old.screen new.screen before.instrs takes.instr before.screen takes.screen;
       }
 
   -- a picture that is ready is shown
@@ -211,7 +211,7 @@ module _ (script : List Drawing) (symbols : List ℕ) (packs : List (List ℕ)) 
 
 -- ---- the loops over blocks and their words
 
-pub begins : (script : List Drawing) (bytes : List ℕ) (replay : Replay) (gallery : Gallery) → SameStanding (standing_of replay.screen) blank → (replay.one ≡ 0) × (replay.two ≡ 0) × (replay.bad ≡ 0) → (gallery.next ≡ 0) × (gallery.equal ≡ 0) → IsPlayed script bytes 0 replay gallery
+pub begins : (script : List Drawing) (bytes : List ℕ) (replay : Replay) (gallery : Gallery) → replay.screen ≡ blank → (replay.one ≡ 0) × (replay.two ≡ 0) × (replay.bad ≡ 0) → (gallery.next ≡ 0) × (gallery.equal ≡ 0) → IsPlayed script bytes 0 replay gallery
 begins script bytes replay gallery screen counts none = λ symbols packs damaged. record {
   taken = nothing_taken symbols (symbols_of bytes) packs replay screen counts;
   shown = first_ahead script symbols packs bytes damaged gallery none.0 none.1;
@@ -235,7 +235,7 @@ takes_on law more script bytes b j old new words b_lt is k_lt lt taken takes = �
 pub goes_on : ShowsScheduled → (script : List Drawing) → AreTimesInOrder script → AreColoursInRange script → (bytes : List ℕ) (b m : ℕ) (old new : Replay) (before after : Gallery)
     → m ≡ 4 * (b + 1) - 7 → IsPlayed script bytes b old before → IsTaken script bytes m new
     → ((before.next < pictures script → 4 * (b + 1) ≢ 4 * ready_time script before.next) → (after.next ≡ before.next) × (after.equal ≡ before.equal))
-    → (before.next < pictures script → 4 * (b + 1) ≡ 4 * ready_time script before.next → (after.next ≡ before.next + 1) × ((now : Standing) → SameStanding (standing_of new.screen) now → ShowsPicture script before.next now → after.equal ≡ before.equal + 1))
+    → (before.next < pictures script → 4 * (b + 1) ≡ 4 * ready_time script before.next → (after.next ≡ before.next + 1) × ((now : Standing) → new.screen ≡ now → ShowsPicture script before.next now → after.equal ≡ before.equal + 1))
     → IsPlayed script bytes (b + 1) new after
 goes_on shows script order ranges bytes b m old new before after last played words waits looks = λ symbols packs damaged.
     let so_far = played symbols packs damaged in

@@ -1,6 +1,6 @@
 // The pictures of a script, one after another, beside a screen.
 ghost use Rattle.std.specs.Prelude.{◌≡◌, ◌≢◌, ◌<◌, ◌≤◌, ◌+◌, ◌*◌, List, IfOk};
-ghost use Rattle.cdg_screen.specs.Picture.{Standing, standing_of, SameStanding};
+ghost use Rattle.cdg_screen.specs.Picture.{Standing};
 ghost use Rattle.picture_script.specs.Script.{Drawing, pictures, ready_time};
 ghost use Rattle.picture_script.specs.Board.{StandsBefore};
 ghost use Rattle.picture_changes.specs.Shown.{ShowsPicture};
@@ -45,12 +45,12 @@ impl Gallery {
             → (self.new.next ≡ self.old.next) × (self.new.equal ≡ self.old.equal) }
         ensures looks { self.old.next < pictures script.now → slots ≡ 4 * ready_time script.now self.old.next
             → (self.new.next ≡ self.old.next + 1)
-            × ((now : Standing) → SameStanding (standing_of screen.now) now
+            × ((now : Standing) → screen.now ≡ now
             → ShowsPicture script.now self.old.next now
             → self.new.equal ≡ self.old.equal + 1) }
         ensures differs { self.old.next < pictures script.now
             → slots ≡ 4 * ready_time script.now self.old.next
-            → (now : Standing) → SameStanding (standing_of screen.now) now
+            → (now : Standing) → screen.now ≡ now
             → ¬ ShowsPicture script.now self.old.next now
             → self.new.equal ≡ self.old.equal }
     {

@@ -4,7 +4,6 @@ use Rattle.std.specs.Prelude.{replicate}
 use Rattle.cdg_instructions.specs.Meaning.{meaning}
 use Rattle.cdg_instructions.specs.declared.instr.Instr.TheVariants.{Idle}
 use Rattle.cdg_screen.specs.Picture.{Standing}
-use Rattle.cdg_screen.specs.Standings.{display_of, obeyed}
 use Rattle.cdg_screen.proofs.StandingLemmas.{display_after}
 
 -- it stays

@@ -4,9 +4,8 @@ ghost use Rattle.std.specs.Io.KnownBytes.{Appends};
 ghost use Rattle.cdg_io.specs.Causes.{HasCause};
 ghost use Rattle.cdg_io.specs.Moves.{AppendsPrefix};
 ghost use Rattle.cdg_instructions.specs.Meaning.{meaning};
-ghost use Rattle.cdg_screen.specs.Picture.{Standing, SameStanding, blank, standing_of};
+ghost use Rattle.cdg_screen.specs.Picture.{Standing, blank};
 ghost use Rattle.cdg_screen.specs.Texts.{pixmap, state_text};
-ghost use Rattle.cdg_screen.specs.Standings.{obeyed};
 ghost use Rattle.rw_code.specs.Packs.{idle_pack};
 
 use cdg_instructions::read;
@@ -23,18 +22,17 @@ pub struct Picture {
 }
 
 impl Model for Picture {
-    ghost use Rattle.cdg_screen.specs.Picture.{Display, standing_of};
-    ghost use Rattle.cdg_screen.specs.Standings.{display_of};
+    ghost use Rattle.cdg_screen.specs.Picture.{Standing};
 
     ghost Value = { Display };
 
-    ghost view = { λ p. display_of (standing_of p.screen) };
+    ghost view = { λ p. display_of p.screen };
 }
 
 impl Picture {
     /// A screen on which all is zero.
     pub fn start(alloc: Global) -> Result<Picture, AllocError>
-        ensures { IfOk result (λ p. SameStanding (standing_of p) blank) }
+        ensures { IfOk result (λ p. p ≡ blank) }
     {
         Ok(Picture {
             screen: Screen::start(alloc)?,
@@ -43,7 +41,7 @@ impl Picture {
 
     /// Makes all zero again.
     pub fn reset(&mut self)
-        ensures { SameStanding (standing_of self.new) blank }
+        ensures { self.new ≡ blank }
     {
         self.screen.reset();
     }
@@ -65,9 +63,9 @@ impl Picture {
 
     /// Writes the picture as a pixmap. After `Failed` a prefix was written.
     pub fn write_ppm<K: Sink>(&self, out: &mut K) -> Result<(), Failed>
-        ensures ok { OnOk result ((now : Standing) → SameStanding (standing_of self.now) now
+        ensures ok { OnOk result ((now : Standing) → self.now ≡ now
             → Appends (K.held out.old) (K.held out.new) (pixmap now)) }
-        ensures part { OnErr result ((now : Standing) → SameStanding (standing_of self.now) now
+        ensures part { OnErr result ((now : Standing) → self.now ≡ now
             → AppendsPrefix (K.held out.old) (K.held out.new) (pixmap now)) }
         ensures cause { HasCause (K.faults out.old) (K.faults out.new) result }
     {
@@ -77,9 +75,9 @@ impl Picture {
 
     /// Writes the border, the offsets, and the colours with their levels. After `Failed` a prefix was written.
     pub fn write_state<K: Sink>(&self, out: &mut K) -> Result<(), Failed>
-        ensures ok { OnOk result ((now : Standing) → SameStanding (standing_of self.now) now
+        ensures ok { OnOk result ((now : Standing) → self.now ≡ now
             → Appends (K.held out.old) (K.held out.new) (state_text now)) }
-        ensures part { OnErr result ((now : Standing) → SameStanding (standing_of self.now) now
+        ensures part { OnErr result ((now : Standing) → self.now ≡ now
             → AppendsPrefix (K.held out.old) (K.held out.new) (state_text now)) }
         ensures cause { HasCause (K.faults out.old) (K.faults out.new) result }
     {

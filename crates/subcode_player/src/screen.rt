@@ -5,7 +5,7 @@ ghost use Rattle.cdg_io.specs.Causes.{Rose};
 ghost use Rattle.cdg_io.specs.Change.{change, passed};
 ghost use Rattle.raw_subcode.specs.Channels.{unit_size};
 ghost use Rattle.rw_interleave.specs.Interleave.{whole_packs};
-ghost use Rattle.cdg_screen.specs.Picture.{SameStanding, blank, standing_of};
+ghost use Rattle.cdg_screen.specs.Picture.{blank};
 ghost use Rattle.cdg_screen.specs.Texts.{pixmap, state_text};
 ghost use Rattle.picture_script.specs.Script.{Drawing};
 ghost use Rattle.subcode_player.specs.Faults.{TellsStops};
@@ -117,7 +117,7 @@ impl Player {
         requires at { at ≤ last_block }
         ensures views { (taken : List ℕ)
             × Views (moment form lead_in at) (change S.left source.old source.new)
-            (standing_of self.new.views.second.second.picture) result taken }
+            self.new.views.second.second.picture result taken }
         ensures stops { IfErr result IsMomentStop }
         ensures answer { IfSome (S.left source.old) (λ all.
             IsShownBy result lead_in at (unit_size form) (length all)) }
@@ -154,7 +154,7 @@ impl Player {
         ensures words { self.new.views.second.first ≡ fresh_words form lead_in }
         ensures left { self.new.views.second.second.left ≡ whole_packs at }
         ensures bad { self.new.views.second.second.bad ≡ 0 }
-        ensures blank { SameStanding (standing_of self.new.views.second.second.picture) blank }
+        ensures blank { self.new.views.second.second.picture ≡ blank }
     {
         self.views.second.first.begin(lead_in, form);
         let drawing = &mut self.views.second.second;

@@ -1,5 +1,4 @@
 use Rattle.std.proofs.Common.{◌∙◌, ap}
-use Rattle.cdg_screen.specs.Standings.{obeyed}
 use Rattle.cdg_thin.specs.Steps.{thin_next}
 use Rattle.cdg_thin.proofs.thinner.Thinner.is_needless.Goals as goal
 

@@ -1,6 +1,5 @@
 use Rattle.std.proofs.Common.{List, ℕ, sym, ap, ◌∙◌}
 use Rattle.cdg_instructions.specs.Meaning.{meaning}
-use Rattle.cdg_screen.specs.Standings.{obeyed}
 use Rattle.subcode_player.specs.Drawn.{entry_drawn}
 use Rattle.subcode_player.proofs.Recovers.{found_itself, found_some, found_none, bad_some, bad_none}
 use Rattle.subcode_player.proofs.drawing.Drawing.take.Goals as goal

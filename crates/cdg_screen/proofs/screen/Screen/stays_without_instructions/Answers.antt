@@ -1,7 +1,0 @@
-use Rattle.cdg_screen.proofs.Obeyed.{Kept, stays_with_none}
-use Rattle.cdg_screen.proofs.screen.Screen.stays_without_instructions.Goals as goal
-
-pub returns : goal.returns
-returns c =
-    let kept : Kept = record { memory = c.self.inside.memory; border = c.self.inside.border; colours = c.self.inside.colours; levels = c.self.inside.levels; h = c.self.inside.h; v = c.self.inside.v } in
-    rw (← c.self.view_is) (stays_with_none kept c.self.invariant.colours_count c.self.invariant.levels_count)
