@@ -4,7 +4,7 @@ use Rattle.std.specs.Prelude.{slice_index}
 use Rattle.std.proofs.lemmas.List.{ext_get_or}
 use Rattle.std.proofs.lemmas.List.FromFn.{length-map-range_with_len, get_or-map-range_with_len, fill_by_all}
 use Rattle.bit_lists.specs.Counting.{below}
-use Rattle.cdg_screen.specs.Picture.{IsWhole, Standing, pixel_at, rows_of, sixteen, standing_after}
+use Rattle.cdg_screen.specs.Picture.{IsWholeStanding, Standing, pixel_at, rows_of, sixteen, standing_after}
 
 -- the same pixels stand in both, at each place of the memory
 abbrev pub AreSamePixels : (ℕ → ℕ → ℕ) → (ℕ → ℕ → ℕ) → Type 0
@@ -66,7 +66,7 @@ pub record IsAlike (one other : Standing) : Type 0 where
   pub v : one.v ≡ other.v
 
 -- then it is one value
-pub one_value : (one other : Standing) → IsWhole one → IsWhole other → IsAlike one other → one ≡ other
+pub one_value : (one other : Standing) → IsWholeStanding one → IsWholeStanding other → IsAlike one other → one ≡ other
 one_value one other whole other_whole alike =
     let memory = rows_same _ _ alike.memory in
     let colours = sixteen_same _ _ alike.colours in
@@ -76,7 +76,7 @@ one_value one other whole other_whole alike =
     sym whole ∙ same ∙ other_whole
 
 -- what is built of all rows and numbers is whole
-pub built_is_whole : (pixel : ℕ → ℕ → ℕ) (border : ℕ) (colour level : ℕ → ℕ) (h v : ℕ) → IsWhole (record { memory = rows_of pixel; border = border; colours = sixteen colour; levels = sixteen level; h = h; v = v })
+pub built_is_whole : (pixel : ℕ → ℕ → ℕ) (border : ℕ) (colour level : ℕ → ℕ) (h v : ℕ) → IsWholeStanding (record { memory = rows_of pixel; border = border; colours = sixteen colour; levels = sixteen level; h = h; v = v })
 built_is_whole pixel border colour level h v =
     let memory = rows_same (pixel_at (rows_of pixel)) pixel (pixel_of_rows pixel) in
     let colours = sixteen_same (slice_index (sixteen colour)) colour (number_of_sixteen colour) in

@@ -5,7 +5,7 @@ use Rattle.std.proofs.lemmas.Bool.{cases_lt}
 use Rattle.std.proofs.lemmas.Bool.Decides.{nat_tests}
 use Rattle.cdg_instructions.specs.declared.instr.Instr.{Instr}
 use Rattle.cdg_instructions.specs.declared.instr.Instr.TheVariants.{Idle, Foreign, Unknown}
-use Rattle.cdg_screen.specs.Picture.{IsWhole, Standing, blank, pixel_at, rows_of, sixteen, memory_from, border_from, colour_from, level_from, offsets_from, standing_after}
+use Rattle.cdg_screen.specs.Picture.{IsWholeStanding, Standing, blank, pixel_at, rows_of, sixteen, memory_from, border_from, colour_from, level_from, offsets_from, standing_after}
 use Rattle.cdg_screen.specs.Memory.{Grid, at, Becomes}
 use Rattle.cdg_screen.proofs.Lists.{AreSamePixels, rows_same, pixel_of_rows, sixteen_are, number_of_sixteen}
 use Rattle.cdg_screen.proofs.Turns.{same_memory}
@@ -23,7 +23,7 @@ pub record Kept : Type 0 where
 abbrev pub seen : Kept → Standing
 seen kept = record { memory = rows_of (at kept.memory); border = kept.border; colours = kept.colours; levels = kept.levels; h = kept.h; v = kept.v }
 
-pub seen_is_whole : (kept : Kept) → length kept.colours ≡ 16 → length kept.levels ≡ 16 → IsWhole (seen kept)
+pub seen_is_whole : (kept : Kept) → length kept.colours ≡ 16 → length kept.levels ≡ 16 → IsWholeStanding (seen kept)
 seen_is_whole kept sixteen_colours sixteen_levels =
     let memory = rows_same (pixel_at (rows_of (at kept.memory))) (at kept.memory) (pixel_of_rows (at kept.memory)) in
     let colours = sym (sixteen_are kept.colours (slice_index kept.colours) sixteen_colours (λ k _. refl)) in

@@ -112,8 +112,8 @@ standing_after start instrs =
     }
 
 -- it has the rows and the numbers that a screen has, and no more: it is as after no instructions
-abbrev pub IsWhole : Standing → Type 0
-IsWhole now = standing_after now [] ≡ now
+abbrev pub IsWholeStanding : Standing → Type 0
+IsWholeStanding now = standing_after now [] ≡ now
 
 -- pixel (x, y) of the screen: in the window the memory, moved by the offsets, and elsewhere the border
 abbrev pub screen_pixel : Standing → ℕ → ℕ → ℕ

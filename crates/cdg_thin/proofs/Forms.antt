@@ -7,7 +7,7 @@ use Rattle.std.proofs.lemmas.List.{length-map, get_or-map, get_or-take, take_mor
 use Rattle.std.proofs.Math.Seq.{take-append_seam, drop-append_seam}
 use Rattle.bit_lists.specs.Counting.{parts, whole_parts}
 use Rattle.cdg_screen.specs.Picture.{Standing, blank, standing_after}
-use Rattle.cdg_screen.proofs.Turns.{in_turn, same_back, same_further, same_then}
+use Rattle.cdg_screen.proofs.Turns.{in_turn, same_further, whole_after}
 use Rattle.cdg_instructions.specs.declared.instr.Instr.{Instr}
 use Rattle.cdg_instructions.specs.declared.instr.Instr.TheVariants.{Idle}
 use Rattle.rw_code.specs.Packs.{idle_pack}
@@ -30,14 +30,8 @@ instructions_of packs = map instruction_of packs
 abbrev pub after : List Instr → Standing
 after instrs = standing_after blank instrs
 
-pub self_same : (now : Standing) → now ≡ now
-self_same now = record { memory = λ x y x_lt y_lt. refl; border = refl; colour = λ k lt. refl; level = λ k lt. refl; h = refl; v = refl }
-
-idle_keeps : (now : Standing) → standing_after now (Idle ∷ []) ≡ now
-idle_keeps now = record { memory = λ x y x_lt y_lt. refl; border = refl; colour = λ k lt. refl; level = λ k lt. refl; h = refl; v = refl }
-
 idle_changes_nothing : (before : List Instr) → after (before ++ Idle ∷ []) ≡ after before
-idle_changes_nothing before = same_then _ _ _ (in_turn blank before (Idle ∷ [])) (idle_keeps (after before))
+idle_changes_nothing before = in_turn blank before (Idle ∷ []) ∙ whole_after blank before
 
 -- ---- instructions of packs
 
@@ -105,7 +99,7 @@ one_more_at : (instrs : List Instr) (m : ℕ) → m < length instrs → after (t
 one_more_at instrs m lt = ap after (take_more instrs m Idle lt)
 
 pub stand_alike : (packs thins : List (List ℕ)) (f : IsThinForm packs thins) (m : ℕ) → after (take m f.instrs) ≡ after (take m (instructions_of thins))
-stand_alike packs thins f zero = self_same _
+stand_alike packs thins f zero = refl
 stand_alike packs thins f (suc m) =
     let others : List Instr = instructions_of thins in
     let others_count : length others ≡ length packs = length-map thins instruction_of ∙ f.count in
@@ -119,7 +113,7 @@ stand_alike packs thins f (suc m) =
           (elim (f.each m lt) [
             | inl idle ↦
                 subst (λ (i : Instr). after (take m f.instrs ++ instr_at f.instrs m ∷ []) ≡ after (take m others ++ i ∷ [])) (sym (idled_instr thins m thin_lt idle.1))
-                (same_then _ _ _ idle.0.nothing (same_then _ _ _ before (same_back _ _ (idle_changes_nothing (take m others)))))
+                (idle.0.nothing ∙ before ∙ sym (idle_changes_nothing (take m others)))
             | inr kept ↦
                 subst (λ (i : Instr). after (take m f.instrs ++ instr_at f.instrs m ∷ []) ≡ after (take m others ++ i ∷ [])) (sym (kept_instr packs thins f.instrs m f.read lt thin_lt kept.1))
                 (same_further blank blank (take m f.instrs) (take m others) (instr_at f.instrs m ∷ []) before)
@@ -133,7 +127,7 @@ stand_alike packs thins f (suc m) =
 pub needless_alike : (one other : List Instr) (instr : Instr) → after one ≡ after other → IsNeedless one instr → IsNeedless other instr
 needless_alike one other instr same h = record {
   graphic = h.graphic;
-  nothing = same_then _ _ _ (same_back _ _ (same_further blank blank one other (instr ∷ []) same)) (same_then _ _ _ h.nothing same);
+  nothing = sym (same_further blank blank one other (instr ∷ []) same) ∙ h.nothing ∙ same;
 }
 
 -- the thin form of a thin form
@@ -151,7 +145,7 @@ thin_again packs thins f = record {
             inr ((λ needless. true≢false (sym (subst (λ (i : Instr). IsTrue (is_graphic i)) is_idle needless.graphic))), refl)
         | inr kept ↦
             let same = kept_instr packs thins f.instrs n f.read lt thin_lt kept.1 in
-            inr ((λ needless. kept.0 (needless_alike (take n others) (take n f.instrs) (instr_at f.instrs n) (same_back _ _ (stand_alike packs thins f n)) (subst (IsNeedless (take n others)) same needless))), refl)
+            inr ((λ needless. kept.0 (needless_alike (take n others) (take n f.instrs) (instr_at f.instrs n) (sym (stand_alike packs thins f n)) (subst (IsNeedless (take n others)) same needless))), refl)
       ];
 }
 

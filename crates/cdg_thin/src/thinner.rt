@@ -1,10 +1,10 @@
 // From packs to those of the thin form.
-ghost use Rattle.std.specs.Prelude.{◌≡◌, ◌≢◌, ◌≤◌, List, ℕ, [], length, Err, IfOk, IfSome, IsErrOf, Some};
+ghost use Rattle.std.specs.Prelude.{◌≡◌, ◌≢◌, ◌≤◌, List, ℕ, [], ◌∷◌, length, Err, IfOk, IfSome, IsErrOf, Some};
 ghost use Rattle.cdg_instructions.specs.Instruction.{InRange};
 ghost use Rattle.cdg_io.specs.Causes.{Rose};
 ghost use Rattle.cdg_io.specs.Change.{change, passed};
 ghost use Rattle.cdg_io.specs.Pump.{FillsUnits, IsUnlessFault, TellsEndOf, answer_of};
-ghost use Rattle.cdg_screen.specs.Picture.{blank};
+ghost use Rattle.cdg_screen.specs.Picture.{blank, standing_after};
 ghost use Rattle.cdg_thin.specs.Calls.{Thins, ThinsAll, most_packs};
 ghost use Rattle.cdg_thin.specs.Steps.{instruction_of, is_needless, thin_next, thin_gives};
 
@@ -32,9 +32,9 @@ pub struct Thinner {
 impl Model for Thinner {
     ghost use Rattle.cdg_screen.specs.Picture.{Standing};
 
-    ghost Value = { Display };
+    ghost Value = { Standing };
 
-    ghost view = { λ t. display_of t.screen };
+    ghost view = { λ t. t.screen };
 }
 
 impl Thinner {
@@ -100,7 +100,7 @@ impl Thinner {
     // Carries out an instruction, and tells whether it was needless.
     fn passes_over(&mut self, instr: &Instr) -> bool
         requires { InRange instr.now }
-        ensures next { self.new ≡ obeyed self.old instr.now }
+        ensures next { self.new ≡ standing_after self.old (instr.now ∷ []) }
         ensures needless { result ≡ is_needless self.old instr.now }
     {
         if self.screen.changes(instr) {

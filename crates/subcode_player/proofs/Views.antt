@@ -24,8 +24,8 @@ use Rattle.rw_interleave.specs.Interleave.{whole_packs}
 use Rattle.raw_subcode.specs.Channels.{unit_size, block_of, symbols_of, program_symbols}
 use Rattle.raw_subcode.specs.declared.form.Form.{Form}
 use Rattle.rw_interleave.specs.Stream.{IsRecovered, bad_count}
-use Rattle.cdg_screen.specs.Picture.{Standing, blank, standing_after}
-use Rattle.cdg_screen.proofs.Turns.{same_after, same_then}
+use Rattle.cdg_screen.specs.Picture.{IsWholeStanding, Standing, blank, standing_after}
+use Rattle.cdg_screen.proofs.Turns.{blank_is_whole}
 use Rattle.raw_subcode.specs.Sizes.{most_units}
 use Rattle.subcode_player.specs.Calls.{IsEarly}
 use Rattle.subcode_player.specs.Steps.{fresh_words, slots_of, window_next, window_gives, words_next, words_give}
@@ -72,9 +72,9 @@ drawn_blocks form lead_in time s blocks ready few =
     let start : s.second ≡ record { picture = s.second.picture; left = whole_packs time; bad = 0 } = ap₂ (λ l b. record { picture = s.second.picture; left = l; bad = b }) ready.left ready.bad in
     let run : (run_state drawings_next s blocks).second ≡ draw_after (record { picture = s.second.picture; left = whole_packs time; bad = 0 }) words =
     then_next_second words_next words_give drawing_next s blocks ∙ drawing_runs s.second (run_gives words_next words_give s.first blocks) ∙ ap₂ draw_after start (block_words form lead_in s.first blocks ready.words) in
-    let drawn = are_drawn s.second.picture (whole_packs time) 0 words (few_words form lead_in blocks few) in
+    let drawn = are_drawn s.second.picture (whole_packs time) 0 words (subst IsWholeStanding (sym ready.blank) blank_is_whole) (few_words form lead_in blocks few) in
     subst (IsDrawn form lead_in time blocks) (sym run) (record {
-      stands = same_then _ (standing_after s.second.picture (instrs_of (take (whole_packs time) (map finding words)))) _ drawn.stands (same_after s.second.picture blank (instrs_of (take (whole_packs time) (map finding words))) ready.blank);
+      stands = drawn.stands ∙ ap (λ (now : Standing). standing_after now (instrs_of (take (whole_packs time) (map finding words)))) ready.blank;
       counted = drawn.counted ∙ omega arith;
     })
 
@@ -178,14 +178,14 @@ module _ (form : Form) (lead_in time : ℕ) (left left' : Option (List ℕ)) (ta
     written : (bad : ℕ) (v : IsViewed (moment form lead_in time) taken now bad) → IsWrittenAt write (moment form lead_in time) taken (write (standing_after blank v.instrs)) bad
     written bad v = record { found = v.found; recovered = v.recovered; instrs = v.instrs; shown = v.shown; text_is = refl; bad_is = v.bad_is }
 
-    pub shows_done : (played : Played) → Views (moment form lead_in time) (from_to left left') now (Ok played) taken → ((shown : Standing) → now ≡ shown → Appends held held' (write shown)) → Calls (Ok played)
+    pub shows_done : (played : Played) → Views (moment form lead_in time) (from_to left left') now (Ok played) taken → Appends held held' (write now) → Calls (Ok played)
     shows_done played v put =
         let (at_end, blocks, reached, view) = v.done in
         record {
           plays = record {
             taken_from = v.taken_from;
             within = v.within;
-            done = (at_end, (write (standing_after blank view.instrs), record { blocks = blocks; written = written played.bad view }, put (standing_after blank view.instrs) view.stands));
+            done = (at_end, (write (standing_after blank view.instrs), record { blocks = blocks; written = written played.bad view }, subst (λ (shown : Standing). Appends held held' (write shown)) view.stands put));
             stopped = λ stop e not. (cc);
             ended = λ stop e not. (cc);
             cut = λ e. (cc);
@@ -194,7 +194,7 @@ module _ (form : Form) (lead_in time : ℕ) (left left' : Option (List ℕ)) (ta
           past_end = λ blocks e. (cc);
         }
 
-    pub shows_cut : (played : Played) → Views (moment form lead_in time) (from_to left left') now (Ok played) taken → ((shown : Standing) → now ≡ shown → AppendsPrefix held held' (write shown)) → Calls (Err WriteFault)
+    pub shows_cut : (played : Played) → Views (moment form lead_in time) (from_to left left') now (Ok played) taken → AppendsPrefix held held' (write now) → Calls (Err WriteFault)
     shows_cut played v put =
         let (at_end, blocks, reached, view) = v.done in
         record {
@@ -204,7 +204,7 @@ module _ (form : Form) (lead_in time : ℕ) (left left' : Option (List ℕ)) (ta
             done = tt;
             stopped = λ stop e not. let same : WriteFault ≡ stop = cc in absurd (not (sym same));
             ended = λ stop e not. at_end;
-            cut = λ e. (at_end, (write (standing_after blank view.instrs), (played, record { blocks = blocks; written = written played.bad view }), put (standing_after blank view.instrs) view.stands));
+            cut = λ e. (at_end, (write (standing_after blank view.instrs), (played, record { blocks = blocks; written = written played.bad view }), subst (λ (shown : Standing). AppendsPrefix held held' (write shown)) view.stands put));
           };
           reached = tt;
           past_end = λ blocks e. (cc);
