@@ -25,6 +25,7 @@ use Rattle.cdg_checkpoint.specs.Resumed.{GoesOn, IsGoneOnBy, blocks_after, block
 use Rattle.cdg_checkpoint.specs.declared.stops.Resumed.{Resumed}
 use Rattle.cdg_checkpoint.specs.declared.stops.ResumeStop.{ResumeStop}
 use Rattle.cdg_checkpoint.specs.declared.stops.ResumeStop.TheVariants.{PastEnd, Torn}
+use Rattle.checkpoint_files.proofs.Restored.{standing_is_whole}
 use Rattle.cdg_checkpoint.proofs.GoneOn.{IsBroughtBack, IsSound, gone_on}
 
 take_few : (n : ℕ) (xs : List ℕ) → length (take n xs) ≤ n
@@ -47,6 +48,7 @@ sound_file file good = record {
       let same : get_or file (24 + 1 * k) 0 ≡ get_or file (24 + k) 0 = ap (λ j. get_or file j 0) place in
       omega (arith, same, (good.ranges.1.1.1.1.1.0 k lt).0));
   few_bad = omega (arith, good.ranges.1.1.1.1.0 0 (omega arith), (good.ranges.1.1.1.0 0 (omega arith)).0);
+  standing = standing_is_whole file;
 }
 
 abbrev begun_at : Checkpoint → ℕ → BlockWords

@@ -1,6 +1,5 @@
 // What stands, to a file and back.
 ghost use Rattle.std.specs.Prelude.{◌≡◌};
-ghost use Rattle.cdg_screen.specs.Picture.{Standing};
 ghost use Rattle.checkpoint_files.specs.Checkpoint.{file_of, kept, standing_in};
 ghost use Rattle.checkpoint_files.specs.Table.{IsCheckpointFile};
 
@@ -14,8 +13,7 @@ pub(crate) fn compose(
     slots: &[u8; SLOTS_BYTES],
     picture: &Picture,
 )
-    ensures { (now : Standing) × now ≡ picture.now
-        × (file.new ≡ file_of (kept counts.now slots.now now)) }
+    ensures { file.new ≡ file_of (kept counts.now slots.now picture.now) }
 {
     file.compose(counts, slots, &picture.screen);
 }

@@ -243,8 +243,7 @@ impl Checkpointer {
         } }
         ensures left { self.new.tracking.words.second.left ≡ packs_until (checkpoint_in self.old.file) at }
         ensures bad { self.new.tracking.words.second.bad ≡ counts.now.bad }
-        ensures stands { self.new.tracking.words.second.picture
-            ≡ standing_in self.old.file }
+        ensures stands { self.new.tracking.words.second.picture ≡ standing_in self.old.file }
         ensures file { self.new.file ≡ self.old.file }
     {
         self.gather_slots(counts);

@@ -75,5 +75,5 @@ pub record HasDrawn (packs : List (List ℕ)) (player : LivePlayer) : Type 0 whe
 
 -- byte n of the picture: red, green or blue of the colour of pixel n / 3, of the pixels row by row
 unfoldable pub picture_byte : Standing → ℕ → ℕ
-picture_byte now n = slice_index (colour_bytes (now.colour (screen_pixel now (n / 3 % 300) (n / 3 / 300))))
+picture_byte now n = slice_index (colour_bytes (slice_index now.colours (screen_pixel now (n / 3 % 300) (n / 3 / 300))))
     (n % 3)

@@ -18,16 +18,13 @@ pub(crate) fn pixel(picture: &Picture, x: u32, y: u32) -> u8
     ensures pixel { result ≡ screen_pixel picture.now x y }
     ensures range { result < 16 }
 {
-    // What they ensure bounds the offsets.
-    let _ = picture.screen.offset_h();
-    let _ = picture.screen.offset_v();
     picture.screen.pixel(x, y)
 }
 
 /// Colour `k` of the table.
 pub(crate) fn colour(picture: &Picture, k: u8) -> u16
     requires { k < 16 }
-    ensures colour { result ≡ picture.now.colour k }
+    ensures colour { result ≡ slice_index picture.now.colours k }
     ensures range { result < 4096 }
 {
     picture.screen.colour(k)
@@ -49,7 +46,7 @@ pub(crate) fn screen(picture: &Picture, pixels: &mut [u8; SCREEN_PIXELS])
 
 /// The colours of the table.
 pub(crate) fn colours(picture: &Picture, table: &mut [u16; 16])
-    ensures { (k : ℕ) → k < 16 → slice_index table.new k ≡ picture.now.colour k }
+    ensures { (k : ℕ) → k < 16 → slice_index table.new k ≡ slice_index picture.now.colours k }
 {
     for k in 0..16 {
         table[k] = colour(picture, k as u8);
@@ -58,7 +55,7 @@ pub(crate) fn colours(picture: &Picture, table: &mut [u16; 16])
 
 /// The levels of the colours.
 pub(crate) fn levels(picture: &Picture, levels: &mut [u8; 16])
-    ensures { (k : ℕ) → k < 16 → slice_index levels.new k ≡ picture.now.level k }
+    ensures { (k : ℕ) → k < 16 → slice_index levels.new k ≡ slice_index picture.now.levels k }
 {
     for k in 0..16 {
         levels[k] = level(picture, k as u8);
@@ -67,7 +64,7 @@ pub(crate) fn levels(picture: &Picture, levels: &mut [u8; 16])
 
 fn level(picture: &Picture, k: u8) -> u8
     requires { k < 16 }
-    ensures { result ≡ picture.now.level k }
+    ensures { result ≡ slice_index picture.now.levels k }
 {
     picture.screen.level(k)
 }
@@ -105,8 +102,7 @@ fn part(colour: u16, part: u32) -> u8
 
 /// Carries out the instruction of a pack, whose parity has no part in it.
 pub(crate) fn draw(picture: &mut Picture, pack: &[u8; SYMBOLS])
-    ensures { picture.new
-        ≡ standing_after picture.old (instruction_of pack.now ∷ []) }
+    ensures { picture.new ≡ standing_after picture.old (instruction_of pack.now ∷ []) }
 {
     picture.screen.obey(&read_word(&Word::new(pack)));
 }
