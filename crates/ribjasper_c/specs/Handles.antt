@@ -58,11 +58,11 @@ IsScreen pixels now = (n : ℕ) → n < 64800 → slice_index pixels n ≡ scree
 
 -- the colours of the table
 abbrev pub IsTable : List ℕ → Standing → Type 0
-IsTable table now = (k : ℕ) → k < 16 → slice_index table k ≡ now.colour k
+IsTable table now = (k : ℕ) → k < 16 → slice_index table k ≡ slice_index now.colours k
 
 -- the levels of the colours
 abbrev pub AreLevels : List ℕ → Standing → Type 0
-AreLevels levels now = (k : ℕ) → k < 16 → slice_index levels k ≡ now.level k
+AreLevels levels now = (k : ℕ) → k < 16 → slice_index levels k ≡ slice_index now.levels k
 
 -- red, green and blue of the screen's pixels, row by row
 abbrev pub ArePictureBytes : List ℕ → Standing → Type 0

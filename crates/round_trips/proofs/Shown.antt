@@ -15,6 +15,7 @@ use Rattle.cdg_instructions.specs.MadeGood.{IsMadeGood}
 use Rattle.cdg_instructions.specs.Meaning.{meaning}
 use Rattle.cdg_instructions.specs.declared.instr.Instr.{Instr}
 use Rattle.cdg_instructions.specs.declared.instr.Instr.TheVariants.{Idle}
+use Rattle.cdg_screen.specs.Texts.{pixmap}
 use Rattle.cdg_screen.specs.Picture.{blank, standing_after}
 use Rattle.subcode_player.specs.Convert.{IsDamagedStream}
 use Rattle.subcode_player.specs.Screen.{AreMeant, IsScreenAt, moment}
@@ -156,7 +157,7 @@ module _ (form : Form) (lead_in : ℕ) (others : List ℕ) (press : DamagedPress
     file_text one laws =
         let are : screen.instrs ≡ map meaning (take (whole_packs (150 + time)) press.packs) =
         meant_is one (take (whole_packs (150 + time)) press.packs) screen.instrs (subst (λ (l : List (Option (List ℕ))). AreMeant l screen.instrs) first_found screen.shown) in
-        (standing_after blank screen.instrs, same_standing press.sheet press.file lead_in press.audio press.bytes press.packs press.pressed time in_audio laws screen.instrs are, screen.text_is)
+        screen.text_is ∙ ap pixmap (same_standing press.sheet press.file lead_in press.audio press.bytes press.packs press.pressed time in_audio laws screen.instrs are)
 
     pub none_bad : NoneBad → bad ≡ 0
     none_bad none = screen.bad_is ∙ ap bad_count first_found ∙ none (take (whole_packs (150 + time)) press.packs)

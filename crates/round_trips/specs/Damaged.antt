@@ -30,5 +30,4 @@ file_standing file many = standing_after blank (map meaning (take many (file_pac
 
 -- the text is the pixmap of what stands then
 abbrev pub IsFileText : List ℕ → ℕ → List ℕ → Type 0
-IsFileText file many text = (now : Standing) × now ≡ file_standing file many
-    × (text ≡ pixmap now)
+IsFileText file many text = text ≡ pixmap (file_standing file many)

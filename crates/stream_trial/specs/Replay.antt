@@ -22,7 +22,7 @@ wanted_pixel board x y = if nat_le 6 x && nat_le x 293 && nat_le 12 y
 -- the screen shows what stands on the canvas
 pub record Agrees (now : Standing) (board : Board) : Type 0 where
   pub border : now.border ≡ board.border
-  pub colours : (n : ℕ) → n < 16 → now.colour n ≡ slice_index board.colours n
+  pub colours : (n : ℕ) → n < 16 → slice_index now.colours n ≡ slice_index board.colours n
   pub pixels : (x y : ℕ) → x < 300 → y < 216 → screen_pixel now x y ≡ wanted_pixel board x y
 
 -- each count is at most so great

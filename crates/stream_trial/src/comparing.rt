@@ -18,7 +18,7 @@ pub(crate) fn agrees(screen: &Screen, canvas: &Canvas) -> bool
 // Whether all sixteen colours agree.
 fn colours_agree(screen: &Screen, canvas: &Canvas) -> bool
     ensures { IsTrue result
-        ↔ ((n : ℕ) → n < 16 → screen.now.colour n ≡ slice_index canvas.now.colours n) }
+        ↔ ((n : ℕ) → n < 16 → slice_index screen.now.colours n ≡ slice_index canvas.now.colours n) }
 {
     for n in 0..16 {
         if screen.colour(n) != canvas.colour(n) {
