@@ -1,5 +1,5 @@
 -- What stands as lists: the rows of the memory, and sixteen numbers.
-use Rattle.std.proofs.Common.{◌≡◌, ℕ, ◌+◌, ◌<◌, List, [], length, get_or, map, refl, sym, ap, ◌∙◌, arith}
+use Rattle.std.proofs.Common.{◌≡◌, ℕ, ◌<◌, List, [], length, get_or, map, sym, ap, ◌∙◌, arith}
 use Rattle.std.specs.Prelude.{slice_index}
 use Rattle.std.proofs.lemmas.List.{ext_get_or}
 use Rattle.std.proofs.lemmas.List.FromFn.{length-map-range_with_len, get_or-map-range_with_len, fill_by_all}
@@ -40,10 +40,10 @@ pub rows_are : (rows : List (List ℕ)) (pixel : ℕ → ℕ → ℕ) → length
 unfolding pixel_at
 rows_are rows pixel count widths same =
     ext_get_or [] rows (rows_of pixel) (count ∙ sym (length-rows_of pixel)) (λ y lt.
-        let y_lt : y < 216 = omega (arith, count) in
-        ext_get_or 0 (get_or rows y []) (get_or (rows_of pixel) y []) (widths y y_lt ∙ sym (length-row pixel y y_lt)) (λ x lt.
-            let x_lt : x < 300 = omega (arith, widths y y_lt) in
-            same x y x_lt y_lt ∙ sym (pixel_of_rows pixel x y x_lt y_lt)))
+    let y_lt : y < 216 = omega (arith, count) in
+    ext_get_or 0 (get_or rows y []) (get_or (rows_of pixel) y []) (widths y y_lt ∙ sym (length-row pixel y y_lt)) (λ x lt.
+    let x_lt : x < 300 = omega (arith, widths y y_lt) in
+    same x y x_lt y_lt ∙ sym (pixel_of_rows pixel x y x_lt y_lt)))
 
 -- and of sixteen numbers
 pub sixteen_are : (numbers : List ℕ) (number : ℕ → ℕ) → length numbers ≡ 16 → ((k : ℕ) → k < 16 → slice_index numbers k ≡ number k) → numbers ≡ sixteen number

@@ -1,5 +1,5 @@
 -- The run of the stage is the thin form.
-use Rattle.std.proofs.Common.{◌≡◌, ℕ, zero, suc, ◌*◌, ◌/◌, ◌<◌, ◌≤◌, true, false, true≢false, List, [], ◌∷◌, ◌++◌, length, get_or, take, drop, refl, sym, ap, ◌∙◌, subst, inl, inr, arith, append_assoc, length-drop}
+use Rattle.std.proofs.Common.{◌≡◌, ℕ, zero, suc, ◌*◌, ◌/◌, ◌<◌, ◌≤◌, true, true≢false, List, [], ◌∷◌, ◌++◌, length, get_or, take, drop, refl, sym, ap, ◌∙◌, subst, inl, inr, arith, append_assoc, length-drop}
 use Rattle.std.specs.Prelude.{if◌then◌else◌}
 use Rattle.std.proofs.lemmas.Bool.{cases_Bool}
 use Rattle.std.proofs.lemmas.List.{append-nil, length-take-le}
@@ -11,7 +11,7 @@ use Rattle.cdg_screen.specs.Picture.{Standing, blank, standing_after}
 use Rattle.cdg_screen.proofs.Turns.{blank_is_whole, in_turn}
 use Rattle.cdg_instructions.specs.declared.instr.Instr.{Instr}
 use Rattle.rw_code.specs.Packs.{idle_pack}
-use Rattle.cdg_thin.specs.Thin.{IsNeedless, IsThinned, IsThinForm, IsThinText, is_graphic}
+use Rattle.cdg_thin.specs.Thin.{IsNeedless, IsThinned, IsThinForm, IsThinText}
 use Rattle.cdg_thin.specs.Steps.{instruction_of, is_needless, thin_next, thin_gives}
 use Rattle.cdg_thin.proofs.Forms.{after, instructions_at, instructions_of, read_each}
 use Rattle.cdg_thin.proofs.Meanings.{has_instruction}

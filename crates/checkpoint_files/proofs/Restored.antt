@@ -167,7 +167,7 @@ standing_is_whole file =
 pub brought_back : (saved mid now : Standing) → IsWholeStanding saved → IsWholeStanding mid → HoldsTiles saved 900 mid → now ≡ set_by saved mid → now ≡ saved
 brought_back saved mid now saved_whole mid_whole holds same =
     let rows = rows_same (pixel_at mid.memory) (pixel_at saved.memory) (λ x y x_lt y_lt.
-        holds x y x_lt y_lt ∙ choose (nat_lt (tile_number x y) 900) true (pixel_at saved.memory x y) 0 (less (tile_number x y) 900 (omega (arith, x_lt, y_lt)))) in
+    holds x y x_lt y_lt ∙ choose (nat_lt (tile_number x y) 900) true (pixel_at saved.memory x y) 0 (less (tile_number x y) 900 (omega (arith, x_lt, y_lt)))) in
     let memory : mid.memory ≡ saved.memory = sym (ap (λ (now : Standing). now.memory) mid_whole) ∙ rows ∙ ap (λ (now : Standing). now.memory) saved_whole in
     same ∙ ap (λ (rows : List (List ℕ)). record saved { memory = rows }) memory
 

@@ -1,5 +1,5 @@
 -- What stands after the blocks that a player was fed.
-use Rattle.std.proofs.Common.{◌≡◌, ℕ, ◌+◌, ◌-◌, ◌*◌, ◌<◌, ◌≤◌, List, length, refl, ap, ◌∙◌, subst, sym, arith}
+use Rattle.std.proofs.Common.{◌≡◌, ℕ, ◌-◌, ◌*◌, ◌≤◌, List, length, ap, ◌∙◌, subst, sym, arith}
 use Rattle.disc_time.specs.Counts.{last_block}
 use Rattle.rw_interleave.specs.Interleave.{whole_packs}
 use Rattle.raw_subcode.specs.declared.form.Form.{Form}

@@ -1,5 +1,5 @@
 -- What stands while the packs of a schedule come.
-use Rattle.std.proofs.Common.{◌≡◌, ℕ, zero, suc, ◌+◌, ◌-◌, ◌<◌, ◌≤◌, inl, inr, List, [], ◌∷◌, length, nat_le, ◌&&◌, true, cond, get_or, take, drop, refl, sym, ap, ap₂, ◌∙◌, subst, arith, length-append, length-drop}
+use Rattle.std.proofs.Common.{◌≡◌, ℕ, zero, suc, ◌+◌, ◌-◌, ◌<◌, ◌≤◌, inl, inr, List, [], ◌∷◌, length, nat_le, ◌&&◌, true, get_or, take, drop, refl, sym, ap, ◌∙◌, subst, arith, length-append, length-drop}
 use Rattle.std.specs.Prelude.{reverse}
 use Rattle.std.specs.List.{AllByRecursion}
 use Rattle.std.proofs.Math.Seq.{take-add}
@@ -12,7 +12,7 @@ use Rattle.rw_code.specs.Codeword.{IsCodeword}
 use Rattle.cdg_instructions.specs.Instruction.{Means, InRange, IsKnown, IsWritten, content_of, message_of, written_symbols}
 use Rattle.cdg_instructions.specs.declared.instr.Instr.{Instr}
 use Rattle.cdg_instructions.specs.declared.instr.Instr.TheVariants.{Idle, ScrollPreset, ScrollCopy}
-use Rattle.cdg_screen.specs.Picture.{Standing, blank, memory_from, border_from, colour_from, level_from, offsets_from, standing_after}
+use Rattle.cdg_screen.specs.Picture.{Standing, blank, offsets_from, standing_after}
 use Rattle.cdg_screen.proofs.Turns.{idle_changes_nothing, whole_after}
 use Rattle.rw_code.specs.Packs.{idle_pack}
 use Rattle.picture_changes.specs.Schedule.{start_of, IsSchedule}

@@ -1,4 +1,4 @@
-use Rattle.std.proofs.Common.{◌≡◌, sym, ◌∙◌, ap}
+use Rattle.std.proofs.Common.{sym, ◌∙◌, ap}
 use Rattle.cdg_screen.specs.Picture.{Standing, pixel_at}
 use Rattle.cdg_screen.specs.Memory.{at}
 use Rattle.cdg_screen.proofs.Lists.{pixel_of_rows}

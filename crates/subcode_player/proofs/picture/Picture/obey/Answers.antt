@@ -1,4 +1,4 @@
-use Rattle.std.proofs.Common.{◌≡◌, [], ◌∷◌, ap, ◌∙◌}
+use Rattle.std.proofs.Common.{[], ◌∷◌, ap, ◌∙◌}
 use Rattle.cdg_instructions.proofs.Meaning.{only_meaning}
 use Rattle.cdg_screen.specs.Picture.{standing_after}
 use Rattle.cdg_instructions.specs.declared.instr.Instr.{Instr}
