@@ -18,13 +18,11 @@ use Rattle.cdg_io.proofs.Frames.{passing}
 use Rattle.cdg_io.proofs.Streaming.{IsWhole}
 use Rattle.cdg_io.specs.declared.pumping.Pumped.{Pumped}
 use Rattle.cdg_instructions.specs.declared.instr.Instr.{Instr}
-use Rattle.cdg_screen.specs.Picture.{Standing, SameStanding, blank, standing_after}
+use Rattle.cdg_screen.specs.Picture.{Standing, blank, standing_after}
 use Rattle.cdg_screen.specs.Texts.{pixmap}
-use Rattle.cdg_screen.proofs.SameTexts.{picture_same}
-use Rattle.cdg_screen.proofs.Turns.{same_after, same_then, same_back}
 use Rattle.checkpoint_files.specs.Checkpoint.{Checkpoint, checkpoint_in}
 use Rattle.checkpoint_files.specs.Table.{IsCheckpointFile, empty_symbols}
-use Rattle.checkpoint_files.specs.Sound.{IsSoundStanding, IsSoundCheckpoint, IsSameCheckpoint}
+use Rattle.checkpoint_files.specs.Sound.{IsSoundStanding, IsSoundCheckpoint}
 use Rattle.checkpoint_files.proofs.Accepted.{accepted, same}
 use Rattle.subcode_player.specs.Calls.{IsEarly}
 use Rattle.subcode_player.specs.Screen.{AreMeant, IsScreenAt, IsShownBy, Shows, moment}
@@ -43,7 +41,7 @@ use Rattle.cdg_checkpoint.specs.declared.stops.ResumeStop.{ResumeStop}
 use Rattle.cdg_checkpoint.specs.declared.stops.ResumeStop.TheVariants.{FirstFault, SecondFault, WriteFault, BadSave, BeforeSave, Torn, TooLong, PastEnd}
 use Rattle.cdg_checkpoint.proofs.GoneOn.{both_small, dropped_small, gathered_word}
 use Rattle.cdg_checkpoint.proofs.Joined.{resumed_whole}
-use Rattle.cdg_checkpoint.proofs.Meant.{IsSmall, meant_small, showable, sound_after}
+use Rattle.cdg_checkpoint.proofs.Meant.{IsSmall, meant_small, sound_after}
 use Rattle.cdg_checkpoint.proofs.SavedStreams.{symbols_are, symbols_count}
 
 -- ---- what is saved is sound
@@ -57,16 +55,6 @@ zeros_are : (n i : ℕ) → get_or (replicate {A = ℕ} n 0) i 0 ≡ 0
 zeros_are zero i = refl
 zeros_are (suc n) zero = refl
 zeros_are (suc n) (suc i) = zeros_are n i
-
-sound_same : (one other : Standing) → SameStanding one other → IsSoundStanding other → IsSoundStanding one
-sound_same one other h s = record {
-  memory = λ x y x_lt y_lt. omega (arith, h.memory x y x_lt y_lt, s.memory x y x_lt y_lt);
-  border = omega (arith, h.border, s.border);
-  colour = λ k lt. omega (arith, h.colour k lt, s.colour k lt);
-  level = λ k lt. omega (arith, h.level k lt, s.level k lt);
-  h = omega (arith, h.h, s.h);
-  v = omega (arith, h.v, s.v);
-}
 
 module _ (lead_in n : ℕ) (bytes : List ℕ) (c : Checkpoint) (lead_in_most : lead_in ≤ 450000) (few : n ≤ 1000000) (size : length bytes ≡ n * 96) (saved : IsCheckpointOf bytes lead_in c) where
   whole : IsWhole 96 n bytes
@@ -121,46 +109,19 @@ module _ (lead_in n : ℕ) (bytes : List ℕ) (c : Checkpoint) (lead_in_most : l
     slots_size = ap length saved.slots_are ∙ length-drop (length symbols) (replicate 168 0 ++ symbols) ∙ omega (arith, length-append (replicate 168 0) symbols, length-zeros);
     slots_below = λ k lt. slot_small k;
     slots_empty = slot_empty;
-    standing = sound_same c.standing (standing_after blank saved.instrs) saved.stands (sound_after saved.instrs small);
+    standing = subst IsSoundStanding (sym saved.stands) (sound_after saved.instrs small);
   }
-
--- ---- the same checkpoint goes on the same
-
-same_standing : (a b : Checkpoint) (time : ℕ) (rest : List ℕ) (now : Standing) (bad : ℕ) → a ≡ record b { standing = a.standing } → SameStanding a.standing b.standing → IsGoneOn (record b { standing = a.standing }) time rest now bad → IsGoneOn b time rest now bad
-same_standing a b time rest now bad e same g = record {
-  found = g.found;
-  count = g.count;
-  each = g.each;
-  instrs = g.instrs;
-  shown = g.shown;
-  stands = same_then now (standing_after a.standing g.instrs) (standing_after b.standing g.instrs) g.stands (same_after a.standing b.standing g.instrs same);
-  bad_is = g.bad_is;
-}
-
-abbrev holding : ℕ → ℕ → ℕ → ℕ → List ℕ → Standing → Checkpoint
-holding to_come lead_in program bad slots now = record { to_come = to_come; lead_in = lead_in; program = program; bad = bad; slots = slots; standing = now }
-
-but_standing : (a b : Checkpoint) → IsSameCheckpoint a b → a ≡ record b { standing = a.standing }
-but_standing a b s =
-    ap₂ (λ x y. holding x y a.program a.bad a.slots a.standing) s.to_come s.lead_in
-    ∙ ap₂ (λ x y. holding b.to_come b.lead_in x y a.slots a.standing) s.program s.bad
-    ∙ ap (λ (x : List ℕ). holding b.to_come b.lead_in b.program b.bad x a.standing) s.slots
-
-pub same_goes_on : (a b : Checkpoint) (time : ℕ) (rest : List ℕ) (now : Standing) (bad : ℕ) → IsSameCheckpoint a b → IsGoneOn a time rest now bad → IsGoneOn b time rest now bad
-same_goes_on a b time rest now bad s g =
-    let e = but_standing a b s in same_standing a b time rest now bad e s.standing (subst (λ (d : Checkpoint). IsGoneOn d time rest now bad) e g)
 
 -- ---- what is written
 
 pub viewed_screen : (lead_in time : ℕ) (bytes : List ℕ) (now : Standing) (bad : ℕ) → IsViewed (moment Raw lead_in time) bytes now bad → IsScreenAt (moment Raw lead_in time) bytes (pixmap now) bad
 viewed_screen lead_in time bytes now bad v =
-    let small : AllByRecursion IsSmall v.instrs = meant_small v.found (word_of (program_symbols Raw bytes lead_in)) (whole_packs time) v.instrs (λ k lt. v.recovered.each k (omega (arith, lt, v.recovered.count))) v.shown in
     record {
       found = v.found;
       recovered = v.recovered;
       instrs = v.instrs;
       shown = v.shown;
-      text_is = sym (picture_same (standing_after blank v.instrs) now (same_back now (standing_after blank v.instrs) v.stands) (showable v.instrs small));
+      text_is = ap pixmap v.stands;
       bad_is = v.bad_is;
     }
 
@@ -223,20 +184,20 @@ module _ (lead_in n : ℕ) (bytes file : List ℕ) (pumped : Pumped) (first : Is
   accepts : IsCheckpointFile file
   accepts = subst IsCheckpointFile (sym saved.text_is) (accepted c sound)
 
-  says_same : IsSameCheckpoint (checkpoint_in file) c
-  says_same = subst (λ (f : List ℕ). IsSameCheckpoint (checkpoint_in f) c) (sym saved.text_is) (same c sound)
+  says_same : checkpoint_in file ≡ c
+  says_same = ap checkpoint_in saved.text_is ∙ same c sound
 
   program_read : (checkpoint_in file).program ≡ length bytes / 96 - lead_in
-  program_read = says_same.program ∙ saved.is.program_is
+  program_read = ap (λ (k : Checkpoint). k.program) says_same ∙ saved.is.program_is
 
   program_of : (checkpoint_in file).program ≡ n - lead_in
   program_of = omega (arith, program_read, size)
 
   to_come_of : (checkpoint_in file).to_come ≡ lead_in - n
-  to_come_of = omega (arith, says_same.to_come, saved.is.to_come_is, size)
+  to_come_of = omega (arith, ap (λ (k : Checkpoint). k.to_come) says_same, saved.is.to_come_is, size)
 
   lead_in_of : (checkpoint_in file).lead_in ≡ min n lead_in
-  lead_in_of = omega (arith, says_same.lead_in, saved.is.lead_in_is, size)
+  lead_in_of = omega (arith, ap (λ (k : Checkpoint). k.lead_in) says_same, saved.is.lead_in_is, size)
 
   answers : (time : ℕ) (rest : List ℕ) (result : Result Resumed ResumeStop) → IsResumedBy result (checkpoint_in file) time (length rest) → IsShownBy (as_played result) lead_in time 96 (length (bytes ++ rest))
   answers time rest result h =
@@ -245,7 +206,7 @@ module _ (lead_in n : ℕ) (bytes file : List ℕ) (pumped : Pumped) (first : Is
 
   shows : (time : ℕ) (rest text : List ℕ) (resumed : Resumed) → length rest % 96 ≡ 0 → length bytes / 96 - lead_in ≤ time → IsResumed file time rest resumed text → IsScreenAt (moment Raw lead_in time) (bytes ++ rest) text resumed.bad
   shows time rest text resumed rest_whole reached r =
-      let gone : IsGoneOn c time rest r.now resumed.bad = same_goes_on (checkpoint_in file) c time rest r.now resumed.bad says_same r.gone_on in
+      let gone : IsGoneOn c time rest r.now resumed.bad = subst (λ (k : Checkpoint). IsGoneOn k time rest r.now resumed.bad) says_same r.gone_on in
       let viewed : IsViewed (moment Raw lead_in time) (bytes ++ rest) r.now resumed.bad = resumed_whole bytes rest lead_in time resumed.bad c r.now first.whole rest_whole saved.is (omega (arith, saved.is.program_is, reached)) gone in
       subst (λ (t : List ℕ). IsScreenAt (moment Raw lead_in time) (bytes ++ rest) t resumed.bad) (sym r.text_is) (viewed_screen lead_in time (bytes ++ rest) r.now resumed.bad viewed)
 

@@ -21,8 +21,7 @@ use Rattle.rw_interleave.specs.Gathering.{gather_next, gather_gives}
 use Rattle.rw_interleave.proofs.Gathers.{gathers}
 use Rattle.raw_subcode.specs.Channels.{symbols_of, program_symbols}
 use Rattle.raw_subcode.specs.declared.form.Form.TheVariants.{Raw}
-use Rattle.cdg_screen.specs.Picture.{SameStanding, standing_of}
-use Rattle.cdg_screen.proofs.Turns.{same_after, same_then}
+use Rattle.cdg_screen.specs.Picture.{IsWholeStanding, Standing, standing_after}
 use Rattle.checkpoint_files.specs.Checkpoint.{Checkpoint}
 use Rattle.checkpoint_files.specs.Table.{empty_symbols}
 use Rattle.subcode_player.specs.Steps.{slots_of, window_next, window_gives, words_next, words_give}
@@ -119,13 +118,14 @@ pub record IsBroughtBack (c : Checkpoint) (time : ℕ) (s : Then BlockWords Draw
   pub words : s.first ≡ record { form = Raw; lead_in = c.to_come; gather = run_state gather_next [] (saved_slots c) }
   pub left : s.second.left ≡ packs_until c time
   pub bad : s.second.bad ≡ c.bad
-  pub stands : SameStanding (standing_of s.second.picture) c.standing
+  pub stands : s.second.picture ≡ c.standing
 
 -- the ranges that matter
 pub record IsSound (c : Checkpoint) : Type 0 where
   pub size : length c.slots ≡ 168
   pub small : (i : ℕ) → get_or c.slots i 0 < 64
   pub few_bad : c.bad ≤ 4000000
+  pub standing : IsWholeStanding c.standing
 
 module _ (c : Checkpoint) (time n : ℕ) (bytes : List ℕ) (s s' : Then BlockWords Drawing) (sound : IsSound c) (back : IsBroughtBack c time s) (few : n ≤ 1000000) (size : length bytes ≡ n * 96) (run : s' ≡ run_state words_drawn s (units_of 96 n bytes)) where
   whole : IsWhole 96 n bytes
@@ -191,9 +191,9 @@ module _ (c : Checkpoint) (time n : ℕ) (bytes : List ℕ) (s s' : Then BlockWo
       let end : s'.second ≡ draw_after (record { picture = s.second.picture; left = packs_until c time; bad = c.bad }) words =
       ap (λ (t : Then BlockWords Drawing). t.second) run ∙ then_next_second words_next words_give drawing_next s (units_of 96 n bytes) ∙ drawing_runs s.second (run_gives words_next words_give s.first (units_of 96 n bytes))
       ∙ ap₂ draw_after start given in
-      subst (AreDrawn s.second.picture (packs_until c time) c.bad words) (sym end) (are_drawn s.second.picture (packs_until c time) c.bad words (omega (arith, sound.few_bad, words_count, saved_count, slots_count, few)))
+      subst (AreDrawn s.second.picture (packs_until c time) c.bad words) (sym end) (are_drawn s.second.picture (packs_until c time) c.bad words (subst IsWholeStanding (sym back.stands) sound.standing) (omega (arith, sound.few_bad, words_count, saved_count, slots_count, few)))
 
-  pub gone_on : IsGoneOn c time bytes (standing_of s'.second.picture) s'.second.bad
+  pub gone_on : IsGoneOn c time bytes s'.second.picture s'.second.bad
   gone_on = record {
     found = map finding words;
     count = length-map words finding ∙ words_count ∙ packs_count;
@@ -204,6 +204,6 @@ module _ (c : Checkpoint) (time n : ℕ) (bytes : List ℕ) (s s' : Then BlockWo
         subst (IsFinding (word_of (resumed_symbols c bytes) k)) (sym entry) (finding_is (word_of (resumed_symbols c bytes) k) (gathered_word (resumed_symbols c bytes) k all_small));
     instrs = instrs_of (take (packs_until c time) (map finding words));
     shown = are_meant (take (packs_until c time) (map finding words));
-    stands = same_then _ _ _ drawn.stands (same_after (standing_of s.second.picture) c.standing (instrs_of (take (packs_until c time) (map finding words))) back.stands);
+    stands = drawn.stands ∙ ap (λ (now : Standing). standing_after now (instrs_of (take (packs_until c time) (map finding words)))) back.stands;
     bad_is = drawn.counted;
   }

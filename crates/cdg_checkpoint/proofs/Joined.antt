@@ -17,7 +17,7 @@ use Rattle.raw_subcode.specs.declared.form.Form.TheVariants.{Raw}
 use Rattle.rw_interleave.specs.Stream.{IsRecovered, bad_count}
 use Rattle.cdg_instructions.specs.declared.instr.Instr.{Instr}
 use Rattle.cdg_screen.specs.Picture.{Standing, blank, standing_after}
-use Rattle.cdg_screen.proofs.Turns.{in_turn, same_after, same_then, same_back}
+use Rattle.cdg_screen.proofs.Turns.{in_turn}
 use Rattle.checkpoint_files.specs.Checkpoint.{Checkpoint}
 use Rattle.checkpoint_files.specs.Table.{empty_symbols}
 use Rattle.subcode_player.specs.Screen.{AreMeant, moment}
@@ -162,10 +162,7 @@ module _ (bytes rest : List ℕ) (lead_in time bad n m : ℕ) (c : Checkpoint) (
     recovered = subst (λ (s : List ℕ). IsRecovered Raw s found) (sym (symbols_join lead_in n m bytes rest size size')) recovered;
     instrs = saved.instrs ++ gone.instrs;
     shown = subst (λ (f : List (Option (List ℕ))). AreMeant f (saved.instrs ++ gone.instrs)) (sym cut) (meant_both saved.found (take (packs_until c time) gone.found) saved.instrs gone.instrs saved.meant gone.shown);
-    stands = same_then now (standing_after c.standing gone.instrs) (standing_after blank (saved.instrs ++ gone.instrs)) gone.stands
-        (same_then (standing_after c.standing gone.instrs) (standing_after (standing_after blank saved.instrs) gone.instrs) (standing_after blank (saved.instrs ++ gone.instrs))
-        (same_after c.standing (standing_after blank saved.instrs) gone.instrs saved.stands)
-        (same_back (standing_after blank (saved.instrs ++ gone.instrs)) (standing_after (standing_after blank saved.instrs) gone.instrs) (in_turn blank saved.instrs gone.instrs)));
+    stands = gone.stands ∙ ap (λ (now : Standing). standing_after now gone.instrs) saved.stands ∙ sym (in_turn blank saved.instrs gone.instrs);
     bad_is = gone.bad_is ∙ ap (λ b. b + bad_count (take (packs_until c time) gone.found)) saved.bad_is ∙ sym (ap bad_count cut ∙ bad_both saved.found (take (packs_until c time) gone.found));
   }
 

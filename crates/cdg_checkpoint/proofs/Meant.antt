@@ -1,6 +1,6 @@
 -- The numbers that instructions of codewords say are in their ranges, and so is what stands after them.
-use Rattle.std.proofs.Common.{◌≡◌, ℕ, zero, suc, ◌+◌, ◌-◌, ◌*◌, ◌%◌, ◌<◌, ◌≤◌, Bool, true, false, cond, List, [], ◌∷◌, ◌++◌, length, get_or, map, take, drop, reverse, sym, ap, ◌∙◌, subst, arith, lit<, Some, None, inl, inr}
-use Rattle.std.specs.Prelude.{⊤, Option, nat_lt, ◌&&◌}
+use Rattle.std.proofs.Common.{◌≡◌, ℕ, zero, suc, ◌+◌, ◌-◌, ◌*◌, ◌%◌, ◌<◌, ◌≤◌, Bool, true, false, cond, List, [], ◌∷◌, ◌++◌, length, get_or, map, take, drop, reverse, refl, sym, ap, ◌∙◌, subst, arith, lit<, Some, None, inl, inr}
+use Rattle.std.specs.Prelude.{⊤, Option, nat_lt, ◌&&◌, slice_index}
 use Rattle.std.specs.List.{AllByRecursion, range_with_len}
 use Rattle.std.proofs.lemmas.Bool.{cases_Bool}
 use Rattle.std.proofs.lemmas.Bool.Decides.{leb_tells, nat_tests}
@@ -15,8 +15,9 @@ use Rattle.cdg_instructions.specs.Drawing.{tile_colour}
 use Rattle.cdg_instructions.specs.Instruction.{Means, IsTile, IsScroll, content_of, table_colour}
 use Rattle.cdg_instructions.specs.declared.instr.Instr.{Instr}
 use Rattle.cdg_instructions.specs.declared.instr.Instr.TheVariants.{Idle, Foreign, Unknown, MemoryPreset, BorderPreset, SetTile, XorTile, ScrollPreset, ScrollCopy, Transparency, ColoursLow, ColoursHigh}
-use Rattle.cdg_screen.specs.Picture.{blank, memory_from, border_from, colour_from, level_from, offsets_from, standing_after, covers, source_x, source_y, is_inside}
-use Rattle.cdg_screen.proofs.SameTexts.{IsShowable}
+use Rattle.cdg_screen.specs.Picture.{blank, pixel_at, memory_from, border_from, colour_from, level_from, offsets_from, standing_after, covers, source_x, source_y, is_inside}
+use Rattle.cdg_screen.proofs.Lists.{number_of_sixteen, pixel_of_rows}
+use Rattle.cdg_screen.proofs.Turns.{colour_after, level_after, pixel_after, same_colour, same_level, same_memory, whole_after}
 use Rattle.checkpoint_files.specs.Sound.{IsSoundStanding}
 use Rattle.subcode_player.specs.Screen.{AreMeant}
 
@@ -118,7 +119,7 @@ either false bound m n f g = g
 tile_below : (colour0 colour1 : ℕ) (lines : List ℕ) (i j : ℕ) → colour0 < 16 → colour1 < 16 → tile_colour colour0 colour1 lines i j < 16
 tile_below colour0 colour1 lines i j a b = either _ 16 colour1 colour0 b a
 
-memory_below : (before : List Instr) → AllByRecursion IsSmall before → (x y : ℕ) → memory_from blank before x y < 16
+memory_below : (before : List Instr) → AllByRecursion IsSmall before → (x y : ℕ) → memory_from (λ x y. 0) before x y < 16
 memory_below [] all x y = lit< tt
 memory_below (Idle ∷ before) all x y = memory_below before all.1 x y
 memory_below (Foreign ∷ before) all x y = memory_below before all.1 x y
@@ -127,7 +128,7 @@ memory_below (MemoryPreset colour repeat ∷ before) all x y = all.0
 memory_below (BorderPreset colour ∷ before) all x y = memory_below before all.1 x y
 memory_below (SetTile colour0 colour1 row column lines ∷ before) all x y = either (covers row column x y) 16 _ _ (tile_below colour0 colour1 lines (x % 6) (y % 12) all.0.0 all.0.1) (memory_below before all.1 x y)
 memory_below (XorTile colour0 colour1 row column lines ∷ before) all x y =
-    either (covers row column x y) 16 _ _ (xor_lt 4 (tile_colour colour0 colour1 lines (x % 6) (y % 12)) (memory_from blank before x y) (tile_below colour0 colour1 lines (x % 6) (y % 12) all.0.0 all.0.1) (memory_below before all.1 x y)) (memory_below before all.1 x y)
+    either (covers row column x y) 16 _ _ (xor_lt 4 (tile_colour colour0 colour1 lines (x % 6) (y % 12)) (memory_from (λ x y. 0) before x y) (tile_below colour0 colour1 lines (x % 6) (y % 12) all.0.0 all.0.1) (memory_below before all.1 x y)) (memory_below before all.1 x y)
 memory_below (ScrollPreset colour across h down v ∷ before) all x y =
     either (is_inside 300 (source_x across x) && is_inside 216 (source_y down y)) 16 _ _ (memory_below before all.1 (source_x across x - 300) (source_y down y - 216)) all.0.0
 memory_below (ScrollCopy colour across h down v ∷ before) all x y = memory_below before all.1 (source_x across x % 300) (source_y down y % 216)
@@ -135,7 +136,7 @@ memory_below (Transparency levels ∷ before) all x y = memory_below before all.
 memory_below (ColoursLow colours ∷ before) all x y = memory_below before all.1 x y
 memory_below (ColoursHigh colours ∷ before) all x y = memory_below before all.1 x y
 
-border_below : (before : List Instr) → AllByRecursion IsSmall before → border_from blank before < 16
+border_below : (before : List Instr) → AllByRecursion IsSmall before → border_from 0 before < 16
 border_below [] all = lit< tt
 border_below (Idle ∷ before) all = border_below before all.1
 border_below (Foreign ∷ before) all = border_below before all.1
@@ -153,7 +154,7 @@ border_below (ColoursHigh colours ∷ before) all = border_below before all.1
 low_colour : (k : ℕ) → nat_lt k 8 ≡ true → k < 8
 low_colour k low = grind (arith, nat_tests)
 
-colour_below : (before : List Instr) → AllByRecursion IsSmall before → (k : ℕ) → k < 16 → colour_from blank before k < 4096
+colour_below : (before : List Instr) → AllByRecursion IsSmall before → (k : ℕ) → k < 16 → colour_from (λ k. 0) before k < 4096
 colour_below [] all k lt = lit< tt
 colour_below (Idle ∷ before) all k lt = colour_below before all.1 k lt
 colour_below (Foreign ∷ before) all k lt = colour_below before all.1 k lt
@@ -174,7 +175,7 @@ colour_below (ColoursHigh colours ∷ before) all k lt = elim (cases_Bool (nat_l
   | inr high ↦ rw high (all.0 (k - 8) (omega (arith, lt)))
 ]
 
-level_below : (before : List Instr) → AllByRecursion IsSmall before → (k : ℕ) → k < 16 → level_from blank before k < 64
+level_below : (before : List Instr) → AllByRecursion IsSmall before → (k : ℕ) → k < 16 → level_from (λ k. 0) before k < 64
 level_below [] all k lt = lit< tt
 level_below (Idle ∷ before) all k lt = level_below before all.1 k lt
 level_below (Foreign ∷ before) all k lt = level_below before all.1 k lt
@@ -189,7 +190,7 @@ level_below (Transparency levels ∷ before) all k lt = all.0 k lt
 level_below (ColoursLow colours ∷ before) all k lt = level_below before all.1 k lt
 level_below (ColoursHigh colours ∷ before) all k lt = level_below before all.1 k lt
 
-offsets_below : (before : List Instr) → AllByRecursion IsSmall before → ((offsets_from blank before).0 ≤ 5) × ((offsets_from blank before).1 ≤ 11)
+offsets_below : (before : List Instr) → AllByRecursion IsSmall before → ((offsets_from (0, 0) before).0 ≤ 5) × ((offsets_from (0, 0) before).1 ≤ 11)
 offsets_below [] all = (omega arith, omega arith)
 offsets_below (Idle ∷ before) all = offsets_below before all.1
 offsets_below (Foreign ∷ before) all = offsets_below before all.1
@@ -208,20 +209,16 @@ module _ (instrs : List Instr) (all : AllByRecursion IsSmall instrs) where
   last_first : AllByRecursion IsSmall (reverse instrs)
   last_first = all_reversed instrs all
 
-  pub showable : IsShowable (standing_after blank instrs)
-  showable = record {
-    memory = memory_below (reverse instrs) last_first;
-    border = border_below (reverse instrs) last_first;
-    h = (offsets_below (reverse instrs) last_first).0;
-    v = (offsets_below (reverse instrs) last_first).1;
-  }
-
   pub sound_after : IsSoundStanding (standing_after blank instrs)
   sound_after = record {
-    memory = λ x y x_lt y_lt. memory_below (reverse instrs) last_first x y;
+    whole = whole_after blank instrs;
+    memory = λ x y x_lt y_lt.
+        rw (pixel_after (standing_after blank instrs) blank instrs refl x y x_lt y_lt, same_memory (pixel_at blank.memory) (λ x y. 0) (pixel_of_rows (λ x y. 0)) (reverse instrs) x y x_lt y_lt) (memory_below (reverse instrs) last_first x y);
     border = border_below (reverse instrs) last_first;
-    colour = colour_below (reverse instrs) last_first;
-    level = level_below (reverse instrs) last_first;
+    colour = λ k lt.
+        rw (colour_after (standing_after blank instrs) blank instrs refl k lt, same_colour (slice_index blank.colours) (λ k. 0) (number_of_sixteen (λ k. 0)) (reverse instrs) k lt) (colour_below (reverse instrs) last_first k lt);
+    level = λ k lt.
+        rw (level_after (standing_after blank instrs) blank instrs refl k lt, same_level (slice_index blank.levels) (λ k. 0) (number_of_sixteen (λ k. 0)) (reverse instrs) k lt) (level_below (reverse instrs) last_first k lt);
     h = (offsets_below (reverse instrs) last_first).0;
     v = (offsets_below (reverse instrs) last_first).1;
   }

@@ -14,7 +14,6 @@ use Rattle.cdg_io.specs.declared.stage.Then.{Then}
 use Rattle.raw_subcode.specs.declared.form.Form.TheVariants.{Raw}
 use Rattle.cdg_io.specs.Run.{run_state}
 use Rattle.rw_interleave.specs.Gathering.{gather_next}
-use Rattle.cdg_screen.specs.Picture.{SameStanding, standing_of}
 use Rattle.checkpoint_files.specs.Checkpoint.{Checkpoint, checkpoint_in}
 use Rattle.checkpoint_files.specs.Table.{IsCheckpointFile}
 use Rattle.subcode_player.specs.declared.block_words.BlockWords.{BlockWords}
@@ -26,6 +25,7 @@ use Rattle.cdg_checkpoint.specs.Resumed.{GoesOn, IsGoneOnBy, blocks_after, block
 use Rattle.cdg_checkpoint.specs.declared.stops.Resumed.{Resumed}
 use Rattle.cdg_checkpoint.specs.declared.stops.ResumeStop.{ResumeStop}
 use Rattle.cdg_checkpoint.specs.declared.stops.ResumeStop.TheVariants.{PastEnd, Torn}
+use Rattle.checkpoint_files.proofs.Restored.{standing_is_whole}
 use Rattle.cdg_checkpoint.proofs.GoneOn.{IsBroughtBack, IsSound, gone_on}
 
 take_few : (n : ℕ) (xs : List ℕ) → length (take n xs) ≤ n
@@ -48,13 +48,14 @@ sound_file file good = record {
       let same : get_or file (24 + 1 * k) 0 ≡ get_or file (24 + k) 0 = ap (λ j. get_or file j 0) place in
       omega (arith, same, (good.ranges.1.1.1.1.1.0 k lt).0));
   few_bad = omega (arith, good.ranges.1.1.1.1.0 0 (omega arith), (good.ranges.1.1.1.0 0 (omega arith)).0);
+  standing = standing_is_whole file;
 }
 
 abbrev begun_at : Checkpoint → ℕ → BlockWords
 begun_at c to_come = record { form = Raw; lead_in = to_come; gather = run_state gather_next [] (saved_slots c) }
 
 pub brought_back : (c : Checkpoint) (time to_come bad : ℕ) (s : Then BlockWords Drawing) → s.first ≡ begun_at c to_come → to_come ≡ c.to_come → s.second.left ≡ packs_until c time → s.second.bad ≡ bad → bad ≡ c.bad
-    → SameStanding (standing_of s.second.picture) c.standing → IsBroughtBack c time s
+    → s.second.picture ≡ c.standing → IsBroughtBack c time s
 brought_back c time to_come bad s words t left b e stands = record { words = words ∙ ap (begun_at c) t; left = left; bad = b ∙ e; stands = stands }
 
 module _ (c : Checkpoint) (time limit : ℕ) (left left' : Option (List ℕ)) (taken : List ℕ) (s s' : Then BlockWords Drawing) (pumped : Pumped) (sound : IsSound c) (back : IsBroughtBack c time s) (fits : limit ≡ blocks_left c)
@@ -63,7 +64,7 @@ module _ (c : Checkpoint) (time limit : ℕ) (left left' : Option (List ℕ)) (t
   blocks_are = ap (λ n. c.program + (n - c.to_come)) (sym (units_in Raw pumped.units taken (whole_taken Raw pumped.units taken w.done.1)))
 
   goes_by : (past : Bool) → nat_lt (c.program + (pumped.units - c.to_come)) time ≡ past
-      → GoesOn (time_after c time) (from_to left left') (standing_of s'.second.picture) (if past then Err (PastEnd (c.program + (pumped.units - c.to_come))) else Ok (record { blocks = c.program + (pumped.units - c.to_come); bad = s'.second.bad })) taken
+      → GoesOn (time_after c time) (from_to left left') s'.second.picture (if past then Err (PastEnd (c.program + (pumped.units - c.to_come))) else Ok (record { blocks = c.program + (pumped.units - c.to_come); bad = s'.second.bad })) taken
   goes_by true past = record {
     taken_from = w.taken_from;
     within = subst (λ n. length taken ≤ n * 96 + 1) fits w.within;
@@ -79,10 +80,10 @@ module _ (c : Checkpoint) (time limit : ℕ) (left left' : Option (List ℕ)) (t
     past_end = λ blocks e. (cc);
   }
 
-  pub goes_on : (result : Result Resumed ResumeStop) (to_come program : ℕ) → to_come ≡ c.to_come → program ≡ c.program → result ≡ reached (program + (pumped.units - to_come)) time s'.second.bad → GoesOn (time_after c time) (from_to left left') (standing_of s'.second.picture) result taken
+  pub goes_on : (result : Result Resumed ResumeStop) (to_come program : ℕ) → to_come ≡ c.to_come → program ≡ c.program → result ≡ reached (program + (pumped.units - to_come)) time s'.second.bad → GoesOn (time_after c time) (from_to left left') s'.second.picture result taken
   goes_on result to_come program t p e =
       let blocks : program + (pumped.units - to_come) ≡ c.program + (pumped.units - c.to_come) = ap₂ (λ a b. a + (pumped.units - b)) p t in
-      subst (λ (r : Result Resumed ResumeStop). GoesOn (time_after c time) (from_to left left') (standing_of s'.second.picture) r taken) (sym (e ∙ ap (λ n. reached n time s'.second.bad) blocks))
+      subst (λ (r : Result Resumed ResumeStop). GoesOn (time_after c time) (from_to left left') s'.second.picture r taken) (sym (e ∙ ap (λ n. reached n time s'.second.bad) blocks))
       (goes_by (nat_lt (c.program + (pumped.units - c.to_come)) time) refl)
 
 -- ---- by the length of the input

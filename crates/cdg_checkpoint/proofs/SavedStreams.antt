@@ -18,8 +18,6 @@ use Rattle.raw_subcode.specs.Channels.{blocks_of, symbols_of, program_symbols}
 use Rattle.raw_subcode.specs.Sizes.{most_units}
 use Rattle.raw_subcode.specs.declared.form.Form.TheVariants.{Raw}
 use Rattle.rw_interleave.specs.Stream.{bad_count}
-use Rattle.cdg_screen.specs.Picture.{Standing, SameStanding, blank, standing_of, standing_after}
-use Rattle.cdg_screen.proofs.Turns.{same_then}
 use Rattle.subcode_player.specs.Screen.{AreMeant, moment}
 use Rattle.subcode_player.specs.Watch.{IsViewed}
 use Rattle.subcode_player.specs.declared.block_words.BlockWords.{BlockWords}
@@ -34,9 +32,6 @@ use Rattle.cdg_checkpoint.specs.Saved.{IsSaved, Saves, last_symbols}
 use Rattle.cdg_checkpoint.specs.Keeping.{IsKept}
 use Rattle.cdg_checkpoint.specs.declared.tracking.Tracking.{Tracking}
 use Rattle.cdg_checkpoint.proofs.Tails.{after, tail_after, words_alone}
-
-pub same_refl : (now : Standing) → SameStanding now now
-same_refl now = record { memory = λ x y _ _. refl; border = refl; colour = λ k _. refl; level = λ k _. refl; h = refl; v = refl }
 
 -- ---- the blocks of whole bytes
 
@@ -63,7 +58,7 @@ module _ (lead_in n : ℕ) (bytes file : List ℕ) (s s' : Tracking) (fresh : Is
   units : List (List ℕ)
   units = units_of 96 n bytes
 
-  viewed : IsViewed (moment Raw lead_in 1000000) bytes (standing_of s'.words.second.picture) s'.words.second.bad
+  viewed : IsViewed (moment Raw lead_in 1000000) bytes s'.words.second.picture s'.words.second.bad
   viewed =
       viewed_bytes Raw lead_in 1000000 s.words bytes n s'.words.second fresh.ready few whole
       (ap (λ (t : Tracking). t.words.second) run ∙ ap (λ (t : Then BlockWords Drawing). t.second) (words_alone s (units_of 96 n bytes))
@@ -94,7 +89,7 @@ module _ (lead_in n : ℕ) (bytes file : List ℕ) (s s' : Tracking) (fresh : Is
           program_is = kept.program_is ∙ ap (λ k. k - lead_in) (sym count);
           bad_is = kept.bad_is ∙ viewed.bad_is ∙ ap bad_count all_found;
           slots_are = kept.slots_are ∙ slots;
-          stands = same_then kept.checkpoint.standing (standing_of s'.words.second.picture) (standing_after blank viewed.instrs) kept.stands viewed.stands;
+          stands = kept.stands ∙ viewed.stands;
         };
         text_is = kept.file_is;
       }

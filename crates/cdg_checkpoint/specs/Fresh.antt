@@ -1,6 +1,6 @@
 -- The state before any stream.
 use Rattle.std.specs.Prelude.{◌≡◌, [], replicate}
-use Rattle.cdg_screen.specs.Picture.{SameStanding, blank, standing_of}
+use Rattle.cdg_screen.specs.Picture.{blank}
 use Rattle.raw_subcode.specs.declared.form.Form.TheVariants.{Raw}
 use Rattle.subcode_player.specs.Steps.{fresh_words}
 use Rattle.subcode_player.specs.Stages.{drawing_of, words_of}
@@ -10,6 +10,6 @@ use Rattle.cdg_checkpoint.specs.declared.checkpointer.Checkpointer.{Checkpointer
 pub record IsFresh (c : Checkpointer) : Type 0 where
   pub words : words_of c.tracking.words ≡ fresh_words Raw 0
   pub bad : (drawing_of c.tracking.words).bad ≡ 0
-  pub stands : SameStanding (standing_of (drawing_of c.tracking.words).picture) blank
+  pub stands : (drawing_of c.tracking.words).picture ≡ blank
   pub slots : c.tracking.tail ≡ replicate 168 0
   pub file : c.file ≡ []

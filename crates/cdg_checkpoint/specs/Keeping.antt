@@ -1,6 +1,5 @@
 -- What the state after a stream is saved as.
 use Rattle.std.specs.Prelude.{◌≡◌, ℕ, ◌-◌, List, min}
-use Rattle.cdg_screen.specs.Picture.{SameStanding, standing_of}
 use Rattle.checkpoint_files.specs.Checkpoint.{Checkpoint, file_of}
 use Rattle.subcode_player.specs.Stages.{drawing_of}
 use Rattle.cdg_checkpoint.specs.declared.tracking.Tracking.{Tracking}
@@ -13,5 +12,5 @@ pub record IsKept (blocks lead_in : ℕ) (s : Tracking) (file : List ℕ) : Type
   pub program_is : checkpoint.program ≡ blocks - lead_in
   pub bad_is : checkpoint.bad ≡ (drawing_of s.words).bad
   pub slots_are : checkpoint.slots ≡ s.tail
-  pub stands : SameStanding checkpoint.standing (standing_of (drawing_of s.words).picture)
+  pub stands : checkpoint.standing ≡ (drawing_of s.words).picture
   pub file_is : file ≡ file_of checkpoint

@@ -11,7 +11,7 @@ use Rattle.raw_subcode.specs.Channels.{symbols_of, program_symbols}
 use Rattle.raw_subcode.specs.declared.form.Form.TheVariants.{Raw}
 use Rattle.rw_interleave.specs.Stream.{bad_count}
 use Rattle.cdg_instructions.specs.declared.instr.Instr.{Instr}
-use Rattle.cdg_screen.specs.Picture.{Standing, SameStanding, standing_after}
+use Rattle.cdg_screen.specs.Picture.{Standing, standing_after}
 use Rattle.cdg_screen.specs.Texts.{pixmap}
 use Rattle.checkpoint_files.specs.Table.{IsBadAt, IsCheckpointFile, empty_symbols}
 use Rattle.checkpoint_files.specs.Checkpoint.{Checkpoint, checkpoint_in}
@@ -42,7 +42,7 @@ pub record IsGoneOn (c : Checkpoint) (time : ℕ) (rest : List ℕ) (now : Stand
       → IsFinding (word_of (resumed_symbols c rest) n) (slice_index_or found n None)
   pub instrs : List Instr
   pub shown : AreMeant (take (packs_until c time) found) instrs
-  pub stands : SameStanding now (standing_after c.standing instrs)
+  pub stands : now ≡ standing_after c.standing instrs
   pub bad_is : bad ≡ c.bad + bad_count (take (packs_until c time) found)
 
 -- the answer at a time after the checkpoint of a file, and the pixmap that is written

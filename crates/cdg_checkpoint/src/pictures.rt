@@ -1,6 +1,5 @@
 // What stands, to a file and back.
 ghost use Rattle.std.specs.Prelude.{◌≡◌};
-ghost use Rattle.cdg_screen.specs.Picture.{SameStanding, Standing, standing_of};
 ghost use Rattle.checkpoint_files.specs.Checkpoint.{file_of, kept, standing_in};
 ghost use Rattle.checkpoint_files.specs.Table.{IsCheckpointFile};
 
@@ -14,8 +13,7 @@ pub(crate) fn compose(
     slots: &[u8; SLOTS_BYTES],
     picture: &Picture,
 )
-    ensures { (now : Standing) × SameStanding now (standing_of picture.now)
-        × (file.new ≡ file_of (kept counts.now slots.now now)) }
+    ensures { file.new ≡ file_of (kept counts.now slots.now picture.now) }
 {
     file.compose(counts, slots, &picture.screen);
 }
@@ -23,7 +21,7 @@ pub(crate) fn compose(
 /// Brings back what stood, by the file of a checkpoint.
 pub(crate) fn bring_back(file: &CheckpointFile, picture: &mut Picture)
     requires { IsCheckpointFile file.now }
-    ensures { SameStanding (standing_of picture.new) (standing_in file.now) }
+    ensures { picture.new ≡ standing_in file.now }
 {
     file.bring_back(&mut picture.screen);
 }

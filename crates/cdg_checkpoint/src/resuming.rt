@@ -9,7 +9,6 @@ ghost use Rattle.cdg_io.specs.Run.{run_state};
 ghost use Rattle.raw_subcode.specs.Sizes.{most_units};
 ghost use Rattle.rw_interleave.specs.Interleave.{whole_packs};
 ghost use Rattle.rw_interleave.specs.Gathering.{gather_next};
-ghost use Rattle.cdg_screen.specs.Picture.{SameStanding, standing_of};
 ghost use Rattle.checkpoint_files.specs.Table.{IsCheckpointFile};
 ghost use Rattle.checkpoint_files.specs.Checkpoint.{checkpoint_in, standing_in};
 ghost use Rattle.subcode_player.specs.Stages.{drawing_of, words_of};
@@ -192,7 +191,7 @@ impl Checkpointer {
         requires not_later { (checkpoint_in self.old.file).program ≤ at }
         ensures goes_on { (taken : List ℕ)
             × GoesOn (time_after (checkpoint_in self.old.file) at) (change S.left rest.old rest.new)
-            (standing_of (drawing_of self.new.tracking.words).picture) result taken }
+            (drawing_of self.new.tracking.words).picture result taken }
         ensures answer { IfSome (S.left rest.old)
             (λ all. IsGoneOnBy result (checkpoint_in self.old.file) at (length all)) }
         ensures file { self.new.file ≡ self.old.file }
@@ -249,8 +248,7 @@ impl Checkpointer {
         } }
         ensures left { (drawing_of self.new.tracking.words).left ≡ packs_until (checkpoint_in self.old.file) at }
         ensures bad { (drawing_of self.new.tracking.words).bad ≡ counts.now.bad }
-        ensures stands { SameStanding (standing_of (drawing_of self.new.tracking.words).picture)
-            (standing_in self.old.file) }
+        ensures stands { (drawing_of self.new.tracking.words).picture ≡ standing_in self.old.file }
         ensures file { self.new.file ≡ self.old.file }
     {
         self.gather_slots(counts);

@@ -6,7 +6,7 @@ ghost use Rattle.cdg_io.specs.Change.{passed};
 ghost use Rattle.cdg_io.specs.Pump.{IsUnlessFault, answer_of};
 ghost use Rattle.raw_subcode.specs.Sizes.{block_bytes, most_units};
 ghost use Rattle.rw_interleave.specs.Interleave.{whole_packs};
-ghost use Rattle.cdg_screen.specs.Picture.{SameStanding, blank, standing_of};
+ghost use Rattle.cdg_screen.specs.Picture.{blank};
 ghost use Rattle.subcode_player.specs.Steps.{fresh_words};
 ghost use Rattle.subcode_player.specs.Stages.{drawing_of, words_of};
 ghost use Rattle.cdg_checkpoint.specs.Saved.{EndsAsSaved, Saves};
@@ -72,7 +72,7 @@ impl Checkpointer {
         ensures words { words_of self.new.tracking.words ≡ fresh_words Form.Raw lead_in }
         ensures left { (drawing_of self.new.tracking.words).left ≡ whole_packs most_units }
         ensures bad { (drawing_of self.new.tracking.words).bad ≡ 0 }
-        ensures blank { SameStanding (standing_of (drawing_of self.new.tracking.words).picture) blank }
+        ensures blank { (drawing_of self.new.tracking.words).picture ≡ blank }
         ensures tail { self.new.tracking.tail ≡ replicate 168 0 }
     {
         let words = &mut self.tracking.words.first;

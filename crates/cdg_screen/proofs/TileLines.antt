@@ -6,8 +6,7 @@ use Rattle.std.proofs.lemmas.Bool.Decides.{nat_tests}
 use Rattle.std.proofs.lemmas.List.{get_or-set_same, get_or-set_other, get_or_append_left, get_or_default, get_or-append_right, get_or-take, get_or-drop, length-take, length-drop}
 use Rattle.std.proofs.lemmas.List.Elements.{All-get_or}
 use borrow.Rule.Slice.PartMut.{put_mid}
-use Rattle.cdg_screen.specs.Picture.{at}
-use Rattle.cdg_screen.specs.Memory.{IsGrid}
+use Rattle.cdg_screen.specs.Memory.{at, IsGrid}
 use Rattle.cdg_screen.proofs.Grids.{element, at_is}
 
 -- the elements of a row once six of them are written anew

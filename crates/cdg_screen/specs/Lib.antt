@@ -1,4 +1,3 @@
 pub mod Picture
 pub mod Memory
 pub mod Texts
-pub mod Standings

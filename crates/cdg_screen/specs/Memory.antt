@@ -1,7 +1,17 @@
--- How the memory is changed.
-use Rattle.std.specs.Prelude.{◌≡◌, ℕ, ◌-◌, ◌%◌, ◌<◌, ◌≤◌, if◌then◌else◌, Bool, List, length, slice_index, slice_index_or, [], All, bit_xor}
+-- How the memory is kept and changed.
+use Rattle.std.specs.Prelude.{◌≡◌, ℕ, ◌+◌, ◌-◌, ◌%◌, ◌<◌, ◌≤◌, if◌then◌else◌, Bool, List, length, slice_index, slice_index_or, [], All, bit_xor}
 use Rattle.bit_lists.specs.Bits.{has_bit}
-use Rattle.cdg_screen.specs.Picture.{Grid, at}
+
+-- The memory as rows that begin at a moving origin: pixel (0, 0) is element `left` of row `top`, and what is past an
+-- end goes on at the other.
+pub record Grid : Type 0 where
+  pub rows : List (List ℕ)
+  pub left : ℕ
+  pub top : ℕ
+
+-- pixel (x, y) of it
+unfoldable pub at : Grid → ℕ → ℕ → ℕ
+at grid x y = slice_index (slice_index_or grid.rows ((y + grid.top) % 216) []) ((x + grid.left) % 300)
 
 -- rows of 300 numbers below 16, and an origin among them at whole tiles, so that no tile goes on at the other end
 pub record IsGrid (grid : Grid) : Type 0 where

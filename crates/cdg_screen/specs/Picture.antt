@@ -1,51 +1,35 @@
 -- What stands in the memory and on the screen after a list of instructions.
-use Rattle.std.specs.Prelude.{◌≡◌, ℕ, ◌+◌, ◌-◌, ◌*◌, ◌/◌, ◌%◌, ◌<◌, Bool, List, [], ◌∷◌, reverse, slice_index, slice_index_or, ◌==◌, nat_le, nat_lt, ◌&&◌, if◌then◌else◌, bit_xor}
+use Rattle.std.specs.Prelude.{◌≡◌, ℕ, ◌+◌, ◌-◌, ◌*◌, ◌/◌, ◌%◌, Bool, List, [], ◌∷◌, map, reverse, slice_index, slice_index_or, ◌==◌, nat_le, nat_lt, ◌&&◌, if◌then◌else◌, bit_xor}
+use Rattle.bit_lists.specs.Counting.{below}
 use Rattle.cdg_instructions.specs.Drawing.{tile_colour}
 use Rattle.cdg_instructions.specs.declared.instr.Instr.{Instr}
 use Rattle.cdg_instructions.specs.declared.instr.Instr.TheVariants.{MemoryPreset, BorderPreset, SetTile, XorTile, ScrollPreset, ScrollCopy, Transparency, ColoursLow, ColoursHigh}
 
--- what stands at a moment: the memory of 300 by 216 pixels, the border, sixteen colours and levels, and the offsets of the screen
+-- what stands at a moment: the memory as 216 rows of 300 pixels from the top left, the border, sixteen colours and levels,
+-- and the offsets of the screen
 pub record Standing : Type 0 where
-  pub memory : ℕ → ℕ → ℕ
-  pub border : ℕ
-  pub colour : ℕ → ℕ
-  pub level : ℕ → ℕ
-  pub h : ℕ
-  pub v : ℕ
-
--- all zero, as at the start
-abbrev pub blank : Standing
-blank = record { memory = λ x y. 0; border = 0; colour = λ k. 0; level = λ k. 0; h = 0; v = 0 }
-
--- The memory as rows that begin at a moving origin: pixel (0, 0) is element `left` of row `top`, and what is past an
--- end goes on at the other.
-pub record Grid : Type 0 where
-  pub rows : List (List ℕ)
-  pub left : ℕ
-  pub top : ℕ
-
--- pixel (x, y) of it
-unfoldable pub at : Grid → ℕ → ℕ → ℕ
-at grid x y = slice_index (slice_index_or grid.rows ((y + grid.top) % 216) []) ((x + grid.left) % 300)
-
--- what stands as lists
-pub record Display : Type 0 where
-  pub memory : Grid
+  pub memory : List (List ℕ)
   pub border : ℕ
   pub colours : List ℕ
   pub levels : List ℕ
   pub h : ℕ
   pub v : ℕ
 
-abbrev pub standing_of : Display → Standing
-standing_of d = record {
-  memory = at d.memory;
-  border = d.border;
-  colour = λ k. slice_index d.colours k;
-  level = λ k. slice_index d.levels k;
-  h = d.h;
-  v = d.v;
-}
+-- pixel (x, y) of rows
+unfoldable pub pixel_at : List (List ℕ) → ℕ → ℕ → ℕ
+pixel_at rows x y = slice_index (slice_index_or rows y []) x
+
+-- the rows of the memory, by what pixel (x, y) is
+unfoldable pub rows_of : (ℕ → ℕ → ℕ) → List (List ℕ)
+rows_of pixel = map (λ y. map (λ x. pixel x y) (below 300)) (below 216)
+
+-- sixteen numbers, by what number k is
+unfoldable pub sixteen : (ℕ → ℕ) → List ℕ
+sixteen number = map number (below 16)
+
+-- all zero, as at the start
+abbrev pub blank : Standing
+blank = record { memory = rows_of (λ x y. 0); border = 0; colours = sixteen (λ k. 0); levels = sixteen (λ k. 0); h = 0; v = 0 }
 
 -- whether the tile of a row and column is on the memory and holds the pixel
 abbrev pub covers : ℕ → ℕ → ℕ → ℕ → Bool
@@ -72,8 +56,8 @@ is_inside size from = nat_le size from && nat_lt from (2 * size)
 -- them.
 
 -- pixel (x, y) of the memory
-abbrev pub memory_from : Standing → List Instr → ℕ → ℕ → ℕ
-memory_from start [] x y = start.memory x y
+abbrev pub memory_from : (ℕ → ℕ → ℕ) → List Instr → ℕ → ℕ → ℕ
+memory_from start [] x y = start x y
 memory_from start (MemoryPreset colour repeat ∷ before) x y = colour
 memory_from start (SetTile colour0 colour1 row column lines ∷ before) x y =
     let old = memory_from start before x y in
@@ -88,27 +72,27 @@ memory_from start (ScrollCopy colour across h down v ∷ before) x y = memory_fr
 memory_from start (_ ∷ before) x y = memory_from start before x y
 
 -- the border: the last colour that it was set to
-abbrev pub border_from : Standing → List Instr → ℕ
-border_from start [] = start.border
+abbrev pub border_from : ℕ → List Instr → ℕ
+border_from start [] = start
 border_from start (BorderPreset colour ∷ before) = colour
 border_from start (_ ∷ before) = border_from start before
 
 -- colour k of the table: the last value that it was set to
-abbrev pub colour_from : Standing → List Instr → ℕ → ℕ
-colour_from start [] k = start.colour k
+abbrev pub colour_from : (ℕ → ℕ) → List Instr → ℕ → ℕ
+colour_from start [] k = start k
 colour_from start (ColoursLow colours ∷ before) k = let old = colour_from start before k in if nat_lt k 8 then slice_index colours k else old
 colour_from start (ColoursHigh colours ∷ before) k = let old = colour_from start before k in if nat_lt k 8 then old else slice_index colours (k - 8)
 colour_from start (_ ∷ before) k = colour_from start before k
 
 -- level k: the last value that it was set to
-abbrev pub level_from : Standing → List Instr → ℕ → ℕ
-level_from start [] k = start.level k
+abbrev pub level_from : (ℕ → ℕ) → List Instr → ℕ → ℕ
+level_from start [] k = start k
 level_from start (Transparency levels ∷ before) k = slice_index levels k
 level_from start (_ ∷ before) k = level_from start before k
 
 -- both offsets, across and down
-abbrev pub offsets_from : Standing → List Instr → ℕ × ℕ
-offsets_from start [] = (start.h, start.v)
+abbrev pub offsets_from : ℕ × ℕ → List Instr → ℕ × ℕ
+offsets_from start [] = start
 offsets_from start (ScrollPreset colour across h down v ∷ before) = (h, v)
 offsets_from start (ScrollCopy colour across h down v ∷ before) = (h, v)
 offsets_from start (_ ∷ before) = offsets_from start before
@@ -117,24 +101,20 @@ offsets_from start (_ ∷ before) = offsets_from start before
 abbrev pub standing_after : Standing → List Instr → Standing
 standing_after start instrs =
     let before = reverse instrs in
+    let offsets = offsets_from (start.h, start.v) before in
     record {
-      memory = memory_from start before;
-      border = border_from start before;
-      colour = colour_from start before;
-      level = level_from start before;
-      h = (offsets_from start before).0;
-      v = (offsets_from start before).1;
+      memory = rows_of (memory_from (pixel_at start.memory) before);
+      border = border_from start.border before;
+      colours = sixteen (colour_from (slice_index start.colours) before);
+      levels = sixteen (level_from (slice_index start.levels) before);
+      h = offsets.0;
+      v = offsets.1;
     }
+
+-- it has the rows and the numbers that a screen has, and no more: it is as after no instructions
+abbrev pub IsWholeStanding : Standing → Type 0
+IsWholeStanding now = standing_after now [] ≡ now
 
 -- pixel (x, y) of the screen: in the window the memory, moved by the offsets, and elsewhere the border
 abbrev pub screen_pixel : Standing → ℕ → ℕ → ℕ
-screen_pixel now x y = if nat_le 6 x && nat_le x 293 && nat_le 12 y && nat_le y 203 then now.memory (x + now.h) (y + now.v) else now.border
-
--- the same stands in both, at each pixel of the memory and each number of a colour
-pub record SameStanding (a b : Standing) : Type 0 where
-  pub memory : (x y : ℕ) → x < 300 → y < 216 → a.memory x y ≡ b.memory x y
-  pub border : a.border ≡ b.border
-  pub colour : (k : ℕ) → k < 16 → a.colour k ≡ b.colour k
-  pub level : (k : ℕ) → k < 16 → a.level k ≡ b.level k
-  pub h : a.h ≡ b.h
-  pub v : a.v ≡ b.v
+screen_pixel now x y = if nat_le 6 x && nat_le x 293 && nat_le 12 y && nat_le y 203 then pixel_at now.memory (x + now.h) (y + now.v) else now.border

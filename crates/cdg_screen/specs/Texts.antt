@@ -1,5 +1,5 @@
 -- The picture and the state as they are written.
-use Rattle.std.specs.Prelude.{ℕ, ◌*◌, ◌/◌, ◌%◌, List, [], ◌∷◌, ◌++◌, flat_map, codes}
+use Rattle.std.specs.Prelude.{ℕ, ◌*◌, ◌/◌, ◌%◌, List, [], ◌∷◌, ◌++◌, flat_map, slice_index, codes}
 use Rattle.bit_lists.specs.Counting.{below}
 use Rattle.bit_lists.specs.Digits.{digits, hex_digits, line_feed}
 use Rattle.cdg_screen.specs.Picture.{Standing, screen_pixel}
@@ -14,7 +14,7 @@ colour_bytes colour = (17 * (colour / 256)) ∷ (17 * (colour / 16 % 16)) ∷ (1
 
 -- row y of a pixmap
 unfoldable pub pixmap_row : Standing → ℕ → List ℕ
-pixmap_row now y = flat_map (λ x. colour_bytes (now.colour (screen_pixel now x y))) (below 300)
+pixmap_row now y = flat_map (λ x. colour_bytes (slice_index now.colours (screen_pixel now x y))) (below 300)
 
 -- the pixmap of a screen: a header, and red, green and blue of each pixel, row by row
 unfoldable pub pixmap : Standing → List ℕ
@@ -22,8 +22,8 @@ pixmap now = pixmap_header ++ flat_map (pixmap_row now) (below 216)
 
 -- the line of colour and level k
 unfoldable pub state_row : Standing → ℕ → List ℕ
-state_row now k = codes "colour " ++ digits 2 k ++ codes " " ++ hex_digits 4 (now.colour k) ++ codes " level "
-    ++ digits 2 (now.level k) ++ line_feed
+state_row now k = codes "colour " ++ digits 2 k ++ codes " " ++ hex_digits 4 (slice_index now.colours k) ++ codes " level "
+    ++ digits 2 (slice_index now.levels k) ++ line_feed
 
 -- the lines of the border and of the offsets
 abbrev pub state_head : Standing → List ℕ

@@ -1,8 +1,8 @@
 // Whether a change of the memory would leave it as it is.
 ghost use Rattle.std.specs.Prelude.{◌≡◌, ◌<◌, ◌≤◌, ◌+◌, ◌-◌, ◌*◌, ◌%◌, ◌↔◌, ◌==◌, ◌&&◌, nat_le, nat_lt, if◌then◌else◌, ℕ, All, IsTrue, slice_index};
 ghost use Rattle.cdg_instructions.specs.Drawing.{tile_colour};
-ghost use Rattle.cdg_screen.specs.Picture.{at, covers, is_inside, source, source_x, source_y};
-ghost use Rattle.cdg_screen.specs.Memory.{Becomes, drawn_over, line_colour};
+ghost use Rattle.cdg_screen.specs.Picture.{covers, is_inside, source, source_x, source_y};
+ghost use Rattle.cdg_screen.specs.Memory.{at, Becomes, drawn_over, line_colour};
 
 use crate::memory::{Memory, colour_of, over};
 use cdg_instructions::{SCREEN_HEIGHT, SCREEN_WIDTH, TILE_HEIGHT, TILE_WIDTH};

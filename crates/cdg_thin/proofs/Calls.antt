@@ -9,7 +9,7 @@ use Rattle.cdg_io.proofs.Streaming.{IsTold, bytes_of, IsWhole, streams_done, str
 use Rattle.cdg_io.specs.declared.pumping.Pumped.{Pumped}
 use Rattle.cdg_io.specs.declared.pumping.PumpStop.{PumpStop}
 use Rattle.cdg_io.specs.declared.pumping.PumpStop.TheVariants.{WriteFault, Torn}
-use Rattle.cdg_screen.specs.Picture.{Display, blank, standing_of, SameStanding}
+use Rattle.cdg_screen.specs.Picture.{Standing, blank}
 use Rattle.std.specs.Io.KnownBytes.{Consumes, IsAtEnd}
 use Rattle.cdg_thin.specs.Calls.{IsThinnedBy, Thins, ThinsAll, thinning}
 use Rattle.cdg_thin.specs.Thin.{IsThinText}
@@ -17,7 +17,7 @@ use Rattle.cdg_thin.proofs.Forms.{text_again, text_alike}
 use Rattle.cdg_thin.specs.Steps.{thin_next, thin_gives}
 use Rattle.cdg_thin.proofs.Runs.{given_is_thin}
 
-module _ (moved : Moved Display) (taken : List ℕ) (fresh : SameStanding (standing_of moved.state.before) blank) where
+module _ (moved : Moved Standing) (taken : List ℕ) (fresh : moved.state.before ≡ blank) where
   says : (bytes : List ℕ) (n : ℕ) → n ≤ 4000000 → IsWhole 24 n bytes → (pumped : Pumped) × IsThinnedBy bytes pumped (given 24 (machine_of thin_next thin_gives) moved.state.before bytes n)
   says bytes n few whole = (record { units = length bytes / 24 }, record { units = refl; written = given_is_thin moved.state.before bytes n fresh whole })
 

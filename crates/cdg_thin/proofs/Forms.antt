@@ -6,8 +6,8 @@ use Rattle.std.proofs.lemmas.Bool.{cases_lt}
 use Rattle.std.proofs.lemmas.List.{length-map, get_or-map, get_or-take, take_more, take_all, same_lists, length-take-le}
 use Rattle.std.proofs.Math.Seq.{take-append_seam, drop-append_seam}
 use Rattle.bit_lists.specs.Counting.{parts, whole_parts}
-use Rattle.cdg_screen.specs.Picture.{Standing, blank, standing_after, SameStanding}
-use Rattle.cdg_screen.proofs.Turns.{in_turn, same_back, same_further, same_then}
+use Rattle.cdg_screen.specs.Picture.{Standing, blank, standing_after}
+use Rattle.cdg_screen.proofs.Turns.{in_turn, same_further, whole_after}
 use Rattle.cdg_instructions.specs.declared.instr.Instr.{Instr}
 use Rattle.cdg_instructions.specs.declared.instr.Instr.TheVariants.{Idle}
 use Rattle.rw_code.specs.Packs.{idle_pack}
@@ -30,14 +30,8 @@ instructions_of packs = map instruction_of packs
 abbrev pub after : List Instr → Standing
 after instrs = standing_after blank instrs
 
-pub self_same : (now : Standing) → SameStanding now now
-self_same now = record { memory = λ x y x_lt y_lt. refl; border = refl; colour = λ k lt. refl; level = λ k lt. refl; h = refl; v = refl }
-
-idle_keeps : (now : Standing) → SameStanding (standing_after now (Idle ∷ [])) now
-idle_keeps now = record { memory = λ x y x_lt y_lt. refl; border = refl; colour = λ k lt. refl; level = λ k lt. refl; h = refl; v = refl }
-
-idle_changes_nothing : (before : List Instr) → SameStanding (after (before ++ Idle ∷ [])) (after before)
-idle_changes_nothing before = same_then _ _ _ (in_turn blank before (Idle ∷ [])) (idle_keeps (after before))
+idle_changes_nothing : (before : List Instr) → after (before ++ Idle ∷ []) ≡ after before
+idle_changes_nothing before = in_turn blank before (Idle ∷ []) ∙ whole_after blank before
 
 -- ---- instructions of packs
 
@@ -101,24 +95,24 @@ kept_instr : (packs thins : List (List ℕ)) (instrs : List Instr) (n : ℕ) →
 kept_instr packs thins instrs n read lt thin_lt same =
     instructions_at thins n thin_lt ∙ ap instruction_of same ∙ sym (only_instruction (pack_at packs n) (instr_at instrs n) (read.each n lt))
 
-pub stand_alike : (packs thins : List (List ℕ)) (f : IsThinForm packs thins) (m : ℕ) → SameStanding (after (take m f.instrs)) (after (take m (instructions_of thins)))
-stand_alike packs thins f zero = self_same _
+pub stand_alike : (packs thins : List (List ℕ)) (f : IsThinForm packs thins) (m : ℕ) → after (take m f.instrs) ≡ after (take m (instructions_of thins))
+stand_alike packs thins f zero = refl
 stand_alike packs thins f (suc m) =
     let others : List Instr = instructions_of thins in
     let others_count : length others ≡ length packs = length-map thins instruction_of ∙ f.count in
     let before = stand_alike packs thins f m in
     let next : suc m ≡ m + 1 = omega arith in
-    subst (λ k. SameStanding (after (take k f.instrs)) (after (take k others))) (sym next)
+    subst (λ k. after (take k f.instrs) ≡ after (take k others)) (sym next)
     (elim (cases_lt m (length packs)) [
       | inl lt ↦
           let thin_lt : m < length thins = omega (arith, f.count) in
           rw (take_more f.instrs m Idle (omega (arith, f.read.count)), take_more others m Idle (omega arith))
           (elim (f.each m lt) [
             | inl idle ↦
-                subst (λ (i : Instr). SameStanding (after (take m f.instrs ++ instr_at f.instrs m ∷ [])) (after (take m others ++ i ∷ []))) (sym (idled_instr thins m thin_lt idle.1))
-                (same_then _ _ _ idle.0.nothing (same_then _ _ _ before (same_back _ _ (idle_changes_nothing (take m others)))))
+                subst (λ (i : Instr). after (take m f.instrs ++ instr_at f.instrs m ∷ []) ≡ after (take m others ++ i ∷ [])) (sym (idled_instr thins m thin_lt idle.1))
+                (idle.0.nothing ∙ before ∙ sym (idle_changes_nothing (take m others)))
             | inr kept ↦
-                subst (λ (i : Instr). SameStanding (after (take m f.instrs ++ instr_at f.instrs m ∷ [])) (after (take m others ++ i ∷ []))) (sym (kept_instr packs thins f.instrs m f.read lt thin_lt kept.1))
+                subst (λ (i : Instr). after (take m f.instrs ++ instr_at f.instrs m ∷ []) ≡ after (take m others ++ i ∷ [])) (sym (kept_instr packs thins f.instrs m f.read lt thin_lt kept.1))
                 (same_further blank blank (take m f.instrs) (take m others) (instr_at f.instrs m ∷ []) before)
           ])
       | inr past ↦
@@ -127,10 +121,10 @@ stand_alike packs thins f (suc m) =
     ])
 
 -- an instruction that is needless after some instructions is so after others after which the same stands
-pub needless_alike : (one other : List Instr) (instr : Instr) → SameStanding (after one) (after other) → IsNeedless one instr → IsNeedless other instr
+pub needless_alike : (one other : List Instr) (instr : Instr) → after one ≡ after other → IsNeedless one instr → IsNeedless other instr
 needless_alike one other instr same h = record {
   graphic = h.graphic;
-  nothing = same_then _ _ _ (same_back _ _ (same_further blank blank one other (instr ∷ []) same)) (same_then _ _ _ h.nothing same);
+  nothing = sym (same_further blank blank one other (instr ∷ []) same) ∙ h.nothing ∙ same;
 }
 
 -- the thin form of a thin form
@@ -148,7 +142,7 @@ thin_again packs thins f = record {
             inr ((λ needless. true≢false (sym (subst (λ (i : Instr). IsTrue (is_graphic i)) is_idle needless.graphic))), refl)
         | inr kept ↦
             let same = kept_instr packs thins f.instrs n f.read lt thin_lt kept.1 in
-            inr ((λ needless. kept.0 (needless_alike (take n others) (take n f.instrs) (instr_at f.instrs n) (same_back _ _ (stand_alike packs thins f n)) (subst (IsNeedless (take n others)) same needless))), refl)
+            inr ((λ needless. kept.0 (needless_alike (take n others) (take n f.instrs) (instr_at f.instrs n) (sym (stand_alike packs thins f n)) (subst (IsNeedless (take n others)) same needless))), refl)
       ];
 }
 

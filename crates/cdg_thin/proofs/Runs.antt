@@ -1,5 +1,5 @@
 -- The run of the stage is the thin form.
-use Rattle.std.proofs.Common.{◌≡◌, ℕ, zero, suc, ◌*◌, ◌/◌, ◌<◌, ◌≤◌, true, false, true≢false, List, [], ◌∷◌, ◌++◌, length, get_or, take, drop, refl, sym, ap, ◌∙◌, subst, inl, inr, arith, append_assoc, length-drop}
+use Rattle.std.proofs.Common.{◌≡◌, ℕ, zero, suc, ◌*◌, ◌/◌, ◌<◌, ◌≤◌, true, true≢false, List, [], ◌∷◌, ◌++◌, length, get_or, take, drop, refl, sym, ap, ◌∙◌, subst, inl, inr, arith, append_assoc, length-drop}
 use Rattle.std.specs.Prelude.{if◌then◌else◌}
 use Rattle.std.proofs.lemmas.Bool.{cases_Bool}
 use Rattle.std.proofs.lemmas.List.{append-nil, length-take-le}
@@ -7,71 +7,44 @@ use Rattle.cdg_io.specs.Run.{run_gives}
 use Rattle.cdg_io.specs.Pump.{given, units_of}
 use Rattle.cdg_io.proofs.Frames.{machine_of}
 use Rattle.cdg_io.proofs.Streaming.{IsWhole, whole_units}
-use Rattle.cdg_screen.specs.Picture.{Display, Standing, blank, standing_of, standing_after, SameStanding}
-use Rattle.cdg_screen.specs.Standings.{display_of, obeyed}
-use Rattle.cdg_screen.proofs.StandingLemmas.{display_after, display_is, obeyed_is}
-use Rattle.cdg_screen.proofs.Turns.{in_turn, same_after, same_back, same_then}
+use Rattle.cdg_screen.specs.Picture.{Standing, blank, standing_after}
+use Rattle.cdg_screen.proofs.Turns.{blank_is_whole, in_turn}
 use Rattle.cdg_instructions.specs.declared.instr.Instr.{Instr}
 use Rattle.rw_code.specs.Packs.{idle_pack}
-use Rattle.cdg_thin.specs.Thin.{IsNeedless, IsThinned, IsThinForm, IsThinText, is_graphic}
+use Rattle.cdg_thin.specs.Thin.{IsNeedless, IsThinned, IsThinForm, IsThinText}
 use Rattle.cdg_thin.specs.Steps.{instruction_of, is_needless, thin_next, thin_gives}
 use Rattle.cdg_thin.proofs.Forms.{after, instructions_at, instructions_of, read_each}
 use Rattle.cdg_thin.proofs.Meanings.{has_instruction}
-use Rattle.cdg_thin.proofs.Sameness.{if_needless, needless_as_graphic, needless_if, not_needless}
-
--- ---- what stands, seen as one value
-
-keeps_seen : (now : Standing) (instr : Instr) → SameStanding (standing_after now (instr ∷ [])) now
-    → SameStanding (standing_after (standing_of (display_of now)) (instr ∷ [])) (standing_of (display_of now))
-keeps_seen now instr same =
-    same_then _ _ _ (same_after _ _ (instr ∷ []) (display_is now)) (same_then _ _ _ same (same_back _ _ (display_is now)))
-
-seen_keeps : (now : Standing) (instr : Instr) → SameStanding (standing_after (standing_of (display_of now)) (instr ∷ [])) (standing_of (display_of now))
-    → SameStanding (standing_after now (instr ∷ [])) now
-seen_keeps now instr same =
-    same_then _ _ _ (same_after _ _ (instr ∷ []) (same_back _ _ (display_is now))) (same_then _ _ _ same (display_is now))
-
--- an instruction that changes nothing
-pub obeyed_still : (now : Standing) (instr : Instr) → SameStanding (standing_after now (instr ∷ [])) now → display_of now ≡ obeyed (display_of now) instr
-obeyed_still now instr same = display_after now now instr (same_back _ _ same)
-
-pub needless_still : (now : Standing) (instr : Instr) → SameStanding (standing_after now (instr ∷ [])) now → is_graphic instr ≡ is_needless (display_of now) instr
-needless_still now instr same = sym (needless_as_graphic (display_of now) instr (keeps_seen now instr same))
-
--- and one that changes something
-pub not_still : (now : Standing) (instr : Instr) → ¬ SameStanding (standing_after now (instr ∷ [])) now → false ≡ is_needless (display_of now) instr
-not_still now instr differs = sym (not_needless (display_of now) instr (λ same. differs (seen_keeps now instr same)))
+use Rattle.cdg_thin.proofs.Sameness.{if_needless, needless_if}
 
 -- ---- the run
 
 -- what the stage gives for some packs
-abbrev run_of : Display → List (List ℕ) → List (List ℕ)
+abbrev run_of : Standing → List (List ℕ) → List (List ℕ)
 run_of now packs = run_gives thin_next thin_gives now packs
 
 -- the pack that is given
-abbrev given_pack : Display → List ℕ → List ℕ
+abbrev given_pack : Standing → List ℕ → List ℕ
 given_pack now pack = if is_needless now (instruction_of pack) then idle_pack else pack
 
 -- what stands after one instruction more
-next_stands : (now : Display) (before : List Instr) (pack : List ℕ) → SameStanding (standing_of now) (after before) → SameStanding (standing_of (thin_next now pack)) (after (before ++ instruction_of pack ∷ []))
+next_stands : (now : Standing) (before : List Instr) (pack : List ℕ) → now ≡ after before → thin_next now pack ≡ after (before ++ instruction_of pack ∷ [])
 unfolding thin_next
-next_stands now before pack same =
-    let instr = instruction_of pack in
-    same_then _ _ _ (obeyed_is now instr) (same_then _ _ _ (same_after _ _ (instr ∷ []) same) (same_back _ _ (in_turn blank before (instr ∷ []))))
+next_stands now before pack same = ap (λ (now : Standing). standing_after now (instruction_of pack ∷ [])) same ∙ sym (in_turn blank before (instruction_of pack ∷ []))
 
 -- a pack is thinned by what stands
-module _ (now : Display) (before : List Instr) (same : SameStanding (standing_of now) (after before)) where
+module _ (now : Standing) (before : List Instr) (same : now ≡ after before) where
   -- with an instruction more
-  with_one : (instr : Instr) → SameStanding (standing_after (standing_of now) (instr ∷ [])) (after (before ++ instr ∷ []))
-  with_one instr = same_then _ _ _ (same_after _ _ (instr ∷ []) same) (same_back _ _ (in_turn blank before (instr ∷ [])))
+  with_one : (instr : Instr) → standing_after now (instr ∷ []) ≡ after (before ++ instr ∷ [])
+  with_one instr = ap (λ (now : Standing). standing_after now (instr ∷ [])) same ∙ sym (in_turn blank before (instr ∷ []))
 
   to_needless : (instr : Instr) → is_needless now instr ≡ true → IsNeedless before instr
   to_needless instr t =
       let h = if_needless now instr t in
-      record { graphic = h.0; nothing = same_then _ _ _ (same_back _ _ (with_one instr)) (same_then _ _ _ h.1 same) }
+      record { graphic = h.0; nothing = sym (with_one instr) ∙ h.1 ∙ same }
 
   from_needless : (instr : Instr) → IsNeedless before instr → is_needless now instr ≡ true
-  from_needless instr h = needless_if now instr h.graphic (same_then _ _ _ (with_one instr) (same_then _ _ _ h.nothing (same_back _ _ same)))
+  from_needless instr h = needless_if now instr h.graphic (with_one instr ∙ h.nothing ∙ sym same)
 
   thinned : (pack : List ℕ) → IsThinned before (instruction_of pack) pack (given_pack now pack)
   thinned pack =
@@ -81,12 +54,12 @@ module _ (now : Display) (before : List Instr) (same : SameStanding (standing_of
         | inr fails ↦ inr ((λ h. true≢false (sym (from_needless instr h) ∙ fails)), rw fails refl)
       ]
 
-run_count : (now : Display) (packs : List (List ℕ)) → length (run_of now packs) ≡ length packs
+run_count : (now : Standing) (packs : List (List ℕ)) → length (run_of now packs) ≡ length packs
 unfolding thin_gives
 run_count now [] = refl
 run_count now (pack ∷ packs) = ap suc (run_count (thin_next now pack) packs)
 
-run_thinned : (now : Display) (before : List Instr) (packs : List (List ℕ)) → SameStanding (standing_of now) (after before) → (n : ℕ) → n < length packs
+run_thinned : (now : Standing) (before : List Instr) (packs : List (List ℕ)) → now ≡ after before → (n : ℕ) → n < length packs
     → IsThinned (before ++ take n (instructions_of packs)) (instruction_of (get_or packs n [])) (get_or packs n []) (get_or (run_of now packs) n [])
 unfolding thin_gives
 run_thinned now before [] same n lt = absurd (omega arith)
@@ -98,14 +71,14 @@ run_thinned now before (pack ∷ packs) same (suc n) lt =
     (run_thinned (thin_next now pack) (before ++ instruction_of pack ∷ []) packs (next_stands now before pack same) n (omega arith))
 
 -- the run over packs of 24 bytes, from where all is zero
-run_is_thin : (now : Display) (packs : List (List ℕ)) → SameStanding (standing_of now) blank → ((n : ℕ) → n < length packs → length (get_or packs n []) ≡ 24) → IsThinForm packs (run_of now packs)
+run_is_thin : (now : Standing) (packs : List (List ℕ)) → now ≡ blank → ((n : ℕ) → n < length packs → length (get_or packs n []) ≡ 24) → IsThinForm packs (run_of now packs)
 run_is_thin now packs same sized = record {
   instrs = instructions_of packs;
   read = read_each packs (λ n lt. has_instruction (get_or packs n []) (sized n lt));
   count = run_count now packs;
   each = λ n lt.
       subst (λ (i : Instr). IsThinned (take n (instructions_of packs)) i (get_or packs n []) (get_or (run_of now packs) n [])) (sym (instructions_at packs n lt))
-      (run_thinned now [] packs same n lt);
+      (run_thinned now [] packs (same ∙ sym blank_is_whole) n lt);
 }
 
 unit_sized : (count : ℕ) (bytes : List ℕ) → count * 24 ≤ length bytes → (n : ℕ) → n < length (units_of 24 count bytes) → length (get_or (units_of 24 count bytes) n []) ≡ 24
@@ -114,7 +87,7 @@ unit_sized (suc count) bytes fits zero lt = length-take-le 24 bytes (omega arith
 unit_sized (suc count) bytes fits (suc n) lt = unit_sized count (drop 24 bytes) (omega (arith, length-drop 24 bytes)) n (omega arith)
 
 -- what the stage gives for the whole packs of some bytes is the text of their thin form
-pub given_is_thin : (now : Display) (bytes : List ℕ) (n : ℕ) → SameStanding (standing_of now) blank → IsWhole 24 n bytes → IsThinText bytes (given 24 (machine_of thin_next thin_gives) now bytes n)
+pub given_is_thin : (now : Standing) (bytes : List ℕ) (n : ℕ) → now ≡ blank → IsWhole 24 n bytes → IsThinText bytes (given 24 (machine_of thin_next thin_gives) now bytes n)
 given_is_thin now bytes n same whole =
     let count : length bytes / 24 ≡ n = omega (arith, whole.fits, whole.rest) in
     record {
@@ -125,4 +98,4 @@ given_is_thin now bytes n same whole =
 
 -- so each list of bytes has one
 pub some_text : (bytes : List ℕ) → (text : List ℕ) × IsThinText bytes text
-some_text bytes = (_, given_is_thin (display_of blank) bytes (length bytes / 24) (display_is blank) (whole_units 24 bytes (omega arith)))
+some_text bytes = (_, given_is_thin blank bytes (length bytes / 24) refl (whole_units 24 bytes (omega arith)))

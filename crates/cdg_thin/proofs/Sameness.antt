@@ -1,12 +1,15 @@
 -- Whether the same stands, computed.
-use Rattle.std.proofs.Common.{◌≡◌, ℕ, zero, suc, ◌+◌, ◌<◌, ◌==◌, ◌&&◌, Bool, true, false, true≢false, [], ◌∷◌, refl, sym, ◌∙◌, subst, inl, inr, arith}
-use Rattle.std.specs.List.{list_all, range_with_len}
+use Rattle.std.proofs.Common.{◌≡◌, ℕ, ◌&&◌, Bool, true, false, true≢false, List, [], ◌∷◌, refl, sym, ap, ◌∙◌, inl, inr}
+use Rattle.std.specs.Prelude.{nat_eq}
+use Rattle.std.specs.Bool.{Decides}
+use Rattle.std.specs.Cmp.Lexicographic.{pointwise}
 use Rattle.std.proofs.lemmas.Bool.{cases_Bool}
-use Rattle.std.proofs.lemmas.Bool.Decides.{eqb_tells}
-use Rattle.cdg_screen.specs.Picture.{Display, Standing, SameStanding, standing_of, standing_after}
+use Rattle.std.proofs.lemmas.Bool.Decides.{Decides-eqb}
+use Rattle.std.proofs.lemmas.Slice.Eq.{slice_eq-Decides}
+use Rattle.cdg_screen.specs.Picture.{Standing, standing_after}
 use Rattle.cdg_instructions.specs.declared.instr.Instr.{Instr}
 use Rattle.cdg_thin.specs.Thin.{is_graphic}
-use Rattle.cdg_thin.specs.Steps.{passes_below, is_same, is_needless}
+use Rattle.cdg_thin.specs.Steps.{is_same, is_needless}
 
 both_true : (a b : Bool) → (a && b) ≡ true → (a ≡ true) × (b ≡ true)
 both_true true b h = (refl, h)
@@ -15,94 +18,56 @@ both_true false b h = absurd (true≢false (sym h))
 true_both : (a b : Bool) → a ≡ true → b ≡ true → (a && b) ≡ true
 true_both a b e f = rw (e, f) refl
 
-is_number : (a b : ℕ) → (a == b) ≡ true → a ≡ b
-is_number a b t = elim (eqb_tells a b) [ inl same ↦ same.1 | inr differ ↦ absurd (true≢false (sym t ∙ differ.0)) ]
+numbers_decide : (a b : List ℕ) → Decides (pointwise nat_eq a b) (a ≡ b)
+numbers_decide a b = slice_eq-Decides Decides-eqb a b (pointwise nat_eq a b) refl
 
-same_number : (a b : ℕ) → a ≡ b → (a == b) ≡ true
-same_number a b e = elim (eqb_tells a b) [ inl same ↦ same.0 | inr differ ↦ absurd (differ.1 e) ]
+rows_decide : (a b : List (List ℕ)) → Decides (pointwise (pointwise nat_eq) a b) (a ≡ b)
+rows_decide a b = slice_eq-Decides (λ xs ys. numbers_decide xs ys) a b (pointwise (pointwise nat_eq) a b) refl
 
-all_from : (test : ℕ → Bool) (a n : ℕ) → list_all test (range_with_len a n) ≡ true → (k : ℕ) → k < n → test (a + k) ≡ true
-all_from test a zero h k lt = absurd (omega arith)
-all_from test a (suc n) h zero lt = let e : a + 0 ≡ a = omega arith in subst (λ i. test i ≡ true) (sym e) (both_true (test a) _ h).0
-all_from test a (suc n) h (suc k) lt =
-    let e : a + 1 + k ≡ a + suc k = omega arith in
-    subst (λ i. test i ≡ true) e (all_from test (a + 1) n (both_true (test a) _ h).1 k (omega arith))
-
-to_all : (test : ℕ → Bool) (a n : ℕ) → ((k : ℕ) → k < n → test (a + k) ≡ true) → list_all test (range_with_len a n) ≡ true
-to_all test a zero h = refl
-to_all test a (suc n) h =
-    let first : a + 0 ≡ a = omega arith in
-    true_both (test a) (list_all test (range_with_len (a + 1) n)) (subst (λ i. test i ≡ true) first (h 0 (omega arith))) (to_all test (a + 1) n (λ k lt.
-    let e : a + suc k ≡ a + 1 + k = omega arith in
-    subst (λ i. test i ≡ true) e (h (suc k) (omega arith))))
-
-passes_at : (n : ℕ) (test : ℕ → Bool) → passes_below n test ≡ true → (k : ℕ) → k < n → test k ≡ true
-unfolding passes_below
-passes_at n test h k lt = let e : 0 + k ≡ k = omega arith in subst (λ i. test i ≡ true) e (all_from test 0 n h k lt)
-
-passes_all : (n : ℕ) (test : ℕ → Bool) → ((k : ℕ) → k < n → test k ≡ true) → passes_below n test ≡ true
-unfolding passes_below
-passes_all n test h = to_all test 0 n (λ k lt. let e : k ≡ 0 + k = omega arith in subst (λ i. test i ≡ true) e (h k lt))
-
--- the parts of the test
-record Parts (a b : Standing) : Type 0 where
-  memory : passes_below 216 (λ y. passes_below 300 (λ x. a.memory x y == b.memory x y)) ≡ true
-  border : (a.border == b.border) ≡ true
-  colour : passes_below 16 (λ k. a.colour k == b.colour k) ≡ true
-  level : passes_below 16 (λ k. a.level k == b.level k) ≡ true
-  h : (a.h == b.h) ≡ true
-  v : (a.v == b.v) ≡ true
-
-parts_of : (a b : Standing) → is_same a b ≡ true → Parts a b
+pub same_standing : (a b : Standing) → is_same a b ≡ true → a ≡ b
 unfolding is_same
-parts_of a b t =
-    let (five, v) = both_true _ _ t in
-    let (four, h) = both_true _ _ five in
-    let (three, level) = both_true _ _ four in
-    let (two, colour) = both_true _ _ three in
-    let (memory, border) = both_true _ _ two in
-    record { memory = memory; border = border; colour = colour; level = level; h = h; v = v }
-
-pub same_standing : (a b : Standing) → is_same a b ≡ true → SameStanding a b
 same_standing a b t =
-    let p = parts_of a b t in
-    record {
-      memory = λ x y x_lt y_lt. is_number _ _ (passes_at 300 (λ x. a.memory x y == b.memory x y) (passes_at 216 (λ y. passes_below 300 (λ x. a.memory x y == b.memory x y)) p.memory y y_lt) x x_lt);
-      border = is_number _ _ p.border;
-      colour = λ k lt. is_number _ _ (passes_at 16 (λ k. a.colour k == b.colour k) p.colour k lt);
-      level = λ k lt. is_number _ _ (passes_at 16 (λ k. a.level k == b.level k) p.level k lt);
-      h = is_number _ _ p.h;
-      v = is_number _ _ p.v;
-    }
+    let (five, v_same) = both_true _ _ t in
+    let (four, h_same) = both_true _ _ five in
+    let (three, levels_same) = both_true _ _ four in
+    let (two, colours_same) = both_true _ _ three in
+    let (memory_same, border_same) = both_true _ _ two in
+    let memory = (rows_decide a.memory b.memory).0 memory_same in
+    let border = (Decides-eqb a.border b.border).0 border_same in
+    let colours = (numbers_decide a.colours b.colours).0 colours_same in
+    let levels = (numbers_decide a.levels b.levels).0 levels_same in
+    let h = (Decides-eqb a.h b.h).0 h_same in
+    let v = (Decides-eqb a.v b.v).0 v_same in
+    λ i. record { memory = memory i; border = border i; colours = colours i; levels = levels i; h = h i; v = v i }
 
-pub tells_same : (a b : Standing) → SameStanding a b → is_same a b ≡ true
+pub tells_same : (a b : Standing) → a ≡ b → is_same a b ≡ true
 unfolding is_same
-tells_same a b s =
+tells_same a b same =
     true_both _ _ (true_both _ _ (true_both _ _ (true_both _ _ (true_both _ _
-    (passes_all 216 (λ y. passes_below 300 (λ x. a.memory x y == b.memory x y)) (λ y y_lt. passes_all 300 (λ x. a.memory x y == b.memory x y) (λ x x_lt. same_number _ _ (s.memory x y x_lt y_lt))))
-    (same_number _ _ s.border))
-    (passes_all 16 (λ k. a.colour k == b.colour k) (λ k lt. same_number _ _ (s.colour k lt))))
-    (passes_all 16 (λ k. a.level k == b.level k) (λ k lt. same_number _ _ (s.level k lt))))
-    (same_number _ _ s.h))
-    (same_number _ _ s.v)
+    ((rows_decide a.memory b.memory).1 (ap (λ (now : Standing). now.memory) same))
+    ((Decides-eqb a.border b.border).1 (ap (λ (now : Standing). now.border) same)))
+    ((numbers_decide a.colours b.colours).1 (ap (λ (now : Standing). now.colours) same)))
+    ((numbers_decide a.levels b.levels).1 (ap (λ (now : Standing). now.levels) same)))
+    ((Decides-eqb a.h b.h).1 (ap (λ (now : Standing). now.h) same)))
+    ((Decides-eqb a.v b.v).1 (ap (λ (now : Standing). now.v) same))
 
 -- what is needless, by what stands
-pub needless_if : (now : Display) (instr : Instr) → is_graphic instr ≡ true → SameStanding (standing_after (standing_of now) (instr ∷ [])) (standing_of now) → is_needless now instr ≡ true
+pub needless_if : (now : Standing) (instr : Instr) → is_graphic instr ≡ true → standing_after now (instr ∷ []) ≡ now → is_needless now instr ≡ true
 unfolding is_needless
 needless_if now instr graphic same = true_both _ _ graphic (tells_same _ _ same)
 
-pub if_needless : (now : Display) (instr : Instr) → is_needless now instr ≡ true → (is_graphic instr ≡ true) × SameStanding (standing_after (standing_of now) (instr ∷ [])) (standing_of now)
+pub if_needless : (now : Standing) (instr : Instr) → is_needless now instr ≡ true → (is_graphic instr ≡ true) × (standing_after now (instr ∷ []) ≡ now)
 unfolding is_needless
 if_needless now instr t = let both = both_true _ _ t in (both.0, same_standing _ _ both.1)
 
-pub needless_as_graphic : (now : Display) (instr : Instr) → SameStanding (standing_after (standing_of now) (instr ∷ [])) (standing_of now) → is_needless now instr ≡ is_graphic instr
+pub needless_as_graphic : (now : Standing) (instr : Instr) → standing_after now (instr ∷ []) ≡ now → is_needless now instr ≡ is_graphic instr
 unfolding is_needless
 needless_as_graphic now instr same = elim (cases_Bool (is_graphic instr)) [
   | inl holds ↦ needless_if now instr holds same ∙ sym holds
   | inr fails ↦ rw fails refl
 ]
 
-pub not_needless : (now : Display) (instr : Instr) → ¬ SameStanding (standing_after (standing_of now) (instr ∷ [])) (standing_of now) → is_needless now instr ≡ false
+pub not_needless : (now : Standing) (instr : Instr) → ¬ (standing_after now (instr ∷ []) ≡ now) → is_needless now instr ≡ false
 not_needless now instr differs = elim (cases_Bool (is_needless now instr)) [
   | inl holds ↦ absurd (differs (if_needless now instr holds).1)
   | inr fails ↦ fails

@@ -1,10 +1,8 @@
 -- The steps of the stage that makes needless packs idle.
-use Rattle.std.specs.Prelude.{ℕ, ◌==◌, ◌&&◌, Bool, if◌then◌else◌, List, [], ◌∷◌, Option, Some}
-use Rattle.std.specs.List.{list_all}
-use Rattle.bit_lists.specs.Counting.{below}
+use Rattle.std.specs.Prelude.{ℕ, nat_eq, ◌==◌, ◌&&◌, Bool, if◌then◌else◌, List, [], ◌∷◌, Option, Some}
+use Rattle.std.specs.Cmp.Lexicographic.{pointwise}
 use Rattle.cdg_instructions.specs.Meaning.{meaning}
-use Rattle.cdg_screen.specs.Picture.{Display, Standing, standing_of, standing_after}
-use Rattle.cdg_screen.specs.Standings.{obeyed}
+use Rattle.cdg_screen.specs.Picture.{Standing, standing_after}
 use Rattle.rw_code.specs.Packs.{idle_pack}
 use Rattle.raw_subcode.specs.Channels.{symbols_of}
 use Rattle.cdg_thin.specs.Thin.{is_graphic}
@@ -14,29 +12,24 @@ use Rattle.cdg_instructions.specs.declared.instr.Instr.{Instr}
 unfoldable pub instruction_of : List ℕ → Instr
 instruction_of pack = meaning (symbols_of pack)
 
--- whether a test passes at all numbers below n
-unfoldable pub passes_below : ℕ → (ℕ → Bool) → Bool
-passes_below n test = list_all test (below n)
-
 -- whether the same stands in both
 unfoldable pub is_same : Standing → Standing → Bool
 is_same a b =
-    passes_below 216 (λ y. passes_below 300 (λ x. a.memory x y == b.memory x y))
+    pointwise (pointwise nat_eq) a.memory b.memory
     && a.border == b.border
-    && passes_below 16 (λ k. a.colour k == b.colour k)
-    && passes_below 16 (λ k. a.level k == b.level k)
+    && pointwise nat_eq a.colours b.colours
+    && pointwise nat_eq a.levels b.levels
     && a.h == b.h
     && a.v == b.v
 
 -- whether it is a graphics instruction after which the same stands as before
-unfoldable pub is_needless : Display → Instr → Bool
-is_needless now instr = is_graphic instr
-    && is_same (standing_after (standing_of now) (instr ∷ [])) (standing_of now)
+unfoldable pub is_needless : Standing → Instr → Bool
+is_needless now instr = is_graphic instr && is_same (standing_after now (instr ∷ [])) now
 
 -- what stands after a pack
-unfoldable pub thin_next : Display → List ℕ → Display
-thin_next now pack = obeyed now (instruction_of pack)
+unfoldable pub thin_next : Standing → List ℕ → Standing
+thin_next now pack = standing_after now (instruction_of pack ∷ [])
 
 -- the pack, or an idle one in its place
-unfoldable pub thin_gives : Display → List ℕ → Option (List ℕ)
+unfoldable pub thin_gives : Standing → List ℕ → Option (List ℕ)
 thin_gives now pack = Some (if is_needless now (instruction_of pack) then idle_pack else pack)

@@ -6,7 +6,7 @@ use Rattle.cdg_instructions.specs.Instruction.{Means}
 use Rattle.cdg_instructions.specs.MadeGood.{IsMadeGood}
 use Rattle.rw_code.specs.Packs.{idle_pack}
 use Rattle.raw_subcode.specs.Channels.{symbols_of}
-use Rattle.cdg_screen.specs.Picture.{blank, standing_after, SameStanding}
+use Rattle.cdg_screen.specs.Picture.{blank, standing_after}
 use Rattle.cdg_instructions.specs.declared.instr.Instr.{Instr}
 use Rattle.cdg_instructions.specs.declared.instr.Instr.TheVariants.{Idle, Foreign, Unknown}
 
@@ -30,7 +30,7 @@ is_graphic instr = true
 -- A graphics instruction that changes nothing after these: the same stands with it and without it.
 pub record IsNeedless (before : List Instr) (instr : Instr) : Type 0 where
   pub graphic : IsTrue (is_graphic instr)
-  pub nothing : SameStanding (standing_after blank (before ++ instr ∷ [])) (standing_after blank before)
+  pub nothing : standing_after blank (before ++ instr ∷ []) ≡ standing_after blank before
 
 -- what stands for a pack in the thin form: an idle one where its instruction is needless after those before it, and
 -- else the pack as it is
@@ -59,4 +59,4 @@ pub record StandAlike (m : ℕ) (packs others : List (List ℕ)) : Type 0 where
   pub other_instrs : List Instr
   pub read : AreInstructionsOf (take m packs) instrs
   pub other_read : AreInstructionsOf (take m others) other_instrs
-  pub same : SameStanding (standing_after blank instrs) (standing_after blank other_instrs)
+  pub same : standing_after blank instrs ≡ standing_after blank other_instrs

@@ -1,11 +1,10 @@
 // From packs to those of the thin form.
-ghost use Rattle.std.specs.Prelude.{◌≡◌, ◌≢◌, ◌≤◌, List, ℕ, [], length, Err, IfOk, IfSome, IsErrOf, Some};
+ghost use Rattle.std.specs.Prelude.{◌≡◌, ◌≢◌, ◌≤◌, List, ℕ, [], ◌∷◌, length, Err, IfOk, IfSome, IsErrOf, Some};
 ghost use Rattle.cdg_instructions.specs.Instruction.{InRange};
 ghost use Rattle.cdg_io.specs.Causes.{Rose};
 ghost use Rattle.cdg_io.specs.Change.{change, passed};
 ghost use Rattle.cdg_io.specs.Pump.{FillsUnits, IsUnlessFault, TellsEndOf, answer_of};
-ghost use Rattle.cdg_screen.specs.Picture.{SameStanding, blank, standing_of};
-ghost use Rattle.cdg_screen.specs.Standings.{obeyed};
+ghost use Rattle.cdg_screen.specs.Picture.{blank, standing_after};
 ghost use Rattle.cdg_thin.specs.Calls.{Thins, ThinsAll, most_packs};
 ghost use Rattle.cdg_thin.specs.Steps.{instruction_of, is_needless, thin_next, thin_gives};
 
@@ -31,18 +30,17 @@ pub struct Thinner {
 }
 
 impl Model for Thinner {
-    ghost use Rattle.cdg_screen.specs.Picture.{Display, standing_of};
-    ghost use Rattle.cdg_screen.specs.Standings.{display_of};
+    ghost use Rattle.cdg_screen.specs.Picture.{Standing};
 
-    ghost Value = { Display };
+    ghost Value = { Standing };
 
-    ghost view = { λ t. display_of (standing_of t.screen) };
+    ghost view = { λ t. t.screen };
 }
 
 impl Thinner {
     /// Takes the memory of a screen.
     pub fn start(alloc: Global) -> Result<Thinner, AllocError>
-        ensures { IfOk result (λ t. SameStanding (standing_of t) blank) }
+        ensures { IfOk result (λ t. t ≡ blank) }
     {
         Ok(Thinner {
             screen: Screen::start(alloc)?,
@@ -94,7 +92,7 @@ impl Thinner {
 
     // Makes all zero again.
     fn reset(&mut self)
-        ensures { SameStanding (standing_of self.new) blank }
+        ensures { self.new ≡ blank }
     {
         self.screen.reset();
     }
@@ -102,7 +100,7 @@ impl Thinner {
     // Carries out an instruction, and tells whether it was needless.
     fn passes_over(&mut self, instr: &Instr) -> bool
         requires { InRange instr.now }
-        ensures next { self.new ≡ obeyed self.old instr.now }
+        ensures next { self.new ≡ standing_after self.old (instr.now ∷ []) }
         ensures needless { result ≡ is_needless self.old instr.now }
     {
         if self.screen.changes(instr) {

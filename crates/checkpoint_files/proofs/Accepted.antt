@@ -8,9 +8,12 @@ use Rattle.bit_lists.specs.Bits.{number_of, bits_of_bytes}
 use Rattle.bit_lists.specs.Check.{check_of, check_bits}
 use Rattle.bit_lists.proofs.BitsLemmas.{number_of-lt}
 use Rattle.bit_lists.proofs.Checks.{length-check_bits}
+use Rattle.std.specs.Prelude.{slice_index}
+use Rattle.cdg_screen.specs.Picture.{pixel_at, standing_after}
+use Rattle.cdg_screen.proofs.Lists.{rows_same, sixteen_same}
 use Rattle.checkpoint_files.specs.Table.{Part, Mark, ToCome, LeadIn, Program, Bad, Slots, Memory, Border, Across, Down, Colours, Levels, Check, row, all_parts, number, number_at, mark, IsPartInRange, IsCheckpointFile}
-use Rattle.checkpoint_files.specs.Checkpoint.{Checkpoint, value, bytes_of, part_bytes, body, file_of, checkpoint_in}
-use Rattle.checkpoint_files.specs.Sound.{IsSoundCheckpoint, IsSameCheckpoint}
+use Rattle.checkpoint_files.specs.Checkpoint.{Checkpoint, value, bytes_of, part_bytes, body, file_of, checkpoint_in, standing_in}
+use Rattle.checkpoint_files.specs.Sound.{IsSoundCheckpoint}
 use Rattle.checkpoint_files.proofs.Writing.{slots_written}
 use Rattle.checkpoint_files.proofs.ReadBack.{BeginsAt, from_on, begins, next_part, byte_in, byte_read, four_read, length-file, at_to_come, at_lead_in, at_program, at_bad, at_slots, at_memory, at_border, at_across, at_down, at_colours, at_levels}
 
@@ -38,10 +41,10 @@ byte_is : (c : Checkpoint) (part : Part) (late : List Part) (k first count : ℕ
     → number_at (file_of c) 1 (first + 1 * k) ≡ value c part k
 byte_is c part late k first count one b f e lt small = omega (arith, byte_read c part late k first count one b f e lt, small)
 
-colour_read : (c : Checkpoint) (k : ℕ) → k < 16 → c.standing.colour k < 65536 → number (file_of c) Colours k ≡ c.standing.colour k
+colour_read : (c : Checkpoint) (k : ℕ) → k < 16 → slice_index c.standing.colours k < 65536 → number (file_of c) Colours k ≡ slice_index c.standing.colours k
 colour_read c k lt small =
-    let high : get_or (file_of c) (64995 + 2 * k) 0 ≡ c.standing.colour k / 256 % 256 = byte_in c Colours _ k 0 16 (64995 + 2 * k) (at_colours c) refl lt (omega arith) (omega arith) in
-    let low : get_or (file_of c) (64995 + 2 * k + 1) 0 ≡ c.standing.colour k / 1 % 256 = byte_in c Colours _ k 1 16 (64995 + 2 * k + 1) (at_colours c) refl lt (omega arith) (omega arith) in
+    let high : get_or (file_of c) (64995 + 2 * k) 0 ≡ slice_index c.standing.colours k / 256 % 256 = byte_in c Colours _ k 0 16 (64995 + 2 * k) (at_colours c) refl lt (omega arith) (omega arith) in
+    let low : get_or (file_of c) (64995 + 2 * k + 1) 0 ≡ slice_index c.standing.colours k / 1 % 256 = byte_in c Colours _ k 1 16 (64995 + 2 * k + 1) (at_colours c) refl lt (omega arith) (omega arith) in
     omega (arith, high, low, small)
 
 -- ---- the check
@@ -97,10 +100,10 @@ module _ (c : Checkpoint) (sound : IsSoundCheckpoint c) where
   slot_read : (k : ℕ) → k < 168 → number file Slots k ≡ get_or c.slots k 0
   slot_read k lt = byte_is c Slots _ k 24 168 refl (at_slots c) refl refl lt (omega (arith, sound.slots_below k lt))
 
-  pixel_small : (k : ℕ) → k < 64800 → c.standing.memory (k % 300) (k / 300) < 16
+  pixel_small : (k : ℕ) → k < 64800 → pixel_at c.standing.memory (k % 300) (k / 300) < 16
   pixel_small k lt = sound.standing.memory (k % 300) (k / 300) (omega arith) (omega (arith, lt))
 
-  memory_read : (k : ℕ) → k < 64800 → number file Memory k ≡ c.standing.memory (k % 300) (k / 300)
+  memory_read : (k : ℕ) → k < 64800 → number file Memory k ≡ pixel_at c.standing.memory (k % 300) (k / 300)
   memory_read k lt = byte_is c Memory _ k 192 64800 refl (at_memory c) refl refl lt (omega (arith, pixel_small k lt))
 
   border_read : (k : ℕ) → k < 1 → number file Border k ≡ c.standing.border
@@ -112,10 +115,10 @@ module _ (c : Checkpoint) (sound : IsSoundCheckpoint c) where
   down_read : (k : ℕ) → k < 1 → number file Down k ≡ c.standing.v
   down_read k lt = byte_is c Down _ k 64994 1 refl (at_down c) refl refl lt (omega (arith, sound.standing.v))
 
-  colours_read : (k : ℕ) → k < 16 → number file Colours k ≡ c.standing.colour k
+  colours_read : (k : ℕ) → k < 16 → number file Colours k ≡ slice_index c.standing.colours k
   colours_read k lt = colour_read c k lt (omega (arith, sound.standing.colour k lt))
 
-  levels_read : (k : ℕ) → k < 16 → number file Levels k ≡ c.standing.level k
+  levels_read : (k : ℕ) → k < 16 → number file Levels k ≡ slice_index c.standing.levels k
   levels_read k lt = byte_is c Levels _ k 65027 16 refl (at_levels c) refl refl lt (omega (arith, sound.standing.level k lt))
 
   slots_in_range : IsPartInRange file Slots
@@ -178,18 +181,23 @@ module _ (c : Checkpoint) (sound : IsSoundCheckpoint c) where
       let at : drop 24 file ≡ part_bytes c Slots ++ late = (at_slots c).is ∙ append_assoc (part_bytes c Slots) (flat_map (part_bytes c) (Memory ∷ Border ∷ Across ∷ Down ∷ Colours ∷ Levels ∷ [])) (bytes_of 2 (check_of (body c))) in
       ap (take 168) at ∙ take_at (part_bytes c Slots) late 168 (ap length is ∙ sound.slots_size) ∙ is
 
-  pixel_read : (x y : ℕ) → x < 300 → y < 216 → number file Memory (300 * y + x) ≡ c.standing.memory x y
+  pixel_read : (x y : ℕ) → x < 300 → y < 216 → number file Memory (300 * y + x) ≡ pixel_at c.standing.memory x y
   pixel_read x y x_lt y_lt =
       let across : (300 * y + x) % 300 ≡ x = omega (arith, x_lt) in
       let down : (300 * y + x) / 300 ≡ y = omega (arith, x_lt) in
-      memory_read (300 * y + x) (omega (arith, x_lt, y_lt)) ∙ ap₂ c.standing.memory across down
+      memory_read (300 * y + x) (omega (arith, x_lt, y_lt)) ∙ ap₂ (pixel_at c.standing.memory) across down
 
-  pub same : IsSameCheckpoint (checkpoint_in file) c
-  same = record {
-    to_come = to_come_read;
-    lead_in = lead_in_read;
-    program = program_read;
-    bad = bad_read;
-    slots = slots_read;
-    standing = record { memory = pixel_read; border = border_read 0 (omega arith); colour = colours_read; level = levels_read; h = across_read 0 (omega arith); v = down_read 0 (omega arith) };
-  }
+  standing_read : standing_in file ≡ c.standing
+  standing_read =
+      let memory = rows_same (λ x y. number file Memory (300 * y + x)) (pixel_at c.standing.memory) pixel_read in
+      let border = border_read 0 (omega arith) in
+      let colours = sixteen_same (number file Colours) (slice_index c.standing.colours) colours_read in
+      let levels = sixteen_same (number file Levels) (slice_index c.standing.levels) levels_read in
+      let across = across_read 0 (omega arith) in
+      let down = down_read 0 (omega arith) in
+      let same : standing_in file ≡ standing_after c.standing [] =
+      λ i. record { memory = memory i; border = border i; colours = colours i; levels = levels i; h = across i; v = down i } in
+      same ∙ sound.standing.whole
+
+  pub same : checkpoint_in file ≡ c
+  same = λ i. record { to_come = to_come_read i; lead_in = lead_in_read i; program = program_read i; bad = bad_read i; slots = slots_read i; standing = standing_read i }

@@ -3,7 +3,7 @@ use Rattle.std.specs.Prelude.{ℕ, zero, suc, ◌+◌, ◌*◌, ◌/◌, ◌%◌
 use Rattle.bit_lists.specs.Counting.{below}
 use Rattle.bit_lists.specs.Check.{check_of}
 use Rattle.cdg_instructions.specs.Sizes.{screen_width}
-use Rattle.cdg_screen.specs.Picture.{Standing}
+use Rattle.cdg_screen.specs.Picture.{Standing, pixel_at, rows_of, sixteen}
 use Rattle.checkpoint_files.specs.declared.counts.Counts.{Counts}
 use Rattle.checkpoint_files.specs.Table.{Part, Mark, ToCome, LeadIn, Program, Bad, Slots, Memory, Border, Across, Down, Colours, Levels, Check, row, body_parts, mark, number}
 
@@ -38,12 +38,12 @@ value c LeadIn k = c.lead_in
 value c Program k = c.program
 value c Bad k = c.bad
 value c Slots k = slice_index c.slots k
-value c Memory k = c.standing.memory (k % screen_width) (k / screen_width)
+value c Memory k = pixel_at c.standing.memory (k % screen_width) (k / screen_width)
 value c Border k = c.standing.border
 value c Across k = c.standing.h
 value c Down k = c.standing.v
-value c Colours k = c.standing.colour k
-value c Levels k = c.standing.level k
+value c Colours k = slice_index c.standing.colours k
+value c Levels k = slice_index c.standing.levels k
 value c Check k = 0
 
 -- a number as so many bytes, the highest first
@@ -73,10 +73,10 @@ file_of c = body c ++ bytes_of 2 (check_of (body c))
 -- what stands by a file: row by row from the left
 abbrev pub standing_in : List ℕ → Standing
 standing_in file = record {
-  memory = λ x y. number file Memory (screen_width * y + x);
+  memory = rows_of (λ x y. number file Memory (screen_width * y + x));
   border = number file Border 0;
-  colour = number file Colours;
-  level = number file Levels;
+  colours = sixteen (number file Colours);
+  levels = sixteen (number file Levels);
   h = number file Across 0;
   v = number file Down 0;
 }

@@ -1,19 +1,20 @@
--- Checkpoints whose numbers are in their ranges, and checkpoints that say the same.
+-- Checkpoints whose numbers are in their ranges.
 use Rattle.std.specs.Prelude.{◌≡◌, ℕ, ◌+◌, ◌<◌, ◌≤◌, length, slice_index}
 use Rattle.disc_time.specs.Counts.{most_lead_in}
 use Rattle.raw_subcode.specs.Sizes.{most_units}
 use Rattle.rw_interleave.specs.Interleave.{whole_packs}
 use Rattle.cdg_instructions.specs.Sizes.{screen_height, screen_width}
-use Rattle.cdg_screen.specs.Picture.{Standing, SameStanding}
+use Rattle.cdg_screen.specs.Picture.{IsWholeStanding, Standing, pixel_at}
 use Rattle.checkpoint_files.specs.Table.{empty_symbols}
 use Rattle.checkpoint_files.specs.Checkpoint.{Checkpoint}
 
--- what stands is colours, levels and offsets in their ranges
+-- what stands is a whole screen of colours, levels and offsets in their ranges
 pub record IsSoundStanding (now : Standing) : Type 0 where
-  pub memory : (x y : ℕ) → x < screen_width → y < screen_height → now.memory x y < 16
+  pub whole : IsWholeStanding now
+  pub memory : (x y : ℕ) → x < screen_width → y < screen_height → pixel_at now.memory x y < 16
   pub border : now.border < 16
-  pub colour : (k : ℕ) → k < 16 → now.colour k < 4096
-  pub level : (k : ℕ) → k < 16 → now.level k < 64
+  pub colour : (k : ℕ) → k < 16 → slice_index now.colours k < 4096
+  pub level : (k : ℕ) → k < 16 → slice_index now.levels k < 64
   pub h : now.h ≤ 5
   pub v : now.v ≤ 11
 
@@ -27,12 +28,3 @@ pub record IsSoundCheckpoint (c : Checkpoint) : Type 0 where
   pub slots_below : (k : ℕ) → k < 168 → slice_index c.slots k < 64
   pub slots_empty : (k : ℕ) → k < empty_symbols c.program → slice_index c.slots k ≡ 0
   pub standing : IsSoundStanding c.standing
-
--- two checkpoints say the same
-pub record IsSameCheckpoint (a b : Checkpoint) : Type 0 where
-  pub to_come : a.to_come ≡ b.to_come
-  pub lead_in : a.lead_in ≡ b.lead_in
-  pub program : a.program ≡ b.program
-  pub bad : a.bad ≡ b.bad
-  pub slots : a.slots ≡ b.slots
-  pub standing : SameStanding a.standing b.standing

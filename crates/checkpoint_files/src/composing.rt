@@ -1,6 +1,6 @@
 // The file of a checkpoint, written.
 ghost use Rattle.std.specs.Prelude.{◌≡◌, ◌≤◌, ◌+◌, ◌++◌, [], ◌∷◌, List, ℕ, length};
-ghost use Rattle.cdg_screen.specs.Picture.{Standing, standing_of};
+ghost use Rattle.cdg_screen.specs.Picture.{Standing};
 ghost use Rattle.checkpoint_files.specs.Table.{Mark, ToCome, LeadIn, Program, Bad, Memory, Border, Across, Down, Colours, Levels};
 ghost use Rattle.checkpoint_files.specs.Checkpoint.{bytes_of, file_of, kept, part_bytes, with_parts};
 
@@ -26,7 +26,7 @@ impl CheckpointFile {
     /// Becomes the file of these counts, of the symbols of the last seven slots, zeros before the first, and
     /// of what stands on the screen.
     pub fn compose(&mut self, counts: &Counts, slots: &[u8; SLOTS_BYTES], screen: &Screen)
-        ensures { self.new ≡ file_of (kept counts.now slots.now (standing_of screen.now)) }
+        ensures { self.new ≡ file_of (kept counts.now slots.now screen.now) }
     {
         self.clear();
         self.put_counts(counts);
@@ -67,7 +67,7 @@ impl CheckpointFile {
     fn put_memory(&mut self, screen: &Screen)
         requires { length self.old ≡ 192 }
         ensures part { (counts : Counts) (slots : List ℕ)
-            → self.new ≡ self.old ++ part_bytes (kept counts slots (standing_of screen.now)) Memory }
+            → self.new ≡ self.old ++ part_bytes (kept counts slots screen.now) Memory }
         ensures size { length self.new ≡ 64992 }
     {
         for k in 0..PIXELS {
@@ -79,7 +79,7 @@ impl CheckpointFile {
     fn put_places(&mut self, screen: &Screen)
         requires { length self.old ≡ 64992 }
         ensures parts { (counts : Counts) (slots : List ℕ)
-            → self.new ≡ with_parts self.old (kept counts slots (standing_of screen.now))
+            → self.new ≡ with_parts self.old (kept counts slots screen.now)
             (Border ∷ Across ∷ Down ∷ []) }
         ensures size { length self.new ≡ 64995 }
     {
@@ -92,7 +92,7 @@ impl CheckpointFile {
     fn put_colours(&mut self, screen: &Screen)
         requires { length self.old ≡ 64995 }
         ensures part { (counts : Counts) (slots : List ℕ)
-            → self.new ≡ self.old ++ part_bytes (kept counts slots (standing_of screen.now)) Colours }
+            → self.new ≡ self.old ++ part_bytes (kept counts slots screen.now) Colours }
         ensures size { length self.new ≡ 65027 }
     {
         for k in 0..COLOURS {
@@ -104,7 +104,7 @@ impl CheckpointFile {
     fn put_levels(&mut self, screen: &Screen)
         requires { length self.old ≡ 65027 }
         ensures part { (counts : Counts) (slots : List ℕ)
-            → self.new ≡ self.old ++ part_bytes (kept counts slots (standing_of screen.now)) Levels }
+            → self.new ≡ self.old ++ part_bytes (kept counts slots screen.now) Levels }
         ensures size { length self.new ≡ 65043 }
     {
         for k in 0..COLOURS {

@@ -1,7 +1,7 @@
 // Laws on files.
 ghost use Rattle.std.specs.Prelude.{◌≡◌, ◌<◌, ◌%◌, ◌^◌, ℕ, length};
 ghost use Rattle.checkpoint_files.specs.Checkpoint.{Checkpoint, checkpoint_in, file_of, value};
-ghost use Rattle.checkpoint_files.specs.Sound.{IsSameCheckpoint, IsSoundCheckpoint};
+ghost use Rattle.checkpoint_files.specs.Sound.{IsSoundCheckpoint};
 ghost use Rattle.checkpoint_files.specs.Table.{Bad, IsCheckpointFile, LeadIn, Memory, Program, Slots, ToCome, number};
 
 /// A law: what is written is read. The file of each checkpoint has 65,045 bytes, and holds its counts, its
@@ -18,8 +18,8 @@ pub fn files_are_read_back()
 {}
 
 /// A law: the file of a checkpoint whose numbers are in their ranges is accepted, and the checkpoint in it
-/// says the same.
+/// is that one.
 pub fn sound_checkpoints_are_accepted()
     ensures accepted { (c : Checkpoint) → IsSoundCheckpoint c → IsCheckpointFile (file_of c) }
-    ensures same { (c : Checkpoint) → IsSoundCheckpoint c → IsSameCheckpoint (checkpoint_in (file_of c)) c }
+    ensures same { (c : Checkpoint) → IsSoundCheckpoint c → checkpoint_in (file_of c) ≡ c }
 {}

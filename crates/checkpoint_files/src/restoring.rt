@@ -1,7 +1,7 @@
 // What stood, brought back by instructions.
 ghost use Rattle.std.specs.Prelude.{◌≡◌, ◌≤◌, ◌+◌, ◌*◌, ◌/◌, ◌%◌, ◌<◌, ℕ, All, length, drop, slice_index, take};
 ghost use Rattle.cdg_instructions.specs.Sizes.{screen_height, screen_width};
-ghost use Rattle.cdg_screen.specs.Picture.{SameStanding, standing_of};
+ghost use Rattle.cdg_screen.specs.Picture.{pixel_at};
 ghost use Rattle.checkpoint_files.specs.Checkpoint.{checkpoint_in, standing_in};
 ghost use Rattle.checkpoint_files.specs.Drawn.{DrawsTile, HoldsTiles, set_by};
 ghost use Rattle.checkpoint_files.specs.Table.{IsCheckpointFile};
@@ -35,16 +35,17 @@ impl CheckpointFile {
     /// Brings back what stood, by the file of a checkpoint.
     pub fn bring_back(&self, screen: &mut Screen)
         requires { IsCheckpointFile self.now }
-        ensures { SameStanding (standing_of screen.new) (standing_in self.now) }
+        ensures { screen.new ≡ standing_in self.now }
     {
         self.draw(screen);
+        screen.is_whole();
         self.set(screen);
     }
 
     // Draws the memory.
     fn draw(&self, screen: &mut Screen)
         requires { IsCheckpointFile self.now }
-        ensures { HoldsTiles (standing_in self.now) 900 (standing_of screen.new) }
+        ensures { HoldsTiles (standing_in self.now) 900 screen.new }
     {
         screen.reset();
         for k in 0..TILES {
@@ -58,9 +59,8 @@ impl CheckpointFile {
         requires row { row < 18 }
         requires column { column < 50 }
         requires blank { (x y : ℕ) → x < screen_width → y < screen_height → x / 6 ≡ column → y / 12 ≡ row
-            → (standing_of screen.old).memory x y ≡ 0 }
-        ensures { DrawsTile (standing_in self.now) row column (standing_of screen.old)
-            (standing_of screen.new) }
+            → pixel_at screen.old.memory x y ≡ 0 }
+        ensures { DrawsTile (standing_in self.now) row column screen.old screen.new }
     {
         let drawn = plan(&Tile::solid(0), &self.tile(row, column), row, column);
         screen.obey_all(drawn.as_slice());
@@ -72,7 +72,7 @@ impl CheckpointFile {
         requires row { row < 18 }
         requires column { column < 50 }
         ensures { (p : ℕ) → p < 72
-            → slice_index result p ≡ (standing_in self.now).memory (6 * column + p % 6) (12 * row + p / 6) }
+            → slice_index result p ≡ pixel_at (standing_in self.now).memory (6 * column + p % 6) (12 * row + p / 6) }
     {
         let left = 6 * usize::from(column);
         let top = 12 * usize::from(row);
@@ -89,7 +89,7 @@ impl CheckpointFile {
         requires file { IsCheckpointFile self.now }
         requires width { x < screen_width }
         requires height { y < screen_height }
-        ensures pixel { result ≡ (standing_in self.now).memory x y }
+        ensures pixel { result ≡ pixel_at (standing_in self.now).memory x y }
         ensures range { result < 16 }
     {
         self.byte(MEMORY + (300 * y + x))
@@ -98,9 +98,9 @@ impl CheckpointFile {
     // Sets the border, the colours, the levels and the offsets.
     fn set(&self, screen: &mut Screen)
         requires { IsCheckpointFile self.now }
-        ensures { SameStanding (standing_of screen.new)
-            (set_by (standing_in self.now) (standing_of screen.old)) }
+        ensures { screen.new ≡ set_by (standing_in self.now) screen.old }
     {
+        screen.is_whole();
         screen.obey(&Instr::BorderPreset {
             colour: self.byte(BORDER),
         });
@@ -126,7 +126,7 @@ impl CheckpointFile {
     fn colours(&self, first: usize) -> [u16; 8]
         requires file { IsCheckpointFile self.now }
         requires first { first ≤ 8 }
-        ensures colours { (k : ℕ) → k < 8 → slice_index result k ≡ (standing_in self.now).colour (first + k) }
+        ensures colours { (k : ℕ) → k < 8 → slice_index result k ≡ slice_index (standing_in self.now).colours (first + k) }
         ensures range { All (λ colour. colour < 4096) result }
     {
         let mut colours = [0; 8];
@@ -139,7 +139,7 @@ impl CheckpointFile {
     // The sixteen levels.
     fn levels(&self) -> [u8; 16]
         requires { IsCheckpointFile self.now }
-        ensures levels { (k : ℕ) → k < 16 → slice_index result k ≡ (standing_in self.now).level k }
+        ensures levels { (k : ℕ) → k < 16 → slice_index result k ≡ slice_index (standing_in self.now).levels k }
         ensures range { All (λ level. level < 64) result }
     {
         let mut levels = [0; 16];

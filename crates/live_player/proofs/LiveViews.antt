@@ -1,12 +1,9 @@
 -- What stands after the blocks that a player was fed.
-use Rattle.std.proofs.Common.{◌≡◌, ℕ, ◌+◌, ◌-◌, ◌*◌, ◌<◌, ◌≤◌, List, length, refl, ap, ap₂, ◌∙◌, subst, sym, ◌&&◌, nat_le, true, inl, inr, arith}
+use Rattle.std.proofs.Common.{◌≡◌, ℕ, ◌-◌, ◌*◌, ◌≤◌, List, length, ap, ◌∙◌, subst, sym, arith}
 use Rattle.disc_time.specs.Counts.{last_block}
-use Rattle.std.proofs.lemmas.Bool.{cases_Bool}
-use Rattle.std.proofs.lemmas.Bool.Decides.{nat_tests}
 use Rattle.rw_interleave.specs.Interleave.{whole_packs}
 use Rattle.raw_subcode.specs.declared.form.Form.{Form}
 use Rattle.std.specs.Prelude.{take, drop}
-use Rattle.cdg_screen.specs.Picture.{Standing, SameStanding, standing_of, screen_pixel}
 use Rattle.live_player.specs.Lives.{HasPlayed, IsLiveView, IsLiveViewAt}
 use Rattle.raw_subcode.specs.Channels.{symbols_of}
 use Rattle.raw_subcode.specs.declared.form.Form.TheVariants.{Raw}
@@ -21,7 +18,7 @@ use Rattle.subcode_player.proofs.Draws.{instrs_of, are_meant}
 use Rattle.subcode_player.proofs.Views.{Drawings, IsReady, drawn_blocks, IsDrawn}
 
 pub live_view : (form : Form) (lead_in : ℕ) (blocks : List (List ℕ)) (player : LivePlayer) → HasPlayed form lead_in blocks player → length blocks ≤ 1000000
-    → IsLiveView form lead_in blocks (standing_of player.stages.second.picture)
+    → IsLiveView form lead_in blocks player.stages.second.picture
 live_view form lead_in blocks player played few =
     let ready : IsReady form lead_in last_block played.start = record { words = played.begun.words; left = played.begun.left; bad = played.begun.bad; blank = played.begun.blank } in
     let drawn : IsDrawn form lead_in last_block blocks (player.stages).second = subst (λ (s : Drawings). IsDrawn form lead_in last_block blocks s.second) (sym played.run) (drawn_blocks form lead_in last_block played.start blocks ready few) in
@@ -33,27 +30,11 @@ live_view form lead_in blocks player played few =
       stands = drawn.stands;
     }
 
-in_window : (x y : ℕ) → (nat_le 6 x && nat_le x 293 && nat_le 12 y && nat_le y 203) ≡ true → (x ≤ 293) × (y ≤ 203)
-in_window x y inside = (grind (arith, nat_tests), grind (arith, nat_tests))
-
-pub pixel_same : (now other : Standing) → SameStanding now other → now.h ≤ 5 → now.v ≤ 11 → (x y : ℕ) → x < 300 → y < 216 → screen_pixel now x y ≡ screen_pixel other x y
-pixel_same now other same h v x y x_lt y_lt = elim (cases_Bool (nat_le 6 x && nat_le x 293 && nat_le 12 y && nat_le y 203)) [
-  | inl inside ↦
-      let (across, down) = in_window x y inside in
-      let moved : now.memory (x + now.h) (y + now.v) ≡ other.memory (x + other.h) (y + other.v) =
-      same.memory (x + now.h) (y + now.v) (omega (arith, across, h)) (omega (arith, down, v)) ∙ ap₂ (λ h v. other.memory (x + h) (y + v)) same.h same.v in
-      rw inside moved
-  | inr outside ↦ rw outside same.border
-]
-
-pub itself : (now : Standing) → SameStanding now now
-itself now = record { memory = λ x y x_lt y_lt. refl; border = refl; colour = λ k lt. refl; level = λ k lt. refl; h = refl; v = refl }
-
 -- of a raw stream, all packs that came are whole where the program is
 pub live_view_now : (lead_in : ℕ) (blocks : List (List ℕ)) (player : LivePlayer) → HasPlayed Raw lead_in blocks player → length blocks ≤ 1000000 → length blocks - lead_in ≤ last_block
-    → IsLiveViewAt Raw lead_in (length blocks - lead_in) blocks (standing_of player.stages.second.picture)
+    → IsLiveViewAt Raw lead_in (length blocks - lead_in) blocks player.stages.second.picture
 live_view_now lead_in blocks player played few within =
-    let view : IsLiveView Raw lead_in blocks (standing_of player.stages.second.picture) = live_view Raw lead_in blocks player played few in
+    let view : IsLiveView Raw lead_in blocks player.stages.second.picture = live_view Raw lead_in blocks player played few in
     let n : ℕ = length blocks - lead_in in
     let program : List (List ℕ) = drop lead_in blocks in
     let symbols : length (flat_map symbols_of program) ≡ 96 * length program = length-all_symbols program (sized_drop 96 lead_in blocks played.sized) in

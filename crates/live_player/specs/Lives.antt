@@ -11,7 +11,7 @@ use Rattle.raw_subcode.specs.declared.form.Form.{Form}
 use Rattle.rw_interleave.specs.Stream.{IsRecovered, form_word, word_count}
 use Rattle.cdg_instructions.specs.declared.instr.Instr.{Instr}
 use Rattle.cdg_instructions.specs.Meaning.{meaning}
-use Rattle.cdg_screen.specs.Picture.{Standing, SameStanding, blank, screen_pixel, standing_of, standing_after}
+use Rattle.cdg_screen.specs.Picture.{Standing, blank, screen_pixel, standing_after}
 use Rattle.cdg_screen.specs.Texts.{colour_bytes}
 use Rattle.subcode_player.specs.Screen.{AreShown}
 use Rattle.subcode_player.specs.Steps.{fresh_words, words_next, words_give}
@@ -23,7 +23,7 @@ use Rattle.live_player.specs.declared.live.LivePlayer.{LivePlayer}
 
 -- what stands on a player's picture
 abbrev pub standing_on : LivePlayer → Standing
-standing_on player = standing_of (drawing_of player.stages).picture
+standing_on player = (drawing_of player.stages).picture
 
 -- the stages after a block
 abbrev pub live_next : Then BlockWords Drawing → List ℕ → Then BlockWords Drawing
@@ -37,7 +37,7 @@ pub record IsLiveStart (form : Form) (lead_in : ℕ) (s : Then BlockWords Drawin
   pub words : words_of s ≡ fresh_words form lead_in
   pub left : (drawing_of s).left ≡ whole_packs last_block
   pub bad : (drawing_of s).bad ≡ 0
-  pub blank : SameStanding (standing_of (drawing_of s).picture) blank
+  pub blank : (drawing_of s).picture ≡ blank
 
 -- the player began with a stream of this form and was fed these blocks since
 pub record HasPlayed (form : Form) (lead_in : ℕ) (blocks : List (List ℕ)) (player : LivePlayer) : Type 0 where
@@ -60,7 +60,7 @@ pub record IsLiveViewAt (form : Form) (lead_in time : ℕ) (blocks : List (List 
   pub recovered : IsRecovered form (flat_map symbols_of (drop lead_in blocks)) found
   pub instrs : List Instr
   pub shown : AreShown found time instrs
-  pub stands : SameStanding now (standing_after blank instrs)
+  pub stands : now ≡ standing_after blank instrs
 
 -- what they show at last
 abbrev pub IsLiveView : Form → ℕ → List (List ℕ) → Standing → Type 0
@@ -72,9 +72,9 @@ instruction_of pack = meaning (map (λ byte. byte % 64) pack)
 
 -- the player began and drew these packs since, and nothing else
 pub record HasDrawn (packs : List (List ℕ)) (player : LivePlayer) : Type 0 where
-  pub stands : SameStanding (standing_on player) (standing_after blank (map instruction_of packs))
+  pub stands : standing_on player ≡ standing_after blank (map instruction_of packs)
 
 -- byte n of the picture: red, green or blue of the colour of pixel n / 3, of the pixels row by row
 unfoldable pub picture_byte : Standing → ℕ → ℕ
-picture_byte now n = slice_index (colour_bytes (now.colour (screen_pixel now (n / 3 % 300) (n / 3 / 300))))
+picture_byte now n = slice_index (colour_bytes (slice_index now.colours (screen_pixel now (n / 3 % 300) (n / 3 / 300))))
     (n % 3)

@@ -139,7 +139,7 @@ impl LivePlayer {
     /// Colour `k` of the table, as 0xRGB. `k` is below 16.
     pub fn colour(&self, k: u8) -> u16
         requires { k < 16 }
-        ensures colour { result ≡ (standing_on self.now).colour k }
+        ensures colour { result ≡ slice_index (standing_on self.now).colours k }
         ensures range { result < 4096 }
     {
         looking::colour(self.picture(), k)
@@ -156,14 +156,14 @@ impl LivePlayer {
 
     /// Writes the colours of the table, each as 0xRGB.
     pub fn colours(&self, table: &mut [u16; 16])
-        ensures { (k : ℕ) → k < 16 → slice_index table.new k ≡ (standing_on self.now).colour k }
+        ensures { (k : ℕ) → k < 16 → slice_index table.new k ≡ slice_index (standing_on self.now).colours k }
     {
         looking::colours(self.picture(), table);
     }
 
     /// Writes the levels of the colours.
     pub fn levels(&self, levels: &mut [u8; 16])
-        ensures { (k : ℕ) → k < 16 → slice_index levels.new k ≡ (standing_on self.now).level k }
+        ensures { (k : ℕ) → k < 16 → slice_index levels.new k ≡ slice_index (standing_on self.now).levels k }
     {
         looking::levels(self.picture(), levels);
     }

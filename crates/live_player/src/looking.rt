@@ -1,6 +1,6 @@
 // What stands on a picture, number by number.
 ghost use Rattle.std.specs.Prelude.{◌≡◌, ◌<◌, ◌≤◌, ◌/◌, ◌%◌, ◌∷◌, [], ℕ, slice_index};
-ghost use Rattle.cdg_screen.specs.Picture.{screen_pixel, standing_of, standing_after, SameStanding};
+ghost use Rattle.cdg_screen.specs.Picture.{screen_pixel, standing_after};
 ghost use Rattle.cdg_screen.specs.Texts.{colour_bytes};
 ghost use Rattle.live_player.specs.Lives.{instruction_of, picture_byte};
 
@@ -15,19 +15,16 @@ const BYTES: usize = 3 * SCREEN_PIXELS;
 pub(crate) fn pixel(picture: &Picture, x: u32, y: u32) -> u8
     requires width { x < 300 }
     requires height { y < 216 }
-    ensures pixel { result ≡ screen_pixel (standing_of picture.now) x y }
+    ensures pixel { result ≡ screen_pixel picture.now x y }
     ensures range { result < 16 }
 {
-    // What they ensure bounds the offsets.
-    let _ = picture.screen.offset_h();
-    let _ = picture.screen.offset_v();
     picture.screen.pixel(x, y)
 }
 
 /// Colour `k` of the table.
 pub(crate) fn colour(picture: &Picture, k: u8) -> u16
     requires { k < 16 }
-    ensures colour { result ≡ (standing_of picture.now).colour k }
+    ensures colour { result ≡ slice_index picture.now.colours k }
     ensures range { result < 4096 }
 {
     picture.screen.colour(k)
@@ -36,7 +33,7 @@ pub(crate) fn colour(picture: &Picture, k: u8) -> u16
 /// The pixels of the screen, row by row.
 pub(crate) fn screen(picture: &Picture, pixels: &mut [u8; SCREEN_PIXELS])
     ensures { (n : ℕ) → n < 64800
-        → slice_index pixels.new n ≡ screen_pixel (standing_of picture.now) (n % 300) (n / 300) }
+        → slice_index pixels.new n ≡ screen_pixel picture.now (n % 300) (n / 300) }
 {
     for i in 0..SCREEN_PIXELS {
         pixels[i] = pixel(
@@ -49,7 +46,7 @@ pub(crate) fn screen(picture: &Picture, pixels: &mut [u8; SCREEN_PIXELS])
 
 /// The colours of the table.
 pub(crate) fn colours(picture: &Picture, table: &mut [u16; 16])
-    ensures { (k : ℕ) → k < 16 → slice_index table.new k ≡ (standing_of picture.now).colour k }
+    ensures { (k : ℕ) → k < 16 → slice_index table.new k ≡ slice_index picture.now.colours k }
 {
     for k in 0..16 {
         table[k] = colour(picture, k as u8);
@@ -58,7 +55,7 @@ pub(crate) fn colours(picture: &Picture, table: &mut [u16; 16])
 
 /// The levels of the colours.
 pub(crate) fn levels(picture: &Picture, levels: &mut [u8; 16])
-    ensures { (k : ℕ) → k < 16 → slice_index levels.new k ≡ (standing_of picture.now).level k }
+    ensures { (k : ℕ) → k < 16 → slice_index levels.new k ≡ slice_index picture.now.levels k }
 {
     for k in 0..16 {
         levels[k] = level(picture, k as u8);
@@ -67,14 +64,14 @@ pub(crate) fn levels(picture: &Picture, levels: &mut [u8; 16])
 
 fn level(picture: &Picture, k: u8) -> u8
     requires { k < 16 }
-    ensures { result ≡ (standing_of picture.now).level k }
+    ensures { result ≡ slice_index picture.now.levels k }
 {
     picture.screen.level(k)
 }
 
 /// Red, green and blue of the pixels of the screen, row by row.
 pub(crate) fn bytes(picture: &Picture, bytes: &mut [u8; BYTES])
-    ensures { (n : ℕ) → n < 194400 → slice_index bytes.new n ≡ picture_byte (standing_of picture.now) n }
+    ensures { (n : ℕ) → n < 194400 → slice_index bytes.new n ≡ picture_byte picture.now n }
 {
     for i in 0..BYTES {
         bytes[i] = byte(picture, i as u32);
@@ -83,7 +80,7 @@ pub(crate) fn bytes(picture: &Picture, bytes: &mut [u8; BYTES])
 
 fn byte(picture: &Picture, n: u32) -> u8
     requires { n < 194400 }
-    ensures { result ≡ picture_byte (standing_of picture.now) n }
+    ensures { result ≡ picture_byte picture.now n }
 {
     let at = n / 3;
     let shown = colour(picture, pixel(picture, at % 300, at / 300));
@@ -105,15 +102,14 @@ fn part(colour: u16, part: u32) -> u8
 
 /// Carries out the instruction of a pack, whose parity has no part in it.
 pub(crate) fn draw(picture: &mut Picture, pack: &[u8; SYMBOLS])
-    ensures { SameStanding (standing_of picture.new)
-        (standing_after (standing_of picture.old) (instruction_of pack.now ∷ [])) }
+    ensures { picture.new ≡ standing_after picture.old (instruction_of pack.now ∷ []) }
 {
     picture.screen.obey(&read_word(&Word::new(pack)));
 }
 
 /// The number of the border's colour.
 pub(crate) fn border(picture: &Picture) -> u8
-    ensures border { result ≡ (standing_of picture.now).border }
+    ensures border { result ≡ picture.now.border }
     ensures range { result < 16 }
 {
     picture.screen.border()
@@ -121,8 +117,8 @@ pub(crate) fn border(picture: &Picture) -> u8
 
 /// How many pixels further right and further down in the memory the screen begins.
 pub(crate) fn offsets(picture: &Picture) -> (u8, u8)
-    ensures across { result.0 ≡ (standing_of picture.now).h }
-    ensures down { result.1 ≡ (standing_of picture.now).v }
+    ensures across { result.0 ≡ picture.now.h }
+    ensures down { result.1 ≡ picture.now.v }
     ensures ranges { (result.0 ≤ 5) × (result.1 ≤ 11) }
 {
     (picture.screen.offset_h(), picture.screen.offset_v())

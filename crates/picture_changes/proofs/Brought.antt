@@ -9,7 +9,7 @@ use Rattle.cdg_instructions.specs.Instruction.{InRange, IsKnown}
 use Rattle.cdg_instructions.specs.declared.instr.Instr.{Instr}
 use Rattle.cdg_instructions.specs.declared.instr.Instr.TheVariants.{MemoryPreset, BorderPreset, ColoursLow, ColoursHigh, SetTile, XorTile, ScrollPreset, ScrollCopy}
 use Rattle.cdg_instructions.specs.Drawing.{IsOfPlace}
-use Rattle.cdg_screen.specs.Picture.{Standing, standing_after}
+use Rattle.cdg_screen.specs.Picture.{Standing, standing_after, pixel_at}
 use Rattle.picture_script.specs.Script.{Drawing, low_colours, high_colours, picture_border, picture_pixel, picture_tile}
 use Rattle.tile_author.specs.Plan.{are_equal}
 use Rattle.picture_changes.specs.Change.{settings, preset_of, tiles_before, AreTileChanges, window_places, IsChangeFrom, IsOrderedChange}
@@ -129,7 +129,7 @@ shown script k s stands = record {
       let down : y + 12 + s.v ≡ tile_y (place_row (tile_number x y)) (pixel_number x y) = omega (arith, stands.v, xs, ys) in
       let column : 6 * (place_column (tile_number x y) - 1) + pixel_number x y % 6 ≡ x = omega (arith, xs) in
       let row : 12 * (place_row (tile_number x y) - 1) + pixel_number x y / 6 ≡ y = omega (arith, xs, ys) in
-      ap (λ t. cond t (s.memory (x + 6 + s.h) (y + 12 + s.v)) s.border) (in_window x y xs ys) ∙ ap₂ s.memory across down ∙ stands.tiles (tile_number x y) bound (pixel_number x y) small
+      ap (λ t. cond t (pixel_at s.memory (x + 6 + s.h) (y + 12 + s.v)) s.border) (in_window x y xs ys) ∙ ap₂ (pixel_at s.memory) across down ∙ stands.tiles (tile_number x y) bound (pixel_number x y) small
       ∙ tile_pixel script k (place_row (tile_number x y)) (place_column (tile_number x y)) (pixel_number x y) small ∙ ap₂ (picture_pixel script k) column row;
   border = stands.border;
   colours = stands.colours;

@@ -7,7 +7,7 @@ use Rattle.std.proofs.lemmas.List.FromFn.{length-map-range_with_len, get_or-map-
 use Rattle.cdg_instructions.specs.Drawing.{IsOfPlace, drawn, tile_colour, tile_from}
 use Rattle.cdg_instructions.specs.declared.instr.Instr.{Instr}
 use Rattle.cdg_instructions.specs.declared.instr.Instr.TheVariants.{MemoryPreset, SetTile, XorTile, ScrollPreset, ScrollCopy}
-use Rattle.cdg_screen.specs.Picture.{Standing, covers, memory_from}
+use Rattle.cdg_screen.specs.Picture.{covers, memory_from}
 use Rattle.picture_changes.proofs.Tiles.{tile_x, tile_y, HoldsTile}
 use Rattle.picture_changes.specs.Brings.{IsStill}
 use Rattle.picture_changes.proofs.Tests.{by_test, and_both, eq_of, are_eq, covers_here, covers_only}
@@ -36,7 +36,7 @@ tile_since (Some colour) old = replicate 72 colour
 tile_since None old = old
 
 -- the instructions of a place make its tile
-pub own_tile : (start : Standing) (row column : ℕ) (old : List ℕ) (before : List Instr) → row ≤ 17 → column ≤ 49 → AllByRecursion IsStill before → HoldsTile start.memory row column old
+pub own_tile : (start : ℕ → ℕ → ℕ) (row column : ℕ) (old : List ℕ) (before : List Instr) → row ≤ 17 → column ≤ 49 → AllByRecursion IsStill before → HoldsTile start row column old
     → HoldsTile (memory_from start before) row column (tile_from (tile_since (preset_in before) old) (own row column before))
 unfolding tile_from
 own_tile start row column old [] r c all holds p lt = holds p lt

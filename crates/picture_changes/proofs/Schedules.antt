@@ -1,5 +1,5 @@
 -- What stands while the packs of a schedule come.
-use Rattle.std.proofs.Common.{◌≡◌, ℕ, zero, suc, ◌+◌, ◌-◌, ◌<◌, ◌≤◌, inl, inr, List, [], ◌∷◌, length, nat_le, ◌&&◌, true, cond, get_or, take, drop, refl, sym, ap, ap₂, ◌∙◌, subst, arith, length-append, length-drop}
+use Rattle.std.proofs.Common.{◌≡◌, ℕ, zero, suc, ◌+◌, ◌-◌, ◌<◌, ◌≤◌, inl, inr, List, [], ◌∷◌, length, nat_le, ◌&&◌, true, get_or, take, drop, refl, sym, ap, ◌∙◌, subst, arith, length-append, length-drop}
 use Rattle.std.specs.Prelude.{reverse}
 use Rattle.std.specs.List.{AllByRecursion}
 use Rattle.std.proofs.Math.Seq.{take-add}
@@ -12,7 +12,8 @@ use Rattle.rw_code.specs.Codeword.{IsCodeword}
 use Rattle.cdg_instructions.specs.Instruction.{Means, InRange, IsKnown, IsWritten, content_of, message_of, written_symbols}
 use Rattle.cdg_instructions.specs.declared.instr.Instr.{Instr}
 use Rattle.cdg_instructions.specs.declared.instr.Instr.TheVariants.{Idle, ScrollPreset, ScrollCopy}
-use Rattle.cdg_screen.specs.Picture.{Standing, SameStanding, blank, memory_from, border_from, colour_from, level_from, offsets_from, standing_after}
+use Rattle.cdg_screen.specs.Picture.{Standing, blank, offsets_from, standing_after}
+use Rattle.cdg_screen.proofs.Turns.{idle_changes_nothing, whole_after}
 use Rattle.rw_code.specs.Packs.{idle_pack}
 use Rattle.picture_changes.specs.Schedule.{start_of, IsSchedule}
 use Rattle.picture_changes.specs.Brings.{IsBefore, IsChange, IsStill, IsUnmoved}
@@ -43,8 +44,8 @@ in_range (ScrollPreset colour across h down v) still = absurd still
 in_range (ScrollCopy colour across h down v) still = absurd still
 in_range instr still = still
 
-pub offsets_kept : (start : Standing) (before : List Instr) → AllByRecursion IsStill before → ((offsets_from start before).0 ≡ start.h) × ((offsets_from start before).1 ≡ start.v)
-offsets_kept start [] all = (refl, refl)
+pub offsets_kept : (start : ℕ × ℕ) (before : List Instr) → AllByRecursion IsStill before → offsets_from start before ≡ start
+offsets_kept start [] all = refl
 offsets_kept start (ScrollPreset a b h d v ∷ before) all = absurd all.0
 offsets_kept start (ScrollCopy a b h d v ∷ before) all = absurd all.0
 offsets_kept start (instr ∷ before) all = offsets_kept start before all.1
@@ -58,31 +59,12 @@ changed : (script : List Drawing) (k : ℕ) (now : Standing) (instrs : List Inst
 changed script k now instrs change before =
     let brings = change.brings now before in
     let unmoved = before_unmoved script k now before in
-    let kept = offsets_kept now (reverse instrs) (each_reverse IsStill instrs (recursion_from_All IsStill instrs brings.still)) in
-    (brings.shows, (kept.0 ∙ unmoved.0, kept.1 ∙ unmoved.1))
+    let kept = offsets_kept (now.h, now.v) (reverse instrs) (each_reverse IsStill instrs (recursion_from_All IsStill instrs brings.still)) in
+    (brings.shows, (ap (λ (o : ℕ × ℕ). o.0) kept ∙ unmoved.0, ap (λ (o : ℕ × ℕ). o.1) kept ∙ unmoved.1))
 
 pub in_window : (x y : ℕ) → x < 288 → y < 192 → (nat_le 6 (x + 6) && nat_le (x + 6) 293 && nat_le 12 (y + 12) && nat_le (y + 12) 203) ≡ true
 in_window x y xs ys =
     and_four (nat_le 6 (x + 6)) (nat_le (x + 6) 293) (nat_le 12 (y + 12)) (nat_le (y + 12) 203) (is_le 6 (x + 6) (omega arith)) (is_le (x + 6) 293 (omega (arith, xs))) (is_le 12 (y + 12) (omega arith)) (is_le (y + 12) 203 (omega (arith, ys)))
-
--- where the same stands, the same is shown
-shown_same : (script : List Drawing) (k : ℕ) (s s' : Standing) → SameStanding s' s → IsBefore script (suc k) s → IsBefore script (suc k) s'
-shown_same script k s s' same (shows, unmoved) =
-    let moved : IsUnmoved s' = (same.h ∙ unmoved.0, same.v ∙ unmoved.1) in (
-      record {
-        pixels = λ x y xs ys.
-            let across : x + 6 + s'.h ≡ x + 6 + s.h = omega (arith, same.h) in
-            let down : y + 12 + s'.v ≡ y + 12 + s.v = omega (arith, same.v) in
-            ap (λ t. cond t (s'.memory (x + 6 + s'.h) (y + 12 + s'.v)) s'.border) (in_window x y xs ys)
-            ∙ ap₂ s'.memory across down
-            ∙ same.memory (x + 6 + s.h) (y + 12 + s.v) (omega (arith, xs, unmoved.0)) (omega (arith, ys, unmoved.1))
-            ∙ sym (ap (λ t. cond t (s.memory (x + 6 + s.h) (y + 12 + s.v)) s.border) (in_window x y xs ys))
-            ∙ shows.pixels x y xs ys;
-        border = same.border ∙ shows.border;
-        colours = λ n lt. same.colour n lt ∙ shows.colours n lt;
-      },
-      moved,
-    )
 
 -- ---- packs by their numbers
 
@@ -102,25 +84,6 @@ means_each (pack ∷ packs) [] meant = absurd meant
 means_each (pack ∷ packs) (instr ∷ instrs) meant =
     let rest = means_each packs instrs meant.1 in
     record { count = omega (arith, rest.count); each = means_cons pack packs instr instrs meant.0 rest.each }
-
--- ---- idle instructions
-
-idle_kept : (start : Standing) (before : List Instr) → AllByRecursion (λ (i : Instr). i ≡ Idle) before
-    → SameStanding (record { memory = memory_from start before; border = border_from start before; colour = colour_from start before; level = level_from start before; h = (offsets_from start before).0; v = (offsets_from start before).1 }) start
-idle_kept start [] all = record { memory = λ x y xs ys. refl; border = refl; colour = λ k lt. refl; level = λ k lt. refl; h = refl; v = refl }
-idle_kept start (instr ∷ before) all =
-    subst (λ (i : Instr). SameStanding (record { memory = memory_from start (i ∷ before); border = border_from start (i ∷ before); colour = colour_from start (i ∷ before); level = level_from start (i ∷ before); h = (offsets_from start (i ∷ before)).0; v = (offsets_from start (i ∷ before)).1 }) start)
-    (sym all.0) (idle_kept start before all.1)
-
-same_trans : (a b c : Standing) → SameStanding a b → SameStanding b c → SameStanding a c
-same_trans a b c one two = record {
-  memory = λ x y xs ys. one.memory x y xs ys ∙ two.memory x y xs ys;
-  border = one.border ∙ two.border;
-  colour = λ k lt. one.colour k lt ∙ two.colour k lt;
-  level = λ k lt. one.level k lt ∙ two.level k lt;
-  h = one.h ∙ two.h;
-  v = one.v ∙ two.v;
-}
 
 -- ---- times in order
 
@@ -146,8 +109,8 @@ module _ (in_turn : InTurn) (one_meaning : OneMeaning) (read_back : ReadAsWritte
   meant_at : (n : ℕ) → n < many → Means (get_or packs n []) (get_or instrs n Idle)
   meant_at n lt = subst (λ (w : List ℕ). Means w (get_or instrs n Idle)) (get_or-take many packs n [] lt) (means.each n (omega (arith, lt, length-take-le many packs some)))
 
-  grows : (a n : ℕ) → SameStanding (after (a + n)) (standing_after (after a) (take n (drop a instrs)))
-  grows a n = subst (λ (is : List Instr). SameStanding (standing_after blank is) (standing_after (after a) (take n (drop a instrs)))) (sym (take-add a n instrs)) (in_turn blank (take a instrs) (take n (drop a instrs)))
+  grows : (a n : ℕ) → after (a + n) ≡ standing_after (after a) (take n (drop a instrs))
+  grows a n = subst (λ (is : List Instr). standing_after blank is ≡ standing_after (after a) (take n (drop a instrs))) (sym (take-add a n instrs)) (in_turn blank (take a instrs) (take n (drop a instrs)))
 
   segment : (a n : ℕ) → a + n ≤ many → length (take n (drop a instrs)) ≡ n
   segment a n fits = length-take-le n (drop a instrs) (omega (arith, length-drop a instrs, total, fits))
@@ -155,12 +118,11 @@ module _ (in_turn : InTurn) (one_meaning : OneMeaning) (read_back : ReadAsWritte
   segment_at : (a n i : ℕ) → i < n → get_or (take n (drop a instrs)) i Idle ≡ get_or instrs (a + i) Idle
   segment_at a n i lt = get_or-take n (drop a instrs) i Idle lt ∙ get_or-drop a instrs i Idle
 
-  idle_segment : (a n : ℕ) → a + n ≤ many → ((i : ℕ) → a ≤ i → i < a + n → get_or instrs i Idle ≡ Idle) → SameStanding (after (a + n)) (after a)
+  idle_segment : (a n : ℕ) → a + n ≤ many → ((i : ℕ) → a ≤ i → i < a + n → get_or instrs i Idle ≡ Idle) → after (a + n) ≡ after a
   idle_segment a n fits idle =
       let list : List Instr = take n (drop a instrs) in
       let all = All-from_get_or (λ (i : Instr). i ≡ Idle) (take n (drop a instrs)) Idle (λ i lt. let small : i < n = omega (arith, lt, segment a n fits) in segment_at a n i small ∙ idle (a + i) (omega arith) (omega (arith, small))) in
-      let each = each_reverse (λ (i : Instr). i ≡ Idle) (take n (drop a instrs)) (recursion_from_All (λ (i : Instr). i ≡ Idle) (take n (drop a instrs)) all) in
-      same_trans (after (a + n)) (standing_after (after a) (take n (drop a instrs))) (after a) (grows a n) (idle_kept (after a) (reverse (take n (drop a instrs))) each)
+      grows a n ∙ idle_changes_nothing (after a) (take n (drop a instrs)) (recursion_from_All (λ (i : Instr). i ≡ Idle) (take n (drop a instrs)) all) ∙ whole_after blank (take a instrs)
 
   change_segment : (k : ℕ) → k < pictures script → IsBefore script k (after (start_of script k)) → start_of script k + length (change_of k) ≤ many
       → take (length (change_of k)) (drop (start_of script k) instrs) ≡ change_of k
@@ -202,11 +164,11 @@ module _ (in_turn : InTurn) (one_meaning : OneMeaning) (read_back : ReadAsWritte
   from_ready : (k : ℕ) → k < pictures script → IsBefore script k (after (start_of script k)) → (m : ℕ) → start_of script k + length (change_of k) ≤ m → m ≤ whole_packs (hold_time script k) → m ≤ many → IsBefore script (suc k) (after m)
   from_ready k picture ready m from to fits =
       let stands = changed script k (after (start_of script k)) (change_of k) (schedule.change k picture) ready in
-      let whole = subst (λ (is : List Instr). SameStanding (after (start_of script k + length (change_of k))) (standing_after (after (start_of script k)) is)) (change_segment k picture ready (omega (arith, from, fits))) (grows (start_of script k) (length (change_of k))) in
-      let base : IsBefore script (suc k) (after (start_of script k + length (change_of k))) = shown_same script k _ _ whole stands in
+      let whole = subst (λ (is : List Instr). after (start_of script k + length (change_of k)) ≡ standing_after (after (start_of script k)) is) (change_segment k picture ready (omega (arith, from, fits))) (grows (start_of script k) (length (change_of k))) in
+      let base : IsBefore script (suc k) (after (start_of script k + length (change_of k))) = subst (IsBefore script (suc k)) (sym whole) stands in
       let sum : start_of script k + length (change_of k) + (m - (start_of script k + length (change_of k))) ≡ m = omega (arith, from) in
       let idle = idle_segment (start_of script k + length (change_of k)) (m - (start_of script k + length (change_of k))) (omega (arith, sum, fits)) (λ i i_from i_to. idle_at k i picture i_from (omega (arith, i_to, sum, to)) (omega (arith, i_to, sum, fits))) in
-      subst (λ j. IsBefore script (suc k) (after j)) sum (shown_same script k _ _ idle base)
+      subst (λ j. IsBefore script (suc k) (after j)) sum (subst (IsBefore script (suc k)) (sym idle) base)
 
   pub stands_at : (k : ℕ) → k < pictures script → (m : ℕ) → start_of script k + length (change_of k) ≤ m → m ≤ whole_packs (hold_time script k) → m ≤ many → IsBefore script (suc k) (after m)
   stands_at zero picture m from to fits = from_ready 0 picture (refl, refl) m from to fits

@@ -8,7 +8,9 @@ use Rattle.tile_author.specs.Plan.{are_equal, delta}
 use Rattle.picture_script.specs.Script.{Drawing, picture_border, picture_colour, low_colours, high_colours}
 use Rattle.cdg_instructions.specs.declared.instr.Instr.{Instr}
 use Rattle.cdg_instructions.specs.declared.instr.Instr.TheVariants.{BorderPreset, ColoursLow, ColoursHigh}
-use Rattle.cdg_screen.specs.Picture.{Standing, standing_after}
+use Rattle.std.specs.Prelude.{slice_index}
+use Rattle.cdg_screen.specs.Picture.{Standing, standing_after, pixel_at, sixteen, colour_from}
+use Rattle.cdg_screen.proofs.Lists.{pixel_of_rows, number_of_sixteen}
 use Rattle.picture_changes.specs.Change.{settings}
 use Rattle.picture_changes.proofs.Tiles.{InTurn}
 
@@ -41,24 +43,27 @@ equal_at old new e p lt = xor_none (get_or old p 0) (get_or new p 0) (all_zero (
 
 -- the memory and the offsets stay
 pub record KeepsPlace (s s' : Standing) : Type 0 where
-  pub memory : (x y : ℕ) → x < 300 → y < 216 → s'.memory x y ≡ s.memory x y
+  pub memory : (x y : ℕ) → x < 300 → y < 216 → pixel_at s'.memory x y ≡ pixel_at s.memory x y
   pub h : s'.h ≡ s.h
   pub v : s'.v ≡ s.v
+
+numbers_kept : (numbers : List ℕ) (n : ℕ) → n < 16 → slice_index (sixteen (slice_index numbers)) n ≡ slice_index numbers n
+numbers_kept numbers n lt = number_of_sixteen (slice_index numbers) n lt
 
 record StepsBorder (s s' : Standing) (border : ℕ) : Type 0 where
   place : KeepsPlace s s'
   border_is : s'.border ≡ border
-  colour_is : (n : ℕ) → n < 16 → s'.colour n ≡ s.colour n
+  colour_is : (n : ℕ) → n < 16 → slice_index s'.colours n ≡ slice_index s.colours n
 
 border_step : (s : Standing) (skips : Bool) (border : ℕ) → (skips ≡ true → s.border ≡ border) → StepsBorder s (standing_after s (cond skips [] (BorderPreset border ∷ []))) border
-border_step s true border stands = record { place = record { memory = λ x y xs ys. refl; h = refl; v = refl }; border_is = stands refl; colour_is = λ n lt. refl }
-border_step s false border stands = record { place = record { memory = λ x y xs ys. refl; h = refl; v = refl }; border_is = refl; colour_is = λ n lt. refl }
+border_step s true border stands = record { place = record { memory = λ x y xs ys. pixel_of_rows (pixel_at s.memory) x y xs ys; h = refl; v = refl }; border_is = stands refl; colour_is = numbers_kept s.colours }
+border_step s false border stands = record { place = record { memory = λ x y xs ys. pixel_of_rows (pixel_at s.memory) x y xs ys; h = refl; v = refl }; border_is = refl; colour_is = numbers_kept s.colours }
 
 record StepsColours (s s' : Standing) (low : Bool) (colours : List ℕ) : Type 0 where
   place : KeepsPlace s s'
   border_is : s'.border ≡ s.border
-  colour_is : (n : ℕ) → n < 8 → s'.colour (cond low n (8 + n)) ≡ get_or colours n 0
-  others : (n : ℕ) → n < 8 → s'.colour (cond low (8 + n) n) ≡ s.colour (cond low (8 + n) n)
+  colour_is : (n : ℕ) → n < 8 → slice_index s'.colours (cond low n (8 + n)) ≡ get_or colours n 0
+  others : (n : ℕ) → n < 8 → slice_index s'.colours (cond low (8 + n) n) ≡ slice_index s.colours (cond low (8 + n) n)
 
 is_low : (n : ℕ) → n < 8 → nat_lt n 8 ≡ true
 is_low n lt = elim (leb_tells (suc n) 8) [ inl tells ↦ tells.0 | inr tells ↦ absurd (omega (arith, lt, tells.1)) ]
@@ -66,22 +71,32 @@ is_low n lt = elim (leb_tells (suc n) 8) [ inl tells ↦ tells.0 | inr tells ↦
 is_high : (n : ℕ) → nat_lt (8 + n) 8 ≡ false
 is_high n = elim (leb_tells (suc (8 + n)) 8) [ inl tells ↦ absurd (omega (arith, tells.1)) | inr tells ↦ tells.0 ]
 
-low_step : (s : Standing) (skips : Bool) (colours : List ℕ) → (skips ≡ true → (n : ℕ) → n < 8 → s.colour n ≡ get_or colours n 0) → StepsColours s (standing_after s (cond skips [] (ColoursLow colours ∷ []))) true colours
-low_step s true colours stands = record { place = record { memory = λ x y xs ys. refl; h = refl; v = refl }; border_is = refl; colour_is = stands refl; others = λ n lt. refl }
-low_step s false colours stands = record {
-  place = record { memory = λ x y xs ys. refl; h = refl; v = refl };
+low_step : (s : Standing) (skips : Bool) (colours : List ℕ) → (skips ≡ true → (n : ℕ) → n < 8 → slice_index s.colours n ≡ get_or colours n 0) → StepsColours s (standing_after s (cond skips [] (ColoursLow colours ∷ []))) true colours
+low_step s true colours stands = record {
+  place = record { memory = λ x y xs ys. pixel_of_rows (pixel_at s.memory) x y xs ys; h = refl; v = refl };
   border_is = refl;
-  colour_is = λ n lt. ap (λ t. cond t (get_or colours n 0) (s.colour n)) (is_low n lt);
-  others = λ n lt. ap (λ t. cond t (get_or colours (8 + n) 0) (s.colour (8 + n))) (is_high n);
+  colour_is = λ n lt. numbers_kept s.colours n (omega (arith, lt)) ∙ stands refl n lt;
+  others = λ n lt. numbers_kept s.colours (8 + n) (omega (arith, lt));
+}
+low_step s false colours stands = record {
+  place = record { memory = λ x y xs ys. pixel_of_rows (pixel_at s.memory) x y xs ys; h = refl; v = refl };
+  border_is = refl;
+  colour_is = λ n lt. number_of_sixteen (colour_from (slice_index s.colours) (ColoursLow colours ∷ [])) n (omega (arith, lt)) ∙ ap (λ t. cond t (get_or colours n 0) (slice_index s.colours n)) (is_low n lt);
+  others = λ n lt. number_of_sixteen (colour_from (slice_index s.colours) (ColoursLow colours ∷ [])) (8 + n) (omega (arith, lt)) ∙ ap (λ t. cond t (get_or colours (8 + n) 0) (slice_index s.colours (8 + n))) (is_high n);
 }
 
-high_step : (s : Standing) (skips : Bool) (colours : List ℕ) → (skips ≡ true → (n : ℕ) → n < 8 → s.colour (8 + n) ≡ get_or colours n 0) → StepsColours s (standing_after s (cond skips [] (ColoursHigh colours ∷ []))) false colours
-high_step s true colours stands = record { place = record { memory = λ x y xs ys. refl; h = refl; v = refl }; border_is = refl; colour_is = stands refl; others = λ n lt. refl }
-high_step s false colours stands = record {
-  place = record { memory = λ x y xs ys. refl; h = refl; v = refl };
+high_step : (s : Standing) (skips : Bool) (colours : List ℕ) → (skips ≡ true → (n : ℕ) → n < 8 → slice_index s.colours (8 + n) ≡ get_or colours n 0) → StepsColours s (standing_after s (cond skips [] (ColoursHigh colours ∷ []))) false colours
+high_step s true colours stands = record {
+  place = record { memory = λ x y xs ys. pixel_of_rows (pixel_at s.memory) x y xs ys; h = refl; v = refl };
   border_is = refl;
-  colour_is = λ n lt. let first : 8 + n - 8 ≡ n = omega arith in ap (λ t. cond t (s.colour (8 + n)) (get_or colours (8 + n - 8) 0)) (is_high n) ∙ ap (λ k. get_or colours k 0) first;
-  others = λ n lt. ap (λ t. cond t (s.colour n) (get_or colours (n - 8) 0)) (is_low n lt);
+  colour_is = λ n lt. numbers_kept s.colours (8 + n) (omega (arith, lt)) ∙ stands refl n lt;
+  others = λ n lt. numbers_kept s.colours n (omega (arith, lt));
+}
+high_step s false colours stands = record {
+  place = record { memory = λ x y xs ys. pixel_of_rows (pixel_at s.memory) x y xs ys; h = refl; v = refl };
+  border_is = refl;
+  colour_is = λ n lt. let first : 8 + n - 8 ≡ n = omega arith in number_of_sixteen (colour_from (slice_index s.colours) (ColoursHigh colours ∷ [])) (8 + n) (omega (arith, lt)) ∙ ap (λ t. cond t (slice_index s.colours (8 + n)) (get_or colours (8 + n - 8) 0)) (is_high n) ∙ ap (λ k. get_or colours k 0) first;
+  others = λ n lt. number_of_sixteen (colour_from (slice_index s.colours) (ColoursHigh colours ∷ [])) n (omega (arith, lt)) ∙ ap (λ t. cond t (slice_index s.colours n) (get_or colours (n - 8) 0)) (is_low n lt);
 }
 
 -- ---- all settings of a picture
@@ -89,10 +104,10 @@ high_step s false colours stands = record {
 pub record IsSet (s s' : Standing) (border : ℕ) (colour : ℕ → ℕ) : Type 0 where
   pub place : KeepsPlace s s'
   pub border_is : s'.border ≡ border
-  pub colour_is : (n : ℕ) → n < 16 → s'.colour n ≡ colour n
+  pub colour_is : (n : ℕ) → n < 16 → slice_index s'.colours n ≡ colour n
 
 module _ (in_turn : InTurn) (s : Standing) (border : ℕ) (low high : List ℕ) (colour : ℕ → ℕ) (same_border same_low same_high : Bool)
-    (border_stands : same_border ≡ true → s.border ≡ border) (low_stands : same_low ≡ true → (n : ℕ) → n < 8 → s.colour n ≡ get_or low n 0) (high_stands : same_high ≡ true → (n : ℕ) → n < 8 → s.colour (8 + n) ≡ get_or high n 0)
+    (border_stands : same_border ≡ true → s.border ≡ border) (low_stands : same_low ≡ true → (n : ℕ) → n < 8 → slice_index s.colours n ≡ get_or low n 0) (high_stands : same_high ≡ true → (n : ℕ) → n < 8 → slice_index s.colours (8 + n) ≡ get_or high n 0)
     (lows : (n : ℕ) → n < 8 → get_or low n 0 ≡ colour n) (highs : (n : ℕ) → n < 8 → get_or high n 0 ≡ colour (8 + n)) where
   abbrev borders : List Instr
   borders = cond same_border [] (BorderPreset border ∷ [])
@@ -109,19 +124,19 @@ module _ (in_turn : InTurn) (s : Standing) (border : ℕ) (low high : List ℕ) 
       let second = low_step (standing_after s borders) same_low low (λ e n lt. first.colour_is n (omega (arith, lt)) ∙ low_stands e n lt) in
       let inner = in_turn s borders low_table in
       let outer = in_turn s (borders ++ low_table) high_table in
-      let third = high_step (standing_after s (borders ++ low_table)) same_high high (λ e n lt. inner.colour (8 + n) (omega (arith, lt)) ∙ second.others n lt ∙ first.colour_is (8 + n) (omega (arith, lt)) ∙ high_stands e n lt) in
+      let third = high_step (standing_after s (borders ++ low_table)) same_high high (λ e n lt. ap (λ (now : Standing). slice_index now.colours (8 + n)) inner ∙ second.others n lt ∙ first.colour_is (8 + n) (omega (arith, lt)) ∙ high_stands e n lt) in
       record {
         place = record {
-          memory = λ x y xs ys. outer.memory x y xs ys ∙ third.place.memory x y xs ys ∙ inner.memory x y xs ys ∙ second.place.memory x y xs ys ∙ first.place.memory x y xs ys;
-          h = outer.h ∙ third.place.h ∙ inner.h ∙ second.place.h ∙ first.place.h;
-          v = outer.v ∙ third.place.v ∙ inner.v ∙ second.place.v ∙ first.place.v;
+          memory = λ x y xs ys. ap (λ (now : Standing). pixel_at now.memory x y) outer ∙ third.place.memory x y xs ys ∙ ap (λ (now : Standing). pixel_at now.memory x y) inner ∙ second.place.memory x y xs ys ∙ first.place.memory x y xs ys;
+          h = ap (λ (now : Standing). now.h) outer ∙ third.place.h ∙ ap (λ (now : Standing). now.h) inner ∙ second.place.h ∙ first.place.h;
+          v = ap (λ (now : Standing). now.v) outer ∙ third.place.v ∙ ap (λ (now : Standing). now.v) inner ∙ second.place.v ∙ first.place.v;
         };
-        border_is = outer.border ∙ third.border_is ∙ inner.border ∙ second.border_is ∙ first.border_is;
-        colour_is = λ n lt. outer.colour n lt ∙ elim (leb_tells 8 n) [
+        border_is = ap (λ (now : Standing). now.border) outer ∙ third.border_is ∙ ap (λ (now : Standing). now.border) inner ∙ second.border_is ∙ first.border_is;
+        colour_is = λ n lt. ap (λ (now : Standing). slice_index now.colours n) outer ∙ elim (leb_tells 8 n) [
           | inl high_one ↦
               let is : 8 + (n - 8) ≡ n = omega (arith, high_one.1) in
-              ap (standing_after (standing_after s (borders ++ low_table)) high_table).colour (sym is) ∙ third.colour_is (n - 8) (omega (arith, lt)) ∙ highs (n - 8) (omega (arith, lt)) ∙ ap colour is
-          | inr low_one ↦ third.others n low_one.1 ∙ inner.colour n lt ∙ second.colour_is n low_one.1 ∙ lows n low_one.1
+              ap (slice_index (standing_after (standing_after s (borders ++ low_table)) high_table).colours) (sym is) ∙ third.colour_is (n - 8) (omega (arith, lt)) ∙ highs (n - 8) (omega (arith, lt)) ∙ ap colour is
+          | inr low_one ↦ third.others n low_one.1 ∙ ap (λ (now : Standing). slice_index now.colours n) inner ∙ second.colour_is n low_one.1 ∙ lows n low_one.1
         ];
       }
 
@@ -137,7 +152,7 @@ pub first_settings : InTurn → (script : List Drawing) (s : Standing) → IsSet
 first_settings in_turn script s =
     all_set in_turn s (picture_border script 0) (low_colours script 0) (high_colours script 0) (picture_colour script 0) false false false (λ e. absurd (cc)) (λ e. absurd (cc)) (λ e. absurd (cc)) (lows_are script 0) (highs_are script 0)
 
-pub later_settings : InTurn → (script : List Drawing) (k : ℕ) (s : Standing) → s.border ≡ picture_border script k → ((n : ℕ) → n < 16 → s.colour n ≡ picture_colour script k n)
+pub later_settings : InTurn → (script : List Drawing) (k : ℕ) (s : Standing) → s.border ≡ picture_border script k → ((n : ℕ) → n < 16 → slice_index s.colours n ≡ picture_colour script k n)
     → IsSet s (standing_after s (settings script (suc k))) (picture_border script (suc k)) (picture_colour script (suc k))
 later_settings in_turn script k s border colours =
     all_set in_turn s (picture_border script (suc k)) (low_colours script (suc k)) (high_colours script (suc k)) (picture_colour script (suc k))

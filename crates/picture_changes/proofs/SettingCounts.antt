@@ -10,7 +10,9 @@ use Rattle.bit_lists.specs.Counting.{below}
 use Rattle.tile_author.specs.Plan.{are_equal, delta}
 use Rattle.cdg_instructions.specs.declared.instr.Instr.{Instr}
 use Rattle.cdg_instructions.specs.declared.instr.Instr.TheVariants.{BorderPreset, ColoursLow, ColoursHigh}
+use Rattle.std.specs.Prelude.{slice_index}
 use Rattle.cdg_screen.specs.Picture.{Standing, border_from, colour_from}
+use Rattle.cdg_screen.proofs.Lists.{number_of_sixteen}
 use Rattle.picture_script.specs.Script.{Drawing, picture_border, picture_colour, low_colours, high_colours}
 use Rattle.picture_changes.specs.Change.{settings}
 use Rattle.picture_changes.specs.Brings.{IsBefore, Brings, sets_border, sets_low, sets_high}
@@ -19,19 +21,19 @@ use Rattle.picture_changes.proofs.Counted.{count-reverse, counted}
 
 -- ---- what no instruction sets stays
 
-border_kept : (start : Standing) (before : List Instr) → count_by sets_border before ≡ 0 → border_from start before ≡ start.border
+border_kept : (start : ℕ) (before : List Instr) → count_by sets_border before ≡ 0 → border_from start before ≡ start
 border_kept start [] none = refl
 border_kept start (BorderPreset colour ∷ before) none = absurd (omega (arith, none, counted sets_border (BorderPreset colour) before))
 border_kept start (instr ∷ before) none = border_kept start before (omega (arith, none, counted sets_border instr before))
 
-low_kept : (start : Standing) (before : List Instr) (n : ℕ) → n < 8 → count_by sets_low before ≡ 0 → colour_from start before n ≡ start.colour n
+low_kept : (start : ℕ → ℕ) (before : List Instr) (n : ℕ) → n < 8 → count_by sets_low before ≡ 0 → colour_from start before n ≡ start n
 low_kept start [] n lt none = refl
 low_kept start (ColoursLow colours ∷ before) n lt none = absurd (omega (arith, none, counted sets_low (ColoursLow colours) before))
 low_kept start (ColoursHigh colours ∷ before) n lt none =
     ap (λ t. cond t (colour_from start before n) (get_or colours (n - 8) 0)) (is_low n lt) ∙ low_kept start before n lt (omega (arith, none, counted sets_low (ColoursHigh colours) before))
 low_kept start (instr ∷ before) n lt none = low_kept start before n lt (omega (arith, none, counted sets_low instr before))
 
-high_kept : (start : Standing) (before : List Instr) (n : ℕ) → count_by sets_high before ≡ 0 → colour_from start before (8 + n) ≡ start.colour (8 + n)
+high_kept : (start : ℕ → ℕ) (before : List Instr) (n : ℕ) → count_by sets_high before ≡ 0 → colour_from start before (8 + n) ≡ start (8 + n)
 high_kept start [] n none = refl
 high_kept start (ColoursHigh colours ∷ before) n none = absurd (omega (arith, none, counted sets_high (ColoursHigh colours) before))
 high_kept start (ColoursLow colours ∷ before) n none =
@@ -85,8 +87,8 @@ settings_needed script (suc k) now instrs is brings =
     let new = brings.shows in
     three_few _ _ _ (count_by sets_border before) (count_by sets_low before) (count_by sets_high before)
     (skip_few (picture_border script k == picture_border script (suc k)) (count_by sets_border before) (BorderPreset (picture_border script (suc k)))
-    (λ none. is_eq (picture_border script k) (picture_border script (suc k)) (sym old.border ∙ sym (border_kept now before none) ∙ new.border)))
+    (λ none. is_eq (picture_border script k) (picture_border script (suc k)) (sym old.border ∙ sym (border_kept now.border before none) ∙ new.border)))
     (skip_few (are_equal (low_colours script k) (low_colours script (suc k))) (count_by sets_low before) (ColoursLow (low_colours script (suc k)))
-    (λ none. lows_equal script k (suc k) (λ n lt. sym (old.colours n (omega (arith, lt))) ∙ sym (low_kept now before n lt none) ∙ new.colours n (omega (arith, lt)))))
+    (λ none. lows_equal script k (suc k) (λ n lt. sym (old.colours n (omega (arith, lt))) ∙ sym (low_kept (slice_index now.colours) before n lt none) ∙ sym (number_of_sixteen (colour_from (slice_index now.colours) before) n (omega (arith, lt))) ∙ new.colours n (omega (arith, lt)))))
     (skip_few (are_equal (high_colours script k) (high_colours script (suc k))) (count_by sets_high before) (ColoursHigh (high_colours script (suc k)))
-    (λ none. highs_equal script k (suc k) (λ n lt. sym (old.colours (8 + n) (omega (arith, lt))) ∙ sym (high_kept now before n none) ∙ new.colours (8 + n) (omega (arith, lt)))))
+    (λ none. highs_equal script k (suc k) (λ n lt. sym (old.colours (8 + n) (omega (arith, lt))) ∙ sym (high_kept (slice_index now.colours) before n none) ∙ sym (number_of_sixteen (colour_from (slice_index now.colours) before) (8 + n) (omega (arith, lt))) ∙ new.colours (8 + n) (omega (arith, lt)))))

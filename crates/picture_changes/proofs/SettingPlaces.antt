@@ -10,7 +10,8 @@ use Rattle.bit_lists.specs.Counting.{below}
 use Rattle.cdg_instructions.specs.Instruction.{IsTilePixels}
 use Rattle.cdg_instructions.specs.Drawing.{IsOfPlace, tile_from}
 use Rattle.cdg_instructions.specs.declared.instr.Instr.{Instr}
-use Rattle.cdg_screen.specs.Picture.{Standing, memory_from, standing_after}
+use Rattle.cdg_screen.specs.Picture.{Standing, memory_from, standing_after, pixel_at}
+use Rattle.cdg_screen.proofs.Lists.{pixel_of_rows}
 use Rattle.tile_author.specs.Plan.{steps}
 use Rattle.picture_script.specs.Script.{Drawing, picture_pixel, picture_tile}
 use Rattle.picture_changes.specs.Change.{window_places, tiles_before, IsStart}
@@ -30,7 +31,7 @@ pub tile_pixel : (script : List Drawing) (k row column p : ℕ) → p < 72 → g
 unfolding picture_tile
 tile_pixel script k row column p lt = get_or-map-range_with_len (λ p. picture_pixel script k (6 * (column - 1) + p % 6) (12 * (row - 1) + p / 6)) 0 72 p p 0 lt (omega arith)
 
-pub tile_shown : (script : List Drawing) (k : ℕ) (now : Standing) → ShowsPicture script k now → IsUnmoved now → (i : ℕ) → i < 768 → HoldsTile now.memory (place_row i) (place_column i) (picture_tile script k (place_row i) (place_column i))
+pub tile_shown : (script : List Drawing) (k : ℕ) (now : Standing) → ShowsPicture script k now → IsUnmoved now → (i : ℕ) → i < 768 → HoldsTile (pixel_at now.memory) (place_row i) (place_column i) (picture_tile script k (place_row i) (place_column i))
 tile_shown script k now shows unmoved i bound p lt =
     let x : ℕ = 6 * (place_column i - 1) + p % 6 in
     let y : ℕ = 12 * (place_row i - 1) + p / 6 in
@@ -38,7 +39,7 @@ tile_shown script k now shows unmoved i bound p lt =
     let ys : 12 * (place_row i - 1) + p / 6 < 192 = omega (arith, bound, lt) in
     let across : tile_x (place_column i) p ≡ 6 * (place_column i - 1) + p % 6 + 6 + now.h = omega (arith, unmoved.0) in
     let down : tile_y (place_row i) p ≡ 12 * (place_row i - 1) + p / 6 + 12 + now.v = omega (arith, unmoved.1) in
-    ap₂ now.memory across down ∙ sym (ap (λ t. cond t (now.memory (x + 6 + now.h) (y + 12 + now.v)) now.border) (in_window x y xs ys))
+    ap₂ (pixel_at now.memory) across down ∙ sym (ap (λ t. cond t (pixel_at now.memory (x + 6 + now.h) (y + 12 + now.v)) now.border) (in_window x y xs ys))
     ∙ shows.pixels x y xs ys ∙ sym (tile_pixel script k (place_row i) (place_column i) p lt)
 
 -- ---- one place
@@ -74,11 +75,11 @@ module _ (plans : PlansAreShortest) (script : List Drawing) (k : ℕ) (small : (
 
   unmoved_after : IsUnmoved (standing_after now instrs)
   unmoved_after =
-      let kept = offsets_kept now (reverse instrs) still in
-      let first = unmoved_before k is in (kept.0 ∙ first.0, kept.1 ∙ first.1)
+      let kept = offsets_kept (now.h, now.v) (reverse instrs) still in
+      let first = unmoved_before k is in (ap (λ (o : ℕ × ℕ). o.0) kept ∙ first.0, ap (λ (o : ℕ × ℕ). o.1) kept ∙ first.1)
 
   -- a place with the tile that stood since all memory was set last
-  at_place : (i : ℕ) (old base : List ℕ) → i < 768 → HoldsTile now.memory (place_row i) (place_column i) old → tile_since (preset_in (reverse instrs)) old ≡ base → IsTilePixels base
+  at_place : (i : ℕ) (old base : List ℕ) → i < 768 → HoldsTile (pixel_at now.memory) (place_row i) (place_column i) old → tile_since (preset_in (reverse instrs)) old ≡ base → IsTilePixels base
       → steps base (picture_tile script k (place_row i) (place_column i)) ≤ length (own (place_row i) (place_column i) (reverse instrs))
   at_place i old base bound holds since base_is =
       let row : ℕ = place_row i in
@@ -88,26 +89,26 @@ module _ (plans : PlansAreShortest) (script : List Drawing) (k : ℕ) (small : (
       let c : place_column i ≤ 49 = omega arith in
       let rs : List Instr = own row column (reverse instrs) in
       let placed = own_placed (place_row i) (place_column i) (reverse instrs) still in
-      let made : HoldsTile (memory_from now (reverse instrs)) (place_row i) (place_column i) (tile_from base rs) =
-      subst (λ b. HoldsTile (memory_from now (reverse instrs)) row column (tile_from b rs)) since (own_tile now (place_row i) (place_column i) old (reverse instrs) r c still holds) in
+      let made : HoldsTile (memory_from (pixel_at now.memory) (reverse instrs)) (place_row i) (place_column i) (tile_from base rs) =
+      subst (λ b. HoldsTile (memory_from (pixel_at now.memory) (reverse instrs)) row column (tile_from b rs)) since (own_tile (pixel_at now.memory) (place_row i) (place_column i) old (reverse instrs) r c still holds) in
       let new_is = picture_is_tile script k (place_row i) (place_column i) small in
       let size = length-tile_from (place_row i) (place_column i) base rs placed base_is.count in
       let shown = tile_shown script k (standing_after now instrs) brings.shows unmoved_after i bound in
       let makes : tile_from base rs ≡ new = ext_get_or 0 (tile_from base rs) new (size ∙ sym new_is.count) (λ p lt.
       let inside : p < 72 = omega (arith, lt, size) in
-      sym (made p inside) ∙ shown p inside) in
+      sym (made p inside) ∙ sym (pixel_of_rows (memory_from (pixel_at now.memory) (reverse instrs)) (tile_x (place_column i) p) (tile_y (place_row i) p) (omega arith) (omega (arith, bound, inside))) ∙ shown p inside) in
       needed plans (place_row i) (place_column i) base new rs (omega (arith, r)) (omega (arith, c)) base_is new_is placed makes
 
   by_start : (j : ℕ) (start : Option ℕ) → j ≡ k → IsBefore script j now → preset_in (reverse instrs) ≡ start → IsStart j start → (i : ℕ) → i < 768
       → steps (tiles_before script j start (place_row i) (place_column i)) (picture_tile script k (place_row i) (place_column i)) ≤ length (own (place_row i) (place_column i) (reverse instrs))
   by_start j (Some colour) same h preset allowed i bound =
-      at_place i (map (λ p. now.memory (tile_x (place_column i) p) (tile_y (place_row i) p)) (below 72)) (replicate 72 colour) bound (tile_of_memory now.memory (place_row i) (place_column i))
-      (ap (λ o. tile_since o (map (λ p. now.memory (tile_x (place_column i) p) (tile_y (place_row i) p)) (below 72))) preset) (colour_is_tile colour (start_small j colour allowed))
+      at_place i (map (λ p. pixel_at now.memory (tile_x (place_column i) p) (tile_y (place_row i) p)) (below 72)) (replicate 72 colour) bound (tile_of_memory (pixel_at now.memory) (place_row i) (place_column i))
+      (ap (λ o. tile_since o (map (λ p. pixel_at now.memory (tile_x (place_column i) p) (tile_y (place_row i) p)) (below 72))) preset) (colour_is_tile colour (start_small j colour allowed))
   by_start zero None same h preset allowed i bound = absurd allowed
   by_start (suc j) None same h preset allowed i bound =
       let first : j ≡ suc j - 1 = omega arith in
       let old : List ℕ = picture_tile script (suc j - 1) (place_row i) (place_column i) in
-      at_place i old old bound (subst (λ n. HoldsTile now.memory (place_row i) (place_column i) (picture_tile script n (place_row i) (place_column i))) first (tile_shown script j now h.0 h.1 i bound))
+      at_place i old old bound (subst (λ n. HoldsTile (pixel_at now.memory) (place_row i) (place_column i) (picture_tile script n (place_row i) (place_column i))) first (tile_shown script j now h.0 h.1 i bound))
       (ap (λ o. tile_since o old) preset) (picture_is_tile script (suc j - 1) (place_row i) (place_column i) small)
 
   -- all places

@@ -5,7 +5,8 @@ use Rattle.std.specs.Prelude.{count_by, reverse}
 use Rattle.std.specs.declared.option.Option.{Option}
 use Rattle.std.proofs.lemmas.List.{length-reverse}
 use Rattle.cdg_instructions.specs.declared.instr.Instr.{Instr}
-use Rattle.cdg_screen.specs.Picture.{Standing, blank}
+use Rattle.cdg_screen.specs.Picture.{Standing, blank, pixel_at, rows_of, sixteen}
+use Rattle.cdg_screen.proofs.Lists.{pixel_of_rows, number_of_sixteen}
 use Rattle.picture_script.specs.Script.{Drawing, pictures, ready_time, hold_time, picture_border, picture_colour, picture_pixel}
 use Rattle.picture_changes.specs.Change.{IsChangeFrom, IsOrderedChange, IsStart}
 use Rattle.picture_changes.specs.Schedule.{IsLate, start_of}
@@ -49,10 +50,10 @@ module _ (plans : PlansAreShortest) (script : List Drawing) (k : ℕ) (small : (
 -- a screen that shows a picture
 standing : List Drawing → ℕ → Standing
 standing script k = record {
-  memory = λ x y. picture_pixel script k (x - 6) (y - 12);
+  memory = rows_of (λ x y. picture_pixel script k (x - 6) (y - 12));
   border = picture_border script k;
-  colour = picture_colour script k;
-  level = λ n. 0;
+  colours = sixteen (picture_colour script k);
+  levels = sixteen (λ n. 0);
   h = 0;
   v = 0;
 }
@@ -64,10 +65,11 @@ stands script k = (
     pixels = λ x y xs ys.
         let across : x + 6 + 0 - 6 ≡ x = omega arith in
         let down : y + 12 + 0 - 12 ≡ y = omega arith in
-        ap (λ t. cond t (picture_pixel script k (x + 6 + 0 - 6) (y + 12 + 0 - 12)) (picture_border script k)) (in_window x y xs ys)
+        ap (λ t. cond t (pixel_at (rows_of (λ x y. picture_pixel script k (x - 6) (y - 12))) (x + 6 + 0) (y + 12 + 0)) (picture_border script k)) (in_window x y xs ys)
+        ∙ pixel_of_rows (λ x y. picture_pixel script k (x - 6) (y - 12)) (x + 6 + 0) (y + 12 + 0) (omega (arith, xs)) (omega (arith, ys))
         ∙ ap₂ (picture_pixel script k) across down;
     border = refl;
-    colours = λ n lt. refl;
+    colours = λ n lt. number_of_sixteen (picture_colour script k) n lt;
   },
   (refl, refl),
 )

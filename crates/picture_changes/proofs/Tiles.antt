@@ -10,7 +10,9 @@ use Rattle.bit_lists.specs.Counting.{below}
 use Rattle.cdg_instructions.specs.Drawing.{IsOfPlace, drawn, tile_colour, tile_from, Turns}
 use Rattle.cdg_instructions.specs.declared.instr.Instr.{Instr}
 use Rattle.cdg_instructions.specs.declared.instr.Instr.TheVariants.{SetTile, XorTile}
-use Rattle.cdg_screen.specs.Picture.{Standing, SameStanding, covers, memory_from, border_from, colour_from, offsets_from, standing_after}
+use Rattle.std.specs.Prelude.{slice_index}
+use Rattle.cdg_screen.specs.Picture.{Standing, covers, memory_from, border_from, colour_from, offsets_from, standing_after, pixel_at}
+use Rattle.cdg_screen.proofs.Lists.{pixel_of_rows, number_of_sixteen}
 use Rattle.picture_changes.specs.Change.{AreTileChanges, window_places}
 
 -- ---- tests
@@ -74,7 +76,7 @@ covers_only row column row' column' p lt apart =
     absurd (apart (omega (arith, eq_of (tile_y row' p / 12) row tests.1, lt)) (omega (arith, eq_of (tile_x column' p / 6) column tests.0)))) (λ no. no)
 
 -- the instructions are given the last one first
-tile_memory : (start : Standing) (row column : ℕ) (old : List ℕ) (before : List Instr) → row ≤ 17 → column ≤ 49 → AllByRecursion (IsOfPlace row column) before → HoldsTile start.memory row column old
+tile_memory : (start : ℕ → ℕ → ℕ) (row column : ℕ) (old : List ℕ) (before : List Instr) → row ≤ 17 → column ≤ 49 → AllByRecursion (IsOfPlace row column) before → HoldsTile start row column old
     → HoldsTile (memory_from start before) row column (tile_from old before)
 unfolding tile_from
 tile_memory start row column old [] r c all holds p lt = holds p lt
@@ -95,7 +97,7 @@ tile_memory start row column old (XorTile colour0 colour1 row' column' lines ∷
     ∙ sym (get_or-map-range_with_len (λ p. bit_xor (drawn colour0 colour1 lines p) (get_or (tile_from old before) p 0)) 0 72 p p 0 lt (omega arith))
 tile_memory start row column old (_ ∷ before) r c all holds p lt = absurd all.0
 
-other_memory : (start : Standing) (row column : ℕ) (before : List Instr) (x y : ℕ) → AllByRecursion (IsOfPlace row column) before → covers row column x y ≡ false → memory_from start before x y ≡ start.memory x y
+other_memory : (start : ℕ → ℕ → ℕ) (row column : ℕ) (before : List Instr) (x y : ℕ) → AllByRecursion (IsOfPlace row column) before → covers row column x y ≡ false → memory_from start before x y ≡ start x y
 other_memory start row column [] x y all other = refl
 other_memory start row column (SetTile colour0 colour1 row' column' lines ∷ before) x y all other =
     let outside : covers row' column' x y ≡ false = ap₂ (λ a b. covers a b x y) all.0.0 all.0.1 ∙ other in
@@ -108,24 +110,24 @@ other_memory start row column (_ ∷ before) x y all other = absurd all.0
 -- nothing but the memory changed
 pub record KeepsSettings (s s' : Standing) : Type 0 where
   pub border : s'.border ≡ s.border
-  pub colour : (n : ℕ) → n < 16 → s'.colour n ≡ s.colour n
+  pub colour : (n : ℕ) → n < 16 → slice_index s'.colours n ≡ slice_index s.colours n
   pub h : s'.h ≡ s.h
   pub v : s'.v ≡ s.v
 
-tile_border : (start : Standing) (row column : ℕ) (before : List Instr) → AllByRecursion (IsOfPlace row column) before → border_from start before ≡ start.border
+tile_border : (start : ℕ) (row column : ℕ) (before : List Instr) → AllByRecursion (IsOfPlace row column) before → border_from start before ≡ start
 tile_border start row column [] all = refl
 tile_border start row column (SetTile colour0 colour1 row' column' lines ∷ before) all = tile_border start row column before all.1
 tile_border start row column (XorTile colour0 colour1 row' column' lines ∷ before) all = tile_border start row column before all.1
 tile_border start row column (_ ∷ before) all = absurd all.0
 
-tile_colours : (start : Standing) (row column : ℕ) (before : List Instr) (n : ℕ) → AllByRecursion (IsOfPlace row column) before → colour_from start before n ≡ start.colour n
+tile_colours : (start : ℕ → ℕ) (row column : ℕ) (before : List Instr) (n : ℕ) → AllByRecursion (IsOfPlace row column) before → colour_from start before n ≡ start n
 tile_colours start row column [] n all = refl
 tile_colours start row column (SetTile colour0 colour1 row' column' lines ∷ before) n all = tile_colours start row column before n all.1
 tile_colours start row column (XorTile colour0 colour1 row' column' lines ∷ before) n all = tile_colours start row column before n all.1
 tile_colours start row column (_ ∷ before) n all = absurd all.0
 
-tile_offsets : (start : Standing) (row column : ℕ) (before : List Instr) → AllByRecursion (IsOfPlace row column) before → ((offsets_from start before).0 ≡ start.h) × ((offsets_from start before).1 ≡ start.v)
-tile_offsets start row column [] all = (refl, refl)
+tile_offsets : (start : ℕ × ℕ) (row column : ℕ) (before : List Instr) → AllByRecursion (IsOfPlace row column) before → offsets_from start before ≡ start
+tile_offsets start row column [] all = refl
 tile_offsets start row column (SetTile colour0 colour1 row' column' lines ∷ before) all = tile_offsets start row column before all.1
 tile_offsets start row column (XorTile colour0 colour1 row' column' lines ∷ before) all = tile_offsets start row column before all.1
 tile_offsets start row column (_ ∷ before) all = absurd all.0
@@ -134,19 +136,27 @@ module _ (start : Standing) (row column : ℕ) (old new : List ℕ) (instrs : Li
   placed : AllByRecursion (IsOfPlace row column) (reverse instrs)
   placed = each_reverse (IsOfPlace row column) instrs (recursion_from_All (IsOfPlace row column) instrs turns.of_place)
 
-  turned : row ≤ 17 → column ≤ 49 → HoldsTile start.memory row column old → HoldsTile (standing_after start instrs).memory row column new
-  turned r c holds = subst (HoldsTile (memory_from start (reverse instrs)) row column) turns.result (tile_memory start row column old (reverse instrs) r c placed holds)
+  turned : row ≤ 17 → column ≤ 49 → HoldsTile (pixel_at start.memory) row column old → HoldsTile (pixel_at (standing_after start instrs).memory) row column new
+  turned r c holds p lt =
+      let made : HoldsTile (memory_from (pixel_at start.memory) (reverse instrs)) row column new =
+      subst (HoldsTile (memory_from (pixel_at start.memory) (reverse instrs)) row column) turns.result (tile_memory (pixel_at start.memory) row column old (reverse instrs) r c placed holds) in
+      pixel_of_rows (memory_from (pixel_at start.memory) (reverse instrs)) (tile_x column p) (tile_y row p) (omega arith) (omega (arith, lt)) ∙ made p lt
 
-  untouched : (row' column' p : ℕ) → p < 72 → (row ≡ row' → column ≡ column' → ⊥) → (standing_after start instrs).memory (tile_x column' p) (tile_y row' p) ≡ start.memory (tile_x column' p) (tile_y row' p)
-  untouched row' column' p lt apart = other_memory start row column (reverse instrs) (tile_x column' p) (tile_y row' p) placed (covers_only row column row' column' p lt apart)
+  untouched : (row' column' p : ℕ) → row' ≤ 17 → column' ≤ 49 → p < 72 → (row ≡ row' → column ≡ column' → ⊥)
+      → pixel_at (standing_after start instrs).memory (tile_x column' p) (tile_y row' p) ≡ pixel_at start.memory (tile_x column' p) (tile_y row' p)
+  untouched row' column' p r c lt apart =
+      pixel_of_rows (memory_from (pixel_at start.memory) (reverse instrs)) (tile_x column' p) (tile_y row' p) (omega arith) (omega (arith, lt))
+      ∙ other_memory (pixel_at start.memory) row column (reverse instrs) (tile_x column' p) (tile_y row' p) placed (covers_only row column row' column' p lt apart)
 
   kept : KeepsSettings start (standing_after start instrs)
-  kept = record {
-    border = tile_border start row column (reverse instrs) placed;
-    colour = λ n lt. tile_colours start row column (reverse instrs) n placed;
-    h = (tile_offsets start row column (reverse instrs) placed).0;
-    v = (tile_offsets start row column (reverse instrs) placed).1;
-  }
+  kept =
+      let offsets = tile_offsets (start.h, start.v) row column (reverse instrs) placed in
+      record {
+        border = tile_border start.border row column (reverse instrs) placed;
+        colour = λ n lt. number_of_sixteen (colour_from (slice_index start.colours) (reverse instrs)) n lt ∙ tile_colours (slice_index start.colours) row column (reverse instrs) n placed;
+        h = ap (λ (o : ℕ × ℕ). o.0) offsets;
+        v = ap (λ (o : ℕ × ℕ). o.1) offsets;
+      }
 
 -- ---- all tiles of the window
 
@@ -164,16 +174,16 @@ places_in_order : window_places ≡ map place_of (below 768)
 places_in_order = refl
 
 abbrev pub HoldsAt : Standing → (ℕ → ℕ → List ℕ) → ℕ → Type 0
-HoldsAt s tiles k = HoldsTile s.memory (place_row k) (place_column k) (tiles (place_row k) (place_column k))
+HoldsAt s tiles k = HoldsTile (pixel_at s.memory) (place_row k) (place_column k) (tiles (place_row k) (place_column k))
 
 -- instructions may be taken in turn
 abbrev pub InTurn : Type 0
-InTurn = (start : Standing) (early late : List Instr) → SameStanding (standing_after start (early ++ late)) (standing_after (standing_after start early) late)
+InTurn = (start : Standing) (early late : List Instr) → standing_after start (early ++ late) ≡ standing_after (standing_after start early) late
 
 -- the tiles of the places from a on, n in number, became new ones, and nothing else changed
 pub record Changed (a n : ℕ) (new : ℕ → ℕ → List ℕ) (s s' : Standing) : Type 0 where
   pub inside : (k : ℕ) → a ≤ k → k < a + n → HoldsAt s' new k
-  pub outside : (k p : ℕ) → k < 768 → p < 72 → (a ≤ k → k < a + n → ⊥) → s'.memory (tile_x (place_column k) p) (tile_y (place_row k) p) ≡ s.memory (tile_x (place_column k) p) (tile_y (place_row k) p)
+  pub outside : (k p : ℕ) → k < 768 → p < 72 → (a ≤ k → k < a + n → ⊥) → pixel_at s'.memory (tile_x (place_column k) p) (tile_y (place_row k) p) ≡ pixel_at s.memory (tile_x (place_column k) p) (tile_y (place_row k) p)
   pub settings : KeepsSettings s s'
 
 pub tiles_change : InTurn → (old new : ℕ → ℕ → List ℕ) (n a : ℕ) (s : Standing) (instrs : List Instr) → a + n ≤ 768 → AreTileChanges old new (map place_of (range_with_len a n)) instrs
@@ -181,8 +191,8 @@ pub tiles_change : InTurn → (old new : ℕ → ℕ → List ℕ) (n a : ℕ) (
 tiles_change in_turn old new zero a s instrs fits changes holds =
     subst (λ (is : List Instr). Changed a 0 new s (standing_after s is)) (sym changes) (record {
       inside = λ k from to. absurd (omega (arith, from, to));
-      outside = λ k p lt small other. refl;
-      settings = record { border = refl; colour = λ n lt. refl; h = refl; v = refl };
+      outside = λ k p lt small other. pixel_of_rows (pixel_at s.memory) (tile_x (place_column k) p) (tile_y (place_row k) p) (omega arith) (omega (arith, lt, small));
+      settings = record { border = refl; colour = λ n lt. number_of_sixteen (slice_index s.colours) n lt; h = refl; v = refl };
     })
 tiles_change in_turn old new (suc n) a s instrs fits changes holds =
     let (first, others, whole, turns, least, more) = changes in
@@ -191,17 +201,17 @@ tiles_change in_turn old new (suc n) a s instrs fits changes holds =
     let column : ℕ = place_column a in
     let r : place_row a ≤ 17 = omega (arith, fits) in
     let c : place_column a ≤ 49 = omega arith in
-    let same : SameStanding (standing_after s instrs) (standing_after (standing_after s first) others) =
-    subst (λ (is : List Instr). SameStanding (standing_after s is) (standing_after (standing_after s first) others)) (sym whole) (in_turn s first others) in
+    let same : standing_after s instrs ≡ standing_after (standing_after s first) others =
+    subst (λ (is : List Instr). standing_after s is ≡ standing_after (standing_after s first) others) (sym whole) (in_turn s first others) in
     let one : HoldsAt (standing_after s first) new a = turned s (place_row a) (place_column a) _ _ first turns r c (holds a (omega arith) (omega arith)) in
-    let away : (k p : ℕ) → k < 768 → p < 72 → (a ≡ k → ⊥) → (standing_after s first).memory (tile_x (place_column k) p) (tile_y (place_row k) p) ≡ s.memory (tile_x (place_column k) p) (tile_y (place_row k) p) =
-    λ k p lt small other. untouched s (place_row a) (place_column a) _ _ first turns (place_row k) (place_column k) p small (λ rows columns. other (omega (arith, rows, columns))) in
+    let away : (k p : ℕ) → k < 768 → p < 72 → (a ≡ k → ⊥) → pixel_at (standing_after s first).memory (tile_x (place_column k) p) (tile_y (place_row k) p) ≡ pixel_at s.memory (tile_x (place_column k) p) (tile_y (place_row k) p) =
+    λ k p lt small other. untouched s (place_row a) (place_column a) _ _ first turns (place_row k) (place_column k) p (omega (arith, lt)) (omega arith) small (λ rows columns. other (omega (arith, rows, columns))) in
     let rest = tiles_change in_turn old new n (a + 1) (standing_after s first) others (omega (arith, fits)) more (λ k from to p small. away k p (omega (arith, to, fits)) small (λ e. omega (arith, e, from)) ∙ holds k (omega (arith, from)) (omega (arith, to)) p small) in
     let first_kept = kept s (place_row a) (place_column a) _ _ first turns in
     record {
       inside = λ k from to p small.
           let bound : k < 768 = omega (arith, to, fits) in
-          same.memory (tile_x (place_column k) p) (tile_y (place_row k) p) (omega arith) (omega (arith, bound, small))
+          ap (λ (now : Standing). pixel_at now.memory (tile_x (place_column k) p) (tile_y (place_row k) p)) same
           ∙ elim (leb_tells (suc a) k) [
             | inl later ↦ rest.inside k (omega (arith, later.1)) (omega (arith, to)) p small
             | inr here ↦
@@ -209,13 +219,13 @@ tiles_change in_turn old new (suc n) a s instrs fits changes holds =
                 rest.outside k p bound small (λ from' to'. omega (arith, from', here.1)) ∙ subst (λ j. HoldsAt (standing_after s first) new j) is one p small
           ];
       outside = λ k p bound small other.
-          same.memory (tile_x (place_column k) p) (tile_y (place_row k) p) (omega arith) (omega (arith, bound, small))
+          ap (λ (now : Standing). pixel_at now.memory (tile_x (place_column k) p) (tile_y (place_row k) p)) same
           ∙ rest.outside k p bound small (λ from to. other (omega (arith, from)) (omega (arith, to))) ∙ away k p bound small (λ e. other (omega (arith, e)) (omega (arith, e)));
       settings = record {
-        border = same.border ∙ rest.settings.border ∙ first_kept.border;
-        colour = λ n lt. same.colour n lt ∙ rest.settings.colour n lt ∙ first_kept.colour n lt;
-        h = same.h ∙ rest.settings.h ∙ first_kept.h;
-        v = same.v ∙ rest.settings.v ∙ first_kept.v;
+        border = ap (λ (now : Standing). now.border) same ∙ rest.settings.border ∙ first_kept.border;
+        colour = λ n lt. ap (λ (now : Standing). slice_index now.colours n) same ∙ rest.settings.colour n lt ∙ first_kept.colour n lt;
+        h = ap (λ (now : Standing). now.h) same ∙ rest.settings.h ∙ first_kept.h;
+        v = ap (λ (now : Standing). now.v) same ∙ rest.settings.v ∙ first_kept.v;
       };
     }
 

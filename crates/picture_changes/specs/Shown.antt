@@ -1,5 +1,5 @@
 -- What it is that a picture of a script stands on the screen, and what the scripts that are accepted keep.
-use Rattle.std.specs.Prelude.{◌≡◌, ℕ, ◌+◌, ◌<◌, ◌≤◌, List}
+use Rattle.std.specs.Prelude.{◌≡◌, ℕ, ◌+◌, ◌<◌, ◌≤◌, List, slice_index}
 use Rattle.cdg_screen.specs.Picture.{Standing, screen_pixel}
 use Rattle.picture_script.specs.Script.{Drawing, pictures, ready_time, hold_time, picture_pixel, picture_border, picture_colour}
 
@@ -7,7 +7,7 @@ use Rattle.picture_script.specs.Script.{Drawing, pictures, ready_time, hold_time
 pub record ShowsPicture (script : List Drawing) (k : ℕ) (now : Standing) : Type 0 where
   pub pixels : (x y : ℕ) → x < 288 → y < 192 → screen_pixel now (x + 6) (y + 12) ≡ picture_pixel script k x y
   pub border : now.border ≡ picture_border script k
-  pub colours : (n : ℕ) → n < 16 → now.colour n ≡ picture_colour script k n
+  pub colours : (n : ℕ) → n < 16 → slice_index now.colours n ≡ picture_colour script k n
 
 -- each picture is held from its ready time to its hold time, and the next one is ready later
 pub record AreTimesInOrder (script : List Drawing) : Type 0 where

@@ -13,7 +13,7 @@ use Rattle.raw_subcode.specs.declared.form.Form.{Form}
 use Rattle.raw_subcode.specs.declared.form.Form.TheVariants.{Raw, Cooked}
 use Rattle.live_player.specs.contracts.live.LivePlayer.{the_row}
 use Rattle.live_player.specs.declared.live.LivePlayer.{LivePlayer}
-use Rattle.cdg_screen.specs.Picture.{Standing, SameStanding, blank, screen_pixel, standing_after}
+use Rattle.cdg_screen.specs.Picture.{Standing, blank, screen_pixel, standing_after}
 use Rattle.live_player.specs.Lives.{instruction_of, picture_byte, HasDrawn, HasPlayed, IsLiveView, IsLiveViewAt}
 
 abbrev pub handle_owns : Global → Ptr → List LivePlayer → Fml
@@ -45,7 +45,7 @@ pub record IsShownBy (player : LivePlayer) (now : Standing) : Type 0 where
       → length blocks ≤ most_units
       → IsSeen form lead_in blocks now
   pub packs : (packs : List (List ℕ)) → HasDrawn packs player
-      → SameStanding now (standing_after blank (map instruction_of packs))
+      → now ≡ standing_after blank (map instruction_of packs)
 
 -- this holds of what the one player shows
 abbrev pub PlayersShow : List LivePlayer → (Standing → Type 0) → Type 0
@@ -58,11 +58,11 @@ IsScreen pixels now = (n : ℕ) → n < 64800 → slice_index pixels n ≡ scree
 
 -- the colours of the table
 abbrev pub IsTable : List ℕ → Standing → Type 0
-IsTable table now = (k : ℕ) → k < 16 → slice_index table k ≡ now.colour k
+IsTable table now = (k : ℕ) → k < 16 → slice_index table k ≡ slice_index now.colours k
 
 -- the levels of the colours
 abbrev pub AreLevels : List ℕ → Standing → Type 0
-AreLevels levels now = (k : ℕ) → k < 16 → slice_index levels k ≡ now.level k
+AreLevels levels now = (k : ℕ) → k < 16 → slice_index levels k ≡ slice_index now.levels k
 
 -- red, green and blue of the screen's pixels, row by row
 abbrev pub ArePictureBytes : List ℕ → Standing → Type 0

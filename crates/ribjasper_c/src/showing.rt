@@ -1,5 +1,5 @@
 // What a player shows, as C asks for it.
-ghost use Rattle.std.specs.Prelude.{◌≡◌, ◌<◌, ◌&&◌, nat_lt, if◌then◌else◌, ◌∷◌, [], pos, negsuc};
+ghost use Rattle.std.specs.Prelude.{◌≡◌, ◌<◌, ◌&&◌, nat_lt, slice_index, if◌then◌else◌, ◌∷◌, [], pos, negsuc};
 ghost use Rattle.cdg_screen.specs.Picture.{screen_pixel};
 ghost use Rattle.ribjasper_c.specs.Handles.{ArePictureBytes, AreLevels, IsScreen, IsTable, PlayersShow};
 
@@ -82,7 +82,7 @@ pub extern "C" fn ribjasper_player_colour(
     colour: &mut u16,
 ) -> i32
     ensures shows { result ≡ pos 0
-        → PlayersShow player.old.handle.players (λ now. colour.new ≡ now.colour k) }
+        → PlayersShow player.old.handle.players (λ now. colour.new ≡ slice_index now.colours k) }
     ensures answer { result ≡ (if player.old.is_open && nat_lt k 16 then pos 0 else negsuc 0) }
     ensures stays { player.new.is_open ≡ player.old.is_open }
     ensures same { player.new.handle.players ≡ player.old.handle.players }
@@ -99,7 +99,7 @@ pub extern "C" fn ribjasper_player_colour(
 
 fn shown_colour(live: &LivePlayer, k: u8) -> u16
     requires { k < 16 }
-    ensures { PlayersShow (live.now ∷ []) (λ now. result ≡ now.colour k) }
+    ensures { PlayersShow (live.now ∷ []) (λ now. result ≡ slice_index now.colours k) }
 {
     live.shows_its_blocks();
     live.colour(k)

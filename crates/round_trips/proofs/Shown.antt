@@ -15,7 +15,9 @@ use Rattle.cdg_instructions.specs.MadeGood.{IsMadeGood}
 use Rattle.cdg_instructions.specs.Meaning.{meaning}
 use Rattle.cdg_instructions.specs.declared.instr.Instr.{Instr}
 use Rattle.cdg_instructions.specs.declared.instr.Instr.TheVariants.{Idle}
-use Rattle.cdg_screen.specs.Picture.{SameStanding, blank, standing_after}
+use Rattle.cdg_screen.specs.Texts.{pixmap}
+use Rattle.cdg_screen.specs.Picture.{blank, standing_after}
+use Rattle.subcode_player.specs.Convert.{IsDamagedStream}
 use Rattle.subcode_player.specs.Screen.{AreMeant, IsScreenAt, moment}
 use Rattle.subcode_player.proofs.Restoring.{Recovers, program_small}
 use Rattle.rw_code.specs.Packs.{idle_pack}
@@ -120,14 +122,23 @@ module _ (sheet : CueSheet) (file : List ℕ) (lead_in audio : ℕ) (bytes : Lis
       ∙ ap (λ n. map meaning (take n (file_packs file)) ++ replicate (of_file_means (file_packs file) within within_of_file).0 Idle) within_count)
 
   -- what stands is what stands after the packs of the file
-  pub same_standing : InTurn → (instrs : List Instr) → instrs ≡ map meaning (take (whole_packs (150 + time)) packs) → SameStanding (standing_after blank instrs) (file_standing file (4 * time))
+  pub same_standing : InTurn → (instrs : List Instr) → instrs ≡ map meaning (take (whole_packs (150 + time)) packs) → standing_after blank instrs ≡ file_standing file (4 * time)
   same_standing laws instrs are =
-      subst (λ (is : List Instr). SameStanding (standing_after blank is) (file_standing file (4 * time))) (sym (are ∙ first_mean))
+      subst (λ (is : List Instr). standing_after blank is ≡ file_standing file (4 * time)) (sym (are ∙ first_mean))
       (idle_around laws (length before) (of_file_means (file_packs file) within within_of_file).0 (map meaning (take (4 * time) (file_packs file))))
 
 module _ (form : Form) (lead_in : ℕ) (others : List ℕ) (press : DamagedPress form lead_in others) where
   abbrev blocks : ℕ
   blocks = program_blocks press.sheet press.audio
+
+  pub stream_of : IsDamagedStream form lead_in (program_blocks press.sheet press.audio) press.packs others
+  stream_of = record {
+    few = press.few;
+    whole = press.whole;
+    symbols = _;
+    carries = press.pressed.carries;
+    damaged = press.damaged;
+  }
 
   pub found_is : Recovers → (found : List (Option (List ℕ))) → IsRecovered form (program_symbols form others lead_in) found
       → found ≡ map (λ pack. Some pack) (all_packs form (program_blocks press.sheet press.audio) press.packs)
@@ -146,7 +157,7 @@ module _ (form : Form) (lead_in : ℕ) (others : List ℕ) (press : DamagedPress
     file_text one laws =
         let are : screen.instrs ≡ map meaning (take (whole_packs (150 + time)) press.packs) =
         meant_is one (take (whole_packs (150 + time)) press.packs) screen.instrs (subst (λ (l : List (Option (List ℕ))). AreMeant l screen.instrs) first_found screen.shown) in
-        (standing_after blank screen.instrs, same_standing press.sheet press.file lead_in press.audio press.bytes press.packs press.pressed time in_audio laws screen.instrs are, screen.text_is)
+        screen.text_is ∙ ap pixmap (same_standing press.sheet press.file lead_in press.audio press.bytes press.packs press.pressed time in_audio laws screen.instrs are)
 
     pub none_bad : NoneBad → bad ≡ 0
     none_bad none = screen.bad_is ∙ ap bad_count first_found ∙ none (take (whole_packs (150 + time)) press.packs)

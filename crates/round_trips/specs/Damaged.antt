@@ -6,7 +6,7 @@ use Rattle.raw_subcode.specs.declared.form.Form.TheVariants.{Raw}
 use Rattle.cue_sheet.specs.CueSheet.{CueSheet}
 use Rattle.rw_interleave.specs.Stream.{IsDamaged}
 use Rattle.cdg_instructions.specs.Meaning.{meaning}
-use Rattle.cdg_screen.specs.Picture.{Standing, SameStanding, blank, standing_after}
+use Rattle.cdg_screen.specs.Picture.{Standing, blank, standing_after}
 use Rattle.cdg_screen.specs.Texts.{pixmap}
 use Rattle.raw_subcode.specs.Sizes.{most_units}
 use Rattle.cdg_press.specs.Pressed.{file_packs, IsPressed, press_of}
@@ -30,5 +30,4 @@ file_standing file many = standing_after blank (map meaning (take many (file_pac
 
 -- the text is the pixmap of what stands then
 abbrev pub IsFileText : List ℕ → ℕ → List ℕ → Type 0
-IsFileText file many text = (now : Standing) × SameStanding now (file_standing file many)
-    × (text ≡ pixmap now)
+IsFileText file many text = text ≡ pixmap (file_standing file many)

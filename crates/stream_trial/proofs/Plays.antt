@@ -14,7 +14,8 @@ use Rattle.rw_interleave.specs.Interleave.{word_of, whole_packs}
 use Rattle.rw_interleave.proofs.Recovery.{differences-turned, form_words}
 use Rattle.cdg_instructions.specs.Instruction.{Means}
 use Rattle.cdg_instructions.specs.declared.instr.Instr.{Instr}
-use Rattle.cdg_screen.specs.Picture.{Standing, blank, standing_of, standing_after, SameStanding}
+use Rattle.cdg_screen.proofs.Turns.{blank_is_whole}
+use Rattle.cdg_screen.specs.Picture.{Standing, blank, standing_after}
 use Rattle.picture_script.specs.Script.{Drawing, pictures, ready_time, hold_time}
 use Rattle.picture_changes.specs.Schedule.{IsSchedule}
 use Rattle.picture_changes.specs.Shown.{ShowsPicture, AreTimesInOrder, AreColoursInRange}
@@ -31,8 +32,8 @@ abbrev pub ShowsScheduled : Type 0
 ShowsScheduled = (script : List Drawing) (blocks : ℕ) (packs : List (List ℕ)) (k time : ℕ) (instrs : List Instr) → AreTimesInOrder script → IsSchedule script blocks packs
     → k < pictures script → ready_time script k ≤ time → time ≤ hold_time script k → AreMeantBy (take (whole_packs time) packs) instrs → ShowsPicture script k (standing_after blank instrs)
 
-abbrev pub OneMore : Type 0
-OneMore = (start mid end : Standing) (instrs : List Instr) (instr : Instr) → SameStanding mid (standing_after start instrs) → SameStanding end (standing_after mid (instr ∷ [])) → SameStanding end (standing_after start (instrs ++ instr ∷ []))
+abbrev pub InTurn : Type 0
+InTurn = (start : Standing) (early late : List Instr) → standing_after start (early ++ late) ≡ standing_after (standing_after start early) late
 
 -- ---- one word more
 
@@ -71,7 +72,7 @@ pub record AreTaken (symbols : List ℕ) (packs : List (List ℕ)) (others : Lis
   pub bad : replay.bad ≡ 0
   pub instrs : List Instr
   pub meant : AreMeantBy (take n packs) instrs
-  pub screen : SameStanding (standing_of replay.screen) (standing_after blank instrs)
+  pub screen : replay.screen ≡ standing_after blank instrs
 
 -- every picture that was ready after n slots was shown, and the next one is not ready yet
 pub record AreShown (script : List Drawing) (n : ℕ) (gallery : Gallery) : Type 0 where
@@ -93,14 +94,14 @@ abbrev pub IsPlayed : List Drawing → List ℕ → ℕ → Replay → Gallery �
 IsPlayed script bytes b replay gallery = (symbols : List ℕ) (packs : List (List ℕ)) → IsDamagedSchedule script (length bytes / 96) symbols packs (symbols_of bytes)
     → ArePlayed script symbols packs (symbols_of bytes) (4 * b) replay gallery
 
-nothing_taken : (symbols others : List ℕ) (packs : List (List ℕ)) (replay : Replay) → SameStanding (standing_of replay.screen) blank → (replay.one ≡ 0) × (replay.two ≡ 0) × (replay.bad ≡ 0) → AreTaken symbols packs others 0 replay
+nothing_taken : (symbols others : List ℕ) (packs : List (List ℕ)) (replay : Replay) → replay.screen ≡ blank → (replay.one ≡ 0) × (replay.two ≡ 0) × (replay.bad ≡ 0) → AreTaken symbols packs others 0 replay
 nothing_taken symbols others packs replay screen counts = record {
   one = counts.0 ∙ differing_none 1 symbols others;
   two = counts.1 ∙ differing_none 2 symbols others;
   bad = counts.2;
   instrs = [];
   meant = refl;
-  screen = record { memory = screen.memory; border = screen.border; colour = screen.colour; level = screen.level; h = screen.h; v = screen.v };
+  screen = screen ∙ sym blank_is_whole;
 }
 
 small_symbols : (bytes : List ℕ) (p : ℕ) → get_or (symbols_of bytes) p 0 < 64
@@ -132,8 +133,8 @@ module _ (script : List Drawing) (symbols : List ℕ) (packs : List (List ℕ)) 
       step ∙ ap₂ (λ (d : ℕ) (w : List ℕ). d + one_where (differences (word_of (symbols_of bytes) k) w) wrong) before (sym (pack_is k lt)) ∙ sym (differing_more wrong k symbols (symbols_of bytes))
 
   -- one word more
-  one_taken : OneMore → (k : ℕ) (old new : Replay) → k < whole_packs (length bytes / 96) → AreTaken symbols packs (symbols_of bytes) k old → TakesWord (word_of (symbols_of bytes) k) (get_or packs k []) old new → AreTaken symbols packs (symbols_of bytes) (k + 1) new
-  one_taken more k old new lt before takes =
+  one_taken : InTurn → (k : ℕ) (old new : Replay) → k < whole_packs (length bytes / 96) → AreTaken symbols packs (symbols_of bytes) k old → TakesWord (word_of (symbols_of bytes) k) (get_or packs k []) old new → AreTaken symbols packs (symbols_of bytes) (k + 1) new
+  one_taken in_turn k old new lt before takes =
       let within : k < length packs = omega (arith, lt, damaged.carries.count) in
       record {
         one = one_count 1 k old.one new.one lt before.one takes.one;
@@ -142,7 +143,7 @@ module _ (script : List Drawing) (symbols : List ℕ) (packs : List (List ℕ)) 
         instrs = before.instrs ++ takes.instr ∷ [];
         meant = subst (λ (l : List (List ℕ)). AreMeantBy l (before.instrs ++ takes.instr ∷ [])) (sym (take_more packs k [] within))
             (meant_more (take k packs) before.instrs (get_or packs k []) takes.instr before.meant takes.meant);
-        screen = more blank (standing_of old.screen) (standing_of new.screen) before.instrs takes.instr before.screen takes.screen;
+        screen = takes.screen ∙ ap (λ (now : Standing). standing_after now (takes.instr ∷ [])) before.screen ∙ sym (in_turn blank before.instrs (takes.instr ∷ []));
       }
 
   -- a picture that is ready is shown
@@ -211,18 +212,18 @@ module _ (script : List Drawing) (symbols : List ℕ) (packs : List (List ℕ)) 
 
 -- ---- the loops over blocks and their words
 
-pub begins : (script : List Drawing) (bytes : List ℕ) (replay : Replay) (gallery : Gallery) → SameStanding (standing_of replay.screen) blank → (replay.one ≡ 0) × (replay.two ≡ 0) × (replay.bad ≡ 0) → (gallery.next ≡ 0) × (gallery.equal ≡ 0) → IsPlayed script bytes 0 replay gallery
+pub begins : (script : List Drawing) (bytes : List ℕ) (replay : Replay) (gallery : Gallery) → replay.screen ≡ blank → (replay.one ≡ 0) × (replay.two ≡ 0) × (replay.bad ≡ 0) → (gallery.next ≡ 0) × (gallery.equal ≡ 0) → IsPlayed script bytes 0 replay gallery
 begins script bytes replay gallery screen counts none = λ symbols packs damaged. record {
   taken = nothing_taken symbols (symbols_of bytes) packs replay screen counts;
   shown = first_ahead script symbols packs bytes damaged gallery none.0 none.1;
 }
 
 -- a further word of block b
-pub takes_on : GathersWords → OneMore → (script : List Drawing) (bytes : List ℕ) (b j : ℕ) (old new : Replay) (words : List (List ℕ)) → b < length bytes / 96
+pub takes_on : GathersWords → InTurn → (script : List Drawing) (bytes : List ℕ) (b j : ℕ) (old new : Replay) (words : List (List ℕ)) → b < length bytes / 96
     → words ≡ given bytes b → 4 * b - 7 + j < whole_packs (length bytes / 96) → j < length words → IsTaken script bytes (4 * b - 7 + j) old
     → ((codeword : List ℕ) → Reads (get_or words j []) codeword → TakesWord (get_or words j []) codeword old new)
     → IsTaken script bytes (4 * b - 7 + (j + 1)) new
-takes_on law more script bytes b j old new words b_lt is k_lt lt taken takes = λ symbols packs damaged.
+takes_on law in_turn script bytes b j old new words b_lt is k_lt lt taken takes = λ symbols packs damaged.
     let k : ℕ = 4 * b - 7 + j in
     let next : 4 * b - 7 + j + 1 ≡ 4 * b - 7 + (j + 1) = omega arith in
     let word : get_or words j [] ≡ word_of (symbols_of bytes) (4 * b - 7 + j) =
@@ -230,12 +231,12 @@ takes_on law more script bytes b j old new words b_lt is k_lt lt taken takes = �
     let pack : List ℕ = get_or packs (4 * b - 7 + j) [] in
     let reads : Reads (get_or words j []) pack = subst (λ (w : List ℕ). Reads w pack) (sym word) (reads_pack script symbols packs bytes damaged (4 * b - 7 + j) k_lt) in
     subst (λ m. AreTaken symbols packs (symbols_of bytes) m new) next
-    (one_taken script symbols packs bytes damaged more (4 * b - 7 + j) old new k_lt (taken symbols packs damaged) (subst (λ (w : List ℕ). TakesWord w pack old new) word (takes pack reads)))
+    (one_taken script symbols packs bytes damaged in_turn (4 * b - 7 + j) old new k_lt (taken symbols packs damaged) (subst (λ (w : List ℕ). TakesWord w pack old new) word (takes pack reads)))
 
 pub goes_on : ShowsScheduled → (script : List Drawing) → AreTimesInOrder script → AreColoursInRange script → (bytes : List ℕ) (b m : ℕ) (old new : Replay) (before after : Gallery)
     → m ≡ 4 * (b + 1) - 7 → IsPlayed script bytes b old before → IsTaken script bytes m new
     → ((before.next < pictures script → 4 * (b + 1) ≢ 4 * ready_time script before.next) → (after.next ≡ before.next) × (after.equal ≡ before.equal))
-    → (before.next < pictures script → 4 * (b + 1) ≡ 4 * ready_time script before.next → (after.next ≡ before.next + 1) × ((now : Standing) → SameStanding (standing_of new.screen) now → ShowsPicture script before.next now → after.equal ≡ before.equal + 1))
+    → (before.next < pictures script → 4 * (b + 1) ≡ 4 * ready_time script before.next → (after.next ≡ before.next + 1) × (ShowsPicture script before.next new.screen → after.equal ≡ before.equal + 1))
     → IsPlayed script bytes (b + 1) new after
 goes_on shows script order ranges bytes b m old new before after last played words waits looks = λ symbols packs damaged.
     let so_far = played symbols packs damaged in
@@ -247,7 +248,7 @@ goes_on shows script order ranges bytes b m old new before after last played wor
           (λ early. waits (λ some due. early some (all ∙ due)))
           (λ some due.
           let (next, equal) = looks some (sym all ∙ due) in
-          (next, equal (standing_after blank taken.instrs) taken.screen (shown_now script symbols packs bytes damaged shows order ranges before.next (4 * (b + 1)) new some (sym all ∙ due) taken))));
+          (next, equal (subst (ShowsPicture script before.next) (sym taken.screen) (shown_now script symbols packs bytes damaged shows order ranges before.next (4 * (b + 1)) new some (sym all ∙ due) taken)))));
     }
 
 pub ends : (script : List Drawing) → AreTimesInOrder script → (bytes : List ℕ) (b : ℕ) (replay : Replay) (gallery : Gallery) (counts : Counts) → b ≡ length bytes / 96 → IsPlayed script bytes b replay gallery → gallery.next ≤ pictures script

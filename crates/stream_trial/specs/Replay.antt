@@ -6,7 +6,7 @@ use Rattle.rw_interleave.specs.Interleave.{whole_packs, Carries}
 use Rattle.rw_interleave.specs.Stream.{IsDamaged}
 use Rattle.cdg_instructions.specs.Instruction.{Means}
 use Rattle.cdg_instructions.specs.declared.instr.Instr.{Instr}
-use Rattle.cdg_screen.specs.Picture.{Standing, standing_of, standing_after, screen_pixel, SameStanding}
+use Rattle.cdg_screen.specs.Picture.{Standing, standing_after, screen_pixel}
 use Rattle.picture_script.specs.Script.{Drawing, pictures}
 use Rattle.picture_script.specs.Board.{Board, pixel_of}
 use Rattle.picture_changes.specs.Schedule.{IsSchedule}
@@ -22,7 +22,7 @@ wanted_pixel board x y = if nat_le 6 x && nat_le x 293 && nat_le 12 y
 -- the screen shows what stands on the canvas
 pub record Agrees (now : Standing) (board : Board) : Type 0 where
   pub border : now.border ≡ board.border
-  pub colours : (n : ℕ) → n < 16 → now.colour n ≡ slice_index board.colours n
+  pub colours : (n : ℕ) → n < 16 → slice_index now.colours n ≡ slice_index board.colours n
   pub pixels : (x y : ℕ) → x < 300 → y < 216 → screen_pixel now x y ≡ wanted_pixel board x y
 
 -- each count is at most so great
@@ -42,7 +42,7 @@ pub record TakesWord (word codeword : List ℕ) (old new : Replay) : Type 0 wher
   pub bad : new.bad ≡ old.bad
   pub instr : Instr
   pub meant : Means codeword instr
-  pub screen : SameStanding (standing_of new.screen) (standing_after (standing_of old.screen) (instr ∷ []))
+  pub screen : new.screen ≡ standing_after old.screen (instr ∷ [])
 
 -- a word with no codeword near was counted, and the screen stays
 pub record TakesBad (old new : Replay) : Type 0 where

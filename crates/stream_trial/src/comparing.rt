@@ -1,6 +1,6 @@
 // A screen beside a canvas.
 ghost use Rattle.std.specs.Prelude.{◌≡◌, ◌<◌, ◌≤◌, ◌↔◌, ℕ, slice_index, IsTrue};
-ghost use Rattle.cdg_screen.specs.Picture.{standing_of, screen_pixel};
+ghost use Rattle.cdg_screen.specs.Picture.{screen_pixel};
 ghost use Rattle.stream_trial.specs.Replay.{Agrees, wanted_pixel};
 
 use cdg_screen::Screen;
@@ -8,7 +8,7 @@ use picture_script::Canvas;
 
 /// Whether the screen shows what stands on the canvas: each pixel, the colours and the border.
 pub(crate) fn agrees(screen: &Screen, canvas: &Canvas) -> bool
-    ensures { IsTrue result ↔ Agrees (standing_of screen.now) canvas.now }
+    ensures { IsTrue result ↔ Agrees screen.now canvas.now }
 {
     screen.border() == canvas.border()
         && colours_agree(screen, canvas)
@@ -18,7 +18,7 @@ pub(crate) fn agrees(screen: &Screen, canvas: &Canvas) -> bool
 // Whether all sixteen colours agree.
 fn colours_agree(screen: &Screen, canvas: &Canvas) -> bool
     ensures { IsTrue result
-        ↔ ((n : ℕ) → n < 16 → (standing_of screen.now).colour n ≡ slice_index canvas.now.colours n) }
+        ↔ ((n : ℕ) → n < 16 → slice_index screen.now.colours n ≡ slice_index canvas.now.colours n) }
 {
     for n in 0..16 {
         if screen.colour(n) != canvas.colour(n) {
@@ -30,8 +30,8 @@ fn colours_agree(screen: &Screen, canvas: &Canvas) -> bool
 
 // Whether all pixels agree, where the borders do.
 fn pixels_agree(screen: &Screen, canvas: &Canvas) -> bool
-    requires { (standing_of screen.now).border ≡ canvas.now.border }
-    ensures { IsTrue result ↔ ((x y : ℕ) → x < 300 → y < 216 → screen_pixel (standing_of screen.now) x y
+    requires { screen.now.border ≡ canvas.now.border }
+    ensures { IsTrue result ↔ ((x y : ℕ) → x < 300 → y < 216 → screen_pixel screen.now x y
         ≡ wanted_pixel canvas.now x y) }
 {
     for y in 12..204 {
@@ -46,7 +46,7 @@ fn pixels_agree(screen: &Screen, canvas: &Canvas) -> bool
 fn row_agrees(screen: &Screen, canvas: &Canvas, y: u32) -> bool
     requires { y < 216 }
     ensures { IsTrue result ↔ ((x : ℕ) → 6 ≤ x → x < 294
-        → screen_pixel (standing_of screen.now) x y ≡ wanted_pixel canvas.now x y) }
+        → screen_pixel screen.now x y ≡ wanted_pixel canvas.now x y) }
 {
     for x in 6..294 {
         if screen.pixel(x, y) != wanted(canvas, x, y) {

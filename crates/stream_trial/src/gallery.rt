@@ -1,6 +1,5 @@
 // The pictures of a script, one after another, beside a screen.
 ghost use Rattle.std.specs.Prelude.{◌≡◌, ◌≢◌, ◌<◌, ◌≤◌, ◌+◌, ◌*◌, List, IfOk};
-ghost use Rattle.cdg_screen.specs.Picture.{Standing, standing_of, SameStanding};
 ghost use Rattle.picture_script.specs.Script.{Drawing, pictures, ready_time};
 ghost use Rattle.picture_script.specs.Board.{StandsBefore};
 ghost use Rattle.picture_changes.specs.Shown.{ShowsPicture};
@@ -45,17 +44,11 @@ impl Gallery {
             → (self.new.next ≡ self.old.next) × (self.new.equal ≡ self.old.equal) }
         ensures looks { self.old.next < pictures script.now → slots ≡ 4 * ready_time script.now self.old.next
             → (self.new.next ≡ self.old.next + 1)
-            × ((now : Standing) → SameStanding (standing_of screen.now) now
-            → ShowsPicture script.now self.old.next now
-            → self.new.equal ≡ self.old.equal + 1) }
+            × (ShowsPicture script.now self.old.next screen.now → self.new.equal ≡ self.old.equal + 1) }
         ensures differs { self.old.next < pictures script.now
             → slots ≡ 4 * ready_time script.now self.old.next
-            → (now : Standing) → SameStanding (standing_of screen.now) now
-            → ¬ ShowsPicture script.now self.old.next now
-            → self.new.equal ≡ self.old.equal }
+            → ¬ ShowsPicture script.now self.old.next screen.now → self.new.equal ≡ self.old.equal }
     {
-        // What holds of every screen: its offsets are less than a tile.
-        let _offsets = (screen.offset_h(), screen.offset_v());
         let pictures = script.pictures();
         if self.next < pictures && slots == 4 * script.ready(self.next) {
             self.canvas.draw_until(script, self.next);

@@ -1,7 +1,7 @@
 // A stream that is played again, word by word.
 ghost use Rattle.std.specs.Prelude.{◌≡◌, ◌<◌, ◌+◌, ℕ, List, IfOk};
 ghost use Rattle.rw_code.specs.Codeword.{Reads};
-ghost use Rattle.cdg_screen.specs.Picture.{blank, standing_of, SameStanding};
+ghost use Rattle.cdg_screen.specs.Picture.{blank};
 ghost use Rattle.stream_trial.specs.Replay.{IsBelow, TakesWord, TakesBad, one_where};
 
 use cdg_instructions::read;
@@ -24,7 +24,7 @@ pub(crate) struct Replay {
 impl Replay {
     /// No word was taken.
     pub(crate) fn start(alloc: Global) -> Result<Replay, AllocError>
-        ensures screen { IfOk result (λ replay. SameStanding (standing_of replay.screen) blank) }
+        ensures screen { IfOk result (λ replay. replay.screen ≡ blank) }
         ensures counts { IfOk result (λ replay. (replay.one ≡ 0) × (replay.two ≡ 0) × (replay.bad ≡ 0)) }
     {
         Ok(Replay {

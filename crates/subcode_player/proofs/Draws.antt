@@ -12,18 +12,16 @@ use Rattle.rw_interleave.specs.Stream.{bad_count}
 use Rattle.cdg_instructions.specs.Meaning.{meaning}
 use Rattle.cdg_instructions.proofs.Meaning.{meaning_means}
 use Rattle.cdg_instructions.specs.declared.instr.Instr.{Instr}
-use Rattle.cdg_screen.specs.Picture.{Display, Standing, SameStanding, standing_of, standing_after}
-use Rattle.cdg_screen.proofs.Turns.{same_after, same_then, same_back, in_turn}
-use Rattle.cdg_screen.specs.Standings.{obeyed}
+use Rattle.cdg_screen.specs.Picture.{IsWholeStanding, Standing, standing_after}
+use Rattle.cdg_screen.proofs.Turns.{in_turn, whole_after}
 use Rattle.subcode_player.specs.Steps.{bad_next}
 use Rattle.subcode_player.specs.Drawn.{entry_drawn, draw_next, draw_after, drawing_next}
 use Rattle.subcode_player.specs.Screen.{AreMeant}
 use Rattle.subcode_player.proofs.Recovers.{found_itself, bad_some}
 use Rattle.subcode_player.specs.declared.drawing.Drawing.{Drawing}
-use Rattle.cdg_screen.proofs.StandingLemmas.{obeyed_is}
 use Rattle.subcode_player.proofs.StageRuns.{all_items, one_bad, count_more, at_most_one}
 
-abbrev state : Display → ℕ → ℕ → Drawing
+abbrev state : Standing → ℕ → ℕ → Drawing
 state picture left bad = record { picture = picture; left = left; bad = bad }
 
 -- ---- a loop over words
@@ -64,37 +62,30 @@ are_meant [] = refl
 are_meant (None ∷ rest) = are_meant rest
 are_meant (Some word ∷ rest) = (meaning_means word, are_meant rest)
 
--- nothing more was drawn
-pub nothing_more : (now : Standing) → SameStanding now (standing_after now [])
-nothing_more now = record { memory = λ x y _ _. refl; border = refl; colour = λ k _. refl; level = λ k _. refl; h = refl; v = refl }
-
 -- an entry was drawn before the rest
-entry_before : (picture : Display) (entry : Option (List ℕ)) (rest : List (Option (List ℕ))) (end : Display) → SameStanding (standing_of end) (standing_after (standing_of (entry_drawn picture entry)) (instrs_of rest))
-    → SameStanding (standing_of end) (standing_after (standing_of picture) (instrs_of (entry ∷ rest)))
+entry_before : (picture : Standing) (entry : Option (List ℕ)) (rest : List (Option (List ℕ))) (end : Standing) → end ≡ standing_after (entry_drawn picture entry) (instrs_of rest)
+    → end ≡ standing_after picture (instrs_of (entry ∷ rest))
 entry_before picture None rest end same = same
-entry_before picture (Some word) rest end same =
-    let old : Standing = standing_of picture in
-    let instr : Instr = meaning word in
-    let between : Standing = standing_after old (instr ∷ []) in
-    same_then (standing_of end) (standing_after (standing_of (obeyed picture instr)) (instrs_of rest)) (standing_after old (instr ∷ instrs_of rest)) same
-    (same_then (standing_after (standing_of (obeyed picture instr)) (instrs_of rest)) (standing_after between (instrs_of rest)) (standing_after old (instr ∷ instrs_of rest))
-    (same_after (standing_of (obeyed picture instr)) between (instrs_of rest) (obeyed_is picture instr))
-    (same_back (standing_after old (instr ∷ instrs_of rest)) (standing_after between (instrs_of rest)) (in_turn old (instr ∷ []) (instrs_of rest))))
+entry_before picture (Some word) rest end same = same ∙ sym (in_turn picture (meaning word ∷ []) (instrs_of rest))
 
-next_of : (picture : Display) (left bad : ℕ) (word : List ℕ) → draw_next (state picture (suc left) bad) word ≡ state (entry_drawn picture (finding word)) left (bad_next bad word)
+entry_whole : (picture : Standing) (entry : Option (List ℕ)) → IsWholeStanding picture → IsWholeStanding (entry_drawn picture entry)
+entry_whole picture None whole = whole
+entry_whole picture (Some word) whole = whole_after picture (meaning word ∷ [])
+
+next_of : (picture : Standing) (left bad : ℕ) (word : List ℕ) → draw_next (state picture (suc left) bad) word ≡ state (entry_drawn picture (finding word)) left (bad_next bad word)
 unfolding draw_next
 next_of picture left bad word =
     let less : suc left - 1 ≡ left = omega arith in
     let more : (suc left == 0) ≡ false = elim (eqb_tells (suc left) 0) [ inl none ↦ absurd (omega (arith, none.1)) | inr some ↦ some.0 ] in
     ap (λ t. cond t (state picture (suc left) bad) (state (entry_drawn picture (finding word)) (suc left - 1) (bad_next bad word))) more ∙ ap (λ n. state (entry_drawn picture (finding word)) n (bad_next bad word)) less
 
-none_left : (picture : Display) (bad : ℕ) (words : List (List ℕ)) → draw_after (state picture 0 bad) words ≡ state picture 0 bad
+none_left : (picture : Standing) (bad : ℕ) (words : List (List ℕ)) → draw_after (state picture 0 bad) words ≡ state picture 0 bad
 unfolding draw_after draw_next
 none_left picture bad [] = refl
 none_left picture bad (w ∷ words) = none_left picture bad words
 
 -- an idle word leaves the picture as it is
-idle_drawn : (picture : Display) (left bad : ℕ) → IsCodeword (replicate 24 0) → picture ≡ obeyed picture (meaning (replicate 24 0))
+idle_drawn : (picture : Standing) (left bad : ℕ) → IsCodeword (replicate 24 0) → picture ≡ standing_after picture (meaning (replicate 24 0) ∷ [])
     → draw_next (state picture left bad) (replicate 24 0) ≡ state picture (left - 1) bad
 unfolding draw_next
 idle_drawn picture zero bad is stays = refl
@@ -103,10 +94,10 @@ idle_drawn picture (suc left) bad is stays =
     let same : entry_drawn picture (finding word) ≡ picture = sym (stays ∙ ap (entry_drawn picture) (found_itself word is)) in
     let none : bad_next bad word ≡ bad = sym (bad_some bad word word (found_itself word is)) in
     let less : left ≡ suc left - 1 = omega arith in
-    next_of picture left bad word ∙ ap₂ (λ (p : Display) (b : ℕ). state p left b) same none ∙ ap (λ n. state picture n bad) less
+    next_of picture left bad word ∙ ap₂ (λ (p : Standing) (b : ℕ). state p left b) same none ∙ ap (λ n. state picture n bad) less
 
 -- four of them
-pub four_idle_drawn : (s : Drawing) → IsCodeword (replicate 24 0) → s.picture ≡ obeyed s.picture (meaning (replicate 24 0))
+pub four_idle_drawn : (s : Drawing) → IsCodeword (replicate 24 0) → s.picture ≡ standing_after s.picture (meaning (replicate 24 0) ∷ [])
     → record s { left = s.left - 4 } ≡ draw_after s (replicate 4 (replicate 24 0))
 unfolding draw_after
 four_idle_drawn s is stays =
@@ -116,24 +107,24 @@ four_idle_drawn s is stays =
     sym (ap next (ap next (ap next (at s.left) ∙ at (s.left - 1)) ∙ at (s.left - 1 - 1)) ∙ at (s.left - 1 - 1 - 1) ∙ ap (λ n. state s.picture n s.bad) left)
 
 -- The words were drawn from this state: what stands, and how many of them are bad.
-pub record AreDrawn (picture : Display) (left bad : ℕ) (words : List (List ℕ)) (end : Drawing) : Type 0 where
-  pub stands : SameStanding (standing_of end.picture) (standing_after (standing_of picture) (instrs_of (take left (map finding words))))
+pub record AreDrawn (picture : Standing) (left bad : ℕ) (words : List (List ℕ)) (end : Drawing) : Type 0 where
+  pub stands : end.picture ≡ standing_after picture (instrs_of (take left (map finding words)))
   pub counted : end.bad ≡ bad + bad_count (take left (map finding words))
 
 one_counted : (bad : ℕ) (word : List ℕ) → bad + 1 < 2 ^ 32 → bad_next bad word ≡ bad + bad_count (finding word ∷ [])
 unfolding bad_next
 one_counted bad word fits = one_bad bad (finding word) fits
 
-first_drawn : (picture : Display) (left bad : ℕ) (w : List ℕ) (words : List (List ℕ)) → draw_after (state picture (suc left) bad) (w ∷ words) ≡ draw_after (state (entry_drawn picture (finding w)) left (bad_next bad w)) words
+first_drawn : (picture : Standing) (left bad : ℕ) (w : List ℕ) (words : List (List ℕ)) → draw_after (state picture (suc left) bad) (w ∷ words) ≡ draw_after (state (entry_drawn picture (finding w)) left (bad_next bad w)) words
 unfolding draw_after
 first_drawn picture left bad w words = ap (λ (s : Drawing). draw_after s words) (next_of picture left bad w)
 
-pub are_drawn : (picture : Display) (left bad : ℕ) (words : List (List ℕ)) → bad + length words < 2 ^ 32 → AreDrawn picture left bad words (draw_after (state picture left bad) words)
-are_drawn picture zero bad words fits = subst (AreDrawn picture 0 bad words) (sym (none_left picture bad words)) (record { stands = nothing_more (standing_of picture); counted = omega arith })
-are_drawn picture (suc left) bad [] fits = subst (AreDrawn picture (suc left) bad []) (drawn_none_yet (state picture (suc left) bad)) (record { stands = nothing_more (standing_of picture); counted = omega arith })
-are_drawn picture (suc left) bad (w ∷ words) fits =
+pub are_drawn : (picture : Standing) (left bad : ℕ) (words : List (List ℕ)) → IsWholeStanding picture → bad + length words < 2 ^ 32 → AreDrawn picture left bad words (draw_after (state picture left bad) words)
+are_drawn picture zero bad words whole fits = subst (AreDrawn picture 0 bad words) (sym (none_left picture bad words)) (record { stands = sym whole; counted = omega arith })
+are_drawn picture (suc left) bad [] whole fits = subst (AreDrawn picture (suc left) bad []) (drawn_none_yet (state picture (suc left) bad)) (record { stands = sym whole; counted = omega arith })
+are_drawn picture (suc left) bad (w ∷ words) whole fits =
     let step : bad_next bad w ≡ bad + bad_count (finding w ∷ []) = one_counted bad w (omega (arith, fits)) in
-    let later = are_drawn (entry_drawn picture (finding w)) left (bad_next bad w) words (omega (arith, fits, step, at_most_one (finding w))) in
+    let later = are_drawn (entry_drawn picture (finding w)) left (bad_next bad w) words (entry_whole picture (finding w) whole) (omega (arith, fits, step, at_most_one (finding w))) in
     subst (AreDrawn picture (suc left) bad (w ∷ words)) (sym (first_drawn picture left bad w words)) (record {
       stands = entry_before picture (finding w) (take left (map finding words)) (draw_after (state (entry_drawn picture (finding w)) left (bad_next bad w)) words).picture later.stands;
       counted = later.counted ∙ omega (arith, step, count_more (finding w) (take left (map finding words)));

@@ -3,14 +3,13 @@ use Rattle.std.specs.Prelude.{ℕ, ◌-◌, ◌==◌, if◌then◌else◌, List,
 use Rattle.arrayvec.specs.ArrayVec.{ArrayVec}
 use Rattle.rw_code.specs.Finding.{finding}
 use Rattle.cdg_instructions.specs.Meaning.{meaning}
-use Rattle.cdg_screen.specs.Picture.{Display}
-use Rattle.cdg_screen.specs.Standings.{obeyed}
+use Rattle.cdg_screen.specs.Picture.{Standing, standing_after}
 use Rattle.subcode_player.specs.Steps.{bad_next}
 use Rattle.subcode_player.specs.declared.drawing.Drawing.{Drawing}
 
 -- after what is found for a word, if anything
-abbrev pub entry_drawn : Display → Option (List ℕ) → Display
-entry_drawn picture (Some codeword) = obeyed picture (meaning codeword)
+abbrev pub entry_drawn : Standing → Option (List ℕ) → Standing
+entry_drawn picture (Some codeword) = standing_after picture (meaning codeword ∷ [])
 entry_drawn picture None = picture
 
 -- after a word: only the packs that are left are drawn

@@ -13,7 +13,7 @@ use Rattle.raw_subcode.specs.Channels.{unit_size, block_of, program_symbols}
 use Rattle.raw_subcode.specs.declared.form.Form.{Form}
 use Rattle.rw_interleave.specs.Stream.{IsRecovered, bad_count}
 use Rattle.cdg_instructions.specs.declared.instr.Instr.{Instr}
-use Rattle.cdg_screen.specs.Picture.{Standing, SameStanding, blank, standing_after}
+use Rattle.cdg_screen.specs.Picture.{Standing, blank, standing_after}
 use Rattle.cdtext_packs.specs.Reading.{read_texts}
 use Rattle.cdtext_packs.specs.Texts.{Texts}
 use Rattle.cdtext_packs.specs.TextLines.{counted_lines}
@@ -55,7 +55,7 @@ pub record IsViewed (at : Moment) (bytes : List ℕ) (now : Standing) (bad : ℕ
   pub recovered : IsRecovered at.form (program_symbols at.form bytes at.lead_in) found
   pub instrs : List Instr
   pub shown : AreShown found at.time instrs
-  pub stands : SameStanding now (standing_after blank instrs)
+  pub stands : now ≡ standing_after blank instrs
   pub bad_is : bad ≡ bad_count (take (whole_packs at.time) found)
 
 -- a whole input was drawn up to a moment, and nothing was written

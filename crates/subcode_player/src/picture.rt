@@ -1,12 +1,11 @@
 // The screen that the packs of a stream draw on.
-ghost use Rattle.std.specs.Prelude.{◌≡◌, ◌<◌, OnOk, OnErr, IfOk};
+ghost use Rattle.std.specs.Prelude.{◌≡◌, ◌∷◌, [], OnOk, OnErr, IfOk};
 ghost use Rattle.std.specs.Io.KnownBytes.{Appends};
 ghost use Rattle.cdg_io.specs.Causes.{HasCause};
 ghost use Rattle.cdg_io.specs.Moves.{AppendsPrefix};
 ghost use Rattle.cdg_instructions.specs.Meaning.{meaning};
-ghost use Rattle.cdg_screen.specs.Picture.{Standing, SameStanding, blank, standing_of};
+ghost use Rattle.cdg_screen.specs.Picture.{blank, standing_after};
 ghost use Rattle.cdg_screen.specs.Texts.{pixmap, state_text};
-ghost use Rattle.cdg_screen.specs.Standings.{obeyed};
 ghost use Rattle.rw_code.specs.Packs.{idle_pack};
 
 use cdg_instructions::read;
@@ -23,18 +22,17 @@ pub struct Picture {
 }
 
 impl Model for Picture {
-    ghost use Rattle.cdg_screen.specs.Picture.{Display, standing_of};
-    ghost use Rattle.cdg_screen.specs.Standings.{display_of};
+    ghost use Rattle.cdg_screen.specs.Picture.{Standing};
 
-    ghost Value = { Display };
+    ghost Value = { Standing };
 
-    ghost view = { λ p. display_of (standing_of p.screen) };
+    ghost view = { λ p. p.screen };
 }
 
 impl Picture {
     /// A screen on which all is zero.
     pub fn start(alloc: Global) -> Result<Picture, AllocError>
-        ensures { IfOk result (λ p. SameStanding (standing_of p) blank) }
+        ensures { IfOk result (λ p. p ≡ blank) }
     {
         Ok(Picture {
             screen: Screen::start(alloc)?,
@@ -43,47 +41,40 @@ impl Picture {
 
     /// Makes all zero again.
     pub fn reset(&mut self)
-        ensures { SameStanding (standing_of self.new) blank }
+        ensures { self.new ≡ blank }
     {
         self.screen.reset();
     }
 
     /// Carries out the instruction of a pack.
     pub fn obey(&mut self, pack: &Pack)
-        ensures { self.new ≡ obeyed self.old (meaning pack.now) }
+        ensures { self.new ≡ standing_after self.old (meaning pack.now ∷ []) }
     {
         self.screen.obey(&read(pack));
     }
 
     /// A law: the idle pack leaves it as it is.
     pub(crate) fn stays_at_idle(&self)
-        ensures { self.now ≡ obeyed self.now (meaning idle_pack) }
+        ensures { self.now ≡ standing_after self.now (meaning idle_pack ∷ []) }
     {
-        // A proof knows the view where a field is named.
-        let _screen = &self.screen;
+        self.screen.is_whole();
     }
 
     /// Writes the picture as a pixmap. After `Failed` a prefix was written.
     pub fn write_ppm<K: Sink>(&self, out: &mut K) -> Result<(), Failed>
-        ensures ok { OnOk result ((now : Standing) → SameStanding (standing_of self.now) now
-            → Appends (K.held out.old) (K.held out.new) (pixmap now)) }
-        ensures part { OnErr result ((now : Standing) → SameStanding (standing_of self.now) now
-            → AppendsPrefix (K.held out.old) (K.held out.new) (pixmap now)) }
+        ensures ok { OnOk result (Appends (K.held out.old) (K.held out.new) (pixmap self.now)) }
+        ensures part { OnErr result (AppendsPrefix (K.held out.old) (K.held out.new) (pixmap self.now)) }
         ensures cause { HasCause (K.faults out.old) (K.faults out.new) result }
     {
-        self.screen.is_written_as_it_stands();
         self.screen.write_ppm(out)
     }
 
     /// Writes the border, the offsets, and the colours with their levels. After `Failed` a prefix was written.
     pub fn write_state<K: Sink>(&self, out: &mut K) -> Result<(), Failed>
-        ensures ok { OnOk result ((now : Standing) → SameStanding (standing_of self.now) now
-            → Appends (K.held out.old) (K.held out.new) (state_text now)) }
-        ensures part { OnErr result ((now : Standing) → SameStanding (standing_of self.now) now
-            → AppendsPrefix (K.held out.old) (K.held out.new) (state_text now)) }
+        ensures ok { OnOk result (Appends (K.held out.old) (K.held out.new) (state_text self.now)) }
+        ensures part { OnErr result (AppendsPrefix (K.held out.old) (K.held out.new) (state_text self.now)) }
         ensures cause { HasCause (K.faults out.old) (K.faults out.new) result }
     {
-        self.screen.is_written_as_it_stands();
         self.screen.write_state(out)
     }
 }

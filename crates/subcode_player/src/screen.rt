@@ -5,7 +5,7 @@ ghost use Rattle.cdg_io.specs.Causes.{Rose};
 ghost use Rattle.cdg_io.specs.Change.{change, passed};
 ghost use Rattle.raw_subcode.specs.Channels.{unit_size};
 ghost use Rattle.rw_interleave.specs.Interleave.{whole_packs};
-ghost use Rattle.cdg_screen.specs.Picture.{SameStanding, blank, standing_of};
+ghost use Rattle.cdg_screen.specs.Picture.{blank};
 ghost use Rattle.cdg_screen.specs.Texts.{pixmap, state_text};
 ghost use Rattle.picture_script.specs.Script.{Drawing};
 ghost use Rattle.subcode_player.specs.Faults.{TellsStops};
@@ -124,7 +124,7 @@ impl Player {
         requires at { at ≤ last_block }
         ensures views { (taken : List ℕ)
             × Views (moment form lead_in at) (change S.left source.old source.new)
-            (standing_of (drawing_of self.new.views.blocks).picture) result taken }
+            (drawing_of self.new.views.blocks).picture result taken }
         ensures stops { IfErr result IsMomentStop }
         ensures answer { IfSome (S.left source.old) (λ all.
             IsShownBy result lead_in at (unit_size form) (length all)) }
@@ -162,7 +162,7 @@ impl Player {
         ensures words { words_of self.new.views.blocks ≡ fresh_words form lead_in }
         ensures left { (drawing_of self.new.views.blocks).left ≡ whole_packs at }
         ensures bad { (drawing_of self.new.views.blocks).bad ≡ 0 }
-        ensures blank { SameStanding (standing_of (drawing_of self.new.views.blocks).picture) blank }
+        ensures blank { (drawing_of self.new.views.blocks).picture ≡ blank }
     {
         let words = &mut self.views.blocks.first;
         words.begin(lead_in, form);

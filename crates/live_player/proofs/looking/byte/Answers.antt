@@ -1,5 +1,4 @@
 use Rattle.std.proofs.Common.{◌%◌, ◌∙◌, ap, slice_index}
-use Rattle.cdg_screen.specs.Picture.{standing_of}
 use Rattle.cdg_screen.specs.Texts.{colour_bytes}
 use Rattle.live_player.specs.Lives.{picture_byte}
 use Rattle.live_player.proofs.looking.byte.Goals as goal
@@ -7,4 +6,4 @@ use Rattle.live_player.proofs.looking.byte.Goals as goal
 pub returns : goal.returns
 unfolding picture_byte
 returns c =
-    c.part.ensures ∙ ap (λ colour. slice_index (colour_bytes colour) (c.args.n % 3)) (c.colour-shown.ensures.colour ∙ ap (standing_of c.args.picture.now).colour c.pixel.ensures.pixel)
+    c.part.ensures ∙ ap (λ colour. slice_index (colour_bytes colour) (c.args.n % 3)) (c.colour-shown.ensures.colour ∙ ap (slice_index c.args.picture.now.colours) c.pixel.ensures.pixel)

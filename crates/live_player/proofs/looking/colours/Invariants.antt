@@ -1,10 +1,9 @@
 use Rattle.std.proofs.Common.{◌≡◌, ◌<◌, ℕ, length}
 use Rattle.std.specs.Prelude.{slice_index}
-use Rattle.cdg_screen.specs.Picture.{standing_of}
 use Rattle.live_player.proofs.looking.colours.Given as goal
 
 abbrev pub invariant-loop-k : goal.invariant-loop-k
 invariant-loop-k l = record {
   size : length l.table ≡ 16;
-  shown : (n : ℕ) → n < l.k → slice_index l.table n ≡ (standing_of l.picture).colour n;
+  shown : (n : ℕ) → n < l.k → slice_index l.table n ≡ slice_index l.picture.colours n;
 }

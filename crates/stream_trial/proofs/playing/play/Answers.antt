@@ -42,7 +42,7 @@ loop-j-preserved c =
     ∙ ap (λ (l : List (List ℕ)). get_or l c.loop-j.j []) c.deref.ensures.0 in
     record {
       small = still_below c.take_word.new.self (4 * b + c.loop-j.j + 1) (4 * b + (c.loop-j.j + 1)) (omega arith) (c.take_word.ensures.more (4 * b + c.loop-j.j) c.loop-j.invariant.small);
-      taken = takes_on c.gather_gives_words.ensures c.instructions_in_turn.ensures.one_more c.args.script.now bytes b c.loop-j.j c.loop-j.replay _ c.push_block-words.result.items (omega arith)
+      taken = takes_on c.gather_gives_words.ensures c.instructions_in_turn.ensures c.args.script.now bytes b c.loop-j.j c.loop-j.replay _ c.push_block-words.result.items (omega arith)
           words (omega (arith, size, sizes)) (omega arith) c.loop-j.invariant.taken
           (λ codeword reads. subst (λ (w : List ℕ). TakesWord w codeword c.loop-j.replay c.take_word.new.self) word
           (c.take_word.ensures.near codeword (subst (λ (w : List ℕ). Reads w codeword) (sym word) reads)));

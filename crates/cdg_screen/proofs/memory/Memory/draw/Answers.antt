@@ -1,5 +1,5 @@
 use Rattle.std.proofs.Common.{◌≡◌, ◌+◌, ◌*◌, ◌%◌, ◌<◌, ap, sym, ◌∙◌, arith}
-use Rattle.cdg_screen.specs.Picture.{Grid}
+use Rattle.cdg_screen.specs.Memory.{Grid}
 use Rattle.cdg_screen.proofs.Tiles.{line_more}
 use Rattle.cdg_screen.proofs.memory.Memory.draw.Goals as goal
 

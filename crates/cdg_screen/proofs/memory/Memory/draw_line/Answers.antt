@@ -2,8 +2,7 @@ use Rattle.std.proofs.Common.{◌≡◌, ◌+◌, ◌*◌, ◌%◌, ◌<◌, [],
 use Rattle.std.specs.Prelude.{slice_index}
 use Rattle.std.proofs.lemmas.List.{get_or_read}
 use Rattle.std.proofs.lemmas.List.Elements.{All-drop, All-take}
-use Rattle.cdg_screen.specs.Picture.{Grid}
-use Rattle.cdg_screen.specs.Memory.{drawn_over}
+use Rattle.cdg_screen.specs.Memory.{Grid, drawn_over}
 use Rattle.cdg_screen.proofs.TileLines.{row-below, line-is_grid, line-becomes}
 use Rattle.cdg_screen.proofs.memory.Memory.draw_line.Goals as goal
 

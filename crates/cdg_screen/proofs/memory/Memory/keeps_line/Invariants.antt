@@ -1,6 +1,5 @@
 use Rattle.std.specs.Prelude.{◌+◌, ◌-◌, ◌==◌, ◌&&◌, nat_le, nat_lt, if◌then◌else◌, slice_index}
-use Rattle.cdg_screen.specs.Picture.{at}
-use Rattle.cdg_screen.specs.Memory.{Becomes, drawn_over, line_colour}
+use Rattle.cdg_screen.specs.Memory.{at, Becomes, drawn_over, line_colour}
 use Rattle.cdg_screen.proofs.memory.Memory.keeps_line.Given as goal
 
 abbrev pub invariant-loop-i : goal.invariant-loop-i

@@ -1,5 +1,5 @@
 use Rattle.std.proofs.Common.{◌≡◌, [], ◌∷◌, List, ℕ, refl, sym, ap, ap₂, ◌∙◌, ◌++◌}
-use Rattle.cdg_screen.specs.Picture.{Standing, standing_of}
+use Rattle.cdg_screen.specs.Picture.{Standing}
 use Rattle.bit_lists.specs.Check.{check_of}
 use Rattle.checkpoint_files.specs.Table.{Border, Across, Down, Slots, Memory, Colours, Levels, Mark, ToCome, LeadIn, Program, Bad, body_parts}
 use Rattle.checkpoint_files.specs.Checkpoint.{Checkpoint, kept, part_bytes, with_parts}
@@ -8,7 +8,7 @@ use Rattle.checkpoint_files.proofs.file.CheckpointFile.compose.Goals as goal
 
 pub returns : goal.returns
 returns c =
-    let now : Standing = standing_of c.args.screen.now in
+    let now : Standing = c.args.screen.now in
     let slots : List ℕ = c.args.slots.now in
     let k : Checkpoint = kept c.args.counts.now slots now in
     let then : List ℕ → List ℕ → List ℕ = λ a b. a ++ b in

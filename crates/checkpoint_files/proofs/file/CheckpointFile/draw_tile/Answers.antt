@@ -1,7 +1,6 @@
 use Rattle.std.proofs.Common.{ℕ, List, sym, subst}
 use Rattle.cdg_instructions.specs.Drawing.{Turns}
 use Rattle.cdg_instructions.specs.declared.instr.Instr.{Instr}
-use Rattle.cdg_screen.specs.Picture.{standing_of}
 use Rattle.checkpoint_files.specs.Checkpoint.{standing_in}
 use Rattle.checkpoint_files.proofs.Restored.{tile_drawn, in_ranges}
 use Rattle.checkpoint_files.proofs.file.CheckpointFile.draw_tile.Goals as goal
@@ -13,4 +12,4 @@ pub returns : goal.returns
 returns c =
     let turns = subst (λ (old : List ℕ). Turns c.args.row c.args.column old c.tile.result c.plan-drawn.result.items) c.solid.ensures c.plan-drawn.ensures.turns in
     let listed = subst (λ (instrs : List Instr). Turns c.args.row c.args.column _ c.tile.result instrs) (sym c.as_slice.ensures.value) turns in
-    tile_drawn (standing_in c.args.self.now) (standing_of c.args.screen.now) (standing_of c.obey_all.new.self) c.args.row c.args.column c.tile.result c.as_slice.result.now c.requires.row c.requires.column listed c.requires.blank c.tile.ensures c.obey_all.ensures
+    tile_drawn (standing_in c.args.self.now) c.args.screen.now c.obey_all.new.self c.args.row c.args.column c.tile.result c.as_slice.result.now c.requires.row c.requires.column listed c.requires.blank c.tile.ensures c.obey_all.ensures

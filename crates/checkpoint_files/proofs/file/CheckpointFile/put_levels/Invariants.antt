@@ -1,5 +1,4 @@
 use Rattle.std.proofs.Common.{◌≡◌, ◌+◌, ◌++◌, List, ℕ, length}
-use Rattle.cdg_screen.specs.Picture.{standing_of}
 use Rattle.checkpoint_files.specs.Table.{Levels}
 use Rattle.checkpoint_files.specs.Checkpoint.{kept}
 use Rattle.checkpoint_files.specs.declared.counts.Counts.{Counts}
@@ -9,5 +8,5 @@ use Rattle.checkpoint_files.proofs.file.CheckpointFile.put_levels.Given as goal
 abbrev pub invariant-loop-k : goal.invariant-loop-k
 invariant-loop-k l = record {
   size : length l.self ≡ length l.fn.self + l.k;
-  part : (counts : Counts) (slots : List ℕ) → l.self ≡ l.fn.self ++ first_fields (kept counts slots (standing_of l.screen)) Levels l.k;
+  part : (counts : Counts) (slots : List ℕ) → l.self ≡ l.fn.self ++ first_fields (kept counts slots l.screen) Levels l.k;
 }

@@ -1,5 +1,4 @@
 use Rattle.std.proofs.Common.{refl, sym, arith}
-use Rattle.cdg_screen.specs.Picture.{standing_of}
 use Rattle.checkpoint_files.specs.Table.{Border, Across, Down}
 use Rattle.checkpoint_files.specs.Checkpoint.{Checkpoint, kept}
 use Rattle.checkpoint_files.proofs.Writing.{then_part, written_byte}
@@ -7,7 +6,7 @@ use Rattle.checkpoint_files.proofs.file.CheckpointFile.put_places.Goals as goal
 
 pub returns-clause-parts : goal.returns-clause-parts
 returns-clause-parts c counts slots =
-    let k : Checkpoint = kept counts slots (standing_of c.args.screen.now) in
+    let k : Checkpoint = kept counts slots c.args.screen.now in
     then_part _ _ _ _ k Down c.put-3.ensures
     (then_part _ _ _ _ k Across c.put-2.ensures
     (then_part _ _ _ _ k Border c.put.ensures refl refl (written_byte _ _ (sym c.border.ensures.border) (omega (arith, c.border.ensures.range))))

@@ -1,7 +1,6 @@
 use Rattle.std.proofs.Common.{arith}
-use Rattle.cdg_screen.specs.Picture.{standing_of}
 use Rattle.checkpoint_files.specs.Checkpoint.{standing_in}
-use Rattle.checkpoint_files.proofs.Restored.{all_set}
+use Rattle.checkpoint_files.proofs.Restored.{all_set, standing_is_whole}
 use Rattle.checkpoint_files.proofs.file.CheckpointFile.set.Goals as goal
 
 pub obey-requires : goal.obey-requires
@@ -18,5 +17,5 @@ obey-requires-5 c = record {
 
 pub returns : goal.returns
 returns c =
-    all_set (standing_in c.args.self.now) (standing_of c.args.screen.now) _ _ _ _ _ _ _ _ _ _ _ c.obey.ensures c.obey-2.ensures c.obey-3.ensures c.obey-4.ensures c.obey-5.ensures c.byte.ensures.number c.colours.ensures.colours c.colours-2.ensures.colours
+    all_set (standing_in c.args.self.now) c.args.screen.now _ _ _ _ _ _ _ _ _ _ _ (standing_is_whole c.args.self.now) c.is_whole.ensures c.obey.ensures c.obey-2.ensures c.obey-3.ensures c.obey-4.ensures c.obey-5.ensures c.byte.ensures.number c.colours.ensures.colours c.colours-2.ensures.colours
     c.levels.ensures.levels c.byte-2.ensures.number c.byte-3.ensures.number

@@ -1,7 +1,7 @@
-use Rattle.std.proofs.Common.{◌≡◌, [], ◌∷◌, ◌++◌, List, ℕ, map, ap, refl, subst, sym}
+use Rattle.std.proofs.Common.{◌≡◌, [], ◌∷◌, ◌++◌, List, ℕ, map, ap, refl, sym, ◌∙◌}
 use Rattle.cdg_instructions.specs.declared.instr.Instr.{Instr}
-use Rattle.cdg_screen.specs.Picture.{SameStanding, blank, standing_of, standing_after}
-use Rattle.cdg_screen.proofs.Turns.{one_more}
+use Rattle.cdg_screen.specs.Picture.{Standing, blank, standing_after}
+use Rattle.cdg_screen.proofs.Turns.{in_turn}
 use Rattle.live_player.specs.Lives.{instruction_of}
 use Rattle.live_player.proofs.live.LivePlayer.draw.Goals as goal
 
@@ -11,7 +11,8 @@ one_pack_more (first ∷ packs) pack = ap (λ l. instruction_of first ∷ l) (on
 
 pub returns : goal.returns
 returns c packs drawn =
-    let new = standing_of c.draw.new.picture in
-    let further : SameStanding new (standing_after blank (map instruction_of packs ++ instruction_of c.args.pack.now ∷ [])) =
-    one_more blank (standing_of c.args.self.now.stages.second.picture) new (map instruction_of packs) (instruction_of c.args.pack.now) drawn.stands c.draw.ensures in
-    record { stands = subst (λ (instrs : List Instr). SameStanding new (standing_after blank instrs)) (sym (one_pack_more packs c.args.pack.now)) further }
+    let instr : Instr = instruction_of c.args.pack.now in
+    record {
+      stands = c.draw.ensures ∙ ap (λ (now : Standing). standing_after now (instr ∷ [])) drawn.stands ∙ sym (in_turn blank (map instruction_of packs) (instr ∷ []))
+          ∙ ap (standing_after blank) (sym (one_pack_more packs c.args.pack.now));
+    }

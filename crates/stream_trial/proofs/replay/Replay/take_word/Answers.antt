@@ -1,7 +1,7 @@
 use Rattle.std.proofs.Common.{◌≡◌, ℕ, ◌+◌, List, [], ◌∷◌, ap, ◌∙◌, subst}
 use Rattle.rw_code.specs.Codeword.{differences}
 use Rattle.cdg_instructions.specs.Instruction.{Means}
-use Rattle.cdg_screen.specs.Picture.{standing_of, standing_after, SameStanding}
+use Rattle.cdg_screen.specs.Picture.{standing_after}
 use Rattle.stream_trial.specs.Replay.{one_where}
 use Rattle.stream_trial.proofs.replay.Replay.take_word.Goals as goal
 
@@ -17,5 +17,5 @@ returns-in-Some-clause-near c codeword reads =
       bad = c.count.ensures.same.0;
       instr = c.read.result;
       meant = subst (λ (w : List ℕ). Means w c.read.result) same c.read.ensures.meaning;
-      screen = subst (λ s. SameStanding (standing_of c.obey.new.self) (standing_after (standing_of s) (c.read.result ∷ []))) c.count.ensures.same.1 c.obey.ensures;
+      screen = subst (λ s. c.obey.new.self ≡ standing_after s (c.read.result ∷ [])) c.count.ensures.same.1 c.obey.ensures;
     }

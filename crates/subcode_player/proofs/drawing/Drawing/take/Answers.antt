@@ -1,6 +1,6 @@
-use Rattle.std.proofs.Common.{List, ℕ, sym, ap, ◌∙◌}
+use Rattle.std.proofs.Common.{List, [], ◌∷◌, ℕ, sym, ap, ◌∙◌}
 use Rattle.cdg_instructions.specs.Meaning.{meaning}
-use Rattle.cdg_screen.specs.Standings.{obeyed}
+use Rattle.cdg_screen.specs.Picture.{standing_after}
 use Rattle.subcode_player.specs.Drawn.{entry_drawn}
 use Rattle.subcode_player.proofs.Recovers.{found_itself, found_some, found_none, bad_some, bad_none}
 use Rattle.subcode_player.proofs.drawing.Drawing.take.Goals as goal
@@ -10,7 +10,7 @@ returns-then-is_idle-clause-picture c =
     let word = c.args.word.now in
     let picture = c.args.self.now.picture in
     let (zeros, is_codeword) = c.is_idle.ensures c.if-is_idle.true in
-    c.stays_at_idle.ensures ∙ ap (λ (w : List ℕ). obeyed picture (meaning w)) (sym zeros) ∙ ap (entry_drawn picture) (found_itself word is_codeword)
+    c.stays_at_idle.ensures ∙ ap (λ (w : List ℕ). standing_after picture (meaning w ∷ [])) (sym zeros) ∙ ap (entry_drawn picture) (found_itself word is_codeword)
 
 pub returns-then-is_idle-clause-bad : goal.returns-then-is_idle-clause-bad
 returns-then-is_idle-clause-bad c =

@@ -1,6 +1,5 @@
-use Rattle.cdg_screen.specs.Picture.{standing_of}
 use Rattle.subcode_player.proofs.IdlePacks.{kept}
 use Rattle.subcode_player.proofs.picture.Picture.stays_at_idle.Goals as goal
 
 pub returns : goal.returns
-returns c = rw (← c.self.view_is) (kept (standing_of c.self.inside.screen))
+returns c = rw (← c.self.view_is) (kept c.self.inside.screen c.is_whole.ensures)

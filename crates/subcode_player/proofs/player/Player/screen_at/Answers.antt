@@ -1,5 +1,4 @@
 use Rattle.std.proofs.Common.{refl}
-use Rattle.cdg_screen.specs.Picture.{standing_of}
 use Rattle.cdg_screen.specs.Texts.{pixmap}
 use Rattle.subcode_player.specs.Stages.{drawing_of}
 use Rattle.subcode_player.proofs.Told.{cut_told, shown_told, unread_view}
@@ -10,30 +9,30 @@ use Rattle.subcode_player.proofs.player.Player.screen_at.Goals as goal
 pub returns-in-Ok-write_ppm-clause-shows : goal.returns-in-Ok-write_ppm-clause-shows
 returns-in-Ok-write_ppm-clause-shows g c =
     let (taken, v) = c.in-Ok.ensures.views in
-    (taken, shows_done c.args.form c.args.lead_in c.args.at _ _ taken pixmap (standing_of (drawing_of c.view.new.self.views.blocks).picture) _ _ _ v c.in-Ok-write_ppm.ensures.ok)
+    (taken, shows_done c.args.form c.args.lead_in c.args.at _ _ taken pixmap (drawing_of c.view.new.self.views.blocks).picture _ _ _ v c.in-Ok-write_ppm.ensures.ok)
 
 pub returns-in-Err-write_ppm-clause-shows : goal.returns-in-Err-write_ppm-clause-shows
 returns-in-Err-write_ppm-clause-shows g c =
     let (taken, v) = c.in-Ok.ensures.views in
-    (taken, shows_cut c.args.form c.args.lead_in c.args.at _ _ taken pixmap (standing_of (drawing_of c.view.new.self.views.blocks).picture) _ _ _ v c.in-Err-write_ppm.ensures.part)
+    (taken, shows_cut c.args.form c.args.lead_in c.args.at _ _ taken pixmap (drawing_of c.view.new.self.views.blocks).picture _ _ _ v c.in-Err-write_ppm.ensures.part)
 
 pub returns-in-Err-clause-shows : goal.returns-in-Err-clause-shows
 returns-in-Err-clause-shows g c =
     let (taken, v) = c.in-Err.ensures.views in
-    (taken, shows_stop c.args.form c.args.lead_in c.args.at _ _ taken pixmap (standing_of (drawing_of c.view.new.self.views.blocks).picture) _ _ _ v refl)
+    (taken, shows_stop c.args.form c.args.lead_in c.args.at _ _ taken pixmap (drawing_of c.view.new.self.views.blocks).picture _ _ _ v refl)
 
 pub returns-in-Ok-write_ppm-clause-pictures : goal.returns-in-Ok-write_ppm-clause-pictures
 returns-in-Ok-write_ppm-clause-pictures g c =
     let law = c.screens_show_pictures.ensures in
     let (taken, v) = c.in-Ok.ensures.views in
-    let shows = shows_done c.args.form c.args.lead_in c.args.at _ _ taken pixmap (standing_of (drawing_of c.view.new.self.views.blocks).picture) _ _ _ v c.in-Ok-write_ppm.ensures.ok in
+    let shows = shows_done c.args.form c.args.lead_in c.args.at _ _ taken pixmap (drawing_of c.view.new.self.views.blocks).picture _ _ _ v c.in-Ok-write_ppm.ensures.ok in
     gives_picture c.args.form c.args.lead_in c.args.at _ _ _ _ _ taken law.text law.bad shows c.in-Ok.ensures.answer
 
 pub returns-in-Err-clause-pictures : goal.returns-in-Err-clause-pictures
 returns-in-Err-clause-pictures g c =
     let law = c.screens_show_pictures.ensures in
     let (taken, v) = c.in-Err.ensures.views in
-    let shows = shows_stop c.args.form c.args.lead_in c.args.at _ _ taken pixmap (standing_of (drawing_of c.view.new.self.views.blocks).picture) _ _ _ v refl in
+    let shows = shows_stop c.args.form c.args.lead_in c.args.at _ _ taken pixmap (drawing_of c.view.new.self.views.blocks).picture _ _ _ v refl in
     gives_picture c.args.form c.args.lead_in c.args.at _ _ _ _ _ taken law.text law.bad shows c.in-Err.ensures.answer
 
 pub returns-in-Ok-write_ppm-clause-faults : goal.returns-in-Ok-write_ppm-clause-faults

@@ -1,7 +1,0 @@
-use Rattle.cdg_screen.specs.Picture.{blank, standing_of}
-use Rattle.cdg_screen.proofs.Turns.{same_then}
-use Rattle.cdg_screen.proofs.StandingLemmas.{display_is}
-use Rattle.cdg_thin.proofs.thinner.Thinner.start.Goals as goal
-
-pub returns : goal.returns
-returns c = same_then _ _ blank (display_is (standing_of c.in_ok-start.field-0)) c.in_ok-start.ensures
