@@ -1,10 +1,12 @@
 -- What stands after the blocks that a player was fed.
-use Rattle.std.proofs.Common.{◌≡◌, ℕ, ◌-◌, ◌*◌, ◌≤◌, List, length, ap, ◌∙◌, subst, sym, arith}
+use Rattle.std.proofs.Common.{◌≡◌, ℕ, ◌-◌, ◌*◌, ◌≤◌, List, [], length, ap, ◌∙◌, subst, sym, arith}
 use Rattle.disc_time.specs.Counts.{last_block}
 use Rattle.rw_interleave.specs.Interleave.{whole_packs}
 use Rattle.raw_subcode.specs.declared.form.Form.{Form}
 use Rattle.std.specs.Prelude.{take, drop}
-use Rattle.live_player.specs.Lives.{HasPlayed, IsLiveView, IsLiveViewAt}
+use Rattle.cdg_screen.specs.Picture.{blank}
+use Rattle.cdg_screen.proofs.Turns.{blank_is_whole}
+use Rattle.live_player.specs.Lives.{HasDrawn, HasPlayed, IsLiveView, IsLiveViewAt}
 use Rattle.raw_subcode.specs.Channels.{symbols_of}
 use Rattle.raw_subcode.specs.declared.form.Form.TheVariants.{Raw}
 use Rattle.std.specs.List.{flat_map}
@@ -29,6 +31,10 @@ live_view form lead_in blocks player played few =
       shown = are_meant (take (whole_packs last_block) (found_in form (drop lead_in blocks)));
       stands = drawn.stands;
     }
+
+-- a player on whose picture all is zero drew no packs
+pub none_drawn : (player : LivePlayer) → player.stages.second.picture ≡ blank → HasDrawn [] player
+none_drawn player zero = record { stands = zero ∙ sym blank_is_whole }
 
 -- of a raw stream, all packs that came are whole where the program is
 pub live_view_now : (lead_in : ℕ) (blocks : List (List ℕ)) (player : LivePlayer) → HasPlayed Raw lead_in blocks player → length blocks ≤ 1000000 → length blocks - lead_in ≤ last_block

@@ -1,4 +1,4 @@
-use Rattle.std.proofs.Common.{◌+◌, ◌<◌, ◌≤◌, sym, ap₂, ◌∙◌, arith}
+use Rattle.std.proofs.Common.{◌+◌, ◌<◌, ◌≤◌, sym, arith}
 use Rattle.std.proofs.lemmas.Grind.{common_steps}
 use Rattle.cdg_screen.specs.Memory.{at}
 use Rattle.cdg_screen.proofs.Lists.{pixel_of_rows}
@@ -17,5 +17,4 @@ returns-then-contains-2-clause-pixel c =
     let y : c.args.y + c.self.inside.v < 216 = omega (arith, c.self.invariant.v_most) in
     let moved = sym (pixel_of_rows (at c.self.inside.memory) (c.args.x + c.self.inside.h) (c.args.y + c.self.inside.v) x y) in
     rw (← c.self.view_is)
-    (window_pixel (seen kept) c.args.x c.args.y c.get.result left right top bottom
-    (c.get.ensures.pixel ∙ ap₂ (λ h v. at c.self.inside.memory (c.args.x + h) (c.args.y + v)) c.from.ensures c.from-then-contains-2.ensures ∙ moved))
+    (window_pixel (seen kept) c.args.x c.args.y c.get.result left right top bottom (cc moved))

@@ -1,6 +1,6 @@
-use Rattle.std.proofs.Common.{sym, ◌∙◌}
-use Rattle.cdg_screen.proofs.Turns.{blank_is_whole}
+use Rattle.std.proofs.Common.{rules}
+use Rattle.live_player.proofs.LiveViews.{none_drawn}
 use Rattle.live_player.proofs.live.LivePlayer.begin.Goals as goal
 
 pub returns-clause-drawn : goal.returns-clause-drawn
-returns-clause-drawn c = record { stands = c.reset-2.ensures ∙ sym blank_is_whole }
+returns-clause-drawn c = search (rules, none_drawn)
