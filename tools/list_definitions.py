@@ -21,7 +21,7 @@ ACTS = [
     ("Pictures", ["IsAuthored", "run.shows"]),
     ("Framing: P, Q and the table of contents", ["HasFraming", "layout_of", "program_blocks", "run.frames"]),
     ("Texts of the lead-in", ["text_packs", "lead_in_need", "run.strings"]),
-    ("What is written for a script, and what cannot be ready", ["ArePacks", "HavePlace", "run.authors", "run.late"]),
+    ("What is written for a script, and what cannot be ready", ["written_symbols", "ArePacks", "HavePlace", "run.authors", "run.late"]),
     ("The two grammars", ["IsSheetText", "IsScriptText", "CueSheet", "Drawing"]),
     ("Words, answers, and what each command takes and writes", ["Spells", "texts", "error_line", "pixmap", "run.*"]),
 ]
