@@ -23,7 +23,7 @@ use Rattle.cdg_io.specs.Streams.{Streams}
 use Rattle.cdg_io.proofs.Frames.{passing}
 use Rattle.cdg_cmd.specs.declared.command.Command.TheVariants.{Convert}
 use Rattle.cdg_cmd.proofs.WholeInputs.{both, unless_memory}
-use Rattle.run_laws.specs.Undamaged.{IsCleanStream, words_of}
+use Rattle.run_laws.specs.Undamaged.{IsCleanStream, form_words}
 use Rattle.cdg_cmd.specs.declared.status.Status.{Status}
 use Rattle.cdg_cmd.specs.declared.status.Status.TheVariants.{Done, Damaged, NoMemory}
 
@@ -58,11 +58,11 @@ module _ (writes : List ℕ → List ℕ → ℕ → Type 0) (form : Form) (lead
 clean_text : (form : Form) (symbols : List ℕ) (found : List (Option (List ℕ))) (text : List ℕ) (bad : ℕ)
     → found ≡ map (λ n. Some (form_word form symbols n)) (below (word_count form (length symbols / 96)))
     → ((packs : List (List ℕ)) → cdg_bytes (map (λ pack. Some pack) packs) ≡ concat packs) → ((packs : List (List ℕ)) → bad_count (map (λ pack. Some pack) packs) ≡ 0)
-    → text ≡ cdg_bytes found → bad ≡ bad_count found → (text ≡ concat (words_of form symbols)) × (bad ≡ 0)
+    → text ≡ cdg_bytes found → bad ≡ bad_count found → (text ≡ concat (form_words form symbols)) × (bad ≡ 0)
 clean_text form symbols found text bad all written none text_is bad_is =
-    let words : found ≡ map (λ (pack : List ℕ). Some pack) (words_of form symbols) =
+    let words : found ≡ map (λ (pack : List ℕ). Some pack) (form_words form symbols) =
     all ∙ sym (map-map (λ (pack : List ℕ). Some pack) (form_word form symbols) (below (word_count form (length symbols / 96)))) in
-    (text_is ∙ ap cdg_bytes words ∙ written (words_of form symbols), bad_is ∙ ap bad_count words ∙ none (words_of form symbols))
+    (text_is ∙ ap cdg_bytes words ∙ written (form_words form symbols), bad_is ∙ ap bad_count words ∙ none (form_words form symbols))
 
 -- what is recovered of a clean stream
 abbrev pub FindsWords : Form → List ℕ → Type 0
@@ -73,14 +73,14 @@ module _ (form : Form) (lead_in : ℕ) (left' more more' : Bytes) (out : Change 
     (finds : (symbols : List ℕ) → FindsWords form symbols) (written : (packs : List (List ℕ)) → cdg_bytes (map (λ pack. Some pack) packs) ≡ concat packs)
     (none : (packs : List (List ℕ)) → bad_count (map (λ pack. Some pack) packs) ≡ 0) where
   clean_converted : (all : List ℕ) → Does (Convert lead_in form) (both (Some all) left' more more' out) status → IsCleanStream form lead_in all
-      → GivesBack (concat (words_of form (program_symbols form all lead_in))) out status
+      → GivesBack (concat (form_words form (program_symbols form all lead_in))) out status
   clean_converted all c clean =
       let symbols : List ℕ = program_symbols form all lead_in in
-      subst (λ (s : Status). GivesBack (concat (words_of form symbols)) out s) (sym c.status_is)
-      (in_turn_given (IsConverted form lead_in) form lead_in all left' out c.taken (concat (words_of form symbols)) c.answer c.did c.exactly.1 clean.input
+      subst (λ (s : Status). GivesBack (concat (form_words form symbols)) out s) (sym c.status_is)
+      (in_turn_given (IsConverted form lead_in) form lead_in all left' out c.taken (concat (form_words form symbols)) c.answer c.did c.exactly.1 clean.input
       (λ text bad converted. clean_text form symbols converted.found text bad (finds symbols converted.found clean.codewords converted.recovered) written none converted.text_is converted.bad_is))
 
   pub clean_given : (left : Bytes) → (status ≢ NoMemory → Does (Convert lead_in form) (both left left' more more' out) status)
-      → IfSome left (λ all. IsCleanStream form lead_in all → GivesBack (concat (words_of form (program_symbols form all lead_in))) out status)
+      → IfSome left (λ all. IsCleanStream form lead_in all → GivesBack (concat (form_words form (program_symbols form all lead_in))) out status)
   clean_given None converts = tt
   clean_given (Some all) converts = λ clean. unless_memory _ status (λ found. clean_converted all (converts found) clean)

@@ -8,8 +8,8 @@ use Rattle.rw_interleave.specs.Stream.{form_word, word_count}
 use Rattle.subcode_player.specs.TextListing.{IsWholeInput}
 
 -- the words of program symbols
-abbrev pub words_of : Form → List ℕ → List (List ℕ)
-words_of form symbols = map (form_word form symbols) (below (word_count form (length symbols / 96)))
+abbrev pub form_words : Form → List ℕ → List (List ℕ)
+form_words form symbols = map (form_word form symbols) (below (word_count form (length symbols / 96)))
 
 -- whole units, of which each word is a codeword
 pub record IsCleanStream (form : Form) (lead_in : ℕ) (bytes : List ℕ) : Type 0 where

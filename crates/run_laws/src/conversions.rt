@@ -20,7 +20,7 @@ ghost use Rattle.cdg_cmd.specs.Headline.{PutsPicture};
 ghost use Rattle.cdg_cmd.specs.declared.command.Command.TheVariants.{Convert, Screen};
 ghost use Rattle.cdg_cmd.specs.declared.status.Status.{Status};
 ghost use Rattle.run_laws.specs.Ran.{IsRun};
-ghost use Rattle.run_laws.specs.Undamaged.{IsCleanStream, words_of};
+ghost use Rattle.run_laws.specs.Undamaged.{IsCleanStream, form_words};
 
 use crate::scratched_streams_are_damaged;
 use rw_interleave::{clean_words_are_found, packs_are_recovered, text_of_packs};
@@ -56,7 +56,7 @@ pub fn clean_streams_give_their_words()
     ensures { (lead_in : ℕ) (form : Form) (call : Call Bytes) (status : Status)
         → IsRun (Convert lead_in form) call status
         → IfSome call.first.before (λ all. IsCleanStream form lead_in all
-        → GivesBack (concat (words_of form (program_symbols form all lead_in))) call.out status) }
+        → GivesBack (concat (form_words form (program_symbols form all lead_in))) call.out status) }
 {
     clean_words_are_found();
     text_of_packs();
