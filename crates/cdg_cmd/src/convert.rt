@@ -14,7 +14,7 @@ use std::alloc::Global;
 use subcode_player::{Form, Player};
 
 /// Writes the packs of a stream as its blocks are read.
-#[tactic(auto, using(crate::proofs::Played::told_one, crate::proofs::Played::told_none, crate::proofs::Played::never_memory, crate::proofs::Played::ended_in_turn))]
+#[tactic(auto, using(crate::proofs::Played::told_none))]
 pub(crate) fn run_convert<S: Source, K: Sink>(
     alloc: Global,
     lead_in: u32,

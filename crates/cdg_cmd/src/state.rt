@@ -15,7 +15,7 @@ use std::alloc::Global;
 use subcode_player::{Form, Player};
 
 /// Writes the state of the screen at a moment of a stream.
-#[tactic(auto, using(crate::proofs::Played::told_one, crate::proofs::Played::told_none, crate::proofs::Played::shown_never_memory, crate::proofs::Played::ended_first, crate::proofs::Played::untouched))]
+#[tactic(auto, using(crate::proofs::Played::told_none))]
 pub(crate) fn run_state<S: Source, K: Sink>(
     alloc: Global,
     lead_in: u32,

@@ -15,7 +15,7 @@ use std::alloc::Global;
 use subcode_player::{Form, Player};
 
 /// Writes the texts of the lead-in of a stream, after all of it is read.
-#[tactic(auto, using(crate::proofs::Played::told_one, crate::proofs::Played::told_none, crate::proofs::Played::ended_first, crate::proofs::Played::untouched))]
+#[tactic(auto, using(crate::proofs::Played::told_none))]
 pub(crate) fn run_text<S: Source, K: Sink>(
     alloc: Global,
     lead_in: u32,
