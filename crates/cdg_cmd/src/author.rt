@@ -102,7 +102,6 @@ fn author_status(answer: Result<(), AuthorStop>) -> Status
 }
 
 /// Writes the stream of a cue sheet, which is the first input, and a picture script, which is the second.
-#[tactic(auto, using(crate::proofs::AuthorTold::told_at_sheet, crate::proofs::AuthorTold::told_at_script, crate::proofs::AuthorTold::sheet_read, crate::proofs::AuthorTold::script_read, crate::proofs::AuthorTold::sheet_stopped, crate::proofs::AuthorTold::script_stopped))]
 pub(crate) fn run_author<S: Source, T: Source, K: Sink>(
     alloc: Global,
     lead_in: u32,

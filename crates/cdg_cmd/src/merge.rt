@@ -31,7 +31,7 @@ fn merge_status(answer: Result<Merged, MergeStop>) -> Status
 }
 
 /// Writes the packs on which two readings of a stream agree, as their blocks are read.
-#[tactic(auto, using(crate::proofs::MergeTold::told, crate::proofs::MergeTold::told_none, crate::proofs::MergeTold::never_memory, crate::proofs::MergeTold::never_usage, crate::proofs::MergeTold::first_ended, crate::proofs::MergeTold::second_ended))]
+#[tactic(auto, using(crate::proofs::MergeTold::told_none))]
 pub(crate) fn run_merge<S: Source, T: Source, K: Sink>(
     alloc: Global,
     lead_in: u32,

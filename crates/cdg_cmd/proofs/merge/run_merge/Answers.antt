@@ -1,3 +1,4 @@
+use Rattle.cdg_cmd.proofs.MergeTold.{first_ended, never_memory, never_usage, second_ended, told}
 use Rattle.cdg_cmd.proofs.merge.run_merge.Goals as goal
 
 pub returns-in-Ok-clause-does : goal.returns-in-Ok-clause-does
@@ -16,3 +17,21 @@ returns-in-Ok-clause-does g c = λ found.
       second_end = done.second_end;
       exactly = done.answer;
     }
+
+pub returns-in-Ok-clause-no_memory : goal.returns-in-Ok-clause-no_memory
+returns-in-Ok-clause-no_memory g c = λ none. absurd (never_memory c.run.result _ c.merge_status.ensures none)
+
+pub returns-in-Ok-clause-never : goal.returns-in-Ok-clause-never
+returns-in-Ok-clause-never g c = never_usage c.run.result _ c.merge_status.ensures
+
+pub returns-in-Ok-clause-faults : goal.returns-in-Ok-clause-faults
+returns-in-Ok-clause-faults g c =
+    let done = c.run.ensures in
+    told c.run.result _ _ _ _ _ _ _ c.merge_status.ensures done.first_later done.second_later done.out_later
+    done.first_fault done.no_first_fault done.second_fault done.no_second_fault done.write_fault done.no_write_fault
+
+pub returns-in-Ok-clause-first_ended : goal.returns-in-Ok-clause-first_ended
+returns-in-Ok-clause-first_ended g c = first_ended c.run.result _ _ _ c.merge_status.ensures c.run.ensures.first_told
+
+pub returns-in-Ok-clause-second_ended : goal.returns-in-Ok-clause-second_ended
+returns-in-Ok-clause-second_ended g c = second_ended c.run.result _ _ _ c.merge_status.ensures c.run.ensures.second_told
