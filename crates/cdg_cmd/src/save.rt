@@ -15,7 +15,7 @@ use cdg_io::{Sink, Source};
 use std::alloc::Global;
 
 /// Writes the checkpoint after a stream.
-#[tactic(auto, using(crate::proofs::Pumped::told_one, crate::proofs::Played::told_none, crate::proofs::Pumped::never_memory, crate::proofs::SaveTold::ended_first, crate::proofs::SaveTold::untouched))]
+#[tactic(auto, using(crate::proofs::Played::told_none))]
 pub(crate) fn run_save<S: Source, K: Sink>(
     alloc: Global,
     lead_in: u32,
