@@ -31,34 +31,53 @@ impl Side {
         outputs: &Outputs,
     ) -> Result<()> {
         match what {
-            "" => self
-                .bytes
-                .extend_from_slice(&read_pieces(alloc, value, outputs)?)?,
-            ">" => self.bytes.extend_from_slice(value.as_bytes())?,
-            "|" => {
-                self.bytes.extend_from_slice(value.as_bytes())?;
-                self.bytes.push(b'\n')?;
-            }
-            "^" => {
-                let mask = read_pieces(alloc, value, outputs)?;
-                ensure!(mask.len() <= self.bytes.len(), "more bits than bytes");
-                change(&mut self.bytes, &mask);
-            }
-            "-each" => {
-                let (blocks, line) = value.split_once(' ').context("a number lacks its line")?;
-                add_timed_lines(alloc, &mut self.bytes, blocks.parse::<u32>()?, line)?;
-            }
-            "-cuts" => {
-                for word in value.split_ascii_whitespace() {
-                    self.cuts.push(word.parse::<usize>()?)?;
-                }
-            }
-            "-fails" => {
-                for word in value.split_ascii_whitespace() {
-                    self.fails.push(word.parse::<u32>()?)?;
-                }
-            }
+            "" => self.add_pieces(alloc, value, outputs),
+            ">" => Ok(self.bytes.extend_from_slice(value.as_bytes())?),
+            "|" => Ok(self.add_line(value)?),
+            "^" => self.change_bits(alloc, value, outputs),
+            "-each" => self.add_timed(alloc, value),
+            "-cuts" => self.add_cuts(value),
+            "-fails" => self.add_fails(value),
             _ => bail!("unknown: {what}"),
+        }
+    }
+
+    fn add_pieces(&mut self, alloc: Global, pieces: &str, outputs: &Outputs) -> Result<()> {
+        let bytes = read_pieces(alloc, pieces, outputs)?;
+        Ok(self.bytes.extend_from_slice(&bytes)?)
+    }
+
+    fn add_line(&mut self, line: &str) -> Result<(), AllocError> {
+        self.bytes.extend_from_slice(line.as_bytes())?;
+        self.bytes.push(b'\n')?;
+        Ok(())
+    }
+
+    // Changes the bits of the bytes so far that are set in pieces.
+    fn change_bits(&mut self, alloc: Global, pieces: &str, outputs: &Outputs) -> Result<()> {
+        let mask = read_pieces(alloc, pieces, outputs)?;
+        ensure!(mask.len() <= self.bytes.len(), "more bits than bytes");
+        change(&mut self.bytes, &mask);
+        Ok(())
+    }
+
+    // Adds a line for each of so many blocks.
+    fn add_timed(&mut self, alloc: Global, value: &str) -> Result<()> {
+        let (blocks, line) = value.split_once(' ').context("a number lacks its line")?;
+        let blocks = blocks.parse::<u32>()?;
+        Ok(add_timed_lines(alloc, &mut self.bytes, blocks, line)?)
+    }
+
+    fn add_cuts(&mut self, numbers: &str) -> Result<()> {
+        for word in numbers.split_ascii_whitespace() {
+            self.cuts.push(word.parse::<usize>()?)?;
+        }
+        Ok(())
+    }
+
+    fn add_fails(&mut self, numbers: &str) -> Result<()> {
+        for word in numbers.split_ascii_whitespace() {
+            self.fails.push(word.parse::<u32>()?)?;
         }
         Ok(())
     }

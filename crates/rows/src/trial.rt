@@ -4,6 +4,7 @@ ghost use Rattle.std.specs.Prelude.{◌≡◌, OnOk};
 use crate::row::{Extent, Part, Row};
 use anyhow::{Result, bail, ensure};
 use cdg_cmd::{run, split};
+use cdg_io::{MemSink, MemSource};
 use sha2::{Digest, Sha256};
 use std::alloc::{AllocError, Global};
 use std::mem::replace;
@@ -72,6 +73,12 @@ fn has_line(text: &[u8], line: &str) -> bool {
     false
 }
 
+// Fails where bytes do not have this digest.
+fn compare_digest(alloc: Global, digest: &str, got: &[u8]) -> Result<()> {
+    let found = hex::encode(alloc, Sha256::digest(got))?;
+    compare(alloc, "digest of out", digest.as_bytes(), found.as_bytes())
+}
+
 // Fails where an output is not what a row wants.
 fn compare_output(alloc: Global, row: &Row, got: &[u8]) -> Result<()> {
     match row.extent {
@@ -81,8 +88,7 @@ fn compare_output(alloc: Global, row: &Row, got: &[u8]) -> Result<()> {
     }
     compare_count("length of out", row.length, got.len())?;
     if let Some(digest) = &row.digest {
-        let found = hex::encode(alloc, Sha256::digest(got))?;
-        compare(alloc, "digest of out", digest.as_bytes(), found.as_bytes())?;
+        compare_digest(alloc, digest, got)?;
     }
     for part in row.parts.iter() {
         compare_part(alloc, part, got)?;
@@ -93,30 +99,61 @@ fn compare_output(alloc: Global, row: &Row, got: &[u8]) -> Result<()> {
     Ok(())
 }
 
-/// Runs a row, and answers what it wrote. It fails where that is not what the row wants.
-pub(crate) fn run_row(alloc: Global, row: &mut Row) -> Result<Vec<u8>> {
-    if row.is_given {
-        return Ok(replace(&mut row.out.bytes, Vec::new(alloc)));
+// The inputs and outputs of a run.
+#[derive(Drop)]
+struct Streams {
+    first: MemSource,
+    second: MemSource,
+    out: MemSink,
+    err: MemSink,
+}
+
+impl Streams {
+    // Those of a row, whose inputs they take.
+    fn of_row(alloc: Global, row: &mut Row) -> Result<Streams, AllocError> {
+        let out = row.out.sink(alloc, row.room)?;
+        let err = row.err.sink(alloc, 256)?;
+        Ok(Streams {
+            first: row.first.source(alloc),
+            second: row.second.source(alloc),
+            out,
+            err,
+        })
     }
-    let mut first = row.first.source(alloc);
-    let mut second = row.second.source(alloc);
-    let mut out = row.out.sink(alloc, row.room)?;
-    let mut err = row.err.sink(alloc, 256)?;
+}
+
+// Runs the words of a row. It fails where they are split elsewhere, or the status is not the one that is wanted.
+fn run_words(alloc: Global, row: &Row, streams: &mut Streams) -> Result<()> {
     let split = split(&row.words);
     compare_count("names", Some(row.names), split.names)?;
     let status = run(
         alloc,
         &row.words[..split.words],
-        &mut first,
-        &mut second,
-        &mut out,
-        &mut err,
+        &mut streams.first,
+        &mut streams.second,
+        &mut streams.out,
+        &mut streams.err,
     );
     let (wanted, got) = (row.status, status.exit());
     ensure!(wanted == got, "status: wanted {wanted}, got {got}");
-    compare(alloc, "err", &row.err.bytes, err.bytes())?;
-    compare_output(alloc, row, out.bytes())?;
-    compare_count("left", row.first_left, first.rest().len())?;
-    compare_count("left of second", row.second_left, second.rest().len())?;
-    Ok(out.bytes().to_vec(alloc)?)
+    Ok(())
+}
+
+// Fails where what was written, or what is left of the inputs, is not what a row wants.
+fn compare_streams(alloc: Global, row: &Row, streams: &Streams) -> Result<()> {
+    compare(alloc, "err", &row.err.bytes, streams.err.bytes())?;
+    compare_output(alloc, row, streams.out.bytes())?;
+    compare_count("left", row.first_left, streams.first.rest().len())?;
+    compare_count("left of second", row.second_left, streams.second.rest().len())
+}
+
+/// Runs a row, and answers what it wrote. It fails where that is not what the row wants.
+pub(crate) fn run_row(alloc: Global, row: &mut Row) -> Result<Vec<u8>> {
+    if row.is_given {
+        return Ok(replace(&mut row.out.bytes, Vec::new(alloc)));
+    }
+    let mut streams = Streams::of_row(alloc, row)?;
+    run_words(alloc, row, &mut streams)?;
+    compare_streams(alloc, row, &streams)?;
+    Ok(streams.out.bytes().to_vec(alloc)?)
 }
