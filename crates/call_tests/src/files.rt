@@ -2,15 +2,23 @@ use cdg_io::{ReadSource, WriteSink};
 use std::fs;
 use std::fs::File;
 use std::test::Fail;
-use subcode_player::{Form, Played, Player};
+use subcode_player::{Form, PlayStop, Played, Player};
+
+fn convert_file(
+    rt: &HostRuntime,
+    blocks: &str,
+    packs: &str,
+) -> Result<Result<Played, PlayStop>, Fail> {
+    let mut source = ReadSource::new(File::open(rt, blocks)?);
+    let mut sink = WriteSink::new(File::create(rt, packs)?);
+    let mut player = Player::start(rt.alloc())?;
+    Ok(player.convert(0, Form::Raw, &mut source, &mut sink))
+}
 
 #[test]
 fn a_file_is_converted_to_a_file(rt: HostRuntime) -> Result<(), Fail> {
     fs::write(&rt, "blocks.raw", [0; 192])?;
-    let mut player = Player::start(rt.alloc())?;
-    let mut source = ReadSource::new(File::open(&rt, "blocks.raw")?);
-    let mut sink = WriteSink::new(File::create(&rt, "packs.cdg")?);
-    let played = player.convert(0, Form::Raw, &mut source, &mut sink);
+    let played = convert_file(&rt, "blocks.raw", "packs.cdg")?;
     assert_eq!(rt; played, Ok(Played { blocks: 2, bad: 0 }));
     assert_eq!(rt;
         fs::read(&rt, "packs.cdg")?.as_slice(),

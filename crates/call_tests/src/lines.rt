@@ -23,6 +23,10 @@ fn words_of_a_line(rt: HostRuntime) {
         split_command(b"a \tb c"),
         (b"a".as_slice(), b"b c".as_slice())
     );
+}
+
+#[test]
+fn next_words(rt: HostRuntime) {
     assert_eq!(rt;
         next_word(b" ab c"),
         Some((b"ab".as_slice(), b" c".as_slice()))
@@ -35,14 +39,9 @@ fn numbers_and_times(rt: HostRuntime) {
     assert_eq!(rt; number(b"288", 1, 3), Some(288));
     assert_eq!(rt; number(b"1000", 1, 3), None);
     assert_eq!(rt; two_digits(b"07"), Some(7));
-    let rows: [(&[u8], Option<u32>); 5] = [
-        (b"00:02:00", Some(150)),
-        (b"99:59:74", Some(449_999)),
-        (b"00:60:00", None),
-        (b"00:00:75", None),
-        (b"0:00:00", None),
-    ];
-    for (text, block) in rows {
-        assert_eq!(rt; time(text), block);
-    }
+    assert_eq!(rt; time(b"00:02:00"), Some(150));
+    assert_eq!(rt; time(b"99:59:74"), Some(449_999));
+    assert_eq!(rt; time(b"00:60:00"), None);
+    assert_eq!(rt; time(b"00:00:75"), None);
+    assert_eq!(rt; time(b"0:00:00"), None);
 }

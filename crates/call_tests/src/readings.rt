@@ -12,24 +12,19 @@ fn reading(positions: &[usize]) -> Word {
     Word::new(&bytes)
 }
 
+// The bytes on which two such readings agree.
+fn agreed(first: &[usize], second: &[usize]) -> Option<[u8; 24]> {
+    agree(&reading(first), &reading(second)).map(|pack| pack.word().bytes())
+}
+
 #[test]
 fn agrees_on_the_idle_pack(rt: HostRuntime) {
-    let cases: [(&[usize], &[usize], bool); 7] = [
-        (&[], &[], true),
-        (&[4, 5], &[4, 5], true),
-        (&[4, 5, 6], &[], true),
-        (&[4, 6], &[2, 5], true),
-        (&[2, 4, 5, 6, 7], &[], false),
-        (&[2, 4, 5], &[5], true),
-        (&[2, 4, 5, 6], &[5], false),
-    ];
-    for (first, second, agreed) in cases {
-        match agree(&reading(first), &reading(second)) {
-            Some(pack) => {
-                assert!(rt; agreed);
-                assert_eq!(rt; pack.word().bytes(), Pack::idle().word().bytes());
-            }
-            None => assert!(rt; !agreed),
-        }
-    }
+    let idle = Some(Pack::idle().word().bytes());
+    assert_eq!(rt; agreed(&[], &[]), idle);
+    assert_eq!(rt; agreed(&[4, 5], &[4, 5]), idle);
+    assert_eq!(rt; agreed(&[4, 5, 6], &[]), idle);
+    assert_eq!(rt; agreed(&[4, 6], &[2, 5]), idle);
+    assert_eq!(rt; agreed(&[2, 4, 5, 6, 7], &[]), None);
+    assert_eq!(rt; agreed(&[2, 4, 5], &[5]), idle);
+    assert_eq!(rt; agreed(&[2, 4, 5, 6], &[5]), None);
 }

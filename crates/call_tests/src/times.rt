@@ -10,19 +10,18 @@ fn checks(rt: HostRuntime) {
 
 #[test]
 fn times(rt: HostRuntime) {
-    let table: [(&[u8], Option<u32>); 8] = [
-        (b"00:00:00", Some(0)),
-        (b"00:02:00", Some(150)),
-        (b"99:59:74", Some(449_999)),
-        (b"00:60:00", None),
-        (b"00:00:75", None),
-        (b"0:00:00", None),
-        (b"00:02:000", None),
-        (b"00.02:00", None),
-    ];
-    for (text, want) in table {
-        assert_eq!(rt; parse_time(text), want);
-    }
+    assert_eq!(rt; parse_time(b"00:00:00"), Some(0));
+    assert_eq!(rt; parse_time(b"00:02:00"), Some(150));
+    assert_eq!(rt; parse_time(b"99:59:74"), Some(449_999));
+    assert_eq!(rt; parse_time(b"00:60:00"), None);
+    assert_eq!(rt; parse_time(b"00:00:75"), None);
+    assert_eq!(rt; parse_time(b"0:00:00"), None);
+    assert_eq!(rt; parse_time(b"00:02:000"), None);
+    assert_eq!(rt; parse_time(b"00.02:00"), None);
+}
+
+#[test]
+fn parts_of_a_time(rt: HostRuntime) {
     let end = Msf::of_block(449_999);
     assert_eq!(rt; (end.min(), end.sec(), end.frame()), (99, 59, 74));
     assert_eq!(rt; end.text(), *b"99:59:74");

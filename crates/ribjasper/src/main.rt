@@ -7,7 +7,8 @@ mod live;
 use cdg_cmd::{Status, run, split, tell};
 use cdg_io::{BufferedSource, SteadySink, WriteSink};
 use input::Input;
-use live::{LiveInput, LiveOutput, flush};
+use live::{LiveInput, LiveOutput, Waiting, flush};
+use std::alloc::Global;
 use std::cell::RefCell;
 use std::io::{BufReader, BufWriter, ErrorKind};
 use std::process::ExitCode;
@@ -43,34 +44,38 @@ fn inputs<'a>(rt: &'a HostRuntime, names: &'a [String]) -> (Input<'a>, Input<'a>
     }
 }
 
-// Runs the words on the inputs and standard output.
-fn run_on_streams(rt: &HostRuntime) -> io::Result<Status> {
-    let alloc = rt.alloc();
-    let line = words(rt)?;
-    let split = split(&line);
+// A source of an input, before whose reads all that waits is written.
+fn source<'a>(
+    alloc: Global,
+    input: Input<'a>,
+    waiting: &'a Waiting,
+) -> io::Result<BufferedSource<LiveInput<'a>>> {
+    let reader = BufReader::with_capacity(alloc, READ, LiveInput { input, waiting })?;
+    Ok(BufferedSource::new(reader))
+}
+
+// Runs the words of a line on the inputs, and on an output that may still wait.
+fn run_words(rt: &HostRuntime, line: &[String], waiting: &Waiting) -> io::Result<Status> {
+    let split = split(line);
     let first_name = line.len() - split.names;
     let (first, second) = inputs(rt, &line[first_name..]);
-    let waiting = RefCell::new(BufWriter::with_capacity(alloc, BUFFER, rt.stdout())?);
-    let first = LiveInput {
-        input: first,
-        waiting: &waiting,
-    };
-    let second = LiveInput {
-        input: second,
-        waiting: &waiting,
-    };
-    let mut first = BufferedSource::new(BufReader::with_capacity(alloc, READ, first)?);
-    let mut second = BufferedSource::new(BufReader::with_capacity(alloc, READ, second)?);
-    let mut out = WriteSink::new(LiveOutput(&waiting));
-    let mut err = SteadySink::new();
-    let status = run(
-        alloc,
+    let mut first = source(rt.alloc(), first, waiting)?;
+    let mut second = source(rt.alloc(), second, waiting)?;
+    Ok(run(
+        rt.alloc(),
         &line[..split.words],
         &mut first,
         &mut second,
-        &mut out,
-        &mut err,
-    );
+        &mut WriteSink::new(LiveOutput(waiting)),
+        &mut SteadySink::new(),
+    ))
+}
+
+// Runs the words of the program on the inputs and standard output.
+fn run_on_streams(rt: &HostRuntime) -> io::Result<Status> {
+    let line = words(rt)?;
+    let waiting = RefCell::new(BufWriter::with_capacity(rt.alloc(), BUFFER, rt.stdout())?);
+    let status = run_words(rt, &line, &waiting)?;
     match flush(&waiting) {
         Ok(()) => Ok(status),
         Err(_) => Ok(Status::WriteFault),
