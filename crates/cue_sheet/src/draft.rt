@@ -1,5 +1,5 @@
 // What the lines of a cue sheet so far say.
-ghost use Rattle.std.specs.Prelude.{◌≡◌, ◌≤◌, ◌++◌, true, length, IfOk, MatchResult, map};
+ghost use Rattle.std.specs.Prelude.{◌≡◌, ◌≤◌, ◌++◌, true, length, IfOk, IfErr, Ok, Err, MatchResult, map};
 ghost use Rattle.text_lines.specs.Text.{most_text_bytes};
 ghost use Rattle.cue_sheet.specs.Grammar.{CueState, track_with};
 ghost use Rattle.cue_sheet.specs.Views.{section_of, track_value};
@@ -13,7 +13,7 @@ use crate::sheet::Sheet;
 use std::alloc::{AllocError, Global};
 use std::marker::Model;
 use std::mem;
-use text_lines::{split_command, trim};
+use text_lines::{next_line, split_command, trim, without_mark};
 
 /// What the lines so far say. `section` has the lines of the last track, or those before the first one.
 #[derive(Drop)]
@@ -40,7 +40,8 @@ impl Model for Draft {
 }
 
 impl Draft {
-    ghost use Rattle.cue_sheet.specs.Grammar.{nothing_said, is_second_file, is_placed};
+    ghost use Rattle.cue_sheet.specs.Grammar.{nothing_said, is_second_file, is_placed, read_cue};
+    ghost use Rattle.cue_sheet.specs.Answers.{IsCueAnswer};
     ghost use Rattle.cue_sheet.specs.CueSheet.{IsSheet};
     ghost use Rattle.cue_sheet.specs.Steps.{after, line_said, later_reason, end_reason, sheet_said, IsCheckedLine, TakesLine, RefusesLine};
     ghost use Rattle.cue_sheet.specs.CueLines.{SaysTrack, SaysIndex, command_named};
@@ -127,8 +128,8 @@ impl Draft {
         None
     }
 
-    /// Why the sheet may not end here.
-    pub(crate) fn end_reason(&self) -> Option<CueWhy>
+    // Why the sheet may not end here.
+    fn end_reason(&self) -> Option<CueWhy>
         ensures { result ≡ end_reason self.now }
     {
         if !self.has_file {
@@ -171,27 +172,20 @@ impl Draft {
         ensures { IfOk result (λ _. self.new ≡ after self.old (line_said line.now)) }
     {
         match line {
-            Line::Remark => {}
             Line::File => self.has_file = true,
-            Line::Catalogue(digits) => self.section.catalogue = Some(*digits),
-            Line::Title(text) => self.section.title = Some(Vec::from_slice(alloc, text)?),
-            Line::Performer(text) => self.section.performer = Some(Vec::from_slice(alloc, text)?),
-            Line::Songwriter(text) => self.section.songwriter = Some(Vec::from_slice(alloc, text)?),
-            Line::Flags(control) => self.section.control = Some(*control),
-            Line::Isrc(code) => self.section.isrc = Some(*code),
-            Line::Pregap(time) => self.section.pregap = Some(*time),
-            Line::Postgap(time) => self.section.postgap = Some(*time),
-            Line::Index { number, time } => {
-                self.section.indices.push((*number, *time))?;
-                self.latest = self.latest.max(*time);
-            }
             Line::Track { number, .. } => self.begin_track(alloc, *number)?,
+            _ => {
+                if let Line::Index { time, .. } = line {
+                    self.latest = self.latest.max(*time);
+                }
+                self.section.add(alloc, line)?;
+            }
         }
         Ok(())
     }
 
-    /// Takes a line, which has this number. An error leaves the draft in a state of which nothing is said.
-    pub(crate) fn take(&mut self, alloc: Global, number: u32, line: &[u8]) -> Result<(), CueStop>
+    // Takes a line, which has this number. An error leaves the draft in a state of which nothing is said.
+    fn take(&mut self, alloc: Global, number: u32, line: &[u8]) -> Result<(), CueStop>
         requires { length line.now ≤ most_text_bytes }
         ensures { MatchResult result (λ _. TakesLine self.old line.now self.new)
             (RefusesLine self.old number line.now) }
@@ -206,6 +200,27 @@ impl Draft {
                 Ok(())
             }
             Err(why) => Err(CueStop::Fault { line: number, why }),
+        }
+    }
+
+    /// Takes the lines of a text where nothing is said yet, up to the first line that is refused.
+    pub(crate) fn read(&mut self, alloc: Global, text: &[u8]) -> Result<(), CueStop>
+        requires size { length text.now ≤ most_text_bytes }
+        requires fresh { self.old ≡ nothing_said }
+        ensures sheet { IfOk result
+            (λ _. (read_cue text.now ≡ Ok (sheet_said self.new)) × IsSheet (sheet_said self.new)) }
+        ensures stop { IfErr result (λ stop. IsCueAnswer (read_cue text.now) (Err stop)) }
+    {
+        let mut rest = without_mark(text);
+        let mut number = 1u32;
+        while let Some((line, after)) = next_line(rest) {
+            self.take(alloc, number, line)?;
+            number += 1;
+            rest = after;
+        }
+        match self.end_reason() {
+            Some(why) => Err(CueStop::Fault { line: number, why }),
+            None => Ok(()),
         }
     }
 

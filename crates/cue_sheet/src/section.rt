@@ -1,10 +1,10 @@
 // What the lines of one track say, or those before the first track.
-ghost use Rattle.std.specs.Prelude.{◌≡◌, [], unwrap_or};
+ghost use Rattle.std.specs.Prelude.{◌≡◌, ◌≢◌, ℕ, Bool, [], Some, unwrap_or, IfOk};
 ghost use Rattle.std.specs.Option.{option_map};
 
 use crate::fault::CueText;
 use crate::line::Line;
-use std::alloc::Global;
+use std::alloc::{AllocError, Global};
 
 /// What the lines of one track say, or those before the first track. A line that may stand once is kept in an `Option`.
 #[derive(Drop)]
@@ -29,8 +29,9 @@ pub(crate) struct Track {
 
 impl Section {
     ghost use Rattle.cue_sheet.specs.Views.{section_of, section_text};
-    ghost use Rattle.cue_sheet.specs.Grammar.{no_section, has_index_one, follows_index};
-    ghost use Rattle.cue_sheet.specs.Steps.{line_said, is_repeated};
+    ghost use Rattle.cue_sheet.specs.Grammar.{nothing_said, no_section, has_index_one, follows_index};
+    ghost use Rattle.cue_sheet.specs.Steps.{line_said, after, is_repeated};
+    ghost use Rattle.cue_sheet.specs.CueLines.{SaysTrack};
 
     /// Nothing said.
     pub(crate) fn new(alloc: Global) -> Section
@@ -83,6 +84,27 @@ impl Section {
         }
     }
 
+    /// Takes a line that begins no track. An error leaves the section in a state of which nothing is said.
+    pub(crate) fn add(&mut self, alloc: Global, line: &Line<'_>) -> Result<(), AllocError>
+        requires { (number : ℕ) (audio : Bool) → line_said line.now ≢ SaysTrack number audio }
+        ensures { IfOk result (λ _. section_of self.new
+            ≡ (after (record nothing_said { section = section_of self.old }) (line_said line.now)).section) }
+    {
+        match line {
+            Line::Catalogue(digits) => self.catalogue = Some(*digits),
+            Line::Title(text) => keep_text(alloc, &mut self.title, text)?,
+            Line::Performer(text) => keep_text(alloc, &mut self.performer, text)?,
+            Line::Songwriter(text) => keep_text(alloc, &mut self.songwriter, text)?,
+            Line::Flags(control) => self.control = Some(*control),
+            Line::Isrc(code) => self.isrc = Some(*code),
+            Line::Pregap(time) => self.pregap = Some(*time),
+            Line::Postgap(time) => self.postgap = Some(*time),
+            Line::Index { number, time } => self.indices.push((*number, *time))?,
+            Line::Remark | Line::File | Line::Track { .. } => {}
+        }
+        Ok(())
+    }
+
     /// A text, empty where it is not given.
     pub(crate) fn text(&self, kind: CueText) -> &[u8]
         ensures { result.now ≡ section_text kind (section_of self.now) }
@@ -103,4 +125,12 @@ fn bytes_or_none(text: &Option<Vec<u8>>) -> &[u8]
         Some(bytes) => bytes.as_slice(),
         None => &[],
     }
+}
+
+// Puts a copy of a text at its place.
+fn keep_text(alloc: Global, place: &mut Option<Vec<u8>>, text: &[u8]) -> Result<(), AllocError>
+    ensures { IfOk result (λ _. option_map (λ v. v.items) place.new ≡ Some text.now) }
+{
+    *place = Some(Vec::from_slice(alloc, text)?);
+    Ok(())
 }

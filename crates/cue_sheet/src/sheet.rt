@@ -10,7 +10,6 @@ use crate::fault::{CueStop, CueText};
 use crate::section::{Section, Track};
 use std::alloc::Global;
 use std::marker::Model;
-use text_lines::{next_line, without_mark};
 
 /// What a cue sheet says of an album and its tracks, of which there are 1 to 99.
 #[derive(Drop)]
@@ -38,15 +37,9 @@ impl Sheet {
         ensures { IsCueAnswer (read_cue text.now) result }
     {
         let mut draft = Draft::new(alloc);
-        let mut rest = without_mark(text);
-        let mut number = 1u32;
-        while let Some((line, after)) = next_line(rest) {
-            draft.take(alloc, number, line)?;
-            number += 1;
-            rest = after;
-        }
-        if let Some(why) = draft.end_reason() {
-            return Err(CueStop::Fault { line: number, why });
+        if let Err(stop) = draft.read(alloc, text) {
+            drop(draft);
+            return Err(stop);
         }
         Ok(draft.finish()?)
     }
