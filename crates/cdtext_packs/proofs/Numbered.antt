@@ -116,6 +116,19 @@ contents_full texts some = elim (cases_Bool (has_no_text texts)) [
 pub length-contents : (texts : Texts) → 0 < length (contents texts) → length (contents texts) ≡ length (flat_map (kind_contents texts) kinds) + 3
 length-contents texts some = ap length (contents_full texts some) ∙ length-append (flat_map (kind_contents texts) kinds) (size_contents texts)
 
+-- how many packs the first kinds need, with the three size packs
+pub count_more : (texts : Texts) (count n i : ℕ) (d : TextKind) → i < 7 → count ≡ 3 + length (flat_map (kind_contents texts) (take i kinds))
+    → n ≡ length (kind_contents texts (get_or kinds i d)) → count + n ≡ 3 + length (flat_map (kind_contents texts) (take (i + 1) kinds))
+count_more texts count n i d below is next =
+    let more = ap length (flat_map-kinds_more (kind_contents texts) i d below) ∙ length-append (flat_map (kind_contents texts) (take i kinds)) (kind_contents texts (get_or kinds i d)) in
+    omega arith
+
+pub count_whole : (texts : Texts) (count i : ℕ) → has_no_text texts ≡ false → i ≡ 7 → count ≡ 3 + length (flat_map (kind_contents texts) (take i kinds)) → count ≡ length (contents texts)
+count_whole texts count i some end is =
+    let all = ap (λ (k : ℕ). length (flat_map (kind_contents texts) (take k kinds))) end in
+    let whole = ap length (cond-false (has_no_text texts) [] (flat_map (kind_contents texts) kinds ++ size_contents texts) some) ∙ length-append (flat_map (kind_contents texts) kinds) (size_contents texts) in
+    omega arith
+
 -- the packs of the first kinds leave room for those of the next kind
 pub kind_fits : (texts : Texts) (all : List (List ℕ)) (i : ℕ) (d : TextKind) → 0 < length (contents texts) → length (contents texts) ≤ 256 → i < 7
     → all ≡ numbered 0 (flat_map (kind_contents texts) (take i kinds)) → length all + length (kind_contents texts (get_or kinds i d)) ≤ 256

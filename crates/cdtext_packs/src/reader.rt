@@ -1,8 +1,9 @@
 // The reader of packs in any order, with any repeats.
-ghost use Rattle.std.specs.Prelude.{◌≡◌, ◌⊎◌, List, ℕ, Option, true, length, vec_len, IsOk, IfOk, IfErr, Ok, Err};
+ghost use Rattle.std.specs.Prelude.{◌≡◌, ◌≤◌, ◌⊎◌, List, ℕ, Option, true, length, vec_len, IsOk, IfOk, IfErr, Ok, Err};
 ghost use Rattle.cdtext_packs.specs.Kept.{nothing_kept, offer_of, kept_by};
 ghost use Rattle.cdtext_packs.specs.Packs.{most_packs};
-ghost use Rattle.cdtext_packs.specs.Reading.{keeps_nothing, read_sized, read_texts};
+ghost use Rattle.cdtext_packs.specs.Reading.{keeps_nothing, first_missing, read_numbers, read_sized, read_texts};
+ghost use Rattle.disc_time.specs.Counts.{most_tracks};
 
 use crate::kinds::{FIRST_TRACK, LAST_NUMBER, LAST_TRACK, Offer, TextFault};
 use crate::map::TextMap;
@@ -112,6 +113,29 @@ fn read_sized(
     }
     // The second of the size packs begins with byte 12 of the size bytes.
     let count = usize::from(counts.text()[LAST_NUMBER - 12]) + 1;
+    read_numbers(alloc, kept, count, first, last)
+}
+
+// The texts of the packs with the numbers from 0 on, for these tracks.
+fn read_numbers(
+    alloc: Global,
+    kept: &[Option<TextPack>],
+    count: usize,
+    first: u8,
+    last: u8,
+) -> Result<TextMap, TextFault>
+    requires kept { count ≤ length kept.now }
+    requires few { count ≤ most_packs }
+    requires first { 1 ≤ first }
+    requires last { first ≤ last }
+    requires limit { last ≤ most_tracks }
+    ensures texts { IfOk result
+        (λ map. read_numbers kept.now count first last (first_missing kept.now count) ≡ Ok map) }
+    ensures fault { IfErr result (λ fault. (fault ≡ TextFault.NoMemory)
+        ⊎ (read_numbers kept.now count first last (first_missing kept.now count) ≡ Err fault)) }
+    ensures refused { IfErr (read_numbers kept.now count first last (first_missing kept.now count))
+        (λ fault. result ≡ Err fault) }
+{
     if let Some(seq) = first_missing(kept, count) {
         return Err(TextFault::Missing { seq });
     }
