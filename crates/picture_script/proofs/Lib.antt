@@ -5,5 +5,6 @@ pub mod Parts
 pub mod Numbers
 pub mod Drafts
 pub mod WordCounts
+pub mod HexDigits
 pub mod Refusals
 pub mod Ranges

@@ -1,6 +1,8 @@
 // Reading a script from its text.
-ghost use Rattle.std.specs.Prelude.{◌≡◌};
-ghost use Rattle.picture_script.specs.ScriptGrammar.{is_passed_over};
+ghost use Rattle.std.specs.Prelude.{◌≡◌, ◌∷◌, ℕ, List};
+ghost use Rattle.picture_script.specs.Script.{Drawing};
+ghost use Rattle.picture_script.specs.ScriptGrammar.{checked_lines, is_passed_over};
+ghost use Rattle.picture_script.specs.Stops.{IsRefused, StopsAt};
 
 use crate::draft::{Draft, LineStop};
 use crate::reasons::{ScriptStop, ScriptWhy};
@@ -10,7 +12,7 @@ use text_lines::{next_line, next_word, trim_start, without_mark};
 
 impl Draft {
     ghost use Rattle.std.specs.Prelude.{OnOk, IfErr};
-    ghost use Rattle.picture_script.specs.Stops.{IsRead, IsRefused};
+    ghost use Rattle.picture_script.specs.Stops.{IsRead};
     ghost use Rattle.text_lines.specs.Text.{words_in};
     ghost use Rattle.picture_script.specs.ScriptGrammar.{checked_words};
     ghost use Rattle.picture_script.specs.Lines.{said_in, IsSound, Takes};
@@ -43,7 +45,6 @@ impl Script {
     ghost use Rattle.std.specs.Prelude.{◌≤◌, length, Ok, IfOk, IfErr};
     ghost use Rattle.text_lines.specs.Text.{most_text_bytes};
     ghost use Rattle.picture_script.specs.ScriptGrammar.{read_script};
-    ghost use Rattle.picture_script.specs.Stops.{StopsAt};
 
     /// Reads a script of at most 67,108,864 bytes.
     ///
@@ -67,12 +68,9 @@ impl Script {
         let mut rest = without_mark(text);
         let mut number = 1u32;
         while let Some((line, after)) = next_line(rest) {
-            match draft.read_line(line) {
-                Ok(()) => {}
-                Err(LineStop::Refused(why)) => {
-                    return Err(ScriptStop::Fault { line: number, why });
-                }
-                Err(LineStop::NoRoom) => return Err(ScriptStop::NoMemory),
+            if let Err(stop) = draft.read_line(line) {
+                drop(draft);
+                return Err(stop_at(number, stop));
             }
             number += 1;
             rest = after;
@@ -87,6 +85,17 @@ impl Script {
             pixels,
             shown,
         })
+    }
+}
+
+// Why a script could not be read of which a line, with this number, was not taken.
+fn stop_at(number: u32, stop: LineStop) -> ScriptStop
+    ensures { (before : List Drawing) (line : List ℕ) (rest : List (List ℕ)) → IsRefused before line stop
+        → StopsAt (checked_lines number before (line ∷ rest)) result }
+{
+    match stop {
+        LineStop::Refused(why) => ScriptStop::Fault { line: number, why },
+        LineStop::NoRoom => ScriptStop::NoMemory,
     }
 }
 
