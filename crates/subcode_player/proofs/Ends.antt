@@ -1,5 +1,5 @@
 -- How the end of an input is told by a player.
-use Rattle.std.proofs.Common.{◌≢◌, ℕ, Bool, true, false, if◌then◌else◌, List, Result, Ok, Err, IfErr, refl}
+use Rattle.std.proofs.Common.{◌≡◌, ◌≢◌, ℕ, Bool, true, false, if◌then◌else◌, List, Result, Ok, Err, IfErr, refl, sym, subst}
 use Rattle.std.specs.Prelude.{nat_lt}
 use Rattle.cdg_io.specs.Pump.{TellsEndOf}
 use Rattle.cdg_io.specs.declared.pumping.Pumped.{Pumped}
@@ -38,6 +38,19 @@ ends_first pump.ReadFault before now other told = told
 ends_first pump.WriteFault before now other told = absurd (other refl)
 ends_first (pump.Torn unit) before now other told = told
 ends_first pump.TooLong before now other told = told
+
+pub ends_unread : (stop : PumpStop) (answer : PlayStop) (before now : ℕ) → answer ≡ play_stop stop → pump_error stop ≢ pump_error pump.WriteFault → TellsEndOf (pump_error stop) before now
+    → EndFirst (play_error answer) before now
+ends_unread stop answer before now is other told = subst (λ (s : PlayStop). EndFirst (play_error s) before now) (sym is) (ends_first stop before now other told)
+
+stops_at_list : (stop : PumpStop) → IsListStop (play_stop stop)
+stops_at_list pump.ReadFault = tt
+stops_at_list pump.WriteFault = tt
+stops_at_list (pump.Torn unit) = tt
+stops_at_list pump.TooLong = tt
+
+pub stops_unread : (stop : PumpStop) (answer : PlayStop) → answer ≡ play_stop stop → IsListStop answer
+stops_unread stop answer is = subst IsListStop (sym is) (stops_at_list stop)
 
 -- nor for texts
 pub stops_moment : (stop : PumpStop) → IsMomentStop (play_stop stop)

@@ -91,3 +91,8 @@ gives_picture form lead_in time (Some all) left' held held' (Err TooLong) taken 
 gives_picture form lead_in time (Some all) left' held held' (Err (PastEnd blocks)) taken picture none shows answer = λ script k scheduled at.
     absurd (omega (arith, answer.2, answer.3, program_blocks form lead_in script all scheduled, at.held, scheduled.schedule.held k at.picture))
 gives_picture form lead_in time (Some all) left' held held' (Err (Text fault)) taken picture none shows answer = λ script k scheduled at. absurd answer
+
+-- a picture that is written in part
+pub gives_cut : (form : Form) (lead_in time : ℕ) (left held held' : Option (List ℕ)) → IfSome left (λ all. (script : List Drawing) (k : ℕ) → IsScheduledStream form lead_in script all → IsHeldAt script k time → GivesPicture script k (Err WriteFault) held held')
+gives_cut form lead_in time None held held' = tt
+gives_cut form lead_in time (Some all) held held' = λ script k scheduled at. tt

@@ -1,5 +1,5 @@
 -- From a stage that reads the lead-in's packs to what a call lists.
-use Rattle.std.proofs.Common.{◌≡◌, ℕ, ◌-◌, ◌*◌, ◌/◌, ◌%◌, ◌≤◌, List, length, map, take, refl, sym, ap, ◌∙◌, subst, Some, None, IfSome, Result, Ok, Err, IsOk}
+use Rattle.std.proofs.Common.{◌≡◌, ◌≢◌, ℕ, ◌-◌, ◌*◌, ◌/◌, ◌%◌, ◌≤◌, List, length, map, take, refl, sym, ap, ◌∙◌, subst, Some, None, IfSome, Result, Ok, Err, IsOk}
 use Rattle.std.specs.Prelude.{nat_lt, ◌==◌}
 use Rattle.std.specs.declared.option.Option.{Option}
 use Rattle.std.proofs.Math.Nat.{mul-mod_left}
@@ -7,6 +7,8 @@ use Rattle.cdg_io.specs.Change.{from_to}
 use Rattle.cdg_io.specs.Run.{run_state}
 use Rattle.cdg_io.specs.Pump.{units_of, answer_of, IsUnlessFault}
 use Rattle.cdg_io.specs.declared.pumping.Pumped.{Pumped}
+use Rattle.cdg_io.specs.declared.pumping.PumpStop.{PumpStop}
+use Rattle.cdg_io.specs.declared.pumping.PumpStop.TheVariants as pump_stop
 use Rattle.cdg_io.proofs.Frames.{feeding, passing}
 use Rattle.raw_subcode.specs.Channels.{unit_size, block_of, blocks_of}
 use Rattle.raw_subcode.specs.declared.form.Form.{Form}
@@ -18,7 +20,8 @@ use Rattle.cdtext_packs.specs.TextLines.{counted_lines, text_lines}
 use Rattle.cdtext_packs.specs.TextSteps.{fresh_texts, text_next, HasRead}
 use Rattle.cdtext_packs.specs.declared.lead_in_texts.LeadInTexts.{LeadInTexts}
 use Rattle.raw_subcode.specs.Sizes.{most_units}
-use Rattle.subcode_player.specs.Watch.{Watches, WritesTexts}
+use Rattle.subcode_player.specs.Calls.{IsAnsweredBy}
+use Rattle.subcode_player.specs.Watch.{Watches, WritesTexts, play_stop}
 use Rattle.subcode_player.specs.TextListing.{packs_in, texts_of_lead_in, IsTextListed, IsTextFault, ListsTexts, IsWholeInput, IsListedBy}
 use Rattle.subcode_player.specs.declared.player.Played.{Played}
 use Rattle.subcode_player.specs.declared.player.PlayStop.{PlayStop}
@@ -26,6 +29,7 @@ use Rattle.subcode_player.specs.declared.player.PlayStop.TheVariants.{ReadFault,
 use Rattle.subcode_player.proofs.Playing.{units_in}
 use Rattle.subcode_player.proofs.Views.{whole_taken, done_tests, not_over, zero_rest}
 use Rattle.subcode_player.proofs.Restoring.{taken_all}
+use Rattle.subcode_player.proofs.Checks.{at_end_stop, checked_stop}
 
 abbrev pub ReadsLeadIns : Type 0
 ReadsLeadIns = (lead_in : ℕ) (blocks : List (List ℕ)) → lead_in ≤ 450000 → HasRead (lead_in_packs (take lead_in blocks)) (run_state text_next (fresh_texts lead_in) blocks)
@@ -115,6 +119,32 @@ module _ (form : Form) (lead_in : ℕ) (left left' held held' : Option (List ℕ
   lists_done pumped (Err (Torn block)) blocks law few fresh w is writes = absurd writes
   lists_done pumped (Err TooLong) blocks law few fresh w is writes = absurd writes
   lists_done pumped (Err (PastEnd past)) blocks law few fresh w is writes = absurd writes
+
+never_texts : (stop : PumpStop) (fault : TextFault) → play_stop stop ≢ Text fault
+never_texts pump_stop.ReadFault fault = λ e. (cc)
+never_texts pump_stop.WriteFault fault = λ e. (cc)
+never_texts (pump_stop.Torn unit) fault = λ e. (cc)
+never_texts pump_stop.TooLong fault = λ e. (cc)
+
+-- where the reading stopped
+pub lists_stop : (form : Form) (lead_in : ℕ) (left left' held : Option (List ℕ)) (s s' : LeadInTexts) (taken : List ℕ) (stop : PumpStop) (answer : PlayStop) → Watches form text_next (feeding (from_to left left') (from_to s s')) (Err stop) taken
+    → answer ≡ play_stop stop → ListsTexts form lead_in (passing (from_to left left') (from_to held held)) (Err answer) taken
+lists_stop form lead_in left left' held s s' taken stop answer w is = record {
+  plays = at_end_stop (IsTextListed form lead_in) form lead_in text_next left left' held held s s' taken stop answer refl w is;
+  refused = λ fault e. let same : answer ≡ Text fault = cc in absurd (never_texts stop fault (sym is ∙ same));
+}
+
+listed_at : (form : Form) (lead_in : ℕ) (stop : PumpStop) (all : List ℕ) → IsAnsweredBy (Err (play_stop stop)) (unit_size form) (length all) → IsListedBy (Err (play_stop stop)) form lead_in all
+listed_at form lead_in pump_stop.ReadFault all answered = answered
+listed_at form lead_in pump_stop.WriteFault all answered = answered
+listed_at form lead_in (pump_stop.Torn unit) all answered = answered
+listed_at form lead_in pump_stop.TooLong all answered = answered
+
+pub listed_stop : (form : Form) (lead_in : ℕ) (stop : PumpStop) (answer : PlayStop) (left : Option (List ℕ)) → answer ≡ play_stop stop → IfSome left (λ all. IsUnlessFault (Err stop) (answer_of (unit_size form) most_units (length all)))
+    → IfSome left (λ all. IsListedBy (Err answer) form lead_in all)
+listed_stop form lead_in stop answer None is told = tt
+listed_stop form lead_in stop answer (Some all) is told =
+    subst (λ (a : PlayStop). IsListedBy (Err a) form lead_in all) (sym is) (listed_at form lead_in stop all (checked_stop (unit_size form) stop (play_stop stop) (Some all) refl told))
 
 whole_input : (form : Form) (pumped : Pumped) (all : List ℕ) → IsUnlessFault (Ok pumped) (answer_of (unit_size form) most_units (length all)) → IsWholeInput form all
 whole_input form pumped all e =

@@ -78,9 +78,7 @@ fn clear(out: &mut Option<Piece>)
 fn is_known(code: u8) -> bool
     ensures { result ≡ is_known code }
 {
-    [1, 2, 6, 20, 24, 28, 30, 31, 38]
-        .iter()
-        .any(|known| *known == code)
+    matches!(code, 1 | 2 | 6 | 20 | 24 | 28 | 30 | 31 | 38)
 }
 
 impl WordCounts {

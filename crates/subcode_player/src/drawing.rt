@@ -75,8 +75,17 @@ impl Drawing {
         // Most words of a disc are idle, and draw nothing. Few others begin with 0.
         if word.get(0).value() == 0 && is_idle(word) {
             self.picture.stays_at_idle();
-            return;
+        } else {
+            self.take_corrected(word);
         }
+    }
+
+    // Draws what the correction of a word finds, or counts the word.
+    fn take_corrected(&mut self, word: &Word)
+        ensures picture { self.new.picture ≡ entry_drawn self.old.picture (finding word.now) }
+        ensures bad { self.new.bad ≡ bad_next self.old.bad word.now }
+        ensures left { self.new.left ≡ self.old.left }
+    {
         match correct(word) {
             Some(fixed) => self.picture.obey(&fixed.pack),
             None => self.bad = self.bad.saturating_add(1),

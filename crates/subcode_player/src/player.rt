@@ -63,6 +63,7 @@ impl Player {
             left: 0,
             bad: 0,
         };
+        let texts = LeadInTexts::start(alloc)?;
         Ok(Player {
             stages: SectorBlocks {
                 blocks: Then::new(BlockWords::new(), Correction { bad: 0 }),
@@ -73,9 +74,7 @@ impl Player {
             checks: SectorBlocks {
                 blocks: Counting::new(),
             },
-            texts: SectorBlocks {
-                blocks: LeadInTexts::start(alloc)?,
-            },
+            texts: SectorBlocks { blocks: texts },
         })
     }
 

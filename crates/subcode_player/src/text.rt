@@ -1,8 +1,9 @@
 // The texts of a stream's lead-in.
-ghost use Rattle.std.specs.Prelude.{◌≡◌, ◌≢◌, ◌≤◌, ◌-◌, List, ℕ, IfSome, IfErr, IsErrOf, Err};
+ghost use Rattle.std.specs.Prelude.{◌≡◌, ◌≢◌, ◌≤◌, ◌-◌, List, ℕ, IfSome, IfErr, IsErrOf, Ok, Err};
 ghost use Rattle.disc_time.specs.Counts.{most_lead_in};
 ghost use Rattle.cdg_io.specs.Causes.{Rose};
 ghost use Rattle.cdg_io.specs.Change.{passed};
+ghost use Rattle.cdtext_packs.specs.Reading.{read_texts};
 ghost use Rattle.subcode_player.specs.Faults.{TellsStops};
 ghost use Rattle.subcode_player.specs.Calls.{EndFirst, IsListStop};
 ghost use Rattle.subcode_player.specs.TextListing.{ListsTexts, IsListedBy};
@@ -12,7 +13,7 @@ use crate::player::play_stop;
 use crate::watch::watch;
 use crate::{Form, PlayStop, Played, Player};
 use cdg_io::{Failed, Sink, Source};
-use cdtext_packs::{lead_in_packs_are_read, write_lines};
+use cdtext_packs::{TextMap, lead_in_packs_are_read, write_lines};
 use std::alloc::Global;
 
 impl Player {
@@ -26,7 +27,6 @@ impl Player {
     ///
     /// `Text` where the packs are no texts, or no memory is found for them, and `Torn`, `TooLong` and `ReadFault` as
     /// the input says: then nothing is written. After `WriteFault` the sink holds a prefix.
-    #[tactic(auto, using(crate::proofs::Ends::ends_first, crate::proofs::Ends::ends_texts, crate::proofs::Ends::stops_stream, crate::proofs::Ends::stops_list))]
     pub fn text_list<S: Source, K: Sink>(
         &mut self,
         alloc: Global,
@@ -71,13 +71,31 @@ impl Player {
             → Rose (K.faults out.old) (K.faults out.new) }
         ensures no_write_fault { result ≢ Err PlayStop.WriteFault → K.faults out.new ≡ K.faults out.old }
     {
-        let texts = &self.texts.blocks;
-        match texts.reader.finish(alloc) {
-            Ok(map) => match write_lines(&map, texts.good, texts.bad, texts.other, out) {
-                Ok(()) => Ok(Played { blocks, bad: 0 }),
-                Err(Failed) => Err(PlayStop::WriteFault),
-            },
+        match self.texts.blocks.reader.finish(alloc) {
+            Ok(map) => self.write_map(&map, blocks, out),
             Err(fault) => Err(PlayStop::Text(fault)),
+        }
+    }
+
+    // Writes the lines of these texts, which are those of the packs that were read.
+    fn write_map<K: Sink>(
+        &self,
+        map: &TextMap,
+        blocks: u32,
+        out: &mut K,
+    ) -> Result<Played, PlayStop>
+        requires { read_texts self.now.texts.blocks.reader ≡ Ok map.now }
+        ensures writes { WritesTexts self.now.texts.blocks blocks (K.held out.old) (K.held out.new) result }
+        ensures untouched { IfErr result (λ stop. stop ≢ PlayStop.WriteFault → out.new ≡ out.old) }
+        ensures later { K.faults out.old ≤ K.faults out.new }
+        ensures write_fault { IsErrOf result PlayStop.WriteFault
+            → Rose (K.faults out.old) (K.faults out.new) }
+        ensures no_write_fault { result ≢ Err PlayStop.WriteFault → K.faults out.new ≡ K.faults out.old }
+    {
+        let texts = &self.texts.blocks;
+        match write_lines(map, texts.good, texts.bad, texts.other, out) {
+            Ok(()) => Ok(Played { blocks, bad: 0 }),
+            Err(Failed) => Err(PlayStop::WriteFault),
         }
     }
 }

@@ -3,7 +3,7 @@ use Rattle.cdg_screen.specs.Texts.{pixmap}
 use Rattle.subcode_player.specs.Stages.{drawing_of}
 use Rattle.subcode_player.proofs.Told.{cut_told, shown_told, unread_view}
 use Rattle.subcode_player.proofs.Views.{shows_done, shows_cut, shows_stop}
-use Rattle.subcode_player.proofs.Pictured.{gives_picture}
+use Rattle.subcode_player.proofs.Pictured.{gives_cut, gives_picture}
 use Rattle.subcode_player.proofs.player.Player.screen_at.Goals as goal
 
 pub returns-in-Ok-write_ppm-clause-shows : goal.returns-in-Ok-write_ppm-clause-shows
@@ -49,3 +49,6 @@ pub returns-in-Err-clause-faults : goal.returns-in-Err-clause-faults
 returns-in-Err-clause-faults g c =
     let (taken, v) = c.in-Err.ensures.views in
     unread_view _ _ _ c.in-Err.ensures.source_later _ v.no_write c.in-Err.ensures.read_fault c.in-Err.ensures.no_read_fault
+
+pub returns-in-Err-write_ppm-clause-pictures : goal.returns-in-Err-write_ppm-clause-pictures
+returns-in-Err-write_ppm-clause-pictures g c = gives_cut c.args.form c.args.lead_in c.args.at _ (g.K.Sink.held c.args.out.now) (g.K.Sink.held c.write_ppm.new.out)

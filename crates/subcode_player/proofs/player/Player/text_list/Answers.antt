@@ -1,5 +1,6 @@
+use Rattle.subcode_player.proofs.Ends.{ends_texts, ends_unread, stops_list, stops_unread}
 use Rattle.subcode_player.proofs.Told.{texts_told, unread}
-use Rattle.subcode_player.proofs.TextLists.{lists_done, listed_done}
+use Rattle.subcode_player.proofs.TextLists.{lists_done, lists_stop, listed_done, listed_stop}
 use Rattle.subcode_player.proofs.player.Player.text_list.Goals as goal
 
 pub returns-in-Ok-clause-lists : goal.returns-in-Ok-clause-lists
@@ -23,3 +24,25 @@ pub returns-in-Err-clause-faults : goal.returns-in-Err-clause-faults
 returns-in-Err-clause-faults g c =
     let (taken, w) = c.in-Err.ensures.watches in
     unread _ _ _ c.in-Err.ensures.source_later _ _ c.play_stop.ensures w.no_write c.in-Err.ensures.read_fault c.in-Err.ensures.no_read_fault
+
+pub returns-in-Ok-clause-stops : goal.returns-in-Ok-clause-stops
+returns-in-Ok-clause-stops g c = stops_list c.watch.new.stages.blocks _ (g.K.Sink.held c.args.out.now) (g.K.Sink.held c.write_texts.new.out) c.write_texts.result c.write_texts.ensures.writes
+
+pub returns-in-Ok-clause-ended : goal.returns-in-Ok-clause-ended
+returns-in-Ok-clause-ended g c = ends_texts c.watch.new.stages.blocks _ (g.K.Sink.held c.args.out.now) (g.K.Sink.held c.write_texts.new.out) c.write_texts.result _ _ c.write_texts.ensures.writes c.in-Ok.ensures.ended
+
+pub returns-in-Err-clause-stops : goal.returns-in-Err-clause-stops
+returns-in-Err-clause-stops g c = stops_unread c.in-Err.stop c.play_stop.result c.play_stop.ensures
+
+pub returns-in-Err-clause-ended : goal.returns-in-Err-clause-ended
+returns-in-Err-clause-ended g c =
+    let (taken, w) = c.in-Err.ensures.watches in
+    ends_unread c.in-Err.stop c.play_stop.result _ _ c.play_stop.ensures w.no_write c.in-Err.ensures.ended
+
+pub returns-in-Err-clause-lists : goal.returns-in-Err-clause-lists
+returns-in-Err-clause-lists g c =
+    let (taken, w) = c.in-Err.ensures.watches in
+    (taken, lists_stop c.args.form c.args.lead_in _ _ (g.K.Sink.held c.args.out.now) c.begin.new.self c.watch.new.stages.blocks taken c.in-Err.stop c.play_stop.result w c.play_stop.ensures)
+
+pub returns-in-Err-clause-answer : goal.returns-in-Err-clause-answer
+returns-in-Err-clause-answer g c = listed_stop c.args.form c.args.lead_in c.in-Err.stop c.play_stop.result _ c.play_stop.ensures c.in-Err.ensures.answer
