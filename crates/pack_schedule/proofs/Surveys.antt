@@ -1,31 +1,32 @@
 -- The pictures of a script in turn.
-use Rattle.std.proofs.Common.{◌≡◌, ℕ, zero, suc, ◌+◌, ◌-◌, ◌*◌, ◌<◌, true, false, List, [], ◌∷◌, ◌++◌, length, get_or, ap, sym, subst, ◌∙◌, inl, inr, arith, length-append}
-use Rattle.std.specs.Prelude.{Some, None, nat_le}
+use Rattle.std.proofs.Common.{◌≡◌, ℕ, ◌+◌, ◌-◌, ◌*◌, ◌<◌, true, false, List, [], ◌∷◌, ◌++◌, length, get_or, ap, sym, subst, ◌∙◌, inl, inr, arith, length-append}
+use Rattle.std.specs.Prelude.{Some, nat_le, Result, Ok, Err, IfOk, IfErr}
 use Rattle.std.proofs.lemmas.Bool.{cases_lt}
 use Rattle.std.proofs.lemmas.Bool.Decides.{leb_tells}
 use Rattle.std.proofs.lemmas.List.{get_or_append_left, get_or-append-add}
 use Rattle.picture_script.specs.Script.{Drawing, pictures, ready_time, hold_time, picture_pixel}
-use Rattle.picture_script.specs.Board.{Board, IsBlank, IsPicture}
+use Rattle.picture_script.specs.Board.{Board, IsPicture}
 use Rattle.picture_changes.specs.Schedule.{start_of, IsInTime, IsLate, free_packs}
 use Rattle.picture_changes.specs.PlannedChange.{planned_change}
 use Rattle.picture_changes.specs.Shown.{AreTimesInOrder, AreColoursInRange}
 use Rattle.picture_changes.specs.Brings.{CannotBeReady, IsChange, IsNeed}
 use Rattle.pack_schedule.specs.Survey.{nothing_planned, IsPlanned, ArePlanned, IsPastEnd, IsStop, IsSurvey, IsWithin}
+use Rattle.pack_schedule.specs.Weaving.{Stands}
 use Rattle.pack_schedule.specs.declared.planned.Planned.{Planned}
 use Rattle.pack_schedule.specs.declared.planned.Stop.{Stop}
 use Rattle.pack_schedule.specs.declared.planned.Stop.TheVariants.{Late}
 use Rattle.picture_changes.proofs.Times.{hold_order}
 
--- what stands before picture k is drawn
-abbrev pub StandsAt : List Drawing → ℕ → Board → Type 0
-StandsAt script zero board = (board.at ≡ None) × IsBlank board
-StandsAt script (suc k) board = (board.at ≡ Some k) × IsPicture script k board
-
-pub stands_next : (script : List Drawing) (k : ℕ) (board : Board) → board.at ≡ Some k → IsPicture script k board → StandsAt script (k + 1) board
+-- picture k stands before the next one is drawn
+pub stands_next : (script : List Drawing) (k : ℕ) (board : Board) → board.at ≡ Some k → IsPicture script k board → Stands script (k + 1) board
 stands_next script k board at h =
-    let next : suc k ≡ k + 1 = omega arith in
-    let stands : StandsAt script (suc k) board = (at, h) in
-    subst (λ n. StandsAt script n board) next stands
+    let here : k ≡ k + 1 - 1 = omega arith in
+    record {
+      at_none = λ e. absurd (omega (arith, e));
+      blank = λ e. absurd (omega (arith, e));
+      at_some = λ lt. at ∙ ap Some here;
+      drawn = λ lt. subst (λ n. IsPicture script n board) here h;
+    }
 
 pub one_planned : (script : List Drawing) (k : ℕ) (planned more : List Planned) (new : Planned) → ArePlanned script k planned → IsPlanned script k new → more ≡ planned ++ new ∷ [] → ArePlanned script (k + 1) more
 one_planned script k planned more new h is added =
@@ -61,13 +62,26 @@ is_late known script k need free planned ranges small lt are need_is' free_is' l
 }
 
 -- each planned number is what its picture needs
-pub all_fewest : NeedsAreFewest → (script : List Drawing) (planned : List Planned) → AreColoursInRange script → ((k x y : ℕ) → picture_pixel script k x y < 16) → IsSurvey script planned
+all_fewest : NeedsAreFewest → (script : List Drawing) (planned : List Planned) → AreColoursInRange script → ((k x y : ℕ) → picture_pixel script k x y < 16) → IsSurvey script planned
     → (k : ℕ) → k < pictures script → IsNeed script k (get_or planned k nothing_planned).need
 all_fewest needs script planned ranges small surveyed k lt = (planned_change script k, needs.change script k ranges small, sym (surveyed.each k lt).need_is)
 
-pub late_told : NeedsAreFewest → (script : List Drawing) (blocks : ℕ) (stop : Stop) → AreTimesInOrder script → AreColoursInRange script → ((k x y : ℕ) → picture_pixel script k x y < 16) → IsStop script blocks stop
+late_told : NeedsAreFewest → (script : List Drawing) (blocks : ℕ) (stop : Stop) → AreTimesInOrder script → AreColoursInRange script → ((k x y : ℕ) → picture_pixel script k x y < 16) → IsStop script blocks stop
     → (picture need free : ℕ) → stop ≡ Late picture need free → CannotBeReady script picture need free
 late_told needs script blocks stop order ranges small is picture need free late = needs.late script picture need free order ranges small (subst (IsStop script blocks) late is).1
+
+-- ---- of the answer
+
+pub fewest_of : NeedsAreFewest → (script : List Drawing) → AreColoursInRange script → ((k x y : ℕ) → picture_pixel script k x y < 16) → (result : Result (List Planned) Stop) → IfOk result (IsSurvey script)
+    → IfOk result (λ planned. (k : ℕ) → k < pictures script → IsNeed script k (get_or planned k nothing_planned).need)
+fewest_of needs script ranges small (Ok planned) surveyed = all_fewest needs script planned ranges small surveyed
+fewest_of needs script ranges small (Err stop) surveyed = tt
+
+pub late_of : NeedsAreFewest → (script : List Drawing) (blocks : ℕ) → AreTimesInOrder script → AreColoursInRange script → ((k x y : ℕ) → picture_pixel script k x y < 16) → (result : Result (List Planned) Stop) → IfErr result (IsStop script blocks)
+    → (picture need free : ℕ) → result ≡ Err (Late picture need free) → CannotBeReady script picture need free
+late_of needs script blocks order ranges small (Ok planned) is picture need free late = absurd (cc)
+late_of needs script blocks order ranges small (Err stop) is picture need free late =
+    let same : stop ≡ Late picture need free = cc in late_told needs script blocks stop order ranges small is picture need free same
 
 -- where the last picture is not held past the end, none is
 pub is_within : (script : List Drawing) (blocks : ℕ) → AreTimesInOrder script → ¬ IsPastEnd script blocks → IsWithin script blocks
@@ -81,3 +95,9 @@ not_in_time script k start need is test h = elim (leb_tells (start + need + 7) (
 
 pub in_time : (script : List Drawing) (k start need : ℕ) → start ≡ start_of script k → nat_le (start + need + 7) (4 * ready_time script k) ≡ true → IsInTime script k need
 in_time script k start need is test = elim (leb_tells (start + need + 7) (4 * ready_time script k)) [ inl less ↦ omega (arith, less.1, is) | inr more ↦ absurd (cc) ]
+
+-- what is told of a change that is not in time
+pub late_at : (script : List Drawing) (k start need free : ℕ) → start ≡ start_of script k → need ≡ length (planned_change script k) → free ≡ free_packs script k → nat_le (start + need + 7) (4 * ready_time script k) ≡ false
+    → (Late k need free ≡ Late k (length (planned_change script k)) (free_packs script k)) × (¬ IsInTime script k (length (planned_change script k)))
+late_at script k start need free start_is need_is free_is test =
+    ((λ i. Late k (need_is i) (free_is i)), subst (λ n. ¬ IsInTime script k n) need_is (not_in_time script k start need start_is test))

@@ -3,10 +3,11 @@ ghost use Rattle.std.specs.Prelude.{◌≡◌, ◌<◌, ◌≤◌, ◌+◌, ◌-
 ghost use Rattle.disc_time.specs.Counts.{time_count};
 ghost use Rattle.picture_script.specs.Script.{pictures, hold_time, ready_time};
 ghost use Rattle.picture_script.specs.Board.{IsPicture};
-ghost use Rattle.picture_changes.specs.Schedule.{start_of, free_packs};
+ghost use Rattle.picture_changes.specs.Schedule.{start_of, free_packs, IsInTime};
 ghost use Rattle.picture_changes.specs.PlannedChange.{chosen_start, planned_change};
 ghost use Rattle.picture_changes.specs.Brings.{CannotBeReady, IsNeed};
-ghost use Rattle.pack_schedule.specs.Survey.{nothing_planned, IsSurvey, IsWithin, IsPastEnd, IsStop};
+ghost use Rattle.pack_schedule.specs.Survey.{nothing_planned, IsPlanned, IsSurvey, IsWithin, IsPastEnd, IsStop};
+ghost use Rattle.pack_schedule.specs.Weaving.{Stands};
 ghost use Rattle.pack_schedule.specs.Weights.{AreWeights};
 
 use crate::choice::choose_start;
@@ -45,25 +46,68 @@ pub fn survey(alloc: Global, script: &Script, blocks: u32) -> Result<Survey, Sto
         → CannotBeReady script.now picture need free }
 {
     needs_are_fewest();
-    let pictures = script.pictures();
+    let _ranges = script.pictures();
     let mut before = Canvas::start(alloc)?;
     let mut now = Canvas::start(alloc)?;
+    survey_on(alloc, script, blocks, &mut before, &mut now)
+}
+
+// Plans the changes in turn, with two canvases on which nothing is drawn.
+fn survey_on(
+    alloc: Global,
+    script: &Script,
+    blocks: u32,
+    before: &mut Canvas,
+    now: &mut Canvas,
+) -> Result<Survey, Stop>
+    requires end { ¬ IsPastEnd script.now blocks }
+    requires before { Stands script.now 0 before.old }
+    requires now { Stands script.now 0 now.old }
+    ensures within { IfOk result (λ _. IsWithin script.now blocks) }
+    ensures planned { IfOk result (IsSurvey script.now) }
+    ensures err { IfErr result (IsStop script.now blocks) }
+{
+    needs_are_fewest();
+    let pictures = script.pictures();
     let mut weights = [NOT_WEIGHED; WINDOW_TILES];
     let mut planned = Vec::new(alloc);
     for k in 0..pictures {
-        now.draw_until(script, k);
-        let change = plan_picture(script, k, &before, &now, &mut weights);
-        if !is_in_time(script, k, change.start, change.need) {
-            return Err(Stop::Late {
-                picture: k,
-                need: change.need,
-                free: free_packs(script, k, change.start),
-            });
-        }
+        let change = plan_in_time(script, k, before, now, &mut weights)?;
         planned.push(change)?;
         before.draw_until(script, k);
     }
     Ok(Survey { planned })
+}
+
+// The planned change of picture `k`, where it is in time. The picture is drawn on `now`.
+fn plan_in_time(
+    script: &Script,
+    k: u32,
+    before: &Canvas,
+    now: &mut Canvas,
+    weights: &mut [Weighed; WINDOW_TILES],
+) -> Result<Planned, Stop>
+    requires picture { k < pictures script.now }
+    requires before { 0 < k → IsPicture script.now (k - 1) before.now }
+    requires now { Stands script.now k now.old }
+    requires weights { 0 < k → AreWeights script.now (k - 1) weights.old }
+    ensures planned { IfOk result (IsPlanned script.now k) }
+    ensures late { IfErr result (λ stop. (stop
+        ≡ Stop.Late k (length (planned_change script.now k)) (free_packs script.now k))
+        × (¬ IsInTime script.now k (length (planned_change script.now k)))) }
+    ensures now { Stands script.now (k + 1) now.new }
+    ensures weights { AreWeights script.now k weights.new }
+{
+    now.draw_until(script, k);
+    let change = plan_picture(script, k, before, now, weights);
+    if !is_in_time(script, k, change.start, change.need) {
+        return Err(Stop::Late {
+            picture: k,
+            need: change.need,
+            free: free_packs(script, k, change.start),
+        });
+    }
+    Ok(change)
 }
 
 // How many packs are whole after so many blocks.

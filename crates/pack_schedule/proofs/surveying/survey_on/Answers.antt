@@ -1,0 +1,36 @@
+use Rattle.std.proofs.Common.{◌≡◌, ◌+◌, ◌-◌, refl, sym, subst, arith}
+use Rattle.std.proofs.lemmas.Result.{err_from_is_err_and}
+use Rattle.pack_schedule.specs.Weights.{AreWeights}
+use Rattle.pack_schedule.specs.Survey.{IsStop}
+use Rattle.pack_schedule.proofs.Surveys.{NeedsAreFewest, is_late, is_within, one_planned, stands_next}
+use Rattle.pack_schedule.proofs.surveying.survey_on.Goals as goal
+
+pub loop-k-preserved : goal.loop-k-preserved
+loop-k-preserved c =
+    let script = c.args.script.now in
+    let k = c.loop-k.k in
+    let change = c.in_ok-change.ensures in (
+      one_planned script k c.loop-k.planned.items c.push.new.self.items c.in_ok-change.change c.loop-k.invariant.0 change.planned c.in_ok-push.ensures.items,
+      stands_next script k c.draw_until.new.self c.draw_until.ensures.at c.draw_until.ensures.picture,
+      change.now,
+      (λ pos. let here : k ≡ k + 1 - 1 = omega arith in subst (λ n. AreWeights script n c.plan_in_time.new.weights) here change.weights),
+    )
+
+pub returns-in_err-change-clause-err : goal.returns-in_err-change-clause-err
+returns-in_err-change-clause-err c =
+    let n = c.needs_are_fewest.ensures in
+    let needs : NeedsAreFewest = record { change = n.change; planned = n.planned; late = n.late } in
+    let script = c.args.script.now in
+    let known = c.pictures-pictures.ensures in
+    let told = c.in_err-change.ensures.late in
+    let stop : IsStop script c.args.blocks c.in_err-change.field-0.0 = subst (IsStop script c.args.blocks) (sym told.0) (
+      is_within script c.args.blocks (record { held = known.held; later = known.later }) c.requires.end,
+      is_late needs script c.loop-k.k _ _ c.loop-k.planned.items (record { border = known.borders; colour = known.colours }) known.pixels (omega (arith, known.value)) c.loop-k.invariant.0 refl refl told.1,
+    ) in
+    let p = err_from_is_err_and c.from_residual.result c.from_residual.ensures.1 in
+    rw (p.1, p.2) stop
+
+pub returns-clause-within : goal.returns-clause-within
+returns-clause-within c =
+    let known = c.pictures-pictures.ensures in
+    is_within c.args.script.now c.args.blocks (record { held = known.held; later = known.later }) c.requires.end
