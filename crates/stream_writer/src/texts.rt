@@ -1,12 +1,14 @@
 // The text packs of a lead-in.
 ghost use Rattle.std.specs.Prelude.{◌≡◌, ◌<◌, ◌≤◌, ℕ, length, IfOk, IfErr, OnOk};
 ghost use Rattle.cdtext_packs.specs.Packs.{most_packs};
+ghost use Rattle.cdtext_packs.specs.Writing.{packs_of, IsPackStop};
+ghost use Rattle.cdtext_packs.specs.declared.kinds.PackStop.{PackStop};
 ghost use Rattle.stream_writer.specs.Needs.{text_packs, HasRoom};
-ghost use Rattle.stream_writer.specs.Stops.{IsLeadInRefusal};
+ghost use Rattle.stream_writer.specs.Stops.{of_packs, IsLeadInRefusal};
 
 use crate::sheet_texts::texts_of_sheet;
 use crate::stops::LeadInStop;
-use cdtext_packs::{TextPack, pack_all};
+use cdtext_packs::{TextMap, TextPack, pack_all};
 use cue_sheet::Sheet;
 use std::alloc::Global;
 use toc_model::Layout;
@@ -46,6 +48,14 @@ fn packs_of_sheet(alloc: Global, sheet: &Sheet) -> Result<Vec<TextPack>, LeadInS
     ensures err { IfErr result (λ stop. (lead_in : ℕ) → 0 < lead_in → IsLeadInRefusal sheet.now lead_in stop) }
 {
     let map = texts_of_sheet(alloc, sheet)?;
-    let packs = pack_all(alloc, &map)?;
-    Ok(packs)
+    packs_of_map(alloc, &map)
+}
+
+// The packs of texts, at most 256.
+fn packs_of_map(alloc: Global, map: &TextMap) -> Result<Vec<TextPack>, LeadInStop>
+    ensures packs { IfOk result (λ packs. packs.items ≡ packs_of map.now) }
+    ensures few { IfOk result (λ packs. length packs.items ≤ most_packs) }
+    ensures err { IfErr result (λ stop. (fault : PackStop) × IsPackStop map.now fault × (stop ≡ of_packs fault)) }
+{
+    Ok(pack_all(alloc, map)?)
 }
