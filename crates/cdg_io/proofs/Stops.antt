@@ -1,0 +1,66 @@
+-- What holds of an answer that is a fault, and of the bytes that were taken before a read gave none.
+use Rattle.std.proofs.Common.{◌≡◌, ℕ, ◌+◌, ◌<◌, ◌≤◌, None, Some, List, ◌++◌, length, take, sym, ap, ◌∙◌, subst, arith, le_refl, append-nil, length-append, Result, Ok, Err}
+use Rattle.std.specs.Prelude.{IsErr, OnErr, IfSome}
+use Rattle.std.specs.declared.option.Option.{Option}
+use borrow.Rule.Slice.PartMut.{put_mid, post_of}
+use Rattle.std.proofs.lemmas.Slice.{take-put_mid_below}
+use Rattle.std.specs.Io.KnownBytes.{Consumes, IsAtEnd}
+use Rattle.std.proofs.KnownBytes.{Consumes-trans}
+use Rattle.cdg_io.specs.Causes.{FillsRoom, HasCause, Rose, TellsEnd}
+
+-- ---- faults
+
+pub on_err : {T E X : Type 0} (r : Result T E) → X → OnErr r X
+on_err (Ok value) x = tt
+on_err (Err fault) x = x
+
+pub failed_cause : {T E : Type 0} (r : Result T E) (before now : ℕ) → IsErr r → before ≤ now → Rose before now → HasCause before now r
+failed_cause (Ok value) before now err later rose = (cc)
+failed_cause (Err fault) before now err later rose = record { later = later; failed = rose; same = tt }
+
+pub failed_end : {E : Type 0} (r : Result ℕ E) (room before now : ℕ) → IsErr r → now ≡ before → TellsEnd room before now r
+failed_end (Ok count) room before now err same = (cc)
+failed_end (Err fault) room before now err same = record { ended = tt; goes_on = tt; failed = same }
+
+pub failed_room : {E : Type 0} (r : Result ℕ E) (room before now : ℕ) → IsErr r → now ≡ before → FillsRoom room before now r
+failed_room (Ok count) room before now err same = (cc)
+failed_room (Err fault) room before now err same = record { full = tt; short = tt; failed = same }
+
+-- ---- counts that stayed until a moment
+
+pub rose_since : {before mid now : ℕ} → mid ≡ before → Rose mid now → Rose before now
+rose_since {before} {mid} {now} same rose = subst (λ (n : ℕ). Rose n now) same rose
+
+pub later_since : {before mid now : ℕ} → mid ≡ before → mid ≤ now → before ≤ now
+later_since same later = omega (arith, same, later)
+
+pub later_if_same : {before now : ℕ} → now ≡ before → before ≤ now
+later_if_same same = omega (arith, same)
+
+-- ---- bytes
+
+-- a read of nothing takes no more
+pub Consumes-still : (a b c : Option (List ℕ)) (bs buf : List ℕ) (n : ℕ) → n ≡ 0 → Consumes a b bs → Consumes b c (take n buf) → Consumes a c bs
+Consumes-still a b c bs buf n zero p q = subst (Consumes a c) (ap (λ (k : ℕ). bs ++ take k buf) zero ∙ append-nil bs) (Consumes-trans a b c _ _ p q)
+
+pub Consumes-still_in : (a b c : Option (List ℕ)) (at k n : ℕ) (xs ys : List ℕ) → at ≤ length xs → n ≡ 0 → Consumes a b (take at xs) → Consumes b c (take n ys) → Consumes a c (take at (put_mid at k xs ys))
+Consumes-still_in a b c at k n xs ys within zero p q =
+    subst (Consumes a c) (sym (take-put_mid_below at k xs ys at (le_refl at) within)) (Consumes-still a b c (take at xs) ys n zero p q)
+
+-- what was taken is shorter than what is written at its end
+pub shorter : (at k : ℕ) (xs ys : List ℕ) → 0 < length ys → length (take at xs) < length (put_mid at k xs ys)
+shorter at k xs ys some =
+    let whole : length (put_mid at k xs ys) ≡ length (take at xs) + length (ys ++ post_of at k xs) = length-append (take at xs) (ys ++ post_of at k xs) in
+    omega (arith, whole, length-append ys (post_of at k xs), some)
+
+-- all was taken
+pub Consumes-all : (a b : Option (List ℕ)) (bs : List ℕ) → Consumes a b bs → IsAtEnd b → IfSome a (λ all. bs ≡ all)
+Consumes-all None b bs p end = tt
+Consumes-all (Some xs) None bs p end = absurd p
+Consumes-all (Some xs) (Some ys) bs p end = sym (p ∙ ap (λ (l : List ℕ). bs ++ l) end ∙ append-nil bs)
+
+-- there was more
+pub Consumes-more : (a b : Option (List ℕ)) (bs : List ℕ) (n : ℕ) → Consumes a b bs → n < length bs → IfSome a (λ all. n < length all)
+Consumes-more None b bs n p more = tt
+Consumes-more (Some xs) None bs n p more = absurd p
+Consumes-more (Some xs) (Some ys) bs n p more = omega (arith, more, ap length p, length-append bs ys)
