@@ -20,11 +20,15 @@ pump_error stop = Err stop
 abbrev play_error : PlayStop → Result Played PlayStop
 play_error stop = Err stop
 
-pub ends_in_turn : (stop : PumpStop) (before now : ℕ) → TellsEndOf (pump_error stop) before now → EndInTurn (play_error (play_stop stop)) before now
+ends_in_turn : (stop : PumpStop) (before now : ℕ) → TellsEndOf (pump_error stop) before now → EndInTurn (play_error (play_stop stop)) before now
 ends_in_turn pump.ReadFault before now told = told
 ends_in_turn pump.WriteFault before now told = told
 ends_in_turn (pump.Torn unit) before now told = told
 ends_in_turn pump.TooLong before now told = told
+
+-- where a call stopped that writes while it reads
+pub ends_stopped : (stop : PumpStop) (answer : PlayStop) (before now : ℕ) → answer ≡ play_stop stop → TellsEndOf (pump_error stop) before now → EndInTurn (play_error answer) before now
+ends_stopped stop answer before now is told = subst (λ (s : PlayStop). EndInTurn (play_error s) before now) (sym is) (ends_in_turn stop before now told)
 
 -- a pump asks for no moment
 pub stops_stream : (stop : PumpStop) → IsStreamStop (play_stop stop)
@@ -33,16 +37,21 @@ stops_stream pump.WriteFault = tt
 stops_stream (pump.Torn unit) = tt
 stops_stream pump.TooLong = tt
 
+pub stops_played : (stop : PumpStop) (answer : PlayStop) → answer ≡ play_stop stop → IsStreamStop answer
+stops_played stop answer is = subst IsStreamStop (sym is) (stops_stream stop)
+
 pub ends_first : (stop : PumpStop) (before now : ℕ) → pump_error stop ≢ pump_error pump.WriteFault → TellsEndOf (pump_error stop) before now → EndFirst (play_error (play_stop stop)) before now
 ends_first pump.ReadFault before now other told = told
 ends_first pump.WriteFault before now other told = absurd (other refl)
 ends_first (pump.Torn unit) before now other told = told
 ends_first pump.TooLong before now other told = told
 
+-- where a call stopped before it read all
 pub ends_unread : (stop : PumpStop) (answer : PlayStop) (before now : ℕ) → answer ≡ play_stop stop → pump_error stop ≢ pump_error pump.WriteFault → TellsEndOf (pump_error stop) before now
     → EndFirst (play_error answer) before now
 ends_unread stop answer before now is other told = subst (λ (s : PlayStop). EndFirst (play_error s) before now) (sym is) (ends_first stop before now other told)
 
+-- a call that lists texts may stop where a pump does
 stops_at_list : (stop : PumpStop) → IsListStop (play_stop stop)
 stops_at_list pump.ReadFault = tt
 stops_at_list pump.WriteFault = tt
@@ -52,7 +61,7 @@ stops_at_list pump.TooLong = tt
 pub stops_unread : (stop : PumpStop) (answer : PlayStop) → answer ≡ play_stop stop → IsListStop answer
 stops_unread stop answer is = subst IsListStop (sym is) (stops_at_list stop)
 
--- nor for texts
+-- a pump does not ask for texts either
 pub stops_moment : (stop : PumpStop) → IsMomentStop (play_stop stop)
 stops_moment pump.ReadFault = tt
 stops_moment pump.WriteFault = tt

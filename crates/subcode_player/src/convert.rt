@@ -40,7 +40,6 @@ impl Player {
     ///
     /// `Torn` and `TooLong` come after the packs of all whole blocks are written, `ReadFault` after those of the blocks
     /// that were read. After `WriteFault` the sink holds a prefix, and no later block was read.
-    #[tactic(auto, using(crate::proofs::Ends::ends_in_turn, crate::proofs::Ends::stops_stream))]
     pub fn convert<S: Source, K: Sink>(
         &mut self,
         lead_in: u32,

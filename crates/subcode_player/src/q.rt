@@ -51,7 +51,6 @@ impl Player {
 ///
 /// `Torn` and `TooLong` come after the lines of all whole blocks are written, `ReadFault` after those of the blocks
 /// that were read. After `WriteFault` the sink holds a prefix, and no later block was read.
-#[tactic(auto, using(crate::proofs::Ends::ends_in_turn, crate::proofs::Ends::stops_stream))]
 pub fn list_frames<S: Source, K: Sink>(
     lead_in: u32,
     form: Form,

@@ -4,7 +4,9 @@ use Rattle.q_channel.specs.declared.q_lines.QLines.{QLines}
 use Rattle.cdg_io.proofs.Frames.{machine_of}
 use Rattle.raw_subcode.specs.Channels.{unit_size}
 use Rattle.subcode_player.specs.Watch.{on_units}
+use Rattle.subcode_player.proofs.Ends.{ends_stopped, stops_played}
 use Rattle.subcode_player.proofs.Told.{done_told, stop_told}
+use Rattle.subcode_player.proofs.Checks.{checked_stop}
 use Rattle.subcode_player.proofs.Playing.{done_at, stop_at}
 use Rattle.subcode_player.proofs.QListing.{plays_frames}
 use Rattle.subcode_player.proofs.q.list_frames.Goals as goal
@@ -36,3 +38,15 @@ pub returns-in-Err-clause-faults : goal.returns-in-Err-clause-faults
 returns-in-Err-clause-faults g c =
     let read = c.in-Err.ensures in
     stop_told _ _ _ _ read.source_later read.out_later _ _ c.play_stop.ensures read.read_fault read.no_read_fault read.write_fault read.no_write_fault
+
+pub returns-in-Ok-clause-ended : goal.returns-in-Ok-clause-ended
+returns-in-Ok-clause-ended g c = c.in-Ok.ensures.ended
+
+pub returns-in-Err-clause-answer : goal.returns-in-Err-clause-answer
+returns-in-Err-clause-answer g c = checked_stop (unit_size c.args.form) _ _ _ c.play_stop.ensures c.in-Err.ensures.answer
+
+pub returns-in-Err-clause-stops : goal.returns-in-Err-clause-stops
+returns-in-Err-clause-stops g c = stops_played c.in-Err.stop c.play_stop.result c.play_stop.ensures
+
+pub returns-in-Err-clause-ended : goal.returns-in-Err-clause-ended
+returns-in-Err-clause-ended g c = ends_stopped c.in-Err.stop c.play_stop.result _ _ c.play_stop.ensures c.in-Err.ensures.ended
