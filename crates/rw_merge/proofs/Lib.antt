@@ -4,5 +4,7 @@ pub mod Solving
 pub mod Wrong
 pub mod Slots
 pub mod Words
+pub mod PairReads
+pub mod Stops
 pub mod Working
 pub mod Restoring

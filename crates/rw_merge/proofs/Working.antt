@@ -1,5 +1,6 @@
 -- A merge at work: what was taken, found and put, pair of blocks by pair of blocks.
-use Rattle.std.proofs.Common.{◌≡◌, ◌≢◌, ◌⊎◌, ℕ, ◌+◌, ◌-◌, ◌*◌, ◌/◌, ◌%◌, ◌<◌, ◌≤◌, min, List, [], ◌++◌, length, take, drop, refl, sym, ap, ap₂, ◌∙◌, subst, subst₂, inl, inr, arith, append-nil, length-append, IfOk, Result, Ok, Err}
+use Rattle.std.proofs.Common.{◌≡◌, ◌≢◌, ◌⊎◌, ℕ, ◌+◌, ◌-◌, ◌*◌, ◌/◌, ◌<◌, ◌≤◌, min, List, [], ◌++◌, length, take, drop, refl, sym, ap, ap₂, ◌∙◌, subst, subst₂, inl, inr, arith, append-nil, length-append, IfOk, Result, Ok, Err}
+use Rattle.std.specs.Prelude.{IfSome}
 use Rattle.std.specs.declared.option.Option.{Option}
 use Rattle.std.specs.Io.KnownBytes.{Appends, Consumes}
 use Rattle.std.proofs.KnownBytes.{Appends-trans, Consumes-trans, Appends-nil, Consumes-nil}
@@ -19,6 +20,7 @@ use Rattle.rw_merge.specs.declared.merge.Merged.{Merged}
 use Rattle.rw_merge.specs.declared.merge.MergeStop.{MergeStop}
 use Rattle.rw_merge.specs.declared.merge.MergeStop.TheVariants.{FirstFault, SecondFault, WriteFault, TooLong, Torn, SecondTorn, Unequal}
 use Rattle.rw_merge.proofs.Slots.{program_slots, slots-append}
+use Rattle.rw_merge.proofs.Stops.{end_answer, pair_answer, taken_exactly, whole_answer}
 use Rattle.rw_merge.proofs.Words.{agreements-append, agreements-nil, bad-append, merged_text, text-append}
 
 -- the slots of the program blocks among so many blocks
@@ -123,49 +125,6 @@ found_text lead_in blocks xs ys us vs w v found f =
 
 -- ---- Where a merge stops.
 
--- The answer is that of what was taken.
-half_answer : (blocks a : ℕ) (left : Option (List ℕ)) (us : List ℕ) → a ≡ blocks * 96 + length us → IsHalfRead left us → (blocks ≤ a / 96) × (a / 96 ≡ blocks → a % 96 ≡ 0)
-half_answer blocks a left us size half =
-    elim half [
-      | inl whole ↦ (omega (arith, size, whole), λ e. absurd (omega (arith, size, whole, e)))
-      | inr none ↦ let zero_long : length us ≡ 0 = ap length none.0 in (omega (arith, size, zero_long), λ e. omega (arith, size, zero_long))
-    ]
-
-pair_answer : (lead_in blocks a b : ℕ) (left other : Option (List ℕ)) (stop : MergeStop) (us vs : List ℕ) → a ≡ blocks * 96 + length us → b ≡ blocks * 96 + length vs → blocks < most_units
-    → IsPairRead blocks (Err stop) (taken_of us left) (taken_of vs other) → IsAnswer lead_in (Err stop) a b
-pair_answer lead_in blocks a b left other FirstFault us vs a_is b_is lt read = tt
-pair_answer lead_in blocks a b left other SecondFault us vs a_is b_is lt read = tt
-pair_answer lead_in blocks a b left other WriteFault us vs a_is b_is lt read = tt
-pair_answer lead_in blocks a b left other TooLong us vs a_is b_is lt read = absurd read
-pair_answer lead_in blocks a b left other (Torn n) us vs a_is b_is lt (same, some, part, none, end) =
-    let zero_long : length vs ≡ 0 = ap length none in
-    (omega arith, omega arith, omega arith, λ e. absurd (omega (arith, e)))
-pair_answer lead_in blocks a b left other (SecondTorn n) us vs a_is b_is lt (same, half, some, part, end) =
-    let first = half_answer blocks a left us a_is half in
-    (omega arith, omega (arith, first.0, same), λ e. first.1 (e ∙ same), omega arith, λ e. absurd (omega (arith, e)))
-pair_answer lead_in blocks a b left other (Unequal n) us vs a_is b_is lt (same, more) =
-    elim more [
-      | inl first ↦
-          let zero_long : length vs ≡ 0 = ap length first.1 in
-          let long : length us ≡ 96 = first.0 in
-          (omega arith, omega arith, λ e. absurd (omega (arith, e)), λ e. absurd (omega (arith, e)), λ e. omega arith)
-      | inr second ↦
-          let zero_long : length us ≡ 0 = ap length second.0 in
-          let long : length vs ≡ 96 = second.1 in
-          (omega arith, omega arith, λ e. absurd (omega (arith, e)), λ e. omega arith, λ e. absurd (omega (arith, e)))
-    ]
-
-end_answer : (lead_in blocks a b : ℕ) (left other : Option (List ℕ)) (stop : MergeStop) (us vs : List ℕ) → a ≡ blocks * 96 + length us → b ≡ blocks * 96 + length vs → blocks ≡ most_units
-    → IsEndRead (Err stop) (taken_of us left) (taken_of vs other) → IsAnswer lead_in (Err stop) a b
-end_answer lead_in blocks a b left other FirstFault us vs a_is b_is all read = tt
-end_answer lead_in blocks a b left other SecondFault us vs a_is b_is all read = tt
-end_answer lead_in blocks a b left other WriteFault us vs a_is b_is all read = tt
-end_answer lead_in blocks a b left other TooLong us vs a_is b_is all read =
-    (omega arith, omega arith, elim read [ inl first ↦ inl (omega (arith, first.0)) | inr second ↦ inr (omega (arith, second.1)) ])
-end_answer lead_in blocks a b left other (Torn n) us vs a_is b_is all read = absurd read
-end_answer lead_in blocks a b left other (SecondTorn n) us vs a_is b_is all read = absurd read
-end_answer lead_in blocks a b left other (Unequal n) us vs a_is b_is all read = absurd read
-
 -- No further pair is whole, and no write failed.
 pub stops : (lead_in blocks : ℕ) (left left' other other' held held' : Option (List ℕ)) (w v : List (List ℕ)) (bad : ℕ) (xs ys us vs : List ℕ) (result : Result Merged MergeStop)
     → Works lead_in blocks left left' other other' held held' w v bad xs ys → length us ≤ 96 → length vs ≤ 96 → (length us < 96) ⊎ (length vs < 96) → blocks * 96 + length us ≤ most_units * 96 + 1
@@ -249,7 +208,7 @@ pair_stops lead_in blocks left left' left'' other other' other'' held held' w v 
       Consumes-trans left left' left'' xs us works.first_taken first,
       Consumes-trans other other' other'' ys vs works.second_taken second,
       stops lead_in blocks left left' other other' held held' w v bad xs ys us vs (Err stop) works is.first is.second is.short (omega (arith, is.first, lt)) (λ e. is.is_other (let same : stop ≡ WriteFault = cc in same))
-          (λ a b a_is b_is. pair_answer lead_in blocks a b left'' other'' stop us vs a_is b_is lt read) tt,
+          (λ a b a_is b_is. pair_answer lead_in blocks a b left'' other'' stop us vs (taken_exactly a _ left'' a_is) (taken_exactly b _ other'' b_is) lt read) tt,
     )
 
 pub end_stops : (lead_in blocks : ℕ) (left left' left'' other other' other'' held held' : Option (List ℕ)) (w v : List (List ℕ)) (bad : ℕ) (xs ys us vs : List ℕ) (stop : MergeStop)
@@ -262,8 +221,23 @@ end_stops lead_in blocks left left' left'' other other' other'' held held' w v b
       Consumes-trans left left' left'' xs us works.first_taken first,
       Consumes-trans other other' other'' ys vs works.second_taken second,
       stops lead_in blocks left left' other other' held held' w v bad xs ys us vs (Err stop) works (omega (arith, one)) (omega (arith, two)) (inl (omega (arith, one))) (omega (arith, one, all)) (λ e. is_other (let same : stop ≡ WriteFault = cc in same))
-          (λ a b a_is b_is. end_answer lead_in blocks a b left'' other'' stop us vs a_is b_is all read) tt,
+          (λ a b a_is b_is. end_answer lead_in blocks a b left'' other'' stop us vs (taken_exactly a _ left'' a_is) (taken_exactly b _ other'' b_is) all read) tt,
     )
+
+-- The answer of both whole inputs.
+pub pair_of_whole : (lead_in blocks : ℕ) (left left' left'' other other' other'' held held' : Option (List ℕ)) (w v : List (List ℕ)) (bad : ℕ) (xs ys us vs : List ℕ) (stop : MergeStop)
+    → Works lead_in blocks left left' other other' held held' w v bad xs ys → Consumes left' left'' us → Consumes other' other'' vs → IsPairRead blocks (Err stop) (taken_of us left'') (taken_of vs other'') → blocks < most_units
+    → IfSome left (λ all. IfSome other (λ every. IsAnswer lead_in (Err stop) (length all) (length every)))
+pair_of_whole lead_in blocks left left' left'' other other' other'' held held' w v bad xs ys us vs stop works first second read lt =
+    whole_answer (IsAnswer lead_in (Err stop)) left left' left'' other other' other'' xs ys us vs (blocks * 96) works.first_taken first works.second_taken second works.is_found.first_size works.is_found.second_size
+    (λ a b a_is b_is. pair_answer lead_in blocks a b left'' other'' stop us vs a_is b_is lt read)
+
+pub end_of_whole : (lead_in blocks : ℕ) (left left' left'' other other' other'' held held' : Option (List ℕ)) (w v : List (List ℕ)) (bad : ℕ) (xs ys us vs : List ℕ) (stop : MergeStop)
+    → Works lead_in blocks left left' other other' held held' w v bad xs ys → Consumes left' left'' us → Consumes other' other'' vs → IsEndRead (Err stop) (taken_of us left'') (taken_of vs other'') → blocks ≡ most_units
+    → IfSome left (λ all. IfSome other (λ every. IsAnswer lead_in (Err stop) (length all) (length every)))
+end_of_whole lead_in blocks left left' left'' other other' other'' held held' w v bad xs ys us vs stop works first second read all =
+    whole_answer (IsAnswer lead_in (Err stop)) left left' left'' other other' other'' xs ys us vs (blocks * 96) works.first_taken first works.second_taken second works.is_found.first_size works.is_found.second_size
+    (λ a b a_is b_is. end_answer lead_in blocks a b left'' other'' stop us vs a_is b_is all read)
 
 pub both_end : (lead_in blocks total : ℕ) (left left' left'' other other' other'' held held' : Option (List ℕ)) (w v : List (List ℕ)) (bad : ℕ) (xs ys us vs : List ℕ)
     → Works lead_in blocks left left' other other' held held' w v bad xs ys → Consumes left' left'' us → Consumes other' other'' vs → us ≡ [] → vs ≡ [] → blocks ≤ most_units → total ≡ blocks - lead_in

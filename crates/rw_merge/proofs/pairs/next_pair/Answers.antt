@@ -1,7 +1,9 @@
-use Rattle.std.proofs.Common.{◌≡◌, ◌≤◌, length, refl, arith, rules}
+use Rattle.std.proofs.Common.{◌≡◌, ◌≤◌, ◌∙◌, length, refl, inl, inr, arith}
 use Rattle.cdg_io.proofs.PumpSteps.{Consumes-filled}
+use Rattle.rw_merge.proofs.PairReads.{IsWholeOrNone, both_at_end, first_failed, first_torn, is_none, one_has_more, second_failed, second_torn}
 use Rattle.rw_merge.proofs.pairs.next_pair.Goals as goal
 use Rattle.rw_merge.proofs.pairs.next_pair.Goals.{else-from_first-gt0-via-then-from_first-gt0+else-from_first-lt-BLOCK_BYTES, else-from_first-gt0-via-else-from_first-gt0}
+use Rattle.rw_merge.proofs.pairs.next_pair.Goals.{else-from_second-gt0-via-then-from_second-gt0+else-from_second-lt-BLOCK_BYTES, else-from_second-gt0-via-else-from_second-gt0}
 
 pub returns-clause-pair : goal.returns-clause-pair
 returns-clause-pair g c =
@@ -11,8 +13,8 @@ returns-clause-pair g c =
       | else-from_first-gt0-via-else-from_first-gt0 w ↦ absurd (omega (arith, w.if-from_first-gt0.false, c.if-from_first-eq0.false))
     ] in
     let full2 : 96 ≤ c.in-Ok-fill.count = omega (arith, full, c.if-from_first-from_second.false) in
-    let room : length c.fill.new.buf ≡ 96 = search rules in
-    let room2 : length c.fill-2.new.buf ≡ 96 = search rules in (
+    let room : length c.fill.new.buf ≡ 96 = c.fill.auto.buf ∙ c.told-one in
+    let room2 : length c.fill-2.new.buf ≡ 96 = c.fill-2.auto.buf ∙ c.told-other in (
       c.fill.new.buf,
       c.fill-2.new.buf,
       Consumes-filled _ _ _ _ 96 room full c.in-Ok.ensures.ok,
@@ -20,3 +22,44 @@ returns-clause-pair g c =
       (room, room2),
       λ same. (refl, refl),
     )
+
+pub returns-in-Err-clause-pair : goal.returns-in-Err-clause-pair
+returns-in-Err-clause-pair g c = first_failed c.args.block _ _ _ c.fill.new.buf _ (c.fill.auto.buf ∙ c.told-one) c.in-Err.ensures.part
+
+pub returns-then-from_first-lt-BLOCK_BYTES-clause-pair : goal.returns-then-from_first-lt-BLOCK_BYTES-clause-pair
+returns-then-from_first-lt-BLOCK_BYTES-clause-pair g c = first_torn c.args.block _ _ _ c.in-Ok.count c.fill.new.buf _ (record { size_is = c.fill.auto.buf ∙ c.told-one; within = c.in-Ok.ensures.within; taken = c.in-Ok.ensures.ok; end = c.in-Ok.ensures.end }) c.if-from_first-gt0.true c.if-from_first-lt-BLOCK_BYTES.true
+
+pub returns-in-Err-fill-clause-pair : goal.returns-in-Err-fill-clause-pair
+returns-in-Err-fill-clause-pair g c =
+    let first : IsWholeOrNone c.in-Ok.count =
+    elim c.else-from_first-gt0.branch [
+      | else-from_first-gt0-via-then-from_first-gt0+else-from_first-lt-BLOCK_BYTES w ↦ inr w.if-from_first-lt-BLOCK_BYTES.false
+      | else-from_first-gt0-via-else-from_first-gt0 w ↦ inl (is_none _ w.if-from_first-gt0.false)
+    ] in
+    second_failed c.args.block _ _ _ _ c.in-Ok.count c.fill.new.buf c.fill-2.new.buf (record { size_is = c.fill.auto.buf ∙ c.told-one; within = c.in-Ok.ensures.within; taken = c.in-Ok.ensures.ok; end = c.in-Ok.ensures.end }) first (c.fill-2.auto.buf ∙ c.told-other) c.in-Err-fill.ensures.part
+
+pub returns-then-from_second-lt-BLOCK_BYTES-clause-pair : goal.returns-then-from_second-lt-BLOCK_BYTES-clause-pair
+returns-then-from_second-lt-BLOCK_BYTES-clause-pair g c =
+    let first : IsWholeOrNone c.in-Ok.count =
+    elim c.else-from_first-gt0.branch [
+      | else-from_first-gt0-via-then-from_first-gt0+else-from_first-lt-BLOCK_BYTES w ↦ inr w.if-from_first-lt-BLOCK_BYTES.false
+      | else-from_first-gt0-via-else-from_first-gt0 w ↦ inl (is_none _ w.if-from_first-gt0.false)
+    ] in
+    second_torn c.args.block _ _ _ _ c.in-Ok.count c.in-Ok-fill.count c.fill.new.buf c.fill-2.new.buf (record { size_is = c.fill.auto.buf ∙ c.told-one; within = c.in-Ok.ensures.within; taken = c.in-Ok.ensures.ok; end = c.in-Ok.ensures.end }) first (record { size_is = c.fill-2.auto.buf ∙ c.told-other; within = c.in-Ok-fill.ensures.within; taken = c.in-Ok-fill.ensures.ok; end = c.in-Ok-fill.ensures.end }) c.if-from_second-gt0.true c.if-from_second-lt-BLOCK_BYTES.true
+
+pub returns-then-from_first-from_second-clause-pair : goal.returns-then-from_first-from_second-clause-pair
+returns-then-from_first-from_second-clause-pair g c =
+    let first : IsWholeOrNone c.in-Ok.count =
+    elim c.else-from_first-gt0.branch [
+      | else-from_first-gt0-via-then-from_first-gt0+else-from_first-lt-BLOCK_BYTES w ↦ inr w.if-from_first-lt-BLOCK_BYTES.false
+      | else-from_first-gt0-via-else-from_first-gt0 w ↦ inl (is_none _ w.if-from_first-gt0.false)
+    ] in
+    let second : IsWholeOrNone c.in-Ok-fill.count =
+    elim c.else-from_second-gt0.branch [
+      | else-from_second-gt0-via-then-from_second-gt0+else-from_second-lt-BLOCK_BYTES w ↦ inr w.if-from_second-lt-BLOCK_BYTES.false
+      | else-from_second-gt0-via-else-from_second-gt0 w ↦ inl (is_none _ w.if-from_second-gt0.false)
+    ] in
+    one_has_more c.args.block _ _ _ _ c.in-Ok.count c.in-Ok-fill.count c.fill.new.buf c.fill-2.new.buf (record { size_is = c.fill.auto.buf ∙ c.told-one; within = c.in-Ok.ensures.within; taken = c.in-Ok.ensures.ok; end = c.in-Ok.ensures.end }) first (record { size_is = c.fill-2.auto.buf ∙ c.told-other; within = c.in-Ok-fill.ensures.within; taken = c.in-Ok-fill.ensures.ok; end = c.in-Ok-fill.ensures.end }) second c.if-from_first-from_second.true
+
+pub returns-then-from_first-eq0-clause-pair : goal.returns-then-from_first-eq0-clause-pair
+returns-then-from_first-eq0-clause-pair g c = both_at_end c.args.block _ _ _ _ c.in-Ok.count c.in-Ok-fill.count c.fill.new.buf c.fill-2.new.buf (record { size_is = c.fill.auto.buf ∙ c.told-one; within = c.in-Ok.ensures.within; taken = c.in-Ok.ensures.ok; end = c.in-Ok.ensures.end }) c.if-from_first-eq0.true (record { size_is = c.fill-2.auto.buf ∙ c.told-other; within = c.in-Ok-fill.ensures.within; taken = c.in-Ok-fill.ensures.ok; end = c.in-Ok-fill.ensures.end }) c.if-from_first-from_second.false

@@ -1,6 +1,9 @@
 use Rattle.std.proofs.Common.{◌++◌, [], length, sym, ap, ◌∙◌, refl, subst, arith}
+use Rattle.std.specs.Prelude.{Err}
 use Rattle.std.specs.Io.KnownBytes.{Appends}
-use Rattle.rw_merge.proofs.Working.{both_end, end_stops, pair_found, pair_stops, skipped_as, works_more, works_none, write_stops}
+use Rattle.rw_merge.specs.Merging.{TellsFirst, TellsSecond}
+use Rattle.rw_merge.proofs.Stops.{first_at_end, first_at_end_after, first_told, first_told_after, second_at_end, second_at_end_after, second_told, second_told_after}
+use Rattle.rw_merge.proofs.Working.{both_end, end_of_whole, end_stops, pair_found, pair_of_whole, pair_stops, skipped_as, works_more, works_none, write_stops}
 use Rattle.rw_merge.proofs.merge.Merger.merge_pairs.Goals as goal
 use Rattle.rw_merge.proofs.merge.Merger.merge_pairs.Goals.{then-block-lead_in+in-Ok, else-block-lead_in}
 
@@ -27,6 +30,33 @@ returns-in-Err-clause-merges g c =
     let (us, vs, first, second, read, whole) = c.in-Err.ensures.pair in
     pair_stops c.args.lead_in c.loop-block.block _ _ _ _ _ _ _ _ _ _ _ xs ys us vs c.in-Err.stop works first second read c.loop-block-test.true
 
+pub returns-in-Err-clause-answer : goal.returns-in-Err-clause-answer
+returns-in-Err-clause-answer g c =
+    let (xs, ys, works) = c.loop-block.invariant.works in
+    let (us, vs, first, second, read, whole) = c.in-Err.ensures.pair in
+    pair_of_whole c.args.lead_in c.loop-block.block _ _ _ _ _ _ _ _ _ _ _ xs ys us vs c.in-Err.stop works first second read c.loop-block-test.true
+
+pub returns-in-Err-clause-first_end : goal.returns-in-Err-clause-first_end
+returns-in-Err-clause-first_end g c =
+    let (us, vs, first, second, read, whole) = c.in-Err.ensures.pair in
+    first_at_end c.loop-block.block _ _ c.in-Err.stop us read
+
+pub returns-in-Err-clause-second_end : goal.returns-in-Err-clause-second_end
+returns-in-Err-clause-second_end g c =
+    let (us, vs, first, second, read, whole) = c.in-Err.ensures.pair in
+    second_at_end c.loop-block.block _ _ c.in-Err.stop vs read
+
+pub returns-in-Err-clause-first_told : goal.returns-in-Err-clause-first_told
+returns-in-Err-clause-first_told g c =
+    let (us, vs, first, second, read, whole) = c.in-Err.ensures.pair in
+    subst (λ before. TellsFirst (Err c.in-Err.stop) before (g.S.Source.ends c.next_pair.new.first)) c.loop-block.invariant.first_told
+    (first_told c.loop-block.block _ _ _ _ c.in-Err.stop read c.in-Err.ensures.first_end)
+
+pub returns-in-Err-clause-second_told : goal.returns-in-Err-clause-second_told
+returns-in-Err-clause-second_told g c =
+    subst (λ before. TellsSecond (Err c.in-Err.stop) before (g.T.Source.ends c.next_pair.new.second)) c.loop-block.invariant.second_told
+    (second_told _ _ c.in-Err.stop c.in-Err.ensures.second_end)
+
 pub returns-in-Ok-nothing_follows-clause-merges : goal.returns-in-Ok-nothing_follows-clause-merges
 returns-in-Ok-nothing_follows-clause-merges g c =
     let (xs, ys, works) = c.loop-block.invariant.works in
@@ -38,6 +68,34 @@ returns-in-Err-nothing_follows-clause-merges g c =
     let (xs, ys, works) = c.loop-block.invariant.works in
     let (us, vs, first, second, read) = c.in-Err-nothing_follows.ensures.end in
     end_stops c.args.lead_in c.loop-block.block _ _ _ _ _ _ _ _ _ _ _ xs ys us vs c.in-Err-nothing_follows.stop works first second read (omega (arith, c.loop-block.auto.block-end, c.loop-block-test.false))
+
+pub returns-in-Err-nothing_follows-clause-answer : goal.returns-in-Err-nothing_follows-clause-answer
+returns-in-Err-nothing_follows-clause-answer g c =
+    let (xs, ys, works) = c.loop-block.invariant.works in
+    let (us, vs, first, second, read) = c.in-Err-nothing_follows.ensures.end in
+    end_of_whole c.args.lead_in c.loop-block.block _ _ _ _ _ _ _ _ _ _ _ xs ys us vs c.in-Err-nothing_follows.stop works first second read (omega (arith, c.loop-block.auto.block-end, c.loop-block-test.false))
+
+pub returns-in-Err-nothing_follows-clause-first_end : goal.returns-in-Err-nothing_follows-clause-first_end
+returns-in-Err-nothing_follows-clause-first_end g c =
+    let (us, vs, first, second, read) = c.in-Err-nothing_follows.ensures.end in
+    first_at_end_after _ _ _ c.in-Err-nothing_follows.stop read
+
+pub returns-in-Err-nothing_follows-clause-second_end : goal.returns-in-Err-nothing_follows-clause-second_end
+returns-in-Err-nothing_follows-clause-second_end g c =
+    let (us, vs, first, second, read) = c.in-Err-nothing_follows.ensures.end in
+    second_at_end_after _ _ _ c.in-Err-nothing_follows.stop read
+
+pub returns-in-Err-nothing_follows-clause-first_told : goal.returns-in-Err-nothing_follows-clause-first_told
+returns-in-Err-nothing_follows-clause-first_told g c =
+    let (us, vs, first, second, read) = c.in-Err-nothing_follows.ensures.end in
+    subst (λ before. TellsFirst (Err c.in-Err-nothing_follows.stop) before (g.S.Source.ends c.nothing_follows.new.first)) c.loop-block.invariant.first_told
+    (first_told_after _ _ _ _ c.in-Err-nothing_follows.stop read c.in-Err-nothing_follows.ensures.first_end)
+
+pub returns-in-Err-nothing_follows-clause-second_told : goal.returns-in-Err-nothing_follows-clause-second_told
+returns-in-Err-nothing_follows-clause-second_told g c =
+    let (us, vs, first, second, read) = c.in-Err-nothing_follows.ensures.end in
+    subst (λ before. TellsSecond (Err c.in-Err-nothing_follows.stop) before (g.T.Source.ends c.nothing_follows.new.second)) c.loop-block.invariant.second_told
+    (second_told_after _ _ _ _ c.in-Err-nothing_follows.stop read c.in-Err-nothing_follows.ensures.second_end)
 
 pub returns-in-Err-put_all-clause-merges : goal.returns-in-Err-put_all-clause-merges
 returns-in-Err-put_all-clause-merges g c =

@@ -1,0 +1,17 @@
+use Rattle.rw_merge.proofs.PairReads.{end_of_first_failed, end_of_second_failed, first_goes_on, no_byte_follows, second_goes_on}
+use Rattle.rw_merge.proofs.pairs.nothing_follows.Goals as goal
+
+pub returns-in-Ok-clause-end : goal.returns-in-Ok-clause-end
+returns-in-Ok-clause-end g c = first_goes_on _ _ _ c.in-Ok.field-0 c.fill.new.buf (record { size_is = c.fill.auto.buf; within = c.in-Ok.ensures.within; taken = c.in-Ok.ensures.ok; end = c.in-Ok.ensures.end }) c.in-Ok.field-0-test.1
+
+pub returns-in-Err-clause-end : goal.returns-in-Err-clause-end
+returns-in-Err-clause-end g c = end_of_first_failed _ _ _ c.fill.new.buf c.fill.auto.buf c.in-Err.ensures.part
+
+pub returns-in-Ok-eq0-fill-clause-end : goal.returns-in-Ok-eq0-fill-clause-end
+returns-in-Ok-eq0-fill-clause-end g c = no_byte_follows _ _ _ _ c.in-Ok-eq0.field-0 c.in-Ok-eq0-fill.field-0 c.fill.new.buf c.fill-2.new.buf (record { size_is = c.fill.auto.buf; within = c.in-Ok-eq0.ensures.within; taken = c.in-Ok-eq0.ensures.ok; end = c.in-Ok-eq0.ensures.end }) c.in-Ok-eq0.field-0-test (record { size_is = c.fill-2.auto.buf; within = c.in-Ok-eq0-fill.ensures.within; taken = c.in-Ok-eq0-fill.ensures.ok; end = c.in-Ok-eq0-fill.ensures.end }) c.in-Ok-eq0-fill.field-0-test
+
+pub returns-in-Ok-fill-clause-end : goal.returns-in-Ok-fill-clause-end
+returns-in-Ok-fill-clause-end g c = second_goes_on _ _ _ _ c.in-Ok-eq0.field-0 c.in-Ok-fill.field-0 c.fill.new.buf c.fill-2.new.buf (record { size_is = c.fill.auto.buf; within = c.in-Ok-eq0.ensures.within; taken = c.in-Ok-eq0.ensures.ok; end = c.in-Ok-eq0.ensures.end }) c.in-Ok-eq0.field-0-test (record { size_is = c.fill-2.auto.buf; within = c.in-Ok-fill.ensures.within; taken = c.in-Ok-fill.ensures.ok; end = c.in-Ok-fill.ensures.end }) c.in-Ok-fill.field-0-test.1
+
+pub returns-in-Err-fill-clause-end : goal.returns-in-Err-fill-clause-end
+returns-in-Err-fill-clause-end g c = end_of_second_failed _ _ _ _ c.in-Ok-eq0.field-0 c.fill.new.buf c.fill-2.new.buf (record { size_is = c.fill.auto.buf; within = c.in-Ok-eq0.ensures.within; taken = c.in-Ok-eq0.ensures.ok; end = c.in-Ok-eq0.ensures.end }) c.in-Ok-eq0.field-0-test c.fill-2.auto.buf c.in-Err-fill.ensures.part
