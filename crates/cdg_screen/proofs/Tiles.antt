@@ -61,3 +61,55 @@ line_more old now new row column colour0 colour1 j lines pixels exclusive j_lt r
           let other : y / 12 ≡ row → y % 12 ≢ j = λ same_row down. apart (omega arith) in
           grind (arith, nat_tests)
     ]
+
+-- ---- A tile that is drawn leaves each pixel as it is.
+
+-- none of its lines
+pub kept_at_first : (grid : Grid) (row column colour0 colour1 : ℕ) (lines : List ℕ) (exclusive : Bool)
+    → Becomes grid (λ x y. if covers row column x y && nat_lt (y % 12) 0 then drawn_over exclusive (tile_colour colour0 colour1 lines (x % 6) (y % 12)) (at grid x y) else at grid x y)
+kept_at_first grid row column colour0 colour1 lines exclusive x y x_lt y_lt = grind (arith, nat_tests)
+
+drawn_place : (row column j x y : ℕ) → (covers row column x y && nat_lt (y % 12) (j + 1)) ≡ true → (x / 6 ≡ column) × (y / 12 ≡ row) × (y % 12 < j + 1)
+drawn_place row column j x y drawn = (grind (arith, nat_tests), grind (arith, nat_tests), grind (arith, nat_tests))
+
+drawn_before : (row column j x y : ℕ) → (covers row column x y && nat_lt (y % 12) (j + 1)) ≡ true → y % 12 < j → (covers row column x y && nat_lt (y % 12) j) ≡ true
+drawn_before row column j x y drawn lt = grind (arith, nat_tests)
+
+line_holds : (left top j x y : ℕ) → y ≡ top + j → left ≤ x → x < left + 6 → (y == top + j && nat_le left x && nat_lt x (left + 6)) ≡ true
+line_holds left top j x y y_is low high = grind (arith, nat_tests)
+
+-- one of its lines more
+pub kept_line : (grid : Grid) (row column colour0 colour1 left top j : ℕ) (lines : List ℕ) (exclusive : Bool) → left ≡ 6 * column → top ≡ 12 * row
+    → Becomes grid (λ x y. if covers row column x y && nat_lt (y % 12) j then drawn_over exclusive (tile_colour colour0 colour1 lines (x % 6) (y % 12)) (at grid x y) else at grid x y)
+    → Becomes grid (λ x y. if y == top + j && nat_le left x && nat_lt x (left + 6)
+    then drawn_over exclusive (line_colour colour0 colour1 (slice_index lines j) (x - left)) (at grid x y) else at grid x y)
+    → Becomes grid (λ x y. if covers row column x y && nat_lt (y % 12) (j + 1) then drawn_over exclusive (tile_colour colour0 colour1 lines (x % 6) (y % 12)) (at grid x y) else at grid x y)
+kept_line grid row column colour0 colour1 left top j lines exclusive left_is top_is before line x y x_lt y_lt =
+    elim (cases_Bool (covers row column x y && nat_lt (y % 12) (j + 1))) [
+      | inr not_drawn ↦ rw not_drawn refl
+      | inl drawn ↦
+          let (across, down, le) = drawn_place row column j x y drawn in
+          elim (cases_eq (y % 12) j) [
+            | inl last ↦
+                let inside = line_holds left top j x y (omega arith) (omega arith) (omega arith) in
+                let column_of : x - left ≡ x % 6 = omega arith in
+                let here : at grid x y ≡ drawn_over exclusive (line_colour colour0 colour1 (slice_index lines j) (x - left)) (at grid x y) = rw inside at (line x y x_lt y_lt) in
+                rw drawn (here ∙ ap₂ (λ i k. drawn_over exclusive (tile_colour colour0 colour1 lines i k) (at grid x y)) column_of (sym last))
+            | inr earlier ↦
+                let so_far = drawn_before row column j x y drawn (omega arith) in
+                let here : at grid x y ≡ drawn_over exclusive (tile_colour colour0 colour1 lines (x % 6) (y % 12)) (at grid x y) = rw so_far at (before x y x_lt y_lt) in
+                rw drawn here
+          ]
+    ]
+
+-- all of them
+pub kept_whole : (grid : Grid) (row column colour0 colour1 j : ℕ) (lines : List ℕ) (exclusive : Bool) → 12 ≤ j
+    → Becomes grid (λ x y. if covers row column x y && nat_lt (y % 12) j then drawn_over exclusive (tile_colour colour0 colour1 lines (x % 6) (y % 12)) (at grid x y) else at grid x y)
+    → Becomes grid (λ x y. if covers row column x y then drawn_over exclusive (tile_colour colour0 colour1 lines (x % 6) (y % 12)) (at grid x y) else at grid x y)
+kept_whole grid row column colour0 colour1 j lines exclusive all kept x y x_lt y_lt =
+    elim (cases_Bool (covers row column x y)) [
+      | inr apart ↦ rw apart refl
+      | inl covered ↦
+          let below : nat_lt (y % 12) j ≡ true = grind (arith, nat_tests) in
+          rw covered (rw (covered, below) at (kept x y x_lt y_lt))
+    ]
