@@ -2,6 +2,7 @@ pub mod Tails
 pub mod SavedStreams
 pub mod GoneOn
 pub mod Reached
+pub mod Stopping
 pub mod Written
 pub mod Joined
 pub mod Meant

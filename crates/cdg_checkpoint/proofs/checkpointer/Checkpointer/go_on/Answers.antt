@@ -3,6 +3,7 @@ use Rattle.cdg_io.specs.declared.pumping.Pumped.{Pumped}
 use Rattle.cdg_io.specs.declared.pumping.PumpStop.{PumpStop}
 use Rattle.checkpoint_files.specs.Checkpoint.{checkpoint_in}
 use Rattle.cdg_checkpoint.proofs.Reached.{brought_back, goes_on, reached_by, sound_file, torn_by}
+use Rattle.cdg_checkpoint.proofs.Stopping.{ends_as_reached, first_is_not_past, gone_on_to_stop, reached_is_not, write_is_not_past}
 use Rattle.cdg_checkpoint.proofs.checkpointer.Checkpointer.go_on.Goals as goal
 
 abbrev error : PumpStop → Result Pumped PumpStop
@@ -37,3 +38,27 @@ pub returns-in-Torn-clause-answer : goal.returns-in-Torn-clause-answer
 returns-in-Torn-clause-answer g c =
     torn_by (checkpoint_in c.args.self.now.file) c.args.at _ _ c.in-Torn.unit _ c.in-Err.stop c.in-Torn.is (ap₂ (λ a b. 1000000 - (a + b)) c.counts-counts.ensures.lead_in c.counts-counts.ensures.program)
     (ap₂ (λ a b. a + b) c.counts-counts.ensures.lead_in c.counts-counts.ensures.program) c.in-Err.ensures.answer
+
+pub returns-in-ReadFault-clause-goes_on : goal.returns-in-ReadFault-clause-goes_on
+returns-in-ReadFault-clause-goes_on g c =
+    let (taken, w) = c.in-Err.ensures.watches in
+    (taken, gone_on_to_stop (checkpoint_in c.args.self.now.file) c.args.at _ _ _ taken c.begin_again.new.self.tracking.words c.watch_some.new.stage c.in-Err.stop _ (ap₂ (λ a b. 1000000 - (a + b)) c.counts-counts.ensures.lead_in c.counts-counts.ensures.program) w (λ block e. absurd (cc)) (λ blocks e. (cc)))
+
+pub returns-in-Torn-clause-goes_on : goal.returns-in-Torn-clause-goes_on
+returns-in-Torn-clause-goes_on g c =
+    let (taken, w) = c.in-Err.ensures.watches in
+    (taken, gone_on_to_stop (checkpoint_in c.args.self.now.file) c.args.at _ _ _ taken c.begin_again.new.self.tracking.words c.watch_some.new.stage c.in-Err.stop _ (ap₂ (λ a b. 1000000 - (a + b)) c.counts-counts.ensures.lead_in c.counts-counts.ensures.program) w (λ block e. (w.torn c.in-Torn.unit (ap error c.in-Torn.is)).0) (λ blocks e. (cc)))
+
+pub returns-in-TooLong-clause-goes_on : goal.returns-in-TooLong-clause-goes_on
+returns-in-TooLong-clause-goes_on g c =
+    let (taken, w) = c.in-Err.ensures.watches in
+    (taken, gone_on_to_stop (checkpoint_in c.args.self.now.file) c.args.at _ _ _ taken c.begin_again.new.self.tracking.words c.watch_some.new.stage c.in-Err.stop _ (ap₂ (λ a b. 1000000 - (a + b)) c.counts-counts.ensures.lead_in c.counts-counts.ensures.program) w (λ block e. absurd (cc)) (λ blocks e. (cc)))
+
+pub returns-in-Ok-clause-ended : goal.returns-in-Ok-clause-ended
+returns-in-Ok-clause-ended g c = ends_as_reached c.resumed.result _ c.args.at _ _ _ c.resumed.ensures.answer c.in-Ok.ensures.ended
+
+pub returns-in-Ok-clause-no_write : goal.returns-in-Ok-clause-no_write
+returns-in-Ok-clause-no_write g c = reached_is_not c.resumed.result _ c.args.at _ _ c.resumed.ensures.answer write_is_not_past
+
+pub returns-in-Ok-clause-no_first : goal.returns-in-Ok-clause-no_first
+returns-in-Ok-clause-no_first g c = reached_is_not c.resumed.result _ c.args.at _ _ c.resumed.ensures.answer first_is_not_past
