@@ -2,7 +2,7 @@
 use Rattle.std.proofs.Common.{◌≡◌, ◌≢◌, ◌⊎◌, ℕ, ◌+◌, ◌-◌, ◌*◌, ◌/◌, ◌<◌, ◌≤◌, min, List, [], ◌++◌, length, take, drop, refl, sym, ap, ap₂, ◌∙◌, subst, subst₂, inl, inr, arith, append-nil, length-append, IfOk, Result, Ok, Err}
 use Rattle.std.specs.Prelude.{IfSome}
 use Rattle.std.specs.declared.option.Option.{Option}
-use Rattle.std.specs.Io.KnownBytes.{Appends, Consumes}
+use Rattle.std.specs.Io.KnownBytes.{Appends, Consumes, IsAtEnd}
 use Rattle.std.proofs.KnownBytes.{Appends-trans, Consumes-trans, Appends-nil, Consumes-nil}
 use Rattle.std.proofs.lemmas.List.{take_all, take-append-le, drop-append-le}
 use Rattle.cdg_io.specs.Moves.{AppendsPrefix}
@@ -238,6 +238,18 @@ pub end_of_whole : (lead_in blocks : ℕ) (left left' left'' other other' other'
 end_of_whole lead_in blocks left left' left'' other other' other'' held held' w v bad xs ys us vs stop works first second read all =
     whole_answer (IsAnswer lead_in (Err stop)) left left' left'' other other' other'' xs ys us vs (blocks * 96) works.first_taken first works.second_taken second works.is_found.first_size works.is_found.second_size
     (λ a b a_is b_is. end_answer lead_in blocks a b left'' other'' stop us vs a_is b_is all read)
+
+pub both_of_whole : (lead_in blocks total answered : ℕ) (left left' left'' other other' other'' held held' : Option (List ℕ)) (w v : List (List ℕ)) (bad : ℕ) (xs ys us vs : List ℕ)
+    → Works lead_in blocks left left' other other' held held' w v bad xs ys → Consumes left' left'' us → Consumes other' other'' vs → us ≡ [] → vs ≡ [] → IsAtEnd left'' → IsAtEnd other'' → blocks ≤ most_units → total ≡ blocks - lead_in
+    → IfSome left (λ all. IfSome other (λ every. IsAnswer lead_in (Ok (record { blocks = total; bad = answered })) (length all) (length every)))
+both_of_whole lead_in blocks total answered left left' left'' other other' other'' held held' w v bad xs ys us vs works first second u_is v_is end end' within total_is =
+    whole_answer (IsAnswer lead_in (Ok (record { blocks = total; bad = answered }))) left left' left'' other other' other'' xs ys us vs (blocks * 96) works.first_taken first works.second_taken second works.is_found.first_size works.is_found.second_size
+    (λ a b a_is b_is.
+    let none : length us ≡ 0 = ap length u_is in
+    let none' : length vs ≡ 0 = ap length v_is in
+    let one : a ≡ blocks * 96 + length us = a_is.at_end end in
+    let two : b ≡ blocks * 96 + length vs = b_is.at_end end' in
+    (omega (arith, one, none, within), omega (arith, one, two, none, none'), omega (arith, one, none), total_is ∙ omega (arith, one, none)))
 
 pub both_end : (lead_in blocks total : ℕ) (left left' left'' other other' other'' held held' : Option (List ℕ)) (w v : List (List ℕ)) (bad : ℕ) (xs ys us vs : List ℕ)
     → Works lead_in blocks left left' other other' held held' w v bad xs ys → Consumes left' left'' us → Consumes other' other'' vs → us ≡ [] → vs ≡ [] → blocks ≤ most_units → total ≡ blocks - lead_in

@@ -3,7 +3,7 @@ use Rattle.std.specs.Prelude.{Err}
 use Rattle.std.specs.Io.KnownBytes.{Appends}
 use Rattle.rw_merge.specs.Merging.{TellsFirst, TellsSecond}
 use Rattle.rw_merge.proofs.Stops.{first_at_end, first_at_end_after, first_told, first_told_after, second_at_end, second_at_end_after, second_told, second_told_after}
-use Rattle.rw_merge.proofs.Working.{both_end, end_of_whole, end_stops, pair_found, pair_of_whole, pair_stops, skipped_as, works_more, works_none, write_stops}
+use Rattle.rw_merge.proofs.Working.{both_end, both_of_whole, end_of_whole, end_stops, pair_found, pair_of_whole, pair_stops, skipped_as, works_more, works_none, write_stops}
 use Rattle.rw_merge.proofs.merge.Merger.merge_pairs.Goals as goal
 use Rattle.rw_merge.proofs.merge.Merger.merge_pairs.Goals.{then-block-lead_in+in-Ok, else-block-lead_in}
 
@@ -23,6 +23,12 @@ returns-in-Ok-false-clause-merges g c =
     let (xs, ys, works) = c.loop-block.invariant.works in
     let (us, vs, first, second, read, whole) = rw c.in-Ok-false.field-0-test at c.in-Ok-false.ensures.pair in
     both_end c.args.lead_in c.loop-block.block _ _ _ _ _ _ _ _ _ _ _ _ xs ys us vs works first second read.0 read.1 (omega (arith, c.loop-block-test.true)) c.saturating_sub.ensures
+
+pub returns-in-Ok-false-clause-answer : goal.returns-in-Ok-false-clause-answer
+returns-in-Ok-false-clause-answer g c =
+    let (xs, ys, works) = c.loop-block.invariant.works in
+    let (us, vs, first, second, read, whole) = rw c.in-Ok-false.field-0-test at c.in-Ok-false.ensures.pair in
+    both_of_whole c.args.lead_in c.loop-block.block _ c.loop-block.bad _ _ _ _ _ _ _ _ _ _ _ xs ys us vs works first second read.0 read.1 read.2 read.3 (omega (arith, c.loop-block-test.true)) c.saturating_sub.ensures
 
 pub returns-in-Err-clause-merges : goal.returns-in-Err-clause-merges
 returns-in-Err-clause-merges g c =
@@ -62,6 +68,12 @@ returns-in-Ok-nothing_follows-clause-merges g c =
     let (xs, ys, works) = c.loop-block.invariant.works in
     let (us, vs, first, second, read) = c.in-Ok-nothing_follows.ensures.end in
     both_end c.args.lead_in c.loop-block.block _ _ _ _ _ _ _ _ _ _ _ _ xs ys us vs works first second read.0 read.1 (omega (arith, c.loop-block.auto.block-end)) (omega (arith, c.loop-block.auto.block-end, c.loop-block-test.false))
+
+pub returns-in-Ok-nothing_follows-clause-answer : goal.returns-in-Ok-nothing_follows-clause-answer
+returns-in-Ok-nothing_follows-clause-answer g c =
+    let (xs, ys, works) = c.loop-block.invariant.works in
+    let (us, vs, first, second, read) = c.in-Ok-nothing_follows.ensures.end in
+    both_of_whole c.args.lead_in c.loop-block.block _ c.loop-block.bad _ _ _ _ _ _ _ _ _ _ _ xs ys us vs works first second read.0 read.1 read.2 read.3 (omega (arith, c.loop-block.auto.block-end)) (omega (arith, c.loop-block.auto.block-end, c.loop-block-test.false))
 
 pub returns-in-Err-nothing_follows-clause-merges : goal.returns-in-Err-nothing_follows-clause-merges
 returns-in-Err-nothing_follows-clause-merges g c =
