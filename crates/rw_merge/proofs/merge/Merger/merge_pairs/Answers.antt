@@ -2,7 +2,7 @@ use Rattle.std.proofs.Common.{◌++◌, [], length, sym, ap, ◌∙◌, refl, su
 use Rattle.std.specs.Prelude.{Err}
 use Rattle.std.specs.Io.KnownBytes.{Appends}
 use Rattle.rw_merge.specs.Merging.{TellsFirst, TellsSecond}
-use Rattle.rw_merge.proofs.Stops.{first_at_end, first_at_end_after, first_told, first_told_after, second_at_end, second_at_end_after, second_told, second_told_after}
+use Rattle.rw_merge.proofs.Stops.{end_is_no_write, first_at_end, first_at_end_after, first_told, first_told_after, pair_is_no_write, second_at_end, second_at_end_after, second_told, second_told_after}
 use Rattle.rw_merge.proofs.Working.{both_end, both_of_whole, end_of_whole, end_stops, pair_found, pair_of_whole, pair_stops, skipped_as, works_more, works_none, write_stops}
 use Rattle.rw_merge.proofs.merge.Merger.merge_pairs.Goals as goal
 use Rattle.rw_merge.proofs.merge.Merger.merge_pairs.Goals.{then-block-lead_in+in-Ok, else-block-lead_in}
@@ -157,3 +157,33 @@ loop-block-preserved g c =
             second_told = (rw c.in-Ok-true.field-0-test at c.in-Ok-true.ensures.second_end) ∙ before.second_told;
           }
     ]
+
+pub returns-in-Ok-false-clause-first_end : goal.returns-in-Ok-false-clause-first_end
+returns-in-Ok-false-clause-first_end g c =
+    let (us, vs, first, second, read, whole) = rw c.in-Ok-false.field-0-test at c.in-Ok-false.ensures.pair in
+    read.2
+
+pub returns-in-Ok-false-clause-second_end : goal.returns-in-Ok-false-clause-second_end
+returns-in-Ok-false-clause-second_end g c =
+    let (us, vs, first, second, read, whole) = rw c.in-Ok-false.field-0-test at c.in-Ok-false.ensures.pair in
+    read.3
+
+pub returns-in-Ok-nothing_follows-clause-first_end : goal.returns-in-Ok-nothing_follows-clause-first_end
+returns-in-Ok-nothing_follows-clause-first_end g c =
+    let (us, vs, first, second, read) = c.in-Ok-nothing_follows.ensures.end in
+    read.2
+
+pub returns-in-Ok-nothing_follows-clause-second_end : goal.returns-in-Ok-nothing_follows-clause-second_end
+returns-in-Ok-nothing_follows-clause-second_end g c =
+    let (us, vs, first, second, read) = c.in-Ok-nothing_follows.ensures.end in
+    read.3
+
+pub returns-in-Err-clause-write_fault : goal.returns-in-Err-clause-write_fault
+returns-in-Err-clause-write_fault g c =
+    let (us, vs, first, second, read, whole) = c.in-Err.ensures.pair in
+    pair_is_no_write c.loop-block.block _ _ c.in-Err.stop _ read
+
+pub returns-in-Err-nothing_follows-clause-write_fault : goal.returns-in-Err-nothing_follows-clause-write_fault
+returns-in-Err-nothing_follows-clause-write_fault g c =
+    let (us, vs, first, second, read) = c.in-Err-nothing_follows.ensures.end in
+    end_is_no_write _ _ c.in-Err-nothing_follows.stop _ read
