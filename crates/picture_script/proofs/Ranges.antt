@@ -3,7 +3,7 @@ use Rattle.std.proofs.Common.{◌≡◌, ℕ, ◌+◌, ◌-◌, ◌<◌, ◌≤�
 use Rattle.std.specs.Prelude.{fold, ◌==◌, if◌then◌else◌}
 use Rattle.std.proofs.lemmas.Bool.{cases_lt}
 use Rattle.std.proofs.lemmas.Bool.Decides.{nat_tests}
-use Rattle.std.proofs.lemmas.List.{get_or-take, get_or-drop, get_or_past, length-take, get_or-map}
+use Rattle.std.proofs.lemmas.List.{get_or-take, get_or-drop, get_or_past, get_or_default, length-take, get_or-map}
 use Rattle.std.proofs.lemmas.List.Elements.{All-nil, All-cons, All-head, All-tail, All-take}
 use Rattle.picture_script.specs.Script.{Drawing, Colour, Border, Fill, Rect, Row, Show, shows, pictures, ready_time, hold_time, lines_before, Picture, blank_picture, drawn, drawn_by, picture_pixel, picture_border, picture_colour}
 use Rattle.picture_script.specs.Board.{AreColours}
@@ -116,3 +116,22 @@ times_end pixels lines shown k h lt =
     let count = shown_count pixels lines shown h in
     let inside : k < length shown = omega arith in
     subst (λ (t : ℕ × ℕ). t.1 < 450000) (sym (times_at pixels lines shown k h inside)) (h.ending k inside)
+
+-- the same of a kept picture of the script that a struct shows
+module _ (pixels : List ℕ) (lines : List Line) (shown : List Shown) (script : List Drawing) (view : all_said pixels lines ≡ script) (h : IsIndexed pixels lines shown) where
+  pub shown_inside : (k : ℕ) → k < pictures script → k < length shown
+  shown_inside k lt = omega (arith, shown_count pixels lines shown h, ap pictures view)
+
+  pub shown_times_at : (k : ℕ) (t : Shown) → k < pictures script → t ≡ get_or shown k t → times_of t ≡ (ready_time script k, hold_time script k)
+  shown_times_at k t lt is =
+      ap times_of (is ∙ get_or_default shown k t no_show (shown_inside k lt)) ∙ sym (times_at pixels lines shown k h (shown_inside k lt))
+      ∙ ap (λ (s : List Drawing). (ready_time s k, hold_time s k)) view
+
+  pub shown_held : (k : ℕ) → k < pictures script → ready_time script k ≤ hold_time script k
+  shown_held = subst (λ (s : List Drawing). (k : ℕ) → k < pictures s → ready_time s k ≤ hold_time s k) view (λ k lt. times_held pixels lines shown k h lt)
+
+  pub shown_later : (k : ℕ) → k + 1 < pictures script → hold_time script k < ready_time script (k + 1)
+  shown_later = subst (λ (s : List Drawing). (k : ℕ) → k + 1 < pictures s → hold_time s k < ready_time s (k + 1)) view (λ k lt. times_later pixels lines shown k h lt)
+
+  pub shown_end : (k : ℕ) → k < pictures script → hold_time script k < 450000
+  shown_end = subst (λ (s : List Drawing). (k : ℕ) → k < pictures s → hold_time s k < 450000) view (λ k lt. times_end pixels lines shown k h lt)
