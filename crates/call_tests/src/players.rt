@@ -5,8 +5,8 @@ use rw_interleave::Window;
 use std::alloc::{AllocError, Global};
 use std::test::Fail;
 use subcode_player::{
-    BlockWords, Correction, Counting, Drawing, Form, FrameCounts, Picture, PlayStop, Played, Player,
-    SectorBlocks, WordCounts,
+    BlockWords, Correction, Counting, Drawing, Form, FrameCounts, Picture, PlayStop, Played,
+    Player, SectorBlocks, WordCounts,
 };
 
 // A player has these fields and no others, so it can hold no stream.

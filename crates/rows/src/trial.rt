@@ -144,7 +144,11 @@ fn compare_streams(alloc: Global, row: &Row, streams: &Streams) -> Result<()> {
     compare(alloc, "err", &row.err.bytes, streams.err.bytes())?;
     compare_output(alloc, row, streams.out.bytes())?;
     compare_count("left", row.first_left, streams.first.rest().len())?;
-    compare_count("left of second", row.second_left, streams.second.rest().len())
+    compare_count(
+        "left of second",
+        row.second_left,
+        streams.second.rest().len(),
+    )
 }
 
 /// Runs a row, and answers what it wrote. It fails where that is not what the row wants.
