@@ -3,6 +3,7 @@ pub mod SavedStreams
 pub mod GoneOn
 pub mod Reached
 pub mod Stopping
+pub mod OtherStops
 pub mod Written
 pub mod Joined
 pub mod Meant
