@@ -1,6 +1,7 @@
 -- The sheet of a trial.
-use Rattle.std.proofs.Common.{◌≡◌, ℕ, ◌+◌, ◌*◌, ◌≤◌, Ok, refl, arith}
+use Rattle.std.proofs.Common.{◌≡◌, ℕ, ◌+◌, ◌*◌, ◌≤◌, Ok, refl, arith, List}
 use Rattle.text_lines.specs.Text.{without_mark, lines_in, trimmed, without_blanks, first_word, argument_of, words_in, number_in, parsed_time}
+use Rattle.cue_sheet.specs.CueSheet.{CueSheet}
 use Rattle.cue_sheet.specs.CueLines.{command_named, is_file, quoted}
 use Rattle.text_lines.specs.Reading.{read_on}
 use Rattle.cue_sheet.specs.Grammar.{taken, read_cue}
@@ -28,3 +29,7 @@ room_enough count = omega (arith, blocks_are (800 * count + 20))
 
 pub no_lead_in : HasRoom trial_sheet 0
 no_lead_in some = absurd (omega (arith, some))
+
+-- a sheet that is read from a text is the one that the text says
+pub read_so : (sheet : CueSheet) (text : List ℕ) → read_cue text ≡ Ok trial_sheet → read_cue text ≡ Ok sheet → sheet ≡ trial_sheet
+read_so sheet text read is = cc

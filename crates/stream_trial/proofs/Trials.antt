@@ -1,5 +1,6 @@
 -- The text of a trial.
-use Rattle.std.proofs.Common.{◌≡◌, ℕ, zero, suc, ◌+◌, ◌*◌, ◌/◌, ◌%◌, ◌≤◌, List, [], ◌++◌, length, map, take, drop, flat_map, sym, ap, ap₂, ◌∙◌, subst, arith, length-drop, Ok}
+use Rattle.std.proofs.Common.{◌≡◌, ◌≢◌, ℕ, zero, suc, ◌+◌, ◌*◌, ◌/◌, ◌%◌, ◌≤◌, List, [], ◌++◌, length, map, take, drop, flat_map, refl, sym, ap, ap₂, ◌∙◌, subst, arith, length-drop, Result, Ok, Err}
+use Rattle.std.specs.Prelude.{Option, IfOk}
 use Rattle.std.proofs.lemmas.List.{length-map, map-append, nil_from_length, take-append-drop}
 use Rattle.bit_lists.specs.Counting.{parts}
 use Rattle.raw_subcode.specs.Channels.{symbols_of, block_of, program_symbols}
@@ -24,6 +25,10 @@ use Rattle.stream_trial.specs.Told.{told}
 use Rattle.stream_trial.specs.Replay.{IsDamagedSchedule, IsPlayedOut}
 use Rattle.stream_trial.specs.declared.lines.Report.{Report}
 use Rattle.stream_trial.specs.declared.playing.Counts.{Counts}
+use Rattle.stream_trial.specs.declared.stops.TrialStop.{TrialStop}
+use Rattle.stream_trial.specs.declared.stops.TrialStop.TheVariants.{NoMemory, WriteFault}
+use Rattle.std.specs.Io.KnownBytes.{Appends}
+use Rattle.cdg_io.specs.Moves.{AppendsPrefix}
 
 -- the laws that this rests on
 abbrev pub ScratchesDamage : Type 0
@@ -85,36 +90,67 @@ damaged_schedule damage stay sheet script audio seed bytes others packs is autho
 
 -- ---- the stream of a trial
 
-trial_program : HasBlocks → (sheet : CueSheet) (count : ℕ) → sheet ≡ trial_sheet → program_blocks sheet (trial_audio count) ≡ trial_blocks count
-trial_program has sheet count is = ap (λ (s : CueSheet). program_blocks s (trial_audio count)) is ∙ has (trial_audio count) ∙ omega arith
+trial_program : HasBlocks → (count : ℕ) → program_blocks trial_sheet (trial_audio count) ≡ trial_blocks count
+trial_program has count = has (trial_audio count) ∙ omega arith
 
-pub trial_size : HasBlocks → (sheet : CueSheet) (script : List Drawing) (count : ℕ) (bytes : List ℕ) (packs : List (List ℕ)) → sheet ≡ trial_sheet → IsAuthored (disc_of sheet script 0 (trial_audio count)) bytes packs → length bytes ≡ 96 * trial_blocks count
-trial_size has sheet script count bytes packs is authored = stream_size sheet script (trial_audio count) bytes packs authored ∙ ap (λ n. 96 * n) (trial_program has sheet count is)
+pub trial_size : HasBlocks → (script : List Drawing) (count : ℕ) (bytes : List ℕ) (packs : List (List ℕ)) → IsAuthored (disc_of trial_sheet script 0 (trial_audio count)) bytes packs → length bytes ≡ 96 * trial_blocks count
+trial_size has script count bytes packs authored = stream_size trial_sheet script (trial_audio count) bytes packs authored ∙ ap (λ n. 96 * n) (trial_program has count)
 
-pub trial_scratched : HasBlocks → ChannelsStay → (sheet : CueSheet) (script : List Drawing) (count seed : ℕ) (bytes others : List ℕ) (packs : List (List ℕ)) → sheet ≡ trial_sheet → others ≡ scratched 0 seed bytes → IsAuthored (disc_of sheet script 0 (trial_audio count)) bytes packs → length others ≡ 96 * trial_blocks count
-trial_scratched has stay sheet script count seed bytes others packs is scratches authored = ap length scratches ∙ same_length stay seed bytes ∙ trial_size has sheet script count bytes packs is authored
+pub scratched_length : ChannelsStay → (seed : ℕ) (bytes others : List ℕ) → others ≡ scratched 0 seed bytes → length others ≡ length bytes
+scratched_length stay seed bytes others is = ap length is ∙ same_length stay seed bytes
+
+-- a size of whole blocks, and not too many
+pub whole_size : (count size : ℕ) → size ≡ 96 * trial_blocks count → size % 96 ≡ 0
+whole_size count size is = omega (arith, is)
+
+pub few_bytes : (count size : ℕ) → count ≤ 500 → size ≡ 96 * trial_blocks count → size ≤ 96000000
+few_bytes count size few is = omega (arith, few, is)
+
+-- what is counted of each stream that carries the schedule
+abbrev pub Plays : List Drawing → List ℕ → Counts → Type 0
+Plays script others counts = (symbols : List ℕ) (packs : List (List ℕ)) → IsDamagedSchedule script (length others / 96) symbols packs (symbols_of others) → IsPlayedOut script (length others / 96) symbols (symbols_of others) counts
+
+pub plays_same : (script : List Drawing) (others same : List ℕ) (counts : Counts) → others ≡ same → Plays script others counts → Plays script same counts
+plays_same script others same counts is plays = subst (λ (l : List ℕ). Plays script l counts) is plays
+
+-- what is counted of the stream with scratches
+pub played_out : HasBlocks → ScratchesDamage → ChannelsStay → (script : List Drawing) (count seed : ℕ) (bytes : List ℕ) (packs : List (List ℕ)) (counts : Counts) → IsAuthored (disc_of trial_sheet script 0 (trial_audio count)) bytes packs
+    → Plays script (scratched 0 seed bytes) counts → IsPlayedOut script (trial_blocks count) (program_symbols Raw bytes 0) (program_symbols Raw (scratched 0 seed bytes) 0) counts
+played_out has damage stay script count seed bytes packs counts authored plays =
+    let others : List ℕ = scratched 0 seed bytes in
+    let size : length others ≡ 96 * trial_blocks count = same_length stay seed bytes ∙ trial_size has script count bytes packs authored in
+    let blocks : length others / 96 ≡ trial_blocks count = omega (arith, size) in
+    let played = plays (program_symbols Raw bytes 0) packs (damaged_schedule damage stay trial_sheet script (trial_audio count) seed bytes others packs refl authored) in
+    let symbols : symbols_of others ≡ program_symbols Raw others 0 = sym (program_is (trial_blocks count) others size) in
+    record {
+      one = played.one ∙ ap₂ (λ b (l : List ℕ). differing 1 (whole_packs b) (program_symbols Raw bytes 0) l) blocks symbols;
+      two = played.two ∙ ap₂ (λ b (l : List ℕ). differing 2 (whole_packs b) (program_symbols Raw bytes 0) l) blocks symbols;
+      bad = played.bad;
+      equal = played.equal;
+    }
+
+pub trial_played : HasBlocks → ScratchesDamage → ChannelsStay → (script : List Drawing) (count seed : ℕ) (bytes held : List ℕ) (packs : List (List ℕ)) (result : Result Counts TrialStop) → held ≡ bytes → IsWrittenStream (disc_of trial_sheet script 0 (trial_audio count)) bytes packs
+    → IfOk result (λ counts. Plays script (scratched 0 seed held) counts)
+    → IfOk result (λ counts. (written : List ℕ) × (packs : List (List ℕ)) × IsWrittenStream (disc_of trial_sheet script 0 (trial_audio count)) written packs × IsPlayedOut script (trial_blocks count) (program_symbols Raw written 0) (program_symbols Raw (scratched 0 seed written) 0) counts)
+trial_played has damage stay script count seed bytes held packs (Ok counts) is written plays =
+    (bytes, packs, written, played_out has damage stay script count seed bytes packs counts written.authored (plays_same script (scratched 0 seed held) (scratched 0 seed bytes) counts (ap (scratched 0 seed) is) plays))
+trial_played has damage stay script count seed bytes held packs (Err stop) is written plays = tt
 
 -- what is told of a stream that was played out is the text of a trial
-pub is_trial : SheetIsRead → HasBlocks → ScratchesDamage → ChannelsStay → ScriptsAreRead → ScriptsHavePictures → (seed count : ℕ) (sheet : CueSheet) (script : List Drawing) (bytes others : List ℕ) (packs : List (List ℕ)) (counts : Counts) (report : Report)
-    → count ≤ 500 → sheet ≡ trial_sheet → script ≡ generated_drawings seed count → IsWrittenStream (disc_of sheet script 0 (trial_audio count)) bytes packs → others ≡ scratched 0 seed bytes
-    → ((symbols : List ℕ) (packs : List (List ℕ)) → IsDamagedSchedule script (length others / 96) symbols packs (symbols_of others) → IsPlayedOut script (length others / 96) symbols (symbols_of others) counts)
+pub is_trial : SheetIsRead → ScriptsAreRead → ScriptsHavePictures → (seed count : ℕ) (script : List Drawing) (bytes : List ℕ) (packs : List (List ℕ)) (counts : Counts) (report : Report)
+    → count ≤ 500 → script ≡ generated_drawings seed count → IsWrittenStream (disc_of trial_sheet script 0 (trial_audio count)) bytes packs
+    → IsPlayedOut script (trial_blocks count) (program_symbols Raw bytes 0) (program_symbols Raw (scratched 0 seed bytes) 0) counts
     → report.seed ≡ seed → report.pictures ≡ count → report.blocks ≡ trial_blocks count → report.packs ≡ whole_packs (trial_blocks count) → report.changes ≡ all_changes script
     → report.one ≡ counts.one → report.two ≡ counts.two → report.bad ≡ counts.bad → report.equal ≡ counts.equal → IsTrial seed count (told report)
-is_trial read has damage stay reads have seed count sheet script bytes others packs counts report few sheet_is script_is authored is plays e_seed e_pictures e_blocks e_packs e_changes e_one e_two e_bad e_equal =
-    let size : length others ≡ 96 * trial_blocks count = trial_scratched has stay sheet script count seed bytes others packs sheet_is is authored.authored in
-    let blocks : length others / 96 ≡ trial_blocks count = omega (arith, size) in
-    let played = plays (program_symbols Raw bytes 0) packs (damaged_schedule damage stay sheet script (trial_audio count) seed bytes others packs is authored.authored) in
-    let symbols : symbols_of others ≡ program_symbols Raw (scratched 0 seed bytes) 0 = sym (ap (λ (l : List ℕ). program_symbols Raw l 0) (sym is) ∙ program_is (trial_blocks count) others size) in
+is_trial read reads have seed count script bytes packs counts report few script_is authored played e_seed e_pictures e_blocks e_packs e_changes e_one e_two e_bad e_equal =
     let number : ℕ = whole_packs (trial_blocks count) in
-    let one : report.one ≡ differing 1 number (program_symbols Raw bytes 0) (program_symbols Raw (scratched 0 seed bytes) 0) =
-    e_one ∙ played.one ∙ ap₂ (λ b (l : List ℕ). differing 1 (whole_packs b) (program_symbols Raw bytes 0) l) blocks symbols in
-    let two : report.two ≡ differing 2 number (program_symbols Raw bytes 0) (program_symbols Raw (scratched 0 seed bytes) 0) =
-    e_two ∙ played.two ∙ ap₂ (λ b (l : List ℕ). differing 2 (whole_packs b) (program_symbols Raw bytes 0) l) blocks symbols in
+    let one : report.one ≡ differing 1 number (program_symbols Raw bytes 0) (program_symbols Raw (scratched 0 seed bytes) 0) = e_one ∙ played.one in
+    let two : report.two ≡ differing 2 number (program_symbols Raw bytes 0) (program_symbols Raw (scratched 0 seed bytes) 0) = e_two ∙ played.two in
     let bad : report.bad ≡ 0 = e_bad ∙ played.bad in
     let equal : report.equal ≡ count = e_equal ∙ played.equal ∙ ap pictures script_is ∙ have seed count in
     record {
-      sheet = sheet;
-      sheet_is = read ∙ ap (λ (s : CueSheet). Ok s) (sym sheet_is);
+      sheet = trial_sheet;
+      sheet_is = read;
       script = script;
       script_is = reads seed count few ∙ ap (λ (l : List Drawing). Ok l) (sym script_is);
       bytes = bytes;
@@ -122,3 +158,20 @@ is_trial read has damage stay reads have seed count sheet script bytes others pa
       authored = authored;
       text_is = λ i. input_lines (e_seed i) (e_pictures i) (e_blocks i) (e_packs i) (e_changes i) ++ output_lines (one i) (two i) (bad i) (equal i);
     }
+
+-- ---- the lines, written or not
+
+pub put_text : (seed count : ℕ) (text : List ℕ) (report : Report) (left left' : Option (List ℕ)) → text ≡ told report → IsTrial seed count (told report) → Appends left left' text → (x : List ℕ) × IsTrial seed count x × Appends left left' x
+put_text seed count text report left left' is trial put = (text, subst (λ (l : List ℕ). IsTrial seed count l) (sym is) trial, put)
+
+pub put_part : (seed count : ℕ) (text : List ℕ) (report : Report) (left left' : Option (List ℕ)) → text ≡ told report → IsTrial seed count (told report) → AppendsPrefix left left' text → (x : List ℕ) × IsTrial seed count x × AppendsPrefix left left' x
+put_part seed count text report left left' is trial put = (text, subst (λ (l : List ℕ). IsTrial seed count l) (sym is) trial, put)
+
+abbrev ended : Result (Unit {0}) TrialStop → Result (Unit {0}) TrialStop
+ended result = result
+
+pub done_no_stop : (stop : TrialStop) → ended (Ok tt) ≢ Err stop
+done_no_stop stop = λ e. (cc)
+
+pub write_no_memory : ended (Err WriteFault) ≢ Err NoMemory
+write_no_memory = λ e. (cc)

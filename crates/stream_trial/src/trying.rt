@@ -1,26 +1,34 @@
 // A trial of a seed.
-ghost use Rattle.std.specs.Prelude.{◌≡◌, ◌≢◌, ◌≤◌, ℕ, List, Err, OnOk, IfOk, IfErr};
+ghost use Rattle.std.specs.Prelude.{◌≡◌, ◌≢◌, ◌≤◌, ◌/◌, ◌%◌, ℕ, List, length, Err, OnOk, IfOk, IfErr};
 ghost use Rattle.cdg_workload.specs.Script.{most_generated};
 ghost use Rattle.std.specs.Io.KnownBytes.{Appends};
 ghost use Rattle.cdg_io.specs.Causes.{Rose};
 ghost use Rattle.cdg_io.specs.Moves.{AppendsPrefix};
-ghost use Rattle.stream_trial.specs.Trial.{IsTrial};
+ghost use Rattle.raw_subcode.specs.Channels.{program_symbols, symbols_of};
+ghost use Rattle.raw_subcode.specs.declared.form.Form.TheVariants.{Raw};
+ghost use Rattle.cdg_workload.specs.Scratches.{scratched};
+ghost use Rattle.cdg_workload.specs.Generated.{generated_drawings};
+ghost use Rattle.subcode_author.specs.Authored.{IsWrittenStream, disc_of};
+ghost use Rattle.stream_trial.specs.TrialSheet.{trial_sheet};
+ghost use Rattle.stream_trial.specs.Replay.{IsDamagedSchedule, IsPlayedOut};
+ghost use Rattle.stream_trial.specs.Trial.{IsTrial, trial_audio, trial_blocks};
 ghost use Rattle.stream_trial.specs.Told.{told};
 ghost use Rattle.stream_trial.specs.declared.stops.TrialStop.TheVariants.{NoMemory};
 
-use crate::generating::{parse_script, parse_sheet};
+use crate::generating::parse_script;
 use crate::lines::Report;
 use crate::needs::count_changes;
-use crate::playing::play;
+use crate::playing::{Counts, play};
 use crate::sizes::count_blocks;
 use crate::stops::TrialStop;
 use crate::streams::{make_stream, scratch_stream};
 use crate::trial_sheet_is_read;
-use cdg_io::{Sink, put_all};
+use cdg_io::{Failed, Sink, put_all};
 use cdg_workload::{
     generated_scripts_are_read, generated_scripts_have_times, scratches_are_bursts,
     scratches_are_damage,
 };
+use picture_script::Script;
 use std::alloc::Global;
 
 /// Writes the stream of the generated script of a seed, scratches it with the same seed, corrects and plays it, and
@@ -51,8 +59,11 @@ pub fn trial<K: Sink>(alloc: Global, seed: u64, pictures: u32, out: &mut K) -> R
     ensures later { K.faults out.old ≤ K.faults out.new }
 {
     let report = make_report(alloc, seed, pictures)?;
-    put_all(out, report.lines().as_str().as_bytes())?;
-    Ok(())
+    let lines = report.lines();
+    match put_all(out, lines.as_str().as_bytes()) {
+        Ok(()) => Ok(()),
+        Err(Failed) => Err(TrialStop::WriteFault),
+    }
 }
 
 // What the lines of a trial say.
@@ -63,16 +74,11 @@ fn make_report(alloc: Global, seed: u64, pictures: u32) -> Result<Report, TrialS
 {
     generated_scripts_are_read();
     generated_scripts_have_times();
-    scratches_are_bursts();
-    scratches_are_damage();
     trial_sheet_is_read();
     let script = parse_script(alloc, seed, pictures)?;
-    let sheet = parse_sheet(alloc)?;
-    let stream = make_stream(alloc, &sheet, &script, pictures)?;
     let blocks = count_blocks(pictures);
     let changes = count_changes(alloc, &script, blocks)?;
-    let scratched = scratch_stream(alloc, seed, stream.bytes())?;
-    let counts = play(alloc, &script, scratched.bytes())?;
+    let counts = play_stream(alloc, &script, seed, pictures)?;
     Ok(Report {
         seed,
         pictures: u64::from(pictures),
@@ -84,4 +90,47 @@ fn make_report(alloc: Global, seed: u64, pictures: u32) -> Result<Report, TrialS
         bad: u64::from(counts.bad),
         equal: u64::from(counts.equal),
     })
+}
+
+// Writes the stream of the script of a seed, and plays it with scratches of the same seed.
+fn play_stream(
+    alloc: Global,
+    script: &Script,
+    seed: u64,
+    pictures: u32,
+) -> Result<Counts, TrialStop>
+    requires few { pictures ≤ most_generated }
+    requires script { script.now ≡ generated_drawings seed pictures }
+    ensures played { IfOk result (λ counts. (bytes : List ℕ) × (packs : List (List ℕ))
+        × IsWrittenStream (disc_of trial_sheet script.now 0 (trial_audio pictures)) bytes packs
+        × IsPlayedOut script.now (trial_blocks pictures) (program_symbols Raw bytes 0)
+        (program_symbols Raw (scratched 0 seed bytes) 0) counts) }
+    ensures err { IfErr result (λ stop. stop ≡ NoMemory) }
+{
+    scratches_are_bursts();
+    scratches_are_damage();
+    trial_sheet_is_read();
+    let stream = make_stream(alloc, script, pictures)?;
+    play_scratched(alloc, script, seed, stream.bytes())
+}
+
+// Plays a stream of whole blocks with the scratches of a seed.
+fn play_scratched(
+    alloc: Global,
+    script: &Script,
+    seed: u64,
+    bytes: &[u8],
+) -> Result<Counts, TrialStop>
+    requires whole { length bytes.now % 96 ≡ 0 }
+    requires few { length bytes.now ≤ 96000000 }
+    ensures played { IfOk result (λ counts. (symbols : List ℕ) (packs : List (List ℕ))
+        → IsDamagedSchedule script.now (length (scratched 0 seed bytes.now) / 96) symbols packs
+        (symbols_of (scratched 0 seed bytes.now))
+        → IsPlayedOut script.now (length (scratched 0 seed bytes.now) / 96) symbols
+        (symbols_of (scratched 0 seed bytes.now)) counts) }
+    ensures err { IfErr result (λ stop. stop ≡ NoMemory) }
+{
+    scratches_are_bursts();
+    let scratched = scratch_stream(alloc, seed, bytes)?;
+    Ok(play(alloc, script, scratched.bytes())?)
 }
