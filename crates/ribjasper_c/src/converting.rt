@@ -1,5 +1,5 @@
 // A whole stream in memory.
-ghost use Rattle.std.specs.Prelude.{◌≡◌, ◌≢◌, ◌<◌, ◌≤◌, ◌*◌, ◌-◌, ◌/◌, ◌%◌, ◌++◌, ◌⊎◌, ◌↔◌, IfOk, IsErrOf, List, ℕ, drop, length, pos};
+ghost use Rattle.std.specs.Prelude.{◌≡◌, ◌≢◌, ◌<◌, ◌≤◌, ◌*◌, ◌-◌, ◌/◌, ◌%◌, ◌++◌, ◌⊎◌, ◌↔◌, IfOk, IsErrOf, List, ℕ, [], drop, length, pos};
 ghost use Rattle.raw_subcode.specs.Sizes.{most_units};
 ghost use Rattle.disc_time.specs.Counts.{most_lead_in};
 ghost use Rattle.raw_subcode.specs.Channels.{unit_size};
@@ -101,16 +101,36 @@ fn packs_of(
     ensures refused { IsErrOf result Stop.Refused → (length stream.now % unit_size form ≢ 0)
         ⊎ (most_units * unit_size form < length stream.now) }
 {
-    let Ok(mut player) = Player::start(alloc) else {
-        return Err(Stop::NoMemory);
-    };
     // No more bytes are written than are read.
     let Ok(mut sink) = MemSink::new(alloc, stream.len(), Vec::new(alloc), Vec::new(alloc)) else {
         return Err(Stop::NoMemory);
     };
+    let played = write_packs(alloc, form, lead_in, stream, &mut sink)?;
+    Ok((sink, played))
+}
+
+fn write_packs(
+    alloc: Global,
+    form: Form,
+    lead_in: u32,
+    stream: &[u8],
+    sink: &mut MemSink,
+) -> Result<Played, Stop>
+    requires lead_in { lead_in ≤ most_lead_in }
+    requires empty { sink.old.held ≡ [] }
+    ensures text { IfOk result (λ played. IsConverted form lead_in stream.now sink.new.held played.bad) }
+    ensures blocks { IfOk result (λ played. played.blocks ≡ length stream.now / unit_size form - lead_in) }
+    ensures refused { IsErrOf result Stop.Refused → (length stream.now % unit_size form ≢ 0)
+        ⊎ (most_units * unit_size form < length stream.now) }
+{
+    let Ok(mut player) = Player::start(alloc) else {
+        return Err(Stop::NoMemory);
+    };
     let mut source = SteadySource::new(stream);
-    match player.convert(lead_in, form, &mut source, &mut sink) {
-        Ok(played) => Ok((sink, played)),
+    let answer = player.convert(lead_in, form, &mut source, sink);
+    drop(player);
+    match answer {
+        Ok(played) => Ok(played),
         Err(PlayStop::Torn { .. } | PlayStop::TooLong) => Err(Stop::Refused),
         Err(_) => Err(Stop::NoMemory),
     }
