@@ -80,10 +80,11 @@ def again(log):
 def main(words):
     if words[:1] == ["--again"]:
         return again(words[1])
-    log = words[0] if words else "gate.log"
+    anew = words[:1] == ["--anew"]
+    log = words[-1] if len(words) > anew else "gate.log"
     with open(log, "w") as out:
         started = time.monotonic()
-        gate = subprocess.Popen(["rt", "ci"], stdin=subprocess.DEVNULL, stdout=out, stderr=subprocess.STDOUT)
+        gate = subprocess.Popen(["rt", "ci", *["--anew"] * anew], stdin=subprocess.DEVNULL, stdout=out, stderr=subprocess.STDOUT)
         watch = Watch(gate.pid)
         while gate.poll() is None:
             watch.look()
