@@ -18,7 +18,6 @@ use subcode_author::{AuthorStop, accepted_scripts_have_streams, author_stream};
 use text_lines::MOST_TEXT_BYTES;
 
 /// The cue sheet of the first input, or the status that says why there is none.
-#[tactic(auto, using(crate::proofs::TextStops::taken_at_fault))]
 pub(crate) fn read_sheet<S: Source>(alloc: Global, first: &mut S) -> Result<Sheet, Status>
     ensures ok { IfOk result (ReadsSheet (change S.left first.old first.new)) }
     ensures err { IfErr result (IsSheetStop (S.left first.old)) }
@@ -44,7 +43,6 @@ pub(crate) fn read_sheet<S: Source>(alloc: Global, first: &mut S) -> Result<Shee
 }
 
 // The picture script of the second input, or the status that says why there is none.
-#[tactic(auto, using(crate::proofs::TextStops::taken_at_fault))]
 fn read_script<S: Source>(alloc: Global, second: &mut S) -> Result<Script, Status>
     ensures ok { IfOk result (ReadsScript (change S.left second.old second.new)) }
     ensures err { IfErr result (IsScriptStop (S.left second.old)) }

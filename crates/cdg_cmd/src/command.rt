@@ -55,58 +55,65 @@ pub fn read_words(words: &[String]) -> Option<Command>
 {
     let (name, options) = words.split_first()?;
     match name.as_str() {
-        "convert" => read_stream(options).map(|StreamOptions { lead_in, form }| Command::Convert {
-            lead_in,
-            form,
-        }),
-        "screen" => read_timed(options).map(|TimedOptions { lead_in, form, at }| Command::Screen {
-            lead_in,
-            form,
-            at,
-        }),
-        "state" => read_timed(options).map(|TimedOptions { lead_in, form, at }| Command::State {
-            lead_in,
-            form,
-            at,
-        }),
-        "check" => read_stream(options).map(|StreamOptions { lead_in, form }| Command::Check {
-            lead_in,
-            form,
-        }),
-        "q" => read_blocks(options).map(|StreamOptions { lead_in, form }| Command::Q {
-            lead_in,
-            form,
-        }),
-        "text" => read_blocks(options).map(|StreamOptions { lead_in, form }| Command::Text {
-            lead_in,
-            form,
-        }),
-        "author" => read_lengths(options).map(|Lengths { lead_in, length }| Command::Author {
-            lead_in,
-            length,
-        }),
+        "convert" => {
+            let StreamOptions { lead_in, form } = read_stream(options)?;
+            Some(Command::Convert { lead_in, form })
+        }
+        "screen" => {
+            let TimedOptions { lead_in, form, at } = read_timed(options)?;
+            Some(Command::Screen { lead_in, form, at })
+        }
+        "state" => {
+            let TimedOptions { lead_in, form, at } = read_timed(options)?;
+            Some(Command::State { lead_in, form, at })
+        }
+        "check" => {
+            let StreamOptions { lead_in, form } = read_stream(options)?;
+            Some(Command::Check { lead_in, form })
+        }
+        "q" => {
+            let StreamOptions { lead_in, form } = read_blocks(options)?;
+            Some(Command::Q { lead_in, form })
+        }
+        "text" => {
+            let StreamOptions { lead_in, form } = read_blocks(options)?;
+            Some(Command::Text { lead_in, form })
+        }
+        "author" => {
+            let Lengths { lead_in, length } = read_lengths(options)?;
+            Some(Command::Author { lead_in, length })
+        }
         "planar" if options.is_empty() => Some(Command::Planar),
         "raw" if options.is_empty() => Some(Command::Raw),
-        "scratch" => read_scratches(options).map(|ScratchOptions {
-            lead_in,
-            seed,
-        }| Command::Scratch { lead_in, seed }),
-        "gen" => read_seeded(options).map(|SeedOptions { seed, pictures }| Command::Gen {
-            seed,
-            pictures,
-        }),
-        "trial" => read_seeded(options).map(|SeedOptions { seed, pictures }| Command::Trial {
-            seed,
-            pictures,
-        }),
-        "merge" => only_lead_in(options).map(|lead_in| Command::Merge { lead_in }),
+        "scratch" => {
+            let ScratchOptions { lead_in, seed } = read_scratches(options)?;
+            Some(Command::Scratch { lead_in, seed })
+        }
+        "gen" => {
+            let SeedOptions { seed, pictures } = read_seeded(options)?;
+            Some(Command::Gen { seed, pictures })
+        }
+        "trial" => {
+            let SeedOptions { seed, pictures } = read_seeded(options)?;
+            Some(Command::Trial { seed, pictures })
+        }
+        "merge" => {
+            let lead_in = only_lead_in(options)?;
+            Some(Command::Merge { lead_in })
+        }
         "thin" if options.is_empty() => Some(Command::Thin),
-        "press" => read_lengths(options).map(|Lengths { lead_in, length }| Command::Press {
-            lead_in,
-            length,
-        }),
-        "save" => only_lead_in(options).map(|lead_in| Command::Save { lead_in }),
-        "resume" => only_moment(options).map(|at| Command::Resume { at }),
+        "press" => {
+            let Lengths { lead_in, length } = read_lengths(options)?;
+            Some(Command::Press { lead_in, length })
+        }
+        "save" => {
+            let lead_in = only_lead_in(options)?;
+            Some(Command::Save { lead_in })
+        }
+        "resume" => {
+            let at = only_moment(options)?;
+            Some(Command::Resume { at })
+        }
         _ => None,
     }
 }

@@ -9,7 +9,7 @@ use crate::options::{read_form, read_lead_in, read_pictures, read_seed, read_tim
 use raw_subcode::Form;
 
 /// How a stream stands in the input: the blocks of its lead-in, and its form.
-#[derive(Clone, Copy, Debug, PartialEq, Eq)]
+#[derive(Clone, Copy)]
 pub(crate) struct StreamOptions {
     pub lead_in: u32,
     pub form: Form,
@@ -48,7 +48,7 @@ pub(crate) fn read_blocks(words: &[String]) -> Option<StreamOptions>
 }
 
 /// The options of a stream and a moment of it.
-#[derive(Clone, Copy, Debug, PartialEq, Eq)]
+#[derive(Clone, Copy)]
 pub(crate) struct TimedOptions {
     pub lead_in: u32,
     pub form: Form,
@@ -74,7 +74,7 @@ pub(crate) fn read_timed(words: &[String]) -> Option<TimedOptions>
 }
 
 /// How long a lead-in and an audio are, in blocks.
-#[derive(Clone, Copy, Debug, PartialEq, Eq)]
+#[derive(Clone, Copy)]
 pub(crate) struct Lengths {
     pub lead_in: u32,
     pub length: u32,
@@ -98,7 +98,7 @@ pub(crate) fn read_lengths(words: &[String]) -> Option<Lengths>
 }
 
 /// A seed and a number of pictures.
-#[derive(Clone, Copy, Debug, PartialEq, Eq)]
+#[derive(Clone, Copy)]
 pub(crate) struct SeedOptions {
     pub seed: u64,
     pub pictures: u32,
@@ -122,7 +122,7 @@ pub(crate) fn read_seeded(words: &[String]) -> Option<SeedOptions>
 }
 
 /// A lead-in and the seed of its scratches.
-#[derive(Clone, Copy, Debug, PartialEq, Eq)]
+#[derive(Clone, Copy)]
 pub(crate) struct ScratchOptions {
     pub lead_in: u32,
     pub seed: u64,

@@ -18,7 +18,6 @@ use std::alloc::Global;
 use text_lines::MOST_TEXT_BYTES;
 
 // The file of the second input, which may be as long as a text, or the status that says why there is none.
-#[tactic(auto, using(crate::proofs::TextStops::taken_at_fault))]
 fn read_file<S: Source>(alloc: Global, second: &mut S) -> Result<Vec<u8>, Status>
     ensures ok { IfOk result (λ v. ReadsFile (change S.left second.old second.new) v.items) }
     ensures err { IfErr result (IsFileStop (S.left second.old)) }
@@ -60,7 +59,6 @@ fn press_status(answer: Result<(), PressStop>) -> Status
 }
 
 /// Writes the stream of a cue sheet, which is the first input, and a file of packs, which is the second.
-#[tactic(auto, using(crate::proofs::AuthorTold::told_at_sheet, crate::proofs::PressTold::told_at_file, crate::proofs::PressTold::sheet_read, crate::proofs::PressTold::file_read, crate::proofs::AuthorTold::sheet_stopped, crate::proofs::PressTold::file_stopped))]
 pub(crate) fn run_press<S: Source, T: Source, K: Sink>(
     alloc: Global,
     lead_in: u32,

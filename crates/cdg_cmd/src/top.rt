@@ -215,7 +215,6 @@ fn answer<S: Source, T: Source, K: Sink>(
 }
 
 // Performs a command.
-#[tactic(auto, using(crate::proofs::Told::of_one, crate::proofs::Told::of_gen, crate::proofs::Told::of_trial))]
 fn perform<S: Source, T: Source, K: Sink>(
     alloc: Global,
     command: Command,

@@ -4,6 +4,7 @@ use Rattle.cdg_io.specs.Change.{change}
 use Rattle.cdg_cmd.specs.Call.{call}
 use Rattle.cdg_cmd.specs.Ends.{TellsEnds}
 use Rattle.cdg_cmd.specs.declared.command.Command.{Command}
+use Rattle.cdg_cmd.proofs.Told.{of_gen, of_one, of_trial}
 use Rattle.cdg_cmd.proofs.top.perform.Goals as goal
 
 pub returns-in-Convert-clause-does : goal.returns-in-Convert-clause-does
@@ -170,3 +171,44 @@ pub returns-in-Resume-clause-ends : goal.returns-in-Resume-clause-ends
 returns-in-Resume-clause-ends g c =
     subst (λ (k : Command). TellsEnds k (change g.S.Source.ends c.args.first.now c.run_resume.new.first) (change g.T.Source.ends c.args.second.now c.run_resume.new.second) c.run_resume.result)
     (sym c.in-Resume.is) (record { first = c.run_resume.ensures.first_ended; second = c.run_resume.ensures.second_ended })
+
+pub returns-in-Convert-clause-faults : goal.returns-in-Convert-clause-faults
+returns-in-Convert-clause-faults g c = of_one c.run_convert.result (g.T.Source.faults c.args.second.now) _ _ c.run_convert.ensures.faults
+
+pub returns-in-Screen-clause-faults : goal.returns-in-Screen-clause-faults
+returns-in-Screen-clause-faults g c = of_one c.run_screen.result (g.T.Source.faults c.args.second.now) _ _ c.run_screen.ensures.faults
+
+pub returns-in-State-clause-faults : goal.returns-in-State-clause-faults
+returns-in-State-clause-faults g c = of_one c.run_state.result (g.T.Source.faults c.args.second.now) _ _ c.run_state.ensures.faults
+
+pub returns-in-Check-clause-faults : goal.returns-in-Check-clause-faults
+returns-in-Check-clause-faults g c = of_one c.run_check.result (g.T.Source.faults c.args.second.now) _ _ c.run_check.ensures.faults
+
+pub returns-in-Q-clause-faults : goal.returns-in-Q-clause-faults
+returns-in-Q-clause-faults g c = of_one c.run_q.result (g.T.Source.faults c.args.second.now) _ _ c.run_q.ensures.faults
+
+pub returns-in-Text-clause-faults : goal.returns-in-Text-clause-faults
+returns-in-Text-clause-faults g c = of_one c.run_text.result (g.T.Source.faults c.args.second.now) _ _ c.run_text.ensures.faults
+
+pub returns-in-Planar-clause-faults : goal.returns-in-Planar-clause-faults
+returns-in-Planar-clause-faults g c = of_one c.run_planar.result (g.T.Source.faults c.args.second.now) _ _ c.run_planar.ensures.faults
+
+pub returns-in-Raw-clause-faults : goal.returns-in-Raw-clause-faults
+returns-in-Raw-clause-faults g c = of_one c.run_raw.result (g.T.Source.faults c.args.second.now) _ _ c.run_raw.ensures.faults
+
+pub returns-in-Scratch-clause-faults : goal.returns-in-Scratch-clause-faults
+returns-in-Scratch-clause-faults g c = of_one c.run_scratch.result (g.T.Source.faults c.args.second.now) _ _ c.run_scratch.ensures.faults
+
+pub returns-in-Thin-clause-faults : goal.returns-in-Thin-clause-faults
+returns-in-Thin-clause-faults g c = of_one c.run_thin.result (g.T.Source.faults c.args.second.now) _ _ c.run_thin.ensures.faults
+
+pub returns-in-Save-clause-faults : goal.returns-in-Save-clause-faults
+returns-in-Save-clause-faults g c = of_one c.run_save.result (g.T.Source.faults c.args.second.now) _ _ c.run_save.ensures.faults
+
+pub returns-in-Gen-clause-faults : goal.returns-in-Gen-clause-faults
+returns-in-Gen-clause-faults g c =
+    of_gen c.run_gen.result (g.S.Source.faults c.args.first.now) (g.T.Source.faults c.args.second.now) _ c.run_gen.ensures.never c.run_gen.ensures.faults
+
+pub returns-in-Trial-clause-faults : goal.returns-in-Trial-clause-faults
+returns-in-Trial-clause-faults g c =
+    of_trial c.run_trial.result (g.S.Source.faults c.args.first.now) (g.T.Source.faults c.args.second.now) _ c.run_trial.ensures.never c.run_trial.ensures.faults
