@@ -10,17 +10,14 @@ fn planar_form(rt: HostRuntime) {
     planar[0] = 0x80;
     planar[12] = 0x80;
     let block = Block::from_bytes(&bytes);
-    assert_eq!(rt; block.to_planar(), planar);
-    assert_eq!(rt; Block::from_planar(&planar), block);
-    assert_eq!(rt;
-        (
-            block.bit(0, 0),
-            block.bit(1, 0),
-            block.bit(2, 0),
-            block.bit(1, 1)
-        ),
-        (true, true, false, false)
-    );
+    assert!(rt; block.to_planar() == planar && Block::from_planar(&planar) == block);
+    let bits = [
+        block.bit(0, 0),
+        block.bit(1, 0),
+        block.bit(2, 0),
+        block.bit(1, 1),
+    ];
+    assert_eq!(rt; bits, [true, true, false, false]);
 }
 
 // The start of a pause before track 1, as it stands on a disc.
@@ -28,12 +25,11 @@ fn planar_form(rt: HostRuntime) {
 fn built_block(rt: HostRuntime) {
     let q = [1, 1, 0, 0, 2, 0, 0, 0, 0, 0, 0xf0, 0xd9];
     let block = Block::build(true, &q, &[0; 96]);
-    for (i, byte) in block.bytes().iter().take(32).enumerate() {
-        let want = if i == 7 || i == 15 { 0xc0 } else { 0x80 };
-        assert_eq!(rt; *byte, want);
-    }
-    assert_eq!(rt; block.q_frame(), q);
-    assert_eq!(rt; block.symbol(95), 0);
+    let mut front = [0x80; 32];
+    front[7] = 0xc0;
+    front[15] = 0xc0;
+    assert!(rt; block.bytes().starts_with(&front));
+    assert_eq!(rt; (block.q_frame(), block.symbol(95)), (q, 0));
 }
 
 // Six bits of a byte, then two and four of the next ones.
@@ -44,15 +40,11 @@ fn text_pack(rt: HostRuntime) {
     pack[1] = 0x01;
     pack[17] = 0x3f;
     let symbols = text_symbols(&pack);
-    assert_eq!(rt;
-        (symbols[0], symbols[1], symbols[2], symbols[23]),
-        (32, 0, 4, 63)
-    );
+    let ends = [symbols[0], symbols[1], symbols[2], symbols[23]];
+    assert!(rt; ends == [32, 0, 4, 63]);
     let mut all = [0; 96];
-    for i in 0..24 {
-        all[72 + i] = symbols[i];
-    }
-    assert_eq!(rt; Block::from_bytes(&all).text_pack(3), pack);
+    all[72..].copy_from_slice(&symbols);
+    assert!(rt; Block::from_bytes(&all).text_pack(3) == pack);
 }
 
 // The audio of a sector is passed over.

@@ -1,3 +1,5 @@
+ghost use Rattle.std.specs.Prelude.{◌<◌};
+
 use gf64::Sym;
 use std::test::Fail;
 
@@ -8,18 +10,24 @@ static LISTED: [u8; 63] = [
     26, 52, 43, 21, 42, 23, 46, 31, 62, 63, 61, 57, 49, 33,
 ];
 
+// Whether this power of the element 2 is the one that is listed, and has its successor, its negative and its inverse.
+fn is_power(two: Sym, exponent: u32, listed: u8) -> bool
+    requires { exponent < 63 }
+{
+    let power = Sym::alpha(exponent);
+    power.value() == listed
+        && power.mul(two) == Sym::alpha(exponent + 1)
+        && power.add(power).is_zero()
+        && !power.is_zero()
+        && power.mul(power.inv()).value() == 1
+}
+
 #[test]
 fn has_the_listed_powers(rt: HostRuntime) -> Result<(), Fail> {
     let two = Sym::new(2).ok_or("no such element")?;
-    for (exponent, listed) in LISTED.iter().enumerate() {
-        let power = Sym::alpha(exponent as u32);
-        assert_eq!(rt; power.value(), *listed);
-        assert!(rt; power.mul(two) == Sym::alpha(exponent as u32 + 1));
-        assert!(rt; power.add(power).is_zero());
-        assert!(rt; !power.is_zero());
-        assert_eq!(rt; power.mul(power.inv()).value(), 1);
+    for exponent in 0..63u32 {
+        assert!(rt; is_power(two, exponent, LISTED[exponent as usize]));
     }
-    assert_eq!(rt; Sym::alpha(63).value(), 1);
-    assert!(rt; Sym::new(64).is_none());
+    assert!(rt; Sym::alpha(63).value() == 1 && Sym::new(64).is_none());
     Ok(())
 }

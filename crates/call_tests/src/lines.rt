@@ -6,19 +6,19 @@ use text_lines::{
 #[test]
 fn lines_of_a_text(rt: HostRuntime) {
     let text = without_mark(b"\xef\xbb\xbfa\r\nb\r");
-    let first = next_line(text);
-    assert_eq!(rt; first, Some((b"a".as_slice(), b"b\r".as_slice())));
-    assert_eq!(rt;
-        next_line(b"b\r"),
-        Some((b"b\r".as_slice(), b"".as_slice()))
-    );
-    assert_eq!(rt; next_line(b""), None);
+    let lines = [next_line(text), next_line(b"b\r"), next_line(b"")];
+    let wanted = [
+        Some((b"a".as_slice(), b"b\r".as_slice())),
+        Some((b"b\r".as_slice(), b"".as_slice())),
+        None,
+    ];
+    assert_eq!(rt; lines, wanted);
 }
 
 #[test]
 fn words_of_a_line(rt: HostRuntime) {
-    assert_eq!(rt; trim(b" \ta b\t "), b"a b".as_slice());
-    assert_eq!(rt; trim_start(b"  a "), b"a ".as_slice());
+    let trimmed = [trim(b" \ta b\t "), trim_start(b"  a ")];
+    assert_eq!(rt; trimmed, [b"a b".as_slice(), b"a ".as_slice()]);
     assert_eq!(rt;
         split_command(b"a \tb c"),
         (b"a".as_slice(), b"b c".as_slice())
@@ -27,21 +27,21 @@ fn words_of_a_line(rt: HostRuntime) {
 
 #[test]
 fn next_words(rt: HostRuntime) {
-    assert_eq!(rt;
-        next_word(b" ab c"),
-        Some((b"ab".as_slice(), b" c".as_slice()))
-    );
-    assert_eq!(rt; next_word(b" \t"), None);
+    let words = [next_word(b" ab c"), next_word(b" \t")];
+    assert_eq!(rt; words, [Some((b"ab".as_slice(), b" c".as_slice())), None]);
 }
 
 #[test]
 fn numbers_and_times(rt: HostRuntime) {
-    assert_eq!(rt; number(b"288", 1, 3), Some(288));
-    assert_eq!(rt; number(b"1000", 1, 3), None);
-    assert_eq!(rt; two_digits(b"07"), Some(7));
-    assert_eq!(rt; time(b"00:02:00"), Some(150));
-    assert_eq!(rt; time(b"99:59:74"), Some(449_999));
-    assert_eq!(rt; time(b"00:60:00"), None);
-    assert_eq!(rt; time(b"00:00:75"), None);
-    assert_eq!(rt; time(b"0:00:00"), None);
+    let numbers = [number(b"288", 1, 3), number(b"1000", 1, 3)];
+    assert_eq!(rt; numbers, [Some(288), None]);
+    assert!(rt; two_digits(b"07") == Some(7));
+    let times = [
+        time(b"00:02:00"),
+        time(b"99:59:74"),
+        time(b"00:60:00"),
+        time(b"00:00:75"),
+        time(b"0:00:00"),
+    ];
+    assert_eq!(rt; times, [Some(150), Some(449_999), None, None, None]);
 }

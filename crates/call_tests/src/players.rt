@@ -1,12 +1,12 @@
-use cdg_io::{MemSink, MemSource, Then};
+use crate::stopped::is_as_new;
+use cdg_io::Then;
 use cdg_screen::Screen;
 use cdtext_packs::{LeadInTexts, TextReader};
 use rw_interleave::Window;
-use std::alloc::{AllocError, Global};
 use std::test::Fail;
 use subcode_player::{
-    BlockWords, Correction, Counting, Drawing, Form, FrameCounts, Picture, PlayStop, Played,
-    Player, SectorBlocks, WordCounts,
+    BlockWords, Correction, Counting, Drawing, Form, FrameCounts, Picture, Player, SectorBlocks,
+    WordCounts,
 };
 
 // A player has these fields and no others, so it can hold no stream.
@@ -126,25 +126,11 @@ fn see_correction(correction: &Correction) {
     let _bad: &u32 = bad;
 }
 
-// Converts two blocks of zeros.
-fn convert_blanks(
-    alloc: Global,
-    player: &mut Player,
-    sink: &mut MemSink,
-) -> Result<Result<Played, PlayStop>, AllocError> {
-    let blanks = vec![in alloc; 0u8; 192]?;
-    let mut source = MemSource::new(blanks, Vec::new(alloc), Vec::new(alloc));
-    Ok(player.convert(0, Form::Raw, &mut source, sink))
-}
-
 #[test]
 fn a_player_is_made_of_windows_and_counts(rt: HostRuntime) -> Result<(), Fail> {
     let alloc = rt.alloc();
     let mut player = Player::start(alloc)?;
     see_player(&player);
-    let mut sink = MemSink::new(alloc, 24, Vec::new(alloc), Vec::new(alloc))?;
-    let played = convert_blanks(alloc, &mut player, &mut sink)?;
-    assert_eq!(rt; played, Ok(Played { blocks: 2, bad: 0 }));
-    assert_eq!(rt; sink.bytes(), [0u8; 24].as_slice());
+    assert!(rt; is_as_new(alloc, &mut player)?);
     Ok(())
 }

@@ -12,8 +12,8 @@ fn failing(alloc: Global) -> Result<MemSource, AllocError> {
     Ok(MemSource::new(bytes, vec![in alloc; 96usize]?, vec![in alloc; 2u32]?))
 }
 
-fn sink(alloc: Global) -> Result<MemSink, AllocError> {
-    MemSink::new(alloc, 4096, Vec::new(alloc), Vec::new(alloc))
+fn sink(alloc: Global, room: usize) -> Result<MemSink, AllocError> {
+    MemSink::new(alloc, room, Vec::new(alloc), Vec::new(alloc))
 }
 
 #[derive(Clone, Copy)]
@@ -37,7 +37,7 @@ const CALLS: [Call; 6] = [
 
 // Whether the fault stops the call.
 fn stops(alloc: Global, call: Call, player: &mut Player) -> Result<bool, AllocError> {
-    let (source, sink) = (&mut failing(alloc)?, &mut sink(alloc)?);
+    let (source, sink) = (&mut failing(alloc)?, &mut sink(alloc, 4096)?);
     let answer = match call {
         Call::Convert => player.convert(0, Form::Raw, source, sink),
         Call::Screen => player.screen_at(0, Form::Raw, 2, source, sink),
@@ -49,20 +49,28 @@ fn stops(alloc: Global, call: Call, player: &mut Player) -> Result<bool, AllocEr
     Ok(answer == FAULT)
 }
 
-// Whether two blocks of zeros give one pack of zeros.
-fn is_as_new(alloc: Global, player: &mut Player) -> Result<bool, AllocError> {
+/// Whether two blocks of zeros give one pack of zeros.
+pub(crate) fn is_as_new(alloc: Global, player: &mut Player) -> Result<bool, AllocError> {
     let mut source = MemSource::new(vec![in alloc; 0u8; 192]?, Vec::new(alloc), Vec::new(alloc));
-    let mut sink = sink(alloc)?;
+    let mut sink = sink(alloc, 24)?;
     let played = player.convert(0, Form::Raw, &mut source, &mut sink);
     Ok(played == Ok(Played { blocks: 2, bad: 0 }) && sink.bytes() == [0; 24].as_slice())
+}
+
+// Whether the fault stops each call, and the player is as new after it.
+fn each_stops(alloc: Global, player: &mut Player) -> Result<bool, AllocError> {
+    for call in CALLS {
+        if !stops(alloc, call, player)? || !is_as_new(alloc, player)? {
+            return Ok(false);
+        }
+    }
+    Ok(true)
 }
 
 #[test]
 fn a_player_that_a_fault_stopped_is_as_new(rt: HostRuntime) -> Result<(), Fail> {
     let alloc = rt.alloc();
     let mut player = Player::start(alloc)?;
-    for call in CALLS {
-        assert!(rt; stops(alloc, call, &mut player)? && is_as_new(alloc, &mut player)?);
-    }
+    assert!(rt; each_stops(alloc, &mut player)?);
     Ok(())
 }
