@@ -1,10 +1,14 @@
 -- The exit numbers of a conversion.
-use Rattle.std.proofs.Common.{◌≡◌, ◌≢◌, ◌⊎◌, ℕ, ◌<◌, ◌≤◌, ◌==◌, false, subst, inl, inr, arith}
+use Rattle.std.proofs.Common.{◌≡◌, ◌≢◌, ◌⊎◌, ℕ, ◌<◌, ◌≤◌, ◌==◌, true, false, subst, inl, inr, arith}
 use Rattle.std.specs.Prelude.{◌↔◌, pos}
 use Rattle.disc_time.specs.Counts.{most_lead_in}
 
 other_number : (n k : ℕ) → (n == k) ≡ false → (k == k) ≢ false → pos n ≢ pos k
 other_number n k other same = λ e. let equal : n ≡ k = cc in same (subst (λ m. (m == k) ≡ false) equal other)
+
+-- nothing follows from an answer that is another
+pub is_other : (n k : ℕ) (A : Type 0) → (n == k) ≡ false → (k == k) ≡ true → pos n ≡ pos k → A
+is_other n k A other same e = absurd (other_number n k other (λ f. (cc)) e)
 
 -- another answer than to a wrong use
 pub is_no_usage : (n form lead_in : ℕ) → (n == 2) ≡ false → form ≤ 2 → lead_in ≤ most_lead_in → (pos n ≡ pos 2) ↔ ((2 < form) ⊎ (most_lead_in < lead_in))

@@ -109,6 +109,7 @@ fn packs_of(
     Ok((sink, played))
 }
 
+// Converts a stream into a sink by a player of its own.
 fn write_packs(
     alloc: Global,
     form: Form,
