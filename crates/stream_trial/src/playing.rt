@@ -1,6 +1,7 @@
 // A scratched stream, played from its front to its end.
 ghost use Rattle.std.specs.Prelude.{◌≡◌, ◌<◌, ◌≤◌, ◌+◌, ◌*◌, ◌/◌, ◌%◌, ℕ, List, length, IfOk};
 ghost use Rattle.raw_subcode.specs.Channels.{symbols_of};
+ghost use Rattle.raw_subcode.specs.Sizes.{block_bytes, most_units};
 ghost use Rattle.stream_trial.specs.Replay.{stream_block, IsDamagedSchedule, IsPlayedOut};
 
 use crate::gallery::Gallery;
@@ -27,11 +28,11 @@ pub(crate) struct Counts {
 /// Plays a stream of whole blocks with no lead-in, and compares the screen with each picture of a script when it is
 /// ready.
 pub(crate) fn play(alloc: Global, script: &Script, bytes: &[u8]) -> Result<Counts, AllocError>
-    requires whole { length bytes.now % 96 ≡ 0 }
-    requires few { length bytes.now ≤ 96000000 }
+    requires whole { length bytes.now % block_bytes ≡ 0 }
+    requires few { length bytes.now ≤ most_units * block_bytes }
     ensures { IfOk result (λ counts. (symbols : List ℕ) (packs : List (List ℕ))
-        → IsDamagedSchedule script.now (length bytes.now / 96) symbols packs (symbols_of bytes.now)
-        → IsPlayedOut script.now (length bytes.now / 96) symbols (symbols_of bytes.now) counts) }
+        → IsDamagedSchedule script.now (length bytes.now / block_bytes) symbols packs (symbols_of bytes.now)
+        → IsPlayedOut script.now (length bytes.now / block_bytes) symbols (symbols_of bytes.now) counts) }
 {
     gather_gives_words();
     instructions_in_turn();
@@ -59,7 +60,7 @@ pub(crate) fn play(alloc: Global, script: &Script, bytes: &[u8]) -> Result<Count
 
 // Block b of a stream.
 fn block(bytes: &[u8], b: usize) -> [u8; BLOCK_BYTES]
-    requires { 96 * b + 96 ≤ length bytes.now }
+    requires { block_bytes * b + block_bytes ≤ length bytes.now }
     ensures { result ≡ stream_block bytes.now b }
 {
     let mut block = [0; BLOCK_BYTES];

@@ -1,8 +1,9 @@
 // The stream of a trial, and the same with scratches.
-ghost use Rattle.std.specs.Prelude.{◌≡◌, ◌≤◌, ◌%◌, ℕ, List, length, [], OnOk, IfOk, IfErr};
+ghost use Rattle.std.specs.Prelude.{◌≡◌, ◌≤◌, ◌*◌, ◌%◌, ℕ, List, length, [], OnOk, IfOk, IfErr};
 ghost use Rattle.cdg_workload.specs.Script.{most_generated};
 ghost use Rattle.cdg_workload.specs.Scratches.{scratched};
 ghost use Rattle.cdg_workload.specs.Generated.{generated_drawings};
+ghost use Rattle.raw_subcode.specs.Sizes.{block_bytes, most_units};
 ghost use Rattle.stream_trial.specs.TrialSheet.{trial_sheet};
 ghost use Rattle.subcode_author.specs.Authored.{IsWrittenStream, disc_of};
 ghost use Rattle.stream_trial.specs.Trial.{trial_audio};
@@ -64,8 +65,8 @@ fn write_stream(
 
 /// A stream of whole blocks with the scratches of a seed.
 pub(crate) fn scratch_stream(alloc: Global, seed: u64, bytes: &[u8]) -> Result<MemSink, TrialStop>
-    requires whole { length bytes.now % 96 ≡ 0 }
-    requires few { length bytes.now ≤ 96000000 }
+    requires whole { length bytes.now % block_bytes ≡ 0 }
+    requires few { length bytes.now ≤ most_units * block_bytes }
     ensures stream { IfOk result (λ stream. stream.held ≡ scratched 0 seed bytes.now) }
     ensures err { IfErr result (λ stop. stop ≡ NoMemory) }
 {

@@ -1,10 +1,11 @@
 // A trial of a seed.
-ghost use Rattle.std.specs.Prelude.{◌≡◌, ◌≢◌, ◌≤◌, ◌/◌, ◌%◌, ℕ, List, length, Err, OnOk, IfOk, IfErr};
+ghost use Rattle.std.specs.Prelude.{◌≡◌, ◌≢◌, ◌≤◌, ◌*◌, ◌/◌, ◌%◌, ℕ, List, length, Err, OnOk, IfOk, IfErr};
 ghost use Rattle.cdg_workload.specs.Script.{most_generated};
 ghost use Rattle.std.specs.Io.KnownBytes.{Appends};
 ghost use Rattle.cdg_io.specs.Causes.{Rose};
 ghost use Rattle.cdg_io.specs.Moves.{AppendsPrefix};
 ghost use Rattle.raw_subcode.specs.Channels.{program_symbols, symbols_of};
+ghost use Rattle.raw_subcode.specs.Sizes.{block_bytes, most_units};
 ghost use Rattle.raw_subcode.specs.declared.form.Form.TheVariants.{Raw};
 ghost use Rattle.cdg_workload.specs.Scratches.{scratched};
 ghost use Rattle.cdg_workload.specs.Generated.{generated_drawings};
@@ -121,12 +122,12 @@ fn play_scratched(
     seed: u64,
     bytes: &[u8],
 ) -> Result<Counts, TrialStop>
-    requires whole { length bytes.now % 96 ≡ 0 }
-    requires few { length bytes.now ≤ 96000000 }
+    requires whole { length bytes.now % block_bytes ≡ 0 }
+    requires few { length bytes.now ≤ most_units * block_bytes }
     ensures played { IfOk result (λ counts. (symbols : List ℕ) (packs : List (List ℕ))
-        → IsDamagedSchedule script.now (length (scratched 0 seed bytes.now) / 96) symbols packs
+        → IsDamagedSchedule script.now (length (scratched 0 seed bytes.now) / block_bytes) symbols packs
         (symbols_of (scratched 0 seed bytes.now))
-        → IsPlayedOut script.now (length (scratched 0 seed bytes.now) / 96) symbols
+        → IsPlayedOut script.now (length (scratched 0 seed bytes.now) / block_bytes) symbols
         (symbols_of (scratched 0 seed bytes.now)) counts) }
     ensures err { IfErr result (λ stop. stop ≡ NoMemory) }
 {
