@@ -11,26 +11,40 @@ use bytes::Outputs;
 use row::Row;
 use std::alloc::Global;
 use std::process::ExitCode;
+use std::str::FromStr;
 use std::{env, fs};
 
 // Runs a row, and keeps what it wrote under its name.
-fn run_one(alloc: Global, mut row: Row, outputs: &mut Outputs) -> Result<()> {
-    ensure!(!outputs.contains_key(&row.name), "the name is taken");
-    let output = trial::run_row(alloc, &mut row)?;
-    outputs.insert(row.name, output)?;
+fn run_one(alloc: Global, row: &mut Row, outputs: &mut Outputs) -> Result<()> {
+    ensure!(!outputs.contains_key(row.name), "the name is taken");
+    let name = String::from_str(alloc, row.name)?;
+    outputs.insert(name, trial::run_row(alloc, row)?)?;
     Ok(())
+}
+
+// Reads and runs the row of a stanza, and answers whether a command ran.
+fn run_stanza<'a>(
+    alloc: Global,
+    row: &mut Row<'a>,
+    stanza: &'a str,
+    outputs: &mut Outputs,
+) -> Result<bool> {
+    if !row.read(alloc, stanza, outputs)? {
+        return Ok(false);
+    }
+    run_one(alloc, row, outputs).context(row.name)?;
+    Ok(!row.is_given)
 }
 
 // Runs the rows of a text, and answers how many there are.
 fn run_rows(alloc: Global, text: &str, outputs: &mut Outputs) -> Result<u32> {
     let mut count = 0u32;
     for stanza in text.split("\n\n") {
-        if let Some(row) = Row::read(alloc, stanza, outputs)? {
-            let name = row.name.clone()?;
-            if !row.is_given {
-                count = count.saturating_add(1);
-            }
-            run_one(alloc, row, outputs).context(format_args!("{name}"))?;
+        let mut row = Row::new(alloc);
+        let has_run = run_stanza(alloc, &mut row, stanza, outputs);
+        drop(row);
+        if has_run? {
+            count = count.saturating_add(1);
         }
     }
     Ok(count)

@@ -16,7 +16,7 @@ pub(crate) struct Part {
 }
 
 /// What is wanted of the bytes of an output.
-#[derive(Clone, Copy, Debug, PartialEq, Eq)]
+#[derive(Drop)]
 pub(crate) enum Extent {
     /// They are those of the row.
     Whole,
@@ -25,8 +25,8 @@ pub(crate) enum Extent {
 }
 
 #[derive(Drop)]
-pub(crate) struct Row {
-    pub(crate) name: String,
+pub(crate) struct Row<'a> {
+    pub(crate) name: &'a str,
     /// Bytes to be named, which no command writes.
     pub(crate) is_given: bool,
     /// The words of the command line.
@@ -39,24 +39,23 @@ pub(crate) struct Row {
     pub(crate) err: Side,
     pub(crate) status: u8,
     pub(crate) extent: Extent,
-    /// Whether the row says something of the output beside its bytes.
-    pub(crate) has_parts: bool,
     pub(crate) room: usize,
     pub(crate) length: Option<usize>,
     /// The SHA-256 of the output.
-    pub(crate) digest: Option<String>,
+    pub(crate) digest: Option<&'a str>,
     pub(crate) parts: Vec<Part>,
     /// Lines of the output.
-    pub(crate) lines: Vec<String>,
+    pub(crate) lines: Vec<&'a str>,
     /// How many bytes of each input are not read.
     pub(crate) first_left: Option<usize>,
     pub(crate) second_left: Option<usize>,
 }
 
-impl Row {
-    fn new(alloc: Global) -> Row {
+impl<'a> Row<'a> {
+    /// A row of which nothing is read.
+    pub(crate) fn new(alloc: Global) -> Row<'a> {
         Row {
-            name: String::new(alloc),
+            name: "",
             is_given: false,
             words: Vec::new(alloc),
             names: 0,
@@ -66,7 +65,6 @@ impl Row {
             err: Side::new(alloc),
             status: 0,
             extent: Extent::Whole,
-            has_parts: false,
             room: ROOM,
             length: None,
             digest: None,
@@ -77,106 +75,102 @@ impl Row {
         }
     }
 
-    // Reads a line that says something of an input or an output; answers whether it is one.
-    fn read_side(
+    /// Whether the row says something of the output beside its bytes.
+    pub(crate) fn has_parts(&self) -> bool {
+        self.length.is_some()
+            || self.digest.is_some()
+            || !self.parts.is_empty()
+            || !self.lines.is_empty()
+    }
+
+    fn read_name(&mut self, key: &str, name: &'a str) -> Result<()> {
+        ensure!(self.name.is_empty(), "a second name");
+        self.name = name;
+        self.is_given = key == "bytes";
+        Ok(())
+    }
+
+    fn read_words(&mut self, alloc: Global, words: &str) -> Result<()> {
+        for word in words.split(' ') {
+            self.words.push(String::from_str(alloc, word)?)?;
+        }
+        Ok(())
+    }
+
+    fn read_number(&mut self, key: &str, value: &str) -> Result<()> {
+        let number = value.parse::<usize>()?;
+        match key {
+            "names" => self.names = number,
+            "room" => self.room = number,
+            "length" => self.length = Some(number),
+            "left" => self.first_left = Some(number),
+            _ => self.second_left = Some(number),
+        }
+        Ok(())
+    }
+
+    // Reads a place, and the bytes there.
+    fn read_part(&mut self, alloc: Global, value: &str, outputs: &Outputs) -> Result<()> {
+        let (place, pieces) = value.split_once(' ').context("a place lacks its bytes")?;
+        let place = place.parse::<usize>()?;
+        let bytes = read_pieces(alloc, pieces, outputs)?;
+        Ok(self.parts.push(Part { place, bytes })?)
+    }
+
+    // Reads a line that says nothing of an input, nor of the bytes of an output.
+    fn read_rest(
         &mut self,
         alloc: Global,
         key: &str,
-        value: &str,
+        value: &'a str,
         outputs: &Outputs,
-    ) -> Result<bool> {
-        if let Some(what) = key.strip_prefix("first") {
-            self.first.read(alloc, what, value, outputs)?;
-        } else if let Some(what) = key.strip_prefix("second") {
-            self.second.read(alloc, what, value, outputs)?;
-        } else if let Some(what) = key.strip_prefix("out") {
-            self.out.read(alloc, what, value, outputs)?;
-        } else if let Some(what) = key.strip_prefix("err") {
-            self.err.read(alloc, what, value, outputs)?;
-        } else {
-            return Ok(false);
-        }
-        Ok(true)
-    }
-
-    // Reads a line that says how much is wanted of the output; answers whether it is one.
-    fn read_extent(
-        &mut self,
-        alloc: Global,
-        key: &str,
-        value: &str,
-        outputs: &Outputs,
-    ) -> Result<bool> {
+    ) -> Result<()> {
         match key {
-            "beginning" => {
-                self.extent = Extent::Beginning;
-                return Ok(true);
-            }
-            "length" => self.length = Some(value.parse::<usize>()?),
-            "digest" => self.digest = Some(String::from_str(alloc, value)?),
-            "line" => self.lines.push(String::from_str(alloc, value)?)?,
-            "at" => {
-                let (place, pieces) = value.split_once(' ').context("a place lacks its bytes")?;
-                self.parts.push(Part {
-                    place: place.parse::<usize>()?,
-                    bytes: read_pieces(alloc, pieces, outputs)?,
-                })?;
-            }
-            _ => return Ok(false),
-        }
-        self.has_parts = true;
-        Ok(true)
-    }
-
-    // Reads any other line.
-    fn read_rest(&mut self, alloc: Global, key: &str, value: &str) -> Result<()> {
-        match key {
-            "row" | "bytes" => {
-                ensure!(self.name.is_empty(), "a second name");
-                self.name = String::from_str(alloc, value)?;
-                self.is_given = key == "bytes";
-            }
-            "words" => {
-                for word in value.split(' ') {
-                    self.words.push(String::from_str(alloc, word)?)?;
-                }
-            }
-            "names" => self.names = value.parse::<usize>()?,
+            "row" | "bytes" => return self.read_name(key, value),
+            "words" => return self.read_words(alloc, value),
+            "names" | "room" | "length" => return self.read_number(key, value),
+            "left" | "left-second" => return self.read_number(key, value),
+            "at" => return self.read_part(alloc, value, outputs),
             "status" => self.status = value.parse::<u8>()?,
-            "room" => self.room = value.parse::<usize>()?,
-            "left" => self.first_left = Some(value.parse::<usize>()?),
-            "left-second" => self.second_left = Some(value.parse::<usize>()?),
+            "beginning" => self.extent = Extent::Beginning,
+            "digest" => self.digest = Some(value),
+            "line" => self.lines.push(value)?,
             _ => bail!("unknown: {key}"),
         }
         Ok(())
     }
 
     // Reads a line of a row.
-    fn read_line(&mut self, alloc: Global, line: &str, outputs: &Outputs) -> Result<()> {
+    fn read_line(&mut self, alloc: Global, line: &'a str, outputs: &Outputs) -> Result<()> {
         let (key, value) = line.split_once(' ').unwrap_or((line, ""));
-        let is_read = self.read_side(alloc, key, value, outputs)?
-            || self.read_extent(alloc, key, value, outputs)?;
-        if !is_read {
-            self.read_rest(alloc, key, value)?;
+        if let Some(what) = key.strip_prefix("first") {
+            self.first.read(alloc, what, value, outputs)
+        } else if let Some(what) = key.strip_prefix("second") {
+            self.second.read(alloc, what, value, outputs)
+        } else if let Some(what) = key.strip_prefix("out") {
+            self.out.read(alloc, what, value, outputs)
+        } else if let Some(what) = key.strip_prefix("err") {
+            self.err.read(alloc, what, value, outputs)
+        } else {
+            self.read_rest(alloc, key, value, outputs)
         }
-        Ok(())
     }
 
-    /// Reads a row of lines, or none where there are only comments.
-    pub(crate) fn read(alloc: Global, stanza: &str, outputs: &Outputs) -> Result<Option<Row>> {
-        let mut row = Row::new(alloc);
+    /// Reads the lines of a row; answers whether there are any that are no comments.
+    pub(crate) fn read(
+        &mut self,
+        alloc: Global,
+        stanza: &'a str,
+        outputs: &Outputs,
+    ) -> Result<bool> {
         let mut is_row = false;
         for line in stanza.lines() {
             if !line.is_empty() && !line.starts_with('#') {
-                row.read_line(alloc, line, outputs)
-                    .context(format_args!("{line}"))?;
+                self.read_line(alloc, line, outputs).context(line)?;
                 is_row = true;
             }
         }
-        if !is_row {
-            return Ok(None);
-        }
-        ensure!(!row.name.is_empty(), "a row has no name");
-        Ok(Some(row))
+        ensure!(!is_row || !self.name.is_empty(), "a row has no name");
+        Ok(is_row)
     }
 }

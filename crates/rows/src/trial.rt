@@ -79,17 +79,17 @@ fn compare_digest(alloc: Global, digest: &str, got: &[u8]) -> Result<()> {
     compare(alloc, "digest of out", digest.as_bytes(), found.as_bytes())
 }
 
-// Fails where an output is not what a row wants.
-fn compare_output(alloc: Global, row: &Row, got: &[u8]) -> Result<()> {
+// Fails where the bytes of an output are not those that a row gives.
+fn compare_extent(alloc: Global, row: &Row, got: &[u8]) -> Result<()> {
     match row.extent {
-        Extent::Whole if row.has_parts && row.out.bytes.is_empty() => {}
-        Extent::Whole => compare(alloc, "out", &row.out.bytes, got)?,
-        Extent::Beginning => compare_beginning(alloc, row, got)?,
+        Extent::Whole if row.has_parts() && row.out.bytes.is_empty() => Ok(()),
+        Extent::Whole => compare(alloc, "out", &row.out.bytes, got),
+        Extent::Beginning => compare_beginning(alloc, row, got),
     }
-    compare_count("length of out", row.length, got.len())?;
-    if let Some(digest) = &row.digest {
-        compare_digest(alloc, digest, got)?;
-    }
+}
+
+// Fails where an output lacks a part or a line that a row wants.
+fn compare_parts(alloc: Global, row: &Row, got: &[u8]) -> Result<()> {
     for part in row.parts.iter() {
         compare_part(alloc, part, got)?;
     }
@@ -97,6 +97,16 @@ fn compare_output(alloc: Global, row: &Row, got: &[u8]) -> Result<()> {
         ensure!(has_line(got, line), "out: lacks the line {line}");
     }
     Ok(())
+}
+
+// Fails where an output is not what a row wants.
+fn compare_output(alloc: Global, row: &Row, got: &[u8]) -> Result<()> {
+    compare_extent(alloc, row, got)?;
+    compare_count("length of out", row.length, got.len())?;
+    if let Some(digest) = row.digest {
+        compare_digest(alloc, digest, got)?;
+    }
+    compare_parts(alloc, row, got)
 }
 
 // The inputs and outputs of a run.
@@ -151,13 +161,18 @@ fn compare_streams(alloc: Global, row: &Row, streams: &Streams) -> Result<()> {
     )
 }
 
+// Runs a row on its streams, and answers what it wrote.
+fn run_streams(alloc: Global, row: &Row, streams: &mut Streams) -> Result<Vec<u8>> {
+    run_words(alloc, row, streams)?;
+    compare_streams(alloc, row, streams)?;
+    Ok(streams.out.bytes().to_vec(alloc)?)
+}
+
 /// Runs a row, and answers what it wrote. It fails where that is not what the row wants.
 pub(crate) fn run_row(alloc: Global, row: &mut Row) -> Result<Vec<u8>> {
     if row.is_given {
         return Ok(replace(&mut row.out.bytes, Vec::new(alloc)));
     }
     let mut streams = Streams::of_row(alloc, row)?;
-    run_words(alloc, row, &mut streams)?;
-    compare_streams(alloc, row, &streams)?;
-    Ok(streams.out.bytes().to_vec(alloc)?)
+    run_streams(alloc, row, &mut streams)
 }
