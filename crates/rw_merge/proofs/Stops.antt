@@ -1,11 +1,10 @@
 -- What a stop says of both inputs, where it is found as a pair of blocks or the end of both is looked for.
 use Rattle.std.proofs.Common.{◌≡◌, ℕ, ◌+◌, ◌*◌, ◌/◌, ◌%◌, ◌<◌, ◌≤◌, List, length, ap, ◌∙◌, inl, inr, arith, length-append}
-use Rattle.std.specs.Prelude.{Option, Some, None, Result, Err, IfSome}
+use Rattle.std.specs.Prelude.{Option, Some, None, Err, IfSome}
 use Rattle.std.specs.Io.KnownBytes.{Consumes, IsAtEnd}
 use Rattle.raw_subcode.specs.Sizes.{most_units}
 use Rattle.rw_merge.specs.Merging.{FirstIsAtEnd, EndsSecond, IsAnswer, TellsFirst, TellsSecond}
 use Rattle.rw_merge.specs.Steps.{IsEndRead, IsHalfRead, IsPairRead, Taken, TellsFirstAfter, TellsFirstOfPair, TellsSecondAfter, TellsSecondOfPair, taken_of}
-use Rattle.rw_merge.specs.declared.merge.Merged.{Merged}
 use Rattle.rw_merge.specs.declared.merge.MergeStop.{MergeStop}
 use Rattle.rw_merge.specs.declared.merge.MergeStop.TheVariants.{FirstFault, SecondFault, WriteFault, TooLong, Torn, SecondTorn, Unequal}
 
@@ -121,16 +120,6 @@ second_told before now (Torn n) told = told
 second_told before now (SecondTorn n) told = told
 second_told before now (Unequal n) told = told
 
--- No write failed.
-pub pair_is_no_write : (blocks : ℕ) (first second : Taken) (stop : MergeStop) (A : Type 0) → IsPairRead blocks (Err stop) first second → ◌≡◌ {A = Result Merged MergeStop} (Err stop) (Err WriteFault) → A
-pair_is_no_write blocks first second FirstFault A read same = absurd (cc)
-pair_is_no_write blocks first second SecondFault A read same = absurd (cc)
-pair_is_no_write blocks first second WriteFault A read same = absurd read
-pair_is_no_write blocks first second TooLong A read same = absurd (cc)
-pair_is_no_write blocks first second (Torn n) A read same = absurd (cc)
-pair_is_no_write blocks first second (SecondTorn n) A read same = absurd (cc)
-pair_is_no_write blocks first second (Unequal n) A read same = absurd (cc)
-
 -- ---- The same where nothing more may follow.
 
 pub first_at_end_after : (left : Option (List ℕ)) (first second : Taken) (stop : MergeStop) → IsEndRead (Err stop) first second → FirstIsAtEnd (Err stop) left
@@ -169,11 +158,9 @@ second_told_after before now first second (Torn n) read told = told
 second_told_after before now first second (SecondTorn n) read told = absurd read
 second_told_after before now first second (Unequal n) read told = absurd read
 
-pub end_is_no_write : (first second : Taken) (stop : MergeStop) (A : Type 0) → IsEndRead (Err stop) first second → ◌≡◌ {A = Result Merged MergeStop} (Err stop) (Err WriteFault) → A
-end_is_no_write first second FirstFault A read same = absurd (cc)
-end_is_no_write first second SecondFault A read same = absurd (cc)
-end_is_no_write first second WriteFault A read same = absurd read
-end_is_no_write first second TooLong A read same = absurd (cc)
-end_is_no_write first second (Torn n) A read same = absurd (cc)
-end_is_no_write first second (SecondTorn n) A read same = absurd (cc)
-end_is_no_write first second (Unequal n) A read same = absurd (cc)
+-- ---- A write that failed says nothing of the lengths.
+
+pub write_answer : (lead_in : ℕ) (left other : Option (List ℕ)) → IfSome left (λ xs. IfSome other (λ ys. IsAnswer lead_in (Err WriteFault) (length xs) (length ys)))
+write_answer lead_in None other = tt
+write_answer lead_in (Some xs) None = tt
+write_answer lead_in (Some xs) (Some ys) = tt

@@ -1,5 +1,5 @@
 -- The steps of a merge: what is found for the words that come with slots, and how a pair of blocks is read.
-use Rattle.std.specs.Prelude.{◌≡◌, ◌⊎◌, ℕ, ◌<◌, ⊤, Bool, true, false, List, [], ◌∷◌, length, map, Option, Result, Ok, Err}
+use Rattle.std.specs.Prelude.{◌≡◌, ◌⊎◌, ℕ, ◌<◌, ◌≤◌, ⊤, Bool, true, false, List, [], ◌∷◌, length, map, Option, Result, Ok, Err}
 use Rattle.std.specs.Io.KnownBytes.{IsAtEnd}
 use Rattle.bit_lists.specs.Counting.{parts}
 use Rattle.raw_subcode.specs.Channels.{symbols_of}
@@ -7,9 +7,11 @@ use Rattle.rw_interleave.specs.Gathering.{gather_next, gather_gives}
 use Rattle.cdg_io.specs.Run.{run_state, run_gives}
 use Rattle.rw_merge.specs.Agreement.{IsAgreement}
 use Rattle.cdg_io.specs.Causes.{Rose}
+use Rattle.cdg_io.specs.Change.{Change}
 use Rattle.rw_merge.specs.Merging.{RoseAtMost}
+use Rattle.rw_merge.specs.declared.merge.Merged.{Merged}
 use Rattle.rw_merge.specs.declared.merge.MergeStop.{MergeStop}
-use Rattle.rw_merge.specs.declared.merge.MergeStop.TheVariants.{FirstFault, SecondFault, TooLong, Torn, SecondTorn, Unequal}
+use Rattle.rw_merge.specs.declared.merge.MergeStop.TheVariants.{FirstFault, SecondFault, WriteFault, TooLong, Torn, SecondTorn, Unequal}
 
 -- the first slots of some bytes, as many as are wanted
 abbrev pub leading_slots : ℕ → List ℕ → List (List ℕ)
@@ -96,3 +98,25 @@ TellsFirstAfter (Err stop) before now = RoseAtMost before now
 abbrev pub TellsSecondAfter : Result (Unit {0}) MergeStop → ℕ → ℕ → Type 0
 TellsSecondAfter (Ok done) before now = Rose before now
 TellsSecondAfter (Err stop) before now = now ≡ before
+
+-- A count of faults rose,
+abbrev pub Rises : Change ℕ → Type 0
+Rises count = (count.before ≤ count.after) × Rose count.before count.after
+
+-- or stayed.
+abbrev pub Stays : Change ℕ → Type 0
+Stays count = count.after ≡ count.before
+
+-- How the faults of both inputs are counted where a pair of blocks, or their end, is looked for.
+abbrev pub CountsReadFaults : {A : Type 0} → Result A MergeStop → Change ℕ → Change ℕ → Type 0
+CountsReadFaults (Err FirstFault) first second = Rises first × Stays second
+CountsReadFaults (Err SecondFault) first second = Stays first × Rises second
+CountsReadFaults (Err WriteFault) first second = ⊥
+CountsReadFaults result first second = Stays first × Stays second
+
+-- How the faults of both inputs and of the output are counted in a merge.
+abbrev pub CountsFaults : Result Merged MergeStop → Change ℕ → Change ℕ → Change ℕ → Type 0
+CountsFaults (Err FirstFault) first second out = Rises first × Stays second × Stays out
+CountsFaults (Err SecondFault) first second out = Stays first × Rises second × Stays out
+CountsFaults (Err WriteFault) first second out = Stays first × Stays second × Rises out
+CountsFaults result first second out = Stays first × Stays second × Stays out

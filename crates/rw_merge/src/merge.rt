@@ -10,7 +10,7 @@ ghost use Rattle.rw_interleave.specs.Stream.{bad_count};
 ghost use Rattle.rw_interleave.specs.Texts.{cdg_bytes};
 ghost use Rattle.rw_merge.specs.Merging.{FirstIsAtEnd, EndsSecond, IsAnswer, IsMergedText, Merges, TellsFirst, TellsSecond};
 ghost use Rattle.rw_merge.specs.Readings.{IsDamagedTwice, IsReadTwice, MergeRestores};
-ghost use Rattle.rw_merge.specs.Steps.{AreAgreements, leading_slots, window_after, words_after};
+ghost use Rattle.rw_merge.specs.Steps.{AreAgreements, CountsFaults, leading_slots, window_after, words_after};
 
 use crate::packs::Packs;
 use crate::pairs::{next_pair, nothing_follows};
@@ -165,25 +165,11 @@ impl Merger {
             × Merges lead_in (change K.held out.old out.new) result xs ys }
         ensures answer { IfSome (S.left first.old) (λ xs. IfSome (T.left second.old) (λ ys.
             IsAnswer lead_in result (length xs) (length ys))) }
-        ensures first_end { FirstIsAtEnd result (S.left first.new) }
-        ensures second_end { EndsSecond result (T.left second.new) }
-        ensures first_told { TellsFirst result (S.ends first.old) (S.ends first.new) }
-        ensures second_told { TellsSecond result (T.ends second.old) (T.ends second.new) }
-        ensures first_later { S.faults first.old ≤ S.faults first.new }
-        ensures second_later { T.faults second.old ≤ T.faults second.new }
-        ensures out_later { K.faults out.old ≤ K.faults out.new }
-        ensures first_fault { IsErrOf result MergeStop.FirstFault
-            → Rose (S.faults first.old) (S.faults first.new) }
-        ensures no_first_fault { result ≢ Err MergeStop.FirstFault
-            → S.faults first.new ≡ S.faults first.old }
-        ensures second_fault { IsErrOf result MergeStop.SecondFault
-            → Rose (T.faults second.old) (T.faults second.new) }
-        ensures no_second_fault { result ≢ Err MergeStop.SecondFault
-            → T.faults second.new ≡ T.faults second.old }
-        ensures write_fault { IsErrOf result MergeStop.WriteFault
-            → Rose (K.faults out.old) (K.faults out.new) }
-        ensures no_write_fault { result ≢ Err MergeStop.WriteFault
-            → K.faults out.new ≡ K.faults out.old }
+        ensures ends { FirstIsAtEnd result (S.left first.new) × EndsSecond result (T.left second.new)
+            × TellsFirst result (S.ends first.old) (S.ends first.new)
+            × TellsSecond result (T.ends second.old) (T.ends second.new) }
+        ensures faults { CountsFaults result (change S.faults first.old first.new)
+            (change T.faults second.old second.new) (change K.faults out.old out.new) }
     {
         let mut one = [0; BLOCK_BYTES];
         let mut other = [0; BLOCK_BYTES];

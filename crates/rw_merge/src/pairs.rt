@@ -1,8 +1,8 @@
 // Pairs of blocks, one of each input, in turn.
-ghost use Rattle.std.specs.Prelude.{◌≡◌, ◌≢◌, ◌≤◌, List, ℕ, Ok, Err, true, IsErrOf};
+ghost use Rattle.std.specs.Prelude.{◌≡◌, List, ℕ, Ok, true};
 ghost use Rattle.std.specs.Io.KnownBytes.{Consumes};
-ghost use Rattle.cdg_io.specs.Causes.{Rose};
-ghost use Rattle.rw_merge.specs.Steps.{IsEndRead, IsPairRead, TellsFirstAfter, TellsFirstOfPair, TellsSecondAfter, TellsSecondOfPair, taken_of};
+ghost use Rattle.cdg_io.specs.Change.{change};
+ghost use Rattle.rw_merge.specs.Steps.{CountsReadFaults, IsEndRead, IsPairRead, TellsFirstAfter, TellsFirstOfPair, TellsSecondAfter, TellsSecondOfPair, taken_of};
 
 use crate::merge::MergeStop;
 use cdg_io::{Failed, Source, fill};
@@ -23,16 +23,10 @@ pub(crate) fn next_pair<S: Source, T: Source>(
         × Consumes (T.left second.old) (T.left second.new) ys
         × IsPairRead block result (taken_of xs (S.left first.new)) (taken_of ys (T.left second.new))
         × (result ≡ Ok true → (xs ≡ one.new) × (ys ≡ other.new)) }
-    ensures first_later { S.faults first.old ≤ S.faults first.new }
-    ensures second_later { T.faults second.old ≤ T.faults second.new }
-    ensures first_fault { IsErrOf result MergeStop.FirstFault
-        → Rose (S.faults first.old) (S.faults first.new) }
-    ensures no_first_fault { result ≢ Err MergeStop.FirstFault → S.faults first.new ≡ S.faults first.old }
-    ensures second_fault { IsErrOf result MergeStop.SecondFault
-        → Rose (T.faults second.old) (T.faults second.new) }
-    ensures no_second_fault { result ≢ Err MergeStop.SecondFault → T.faults second.new ≡ T.faults second.old }
-    ensures first_end { TellsFirstOfPair result (S.ends first.old) (S.ends first.new) }
-    ensures second_end { TellsSecondOfPair result (T.ends second.old) (T.ends second.new) }
+    ensures faults { CountsReadFaults result (change S.faults first.old first.new)
+        (change T.faults second.old second.new) }
+    ensures told { TellsFirstOfPair result (S.ends first.old) (S.ends first.new)
+        × TellsSecondOfPair result (T.ends second.old) (T.ends second.new) }
 {
     let from_first = match fill(first, one) {
         Ok(count) => count,
@@ -68,16 +62,10 @@ pub(crate) fn nothing_follows<S: Source, T: Source>(
     ensures end { (xs ys : List ℕ) × Consumes (S.left first.old) (S.left first.new) xs
         × Consumes (T.left second.old) (T.left second.new) ys
         × IsEndRead result (taken_of xs (S.left first.new)) (taken_of ys (T.left second.new)) }
-    ensures first_later { S.faults first.old ≤ S.faults first.new }
-    ensures second_later { T.faults second.old ≤ T.faults second.new }
-    ensures first_fault { IsErrOf result MergeStop.FirstFault
-        → Rose (S.faults first.old) (S.faults first.new) }
-    ensures no_first_fault { result ≢ Err MergeStop.FirstFault → S.faults first.new ≡ S.faults first.old }
-    ensures second_fault { IsErrOf result MergeStop.SecondFault
-        → Rose (T.faults second.old) (T.faults second.new) }
-    ensures no_second_fault { result ≢ Err MergeStop.SecondFault → T.faults second.new ≡ T.faults second.old }
-    ensures first_end { TellsFirstAfter result (S.ends first.old) (S.ends first.new) }
-    ensures second_end { TellsSecondAfter result (T.ends second.old) (T.ends second.new) }
+    ensures faults { CountsReadFaults result (change S.faults first.old first.new)
+        (change T.faults second.old second.new) }
+    ensures told { TellsFirstAfter result (S.ends first.old) (S.ends first.new)
+        × TellsSecondAfter result (T.ends second.old) (T.ends second.new) }
 {
     match fill(first, &mut [0; 1]) {
         Ok(0) => {}

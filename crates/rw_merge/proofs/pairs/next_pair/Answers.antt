@@ -1,6 +1,6 @@
 use Rattle.std.proofs.Common.{◌≡◌, ◌≤◌, ◌∙◌, length, refl, inl, inr, arith}
 use Rattle.cdg_io.proofs.PumpSteps.{Consumes-filled}
-use Rattle.rw_merge.proofs.PairReads.{IsWholeOrNone, both_at_end, first_failed, first_torn, is_none, one_has_more, second_failed, second_torn}
+use Rattle.rw_merge.proofs.PairReads.{IsWholeOrNone, both_at_end, first_failed, first_torn, is_none, one_has_more, second_failed, second_torn, told_at_most}
 use Rattle.rw_merge.proofs.pairs.next_pair.Goals as goal
 use Rattle.rw_merge.proofs.pairs.next_pair.Goals.{else-from_first-gt0-via-then-from_first-gt0+else-from_first-lt-BLOCK_BYTES, else-from_first-gt0-via-else-from_first-gt0}
 use Rattle.rw_merge.proofs.pairs.next_pair.Goals.{else-from_second-gt0-via-then-from_second-gt0+else-from_second-lt-BLOCK_BYTES, else-from_second-gt0-via-else-from_second-gt0}
@@ -63,3 +63,75 @@ returns-then-from_first-from_second-clause-pair g c =
 
 pub returns-then-from_first-eq0-clause-pair : goal.returns-then-from_first-eq0-clause-pair
 returns-then-from_first-eq0-clause-pair g c = both_at_end c.args.block _ _ _ _ c.in-Ok.count c.in-Ok-fill.count c.fill.new.buf c.fill-2.new.buf (record { size_is = c.fill.auto.buf ∙ c.told-one; within = c.in-Ok.ensures.within; taken = c.in-Ok.ensures.ok; end = c.in-Ok.ensures.end }) c.if-from_first-eq0.true (record { size_is = c.fill-2.auto.buf ∙ c.told-other; within = c.in-Ok-fill.ensures.within; taken = c.in-Ok-fill.ensures.ok; end = c.in-Ok-fill.ensures.end }) c.if-from_first-from_second.false
+
+pub returns-in-Err-clause-faults : goal.returns-in-Err-clause-faults
+returns-in-Err-clause-faults g c = ((c.in-Err.ensures.cause.later, c.in-Err.ensures.cause.failed), refl)
+
+pub returns-in-Err-clause-told : goal.returns-in-Err-clause-told
+returns-in-Err-clause-told g c = (c.in-Err.ensures.told.failed, refl)
+
+pub returns-then-from_first-lt-BLOCK_BYTES-clause-faults : goal.returns-then-from_first-lt-BLOCK_BYTES-clause-faults
+returns-then-from_first-lt-BLOCK_BYTES-clause-faults g c = (c.in-Ok.ensures.cause.same, refl)
+
+pub returns-then-from_first-lt-BLOCK_BYTES-clause-told : goal.returns-then-from_first-lt-BLOCK_BYTES-clause-told
+returns-then-from_first-lt-BLOCK_BYTES-clause-told g c = (c.in-Ok.ensures.told.ended (omega (arith, c.told-one, c.if-from_first-lt-BLOCK_BYTES.true)), refl)
+
+pub returns-in-Err-fill-clause-faults : goal.returns-in-Err-fill-clause-faults
+returns-in-Err-fill-clause-faults g c = (c.in-Ok.ensures.cause.same, (c.in-Err-fill.ensures.cause.later, c.in-Err-fill.ensures.cause.failed))
+
+pub returns-in-Err-fill-clause-told : goal.returns-in-Err-fill-clause-told
+returns-in-Err-fill-clause-told g c =
+    let first : IsWholeOrNone c.in-Ok.count =
+    elim c.else-from_first-gt0.branch [
+      | else-from_first-gt0-via-then-from_first-gt0+else-from_first-lt-BLOCK_BYTES w ↦ inr w.if-from_first-lt-BLOCK_BYTES.false
+      | else-from_first-gt0-via-else-from_first-gt0 w ↦ inl (is_none _ w.if-from_first-gt0.false)
+    ] in
+    (told_at_most _ _ _ _ c.told-one first c.in-Ok.ensures.told, c.in-Err-fill.ensures.told.failed)
+
+pub returns-then-from_second-lt-BLOCK_BYTES-clause-faults : goal.returns-then-from_second-lt-BLOCK_BYTES-clause-faults
+returns-then-from_second-lt-BLOCK_BYTES-clause-faults g c = (c.in-Ok.ensures.cause.same, c.in-Ok-fill.ensures.cause.same)
+
+pub returns-then-from_second-lt-BLOCK_BYTES-clause-told : goal.returns-then-from_second-lt-BLOCK_BYTES-clause-told
+returns-then-from_second-lt-BLOCK_BYTES-clause-told g c =
+    let first : IsWholeOrNone c.in-Ok.count =
+    elim c.else-from_first-gt0.branch [
+      | else-from_first-gt0-via-then-from_first-gt0+else-from_first-lt-BLOCK_BYTES w ↦ inr w.if-from_first-lt-BLOCK_BYTES.false
+      | else-from_first-gt0-via-else-from_first-gt0 w ↦ inl (is_none _ w.if-from_first-gt0.false)
+    ] in
+    (told_at_most _ _ _ _ c.told-one first c.in-Ok.ensures.told, c.in-Ok-fill.ensures.told.ended (omega (arith, c.told-other, c.if-from_second-lt-BLOCK_BYTES.true)))
+
+pub returns-then-from_first-from_second-clause-faults : goal.returns-then-from_first-from_second-clause-faults
+returns-then-from_first-from_second-clause-faults g c = (c.in-Ok.ensures.cause.same, c.in-Ok-fill.ensures.cause.same)
+
+pub returns-then-from_first-from_second-clause-told : goal.returns-then-from_first-from_second-clause-told
+returns-then-from_first-from_second-clause-told g c =
+    let first : IsWholeOrNone c.in-Ok.count =
+    elim c.else-from_first-gt0.branch [
+      | else-from_first-gt0-via-then-from_first-gt0+else-from_first-lt-BLOCK_BYTES w ↦ inr w.if-from_first-lt-BLOCK_BYTES.false
+      | else-from_first-gt0-via-else-from_first-gt0 w ↦ inl (is_none _ w.if-from_first-gt0.false)
+    ] in
+    let second : IsWholeOrNone c.in-Ok-fill.count =
+    elim c.else-from_second-gt0.branch [
+      | else-from_second-gt0-via-then-from_second-gt0+else-from_second-lt-BLOCK_BYTES w ↦ inr w.if-from_second-lt-BLOCK_BYTES.false
+      | else-from_second-gt0-via-else-from_second-gt0 w ↦ inl (is_none _ w.if-from_second-gt0.false)
+    ] in
+    (told_at_most _ _ _ _ c.told-one first c.in-Ok.ensures.told, told_at_most _ _ _ _ c.told-other second c.in-Ok-fill.ensures.told)
+
+pub returns-then-from_first-eq0-clause-faults : goal.returns-then-from_first-eq0-clause-faults
+returns-then-from_first-eq0-clause-faults g c = (c.in-Ok.ensures.cause.same, c.in-Ok-fill.ensures.cause.same)
+
+pub returns-then-from_first-eq0-clause-told : goal.returns-then-from_first-eq0-clause-told
+returns-then-from_first-eq0-clause-told g c =
+    (c.in-Ok.ensures.told.ended (omega (arith, c.told-one, c.if-from_first-eq0.true)), c.in-Ok-fill.ensures.told.ended (omega (arith, c.told-other, c.if-from_first-eq0.true, c.if-from_first-from_second.false)))
+
+pub returns-clause-faults : goal.returns-clause-faults
+returns-clause-faults g c = (c.in-Ok.ensures.cause.same, c.in-Ok-fill.ensures.cause.same)
+
+pub returns-clause-told : goal.returns-clause-told
+returns-clause-told g c =
+    let full : 96 ≤ c.in-Ok.count =
+    elim c.else-from_first-gt0.branch [
+      | else-from_first-gt0-via-then-from_first-gt0+else-from_first-lt-BLOCK_BYTES w ↦ w.if-from_first-lt-BLOCK_BYTES.false
+      | else-from_first-gt0-via-else-from_first-gt0 w ↦ absurd (omega (arith, w.if-from_first-gt0.false, c.if-from_first-eq0.false))
+    ] in
+    (c.in-Ok.ensures.told.goes_on (omega (arith, c.told-one, full)), c.in-Ok-fill.ensures.told.goes_on (omega (arith, c.told-other, full, c.if-from_first-from_second.false)))

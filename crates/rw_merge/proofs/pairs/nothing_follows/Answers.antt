@@ -1,3 +1,4 @@
+use Rattle.std.proofs.Common.{refl, inl, inr, arith}
 use Rattle.rw_merge.proofs.PairReads.{end_of_first_failed, end_of_second_failed, first_goes_on, no_byte_follows, second_goes_on}
 use Rattle.rw_merge.proofs.pairs.nothing_follows.Goals as goal
 
@@ -15,3 +16,33 @@ returns-in-Ok-fill-clause-end g c = second_goes_on _ _ _ _ c.in-Ok-eq0.field-0 c
 
 pub returns-in-Err-fill-clause-end : goal.returns-in-Err-fill-clause-end
 returns-in-Err-fill-clause-end g c = end_of_second_failed _ _ _ _ c.in-Ok-eq0.field-0 c.fill.new.buf c.fill-2.new.buf (record { size_is = c.fill.auto.buf; within = c.in-Ok-eq0.ensures.within; taken = c.in-Ok-eq0.ensures.ok; end = c.in-Ok-eq0.ensures.end }) c.in-Ok-eq0.field-0-test c.fill-2.auto.buf c.in-Err-fill.ensures.part
+
+pub returns-in-Ok-clause-faults : goal.returns-in-Ok-clause-faults
+returns-in-Ok-clause-faults g c = (c.in-Ok.ensures.cause.same, refl)
+
+pub returns-in-Ok-clause-told : goal.returns-in-Ok-clause-told
+returns-in-Ok-clause-told g c = (inl (c.in-Ok.ensures.told.goes_on (omega (arith, c.in-Ok.field-0-test.1))), refl)
+
+pub returns-in-Err-clause-faults : goal.returns-in-Err-clause-faults
+returns-in-Err-clause-faults g c = ((c.in-Err.ensures.cause.later, c.in-Err.ensures.cause.failed), refl)
+
+pub returns-in-Err-clause-told : goal.returns-in-Err-clause-told
+returns-in-Err-clause-told g c = (c.in-Err.ensures.told.failed, refl)
+
+pub returns-in-Ok-eq0-fill-clause-faults : goal.returns-in-Ok-eq0-fill-clause-faults
+returns-in-Ok-eq0-fill-clause-faults g c = (c.in-Ok-eq0.ensures.cause.same, c.in-Ok-eq0-fill.ensures.cause.same)
+
+pub returns-in-Ok-eq0-fill-clause-told : goal.returns-in-Ok-eq0-fill-clause-told
+returns-in-Ok-eq0-fill-clause-told g c = (c.in-Ok-eq0.ensures.told.ended (omega (arith, c.in-Ok-eq0.field-0-test)), c.in-Ok-eq0-fill.ensures.told.ended (omega (arith, c.in-Ok-eq0-fill.field-0-test)))
+
+pub returns-in-Ok-fill-clause-faults : goal.returns-in-Ok-fill-clause-faults
+returns-in-Ok-fill-clause-faults g c = (c.in-Ok-eq0.ensures.cause.same, c.in-Ok-fill.ensures.cause.same)
+
+pub returns-in-Ok-fill-clause-told : goal.returns-in-Ok-fill-clause-told
+returns-in-Ok-fill-clause-told g c = (inr (c.in-Ok-eq0.ensures.told.ended (omega (arith, c.in-Ok-eq0.field-0-test))), c.in-Ok-fill.ensures.told.goes_on (omega (arith, c.in-Ok-fill.field-0-test.1)))
+
+pub returns-in-Err-fill-clause-faults : goal.returns-in-Err-fill-clause-faults
+returns-in-Err-fill-clause-faults g c = (c.in-Ok-eq0.ensures.cause.same, (c.in-Err-fill.ensures.cause.later, c.in-Err-fill.ensures.cause.failed))
+
+pub returns-in-Err-fill-clause-told : goal.returns-in-Err-fill-clause-told
+returns-in-Err-fill-clause-told g c = (inr (c.in-Ok-eq0.ensures.told.ended (omega (arith, c.in-Ok-eq0.field-0-test))), c.in-Err-fill.ensures.told.failed)

@@ -1,8 +1,10 @@
 use Rattle.std.proofs.Common.{◌++◌, [], length, sym, ap, ◌∙◌, refl, subst, arith}
-use Rattle.std.specs.Prelude.{Err}
+use Rattle.std.specs.Prelude.{Bool, Err}
 use Rattle.std.specs.Io.KnownBytes.{Appends}
 use Rattle.rw_merge.specs.Merging.{TellsFirst, TellsSecond}
-use Rattle.rw_merge.proofs.Stops.{end_is_no_write, first_at_end, first_at_end_after, first_told, first_told_after, pair_is_no_write, second_at_end, second_at_end_after, second_told, second_told_after}
+use Rattle.cdg_io.proofs.Stops.{later_since, rose_since}
+use Rattle.rw_merge.proofs.Faults.{counted_last}
+use Rattle.rw_merge.proofs.Stops.{first_at_end, first_at_end_after, first_told, first_told_after, second_at_end, second_at_end_after, second_told, second_told_after, write_answer}
 use Rattle.rw_merge.proofs.Working.{both_end, both_of_whole, end_of_whole, end_stops, pair_found, pair_of_whole, pair_stops, skipped_as, works_more, works_none, write_stops}
 use Rattle.rw_merge.proofs.merge.Merger.merge_pairs.Goals as goal
 use Rattle.rw_merge.proofs.merge.Merger.merge_pairs.Goals.{then-block-lead_in+in-Ok, else-block-lead_in}
@@ -42,27 +44,6 @@ returns-in-Err-clause-answer g c =
     let (us, vs, first, second, read, whole) = c.in-Err.ensures.pair in
     pair_of_whole c.args.lead_in c.loop-block.block _ _ _ _ _ _ _ _ _ _ _ xs ys us vs c.in-Err.stop works first second read c.loop-block-test.true
 
-pub returns-in-Err-clause-first_end : goal.returns-in-Err-clause-first_end
-returns-in-Err-clause-first_end g c =
-    let (us, vs, first, second, read, whole) = c.in-Err.ensures.pair in
-    first_at_end c.loop-block.block _ _ c.in-Err.stop us read
-
-pub returns-in-Err-clause-second_end : goal.returns-in-Err-clause-second_end
-returns-in-Err-clause-second_end g c =
-    let (us, vs, first, second, read, whole) = c.in-Err.ensures.pair in
-    second_at_end c.loop-block.block _ _ c.in-Err.stop vs read
-
-pub returns-in-Err-clause-first_told : goal.returns-in-Err-clause-first_told
-returns-in-Err-clause-first_told g c =
-    let (us, vs, first, second, read, whole) = c.in-Err.ensures.pair in
-    subst (λ before. TellsFirst (Err c.in-Err.stop) before (g.S.Source.ends c.next_pair.new.first)) c.loop-block.invariant.first_told
-    (first_told c.loop-block.block _ _ _ _ c.in-Err.stop read c.in-Err.ensures.first_end)
-
-pub returns-in-Err-clause-second_told : goal.returns-in-Err-clause-second_told
-returns-in-Err-clause-second_told g c =
-    subst (λ before. TellsSecond (Err c.in-Err.stop) before (g.T.Source.ends c.next_pair.new.second)) c.loop-block.invariant.second_told
-    (second_told _ _ c.in-Err.stop c.in-Err.ensures.second_end)
-
 pub returns-in-Ok-nothing_follows-clause-merges : goal.returns-in-Ok-nothing_follows-clause-merges
 returns-in-Ok-nothing_follows-clause-merges g c =
     let (xs, ys, works) = c.loop-block.invariant.works in
@@ -87,28 +68,6 @@ returns-in-Err-nothing_follows-clause-answer g c =
     let (us, vs, first, second, read) = c.in-Err-nothing_follows.ensures.end in
     end_of_whole c.args.lead_in c.loop-block.block _ _ _ _ _ _ _ _ _ _ _ xs ys us vs c.in-Err-nothing_follows.stop works first second read (omega (arith, c.loop-block.auto.block-end, c.loop-block-test.false))
 
-pub returns-in-Err-nothing_follows-clause-first_end : goal.returns-in-Err-nothing_follows-clause-first_end
-returns-in-Err-nothing_follows-clause-first_end g c =
-    let (us, vs, first, second, read) = c.in-Err-nothing_follows.ensures.end in
-    first_at_end_after _ _ _ c.in-Err-nothing_follows.stop read
-
-pub returns-in-Err-nothing_follows-clause-second_end : goal.returns-in-Err-nothing_follows-clause-second_end
-returns-in-Err-nothing_follows-clause-second_end g c =
-    let (us, vs, first, second, read) = c.in-Err-nothing_follows.ensures.end in
-    second_at_end_after _ _ _ c.in-Err-nothing_follows.stop read
-
-pub returns-in-Err-nothing_follows-clause-first_told : goal.returns-in-Err-nothing_follows-clause-first_told
-returns-in-Err-nothing_follows-clause-first_told g c =
-    let (us, vs, first, second, read) = c.in-Err-nothing_follows.ensures.end in
-    subst (λ before. TellsFirst (Err c.in-Err-nothing_follows.stop) before (g.S.Source.ends c.nothing_follows.new.first)) c.loop-block.invariant.first_told
-    (first_told_after _ _ _ _ c.in-Err-nothing_follows.stop read c.in-Err-nothing_follows.ensures.first_end)
-
-pub returns-in-Err-nothing_follows-clause-second_told : goal.returns-in-Err-nothing_follows-clause-second_told
-returns-in-Err-nothing_follows-clause-second_told g c =
-    let (us, vs, first, second, read) = c.in-Err-nothing_follows.ensures.end in
-    subst (λ before. TellsSecond (Err c.in-Err-nothing_follows.stop) before (g.T.Source.ends c.nothing_follows.new.second)) c.loop-block.invariant.second_told
-    (second_told_after _ _ _ _ c.in-Err-nothing_follows.stop read c.in-Err-nothing_follows.ensures.second_end)
-
 pub returns-in-Err-put_all-clause-merges : goal.returns-in-Err-put_all-clause-merges
 returns-in-Err-put_all-clause-merges g c =
     let (xs, ys, works) = c.loop-block.invariant.works in
@@ -124,6 +83,7 @@ loop-block-preserved g c =
     let (xs, ys, works) = before.works in
     let (us, vs, first, second, read, whole) = rw c.in-Ok-true.field-0-test at c.in-Ok-true.ensures.pair in
     let (u_is, v_is) = whole refl in
+    let told = rw c.in-Ok-true.field-0-test at c.in-Ok-true.ensures.told in
     elim c.if-block-lead_in.branch [
       | then-block-lead_in+in-Ok w ↦
           let first_is = ap (λ s. s.first) w.self-is in
@@ -135,11 +95,11 @@ loop-block-preserved g c =
           record {
             same = ap length first_is ∙ w.merge-packs.ensures.same ∙ sym (ap length second_is);
             works = (xs ++ us, ys ++ vs, works_more c.args.lead_in c.loop-block.block _ _ _ _ _ _ _ _ _ _ _ _ _ _ _ xs ys us vs _ works first second read.0 read.1 w.if-block-lead_in.true pair put c.if-block-lead_in.bad w.bad-is);
-            no_first_fault = c.in-Ok-true.ensures.no_first_fault (λ e. (cc)) ∙ before.no_first_fault;
-            no_second_fault = c.in-Ok-true.ensures.no_second_fault (λ e. (cc)) ∙ before.no_second_fault;
+            no_first_fault = c.in-Ok-true.ensures.faults.0 ∙ before.no_first_fault;
+            no_second_fault = c.in-Ok-true.ensures.faults.1 ∙ before.no_second_fault;
             no_write_fault = ap g.K.Sink.faults w.out-is ∙ w.in-Ok.ensures.cause.same ∙ before.no_write_fault;
-            first_told = (rw c.in-Ok-true.field-0-test at c.in-Ok-true.ensures.first_end) ∙ before.first_told;
-            second_told = (rw c.in-Ok-true.field-0-test at c.in-Ok-true.ensures.second_end) ∙ before.second_told;
+            first_told = told.0 ∙ before.first_told;
+            second_told = told.1 ∙ before.second_told;
           }
       | else-block-lead_in w ↦
           let held = ap g.K.Sink.held w.out-is in
@@ -150,40 +110,88 @@ loop-block-preserved g c =
               ys ++ vs,
               skipped_as c.args.lead_in c.loop-block.block _ _ _ _ _ _ _ _ _ _ _ _ _ xs ys us vs works first second read.0 read.1 w.if-block-lead_in.false held w.self-is w.bad-is,
             );
-            no_first_fault = c.in-Ok-true.ensures.no_first_fault (λ e. (cc)) ∙ before.no_first_fault;
-            no_second_fault = c.in-Ok-true.ensures.no_second_fault (λ e. (cc)) ∙ before.no_second_fault;
+            no_first_fault = c.in-Ok-true.ensures.faults.0 ∙ before.no_first_fault;
+            no_second_fault = c.in-Ok-true.ensures.faults.1 ∙ before.no_second_fault;
             no_write_fault = ap g.K.Sink.faults w.out-is ∙ before.no_write_fault;
-            first_told = (rw c.in-Ok-true.field-0-test at c.in-Ok-true.ensures.first_end) ∙ before.first_told;
-            second_told = (rw c.in-Ok-true.field-0-test at c.in-Ok-true.ensures.second_end) ∙ before.second_told;
+            first_told = told.0 ∙ before.first_told;
+            second_told = told.1 ∙ before.second_told;
           }
     ]
 
-pub returns-in-Ok-false-clause-first_end : goal.returns-in-Ok-false-clause-first_end
-returns-in-Ok-false-clause-first_end g c =
+pub returns-in-Ok-false-clause-faults : goal.returns-in-Ok-false-clause-faults
+returns-in-Ok-false-clause-faults g c =
+    let (first, second) = c.in-Ok-false.ensures.faults in
+    (first ∙ c.loop-block.invariant.no_first_fault, second ∙ c.loop-block.invariant.no_second_fault, c.loop-block.invariant.no_write_fault)
+
+pub returns-in-Ok-false-clause-ends : goal.returns-in-Ok-false-clause-ends
+returns-in-Ok-false-clause-ends g c =
     let (us, vs, first, second, read, whole) = rw c.in-Ok-false.field-0-test at c.in-Ok-false.ensures.pair in
-    read.2
+    let told = rw c.in-Ok-false.field-0-test at c.in-Ok-false.ensures.told in (
+      read.2,
+      read.3,
+      rose_since c.loop-block.invariant.first_told told.0,
+      rose_since c.loop-block.invariant.second_told told.1,
+    )
 
-pub returns-in-Ok-false-clause-second_end : goal.returns-in-Ok-false-clause-second_end
-returns-in-Ok-false-clause-second_end g c =
-    let (us, vs, first, second, read, whole) = rw c.in-Ok-false.field-0-test at c.in-Ok-false.ensures.pair in
-    read.3
+pub returns-in-Err-clause-faults : goal.returns-in-Err-clause-faults
+returns-in-Err-clause-faults g c = counted_last Bool _ _ _ _ _ _ _ _ c.in-Err.stop c.loop-block.invariant.no_first_fault c.loop-block.invariant.no_second_fault c.loop-block.invariant.no_write_fault c.in-Err.ensures.faults
 
-pub returns-in-Ok-nothing_follows-clause-first_end : goal.returns-in-Ok-nothing_follows-clause-first_end
-returns-in-Ok-nothing_follows-clause-first_end g c =
+pub returns-in-Err-clause-ends : goal.returns-in-Err-clause-ends
+returns-in-Err-clause-ends g c =
+    let (us, vs, first, second, read, whole) = c.in-Err.ensures.pair in (
+      first_at_end c.loop-block.block _ _ c.in-Err.stop us read,
+      second_at_end c.loop-block.block _ _ c.in-Err.stop vs read,
+      subst (λ before. TellsFirst (Err c.in-Err.stop) before (g.S.Source.ends c.next_pair.new.first)) c.loop-block.invariant.first_told
+          (first_told c.loop-block.block _ _ _ _ c.in-Err.stop read c.in-Err.ensures.told.0),
+      subst (λ before. TellsSecond (Err c.in-Err.stop) before (g.T.Source.ends c.next_pair.new.second)) c.loop-block.invariant.second_told
+          (second_told _ _ c.in-Err.stop c.in-Err.ensures.told.1),
+    )
+
+pub returns-in-Ok-nothing_follows-clause-faults : goal.returns-in-Ok-nothing_follows-clause-faults
+returns-in-Ok-nothing_follows-clause-faults g c =
+    let (first, second) = c.in-Ok-nothing_follows.ensures.faults in
+    (first ∙ c.loop-block.invariant.no_first_fault, second ∙ c.loop-block.invariant.no_second_fault, c.loop-block.invariant.no_write_fault)
+
+pub returns-in-Ok-nothing_follows-clause-ends : goal.returns-in-Ok-nothing_follows-clause-ends
+returns-in-Ok-nothing_follows-clause-ends g c =
     let (us, vs, first, second, read) = c.in-Ok-nothing_follows.ensures.end in
-    read.2
+    let told = c.in-Ok-nothing_follows.ensures.told in (
+      read.2,
+      read.3,
+      rose_since c.loop-block.invariant.first_told told.0,
+      rose_since c.loop-block.invariant.second_told told.1,
+    )
 
-pub returns-in-Ok-nothing_follows-clause-second_end : goal.returns-in-Ok-nothing_follows-clause-second_end
-returns-in-Ok-nothing_follows-clause-second_end g c =
-    let (us, vs, first, second, read) = c.in-Ok-nothing_follows.ensures.end in
-    read.3
+pub returns-in-Err-nothing_follows-clause-faults : goal.returns-in-Err-nothing_follows-clause-faults
+returns-in-Err-nothing_follows-clause-faults g c = counted_last (Unit {0}) _ _ _ _ _ _ _ _ c.in-Err-nothing_follows.stop c.loop-block.invariant.no_first_fault c.loop-block.invariant.no_second_fault c.loop-block.invariant.no_write_fault c.in-Err-nothing_follows.ensures.faults
 
-pub returns-in-Err-clause-write_fault : goal.returns-in-Err-clause-write_fault
-returns-in-Err-clause-write_fault g c =
-    let (us, vs, first, second, read, whole) = c.in-Err.ensures.pair in
-    pair_is_no_write c.loop-block.block _ _ c.in-Err.stop _ read
+pub returns-in-Err-nothing_follows-clause-ends : goal.returns-in-Err-nothing_follows-clause-ends
+returns-in-Err-nothing_follows-clause-ends g c =
+    let (us, vs, first, second, read) = c.in-Err-nothing_follows.ensures.end in (
+      first_at_end_after _ _ _ c.in-Err-nothing_follows.stop read,
+      second_at_end_after _ _ _ c.in-Err-nothing_follows.stop read,
+      subst (λ before. TellsFirst (Err c.in-Err-nothing_follows.stop) before (g.S.Source.ends c.nothing_follows.new.first)) c.loop-block.invariant.first_told
+          (first_told_after _ _ _ _ c.in-Err-nothing_follows.stop read c.in-Err-nothing_follows.ensures.told.0),
+      subst (λ before. TellsSecond (Err c.in-Err-nothing_follows.stop) before (g.T.Source.ends c.nothing_follows.new.second)) c.loop-block.invariant.second_told
+          (second_told_after _ _ _ _ c.in-Err-nothing_follows.stop read c.in-Err-nothing_follows.ensures.told.1),
+    )
 
-pub returns-in-Err-nothing_follows-clause-write_fault : goal.returns-in-Err-nothing_follows-clause-write_fault
-returns-in-Err-nothing_follows-clause-write_fault g c =
-    let (us, vs, first, second, read) = c.in-Err-nothing_follows.ensures.end in
-    end_is_no_write _ _ c.in-Err-nothing_follows.stop _ read
+pub returns-in-Err-put_all-clause-faults : goal.returns-in-Err-put_all-clause-faults
+returns-in-Err-put_all-clause-faults g c =
+    let (first, second) = c.in-Ok-true.ensures.faults in
+    let cause = c.in-Err-put_all.ensures.cause in (
+      first ∙ c.loop-block.invariant.no_first_fault,
+      second ∙ c.loop-block.invariant.no_second_fault,
+      (later_since c.loop-block.invariant.no_write_fault cause.later, rose_since c.loop-block.invariant.no_write_fault cause.failed),
+    )
+
+pub returns-in-Err-put_all-clause-ends : goal.returns-in-Err-put_all-clause-ends
+returns-in-Err-put_all-clause-ends g c =
+    let told = rw c.in-Ok-true.field-0-test at c.in-Ok-true.ensures.told in
+    (tt, tt, told.0 ∙ c.loop-block.invariant.first_told, told.1 ∙ c.loop-block.invariant.second_told)
+
+pub returns-in-Err-put_all-clause-answer : goal.returns-in-Err-put_all-clause-answer
+returns-in-Err-put_all-clause-answer g c = write_answer c.args.lead_in _ _
+
+pub merge-packs-requires : goal.merge-packs-requires
+merge-packs-requires g c = c.loop-block.invariant.same

@@ -1,3 +1,4 @@
+use Rattle.rw_merge.proofs.Faults.{first_counted, second_counted, out_counted}
 use Rattle.rw_merge.proofs.Restoring.{repaired, restored}
 use Rattle.rw_merge.proofs.merge.Merger.run.Goals as goal
 
@@ -5,11 +6,50 @@ pub returns-clause-restores : goal.returns-clause-restores
 returns-clause-restores g c =
     let done = c.merge_pairs.ensures in
     let (xs, ys, first, second, merges) = done.merges in
-    restored c.two_readings_give_packs.ensures.text c.args.lead_in _ _ _ _ _ _ c.merge_pairs.result xs ys first second merges done.first_end done.second_end done.answer
+    restored c.two_readings_give_packs.ensures.text c.args.lead_in _ _ _ _ _ _ c.merge_pairs.result xs ys first second merges done.ends.0 done.ends.1 done.answer
 
 pub returns-clause-repairs : goal.returns-clause-repairs
 returns-clause-repairs g c =
     let done = c.merge_pairs.ensures in
     let (xs, ys, first, second, merges) = done.merges in
     repaired c.two_readings_give_packs.ensures.damage c.args.lead_in _ _ _ _ c.merge_pairs.result
-    (restored c.two_readings_give_packs.ensures.text c.args.lead_in _ _ _ _ _ _ c.merge_pairs.result xs ys first second merges done.first_end done.second_end done.answer)
+    (restored c.two_readings_give_packs.ensures.text c.args.lead_in _ _ _ _ _ _ c.merge_pairs.result xs ys first second merges done.ends.0 done.ends.1 done.answer)
+
+pub returns-clause-first_end : goal.returns-clause-first_end
+returns-clause-first_end g c = c.merge_pairs.ensures.ends.0
+
+pub returns-clause-second_end : goal.returns-clause-second_end
+returns-clause-second_end g c = c.merge_pairs.ensures.ends.1
+
+pub returns-clause-first_told : goal.returns-clause-first_told
+returns-clause-first_told g c = c.merge_pairs.ensures.ends.2
+
+pub returns-clause-second_told : goal.returns-clause-second_told
+returns-clause-second_told g c = c.merge_pairs.ensures.ends.3
+
+pub returns-clause-first_later : goal.returns-clause-first_later
+returns-clause-first_later g c = (first_counted c.merge_pairs.result _ _ _ c.merge_pairs.ensures.faults).later
+
+pub returns-clause-first_fault : goal.returns-clause-first_fault
+returns-clause-first_fault g c = (first_counted c.merge_pairs.result _ _ _ c.merge_pairs.ensures.faults).fault
+
+pub returns-clause-no_first_fault : goal.returns-clause-no_first_fault
+returns-clause-no_first_fault g c = (first_counted c.merge_pairs.result _ _ _ c.merge_pairs.ensures.faults).no_fault
+
+pub returns-clause-second_later : goal.returns-clause-second_later
+returns-clause-second_later g c = (second_counted c.merge_pairs.result _ _ _ c.merge_pairs.ensures.faults).later
+
+pub returns-clause-second_fault : goal.returns-clause-second_fault
+returns-clause-second_fault g c = (second_counted c.merge_pairs.result _ _ _ c.merge_pairs.ensures.faults).fault
+
+pub returns-clause-no_second_fault : goal.returns-clause-no_second_fault
+returns-clause-no_second_fault g c = (second_counted c.merge_pairs.result _ _ _ c.merge_pairs.ensures.faults).no_fault
+
+pub returns-clause-out_later : goal.returns-clause-out_later
+returns-clause-out_later g c = (out_counted c.merge_pairs.result _ _ _ c.merge_pairs.ensures.faults).later
+
+pub returns-clause-write_fault : goal.returns-clause-write_fault
+returns-clause-write_fault g c = (out_counted c.merge_pairs.result _ _ _ c.merge_pairs.ensures.faults).fault
+
+pub returns-clause-no_write_fault : goal.returns-clause-no_write_fault
+returns-clause-no_write_fault g c = (out_counted c.merge_pairs.result _ _ _ c.merge_pairs.ensures.faults).no_fault
