@@ -1,6 +1,6 @@
 -- What holds of an answer that is a fault, and of the bytes that were taken before a read gave none.
 use Rattle.std.proofs.Common.{◌≡◌, ℕ, ◌+◌, ◌<◌, ◌≤◌, None, Some, List, ◌++◌, length, take, sym, ap, ◌∙◌, subst, arith, le_refl, append-nil, length-append, Result, Ok, Err}
-use Rattle.std.specs.Prelude.{IsErr, OnErr, IfSome}
+use Rattle.std.specs.Prelude.{IsErr, IsErrAnd, IsErrOf, OnErr, OnOk, IfOk, IfSome}
 use Rattle.std.specs.declared.option.Option.{Option}
 use borrow.Rule.Slice.PartMut.{put_mid, post_of}
 use Rattle.std.proofs.lemmas.Slice.{take-put_mid_below}
@@ -13,6 +13,29 @@ use Rattle.cdg_io.specs.Causes.{FillsRoom, HasCause, Rose, TellsEnd}
 pub on_err : {T E X : Type 0} (r : Result T E) → X → OnErr r X
 on_err (Ok value) x = tt
 on_err (Err fault) x = x
+
+-- a fault is no value
+pub if_no_value : {T E : Type 0} (P : T → Type 0) (r : Result T E) → IsErr r → IfOk r P
+if_no_value P (Ok value) err = (cc)
+if_no_value P (Err fault) err = tt
+
+pub on_no_value : {T E : Type 0} (X : Type 0) (r : Result T E) → IsErr r → OnOk r X
+on_no_value X (Ok value) err = (cc)
+on_no_value X (Err fault) err = tt
+
+-- and a value no fault
+pub value_is_no_fault : {T E X : Type 0} (value : T) (fault : E) → ◌≡◌ {A = Result T E} (Ok value) (Err fault) → X
+value_is_no_fault value fault same = absurd (cc)
+
+-- the fault that is known
+pub known_fault : {T E : Type 0} (r : Result T E) (known : E) → IsErrAnd r (λ fault. fault ≡ known) → r ≡ Err known
+known_fault (Ok value) known is = absurd is
+known_fault (Err fault) known is = ap Err is
+
+-- of two faults that differ the answer is not both
+pub other_fault : {T E X : Type 0} (r : Result T E) (known other : E) → (known ≡ other → ⊥) → IsErrAnd r (λ fault. fault ≡ known) → r ≡ Err other → X
+other_fault (Ok value) known other differ is same = absurd is
+other_fault (Err fault) known other differ is same = absurd (differ (cc))
 
 pub failed_cause : {T E : Type 0} (r : Result T E) (before now : ℕ) → IsErr r → before ≤ now → Rose before now → HasCause before now r
 failed_cause (Ok value) before now err later rose = (cc)

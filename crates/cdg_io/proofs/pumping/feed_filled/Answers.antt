@@ -1,4 +1,5 @@
 use Rattle.std.proofs.Common.{◌≡◌, length, take, refl, arith, rules, length-take-le}
+use Rattle.cdg_io.proofs.Stops.{failed_cause, failed_end, failed_room, if_no_value, on_err}
 use Rattle.cdg_io.proofs.PumpSteps.{Consumes-filled}
 use Rattle.cdg_io.proofs.pumping.feed_filled.Goals as goal
 
@@ -31,3 +32,36 @@ returns-clause-feeds g c =
         ended = λ short. absurd (omega (arith, room, short));
       },
     )
+
+pub returns-in_err-filled-clause-within : goal.returns-in_err-filled-clause-within
+returns-in_err-filled-clause-within g c = if_no_value _ c.from_residual.result c.from_residual.ensures.0
+
+pub returns-in_err-filled-clause-feeds : goal.returns-in_err-filled-clause-feeds
+returns-in_err-filled-clause-feeds g c = if_no_value _ c.from_residual.result c.from_residual.ensures.0
+
+pub returns-in_err-filled-clause-stays : goal.returns-in_err-filled-clause-stays
+returns-in_err-filled-clause-stays g c = on_err c.from_residual.result refl
+
+pub returns-in_err-filled-clause-cause : goal.returns-in_err-filled-clause-cause
+returns-in_err-filled-clause-cause g c = failed_cause _ _ _ c.from_residual.ensures.0 c.in_err-filled.ensures.cause.later c.in_err-filled.ensures.cause.failed
+
+pub returns-in_err-filled-clause-told : goal.returns-in_err-filled-clause-told
+returns-in_err-filled-clause-told g c = failed_end _ _ _ _ c.from_residual.ensures.0 c.in_err-filled.ensures.told.failed
+
+pub returns-in_err-filled-clause-room : goal.returns-in_err-filled-clause-room
+returns-in_err-filled-clause-room g c = failed_room _ _ _ _ c.from_residual.ensures.0 c.in_err-filled.ensures.room.failed
+
+pub returns-then-filled-clause-within : goal.returns-then-filled-clause-within
+returns-then-filled-clause-within g c = omega (arith, c.if-filled.true)
+
+pub returns-then-filled-clause-part : goal.returns-then-filled-clause-part
+returns-then-filled-clause-part g c = tt
+
+pub returns-then-filled-clause-stays : goal.returns-then-filled-clause-stays
+returns-then-filled-clause-stays g c = tt
+
+pub returns-clause-part : goal.returns-clause-part
+returns-clause-part g c = tt
+
+pub returns-clause-stays : goal.returns-clause-stays
+returns-clause-stays g c = tt
