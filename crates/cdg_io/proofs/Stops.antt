@@ -1,6 +1,6 @@
 -- What holds of an answer that is a fault, and of the bytes that were taken before a read gave none.
 use Rattle.std.proofs.Common.{◌≡◌, ℕ, ◌+◌, ◌<◌, ◌≤◌, None, Some, List, ◌++◌, length, take, sym, ap, ◌∙◌, subst, arith, le_refl, append-nil, length-append, Result, Ok, Err}
-use Rattle.std.specs.Prelude.{IsErr, IsErrAnd, IsErrOf, OnErr, OnOk, IfOk, IfSome}
+use Rattle.std.specs.Prelude.{IsErr, IsErrAnd, OnErr, OnOk, IfOk, IfSome}
 use Rattle.std.specs.declared.option.Option.{Option}
 use borrow.Rule.Slice.PartMut.{put_mid, post_of}
 use Rattle.std.proofs.lemmas.Slice.{take-put_mid_below}

@@ -3,7 +3,7 @@ ghost use Rattle.std.specs.Prelude.{◌≡◌, ◌<◌, ◌≤◌};
 ghost use Rattle.cdg_io.specs.Causes.{Rose};
 
 /// How often a source told its end, and how often it gave all that it was offered room for.
-#[derive(Clone, Copy, Debug, PartialEq, Eq)]
+#[derive(Clone, Copy)]
 pub(crate) struct Tally {
     pub ends: u64,
     pub fills: u64,
