@@ -1,6 +1,7 @@
 -- Strings in a row, a zero byte after each.
 use Rattle.std.proofs.Common.{◌≡◌, ℕ, zero, suc, ◌+◌, ◌<◌, ◌≤◌, List, [], ◌∷◌, ◌++◌, length, get_or, take, map, sym, ap, ◌∙◌, arith}
-use Rattle.std.proofs.lemmas.List.{length-append, get_or_append_left, get_or-append-add}
+use Rattle.std.proofs.lemmas.Grind.{flat_map-append}
+use Rattle.std.proofs.lemmas.List.{append_assoc, append-nil, length-append, get_or_append_left, get_or-append-add, take_more}
 use Rattle.std.proofs.lemmas.List.FromFn.{get_or-map-range_with_len, length-map-range_with_len}
 use Rattle.bit_lists.specs.Counting.{below}
 use Rattle.cdtext_packs.specs.Writing.{joined, holders}
@@ -20,6 +21,14 @@ of_later first s rest n =
     let size = length-map-range_with_len f 0 (length s + 1) in
     ap (λ (k : ℕ). get_or (map f (below (length s + 1)) ++ rest) (k + n) (0, 0)) (sym size)
     ∙ get_or-append-add (map f (below (length s + 1))) rest n (0, 0)
+
+-- the next string after these
+pub joined_more : (xs : List (List ℕ)) (i : ℕ) (bytes more : List ℕ) → i < length xs → bytes ≡ joined (take i xs) → more ≡ (bytes ++ get_or xs i []) ++ 0 ∷ [] → more ≡ joined (take (i + 1) xs)
+joined_more xs i bytes more inside are grown =
+    let string = get_or xs i [] in
+    grown ∙ append_assoc bytes string (0 ∷ []) ∙ ap (λ (l : List ℕ). l ++ (string ++ 0 ∷ [])) are
+    ∙ sym (ap joined (take_more xs i [] inside) ∙ flat_map-append (λ s. s ++ 0 ∷ []) (take i xs) (string ∷ [])
+    ∙ ap (λ (l : List ℕ). joined (take i xs) ++ l) (append-nil (string ++ 0 ∷ [])))
 
 -- the byte after so many bytes of string i
 pub holders-at : (first : ℕ) (xs : List (List ℕ)) (i offset : ℕ) → i < length xs → offset ≤ length (get_or xs i [])

@@ -16,3 +16,4 @@ pub mod Hex
 pub mod Pieces
 pub mod TextLines
 pub mod LeadInReading
+pub mod Finished

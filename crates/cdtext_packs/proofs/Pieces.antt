@@ -1,11 +1,13 @@
 -- Texts that are put piece by piece.
-use Rattle.std.proofs.Common.{◌≡◌, ℕ, ◌+◌, ◌<◌, ◌≤◌, List, [], ◌∷◌, ◌++◌, length, take, drop, get_or, flat_map, sym, ap, subst, ◌∙◌, append_assoc, arith, Result, Ok, Err, OnErr, OnOk}
+use Rattle.std.proofs.Common.{◌≡◌, ℕ, ◌+◌, ◌<◌, ◌≤◌, List, [], ◌∷◌, ◌++◌, length, take, drop, get_or, flat_map, sym, ap, subst, ◌∙◌, append_assoc, arith, rules, Result, Ok, Err, OnErr, OnOk}
 use Rattle.std.proofs.lemmas.Grind.{flat_map-append}
 use Rattle.std.proofs.Math.Seq.{take-append-add}
 use Rattle.std.proofs.lemmas.List.{take-append-le, length-append, append-nil, take_more, drop_more, take-append-drop, take_all}
 use Rattle.std.specs.declared.option.Option.{Option}
+use Rattle.std.specs.Prelude.{IsErr}
 use Rattle.std.specs.Io.KnownBytes.{Appends}
 use Rattle.std.proofs.KnownBytes.{Appends-trans}
+use Rattle.cdg_io.specs.Causes.{Rose, HasCause}
 use Rattle.cdg_io.specs.Moves.{AppendsPrefix}
 
 pub on_err : {T E : Type 0} (r : Result T E) (P : Type 0) → P → OnErr r P
@@ -60,3 +62,15 @@ on_ok_map (Err e) P Q f p = tt
 pub on_err_map : {T E : Type 0} (r : Result T E) (P Q : Type 0) → (P → Q) → OnErr r P → OnErr r Q
 on_err_map (Ok x) P Q f p = tt
 on_err_map (Err e) P Q f p = f p
+
+pub no_ok : {T E : Type 0} (r : Result T E) (P : Type 0) → IsErr r → OnOk r P
+no_ok (Ok x) P failed = absurd (search rules)
+no_ok (Err e) P failed = tt
+
+-- a call that fails by a write after writes that did not fail
+pub write_failed : {T E : Type 0} (r : Result T E) (before then now : ℕ) → IsErr r → then ≡ before → then ≤ now → Rose then now → HasCause before now r
+write_failed r before then now failed same later rose = record {
+  later = omega arith;
+  failed = on_err r (Rose before now) (subst (λ (n : ℕ). Rose n now) same rose);
+  same = no_ok r (now ≡ before) failed;
+}
