@@ -1,11 +1,11 @@
 -- The pictures of a script in turn.
-use Rattle.std.proofs.Common.{◌≡◌, ℕ, ◌+◌, ◌-◌, ◌*◌, ◌<◌, true, false, List, [], ◌∷◌, ◌++◌, length, get_or, ap, sym, subst, ◌∙◌, inl, inr, arith, length-append}
-use Rattle.std.specs.Prelude.{Some, nat_le, Result, Ok, Err, IfOk, IfErr}
+use Rattle.std.proofs.Common.{◌≡◌, ℕ, zero, suc, ◌+◌, ◌-◌, ◌*◌, ◌<◌, ◌≤◌, true, false, List, [], ◌∷◌, ◌++◌, length, get_or, refl, ap, sym, subst, ◌∙◌, inl, inr, arith, length-append}
+use Rattle.std.specs.Prelude.{Option, Some, None, MatchOption, nat_le, Result, Ok, Err, IfOk, IfErr}
 use Rattle.std.proofs.lemmas.Bool.{cases_lt}
 use Rattle.std.proofs.lemmas.Bool.Decides.{leb_tells}
 use Rattle.std.proofs.lemmas.List.{get_or_append_left, get_or-append-add}
 use Rattle.picture_script.specs.Script.{Drawing, pictures, ready_time, hold_time, picture_pixel}
-use Rattle.picture_script.specs.Board.{Board, IsPicture}
+use Rattle.picture_script.specs.Board.{Board, IsBlank, IsPicture, StandsBefore}
 use Rattle.picture_changes.specs.Schedule.{start_of, IsInTime, IsLate, free_packs}
 use Rattle.picture_changes.specs.PlannedChange.{planned_change}
 use Rattle.picture_changes.specs.Shown.{AreTimesInOrder, AreColoursInRange}
@@ -27,6 +27,23 @@ stands_next script k board at h =
       at_some = λ lt. at ∙ ap Some here;
       drawn = λ lt. subst (λ n. IsPicture script n board) here h;
     }
+
+-- nothing is drawn before the first picture
+pub stands_first : (script : List Drawing) (board : Board) → IsBlank board → board.at ≡ None → Stands script 0 board
+stands_first script board blank at = record {
+  at_none = λ _. at;
+  blank = λ _. blank;
+  at_some = λ lt. absurd (omega (arith, lt));
+  drawn = λ lt. absurd (omega (arith, lt));
+}
+
+-- from where picture k can be drawn
+pub stands_before : (script : List Drawing) (k : ℕ) (board : Board) → Stands script k board → StandsBefore script k board
+stands_before script zero board h = subst (λ (at : Option ℕ). MatchOption at (IsBlank board) (λ j. (j ≤ 0) × IsPicture script j board)) (sym (h.at_none refl)) (h.blank refl)
+stands_before script (suc k) board h = subst (λ (at : Option ℕ). MatchOption at (IsBlank board) (λ j. (j ≤ suc k) × IsPicture script j board)) (sym (h.at_some (omega arith))) (omega arith, h.drawn (omega arith))
+
+pub none_planned : (script : List Drawing) (planned : List Planned) → planned ≡ [] → ArePlanned script 0 planned
+none_planned script planned none = record { count_is = ap length none; each = λ j lt. absurd (omega (arith, lt)) }
 
 pub one_planned : (script : List Drawing) (k : ℕ) (planned more : List Planned) (new : Planned) → ArePlanned script k planned → IsPlanned script k new → more ≡ planned ++ new ∷ [] → ArePlanned script (k + 1) more
 one_planned script k planned more new h is added =

@@ -13,7 +13,7 @@ use Rattle.picture_changes.specs.Schedule.{start_of}
 use Rattle.picture_changes.specs.PlannedChange.{chosen_start, planned_from, planned_change}
 use Rattle.pack_schedule.specs.Survey.{nothing_planned, IsSurvey}
 use Rattle.pack_schedule.specs.Woven.{IsPackAt}
-use Rattle.pack_schedule.specs.Weaving.{IsWeaving}
+use Rattle.pack_schedule.specs.Weaving.{Stands, IsWeaving}
 use Rattle.pack_schedule.specs.declared.loom.Loom.{Loom}
 use Rattle.pack_schedule.specs.declared.planned.Planned.{Planned}
 use Rattle.picture_changes.proofs.Times.{hold_order}
@@ -29,6 +29,42 @@ pub change_planned : (script : List Drawing) (survey : List Planned) (k : ℕ) (
     → change ≡ planned_from script k preset → change ≡ planned_change script k
 unfolding planned_change
 change_planned script survey k preset change h lt is made = made ∙ ap (planned_from script k) (is ∙ (h.each k lt).preset_is)
+
+-- the change of the first picture is at hand, if there is one
+pub first_weaves : (script : List Drawing) (loom : Loom) → IsSurvey script loom.survey → loom.k ≡ 0 → Stands script 0 loom.before
+    → (0 < pictures script → (loom.change ≡ planned_change script 0) × (loom.start ≡ start_of script 0) × Stands script 1 loom.now) → IsWeaving script loom 0
+first_weaves script loom surveyed k before planned =
+    let none : 0 ≡ loom.k = sym k in
+    record {
+      surveyed = surveyed;
+      k_most = omega (arith, k);
+      change_is = λ lt. subst (λ (n : ℕ). loom.change ≡ planned_change script n) none (planned (omega (arith, lt))).0;
+      start_is = λ lt. subst (λ (n : ℕ). loom.start ≡ start_of script n) none (planned (omega (arith, lt))).1;
+      before_stands = subst (λ (n : ℕ). Stands script n loom.before) none before;
+      now_stands = λ lt. subst (λ (n : ℕ). Stands script (n + 1) loom.now) none (planned (omega (arith, lt))).2;
+      sent = λ j lt. absurd (omega (arith, k, lt));
+    }
+
+-- the change of the next picture is at hand, if there is one
+pub next_weaves : (script : List Drawing) (old new : Loom) (given : ℕ) → IsWeaving script old given → old.k < pictures script → start_of script old.k + length (planned_change script old.k) ≤ given
+    → new.survey ≡ old.survey → new.k ≡ old.k + 1 → Stands script (old.k + 1) new.before
+    → (old.k + 1 < pictures script → (new.change ≡ planned_change script (old.k + 1)) × (new.start ≡ start_of script (old.k + 1)) × Stands script (old.k + 1 + 1) new.now) → IsWeaving script new given
+next_weaves script old new given w inside done survey k before planned =
+    let next : old.k + 1 ≡ new.k = sym k in
+    record {
+      surveyed = subst (IsSurvey script) (sym survey) w.surveyed;
+      k_most = omega (arith, k, inside);
+      change_is = λ lt. subst (λ (n : ℕ). new.change ≡ planned_change script n) next (planned (omega (arith, lt))).0;
+      start_is = λ lt. subst (λ (n : ℕ). new.start ≡ start_of script n) next (planned (omega (arith, lt))).1;
+      before_stands = subst (λ (n : ℕ). Stands script n new.before) next before;
+      now_stands = λ lt. subst (λ (n : ℕ). Stands script (n + 1) new.now) next (planned (omega (arith, lt))).2;
+      sent = λ j lt. elim (cases_lt j old.k) [
+        | inl earlier ↦ w.sent j earlier
+        | inr past ↦
+            let here : old.k ≡ j = omega (arith, k, lt, past) in
+            subst (λ (n : ℕ). start_of script n + length (planned_change script n) ≤ given) here done
+      ];
+    }
 
 -- changes do not overlap
 starts_apart : (script : List Drawing) (survey : List Planned) → IsSurvey script survey
