@@ -99,12 +99,9 @@ impl Player {
     fn begin_check(&mut self, lead_in: u32, form: Form)
         ensures { IsFresh form lead_in self.new.checks.blocks }
     {
-        let counting = &mut self.checks.blocks;
-        let words = &mut counting.words.first;
-        words.begin(lead_in, form);
-        let counts = &mut counting.words.second;
-        *counts = WordCounts::default();
-        counting.frames = FrameCounts {
+        self.checks.blocks.words.first.begin(lead_in, form);
+        self.checks.blocks.words.second = WordCounts::default();
+        self.checks.blocks.frames = FrameCounts {
             read: form != Form::Cooked,
             good: 0,
             bad: 0,

@@ -95,10 +95,8 @@ impl Player {
         ensures words { words_of self.new.stages.blocks ≡ fresh_words form lead_in }
         ensures bad { (correction_of self.new.stages.blocks).bad ≡ 0 }
     {
-        let words = &mut self.stages.blocks.first;
-        words.begin(lead_in, form);
-        let correction = &mut self.stages.blocks.second;
-        correction.bad = 0;
+        self.stages.blocks.first.begin(lead_in, form);
+        self.stages.blocks.second.bad = 0;
     }
 }
 

@@ -164,8 +164,7 @@ impl Player {
         ensures bad { (drawing_of self.new.views.blocks).bad ≡ 0 }
         ensures blank { (drawing_of self.new.views.blocks).picture ≡ blank }
     {
-        let words = &mut self.views.blocks.first;
-        words.begin(lead_in, form);
+        self.views.blocks.first.begin(lead_in, form);
         let drawing = &mut self.views.blocks.second;
         drawing.left = (4 * at).saturating_sub(7);
         drawing.bad = 0;

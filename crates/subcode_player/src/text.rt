@@ -71,10 +71,13 @@ impl Player {
             → Rose (K.faults out.old) (K.faults out.new) }
         ensures no_write_fault { result ≢ Err PlayStop.WriteFault → K.faults out.new ≡ K.faults out.old }
     {
-        match self.texts.blocks.reader.finish(alloc) {
-            Ok(map) => self.write_map(&map, blocks, out),
-            Err(fault) => Err(PlayStop::Text(fault)),
-        }
+        let map = match self.texts.blocks.reader.finish(alloc) {
+            Ok(map) => map,
+            Err(fault) => return Err(PlayStop::Text(fault)),
+        };
+        let written = self.write_map(&map, blocks, out);
+        drop(map);
+        written
     }
 
     // Writes the lines of these texts, which are those of the packs that were read.
