@@ -1,9 +1,9 @@
 // The texts of a disc.
-ghost use Rattle.std.specs.Prelude.{◌≡◌, ◌≤◌, ◌+◌, ◌-◌, [], length, replicate, false, None, IfOk, All};
+ghost use Rattle.std.specs.Prelude.{◌≡◌, ◌≤◌, ◌+◌, ◌-◌, length, None, IfOk, All};
 ghost use Rattle.disc_time.specs.Counts.{most_tracks};
 ghost use Rattle.cdtext_packs.specs.Packs.{most_packs};
 ghost use Rattle.cdtext_packs.specs.Texts.{no_texts, strings_of, text_of, texts_with, has_no_text, unless_empty, AreTexts, IsString};
-ghost use Rattle.cdtext_packs.specs.Reading.{first_short, is_short, kind_texts, all_texts};
+ghost use Rattle.cdtext_packs.specs.Reading.{first_short, all_texts};
 
 use crate::kinds::TextKind;
 use crate::pack::TextPack;
@@ -105,16 +105,15 @@ impl TextMap {
         ensures { IfOk result (λ map. map ≡ texts_with first titles performers songwriters codes) }
     {
         let count = titles.len();
-        let (composer, arranger, message) = three_empty(alloc, count)?;
         Ok(TextMap {
             first,
             last: first + (count - 2) as u8,
             title: titles,
             performer: performers,
             songwriter: songwriters,
-            composer,
-            arranger,
-            message,
+            composer: empty_strings(alloc, count)?,
+            arranger: empty_strings(alloc, count)?,
+            message: empty_strings(alloc, count)?,
             code: codes,
         })
     }
@@ -134,33 +133,16 @@ impl TextMap {
         ensures { IfOk result (λ map. map ≡ all_texts kept.now first last) }
     {
         let count = usize::from(last - first) + 2;
-        let code = kind_texts(alloc, kept, count, TextKind::Code)?;
-        let (title, performer, songwriter) = three_kinds(
-            alloc,
-            kept,
-            count,
-            TextKind::Title,
-            TextKind::Performer,
-            TextKind::Songwriter,
-        )?;
-        let (composer, arranger, message) = three_kinds(
-            alloc,
-            kept,
-            count,
-            TextKind::Composer,
-            TextKind::Arranger,
-            TextKind::Message,
-        )?;
         Ok(TextMap {
             first,
             last,
-            title,
-            performer,
-            songwriter,
-            composer,
-            arranger,
-            message,
-            code,
+            title: kind_texts(alloc, kept, count, TextKind::Title)?,
+            performer: kind_texts(alloc, kept, count, TextKind::Performer)?,
+            songwriter: kind_texts(alloc, kept, count, TextKind::Songwriter)?,
+            composer: kind_texts(alloc, kept, count, TextKind::Composer)?,
+            arranger: kind_texts(alloc, kept, count, TextKind::Arranger)?,
+            message: kind_texts(alloc, kept, count, TextKind::Message)?,
+            code: kind_texts(alloc, kept, count, TextKind::Code)?,
         })
     }
 
@@ -220,45 +202,4 @@ impl TextMap {
             && self.message.are_empty()
             && self.code.are_empty()
     }
-}
-
-// So many empty strings for each of three kinds.
-fn three_empty(alloc: Global, count: usize) -> Result<(Strings, Strings, Strings), AllocError>
-    ensures strings { IfOk result (λ three. (three.0 ≡ replicate count [])
-        × (three.1 ≡ replicate count []) × (three.2 ≡ replicate count [])) }
-    ensures count { IfOk result (λ three. (length three.0 ≡ count) × (length three.1 ≡ count)
-        × (length three.2 ≡ count)) }
-    ensures each { IfOk result (λ three. All IsString three.0 × All IsString three.1 × All IsString three.2) }
-{
-    Ok((
-        empty_strings(alloc, count)?,
-        empty_strings(alloc, count)?,
-        empty_strings(alloc, count)?,
-    ))
-}
-
-// The strings of three kinds.
-fn three_kinds(
-    alloc: Global,
-    kept: &[Option<TextPack>],
-    count: usize,
-    a: TextKind,
-    b: TextKind,
-    c: TextKind,
-) -> Result<(Strings, Strings, Strings), AllocError>
-    requires few { length kept.now ≤ most_packs }
-    requires enough { (is_short kept.now count a ≡ false) × (is_short kept.now count b ≡ false)
-        × (is_short kept.now count c ≡ false) }
-    ensures texts { IfOk result (λ texts. (texts.0 ≡ kind_texts kept.now count a)
-        × (texts.1 ≡ kind_texts kept.now count b) × (texts.2 ≡ kind_texts kept.now count c)) }
-    ensures count { IfOk result (λ texts. (length texts.0 ≡ count) × (length texts.1 ≡ count)
-        × (length texts.2 ≡ count)) }
-    ensures each { IfOk result (λ texts. All IsString texts.0 × All IsString texts.1
-        × All IsString texts.2) }
-{
-    Ok((
-        kind_texts(alloc, kept, count, a)?,
-        kind_texts(alloc, kept, count, b)?,
-        kind_texts(alloc, kept, count, c)?,
-    ))
 }
