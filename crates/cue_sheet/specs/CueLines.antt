@@ -107,6 +107,11 @@ unfoldable pub flags_argument : List (List ℕ) → Option ℕ
 flags_argument words =
     if nat_le 1 (length words) && list_all is_flag words then Some (control_of words) else None
 
+-- the two words, if there are just two
+abbrev pub two_words : List (List ℕ) → Option (List ℕ × List ℕ)
+two_words (first ∷ second ∷ []) = Some (first, second)
+two_words _ = None
+
 -- a track's number, 01 to 99, and whether its type is AUDIO
 abbrev pub track_of_words : Option ℕ → List ℕ → Option (ℕ × Bool)
 track_of_words (Some number) type =

@@ -5,7 +5,7 @@ ghost use Rattle.std.specs.Char.{is_ascii_digit, is_ascii_uppercase};
 ghost use Rattle.disc_time.specs.Counts.{most_tracks, time_count};
 ghost use Rattle.text_lines.specs.Text.{most_text_bytes, words_in};
 ghost use Rattle.cue_sheet.specs.CueSheet.{IsText, is_catalogue_number, is_capital_code};
-ghost use Rattle.cue_sheet.specs.CueLines.{IsLineInRange, begins_quoted, catalogue_argument, code_argument, flags_argument, index_argument, is_file, is_flag, is_plain, is_quote, names_flag, plain, quoted, said_by, text_argument, track_argument};
+ghost use Rattle.cue_sheet.specs.CueLines.{IsLineInRange, begins_quoted, catalogue_argument, code_argument, flags_argument, index_argument, is_file, is_flag, is_plain, is_quote, names_flag, plain, quoted, said_by, text_argument, track_argument, two_words};
 ghost use Rattle.cue_sheet.specs.Steps.{line_said};
 
 use crate::command::{Command, is_word};
@@ -205,16 +205,25 @@ fn is_capital_or_digit(byte: u8) -> bool
     byte.is_ascii_digit() || byte.is_ascii_uppercase()
 }
 
+// The two words of an argument, if it has just two.
+fn two_words(argument: &[u8]) -> Option<(&[u8], &[u8])>
+    ensures { option_map (λ words. (words.0.now, words.1.now)) result
+        ≡ two_words (words_in argument.now) }
+{
+    let (first, rest) = next_word(argument)?;
+    let (second, rest) = next_word(rest)?;
+    if next_word(rest).is_some() {
+        return None;
+    }
+    Some((first, second))
+}
+
 // A track's number, and whether its type is AUDIO.
 fn track(argument: &[u8]) -> Option<(u8, bool)>
     ensures track { result ≡ track_argument (words_in argument.now) }
     ensures range { IfSome result (λ t. (1 ≤ t.0) × (t.0 ≤ most_tracks)) }
 {
-    let (number, rest) = next_word(argument)?;
-    let (kind, rest) = next_word(rest)?;
-    if next_word(rest).is_some() {
-        return None;
-    }
+    let (number, kind) = two_words(argument)?;
     let number = two_digits(number)?;
     if number == 0 {
         return None;
@@ -227,11 +236,7 @@ fn index(argument: &[u8]) -> Option<(u8, u32)>
     ensures line { result ≡ index_argument (words_in argument.now) }
     ensures range { IfSome result (λ line. (line.0 ≤ 99) × (line.1 < time_count)) }
 {
-    let (number, rest) = next_word(argument)?;
-    let (at, rest) = next_word(rest)?;
-    if next_word(rest).is_some() {
-        return None;
-    }
+    let (number, at) = two_words(argument)?;
     let number = two_digits(number)?;
     let at = time(at)?;
     Some((number, at))
