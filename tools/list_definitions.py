@@ -1,9 +1,10 @@
 #!/usr/bin/env python3
 """Writes docs/DEFINITIONS.md: what a reader has to believe, the claims first and then the definitions that they cite.
 
-An act begins with clauses of the top call `run` (or with definitions), and shows each definition that these rest on, once,
-in the order in which they are met, and those that only name a number in a table at its end; what an earlier act shows is not shown again. What no act reaches is listed by name at the
-end. With --check it only says whether the document is the one that would be written; --count prints the lines of each act.
+An act begins with clauses of the top call `run`, with definitions or with laws, and shows each definition that these
+rest on, once, in the order in which they are met, and those that only name a number in a table at its end; what an
+earlier act shows is not shown again. What no act reaches is listed by name at the end. With --check it only says whether
+the document is the one that would be written; --count prints the lines of each act.
 """
 import re
 import sys
@@ -12,24 +13,64 @@ from pathlib import Path
 TOP = Path(__file__).resolve().parent.parent
 DOCUMENT = TOP / "docs" / "DEFINITIONS.md"
 CLAIMS = TOP / "crates" / "cdg_cmd" / "src" / "top.rt"
+LAWS = TOP / "crates" / "run_laws" / "src"
 START = re.compile(r"(?:abbrev pub|unfoldable pub|pub record|pub data|abbrev|unfoldable|record|data) (\S+)")
 NAME = re.compile(r"[A-Za-z_][A-Za-z0-9_'?!-]*|◌[^◌\s]+◌")
 
-# Each act with its roots: clauses of `run`, or definitions; what a later act begins with is not shown before it.
+# Each act with its roots: clauses of `run`, definitions, or the laws of run_laws. What a later act begins with is not
+# shown before it: an act takes it on trust, and says in which act it stands.
 ACTS = [
     ("Packs come back", ["run.gives_back"]),
-    ("Pictures", ["IsAuthored", "run.shows"]),
+    ("Pictures are shown", ["IsAuthored", "run.shows", "pixmap", "Drawing", "written_symbols"]),
+    ("What is written for a script, and what cannot be ready", ["ArePacks", "HavePlace", "run.authors", "run.late"]),
     ("Framing: P, Q and the table of contents", ["HasFraming", "layout_of", "program_blocks", "run.frames"]),
     ("Texts of the lead-in", ["text_packs", "lead_in_need", "run.strings"]),
-    ("What is written for a script, and what cannot be ready", ["written_symbols", "ArePacks", "HavePlace", "run.authors", "run.late"]),
-    ("The two grammars", ["IsSheetText", "IsScriptText", "CueSheet", "Drawing"]),
-    ("Words, answers, and what each command takes and writes", ["Spells", "texts", "error_line", "pixmap", "run.*"]),
+    ("The two grammars", ["IsSheetText", "IsScriptText", "CueSheet"]),
+    ("Words, answers, and what each command takes and writes", ["Spells", "texts", "error_line", "run.*"]),
+    ("What follows for special inputs", ["laws"]),
 ]
-# One sitting: the lines of acts I and II together.
-ONE_SITTING = 450
 
+# What an act says first, where its claims name something that it does not show.
+SAID = {
+    "Packs come back": "Here `disc` is a cue sheet and a script with a lead-in and a length, `stream` the bytes of an authored"
+    " stream of it, and `packs` the packs that this stream carries, each a list of 24 symbols.",
+    "Pictures are shown": "An authored stream is what any author may write: it carries a schedule of the script. What is taken"
+    " on trust here are the framing around the packs, the grammars of the two texts and the words of the command line.",
+}
 
-ROMAN = "I II III IV V VI VII VIII".split()
+ROMAN = "I II III IV V VI VII VIII IX".split()
+
+# How a clause is read. The signature of `run` and the variants of the named types come from the code.
+KEY = """
+`run` takes its inputs and outputs as types that a caller chooses: `S` and `T` are sources, `K` and `E` are sinks. A
+clause `ensures name { .. }` holds after every call. In it:
+
+| Sign | Means |
+|---|---|
+| `first.old`, `first.new` | an argument that the call may change, before and after the call |
+| `words.now` | an argument that the call only reads |
+| `result` | what the call answers |
+| `x.0`, `x.1`, `x.name` | a part of a tuple, by its place, and a part of a record, by its name |
+| `S.left first.old` | the bytes that a source still gives, where it tells them: `Some` list or `None` |
+| `K.held out.old` | the bytes that a sink took so far, where it tells them |
+| `S.faults`, `S.ends` | how often a read has failed, and how often the end was told |
+| `(x : A) → P`, `(x y : A) → P` | for every x (and y) of A, P |
+| `(x : A) × P` | there is an x of A with P |
+| `a ≡ b`, `a ≢ b` | a equals b, a does not |
+| `a → b` | if a, then b; between types, a function |
+| `a × b`, `a ⊎ b`, `¬ a`, `a ↔ b` | and, or, not, exactly where |
+| `⊤`, `⊥` | what always holds, and what never does |
+| `λ x. e` | the function that gives e for x |
+| `ℕ`, `a - b` | the numbers from 0 on; a minus that would go below 0 gives 0 |
+| `[]`, `x ∷ xs`, `xs ++ ys` | the empty list, a list with x in front, two lists joined |
+| `record`, `pub name : A` | several statements under one name, which hold together; or a value of several parts |
+| `record { name = e; .. }` | the value whose parts are these |
+| `abbrev`, `unfoldable` | a name for what stands on its right side; the two differ for the prover alone |
+| `data`, `name : A → B ..` | what holds in one of these ways and in no other; or a value of one of these kinds |
+| `{A : Type 0}` | an argument that is found by itself |
+
+`slice_index xs n` is element n of a list counted from 0, and 0 where there is none: `pixel_at` and `word_of` rely on it.
+""".strip()
 
 # What the words of the standard library mean.
 WORDS = {
@@ -40,7 +81,7 @@ WORDS = {
     "Consumes": "exactly these bytes were taken off the front of an input, where it tells them",
     "Contains": "the list has this element",
     "Err": "an answer that is no success, with its reason",
-    "ForSome": "it holds of some element of a list",
+    "ForSome": "there is a value, and this holds of it",
     "IfErr": "where the answer is `Err`, this holds of its reason",
     "IfOk": "where the answer is `Ok`, this holds of its value",
     "IfSome": "where there is a value, this holds of it",
@@ -106,7 +147,7 @@ WORDS = {
     "range_with_len": "so many numbers, counted up from the first",
     "replicate": "a list of n equal elements",
     "reverse": "a list from its end",
-    "slice_index": "element n of a list, counted from 0",
+    "slice_index": "element n of a list, counted from 0; 0 where there is none",
     "slice_index_or": "the same, or another value where there is none",
     "slice_set": "a list with another value at place n",
     "slice_split": "a list cut at each element of this kind, without these",
@@ -208,6 +249,43 @@ def clauses():
     return found, names
 
 
+def laws():
+    """The laws of run_laws in the order of its files: the sentence above each, its name and clauses, and its names."""
+    for path in sorted(LAWS.glob("*.rt")):
+        lines = path.read_text().splitlines()
+        names = {}
+        for line in lines:
+            names.update(imported(line))
+        for first, line in enumerate(lines):
+            if not re.match(r"pub fn \w+", line):
+                continue
+            above = first
+            while above > 0 and lines[above - 1].startswith("///"):
+                above -= 1
+            said = " ".join(it[3:].strip() for it in lines[above:first])
+            last = next(k for k in range(first, len(lines)) if lines[k] in ("{", "{}"))
+            yield [said.removeprefix("A law: ")], [it for it in lines[first:last]], names
+
+
+def signature():
+    """The head of `run`, without its clauses."""
+    lines = CLAIMS.read_text().splitlines()
+    first = next(k for k, line in enumerate(lines) if line.startswith("pub fn run<"))
+    last = next(k for k in range(first, len(lines)) if lines[k].startswith(") ->"))
+    return lines[first : last + 1]
+
+
+def variants(crate, name):
+    """A public enum of the code as it stands, without its comments."""
+    for path in sorted((TOP / "crates" / crate / "src").rglob("*.rt")):
+        lines = path.read_text().splitlines()
+        if f"pub enum {name} {{" in lines:
+            first = lines.index(f"pub enum {name} {{")
+            last = next(k for k in range(first, len(lines)) if lines[k] == "}")
+            return [it for it in lines[first : last + 1] if it.strip() and not it.strip().startswith(("//", "#["))]
+    sys.exit(f"tools/list_definitions.py: {crate} has no public enum {name}")
+
+
 def balanced(text):
     return text.count("{") == text.count("}")
 
@@ -258,6 +336,11 @@ class Book:
         """The claims of an act, and the definitions that they rest on, in the order in which they are met."""
         claims, waiting = [], []
         for root in roots:
+            if root == "laws":
+                for said, lines, imports in laws():
+                    claims.append((said, lines))
+                    waiting += self.cites(lines, imports)
+                continue
             names = [root[4:]] if root.startswith("run.") else []
             if root == "run.*":
                 names = [name for name in self.clauses if name not in self.told]
@@ -276,7 +359,7 @@ class Book:
             if target in self.shown:
                 continue
             if target in later:
-                put_off += [target[1]] * (target[1] not in put_off)
+                put_off += [target] * (target not in put_off)
                 continue
             self.shown.add(target)
             module = self.modules[target[0]]
@@ -288,38 +371,46 @@ class Book:
         return f"../crates/{module.crate}/specs/{module.path.relative_to(TOP / 'crates' / module.crate / 'specs')}"
 
     def acts(self):
-        """The lines of the acts, and how many lines of claims and definitions each has."""
+        """The lines of the acts, and how many definitions and printed lines each has."""
         out, counts = [], []
-        for number, (title, roots) in enumerate(ACTS):
-            later = {self.target(it) for _, rest in ACTS[number + 1 :] for it in rest if not it.startswith("run.")}
-            claims, order, put_off = self.act(roots, later)
-            count = sum(len(lines) for _, lines in claims)
-            out += [f"## {ROMAN[number]}. {title}", ""]
-            if put_off:
-                out += ["Shown in a later act: " + ", ".join(f"`{name}`" for name in put_off) + ".", ""]
-            for comment, lines in claims:
-                out += [" ".join(comment)] * bool(comment) + [""] * bool(comment) + ["```"] + lines + ["```", ""]
-            before, numbers = None, []
-            for where, name in order:
-                module = self.modules[where]
-                row = number_row(name, module.blocks[name])
-                if row:
-                    numbers.append(row)
-                    count += 1
-                    continue
-                if where != before:
-                    out += ["```", ""] * (before is not None)
-                    out += [f"[{module.crate}, {module.name}]({self.link(module)})", "", "```"]
-                else:
-                    out += [""]
-                out += module.blocks[name]
-                count += len(module.blocks[name])
-                before = where
-            out += ["```", ""] * (before is not None)
-            if numbers:
-                out += ["| Number | Is | Means |", "|---|---|---|", *numbers, ""]
-            counts.append((title, len(order), count))
+        for number, (title, _) in enumerate(ACTS):
+            lines, definitions = self.printed(number)
+            out += [f"## {ROMAN[number]}. {title}", "", *lines]
+            counts.append((title, definitions, len(lines)))
         return out, counts
+
+    def printed(self, number):
+        """What an act prints, and how many definitions it shows."""
+        later = {}
+        for place in range(number + 1, len(ACTS)):
+            for root in ACTS[place][1]:
+                if not root.startswith("run.") and root != "laws":
+                    later.setdefault(self.target(root), ROMAN[place])
+        claims, order, put_off = self.act(ACTS[number][1], later)
+        out = [SAID[ACTS[number][0]], ""] if ACTS[number][0] in SAID else []
+        if put_off:
+            where = ", ".join(f"`{target[1]}` ({later[target]})" for target in put_off)
+            out += [f"Taken on trust here, and shown in the act that is named: {where}.", ""]
+        for comment, lines in claims:
+            out += [" ".join(comment)] * bool(comment) + [""] * bool(comment) + ["```"] + lines + ["```", ""]
+        before, numbers = None, []
+        for where, name in order:
+            module = self.modules[where]
+            row = number_row(name, module.blocks[name])
+            if row:
+                numbers.append(row)
+                continue
+            if where != before:
+                out += ["```", ""] * (before is not None)
+                out += [f"[{module.crate}, {module.name}]({self.link(module)})", "", "```"]
+            else:
+                out += [""]
+            out += module.blocks[name]
+            before = where
+        out += ["```", ""] * (before is not None)
+        if numbers:
+            out += ["| Number | Is | Means |", "|---|---|---|", *numbers, ""]
+        return out, len(order)
 
     def rest(self):
         """What no act shows, by name."""
@@ -332,30 +423,31 @@ class Book:
 
     def text(self):
         acts, counts = self.acts()
-        first, second = counts[0], counts[1]
+        first, second, third = (counts[k][2] for k in range(3))
         out = [
             "# Definitions",
             "",
             "What a reader has to believe: the clauses of the top call `run`, and each definition that they rest on, as it stands",
             "in the code. A proof shows that a program meets its clauses; that these say what is meant, only reading can show.",
             "",
-            f"Acts I and II are what one reads aloud in one sitting: {first[2] + second[2]} lines. Each act shows the claims first and then",
-            "what they cite, each definition once, and at the end the numbers that have names. A line that begins with `--` says in",
-            "plain words what the next definition is.",
-            "`tools/list_definitions.py` writes this document from the code, and the repository's own check compares it.",
+            f"The headline's second half, that packs and pictures come back, is acts I and II, {first + second} lines as they are printed. Its",
+            f"first half, what is written and what is late, is act III with {third} more. Each act shows the claims first and then what",
+            "they cite, each definition once, and at the end the numbers that have names. A line that begins with `--` says in plain",
+            "words what the next definition is. `tools/list_definitions.py` writes this document from the code, and the repository's",
+            "own check compares it.",
             "",
-            "| Act | Definitions | Lines |",
+            "| Act | Definitions | Lines as printed |",
             "|---|---|---|",
         ]
         out += [f"| {ROMAN[k]}. {title} | {number} | {count} |" for k, (title, number, count) in enumerate(counts)]
-        out += ["", "How to read them: `a ≡ b` is *equals*, `a → b` *if a, then b* (or a function), `a × b` *and*, `a ⊎ b` *or*, `¬ a` *not*,"]
-        out += ["`⊤` and `⊥` what always and what never holds; `ℕ` are the numbers from 0 on, `x ∷ xs` is a list with x in front, `++`"]
-        out += ["joins lists, `λ x. e` is the function that gives e for x. A minus that would go below 0 gives 0."]
-        out += ["", "| Word of the standard library | Means |", "|---|---|"]
+        out += ["", "## How to read them", "", "```", *signature(), "```", "", KEY, ""]
+        for crate, name in (("raw_subcode", "Form"), ("cdg_cmd", "Status"), ("cdg_instructions", "Instr")):
+            out += [f"The variants of `{name}`:", "", "```", *variants(crate, name), "```", ""]
+        out += ["| Word of the standard library | Means |", "|---|---|"]
         out += [f"| `{word}` | {WORDS[word]} |" for word in sorted(self.words) if word in WORDS]
         out += ["", "Types of the code that they name: " + ", ".join(sorted({f"`{it.split('.')[-1]}` ({it.split('.')[0]})" for it in self.types})) + "."]
         out += [""] + acts
-        out += ["## What no act reaches", "", "Definitions of laws, of steps within proofs and of calls below `run`.", ""]
+        out += ["## What no act reaches", "", "Definitions of steps within proofs and of calls below `run`.", ""]
         return "\n".join(out + self.rest()) + "\n", counts
 
 
@@ -373,9 +465,6 @@ def main():
     if "--check" in sys.argv:
         if DOCUMENT.read_text() != text:
             print("tools/list_definitions.py: docs/DEFINITIONS.md is not what it writes", file=sys.stderr)
-            failed = True
-        if counts[0][2] + counts[1][2] > ONE_SITTING:
-            print(f"tools/list_definitions.py: acts I and II have more than {ONE_SITTING} lines", file=sys.stderr)
             failed = True
     else:
         DOCUMENT.write_text(text)
