@@ -1,15 +1,16 @@
 #!/usr/bin/env python3
-"""Prints, for each command on inputs of 40 MB: its time, its MB a second, how many times the time of `cat` through the same
-pipes that is, the time of a plain program and our speed as a multiple of its, and the most memory that was held. Each time
-is the best of five. The plain program is bench/reference.rs, unverified Rust that does the work of some commands; it is
-built where rustc is there, and what it writes is compared with what we write.
+"""Prints the table of bench/README.md: for each command on inputs of 40 MB the processor time that it takes, in
+milliseconds, beside that of `cat` and of a plain program, how many times ours goes into the plain program's, and the most
+memory that was held. Each time is user and system time of the process alone, the least of RUNS runs (nine, or what the
+environment says), through the same pipes. The plain program is bench/reference.rs, unverified Rust that does the work of
+some commands; it is built where rustc is there, and what it writes is compared with what we write.
 
 What a time is bound by: `convert`, `check`, `screen`, `state`, `save` and `resume` by the words, four a block, each a
 gathering of 24 symbols and a look at its sums (on an authored stream nearly all blocks are idle); with a wrong symbol in each
 block by the correction; `merge` by two such streams; `q` by the check and the text of a line a block; `planar` and `raw` by
 the bits; `scratch` by the copy; `author`, `press` and `trial` by the writer of blocks, `author` also by the plans of the
-pictures; `thin` by the drawing. Everything goes through two pipes, as `cat` does. Long scripts come last: 20,000 `show` lines
-without a change, bound by the comparison of each picture with the one before, and 64 MiB of `fill` lines, by the grammar.
+pictures; `thin` by the drawing. Long scripts come last: 20,000 `show` lines without a change, bound by the comparison of each
+picture with the one before, and 64 MiB of `fill` lines, by the grammar.
 """
 import hashlib
 import os
@@ -19,31 +20,45 @@ import sys
 import tempfile
 import time
 from pathlib import Path
+from typing import NamedTuple
 
 TOP = Path(__file__).resolve().parent.parent
 PROGRAM = TOP / "bin" / "ribjasper"
 BLOCKS = 416_640
-RUNS = 5
+RUNS = int(os.environ.get("RUNS", "9"))
 # The commands that the plain program knows.
 PLAIN = (
     "convert", "check", "screen", "state", "q", "text", "planar", "raw", "scratch", "author", "press", "thin", "trial",
 )
 
 
+class Run(NamedTuple):
+    """What a run took of the processor, in seconds, how many bytes came out, and its status."""
+
+    seconds: float
+    count: int
+    status: int
+
+
 def through_pipes(words, files):
-    """Runs a command from a pipe to a pipe; with two files it reads them by name. The seconds, and the bytes that came out."""
-    start = time.perf_counter()
+    """Runs a command from a pipe to a pipe; with two files it reads them by name."""
+    feed = None
     if len(files) < 2:
         feed = subprocess.Popen(["cat", files[0] if files else "/dev/null"], stdout=subprocess.PIPE)
-        work = subprocess.Popen(words, stdin=feed.stdout, stdout=subprocess.PIPE, stderr=subprocess.DEVNULL)
-        feed.stdout.close()
+        words, given = words, feed.stdout
     else:
-        work = subprocess.Popen([*words, "--", *files], stdout=subprocess.PIPE, stderr=subprocess.DEVNULL)
+        words, given = [*words, "--", *files], subprocess.DEVNULL
+    work = subprocess.Popen(words, stdin=given, stdout=subprocess.PIPE, stderr=subprocess.DEVNULL)
     sink = subprocess.Popen(["wc", "-c"], stdin=work.stdout, stdout=subprocess.PIPE)
     work.stdout.close()
+    if feed:
+        feed.stdout.close()
+    _, status, used = os.wait4(work.pid, 0)
+    work.returncode = os.waitstatus_to_exitcode(status)
     count = int(sink.communicate()[0])
-    status = work.wait()
-    return time.perf_counter() - start, count, status
+    if feed:
+        feed.wait()
+    return Run(used.ru_utime + used.ru_stime, count, work.returncode)
 
 
 def peak(words, files):
@@ -65,7 +80,7 @@ def peak(words, files):
 
 
 def best(words, files):
-    return min(through_pipes(words, files)[0] for _ in range(RUNS))
+    return min(through_pipes(words, files).seconds for _ in range(RUNS))
 
 
 def reference(work):
@@ -134,6 +149,9 @@ def inputs(work):
     half = work / "half.raw"
     half.write_bytes(Path(files["authored"]).read_bytes()[: 96 * 1000])
     files["begun"] = made("save --lead-in 0", [str(half)], work / "begun")
+    halved = work / "halved.raw"
+    halved.write_bytes(Path(files["authored"]).read_bytes()[: 96 * 200_000])
+    files["halved"] = str(halved)
     rest = work / "rest.raw"
     rest.write_bytes(Path(files["authored"]).read_bytes()[96 * 1000 :])
     files["rest"] = str(rest)
@@ -151,35 +169,62 @@ def told_time(block):
     return f"{block // 4500:02}:{block // 75 % 60:02}:{block % 75:02}"
 
 
-# What is run, the names of its inputs, and how many bytes have to come out (where that is known beforehand).
+CLEAN = 24 * (4 * BLOCKS - 7)
+AUTHORED = 96 * 400_170
+# What is run, the names of its inputs, what they are, and how many bytes have to come out (where that is known).
 ROWS = [
-    ("convert --lead-in 0", ["clean"], 24 * (4 * BLOCKS - 7)),
-    ("convert --lead-in 0", ["damaged"], 24 * (4 * BLOCKS - 7)),
-    ("convert --lead-in 0", ["authored"], None),
-    ("convert --lead-in 0", ["scratched"], None),
-    ("check --lead-in 0", ["authored"], None),
-    ("check --lead-in 0", ["scratched"], None),
-    ("screen --lead-in 0 --at 88:53:25", ["authored"], 194_415),
-    ("state --lead-in 0 --at 88:53:25", ["authored"], None),
-    ("q --lead-in 0", ["authored"], None),
-    ("text --lead-in 400000", ["authored"], None),
-    ("planar", ["authored"], None),
-    ("raw", ["planar"], None),
-    ("scratch --lead-in 0 --seed 1", ["authored"], None),
-    ("author --lead-in 0 --length 88:53:45", ["sheet", "script"], None),
-    ("press --lead-in 0 --length 88:53:45", ["sheet", "song"], None),
-    ("merge --lead-in 0", ["authored", "authored"], None),
-    ("merge --lead-in 0", ["scratched", "again"], None),
-    ("thin", ["cdg"], None),
-    ("save --lead-in 0", ["authored"], 65_045),
-    ("resume --at 88:53:25", ["begun", "rest"], 194_415),
-    ("trial --seed 1 --pictures 500", [], None),
+    ("convert --lead-in 0", ["clean"], "clean", CLEAN),
+    ("convert --lead-in 0", ["damaged"], "a wrong symbol in each block", CLEAN),
+    ("convert --lead-in 0", ["authored"], "authored, mostly idle", None),
+    ("convert --lead-in 0", ["scratched"], "a scratched disc", None),
+    ("check --lead-in 0", ["authored"], "authored", None),
+    ("check --lead-in 0", ["scratched"], "a scratched disc", None),
+    ("screen --lead-in 0 --at 88:53:25", ["authored"], "authored", 194_415),
+    ("state --lead-in 0 --at 88:53:25", ["authored"], "authored", None),
+    ("q --lead-in 0", ["authored"], "authored", None),
+    ("text --lead-in 400000", ["authored"], "authored", None),
+    ("planar", ["authored"], "authored", AUTHORED),
+    ("raw", ["planar"], "planar", AUTHORED),
+    ("scratch --lead-in 0 --seed 1", ["authored"], "authored", AUTHORED),
+    ("author --lead-in 0 --length 88:53:45", ["sheet", "script"], "a script of 500 pictures", AUTHORED),
+    ("author --lead-in 0 --length 88:53:45", ["sheet", "shows"], "20,000 `show` lines without a change", AUTHORED),
+    ("author --lead-in 0 --length 88:53:45", ["sheet", "fills"], "64 MiB of `fill` lines", AUTHORED),
+    ("press --lead-in 0 --length 88:53:45", ["sheet", "song"], "a `.cdg` file of its length", AUTHORED),
+    ("merge --lead-in 0", ["authored", "authored"], "two clean readings", None),
+    ("merge --lead-in 0", ["scratched", "again"], "two scratched readings", None),
+    ("thin", ["cdg"], "a `.cdg` file", None),
+    ("save --lead-in 0", ["halved"], "half of an authored stream", 65_045),
+    ("save --lead-in 0", ["authored"], "authored", 65_045),
+    ("resume --at 88:53:25", ["begun", "rest"], "authored", 194_415),
+    ("trial --seed 1 --pictures 500", [], "500 pictures", None),
 ]
-# Long scripts: what they have, the names of the inputs, and within how many seconds their streams are to be written.
-LONG_SCRIPTS = [
-    ("20,000 show lines without a change", ["sheet", "shows"], 1),
-    ("64 MiB of fill lines", ["sheet", "fills"], 10),
-]
+
+
+def milliseconds(seconds):
+    return "-" if seconds is None else f"{1e3 * seconds:.0f}"
+
+
+def plain_time(program, words, given):
+    """The time of the plain program, where it does the work; it has to write the same."""
+    other = plain_words(program, words)
+    if other is None:
+        return None
+    if written(other, given) != written(ribjasper(words), given):
+        raise ValueError("the plain program writes something else")
+    return best(other, given)
+
+
+def row(program, what, words, given, size):
+    """A line of the table, once the command is seen to write what it should."""
+    ran = through_pipes(ribjasper(words), given)
+    if ran.status > 1 or ran.count == 0 or (size is not None and ran.count != size):
+        raise ValueError(f"wrote {ran.count} bytes with status {ran.status}")
+    took, plain = best(ribjasper(words), given), plain_time(program, words, given)
+    copied = sum(best(["cat"], [it]) for it in given) if given else None
+    ratio = "-" if plain is None else f"{plain / took:.2f}"
+    held = f"{peak(ribjasper(words), given) / 1024:.1f}"
+    cells = [f"`{words.split()[0]}`", what, milliseconds(copied), milliseconds(took), milliseconds(plain), ratio, held]
+    return f"| {' | '.join(cells)} |"
 
 
 def main():
@@ -189,39 +234,14 @@ def main():
     with tempfile.TemporaryDirectory() as folder:
         files = inputs(Path(folder))
         program = reference(Path(folder))
-        print(f"load {os.getloadavg()[0]:.1f}, {os.cpu_count()} processors")
-        print(f"{'command':40} {'input':22} {'MB':>6} {'cat ms':>7} {'ms':>7} {'MB/s':>6} {'times':>6} {'plain':>6} {'ratio':>6} {'KB':>7}")
-        for words, names, size in ROWS:
-            given = [files[name] for name in names]
-            length = sum(os.path.getsize(it) for it in given)
-            _, count, status = through_pipes(ribjasper(words), given)
-            if status > 1 or count == 0 or (size is not None and count != size):
-                print(f"{words}: wrote {count} bytes with status {status}", file=sys.stderr)
-                failed = True
-                continue
-            copied = sum(best(["cat"], [it]) for it in given) if given else 0
-            took = best(ribjasper(words), given)
-            times = f"{took / copied:6.1f}" if copied > 0.002 else "     -"
-            plain, ratio = "-", "-"
-            other = plain_words(program, words)
-            if other:
-                if written(other, given) != written(ribjasper(words), given):
-                    print(f"{words}: the plain program writes something else", file=sys.stderr)
-                    failed = True
-                seconds = best(other, given)
-                plain, ratio = f"{1e3 * seconds:.0f}", f"{seconds / took:.2f}"
-            print(
-                f"{words:40} {'+'.join(names):22} {length / 1e6:6.1f} {1e3 * copied:7.0f} {1e3 * took:7.0f}"
-                f" {length / 1e6 / took:6.0f} {times} {plain:>6} {ratio:>6} {peak(ribjasper(words), given):7}"
-            )
-        for what, names, limit in LONG_SCRIPTS:
-            words, given = "author --lead-in 0 --length 88:53:45", [files[name] for name in names]
-            seconds, count, status = through_pipes(ribjasper(words), given)
-            other = plain_words(program, words)
-            plain = f", the plain program in {through_pipes(other, given)[0]:.2f} s" if other else ""
-            print(f"author, {what}: {seconds:.2f} s (to be within {limit} s){plain}")
-            if status or count != 96 * 400_170 or (other and written(other, given) != written(ribjasper(words), given)):
-                print(f"author, {what}: wrote {count} bytes with status {status}, or the plain program others", file=sys.stderr)
+        print(f"Processor milliseconds, the least of {RUNS} runs; load {os.getloadavg()[0]:.1f}, {os.cpu_count()} processors.\n")
+        print("| Command | Input | `cat` | Ours | The plain program | Its time to ours | MB held |")
+        print("|---|---|---|---|---|---|---|", flush=True)
+        for words, names, what, size in ROWS:
+            try:
+                print(row(program, what, words, [files[name] for name in names], size), flush=True)
+            except ValueError as why:
+                print(f"{words}: {why}", file=sys.stderr)
                 failed = True
     return 1 if failed else 0
 

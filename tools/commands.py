@@ -1,5 +1,5 @@
 #!/usr/bin/env python3
-"""Writes the manual page and the completions of two shells from the tables of docs/FORMATS.md.
+"""Writes the manual page and the completions of two shells from the tables and examples of docs/FORMATS.md.
 
 The files are share/ribjasper.1, share/ribjasper.bash and share/_ribjasper. With --check it only says whether
 they are what would be written, and whether README.md lists the same commands.
@@ -43,10 +43,30 @@ def words_of(row):
     return name, [(option, bool(free)) for free, option in options]
 
 
-def manual(commands, letters, statuses, reasons):
+def examples(text):
+    """What each block of commands of the document shows: pairs of what it is and its lines."""
+    found = []
+    for block in re.findall(r"^```sh\n(.*?)^```$", text, re.M | re.S):
+        for line in block.splitlines():
+            if line.startswith("# "):
+                found.append((line[2:], []))
+            else:
+                found[-1][1].append(line)
+    return found
+
+
+def why_table(text, kind):
+    """The rows of the reasons of a refused line, of the sheet or of the script."""
+    head = "| Why | For example | What to do |"
+    parts = text.split(head + "\n")
+    return table(head + "\n" + parts[1 if kind == "cue" else 2], head)
+
+
+def manual(formats, commands, letters, statuses, reasons):
+    version = (TOP / "VERSION").read_text().strip()
     out = [
         ".\\\" Written by tools/commands.py from docs/FORMATS.md.",
-        '.TH RIBJASPER 1 "" "Ribjasper" "User commands"',
+        f'.TH RIBJASPER 1 "" "Ribjasper {version}" "User commands"',
         ".SH NAME",
         "ribjasper \\- the subcode of Compact Discs: graphics, texts, Q frames, both ways",
         ".SH SYNOPSIS",
@@ -55,10 +75,12 @@ def manual(commands, letters, statuses, reasons):
         ".RB [ \\-\\-",
         ".IR first \" [\" second ]]",
         ".SH DESCRIPTION",
-        "Works on the subcode channels P to W of a Compact Disc. What is read is standard input, or the files that are",
-        "named after a word",
+        "Works on the subcode channels P to W of a Compact Disc. A command has one spelling, its options in the order shown",
+        "here. What is read is standard input, or the files that are named after a word",
         ".BR \\-\\- ;",
-        "what is written is standard output. Streams are read and written as they come.",
+        "what is written is standard output. The one word",
+        ".B usage",
+        "on standard error means: the words are no command, see this page. Streams are read and written as they come.",
         ".SH COMMANDS",
     ]
     for words, inputs, output in commands:
@@ -74,14 +96,17 @@ def manual(commands, letters, statuses, reasons):
     out += [".SH REFUSALS", "What stands after", ".BR refused :"]
     for reason, comes in reasons:
         out += [".TP", f".B {roff(reason)}", roff(comes) + "."]
-    out += [
-        ".SH EXAMPLES",
-        "The packs of a dump with 30 blocks of lead\\-in, damage corrected:",
-        ".PP",
-        ".RS",
-        "ribjasper convert \\-\\-lead\\-in 30 \\-\\- disc.raw >disc.cdg",
-        ".RE",
-    ]
+    for kind, what in (("cue", "the cue sheet"), ("script", "the picture script")):
+        out += [f".SH REFUSED LINES OF {what.upper().removeprefix('THE ')}", f"What stands after", f".BR \"refused {kind} \" LINE :"]
+        for why, _, remedy in why_table(formats, kind):
+            out += [".TP", f".B {roff(why)}", roff(remedy) + "."]
+    out += [".SH NOTES", "What ends quietly, or with a line that is easily misread."]
+    for seen, meaning, remedy in table(formats, "| You see | It is | What to do |"):
+        out += [".TP", f".B {roff(seen)}", f"{roff(meaning)}. Remedy: {roff(remedy)}."]
+    out += [".SH EXAMPLES"]
+    for said, lines in examples(formats):
+        out += [roff(said), ".PP", ".nf", ".RS", *[roff(line) for line in lines], ".RE", ".fi", ".PP"]
+    out += [".SH SEE ALSO", "Formats, byte by byte, and the guide: docs/FORMATS.md and docs/GUIDE.md of the project."]
     return "\n".join(out) + "\n"
 
 
@@ -162,7 +187,7 @@ def main():
     statuses = table(formats, "| Status | Exit | Line |")
     reasons = table(formats, "| Reason after `refused` | Comes where |")
     written = {
-        "ribjasper.1": manual(commands, letters, statuses, reasons),
+        "ribjasper.1": manual(formats, commands, letters, statuses, reasons),
         "ribjasper.bash": bash(commands),
         "_ribjasper": zsh(commands),
     }

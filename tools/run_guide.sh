@@ -1,25 +1,40 @@
 #!/bin/sh
-# Runs the commands of docs/GUIDE.md, as they stand, in an empty folder. The program is bin/ribjasper, or what
-# the gate left; where there is none, nothing is run.
+# Runs the commands of README.md, docs/FORMATS.md and docs/GUIDE.md, as they stand, each document in an empty folder of
+# its own. The program is bin/ribjasper, or what the gate left; where there is none, nothing is run. A block that is
+# marked `sh desk` needs the desk, and one marked `sh library` a C compiler too: both are run where lib/ is built.
 cd "$(dirname "$0")/.." || exit 1
+top=$PWD
 for program in bin/ribjasper crates/ribjasper/out/ribjasper; do
     [ -x "$program" ] && break
 done
 [ -x "$program" ] || {
-    echo "guide: not run, since no program is built"
+    echo "guide: skipped, since no program is built"
     exit 0
 }
 work=$(mktemp -d)
 trap 'rm -rf "$work"' EXIT
-mkdir "$work/bin" "$work/run"
+mkdir "$work/bin"
 cp "$program" "$work/bin/ribjasper"
-cp examples/hello.cue examples/hello.script "$work/run"
-awk '/^```sh$/ { inside = 1; next } /^```$/ { inside = 0; next } inside' docs/GUIDE.md >"$work/commands"
-cd "$work/run" || exit 1
-if PATH="$work/bin:$PATH" sh -e "$work/commands" >"$work/told" 2>&1; then
-    echo "guide: the commands of docs/GUIDE.md do what it says"
+kinds='^```sh$'
+skipped=
+if [ -e lib/libribjasper.so ] && [ -x desk/ribjasper-desk ]; then
+    ln -s "$top/desk/ribjasper-desk" "$work/bin/ribjasper-desk"
+    kinds="$kinds|^\`\`\`sh desk\$"
+    command -v cc >/dev/null && kinds="$kinds|^\`\`\`sh library\$"
 else
-    tail -n 5 "$work/told" >&2
-    echo "guide: a command of docs/GUIDE.md fails" >&2
-    exit 1
+    skipped=" (the blocks for the desk and the library are skipped: make library)"
 fi
+failed=0
+for document in README.md docs/FORMATS.md docs/GUIDE.md; do
+    room=$work/$(basename "$document" .md)
+    mkdir "$room"
+    cp examples/hello.cue examples/hello.script "$room"
+    awk -v kinds="$kinds" '$0 ~ kinds { inside = 1; next } /^```$/ { inside = 0; next } inside' "$document" >"$work/commands"
+    if ! (cd "$room" && RIBJASPER="$top" PATH="$work/bin:$PATH" sh -e "$work/commands") >"$work/told" 2>&1; then
+        tail -n 5 "$work/told" >&2
+        echo "guide: a command of $document fails" >&2
+        failed=1
+    fi
+done
+[ "$failed" = 0 ] && echo "guide: the commands of README, FORMATS and the guide do what they say$skipped"
+exit "$failed"

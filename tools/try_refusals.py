@@ -20,7 +20,7 @@ BEGINNINGS = {
 
 def tables():
     """The rows of each table of reasons, but for what comes at the end of a sheet."""
-    for part in FORMATS.read_text().split("| Why | For example |\n")[1:]:
+    for part in FORMATS.read_text().split("| Why | For example | What to do |\n")[1:]:
         rows = itertools.takewhile(lambda line: line.startswith("|"), part.splitlines())
         cells = [[cell.strip() for cell in row.strip("|").split("|")] for row in rows]
         yield [row for row in cells if re.fullmatch("`[a-z-]+`", row[0])]
@@ -50,7 +50,7 @@ def is_refused(program, kind, why, example):
 def main():
     program, count, wrong = sys.argv[1], 0, 0
     for kind, table in zip(("cue", "script"), tables()):
-        for why, examples in table:
+        for why, examples, _ in table:
             for example in re.findall("`([^`]+)`", examples):
                 count += 1
                 if not is_refused(program, kind, why.strip("`"), example):
