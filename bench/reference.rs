@@ -1,9 +1,10 @@
 //! A plain program in Rust that does the work of some commands, to measure ours against: reference COMMAND <in >out.
 //!
 //! It is written to be short and fast, as one would without proofs: `convert`, `check`, `screen TIME`, `state TIME`, `q`,
-//! `planar`, `raw`, `scratch SEED`, each of a stream of raw blocks without lead-in, `text LEAD-IN`, `thin`,
-//! `author LENGTH -- SHEET SCRIPT`, `press LENGTH -- SHEET FILE` and `trial SEED PICTURES`. Of Q frames it knows those of a
-//! program, of sheets tracks and index lines, and it refuses with few words.
+//! `planar`, `raw`, `scratch SEED`, `save`, each of a stream of raw blocks without lead-in, `text LEAD-IN`, `thin`,
+//! `author LENGTH -- SHEET SCRIPT`, `press LENGTH -- SHEET FILE`, `merge -- FIRST SECOND`, `resume TIME -- SAVE REST` and
+//! `trial SEED PICTURES`. Of Q frames it knows those of a program, of sheets tracks and index lines, and it refuses with few
+//! words.
 use std::fs;
 use std::io::{self, BufReader, BufWriter, Read, Stdin, Stdout, Write};
 
@@ -24,11 +25,13 @@ struct Field {
     log: [u8; 64],
     /// The four syndromes of a symbol at a place, six bits each.
     sums: [[u32; 64]; WORD],
+    /// The two places, counted from the end, whose powers have a sum and a product; 255 where there are none.
+    pairs: Vec<[u8; 2]>,
 }
 
 impl Field {
     fn new() -> Field {
-        let mut field = Field { power: [0; 126], log: [0; 64], sums: [[0; 64]; WORD] };
+        let mut field = Field { power: [0; 126], log: [0; 64], sums: [[0; 64]; WORD], pairs: vec![[255; 2]; 4096] };
         let mut x = 1u8;
         for k in 0..63 {
             field.power[k] = x;
@@ -42,6 +45,13 @@ impl Field {
                     let sum = field.times(field.power[j * (23 - place) % 63], value as u8);
                     field.sums[place][value] |= (sum as u32) << (6 * j);
                 }
+            }
+        }
+        for a in 0..WORD {
+            for b in a + 1..WORD {
+                let (x, y) = (field.power[a], field.power[b]);
+                let product = field.times(x, y);
+                field.pairs[64 * (x ^ y) as usize + product as usize] = [a as u8, b as u8];
             }
         }
         field
@@ -61,9 +71,14 @@ impl Field {
         self.power[self.log[a as usize] as usize + 63 - self.log[b as usize] as usize]
     }
 
+    /// The four syndromes of a word.
+    fn sums_of(&self, word: &Word) -> u32 {
+        (0..WORD).fold(0, |sums, i| sums ^ self.sums[i][word[i] as usize])
+    }
+
     /// Corrects at most two wrong symbols; how many there were, if the word is near a codeword.
     fn correct(&self, word: &mut Word) -> Option<usize> {
-        let sums = (0..WORD).fold(0, |sums, i| sums ^ self.sums[i][word[i] as usize]);
+        let sums = self.sums_of(word);
         if sums == 0 {
             return Some(0);
         }
@@ -81,16 +96,8 @@ impl Field {
         }
         let sum = self.over(self.times(s[0], s[3]) ^ self.times(s[1], s[2]), below);
         let product = self.over(self.times(s[1], s[3]) ^ self.times(s[2], s[2]), below);
-        let mut roots = [0; 2];
-        let mut count = 0;
-        for place in 0..WORD {
-            let x = self.power[place];
-            if self.times(x, x ^ sum) == product && count < 2 {
-                roots[count] = place;
-                count += 1;
-            }
-        }
-        if count < 2 {
+        let roots = self.pairs[64 * sum as usize + product as usize].map(usize::from);
+        if roots[0] == 255 {
             return None;
         }
         let (x, y) = (self.power[roots[0]], self.power[roots[1]]);
@@ -106,12 +113,112 @@ impl Field {
     }
 }
 
+impl Field {
+    /// The codeword that differs from a word at these places alone, at most four, if there is one.
+    fn fill(&self, word: &Word, places: &[usize]) -> Option<Word> {
+        let sums = self.sums_of(word);
+        let n = places.len();
+        // A row for each of the n first syndromes: the powers of the places, and the syndrome.
+        let mut rows = [[0u8; 5]; 4];
+        for (j, row) in rows.iter_mut().enumerate().take(n) {
+            for (k, &place) in places.iter().enumerate() {
+                row[k] = self.power[j * (23 - place) % 63];
+            }
+            row[n] = (sums >> (6 * j) & 63) as u8;
+        }
+        for k in 0..n {
+            let pivot = (k..n).find(|&j| rows[j][k] != 0)?;
+            rows.swap(k, pivot);
+            let head = rows[k];
+            for row in rows.iter_mut().take(n).enumerate().filter(|it| it.0 != k).map(|it| it.1) {
+                let factor = self.over(row[k], head[k]);
+                for (it, other) in row.iter_mut().zip(head) {
+                    *it ^= self.times(factor, other);
+                }
+            }
+        }
+        let mut filled = *word;
+        for (k, &place) in places.iter().enumerate() {
+            filled[place] ^= self.over(rows[k][n], rows[k][k]);
+        }
+        (self.sums_of(&filled) == 0).then_some(filled)
+    }
+
+    /// The codeword on which two readings of a word agree: twice the symbols that both have equally wrong and those in which
+    /// they differ are at most four.
+    fn agreed(&self, one: &Word, other: &Word) -> Option<Word> {
+        let differing: Vec<usize> = (0..WORD).filter(|&i| one[i] != other[i]).collect();
+        if differing.len() > 4 {
+            return None;
+        }
+        let both = |word: &Word| (0..WORD).filter(|&i| one[i] == other[i] && word[i] != one[i]).count();
+        for reading in [one, other] {
+            let mut word = *reading;
+            if self.correct(&mut word).is_some() && 2 * both(&word) + differing.len() <= 4 {
+                return Some(word);
+            }
+        }
+        if let Some(word) = self.fill(one, &differing) {
+            return Some(word);
+        }
+        if differing.len() > 2 {
+            return None;
+        }
+        (0..WORD).filter(|i| !differing.contains(i)).find_map(|place| {
+            let mut places = differing.clone();
+            places.push(place);
+            self.fill(one, &places)
+        })
+    }
+}
+
 /// Reads a block; false at the end of the input.
 fn read_block(input: &mut impl Read, block: &mut [u8]) -> io::Result<bool> {
     match input.read_exact(block) {
         Ok(()) => Ok(true),
         Err(error) if error.kind() == io::ErrorKind::UnexpectedEof => Ok(false),
         Err(error) => Err(error),
+    }
+}
+
+/// The symbols of the seven slots before a block and of the block.
+struct Window {
+    symbols: [u8; 168 + BLOCK],
+    /// How many slots came before, seven at most, and how many blocks in a row were idle.
+    before: usize,
+    quiet: usize,
+}
+
+impl Window {
+    fn new() -> Window {
+        Window { symbols: [0; 168 + BLOCK], before: 0, quiet: 0 }
+    }
+
+    fn take(&mut self, block: &[u8]) {
+        // Most blocks of a disc are idle: where the slots before are too, so are the words, and nothing has to move.
+        self.quiet = if block.iter().fold(0, |all, it| all | it) & 63 == 0 { self.quiet + 1 } else { 0 };
+        if self.quiet > 3 {
+            return;
+        }
+        self.symbols.copy_within(BLOCK.., 0);
+        for (symbol, byte) in self.symbols[168..].iter_mut().zip(block) {
+            *symbol = byte & 63;
+        }
+    }
+
+    /// The first slot of the block that ends a word.
+    fn first(&mut self) -> usize {
+        let first = (7 - self.before).min(4);
+        self.before = 7.min(self.before + 4);
+        first
+    }
+
+    fn is_idle(&self) -> bool {
+        self.quiet > 2
+    }
+
+    fn word(&self, slot: usize) -> Word {
+        std::array::from_fn(|i| self.symbols[WORD * slot + PLACES[i]])
     }
 }
 
@@ -126,41 +233,117 @@ fn for_each_word(
 /// Gives each block, and each corrected word.
 fn for_each_word_and_block(
     input: &mut impl Read,
+    seen: impl FnMut(&[u8]),
+    given: impl FnMut(&Word, Option<usize>) -> io::Result<()>,
+) -> io::Result<()> {
+    words_from(&mut Window::new(), input, seen, given)
+}
+
+/// The same, from a window that has seen some of the stream.
+fn words_from(
+    window: &mut Window,
+    input: &mut impl Read,
     mut seen: impl FnMut(&[u8]),
     mut given: impl FnMut(&Word, Option<usize>) -> io::Result<()>,
 ) -> io::Result<()> {
-    let field = Field::new();
-    // Seven slots of before, and a block.
-    let mut symbols = [0; 168 + BLOCK];
-    let (mut before, mut quiet) = (0, 0);
-    while read_block(input, &mut symbols[168..])? {
-        seen(&symbols[168..]);
-        for symbol in &mut symbols[168..] {
-            *symbol &= 63;
-        }
-        // Most blocks of a disc are idle: where the slots before are too, so are the words.
-        quiet = if symbols[168..].iter().fold(0, |all, it| all | it) == 0 { quiet + 1 } else { 0 };
-        if quiet > 2 && before == 7 {
-            for _ in 0..4 {
+    let (field, mut block) = (Field::new(), [0; BLOCK]);
+    while read_block(input, &mut block)? {
+        seen(&block);
+        window.take(&block);
+        for slot in window.first()..4 {
+            if window.is_idle() {
                 given(&[0; WORD], Some(0))?;
-            }
-            continue;
-        }
-        for slot in 0..4 {
-            if before + slot < 7 {
                 continue;
             }
-            let mut word: Word = std::array::from_fn(|i| symbols[WORD * slot + PLACES[i]]);
+            let mut word = window.word(slot);
             let wrong = field.correct(&mut word);
-            if wrong.is_none() {
-                word = [0; WORD];
-            }
-            given(&word, wrong)?;
+            given(if wrong.is_some() { &word } else { &[0; WORD] }, wrong)?;
         }
-        symbols.copy_within(BLOCK.., 0);
-        before = 7.min(before + 4);
     }
     Ok(())
+}
+
+/// Writes the packs on which two readings agree, zeros where they agree on none.
+fn merge(first: &str, second: &str, out: &mut Output) -> io::Result<()> {
+    let open = |name| fs::File::open(name).map(|file| BufReader::with_capacity(65_536, file));
+    let (field, mut inputs) = (Field::new(), [open(first)?, open(second)?]);
+    let (mut windows, mut block) = ([Window::new(), Window::new()], [0; BLOCK]);
+    loop {
+        for (input, window) in inputs.iter_mut().zip(&mut windows) {
+            if !read_block(input, &mut block)? {
+                return Ok(());
+            }
+            window.take(&block);
+        }
+        let [one, other] = &mut windows;
+        let (first, same) = (one.first(), one.symbols == other.symbols);
+        for slot in first..4 {
+            if one.is_idle() && other.is_idle() {
+                out.write_all(&[0; WORD])?;
+                continue;
+            }
+            let mut word = one.word(slot);
+            let found = if same { field.correct(&mut word).map(|_| word) } else { field.agreed(&word, &other.word(slot)) };
+            out.write_all(&found.unwrap_or([0; WORD]))?;
+        }
+    }
+}
+
+/// Writes a checkpoint after a stream.
+fn save(input: &mut Input, out: &mut Output) -> io::Result<()> {
+    let (mut window, mut screen, mut blocks, mut bad) = (Window::new(), Screen::new(), 0u32, 0u32);
+    let given = |word: &Word, wrong: Option<usize>| {
+        bad += u32::from(wrong.is_none());
+        screen.obey(word);
+        Ok(())
+    };
+    words_from(&mut window, input, |_| blocks += 1, given)?;
+    let mut file = Vec::with_capacity(SAVED);
+    file.extend(b"CDGSAVE1");
+    for number in [0, 0, blocks, bad] {
+        file.extend(u32::to_be_bytes(number));
+    }
+    file.extend(&window.symbols[BLOCK..]);
+    file.extend(&screen.memory);
+    file.extend([screen.border, screen.offsets.0 as u8, screen.offsets.1 as u8]);
+    for colour in screen.colours {
+        file.extend(colour.to_be_bytes());
+    }
+    file.extend(screen.levels);
+    let check = Check::new().of(&file);
+    file.extend(check);
+    out.write_all(&file)
+}
+
+const SAVED: usize = 65_045;
+
+/// Writes the picture at a time, from a checkpoint without a lead-in and the rest of its stream.
+fn resume(time: u32, saved: &[u8], rest: &str, out: &mut Output) -> io::Result<()> {
+    if saved.len() != SAVED || !saved.starts_with(b"CDGSAVE1") || !Check::new().is_good(saved) {
+        refused("bad-save");
+    }
+    let blocks = u32::from_be_bytes(saved[16..20].try_into().unwrap());
+    let mut window = Window::new();
+    window.symbols[BLOCK..].copy_from_slice(&saved[24..192]);
+    window.before = 7.min(4 * blocks as usize);
+    let mut screen = Screen::new();
+    screen.memory.copy_from_slice(&saved[192..64_992]);
+    screen.border = saved[64_992];
+    screen.offsets = (saved[64_993].into(), saved[64_994].into());
+    for (k, colour) in screen.colours.iter_mut().enumerate() {
+        *colour = u16::from_be_bytes(saved[64_995 + 2 * k..64_997 + 2 * k].try_into().unwrap());
+    }
+    screen.levels.copy_from_slice(&saved[65_027..65_043]);
+    let mut left = (4 * time).saturating_sub(7) - (4 * blocks).saturating_sub(7);
+    let input = &mut BufReader::with_capacity(65_536, fs::File::open(rest)?);
+    words_from(&mut window, input, |_| {}, |word, _| {
+        if left > 0 {
+            left -= 1;
+            screen.obey(word);
+        }
+        Ok(())
+    })?;
+    screen.write(out)
 }
 
 fn convert(input: &mut Input, out: &mut Output) -> io::Result<()> {
@@ -1150,6 +1333,9 @@ fn main() -> io::Result<()> {
         "thin" => thin(input, out)?,
         "author" => author(time(), &fs::read(&words[3])?, &fs::read(&words[4])?, out)?,
         "press" => press(time(), &fs::read(&words[3])?, &fs::read(&words[4])?, out)?,
+        "merge" => merge(&words[2], &words[3], out)?,
+        "save" => save(input, out)?,
+        "resume" => resume(time(), &fs::read(&words[3])?, &words[4], out)?,
         "trial" => trial(words[1].parse().unwrap(), words[2].parse().unwrap(), out)?,
         "q" => q(input, out)?,
         "planar" => planar(input, out)?,

@@ -29,6 +29,7 @@ RUNS = int(os.environ.get("RUNS", "9"))
 # The commands that the plain program knows.
 PLAIN = (
     "convert", "check", "screen", "state", "q", "text", "planar", "raw", "scratch", "author", "press", "thin", "trial",
+    "merge", "save", "resume",
 )
 
 
@@ -99,7 +100,7 @@ def plain_words(program, words):
         return None
     if command == "trial":
         return [program, command, options[1], options[3]]
-    if command in ("screen", "state", "scratch", "text", "author", "press"):
+    if command in ("screen", "state", "scratch", "text", "author", "press", "resume"):
         return [program, command, options[-1]]
     return [program, command]
 
