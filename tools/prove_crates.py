@@ -134,26 +134,32 @@ class Proving:
             for it in below[name]:
                 if it in self.chain:
                     self.chain[it] = max(self.chain[it], self.cost[it] + self.chain[name])
-        self.total, self.failed, self.running = len(names), [], {}
+        self.total, self.failed, self.running, self.used = len(names), [], {}, {}
         self.news = threading.Condition()
 
     def seconds_left(self):
         rest = [*self.left, *self.running]
         return max(sum(self.cost[it] for it in rest) / self.lanes, max((self.chain[it] for it in rest), default=0))
 
-    def prove(self, name):
-        """Proves a crate and builds its library, over what earlier runs kept."""
+    def jobs(self, ready):
+        """How many processors the next crate is given: those that no running or ready crate waits for."""
+        free = self.lanes - sum(self.used.values())
+        return max(1, free - (ready - 1))
+
+    def prove(self, name, jobs):
+        """Proves a crate with so many processors and builds its library, over what earlier runs kept."""
         folder = ROOT / "crates" / name
         os.makedirs(folder / "out", exist_ok=True)
         room = room_of(name, self.below)
         with open(folder / "out" / "proving.log", "w") as log:
             how = dict(cwd=room / "crates" / name, stdin=subprocess.DEVNULL, stdout=log, stderr=subprocess.STDOUT)
-            is_well = not subprocess.run(["rt", "lib", "--jobs", "1"], **how).returncode
+            is_well = not subprocess.run(["rt", "lib", "--jobs", str(jobs)], **how).returncode
         give_back(name, room)
         if is_well:
             (folder / "out" / "proved").write_text(self.made[name])
         with self.news:
             took = time.monotonic() - self.running.pop(name)
+            del self.used[name]
             if is_well:
                 self.done.add(name)
                 left = spoken(self.seconds_left())
@@ -167,11 +173,13 @@ class Proving:
         with self.news:
             while self.left or self.running:
                 ready = [it for it in self.left if all(low in self.done for low in self.below[it])]
-                for name in sorted(ready, key=lambda it: -self.chain[it]):
-                    if len(self.running) < self.lanes and not self.failed:
+                for place, name in enumerate(sorted(ready, key=lambda it: -self.chain[it])):
+                    if sum(self.used.values()) < self.lanes and not self.failed:
                         self.left.remove(name)
                         self.running[name] = time.monotonic()
-                        threading.Thread(target=self.prove, args=(name,), daemon=True).start()
+                        self.used[name] = self.jobs(len(ready) - place)
+                        how = dict(target=self.prove, args=(name, self.used[name]), daemon=True)
+                        threading.Thread(**how).start()
                 if not self.running:
                     break
                 self.news.wait()
