@@ -2,7 +2,7 @@
 import ctypes
 import functools
 import os
-from ctypes import POINTER, Structure, c_bool, c_char_p, c_int32, c_size_t, c_uint8, c_uint16, c_uint32, c_uint64, c_void_p
+from ctypes import POINTER, Structure, c_bool, c_int32, c_size_t, c_uint8, c_uint16, c_uint32, c_uint64, c_void_p
 from pathlib import Path
 
 from .output import Missing
@@ -109,7 +109,7 @@ class Planned(Structure):
 # What each call takes and answers. Where bytes are read a `bytes` may be given, which is not copied.
 _BYTES, _PLAYER = c_void_p, POINTER(PlayerHandle)
 CALLS = {
-    "ribjasper_version": ([], c_char_p),
+    "ribjasper_version": ([], c_uint32),
     "ribjasper_player_open": ([_PLAYER], c_int32),
     "ribjasper_player_close": ([_PLAYER], None),
     "ribjasper_player_begin": ([_PLAYER, c_uint32, c_uint32], c_int32),
@@ -157,7 +157,8 @@ def call(name: str):
 
 
 def version() -> str:
-    return call("ribjasper_version")().decode()
+    number = call("ribjasper_version")()
+    return f"{number >> 16}.{number >> 8 & 255}.{number & 255}"
 
 
 class NoMemory(MemoryError):
