@@ -3,14 +3,18 @@
 .PHONY: all library example demo check bench guide install uninstall clean
 
 PREFIX ?= /usr/local
+# Where libraries go; some systems have a folder for each processor.
+LIBDIR ?= $(PREFIX)/lib
 
 # Proves the program and what it stands on, builds it, and leaves it as bin/ribjasper.
 all:
 	tools/build.sh
 
-# The library for programs in C: proves it, builds it, and leaves it as lib/libribjasper.a (include/ribjasper.h).
+# The library for programs in C: proves it, builds it, and leaves it in lib/ (include/ribjasper.h), to be linked at
+# run time or for good. `make library TARGET=aarch64-unknown-linux-gnu` is for another processor, and CPU=x86-64-v3 for
+# newer ones alone.
 library:
-	tools/build_library.sh
+	TARGET=$(TARGET) CPU=$(CPU) tools/build_library.sh
 
 # Builds examples/player.c, as C and as C++, compares its screens with the program's, and measures it. It builds the
 # program and the library where they are not there.
@@ -46,21 +50,19 @@ install:
 	install -m 644 share/ribjasper.1 $(DESTDIR)$(PREFIX)/share/man/man1/ribjasper.1
 	install -m 644 share/ribjasper.bash $(DESTDIR)$(PREFIX)/share/bash-completion/completions/ribjasper
 	install -m 644 share/_ribjasper $(DESTDIR)$(PREFIX)/share/zsh/site-functions/_ribjasper
-	if [ -f lib/libribjasper.a ]; then \
-		install -d $(DESTDIR)$(PREFIX)/lib $(DESTDIR)$(PREFIX)/include && \
-		install -m 644 lib/libribjasper.a $(DESTDIR)$(PREFIX)/lib/libribjasper.a && \
-		install -m 644 include/ribjasper.h $(DESTDIR)$(PREFIX)/include/ribjasper.h; \
-	fi
+	[ ! -f lib/libribjasper.a ] || tools/install_library.sh "$(DESTDIR)" "$(PREFIX)" "$(LIBDIR)"
 
 # What was installed, and the folders that are then empty, but for those of the system.
 uninstall:
-	rm -f $(DESTDIR)$(PREFIX)/lib/libribjasper.a $(DESTDIR)$(PREFIX)/include/ribjasper.h
+	rm -f $(DESTDIR)$(LIBDIR)/libribjasper.a $(DESTDIR)$(LIBDIR)/libribjasper.so.0 $(DESTDIR)$(LIBDIR)/libribjasper.so
+	rm -f $(DESTDIR)$(LIBDIR)/pkgconfig/ribjasper.pc $(DESTDIR)$(PREFIX)/include/ribjasper.h
+	rm -f $(DESTDIR)$(PREFIX)/share/man/man3/ribjasper.3
 	rm -f $(DESTDIR)$(PREFIX)/bin/ribjasper $(DESTDIR)$(PREFIX)/share/man/man1/ribjasper.1
 	rm -f $(DESTDIR)$(PREFIX)/share/bash-completion/completions/ribjasper
 	rm -f $(DESTDIR)$(PREFIX)/share/zsh/site-functions/_ribjasper
 	case $(PREFIX) in /usr | /usr/local) ;; *) \
-		cd $(DESTDIR)$(PREFIX) && rmdir -p share/man/man1 share/bash-completion/completions \
-			share/zsh/site-functions bin lib include 2>/dev/null || true ;; \
+		cd $(DESTDIR)$(PREFIX) && rmdir -p share/man/man1 share/man/man3 share/bash-completion/completions \
+			share/zsh/site-functions bin lib/pkgconfig include 2>/dev/null || true ;; \
 	esac
 
 clean:

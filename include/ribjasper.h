@@ -17,8 +17,15 @@
 extern "C" {
 #endif
 
-#define RIBJASPER_VERSION_MAJOR 0
-#define RIBJASPER_VERSION_MINOR 2
+#define RIBJASPER_VERSION_MAJOR 1
+#define RIBJASPER_VERSION_MINOR 0
+#define RIBJASPER_VERSION_PATCH 0
+
+/* The version of this header as one number. */
+#define RIBJASPER_VERSION (65536 * RIBJASPER_VERSION_MAJOR + 256 * RIBJASPER_VERSION_MINOR + RIBJASPER_VERSION_PATCH)
+
+/* The version of the library that is linked, as the same number. */
+uint32_t ribjasper_version(void);
 
 /* What calls answer: it was done; or the player is closed, a number is out of its range, or (open) there is no memory.
    Where it was not done, nothing that a pointer points to is written (but by open, which closes first, and then holds

@@ -48,6 +48,7 @@ done
 
 # The library and its example do what the program does, where they are built and a C compiler is there.
 tools/compare_player.sh || complain "the library for programs in C is not as the program"
+tools/test_linking.sh || complain "the library for programs in C is not linked as it should be"
 
 # Each file that a document links to is there.
 for document in $(git ls-files '*.md'); do

@@ -17,10 +17,10 @@ work=$(mktemp -d)
 trap 'rm -rf "$work"' EXIT
 flags="-O2 -Wall -Wextra -Werror -I$top/include"
 wrap="-Wl,--wrap=malloc,--wrap=realloc,--wrap=free"
-cc $flags -std=c99 examples/player.c -L lib -lribjasper -o "$work/player"
-c++ $flags -x c++ examples/player.c -x none -L lib -lribjasper -o "$work/player_of_cxx"
-cc $flags -std=c99 tools/test_library.c -L lib -lribjasper $wrap -o "$work/test_library"
-c++ $flags -x c++ tools/test_library.c -x none -L lib -lribjasper $wrap -o "$work/test_library_of_cxx"
+cc $flags -std=c99 examples/player.c lib/libribjasper.a -o "$work/player"
+c++ $flags -x c++ examples/player.c -x none lib/libribjasper.a -o "$work/player_of_cxx"
+cc $flags -std=c99 tools/test_library.c lib/libribjasper.a $wrap -o "$work/test_library"
+c++ $flags -x c++ tools/test_library.c -x none lib/libribjasper.a $wrap -o "$work/test_library_of_cxx"
 "$work/test_library"
 "$work/test_library_of_cxx" >/dev/null
 cp examples/hello.cue examples/hello.script "$work"
@@ -60,8 +60,8 @@ done
 sanitize="-g -fsanitize=address -fno-omit-frame-pointer"
 echo 'int main(void) { return 0; }' >empty.c
 if cc $sanitize empty.c -o empty 2>/dev/null && ./empty 2>/dev/null; then
-    cc $flags $sanitize -std=c99 "$top/examples/player.c" -L "$top/lib" -lribjasper -o player_watched
-    cc $flags $sanitize -std=c99 "$top/tools/test_library.c" -L "$top/lib" -lribjasper $wrap -o test_watched
+    cc $flags $sanitize -std=c99 "$top/examples/player.c" "$top/lib/libribjasper.a" -o player_watched
+    cc $flags $sanitize -std=c99 "$top/tools/test_library.c" "$top/lib/libribjasper.a" $wrap -o test_watched
     mkdir watched
     (cd watched && ../player_watched $moments <../stream && ../test_watched >/dev/null)
     echo "compare_player: the address sanitizer finds nothing"

@@ -1,0 +1,220 @@
+"""The proved library, by ctypes: its structs, its calls, and a player."""
+import ctypes
+import functools
+import os
+from ctypes import POINTER, Structure, c_bool, c_int32, c_size_t, c_uint8, c_uint16, c_uint32, c_uint64, c_void_p
+from pathlib import Path
+
+from .output import Missing
+
+TOP = Path(__file__).resolve().parent.parent.parent
+NAME = "libribjasper.so.0"
+
+# The numbers of include/ribjasper.h.
+BLOCK, PACK, TEXT_PACK, SECTOR = 96, 24, 18, 2448
+WIDTH, HEIGHT, PICTURE, COLOURS = 300, 216, 194_400, 16
+BLOCKS_A_SECOND, PACKS_A_BLOCK = 75, 4
+MOST_BLOCKS, LONGEST_LEAD_IN = 1_000_000, 450_000
+RAW, PACKS, SECTORS = 0, 1, 2
+DONE, DAMAGED, USAGE, TORN, NO_ROOM, NO_MEMORY = 0, 1, 2, 3, 6, 7
+NO_TIME = 0xFFFF_FFFF
+Q_PROGRAM, Q_TRACK, Q_FIRST, Q_LAST, Q_LEAD_OUT, Q_CATALOGUE, Q_ISRC, Q_OTHER = range(8)
+Q_NONE, Q_BAD_FIELD, Q_BAD_CHECK = 253, 254, 255
+
+
+class PlayerHandle(Structure):
+    _fields_ = [("handle", c_void_p), ("is_open", c_bool)]
+
+
+class QFrame(Structure):
+    _fields_ = [
+        ("kind", c_uint32),
+        ("time", c_uint32),
+        ("absolute", c_uint32),
+        ("control", c_uint8),
+        ("mode", c_uint8),
+        ("track", c_uint8),
+        ("index", c_uint8),
+        ("disc", c_uint8),
+        ("frame", c_uint8),
+        ("text", c_uint8 * 13),
+    ]
+
+
+class Converted(Structure):
+    _fields_ = [("bytes", c_uint64), ("blocks", c_uint32), ("bad", c_uint32)]
+
+
+class Row(Structure):
+    """What is found of a block."""
+
+    _fields_ = [
+        ("absolute", c_uint32),
+        ("clean", c_uint8),
+        ("one", c_uint8),
+        ("two", c_uint8),
+        ("bad", c_uint8),
+        ("q", c_uint8),
+        ("track", c_uint8),
+        ("index", c_uint8),
+        ("empty", c_uint8),
+    ]
+
+
+class Surveyed(Structure):
+    _fields_ = [("blocks", c_uint32), ("rest", c_uint32)]
+
+
+class Listed(Structure):
+    _fields_ = [("bytes", c_uint64), ("seq", c_uint32), ("byte", c_uint32)]
+
+
+class Mended(Structure):
+    _fields_ = [
+        ("bytes", c_uint64),
+        ("blocks", c_uint32),
+        ("both", c_uint32),
+        ("of_first", c_uint32),
+        ("of_second", c_uint32),
+        ("agreed", c_uint32),
+        ("none", c_uint32),
+    ]
+
+
+class PlanRow(Structure):
+    """A picture of a script in a plan."""
+
+    _fields_ = [
+        ("line", c_uint32),
+        ("ready", c_uint32),
+        ("hold", c_uint32),
+        ("need", c_uint32),
+        ("free", c_uint32),
+        ("first", c_uint32),
+        ("late", c_uint8),
+    ]
+
+
+class Planned(Structure):
+    _fields_ = [
+        ("pictures", c_uint32),
+        ("blocks", c_uint32),
+        ("late", c_uint32),
+        ("why", c_uint32),
+        ("line", c_uint32),
+        ("number", c_uint32),
+    ]
+
+
+# What each call takes and answers. Where bytes are read a `bytes` may be given, which is not copied.
+_BYTES, _PLAYER = c_void_p, POINTER(PlayerHandle)
+CALLS = {
+    "ribjasper_version": ([], c_uint32),
+    "ribjasper_player_open": ([_PLAYER], c_int32),
+    "ribjasper_player_close": ([_PLAYER], None),
+    "ribjasper_player_begin": ([_PLAYER, c_uint32, c_uint32], c_int32),
+    "ribjasper_player_feed": ([_PLAYER, _BYTES], c_int32),
+    "ribjasper_player_draw": ([_PLAYER, _BYTES], c_int32),
+    "ribjasper_player_screen": ([_PLAYER, _BYTES], c_int32),
+    "ribjasper_player_picture": ([_PLAYER, _BYTES], c_int32),
+    "ribjasper_player_colours": ([_PLAYER, c_uint16 * COLOURS], c_int32),
+    "ribjasper_text_pack_matches": ([_BYTES], c_int32),
+    "ribjasper_q_decode": ([_BYTES, POINTER(QFrame), POINTER(c_uint8)], c_int32),
+    "ribjasper_block_to_planar": ([_BYTES, _BYTES], None),
+    "ribjasper_block_from_planar": ([_BYTES, _BYTES], None),
+    "ribjasper_block_text_packs": ([_BYTES, _BYTES], None),
+    "ribjasper_convert": ([_BYTES, c_size_t, c_uint32, c_uint32, _BYTES, c_size_t, POINTER(Converted)], c_int32),
+    "ribjasper_survey": ([_BYTES, c_size_t, c_uint32, c_uint32, _BYTES, c_size_t, POINTER(Surveyed)], c_int32),
+    "ribjasper_texts": ([_BYTES, c_size_t, c_uint32, c_uint32, _BYTES, c_size_t, POINTER(Listed)], c_int32),
+    "ribjasper_mend": ([_BYTES, c_size_t, _BYTES, c_size_t, c_uint32, _BYTES, c_size_t, POINTER(Mended)], c_int32),
+    "ribjasper_plan": (
+        [_BYTES, c_size_t, _BYTES, c_size_t, c_uint32, c_uint32, POINTER(PlanRow), c_size_t, POINTER(Planned)],
+        c_int32,
+    ),
+}
+
+
+@functools.lru_cache(maxsize=None)
+def loaded() -> ctypes.CDLL:
+    """The shared library: that which RIBJASPER_LIBRARY names, or that of the checkout, or an installed one."""
+    named = os.environ.get("RIBJASPER_LIBRARY")
+    built = TOP / "lib" / NAME
+    try:
+        return ctypes.CDLL(named or (str(built) if built.exists() else NAME))
+    except OSError as error:
+        raise Missing(f"the library cannot be loaded; 'make library' builds it: {error}") from None
+
+
+@functools.lru_cache(maxsize=None)
+def call(name: str):
+    """A call of the library, by its name in the header."""
+    try:
+        function = getattr(loaded(), name)
+    except AttributeError:
+        raise Missing(f"the library at hand has no {name}: build it again ('make library')") from None
+    function.argtypes, function.restype = CALLS[name]
+    return function
+
+
+def version() -> str:
+    number = call("ribjasper_version")()
+    return f"{number >> 16}.{number >> 8 & 255}.{number & 255}"
+
+
+class NoMemory(MemoryError):
+    """The library was refused memory."""
+
+
+class Player:
+    """A player of packs or raw blocks, to be used in a `with`."""
+
+    def __init__(self) -> None:
+        self._handle = PlayerHandle()
+
+    def __enter__(self) -> "Player":
+        if call("ribjasper_player_open")(self._handle) != DONE:
+            raise NoMemory
+        return self
+
+    def __exit__(self, *_) -> None:
+        call("ribjasper_player_close")(self._handle)
+
+    def draw(self, packs: bytes) -> None:
+        """Draws packs of 24 bytes, as those of a .cdg file."""
+        draw = call("ribjasper_player_draw")
+        for start in range(0, len(packs) - PACK + 1, PACK):
+            draw(self._handle, packs[start : start + PACK])
+
+    def begin(self, form: int, lead_in: int) -> None:
+        """Forgets all that was drawn; blocks that are fed from now on have this form."""
+        call("ribjasper_player_begin")(self._handle, form, lead_in)
+
+    def feed(self, blocks: bytes) -> None:
+        feed = call("ribjasper_player_feed")
+        for start in range(0, len(blocks) - BLOCK + 1, BLOCK):
+            feed(self._handle, blocks[start : start + BLOCK])
+
+    def screen(self) -> bytes:
+        """The numbers of the colours of all pixels, row by row."""
+        pixels = ctypes.create_string_buffer(WIDTH * HEIGHT)
+        call("ribjasper_player_screen")(self._handle, pixels)
+        return pixels.raw
+
+    def picture(self) -> bytes:
+        """Red, green and blue of all pixels, row by row."""
+        pixels = ctypes.create_string_buffer(PICTURE)
+        call("ribjasper_player_picture")(self._handle, pixels)
+        return pixels.raw
+
+
+def convert(stream: bytes, form: int, lead_in: int) -> tuple[bytes, Converted]:
+    """The packs of a stream of whole blocks, and what is told of them."""
+    told = Converted()
+    room = PACKS_A_BLOCK * PACK * (len(stream) // BLOCK)
+    packs = ctypes.create_string_buffer(max(1, room))
+    status = call("ribjasper_convert")(stream, len(stream), form, lead_in, packs, room, told)
+    if status == NO_MEMORY:
+        raise NoMemory
+    if status not in (DONE, DAMAGED):
+        raise ValueError(f"ribjasper_convert answers {status}")
+    return packs.raw[: told.bytes], told

@@ -1,0 +1,157 @@
+"""What the library's survey says of a stream, column by column, with no loop over its blocks in Python."""
+import bisect
+import ctypes
+import re
+from typing import Iterator, NamedTuple
+
+from . import library
+from .library import BLOCKS_A_SECOND, Row, Surveyed
+
+ROW = ctypes.sizeof(Row)
+ABSENT = bytes.fromhex("ff")
+# Where the columns of one byte stand in a row.
+COLUMNS = {name: getattr(Row, name).offset for name, *_ in Row._fields_}
+GOOD_Q = range(library.Q_OTHER + 1)
+_ANY = bytes([0] + [1] * 255)
+_BAD_Q = bytes(1 if value in (library.Q_BAD_FIELD, library.Q_BAD_CHECK) else 0 for value in range(256))
+
+
+class Stretch(NamedTuple):
+    """Blocks whose absolute times go on by one: the first and the last, and the time of the first."""
+
+    first: int
+    last: int
+    time: int
+
+    @property
+    def shift(self) -> int:
+        """What is added to a block's number for its time."""
+        return self.time - self.first
+
+
+class Run(NamedTuple):
+    """Neighbouring blocks, the first and the last."""
+
+    first: int
+    last: int
+
+
+def either(*columns: bytes) -> bytes:
+    """A byte that is not zero where one of the columns is not."""
+    joined = 0
+    for column in columns:
+        joined |= int.from_bytes(column, "little")
+    return joined.to_bytes(len(columns[0]), "little")
+
+
+def runs(column: bytes) -> list[Run]:
+    """Where a column is not zero."""
+    return [Run(found.start(), found.end() - 1) for found in re.finditer(rb"[^\0]+", column)]
+
+
+class Survey:
+    """The rows of a stream, one for each block."""
+
+    def __init__(self, stream: bytes, form: int, lead_in: int):
+        self.form, self.lead_in = form, lead_in
+        self.blocks = len(stream) // library.BLOCK
+        room = ctypes.create_string_buffer(max(1, ROW * self.blocks))
+        status = library.call("ribjasper_survey")(
+            stream, len(stream), form, lead_in, room, self.blocks, Surveyed()
+        )
+        if status != library.DONE:
+            raise ValueError(f"ribjasper_survey answers {status}")
+        self.rows = room.raw[: ROW * self.blocks]
+
+    def column(self, name: str) -> bytes:
+        return self.rows[COLUMNS[name] :: ROW]
+
+    def total(self, name: str) -> int:
+        return sum(self.column(name))
+
+    def good_frames(self) -> int:
+        kinds = self.column("q")
+        return sum(kinds.count(kind) for kind in GOOD_Q)
+
+    def bad_frames(self) -> bytes:
+        """A byte for each block, 1 where its Q frame is bad."""
+        return self.column("q").translate(_BAD_Q)
+
+    def empty(self) -> bytes:
+        """A byte for each block, 1 where all of it is zero; idle packs without Q are no sign of damage."""
+        return bytes(self.blocks) if self.form == library.PACKS else self.column("empty")
+
+    def corrected(self, run: Run) -> int:
+        return self.within(run, "one") + self.within(run, "two")
+
+    def within(self, run: Run, name: str) -> int:
+        return sum(self.column(name)[run.first : run.last + 1])
+
+    def stretches(self) -> list[Stretch]:
+        """The blocks whose times are known, in stretches that go on by one."""
+        return [
+            Stretch(found.start(), found.end() - 1, self.absolute(found.start()))
+            for found in re.finditer(rb"\1\0*", self._steps())
+        ]
+
+    def absolute(self, block: int) -> int:
+        """The absolute time that the Q frame of a block tells, or NO_TIME."""
+        return int.from_bytes(self.rows[ROW * block : ROW * block + 4], "little")
+
+    def _steps(self) -> bytes:
+        """A byte for each block: 0 where its time goes on by one from that of the block before, 1 where
+        another time is known, and above 1 where none is."""
+        if not self.blocks:
+            return b""
+        # Times have three bytes, and the highest of four is free for what is carried.
+        lanes = bytearray(4 * self.blocks)
+        for place in range(3):
+            lanes[place::4] = self.rows[place::ROW]
+        times = int.from_bytes(lanes, "little")
+        ones = int.from_bytes(b"\1\0\0\0" * self.blocks, "little")
+        differs = ((times >> 32) ^ (times + ones)).to_bytes(4 * self.blocks + 1, "little")
+        breaks = either(*(differs[place : 4 * self.blocks : 4] for place in range(4))).translate(_ANY)
+        unknown = self.rows[3::ROW].translate(bytes(2 if value else 0 for value in range(256)))
+        return either(b"\1" + breaks[:-1], unknown)
+
+
+class Clock:
+    """Absolute times and tracks of blocks, also of those whose own frame does not tell them."""
+
+    def __init__(self, survey: Survey):
+        self.survey = survey
+        self.stretches = survey.stretches()
+        self.starts = [stretch.first for stretch in self.stretches]
+
+    def stretch(self, block: int) -> Stretch | None:
+        """The stretch that a block is in or comes after, else the first one."""
+        place = bisect.bisect_right(self.starts, block) - 1
+        return self.stretches[max(place, 0)] if self.stretches else None
+
+    def time(self, block: int) -> int | None:
+        """The absolute time of a block, by the nearest known one before it, or else after it."""
+        stretch = self.stretch(block)
+        if stretch is None or block + stretch.shift < 0:
+            return None
+        return block + stretch.shift
+
+    def track(self, block: int) -> int | None:
+        stretch = self.stretch(block)
+        if stretch is None:
+            return None
+        known = min(max(block, stretch.first), stretch.last)
+        return self.survey.column("track")[known]
+
+    def jumps(self) -> Iterator[tuple[int, int, Stretch]]:
+        """Where the time does not go on: the last known block before and its time, and what comes after."""
+        for before, after in zip(self.stretches, self.stretches[1:]):
+            if before.shift != after.shift:
+                yield before.last, before.last + before.shift, after
+
+
+def spelled(time: int | None) -> str:
+    """A time as minutes, seconds and frames, or a dash."""
+    if time is None:
+        return "-"
+    seconds, frames = divmod(time, BLOCKS_A_SECOND)
+    return f"{seconds // 60:02}:{seconds % 60:02}:{frames:02}"
