@@ -4,22 +4,27 @@ use cdg_screen::Screen;
 use cdtext_packs::{LeadInTexts, TextReader};
 use rw_interleave::Window;
 use std::test::Fail;
-use subcode_player::{
-    BlockWords, Correction, Counting, Drawing, Form, FrameCounts, Picture, Player, SectorBlocks,
-    WordCounts,
+use stream_calls::{Checker, Converter, TextLister, Viewer};
+use stream_stages::{
+    BlockWords, Correction, Counting, Drawing, FrameCounts, Picture, SectorBlocks, WordCounts,
 };
+use subcode_player::{Form, Player};
 
 // A player has these fields and no others, so it can hold no stream.
 fn see_player(player: &Player) {
     let Player {
-        stages,
-        views,
-        checks,
-        texts,
+        converter,
+        viewer,
+        checker,
+        lister,
     } = player;
+    let Converter { stages } = converter;
     see_all_stages(stages);
+    let Viewer { views } = viewer;
     see_all_views(views);
+    let Checker { checks } = checker;
     see_checks(checks);
+    let TextLister { texts } = lister;
     see_texts(texts);
 }
 

@@ -24,15 +24,15 @@ use Rattle.checkpoint_files.specs.Checkpoint.{Checkpoint, checkpoint_in}
 use Rattle.checkpoint_files.specs.Table.{IsCheckpointFile, empty_symbols}
 use Rattle.checkpoint_files.specs.Sound.{IsSoundStanding, IsSoundCheckpoint}
 use Rattle.checkpoint_files.proofs.Accepted.{accepted, same}
-use Rattle.subcode_player.specs.Calls.{IsEarly}
-use Rattle.subcode_player.specs.Screen.{AreMeant, IsScreenAt, IsShownBy, Shows, moment}
-use Rattle.subcode_player.specs.Watch.{IsViewed}
-use Rattle.subcode_player.proofs.Slots.{symbols_small}
-use Rattle.subcode_player.proofs.Playing.{units_in}
-use Rattle.subcode_player.proofs.Views.{whole_taken}
-use Rattle.subcode_player.specs.declared.player.Played.{Played}
-use Rattle.subcode_player.specs.declared.player.PlayStop.{PlayStop}
-use Rattle.subcode_player.specs.declared.player.PlayStop.TheVariants as play
+use Rattle.stream_stages.specs.Calls.{IsEarly}
+use Rattle.stream_stages.specs.Screen.{AreMeant, IsScreenAt, IsShownBy, Shows, moment}
+use Rattle.stream_stages.specs.Watch.{IsViewed}
+use Rattle.stream_stages.proofs.Slots.{symbols_small}
+use Rattle.stream_stages.proofs.Playing.{units_in}
+use Rattle.stream_stages.proofs.Views.{whole_taken}
+use Rattle.stream_stages.specs.declared.played.Played.{Played}
+use Rattle.stream_stages.specs.declared.played.PlayStop.{PlayStop}
+use Rattle.stream_stages.specs.declared.played.PlayStop.TheVariants as play
 use Rattle.cdg_checkpoint.specs.Saved.{IsCheckpointOf, IsSaved}
 use Rattle.cdg_checkpoint.specs.Resumed.{IsGoneOn, IsGoneOnBy, IsResumed, IsResumedBy, Resumes, blocks_left}
 use Rattle.cdg_checkpoint.specs.Cut.{IsFirstPart, as_played}

@@ -24,16 +24,16 @@ use Rattle.raw_subcode.specs.declared.form.Form.TheVariants.{Raw}
 use Rattle.cdg_screen.specs.Picture.{IsWholeStanding, Standing, standing_after}
 use Rattle.checkpoint_files.specs.Checkpoint.{Checkpoint}
 use Rattle.checkpoint_files.specs.Table.{empty_symbols}
-use Rattle.subcode_player.specs.Steps.{slots_of, window_next, window_gives, words_next, words_give}
-use Rattle.subcode_player.specs.Drawn.{draw_after, drawing_next}
-use Rattle.subcode_player.specs.declared.block_words.BlockWords.{BlockWords}
-use Rattle.subcode_player.specs.declared.drawing.Drawing.{Drawing}
-use Rattle.subcode_player.proofs.Slots.{Sized, sized_append, sized_drop, all_slots_sized, all_slots_together, length-all_slots, symbols_small}
-use Rattle.subcode_player.proofs.StageRuns.{all_items, words_run}
-use Rattle.subcode_player.proofs.Conversion.{units_sized, length-units_of}
-use Rattle.subcode_player.proofs.Playing.{units_in}
-use Rattle.subcode_player.proofs.Draws.{AreDrawn, instrs_of, are_meant, are_drawn, drawing_runs}
-use Rattle.subcode_player.proofs.Views.{whole_taken}
+use Rattle.stream_stages.specs.Steps.{slots_of, window_next, window_gives, words_next, words_give}
+use Rattle.stream_stages.specs.Drawn.{draw_after, drawing_next}
+use Rattle.stream_stages.specs.declared.block_words.BlockWords.{BlockWords}
+use Rattle.stream_stages.specs.declared.drawing.Drawing.{Drawing}
+use Rattle.stream_stages.proofs.Slots.{Sized, sized_append, sized_drop, all_slots_sized, all_slots_together, length-all_slots, symbols_small}
+use Rattle.stream_stages.proofs.StageRuns.{all_items, words_run}
+use Rattle.stream_stages.proofs.Conversion.{units_sized, length-units_of}
+use Rattle.stream_stages.proofs.Playing.{units_in}
+use Rattle.stream_stages.proofs.Draws.{AreDrawn, instrs_of, are_meant, are_drawn, drawing_runs}
+use Rattle.stream_stages.proofs.Views.{whole_taken}
 use Rattle.cdg_checkpoint.specs.Tracked.{words_drawn}
 use Rattle.cdg_checkpoint.specs.Resumed.{IsGoneOn, blocks_after, packs_until, resumed_symbols, saved_slots}
 use Rattle.cdg_checkpoint.proofs.SavedStreams.{symbols_are}

@@ -9,9 +9,9 @@ use Rattle.rw_code.specs.Finding.{IsFinding}
 use Rattle.rw_interleave.specs.Interleave.{word_of, place, whole_packs}
 use Rattle.rw_interleave.proofs.Places.{swapped-lt}
 use Rattle.std.proofs.Math.Seq.{drop-append-add, take-append-add}
-use Rattle.subcode_player.proofs.StageRuns.{count_more}
-use Rattle.subcode_player.proofs.Playing.{units_in}
-use Rattle.subcode_player.proofs.Conversion.{length-units_of}
+use Rattle.stream_stages.proofs.StageRuns.{count_more}
+use Rattle.stream_stages.proofs.Playing.{units_in}
+use Rattle.stream_stages.proofs.Conversion.{length-units_of}
 use Rattle.raw_subcode.specs.Channels.{symbols_of, program_symbols}
 use Rattle.raw_subcode.specs.declared.form.Form.TheVariants.{Raw}
 use Rattle.rw_interleave.specs.Stream.{IsRecovered, bad_count}
@@ -20,9 +20,9 @@ use Rattle.cdg_screen.specs.Picture.{Standing, blank, standing_after}
 use Rattle.cdg_screen.proofs.Turns.{in_turn}
 use Rattle.checkpoint_files.specs.Checkpoint.{Checkpoint}
 use Rattle.checkpoint_files.specs.Table.{empty_symbols}
-use Rattle.subcode_player.specs.Screen.{AreMeant, moment}
-use Rattle.subcode_player.specs.Watch.{IsViewed}
-use Rattle.subcode_player.proofs.Views.{whole_taken}
+use Rattle.stream_stages.specs.Screen.{AreMeant, moment}
+use Rattle.stream_stages.specs.Watch.{IsViewed}
+use Rattle.stream_stages.proofs.Views.{whole_taken}
 use Rattle.cdg_checkpoint.specs.Saved.{IsCheckpointOf}
 use Rattle.cdg_checkpoint.specs.Resumed.{IsGoneOn, packs_until, resumed_symbols}
 use Rattle.cdg_checkpoint.proofs.SavedStreams.{symbols_are, symbols_count}

@@ -19,7 +19,7 @@ use Rattle.cdg_screen.specs.Picture.{blank, pixel_at, memory_from, border_from, 
 use Rattle.cdg_screen.proofs.Lists.{number_of_sixteen, pixel_of_rows}
 use Rattle.cdg_screen.proofs.Turns.{colour_after, level_after, pixel_after, same_colour, same_level, same_memory, whole_after}
 use Rattle.checkpoint_files.specs.Sound.{IsSoundStanding}
-use Rattle.subcode_player.specs.Screen.{AreMeant}
+use Rattle.stream_stages.specs.Screen.{AreMeant}
 
 -- ---- the numbers of a codeword
 

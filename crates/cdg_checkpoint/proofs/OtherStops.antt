@@ -9,7 +9,7 @@ use Rattle.cdg_io.specs.declared.pumping.Pumped.{Pumped}
 use Rattle.cdg_io.specs.declared.pumping.PumpStop.{PumpStop}
 use Rattle.cdg_io.specs.declared.pumping.PumpStop.TheVariants as pump_stop
 use Rattle.checkpoint_files.specs.Checkpoint.{Checkpoint, checkpoint_in}
-use Rattle.subcode_player.proofs.Views.{is_over, long_tests}
+use Rattle.stream_stages.proofs.Views.{is_over, long_tests}
 use Rattle.cdg_checkpoint.specs.Resumed.{IsAcceptedBy, IsGoneOnBy, IsResumedBy, Resumes, acceptance, blocks_left}
 use Rattle.cdg_checkpoint.specs.declared.stops.Resumed.{Resumed}
 use Rattle.cdg_checkpoint.specs.declared.stops.ResumeStop.{ResumeStop}

@@ -16,10 +16,10 @@ use Rattle.cdg_io.specs.Run.{run_state}
 use Rattle.rw_interleave.specs.Gathering.{gather_next}
 use Rattle.checkpoint_files.specs.Checkpoint.{Checkpoint, checkpoint_in}
 use Rattle.checkpoint_files.specs.Table.{IsCheckpointFile}
-use Rattle.subcode_player.specs.declared.block_words.BlockWords.{BlockWords}
-use Rattle.subcode_player.specs.declared.drawing.Drawing.{Drawing}
-use Rattle.subcode_player.proofs.Playing.{units_in}
-use Rattle.subcode_player.proofs.Views.{done_tests, torn_tests, not_over, is_over, zero_rest, some_rest, whole_taken}
+use Rattle.stream_stages.specs.declared.block_words.BlockWords.{BlockWords}
+use Rattle.stream_stages.specs.declared.drawing.Drawing.{Drawing}
+use Rattle.stream_stages.proofs.Playing.{units_in}
+use Rattle.stream_stages.proofs.Views.{done_tests, torn_tests, not_over, is_over, zero_rest, some_rest, whole_taken}
 use Rattle.cdg_checkpoint.specs.Tracked.{TracksBlocks, words_drawn}
 use Rattle.cdg_checkpoint.specs.Resumed.{GoesOn, IsGoneOnBy, blocks_after, blocks_left, packs_until, reached, saved_slots, time_after}
 use Rattle.cdg_checkpoint.specs.declared.stops.Resumed.{Resumed}

@@ -18,15 +18,15 @@ use Rattle.raw_subcode.specs.Channels.{blocks_of, symbols_of, program_symbols}
 use Rattle.raw_subcode.specs.Sizes.{most_units}
 use Rattle.raw_subcode.specs.declared.form.Form.TheVariants.{Raw}
 use Rattle.rw_interleave.specs.Stream.{bad_count}
-use Rattle.subcode_player.specs.Screen.{AreMeant, moment}
-use Rattle.subcode_player.specs.Watch.{IsViewed}
-use Rattle.subcode_player.specs.declared.block_words.BlockWords.{BlockWords}
-use Rattle.subcode_player.specs.declared.drawing.Drawing.{Drawing}
-use Rattle.subcode_player.proofs.Slots.{sized_drop, length-all_symbols}
-use Rattle.subcode_player.proofs.PumpedBlocks.{plain_blocks}
-use Rattle.subcode_player.proofs.Conversion.{units_sized, length-units_of}
-use Rattle.subcode_player.proofs.Playing.{units_in}
-use Rattle.subcode_player.proofs.Views.{IsReady, drawings_next, viewed_bytes, whole_taken}
+use Rattle.stream_stages.specs.Screen.{AreMeant, moment}
+use Rattle.stream_stages.specs.Watch.{IsViewed}
+use Rattle.stream_stages.specs.declared.block_words.BlockWords.{BlockWords}
+use Rattle.stream_stages.specs.declared.drawing.Drawing.{Drawing}
+use Rattle.stream_stages.proofs.Slots.{sized_drop, length-all_symbols}
+use Rattle.stream_stages.proofs.PumpedBlocks.{plain_blocks}
+use Rattle.stream_stages.proofs.Conversion.{units_sized, length-units_of}
+use Rattle.stream_stages.proofs.Playing.{units_in}
+use Rattle.stream_stages.proofs.Views.{IsReady, drawings_next, viewed_bytes, whole_taken}
 use Rattle.cdg_checkpoint.specs.Tracked.{TracksBlocks, track_next}
 use Rattle.cdg_checkpoint.specs.Saved.{IsSaved, Saves, last_symbols}
 use Rattle.cdg_checkpoint.specs.Keeping.{IsKept}

@@ -8,8 +8,8 @@ use Rattle.cdg_io.proofs.Frames.{feeding}
 use Rattle.cdg_io.specs.declared.pumping.PumpStop.{PumpStop}
 use Rattle.cdg_io.specs.declared.stage.Then.{Then}
 use Rattle.checkpoint_files.specs.Checkpoint.{Checkpoint}
-use Rattle.subcode_player.specs.declared.block_words.BlockWords.{BlockWords}
-use Rattle.subcode_player.specs.declared.drawing.Drawing.{Drawing}
+use Rattle.stream_stages.specs.declared.block_words.BlockWords.{BlockWords}
+use Rattle.stream_stages.specs.declared.drawing.Drawing.{Drawing}
 use Rattle.cdg_checkpoint.specs.Tracked.{TracksBlocks, words_drawn}
 use Rattle.cdg_checkpoint.specs.Resumed.{EndsAsResumed, GoesOn, IsAcceptedBy, IsGoneOnBy, IsResumedBy, acceptance, blocks_left, reached, time_after}
 use Rattle.cdg_checkpoint.specs.declared.stops.Resumed.{Resumed}

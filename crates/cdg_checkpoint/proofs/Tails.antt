@@ -5,9 +5,9 @@ use Rattle.std.proofs.lemmas.Bool.Decides.{eqb_tells}
 use Rattle.std.proofs.lemmas.List.{append-nil, drop-append-le, drop-drop, length-map, get_or-drop, get_or_append_left, get_or-append_right, get_or-map}
 use Rattle.cdg_io.specs.Run.{run_state}
 use Rattle.raw_subcode.specs.Channels.{symbols_of}
-use Rattle.subcode_player.specs.Steps.{words_next, window_next, slots_of}
-use Rattle.subcode_player.specs.declared.block_words.BlockWords.{BlockWords}
-use Rattle.subcode_player.proofs.Slots.{Sized}
+use Rattle.stream_stages.specs.Steps.{words_next, window_next, slots_of}
+use Rattle.stream_stages.specs.declared.block_words.BlockWords.{BlockWords}
+use Rattle.stream_stages.proofs.Slots.{Sized}
 use Rattle.cdg_checkpoint.specs.Tracked.{track_next, tail_next, words_drawn}
 use Rattle.cdg_checkpoint.specs.declared.tracking.Tracking.{Tracking}
 

@@ -2,8 +2,8 @@
 use Rattle.std.specs.Prelude.{◌≡◌, [], replicate}
 use Rattle.cdg_screen.specs.Picture.{blank}
 use Rattle.raw_subcode.specs.declared.form.Form.TheVariants.{Raw}
-use Rattle.subcode_player.specs.Steps.{fresh_words}
-use Rattle.subcode_player.specs.Stages.{drawing_of, words_of}
+use Rattle.stream_stages.specs.Steps.{fresh_words}
+use Rattle.stream_stages.specs.Stages.{drawing_of, words_of}
 use Rattle.cdg_checkpoint.specs.declared.checkpointer.Checkpointer.{Checkpointer}
 
 -- nothing was read: no slot is kept, no word is bad, all that stands is zero, and there is no file

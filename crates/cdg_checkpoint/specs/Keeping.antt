@@ -1,7 +1,7 @@
 -- What the state after a stream is saved as.
 use Rattle.std.specs.Prelude.{◌≡◌, ℕ, ◌-◌, List, min}
 use Rattle.checkpoint_files.specs.Checkpoint.{Checkpoint, file_of}
-use Rattle.subcode_player.specs.Stages.{drawing_of}
+use Rattle.stream_stages.specs.Stages.{drawing_of}
 use Rattle.cdg_checkpoint.specs.declared.tracking.Tracking.{Tracking}
 
 -- the file of the checkpoint of this state, after so many blocks of which the first are the lead-in

@@ -15,7 +15,7 @@ use Rattle.cdg_screen.specs.Picture.{Standing, standing_after}
 use Rattle.cdg_screen.specs.Texts.{pixmap}
 use Rattle.checkpoint_files.specs.Table.{IsBadAt, IsCheckpointFile, empty_symbols}
 use Rattle.checkpoint_files.specs.Checkpoint.{Checkpoint, checkpoint_in}
-use Rattle.subcode_player.specs.Screen.{AreMeant}
+use Rattle.stream_stages.specs.Screen.{AreMeant}
 use Rattle.raw_subcode.specs.Sizes.{most_units}
 use Rattle.cdg_checkpoint.specs.declared.stops.Resumed.{Resumed}
 use Rattle.cdg_checkpoint.specs.declared.stops.ResumeStop.{ResumeStop}

@@ -13,7 +13,7 @@ use Rattle.rw_interleave.specs.Stream.{IsRecovered, bad_count}
 use Rattle.cdg_instructions.specs.declared.instr.Instr.{Instr}
 use Rattle.cdg_screen.specs.Picture.{blank, standing_after}
 use Rattle.checkpoint_files.specs.Checkpoint.{Checkpoint, file_of}
-use Rattle.subcode_player.specs.Screen.{AreMeant}
+use Rattle.stream_stages.specs.Screen.{AreMeant}
 
 -- the last of so many symbols, with zeros before the first
 abbrev pub last_symbols : ℕ → List ℕ → List ℕ

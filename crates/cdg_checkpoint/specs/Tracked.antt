@@ -9,11 +9,11 @@ use Rattle.cdg_io.specs.declared.pumping.PumpStop.{PumpStop}
 use Rattle.cdg_io.specs.declared.pumping.PumpStop.TheVariants.{WriteFault, Torn}
 use Rattle.cdg_io.specs.declared.stage.Then.{Then}
 use Rattle.raw_subcode.specs.Channels.{symbols_of}
-use Rattle.subcode_player.specs.Steps.{words_next, words_give}
-use Rattle.subcode_player.specs.Stages.{words_of}
-use Rattle.subcode_player.specs.Drawn.{drawing_next}
-use Rattle.subcode_player.specs.declared.block_words.BlockWords.{BlockWords}
-use Rattle.subcode_player.specs.declared.drawing.Drawing.{Drawing}
+use Rattle.stream_stages.specs.Steps.{words_next, words_give}
+use Rattle.stream_stages.specs.Stages.{words_of}
+use Rattle.stream_stages.specs.Drawn.{drawing_next}
+use Rattle.stream_stages.specs.declared.block_words.BlockWords.{BlockWords}
+use Rattle.stream_stages.specs.declared.drawing.Drawing.{Drawing}
 use Rattle.cdg_checkpoint.specs.declared.tracking.Tracking.{Tracking}
 
 -- the words of a stream, and what they draw, after a block

@@ -5,9 +5,10 @@ ghost use Rattle.cdg_checkpoint.specs.Fresh.{IsFresh};
 use crate::Tracking;
 use cdg_io::Then;
 use checkpoint_files::{CheckpointFile, SLOTS_BYTES};
+use raw_subcode::Form;
 use rw_interleave::Window;
 use std::alloc::{AllocError, Global};
-use subcode_player::{BlockWords, Drawing, Form, Picture};
+use stream_stages::{BlockWords, Drawing, Picture};
 
 /// Saves checkpoints of streams and resumes from them, one at a time. All its memory is taken at the start;
 /// each call begins anew, whatever stopped the one before.

@@ -10,8 +10,8 @@ ghost use Rattle.cdg_checkpoint.specs.Cut.{IsFirstPart, as_played};
 ghost use Rattle.cdg_checkpoint.specs.declared.stops.Resumed.{Resumed};
 ghost use Rattle.cdg_checkpoint.specs.declared.stops.ResumeStop.{ResumeStop};
 ghost use Rattle.raw_subcode.specs.declared.form.Form.{Form};
-ghost use Rattle.subcode_player.specs.Watch.{IsViewed};
-ghost use Rattle.subcode_player.specs.Screen.{IsScreenAt, IsShownBy, Shows, moment};
+ghost use Rattle.stream_stages.specs.Watch.{IsViewed};
+ghost use Rattle.stream_stages.specs.Screen.{IsScreenAt, IsShownBy, Shows, moment};
 ghost use Rattle.cdg_checkpoint.specs.Resumed.{IsGoneOn, IsResumed, IsResumedBy, Resumes};
 ghost use Rattle.cdg_checkpoint.specs.Saved.{IsCheckpointOf, IsSaved};
 

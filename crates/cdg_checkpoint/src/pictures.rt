@@ -4,7 +4,7 @@ ghost use Rattle.checkpoint_files.specs.Checkpoint.{file_of, kept, standing_in};
 ghost use Rattle.checkpoint_files.specs.Table.{IsCheckpointFile};
 
 use checkpoint_files::{CheckpointFile, Counts, SLOTS_BYTES};
-use subcode_player::Picture;
+use stream_stages::Picture;
 
 /// Composes the file of these counts and slots, and of what stands on the picture.
 pub(crate) fn compose(

@@ -11,7 +11,7 @@ ghost use Rattle.rw_interleave.specs.Interleave.{whole_packs};
 ghost use Rattle.rw_interleave.specs.Gathering.{gather_next};
 ghost use Rattle.checkpoint_files.specs.Table.{IsCheckpointFile};
 ghost use Rattle.checkpoint_files.specs.Checkpoint.{checkpoint_in, standing_in};
-ghost use Rattle.subcode_player.specs.Stages.{drawing_of, words_of};
+ghost use Rattle.stream_stages.specs.Stages.{drawing_of, words_of};
 ghost use Rattle.cdg_checkpoint.specs.Resumed.{GoesOn, IsAcceptedBy, IsGoneOnBy, IsResumedBy, Resumes, acceptance, EndsAsResumed, packs_until, reached, saved_slots, time_after};
 
 use crate::pictures::bring_back;
@@ -19,9 +19,8 @@ use crate::watch::watch_some;
 use crate::{Checkpointer, ResumeStop, Resumed};
 use cdg_io::{Failed, PumpStop, Pumped, Sink, Source};
 use checkpoint_files::Counts;
-use raw_subcode::MOST_UNITS;
+use raw_subcode::{Form, MOST_UNITS};
 use rw_interleave::Slot;
-use subcode_player::Form;
 
 // The slots that a checkpoint keeps.
 const SLOTS: u32 = 7;

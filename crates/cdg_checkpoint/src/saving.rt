@@ -7,8 +7,8 @@ ghost use Rattle.cdg_io.specs.Pump.{IsUnlessFault, answer_of};
 ghost use Rattle.raw_subcode.specs.Sizes.{block_bytes, most_units};
 ghost use Rattle.rw_interleave.specs.Interleave.{whole_packs};
 ghost use Rattle.cdg_screen.specs.Picture.{blank};
-ghost use Rattle.subcode_player.specs.Steps.{fresh_words};
-ghost use Rattle.subcode_player.specs.Stages.{drawing_of, words_of};
+ghost use Rattle.stream_stages.specs.Steps.{fresh_words};
+ghost use Rattle.stream_stages.specs.Stages.{drawing_of, words_of};
 ghost use Rattle.cdg_checkpoint.specs.Saved.{EndsAsSaved, Saves};
 ghost use Rattle.cdg_checkpoint.specs.Keeping.{IsKept};
 
@@ -17,8 +17,7 @@ use crate::pictures::compose;
 use crate::watch::watch;
 use cdg_io::{Failed, PumpStop, Pumped, Sink, Source, put_all};
 use checkpoint_files::{Counts, SLOTS_BYTES};
-use raw_subcode::MOST_UNITS;
-use subcode_player::Form;
+use raw_subcode::{Form, MOST_UNITS};
 
 // The packs of the longest stream.
 const MOST_PACKS: u32 = 4 * MOST_UNITS - 7;

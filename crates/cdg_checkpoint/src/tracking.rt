@@ -6,7 +6,7 @@ ghost use Rattle.cdg_checkpoint.specs.Tracked.{tail_next, track_next};
 use cdg_io::{Piece, Stage, Then};
 use checkpoint_files::SLOTS_BYTES;
 use raw_subcode::BLOCK_BYTES;
-use subcode_player::{BlockWords, Drawing};
+use stream_stages::{BlockWords, Drawing};
 
 /// Draws the packs of a stream, and keeps the symbols of its last seven slots.
 #[derive(Drop)]

@@ -1,5 +1,5 @@
 -- What is listed of streams, from what a player answers to them.
-use Rattle.std.proofs.Common.{◌≡◌, ◌≢◌, ◌≤◌, ◌*◌, ℕ, Bool, true, List, [], ◌∷◌, length, Result, Ok, Err, Some, None, IfSome, sym, subst, inl, inr, arith}
+use Rattle.std.proofs.Common.{◌≡◌, ◌≢◌, ◌≤◌, ◌*◌, ℕ, Bool, true, List, [], ◌∷◌, length, Result, Ok, Err, Some, None, IfSome, sym, subst, inl, inr, arith, if◌then◌else◌, ◌==◌}
 use Rattle.raw_subcode.specs.declared.form.Form.{Form}
 use Rattle.raw_subcode.specs.declared.form.Form.TheVariants.{Raw}
 use Rattle.round_trips.specs.Answers.{PutsTexts}
@@ -15,13 +15,13 @@ use Rattle.round_trips.specs.Damage.{HasHurtSlots, count_hurt, count_whole}
 use Rattle.round_trips.specs.SheetLines.{HasText, HasTextPacks, sheet_lines}
 use Rattle.subcode_author.specs.Authored.{IsAuthored, text_packs, disc_of}
 use Rattle.raw_subcode.specs.Sizes.{most_units}
-use Rattle.subcode_player.specs.Calls.{IsAnsweredBy, in_turn}
-use Rattle.subcode_player.specs.Convert.{Restores}
-use Rattle.subcode_player.specs.TextListing.{IsListedBy, IsWholeInput, ListsTexts, packs_in}
-use Rattle.subcode_player.specs.declared.player.Played.{Played}
-use Rattle.subcode_player.specs.declared.player.PlayStop.{PlayStop}
-use Rattle.subcode_player.specs.declared.player.PlayStop.TheVariants as play
-use Rattle.cdg_cmd.specs.Answer.{Does, GivesBack, play_status}
+use Rattle.stream_stages.specs.Calls.{IsAnsweredBy, in_turn}
+use Rattle.stream_stages.specs.Convert.{Restores}
+use Rattle.stream_stages.specs.TextListing.{IsListedBy, IsWholeInput, ListsTexts, packs_in}
+use Rattle.stream_stages.specs.declared.played.Played.{Played}
+use Rattle.stream_stages.specs.declared.played.PlayStop.{PlayStop}
+use Rattle.stream_stages.specs.declared.played.PlayStop.TheVariants as play
+use Rattle.cdg_cmd.specs.Answer.{Does, GivesBack, GivesIfFound, play_status}
 use Rattle.cdg_io.specs.Change.{Bytes, Change, from_to}
 use Rattle.cdg_io.specs.Streams.{Streams}
 use Rattle.cdg_io.proofs.Frames.{passing}
@@ -30,7 +30,7 @@ use Rattle.cdg_cmd.specs.Spelling.{IsAllowed, Spells}
 use Rattle.cdg_cmd.specs.declared.command.Command.{Command}
 use Rattle.cdg_cmd.specs.declared.command.Command.TheVariants.{Q, Text}
 use Rattle.cdg_cmd.specs.declared.status.Status.{Status}
-use Rattle.cdg_cmd.specs.declared.status.Status.TheVariants.{NoMemory}
+use Rattle.cdg_cmd.specs.declared.status.Status.TheVariants.{Done, Damaged, NoMemory}
 use Rattle.cdg_cmd.proofs.SecondHalf.{given_back}
 use Rattle.cdg_cmd.proofs.WholeInputs.{both, unless_memory}
 
@@ -44,14 +44,14 @@ pub authored_size : (sheet : CueSheet) (script : List Drawing) (lead_in audio : 
 authored_size sheet script lead_in audio bytes packs short few authored = omega (arith, authored.framing.size, short, few)
 
 -- a player that put texts, as a status
-texts_back : (answer : Result Played PlayStop) (out : Change Bytes) (t : List ℕ) → PutsTexts answer out.before out.after t → GivesBack t out (play_status answer)
-texts_back (Ok played) out t puts = given_back (Ok played) out t puts
+texts_back : (answer : Result Played PlayStop) (out : Change Bytes) (t : List ℕ) → PutsTexts answer out.before out.after t → GivesIfFound t out (play_status answer)
+texts_back (Ok played) out t puts = subst (λ (n : ℕ). GivesIfFound t out (if n == 0 then Done else Damaged n)) (sym puts.0) puts.1
 texts_back (Err play.ReadFault) out t puts = tt
 texts_back (Err play.WriteFault) out t puts = tt
 texts_back (Err (play.Torn block)) out t puts = absurd puts
 texts_back (Err play.TooLong) out t puts = absurd puts
 texts_back (Err (play.PastEnd blocks)) out t puts = absurd puts
-texts_back (Err (play.Text why)) out t puts = subst (λ (w : TextFault). GivesBack t out (play_status (Err (play.Text w)))) (sym puts) tt
+texts_back (Err (play.Text why)) out t puts = subst (λ (w : TextFault). GivesIfFound t out (play_status (Err (play.Text w)))) (sym puts) tt
 
 module _ (lead_in : ℕ) (left' more more' : Bytes) (out : Change Bytes) (status : Status) (t : List ℕ) (A : List ℕ → Type 0) where
   frames_of : (all : List ℕ) → Does (Q lead_in Raw) (both (Some all) left' more more' out) status
@@ -61,22 +61,22 @@ module _ (lead_in : ℕ) (left' more more' : Bytes) (out : Change Bytes) (status
       subst (λ (s : Status). GivesBack t out s) (sym l.status_is) (given_back l.answer out t (restores l.answer l.taken l.did l.exactly.1))
 
   -- the frames of streams of some kind
-  pub frames_given : (left : Bytes) → (status ≢ NoMemory → Does (Q lead_in Raw) (both left left' more more' out) status)
+  pub frames_given : (left : Bytes) → Does (Q lead_in Raw) (both left left' more more' out) status
       → ((all : List ℕ) → A all → (answer : Result Played PlayStop) (taken : List ℕ) → Streams (in_turn (IsQListed Raw) Raw lead_in) (passing (from_to (Some all) left') out) answer taken
       → IsAnsweredBy answer 96 (length all) → Restores answer out.before out.after t) → IfSome left (λ all. A all → GivesBack t out status)
   frames_given None lists restores = tt
-  frames_given (Some all) lists restores = λ is. unless_memory _ status (λ found. frames_of all (lists found) (restores all is))
+  frames_given (Some all) lists restores = λ is. frames_of all lists (restores all is)
 
   texts_of : (form : Form) (all : List ℕ) → Does (Text lead_in form) (both (Some all) left' more more' out) status
       → ((answer : Result Played PlayStop) (taken : List ℕ) → ListsTexts form lead_in (passing (from_to (Some all) left') out) answer taken → IsListedBy answer form lead_in all
-      → PutsTexts answer out.before out.after t) → GivesBack t out status
+      → PutsTexts answer out.before out.after t) → GivesIfFound t out status
   texts_of form all l puts =
-      subst (λ (s : Status). GivesBack t out s) (sym l.status_is) (texts_back l.answer out t (puts l.answer l.taken l.did l.exactly.1))
+      subst (λ (s : Status). GivesIfFound t out s) (sym l.status_is) (texts_back l.answer out t (puts l.answer l.taken l.did l.exactly.1))
 
   -- the texts of streams of some kind
   pub strings_given : (form : Form) (left : Bytes) → (status ≢ NoMemory → Does (Text lead_in form) (both left left' more more' out) status)
       → ((all : List ℕ) → A all → (answer : Result Played PlayStop) (taken : List ℕ) → ListsTexts form lead_in (passing (from_to (Some all) left') out) answer taken → IsListedBy answer form lead_in all
-      → PutsTexts answer out.before out.after t) → IfSome left (λ all. A all → GivesBack t out status)
+      → PutsTexts answer out.before out.after t) → IfSome left (λ all. A all → GivesIfFound t out status)
   strings_given form None lists puts = tt
   strings_given form (Some all) lists puts = λ is. unless_memory _ status (λ found. texts_of form all (lists found) (puts all is))
 

@@ -3,11 +3,11 @@ use Rattle.std.proofs.Common.{inr, ◌≡◌, ◌≢◌, ◌≤◌, ◌==◌, �
 use Rattle.cdg_io.specs.Causes.{Rose}
 use Rattle.cdtext_packs.specs.declared.kinds.TextFault.{TextFault}
 use Rattle.cdtext_packs.specs.declared.kinds.TextFault.TheVariants as fault
-use Rattle.subcode_player.specs.Calls.{EndFirst, EndInTurn, IsMomentStop, IsStreamStop}
-use Rattle.subcode_player.specs.Faults.{TellsStops}
-use Rattle.subcode_player.specs.declared.player.Played.{Played}
-use Rattle.subcode_player.specs.declared.player.PlayStop.{PlayStop}
-use Rattle.subcode_player.specs.declared.player.PlayStop.TheVariants as play
+use Rattle.stream_stages.specs.Calls.{EndFirst, EndInTurn, IsMomentStop, IsStreamStop}
+use Rattle.stream_stages.specs.Faults.{TellsStops}
+use Rattle.stream_stages.specs.declared.played.Played.{Played}
+use Rattle.stream_stages.specs.declared.played.PlayStop.{PlayStop}
+use Rattle.stream_stages.specs.declared.played.PlayStop.TheVariants as play
 use Rattle.cdg_cmd.specs.Answer.{play_status, text_fault_status}
 use Rattle.cdg_cmd.specs.Ends.{EndsFirst, EndsInTurn, StreamEnds}
 use Rattle.cdg_cmd.specs.Keeps.{MayWrite}

@@ -6,13 +6,13 @@ use Rattle.cdg_io.specs.Pump.{units_of}
 use Rattle.raw_subcode.specs.Channels.{unit_size, block_of, blocks_of, program_symbols}
 use Rattle.raw_subcode.specs.declared.form.Form.{Form}
 use Rattle.round_trips.specs.Damaged.{DamagedPress, IsFileText}
-use Rattle.subcode_player.specs.Screen.{IsScreenAt, IsShownBy, Shows, moment}
-use Rattle.subcode_player.specs.declared.player.Played.{Played}
-use Rattle.subcode_player.specs.declared.player.PlayStop.{PlayStop}
-use Rattle.subcode_player.specs.declared.player.PlayStop.TheVariants as play
-use Rattle.subcode_player.proofs.Slots.{length-all_symbols, sized_drop}
-use Rattle.subcode_player.proofs.Conversion.{length-units_of, units_sized, blocks_sized}
-use Rattle.subcode_player.proofs.Restoring.{taken_all}
+use Rattle.stream_stages.specs.Screen.{IsScreenAt, IsShownBy, Shows, moment}
+use Rattle.stream_stages.specs.declared.played.Played.{Played}
+use Rattle.stream_stages.specs.declared.played.PlayStop.{PlayStop}
+use Rattle.stream_stages.specs.declared.played.PlayStop.TheVariants as play
+use Rattle.stream_stages.proofs.Slots.{length-all_symbols, sized_drop}
+use Rattle.stream_stages.proofs.Conversion.{length-units_of, units_sized, blocks_sized}
+use Rattle.stream_stages.proofs.Restoring.{taken_all}
 use Rattle.cdg_cmd.specs.Answer.{Does, play_status}
 use Rattle.cdg_io.specs.Change.{Bytes, Change, from_to}
 use Rattle.cdg_io.proofs.Frames.{passing}

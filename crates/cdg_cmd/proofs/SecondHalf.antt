@@ -2,7 +2,7 @@
 use Rattle.std.proofs.Common.{◌≡◌, ◌≢◌, ◌≤◌, ℕ, ◌-◌, ◌*◌, List, ◌++◌, length, map, replicate, Result, Ok, Err, Some, None, IfSome, ◌==◌, if◌then◌else◌, sym, ap, subst, ◌∙◌, arith}
 use Rattle.std.proofs.lemmas.List.{append-nil}
 use Rattle.std.specs.List.{concat}
-use Rattle.raw_subcode.specs.Channels.{program_symbols}
+use Rattle.raw_subcode.specs.Channels.{program_symbols, unit_size}
 use Rattle.raw_subcode.specs.declared.form.Form.{Form}
 use Rattle.raw_subcode.specs.declared.form.Form.TheVariants.{Raw, Sector, Cooked}
 use Rattle.rw_interleave.specs.Interleave.{whole_packs}
@@ -13,15 +13,17 @@ use Rattle.rw_interleave.specs.Stream.{all_packs, bad_count}
 use Rattle.rw_interleave.specs.Texts.{cdg_bytes}
 use Rattle.toc_model.specs.Places.{program_blocks}
 use Rattle.subcode_author.specs.Authored.{IsAuthored, disc_of}
-use Rattle.subcode_player.specs.Convert.{IsConverted, IsDamagedStream, Restores}
-use Rattle.subcode_player.specs.Pictured.{GivesPicture, IsHeldAt, IsScheduledStream}
-use Rattle.subcode_player.specs.declared.player.Played.{Played}
-use Rattle.subcode_player.specs.declared.player.PlayStop.{PlayStop}
-use Rattle.subcode_player.specs.declared.player.PlayStop.TheVariants as play
-use Rattle.subcode_player.proofs.Pictured.{PictureNoneBad, TextIsPicture, gives_picture}
-use Rattle.subcode_player.proofs.Restoring.{Recovers, found_packs, restores}
+use Rattle.stream_stages.specs.Convert.{IsConverted, IsDamagedStream, Restores}
+use Rattle.round_trips.specs.Pictured.{GivesPicture, IsHeldAt, IsScheduledStream}
+use Rattle.stream_stages.specs.declared.played.Played.{Played}
+use Rattle.stream_stages.specs.declared.played.PlayStop.{PlayStop}
+use Rattle.stream_stages.specs.declared.played.PlayStop.TheVariants as play
+use Rattle.stream_stages.proofs.Restoring.{Recovers, found_packs, restores}
 use Rattle.cdg_cmd.specs.Answer.{Does, GivesBack, play_status}
-use Rattle.cdg_io.specs.Change.{Bytes, Change}
+use Rattle.cdg_io.specs.Change.{Bytes, Change, from_to}
+use Rattle.cdg_io.proofs.Frames.{passing}
+use Rattle.cdg_screen.specs.Texts.{pixmap}
+use Rattle.stream_stages.specs.Screen.{IsShownBy, Shows, moment}
 use Rattle.cdg_cmd.specs.Headline.{IsDamagedCopy, PutsPicture, written_packs}
 use Rattle.cdg_cmd.specs.declared.command.Command.TheVariants.{Convert, Screen}
 use Rattle.cdg_cmd.specs.declared.status.Status.{Status}
@@ -35,6 +37,12 @@ GivesPacks = (form : Form) (lead_in blocks : ℕ) (packs : List (List ℕ)) (byt
 abbrev pub GivesNoneBad : Type 0
 GivesNoneBad = (form : Form) (lead_in blocks : ℕ) (packs : List (List ℕ)) (bytes text : List ℕ) (bad : ℕ) → IsDamagedStream form lead_in blocks packs bytes
     → IsConverted form lead_in bytes text bad → bad ≡ 0
+
+-- a call that shows a moment at which a picture stands gives that picture
+abbrev pub GivesPictures : Type 0
+GivesPictures = (form : Form) (lead_in time : ℕ) (all : List ℕ) (left : Bytes) (out : Change Bytes) (answer : Result Played PlayStop) (taken : List ℕ) (script : List Drawing) (k : ℕ)
+    → IsScheduledStream form lead_in script all → IsHeldAt script k time → Shows pixmap (moment form lead_in time) (passing (from_to (Some all) left) out) answer taken
+    → IsShownBy answer lead_in time (unit_size form) (length all) → GivesPicture script k answer out.before out.after
 
 -- the packs of a damaged stream are its text, and none is bad
 module _ (law : Recovers) (written : (packs : List (List ℕ)) → cdg_bytes (map (λ pack. Some pack) packs) ≡ concat packs) (none : (packs : List (List ℕ)) → bad_count (map (λ pack. Some pack) packs) ≡ 0) where
@@ -74,24 +82,24 @@ module _ (form : Form) (lead_in : ℕ) (left' more more' : Bytes) (out : Change 
       subst (λ (s : Status). GivesBack (concat (all_packs form blocks packs)) out s) (sym d.status_is)
       (given_back d.answer out (concat (all_packs form blocks packs)) (restores form lead_in (Some all) left' out.before out.after d.answer d.taken gives none d.did d.exactly.1 blocks packs damaged))
 
-  pub converted_back : GivesPacks → GivesNoneBad → (left : Bytes) → (status ≢ NoMemory → Does (Convert lead_in form) (both left left' more more' out) status)
+  pub converted_back : GivesPacks → GivesNoneBad → (left : Bytes) → Does (Convert lead_in form) (both left left' more more' out) status
       → IfSome left (λ all. (blocks : ℕ) (packs : List (List ℕ)) → IsDamagedStream form lead_in blocks packs all → GivesBack (concat (all_packs form blocks packs)) out status)
   converted_back gives none None does = tt
   converted_back gives none (Some all) does = λ blocks packs damaged.
-      unless_memory _ status (λ found. converted gives none all blocks packs (does found) damaged)
+      converted gives none all blocks packs does damaged
 
   -- the screen of a scheduled stream
-  shown : TextIsPicture → PictureNoneBad → (at : ℕ) (all : List ℕ) (script : List Drawing) (k : ℕ) → Does (Screen lead_in form at) (both (Some all) left' more more' out) status
+  shown : GivesPictures → (at : ℕ) (all : List ℕ) (script : List Drawing) (k : ℕ) → Does (Screen lead_in form at) (both (Some all) left' more more' out) status
       → IsScheduledStream form lead_in script all → IsHeldAt script k at → PutsPicture script k out status
-  shown picture none at all script k d scheduled held =
+  shown gives at all script k d scheduled held =
       subst (λ (s : Status). PutsPicture script k out s) (sym d.status_is)
-      (picture_put script k d.answer out (gives_picture form lead_in at (Some all) left' out.before out.after d.answer d.taken picture none d.did d.exactly.1 script k scheduled held))
+      (picture_put script k d.answer out (gives form lead_in at all left' out d.answer d.taken script k scheduled held d.did d.exactly.1))
 
-  pub shown_back : TextIsPicture → PictureNoneBad → (at : ℕ) (left : Bytes) → (status ≢ NoMemory → Does (Screen lead_in form at) (both left left' more more' out) status)
+  pub shown_back : GivesPictures → (at : ℕ) (left : Bytes) → (status ≢ NoMemory → Does (Screen lead_in form at) (both left left' more more' out) status)
       → IfSome left (λ all. (script : List Drawing) (k : ℕ) → IsScheduledStream form lead_in script all → IsHeldAt script k at → PutsPicture script k out status)
-  shown_back picture none at None does = tt
-  shown_back picture none at (Some all) does = λ script k scheduled held.
-      unless_memory _ status (λ found. shown picture none at all script k (does found) scheduled held)
+  shown_back gives at None does = tt
+  shown_back gives at (Some all) does = λ script k scheduled held.
+      unless_memory _ status (λ found. shown gives at all script k (does found) scheduled held)
 
 -- the packs of a stream as the words of its form
 pub packs_written : (form : Form) (blocks : ℕ) (packs : List (List ℕ)) → length packs ≡ whole_packs blocks → 2 ≤ blocks → all_packs form blocks packs ≡ written_packs form packs

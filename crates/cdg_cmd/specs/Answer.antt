@@ -7,16 +7,16 @@ use Rattle.cdg_screen.specs.Picture.{Standing}
 use Rattle.cdg_screen.specs.Texts.{pixmap, state_text}
 use Rattle.raw_subcode.specs.Channels.{unit_size}
 use Rattle.raw_subcode.specs.declared.form.Form.{Form}
-use Rattle.subcode_player.specs.Calls.{IsAnsweredBy, IsListStop, IsMomentStop, IsStreamStop, at_end, in_turn}
-use Rattle.subcode_player.specs.Convert.{IsConverted}
-use Rattle.subcode_player.specs.Check.{IsCheckListed}
-use Rattle.subcode_player.specs.Screen.{IsShownBy, Moment, Shows, moment}
-use Rattle.subcode_player.specs.TextListing.{IsListedBy, ListsTexts}
+use Rattle.stream_stages.specs.Calls.{IsAnsweredBy, IsListStop, IsMomentStop, IsStreamStop, at_end, in_turn}
+use Rattle.stream_stages.specs.Convert.{IsConverted}
+use Rattle.stream_stages.specs.Check.{IsCheckListed}
+use Rattle.stream_stages.specs.Screen.{IsShownBy, Moment, Shows, moment}
+use Rattle.stream_stages.specs.TextListing.{IsListedBy, ListsTexts}
 use Rattle.cdtext_packs.specs.declared.kinds.TextFault.{TextFault}
 use Rattle.cdtext_packs.specs.declared.kinds.TextFault.TheVariants as fault
-use Rattle.subcode_player.specs.declared.player.Played.{Played}
-use Rattle.subcode_player.specs.declared.player.PlayStop.{PlayStop}
-use Rattle.subcode_player.specs.declared.player.PlayStop.TheVariants as play
+use Rattle.stream_stages.specs.declared.played.Played.{Played}
+use Rattle.stream_stages.specs.declared.played.PlayStop.{PlayStop}
+use Rattle.stream_stages.specs.declared.played.PlayStop.TheVariants as play
 use Rattle.q_channel.specs.QList.{IsQListed}
 use Rattle.q_channel.specs.PlanarStream.{IsBlockStream, IsPlanarStream}
 use Rattle.cdg_cmd.specs.Authors.{AuthorsWith}
@@ -133,6 +133,13 @@ OnDone holds WriteFault = ⊤
 OnDone holds NoMemory = ⊤
 OnDone holds _ = ⊥
 
--- this text was put and nothing was bad, unless a read or a write failed or no memory was found
+-- this text was put and nothing was bad, unless a read or a write failed
 abbrev pub GivesBack : List ℕ → Change Bytes → Status → Type 0
-GivesBack text out status = OnDone (Appends out.before out.after text) status
+GivesBack text out Done = Appends out.before out.after text
+GivesBack text out (ReadFault which) = ⊤
+GivesBack text out WriteFault = ⊤
+GivesBack text out _ = ⊥
+
+-- the same of a command that takes memory: this text was put, unless a read or a write failed or no memory was found
+abbrev pub GivesIfFound : List ℕ → Change Bytes → Status → Type 0
+GivesIfFound text out status = OnDone (Appends out.before out.after text) status

@@ -10,7 +10,7 @@ use Rattle.rw_interleave.specs.Stream.{IsDamaged}
 use Rattle.subcode_author.specs.Authored.{Disc}
 use Rattle.subcode_author.specs.AuthorAnswer.{AreReady, HasRoom, HoldsPictures}
 use Rattle.raw_subcode.specs.Sizes.{most_units}
-use Rattle.subcode_player.specs.Pictured.{IsPictureText}
+use Rattle.round_trips.specs.Pictured.{IsPictureText}
 use Rattle.cdg_cmd.specs.Answer.{OnDone}
 use Rattle.cdg_cmd.specs.Authors.{PutsAuthored}
 use Rattle.cdg_io.specs.Change.{Change, Bytes}

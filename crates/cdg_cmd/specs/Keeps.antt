@@ -5,7 +5,7 @@ use Rattle.cdg_cmd.specs.Authors.{ReadsSheet}
 use Rattle.cdg_io.specs.Change.{Bytes, Change}
 use Rattle.cdg_cmd.specs.Checkpoints.{ReadsCheckpoint}
 use Rattle.cdg_cmd.specs.declared.command.Command.{Command}
-use Rattle.cdg_cmd.specs.declared.command.Command.TheVariants.{Screen, State, Check, Q, Text, Author, Planar, Raw, Scratch, Gen, Trial, Merge, Press, Save, Resume}
+use Rattle.cdg_cmd.specs.declared.command.Command.TheVariants.{Convert, Screen, State, Check, Q, Text, Author, Planar, Raw, Scratch, Gen, Trial, Merge, Press, Save, Resume}
 use Rattle.cdg_cmd.specs.declared.status.Status.{Status}
 use Rattle.cdg_cmd.specs.declared.status.Status.TheVariants.{Done, Damaged, WriteFault, NoMemory}
 
@@ -46,6 +46,8 @@ MayWrite status = ⊥
 
 -- it takes no memory
 abbrev pub TakesNone : Command → Type 0
+TakesNone (Convert lead_in form) = ⊤
+TakesNone (Check lead_in form) = ⊤
 TakesNone (Q lead_in form) = ⊤
 TakesNone Planar = ⊤
 TakesNone Raw = ⊤

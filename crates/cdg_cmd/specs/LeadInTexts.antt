@@ -6,7 +6,7 @@ use Rattle.stream_writer.specs.SheetTexts.{sheet_texts}
 use Rattle.cdtext_packs.specs.Texts.{has_no_text}
 use Rattle.cdtext_packs.specs.TextLines.{offers_line}
 use Rattle.subcode_author.specs.Authored.{Disc, text_packs}
-use Rattle.subcode_player.specs.TextListing.{IsWholeInput, packs_in}
+use Rattle.stream_stages.specs.TextListing.{IsWholeInput, packs_in}
 use Rattle.round_trips.specs.Damage.{HasHurtSlots, count_hurt, count_whole}
 use Rattle.round_trips.specs.SheetLines.{HasText, HasTextPacks, sheet_lines}
 

@@ -11,29 +11,25 @@ ghost use Rattle.cdg_cmd.specs.Keeps.{MayWrite};
 use crate::play::play_status;
 use crate::{Command, Status};
 use cdg_io::{Sink, Source};
-use std::alloc::Global;
-use subcode_player::{Form, Player};
+use raw_subcode::Form;
+use stream_calls::Checker;
 
 /// Writes the counts of a stream.
-#[tactic(auto, using(crate::proofs::Played::told_none))]
+#[tactic(auto, using(crate::proofs::Played::told_one, crate::proofs::Played::never_memory, crate::proofs::Played::ended_first, crate::proofs::Played::untouched))]
 pub(crate) fn run_check<S: Source, K: Sink>(
-    alloc: Global,
     lead_in: u32,
     form: Form,
     source: &mut S,
     out: &mut K,
 ) -> Status
     requires { lead_in ≤ most_lead_in }
-    ensures does { result ≢ Status.NoMemory → Does (Command.Check lead_in form)
-        (one_input S.left K.held (source.old, out.old) (source.new, out.new)) result }
-    ensures no_memory { result ≡ Status.NoMemory → (source.new ≡ source.old) × (out.new ≡ out.old) }
+    ensures does { Does (Command.Check lead_in form) (one_input S.left K.held (source.old, out.old)
+        (source.new, out.new)) result }
+    ensures memory { result ≢ Status.NoMemory }
     ensures untouched { ¬ (MayWrite result) → out.new ≡ out.old }
     ensures faults { TellsOne (change S.faults source.old source.new)
         (change K.faults out.old out.new) result }
     ensures ended { EndsFirst (change S.ends source.old source.new) result }
 {
-    match Player::start(alloc) {
-        Ok(mut player) => play_status(player.check(lead_in, form, source, out)),
-        Err(_) => Status::NoMemory,
-    }
+    play_status(Checker::new().check(lead_in, form, source, out))
 }

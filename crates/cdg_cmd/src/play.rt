@@ -4,7 +4,7 @@ ghost use Rattle.cdg_cmd.specs.Answer.{play_status, text_fault_status};
 
 use crate::{Refusal, Status, Which};
 use cdtext_packs::TextFault;
-use subcode_player::{PlayStop, Played};
+use stream_stages::{PlayStop, Played};
 
 pub(crate) fn play_status(answer: Result<Played, PlayStop>) -> Status
     ensures { result ≡ play_status answer }

@@ -10,7 +10,8 @@ ghost use Rattle.cdg_cmd.specs.Faults.{TellsOne};
 use crate::play::play_status;
 use crate::{Command, Status};
 use cdg_io::{Sink, Source};
-use subcode_player::{Form, list_frames};
+use raw_subcode::Form;
+use stream_calls::list_frames;
 
 /// Writes the lines of the Q channel as blocks are read.
 #[tactic(auto, using(crate::proofs::Played::told_one, crate::proofs::Played::never_memory, crate::proofs::Played::ended_in_turn))]

@@ -11,8 +11,9 @@ ghost use Rattle.cdg_cmd.specs.Keeps.{MayWrite};
 use crate::play::play_status;
 use crate::{Command, Status};
 use cdg_io::{Sink, Source};
+use raw_subcode::Form;
 use std::alloc::Global;
-use subcode_player::{Form, Player};
+use stream_calls::Viewer;
 
 /// Writes the picture at a moment of a stream.
 #[tactic(auto, using(crate::proofs::Played::told_none))]
@@ -34,8 +35,8 @@ pub(crate) fn run_screen<S: Source, K: Sink>(
         (change K.faults out.old out.new) result }
     ensures ended { EndsFirst (change S.ends source.old source.new) result }
 {
-    match Player::start(alloc) {
-        Ok(mut player) => play_status(player.screen_at(lead_in, form, at, source, out)),
+    match Viewer::start(alloc) {
+        Ok(mut viewer) => play_status(viewer.screen_at(lead_in, form, at, source, out)),
         Err(_) => Status::NoMemory,
     }
 }

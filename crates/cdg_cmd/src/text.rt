@@ -11,8 +11,9 @@ ghost use Rattle.cdg_cmd.specs.Keeps.{MayWrite};
 use crate::play::play_status;
 use crate::{Command, Status};
 use cdg_io::{Sink, Source};
+use raw_subcode::Form;
 use std::alloc::Global;
-use subcode_player::{Form, Player};
+use stream_calls::TextLister;
 
 /// Writes the texts of the lead-in of a stream, after all of it is read.
 #[tactic(auto, using(crate::proofs::Played::told_none))]
@@ -32,8 +33,8 @@ pub(crate) fn run_text<S: Source, K: Sink>(
         (change K.faults out.old out.new) result }
     ensures ended { EndsFirst (change S.ends source.old source.new) result }
 {
-    match Player::start(alloc) {
-        Ok(mut player) => play_status(player.text_list(alloc, lead_in, form, source, out)),
+    match TextLister::start(alloc) {
+        Ok(mut lister) => play_status(lister.text_list(alloc, lead_in, form, source, out)),
         Err(_) => Status::NoMemory,
     }
 }

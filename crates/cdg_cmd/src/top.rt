@@ -10,14 +10,14 @@ ghost use Rattle.subcode_author.specs.Authored.{Disc, IsAuthored};
 ghost use Rattle.rw_merge.specs.Readings.{IsReadTwice};
 ghost use Rattle.cdg_thin.specs.Calls.{ShowsAll};
 ghost use Rattle.std.specs.Io.KnownBytes.{Appends};
-ghost use Rattle.subcode_player.specs.Pictured.{IsHeldAt};
+ghost use Rattle.round_trips.specs.Pictured.{IsHeldAt};
 ghost use Rattle.round_trips.specs.FrameLines.{frame_lines};
 ghost use Rattle.cdg_cmd.specs.Words.{texts};
 ghost use Rattle.cdg_cmd.specs.Spelling.{IsAllowed, Spells};
 ghost use Rattle.cdg_io.specs.Change.{Bytes, change};
 ghost use Rattle.cdg_cmd.specs.Call.{call, dry_call};
 ghost use Rattle.cdg_cmd.specs.Keeps.{Keeps, MayWrite, ReadsNone, ReadsSecond, TakesFirst, TakesNone, WantsMemory, WritesLast};
-ghost use Rattle.cdg_cmd.specs.Answer.{Does, GivesBack};
+ghost use Rattle.cdg_cmd.specs.Answer.{Does, GivesBack, GivesIfFound};
 ghost use Rattle.cdg_cmd.specs.Faults.{IsAnswered, NoneRose, TellsFaults};
 ghost use Rattle.cdg_cmd.specs.Ends.{TellsEnds};
 ghost use Rattle.cdg_cmd.specs.Told.{Tells};
@@ -49,13 +49,12 @@ use cdg_io::{Sink, Source, SteadySink, SteadySource};
 use picture_changes::needs_are_fewest;
 use round_trips::{
     copied_text_lists_are_answered, damaged_text_lists_are_answered, frame_lists_are_answered,
-    pressed_files_are_shown, pressed_packs_come_back,
+    pressed_files_are_shown, pressed_packs_come_back, shown_moments_give_pictures,
 };
 use rw_interleave::{packs_are_recovered, text_of_packs};
 use rw_merge::two_readings_give_packs;
 use std::alloc::Global;
 use subcode_author::accepted_scripts_are_in_order;
-use subcode_player::screens_show_pictures;
 
 /// Runs the command of the words over its inputs, its output and the error output.
 ///
@@ -144,13 +143,13 @@ pub fn run<S: Source, T: Source, K: Sink, E: Sink>(
     ensures strings { (form : Form) (disc : Disc) (stream lines : List ℕ) (packs : List (List ℕ))
         → Spells (Command.Text disc.lead_in form) (texts words.now) → IsAuthored disc stream packs
         → IfSome (S.left first.old) (λ all. AreLinesOf disc form stream all lines
-        → GivesBack lines (change K.held out.old out.new) result) }
+        → GivesIfFound lines (change K.held out.old out.new) result) }
     // Of two readings every pack is merged, where in each word twice the symbols that both have equally wrong and
     // those in which they differ are at most four.
     ensures merges { (lead_in : ℕ) → Spells (Command.Merge lead_in) (texts words.now)
         → IfSome (S.left first.old) (λ one. IfSome (T.left second.old) (λ other. (blocks : ℕ)
         (packs : List (List ℕ)) → IsReadTwice lead_in blocks packs one other
-        → GivesBack (concat packs) (change K.held out.old out.new) result)) }
+        → GivesIfFound (concat packs) (change K.held out.old out.new) result)) }
     // From a pressed stream, after damage of at most two symbols a word, a conversion gives back every pack, and the
     // screen shows, so many blocks after the audio has begun, what stands after four packs of the file for each.
     ensures unpresses { (command : Command) → Spells command (texts words.now)
@@ -168,7 +167,7 @@ pub fn run<S: Source, T: Source, K: Sink, E: Sink>(
 {
     packs_are_recovered();
     text_of_packs();
-    screens_show_pictures();
+    shown_moments_give_pictures();
     frame_lists_are_answered();
     copied_text_lists_are_answered();
     damaged_text_lists_are_answered();
@@ -239,10 +238,10 @@ fn perform<S: Source, T: Source, K: Sink>(
         (change T.ends second.old second.new) result }
 {
     match command {
-        Command::Convert { lead_in, form } => run_convert(alloc, lead_in, form, first, out),
+        Command::Convert { lead_in, form } => run_convert(lead_in, form, first, out),
         Command::Screen { lead_in, form, at } => run_screen(alloc, lead_in, form, at, first, out),
         Command::State { lead_in, form, at } => run_state(alloc, lead_in, form, at, first, out),
-        Command::Check { lead_in, form } => run_check(alloc, lead_in, form, first, out),
+        Command::Check { lead_in, form } => run_check(lead_in, form, first, out),
         Command::Q { lead_in, form } => run_q(lead_in, form, first, out),
         Command::Text { lead_in, form } => run_text(alloc, lead_in, form, first, out),
         Command::Author { lead_in, length } => {

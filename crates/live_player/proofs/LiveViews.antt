@@ -12,12 +12,12 @@ use Rattle.raw_subcode.specs.declared.form.Form.TheVariants.{Raw}
 use Rattle.std.specs.List.{flat_map}
 use Rattle.std.specs.declared.option.Option.{Option}
 use Rattle.std.proofs.lemmas.List.{take_all, length-drop}
-use Rattle.subcode_player.proofs.Slots.{length-all_symbols, sized_drop}
+use Rattle.stream_stages.proofs.Slots.{length-all_symbols, sized_drop}
 use Rattle.live_player.specs.declared.live.LivePlayer.{LivePlayer}
-use Rattle.subcode_player.specs.Screen.{AreMeant}
-use Rattle.subcode_player.proofs.FormWords.{found_in, recovered}
-use Rattle.subcode_player.proofs.Draws.{instrs_of, are_meant}
-use Rattle.subcode_player.proofs.Views.{Drawings, IsReady, drawn_blocks, IsDrawn}
+use Rattle.stream_stages.specs.Screen.{AreMeant}
+use Rattle.stream_stages.proofs.FormWords.{found_in, recovered}
+use Rattle.stream_stages.proofs.Draws.{instrs_of, are_meant}
+use Rattle.stream_stages.proofs.Views.{Drawings, IsReady, drawn_blocks, IsDrawn}
 
 pub live_view : (form : Form) (lead_in : ℕ) (blocks : List (List ℕ)) (player : LivePlayer) → HasPlayed form lead_in blocks player → length blocks ≤ 1000000
     → IsLiveView form lead_in blocks player.stages.second.picture

@@ -10,12 +10,12 @@ use Rattle.cdg_io.proofs.Runs.{run_gives-append, then_next_first}
 use Rattle.raw_subcode.specs.Channels.{symbols_of}
 use Rattle.raw_subcode.specs.declared.form.Form.{Form}
 use Rattle.rw_interleave.specs.Stream.{form_word, word_count}
-use Rattle.subcode_player.specs.Steps.{slots_of, words_next, words_give}
-use Rattle.subcode_player.specs.Drawn.{drawing_next}
-use Rattle.subcode_player.proofs.FormWords.{words_from, words_are}
-use Rattle.subcode_player.proofs.PlayRuns.{block_words}
-use Rattle.subcode_player.proofs.Slots.{Sized, sized_append, sized_drop, all_slots_sized, all_slots_together, length-all_slots, length-all_symbols}
-use Rattle.subcode_player.proofs.StageRuns.{all_items}
+use Rattle.stream_stages.specs.Steps.{slots_of, words_next, words_give}
+use Rattle.stream_stages.specs.Drawn.{drawing_next}
+use Rattle.stream_stages.proofs.FormWords.{words_from, words_are}
+use Rattle.stream_stages.proofs.PlayRuns.{block_words}
+use Rattle.stream_stages.proofs.Slots.{Sized, sized_append, sized_drop, all_slots_sized, all_slots_together, length-all_slots, length-all_symbols}
+use Rattle.stream_stages.proofs.StageRuns.{all_items}
 use Rattle.live_player.specs.Lives.{stream_words, HasPlayed}
 use Rattle.live_player.specs.declared.live.LivePlayer.{LivePlayer}
 

@@ -13,12 +13,12 @@ use Rattle.cdg_instructions.specs.declared.instr.Instr.{Instr}
 use Rattle.cdg_instructions.specs.Meaning.{meaning}
 use Rattle.cdg_screen.specs.Picture.{Standing, blank, screen_pixel, standing_after}
 use Rattle.cdg_screen.specs.Texts.{colour_bytes}
-use Rattle.subcode_player.specs.Screen.{AreShown}
-use Rattle.subcode_player.specs.Steps.{fresh_words, words_next, words_give}
-use Rattle.subcode_player.specs.Drawn.{drawing_next}
-use Rattle.subcode_player.specs.Stages.{drawing_of, words_of}
-use Rattle.subcode_player.specs.declared.block_words.BlockWords.{BlockWords}
-use Rattle.subcode_player.specs.declared.drawing.Drawing.{Drawing}
+use Rattle.stream_stages.specs.Screen.{AreShown}
+use Rattle.stream_stages.specs.Steps.{fresh_words, words_next, words_give}
+use Rattle.stream_stages.specs.Drawn.{drawing_next}
+use Rattle.stream_stages.specs.Stages.{drawing_of, words_of}
+use Rattle.stream_stages.specs.declared.block_words.BlockWords.{BlockWords}
+use Rattle.stream_stages.specs.declared.drawing.Drawing.{Drawing}
 use Rattle.live_player.specs.declared.live.LivePlayer.{LivePlayer}
 
 -- what stands on a player's picture

@@ -4,19 +4,19 @@ ghost use Rattle.raw_subcode.specs.Sizes.{most_units};
 ghost use Rattle.disc_time.specs.Counts.{last_block};
 ghost use Rattle.cdg_screen.specs.Picture.{screen_pixel};
 ghost use Rattle.raw_subcode.specs.declared.form.Form.{Form};
-ghost use Rattle.subcode_player.specs.Steps.{words_give};
-ghost use Rattle.subcode_player.specs.Stages.{drawing_of, words_of};
+ghost use Rattle.stream_stages.specs.Steps.{words_give};
+ghost use Rattle.stream_stages.specs.Stages.{drawing_of, words_of};
 ghost use Rattle.live_player.specs.Lives.{live_next, standing_on, stream_words, picture_byte, HasDrawn, HasPlayed, IsLiveView, IsLiveViewAt};
 
 use crate::looking;
 use arrayvec::ArrayVec;
 use cdg_io::{Stage, Then};
 use disc_time::LAST_BLOCK;
-use raw_subcode::BLOCK_BYTES;
+use raw_subcode::{BLOCK_BYTES, Form};
 use rw_code::{SYMBOLS, Word};
 use rw_interleave::Window;
 use std::alloc::{AllocError, Global};
-use subcode_player::{BlockOfWords, BlockWords, Drawing, Form, Picture};
+use stream_stages::{BlockOfWords, BlockWords, Drawing, Picture};
 
 /// Plays a stream as its blocks come. All its memory is taken at the start.
 #[derive(Drop)]

@@ -6,7 +6,7 @@ ghost use Rattle.live_player.specs.Lives.{instruction_of, picture_byte};
 
 use cdg_instructions::{SCREEN_PIXELS, SCREEN_WIDTH, read_word};
 use rw_code::{SYMBOLS, Word};
-use subcode_player::Picture;
+use stream_stages::Picture;
 
 // Red, green and blue of each pixel.
 const BYTES: usize = 3 * SCREEN_PIXELS;

@@ -3,7 +3,7 @@ use Rattle.std.specs.Prelude.{◌≡◌, ◌==◌, ◌-◌, ◌/◌, if◌then�
 use Rattle.raw_subcode.specs.Channels.{unit_size}
 use Rattle.raw_subcode.specs.declared.form.Form.{Form}
 use Rattle.raw_subcode.specs.declared.form.Form.TheVariants.{Sector}
-use Rattle.subcode_player.specs.Convert.{IsConverted}
+use Rattle.stream_stages.specs.Convert.{IsConverted}
 use Rattle.ribjasper_c.specs.Handles.{form_of}
 use Rattle.ribjasper_c.specs.declared.converting.Converted.{Converted}
 

@@ -4,13 +4,15 @@ ghost use Rattle.raw_subcode.specs.Sizes.{most_units};
 ghost use Rattle.disc_time.specs.Counts.{most_lead_in};
 ghost use Rattle.raw_subcode.specs.Channels.{unit_size};
 ghost use Rattle.ribjasper_c.specs.Conversions.{stream_form, IsTold};
-ghost use Rattle.subcode_player.specs.Convert.{IsConverted};
+ghost use Rattle.stream_stages.specs.Convert.{IsConverted};
 
 use crate::playing::form_of;
 use cdg_io::{MemSink, SteadySource};
 use disc_time::MOST_LEAD_IN;
+use raw_subcode::Form;
 use std::alloc::Global;
-use subcode_player::{Form, PlayStop, Played, Player};
+use stream_calls::Converter;
+use stream_stages::{PlayStop, Played};
 
 // The exit numbers of the program.
 const DONE: i32 = 0;
@@ -105,18 +107,12 @@ fn packs_of(
     let Ok(mut sink) = MemSink::new(alloc, stream.len(), Vec::new(alloc), Vec::new(alloc)) else {
         return Err(Stop::NoMemory);
     };
-    let played = write_packs(alloc, form, lead_in, stream, &mut sink)?;
+    let played = write_packs(form, lead_in, stream, &mut sink)?;
     Ok((sink, played))
 }
 
-// Converts a stream into a sink by a player of its own.
-fn write_packs(
-    alloc: Global,
-    form: Form,
-    lead_in: u32,
-    stream: &[u8],
-    sink: &mut MemSink,
-) -> Result<Played, Stop>
+// Converts a stream into a sink.
+fn write_packs(form: Form, lead_in: u32, stream: &[u8], sink: &mut MemSink) -> Result<Played, Stop>
     requires lead_in { lead_in ≤ most_lead_in }
     requires empty { sink.old.held ≡ [] }
     ensures text { IfOk result (λ played. IsConverted form lead_in stream.now sink.new.held played.bad) }
@@ -124,13 +120,8 @@ fn write_packs(
     ensures refused { IsErrOf result Stop.Refused → (length stream.now % unit_size form ≢ 0)
         ⊎ (most_units * unit_size form < length stream.now) }
 {
-    let Ok(mut player) = Player::start(alloc) else {
-        return Err(Stop::NoMemory);
-    };
     let mut source = SteadySource::new(stream);
-    let answer = player.convert(lead_in, form, &mut source, sink);
-    drop(player);
-    match answer {
+    match Converter::new().convert(lead_in, form, &mut source, sink) {
         Ok(played) => Ok(played),
         Err(PlayStop::Torn { .. } | PlayStop::TooLong) => Err(Stop::Refused),
         Err(_) => Err(Stop::NoMemory),

@@ -5,11 +5,10 @@ ghost use Rattle.ribjasper_c.specs.Handles.{form_of, IsDrawing, IsPlaying};
 
 use crate::Handle;
 use live_player::LivePlayer;
-use raw_subcode::BLOCK_BYTES;
+use raw_subcode::{BLOCK_BYTES, Form};
 use rw_code::SYMBOLS;
 use std::alloc::Global;
 use std::mem;
-use subcode_player::Form;
 
 /// What C keeps of a player. All zero it is closed.
 #[repr(C)]

@@ -13,13 +13,13 @@ use Rattle.raw_subcode.specs.Sizes.{most_units}
 use Rattle.cdg_io.specs.Change.{Bytes, Change, from_to}
 use Rattle.cdg_io.specs.Streams.{Streams}
 use Rattle.cdg_io.proofs.Frames.{passing}
-use Rattle.subcode_player.specs.Calls.{IsAnsweredBy, in_turn}
-use Rattle.subcode_player.specs.Convert.{Restores}
-use Rattle.subcode_player.specs.TextListing.{texts_of_lead_in, IsTextListed, ListsTexts, IsListedBy, IsWholeInput}
-use Rattle.subcode_player.specs.declared.player.Played.{Played}
-use Rattle.subcode_player.specs.declared.player.PlayStop.{PlayStop}
-use Rattle.subcode_player.specs.declared.player.PlayStop.TheVariants.{ReadFault, WriteFault, Torn, TooLong, PastEnd, Text}
-use Rattle.subcode_player.proofs.Restoring.{taken_all}
+use Rattle.stream_stages.specs.Calls.{IsAnsweredBy, in_turn}
+use Rattle.stream_stages.specs.Convert.{Restores}
+use Rattle.stream_stages.specs.TextListing.{texts_of_lead_in, IsTextListed, ListsTexts, IsListedBy, IsWholeInput}
+use Rattle.stream_stages.specs.declared.played.Played.{Played}
+use Rattle.stream_stages.specs.declared.played.PlayStop.{PlayStop}
+use Rattle.stream_stages.specs.declared.played.PlayStop.TheVariants.{ReadFault, WriteFault, Torn, TooLong, PastEnd, Text}
+use Rattle.stream_stages.proofs.Restoring.{taken_all}
 use Rattle.round_trips.specs.Answers.{PutsTexts}
 
 -- an authored stream is made of whole blocks

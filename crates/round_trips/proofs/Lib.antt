@@ -11,3 +11,4 @@ pub mod Standings
 pub mod Shown
 pub mod Packs
 pub mod Existing
+pub mod Pictured

@@ -28,7 +28,7 @@ use Rattle.cdtext_packs.proofs.Back.{contents_are, count_is}
 use Rattle.cdtext_packs.proofs.Seals.{IsContent, numbered_at, seal_good}
 use Rattle.picture_script.specs.Script.{Drawing}
 use Rattle.subcode_author.specs.Authored.{IsAuthored, text_packs, disc_of}
-use Rattle.subcode_player.specs.TextListing.{IsTextListed, packs_in, texts_of_lead_in}
+use Rattle.stream_stages.specs.TextListing.{IsTextListed, packs_in, texts_of_lead_in}
 use Rattle.round_trips.specs.Damage.{HasHurtSlots, count_whole, count_hurt}
 use Rattle.round_trips.specs.SheetLines.{HasText, HasTextPacks, sheet_lines}
 use Rattle.round_trips.specs.Slots.{pack_in_slot, packs_in_slots}

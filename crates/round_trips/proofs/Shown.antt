@@ -17,9 +17,9 @@ use Rattle.cdg_instructions.specs.declared.instr.Instr.{Instr}
 use Rattle.cdg_instructions.specs.declared.instr.Instr.TheVariants.{Idle}
 use Rattle.cdg_screen.specs.Texts.{pixmap}
 use Rattle.cdg_screen.specs.Picture.{blank, standing_after}
-use Rattle.subcode_player.specs.Convert.{IsDamagedStream}
-use Rattle.subcode_player.specs.Screen.{AreMeant, IsScreenAt, moment}
-use Rattle.subcode_player.proofs.Restoring.{Recovers, program_small}
+use Rattle.stream_stages.specs.Convert.{IsDamagedStream}
+use Rattle.stream_stages.specs.Screen.{AreMeant, IsScreenAt, moment}
+use Rattle.stream_stages.proofs.Restoring.{Recovers, program_small}
 use Rattle.rw_code.specs.Packs.{idle_pack}
 use Rattle.cdg_press.specs.Pressed.{file_begin, file_pack, file_packs, IsPressed, press_of}
 use Rattle.round_trips.specs.Damaged.{file_standing, DamagedPress, IsFileText}

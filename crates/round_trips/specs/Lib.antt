@@ -4,3 +4,4 @@ pub mod SheetLines
 pub mod Damage
 pub mod Answers
 pub mod Damaged
+pub mod Pictured

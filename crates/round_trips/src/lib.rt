@@ -4,6 +4,7 @@
 mod answers;
 mod frames;
 mod pressed;
+mod scheduled_screens;
 mod texts;
 
 pub use answers::{
@@ -15,6 +16,7 @@ pub use pressed::{
     pressable_files_have_streams, pressed_files_are_shown, pressed_packs_come_back,
     pressed_streams_are_one,
 };
+pub use scheduled_screens::{screens_show_pictures, shown_moments_give_pictures};
 pub use texts::{
     accepted_sheets_have_text_packs, authored_lead_ins_hold_the_packs, authored_texts_are_listed,
     damaged_lead_ins_give_the_texts, streams_without_texts_are_listed,

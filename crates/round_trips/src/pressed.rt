@@ -13,8 +13,8 @@ ghost use Rattle.cdg_io.specs.Moves.{AppendsPrefix};
 ghost use Rattle.cdg_press.specs.Pressed.{file_begin, IsPackAfter, IsPressed, press_of};
 ghost use Rattle.cdg_press.specs.Refusals.{IsPressable};
 ghost use Rattle.rw_interleave.specs.Stream.{IsRecovered, all_packs};
-ghost use Rattle.subcode_player.specs.Convert.{IsDamagedStream};
-ghost use Rattle.subcode_player.specs.Screen.{IsScreenAt, moment};
+ghost use Rattle.stream_stages.specs.Convert.{IsDamagedStream};
+ghost use Rattle.stream_stages.specs.Screen.{IsScreenAt, moment};
 ghost use Rattle.round_trips.specs.Damaged.{DamagedPress, IsFileText};
 
 use cdg_instructions::each_pack_has_a_meaning;

@@ -10,7 +10,7 @@ ghost use Rattle.stream_writer.specs.SheetTexts.{sheet_texts, texts_of_sheet};
 ghost use Rattle.cdtext_packs.specs.Texts.{has_no_text, no_texts};
 ghost use Rattle.cdtext_packs.specs.TextLines.{offers_line};
 ghost use Rattle.subcode_author.specs.Authored.{IsAuthored, text_packs, disc_of};
-ghost use Rattle.subcode_player.specs.TextListing.{IsTextListed, packs_in, texts_of_lead_in};
+ghost use Rattle.stream_stages.specs.TextListing.{IsTextListed, packs_in, texts_of_lead_in};
 ghost use Rattle.round_trips.specs.Damage.{HasHurtSlots, count_whole, count_hurt};
 ghost use Rattle.round_trips.specs.SheetLines.{HasText, HasTextPacks, sheet_lines};
 ghost use Rattle.round_trips.specs.Slots.{packs_in_slots};

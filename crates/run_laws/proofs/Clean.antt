@@ -11,12 +11,12 @@ use Rattle.raw_subcode.specs.declared.form.Form.{Form}
 use Rattle.rw_code.specs.Codeword.{IsCodeword}
 use Rattle.rw_interleave.specs.Stream.{IsRecovered, bad_count, form_word, word_count}
 use Rattle.rw_interleave.specs.Texts.{cdg_bytes}
-use Rattle.subcode_player.specs.Calls.{IsAnsweredBy, IsPlayed, blocks_played, in_turn}
-use Rattle.subcode_player.specs.Convert.{IsConverted}
-use Rattle.subcode_player.specs.TextListing.{IsWholeInput}
-use Rattle.subcode_player.specs.declared.player.Played.{Played}
-use Rattle.subcode_player.specs.declared.player.PlayStop.{PlayStop}
-use Rattle.subcode_player.specs.declared.player.PlayStop.TheVariants as play
+use Rattle.stream_stages.specs.Calls.{IsAnsweredBy, IsPlayed, blocks_played, in_turn}
+use Rattle.stream_stages.specs.Convert.{IsConverted}
+use Rattle.stream_stages.specs.TextListing.{IsWholeInput}
+use Rattle.stream_stages.specs.declared.played.Played.{Played}
+use Rattle.stream_stages.specs.declared.played.PlayStop.{PlayStop}
+use Rattle.stream_stages.specs.declared.played.PlayStop.TheVariants as play
 use Rattle.cdg_cmd.specs.Answer.{Does, GivesBack, play_status}
 use Rattle.cdg_io.specs.Change.{Bytes, Change, from_to}
 use Rattle.cdg_io.specs.Streams.{Streams}
@@ -80,7 +80,7 @@ module _ (form : Form) (lead_in : ℕ) (left' more more' : Bytes) (out : Change 
       (in_turn_given (IsConverted form lead_in) form lead_in all left' out c.taken (concat (form_words form symbols)) c.answer c.did c.exactly.1 clean.input
       (λ text bad converted. clean_text form symbols converted.found text bad (finds symbols converted.found clean.codewords converted.recovered) written none converted.text_is converted.bad_is))
 
-  pub clean_given : (left : Bytes) → (status ≢ NoMemory → Does (Convert lead_in form) (both left left' more more' out) status)
+  pub clean_given : (left : Bytes) → Does (Convert lead_in form) (both left left' more more' out) status
       → IfSome left (λ all. IsCleanStream form lead_in all → GivesBack (concat (form_words form (program_symbols form all lead_in))) out status)
   clean_given None converts = tt
-  clean_given (Some all) converts = λ clean. unless_memory _ status (λ found. clean_converted all (converts found) clean)
+  clean_given (Some all) converts = λ clean. clean_converted all converts clean

@@ -4,7 +4,7 @@ use Rattle.std.specs.List.{concat}
 use Rattle.raw_subcode.specs.declared.form.Form.TheVariants.{Raw}
 use Rattle.cdg_workload.specs.Scratches.{scratched}
 use Rattle.rw_interleave.specs.Stream.{all_packs}
-use Rattle.subcode_player.specs.Convert.{IsDamagedStream}
+use Rattle.stream_stages.specs.Convert.{IsDamagedStream}
 use Rattle.cdg_cmd.specs.Answer.{GivesBack}
 use Rattle.cdg_io.specs.Change.{Bytes, Change}
 use Rattle.cdg_cmd.specs.declared.status.Status.{Status}

@@ -12,9 +12,9 @@ use Rattle.cdg_checkpoint.specs.declared.stops.ResumeStop.{ResumeStop}
 use Rattle.cdg_checkpoint.specs.declared.stops.ResumeStop.TheVariants as resume
 use Rattle.cdg_press.specs.declared.stops.PressStop.{PressStop}
 use Rattle.cdg_press.specs.declared.stops.PressStop.TheVariants as press
-use Rattle.subcode_player.specs.declared.player.Played.{Played}
-use Rattle.subcode_player.specs.declared.player.PlayStop.{PlayStop}
-use Rattle.subcode_player.specs.declared.player.PlayStop.TheVariants as play
+use Rattle.stream_stages.specs.declared.played.Played.{Played}
+use Rattle.stream_stages.specs.declared.played.PlayStop.{PlayStop}
+use Rattle.stream_stages.specs.declared.played.PlayStop.TheVariants as play
 use Rattle.cdg_cmd.specs.Answer.{Does, play_status}
 use Rattle.cdg_cmd.specs.Authors.{Answers, AuthorsWith, StopsAtScript, StopsAtSheet, author_status}
 use Rattle.cdg_io.specs.Change.{Bytes}

@@ -10,7 +10,7 @@ use Rattle.picture_script.specs.Script.{Drawing}
 use Rattle.cdg_workload.specs.Scratches.{scratched}
 use Rattle.stream_trial.proofs.Scratched.{no_more_packs}
 use Rattle.subcode_author.specs.Authored.{IsAuthored, disc_of}
-use Rattle.subcode_player.specs.Convert.{IsDamagedStream}
+use Rattle.stream_stages.specs.Convert.{IsDamagedStream}
 
 whole_blocks : (n size : ℕ) → size ≡ 96 * n → size % 96 ≡ 0
 whole_blocks n size is = omega (arith, is)

@@ -5,7 +5,7 @@ use Rattle.raw_subcode.specs.Channels.{program_symbols}
 use Rattle.raw_subcode.specs.declared.form.Form.{Form}
 use Rattle.rw_code.specs.Codeword.{IsCodeword}
 use Rattle.rw_interleave.specs.Stream.{form_word, word_count}
-use Rattle.subcode_player.specs.TextListing.{IsWholeInput}
+use Rattle.stream_stages.specs.TextListing.{IsWholeInput}
 
 -- the words of program symbols
 abbrev pub form_words : Form → List ℕ → List (List ℕ)

@@ -11,8 +11,8 @@ ghost use Rattle.toc_model.specs.Places.{program_blocks};
 ghost use Rattle.cdg_workload.specs.Scratches.{scratched};
 ghost use Rattle.rw_interleave.specs.Stream.{all_packs};
 ghost use Rattle.subcode_author.specs.Authored.{IsAuthored, disc_of};
-ghost use Rattle.subcode_player.specs.Convert.{IsDamagedStream};
-ghost use Rattle.subcode_player.specs.Pictured.{IsHeldAt, IsScheduledStream};
+ghost use Rattle.stream_stages.specs.Convert.{IsDamagedStream};
+ghost use Rattle.round_trips.specs.Pictured.{IsHeldAt, IsScheduledStream};
 ghost use Rattle.cdg_cmd.specs.Answer.{GivesBack};
 ghost use Rattle.cdg_io.specs.Change.{Bytes};
 ghost use Rattle.cdg_cmd.specs.Call.{Call};
@@ -23,8 +23,8 @@ ghost use Rattle.run_laws.specs.Ran.{IsRun};
 ghost use Rattle.run_laws.specs.Undamaged.{IsCleanStream, form_words};
 
 use crate::scratched_streams_are_damaged;
+use round_trips::shown_moments_give_pictures;
 use rw_interleave::{clean_words_are_found, packs_are_recovered, text_of_packs};
-use subcode_player::screens_show_pictures;
 
 /// A law: from damage of at most two symbols a word a conversion gives back every pack of a stream, wherever it comes
 /// from.
@@ -48,7 +48,7 @@ pub fn scheduled_streams_show_their_pictures()
         → IsScheduledStream form lead_in script all → IsHeldAt script k at
         → PutsPicture script k call.out status) }
 {
-    screens_show_pictures();
+    shown_moments_give_pictures();
 }
 
 /// A law: of a stream whose words are all codewords a conversion writes these words.

@@ -11,7 +11,7 @@ ghost use Rattle.cdtext_packs.specs.Texts.{has_no_text};
 ghost use Rattle.cdtext_packs.specs.TextLines.{offers_line};
 ghost use Rattle.subcode_author.specs.Authored.{IsAuthored, disc_of};
 ghost use Rattle.round_trips.specs.SheetLines.{HasText, HasTextPacks, sheet_lines};
-ghost use Rattle.cdg_cmd.specs.Answer.{GivesBack};
+ghost use Rattle.cdg_cmd.specs.Answer.{GivesIfFound};
 ghost use Rattle.cdg_io.specs.Change.{Bytes};
 ghost use Rattle.cdg_cmd.specs.Call.{Call};
 ghost use Rattle.cdg_cmd.specs.LeadInTexts.{HasTextsOf};
@@ -29,13 +29,13 @@ pub fn authored_texts_are_written()
         → lead_in ≤ most_lead_in → program_blocks sheet audio ≤ most_program → HasTextPacks sheet
         → HasText sheet → 0 < lead_in
         → IfSome call.first.before (λ all. IsAuthored (disc_of sheet script lead_in audio) all packs
-        → GivesBack (sheet_lines sheet (4 * lead_in) 0) call.out status) }
+        → GivesIfFound (sheet_lines sheet (4 * lead_in) 0) call.out status) }
     ensures none { (lead_in audio : ℕ) (sheet : CueSheet) (script : List Drawing) (packs : List (List ℕ))
         (call : Call Bytes) (status : Status) → IsRun (Text lead_in Raw) call status
         → lead_in ≤ most_lead_in → program_blocks sheet audio ≤ most_program
         → has_no_text (sheet_texts sheet) ≡ true
         → IfSome call.first.before (λ all. IsAuthored (disc_of sheet script lead_in audio) all packs
-        → GivesBack (offers_line 0 (4 * lead_in) 0) call.out status) }
+        → GivesIfFound (offers_line 0 (4 * lead_in) 0) call.out status) }
 {
     text_lists_are_answered();
 }
@@ -48,13 +48,13 @@ pub fn copied_texts_are_written()
         → HasTextPacks sheet → HasText sheet → 0 < lead_in
         → IsAuthored (disc_of sheet script lead_in audio) bytes packs
         → IfSome call.first.before (λ all. HasTextsOf form lead_in bytes all
-        → GivesBack (sheet_lines sheet (4 * lead_in) 0) call.out status) }
+        → GivesIfFound (sheet_lines sheet (4 * lead_in) 0) call.out status) }
     ensures none { (lead_in audio : ℕ) (form : Form) (sheet : CueSheet) (script : List Drawing)
         (bytes : List ℕ)
         (packs : List (List ℕ)) (call : Call Bytes) (status : Status) → IsRun (Text lead_in form) call status
         → has_no_text (sheet_texts sheet) ≡ true → IsAuthored (disc_of sheet script lead_in audio) bytes packs
         → IfSome call.first.before (λ all. HasTextsOf form lead_in bytes all
-        → GivesBack (offers_line 0 (4 * lead_in) 0) call.out status) }
+        → GivesIfFound (offers_line 0 (4 * lead_in) 0) call.out status) }
 {
     copied_text_lists_are_answered();
 }

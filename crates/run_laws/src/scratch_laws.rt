@@ -9,8 +9,8 @@ ghost use Rattle.picture_script.specs.Script.{Drawing};
 ghost use Rattle.picture_changes.specs.Shown.{AreColoursInRange, AreTimesInOrder};
 ghost use Rattle.cdg_workload.specs.Scratches.{scratched};
 ghost use Rattle.subcode_author.specs.Authored.{IsAuthored, disc_of};
-ghost use Rattle.subcode_player.specs.Convert.{IsDamagedStream};
-ghost use Rattle.subcode_player.specs.Pictured.{IsScheduledStream};
+ghost use Rattle.stream_stages.specs.Convert.{IsDamagedStream};
+ghost use Rattle.round_trips.specs.Pictured.{IsScheduledStream};
 
 use raw_subcode::Form;
 use stream_trial::scratched_streams_are_recovered;

@@ -1,39 +1,27 @@
-// A player, and what its calls share.
-ghost use Rattle.std.specs.Prelude.{◌≡◌, ◌-◌, IfOk};
-ghost use Rattle.subcode_player.specs.Watch.{play_stop};
-ghost use Rattle.subcode_player.specs.Steps.{fresh_words};
-ghost use Rattle.subcode_player.specs.Stages.{correction_of, words_of};
+// A player: its parts, and a call of each.
+ghost use Rattle.std.specs.Prelude.{◌≡◌, ◌≢◌, ◌≤◌, List, ℕ, length, IfSome, IfOk, IfErr};
+ghost use Rattle.std.specs.List.{concat};
+ghost use Rattle.disc_time.specs.Counts.{last_block, most_lead_in};
+ghost use Rattle.cdg_io.specs.Change.{passed};
+ghost use Rattle.cdg_io.specs.Streams.{Streams, WritesAtEnd};
+ghost use Rattle.cdg_screen.specs.Texts.{pixmap, state_text};
+ghost use Rattle.q_channel.specs.QList.{IsQListed};
+ghost use Rattle.raw_subcode.specs.Channels.{unit_size};
+ghost use Rattle.rw_interleave.specs.Stream.{all_packs};
+ghost use Rattle.stream_stages.specs.Calls.{EndFirst, EndInTurn, IsAnsweredBy, IsListStop, IsMomentStop, IsStreamStop, at_end, in_turn};
+ghost use Rattle.stream_stages.specs.Check.{IsCheckListed};
+ghost use Rattle.stream_stages.specs.Convert.{Converts, IsDamagedStream, Restores};
+ghost use Rattle.stream_stages.specs.Faults.{TellsStops};
+ghost use Rattle.stream_stages.specs.Screen.{IsShownBy, Shows, moment};
+ghost use Rattle.stream_stages.specs.Stages.{correction_of, words_of};
+ghost use Rattle.stream_stages.specs.Steps.{fresh_words};
+ghost use Rattle.stream_stages.specs.TextListing.{IsListedBy, ListsTexts};
 
-use crate::{BlockWords, Correction, Counting, Drawing, Form, Picture, SectorBlocks};
-use cdg_io::{PumpStop, Pumped, Then};
-use cdtext_packs::{LeadInTexts, TextFault};
+use cdg_io::{Sink, Source};
+use raw_subcode::Form;
 use std::alloc::{AllocError, Global};
-
-/// What was played of a whole input.
-#[derive(Clone, Copy, Debug, PartialEq, Eq)]
-pub struct Played {
-    /// The blocks of the program, which are those after the lead-in.
-    pub blocks: u32,
-    /// The words with no codeword within two symbols, or what a call says that it counts in their place.
-    pub bad: u32,
-}
-
-/// Why a call stopped before the end of a whole input.
-#[derive(Clone, Copy, Debug, PartialEq, Eq)]
-pub enum PlayStop {
-    /// A read failed.
-    ReadFault,
-    /// A write failed: the sink took a prefix of the text.
-    WriteFault,
-    /// The input ended within the block of this number, counted from 0.
-    Torn { block: u32 },
-    /// The input has more than 1,000,000 blocks or sectors.
-    TooLong,
-    /// The moment is later than the end of this many program blocks.
-    PastEnd { blocks: u32 },
-    /// The text packs of the lead-in give no texts, or no memory is found for them.
-    Text(TextFault),
-}
+use stream_calls::{Checker, Converter, TextLister, Viewer, list_frames};
+use stream_stages::{PlayStop, Played};
 
 /// Plays streams, one at a time. All its memory is taken at the start; each call begins anew, whatever stopped the
 /// one before.
@@ -42,72 +30,223 @@ pub enum PlayStop {
 /// bytes, or sectors of 2,448. It reads at most one byte past 1,000,000 units.
 #[derive(Drop)]
 pub struct Player {
-    /// The packs of a stream.
-    pub stages: SectorBlocks<Then<BlockWords, Correction>>,
-    /// The picture at a moment of a stream.
-    pub views: SectorBlocks<Then<BlockWords, Drawing>>,
-    /// The counts of a stream.
-    pub checks: SectorBlocks<Counting>,
-    /// The texts of a lead-in.
-    pub texts: SectorBlocks<LeadInTexts>,
+    /// What converts: it takes no memory.
+    pub converter: Converter,
+    /// What shows a moment: it holds one screen.
+    pub viewer: Viewer,
+    /// What counts: it takes no memory.
+    pub checker: Checker,
+    /// What lists texts: it holds a table of text packs.
+    pub lister: TextLister,
 }
 
 impl Player {
     /// Takes the memory of the screen and of the texts.
     pub fn start(alloc: Global) -> Result<Player, AllocError>
-        ensures { IfOk result
-            (λ p. (words_of p.stages.blocks ≡ fresh_words Form.Raw 0) × ((correction_of p.stages.blocks).bad ≡ 0)) }
+        ensures { IfOk result (λ p. (words_of p.converter.stages.blocks ≡ fresh_words Form.Raw 0)
+            × ((correction_of p.converter.stages.blocks).bad ≡ 0)) }
     {
-        let drawing = Drawing {
-            picture: Picture::start(alloc)?,
-            left: 0,
-            bad: 0,
-        };
-        let texts = LeadInTexts::start(alloc)?;
+        let viewer = Viewer::start(alloc)?;
+        let lister = TextLister::start(alloc)?;
         Ok(Player {
-            stages: SectorBlocks {
-                blocks: Then::new(BlockWords::new(), Correction { bad: 0 }),
-            },
-            views: SectorBlocks {
-                blocks: Then::new(BlockWords::new(), drawing),
-            },
-            checks: SectorBlocks {
-                blocks: Counting::new(),
-            },
-            texts: SectorBlocks { blocks: texts },
+            converter: Converter::new(),
+            viewer,
+            checker: Checker::new(),
+            lister,
         })
     }
 
-    /// What was played, after a pump that came to the end.
-    pub(crate) fn played(&self, pumped: Pumped, lead_in: u32) -> Played
-        ensures blocks { result.blocks ≡ pumped.units - lead_in }
-        ensures bad { result.bad ≡ (correction_of self.now.stages.blocks).bad }
+    /// Writes the packs of a stream as its blocks are read: 24 bytes each, every byte below 64.
+    ///
+    /// `lead_in` is at most 450,000 blocks, which are passed over. A word with no codeword within two symbols is
+    /// written as 24 zeros, and counted in `Played::bad`. Of B blocks of the program 4B - 7 packs are written, and 4B
+    /// where they are cooked.
+    ///
+    /// # Errors
+    ///
+    /// `Torn` and `TooLong` come after the packs of all whole blocks are written, `ReadFault` after those of the blocks
+    /// that were read. After `WriteFault` the sink holds a prefix, and no later block was read.
+    pub fn convert<S: Source, K: Sink>(
+        &mut self,
+        lead_in: u32,
+        form: Form,
+        source: &mut S,
+        out: &mut K,
+    ) -> Result<Played, PlayStop>
+        requires { lead_in ≤ most_lead_in }
+        ensures converts { (taken : List ℕ) × Converts form lead_in
+            (passed S.left K.held (source.old, out.old) (source.new, out.new)) result taken }
+        // Every pack comes back from damage of at most two symbols a word.
+        ensures restores { IfSome (S.left source.old) (λ all. (blocks : ℕ) (packs : List (List ℕ))
+            → IsDamagedStream form lead_in blocks packs all
+            → Restores result (K.held out.old) (K.held out.new) (concat (all_packs form blocks packs))) }
+        // It never answers that a moment is past the end, nor a fault of texts, whatever the input.
+        ensures stops { IfErr result IsStreamStop }
+        // Where nothing failed, the answer is that of the whole input's length.
+        ensures answer { IfSome (S.left source.old) (λ all.
+            IsAnsweredBy result (unit_size form) (length all)) }
+        ensures faults { TellsStops (S.faults source.old) (S.faults source.new)
+            (K.faults out.old) (K.faults out.new) result }
+        ensures ended { EndInTurn result (S.ends source.old) (S.ends source.new) }
     {
-        let correction = &self.stages.blocks.second;
-        Played {
-            blocks: pumped.units.saturating_sub(lead_in),
-            bad: correction.bad,
-        }
+        self.converter.convert(lead_in, form, source, out)
     }
 
-    /// Brings back the state after the start, for a stream of this form.
-    pub(crate) fn begin(&mut self, lead_in: u32, form: Form)
-        ensures words { words_of self.new.stages.blocks ≡ fresh_words form lead_in }
-        ensures bad { (correction_of self.new.stages.blocks).bad ≡ 0 }
+    /// Writes the picture at a moment, after all of the stream is read: a pixmap of what stands after the packs that
+    /// are whole at program block `at`, the first 4 * at - 7.
+    ///
+    /// `lead_in` is at most 450,000 blocks, and `at` at most 449,999. A word with no codeword within two symbols
+    /// changes nothing; `Played::bad` counts those among the packs that are drawn.
+    ///
+    /// # Errors
+    ///
+    /// `PastEnd` where the program has fewer than `at` blocks, and `Torn`, `TooLong` and `ReadFault` as the input says:
+    /// then nothing is written. After `WriteFault` the sink holds a prefix.
+    pub fn screen_at<S: Source, K: Sink>(
+        &mut self,
+        lead_in: u32,
+        form: Form,
+        at: u32,
+        source: &mut S,
+        out: &mut K,
+    ) -> Result<Played, PlayStop>
+        requires lead_in { lead_in ≤ most_lead_in }
+        requires at { at ≤ last_block }
+        ensures shows { (taken : List ℕ) × Shows pixmap (moment form lead_in at)
+            (passed S.left K.held (source.old, out.old) (source.new, out.new)) result taken }
+        // It never answers a fault of texts, whatever the input.
+        ensures stops { IfErr result IsMomentStop }
+        // Where nothing failed, the answer is that of the whole input's length.
+        ensures answer { IfSome (S.left source.old) (λ all.
+            IsShownBy result lead_in at (unit_size form) (length all)) }
+        // Where the output is not written it is as it was.
+        ensures untouched { IfErr result (λ stop. stop ≢ PlayStop.WriteFault → out.new ≡ out.old) }
+        ensures faults { TellsStops (S.faults source.old) (S.faults source.new)
+            (K.faults out.old) (K.faults out.new) result }
+        ensures ended { EndFirst result (S.ends source.old) (S.ends source.new) }
     {
-        self.stages.blocks.first.begin(lead_in, form);
-        self.stages.blocks.second.bad = 0;
+        self.viewer.screen_at(lead_in, form, at, source, out)
     }
-}
 
-/// The stop of a pump as that of a player.
-pub(crate) fn play_stop(stop: PumpStop) -> PlayStop
-    ensures { result ≡ play_stop stop }
-{
-    match stop {
-        PumpStop::ReadFault => PlayStop::ReadFault,
-        PumpStop::WriteFault => PlayStop::WriteFault,
-        PumpStop::Torn { unit } => PlayStop::Torn { block: unit },
-        PumpStop::TooLong => PlayStop::TooLong,
+    /// Writes the state at a moment: border, offsets, colours and levels of what `screen_at` shows, under the same
+    /// conditions.
+    pub fn state_at<S: Source, K: Sink>(
+        &mut self,
+        lead_in: u32,
+        form: Form,
+        at: u32,
+        source: &mut S,
+        out: &mut K,
+    ) -> Result<Played, PlayStop>
+        requires lead_in { lead_in ≤ most_lead_in }
+        requires at { at ≤ last_block }
+        ensures shows { (taken : List ℕ) × Shows state_text (moment form lead_in at)
+            (passed S.left K.held (source.old, out.old) (source.new, out.new)) result taken }
+        // It never answers a fault of texts, whatever the input.
+        ensures stops { IfErr result IsMomentStop }
+        // Where nothing failed, the answer is that of the whole input's length.
+        ensures answer { IfSome (S.left source.old) (λ all.
+            IsShownBy result lead_in at (unit_size form) (length all)) }
+        // Where the output is not written it is as it was.
+        ensures untouched { IfErr result (λ stop. stop ≢ PlayStop.WriteFault → out.new ≡ out.old) }
+        ensures faults { TellsStops (S.faults source.old) (S.faults source.new)
+            (K.faults out.old) (K.faults out.new) result }
+        ensures ended { EndFirst result (S.ends source.old) (S.ends source.new) }
+    {
+        self.viewer.state_at(lead_in, form, at, source, out)
+    }
+
+    /// Writes the counts of a stream, after all of it is read: of its blocks, of its words by their wrong symbols and
+    /// by what they hold, and of the frames of its Q channel. The packs of a cooked stream have no frames.
+    ///
+    /// `lead_in` is at most 450,000 blocks. `Played::bad` counts the words with no codeword within two symbols; a frame
+    /// that is refused counts in the lines alone.
+    ///
+    /// # Errors
+    ///
+    /// `Torn`, `TooLong` and `ReadFault` as the input says: then nothing is written. After `WriteFault` the sink
+    /// holds a prefix.
+    pub fn check<S: Source, K: Sink>(
+        &mut self,
+        lead_in: u32,
+        form: Form,
+        source: &mut S,
+        out: &mut K,
+    ) -> Result<Played, PlayStop>
+        requires { lead_in ≤ most_lead_in }
+        ensures checks { (taken : List ℕ) × WritesAtEnd (at_end (IsCheckListed form lead_in) form lead_in)
+            (passed S.left K.held (source.old, out.old) (source.new, out.new)) result taken }
+        // It never answers that a moment is past the end, nor a fault of texts, whatever the input.
+        ensures stops { IfErr result IsStreamStop }
+        // Where nothing failed, the answer is that of the whole input's length.
+        ensures answer { IfSome (S.left source.old) (λ all.
+            IsAnsweredBy result (unit_size form) (length all)) }
+        // Where the output is not written it is as it was.
+        ensures untouched { IfErr result (λ stop. stop ≢ PlayStop.WriteFault → out.new ≡ out.old) }
+        ensures faults { TellsStops (S.faults source.old) (S.faults source.new)
+            (K.faults out.old) (K.faults out.new) result }
+        ensures ended { EndFirst result (S.ends source.old) (S.ends source.new) }
+    {
+        self.checker.check(lead_in, form, source, out)
+    }
+
+    /// Writes the lines of the Q channel as `list_frames` does, for a caller who has a player: none of it is used.
+    pub fn q_list<S: Source, K: Sink>(
+        &mut self,
+        lead_in: u32,
+        form: Form,
+        source: &mut S,
+        out: &mut K,
+    ) -> Result<Played, PlayStop>
+        requires lead_in { lead_in ≤ most_lead_in }
+        requires form { form ≢ Form.Cooked }
+        ensures lists { (taken : List ℕ) × Streams (in_turn (IsQListed form) form lead_in)
+            (passed S.left K.held (source.old, out.old) (source.new, out.new)) result taken }
+        // It never answers that a moment is past the end, nor a fault of texts, whatever the input.
+        ensures stops { IfErr result IsStreamStop }
+        // Where nothing failed, the answer is that of the whole input's length.
+        ensures answer { IfSome (S.left source.old) (λ all.
+            IsAnsweredBy result (unit_size form) (length all)) }
+        ensures faults { TellsStops (S.faults source.old) (S.faults source.new)
+            (K.faults out.old) (K.faults out.new) result }
+        ensures ended { EndInTurn result (S.ends source.old) (S.ends source.new) }
+        ensures player { self.new ≡ self.old }
+    {
+        list_frames(lead_in, form, source, out)
+    }
+
+    /// Writes the texts of a stream's lead-in, after all of it is read: a line for each string that is not empty, and
+    /// one on the packs. Memory is taken for the texts alone, once all is read.
+    ///
+    /// `lead_in` is at most 450,000 blocks, and the form is raw or sector: cooked packs have no lead-in.
+    /// `Played::bad` is 0.
+    ///
+    /// # Errors
+    ///
+    /// `Text` where the packs are no texts, or no memory is found for them, and `Torn`, `TooLong` and `ReadFault` as
+    /// the input says: then nothing is written. After `WriteFault` the sink holds a prefix.
+    pub fn text_list<S: Source, K: Sink>(
+        &mut self,
+        alloc: Global,
+        lead_in: u32,
+        form: Form,
+        source: &mut S,
+        out: &mut K,
+    ) -> Result<Played, PlayStop>
+        requires lead_in { lead_in ≤ most_lead_in }
+        requires form { form ≢ Form.Cooked }
+        ensures lists { (taken : List ℕ) × ListsTexts form lead_in
+            (passed S.left K.held (source.old, out.old) (source.new, out.new)) result taken }
+        // It never answers that a moment is past the end, whatever the input.
+        ensures stops { IfErr result IsListStop }
+        // Where nothing failed, the answer is that of the whole input.
+        ensures answer { IfSome (S.left source.old) (λ all. IsListedBy result form lead_in all) }
+        // Where the output is not written it is as it was.
+        ensures untouched { IfErr result (λ stop. stop ≢ PlayStop.WriteFault → out.new ≡ out.old) }
+        ensures faults { TellsStops (S.faults source.old) (S.faults source.new)
+            (K.faults out.old) (K.faults out.new) result }
+        ensures ended { EndFirst result (S.ends source.old) (S.ends source.new) }
+    {
+        self.lister.text_list(alloc, lead_in, form, source, out)
     }
 }

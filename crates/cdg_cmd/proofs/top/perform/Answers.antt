@@ -8,9 +8,9 @@ use Rattle.cdg_cmd.proofs.Told.{of_gen, of_one, of_trial}
 use Rattle.cdg_cmd.proofs.top.perform.Goals as goal
 
 pub returns-in-Convert-clause-does : goal.returns-in-Convert-clause-does
-returns-in-Convert-clause-does g c = λ found.
+returns-in-Convert-clause-does g c = λ _.
     subst (λ (k : Command). Does k (call g.S.Source.left g.T.Source.left g.K.Sink.held (c.args.first.now, c.args.second.now, c.args.out.now) (c.run_convert.new.source, c.args.second.now, c.run_convert.new.out)) c.run_convert.result)
-    (sym c.in-Convert.is) (c.run_convert.ensures.does found)
+    (sym c.in-Convert.is) c.run_convert.ensures.does
 
 pub returns-in-Convert-clause-ends : goal.returns-in-Convert-clause-ends
 returns-in-Convert-clause-ends g c =
@@ -38,9 +38,9 @@ returns-in-State-clause-ends g c =
     (sym c.in-State.is) (record { first = c.run_state.ensures.ended; second = refl })
 
 pub returns-in-Check-clause-does : goal.returns-in-Check-clause-does
-returns-in-Check-clause-does g c = λ found.
+returns-in-Check-clause-does g c = λ _.
     subst (λ (k : Command). Does k (call g.S.Source.left g.T.Source.left g.K.Sink.held (c.args.first.now, c.args.second.now, c.args.out.now) (c.run_check.new.source, c.args.second.now, c.run_check.new.out)) c.run_check.result)
-    (sym c.in-Check.is) (c.run_check.ensures.does found)
+    (sym c.in-Check.is) c.run_check.ensures.does
 
 pub returns-in-Check-clause-ends : goal.returns-in-Check-clause-ends
 returns-in-Check-clause-ends g c =

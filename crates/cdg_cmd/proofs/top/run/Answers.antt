@@ -38,18 +38,18 @@ pub returns-clause-gives_back : goal.returns-clause-gives_back
 returns-clause-gives_back g c = λ form disc stream packs spelled authored.
     let out : Change Bytes = change g.K.Sink.held c.args.out.now c.answer-status.new.out in
     packs_back disc.sheet disc.script disc.lead_in disc.audio stream packs form authored _ out c.answer-status.result
-    (converted_back form disc.lead_in _ None None out c.answer-status.result (gives_packs c.packs_are_recovered.ensures c.text_of_packs.ensures.text c.text_of_packs.ensures.bad) (gives_none_bad c.packs_are_recovered.ensures c.text_of_packs.ensures.text c.text_of_packs.ensures.bad) _ (c.answer-status.ensures.does (Convert disc.lead_in form) spelled))
+    (converted_back form disc.lead_in _ None None out c.answer-status.result (gives_packs c.packs_are_recovered.ensures c.text_of_packs.ensures.text c.text_of_packs.ensures.bad) (gives_none_bad c.packs_are_recovered.ensures c.text_of_packs.ensures.text c.text_of_packs.ensures.bad) _ (c.answer-status.ensures.does (Convert disc.lead_in form) spelled ((c.answer-status.ensures.memory (Convert disc.lead_in form) spelled).never tt)))
 
 pub returns-clause-shows : goal.returns-clause-shows
 returns-clause-shows g c = λ form disc stream text packs k at spelled accepted held authored.
     let out : Change Bytes = change g.K.Sink.held c.args.out.now c.answer-status.new.out in
     pictures_shown disc.sheet disc.script disc.lead_in disc.audio stream packs form authored _ out at k c.answer-status.result (c.accepted_scripts_are_in_order.ensures.times text disc.script accepted.reads)
     (c.accepted_scripts_are_in_order.ensures.colours text disc.script accepted.reads) held
-    (shown_back form disc.lead_in _ None None out c.answer-status.result c.screens_show_pictures.ensures.text c.screens_show_pictures.ensures.bad at _ (c.answer-status.ensures.does (Screen disc.lead_in form at) spelled))
+    (shown_back form disc.lead_in _ None None out c.answer-status.result c.shown_moments_give_pictures.ensures at _ (c.answer-status.ensures.does (Screen disc.lead_in form at) spelled))
 
 pub returns-clause-frames : goal.returns-clause-frames
 returns-clause-frames g c = λ disc packs spelled few.
-    frames_given disc.lead_in _ None None _ _ _ (λ all. IsAuthored disc all packs) _ (c.answer-status.ensures.does (Q disc.lead_in Raw) spelled)
+    frames_given disc.lead_in _ None None _ _ _ (λ all. IsAuthored disc all packs) _ (c.answer-status.ensures.does (Q disc.lead_in Raw) spelled ((c.answer-status.ensures.memory (Q disc.lead_in Raw) spelled).never tt))
     (λ all authored answer taken plays answered.
     c.frame_lists_are_answered.ensures disc.sheet disc.script disc.lead_in disc.audio all packs disc.lead_in _ _ answer taken authored
     (authored_size disc.sheet disc.script disc.lead_in disc.audio all packs (spells_allowed (Q disc.lead_in Raw) _ spelled).0 few authored) plays answered)
@@ -74,7 +74,7 @@ returns-clause-unpresses g c = λ command spelled.
       packs = gives_packs c.packs_are_recovered.ensures c.text_of_packs.ensures.text c.text_of_packs.ensures.bad;
       none_bad = gives_none_bad c.packs_are_recovered.ensures c.text_of_packs.ensures.text c.text_of_packs.ensures.bad;
     } in
-    pressed_back laws command _ _ _ _ _ c.answer-status.result (c.answer-status.ensures.does command spelled)
+    pressed_back laws command _ _ _ _ _ c.answer-status.result (c.answer-status.ensures.does command spelled) (c.answer-status.ensures.memory command spelled).never
 
 pub returns-clause-resumes : goal.returns-clause-resumes
 returns-clause-resumes g c = λ at spelled answered found.

@@ -4,4 +4,4 @@ use Rattle.run_laws.proofs.conversions.scheduled_streams_show_their_pictures.Goa
 pub returns : goal.returns
 returns c = λ lead_in at form call status is.
     shown_back form lead_in call.first.after call.second.before call.second.after call.out status
-    c.screens_show_pictures.ensures.text c.screens_show_pictures.ensures.bad at call.first.before is.does
+    c.shown_moments_give_pictures.ensures at call.first.before is.does

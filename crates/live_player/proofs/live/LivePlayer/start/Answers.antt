@@ -1,5 +1,5 @@
 use Rattle.std.proofs.Common.{ap, ◌∙◌, rules}
-use Rattle.subcode_player.specs.declared.drawing.Drawing.{Drawing}
+use Rattle.stream_stages.specs.declared.drawing.Drawing.{Drawing}
 use Rattle.live_player.proofs.LiveViews.{none_drawn}
 use Rattle.live_player.proofs.live.LivePlayer.start.Goals as goal
 

@@ -1,0 +1,16 @@
+pub mod Recovers
+pub mod Blocks
+pub mod Slots
+pub mod FormWords
+pub mod StageRuns
+pub mod Playing
+pub mod Conversion
+pub mod WatchedBlocks
+pub mod PumpedBlocks
+pub mod PlayRuns
+pub mod Restoring
+pub mod Draws
+pub mod Views
+pub mod Counted
+pub mod IdlePacks
+pub mod NearIdle

@@ -1,0 +1,34 @@
+-- The steps of a stage that draws packs.
+use Rattle.std.specs.Prelude.{ℕ, ◌-◌, ◌==◌, if◌then◌else◌, List, [], ◌∷◌, Option, Some, None}
+use Rattle.arrayvec.specs.ArrayVec.{ArrayVec}
+use Rattle.rw_code.specs.Finding.{finding}
+use Rattle.cdg_instructions.specs.Meaning.{meaning}
+use Rattle.cdg_screen.specs.Picture.{Standing, standing_after}
+use Rattle.stream_stages.specs.Steps.{bad_next}
+use Rattle.stream_stages.specs.declared.drawing.Drawing.{Drawing}
+
+-- after what is found for a word, if anything
+abbrev pub entry_drawn : Standing → Option (List ℕ) → Standing
+entry_drawn picture (Some codeword) = standing_after picture (meaning codeword ∷ [])
+entry_drawn picture None = picture
+
+-- after a word: only the packs that are left are drawn
+unfoldable pub draw_next : Drawing → List ℕ → Drawing
+draw_next s word = if s.left == 0 then s else record {
+  picture = entry_drawn s.picture (finding word);
+  left = s.left - 1;
+  bad = bad_next s.bad word;
+}
+
+-- after some words
+unfoldable pub draw_after : Drawing → List (List ℕ) → Drawing
+draw_after s [] = s
+draw_after s (word ∷ words) = draw_after (draw_next s word) words
+
+-- after the words of a block
+unfoldable pub drawing_next : Drawing → ArrayVec (List ℕ) → Drawing
+drawing_next s words = draw_after s words.items
+
+-- nothing is given
+unfoldable pub drawing_gives : Drawing → ArrayVec (List ℕ) → Option (List ℕ)
+drawing_gives s words = None

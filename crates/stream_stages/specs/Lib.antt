@@ -1,0 +1,11 @@
+pub mod Stages
+pub mod Steps
+pub mod Calls
+pub mod Convert
+pub mod Drawn
+pub mod Screen
+pub mod Watch
+pub mod Check
+pub mod CheckSteps
+pub mod TextListing
+pub mod Faults

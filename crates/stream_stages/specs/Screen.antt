@@ -1,0 +1,81 @@
+-- The screen at a moment of a stream.
+use Rattle.std.specs.Prelude.{◌≡◌, ◌≢◌, ℕ, ◌-◌, ◌*◌, ◌/◌, ◌%◌, ◌<◌, ◌≤◌, ⊤, List, [], ◌∷◌, length, take, Option, Some, None, Result, Ok, Err, IfOk}
+use Rattle.cdg_io.specs.Change.{Passed}
+use Rattle.cdg_io.specs.Streams.{WritesAtEnd}
+use Rattle.rw_interleave.specs.Interleave.{whole_packs}
+use Rattle.raw_subcode.specs.Channels.{unit_size, program_symbols}
+use Rattle.raw_subcode.specs.declared.form.Form.{Form}
+use Rattle.rw_interleave.specs.Stream.{IsRecovered, bad_count}
+use Rattle.cdg_instructions.specs.Instruction.{Means}
+use Rattle.cdg_instructions.specs.declared.instr.Instr.{Instr}
+use Rattle.cdg_screen.specs.Picture.{Standing, blank, standing_after}
+use Rattle.cdg_screen.specs.Texts.{pixmap, state_text}
+use Rattle.raw_subcode.specs.Sizes.{most_units}
+use Rattle.stream_stages.specs.Calls.{at_end, blocks_played}
+use Rattle.stream_stages.specs.declared.played.Played.{Played}
+use Rattle.stream_stages.specs.declared.played.PlayStop.{PlayStop}
+use Rattle.stream_stages.specs.declared.played.PlayStop.TheVariants.{ReadFault, WriteFault, Torn, TooLong, PastEnd, Text}
+
+-- the instructions that the found codewords mean, in order; where nothing is found there is none
+abbrev pub AreMeant : List (Option (List ℕ)) → List Instr → Type 0
+AreMeant [] instrs = instrs ≡ []
+AreMeant (None ∷ rest) instrs = AreMeant rest instrs
+AreMeant (Some word ∷ rest) [] = ⊥
+AreMeant (Some word ∷ rest) (instr ∷ instrs) = Means word instr × AreMeant rest instrs
+
+-- these are the instructions of the packs that are whole at the time
+abbrev pub AreShown : List (Option (List ℕ)) → ℕ → List Instr → Type 0
+AreShown found time instrs = AreMeant (take (whole_packs time) found) instrs
+
+-- a moment of a stream: its form and the blocks of its lead-in, and a time of its program
+pub record Moment : Type 0 where
+  pub form : Form
+  pub lead_in : ℕ
+  pub time : ℕ
+
+-- a form, the blocks of a lead-in and a time, as one
+abbrev pub moment : Form → ℕ → ℕ → Moment
+moment form lead_in time = record { form = form; lead_in = lead_in; time = time }
+
+-- what stands at a moment, written in some way
+pub record IsWrittenAt (write : Standing → List ℕ) (at : Moment) (bytes text : List ℕ)
+    (bad : ℕ) : Type 0 where
+  pub found : List (Option (List ℕ))
+  pub recovered : IsRecovered at.form (program_symbols at.form bytes at.lead_in) found
+  pub instrs : List Instr
+  pub shown : AreShown found at.time instrs
+  pub text_is : text ≡ write (standing_after blank instrs)
+  pub bad_is : bad ≡ bad_count (take (whole_packs at.time) found)
+
+-- the pixmap of what stands
+abbrev pub IsScreenAt : Moment → List ℕ → List ℕ → ℕ → Type 0
+IsScreenAt at bytes text bad = IsWrittenAt pixmap at bytes text bad
+
+-- the lines of its state
+abbrev pub IsStateAt : Moment → List ℕ → List ℕ → ℕ → Type 0
+IsStateAt at bytes text bad = IsWrittenAt state_text at bytes text bad
+
+-- the program of some bytes ends, with so many blocks, before a moment
+abbrev pub EndsBefore : Moment → List ℕ → ℕ → Type 0
+EndsBefore at bytes blocks = (length bytes % unit_size at.form ≡ 0)
+    × (blocks ≡ blocks_played at.form at.lead_in bytes) × (blocks < at.time)
+
+-- A call that shows a moment took these bytes: it writes what stands at the end, where the program reaches the moment.
+pub record Shows (write : Standing → List ℕ) (at : Moment) (passed : Passed)
+    (result : Result Played PlayStop) (taken : List ℕ) : Type 0 where
+  pub plays : WritesAtEnd (at_end (IsWrittenAt write at) at.form at.lead_in) passed result taken
+  pub reached : IfOk result (λ played. at.time ≤ played.blocks)
+  pub past_end : (blocks : ℕ) → result ≡ Err (PastEnd blocks) → EndsBefore at taken blocks
+
+-- the answer to an input of so many bytes that is read and written without a fault
+abbrev pub IsShownBy : Result Played PlayStop → ℕ → ℕ → ℕ → ℕ → Type 0
+IsShownBy (Ok played) lead_in time size len = (len ≤ most_units * size) × (len % size ≡ 0)
+    × (time ≤ len / size - lead_in)
+IsShownBy (Err (PastEnd blocks)) lead_in time size len = (len ≤ most_units * size) × (len % size ≡ 0)
+    × (blocks ≡ len / size - lead_in) × (blocks < time)
+IsShownBy (Err (Torn block)) lead_in time size len = (len ≤ most_units * size) × (len % size ≢ 0)
+    × (block ≡ len / size)
+IsShownBy (Err TooLong) lead_in time size len = most_units * size < len
+IsShownBy (Err ReadFault) lead_in time size len = ⊤
+IsShownBy (Err WriteFault) lead_in time size len = ⊤
+IsShownBy (Err (Text fault)) lead_in time size len = ⊥

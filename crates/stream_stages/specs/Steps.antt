@@ -1,0 +1,79 @@
+-- The steps of the stages of a player.
+use Rattle.std.specs.Prelude.{◌≡◌, replicate, ℕ, ◌+◌, ◌-◌, ◌*◌, ◌^◌, ◌==◌, min, if◌then◌else◌, List, [], ◌∷◌, map, take, drop, Option, Some, None, is_none}
+use Rattle.arrayvec.specs.ArrayVec.{ArrayVec}
+use Rattle.cdg_io.specs.Run.{run_state, run_gives}
+use Rattle.rw_code.specs.Finding.{finding}
+use Rattle.bit_lists.specs.Counting.{below}
+use Rattle.rw_interleave.specs.Gathering.{gather_next, gather_gives}
+use Rattle.raw_subcode.specs.Channels.{symbols_of}
+use Rattle.rw_interleave.specs.Texts.{cdg_bytes}
+use Rattle.raw_subcode.specs.declared.form.Form.{Form}
+use Rattle.raw_subcode.specs.declared.form.Form.TheVariants.{Raw, Sector, Cooked}
+use Rattle.stream_stages.specs.declared.block_words.BlockWords.{BlockWords}
+use Rattle.stream_stages.specs.declared.correction.Correction.{Correction}
+use Rattle.rw_code.specs.Packs.{idle_pack}
+
+-- slot i of a block
+unfoldable pub slot_of : List ℕ → ℕ → List ℕ
+slot_of block i = symbols_of (take 24 (drop (24 * i) block))
+
+-- the four slots of a block
+unfoldable pub slots_of : List ℕ → List (List ℕ)
+slots_of block = map (slot_of block) (below 4)
+
+-- the window after a slot: a cooked stream keeps none
+unfoldable pub window_next : Form → List (List ℕ) → List ℕ → List (List ℕ)
+window_next Raw window slot = gather_next window slot
+window_next Sector window slot = gather_next window slot
+window_next Cooked window slot = window
+
+-- the word that comes with a slot, if any: in a cooked stream each slot is a word
+unfoldable pub window_gives : Form → List (List ℕ) → List ℕ → Option (List ℕ)
+window_gives Raw window slot = gather_gives window slot
+window_gives Sector window slot = gather_gives window slot
+window_gives Cooked window slot = Some slot
+
+-- these words, or four idle packs
+abbrev pub words_or_idle : Option (ArrayVec (List ℕ)) → ArrayVec (List ℕ)
+words_or_idle (Some words) = words
+words_or_idle None = record { items = replicate 4 idle_pack }
+
+-- the state at the start of a stream
+abbrev pub fresh_words : Form → ℕ → BlockWords
+fresh_words form lead_in = record { form = form; lead_in = lead_in; gather = [] }
+
+-- a block of the lead-in is passed over, and one of the program is taken slot by slot
+unfoldable pub words_next : BlockWords → List ℕ → BlockWords
+words_next s block =
+    if s.lead_in == 0 then record s { gather = run_state (window_next s.form) s.gather (slots_of block) }
+    else record s { lead_in = s.lead_in - 1 }
+
+-- the words that come with a block of the program
+unfoldable pub words_give : BlockWords → List ℕ → Option (ArrayVec (List ℕ))
+words_give s block =
+    if s.lead_in == 0 then Some (record {
+      items = run_gives (window_next s.form) (window_gives s.form)
+          s.gather (slots_of block);
+    }) else None
+
+-- A block changes nothing, and four idle packs come with it.
+abbrev pub IdlesOn : BlockWords → List ℕ → Type 0
+IdlesOn s block = (s ≡ words_next s block)
+    × (Some (record { items = replicate 4 idle_pack }) ≡ words_give s block)
+
+-- the count of bad words after a word: a u32 that stays at its last value
+unfoldable pub bad_next : ℕ → List ℕ → ℕ
+bad_next bad word = if is_none (finding word) then min (bad + 1) (2 ^ 32 - 1) else bad
+
+-- the count after some words
+unfoldable pub bad_after : ℕ → List (List ℕ) → ℕ
+bad_after bad [] = bad
+bad_after bad (word ∷ words) = bad_after (bad_next bad word) words
+
+-- after the words of a block
+unfoldable pub correction_next : Correction → ArrayVec (List ℕ) → Correction
+correction_next s words = record { bad = bad_after s.bad words.items }
+
+-- the bytes of what is found for them
+unfoldable pub correction_gives : Correction → ArrayVec (List ℕ) → Option (List ℕ)
+correction_gives s words = Some (cdg_bytes (map finding words.items))

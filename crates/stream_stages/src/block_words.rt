@@ -1,0 +1,159 @@
+// From blocks to words.
+ghost use Rattle.std.specs.Prelude.{◌≡◌, ◌<◌, List, ℕ, MatchOption, replicate};
+ghost use Rattle.arrayvec.specs.ArrayVec.{ArrayVec};
+ghost use Rattle.rw_code.specs.Packs.{idle_pack};
+ghost use Rattle.stream_stages.specs.Steps.{IdlesOn, fresh_words, words_or_idle, slot_of, slots_of, words_next, words_give};
+
+use arrayvec::ArrayVec;
+use cdg_io::Stage;
+use raw_subcode::{BLOCK_BYTES, Form, SLOTS_A_BLOCK, SYMBOLS_A_SLOT};
+use rw_code::Word;
+use rw_interleave::Window;
+use std::marker::Model;
+
+/// The words that come with a block, at most one with each slot.
+#[derive(Drop)]
+pub struct BlockOfWords {
+    /// None where they are four idle packs.
+    words: Option<ArrayVec<Word, SLOTS_A_BLOCK>>,
+}
+
+impl Model for BlockOfWords {
+    ghost Value = { ArrayVec (List ℕ) };
+
+    ghost view = { λ b. words_or_idle b.words };
+}
+
+impl BlockOfWords {
+    // Four idle packs.
+    #[inline]
+    fn idle() -> BlockOfWords
+        ensures { result.items ≡ replicate 4 idle_pack }
+    {
+        BlockOfWords { words: None }
+    }
+
+    fn new(words: ArrayVec<Word, SLOTS_A_BLOCK>) -> BlockOfWords
+        ensures { result ≡ words }
+    {
+        BlockOfWords { words: Some(words) }
+    }
+
+    /// The words. None says that they are four idle packs.
+    #[inline]
+    pub(crate) fn unless_idle(&self) -> Option<&ArrayVec<Word, SLOTS_A_BLOCK>>
+        ensures { MatchOption result (self.now.items ≡ replicate 4 idle_pack)
+            (λ words. words.now ≡ self.now) }
+    {
+        self.words.as_ref()
+    }
+
+    /// The words themselves.
+    pub fn into_words(self) -> ArrayVec<Word, SLOTS_A_BLOCK>
+        ensures { result ≡ self }
+    {
+        match self.words {
+            Some(words) => words,
+            None => ArrayVec::from([Word::default(); SLOTS_A_BLOCK]),
+        }
+    }
+}
+
+/// Passes over the lead-in blocks, and gives the words that come with each block of the program.
+#[derive(Drop)]
+pub struct BlockWords {
+    /// The form of the stream.
+    pub form: Form,
+    /// The blocks of the lead-in that are still to come.
+    pub lead_in: u32,
+    /// The last slots, from which words are gathered.
+    pub gather: Window,
+}
+
+impl BlockWords {
+    /// The words of no stream yet.
+    pub fn new() -> BlockWords
+        ensures { result ≡ fresh_words Form.Raw 0 }
+    {
+        BlockWords {
+            form: Form::Raw,
+            lead_in: 0,
+            gather: Window::new(),
+        }
+    }
+
+    /// Begins with a stream of this form.
+    pub fn begin(&mut self, lead_in: u32, form: Form)
+        ensures { self.new ≡ fresh_words form lead_in }
+    {
+        self.form = form;
+        self.lead_in = lead_in;
+        self.gather.reset();
+    }
+}
+
+impl Stage for BlockWords {
+    type Item = [u8; BLOCK_BYTES];
+
+    type Out = BlockOfWords;
+
+    ghost next = { words_next };
+
+    ghost gives = { words_give };
+
+    ghost idles = { IdlesOn };
+
+    #[inline]
+    #[tactic(auto, unfolding(crate::specs::Steps::words_next, crate::specs::Steps::words_give))]
+    fn feed(&mut self, block: &[u8; BLOCK_BYTES]) -> Option<BlockOfWords> {
+        if self.is_idle(block) {
+            return self.feed_idle(block);
+        }
+        if self.lead_in > 0 {
+            self.lead_in -= 1;
+            return None;
+        }
+        match self.form {
+            Form::Raw | Form::Sector => Some(BlockOfWords::new(self.gather.push_block(block))),
+            Form::Cooked => Some(BlockOfWords::new(slots(block))),
+        }
+    }
+
+    #[inline]
+    fn is_idle(&self, block: &[u8; BLOCK_BYTES]) -> bool {
+        if self.lead_in > 0 {
+            return false;
+        }
+        match self.form {
+            Form::Raw | Form::Sector => self.gather.stays_idle(block),
+            Form::Cooked => false,
+        }
+    }
+
+    #[inline]
+    fn feed_idle(&mut self, _: &[u8; BLOCK_BYTES]) -> Option<BlockOfWords> {
+        Some(BlockOfWords::idle())
+    }
+}
+
+// The slots of a block, each as a word.
+fn slots(block: &[u8; BLOCK_BYTES]) -> ArrayVec<Word, SLOTS_A_BLOCK>
+    ensures { result.items ≡ slots_of block.now }
+{
+    ArrayVec::from([
+        slot(block, 0),
+        slot(block, 1),
+        slot(block, 2),
+        slot(block, 3),
+    ])
+}
+
+// A slot of a block.
+fn slot(block: &[u8; BLOCK_BYTES], i: usize) -> Word
+    requires { i < 4 }
+    ensures { result ≡ slot_of block.now i }
+{
+    let mut bytes = [0; SYMBOLS_A_SLOT];
+    bytes.copy_from_slice(&block[SYMBOLS_A_SLOT * i..SYMBOLS_A_SLOT * i + SYMBOLS_A_SLOT]);
+    Word::new(&bytes)
+}

@@ -1,0 +1,256 @@
+// Counts of words, packs and frames.
+ghost use Rattle.std.specs.Prelude.{◌≡◌, ◌==◌, replicate, true, Some, None};
+ghost use Rattle.rw_code.specs.Codeword.{IsCodeword, differences};
+ghost use Rattle.rw_code.specs.Packs.{idle_pack};
+ghost use Rattle.stream_stages.specs.Steps.{fresh_words};
+ghost use Rattle.stream_stages.specs.Stages.{words_of};
+ghost use Rattle.stream_stages.specs.Check.{is_known};
+ghost use Rattle.stream_stages.specs.CheckSteps.{tick, wrong_counted, kind_counted, count_found, count_next, count_after, counts_next, counts_give, frames_next, counting_next, counting_gives};
+
+use crate::BlockWords;
+use crate::block_words::BlockOfWords;
+use crate::idle_words::{idle_is_codeword, is_idle};
+use arrayvec::ArrayVec;
+use cdg_io::{Piece, Stage, Then};
+use q_channel::is_frame;
+use raw_subcode::{BLOCK_BYTES, Block, Form};
+use rw_code::{Fixed, Word, correct};
+
+/// The words of a stream by their wrong symbols, and those that are not bad by their kind: each word counts in one of
+/// the first four, and each that is not bad in one of the last four. A count stays at its last value.
+#[derive(Clone, Copy, Debug, PartialEq, Eq, Default)]
+pub struct WordCounts {
+    /// Codewords.
+    pub clean: u32,
+    /// One symbol from a codeword.
+    pub one: u32,
+    /// Two symbols from a codeword.
+    pub two: u32,
+    /// No codeword within two symbols.
+    pub bad: u32,
+    /// Mode 0.
+    pub idle: u32,
+    /// Mode 9, with the number of an instruction.
+    pub graphics: u32,
+    /// Mode 9, with another number.
+    pub unknown: u32,
+    /// Any other mode.
+    pub foreign: u32,
+}
+
+/// The frames of the Q channel, where they are read.
+#[derive(Clone, Copy, Debug, PartialEq, Eq, Default)]
+pub struct FrameCounts {
+    /// Whether the blocks have a Q channel.
+    pub read: bool,
+    /// Frames that are read.
+    pub good: u32,
+    /// Frames that are refused.
+    pub bad: u32,
+}
+
+/// Counts the frames of all blocks, and the words of those of the program.
+#[derive(Drop)]
+pub struct Counting {
+    pub frames: FrameCounts,
+    pub words: Then<BlockWords, WordCounts>,
+}
+
+// Counts one more, up to the last value.
+#[tactic(auto, unfolding(crate::specs::CheckSteps::tick))]
+fn tick(count: &mut u32, hit: bool)
+    ensures { count.new ≡ tick hit count.old }
+{
+    if hit {
+        *count = count.saturating_add(1);
+    }
+}
+
+// Leaves nothing where something was. It is a function of its own so that blocks do not pay for its variables.
+#[inline(never)]
+fn clear(out: &mut Option<Piece>)
+    ensures { out.new ≡ None }
+{
+    *out = None;
+}
+
+// Whether this number names a graphics instruction.
+fn is_known(code: u8) -> bool
+    ensures { result ≡ is_known code }
+{
+    matches!(code, 1 | 2 | 6 | 20 | 24 | 28 | 30 | 31 | 38)
+}
+
+impl WordCounts {
+    // Counts the words of a block, one by one.
+    #[inline(never)]
+    fn count_each(&mut self, words: &ArrayVec<Word, 4>)
+        ensures { self.new ≡ counts_next self.old words.now }
+    {
+        for word in words.as_slice() {
+            self.count(word);
+        }
+    }
+
+    // Counts the words that come with a block.
+    #[inline]
+    fn count_block(&mut self, words: &BlockOfWords)
+        ensures { self.new ≡ counts_next self.old words.now }
+    {
+        idle_is_codeword();
+        match words.unless_idle() {
+            // Most blocks of a disc are idle.
+            None => self.count_four_idle(),
+            Some(words) => self.count_each(words),
+        }
+    }
+
+    // Counts a word by what is found for it.
+    fn count(&mut self, word: &Word)
+        ensures { self.new ≡ count_next self.old word.now }
+    {
+        // Most words of a disc are idle.
+        if is_idle(word) {
+            self.count_idle();
+            return;
+        }
+        match correct(word) {
+            Some(fixed) => self.count_fixed(&fixed, word),
+            None => self.count_bad(word),
+        }
+    }
+
+    // Counts an idle word.
+    fn count_idle(&mut self)
+        ensures { self.new ≡ record self.old {
+          clean = tick true self.old.clean;
+          idle = tick true self.old.idle;
+        } }
+    {
+        tick(&mut self.clean, true);
+        tick(&mut self.idle, true);
+    }
+
+    // Counts four idle words.
+    fn count_four_idle(&mut self)
+        requires { IsCodeword idle_pack }
+        ensures { self.new ≡ count_after self.old (replicate 4 idle_pack) }
+    {
+        self.count_idle();
+        self.count_idle();
+        self.count_idle();
+        self.count_idle();
+    }
+
+    // Counts a word that is near a codeword.
+    fn count_fixed(&mut self, fixed: &Fixed, word: &Word)
+        requires { fixed.now.wrong ≡ differences word.now fixed.now.pack }
+        ensures { self.new ≡ count_found self.old word.now (Some fixed.now.pack) }
+    {
+        let symbols = fixed.pack.word();
+        self.count_wrong(fixed.wrong);
+        self.count_kind(symbols.get(0).value(), symbols.get(1).value());
+    }
+
+    // Counts a word by the number of its wrong symbols.
+    fn count_wrong(&mut self, wrong: u8)
+        ensures { self.new ≡ wrong_counted self.old wrong }
+    {
+        tick(&mut self.clean, wrong == 0);
+        tick(&mut self.one, wrong == 1);
+        tick(&mut self.two, wrong == 2);
+    }
+
+    // Counts a pack by its first two symbols.
+    fn count_kind(&mut self, mode: u8, code: u8)
+        ensures { self.new ≡ kind_counted self.old mode code }
+    {
+        let known = is_known(code);
+        tick(&mut self.idle, mode == 0);
+        tick(&mut self.graphics, mode == 9 && known);
+        tick(&mut self.unknown, mode == 9 && !known);
+        tick(&mut self.foreign, !(mode == 0 || mode == 9));
+    }
+
+    // Counts a word with no codeword near.
+    #[tactic(auto, unfolding(crate::specs::CheckSteps::count_found, crate::specs::CheckSteps::tick))]
+    fn count_bad(&mut self, word: &Word)
+        ensures { self.new ≡ count_found self.old word.now None }
+    {
+        self.bad = self.bad.saturating_add(1);
+    }
+}
+
+impl Stage for WordCounts {
+    type Item = BlockOfWords;
+
+    type Out = Piece;
+
+    ghost next = { counts_next };
+
+    ghost gives = { counts_give };
+
+    #[tactic(auto, unfolding(crate::specs::CheckSteps::counts_give))]
+    fn feed(&mut self, words: &BlockOfWords) -> Option<Piece> {
+        self.count_block(words);
+        None
+    }
+
+    #[inline]
+    #[tactic(auto, unfolding(crate::specs::CheckSteps::counts_give))]
+    fn emit(&mut self, words: &BlockOfWords, out: &mut Option<Piece>) {
+        self.count_block(words);
+        if out.is_some() {
+            clear(out);
+        }
+    }
+}
+
+impl FrameCounts {
+    // Counts the frame of a block, where frames are read.
+    #[tactic(auto, unfolding(crate::specs::CheckSteps::frames_next))]
+    fn count(&mut self, block: &[u8; BLOCK_BYTES])
+        ensures { self.new ≡ frames_next self.old block.now }
+    {
+        if self.read {
+            let is_good = is_frame(&Block::from_bytes(block).q_frame());
+            tick(&mut self.good, is_good);
+            tick(&mut self.bad, !is_good);
+        }
+    }
+}
+
+impl Counting {
+    /// Counts of no stream yet.
+    pub fn new() -> Counting
+        ensures { words_of result.words ≡ fresh_words Form.Raw 0 }
+    {
+        Counting {
+            frames: FrameCounts::default(),
+            words: Then::new(BlockWords::new(), WordCounts::default()),
+        }
+    }
+}
+
+impl Stage for Counting {
+    type Item = [u8; BLOCK_BYTES];
+
+    type Out = Piece;
+
+    ghost next = { counting_next };
+
+    ghost gives = { counting_gives };
+
+    #[tactic(auto, unfolding(crate::specs::CheckSteps::counting_next, crate::specs::CheckSteps::counting_gives))]
+    fn feed(&mut self, block: &[u8; BLOCK_BYTES]) -> Option<Piece> {
+        self.frames.count(block);
+        self.words.feed(block)
+    }
+
+    #[inline]
+    #[tactic(auto, unfolding(crate::specs::CheckSteps::counting_next, crate::specs::CheckSteps::counting_gives))]
+    fn emit(&mut self, block: &[u8; BLOCK_BYTES], out: &mut Option<Piece>) {
+        self.frames.count(block);
+        self.words.emit(block, out);
+    }
+}

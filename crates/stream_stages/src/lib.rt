@@ -1,0 +1,22 @@
+//! Stages that play a subcode stream: blocks become words, and words packs, pictures and counts. And what a call that
+//! plays a stream says of it.
+#![tactic(auto)]
+
+mod block_words;
+mod correction;
+mod counting;
+mod drawing;
+mod idle_words;
+mod picture;
+mod played;
+mod sector_blocks;
+mod watching;
+
+pub use block_words::{BlockOfWords, BlockWords};
+pub use correction::Correction;
+pub use counting::{Counting, FrameCounts, WordCounts};
+pub use drawing::Drawing;
+pub use picture::Picture;
+pub use played::{PlayStop, Played, play_stop};
+pub use sector_blocks::SectorBlocks;
+pub use watching::{pump_blocks, watch};

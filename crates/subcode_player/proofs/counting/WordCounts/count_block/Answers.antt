@@ -1,8 +1,0 @@
-use Rattle.std.proofs.Common.{◌∙◌, ap, sym}
-use Rattle.subcode_player.specs.CheckSteps.{count_after, counts_next}
-use Rattle.subcode_player.proofs.counting.WordCounts.count_block.Goals as goal
-
-pub returns-in-None : goal.returns-in-None
-unfolding counts_next
-returns-in-None c =
-    c.count_four_idle.ensures ∙ ap (count_after c.args.self.now) (sym c.in-None.ensures)
