@@ -1,2 +1,3 @@
 pub mod Mending
 pub mod Running
+pub mod Keeping

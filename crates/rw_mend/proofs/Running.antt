@@ -1,13 +1,12 @@
 -- A loop over the words of two readings.
-use Rattle.std.proofs.Common.{◌≡◌, ◌≢◌, ℕ, suc, ◌+◌, ◌-◌, ◌*◌, ◌/◌, ◌<◌, ◌≤◌, Bool, List, [], ◌∷◌, ◌++◌, length, get_or, take, drop, Some, None, refl, sym, ap, ap₂, ◌∙◌, subst, subst₂, arith, length-append, append-nil, below_more}
-use Rattle.std.specs.Prelude.{is_none, count_by}
+use Rattle.std.proofs.Common.{◌≡◌, ℕ, ◌+◌, ◌-◌, ◌*◌, ◌<◌, List, [], ◌∷◌, ◌++◌, length, get_or, take, drop, None, sym, ap, ap₂, ◌∙◌, subst, arith, length-append, append-nil, below_more}
 use Rattle.std.specs.declared.option.Option.{Option}
 use Rattle.std.proofs.lemmas.Grind.{flat_map-append}
-use Rattle.std.proofs.lemmas.List.{get_or_append_left, length-drop, drop-drop, take-append-le, drop-append-le, take_all}
+use Rattle.std.proofs.lemmas.List.{get_or_append_left, take-append-le, take_all}
 use Rattle.std.proofs.Math.Seq.{get_or-append_seam}
 use Rattle.std.proofs.lemmas.Slice.{drop-append-drop}
 use Rattle.rw_mend.specs.Mending.{IsMending}
-use Rattle.rw_mend.specs.Streams.{AreCounts, AreMended, mended_bytes, mended_text, reading_at}
+use Rattle.rw_mend.specs.Streams.{AreCounts, mended_bytes, mended_text, reading_at}
 use Rattle.rw_mend.specs.Trails.{IsTrail}
 use Rattle.rw_mend.specs.declared.cover.Trail.{Trail}
 use Rattle.rw_mend.specs.declared.streams.Counts.{Counts}

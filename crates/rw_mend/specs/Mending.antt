@@ -2,7 +2,6 @@
 use Rattle.std.specs.Prelude.{◌≡◌, ◌≢◌, ◌⊎◌, ℕ, List, Option, Some, None}
 use Rattle.rw_code.specs.Codeword.{Reads}
 use Rattle.rw_merge.specs.Agreement.{IsAgreed}
-use Rattle.rw_mend.specs.declared.words.Coverage.{Coverage}
 use Rattle.rw_mend.specs.declared.words.Coverage.TheVariants.{Whole, Partly, Unread}
 use Rattle.rw_mend.specs.declared.words.Reading.{Reading}
 use Rattle.rw_mend.specs.declared.words.Way.{Way}
@@ -17,6 +16,10 @@ pub record Gives (reading : Reading) (codeword : List ℕ) : Type 0 where
 -- or near none
 abbrev pub GivesNone : Reading → Type 0
 GivesNone reading = (codeword : List ℕ) → ¬ Gives reading codeword
+
+-- no other than this
+abbrev pub GivesNoOther : Reading → List ℕ → Type 0
+GivesNoOther reading codeword = (another : List ℕ) → Gives reading another → another ≡ codeword
 
 -- each gives another codeword
 abbrev pub GiveApart : Reading → Reading → Type 0

@@ -4,7 +4,7 @@ use Rattle.std.specs.Prelude.{slice_index}
 use Rattle.std.proofs.lemmas.List.{get_or-map, get_or-set_other, get_or-set_same, length-map}
 use Rattle.std.proofs.lemmas.List.FromFn.{fill_by_all}
 use Rattle.raw_subcode.specs.Channels.{symbols_of}
-use Rattle.rw_interleave.specs.Interleave.{place, swapped, word_of}
+use Rattle.rw_interleave.specs.Interleave.{place, word_of}
 use Rattle.rw_interleave.proofs.Places.{swapped-lt}
 use Rattle.rw_mend.proofs.streams.word_at.Goals as goal
 
