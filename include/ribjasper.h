@@ -180,7 +180,7 @@ typedef struct ribjasper_converted {
 int32_t ribjasper_convert(const uint8_t *stream, size_t length, uint32_t form, uint32_t lead_in, uint8_t *packs,
                           size_t room, ribjasper_converted *told);
 
-/* ---- Two readings of one disc */
+/* Two readings of one disc, of which one may be noise. */
 
 /* What is told of two readings that were mended: the bytes written, the blocks of the program, and how many words have
    the codeword that is near both readings, that of the first alone, that of the second alone, or the one on which both
