@@ -180,6 +180,37 @@ typedef struct ribjasper_converted {
 int32_t ribjasper_convert(const uint8_t *stream, size_t length, uint32_t form, uint32_t lead_in, uint8_t *packs,
                           size_t room, ribjasper_converted *told);
 
+/* Two readings of one disc, of which one may be noise. */
+
+/* What is told of two readings that were mended: the bytes written, the blocks of the program, and how many words have
+   the codeword that is near both readings, that of the first alone, that of the second alone, or the one on which both
+   agree where neither alone gives it; and how many have none, for which 24 zeros are written. The five add up to the
+   words, which are bytes / 24. */
+typedef struct ribjasper_mended {
+    uint64_t bytes;
+    uint32_t blocks;
+    uint32_t both;
+    uint32_t of_first;
+    uint32_t of_second;
+    uint32_t agreed;
+    uint32_t none;
+} ribjasper_mended;
+
+/* Mends two readings of one stream of raw blocks, whose first `lead_in` blocks are passed over: writes 24 bytes for each
+   word to the front of the `room` bytes at `packs`, 4 B - 7 of B blocks of the program (none of one or none). A reading
+   gives the codeword that differs from it in two symbols at most. Where one reading of a word alone gives one, or both
+   give the same, it is that one; where each gives another and one of both has an empty block under this word, that of
+   the other; else the one on which both agree (twice the symbols that both have equally wrong and those in which they
+   differ are at most four). The symbols of word n stand in the blocks n / 4 to (n + 7) / 4 of the program. A block is
+   empty where its 96 symbols are 0 and its Q channel is no frame; a word all of whose blocks are empty was not read, and
+   gives nothing. So nothing that one reading gives is lost by another that is noise, and what both miss may come back.
+   Answers RIBJASPER_CONVERTED, or RIBJASPER_DAMAGED where words have no codeword; or else, whichever holds first:
+   RIBJASPER_USAGE where `lead_in` is above 450,000; RIBJASPER_TORN where the lengths differ, or are no whole blocks or
+   more than 1,000,000; RIBJASPER_NO_ROOM. Then nothing is written. It asks for no memory. The readings may be the same
+   bytes. */
+int32_t ribjasper_mend(const uint8_t *first, size_t first_length, const uint8_t *second, size_t second_length,
+                       uint32_t lead_in, uint8_t *packs, size_t room, ribjasper_mended *told);
+
 #ifdef __cplusplus
 }
 #endif

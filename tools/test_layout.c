@@ -36,6 +36,14 @@ HOLDS(converted, sizeof(ribjasper_converted) == 16);
 LIES(ribjasper_converted, blocks, 8);
 LIES(ribjasper_converted, bad, 12);
 
+HOLDS(mended, sizeof(ribjasper_mended) == 32);
+LIES(ribjasper_mended, blocks, 8);
+LIES(ribjasper_mended, both, 12);
+LIES(ribjasper_mended, of_first, 16);
+LIES(ribjasper_mended, of_second, 20);
+LIES(ribjasper_mended, agreed, 24);
+LIES(ribjasper_mended, none, 28);
+
 #ifdef RIBJASPER_NO_TIME
 HOLDS(row, sizeof(ribjasper_row) == 12);
 LIES(ribjasper_row, clean, 4);

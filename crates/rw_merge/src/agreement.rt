@@ -1,5 +1,5 @@
 // The codeword on which two readings of a word agree.
-ghost use Rattle.std.specs.Prelude.{◌≢◌, List, ℕ, IfSome, MatchOption};
+ghost use Rattle.std.specs.Prelude.{◌≡◌, ◌≢◌, List, ℕ, IfSome, MatchOption};
 ghost use Rattle.rw_code.specs.Codeword.{IsWord};
 ghost use Rattle.rw_merge.specs.Agreement.{IsAgreed};
 
@@ -14,9 +14,11 @@ const MOST_DOUBTS: u8 = 4;
 /// The codeword that is agreed for two readings of a word: twice the symbols that both have equally wrong and those
 /// in which they differ are at most four. There is at most one such codeword, and `None` exactly where there is none.
 pub fn agree(a: &Word, b: &Word) -> Option<Pack>
-    ensures { MatchOption result
+    ensures agreed { MatchOption result
         ((w : List ℕ) → ¬ IsAgreed a.now b.now w)
         (λ pack. IsAgreed a.now b.now pack) }
+    ensures only { (one other : List ℕ) → IsAgreed a.now b.now one → IsAgreed a.now b.now other → one ≡ other }
+    ensures words { IsWord a.now × IsWord b.now }
 {
     let apart = differing(a, b);
     if apart > MOST_DOUBTS {

@@ -1,11 +1,11 @@
 use Rattle.std.proofs.Common.{◌≡◌, sym, ap, ◌∙◌, arith}
 use Rattle.rw_code.specs.Codeword.{differences}
 use Rattle.rw_code.proofs.Differing.{differences_none, differences_self}
-use Rattle.rw_merge.proofs.Readings.{agreed_equal, reads_agreed}
+use Rattle.rw_merge.proofs.Readings.{agreed_equal, only_one_agreed, reads_agreed}
 use Rattle.rw_merge.proofs.agreement.agree.Goals as goal
 
-pub returns-then-apart-gt-MOST_DOUBTS : goal.returns-then-apart-gt-MOST_DOUBTS
-returns-then-apart-gt-MOST_DOUBTS c w agreed = omega (arith, agreed.few, c.differing-apart.ensures.count, c.if-apart-gt-MOST_DOUBTS.true)
+pub returns-then-apart-gt-MOST_DOUBTS-clause-agreed : goal.returns-then-apart-gt-MOST_DOUBTS-clause-agreed
+returns-then-apart-gt-MOST_DOUBTS-clause-agreed c w agreed = omega (arith, agreed.few, c.differing-apart.ensures.count, c.if-apart-gt-MOST_DOUBTS.true)
 
 pub agree_apart-requires : goal.agree_apart-requires
 agree_apart-requires c = record {
@@ -15,14 +15,23 @@ agree_apart-requires c = record {
   word = c.differing-apart.ensures.first;
 }
 
-pub returns-in_default : goal.returns-in_default
-returns-in_default c w agreed =
+pub returns-in_default-clause-agreed : goal.returns-in_default-clause-agreed
+returns-in_default-clause-agreed c w agreed =
     let sizes = c.differing-apart.ensures.first.size ∙ sym c.differing-apart.ensures.second.size in
     let same : c.args.a.now ≡ c.args.b.now = differences_none c.args.a.now c.args.b.now sizes (omega (arith, c.differing-apart.ensures.count)) in
     c.in_default.ensures.reads w (reads_agreed c.args.a.now c.args.b.now w c.in_default.ensures.word same agreed)
 
-pub returns : goal.returns
-returns c =
+pub returns-clause-agreed : goal.returns-clause-agreed
+returns-clause-agreed c =
     let sizes = c.differing-apart.ensures.first.size ∙ sym c.differing-apart.ensures.second.size in
     let same : c.args.a.now ≡ c.args.b.now = differences_none c.args.a.now c.args.b.now sizes (omega (arith, c.differing-apart.ensures.count)) in
     agreed_equal c.args.a.now c.args.b.now _ c.in-Some.ensures.word same c.in-Some.ensures.reads.0
+
+pub returns-then-apart-gt0-clause-only : goal.returns-then-apart-gt0-clause-only
+returns-then-apart-gt0-clause-only c one other = only_one_agreed _ _ one other c.differing-apart.ensures.first c.differing-apart.ensures.second
+
+pub returns-in_default-clause-only : goal.returns-in_default-clause-only
+returns-in_default-clause-only c one other = only_one_agreed _ _ one other c.differing-apart.ensures.first c.differing-apart.ensures.second
+
+pub returns-clause-only : goal.returns-clause-only
+returns-clause-only c one other = only_one_agreed _ _ one other c.differing-apart.ensures.first c.differing-apart.ensures.second

@@ -21,7 +21,7 @@ loop-i-preserved c =
     let before = c.loop-i.invariant in
     let lt : i < length xs = c.loop-i-test.true in
     let lt' : i < length ys = omega (arith, c.requires.same, lt) in
-    let agreement = subst₂ (λ x y. IsAgreement x y c.agree.result) (c.index-first-i.is ∙ get_or_default xs i _ [] lt) (c.index-second-i.is ∙ get_or_default ys i _ [] lt') (agreement_of _ _ c.agree.result c.agree.ensures) in
+    let agreement = subst₂ (λ x y. IsAgreement x y c.agree.result) (c.index-first-i.is ∙ get_or_default xs i _ [] lt) (c.index-second-i.is ∙ get_or_default ys i _ [] lt') (agreement_of _ _ c.agree.result c.agree.ensures.agreed) in
     let found = found_next xs ys i _ _ _ _ c.agree.result before.packs lt lt' agreement c.add.ensures.bytes c.add.ensures.bad in
     record {
       size = omega (arith, c.add.ensures.size, before.size);

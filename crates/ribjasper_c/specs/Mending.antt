@@ -1,0 +1,22 @@
+-- Two readings in memory that are mended, or why they are not.
+use Rattle.std.specs.Prelude.{◌≡◌, ◌==◌, ◌||◌, ◌*◌, ◌-◌, ◌/◌, ◌%◌, not, nat_lt, if◌then◌else◌, ℕ, List, length, Option, Some, None}
+use Rattle.disc_time.specs.Counts.{most_lead_in}
+use Rattle.raw_subcode.specs.Sizes.{block_bytes, most_units}
+use Rattle.rw_interleave.specs.Interleave.{whole_packs}
+use Rattle.rw_mend.specs.Streams.{IsMendedInto}
+use Rattle.ribjasper_c.specs.declared.mending.MendedStream.{MendedStream}
+
+-- Why readings of these sizes are not mended, as an exit number of the program: 2 where the lead-in is too long, else 3
+-- where they differ in size, or are no whole blocks, or too many, else 6 where the room is smaller than their packs.
+abbrev pub refusal_of : ℕ → ℕ → ℕ → ℕ → Option ℕ
+refusal_of first second lead_in room =
+    if nat_lt most_lead_in lead_in then Some 2
+    else (if not (first == second) || not (first % block_bytes == 0) || nat_lt (block_bytes * most_units) first then Some 3
+    else (if nat_lt room (24 * whole_packs (first / block_bytes - lead_in)) then Some 6
+    else None))
+
+-- The packs of both readings stand at the front of the room, and what is told of them is true.
+pub record AreMendedInto (lead_in : ℕ) (first second old new : List ℕ) (told : MendedStream) : Type 0 where
+  pub mended : IsMendedInto lead_in first second old new told.words
+  pub bytes : told.bytes ≡ 24 * whole_packs (length first / block_bytes - lead_in)
+  pub blocks : told.blocks ≡ length first / block_bytes - lead_in

@@ -1,0 +1,4 @@
+pub mod Mending
+pub mod Streams
+pub mod Trails
+pub mod Noise

@@ -1,0 +1,101 @@
+// Which blocks under a word are empty.
+ghost use Rattle.std.specs.Prelude.{◌≡◌, ◌==◌, ◌≤◌, ◌<◌, ◌+◌, ◌-◌, ◌*◌, ◌/◌, ◌%◌, ◌^◌, List, ℕ, length, if◌then◌else◌};
+ghost use Rattle.std.specs.List.{list_all};
+ghost use Rattle.rw_mend.specs.Streams.{block_at, blocks_under, coverage_of, is_empty};
+ghost use Rattle.rw_mend.specs.Trails.{IsTrail};
+
+use crate::Coverage;
+use q_channel::is_frame;
+use raw_subcode::{BLOCK_BYTES, Block};
+
+/// Whether the blocks under a word are empty: two of them, or three where the word does not begin with its block.
+#[derive(Clone, Copy)]
+pub(crate) struct Trail {
+    first: bool,
+    second: bool,
+    third: bool,
+}
+
+impl Trail {
+    /// Nothing is known yet.
+    pub(crate) fn new() -> Trail {
+        Trail {
+            first: false,
+            second: false,
+            third: false,
+        }
+    }
+
+    /// Comes to word n of a program from the word before it.
+    pub(crate) fn advance(&mut self, program: &[u8], n: usize)
+        requires before { 0 < n → IsTrail program.now (n - 1) self.old }
+        requires within { 96 * ((n + 7) / 4) + 96 ≤ length program.now }
+        ensures { IsTrail program.now n self.new }
+    {
+        if n == 0 {
+            self.first = is_empty_at(program, 0);
+            self.second = is_empty_at(program, 1);
+        } else if n % 4 == 0 {
+            self.first = self.second;
+            self.second = self.third;
+        } else if n % 4 == 1 {
+            self.third = is_empty_at(program, n / 4 + 2);
+        }
+    }
+
+    /// How much of word n was read.
+    pub(crate) fn coverage(&self, n: usize) -> Coverage
+        requires { n < 2 ^ 63 }
+        ensures { (program : List ℕ) → IsTrail program n self.now → result ≡ coverage_of (blocks_under program n) }
+    {
+        let all = self.first && self.second;
+        let any = self.first || self.second;
+        if n % 4 == 0 {
+            covered(all, any)
+        } else {
+            covered(all && self.third, any || self.third)
+        }
+    }
+}
+
+// How much was read where all blocks, or any, are empty.
+fn covered(all: bool, any: bool) -> Coverage
+    ensures { result ≡ (if all then Coverage.Unread else (if any then Coverage.Partly else Coverage.Whole)) }
+{
+    if all {
+        Coverage::Unread
+    } else if any {
+        Coverage::Partly
+    } else {
+        Coverage::Whole
+    }
+}
+
+// Whether a block of a program is empty.
+fn is_empty_at(program: &[u8], b: usize) -> bool
+    requires { 96 * b + 96 ≤ length program.now }
+    ensures { result ≡ is_empty (block_at program.now b) }
+{
+    let at = BLOCK_BYTES * b;
+    is_empty(&program[at..at + BLOCK_BYTES])
+}
+
+// Whether a block is empty.
+fn is_empty(block: &[u8]) -> bool
+    requires { length block.now ≡ 96 }
+    ensures { result ≡ is_empty block.now }
+{
+    if !has_no_symbol(block) {
+        return false;
+    }
+    let mut bytes = [0; BLOCK_BYTES];
+    bytes.copy_from_slice(block);
+    !is_frame(&Block::from_bytes(&bytes).q_frame())
+}
+
+// Whether all symbols of a block are 0.
+fn has_no_symbol(block: &[u8]) -> bool
+    ensures { result ≡ list_all (λ byte. byte % 64 == 0) block.now }
+{
+    block.iter().all(|byte| byte % 64 == 0)
+}

@@ -1,0 +1,148 @@
+// Two readings of a stream in memory.
+ghost use Rattle.std.specs.Prelude.{◌≡◌, ◌≤◌, ◌<◌, ◌+◌, ◌-◌, ◌*◌, ◌/◌, ◌%◌, ◌^◌, ◌++◌, [], ◌∷◌, List, ℕ, length, take, drop};
+ghost use Rattle.std.specs.declared.option.Option.{Option};
+ghost use Rattle.raw_subcode.specs.Channels.{symbols_of};
+ghost use Rattle.raw_subcode.specs.Sizes.{most_units};
+ghost use Rattle.rw_interleave.specs.Interleave.{word_of, whole_packs};
+ghost use Rattle.rw_mend.specs.declared.words.Mended.{Mended};
+ghost use Rattle.rw_mend.specs.Streams.{AreCounts, AreMended, mended_bytes, mended_text, reading_at, IsMendedInto};
+ghost use Rattle.rw_mend.specs.Trails.{IsTrail};
+
+use crate::cover::Trail;
+use crate::{Mended, Reading, Way, mend};
+use raw_subcode::BLOCK_BYTES;
+use rw_code::{SYMBOLS, Word};
+use rw_interleave::{PACKS_KEPT_BACK, place};
+
+/// How many words are mended in each way.
+#[repr(C)]
+#[derive(Clone, Copy, Debug, PartialEq, Eq)]
+pub struct Counts {
+    /// Words of which both readings are near the same codeword.
+    pub both: u32,
+    /// Words whose codeword is that of the first reading alone.
+    pub of_first: u32,
+    /// Words whose codeword is that of the second alone.
+    pub of_second: u32,
+    /// Words whose codeword is the one on which both agree.
+    pub agreed: u32,
+    /// Words with no codeword.
+    pub none: u32,
+}
+
+/// Mends two readings of a raw stream, word by word: writes 24 bytes for each word of the program, which are the blocks
+/// after the lead-in, to the front of a buffer: the symbols of its codeword, or zeros where there is none.
+pub fn mend_streams(first: &[u8], second: &[u8], lead_in: u32, packs: &mut [u8]) -> Counts
+    requires equal { length first.now ≡ length second.now }
+    requires whole { length first.now % 96 ≡ 0 }
+    requires few { length first.now ≤ 96 * most_units }
+    requires room { 24 * whole_packs (length first.now / 96 - lead_in) ≤ length packs.old }
+    ensures { IsMendedInto lead_in first.now second.now packs.old packs.new result }
+{
+    let start = (BLOCK_BYTES * lead_in as usize).min(first.len());
+    mend_programs(&first[start..], &second[start..], packs)
+}
+
+// The same of the blocks of the program alone.
+fn mend_programs(first: &[u8], second: &[u8], packs: &mut [u8]) -> Counts
+    requires equal { length first.now ≡ length second.now }
+    requires whole { length first.now % 96 ≡ 0 }
+    requires few { length first.now ≤ 96 * most_units }
+    requires room { 24 * whole_packs (length first.now / 96) ≤ length packs.old }
+    ensures { (found : List (Option Mended)) × AreMended (length first.now / 96) first.now second.now found
+        × AreCounts found result × (length (mended_text found) ≡ 24 * whole_packs (length first.now / 96))
+        × (packs.new ≡ mended_text found ++ drop (length (mended_text found)) packs.old) }
+{
+    let words = (first.len() / SYMBOLS).saturating_sub(PACKS_KEPT_BACK);
+    let mut counts = Counts::zero();
+    let mut one = Trail::new();
+    let mut other = Trail::new();
+    for n in 0..words {
+        one.advance(first, n);
+        other.advance(second, n);
+        let found = mend(&reading(first, n, &one), &reading(second, n, &other));
+        put(packs, n, &found);
+        counts.add(&found);
+    }
+    counts
+}
+
+impl Counts {
+    // Of no words.
+    fn zero() -> Counts
+        ensures { AreCounts [] result }
+    {
+        Counts {
+            both: 0,
+            of_first: 0,
+            of_second: 0,
+            agreed: 0,
+            none: 0,
+        }
+    }
+
+    // Counts one word more.
+    fn add(&mut self, found: &Option<Mended>)
+        requires both { self.old.both < 4000000 }
+        requires of_first { self.old.of_first < 4000000 }
+        requires of_second { self.old.of_second < 4000000 }
+        requires agreed { self.old.agreed < 4000000 }
+        requires none { self.old.none < 4000000 }
+        ensures { (all : List (Option Mended)) → AreCounts all self.old
+            → AreCounts (all ++ found.now ∷ []) self.new }
+    {
+        match found {
+            None => self.none += 1,
+            Some(mended) => match mended.way {
+                Way::Both => self.both += 1,
+                Way::First => self.of_first += 1,
+                Way::Second => self.of_second += 1,
+                Way::Agreed => self.agreed += 1,
+            },
+        }
+    }
+}
+
+// The reading of word n.
+fn reading(program: &[u8], n: usize, trail: &Trail) -> Reading
+    requires size { 24 * (n + 8) ≤ length program.now }
+    requires trail { IsTrail program.now n trail.now }
+    ensures { result ≡ reading_at program.now n }
+{
+    Reading {
+        word: word_at(program, n),
+        coverage: trail.coverage(n),
+    }
+}
+
+// The symbols of word n.
+fn word_at(program: &[u8], n: usize) -> Word
+    requires { 24 * (n + 8) ≤ length program.now }
+    ensures { result ≡ word_of (symbols_of program.now) n }
+{
+    let mut bytes = [0; SYMBOLS];
+    for i in 0..SYMBOLS {
+        bytes[i] = program[SYMBOLS * n + place(i) as usize];
+    }
+    Word::new(&bytes)
+}
+
+// Puts what is found for word n.
+fn put(packs: &mut [u8], n: usize, found: &Option<Mended>)
+    requires { 24 * n + 24 ≤ length packs.old }
+    ensures packs { packs.new ≡ take (24 * n) packs.old ++ mended_bytes found.now ++ drop (24 * n + 24) packs.old }
+    ensures size { length (mended_bytes found.now) ≡ 24 }
+{
+    let bytes = bytes_of(found);
+    packs[SYMBOLS * n..SYMBOLS * n + SYMBOLS].copy_from_slice(&bytes);
+}
+
+// The symbols of a mended codeword, or zeros.
+fn bytes_of(found: &Option<Mended>) -> [u8; SYMBOLS]
+    ensures { result ≡ mended_bytes found.now }
+{
+    match found {
+        Some(mended) => mended.pack.word().bytes(),
+        None => [0; SYMBOLS],
+    }
+}
