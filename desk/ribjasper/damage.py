@@ -81,11 +81,15 @@ def seconds(survey: Survey) -> bytes:
 
 
 def draw_map(survey: Survey):
-    """The map of a dump, a picture: a row a minute, a cell a second."""
+    """The map of a dump, a picture: a row a minute, a cell a second. Rows are marked by the absolute time of their first
+    block, or where there is no Q by its place in the file."""
     clock = Clock(survey)
     cells = seconds(survey)
     firsts = range(0, survey.blocks, 60 * BLOCKS_A_SECOND)
-    marks = ["lead-in" if clock.time(first) is None else spelled(clock.time(first)) for first in firsts]
+    if clock.stretches:
+        marks = ["lead-in" if clock.time(first) is None else spelled(clock.time(first)) for first in firsts]
+    else:
+        marks = [spelled(first) for first in firsts]
     jumped = {damage.first // BLOCKS_A_SECOND for damage in jumps(survey, clock)}
     return pictures.damage_map(cells, jumped, marks)
 
