@@ -244,3 +244,10 @@ def mend(first: bytes, second: bytes, lead_in: int) -> tuple[bytes, Mended]:
     if status not in (DONE, DAMAGED):
         raise ValueError(f"ribjasper_mend answers {status}")
     return packs.raw[: told.bytes], told
+
+
+def q_frame(block: bytes) -> QFrame | None:
+    """The Q frame of a raw block, or none where its check or a field is bad."""
+    planar, frame, bit = ctypes.create_string_buffer(BLOCK), QFrame(), c_uint8()
+    call("ribjasper_block_to_planar")(block, planar)
+    return frame if call("ribjasper_q_decode")(planar.raw[12:24], frame, bit) == DONE else None
