@@ -1,5 +1,6 @@
 """What a dump is: its form, its lead-in, and what it carries. By trying each form that fits its size."""
 import functools
+import math
 from typing import NamedTuple
 
 from . import library
@@ -11,8 +12,8 @@ from .survey import Clock, Survey
 NAMES = ("file", "form", "lead-in", "graphics", "texts", "q-good")
 # A form is tried at the beginning, in the middle and at the end of a dump, in so many blocks each.
 TRIED = 3000
-# What random bytes look like by chance: less than one good frame or word in so many.
-CHANCE = 4096
+# Of random bytes one frame, or word, in so many is good by chance; and how unlikely chance has to be.
+CHANCE, UNLIKELY = 65_536, 1e-5
 # The first symbol of a pack of graphics.
 GRAPHICS = 9
 
@@ -47,6 +48,12 @@ class Identity(NamedTuple):
         return f"{10_000 * self.good // self.frames / 10_000:.4f}" if self.frames else "-"
 
 
+def is_no_chance(count: int, of: int) -> bool:
+    """Whether so many good ones are more than random bytes have."""
+    expected = of / CHANCE
+    return count > expected and count * math.log(expected) - math.lgamma(count + 1) < math.log(UNLIKELY)
+
+
 def signs(stream: bytes, form: Form) -> Signs:
     """What speaks for blocks in this form."""
     survey = Survey(stream, form.library, 0)
@@ -73,7 +80,7 @@ def best(dump: Dump, forms: list[Form], is_whole: bool) -> tuple[Form | None, di
         found[form.name] = functools.reduce(Signs.__add__, each)
     for sign, of in (("good", "frames"), ("carrying", "words")):
         most = max(forms, key=lambda form: getattr(found[form.name], sign), default=None)
-        if most and getattr(found[most.name], sign) * CHANCE > getattr(found[most.name], of):
+        if most and is_no_chance(getattr(found[most.name], sign), getattr(found[most.name], of)):
             return most, found
     return None, found
 
