@@ -116,6 +116,9 @@ int32_t ribjasper_correct(const uint8_t word[24], uint8_t out[24]);
 /* Whether (1 or 0) the last two of the eighteen bytes of a CD-TEXT pack are the check of the others. */
 int32_t ribjasper_text_pack_matches(const uint8_t pack[18]);
 
+/* Writes the 24 symbols, each below 64, that carry a CD-TEXT pack in a lead-in: four such make the symbols of a block. */
+void ribjasper_text_pack_symbols(const uint8_t pack[18], uint8_t symbols[24]);
+
 /* The kinds of a frame of the Q channel. */
 #define RIBJASPER_Q_PROGRAM 0   /* where the player is: track, index, time, absolute */
 #define RIBJASPER_Q_TRACK 1     /* the table of contents: a track and where its music begins (absolute) */

@@ -18,6 +18,8 @@ MOST_BLOCKS, LONGEST_LEAD_IN = 1_000_000, 450_000
 RAW, PACKS, SECTORS = 0, 1, 2
 DONE, DAMAGED, USAGE, TORN, NO_ROOM, NO_MEMORY = 0, 1, 2, 3, 6, 7
 NO_TIME = 0xFFFF_FFFF
+# What the texts of most discs need.
+TEXT_ROOM = 65_536
 Q_PROGRAM, Q_TRACK, Q_FIRST, Q_LAST, Q_LEAD_OUT, Q_CATALOGUE, Q_ISRC, Q_OTHER = range(8)
 Q_NONE, Q_BAD_FIELD, Q_BAD_CHECK = 253, 254, 255
 
@@ -119,6 +121,7 @@ CALLS = {
     "ribjasper_player_picture": ([_PLAYER, _BYTES], c_int32),
     "ribjasper_player_colours": ([_PLAYER, c_uint16 * COLOURS], c_int32),
     "ribjasper_text_pack_matches": ([_BYTES], c_int32),
+    "ribjasper_text_pack_symbols": ([_BYTES, _BYTES], None),
     "ribjasper_q_decode": ([_BYTES, POINTER(QFrame), POINTER(c_uint8)], c_int32),
     "ribjasper_block_to_planar": ([_BYTES, _BYTES], None),
     "ribjasper_block_from_planar": ([_BYTES, _BYTES], None),
@@ -218,3 +221,33 @@ def convert(stream: bytes, form: int, lead_in: int) -> tuple[bytes, Converted]:
     if status not in (DONE, DAMAGED):
         raise ValueError(f"ribjasper_convert answers {status}")
     return packs.raw[: told.bytes], told
+
+
+def texts(stream: bytes, lead_in: int) -> str:
+    """The lines of the texts of a raw lead-in, as the program's `text` writes them, or nothing where they are refused."""
+    told, room, status = Listed(), TEXT_ROOM, NO_ROOM
+    while status == NO_ROOM:
+        lines = ctypes.create_string_buffer(room)
+        status = call("ribjasper_texts")(stream, len(stream), RAW, lead_in, lines, room, told)
+        room *= 4
+    if status == NO_MEMORY:
+        raise NoMemory
+    return lines.raw[: told.bytes].decode("ascii") if status == DONE else ""
+
+
+def mend(first: bytes, second: bytes, lead_in: int) -> tuple[bytes, Mended]:
+    """The packs of two readings of equally many raw blocks, and how many words came of which."""
+    told = Mended()
+    room = PACKS_A_BLOCK * PACK * (len(first) // BLOCK)
+    packs = ctypes.create_string_buffer(max(1, room))
+    status = call("ribjasper_mend")(first, len(first), second, len(second), lead_in, packs, room, told)
+    if status not in (DONE, DAMAGED):
+        raise ValueError(f"ribjasper_mend answers {status}")
+    return packs.raw[: told.bytes], told
+
+
+def q_frame(block: bytes) -> QFrame | None:
+    """The Q frame of a raw block, or none where its check or a field is bad."""
+    planar, frame, bit = ctypes.create_string_buffer(BLOCK), QFrame(), c_uint8()
+    call("ribjasper_block_to_planar")(block, planar)
+    return frame if call("ribjasper_q_decode")(planar.raw[12:24], frame, bit) == DONE else None

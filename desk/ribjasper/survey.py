@@ -1,6 +1,7 @@
 """What the library's survey says of a stream, column by column, with no loop over its blocks in Python."""
 import bisect
 import ctypes
+import functools
 import re
 from typing import Iterator, NamedTuple
 
@@ -8,7 +9,6 @@ from . import library
 from .library import BLOCKS_A_SECOND, Row, Surveyed
 
 ROW = ctypes.sizeof(Row)
-ABSENT = bytes.fromhex("ff")
 # Where the columns of one byte stand in a row.
 COLUMNS = {name: getattr(Row, name).offset for name, *_ in Row._fields_}
 GOOD_Q = range(library.Q_OTHER + 1)
@@ -46,7 +46,7 @@ def either(*columns: bytes) -> bytes:
 
 def runs(column: bytes) -> list[Run]:
     """Where a column is not zero."""
-    return [Run(found.start(), found.end() - 1) for found in re.finditer(rb"[^\0]+", column)]
+    return [Run(found.start(), found.end() - 1) for found in re.finditer(rb"[^\x00]+", column)]
 
 
 class Survey:
@@ -63,6 +63,7 @@ class Survey:
             raise ValueError(f"ribjasper_survey answers {status}")
         self.rows = room.raw[: ROW * self.blocks]
 
+    @functools.lru_cache(maxsize=None)
     def column(self, name: str) -> bytes:
         return self.rows[COLUMNS[name] :: ROW]
 
@@ -91,7 +92,7 @@ class Survey:
         """The blocks whose times are known, in stretches that go on by one."""
         return [
             Stretch(found.start(), found.end() - 1, self.absolute(found.start()))
-            for found in re.finditer(rb"\1\0*", self._steps())
+            for found in re.finditer(rb"\x01\x00*", self._steps())
         ]
 
     def absolute(self, block: int) -> int:

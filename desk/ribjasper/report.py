@@ -1,0 +1,259 @@
+"""A report on all dumps below a folder, which goes on where it was stopped."""
+import argparse
+import concurrent.futures
+import ctypes
+import hashlib
+import json
+import os
+import signal
+import sys
+from concurrent.futures.process import BrokenProcessPool
+from pathlib import Path
+from typing import Iterator, NamedTuple
+
+from . import library, page
+from .examine import COLUMNS, UNREAD, Examined, examine
+from .output import REFUSED, Refusal, beside, cause, package, shown, tell, write_file, write_row
+
+# What a journal holds changes with this number; rows of another are read again.
+LAYOUT = 1
+JOURNALS = "journal*.jsonl"
+# Linux's call by which a process is told when the one that started it has ended.
+PR_SET_PDEATHSIG = 1
+
+
+class Task(NamedTuple):
+    """A file to be looked at: where it is, and its name in the report."""
+
+    path: str
+    name: str
+
+
+class Part(NamedTuple):
+    """Of how many machines which this one is, from 1."""
+
+    number: int
+    of: int
+
+    def has(self, name: str) -> bool:
+        digest = hashlib.sha256(os.fsencode(name)).digest()
+        return int.from_bytes(digest[:8], "big") % self.of == self.number - 1
+
+
+def part(word: str) -> Part:
+    """K/M of the command line."""
+    number, _, of = word.partition("/")
+    found = Part(int(number), int(of))
+    if not 1 <= found.number <= found.of:
+        raise ValueError(word)
+    return found
+
+
+def add_parser(commands) -> None:
+    parser = commands.add_parser(
+        "report",
+        help="make a report on all dumps below a folder",
+        description="Looks at every file below a folder and writes to DIR a table (table.tsv, table.jsonl) and a page "
+        "(index.html) with a picture and a map of each dump. A second run goes on where the first was stopped, and "
+        "reads only what changed. Exit 3 where a file could not be read.",
+    )
+    parser.add_argument("folder", metavar="FOLDER")
+    parser.add_argument("-o", "--output", required=True, metavar="DIR")
+    parser.add_argument("--jobs", type=jobs, default=len(os.sched_getaffinity(0)), metavar="N", help="files at a time")
+    parser.add_argument("--quiet", action="store_true", help="no progress bar, which a terminal has else")
+    parser.add_argument("--no-pictures", action="store_true", help="no pictures and no maps, for which Pillow is needed")
+    several = parser.add_mutually_exclusive_group()
+    several.add_argument("--cluster", metavar="ADDRESS", help="send the files to the workers of a Dask scheduler")
+    several.add_argument(
+        "--part", type=part, metavar="K/M", help="look at part K of M alone, and leave the table to a later run without"
+    )
+    parser.set_defaults(run=run)
+
+
+def jobs(word: str) -> int:
+    number = int(word)
+    if number < 1:
+        raise argparse.ArgumentTypeError("at least 1")
+    return number
+
+
+def files_below(folder: str, out: str) -> list[Task]:
+    """All files below a folder in the order of their names, but for those of the report."""
+    if not os.path.isdir(folder):
+        raise Refusal(folder, "is not a folder" if os.path.exists(folder) else "no such folder")
+    found, kept_out = [], os.path.realpath(out)
+    for at, folders, names in os.walk(folder, onerror=refuse):
+        folders[:] = sorted(it for it in folders if os.path.realpath(os.path.join(at, it)) != kept_out)
+        found += [os.path.join(at, name) for name in names]
+    return [Task(path, os.path.relpath(path, folder)) for path in sorted(found)]
+
+
+def refuse(error: OSError) -> None:
+    """A folder that cannot be looked into is told; the others go on."""
+    tell(f"{shown(error.filename)}: {cause(error)}")
+
+
+def stamp(path: str, settings: str) -> str:
+    """What a row depends on: the file as it is, the library and how it was looked at."""
+    try:
+        found = os.stat(path)
+    except OSError as error:
+        return f"{settings} {error.errno}"
+    return f"{settings} {found.st_size} {found.st_mtime_ns} {found.st_ino}"
+
+
+def known_rows(out: Path) -> dict[str, tuple[str, dict]]:
+    """What earlier runs found: the stamp and the row of each file. A line that was cut off is passed over."""
+    known = {}
+    for journal in sorted(out.glob(JOURNALS)):
+        for line in journal.read_bytes().splitlines():
+            try:
+                entry = json.loads(line)
+                known[entry["row"]["file"]] = (entry["stamp"], entry["row"])
+            except (ValueError, KeyError, TypeError):
+                continue
+    return known
+
+
+def picture_names(name: str) -> tuple[str, str]:
+    """The names of the files of a dump's first picture and of its map."""
+    digest = hashlib.sha256(os.fsencode(name)).hexdigest()[:20]
+    return f"pictures/{digest}-first.png", f"pictures/{digest}-map.png"
+
+
+def look(task: Task, with_pictures: bool) -> Examined:
+    return examine(task.path, task.name, with_pictures)
+
+
+def end_with_parent() -> None:
+    """A worker ends with the run that started it, and leaves Ctrl-C to it."""
+    signal.signal(signal.SIGINT, signal.SIG_IGN)
+    signal.signal(signal.SIGTERM, signal.SIG_DFL)
+    if sys.platform == "linux":
+        ctypes.CDLL(None).prctl(PR_SET_PDEATHSIG, signal.SIGTERM)
+
+
+def here(tasks: list[Task], with_pictures: bool, count: int) -> Iterator[Examined]:
+    """Looks at files in so many processes on this machine."""
+    if count == 1:
+        yield from (look(task, with_pictures) for task in tasks)
+        return
+    pool = concurrent.futures.ProcessPoolExecutor(count, initializer=end_with_parent)
+    try:
+        waiting = [pool.submit(look, task, with_pictures) for task in tasks]
+        for done in concurrent.futures.as_completed(waiting):
+            yield done.result()
+    except BrokenProcessPool:
+        raise Refusal(tasks[0].path, "a process ended while it looked at a file; the next run goes on") from None
+    finally:
+        pool.shutdown(wait=True, cancel_futures=True)
+
+
+def by_cluster(tasks: list[Task], with_pictures: bool, address: str) -> Iterator[Examined]:
+    """Looks at files on the workers of a scheduler, which see the same files and the same checkout."""
+    distributed = package("distributed", "python3-distributed")
+    try:
+        client = distributed.Client(address, timeout=10)
+    except (OSError, ValueError) as error:
+        raise Refusal(address, f"no scheduler answers: {error}") from None
+    try:
+        desk = str(library.TOP / "desk")
+        client.run(exec, f"import sys; sys.path.insert(0, {desk!r}) if {desk!r} not in sys.path else None")
+        waiting = {
+            client.submit(look, Task(os.path.abspath(task.path), task.name), with_pictures, pure=False): task
+            for task in tasks
+        }
+        for done in distributed.as_completed(waiting):
+            if done.status == "finished":
+                yield done.result()
+            else:
+                row = dict.fromkeys(COLUMNS) | {"file": waiting[done].name, "status": UNREAD, "why": str(done.exception())}
+                yield Examined(row, None, None)
+            done.release()
+    finally:
+        client.close()
+
+
+def progress(found: Iterator[Examined], total: int, is_quiet: bool) -> Iterator[Examined]:
+    if is_quiet or not sys.stderr.isatty():
+        return found
+    return package("tqdm", "python3-tqdm").tqdm(found, total=total, unit="file")
+
+
+def keep(out: Path, journal, entry: Examined, stamped: str) -> None:
+    """Writes the pictures of a dump and then its line of the journal."""
+    for name, content in zip(picture_names(entry.row["file"]), (entry.first_picture, entry.map)):
+        if content is None:
+            (out / name).unlink(missing_ok=True)
+        else:
+            write_file(out / name, content)
+    line = json.dumps({"stamp": stamped, "row": entry.row})
+    journal.write(line.encode() + b"\n")
+    journal.flush()
+
+
+def look_at_all(arguments, tasks: list[Task], known: dict, out: Path) -> dict[str, dict]:
+    """The rows of all files: those that are known and did not change, and the others looked at."""
+    settings = f"{LAYOUT} {library.version()} {not arguments.no_pictures}"
+    stamps = {task.name: stamp(task.path, settings) for task in tasks}
+    todo = [task for task in tasks if known.get(task.name, ("",))[0] != stamps[task.name]]
+    rows = {task.name: known[task.name][1] for task in tasks if task not in set(todo)}
+    how = not arguments.no_pictures
+    if not todo:
+        found = iter(())
+    elif arguments.cluster:
+        found = by_cluster(todo, how, arguments.cluster)
+    else:
+        found = here(todo, how, min(arguments.jobs, len(todo)))
+    # Each part of several has a journal of its own, so that none writes into another's.
+    own = f"journal-{arguments.part.number}-of-{arguments.part.of}.jsonl" if arguments.part else "journal.jsonl"
+    with open(out / own, "ab") as journal:
+        journal.write(b"\n" if journal.tell() else b"")
+        for entry in progress(found, len(todo), arguments.quiet):
+            name = entry.row["file"]
+            keep(out, journal, entry, stamps[name])
+            rows[name] = entry.row
+    tell(f"{len(todo)} files read, {len(tasks) - len(todo)} known")
+    return rows
+
+
+def cell(value: object) -> str:
+    """A value in the table: a dash for none, the parts of a list with semicolons between."""
+    if value is None or value == []:
+        return "-"
+    return "; ".join(value) if isinstance(value, list) else str(value)
+
+
+def plain(row: dict) -> dict:
+    """A row for other programs: bytes of a name that are no text are written as \\xHH."""
+    return row | {"file": os.fsencode(row["file"]).decode("utf-8", "backslashreplace")}
+
+
+def write_tables(out: Path, rows: list[dict]) -> None:
+    with beside(out / "table.tsv") as table:
+        lines = ["\t".join(COLUMNS), *("\t".join(shown(cell(row[name])) for name in COLUMNS) for row in rows)]
+        table.write("".join(f"{line}\n" for line in lines).encode(errors="surrogateescape"))
+    with beside(out / "table.jsonl") as table:
+        table.write("".join(json.dumps(plain(row)) + "\n" for row in rows).encode())
+    write_file(out / "index.html", page.html(rows, out, picture_names))
+
+
+def run(arguments) -> int:
+    out = Path(arguments.output)
+    tasks = files_below(arguments.folder, arguments.output)
+    if arguments.part:
+        tasks = [task for task in tasks if arguments.part.has(task.name)]
+    if not arguments.no_pictures:
+        package("PIL.Image", "python3-pil")
+    try:
+        (out / "pictures").mkdir(parents=True, exist_ok=True)
+    except OSError as error:
+        raise Refusal(out, cause(error)) from None
+    rows = look_at_all(arguments, tasks, known_rows(out), out)
+    ordered = [rows[task.name] for task in tasks]
+    if not arguments.part:
+        write_tables(out, ordered)
+    write_row(("status", "files"))
+    for status in sorted({row["status"] for row in ordered}):
+        write_row((status, sum(row["status"] == status for row in ordered)))
+    return REFUSED if any(row["status"] == UNREAD for row in ordered) else 0
