@@ -1,0 +1,114 @@
+#!/usr/bin/env python3
+"""Looks at the names and lines of the code: check_names.py [TOP]
+
+Complains of a definition whose name stands in the public specs of two crates, of a line of code, clause or definition over
+110 columns (proof hints and imports are laid out by `rt fmt`, and are passed over), and of a public item or a definition
+that nothing names: neither another place in the code nor tools/surface.txt, the list of names that callers were promised.
+"""
+import re
+import sys
+from collections import Counter, defaultdict
+from pathlib import Path
+
+TOP = Path(sys.argv[1] if sys.argv[1:] else __file__).resolve()
+TOP = TOP if sys.argv[1:] else TOP.parent.parent
+LIMIT = 110
+DEFINITION = re.compile(r"(?:abbrev pub|unfoldable pub|pub record|pub data) ([^\s:(]+)")
+ITEM = re.compile(r"\s*pub (?:extern \"C\" )?(?:const )?(?:fn|struct|enum|trait|static) (\w+)|\s*pub const (\w+)")
+WORD = re.compile(r"[A-Za-z_][A-Za-z0-9_'?!]*")
+PASSED_OVER = re.compile(r"\s*(?:ghost )?(?:pub )?use |\s*#\[tactic|\s*//|\s*--")
+# What may stand although nothing names it, with the reason.
+ALLOWED = {
+    "main": "the program's entry",
+}
+
+
+def files(pattern):
+    return sorted(path for path in TOP.glob(pattern) if "out" not in path.relative_to(TOP).parts)
+
+
+def crate_of(path):
+    return path.relative_to(TOP / "crates").parts[0]
+
+
+def definitions():
+    """Each definition of public specs, with the places at which it stands."""
+    found = defaultdict(list)
+    for path in files("crates/*/specs/**/*.antt"):
+        for number, line in enumerate(path.read_text().splitlines(), 1):
+            named = DEFINITION.match(line)
+            if named:
+                found[named[1]].append((path, number))
+    return found
+
+
+def items():
+    """Each public item of the code but those of tests, with the place at which it stands."""
+    for path in files("crates/*/src/**/*.rt"):
+        if crate_of(path) == "ribjasper_c":
+            continue  # what C calls is named by the header
+        for number, line in enumerate(path.read_text().splitlines(), 1):
+            named = ITEM.match(line)
+            if named:
+                yield named[1] or named[2], path, number
+
+
+def uses():
+    """How often each word stands in the code, the definitions and the proofs."""
+    count = Counter()
+    for pattern in ("crates/*/src/**/*.rt", "crates/*/specs/**/*.antt", "crates/*/proofs/**/*.antt"):
+        for path in files(pattern):
+            for line in path.read_text().splitlines():
+                if not line.strip().startswith(("//", "--")):
+                    count.update(WORD.findall(line))
+    return count
+
+
+def surface():
+    path = TOP / "tools" / "surface.txt"
+    return set(WORD.findall(path.read_text())) if path.exists() else set()
+
+
+def place(path, number):
+    return f"{path.relative_to(TOP)}:{number}"
+
+
+def doubled(found):
+    for name, places in sorted(found.items()):
+        if len({crate_of(path) for path, _ in places}) > 1:
+            yield f"{name} is defined at {' and '.join(place(*it) for it in places)}"
+
+
+def long_lines():
+    for pattern in ("crates/*/src/**/*.rt", "crates/*/specs/**/*.antt"):
+        for path in files(pattern):
+            for number, line in enumerate(path.read_text().splitlines(), 1):
+                if len(line) > LIMIT and not PASSED_OVER.match(line):
+                    yield f"{place(path, number)} has {len(line)} columns"
+
+
+def unused(found):
+    count, promised = uses(), surface()
+    for name, places in sorted(found.items()):
+        # A definition names itself in its type and on each of its lines.
+        path, number = places[0]
+        lines = path.read_text().splitlines()
+        own = sum(WORD.findall(line).count(name) for line in lines if line.startswith((name, "abbrev pub " + name,
+                  "unfoldable pub " + name, "pub record " + name, "pub data " + name)))
+        if count[name] <= own:
+            yield f"{name} ({place(path, number)}) is named by nothing"
+    for name, path, number in items():
+        if count[name] <= 1 and name not in promised and name not in ALLOWED:
+            yield f"{name} ({place(path, number)}) is called by nothing"
+
+
+def main():
+    found = definitions()
+    wrong = [*doubled(found), *long_lines(), *unused(found)]
+    for line in wrong:
+        print(f"check_names: {line}", file=sys.stderr)
+    return 1 if wrong else 0
+
+
+if __name__ == "__main__":
+    sys.exit(main())
