@@ -1,0 +1,99 @@
+// The rows of a stream.
+ghost use Rattle.std.specs.Prelude.{◌≡◌, ◌≤◌, ◌+◌, ◌-◌, ◌/◌, ◌++◌, IsTrue, length, take, drop, ◌==◌};
+ghost use Rattle.std.specs.List.{list_all};
+ghost use Rattle.raw_subcode.specs.Channels.{unit_size};
+ghost use Rattle.subcode_player.specs.Steps.{words_give, words_next};
+ghost use Rattle.block_survey.specs.Rows.{row_with, survey_rows};
+ghost use Rattle.block_survey.specs.Steps.{marks_of, words_in};
+
+use crate::BlockRow;
+use crate::counting::WordMarks;
+use crate::reading::FrameMark;
+use cdg_io::Stage;
+use raw_subcode::{BLOCK_BYTES, Form, SECTOR_BYTES};
+use rw_interleave::Window;
+use subcode_player::BlockWords;
+
+/// Writes a row for each whole block of a stream, of which the first `lead_in` are those of the lead-in, to the front of
+/// `rows`. Bytes behind the last whole block are passed over. It takes no memory.
+pub fn survey(form: Form, lead_in: u32, stream: &[u8], rows: &mut [BlockRow])
+    requires { length stream.now / unit_size form ≤ length rows.old }
+    ensures { rows.new ≡ survey_rows form lead_in stream.now
+        ++ drop (length stream.now / unit_size form) rows.old }
+{
+    let mut words = BlockWords {
+        form,
+        lead_in,
+        gather: Window::new(),
+    };
+    let size = unit_bytes(form);
+    for b in 0..stream.len() / size {
+        let block = block_at(stream, size * b + size - BLOCK_BYTES);
+        rows[b] = next_row(form, &mut words, &block);
+    }
+}
+
+// How many bytes a block takes in a stream of this form.
+fn unit_bytes(form: Form) -> usize
+    ensures { result ≡ unit_size form }
+{
+    match form {
+        Form::Sector => SECTOR_BYTES,
+        Form::Raw | Form::Cooked => BLOCK_BYTES,
+    }
+}
+
+// The block that begins at a byte.
+#[inline]
+fn block_at(stream: &[u8], at: usize) -> [u8; BLOCK_BYTES]
+    requires { at + 96 ≤ length stream.now }
+    ensures { result ≡ take 96 (drop at stream.now) }
+{
+    let mut block = [0; BLOCK_BYTES];
+    block.copy_from_slice(&stream[at..at + BLOCK_BYTES]);
+    block
+}
+
+// The row of the next block of a stream of this form.
+fn next_row(form: Form, words: &mut BlockWords, block: &[u8; BLOCK_BYTES]) -> BlockRow
+    ensures next { words.new ≡ words_next words.old block.now }
+    ensures row { result ≡ row_with form (words_in (words_give words.old block.now)) block.now }
+{
+    let marks = marks_with(words, block);
+    let frame = FrameMark::of_block(form, block);
+    BlockRow {
+        absolute: frame.absolute,
+        clean: marks.clean,
+        one: marks.one,
+        two: marks.two,
+        bad: marks.bad,
+        q: frame.kind,
+        track: frame.track,
+        index: frame.index,
+        empty: u8::from(is_empty(block)),
+    }
+}
+
+// What is counted of the words that end with the next block.
+#[inline]
+fn marks_with(words: &mut BlockWords, block: &[u8; BLOCK_BYTES]) -> WordMarks
+    ensures next { words.new ≡ words_next words.old block.now }
+    ensures marks { result ≡ marks_of (words_in (words_give words.old block.now)) }
+{
+    // Most blocks of a disc are idle.
+    if words.is_idle(block) {
+        return WordMarks::four_idle();
+    }
+    match words.feed(block) {
+        Some(ended) => WordMarks::of(ended.into_words().as_slice()),
+        None => WordMarks::none(),
+    }
+}
+
+// Whether all bytes of a block are zero.
+#[inline]
+fn is_empty(block: &[u8; BLOCK_BYTES]) -> bool
+    ensures { result ≡ list_all (λ byte. byte == 0) block.now }
+{
+    *block == [0; BLOCK_BYTES]
+}
