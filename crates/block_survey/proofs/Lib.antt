@@ -1,3 +1,3 @@
 pub mod Counts
-pub mod Blocks
+pub mod EndedWords
 pub mod Rows

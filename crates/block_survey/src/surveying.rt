@@ -7,10 +7,11 @@ ghost use Rattle.block_survey.specs.Rows.{row_with, survey_rows};
 ghost use Rattle.block_survey.specs.Steps.{marks_of, words_in};
 
 use crate::BlockRow;
+use crate::blocks::{block_at, unit_bytes};
 use crate::counting::WordMarks;
 use crate::reading::FrameMark;
 use cdg_io::Stage;
-use raw_subcode::{BLOCK_BYTES, Form, SECTOR_BYTES};
+use raw_subcode::{BLOCK_BYTES, Form};
 use rw_interleave::Window;
 use subcode_player::BlockWords;
 
@@ -26,32 +27,10 @@ pub fn survey(form: Form, lead_in: u32, stream: &[u8], rows: &mut [BlockRow])
         lead_in,
         gather: Window::new(),
     };
-    let size = unit_bytes(form);
-    for b in 0..stream.len() / size {
-        let block = block_at(stream, size * b + size - BLOCK_BYTES);
+    for b in 0..stream.len() / unit_bytes(form) {
+        let block = block_at(form, stream, b);
         rows[b] = next_row(form, &mut words, &block);
     }
-}
-
-// How many bytes a block takes in a stream of this form.
-fn unit_bytes(form: Form) -> usize
-    ensures { result ≡ unit_size form }
-{
-    match form {
-        Form::Sector => SECTOR_BYTES,
-        Form::Raw | Form::Cooked => BLOCK_BYTES,
-    }
-}
-
-// The block that begins at a byte.
-#[inline]
-fn block_at(stream: &[u8], at: usize) -> [u8; BLOCK_BYTES]
-    requires { at + 96 ≤ length stream.now }
-    ensures { result ≡ take 96 (drop at stream.now) }
-{
-    let mut block = [0; BLOCK_BYTES];
-    block.copy_from_slice(&stream[at..at + BLOCK_BYTES]);
-    block
 }
 
 // The row of the next block of a stream of this form.

@@ -128,7 +128,7 @@ fn write_packs(form: Form, lead_in: u32, stream: &[u8], sink: &mut MemSink) -> R
     }
 }
 
-fn stream_form(form: u32) -> Form
+pub(crate) fn stream_form(form: u32) -> Form
     ensures { result ≡ stream_form form }
 {
     if form == 2 {
