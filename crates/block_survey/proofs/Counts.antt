@@ -5,8 +5,8 @@ use Rattle.std.specs.declared.option.Option.{Option}
 use Rattle.std.proofs.lemmas.List.Sums.{sum_by_more}
 use Rattle.rw_code.specs.Codeword.{IsCodeword, differences}
 use Rattle.rw_code.specs.Finding.{finding}
-use Rattle.subcode_player.specs.Check.{has_wrong}
-use Rattle.subcode_player.proofs.Recovers.{found_itself}
+use Rattle.stream_stages.specs.Check.{has_wrong}
+use Rattle.stream_stages.proofs.Recovers.{found_itself}
 use Rattle.block_survey.specs.Rows.{wrong_count, bad_words}
 use Rattle.block_survey.specs.Steps.{marks_of, marked_found}
 use Rattle.block_survey.specs.declared.counting.WordMarks.{WordMarks}

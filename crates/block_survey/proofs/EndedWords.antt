@@ -12,12 +12,12 @@ use Rattle.raw_subcode.specs.Channels.{unit_size, block_of, blocks_of, symbols_o
 use Rattle.raw_subcode.specs.declared.form.Form.{Form}
 use Rattle.raw_subcode.specs.declared.form.Form.TheVariants.{Raw, Sector, Cooked}
 use Rattle.rw_interleave.specs.Stream.{word_count, form_word}
-use Rattle.subcode_player.specs.Steps.{fresh_words, slots_of, words_next, words_give}
-use Rattle.subcode_player.specs.declared.block_words.BlockWords.{BlockWords}
-use Rattle.subcode_player.proofs.Slots.{Sized, sized_drop, all_slots_sized, all_slots_together, length-all_slots}
-use Rattle.subcode_player.proofs.FormWords.{words_are}
-use Rattle.subcode_player.proofs.StageRuns.{all_items, words_run}
-use Rattle.subcode_player.proofs.Conversion.{length-units_of, units_sized, blocks_sized}
+use Rattle.stream_stages.specs.Steps.{fresh_words, slots_of, words_next, words_give}
+use Rattle.stream_stages.specs.declared.block_words.BlockWords.{BlockWords}
+use Rattle.stream_stages.proofs.Slots.{Sized, sized_drop, all_slots_sized, all_slots_together, length-all_slots}
+use Rattle.stream_stages.proofs.FormWords.{words_are}
+use Rattle.stream_stages.proofs.StageRuns.{all_items, words_run}
+use Rattle.stream_stages.proofs.Conversion.{length-units_of, units_sized, blocks_sized}
 use Rattle.block_survey.specs.Rows.{ended_words}
 use Rattle.block_survey.specs.Steps.{words_in}
 

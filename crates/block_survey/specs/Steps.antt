@@ -1,7 +1,7 @@
 -- What is counted of the words that end with a block.
 use Rattle.std.specs.Prelude.{ℕ, ◌+◌, if◌then◌else◌, List, [], Option, Some, None, is_none}
 use Rattle.arrayvec.specs.ArrayVec.{ArrayVec}
-use Rattle.subcode_player.specs.Check.{has_wrong}
+use Rattle.stream_stages.specs.Check.{has_wrong}
 use Rattle.block_survey.specs.Rows.{wrong_count, bad_words}
 use Rattle.block_survey.specs.declared.counting.WordMarks.{WordMarks}
 

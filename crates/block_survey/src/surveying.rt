@@ -2,7 +2,7 @@
 ghost use Rattle.std.specs.Prelude.{◌≡◌, ◌≤◌, ◌+◌, ◌-◌, ◌/◌, ◌++◌, IsTrue, length, take, drop, ◌==◌};
 ghost use Rattle.std.specs.List.{list_all};
 ghost use Rattle.raw_subcode.specs.Channels.{unit_size};
-ghost use Rattle.subcode_player.specs.Steps.{words_give, words_next};
+ghost use Rattle.stream_stages.specs.Steps.{words_give, words_next};
 ghost use Rattle.block_survey.specs.Rows.{row_with, survey_rows};
 ghost use Rattle.block_survey.specs.Steps.{marks_of, words_in};
 
@@ -12,8 +12,7 @@ use crate::counting::WordMarks;
 use crate::reading::FrameMark;
 use cdg_io::Stage;
 use raw_subcode::{BLOCK_BYTES, Form};
-use rw_interleave::Window;
-use subcode_player::BlockWords;
+use stream_stages::BlockWords;
 
 /// Writes a row for each whole block of a stream, of which the first `lead_in` are those of the lead-in, to the front of
 /// `rows`. Bytes behind the last whole block are passed over. It takes no memory.
@@ -22,11 +21,8 @@ pub fn survey(form: Form, lead_in: u32, stream: &[u8], rows: &mut [BlockRow])
     ensures { rows.new ≡ survey_rows form lead_in stream.now
         ++ drop (length stream.now / unit_size form) rows.old }
 {
-    let mut words = BlockWords {
-        form,
-        lead_in,
-        gather: Window::new(),
-    };
+    let mut words = BlockWords::new();
+    words.begin(lead_in, form);
     for b in 0..stream.len() / unit_bytes(form) {
         let block = block_at(form, stream, b);
         rows[b] = next_row(form, &mut words, &block);

@@ -138,7 +138,7 @@ pub(crate) fn stream_form(form: u32) -> Form
     }
 }
 
-fn copy_front(text: &[u8], packs: &mut [u8])
+pub(crate) fn copy_front(text: &[u8], packs: &mut [u8])
     requires { length text.now ≤ length packs.old }
     ensures { packs.new ≡ text.now ++ drop (length text.now) packs.old }
 {

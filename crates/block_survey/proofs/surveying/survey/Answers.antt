@@ -1,7 +1,7 @@
 use Rattle.std.proofs.Common.{◌≡◌, ℕ, ◌/◌, ◌<◌, List, [], length, get_or, ap₂, ◌∙◌, subst, arith, length-set}
 use Rattle.raw_subcode.specs.Channels.{unit_size, blocks_of}
-use Rattle.subcode_player.specs.Steps.{words_next, words_give}
-use Rattle.subcode_player.specs.declared.block_words.BlockWords.{BlockWords}
+use Rattle.stream_stages.specs.Steps.{words_next, words_give}
+use Rattle.stream_stages.specs.declared.block_words.BlockWords.{BlockWords}
 use Rattle.block_survey.specs.Rows.{row_with, row_of, ended_words}
 use Rattle.block_survey.specs.Steps.{words_in}
 use Rattle.block_survey.proofs.EndedWords.{words_there, after_more}

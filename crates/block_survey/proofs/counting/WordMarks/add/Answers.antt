@@ -1,6 +1,6 @@
 use Rattle.std.proofs.Common.{◌∙◌, ap}
 use Rattle.block_survey.specs.Steps.{marked_found}
-use Rattle.subcode_player.proofs.Recovers.{found_some, found_none}
+use Rattle.stream_stages.proofs.Recovers.{found_some, found_none}
 use Rattle.block_survey.proofs.Counts.{bad_more}
 use Rattle.block_survey.proofs.counting.WordMarks.add.Goals as goal
 
