@@ -128,7 +128,7 @@ fn write_packs(form: Form, lead_in: u32, stream: &[u8], sink: &mut MemSink) -> R
     }
 }
 
-fn stream_form(form: u32) -> Form
+pub(crate) fn stream_form(form: u32) -> Form
     ensures { result ≡ stream_form form }
 {
     if form == 2 {
@@ -138,7 +138,7 @@ fn stream_form(form: u32) -> Form
     }
 }
 
-fn copy_front(text: &[u8], packs: &mut [u8])
+pub(crate) fn copy_front(text: &[u8], packs: &mut [u8])
     requires { length text.now ≤ length packs.old }
     ensures { packs.new ≡ text.now ++ drop (length text.now) packs.old }
 {

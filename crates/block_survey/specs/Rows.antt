@@ -1,0 +1,84 @@
+-- One row for each block of a stream: what is found where.
+use Rattle.std.specs.Prelude.{ℕ, suc, ◌-◌, ◌/◌, ◌==◌, if◌then◌else◌, List, [], length, map, count_by, slice_index_or, Option, Some, None, is_none, Result, Ok, Err}
+use Rattle.std.specs.List.{list_all, range_with_len}
+use Rattle.bit_lists.specs.Counting.{below}
+use Rattle.rw_code.specs.Finding.{finding}
+use Rattle.raw_subcode.specs.Channels.{unit_size, q_bits, blocks_of, program_symbols}
+use Rattle.raw_subcode.specs.declared.form.Form.{Form}
+use Rattle.raw_subcode.specs.declared.form.Form.TheVariants.{Raw, Sector, Cooked}
+use Rattle.rw_interleave.specs.Stream.{word_count, form_word}
+use Rattle.q_channel.specs.ReadingOf.{reading_of}
+use Rattle.q_channel.specs.declared.frame.QFrame.{QFrame}
+use Rattle.q_channel.specs.declared.frame.QFrame.TheVariants.{Program}
+use Rattle.q_channel.specs.declared.frame.QFault.{QFault}
+use Rattle.q_channel.specs.declared.frame.QFault.TheVariants.{BadCrc, BadField}
+use Rattle.plain_frames.specs.Plain.{plain_of, plain_kind}
+use Rattle.plain_frames.specs.declared.plain.PlainFrame.{PlainFrame}
+use Rattle.stream_stages.specs.Check.{has_wrong}
+use Rattle.block_survey.specs.declared.row.BlockRow.{BlockRow}
+
+-- what stands in place of an absolute time
+abbrev pub no_time : ℕ
+no_time = 4294967295
+
+-- what the Q bits of a block are read as, unless the stream is one of packs
+abbrev pub reading_in : Form → List ℕ → Option (Result QFrame QFault)
+reading_in Raw block = Some (reading_of (q_bits block))
+reading_in Sector block = Some (reading_of (q_bits block))
+reading_in Cooked block = None
+
+-- the number of a frame's kind, or why there is none: nothing is read, a field is out of its range, the check is wrong
+abbrev pub kind_told : Option (Result QFrame QFault) → ℕ
+kind_told (Some (Ok frame)) = (plain_of frame).kind
+kind_told None = 253
+kind_told (Some (Err (BadField bit))) = 254
+kind_told (Some (Err BadCrc)) = 255
+
+-- the absolute time of a frame of the program area
+abbrev pub time_told : Option (Result QFrame QFault) → ℕ
+time_told (Some (Ok (Program control track index time absolute))) = absolute
+time_told _ = no_time
+
+-- the fields of a frame, all zero where there is none
+abbrev pub fields_told : Option (Result QFrame QFault) → PlainFrame
+fields_told (Some (Ok frame)) = plain_of frame
+fields_told _ = plain_kind 0 0
+
+-- how many of some words have so many wrong symbols
+abbrev pub wrong_count : ℕ → List (List ℕ) → ℕ
+wrong_count n words = count_by (λ word. has_wrong n (word, finding word)) words
+
+-- how many of them have no codeword near
+abbrev pub bad_words : List (List ℕ) → ℕ
+bad_words words = count_by (λ word. is_none (finding word)) words
+
+-- the row of a block with which these words end
+abbrev pub row_with : Form → List (List ℕ) → List ℕ → BlockRow
+row_with form words block = record {
+  absolute = time_told (reading_in form block);
+  clean = wrong_count 0 words;
+  one = wrong_count 1 words;
+  two = wrong_count 2 words;
+  bad = bad_words words;
+  q = kind_told (reading_in form block);
+  track = (fields_told (reading_in form block)).track;
+  index = (fields_told (reading_in form block)).index;
+  empty = if list_all (λ byte. byte == 0) block then 1 else 0;
+}
+
+-- the words of a stream that end with its block b: as many words are whole with it as with the blocks up to it, of those
+-- that follow the lead-in
+abbrev pub ended_words : Form → ℕ → List ℕ → ℕ → List (List ℕ)
+ended_words form lead_in bytes b =
+    let before = word_count form (b - lead_in) in
+    map (form_word form (program_symbols form bytes lead_in))
+    (range_with_len before (word_count form (suc b - lead_in) - before))
+
+-- the row of block b of a stream
+abbrev pub row_of : Form → ℕ → List ℕ → ℕ → BlockRow
+row_of form lead_in bytes b =
+    row_with form (ended_words form lead_in bytes b) (slice_index_or (blocks_of form bytes) b [])
+
+-- a row for each whole block of a stream
+abbrev pub survey_rows : Form → ℕ → List ℕ → List BlockRow
+survey_rows form lead_in bytes = map (row_of form lead_in bytes) (below (length bytes / unit_size form))

@@ -1,0 +1,12 @@
+//! A survey of a stream: one row for each block, of what is found in it.
+#![tactic(auto)]
+
+mod blocks;
+mod counting;
+mod reading;
+mod row;
+mod surveying;
+
+pub use blocks::{block_at, unit_bytes};
+pub use row::{BlockRow, NO_TIME};
+pub use surveying::survey;

@@ -1,0 +1,130 @@
+// What a row tells of the Q channel of a block.
+ghost use Rattle.std.specs.Prelude.{◌≡◌, Some, Ok};
+ghost use Rattle.q_channel.specs.declared.frame.QFrame.TheVariants.{Toc};
+ghost use Rattle.block_survey.specs.Rows.{fields_told, kind_told, reading_in, time_told};
+ghost use Rattle.plain_frames.specs.Plain.{plain_of};
+
+use crate::NO_TIME;
+use q_channel::{QFault, QFrame, TocPoint, decode};
+use raw_subcode::{BLOCK_BYTES, Block, Form};
+
+// Nothing is read: the packs of a stream have no frames.
+const NOT_READ: u8 = 253;
+
+// A field is out of its range.
+const BAD_FIELD: u8 = 254;
+
+// The check is wrong.
+const BAD_CHECK: u8 = 255;
+
+/// What is told of the Q channel of a block.
+#[derive(Clone, Copy)]
+pub(crate) struct FrameMark {
+    pub kind: u8,
+    pub track: u8,
+    pub index: u8,
+    pub absolute: u32,
+}
+
+impl FrameMark {
+    // What is told where no frame is read, and why.
+    #[inline]
+    fn none(kind: u8) -> FrameMark
+        ensures kind { result.kind ≡ kind }
+        ensures track { result.track ≡ 0 }
+        ensures index { result.index ≡ 0 }
+        ensures absolute { result.absolute ≡ 4294967295 }
+    {
+        FrameMark {
+            kind,
+            track: 0,
+            index: 0,
+            absolute: NO_TIME,
+        }
+    }
+
+    // What is told of an entry of the table of contents.
+    fn of_entry(kind: u8, track: u8) -> FrameMark
+        ensures kind { result.kind ≡ kind }
+        ensures track { result.track ≡ track }
+        ensures index { result.index ≡ 0 }
+        ensures absolute { result.absolute ≡ 4294967295 }
+    {
+        FrameMark {
+            kind,
+            track,
+            index: 0,
+            absolute: NO_TIME,
+        }
+    }
+
+    // What is told of a frame.
+    #[inline]
+    fn of(frame: &QFrame) -> FrameMark
+        ensures kind { result.kind ≡ (plain_of frame.now).kind }
+        ensures track { result.track ≡ (plain_of frame.now).track }
+        ensures index { result.index ≡ (plain_of frame.now).index }
+        ensures absolute { result.absolute ≡ time_told (Some (Ok frame.now)) }
+    {
+        match frame {
+            QFrame::Program {
+                track,
+                index,
+                absolute,
+                ..
+            } => FrameMark {
+                kind: 0,
+                track: *track,
+                index: *index,
+                absolute: absolute.block(),
+            },
+            QFrame::Toc { point, .. } => FrameMark::of_point(point),
+            QFrame::Catalogue { .. } => FrameMark::none(5),
+            QFrame::Isrc { .. } => FrameMark::none(6),
+            QFrame::Other { .. } => FrameMark::none(7),
+        }
+    }
+
+    // What is told of a point of the table of contents.
+    fn of_point(point: &TocPoint) -> FrameMark
+        ensures kind { result.kind ≡ (plain_of (Toc 0 point.now 0)).kind }
+        ensures track { result.track ≡ (plain_of (Toc 0 point.now 0)).track }
+        ensures index { result.index ≡ 0 }
+        ensures absolute { result.absolute ≡ 4294967295 }
+    {
+        match point {
+            TocPoint::Track { number, .. } => FrameMark::of_entry(1, *number),
+            TocPoint::First { track, .. } => FrameMark::of_entry(2, *track),
+            TocPoint::Last { track } => FrameMark::of_entry(3, *track),
+            TocPoint::LeadOut { .. } => FrameMark::none(4),
+        }
+    }
+
+    /// What is told of the Q channel of a block of a stream of this form.
+    pub(crate) fn of_block(form: Form, block: &[u8; BLOCK_BYTES]) -> FrameMark
+        ensures kind { result.kind ≡ kind_told (reading_in form block.now) }
+        ensures track { result.track ≡ (fields_told (reading_in form block.now)).track }
+        ensures index { result.index ≡ (fields_told (reading_in form block.now)).index }
+        ensures absolute { result.absolute ≡ time_told (reading_in form block.now) }
+    {
+        match form {
+            Form::Raw | Form::Sector => FrameMark::read(block),
+            Form::Cooked => FrameMark::none(NOT_READ),
+        }
+    }
+
+    // What is told of the Q bits of a block.
+    #[inline]
+    fn read(block: &[u8; BLOCK_BYTES]) -> FrameMark
+        ensures kind { result.kind ≡ kind_told (reading_in Form.Raw block.now) }
+        ensures track { result.track ≡ (fields_told (reading_in Form.Raw block.now)).track }
+        ensures index { result.index ≡ (fields_told (reading_in Form.Raw block.now)).index }
+        ensures absolute { result.absolute ≡ time_told (reading_in Form.Raw block.now) }
+    {
+        match decode(&Block::from_bytes(block).q_frame()) {
+            Ok(frame) => FrameMark::of(&frame),
+            Err(QFault::BadField { .. }) => FrameMark::none(BAD_FIELD),
+            Err(QFault::BadCrc) => FrameMark::none(BAD_CHECK),
+        }
+    }
+}

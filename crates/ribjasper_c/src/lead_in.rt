@@ -1,0 +1,224 @@
+// The packs and the texts of a lead-in.
+ghost use Rattle.std.specs.Prelude.{◌≡◌, ◌≢◌, ◌<◌, ◌≤◌, ◌⊎◌, ◌↔◌, ◌++◌, ◌+◌, ◌*◌, List, ℕ, IsTrue, IfOk, IfErr, Ok, pos, length, take, drop};
+ghost use Rattle.disc_time.specs.Counts.{most_lead_in};
+ghost use Rattle.cdtext_packs.specs.Reading.{read_texts};
+ghost use Rattle.cdtext_packs.specs.TextLines.{counted_lines};
+ghost use Rattle.cdtext_packs.specs.TextSteps.{HasRead};
+ghost use Rattle.cdtext_packs.specs.Texts.{Texts};
+ghost use Rattle.cdtext_packs.specs.declared.kinds.TextFault.{TextFault};
+ghost use Rattle.ribjasper_c.specs.Conversions.{stream_form};
+ghost use Rattle.ribjasper_c.specs.LeadIns.{fault_answer, fault_told, ArePacksOf, IsRefusedBy};
+ghost use Rattle.stream_stages.specs.TextListing.{packs_in, IsTextListed, IsTextFault, IsWholeInput, texts_of_lead_in};
+
+use crate::converting::{copy_front, stream_form};
+use block_survey::{block_at, unit_bytes};
+use cdg_io::{Failed, MemSink, Stage};
+use cdtext_packs::{LeadInTexts, TextFault, TextMap, lead_in_packs_are_read, write_lines};
+use disc_time::MOST_LEAD_IN;
+use raw_subcode::{BLOCK_BYTES, Block, Form, MOST_UNITS};
+use std::alloc::Global;
+
+// The exit numbers of the program, and those of what it refuses of texts.
+const DONE: i32 = 0;
+
+const USAGE: i32 = 2;
+
+const REFUSED: i32 = 3;
+
+const WRITE_FAULT: i32 = 6;
+
+const NO_MEMORY: i32 = 7;
+
+const TEXT_MISSING: i32 = 8;
+
+const TEXT_NO_SIZE: i32 = 9;
+
+const TEXT_MALFORMED: i32 = 10;
+
+// The lines of a lead-in are shorter: its packs hold 3,072 characters, which are printed in three bytes each and, where
+// tracks have the string of the one before, up to a hundred times; and there are at most 700 lines.
+const MOST_TEXT: usize = 1 << 20;
+
+/// What is told of the texts of a lead-in.
+#[repr(C)]
+#[derive(Clone, Copy)]
+pub struct Listed {
+    /// The bytes that were written.
+    pub bytes: u64,
+    /// The number of the pack that is missing or malformed.
+    pub seq: u32,
+    /// The number of its byte that cannot be.
+    pub byte: u32,
+}
+
+/// Writes the four text packs of a block, one after another.
+#[unsafe(no_mangle)]
+pub extern "C" fn ribjasper_block_text_packs(block: &[u8; BLOCK_BYTES], packs: &mut [u8; 72])
+    ensures { ArePacksOf block.now packs.new }
+{
+    let block = Block::from_bytes(block);
+    for k in 0..4 {
+        put_pack(packs, k, &block.text_pack(k));
+    }
+}
+
+// Puts a pack in its place.
+fn put_pack(packs: &mut [u8; 72], k: usize, pack: &[u8; 18])
+    requires { k < 4 }
+    ensures put { packs.new ≡ take (18 * k) packs.old ++ pack.now ++ drop (18 * k + 18) packs.old }
+    ensures size { length pack.now ≡ 18 }
+{
+    packs[18 * k..18 * k + 18].copy_from_slice(pack);
+}
+
+/// Writes the lines of the texts of a lead-in to the front of a buffer, and answers by an exit number of the program,
+/// or by what it refuses of the texts.
+#[unsafe(no_mangle)]
+pub extern "C" fn ribjasper_texts(
+    alloc: Global,
+    stream: &[u8],
+    form: u32,
+    lead_in: u32,
+    out: &mut [u8],
+    told: &mut Listed,
+) -> i32
+    ensures done { result ≡ pos 0 → (text : List ℕ)
+        × IsTextListed (stream_form form) lead_in stream.now text 0
+        × (out.new ≡ text ++ drop (length text) out.old)
+        × (told.new ≡ record { bytes = length text; seq = 0; byte = 0 }) }
+    ensures usage { (result ≡ pos 2) ↔ ((form ≡ 1) ⊎ (2 < form) ⊎ (most_lead_in < lead_in)) }
+    ensures refused { result ≡ pos 3 → ¬ IsWholeInput (stream_form form) stream.now }
+    ensures whole { result ≢ pos 2 → result ≢ pos 3 → IsWholeInput (stream_form form) stream.now }
+    ensures small { result ≡ pos 6 → (text : List ℕ)
+        × IsTextListed (stream_form form) lead_in stream.now text 0 × (length out.old < length text) }
+    ensures texts { (result ≡ pos 8) ⊎ (result ≡ pos 9) ⊎ (result ≡ pos 10) → (fault : TextFault)
+        × IsRefusedBy fault (stream_form form) lead_in stream.now
+        × (result ≡ fault_answer fault) × (told.new ≡ fault_told fault) }
+    ensures answer { (result ≡ pos 0) ⊎ (result ≡ pos 2) ⊎ (result ≡ pos 3) ⊎ (result ≡ pos 6)
+        ⊎ (result ≡ pos 7) ⊎ (result ≡ pos 8) ⊎ (result ≡ pos 9) ⊎ (result ≡ pos 10) }
+    ensures untouched { result ≢ pos 0 → out.new ≡ out.old }
+    ensures same { (result ≡ pos 2) ⊎ (result ≡ pos 3) ⊎ (result ≡ pos 6) ⊎ (result ≡ pos 7)
+        → told.new ≡ told.old }
+{
+    if form == 1 || form > 2 || lead_in > MOST_LEAD_IN {
+        return USAGE;
+    }
+    let form = stream_form(form);
+    if !is_whole(form, stream) {
+        return REFUSED;
+    }
+    let lines = match lines_of(alloc, form, lead_in, stream) {
+        Ok(lines) => lines,
+        Err(fault) => return refuse(fault, told),
+    };
+    let text = lines.bytes();
+    if text.len() > out.len() {
+        return WRITE_FAULT;
+    }
+    copy_front(text, out);
+    *told = Listed {
+        bytes: text.len() as u64,
+        seq: 0,
+        byte: 0,
+    };
+    DONE
+}
+
+// Whether a stream is of whole units, and of no more than a stream may have.
+fn is_whole(form: Form, stream: &[u8]) -> bool
+    ensures { IsTrue result ↔ IsWholeInput form stream.now }
+{
+    let size = unit_bytes(form);
+    stream.len() <= MOST_UNITS as usize * size && stream.len() % size == 0
+}
+
+// Tells why texts are refused, but for want of memory.
+fn refuse(fault: TextFault, told: &mut Listed) -> i32
+    ensures answer { result ≡ fault_answer fault }
+    ensures told { fault ≢ TextFault.NoMemory → told.new ≡ fault_told fault }
+    ensures same { fault ≡ TextFault.NoMemory → told.new ≡ told.old }
+{
+    match fault {
+        TextFault::Missing { seq } => {
+            tell(told, seq, 0);
+            TEXT_MISSING
+        }
+        TextFault::NoSize => {
+            tell(told, 0, 0);
+            TEXT_NO_SIZE
+        }
+        TextFault::Malformed { seq, byte } => {
+            tell(told, seq, byte);
+            TEXT_MALFORMED
+        }
+        TextFault::NoMemory => NO_MEMORY,
+    }
+}
+
+fn tell(told: &mut Listed, seq: u8, byte: u8)
+    ensures { told.new ≡ record { bytes = 0; seq = seq; byte = byte } }
+{
+    *told = Listed {
+        bytes: 0,
+        seq: u32::from(seq),
+        byte: u32::from(byte),
+    };
+}
+
+// The lines of the texts of a lead-in.
+fn lines_of(alloc: Global, form: Form, lead_in: u32, stream: &[u8]) -> Result<MemSink, TextFault>
+    requires { lead_in ≤ most_lead_in }
+    ensures lines { IfOk result (λ lines. IsTextListed form lead_in stream.now lines.held 0) }
+    ensures fault { IfErr result (λ fault. IsTextFault fault (texts_of_lead_in form lead_in stream.now)) }
+{
+    let Ok(mut texts) = LeadInTexts::start(alloc) else {
+        return Err(TextFault::NoMemory);
+    };
+    read_lead_in(&mut texts, form, lead_in, stream);
+    let lines = write_texts(alloc, &texts);
+    drop(texts);
+    lines
+}
+
+// Reads the packs of a lead-in.
+fn read_lead_in(texts: &mut LeadInTexts, form: Form, lead_in: u32, stream: &[u8])
+    requires { lead_in ≤ most_lead_in }
+    ensures { HasRead (packs_in form lead_in stream.now) texts.new }
+{
+    lead_in_packs_are_read();
+    texts.begin(lead_in);
+    let blocks = stream.len() / unit_bytes(form);
+    for b in 0..blocks.min(lead_in as usize) {
+        texts.feed(&block_at(form, stream, b));
+    }
+}
+
+// Writes the lines of the texts that were read.
+fn write_texts(alloc: Global, texts: &LeadInTexts) -> Result<MemSink, TextFault>
+    ensures lines { IfOk result (λ lines. (map : Texts) × (read_texts texts.now.reader ≡ Ok map)
+        × (lines.held ≡ counted_lines map texts.now.good texts.now.bad texts.now.other)) }
+    ensures fault { IfErr result (λ fault. IsTextFault fault (read_texts texts.now.reader)) }
+{
+    let map = match texts.reader.finish(alloc) {
+        Ok(map) => map,
+        Err(fault) => return Err(fault),
+    };
+    let lines = write_map(alloc, texts, &map);
+    drop(map);
+    lines
+}
+
+// Writes the lines of a map of texts.
+fn write_map(alloc: Global, texts: &LeadInTexts, map: &TextMap) -> Result<MemSink, TextFault>
+    ensures lines { IfOk result (λ lines.
+        lines.held ≡ counted_lines map.now texts.now.good texts.now.bad texts.now.other) }
+    ensures memory { IfErr result (λ fault. fault ≡ TextFault.NoMemory) }
+{
+    let Ok(mut lines) = MemSink::new(alloc, MOST_TEXT, Vec::new(alloc), Vec::new(alloc)) else {
+        return Err(TextFault::NoMemory);
+    };
+    match write_lines(map, texts.good, texts.bad, texts.other, &mut lines) {
+        Ok(()) => Ok(lines),
+        Err(Failed) => Err(TextFault::NoMemory),
+    }
+}
