@@ -6,3 +6,4 @@ pub mod Surveys
 pub mod PlanLists
 pub mod Weaves
 pub mod Schedules
+pub mod PlanLaws

@@ -3,3 +3,5 @@ pub mod Woven
 pub mod Weaving
 pub mod SameTiles
 pub mod Weights
+pub mod Plans
+pub mod PlannerParts

@@ -5,7 +5,7 @@ use Rattle.picture_changes.specs.Schedule.{start_of, IsInTime, IsLate}
 use Rattle.picture_changes.specs.PlannedChange.{chosen_start, planned_change}
 use Rattle.pack_schedule.specs.declared.planned.Planned.{Planned}
 use Rattle.pack_schedule.specs.declared.planned.Stop.{Stop}
-use Rattle.pack_schedule.specs.declared.planned.Stop.TheVariants.{Late, NoMemory}
+use Rattle.pack_schedule.specs.declared.planned.Stop.TheVariants.{PastEnd, Late, NoMemory}
 
 abbrev pub nothing_planned : Planned
 nothing_planned = record { start = 0; need = 0; preset = None }
@@ -36,5 +36,6 @@ IsPastEnd script blocks = (0 < pictures script) × (blocks < hold_time script (p
 
 -- why there is no schedule
 abbrev pub IsStop : List Drawing → ℕ → Stop → Type 0
+IsStop script blocks (PastEnd program) = (program ≡ blocks) × IsPastEnd script blocks
 IsStop script blocks (Late picture need free) = IsWithin script blocks × IsLate script picture need free
 IsStop script blocks NoMemory = ⊤

@@ -1,12 +1,15 @@
-// A law on the packs of a script.
-ghost use Rattle.std.specs.Prelude.{◌≡◌, ◌<◌, ◌≤◌, ℕ, List, length};
+// Laws on the packs of a script.
+ghost use Rattle.std.specs.Prelude.{◌≡◌, ◌<◌, ◌≤◌, ℕ, false, List, length, slice_index_or};
 ghost use Rattle.rw_interleave.specs.Interleave.{whole_packs};
 ghost use Rattle.picture_script.specs.Script.{Drawing, pictures, ready_time, hold_time, picture_pixel};
-ghost use Rattle.picture_changes.specs.Schedule.{IsSchedule};
+ghost use Rattle.picture_changes.specs.Schedule.{IsInTime, IsLate, IsSchedule};
+ghost use Rattle.picture_changes.specs.Brings.{IsNeed};
 ghost use Rattle.picture_changes.specs.Shown.{AreColoursInRange};
 ghost use Rattle.pack_schedule.specs.Survey.{IsSurvey, IsWithin};
 ghost use Rattle.pack_schedule.specs.Woven.{ArePacks};
+ghost use Rattle.pack_schedule.specs.Plans.{ArePlanRows, IsFirstLate, no_row};
 ghost use Rattle.pack_schedule.specs.declared.planned.Planned.{Planned};
+ghost use Rattle.pack_schedule.specs.declared.planned.PlanRow.{PlanRow};
 
 use picture_changes::needs_are_fewest;
 
@@ -18,6 +21,19 @@ pub fn packs_are_a_schedule()
         → IsWithin script blocks → IsSurvey script survey → length packs ≡ whole_packs blocks
         → ArePacks script packs
         → IsSchedule script blocks packs }
+{
+    needs_are_fewest();
+}
+
+/// A law: the first late row of a plan is what `survey` tells, and where no row is late every picture is in time, so
+/// that there is a schedule.
+pub fn plans_tell_what_a_survey_tells()
+    ensures first { (script : List Drawing) (rows : List PlanRow) (k : ℕ) → ArePlanRows script rows
+        → k < pictures script → IsFirstLate rows k
+        → IsLate script k (slice_index_or rows k no_row).need (slice_index_or rows k no_row).free }
+    ensures none { (script : List Drawing) (rows : List PlanRow) → ArePlanRows script rows
+        → ((k : ℕ) → k < pictures script → (slice_index_or rows k no_row).late ≡ false)
+        → (k need : ℕ) → k < pictures script → IsNeed script k need → IsInTime script k need }
 {
     needs_are_fewest();
 }

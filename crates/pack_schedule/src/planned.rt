@@ -12,9 +12,28 @@ pub struct Planned {
     pub preset: Option<u8>,
 }
 
+/// What is planned for a picture, whether it is in time or not. Times are blocks of the program.
+#[derive(Clone, Copy, PartialEq, Eq, Debug)]
+pub struct PlanRow {
+    /// When it is ready.
+    pub ready: u32,
+    /// Until when it is held.
+    pub hold: u32,
+    /// How many packs its change needs, at most 3,076.
+    pub need: u32,
+    /// How many packs are free for it.
+    pub free: u32,
+    /// The number of the first of them, from 0.
+    pub first: u32,
+    /// Whether the packs of its change are not whole by its ready time.
+    pub late: bool,
+}
+
 /// Why a script has no schedule.
 #[derive(Clone, Copy, PartialEq, Eq, Debug)]
 pub enum Stop {
+    /// The last picture is held for longer than these program blocks.
+    PastEnd { blocks: u32 },
     /// The first picture that cannot be ready: it needs so many packs, and so many are free for it.
     Late { picture: u32, need: u32, free: u32 },
     /// There was no memory.

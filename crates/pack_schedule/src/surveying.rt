@@ -1,5 +1,5 @@
 // The pictures of a script in turn: what each needs, and whether it is in time.
-ghost use Rattle.std.specs.Prelude.{◌≡◌, ◌<◌, ◌≤◌, ◌+◌, ◌-◌, ◌*◌, ℕ, length, slice_index_or, IfOk, IfErr, Err, nat_le};
+ghost use Rattle.std.specs.Prelude.{◌≡◌, ◌<◌, ◌≤◌, ◌+◌, ◌-◌, ◌*◌, ℕ, length, slice_index_or, IfOk, IfErr, IsTrue, ◌↔◌, Err, nat_le};
 ghost use Rattle.disc_time.specs.Counts.{time_count};
 ghost use Rattle.picture_script.specs.Script.{pictures, hold_time, ready_time};
 ghost use Rattle.picture_script.specs.Board.{IsPicture};
@@ -21,22 +21,21 @@ use picture_changes::{
 use picture_script::{Canvas, Script};
 use std::alloc::Global;
 
-/// Plans the change of each picture, for a program of so many blocks, which are below 450,000 and last until the last
-/// picture's hold time.
+/// Plans the change of each picture, for a program of so many blocks, which are below 450,000.
 ///
 /// A picture is in time where the packs of its change are whole by its ready time. They are sent from the first pack on
 /// that is not whole at the hold time of the picture before.
 ///
 /// # Errors
 ///
-/// `Late` at the first picture that is not in time, with the packs that it needs and those that are free for it.
-/// `NoMemory` where there is no memory.
+/// `PastEnd` exactly where the last picture is held for longer than these blocks. `Late` at the first picture that is not
+/// in time, with the packs that it needs and those that are free for it. `NoMemory` where there is no memory.
 pub fn survey(alloc: Global, script: &Script, blocks: u32) -> Result<Survey, Stop>
-    requires blocks { blocks < time_count }
-    requires end { ¬ IsPastEnd script.now blocks }
+    requires { blocks < time_count }
     ensures within { IfOk result (λ _. IsWithin script.now blocks) }
     ensures planned { IfOk result (IsSurvey script.now) }
     ensures err { IfErr result (IsStop script.now blocks) }
+    ensures past_end { IsPastEnd script.now blocks → result ≡ Err (Stop.PastEnd blocks) }
 
     // What a picture needs is the fewest instructions that bring it, of whatever form without scrolls; and a late
     // picture cannot be ready.
@@ -47,9 +46,20 @@ pub fn survey(alloc: Global, script: &Script, blocks: u32) -> Result<Survey, Sto
 {
     needs_are_fewest();
     let _ranges = script.pictures();
+    if is_past_end(script, blocks) {
+        return Err(Stop::PastEnd { blocks });
+    }
     let mut before = Canvas::start(alloc)?;
     let mut now = Canvas::start(alloc)?;
     survey_on(alloc, script, blocks, &mut before, &mut now)
+}
+
+/// Whether the last picture is held for longer than so many blocks.
+pub fn is_past_end(script: &Script, blocks: u32) -> bool
+    ensures { IsTrue result ↔ IsPastEnd script.now blocks }
+{
+    let pictures = script.pictures();
+    pictures > 0 && script.hold(pictures - 1) > blocks
 }
 
 // Plans the changes in turn, with two canvases on which nothing is drawn.
@@ -131,8 +141,8 @@ fn start_of(script: &Script, k: u32) -> u32
     }
 }
 
-// The change of picture `k`, which stands on `now`, while the picture before it stands on `before`.
-fn plan_picture(
+/// The change of picture `k`, which stands on `now`, while the picture before it stands on `before`.
+pub(crate) fn plan_picture(
     script: &Script,
     k: u32,
     before: &Canvas,
@@ -160,8 +170,8 @@ fn plan_picture(
     }
 }
 
-// Whether a change of so many packs from a start on is whole by the ready time of picture `k`.
-fn is_in_time(script: &Script, k: u32, start: u32, need: u32) -> bool
+/// Whether a change of so many packs from a start on is whole by the ready time of picture `k`.
+pub(crate) fn is_in_time(script: &Script, k: u32, start: u32, need: u32) -> bool
     requires picture { k < pictures script.now }
     requires start { start < 1800000 }
     requires need { need ≤ 3076 }
@@ -170,8 +180,8 @@ fn is_in_time(script: &Script, k: u32, start: u32, need: u32) -> bool
     start + need + 7 <= 4 * script.ready(k)
 }
 
-// The packs that are free for picture `k`.
-fn free_packs(script: &Script, k: u32, start: u32) -> u32
+/// The packs that are free for picture `k`.
+pub(crate) fn free_packs(script: &Script, k: u32, start: u32) -> u32
     requires picture { k < pictures script.now }
     requires start { start ≡ start_of script.now k }
     ensures { result ≡ free_packs script.now k }

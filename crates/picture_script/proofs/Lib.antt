@@ -8,3 +8,4 @@ pub mod WordCounts
 pub mod HexDigits
 pub mod Refusals
 pub mod Ranges
+pub mod ShowNumbers

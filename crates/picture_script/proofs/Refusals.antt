@@ -170,14 +170,14 @@ test_is command text slice found b same test h = ap (bytes_eq command) (sym same
 
 -- The lines in turn.
 
-one_taken : (number : ℕ) (old new : List Drawing) (line : List ℕ) (rest : List (List ℕ)) → step old line ≡ Ok new → checked_lines number old (line ∷ rest) ≡ checked_lines (number + 1) new rest
+pub one_taken : (number : ℕ) (old new : List Drawing) (line : List ℕ) (rest : List (List ℕ)) → step old line ≡ Ok new → checked_lines number old (line ∷ rest) ≡ checked_lines (number + 1) new rest
 unfolding checked_lines
 one_taken number old new line rest h = read_on-taken step (λ script. Ok script) number old new line rest h
 
-step_passed : (before : List Drawing) (line : List ℕ) → is_passed_over line ≡ true → step before line ≡ Ok before
+pub step_passed : (before : List Drawing) (line : List ℕ) → is_passed_over line ≡ true → step before line ≡ Ok before
 step_passed before line h = ap (λ b. if b then Ok before else grown before (checked_words before (words_in line))) h
 
-step_heard : (before : List Drawing) (line : List ℕ) → is_passed_over line ≡ false → step before line ≡ grown before (checked_words before (words_in line))
+pub step_heard : (before : List Drawing) (line : List ℕ) → is_passed_over line ≡ false → step before line ≡ grown before (checked_words before (words_in line))
 step_heard before line h = ap (λ b. if b then Ok before else grown before (checked_words before (words_in line))) h
 
 pub passed : (number : ℕ) (before : List Drawing) (line : List ℕ) (rest : List (List ℕ)) → is_passed_over line ≡ true → checked_lines number before (line ∷ rest) ≡ checked_lines (number + 1) before rest

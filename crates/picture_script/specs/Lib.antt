@@ -4,3 +4,4 @@ pub mod Lines
 pub mod ScriptGrammar
 pub mod Sizes
 pub mod Stops
+pub mod ShowLines

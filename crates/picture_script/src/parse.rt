@@ -99,8 +99,8 @@ fn stop_at(number: u32, stop: LineStop) -> ScriptStop
     }
 }
 
-// Whether a line says nothing: it is empty, or a remark.
-fn is_passed_over(line: &[u8]) -> bool
+/// Whether a line says nothing: it is empty, or a remark.
+pub(crate) fn is_passed_over(line: &[u8]) -> bool
     ensures { result ≡ is_passed_over line.now }
 {
     let rest = trim_start(line);

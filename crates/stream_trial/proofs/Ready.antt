@@ -9,7 +9,7 @@ use Rattle.picture_changes.specs.Shown.{AreColoursInRange}
 use Rattle.picture_changes.specs.PlannedChange.{planned_change}
 use Rattle.pack_schedule.specs.Survey.{IsPastEnd, IsStop}
 use Rattle.pack_schedule.specs.declared.planned.Stop.{Stop}
-use Rattle.pack_schedule.specs.declared.planned.Stop.TheVariants.{Late as late, NoMemory as no_memory}
+use Rattle.pack_schedule.specs.declared.planned.Stop.TheVariants.{PastEnd as past_end, Late as late, NoMemory as no_memory}
 use Rattle.subcode_author.specs.AuthorAnswer.{AreReady, HasLayout, HasRoom, IsAccepted, IsAuthorStop}
 use Rattle.subcode_author.specs.declared.stops.AuthorStop.{AuthorStop}
 use Rattle.subcode_author.specs.declared.stops.AuthorStop.TheVariants.{LengthShort, DiscTooLong, PastEnd, TextTooLong, LeadInShort, Late, WriteFault, NoMemory}
@@ -54,6 +54,7 @@ not_past_end times seed count blocks enough (some, past) =
 
 pub survey_stop : TimesAreKnown → (seed count blocks : ℕ) (stop : Stop) → AreReady (generated_drawings seed count)
     → 800 * count + 20 ≤ blocks → IsStop (generated_drawings seed count) blocks stop → stop ≡ no_memory
+survey_stop times seed count blocks (past_end program) ready enough h = absurd (not_past_end times seed count blocks enough h.1)
 survey_stop times seed count blocks (late picture need free) ready enough h = absurd (not_late (generated_drawings seed count) picture need free ready h.1)
 survey_stop times seed count blocks no_memory ready enough h = refl
 

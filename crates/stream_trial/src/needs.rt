@@ -23,7 +23,7 @@ pub(crate) fn count_changes(alloc: Global, script: &Script, blocks: u32) -> Resu
     let planned = match survey(alloc, script, blocks) {
         Ok(planned) => planned,
         Err(Stop::NoMemory) => return Err(TrialStop::NoMemory),
-        Err(Stop::Late { .. }) => unreachable!(),
+        Err(Stop::PastEnd { .. } | Stop::Late { .. }) => unreachable!(),
     };
     let mut sum = 0u64;
     for k in 0..script.pictures() {

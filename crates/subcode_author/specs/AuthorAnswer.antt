@@ -52,3 +52,13 @@ IsAuthorStop sheet script lead_in audio (Late picture need free) = HoldsPictures
     × HasRoom sheet lead_in × IsLate script picture need free
 IsAuthorStop sheet script lead_in audio WriteFault = IsAccepted sheet script lead_in audio
 IsAuthorStop sheet script lead_in audio stop = IsDiscStop sheet script audio stop
+
+-- a refusal that comes before any picture is planned
+abbrev pub ComesBeforePlans : AuthorStop → Type 0
+ComesBeforePlans (Late picture need free) = ⊥
+ComesBeforePlans WriteFault = ⊥
+ComesBeforePlans stop = ⊤
+
+-- why a disc has no plan: one of the refusals that come before any picture is planned
+abbrev pub IsDiscRefusal : CueSheet → List Drawing → ℕ → ℕ → AuthorStop → Type 0
+IsDiscRefusal sheet script lead_in audio stop = IsAuthorStop sheet script lead_in audio stop × ComesBeforePlans stop

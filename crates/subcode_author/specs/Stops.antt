@@ -4,9 +4,9 @@ use Rattle.toc_model.specs.declared.layout.LayoutStop.TheVariants.{LengthShort a
 use Rattle.stream_writer.specs.declared.stops.LeadInStop.{LeadInStop}
 use Rattle.stream_writer.specs.declared.stops.LeadInStop.TheVariants.{TextTooLong as text_long, LeadInShort as lead_in_short, NoMemory as text_memory}
 use Rattle.pack_schedule.specs.declared.planned.Stop.{Stop}
-use Rattle.pack_schedule.specs.declared.planned.Stop.TheVariants.{Late as late, NoMemory as plan_memory}
+use Rattle.pack_schedule.specs.declared.planned.Stop.TheVariants.{PastEnd as past, Late as late, NoMemory as plan_memory}
 use Rattle.subcode_author.specs.declared.stops.AuthorStop.{AuthorStop}
-use Rattle.subcode_author.specs.declared.stops.AuthorStop.TheVariants.{LengthShort, DiscTooLong, TextTooLong, LeadInShort, Late, NoMemory}
+use Rattle.subcode_author.specs.declared.stops.AuthorStop.TheVariants.{LengthShort, DiscTooLong, PastEnd, TextTooLong, LeadInShort, Late, NoMemory}
 
 -- the stop of the whole for a stop of the layout
 abbrev pub author_stop_of_layout : LayoutStop → AuthorStop
@@ -22,5 +22,6 @@ author_stop_of_lead_in text_memory = NoMemory
 
 -- the stop of the whole for a stop of the pictures
 abbrev pub of_schedule : Stop → AuthorStop
+of_schedule (past blocks) = PastEnd blocks
 of_schedule (late picture need free) = Late picture need free
 of_schedule plan_memory = NoMemory

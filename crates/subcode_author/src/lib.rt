@@ -4,12 +4,14 @@
 mod answer_laws;
 mod author;
 mod parts;
+mod plans;
 mod scheduled;
 mod stops;
 mod stream_laws;
 
 pub use answer_laws::each_disc_has_one_answer;
 pub use author::author_stream;
+pub use plans::{accept_disc, plans_tell_what_an_author_tells};
 pub use stops::AuthorStop;
 pub use stream_laws::{
     accepted_scripts_are_in_order, accepted_scripts_have_streams, authored_streams_are_one,

@@ -1,5 +1,5 @@
 // The parts of a stream, which are all at hand before anything is written.
-ghost use Rattle.std.specs.Prelude.{◌≡◌, ◌<◌, ◌↔◌, List, IfOk, IfErr, OnOk, IsTrue};
+ghost use Rattle.std.specs.Prelude.{◌≡◌, ◌<◌, List, IfOk, IfErr, OnOk};
 ghost use Rattle.disc_time.specs.Counts.{time_count};
 ghost use Rattle.toc_model.specs.Places.{layout_of};
 ghost use Rattle.pack_schedule.specs.Survey.{IsPastEnd, IsSurvey, IsWithin};
@@ -8,7 +8,7 @@ ghost use Rattle.subcode_author.specs.AuthorAnswer.{HoldsPictures, IsDiscStop, I
 
 use crate::stops::AuthorStop;
 use cue_sheet::Sheet;
-use pack_schedule::{Weaver, survey};
+use pack_schedule::{Weaver, is_past_end, survey};
 use picture_script::Script;
 use std::alloc::Global;
 use toc_model::Layout;
@@ -31,14 +31,6 @@ pub(crate) fn lay_out(
         return Err(AuthorStop::PastEnd { blocks });
     }
     Ok(layout)
-}
-
-// Whether the last picture is held for longer than so many blocks.
-fn is_past_end(script: &Script, blocks: u32) -> bool
-    ensures { IsTrue result ↔ IsPastEnd script.now blocks }
-{
-    let pictures = script.pictures();
-    pictures > 0 && script.hold(pictures - 1) > blocks
 }
 
 /// The weaver of a script whose pictures are all ready in time.

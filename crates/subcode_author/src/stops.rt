@@ -63,6 +63,7 @@ impl From<Stop> for AuthorStop {
 
     fn from(stop: Stop) -> AuthorStop {
         match stop {
+            Stop::PastEnd { blocks } => AuthorStop::PastEnd { blocks },
             Stop::Late {
                 picture,
                 need,

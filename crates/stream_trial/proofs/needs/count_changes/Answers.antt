@@ -4,7 +4,7 @@ use Rattle.std.proofs.lemmas.List.Sums.{sum_by_push}
 use Rattle.bit_lists.specs.Counting.{below}
 use Rattle.picture_script.specs.Script.{Drawing, pictures}
 use Rattle.picture_changes.specs.PlannedChange.{planned_change}
-use Rattle.pack_schedule.specs.Survey.{IsPastEnd, IsSurvey, nothing_planned}
+use Rattle.pack_schedule.specs.Survey.{IsSurvey, nothing_planned}
 use Rattle.pack_schedule.specs.declared.planned.Planned.{Planned}
 use Rattle.stream_trial.specs.Trial.{all_changes}
 use Rattle.stream_trial.proofs.Plays.{below_more}
@@ -20,11 +20,6 @@ one_need script planned k sum need surveyed lt so_far is =
 all_needs : (script : List Drawing) (k sum : ℕ) → k ≡ pictures script → sum ≡ sum_by (λ k. length (planned_change script k)) (below k) → sum ≡ all_changes script
 unfolding all_changes
 all_needs script k sum last so_far = so_far ∙ ap (λ n. sum_by (λ k. length (planned_change script k)) (below n)) last
-
-pub survey-requires-clause-end : goal.survey-requires-clause-end
-survey-requires-clause-end c =
-    let (seed, count, is, enough) = c.requires.script in
-    subst (λ (s : List Drawing). ¬ IsPastEnd s c.args.blocks) (sym is) (c.generated_scripts_are_ready.ensures.end seed count c.args.blocks enough)
 
 pub loop-k-preserved : goal.loop-k-preserved
 loop-k-preserved c = record {

@@ -1,0 +1,107 @@
+// A row for each picture of a script in turn.
+ghost use Rattle.std.specs.Prelude.{◌≡◌, ◌<◌, ◌≤◌, ◌-◌};
+ghost use Rattle.picture_script.specs.Script.{pictures};
+ghost use Rattle.picture_script.specs.Board.{IsPicture};
+ghost use Rattle.pack_schedule.specs.Plans.{IsPlanRow};
+ghost use Rattle.pack_schedule.specs.Weights.{AreWeights};
+
+use crate::planned::PlanRow;
+use crate::surveying::{free_packs, is_in_time, plan_picture};
+use crate::weights::{NOT_WEIGHED, Weighed};
+use cdg_instructions::WINDOW_TILES;
+use picture_changes::needs_are_fewest;
+use picture_script::{Canvas, Script};
+use std::alloc::{AllocError, Global};
+use std::marker::Model;
+
+/// The plan of a script, one row for each picture after another, whether it is in time or not.
+///
+/// A contract sees the script, and how many rows were given.
+#[derive(Drop)]
+pub struct Planner<'a> {
+    script: &'a Script,
+    before: Canvas,
+    now: Canvas,
+    weights: [Weighed; WINDOW_TILES],
+    given: u32,
+}
+
+impl<'a> Model for Planner<'a> {
+    ghost use Rattle.pack_schedule.specs.Plans.{Planning};
+    ghost use Rattle.pack_schedule.specs.PlannerParts.{IsBeforePicture};
+
+    ghost Value = { Planning };
+
+    ghost view = { λ p. record { script = p.script.now; given = p.given } };
+
+    ghost invariant = { λ p. IsBeforePicture p.script.now p.given p.before p.now p.weights };
+}
+
+impl<'a> Planner<'a> {
+    ghost use Rattle.std.specs.Prelude.{◌+◌, ◌↔◌, IfOk, IfSome, IsSome, if◌then◌else◌, nat_lt};
+
+    /// A planner that has given no row.
+    pub fn start(alloc: Global, script: &'a Script) -> Result<Planner<'a>, AllocError>
+        ensures script { IfOk result (λ p. p.script ≡ script.now) }
+        ensures given { IfOk result (λ p. p.given ≡ 0) }
+    {
+        let before = Canvas::start(alloc)?;
+        let now = Canvas::start(alloc)?;
+        Ok(Planner {
+            script,
+            before,
+            now,
+            weights: [NOT_WEIGHED; WINDOW_TILES],
+            given: 0,
+        })
+    }
+
+    /// The row of the next picture, or none after the last one.
+    pub fn next_row(&mut self) -> Option<PlanRow>
+        ensures row { IfSome result (IsPlanRow self.old.script self.old.given) }
+        ensures few { IfSome result (λ row. row.need ≤ 3076) }
+        ensures some { IsSome result ↔ (self.old.given < pictures self.old.script) }
+        ensures script { self.new.script ≡ self.old.script }
+        ensures given { self.new.given
+            ≡ (if nat_lt self.old.given (pictures self.old.script) then self.old.given + 1 else self.old.given) }
+    {
+        if self.given == self.script.pictures() {
+            return None;
+        }
+        let k = self.given;
+        self.now.draw_until(self.script, k);
+        let row = plan_row(self.script, k, &self.before, &self.now, &mut self.weights);
+        self.before.draw_until(self.script, k);
+        self.given += 1;
+        Some(row)
+    }
+}
+
+// The row of picture `k`, which stands on `now`, while the picture before it stands on `before`.
+fn plan_row(
+    script: &Script,
+    k: u32,
+    before: &Canvas,
+    now: &Canvas,
+    weights: &mut [Weighed; WINDOW_TILES],
+) -> PlanRow
+    requires picture { k < pictures script.now }
+    requires now { IsPicture script.now k now.now }
+    requires before { 0 < k → IsPicture script.now (k - 1) before.now }
+    requires weights { 0 < k → AreWeights script.now (k - 1) weights.old }
+    ensures row { IsPlanRow script.now k result }
+    ensures few { result.need ≤ 3076 }
+    ensures weights { AreWeights script.now k weights.new }
+{
+    needs_are_fewest();
+    let _ranges = script.pictures();
+    let change = plan_picture(script, k, before, now, weights);
+    PlanRow {
+        ready: script.ready(k),
+        hold: script.hold(k),
+        need: change.need,
+        free: free_packs(script, k, change.start),
+        first: change.start,
+        late: !is_in_time(script, k, change.start, change.need),
+    }
+}
