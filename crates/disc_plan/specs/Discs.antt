@@ -1,0 +1,73 @@
+-- The plan of a disc, and why it has none.
+use Rattle.std.specs.Prelude.{◌≡◌, ◌≢◌, ℕ, ◌<◌, ◌≤◌, ⊤, List, Ok, Err, count_by, length, take}
+use Rattle.text_lines.specs.Text.{most_text_bytes}
+use Rattle.cue_sheet.specs.CueSheet.{CueSheet}
+use Rattle.cue_sheet.specs.Grammar.{read_cue}
+use Rattle.toc_model.specs.Places.{program_blocks}
+use Rattle.picture_script.specs.Script.{Drawing, pictures}
+use Rattle.picture_script.specs.ScriptGrammar.{read_script}
+use Rattle.picture_script.specs.ShowLines.{show_lines}
+use Rattle.subcode_author.specs.AuthorAnswer.{HasRoom, HoldsPictures, IsDiscRefusal}
+use Rattle.subcode_author.specs.declared.stops.AuthorStop.TheVariants.{NoMemory as author_memory}
+use Rattle.disc_plan.specs.Rows.{is_late, AreToldRows}
+use Rattle.disc_plan.specs.declared.disc.PlannedDisc.{PlannedDisc}
+use Rattle.disc_plan.specs.declared.rows.PlannedRow.{PlannedRow}
+use Rattle.disc_plan.specs.declared.stops.PlanStop.{PlanStop}
+use Rattle.disc_plan.specs.declared.stops.PlanStop.TheVariants.{SheetTooLong, Sheet, ScriptTooLong, Script, Disc, NoRoom, NoMemory}
+
+-- The texts of a disc, and how many blocks its lead-in and its audio have.
+pub record DiscTexts : Type 0 where
+  pub sheet : List ℕ
+  pub script : List ℕ
+  pub lead_in : ℕ
+  pub audio : ℕ
+
+-- the disc of these
+abbrev pub disc_of : List ℕ → List ℕ → ℕ → ℕ → DiscTexts
+disc_of sheet script lead_in audio = record { sheet = sheet; script = script; lead_in = lead_in; audio = audio }
+
+-- the texts of a disc are read as this sheet and this script
+abbrev pub IsReadAs : DiscTexts → CueSheet → List Drawing → Type 0
+IsReadAs disc sheet script = (read_cue disc.sheet ≡ Ok sheet) × (read_script disc.script ≡ Ok script)
+
+-- nothing is refused of a disc before its pictures are planned
+abbrev pub HasPlan : DiscTexts → CueSheet → List Drawing → Type 0
+HasPlan disc sheet script = IsReadAs disc sheet script × HoldsPictures sheet script disc.audio
+    × HasRoom sheet disc.lead_in
+
+-- why a text is no sheet
+abbrev pub IsSheetStop : List ℕ → PlanStop → Type 0
+IsSheetStop text SheetTooLong = most_text_bytes < length text
+IsSheetStop text (Sheet line why) = (length text ≤ most_text_bytes) × (read_cue text ≡ Err (line, why))
+IsSheetStop text NoMemory = ⊤
+IsSheetStop text _ = ⊥
+
+-- why a text is no script
+abbrev pub IsScriptStop : List ℕ → PlanStop → Type 0
+IsScriptStop text ScriptTooLong = most_text_bytes < length text
+IsScriptStop text (Script line why) = (length text ≤ most_text_bytes) × (read_script text ≡ Err (line, why))
+IsScriptStop text NoMemory = ⊤
+IsScriptStop text _ = ⊥
+
+-- why a disc has no plan in so many rows: each reason comes only where those before it do not hold
+abbrev pub IsPlanStop : DiscTexts → ℕ → PlanStop → Type 0
+IsPlanStop disc room (Disc stop) = (sheet : CueSheet) × (script : List Drawing) × IsReadAs disc sheet script
+    × IsDiscRefusal sheet script disc.lead_in disc.audio stop × (stop ≢ author_memory)
+IsPlanStop disc room (NoRoom count blocks) = (sheet : CueSheet) × (script : List Drawing)
+    × HasPlan disc sheet script
+    × (count ≡ pictures script) × (blocks ≡ program_blocks sheet disc.audio) × (room < count)
+IsPlanStop disc room ScriptTooLong = (sheet : CueSheet) × (read_cue disc.sheet ≡ Ok sheet)
+    × IsScriptStop disc.script ScriptTooLong
+IsPlanStop disc room (Script line why) = (sheet : CueSheet) × (read_cue disc.sheet ≡ Ok sheet)
+    × IsScriptStop disc.script (Script line why)
+IsPlanStop disc room stop = IsSheetStop disc.sheet stop
+
+-- The rows of a disc, and what is told of it.
+pub record IsPlan (disc : DiscTexts) (rows : List PlannedRow) (told : PlannedDisc) : Type 0 where
+  pub sheet : CueSheet
+  pub script : List Drawing
+  pub has_plan : HasPlan disc sheet script
+  pub pictures_are : told.pictures ≡ pictures script
+  pub blocks_are : told.blocks ≡ program_blocks sheet disc.audio
+  pub rows_are : AreToldRows script (show_lines disc.script) told.pictures rows
+  pub late_are : told.late ≡ count_by is_late (take told.pictures rows)

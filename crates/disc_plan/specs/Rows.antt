@@ -1,0 +1,34 @@
+-- The rows of a plan, as programs in C hold them.
+use Rattle.std.specs.Prelude.{◌≡◌, ◌==◌, ℕ, ◌<◌, Bool, List, slice_index, slice_index_or, if◌then◌else◌}
+use Rattle.picture_script.specs.Script.{Drawing}
+use Rattle.pack_schedule.specs.Plans.{IsPlanRow}
+use Rattle.pack_schedule.specs.declared.planned.PlanRow.{PlanRow}
+use Rattle.disc_plan.specs.declared.rows.PlannedRow.{PlannedRow}
+
+abbrev pub no_row : PlannedRow
+no_row = record { line = 0; ready = 0; hold = 0; need = 0; free = 0; first = 0; late = 0 }
+
+-- the row of a picture whose `show` stands on this line
+abbrev pub told_row : ℕ → PlanRow → PlannedRow
+told_row line plan = record {
+  line = line;
+  ready = plan.ready;
+  hold = plan.hold;
+  need = plan.need;
+  free = plan.free;
+  first = plan.first;
+  late = if plan.late then 1 else 0;
+}
+
+-- whether a row is that of a late picture
+abbrev pub is_late : PlannedRow → Bool
+is_late row = row.late == 1
+
+-- the row of picture k, whose `show` stands on this line
+abbrev pub IsToldRow : List Drawing → ℕ → ℕ → PlannedRow → Type 0
+IsToldRow script line k row = (plan : PlanRow) × IsPlanRow script k plan × (row ≡ told_row line plan)
+
+-- the rows of the first pictures, whose `show` lines are these
+abbrev pub AreToldRows : List Drawing → List ℕ → ℕ → List PlannedRow → Type 0
+AreToldRows script lines count rows = (k : ℕ) → k < count
+    → IsToldRow script (slice_index lines k) k (slice_index_or rows k no_row)

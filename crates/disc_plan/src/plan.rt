@@ -1,0 +1,53 @@
+// The plan of a disc.
+ghost use Rattle.std.specs.Prelude.{◌≡◌, ◌≤◌, OnErr, IfErr, IfOk, drop, length};
+ghost use Rattle.disc_time.specs.Counts.{most_program};
+ghost use Rattle.disc_plan.specs.Discs.{disc_of, IsPlan, IsPlanStop};
+
+use crate::disc::PlannedDisc;
+use crate::reading::{read_script, read_sheet};
+use crate::rows::{PlannedRow, write_rows};
+use crate::stops::PlanStop;
+use std::alloc::Global;
+use subcode_author::{AuthorStop, accept_disc};
+
+/// Plans the pictures of a disc with a lead-in and an audio of so many blocks: writes a row for each picture, in time or
+/// not, to the front of some rows, from the texts of its cue sheet and its picture script.
+///
+/// # Errors
+///
+/// The reasons of `PlanStop` in their order, which is that in which the program refuses to write the disc; `NoMemory`
+/// may come at any of them. Then no row is written.
+pub fn plan_disc(
+    alloc: Global,
+    sheet: &[u8],
+    script: &[u8],
+    lead_in: u32,
+    audio: u32,
+    rows: &mut [PlannedRow],
+) -> Result<PlannedDisc, PlanStop>
+    requires { audio ≤ most_program }
+    ensures plan { IfOk result (IsPlan (disc_of sheet.now script.now lead_in audio) rows.new) }
+    ensures rest { IfOk result (λ told. drop told.pictures rows.new ≡ drop told.pictures rows.old) }
+    ensures stop { IfErr result (IsPlanStop (disc_of sheet.now script.now lead_in audio) (length rows.old)) }
+    ensures untouched { OnErr result (rows.new ≡ rows.old) }
+{
+    let cues = read_sheet(alloc, sheet)?;
+    let drawings = read_script(alloc, script)?;
+    let blocks = match accept_disc(alloc, &cues, &drawings, lead_in, audio) {
+        Ok(blocks) => blocks,
+        Err(AuthorStop::NoMemory) => return Err(PlanStop::NoMemory),
+        Err(stop) => return Err(PlanStop::Disc { stop }),
+    };
+    let pictures = drawings.pictures();
+    if pictures as usize > rows.len() {
+        return Err(PlanStop::NoRoom { pictures, blocks });
+    }
+    match write_rows(alloc, &drawings, script, rows) {
+        Ok(late) => Ok(PlannedDisc {
+            pictures,
+            blocks,
+            late,
+        }),
+        Err(_) => Err(PlanStop::NoMemory),
+    }
+}

@@ -1,0 +1,43 @@
+// Reading the texts of a disc.
+ghost use Rattle.std.specs.Prelude.{◌≡◌, ◌≢◌, ◌<◌, ◌≤◌, Ok, IfErr, IfOk, length};
+ghost use Rattle.text_lines.specs.Text.{most_text_bytes};
+ghost use Rattle.cue_sheet.specs.Grammar.{read_cue};
+ghost use Rattle.picture_script.specs.ScriptGrammar.{read_script};
+ghost use Rattle.disc_plan.specs.Discs.{IsSheetStop, IsScriptStop};
+
+use crate::stops::PlanStop;
+use cue_sheet::{CueStop, Sheet};
+use picture_script::{Script, ScriptStop};
+use std::alloc::Global;
+use text_lines::MOST_TEXT_BYTES;
+
+/// What the text of a cue sheet says, or why it is refused.
+pub(crate) fn read_sheet(alloc: Global, text: &[u8]) -> Result<Sheet, PlanStop>
+    ensures read { IfOk result (λ sheet. read_cue text.now ≡ Ok sheet) }
+    ensures stop { IfErr result (IsSheetStop text.now) }
+{
+    if text.len() > MOST_TEXT_BYTES {
+        return Err(PlanStop::SheetTooLong);
+    }
+    match Sheet::parse(alloc, text) {
+        Ok(sheet) => Ok(sheet),
+        Err(CueStop::Fault { line, why }) => Err(PlanStop::Sheet { line, why }),
+        Err(CueStop::NoMemory) => Err(PlanStop::NoMemory),
+    }
+}
+
+/// What the text of a picture script says, or why it is refused.
+pub(crate) fn read_script(alloc: Global, text: &[u8]) -> Result<Script, PlanStop>
+    ensures read { IfOk result (λ script. read_script text.now ≡ Ok script) }
+    ensures few { IfOk result (λ _. length text.now ≤ most_text_bytes) }
+    ensures stop { IfErr result (IsScriptStop text.now) }
+{
+    if text.len() > MOST_TEXT_BYTES {
+        return Err(PlanStop::ScriptTooLong);
+    }
+    match Script::parse(alloc, text) {
+        Ok(script) => Ok(script),
+        Err(ScriptStop::Fault { line, why }) => Err(PlanStop::Script { line, why }),
+        Err(ScriptStop::NoMemory) => Err(PlanStop::NoMemory),
+    }
+}

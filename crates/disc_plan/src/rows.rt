@@ -1,0 +1,81 @@
+// The rows of a plan.
+ghost use Rattle.std.specs.Prelude.{◌≡◌, ◌≤◌, Ok, OnErr, OnOk, IfOk, count_by, drop, length, take};
+ghost use Rattle.text_lines.specs.Text.{most_text_bytes};
+ghost use Rattle.picture_script.specs.Script.{pictures};
+ghost use Rattle.picture_script.specs.ScriptGrammar.{read_script};
+ghost use Rattle.picture_script.specs.ShowLines.{show_lines};
+ghost use Rattle.disc_plan.specs.Rows.{is_late, told_row, AreToldRows};
+
+use pack_schedule::{PlanRow, Planner};
+use picture_script::{Script, ShowLines, each_picture_has_a_line};
+use std::alloc::{AllocError, Global};
+
+/// A picture of a script in a plan, as programs in C hold it. Times are blocks of the program.
+#[repr(C)]
+#[derive(Clone, Copy, PartialEq, Eq, Debug)]
+pub struct PlannedRow {
+    /// The line of the script on which its `show` stands, counted from 1.
+    pub line: u32,
+    /// When it is ready.
+    pub ready: u32,
+    /// Until when it is held.
+    pub hold: u32,
+    /// How many packs its change needs, at most 3,076.
+    pub need: u32,
+    /// How many packs are free for it.
+    pub free: u32,
+    /// The number of the first of them, from 0.
+    pub first: u32,
+    /// 1 where it is late, or else 0.
+    pub late: u8,
+}
+
+// The row of a picture whose `show` stands on this line.
+fn told_row(line: u32, plan: &PlanRow) -> PlannedRow
+    ensures { result ≡ told_row line plan.now }
+{
+    PlannedRow {
+        line,
+        ready: plan.ready,
+        hold: plan.hold,
+        need: plan.need,
+        free: plan.free,
+        first: plan.first,
+        late: u8::from(plan.late),
+    }
+}
+
+/// Writes a row for each picture of a script that is read from this text to the front of some rows, and tells how many
+/// pictures are late. Where there is no memory it writes nothing.
+pub(crate) fn write_rows(
+    alloc: Global,
+    script: &Script,
+    text: &[u8],
+    rows: &mut [PlannedRow],
+) -> Result<u32, AllocError>
+    requires read { read_script text.now ≡ Ok script.now }
+    requires text { length text.now ≤ most_text_bytes }
+    requires room { pictures script.now ≤ length rows.old }
+    ensures rows { OnOk result (AreToldRows script.now (show_lines text.now) (pictures script.now) rows.new) }
+    ensures rest { drop (pictures script.now) rows.new ≡ drop (pictures script.now) rows.old }
+    ensures late { IfOk result (λ late. late ≡ count_by is_late (take (pictures script.now) rows.new)) }
+    ensures untouched { OnErr result (rows.new ≡ rows.old) }
+{
+    each_picture_has_a_line();
+    let mut planner = Planner::start(alloc, script)?;
+    let mut lines = ShowLines::of(text);
+    let mut late = 0u32;
+    for k in 0..script.pictures() as usize {
+        let Some(plan) = planner.next_row() else {
+            unreachable!();
+        };
+        let Some(line) = lines.next_number() else {
+            unreachable!();
+        };
+        rows[k] = told_row(line, &plan);
+        if plan.late {
+            late += 1;
+        }
+    }
+    Ok(late)
+}

@@ -1,0 +1,24 @@
+// Why a disc has no plan.
+use cue_sheet::CueWhy;
+use picture_script::ScriptWhy;
+use subcode_author::AuthorStop;
+
+/// Why a disc has no plan. Of several reasons the first in this order is given.
+#[derive(Clone, Copy, PartialEq, Eq, Debug)]
+pub enum PlanStop {
+    /// The sheet has more than 67,108,864 bytes.
+    SheetTooLong,
+    /// The first line of the sheet that is refused, counted from 1, and its first reason.
+    Sheet { line: u32, why: CueWhy },
+    /// The script has more than 67,108,864 bytes.
+    ScriptTooLong,
+    /// The first line of the script that is refused, counted from 1, and its first reason.
+    Script { line: u32, why: ScriptWhy },
+    /// The sheet and the script have no place on a disc with this lead-in and audio. No picture is late here, and no
+    /// write fails.
+    Disc { stop: AuthorStop },
+    /// There are fewer rows than pictures. The program has so many blocks.
+    NoRoom { pictures: u32, blocks: u32 },
+    /// Memory ran out.
+    NoMemory,
+}
