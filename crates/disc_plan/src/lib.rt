@@ -6,8 +6,10 @@ mod plan;
 mod reading;
 mod rows;
 mod stops;
+mod told;
 
 pub use disc::PlannedDisc;
 pub use plan::plan_disc;
 pub use rows::PlannedRow;
 pub use stops::PlanStop;
+pub use told::{Planned, told_plan, told_stop};

@@ -1,0 +1,69 @@
+-- What is told of a plan, and where there is none why.
+use Rattle.std.specs.Prelude.{ℕ}
+use Rattle.cue_sheet.specs.declared.fault.CueWhy.{CueWhy}
+use Rattle.cue_sheet.specs.declared.fault.CueWhy.TheVariants.{UnknownCommand as cue_unknown, SecondFile, Misplaced, BadArgument as cue_argument, Repeated, NoIndex, NotAudio, NumberOrder, IndexOrder, TimeOrder as cue_times, NoFile, NoTrack}
+use Rattle.picture_script.specs.declared.reasons.ScriptWhy.{ScriptWhy}
+use Rattle.picture_script.specs.declared.reasons.ScriptWhy.TheVariants.{UnknownCommand, BadArgument, OutOfRange, TimeOrder, TooMany}
+use Rattle.subcode_author.specs.declared.stops.AuthorStop.{AuthorStop}
+use Rattle.subcode_author.specs.declared.stops.AuthorStop.TheVariants.{LengthShort, DiscTooLong, PastEnd, TextTooLong, LeadInShort}
+use Rattle.disc_plan.specs.declared.disc.PlannedDisc.{PlannedDisc}
+use Rattle.disc_plan.specs.declared.stops.PlanStop.{PlanStop}
+use Rattle.disc_plan.specs.declared.stops.PlanStop.TheVariants.{SheetTooLong, Sheet, ScriptTooLong, Script, Disc, NoRoom, NoMemory}
+use Rattle.disc_plan.specs.declared.told.Planned.{Planned}
+
+-- of a disc that has a plan
+abbrev pub told_plan : PlannedDisc → Planned
+told_plan disc = record {
+  pictures = disc.pictures;
+  blocks = disc.blocks;
+  late = disc.late;
+  why = 0;
+  line = 0;
+  number = 0;
+}
+
+-- of a disc that has none: the reason, its line and its number
+abbrev pub refusal : ℕ → ℕ → ℕ → Planned
+refusal why line number = record { pictures = 0; blocks = 0; late = 0; why = why; line = line; number = number }
+
+-- the number of the reason for which a line of a sheet is refused
+abbrev pub cue_number : CueWhy → ℕ
+cue_number cue_unknown = 1
+cue_number SecondFile = 2
+cue_number Misplaced = 3
+cue_number cue_argument = 4
+cue_number Repeated = 5
+cue_number NoIndex = 6
+cue_number NotAudio = 7
+cue_number NumberOrder = 8
+cue_number IndexOrder = 9
+cue_number cue_times = 10
+cue_number NoFile = 11
+cue_number NoTrack = 12
+
+-- the number of the reason for which a line of a script is refused
+abbrev pub script_number : ScriptWhy → ℕ
+script_number UnknownCommand = 1
+script_number BadArgument = 2
+script_number OutOfRange = 3
+script_number TimeOrder = 4
+script_number TooMany = 5
+
+-- of a sheet and a script that have no place on their disc
+abbrev pub disc_refusal : AuthorStop → Planned
+disc_refusal (LengthShort need) = refusal 4 0 need
+disc_refusal (DiscTooLong blocks) = refusal 5 0 blocks
+disc_refusal (PastEnd blocks) = refusal 6 0 blocks
+disc_refusal (TextTooLong packs) = refusal 7 0 packs
+disc_refusal (LeadInShort need) = refusal 8 0 need
+disc_refusal _ = refusal 0 0 0
+
+-- where there is no plan
+abbrev pub told_stop : PlanStop → Planned
+told_stop SheetTooLong = refusal 1 0 0
+told_stop (Sheet line why) = refusal 2 line (cue_number why)
+told_stop ScriptTooLong = refusal 1 0 0
+told_stop (Script line why) = refusal 3 line (script_number why)
+told_stop (Disc stop) = disc_refusal stop
+told_stop (NoRoom pictures blocks) = told_plan (record { pictures = pictures; blocks = blocks; late = 0 })
+told_stop NoMemory = refusal 0 0 0

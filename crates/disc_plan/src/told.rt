@@ -1,0 +1,119 @@
+// What is told of a plan, as programs in C hold it.
+ghost use Rattle.std.specs.Prelude.{◌≡◌};
+ghost use Rattle.disc_plan.specs.Told.{told_plan, told_stop, refusal, cue_number, script_number, disc_refusal};
+
+use crate::disc::PlannedDisc;
+use crate::stops::PlanStop;
+use cue_sheet::CueWhy;
+use picture_script::ScriptWhy;
+use subcode_author::AuthorStop;
+
+/// What is told of a plan.
+#[repr(C)]
+#[derive(Clone, Copy, PartialEq, Eq, Debug)]
+pub struct Planned {
+    /// How many pictures the script shows, where there is a plan or no room for it.
+    pub pictures: u32,
+    /// How many blocks the program has, where there is a plan or no room for it.
+    pub blocks: u32,
+    /// How many pictures are late.
+    pub late: u32,
+    /// Why there is no plan: 1 a text is too long, 2 a line of the sheet is refused, 3 one of the script, 4 the audio is
+    /// short, 5 the disc is too long, 6 a picture is held past the end, 7 the CD-TEXT is too long, 8 the lead-in is
+    /// short; or 0.
+    pub why: u32,
+    /// The line that is refused, or 0.
+    pub line: u32,
+    /// The number of its reason, or what the reason of a disc tells, or 0.
+    pub number: u32,
+}
+
+/// What is told of a disc that has a plan.
+pub fn told_plan(disc: &PlannedDisc) -> Planned
+    ensures { result ≡ told_plan disc.now }
+{
+    Planned {
+        pictures: disc.pictures,
+        blocks: disc.blocks,
+        late: disc.late,
+        why: 0,
+        line: 0,
+        number: 0,
+    }
+}
+
+/// What is told where there is no plan.
+pub fn told_stop(stop: &PlanStop) -> Planned
+    ensures { result ≡ told_stop stop.now }
+{
+    match *stop {
+        PlanStop::SheetTooLong | PlanStop::ScriptTooLong => refusal(1, 0, 0),
+        PlanStop::Sheet { line, why } => refusal(2, line, cue_number(why)),
+        PlanStop::Script { line, why } => refusal(3, line, script_number(why)),
+        PlanStop::Disc { stop } => disc_refusal(stop),
+        PlanStop::NoRoom { pictures, blocks } => told_plan(&PlannedDisc {
+            pictures,
+            blocks,
+            late: 0,
+        }),
+        PlanStop::NoMemory => refusal(0, 0, 0),
+    }
+}
+
+fn refusal(why: u32, line: u32, number: u32) -> Planned
+    ensures { result ≡ refusal why line number }
+{
+    Planned {
+        pictures: 0,
+        blocks: 0,
+        late: 0,
+        why,
+        line,
+        number,
+    }
+}
+
+// The reasons of a disc have no line.
+fn disc_refusal(stop: AuthorStop) -> Planned
+    ensures { result ≡ disc_refusal stop }
+{
+    match stop {
+        AuthorStop::LengthShort { need } => refusal(4, 0, need),
+        AuthorStop::DiscTooLong { blocks } => refusal(5, 0, blocks),
+        AuthorStop::PastEnd { blocks } => refusal(6, 0, blocks),
+        AuthorStop::TextTooLong { packs } => refusal(7, 0, packs),
+        AuthorStop::LeadInShort { need } => refusal(8, 0, need),
+        AuthorStop::Late { .. } | AuthorStop::WriteFault | AuthorStop::NoMemory => refusal(0, 0, 0),
+    }
+}
+
+fn cue_number(why: CueWhy) -> u32
+    ensures { result ≡ cue_number why }
+{
+    match why {
+        CueWhy::UnknownCommand => 1,
+        CueWhy::SecondFile => 2,
+        CueWhy::Misplaced => 3,
+        CueWhy::BadArgument => 4,
+        CueWhy::Repeated => 5,
+        CueWhy::NoIndex => 6,
+        CueWhy::NotAudio => 7,
+        CueWhy::NumberOrder => 8,
+        CueWhy::IndexOrder => 9,
+        CueWhy::TimeOrder => 10,
+        CueWhy::NoFile => 11,
+        CueWhy::NoTrack => 12,
+    }
+}
+
+fn script_number(why: ScriptWhy) -> u32
+    ensures { result ≡ script_number why }
+{
+    match why {
+        ScriptWhy::UnknownCommand => 1,
+        ScriptWhy::BadArgument => 2,
+        ScriptWhy::OutOfRange => 3,
+        ScriptWhy::TimeOrder => 4,
+        ScriptWhy::TooMany => 5,
+    }
+}

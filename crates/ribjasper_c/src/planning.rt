@@ -1,0 +1,78 @@
+// The plan of a disc.
+ghost use Rattle.std.specs.Prelude.{◌≡◌, ◌≢◌, ◌<◌, ◌⊎◌, ◌↔◌, drop, length, pos};
+ghost use Rattle.disc_time.specs.Counts.{most_lead_in, most_program};
+ghost use Rattle.disc_plan.specs.Discs.{disc_of, IsPlan, IsPlanStop};
+ghost use Rattle.disc_plan.specs.Told.{told_plan};
+ghost use Rattle.disc_plan.specs.declared.disc.PlannedDisc.{PlannedDisc};
+ghost use Rattle.disc_plan.specs.declared.stops.PlanStop.{PlanStop};
+ghost use Rattle.ribjasper_c.specs.Planning.{stop_answer, told_at_stop};
+
+use disc_plan::{PlanStop, Planned, PlannedRow, plan_disc, told_plan, told_stop};
+use disc_time::{LAST_BLOCK, MOST_LEAD_IN};
+use std::alloc::Global;
+
+// The exit numbers of the program.
+const DONE: i32 = 0;
+
+const USAGE: i32 = 2;
+
+const REFUSED: i32 = 3;
+
+const LATE: i32 = 4;
+
+const WRITE_FAULT: i32 = 6;
+
+const NO_MEMORY: i32 = 7;
+
+/// Plans the pictures of a disc with a lead-in and an audio of so many blocks: writes a row for each picture to the front
+/// of some rows, and answers by an exit number of the program: 0 where none is late, 4 where some are.
+#[unsafe(no_mangle)]
+pub extern "C" fn ribjasper_plan(
+    alloc: Global,
+    sheet: &[u8],
+    script: &[u8],
+    lead_in: u32,
+    audio: u32,
+    rows: &mut [PlannedRow],
+    told: &mut Planned,
+) -> i32
+    ensures plan { (result ≡ pos 0) ⊎ (result ≡ pos 4) → (disc : PlannedDisc)
+        × IsPlan (disc_of sheet.now script.now lead_in audio) rows.new disc
+        × (told.new ≡ told_plan disc) × (drop disc.pictures rows.new ≡ drop disc.pictures rows.old) }
+    ensures prompt { result ≡ pos 0 → told.new.late ≡ 0 }
+    ensures late { result ≡ pos 4 → 0 < told.new.late }
+    ensures usage { (result ≡ pos 2) ↔ ((most_lead_in < lead_in) ⊎ (most_program < audio)) }
+    ensures stop { (result ≡ pos 3) ⊎ (result ≡ pos 6) ⊎ (result ≡ pos 7) → (stop : PlanStop)
+        × IsPlanStop (disc_of sheet.now script.now lead_in audio) (length rows.old) stop
+        × (result ≡ stop_answer stop) × (told.new ≡ told_at_stop told.old stop) }
+    ensures answer { (result ≡ pos 0) ⊎ (result ≡ pos 2) ⊎ (result ≡ pos 3) ⊎ (result ≡ pos 4)
+        ⊎ (result ≡ pos 6) ⊎ (result ≡ pos 7) }
+    ensures rows { result ≢ pos 0 → result ≢ pos 4 → rows.new ≡ rows.old }
+    ensures unused { result ≡ pos 2 → told.new ≡ told.old }
+{
+    if lead_in > MOST_LEAD_IN || audio > LAST_BLOCK {
+        return USAGE;
+    }
+    match plan_disc(alloc, sheet, script, lead_in, audio, rows) {
+        Ok(disc) => {
+            *told = told_plan(&disc);
+            if disc.late == 0 { DONE } else { LATE }
+        }
+        Err(PlanStop::NoMemory) => NO_MEMORY,
+        Err(stop) => {
+            *told = told_stop(&stop);
+            stop_answer(&stop)
+        }
+    }
+}
+
+// The exit number where there is no plan.
+fn stop_answer(stop: &PlanStop) -> i32
+    ensures { result ≡ stop_answer stop.now }
+{
+    match *stop {
+        PlanStop::NoRoom { .. } => WRITE_FAULT,
+        PlanStop::NoMemory => NO_MEMORY,
+        _ => REFUSED,
+    }
+}
