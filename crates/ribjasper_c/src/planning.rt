@@ -8,7 +8,7 @@ ghost use Rattle.disc_plan.specs.declared.stops.PlanStop.{PlanStop};
 ghost use Rattle.ribjasper_c.specs.Planning.{stop_answer, told_at_stop};
 
 use disc_plan::{PlanStop, Planned, PlannedRow, plan_disc, told_plan, told_stop};
-use disc_time::{LAST_BLOCK, MOST_LEAD_IN};
+use disc_time::{MOST_LEAD_IN, MOST_PROGRAM};
 use std::alloc::Global;
 
 // The exit numbers of the program.
@@ -50,7 +50,7 @@ pub extern "C" fn ribjasper_plan(
     ensures rows { result ≢ pos 0 → result ≢ pos 4 → rows.new ≡ rows.old }
     ensures unused { result ≡ pos 2 → told.new ≡ told.old }
 {
-    if lead_in > MOST_LEAD_IN || audio > LAST_BLOCK {
+    if lead_in > MOST_LEAD_IN || audio > MOST_PROGRAM {
         return USAGE;
     }
     match plan_disc(alloc, sheet, script, lead_in, audio, rows) {
