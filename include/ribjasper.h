@@ -213,6 +213,56 @@ typedef struct ribjasper_mended {
    bytes. */
 int32_t ribjasper_mend(const uint8_t *first, size_t first_length, const uint8_t *second, size_t second_length,
                        uint32_t lead_in, uint8_t *packs, size_t room, ribjasper_mended *told);
+/* A picture of a script in a plan. Times are blocks of the program, 75 a second, from the absolute time 00:00:00; packs
+   are numbered from 0. */
+typedef struct ribjasper_plan_row {
+    uint32_t line;  /* the line of the script on which its `show` stands, from 1 */
+    uint32_t ready; /* when it is ready */
+    uint32_t hold;  /* until when it is held */
+    uint32_t need;  /* the packs that its change needs, at most 3,076 */
+    uint32_t free;  /* the packs that are free for it */
+    uint32_t first; /* the first of them */
+    uint8_t late;   /* 1 where the change has no room before the picture is ready, or else 0 */
+} ribjasper_plan_row;
+
+/* What is told of a plan. */
+typedef struct ribjasper_planned {
+    uint32_t pictures; /* of the script */
+    uint32_t blocks;   /* of the program */
+    uint32_t late;     /* how many pictures are late */
+    uint32_t why;      /* why there is no plan: one of the reasons below, or 0 */
+    uint32_t line;     /* the line that is refused, from 1, or 0 */
+    uint32_t number;   /* the number that the reason tells, or 0 */
+} ribjasper_planned;
+
+/* Why there is no plan, in the order in which the program's `author` refuses. (A script that is too long comes after the
+   lines of the sheet.) */
+#define RIBJASPER_TEXT_TOO_LONG 1   /* the sheet or the script has more than 67,108,864 bytes */
+#define RIBJASPER_SHEET_REFUSED 2   /* a line of the sheet; the number is its reason: 1 unknown-command, 2 second-file,
+    3 misplaced, 4 bad-argument, 5 repeated, 6 no-index, 7 not-audio, 8 number-order, 9 index-order, 10 time-order,
+    11 no-file, 12 no-track */
+#define RIBJASPER_SCRIPT_REFUSED 3  /* a line of the script; the number is its reason: 1 unknown-command,
+    2 bad-argument, 3 out-of-range, 4 time-order, 5 too-many */
+#define RIBJASPER_LENGTH_SHORT 4    /* the audio is too short: the index lines need so many blocks */
+#define RIBJASPER_DISC_TOO_LONG 5   /* the program would have so many blocks */
+#define RIBJASPER_PAST_END 6        /* the last picture is held for longer than these program blocks */
+#define RIBJASPER_CD_TEXT_TOO_LONG 7 /* the CD-TEXT needs so many packs, and 256 are the most */
+#define RIBJASPER_LEAD_IN_SHORT 8   /* the lead-in needs so many blocks */
+
+/* What the call below answers beside RIBJASPER_USAGE, where `lead_in` is above 450,000 or `audio` above 449,999, and
+   RIBJASPER_NO_MEMORY: then nothing is written. Where it answers RIBJASPER_NO_ROOM, `told` says how many pictures and
+   blocks there are, and no row is written. */
+#define RIBJASPER_PLANNED 0     /* each picture is in time */
+#define RIBJASPER_NOT_PLANNED 3 /* `told` says why, and no row is written */
+#define RIBJASPER_LATE 4        /* some pictures are late: their rows say which */
+
+/* Plans a disc: writes a row for each picture of a script, in time or not, to the front of the `room` rows at `rows`. The
+   disc has the cue sheet and the script of these bytes, a lead-in of `lead_in` blocks and an audio of `audio` blocks. A
+   row speaks of its picture alone, whether those before it are late or not; the first one that is late is what `author`
+   tells. Memory is asked of malloc, and freed before the call returns. */
+int32_t ribjasper_plan(const uint8_t *sheet, size_t sheet_length, const uint8_t *script, size_t script_length,
+                       uint32_t lead_in, uint32_t audio, ribjasper_plan_row *rows, size_t room,
+                       ribjasper_planned *told);
 
 #ifdef __cplusplus
 }
