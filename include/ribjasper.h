@@ -213,6 +213,7 @@ typedef struct ribjasper_mended {
    bytes. */
 int32_t ribjasper_mend(const uint8_t *first, size_t first_length, const uint8_t *second, size_t second_length,
                        uint32_t lead_in, uint8_t *packs, size_t room, ribjasper_mended *told);
+
 /* A picture of a script in a plan. Times are blocks of the program, 75 a second, from the absolute time 00:00:00; packs
    are numbered from 0. */
 typedef struct ribjasper_plan_row {
