@@ -2,7 +2,7 @@
 # What lib/libribjasper.a does for programs in C. Builds examples/player.c on it, as C and as C++, and
 # compares its screens with those of the command `screen`, byte for byte, at ten moments of the stream of
 # the tour: fed as blocks and drawn as packs. A stream with twenty blocks lost has to be noticed. Runs
-# tools/test_library.c and tools/test_mend.c, and all of it once under the address sanitizer where that is
+# tools/test_library.c, tools/test_mend.c and tools/test_plan.c, and all of it once under the address sanitizer where that is
 # there. Skipped where a compiler or what make builds is missing. With the argument `measure` it also tells
 # how many blocks a second the player takes.
 set -e
@@ -23,7 +23,11 @@ cc $flags -std=c99 tools/test_library.c lib/libribjasper.a $wrap -o "$work/test_
 c++ $flags -x c++ tools/test_library.c -x none lib/libribjasper.a $wrap -o "$work/test_library_of_cxx"
 "$work/test_library"
 "$work/test_library_of_cxx" >/dev/null
-cc $flags -std=c99 tools/test_mend.c lib/libribjasper.a -o "$work/test_mend"
+cc $flags -std=c99 tools/test_mend.c lib/libribjasper.a -o cc $flags -std=c99 tools/test_plan.c lib/libribjasper.a $wrap -o "$work/test_plan"
+c++ $flags -x c++ tools/test_plan.c -x none lib/libribjasper.a $wrap -o "$work/test_plan_of_cxx"
+"$work/test_mend"
+"$work/test_plan"
+"$work/test_plan_of_cxx" >/dev/null
 c++ $flags -x c++ tools/test_mend.c -x none lib/libribjasper.a -o "$work/test_mend_of_cxx"
 "$work/test_mend"
 "$work/test_mend_of_cxx" >/dev/null
@@ -67,8 +71,10 @@ if cc $sanitize empty.c -o empty 2>/dev/null && ./empty 2>/dev/null; then
     cc $flags $sanitize -std=c99 "$top/examples/player.c" "$top/lib/libribjasper.a" -o player_watched
     cc $flags $sanitize -std=c99 "$top/tools/test_library.c" "$top/lib/libribjasper.a" $wrap -o test_watched
     cc $flags $sanitize -std=c99 "$top/tools/test_mend.c" "$top/lib/libribjasper.a" -o test_mend_watched
+    cc $flags $sanitize -std=c99 "$top/tools/test_plan.c" "$top/lib/libribjasper.a" $wrap -o test_plan_watched
     mkdir watched
-    (cd watched && ../player_watched $moments <../stream && ../test_watched >/dev/null && ../test_mend_watched >/dev/null)
+    (cd watched && ../player_watched $moments <../stream && ../test_watched >/dev/null && ../test_mend_watched >/dev/null &&
+        ../test_plan_watched >/dev/null)
     echo "compare_player: the address sanitizer finds nothing"
 else
     echo "compare_player: no address sanitizer is there"

@@ -43,6 +43,20 @@ LIES(ribjasper_mended, of_first, 16);
 LIES(ribjasper_mended, of_second, 20);
 LIES(ribjasper_mended, agreed, 24);
 LIES(ribjasper_mended, none, 28);
+HOLDS(plan_row, sizeof(ribjasper_plan_row) == 28);
+LIES(ribjasper_plan_row, ready, 4);
+LIES(ribjasper_plan_row, hold, 8);
+LIES(ribjasper_plan_row, need, 12);
+LIES(ribjasper_plan_row, free, 16);
+LIES(ribjasper_plan_row, first, 20);
+LIES(ribjasper_plan_row, late, 24);
+
+HOLDS(planned, sizeof(ribjasper_planned) == 24);
+LIES(ribjasper_planned, blocks, 4);
+LIES(ribjasper_planned, late, 8);
+LIES(ribjasper_planned, why, 12);
+LIES(ribjasper_planned, line, 16);
+LIES(ribjasper_planned, number, 20);
 
 HOLDS(plan_row, sizeof(ribjasper_plan_row) == 28);
 LIES(ribjasper_plan_row, ready, 4);
