@@ -2,7 +2,7 @@
 use Rattle.std.proofs.Common.{◌≡◌, ◌≢◌, ℕ, zero, suc, ◌+◌, ◌*◌, ◌<◌, ◌≤◌, ◌==◌, cond, List, [], ◌∷◌, length, get_or, take, drop, refl, sym, ap, ap₂, ◌∙◌, inl, inr, eq-eqb, ne_eqb, add-one, arith}
 use Rattle.std.proofs.lemmas.Bool.Decides.{eqb_tells}
 use Rattle.std.proofs.lemmas.List.{drop_all}
-use Rattle.rw_code.specs.Codeword.{IsWord, Reads, differences}
+use Rattle.rw_code.specs.Codeword.{IsCodeword, IsWord, Reads, differences}
 use Rattle.rw_code.proofs.Differing.{at_most_one, differences_self, differences_same_more, differences_other_more}
 use Rattle.rw_code.proofs.Independent.{same_from_sums}
 use Rattle.rw_merge.specs.Agreement.{IsAgreed, equally_wrong}
@@ -209,3 +209,29 @@ reads_agreed xs ys ws x_word same agreed =
     let size = x_word.size ∙ sym agreed.is_codeword.is_word.size in
     let wrong : equally_wrong xs ys ws ≡ differences xs ws = ap (λ l. equally_wrong xs l ws) (sym same) ∙ equally_wrong_self xs ws size in
     record { is_codeword = agreed.is_codeword; is_near = omega (arith, wrong, agreed.few) }
+
+-- ---- A reading against which only its differences from the other stand.
+
+wrong_nowhere : (x y : ℕ) → ◌≡◌ {A = ℕ} (cond (x == y) (cond (x == x) 0 1) 0) 0
+wrong_nowhere x y = rw (eq-eqb x x refl) (elim (eqb_tells x y) [ inl same ↦ rw (same.0) (omega arith) | inr other ↦ rw (other.0) (omega arith) ])
+
+wrong_neither : (x y : ℕ) → ◌≡◌ {A = ℕ} (cond (x == y) (cond (x == y) 0 1) 0) 0
+wrong_neither x y = elim (eqb_tells x y) [ inl same ↦ rw (same.0) (omega arith) | inr other ↦ rw (other.0) (omega arith) ]
+
+wrong_of_first : (xs ys : List ℕ) → equally_wrong xs ys xs ≡ 0
+unfolding equally_wrong
+wrong_of_first [] ys = refl
+wrong_of_first (x ∷ xs) [] = refl
+wrong_of_first (x ∷ xs) (y ∷ ys) = ap₂ (λ m n. m + n) (wrong_nowhere x y) (wrong_of_first xs ys)
+
+wrong_of_second : (xs ys : List ℕ) → equally_wrong xs ys ys ≡ 0
+unfolding equally_wrong
+wrong_of_second [] ys = refl
+wrong_of_second (x ∷ xs) [] = refl
+wrong_of_second (x ∷ xs) (y ∷ ys) = ap₂ (λ m n. m + n) (wrong_neither x y) (wrong_of_second xs ys)
+
+pub first_agreed : (xs ys : List ℕ) → IsCodeword xs → differences xs ys ≤ 4 → IsAgreed xs ys xs
+first_agreed xs ys codeword few = record { is_codeword = codeword; few = omega (arith, few, wrong_of_first xs ys) }
+
+pub second_agreed : (xs ys : List ℕ) → IsCodeword ys → differences xs ys ≤ 4 → IsAgreed xs ys ys
+second_agreed xs ys codeword few = record { is_codeword = codeword; few = omega (arith, few, wrong_of_second xs ys) }

@@ -1,6 +1,6 @@
 // The codeword on which two readings of a word agree.
-ghost use Rattle.std.specs.Prelude.{◌≡◌, ◌≢◌, List, ℕ, IfSome, MatchOption};
-ghost use Rattle.rw_code.specs.Codeword.{IsWord};
+ghost use Rattle.std.specs.Prelude.{◌≡◌, ◌≢◌, ◌≤◌, List, ℕ, IfSome, MatchOption};
+ghost use Rattle.rw_code.specs.Codeword.{IsWord, differences};
 ghost use Rattle.rw_merge.specs.Agreement.{IsAgreed};
 
 use crate::counting::{differing, doubts};
@@ -33,9 +33,10 @@ pub fn agree(a: &Word, b: &Word) -> Option<Pack>
     Some(fixed.pack)
 }
 
-// The same for readings that differ.
+// The same for readings that differ in few symbols.
 fn agree_apart(a: &Word, b: &Word) -> Option<Pack>
     requires differ { a.now ≢ b.now }
+    requires few { differences a.now b.now ≤ 4 }
     requires word { IsWord a.now }
     ensures { MatchOption result
         ((w : List ℕ) → ¬ IsAgreed a.now b.now w)
@@ -51,14 +52,16 @@ fn agree_apart(a: &Word, b: &Word) -> Option<Pack>
     accept(a, b, &solved(a, &sums, &places))
 }
 
-// The agreed codeword, where it is quickly found: it is one of the readings, or near the first.
+// The agreed codeword, where it is quickly found: it is one of the readings, against which stand only the symbols in
+// which they differ, or near the first.
 fn likely(a: &Word, b: &Word) -> Option<Pack>
+    requires { differences a.now b.now ≤ 4 }
     ensures { IfSome result (λ pack. IsAgreed a.now b.now pack) }
 {
-    if let Some(pack) = accept(a, b, a) {
+    if let Some(pack) = Pack::check(a) {
         return Some(pack);
     }
-    if let Some(pack) = accept(a, b, b) {
+    if let Some(pack) = Pack::check(b) {
         return Some(pack);
     }
     let Some(fixed) = correct(a) else {

@@ -1,5 +1,5 @@
 // Two readings of one stream, block by block in turn.
-ghost use Rattle.std.specs.Prelude.{◌≡◌, ◌≢◌, ◌≤◌, ◌<◌, ◌+◌, [], List, ℕ, Err, length, IsErrOf, IfOk, IfSome};
+ghost use Rattle.std.specs.Prelude.{◌≡◌, ◌≢◌, ◌≤◌, ◌<◌, ◌+◌, [], List, ℕ, Err, length, IsErrOf, IfOk, IfSome, replicate, true};
 ghost use Rattle.std.specs.List.{concat};
 ghost use Rattle.std.specs.Io.KnownBytes.{Consumes};
 ghost use Rattle.std.specs.declared.option.Option.{Option};
@@ -205,6 +205,37 @@ impl Merger {
 
     // The packs that come with a pair of program blocks.
     fn merge(&mut self, first: &[u8; BLOCK_BYTES], second: &[u8; BLOCK_BYTES]) -> Packs
+        requires { length self.old.first ≡ length self.old.second }
+        ensures first { self.new.first ≡ window_after self.old.first (leading_slots 4 first.now) }
+        ensures second { self.new.second ≡ window_after self.old.second (leading_slots 4 second.now) }
+        ensures same { length self.new.first ≡ length self.new.second }
+        ensures packs { (found : List (Option (List ℕ)))
+            × AreAgreements (words_after self.old.first (leading_slots 4 first.now))
+            (words_after self.old.second (leading_slots 4 second.now)) found
+            × (result.bytes ≡ cdg_bytes found) × (result.bad ≡ bad_count found) × (length found ≤ 4) }
+    {
+        if self.stay_idle(first, second) {
+            return Packs::idle();
+        }
+        self.merge_words(first, second)
+    }
+
+    // Whether four words of zeros come with each block of a pair, and the windows stay as they are.
+    fn stay_idle(&self, first: &[u8; BLOCK_BYTES], second: &[u8; BLOCK_BYTES]) -> bool
+        ensures first { result ≡ true → self.now.first ≡ window_after self.now.first (leading_slots 4 first.now) }
+        ensures second { result ≡ true
+            → self.now.second ≡ window_after self.now.second (leading_slots 4 second.now) }
+        ensures first_words { result ≡ true → replicate 4 (replicate 24 0)
+            ≡ words_after self.now.first (leading_slots 4 first.now) }
+        ensures second_words { result ≡ true → replicate 4 (replicate 24 0)
+            ≡ words_after self.now.second (leading_slots 4 second.now) }
+    {
+        self.first.stays_idle(first) && self.second.stays_idle(second)
+    }
+
+    // The same as `merge`, where there may be something to gather.
+    #[inline(never)]
+    fn merge_words(&mut self, first: &[u8; BLOCK_BYTES], second: &[u8; BLOCK_BYTES]) -> Packs
         requires { length self.old.first ≡ length self.old.second }
         ensures first { self.new.first ≡ window_after self.old.first (leading_slots 4 first.now) }
         ensures second { self.new.second ≡ window_after self.old.second (leading_slots 4 second.now) }

@@ -1,5 +1,5 @@
 // The packs of a pair of blocks.
-ghost use Rattle.std.specs.Prelude.{◌≡◌, ◌≤◌, ◌<◌, ◌+◌, ◌++◌, List, ℕ, length, is_none, if◌then◌else◌};
+ghost use Rattle.std.specs.Prelude.{◌≡◌, ◌≤◌, ◌<◌, ◌+◌, ◌++◌, List, ℕ, length, replicate, is_none, if◌then◌else◌};
 ghost use Rattle.std.specs.declared.option.Option.{Option};
 ghost use Rattle.rw_interleave.specs.Stream.{bad_count};
 ghost use Rattle.rw_interleave.specs.Texts.{cdg_bytes, entry_bytes};
@@ -7,6 +7,7 @@ ghost use Rattle.rw_merge.specs.Steps.{AreAgreements};
 
 use crate::agree;
 use cdg_io::Piece;
+use raw_subcode::BLOCK_BYTES;
 use rw_code::{Pack, SYMBOLS, Word};
 
 /// The packs of a pair of blocks, and for how many words none was agreed.
@@ -32,6 +33,18 @@ impl Packs {
             packs.add(agree(&first[i], &second[i]));
         }
         packs
+    }
+
+    /// What is found for four pairs of words of zeros.
+    #[inline]
+    pub(crate) fn idle() -> Packs
+        ensures { (found : List (Option (List ℕ)))
+            × AreAgreements (replicate 4 (replicate 24 0)) (replicate 4 (replicate 24 0)) found
+            × (result.bytes ≡ cdg_bytes found) × (result.bad ≡ bad_count found) × (length found ≤ 4) }
+    {
+        let mut bytes = Piece::new();
+        bytes.set_zeros(BLOCK_BYTES);
+        Packs { bytes, bad: 0 }
     }
 
     // Adds what is agreed for a word: zeros where nothing is.

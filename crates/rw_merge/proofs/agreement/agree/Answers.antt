@@ -12,6 +12,7 @@ agree_apart-requires c = record {
   differ = λ same.
       let none : differences c.args.a.now c.args.b.now ≡ 0 = ap (differences c.args.a.now) (sym same) ∙ differences_self c.args.a.now in
       omega (arith, none, c.differing-apart.ensures.count);
+  few = omega (arith, c.differing-apart.ensures.count, c.if-apart-gt-MOST_DOUBTS.false);
   word = c.differing-apart.ensures.first;
 }
 

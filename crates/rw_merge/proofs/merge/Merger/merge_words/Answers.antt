@@ -2,7 +2,7 @@ use Rattle.std.proofs.Common.{ℕ, List, length, sym, ap, ◌∙◌, subst₂}
 use Rattle.rw_merge.specs.Steps.{AreAgreements, leading_slots}
 use Rattle.rw_merge.proofs.Slots.{length-slots}
 use Rattle.rw_merge.proofs.Words.{length-window, length-words, window_is, words_is}
-use Rattle.rw_merge.proofs.merge.Merger.merge.Goals as goal
+use Rattle.rw_merge.proofs.merge.Merger.merge_words.Goals as goal
 
 pub agreed-requires-clause-same : goal.agreed-requires-clause-same
 agreed-requires-clause-same c =
