@@ -20,7 +20,7 @@ for tool in "$compiler" "${prefix}ld" "${prefix}objcopy" "${prefix}ar"; do
     command -v "$tool" >/dev/null || { echo "build_library: there is no $tool" >&2; exit 1; }
 done
 tools/prove_crates.py ribjasper_c
-(cd crates/ribjasper_c && rt lib --target "$target" --cpu "$cpu")
+(cd crates/ribjasper_c && rt lib --target "$target" --cpu "$cpu" ${JOBS:+--jobs "$JOBS"})
 
 work=$(mktemp -d)
 trap 'rm -rf "$work"' EXIT

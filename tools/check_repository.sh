@@ -50,6 +50,9 @@ done
 tools/compare_player.sh || complain "the library for programs in C is not as the program"
 tools/test_linking.sh || complain "the library for programs in C is not linked as it should be"
 
+# The desk does what it says, where the program and the library are built.
+tools/test_desk.sh || complain "a test of the desk fails"
+
 # Each file that a document links to is there.
 for document in $(git ls-files '*.md'); do
     folder=$(dirname "$document")
@@ -70,7 +73,7 @@ fi
 
 # Scripts are programs.
 for script in .ci/run tools/*.sh tools/list_definitions.py tools/commands.py tools/tables.py tools/try_refusals.py \
-    bench/*.py examples/demo.py; do
+    bench/*.py examples/demo.py desk/ribjasper-desk; do
     [ -x "$script" ] || complain "$script cannot be run"
 done
 

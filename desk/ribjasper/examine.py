@@ -129,7 +129,7 @@ def examine(path: str, name: str, with_pictures: bool = True) -> Examined:
             first = png(screen(picture)) if picture else None
             mapped = png(draw_map(survey))
     except Refusal as refusal:
-        row["status"], row["why"] = UNREAD, str(refusal)
+        row["status"], row["why"] = UNREAD, refusal.cause
     except OSError as error:
         row["status"], row["why"] = UNREAD, (error.strerror or str(error)).lower()
     return Examined(row, first, mapped)

@@ -79,8 +79,10 @@ def best(dump: Dump, forms: list[Form], is_whole: bool) -> tuple[Form | None, di
         each = [signs(dump.blocks(form, *part), form) for part in parts]
         found[form.name] = functools.reduce(Signs.__add__, each)
     for sign, of in (("good", "frames"), ("carrying", "words")):
-        most = max(forms, key=lambda form: getattr(found[form.name], sign), default=None)
-        if most and is_no_chance(getattr(found[most.name], sign), getattr(found[most.name], of)):
+        # Packs behind silent audio are found without the sectors too, among more words.
+        counts = {form: (getattr(found[form.name], sign), -getattr(found[form.name], of)) for form in forms}
+        most = max(forms, key=counts.get, default=None)
+        if most and is_no_chance(counts[most][0], -counts[most][1]):
             return most, found
     return None, found
 

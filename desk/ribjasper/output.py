@@ -18,6 +18,7 @@ class Refusal(Exception):
 
     def __init__(self, path: str | os.PathLike, cause: str):
         super().__init__(f"{shown(os.fspath(path))}: {cause}")
+        self.cause = cause
 
 
 class Missing(Exception):

@@ -149,6 +149,17 @@ def here(tasks: list[Task], with_pictures: bool, count: int) -> Iterator[Examine
         pool.shutdown(wait=True, cancel_futures=True)
 
 
+def finder(distributed, folder: str):
+    """What a worker does first, also one that comes later: it learns where the desk is."""
+
+    class Finder(distributed.WorkerPlugin):
+        def setup(self, worker) -> None:
+            if folder not in sys.path:
+                sys.path.insert(0, folder)
+
+    return Finder()
+
+
 def by_cluster(tasks: list[Task], with_pictures: bool, address: str) -> Iterator[Examined]:
     """Looks at files on the workers of a scheduler, which see the same files and the same checkout."""
     distributed = package("distributed", "python3-distributed")
@@ -157,8 +168,8 @@ def by_cluster(tasks: list[Task], with_pictures: bool, address: str) -> Iterator
     except (OSError, ValueError) as error:
         raise Refusal(address, f"no scheduler answers: {error}") from None
     try:
-        desk = str(library.TOP / "desk")
-        client.run(exec, f"import sys; sys.path.insert(0, {desk!r}) if {desk!r} not in sys.path else None")
+        register = getattr(client, "register_plugin", None) or client.register_worker_plugin
+        register(finder(distributed, str(library.TOP / "desk")))
         waiting = {
             client.submit(look, Task(os.path.abspath(task.path), task.name), with_pictures, pure=False): task
             for task in tasks

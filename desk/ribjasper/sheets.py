@@ -97,13 +97,12 @@ def first_index(source: Source, known: dict[int, tuple[int, int]]) -> int | None
 
 def pause(source: Source, known: tuple[int, int], first: int) -> int:
     """The time at which the pause of a track begins. Where the frames right before tell no time, P is set from there
-    on, if it is two seconds long at least."""
+    on, if it is two seconds long at least; a shorter pause has P before it too."""
     block, time = known
-    while first - time >= PAUSE and block > 0 and source.survey.absolute(block - 1) == library.NO_TIME:
-        if not source.has_p(block - 1):
-            break
-        block, time = block - 1, time - 1
-    return time
+    back = 0
+    while block > back and source.survey.absolute(block - back - 1) == library.NO_TIME and source.has_p(block - back - 1):
+        back += 1
+    return time - back if first - time + back >= PAUSE else time
 
 
 def codes(source: Source) -> dict[int, bytes]:

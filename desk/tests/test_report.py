@@ -1,0 +1,247 @@
+"""`report`: a row for every file, whatever it is; a run that was killed is gone on with; a cluster tells the same."""
+import contextlib
+import html.parser
+import json
+import os
+import random
+import shutil
+import signal
+import subprocess
+import sys
+import time
+import unittest
+from pathlib import Path
+
+from archivists import (
+    BLOCK, DESK, LEAD_IN, TOP, FolderTest, as_sectors, desk, hello, hello_packs, needs, needs_library, needs_pillow, program,
+    with_bad_q, with_burst, with_zeros, without,
+)  # fmt: skip
+
+STATUSES = {"good", "damaged", "torn", "empty", "foreign", "unread"}
+
+
+class Links(html.parser.HTMLParser):
+    """What a page refers to."""
+
+    def __init__(self, page: Path):
+        super().__init__()
+        self.found: list[str] = []
+        self.feed(page.read_text())
+
+    def handle_starttag(self, tag, attributes):
+        self.found += [value for name, value in attributes if name in ("src", "href")]
+
+
+def dumps(folder: Path, count: int) -> None:
+    """A folder of dumps of thirteen kinds over and over, each with damage of its own."""
+    packs = hello_packs() + bytes(-len(hello_packs()) % BLOCK)
+    kinds = [
+        lambda seed: hello(),
+        lambda seed: with_burst(hello(), 300 + seed, 200, seed),
+        lambda seed: with_zeros(hello(), 400 + seed, 420 + seed),
+        lambda seed: without(hello(), 500 + seed, 574 + seed),
+        lambda seed: with_bad_q(hello(), 600 + seed),
+        lambda seed: program("scratch", "--lead-in", LEAD_IN, "--seed", seed, stdin=hello()),
+        lambda seed: program("planar", stdin=hello()),
+        lambda seed: as_sectors(hello()[: BLOCK * (700 + seed)]),
+        lambda seed: packs,
+        lambda seed: as_sectors(packs[: BLOCK * 300]),
+        lambda seed: hello()[: -1 - seed],
+        lambda seed: b"",
+        lambda seed: random.Random(seed).randbytes(5000 + seed),
+    ]
+    for number in range(count):
+        path = folder / f"box-{number % 4}" / f"dump-{number:03}"
+        path.parent.mkdir(parents=True, exist_ok=True)
+        path.write_bytes(kinds[number % len(kinds)](number))
+
+
+@needs_library
+class ReportTest(FolderTest):
+    def setUp(self):
+        super().setUp()
+        self.dumps, self.out = self.folder / "dumps", self.folder / "out"
+        self.dumps.mkdir()
+
+    def report(self, *words: object, status: int = 0, out: Path | None = None, **options):
+        ran = desk("report", self.dumps, "-o", out or self.out, *words, **options)
+        self.assertEqual(ran.status, status, ran.told)
+        return ran
+
+    def table(self, out: Path | None = None) -> list[dict]:
+        return [json.loads(line) for line in ((out or self.out) / "table.jsonl").read_text().splitlines()]
+
+    @needs_pillow
+    def test_a_row_for_every_file(self):
+        dumps(self.dumps, 26)
+        self.report()
+        rows = self.table()
+        self.assertEqual([row["file"] for row in rows], sorted(f"box-{n % 4}/dump-{n:03}" for n in range(26)))
+        by_number = {int(row["file"][-3:]): row for row in rows}
+        wanted = "good damaged damaged damaged damaged damaged good good good good torn empty foreign".split()
+        self.assertEqual([by_number[number]["status"] for number in range(26)], wanted * 2)
+        forms = ["raw"] * 6 + ["planar", "sector", "cooked", "cooked-sector", "raw", None, None]
+        self.assertEqual([by_number[number]["form"] for number in range(26)], forms * 2)
+        self.assertEqual(by_number[2]["damage"][0].split("-")[0], "402")
+        self.assertEqual((by_number[2]["empty"], by_number[3]["jumps"], by_number[10]["rest"]), (21, 1, 85))
+        self.assertEqual(by_number[0]["texts"][0], "title 00 Hello From the Subcode")
+        said = dict(line.split() for line in program("check", "--lead-in", LEAD_IN, stdin=hello()).decode().splitlines())
+        for name in ("clean", "one", "two", "bad", "q-bad"):
+            self.assertEqual(by_number[0][name], int(said[name]))
+        summed = subprocess.run(["sha256sum", self.dumps / "box-0/dump-000"], capture_output=True, text=True).stdout
+        self.assertEqual(by_number[0]["sha256"], summed.split()[0])
+
+    @needs_pillow
+    def test_the_page_needs_no_network(self):
+        dumps(self.dumps, 13)
+        self.report()
+        links = Links(self.out / "index.html").found
+        self.assertGreater(len(links), 20)
+        for link in links:
+            self.assertNotIn(":", link)
+            self.assertTrue((self.out / link).is_file(), link)
+
+    @needs_pillow
+    def test_first_picture_is_that_of_the_program(self):
+        from PIL import Image
+
+        self.write("dumps/hello", hello())
+        self.report()
+        (picture,) = self.out.glob("pictures/*-first.png")
+        pixmap = program("screen", "--lead-in", LEAD_IN, "--at", "00:04:00", stdin=hello())
+        self.assertEqual(Image.open(picture).convert("RGB").tobytes(), pixmap[15:])
+
+    def test_without_pictures_no_package_is_asked_for(self):
+        dumps(self.dumps, 3)
+        self.report("--no-pictures", env={**os.environ, "PYTHONNOUSERSITE": "1"})
+        self.assertEqual(len(self.table()), 3)
+        self.assertEqual(list(self.out.glob("pictures/*")), [])
+
+    def test_only_what_changed_is_read(self):
+        dumps(self.dumps, 8)
+        self.assertIn("8 files read, 0 known", self.report("--no-pictures").told)
+        before = (self.out / "table.tsv").read_bytes()
+        self.assertIn("0 files read, 8 known", self.report("--no-pictures").told)
+        self.assertEqual((self.out / "table.tsv").read_bytes(), before)
+        self.write("dumps/box-1/dump-001", hello())
+        (self.dumps / "box-2/dump-002").unlink()
+        self.write("dumps/new", with_burst(hello(), 300, 200))
+        self.assertIn("2 files read, 6 known", self.report("--no-pictures").told)
+        rows = {row["file"]: row["status"] for row in self.table()}
+        self.assertEqual((rows["box-1/dump-001"], rows["new"], len(rows)), ("good", "damaged", 8))
+
+    def test_a_run_that_is_killed_is_gone_on_with(self):
+        dumps(self.dumps, 50)
+        whole = self.folder / "whole"
+        self.report("--no-pictures", out=whole)
+        words = [sys.executable, DESK, "report", self.dumps, "-o", self.out, "--no-pictures", "--jobs", "2"]
+        running = subprocess.Popen(words, stdout=subprocess.DEVNULL, stderr=subprocess.DEVNULL)
+        journal = self.out / "journal.jsonl"
+        until = time.monotonic() + 60
+        while not (journal.exists() and journal.read_bytes().count(b"\n") >= 20) and time.monotonic() < until:
+            time.sleep(0.002)
+        running.send_signal(signal.SIGKILL)
+        running.wait()
+        known = journal.read_bytes().count(b"\n")
+        self.assertLess(known, 50, "it had ended before it was killed")
+        # The line that was being written is cut off.
+        journal.write_bytes(journal.read_bytes()[:-7])
+        ran = self.report("--no-pictures")
+        read, _, rest = ran.told.partition(": ")[2].partition(" files read, ")
+        self.assertGreaterEqual(int(rest.split()[0]), 15)
+        self.assertEqual(int(read) + int(rest.split()[0]), 50)
+        for name in ("table.tsv", "table.jsonl"):
+            self.assertEqual((self.out / name).read_bytes(), (whole / name).read_bytes())
+
+    def test_a_run_that_is_stopped_leaves_no_half_file(self):
+        dumps(self.dumps, 30)
+        words = [sys.executable, DESK, "report", self.dumps, "-o", self.out, "--no-pictures", "--jobs", "2"]
+        running = subprocess.Popen(words, stdout=subprocess.DEVNULL, stderr=subprocess.PIPE)
+        journal = self.out / "journal.jsonl"
+        while not (journal.exists() and journal.read_bytes().count(b"\n") >= 5) and running.poll() is None:
+            time.sleep(0.002)
+        running.send_signal(signal.SIGINT)
+        told = running.communicate()[1].decode()
+        self.assertEqual(running.returncode, 130, told)
+        self.assertEqual(told, "ribjasper-desk: stopped\n")
+        self.assertEqual([path.name for path in self.out.rglob(".ribjasper-*")], [])
+
+    def test_parts_make_the_same_report(self):
+        dumps(self.dumps, 20)
+        whole = self.folder / "whole"
+        self.report("--no-pictures", out=whole)
+        for number in (1, 2, 3):
+            self.report("--no-pictures", "--part", f"{number}/3")
+        self.assertIn("0 files read, 20 known", self.report("--no-pictures").told)
+        self.assertEqual((self.out / "table.tsv").read_bytes(), (whole / "table.tsv").read_bytes())
+        self.assertEqual(desk("report", self.dumps, "-o", self.out, "--part", "4/3").status, 2)
+
+    def test_files_that_cannot_be_read_are_rows(self):
+        self.write("dumps/good", hello())
+        (self.dumps / "broken").symlink_to("nowhere")
+        os.mkfifo(self.dumps / "pipe")
+        self.report("--no-pictures", status=3)
+        rows = {row["file"]: (row["status"], row["why"]) for row in self.table()}
+        self.assertEqual(rows["good"], ("good", None))
+        self.assertEqual(rows["broken"][0], "unread")
+        self.assertIn("no such file", rows["broken"][1])
+        self.assertIn("not a regular file", rows["pipe"][1])
+
+    def test_the_report_may_lie_in_the_folder(self):
+        self.write("dumps/good", hello())
+        for _ in range(2):
+            self.report("--no-pictures", out=self.dumps / "out")
+        self.assertEqual([row["file"] for row in self.table(self.dumps / "out")], ["good"])
+
+    def test_refusals(self):
+        ran = desk("report", self.folder / "missing", "-o", self.out)
+        self.assertEqual(ran.status, 3)
+        self.assertIn("no such folder", ran.told)
+        self.assertEqual(desk("report", self.dumps, "-o", self.out, "--jobs", "0").status, 2)
+        taken = self.write("taken", b"")
+        self.assertEqual(desk("report", self.dumps, "-o", taken).status, 3)
+
+
+def free_port() -> int:
+    import socket
+
+    with socket.socket() as it:
+        it.bind(("127.0.0.1", 0))
+        return it.getsockname()[1]
+
+
+@needs_library
+@needs("distributed", "python3-distributed")
+class ClusterTest(FolderTest):
+    """A scheduler and two workers on this machine."""
+
+    def start(self, module: str, *words: object) -> None:
+        how = dict(stdout=subprocess.DEVNULL, stderr=subprocess.DEVNULL, cwd=self.folder)
+        process = subprocess.Popen([sys.executable, "-m", module, *map(str, words)], **how)
+        self.addCleanup(process.wait)
+        self.addCleanup(process.terminate)
+
+    def test_the_same_table_as_one_process(self):
+        dumps(self.folder / "dumps", 26)
+        one, several = self.folder / "one", self.folder / "several"
+        self.assertEqual(desk("report", self.folder / "dumps", "-o", one, "--no-pictures", "--jobs", "1").status, 0)
+        address = f"tcp://127.0.0.1:{free_port()}"
+        self.start("distributed.cli.dask_scheduler", "--host", address, "--no-dashboard")
+        for _ in range(2):
+            self.start("distributed.cli.dask_worker", address, "--nthreads", "1", "--no-dashboard")
+        ran = desk("report", self.folder / "dumps", "-o", several, "--no-pictures", "--cluster", address)
+        self.assertEqual(ran.status, 0, ran.told)
+        for name in ("table.tsv", "table.jsonl"):
+            self.assertEqual((several / name).read_bytes(), (one / name).read_bytes())
+
+    def test_no_scheduler(self):
+        (self.folder / "dumps").mkdir()
+        (self.folder / "dumps" / "a").write_bytes(hello())
+        address = f"tcp://127.0.0.1:{free_port()}"
+        ran = desk("report", self.folder / "dumps", "-o", self.folder / "out", "--no-pictures", "--cluster", address)
+        self.assertEqual(ran.status, 3)
+        self.assertIn(f"{address}: no scheduler answers", ran.told)
+
+
+if __name__ == "__main__":
+    unittest.main()

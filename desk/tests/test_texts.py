@@ -1,0 +1,69 @@
+"""`texts`: the packs of a lead-in for other tools, and back."""
+import subprocess
+import sys
+import unittest
+
+from archivists import BLOCK, LEAD_IN, TOP, FolderTest, as_sectors, author, desk, hello, needs_library, program
+
+
+@needs_library
+class TextsTest(FolderTest):
+    def packs(self, stream: bytes, *words: object) -> bytes:
+        out = self.folder / "packs"
+        ran = desk("texts", self.write("dump", stream), "--packs", out, *words)
+        self.assertEqual(ran.status, 0, ran.told)
+        self.listed = ran.out
+        return out.read_bytes()
+
+    def test_the_texts_are_those_of_the_program(self):
+        packs = self.packs(hello())
+        said = program("text", "--lead-in", LEAD_IN, stdin=hello()).decode()
+        self.assertEqual(self.listed, said)
+        script = TOP / "tools" / "lead_in_packs.py"
+        cycle = subprocess.run([sys.executable, script], input=hello()[: BLOCK * LEAD_IN], capture_output=True).stdout
+        self.assertEqual(packs, cycle)
+        self.assertEqual(self.packs(as_sectors(hello())), cycle)
+
+    def test_four_bytes_in_front(self):
+        packs, headed = self.packs(hello()), self.packs(hello(), "--header")
+        self.assertEqual(headed, (len(packs) + 2).to_bytes(2, "big") + bytes(2) + packs)
+
+    def test_damaged_packs_are_taken_from_another_copy(self):
+        packs, stream = self.packs(hello()), bytearray(hello())
+        for place in range(5, BLOCK * 6, 24):
+            stream[place] ^= 1
+        self.assertEqual(self.packs(bytes(stream)), packs)
+
+    def test_back(self):
+        packs, listed = self.packs(hello()), self.listed
+        length = (len(packs) + 2).to_bytes(2, "big") + bytes(2)
+        for content in (packs, length + packs, length + packs + b"\0", packs + b"\0"):
+            out = self.folder / "blocks"
+            ran = desk("texts", "--back", self.write("given", content), "--blocks", out)
+            self.assertEqual(ran.status, 0, ran.told)
+            lines = [line for line in listed.splitlines() if not line.startswith("packs ")]
+            self.assertEqual(ran.out.splitlines()[:-1], lines)
+            blocks = out.read_bytes()
+            self.assertEqual(len(blocks) % BLOCK, 0)
+            said = program("text", "--lead-in", len(blocks) // BLOCK, stdin=blocks).decode()
+            self.assertEqual(said, ran.out)
+
+    def test_no_texts(self):
+        sheet = b'FILE "a.wav" WAVE\nTRACK 01 AUDIO\nINDEX 01 00:00:00\n'
+        ran = desk("texts", self.write("dump", author(sheet, "00:01:00", self.folder)))
+        self.assertEqual(ran.status, 0)
+        self.assertIn("there is no text pack", ran.told)
+
+    def test_refusals(self):
+        for content in (b"", bytes(17), bytes(19) + b"x", bytes(18 * 3 + 7)):
+            path = self.write("given", content)
+            ran = desk("texts", "--back", path)
+            self.assertEqual(ran.status, 3, content)
+            self.assertIn(f"{path}: is not whole packs", ran.told)
+        dump = self.write("dump", hello())
+        self.assertEqual(desk("texts", dump, "--blocks", self.folder / "out").status, 2)
+        self.assertEqual(desk("texts", "--back", dump, "--packs", self.folder / "out").status, 2)
+
+
+if __name__ == "__main__":
+    unittest.main()
