@@ -6,10 +6,10 @@ from typing import Iterator
 
 from . import audio, latin1
 from .discs import COPY, FOUR_CHANNELS, PRE_EMPHASIS, Disc, Track, read_disc
-from .library import BLOCK, DAMAGED, PACK, PACKS_A_BLOCK, RAW, SECTOR, convert
+from .library import BLOCK, PACK, PACKS_A_BLOCK, RAW, SECTOR, Player, convert
 from .output import LATE, Refusal, beside, read_file, tell, write_file
 from .program import author
-from .streams import Stream, open_stream
+from .streams import open_stream
 from .times import PAUSE, clock
 
 # Held through the pause, so that all pictures come with the audio, which alone is on an image.
@@ -56,10 +56,12 @@ def checked(arguments: argparse.Namespace, disc: Disc) -> bytes:
     return program
 
 
-def lost_packs(program: bytes) -> int:
-    """How many packs are not idle of those that begin in the pause, and so are not whole on the image."""
+def loses_pictures(program: bytes) -> bool:
+    """Whether the packs that begin in the pause, which are not whole on the image, leave more than a black screen."""
     packs, _ = convert(program[: BLOCK * (PAUSE + 2)], RAW, 0)
-    return sum(any(packs[PACK * number : PACK * (number + 1)]) for number in range(PACKS_A_BLOCK * PAUSE))
+    with Player() as player:
+        player.draw(packs[: PACK * PACKS_A_BLOCK * PAUSE])
+        return any(player.screen()) or any(player.colours())
 
 
 def held(arguments: argparse.Namespace, disc: Disc) -> bytes:
@@ -162,9 +164,8 @@ def cue_of(disc: Disc, name: str) -> bytes:
 
 
 def warn(arguments: argparse.Namespace, disc: Disc, program: bytes) -> None:
-    lost = lost_packs(program)
-    if lost:
-        tell(f"{arguments.stream}: {lost} packs are sent in the first pause, which no image holds, so its pictures will "
+    if loses_pictures(program):
+        tell(f"{arguments.stream}: what is sent in the first pause is not on an image, and the pictures that need it will "
              "not be whole; --hold-through-pause SCRIPT puts a black picture before them")
     for track in disc.tracks:
         if track.end - track.indices[0] < SHORTEST_TRACK:

@@ -3,7 +3,7 @@ import argparse
 from pathlib import Path
 
 from . import audio, times
-from .lettering import Font, Letters, Setter
+from .lettering import Font, Letters, Setter, wrapped
 from .output import Refusal, shown, tell, write_file
 from .pages import STYLES, SUNG, Draw, Light, Placed, Show, Step, Style, pages_of
 from .picture import ONE_TRACK, PLAIN, number_in, whole
@@ -18,11 +18,13 @@ SECOND = times.BLOCKS_A_SECOND
 THROUGH_PAUSE = "show 00:00:20 00:02:02"
 BEGIN = times.PAUSE + 2
 # A line stays this long when it is sung; a title stands so long at least, and is gone so long before the first word.
-STAYS, TITLE_STANDS, BEFORE_FIRST = SECOND // 5, 2 * SECOND, 4 * SECOND
+STAYS, TITLE_STANDS, BEFORE_FIRST = SECOND // 5, 2 * SECOND, 3 * SECOND
 # What is left of the last page goes so long after its last word.
 GOES = 2 * SECOND
 # Losses and numbers of colours that are tried until a title needs few enough packs.
 TITLE_LOSSES = ((PLAIN, 16), (12.0, 16), (30.0, 12), (60.0, 8), (120.0, 4))
+# Sizes of letters, and by how much the rows may be more for the sake of larger ones.
+SIZES, MORE_ROWS = range(24, 15, -1), 1.1
 # So much later than others what only clears a place is due.
 LATER = 60 * SECOND
 # Schedules that are tried until the plan finds nothing late.
@@ -38,7 +40,8 @@ def add_parser(commands) -> None:
     parser.add_argument("song", type=Path, metavar="SONG", help="the lyrics: SONG.lrc or SONG.ass")
     parser.add_argument("--title", type=Path, metavar="IMAGE", help="a picture that stands before the first words")
     parser.add_argument("--font", type=Path, metavar="FILE", help="a font (DejaVu Sans Bold)")
-    parser.add_argument("--size", type=number_in(10, 40), default=18, metavar="PIXELS", help="of the letters (18)")
+    parser.add_argument("--size", type=number_in(10, 40), metavar="PIXELS",
+                        help="of the letters (from 16 to 24, by the lines)")
     parser.add_argument("--style", choices=sorted(STYLES), default="night", help="the colours (night)")
     parser.add_argument("--sweep", action="store_true", help="light a word little by little while it is sung")
     parser.add_argument("--audio", type=Path, metavar="WAV", help="the audio, which the script must not outlast")
@@ -56,6 +59,7 @@ def steps_of(pages: list[list[Placed]], dues: list[Due]) -> list[Step]:
 
 def ask_needs(steps: list[Step], ground: Raster) -> None:
     """Asks the plan how many packs each step needs, one after the other."""
+    ground = ground.copy()
     for at in range(0, len(steps), MOST_PICTURES - 1):
         part = steps[at : at + MOST_PICTURES - 1]
         lines, before = [*lines_between(Raster(), ground), "show 00:01:00 00:01:00"], ground.copy()
@@ -95,8 +99,20 @@ def tasks_of(pages: list[list[Placed]], begin: int) -> list[Task]:
             release = times.nearest_block(placed.before.end) + STAYS
         if not placed.letters:
             start, release = start + LATER, start + GOES
-        tasks.append(Task(placed, [step for step in placed.draws if step.need], max(begin, release), start))
+        tasks.append(Task(placed, list(placed.draws), max(begin, release), start))
     return tasks
+
+
+def font_for(song: Song, arguments: argparse.Namespace) -> Font:
+    """The font, in the largest size that does not need many more rows than a small one; it has to have all letters."""
+    fonts = [Font(arguments.font, size) for size in ([arguments.size] if arguments.size else SIZES)]
+    for line in song.lines:
+        if missing := fonts[0].missing(line.text):
+            letters = ", ".join(f"{letter} (U+{ord(letter):04X})" for letter in sorted(missing))
+            raise Refusal(arguments.song, f"line {line.number}: the font {fonts[0].path} has no {letters}; --font names "
+                          "another")
+    rows = {font: sum(len(wrapped(line, font)) for line in song.lines) for font in fonts}
+    return next(font for font in fonts if rows[font] <= MORE_ROWS * min(rows.values()))
 
 
 class Maker:
@@ -104,7 +120,7 @@ class Maker:
 
     def __init__(self, song: Song, arguments: argparse.Namespace):
         self.song, self.arguments = song, arguments
-        self.style, self.font = STYLES[arguments.style], Font(arguments.font, arguments.size)
+        self.style, self.font = STYLES[arguments.style], font_for(song, arguments)
         self.pages = pages_of(song, self.font)
         self.dues = sorted((due for page in self.pages for placed in page if placed.letters
                             for due in dues_of(placed, arguments.sweep)), key=lambda due: due.block)

@@ -6,6 +6,7 @@ from typing import Iterator, NamedTuple, Sequence
 
 from . import colours as colouring
 from .colours import Colour
+from .library import BLOCKS_A_SECOND
 from .output import Refusal, cause, package, tell, write_file
 from .planning import plan
 from .raster import COLOURS, COLUMNS, HEIGHT, ROWS, TILE_HEIGHT, TILE_WIDTH, WIDTH, Raster, Span, joined, lines_between
@@ -150,7 +151,7 @@ def numbered(flat: Flat, free: Sequence[int]) -> list[int]:
 
 
 # How much each pixel of a tile may change on average for the sake of fewer colours (see `Colour.far_from`).
-PLAIN = 4.0
+PLAIN = 2.0
 
 
 def flat_of(image, most: int = COLOURS, simple: float = PLAIN, dither: bool = False) -> Flat:
@@ -226,7 +227,7 @@ def add_parser(commands) -> None:
     parser.add_argument("--at", type=tile_place, metavar="COLUMN,ROW",
                         help="draw it from this tile of 6 by 12 pixels on, in its own size where there is room")
     parser.add_argument("--simple", type=float, default=PLAIN, metavar="LOSS",
-                        help="how much a tile may change to need fewer packs (4; 0 keeps all, 40 is coarse)")
+                        help="how much a tile may change to need fewer packs (2; 0 keeps all, 40 is coarse)")
     parser.add_argument("--dither", action="store_true", help="mix colours by dots, which needs many packs")
     parser.add_argument("-o", "--output", type=Path, metavar="FILE", help="the file (standard output)")
     parser.set_defaults(run=run)
@@ -253,7 +254,7 @@ ONE_TRACK = b'FILE "song.wav" WAVE\nTRACK 01 AUDIO\nINDEX 01 00:00:00\n'
 def packs_of(lines: list[str]) -> int:
     """The packs that a first picture needs."""
     script = "".join(f"{line}\n" for line in [*lines, "show 00:01:00 00:01:00"])
-    return plan(ONE_TRACK, script.encode(), 0).rows[0].need
+    return plan(ONE_TRACK, script.encode(), 60 * BLOCKS_A_SECOND).rows[0].need
 
 
 def run(arguments: argparse.Namespace) -> int:

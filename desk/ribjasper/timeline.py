@@ -123,17 +123,26 @@ class Arranger:
                           and task.placed.before not in self.is_open]:
             begin = max(self.line.now, min(task.release for task in waiting))
             task = min((task for task in waiting if task.release <= begin), key=lambda task: task.block)
+            self.take_over(task)
             count = fitting(task.steps, until - begin)
             if not count:
                 return
             self.draw(task, count, begin)
 
+    def take_over(self, task: Task) -> None:
+        """What was still to be drawn in the same place before is not drawn any more, and these columns come with the
+        task."""
+        before = self.tasks.get(task.placed.before)
+        needs = {step.left: step.need for step in before.steps} if before else {}
+        for step in task.steps:
+            step.need = max(step.need, needs.get(step.left, 0))
+        if before:
+            before.steps.clear()
+
     def draw(self, task: Task, count: int, start: int) -> None:
-        """Draws so many columns; what was still to be drawn in the same place before is not drawn any more."""
+        """Draws so many columns."""
         self.line.put(list(task.steps[:count]), start)
         del task.steps[:count]
-        if task.placed.before in self.tasks:
-            self.tasks[task.placed.before].steps.clear()
 
     def light(self, due: Due, start: int) -> None:
         task, placed = self.tasks[due.placed], due.placed
@@ -142,6 +151,7 @@ class Arranger:
             if placed.before in self.is_open:
                 self.is_open.discard(placed.before)
                 self.told.lost.append(placed.before)
+            self.take_over(task)
             self.draw(task, len(task.steps), self.line.now)
             self.told.drawn_late[placed] = max(self.told.drawn_late.get(placed, 0), self.line.now - due.block)
         ready = self.line.put(list(due.steps), start)
