@@ -101,7 +101,21 @@ def wrapped(line: Line, font: Font) -> list[list[list[Syllable]]]:
     limits = (room * step / 40 for step in range(1, 41))
     enough = (limit for limit in limits if limit >= max(widest, whole / count))
     even = next((limit for limit in enough if len(filled(words, font, limit)) <= count), room)
-    return filled(words, font, even)
+    return sung_later(filled(words, font, even))
+
+
+def sung_later(rows: list[list[list[Syllable]]]) -> list[list[list[Syllable]]]:
+    """The same rows; where one time is told for words that stand on several of them, those on a later row are sung later,
+    as far as the letters before them tell."""
+    for before, row in zip(rows, rows[1:]):
+        told = before[-1][-1]
+        parts = [syllable for word in row for syllable in word if syllable.start == told.start]
+        done = [syllable for word in before for syllable in word if syllable.start == told.start]
+        letters = [sum(len(syllable.text) for syllable in some) for some in (done, parts)]
+        time = told.start + (told.end - told.start) * letters[0] / sum(letters)
+        for syllable in parts:
+            syllable.start = time
+    return rows
 
 
 def filled(words: list[list[Syllable]], font: Font, room: float) -> list[list[list[Syllable]]]:

@@ -49,6 +49,13 @@ def add_parser(commands) -> None:
     parser.set_defaults(run=run)
 
 
+def parser_of(*words: str) -> argparse.Namespace:
+    """The words of the command as they are understood, for those who make a script without the command line."""
+    top = argparse.ArgumentParser()
+    add_parser(top.add_subparsers())
+    return top.parse_args(["lyrics", *words])
+
+
 def steps_of(pages: list[list[Placed]], dues: list[Due]) -> list[Step]:
     """All steps in an order in which each is drawn on what it will stand on."""
     lights: dict[Placed, list[Light]] = {}
