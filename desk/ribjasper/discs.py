@@ -4,11 +4,11 @@ import re
 from dataclasses import dataclass, field
 from pathlib import Path
 
-from .library import BLOCK, Q_PROGRAM, Q_TRACK
+from .library import BLOCK, Q_PROGRAM, Q_TRACK, q_frame
 from .output import Refusal
 from .planning import LENGTH_SHORT, NoPlan, least_lead_in, plan
 from .program import author, texts
-from .streams import q_frame
+from .sheets import unescaped
 from .times import PAUSE, clock
 
 # Four repetitions of the longest table of contents.
@@ -177,5 +177,4 @@ def add_texts(disc: Disc) -> None:
     for line in texts(disc.stream, disc.lead_in).splitlines():
         found = TEXT_LINE.fullmatch(line)
         if found and found[1] != "packs":
-            text = re.sub(rb"\\([0-9A-Fa-f]{2})", lambda byte: bytes.fromhex(byte[1].decode()), found[3].encode())
-            of_track.get(int(found[2]), disc.texts)[found[1]] = text
+            of_track.get(int(found[2]), disc.texts)[found[1]] = unescaped(found[3])

@@ -9,6 +9,7 @@ from .discs import COPY, FOUR_CHANNELS, PRE_EMPHASIS, Disc, Track, read_disc
 from .library import BLOCK, PACK, PACKS_A_BLOCK, RAW, SECTOR, Player, convert
 from .output import LATE, Refusal, beside, read_file, tell, write_file
 from .program import author
+from .sheets import COMMANDS, FLAGS, quoted
 from .streams import open_stream
 from .times import PAUSE, clock
 
@@ -16,8 +17,6 @@ from .times import PAUSE, clock
 HOLD_THROUGH_PAUSE = b"show 00:00:20 00:02:02\n"
 # The bits of the channels P and Q in a byte of a block.
 P_AND_Q = bytes(byte & 0xC0 for byte in range(256))
-# What cdrdao names the texts of a disc, and those of a track.
-TOC_KINDS = {"title": "TITLE", "performer": "PERFORMER", "songwriter": "SONGWRITER"}
 # The shortest track, which burners refuse to make shorter.
 SHORTEST_TRACK = 4 * 75
 
@@ -93,7 +92,7 @@ def sectors(disc: Disc, program: bytes, path: Path) -> Iterator[bytes]:
         yield sound + program[BLOCK * number : BLOCK * (number + 1)]
 
 
-def quoted(text: bytes) -> str:
+def in_quotes(text: bytes) -> str:
     """A string of a file of cdrdao; bytes that are not ASCII in octal."""
     spelled = text.replace(b"\\", b"\\\\").replace(b'"', b'\\"')
     return '"' + "".join(chr(byte) if 32 <= byte < 127 else f"\\{byte:03o}" for byte in spelled) + '"'
@@ -102,10 +101,10 @@ def quoted(text: bytes) -> str:
 def toc_texts(disc: Disc, texts: dict[str, bytes], of_album: bool) -> list[str]:
     """The texts of the album or of a track; of each kind that any of them has, since burners want it of all."""
     everywhere = [disc.texts, *(track.texts for track in disc.tracks)]
-    lines = [f"    {name} {quoted(texts.get(kind, b''))}" for kind, name in TOC_KINDS.items()
+    lines = [f"    {name.decode()} {in_quotes(texts.get(kind, b''))}" for kind, name in COMMANDS.items()
              if any(kind in one for one in everywhere)]
     if any("code" in one for one in everywhere):
-        lines.append(f"    {'UPC_EAN' if of_album else 'ISRC'} {quoted(texts.get('code', b''))}")
+        lines.append(f"    {'UPC_EAN' if of_album else 'ISRC'} {in_quotes(texts.get('code', b''))}")
     if not lines:
         return []
     languages = ["  LANGUAGE_MAP { 0 : EN }"] * of_album
@@ -120,9 +119,9 @@ def toc_track(disc: Disc, track: Track, name: str) -> list[str]:
              "PRE_EMPHASIS" if control & PRE_EMPHASIS else "NO PRE_EMPHASIS",
              "FOUR_CHANNEL_AUDIO" if control & FOUR_CHANNELS else "TWO_CHANNEL_AUDIO"]
     if code := track.texts.get("code"):
-        lines.append(f"ISRC {quoted(code)}")
+        lines.append(f"ISRC {in_quotes(code)}")
     lines += toc_texts(disc, track.texts, False)
-    lines.append(f"DATAFILE {quoted(os.fsencode(name))} #{SECTOR * (begin - PAUSE)} {clock(track.end - begin)}")
+    lines.append(f"DATAFILE {in_quotes(os.fsencode(name))} #{SECTOR * (begin - PAUSE)} {clock(track.end - begin)}")
     if track.indices[0] > begin:
         lines.append(f"START {clock(track.indices[0] - begin)}")
     return lines + [f"INDEX {clock(index - track.indices[0])}" for index in track.indices[1:]]
@@ -130,16 +129,15 @@ def toc_track(disc: Disc, track: Track, name: str) -> list[str]:
 
 def toc_of(disc: Disc, name: str) -> str:
     """What cdrdao reads. The first pause is not in it: a burner makes it."""
-    catalogue = [f"CATALOG {quoted(disc.texts['code'])}"] if disc.texts.get("code") else []
+    catalogue = [f"CATALOG {in_quotes(disc.texts['code'])}"] if disc.texts.get("code") else []
     lines = ["CD_DA", *catalogue, *toc_texts(disc, disc.texts, True)]
     for track in disc.tracks:
         lines += toc_track(disc, track, name)
     return "".join(f"{line}\n" for line in lines)
 
 
-def cue_texts(texts: dict[str, bytes], indent: bytes) -> list[bytes]:
-    return [indent + name.encode() + (b" " + texts[kind] if b'"' in texts[kind] else b' "' + texts[kind] + b'"')
-            for kind, name in TOC_KINDS.items() if kind in texts]
+def cue_texts(texts: dict[str, bytes], margin: bytes) -> list[bytes]:
+    return [b"%b%b %b" % (margin, name, quoted(texts[kind])) for kind, name in COMMANDS.items() if kind in texts]
 
 
 def cue_of(disc: Disc, name: str) -> bytes:
@@ -148,8 +146,7 @@ def cue_of(disc: Disc, name: str) -> bytes:
     lines = [b"CATALOG " + code] if code else []
     lines += [*cue_texts(disc.texts, b""), b'FILE "' + os.fsencode(name) + b'" BINARY']
     for track in disc.tracks:
-        flags = [word for bit, word in ((COPY, b"DCP"), (FOUR_CHANNELS, b"4CH"), (PRE_EMPHASIS, b"PRE"))
-                 if track.control & bit]
+        flags = [name for bit, name in FLAGS if track.control & bit]
         lines.append(b"  TRACK %02d CDG" % track.number)
         lines += [b"    FLAGS " + b" ".join(flags)] * bool(flags)
         lines += cue_texts(track.texts, b"    ")

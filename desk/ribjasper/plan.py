@@ -4,7 +4,7 @@ from pathlib import Path
 
 from . import audio, latin1, times
 from .charts import draw_plan
-from .output import LATE, Refusal, read_file, tell, write_file, write_row
+from .output import LATE, Refusal, read_file, shown, tell, write_file, write_row
 from .planning import NoPlan, Plan, least_lead_in, plan
 from .times import clock
 
@@ -26,7 +26,7 @@ def add_parser(commands) -> None:
     parser = commands.add_parser(
         "plan", help="tell which pictures of a script are in time",
         description="Tells for each picture of a script what it needs and what is free for it: packs, 300 a second. "
-        "Exit 4 where one is late. The lead-in that the disc needs is told too.")
+        "Exit 4 where one is late. The words for the program's author are told too.")
     parser.add_argument("sheet", type=Path, metavar="SHEET", help="the cue sheet of the disc")
     parser.add_argument("script", type=Path, metavar="SCRIPT", help="the picture script")
     add_length(parser)
@@ -60,6 +60,7 @@ def run(arguments: argparse.Namespace) -> int:
                    "yes" if row.is_late else "no"))
     if arguments.chart:
         draw_plan(found, arguments.chart)
-    tell(f"{len(found.rows)} pictures, {len(found.late())} of them late; "
-         f"the lead-in needs {least_lead_in(sheet, length)} blocks")
+    tell(f"{len(found.rows)} pictures, {len(found.late())} of them late; the disc is authored by ribjasper author "
+         f"--lead-in {least_lead_in(sheet, length)} --length {clock(length)} -- {shown(str(arguments.sheet))} "
+         f"{shown(str(arguments.script))}")
     return LATE if found.late() else 0

@@ -1,26 +1,14 @@
 """A stream or a `.cdg` file that is to be shown: where its audio begins, and what stands at each time."""
-import ctypes
 from dataclasses import dataclass
 from pathlib import Path
 from typing import Iterator
 
-from .library import (BLOCK, BLOCKS_A_SECOND, DONE, LONGEST_LEAD_IN, PACK, PACKS_A_BLOCK, Q_PROGRAM, SECTOR, Player,
-                      QFrame, RAW, call)
+from .library import BLOCK, BLOCKS_A_SECOND, LONGEST_LEAD_IN, PACK, PACKS_A_BLOCK, Q_PROGRAM, RAW, SECTOR, Player, q_frame
 from .output import Refusal, read_file
 from .times import PAUSE
 
 # As many blocks are looked at to see whether a file has frames of the Q channel, spread over it.
 LOOKED_AT = 300
-# The twelve bytes of the Q channel in a planar block.
-Q_PLACE, Q_LENGTH = 12, 12
-
-
-def q_frame(block: bytes) -> QFrame | None:
-    """The frame of a raw block, where its check is right and its fields are in their ranges."""
-    planar, frame, bit = ctypes.create_string_buffer(BLOCK), QFrame(), ctypes.c_uint8()
-    call("ribjasper_block_to_planar")(block, planar)
-    status = call("ribjasper_q_decode")(planar.raw[Q_PLACE : Q_PLACE + Q_LENGTH], frame, bit)
-    return frame if status == DONE else None
 
 
 @dataclass

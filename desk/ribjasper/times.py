@@ -3,18 +3,12 @@ import argparse
 import re
 
 from .library import BLOCKS_A_SECOND
+from .survey import spelled as clock
 
 SECONDS_A_MINUTE = 60
 # The two seconds before the audio of the first track.
 PAUSE = 2 * BLOCKS_A_SECOND
 CLOCK = re.compile(r"(\d\d):([0-5]\d):([0-6]\d|7[0-4])")
-
-
-def clock(blocks: int) -> str:
-    """A number of blocks as a time."""
-    seconds, frames = divmod(blocks, BLOCKS_A_SECOND)
-    minutes, seconds = divmod(seconds, SECONDS_A_MINUTE)
-    return f"{minutes:02}:{seconds:02}:{frames:02}"
 
 
 def blocks(time: str) -> int:

@@ -58,9 +58,9 @@ class PlanTest(FolderTest):
         self.assertEqual((ran.status, "none.cue: no such file" in ran.told), (3, True), ran.told)
         self.assertEqual(desk("plan", sheet, script, "--length", "00:22:75").status, 2)
 
-    def test_lead_in_is_told(self):
+    def test_words_for_author_are_told(self):
         ran = desk("plan", *HELLO, "--length", "00:22:00")
-        self.assertIn("the lead-in needs 15 blocks", ran.told)
+        self.assertIn("ribjasper author --lead-in 15 --length 00:22:00 -- ", ran.told)
 
     @needs_pillow
     def test_chart(self):
