@@ -209,6 +209,12 @@ class Player:
         call("ribjasper_player_picture")(self._handle, pixels)
         return pixels.raw
 
+    def colours(self) -> list[int]:
+        """The sixteen colours, four bits each of red, green and blue."""
+        colours = (c_uint16 * COLOURS)()
+        call("ribjasper_player_colours")(self._handle, colours)
+        return list(colours)
+
 
 def convert(stream: bytes, form: int, lead_in: int) -> tuple[bytes, Converted]:
     """The packs of a stream of whole blocks, and what is told of them."""

@@ -29,7 +29,7 @@ def parser() -> argparse.ArgumentParser:
     top = argparse.ArgumentParser(
         prog="ribjasper-desk",
         description="Works on dumps and songs of the subcode channels of Compact Discs, over the proved library.",
-        epilog="Exit: 0 done, 1 damage was found, 2 wrong words, 3 a file was refused, 4 something has to be "
+        epilog="Exit: 0 done, 1 damage was found, 2 wrong words, 3 a file was refused, 4 a picture is late, 5 something has to be "
         "installed or built first.",
     )
     top.add_argument("--version", action=Version, help="tell the version and end")

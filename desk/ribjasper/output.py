@@ -1,5 +1,6 @@
 """What the desk writes: files beside and renamed, tables with a line of names, and errors that name a file."""
 import contextlib
+import io
 import os
 import sys
 import tempfile
@@ -8,8 +9,10 @@ from typing import BinaryIO, Iterator, Sequence
 # What the desk ends with, beside 0: damage was found, or a file could not be used.
 FOUND = 1
 REFUSED = 3
+# A picture is late.
+LATE = 4
 # A package or the library is not there.
-MISSING = 4
+MISSING = 5
 INTERRUPTED = 130
 
 
@@ -88,6 +91,13 @@ def _mask() -> int:
 def write_file(path: str | os.PathLike, content: bytes) -> None:
     with beside(path) as out:
         out.write(content)
+
+
+def write_png(image, path: str | os.PathLike) -> None:
+    """Writes a picture of Pillow."""
+    content = io.BytesIO()
+    image.save(content, "PNG", optimize=True)
+    write_file(path, content.getvalue())
 
 
 def read_file(path: str | os.PathLike) -> bytes:

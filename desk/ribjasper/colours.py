@@ -1,0 +1,87 @@
+"""Colours of twelve bits, four each of red, green and blue, and the few of them that stand for many."""
+from collections import Counter
+from typing import Iterable, NamedTuple, Sequence
+
+
+class Colour(NamedTuple):
+    """Red, green and blue, each from 0 to 15."""
+
+    red: int
+    green: int
+    blue: int
+
+    def word(self) -> str:
+        """As a script names it: `0RGB`."""
+        return f"0{self.red:X}{self.green:X}{self.blue:X}"
+
+    def far_from(self, other: "Colour") -> int:
+        """How different two colours look: green counts most, blue least."""
+        red, green, blue = self.red - other.red, self.green - other.green, self.blue - other.blue
+        return 3 * red * red + 6 * green * green + blue * blue
+
+
+def near(red: int, green: int, blue: int) -> Colour:
+    """The colour nearest to one of three bytes."""
+    return Colour(*((part + 8) // 17 for part in (red, green, blue)))
+
+
+def blend(first: Colour, second: Colour, part: float) -> Colour:
+    """A colour between two: the first at 0, the second at 1."""
+    return Colour(*(round(one + (two - one) * part) for one, two in zip(first, second)))
+
+
+def nearest(colour: Colour, among: Sequence[Colour]) -> int:
+    """The place of the colour that looks most like this one."""
+    return min(range(len(among)), key=lambda place: colour.far_from(among[place]))
+
+
+def chosen(pixels: Iterable[Colour], most: int) -> list[Colour]:
+    """At most so many colours that stand best for these pixels, those that are frequent first."""
+    weights = Counter(pixels)
+    if len(weights) <= most:
+        return [colour for colour, _ in weights.most_common()]
+    few = spread(weights, most)
+    for _ in range(12):
+        better = [mean(group, weights) for group in groups(weights, few) if group]
+        better = list(dict.fromkeys(better))
+        better += farthest(weights, better, most - len(better))
+        if better == few:
+            break
+        few = better
+    count = Counter({place: sum(weights[colour] for colour in group)
+                     for place, group in enumerate(groups(weights, few))})
+    return [few[place] for place, _ in count.most_common()]
+
+
+def spread(weights: Counter[Colour], most: int) -> list[Colour]:
+    """The most frequent colour, and then always the one that is worst shown by those before."""
+    first = weights.most_common(1)[0][0]
+    return [first, *farthest(weights, [first], most - 1)]
+
+
+def farthest(weights: Counter[Colour], few: list[Colour], count: int) -> list[Colour]:
+    """So many more colours, each the one that is worst shown by all before it, weighed by its pixels."""
+    error = {colour: min(colour.far_from(one) for one in few) for colour in weights}
+    more: list[Colour] = []
+    for _ in range(count):
+        worst = max(weights, key=lambda colour: error[colour] * weights[colour] ** 0.5)
+        if not error[worst]:
+            break
+        more.append(worst)
+        for colour in error:
+            error[colour] = min(error[colour], colour.far_from(worst))
+    return more
+
+
+def groups(weights: Counter[Colour], few: Sequence[Colour]) -> list[list[Colour]]:
+    """The colours that each of the few stands for."""
+    parts: list[list[Colour]] = [[] for _ in few]
+    for colour in weights:
+        parts[nearest(colour, few)].append(colour)
+    return parts
+
+
+def mean(group: Sequence[Colour], weights: Counter[Colour]) -> Colour:
+    """The mean colour of the pixels of a group."""
+    total = sum(weights[colour] for colour in group)
+    return Colour(*(round(sum(colour[part] * weights[colour] for colour in group) / total) for part in range(3)))

@@ -1,0 +1,171 @@
+"""`film`: a film of what a stream or a `.cdg` file shows, and a page of its pictures."""
+import argparse
+import contextlib
+import math
+import os
+import subprocess
+import tempfile
+import wave
+from pathlib import Path
+from typing import Iterator, NamedTuple
+
+from .library import HEIGHT, WIDTH
+from .output import Missing, Refusal, cause, package, tell, write_png
+from .picture import number_in
+from .streams import Stream, open_stream
+
+# A picture that stands so long, in seconds, has a place on a page of stills.
+STANDS = 0.5
+MOST_STILLS = 1_000
+# A still in pixels, the line below it, and what is between them.
+STILL_WIDTH, STILL_HEIGHT, LABEL, BETWEEN = WIDTH // 2, HEIGHT // 2, 14, 8
+
+
+def add_parser(commands) -> None:
+    parser = commands.add_parser(
+        "film", help="make a film of what a stream shows",
+        description="Makes a film of the pictures of a raw stream, an image or a .cdg file, in time with its audio, "
+        "and a page of stills. The pictures are those of the proved player; ffmpeg makes the film.")
+    parser.add_argument("stream", type=Path, metavar="STREAM", help="a raw stream, an image DISC.bin, or a .cdg file")
+    parser.add_argument("-o", "--output", type=Path, metavar="OUT.mp4", help="the film")
+    parser.add_argument("--audio", type=Path, metavar="WAV", help="the audio of the film")
+    parser.add_argument("--rate", type=number_in(1, 75), default=25, metavar="N", help="frames a second (25)")
+    parser.add_argument("--scale", type=number_in(1, 8), default=3, metavar="N", help="how much larger (3: 900 by 648)")
+    parser.add_argument("--lossless", action="store_true", help="keep each pixel as it is; fewer programs play such films")
+    parser.add_argument("--stills", type=Path, metavar="OUT.png",
+                        help="a page with each picture that stands for half a second, and its time")
+    parser.add_argument("--every", type=float, metavar="SECONDS", help="a still for each so many seconds")
+    parser.set_defaults(run=run, parser=parser)
+
+
+def audio_seconds(path: Path | None) -> float:
+    """How long an audio is; 0 where there is none, or ffmpeg alone can tell."""
+    if not path:
+        return 0
+    try:
+        with wave.open(os.fspath(path), "rb") as file:
+            return file.getnframes() / file.getframerate()
+    except OSError as error:
+        raise Refusal(path, cause(error)) from None
+    except (wave.Error, EOFError):
+        return 0
+
+
+def film_words(arguments: argparse.Namespace, out: str) -> list[str]:
+    """The call of ffmpeg, which reads frames from its standard input."""
+    size, scale = f"{WIDTH}x{HEIGHT}", arguments.scale
+    coding = ["-c:v", "libx264rgb", "-qp", "0"] if arguments.lossless else ["-crf", "16", "-pix_fmt", "yuv420p"]
+    sound = ["-i", os.fspath(arguments.audio), "-map", "0:v", "-map", "1:a"] if arguments.audio else []
+    return ["ffmpeg", "-v", "error", "-y", "-f", "rawvideo", "-pix_fmt", "rgb24", "-s", size, "-r", str(arguments.rate),
+            "-i", "pipe:0", *sound, "-vf", f"scale=iw*{scale}:ih*{scale}:flags=neighbor", *coding,
+            "-movflags", "+faststart", out]
+
+
+@contextlib.contextmanager
+def film_of(arguments: argparse.Namespace) -> Iterator:
+    """Where frames are written to; the film takes its name once all of them are."""
+    out = arguments.output
+    folder = os.path.dirname(os.fspath(out)) or "."
+    try:
+        number, part = tempfile.mkstemp(prefix=".ribjasper-", suffix=out.suffix or ".mp4", dir=folder)
+    except OSError as error:
+        raise Refusal(out, cause(error)) from None
+    os.close(number)
+    try:
+        with tempfile.TemporaryFile() as said:
+            try:
+                ffmpeg = subprocess.Popen(film_words(arguments, part), stdin=subprocess.PIPE, stderr=said)
+            except FileNotFoundError:
+                raise Missing("this needs the program ffmpeg (apt-get install ffmpeg)") from None
+            try:
+                yield ffmpeg.stdin
+            except BrokenPipeError:
+                pass
+            finally:
+                with contextlib.suppress(BrokenPipeError):
+                    ffmpeg.stdin.close()
+                status = ffmpeg.wait()
+            if status:
+                said.seek(0)
+                why = said.read().decode(errors="replace").strip().splitlines()
+                raise Refusal(out, f"ffmpeg ended with {status}: {why[-1] if why else 'it says nothing'}")
+        os.chmod(part, 0o644)
+        os.replace(part, out)
+    finally:
+        with contextlib.suppress(FileNotFoundError):
+            os.unlink(part)
+
+
+class Still(NamedTuple):
+    """A picture, and the second at which it stands first."""
+
+    second: float
+    picture: bytes
+
+
+class Stills:
+    """The pictures that a page is to show: those that stand for a while, or one for each so many seconds."""
+
+    def __init__(self, rate: int, every: float | None):
+        self.rate, self.every = rate, every
+        self.kept: list[Still] = []
+        self.number, self.since, self.last = 0, 0, b""
+
+    def see(self, picture: bytes) -> None:
+        if self.every:
+            if self.number >= len(self.kept) * self.every * self.rate:
+                self.kept.append(Still(self.number / self.rate, picture))
+        elif picture != self.last:
+            self.close()
+            self.since, self.last = self.number, picture
+        self.number += 1
+
+    def close(self) -> None:
+        """Keeps the last picture where it stood long enough."""
+        if not self.every and self.number - self.since >= STANDS * self.rate:
+            self.kept.append(Still(self.since / self.rate, self.last))
+
+
+def stills_page(stills: list[Still]):
+    """The pictures in rows, each with its time below it."""
+    images = package("PIL.Image", "python3-pil")
+    pens = package("PIL.ImageDraw", "python3-pil")
+    columns = min(8, max(1, math.ceil(math.sqrt(len(stills)))))
+    wide, high = STILL_WIDTH + BETWEEN, STILL_HEIGHT + LABEL + BETWEEN
+    rows = -(-len(stills) // columns)
+    page = images.new("RGB", (BETWEEN + wide * columns, BETWEEN + high * rows), "#FFFFFF")
+    pen = pens.Draw(page)
+    for place, still in enumerate(stills):
+        left, top = BETWEEN + wide * (place % columns), BETWEEN + high * (place // columns)
+        image = images.frombytes("RGB", (WIDTH, HEIGHT), still.picture)
+        page.paste(image.resize((STILL_WIDTH, STILL_HEIGHT), images.BOX), (left, top))
+        minutes, seconds = divmod(still.second, 60)
+        pen.text((left, top + STILL_HEIGHT + 1), f"{int(minutes):02}:{seconds:05.2f}", "#202020")
+    return page
+
+
+def show_all(stream: Stream, arguments: argparse.Namespace, count: int, out, stills: Stills) -> None:
+    for picture in stream.frames(arguments.rate, count):
+        if out:
+            out.write(picture)
+        stills.see(picture)
+    stills.close()
+
+
+def run(arguments: argparse.Namespace) -> int:
+    if not (arguments.output or arguments.stills):
+        arguments.parser.error("one of -o and --stills is needed")
+    if arguments.every is not None and arguments.every <= 0:
+        arguments.parser.error("--every takes a number above 0")
+    stream = open_stream(arguments.stream)
+    seconds = max(stream.seconds(), audio_seconds(arguments.audio))
+    count = max(1, math.ceil(seconds * arguments.rate))
+    stills = Stills(arguments.rate, arguments.every)
+    with film_of(arguments) if arguments.output else contextlib.nullcontext() as out:
+        show_all(stream, arguments, count, out, stills)
+    if arguments.stills:
+        if len(stills.kept) > MOST_STILLS:
+            raise Refusal(arguments.stills, f"would have {len(stills.kept)} pictures; --every SECONDS asks for fewer")
+        write_png(stills_page(stills.kept), arguments.stills)
+    tell(f"{seconds:.1f} seconds, {count} frames, {len(stills.kept)} stills")
+    return 0

@@ -1,0 +1,194 @@
+"""`image`: a disc image with its subcode, for a burner: the sectors, and what is on them for cdrdao and others."""
+import argparse
+import os
+from pathlib import Path
+from typing import Iterator
+
+from . import audio, latin1
+from .discs import COPY, FOUR_CHANNELS, PRE_EMPHASIS, Disc, Track, read_disc
+from .library import BLOCK, PACK, PACKS_A_BLOCK, RAW, SECTOR, Player, convert
+from .output import LATE, Refusal, beside, read_file, tell, write_file
+from .program import author
+from .sheets import COMMANDS, FLAGS, quoted
+from .streams import open_stream
+from .times import PAUSE, clock
+
+# Held through the pause, so that all pictures come with the audio, which alone is on an image.
+HOLD_THROUGH_PAUSE = b"show 00:00:20 00:02:02\n"
+# The bits of the channels P and Q in a byte of a block.
+P_AND_Q = bytes(byte & 0xC0 for byte in range(256))
+# The shortest track, which burners refuse to make shorter.
+SHORTEST_TRACK = 4 * 75
+
+
+def add_parser(commands) -> None:
+    parser = commands.add_parser(
+        "image", help="make a disc image that can be burned",
+        description="Makes DISC.bin, sectors of 2,448 bytes with audio and subcode, without the lead-in and the first "
+        "pause; DISC.toc for cdrdao; and DISC.cue.")
+    parser.add_argument("sheet", type=Path, metavar="SHEET", help="the cue sheet of the disc")
+    parser.add_argument("stream", type=Path, metavar="STREAM", help="its raw stream, by `author` or `press`")
+    parser.add_argument("--audio", type=Path, required=True, metavar="WAV", help="44,100 Hz, stereo, 16 bits")
+    parser.add_argument("--hold-through-pause", type=Path, metavar="SCRIPT",
+                        help="author the stream anew from its script, with a black picture held through the pause")
+    parser.add_argument("--latin-1", action="store_true", help="write the texts in Latin-1, as players read them")
+    parser.add_argument("-o", "--output", type=Path, required=True, metavar="DISC", help="the name without an ending")
+    parser.set_defaults(run=run)
+
+
+def checked(arguments: argparse.Namespace, disc: Disc) -> bytes:
+    """The program of the stream: its blocks from the first pause on, as the sheet and the audio ask for."""
+    stream = open_stream(arguments.stream)
+    if stream.unit != BLOCK:
+        raise Refusal(arguments.stream, "is no raw stream of blocks of 96 bytes")
+    program = stream.content[BLOCK * stream.lead_in :]
+    if len(program) != BLOCK * disc.blocks:
+        length = audio.length(arguments.audio)
+        raise Refusal(arguments.stream, f"has {len(program) // BLOCK} blocks, and the sheet with this audio "
+                      f"{disc.blocks}: author it with --length {clock(length)}")
+    expected = disc.stream[BLOCK * disc.lead_in :]
+    if program.translate(P_AND_Q) != expected.translate(P_AND_Q):
+        number = next(number for number in range(disc.blocks)
+                      if program[BLOCK * number : BLOCK * (number + 1)].translate(P_AND_Q)
+                      != disc.block(number).translate(P_AND_Q))
+        raise Refusal(arguments.stream, f"is not of this sheet: they differ at {clock(number)}")
+    return program
+
+
+def loses_pictures(program: bytes) -> bool:
+    """Whether the packs that begin in the pause, which are not whole on the image, leave more than a black screen."""
+    packs, _ = convert(program[: BLOCK * (PAUSE + 2)], RAW, 0)
+    with Player() as player:
+        player.draw(packs[: PACK * PACKS_A_BLOCK * PAUSE])
+        return any(player.screen()) or any(player.colours())
+
+
+def held(arguments: argparse.Namespace, disc: Disc) -> bytes:
+    """The program of a stream whose script begins with a picture that is held through the pause."""
+    script = read_file(arguments.hold_through_pause).removeprefix(b"\xef\xbb\xbf")
+    sheet = read_file(arguments.sheet)
+    length = audio.length(arguments.audio)
+    stream, status, told = author(sheet, HOLD_THROUGH_PAUSE + script, disc.lead_in, length)
+    if status == LATE:
+        raise Late(f"{arguments.hold_through_pause}: with a picture held through the pause: {told}, counted with it")
+    if status:
+        raise Refusal(arguments.hold_through_pause, f"with one line more in front: {told}")
+    return stream[BLOCK * disc.lead_in :]
+
+
+class Late(Exception):
+    """A picture cannot be ready."""
+
+
+def sectors(disc: Disc, program: bytes, path: Path) -> Iterator[bytes]:
+    """The sectors of the image: audio, or silence where the sheet has a gap, and the block."""
+    silent = {block for track in disc.tracks
+              for block in [*range(track.begin, track.begin + track.pregap),
+                            *range(track.end - track.postgap, track.end)]}
+    samples = audio.sectors(path)
+    silence = bytes(audio.SECTOR_AUDIO)
+    for number in range(PAUSE, disc.blocks):
+        sound = silence if number in silent else next(samples)
+        yield sound + program[BLOCK * number : BLOCK * (number + 1)]
+
+
+def in_quotes(text: bytes) -> str:
+    """A string of a file of cdrdao; bytes that are not ASCII in octal."""
+    spelled = text.replace(b"\\", b"\\\\").replace(b'"', b'\\"')
+    return '"' + "".join(chr(byte) if 32 <= byte < 127 else f"\\{byte:03o}" for byte in spelled) + '"'
+
+
+def toc_texts(disc: Disc, texts: dict[str, bytes], of_album: bool) -> list[str]:
+    """The texts of the album or of a track; of each kind that any of them has, since burners want it of all."""
+    everywhere = [disc.texts, *(track.texts for track in disc.tracks)]
+    lines = [f"    {name.decode()} {in_quotes(texts.get(kind, b''))}" for kind, name in COMMANDS.items()
+             if any(kind in one for one in everywhere)]
+    if any("code" in one for one in everywhere):
+        lines.append(f"    {'UPC_EAN' if of_album else 'ISRC'} {in_quotes(texts.get('code', b''))}")
+    if not lines:
+        return []
+    languages = ["  LANGUAGE_MAP { 0 : EN }"] * of_album
+    return ["CD_TEXT {", *languages, "  LANGUAGE 0 {", *lines, "  }", "}"]
+
+
+def toc_track(disc: Disc, track: Track, name: str) -> list[str]:
+    begin = max(track.begin, PAUSE)
+    control = track.control
+    lines = ["", f"// Track {track.number}", "TRACK AUDIO RW_RAW",
+             "COPY" if control & COPY else "NO COPY",
+             "PRE_EMPHASIS" if control & PRE_EMPHASIS else "NO PRE_EMPHASIS",
+             "FOUR_CHANNEL_AUDIO" if control & FOUR_CHANNELS else "TWO_CHANNEL_AUDIO"]
+    if code := track.texts.get("code"):
+        lines.append(f"ISRC {in_quotes(code)}")
+    lines += toc_texts(disc, track.texts, False)
+    lines.append(f"DATAFILE {in_quotes(os.fsencode(name))} #{SECTOR * (begin - PAUSE)} {clock(track.end - begin)}")
+    if track.indices[0] > begin:
+        lines.append(f"START {clock(track.indices[0] - begin)}")
+    return lines + [f"INDEX {clock(index - track.indices[0])}" for index in track.indices[1:]]
+
+
+def toc_of(disc: Disc, name: str) -> str:
+    """What cdrdao reads. The first pause is not in it: a burner makes it."""
+    catalogue = [f"CATALOG {in_quotes(disc.texts['code'])}"] if disc.texts.get("code") else []
+    lines = ["CD_DA", *catalogue, *toc_texts(disc, disc.texts, True)]
+    for track in disc.tracks:
+        lines += toc_track(disc, track, name)
+    return "".join(f"{line}\n" for line in lines)
+
+
+def cue_texts(texts: dict[str, bytes], margin: bytes) -> list[bytes]:
+    return [b"%b%b %b" % (margin, name, quoted(texts[kind])) for kind, name in COMMANDS.items() if kind in texts]
+
+
+def cue_of(disc: Disc, name: str) -> bytes:
+    """A sheet of the image: tracks of sectors with subcode, whose gaps are in the file."""
+    code = disc.texts.get("code")
+    lines = [b"CATALOG " + code] if code else []
+    lines += [*cue_texts(disc.texts, b""), b'FILE "' + os.fsencode(name) + b'" BINARY']
+    for track in disc.tracks:
+        flags = [name for bit, name in FLAGS if track.control & bit]
+        lines.append(b"  TRACK %02d CDG" % track.number)
+        lines += [b"    FLAGS " + b" ".join(flags)] * bool(flags)
+        lines += cue_texts(track.texts, b"    ")
+        if code := track.texts.get("code"):
+            lines.append(b"    ISRC " + code)
+        begin = max(track.begin, PAUSE)
+        starts = list(enumerate(track.indices, 1))
+        if begin < track.indices[0]:
+            starts.insert(0, (0, begin))
+        lines += [b"    INDEX %02d %s" % (number, clock(start - PAUSE).encode()) for number, start in starts]
+    return b"".join(line + b"\n" for line in lines)
+
+
+def warn(arguments: argparse.Namespace, disc: Disc, program: bytes) -> None:
+    if loses_pictures(program):
+        tell(f"{arguments.stream}: what is sent in the first pause is not on an image, and the pictures that need it will "
+             "not be whole; --hold-through-pause SCRIPT puts a black picture before them")
+    for track in disc.tracks:
+        if track.end - track.indices[0] < SHORTEST_TRACK:
+            tell(f"{arguments.sheet}: track {track.number} is shorter than four seconds; burners may refuse it")
+
+
+def run(arguments: argparse.Namespace) -> int:
+    sheet = read_file(arguments.sheet)
+    if arguments.latin_1:
+        sheet = latin1.as_latin_1(arguments.sheet, sheet)
+    else:
+        latin1.warn(arguments.sheet, sheet)
+    disc = read_disc(arguments.sheet, sheet, audio.length(arguments.audio))
+    program = checked(arguments, disc)
+    if arguments.hold_through_pause:
+        try:
+            program = held(arguments, disc)
+        except Late as late:
+            tell(str(late))
+            return LATE
+    warn(arguments, disc, program)
+    base, name = os.fspath(arguments.output), arguments.output.name
+    with beside(f"{base}.bin") as out:
+        for sector in sectors(disc, program, arguments.audio):
+            out.write(sector)
+    write_file(f"{base}.toc", toc_of(disc, f"{name}.bin").encode())
+    write_file(f"{base}.cue", cue_of(disc, f"{name}.bin"))
+    tell(f"{disc.blocks - PAUSE} sectors, {clock(disc.blocks - PAUSE)}; `cdrdao write --swap {base}.toc` burns them")
+    return 0

@@ -1,0 +1,66 @@
+"""`plan`: a row for each picture of a script, and which of them are late."""
+import argparse
+from pathlib import Path
+
+from . import audio, latin1, times
+from .charts import draw_plan
+from .output import LATE, Refusal, read_file, shown, tell, write_file, write_row
+from .planning import NoPlan, Plan, least_lead_in, plan
+from .times import clock
+
+NAMES = ("picture", "line", "ready", "hold", "need", "free", "first", "late")
+
+
+def add_length(parser: argparse.ArgumentParser) -> None:
+    """The words that tell how long the audio is."""
+    length = parser.add_mutually_exclusive_group(required=True)
+    length.add_argument("--length", type=times.blocks, metavar="MM:SS:FF", help="how long the audio is")
+    length.add_argument("--audio", type=Path, metavar="WAV", help="the audio, whose length is taken")
+
+
+def length_of(arguments: argparse.Namespace) -> int:
+    return audio.length(arguments.audio) if arguments.audio else arguments.length
+
+
+def add_parser(commands) -> None:
+    parser = commands.add_parser(
+        "plan", help="tell which pictures of a script are in time",
+        description="Tells for each picture of a script what it needs and what is free for it: packs, 300 a second. "
+        "Exit 4 where one is late. The words for the program's author are told too.")
+    parser.add_argument("sheet", type=Path, metavar="SHEET", help="the cue sheet of the disc")
+    parser.add_argument("script", type=Path, metavar="SCRIPT", help="the picture script")
+    add_length(parser)
+    parser.add_argument("--chart", type=Path, metavar="FILE.png", help="draw a chart: packs needed and free over time")
+    parser.add_argument("--latin-1", type=Path, metavar="FILE.cue",
+                        help="write the sheet with its texts in Latin-1, as players read them")
+    parser.set_defaults(run=run)
+
+
+def planned(sheet: Path, script: Path, length: int) -> Plan:
+    """The plan of two files, or a refusal that names the one that is wrong."""
+    sheet_text, script_text = read_file(sheet), read_file(script)
+    try:
+        return plan(sheet_text, script_text, length)
+    except NoPlan as none:
+        raise Refusal(script if none.is_of_script() else sheet, none.cause()) from None
+
+
+def run(arguments: argparse.Namespace) -> int:
+    length = length_of(arguments)
+    found = planned(arguments.sheet, arguments.script, length)
+    sheet = read_file(arguments.sheet)
+    if arguments.latin_1:
+        write_file(arguments.latin_1, latin1.as_latin_1(arguments.sheet, sheet))
+    else:
+        latin1.warn(arguments.sheet, sheet)
+    write_row(NAMES)
+    for number, row in enumerate(found.rows):
+        first = clock(row.first // 4)
+        write_row((number, row.line, clock(row.ready), clock(row.hold), row.need, row.free, first,
+                   "yes" if row.is_late else "no"))
+    if arguments.chart:
+        draw_plan(found, arguments.chart)
+    tell(f"{len(found.rows)} pictures, {len(found.late())} of them late; the disc is authored by ribjasper author "
+         f"--lead-in {least_lead_in(sheet, length)} --length {clock(length)} -- {shown(str(arguments.sheet))} "
+         f"{shown(str(arguments.script))}")
+    return LATE if found.late() else 0

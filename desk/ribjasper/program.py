@@ -1,0 +1,41 @@
+"""The program `ribjasper`, for what the library has no call for: to author a stream."""
+import functools
+import os
+import shutil
+import subprocess
+import tempfile
+from pathlib import Path
+
+from .library import TOP
+from .output import Missing
+from .times import clock
+
+# What make built, or else what the gate left.
+BUILT = (TOP / "bin" / "ribjasper", TOP / "crates" / "ribjasper" / "out" / "ribjasper")
+
+
+@functools.lru_cache(maxsize=None)
+def program() -> str:
+    """The program: that which RIBJASPER_PROGRAM names, or that of the checkout, or an installed one."""
+    built = [os.fspath(path) for path in BUILT if path.exists()]
+    found = os.environ.get("RIBJASPER_PROGRAM") or (built[0] if built else shutil.which("ribjasper"))
+    if not found:
+        raise Missing("this needs the program ribjasper; 'make' builds it")
+    return found
+
+
+def author(sheet: bytes, script: bytes, lead_in: int, length: int) -> tuple[bytes, int, str]:
+    """The stream of a sheet and a script; the exit number, and the line on standard error."""
+    with tempfile.TemporaryDirectory(prefix="ribjasper-") as folder:
+        names = [Path(folder) / "sheet.cue", Path(folder) / "pictures.script"]
+        for name, content in zip(names, (sheet, script)):
+            name.write_bytes(content)
+        words = ["author", "--lead-in", str(lead_in), "--length", clock(length), "--", *map(os.fspath, names)]
+        done = subprocess.run([program(), *words], stdin=subprocess.DEVNULL, capture_output=True)
+    return done.stdout, done.returncode, done.stderr.decode(errors="replace").strip()
+
+
+def texts(stream: bytes, lead_in: int) -> str:
+    """The lines of the CD-TEXT of a stream."""
+    done = subprocess.run([program(), "text", "--lead-in", str(lead_in)], input=stream, capture_output=True)
+    return done.stdout.decode("ascii") if done.returncode == 0 else ""

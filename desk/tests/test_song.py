@@ -1,0 +1,43 @@
+"""The song of examples/song/, by the five commands of the guide."""
+import subprocess
+import sys
+import unittest
+
+from publishers import (SONG, TOP, FolderTest, desk, needs_ffmpeg, needs_pillow, needs_plan, needs_program, run_program,
+                        screen)
+
+LEAD_IN = 30
+# The third picture that stands: its block of the program.
+THIRD = 150 + 348 * 3
+
+
+@needs_plan
+@needs_program
+@needs_pillow
+@needs_ffmpeg
+class SongTest(FolderTest):
+    def test_five_commands(self):
+        audio, script, raw = (self.folder / name for name in ("song.wav", "song.script", "song.raw"))
+        subprocess.run([sys.executable, SONG / "make_audio.py", audio], check=True)
+        ran = desk("lyrics", SONG / "song.lrc", "--title", SONG / "title.png", "--audio", audio, "-o", script)
+        self.assertEqual((ran.status, "none is late" in ran.told), (0, True), ran.told)
+        ran = desk("plan", SONG / "song.cue", script, "--audio", audio, "--chart", self.folder / "plan.png")
+        self.assertEqual((ran.status, "0 of them late" in ran.told), (0, True), ran.told)
+        raw.write_bytes(run_program("author", "--lead-in", LEAD_IN, "--length", "01:00:00", "--", SONG / "song.cue", script))
+        ran = desk("image", SONG / "song.cue", raw, "--audio", audio, "-o", self.folder / "song")
+        self.assertEqual((ran.status, "pause" in ran.told), (0, False), ran.told)
+        ran = desk("film", raw, "--audio", audio, "-o", self.folder / "song.mp4", "--stills", self.folder / "stills.png")
+        self.assertEqual(ran.status, 0, ran.told)
+        self.check_picture(raw)
+
+    def check_picture(self, raw):
+        """The picture of README is one of the song, and stands on the image too."""
+        from PIL import Image
+        stands = screen(raw, THIRD, lead_in=LEAD_IN)
+        self.assertEqual(screen(self.folder / "song.bin", THIRD - 150, "--form", "sector", lead_in=0), stands)
+        with Image.open(TOP / "docs" / "song.png") as image:
+            self.assertEqual(image.convert("RGB").resize((300, 216), Image.NEAREST).tobytes(), stands.pixels)
+
+
+if __name__ == "__main__":
+    unittest.main()
