@@ -4,7 +4,8 @@
                              writes the screen to the file BLOCKS.ppm
    player -p PACKS.. <file   draws a .cdg file pack by pack, in the same way
    player <stream            feeds a raw stream, and after each second writes the screen to the file SECONDS.ppm
-   player -m <stream         feeds it again and again, and tells how many blocks a second the player takes */
+   player -m <stream         feeds it again and again, and tells how many blocks a second the player takes, and how long it
+                             takes to look at the screen */
 #include "ribjasper.h"
 
 #include <stdio.h>
@@ -13,6 +14,7 @@
 #include <time.h>
 
 #define MEASURED 1000000L
+#define LOOKS 2000
 #define BLOCKS_A_SECOND 75
 #define PACK 24
 
@@ -77,23 +79,43 @@ static int show_each_second(ribjasper_player *player)
     return status != 0;
 }
 
+static double seconds_since(clock_t start)
+{
+    return (double)(clock() - start) / CLOCKS_PER_SEC;
+}
+
 static int measure(ribjasper_player *player)
 {
     static uint8_t stream[4096][RIBJASPER_BLOCK];
+    static uint8_t picture[RIBJASPER_PICTURE], pixels[RIBJASPER_PIXELS];
     size_t blocks = fread(stream, RIBJASPER_BLOCK, 4096, stdin);
-    clock_t start = clock();
-    double seconds;
-    long fed;
+    clock_t start;
+    double seconds, looking, screens;
+    long fed, looks;
     if (blocks == 0) {
         fprintf(stderr, "player: there is no block\n");
         return 1;
     }
+    if (ribjasper_player_begin(player, RIBJASPER_RAW, 0) != RIBJASPER_DONE)
+        return 1;
+    start = clock();
     for (fed = 0; fed < MEASURED; fed++)
         if (ribjasper_player_feed(player, stream[(size_t)fed % blocks]) != RIBJASPER_DONE)
             return 1;
-    seconds = (double)(clock() - start) / CLOCKS_PER_SEC;
+    seconds = seconds_since(start);
+    start = clock();
+    for (looks = 0; looks < LOOKS; looks++)
+        if (ribjasper_player_picture(player, picture) != RIBJASPER_DONE)
+            return 1;
+    looking = seconds_since(start);
+    start = clock();
+    for (looks = 0; looks < LOOKS; looks++)
+        if (ribjasper_player_screen(player, pixels) != RIBJASPER_DONE)
+            return 1;
+    screens = seconds_since(start);
     printf("%ld blocks in %.2f seconds: %.0f times real time\n", MEASURED, seconds,
            (double)MEASURED / BLOCKS_A_SECOND / seconds);
+    printf("a picture in %.1f microseconds, a screen in %.1f\n", 1e6 * looking / LOOKS, 1e6 * screens / LOOKS);
     return 0;
 }
 

@@ -1,11 +1,11 @@
 /* The proved player of CD subcode graphics, for programs in C and C++.
 
-   Link with -lribjasper. No state is global: players stand side by side, one call at a time for each, on the thread that
-   opened it; no call is for a signal handler. Where a pointer stands, so many bytes or structs must stand as its type
-   says, or as its line says; none may be null, for the library cannot tell a null pointer and reads it. What two
-   arguments point to may not overlap; what is only read (const) must not change during the call. Numbers may be any:
-   one out of its range is refused. Memory is asked of malloc when a player is opened and within `ribjasper_convert`,
-   and at no other time. */
+   Link with -lribjasper. No state is global: players stand side by side. Any thread may call, one call at a time for each
+   player; no call is for a signal handler. Where a pointer stands, so many bytes or structs must stand as its type says,
+   or as its line says; none may be null, for the library cannot tell a null pointer and reads it. What two arguments
+   point to may not overlap; what is only read (const) must not change during the call. Numbers may be any: one out of its
+   range is refused. Memory is asked of malloc when a player is opened that is closed, 65,192 bytes in two requests, and
+   within a call whose lines say so, which frees it before it returns. */
 #ifndef RIBJASPER_H
 #define RIBJASPER_H
 
@@ -28,8 +28,7 @@ extern "C" {
 uint32_t ribjasper_version(void);
 
 /* What calls answer: it was done; or the player is closed, a number is out of its range, or (open) there is no memory.
-   Where it was not done, nothing that a pointer points to is written (but by open, which closes first, and then holds
-   no memory). */
+   Where it was not done, nothing that a pointer points to is written. */
 #define RIBJASPER_DONE 0
 #define RIBJASPER_REFUSED (-1)
 
@@ -46,7 +45,8 @@ uint32_t ribjasper_version(void);
 #define RIBJASPER_PACKS 1
 #define RIBJASPER_SECTORS 2
 
-/* A player. Begin with RIBJASPER_CLOSED; never copy an open one, nor change it but by these calls. */
+/* A player. Begin with RIBJASPER_CLOSED, or with memory of zeros, which is a closed player too; never copy an open one, nor
+   change it but by these calls. */
 typedef struct ribjasper_player {
     struct {
         void *at;
@@ -54,20 +54,21 @@ typedef struct ribjasper_player {
     bool is_open;
 } ribjasper_player;
 
-#define RIBJASPER_CLOSED { { 0 }, false }
+#define RIBJASPER_CLOSED { { NULL }, false }
 
-/* Opens a player of a raw stream with no lead-in, closing it first where it is open; refused where memory is short, and
-   for nothing else. */
+/* Opens a player of a raw stream with no lead-in; refused where memory is short, and for nothing else. One that is open
+   already keeps its memory and begins anew, and is never refused. */
 int32_t ribjasper_player_open(ribjasper_player *player);
 
 /* Closes a player and frees what it holds; a closed one stays closed. Each open player must be closed once at last. */
 void ribjasper_player_close(ribjasper_player *player);
 
 /* Makes an open player forget all blocks and packs. Blocks that come from now on have this form (RIBJASPER_RAW or
-   RIBJASPER_PACKS), and the first `lead_in` of them are passed over. */
+   RIBJASPER_PACKS), and the first `lead_in` of them, at most 450,000, are passed over. */
 int32_t ribjasper_player_begin(ribjasper_player *player, uint32_t form, uint32_t lead_in);
 
-/* Feeds an open player the next block of the stream, 96 bytes. The clauses hold for 1,000,000 blocks since begin. */
+/* Feeds an open player the next block of the stream, 96 bytes, and draws the packs that came with it, each read as the
+   codeword near it. A player draws for as long as it is fed. */
 int32_t ribjasper_player_feed(ribjasper_player *player, const uint8_t block[RIBJASPER_BLOCK]);
 
 /* A pack as it was read: its 24 symbols (6 bits each), and how many of them were wrong and were corrected, 0 to 2; or
@@ -78,11 +79,13 @@ typedef struct ribjasper_pack {
 } ribjasper_pack;
 
 /* Feeds an open player the next block, as the call above, and writes the packs that came with it, the last of them
-   complete by this block: returns how many they are, 0 to 4, or RIBJASPER_REFUSED. */
+   complete by this block: returns how many they are, 0 to 4, or RIBJASPER_REFUSED. Those of the four behind them are
+   left as they were. */
 int32_t ribjasper_player_take(ribjasper_player *player, const uint8_t block[RIBJASPER_BLOCK], ribjasper_pack packs[4]);
 
 /* Draws a pack of 24 bytes, as players read a .cdg file: the low six bits of the bytes are its symbols, and the parity
-   has no part in it. What stands is what the packs since begin draw; feed no blocks in between. */
+   has no part in it. Blocks and packs may come in any order: what stands is what all of them draw, in turn, since begin.
+   The stream of blocks goes on as if the pack were not there. */
 int32_t ribjasper_player_draw(ribjasper_player *player, const uint8_t pack[24]);
 
 /* Writes the number of the colour, 0 to 15, of the pixel `x` from the left (0 to 299), `y` from the top (0 to 215). */
@@ -90,6 +93,13 @@ int32_t ribjasper_player_pixel(ribjasper_player *player, uint32_t x, uint32_t y,
 
 /* Writes the numbers of the colours, 0 to 15, of all pixels of the screen; pixel (x, y) is number 300 y + x. */
 int32_t ribjasper_player_screen(ribjasper_player *player, uint8_t pixels[RIBJASPER_PIXELS]);
+
+/* Writes the numbers of the colours of the `width` pixels from `x` and the `height` rows from `y` of the screen into the
+   `room` bytes at `pixels`: row j begins `stride` times j bytes from the front, and what is between the rows is left as it
+   was. Refused where x + width is above 300, y + height above 216, `stride` below `width`, or where the last row ends
+   past the room. */
+int32_t ribjasper_player_rect(ribjasper_player *player, uint32_t x, uint32_t y, uint32_t width, uint32_t height,
+                              uint8_t *pixels, size_t room, uint32_t stride);
 
 /* Writes red, green and blue of all pixels of the screen; those of pixel (x, y) begin at byte 3 (300 y + x). */
 int32_t ribjasper_player_picture(ribjasper_player *player, uint8_t bytes[RIBJASPER_PICTURE]);
@@ -108,6 +118,18 @@ int32_t ribjasper_player_border(ribjasper_player *player, uint8_t *border);
 
 /* Writes how many pixels further right (0 to 5) and further down (0 to 11) in the memory the screen begins. */
 int32_t ribjasper_player_offsets(ribjasper_player *player, uint8_t *across, uint8_t *down);
+
+/* What the instruction of a pack of 24 bytes touches, whatever stands: 50 times the row and the column of a tile of the
+   memory, 0 to 899, or one of the numbers below. No pixel of the memory outside of a tile that is told changes, nor
+   anything else that is not told; where nothing is told, all stays as it is. A tile is a place of the memory, rows of
+   twelve pixels and columns of six: the screen shows it moved left and up by the offsets, and the outermost tiles of the
+   screen lie under the border. */
+#define RIBJASPER_TOUCHES_NOTHING 900
+#define RIBJASPER_TOUCHES_ALL 901     /* the whole memory, and the offsets */
+#define RIBJASPER_TOUCHES_BORDER 902
+#define RIBJASPER_TOUCHES_COLOURS 903 /* colours of the table */
+#define RIBJASPER_TOUCHES_LEVELS 904
+int32_t ribjasper_pack_touches(const uint8_t pack[24]);
 
 /* A word of 24 symbols, the low six bits of the bytes: writes the codeword near it and returns how many symbols are
    wrong (0 to 2), or returns -1 and writes nothing where none is near. */
@@ -155,7 +177,8 @@ int32_t ribjasper_q_decode(const uint8_t bytes[12], ribjasper_q_frame *frame, ui
 /* Writes the twelve bytes of a frame, or returns RIBJASPER_REFUSED where a field has a value that it cannot have. */
 int32_t ribjasper_q_encode(const ribjasper_q_frame *frame, uint8_t bytes[12]);
 
-/* Writes the planar form of a raw block: twelve bytes for each channel from P to W, the first bit the highest. */
+/* Writes the planar form of a raw block: twelve bytes for each channel from P to W, the first bit the highest. Channel Q
+   is bytes 12 to 23, as ribjasper_q_decode takes them. */
 void ribjasper_block_to_planar(const uint8_t block[RIBJASPER_BLOCK], uint8_t planar[RIBJASPER_BLOCK]);
 
 /* Writes the raw block with a planar form. */
@@ -169,17 +192,19 @@ typedef struct ribjasper_converted {
     uint32_t bad;
 } ribjasper_converted;
 
-/* What the call below answers: the exit numbers of the program. */
+/* What the calls on whole streams answer: the exit numbers of the program. */
 #define RIBJASPER_CONVERTED 0 /* done */
 #define RIBJASPER_DAMAGED 1   /* done, but packs are bad */
 #define RIBJASPER_USAGE 2     /* the form is above 2 or `lead_in` above 450,000 */
 #define RIBJASPER_TORN 3      /* the stream is not whole units, or more than 1,000,000 of them */
 #define RIBJASPER_NO_ROOM 6   /* the buffer is smaller than the packs */
-#define RIBJASPER_NO_MEMORY 7 /* malloc refused */
+#define RIBJASPER_NO_MEMORY 7 /* malloc refused: of the calls that ask for memory */
 
 /* Writes the packs of the `length` bytes at `stream`, whose first `lead_in` blocks are passed over, to the front of the
    `room` bytes at `packs`: 24 bytes each, 4 B - 7 of B blocks of the program (none of one or none), or 4 B where they
-   are RIBJASPER_PACKS. Where it answers neither 0 nor 1 nothing is written. */
+   are RIBJASPER_PACKS. The first of the answers above that fits is given: the numbers are judged before the stream's
+   length, and this before the room, so 0 and 1 are answered of whole units alone. Where it answers neither 0 nor 1
+   nothing is written. It asks for no memory. */
 int32_t ribjasper_convert(const uint8_t *stream, size_t length, uint32_t form, uint32_t lead_in, uint8_t *packs,
                           size_t room, ribjasper_converted *told);
 

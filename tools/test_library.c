@@ -170,14 +170,40 @@ static void whole_streams(void)
     CHECK(ribjasper_convert(stream, 192, 3, 0, packs, 192, &told) == RIBJASPER_USAGE);
     CHECK(ribjasper_convert(stream, 192, RIBJASPER_RAW, 450001, packs, 192, &told) == RIBJASPER_USAGE);
     CHECK(all_are(packs, 192, 7) && told.bytes == 24);
-    for (number = 0; number < 100; number++) {
-        refused = requests + number;
-        if (ribjasper_convert(stream, 192, RIBJASPER_RAW, 0, packs, 192, &told) != RIBJASPER_NO_MEMORY)
-            break;
-        CHECK(held == 0 && all_are(packs, 192, 7));
-    }
+    /* It asks for no memory. */
+    refused = requests;
+    number = requests;
+    CHECK(ribjasper_convert(stream, 192, RIBJASPER_RAW, 0, packs, 192, &told) == RIBJASPER_CONVERTED);
     refused = -1;
-    CHECK(number > 0 && number < 100 && held == 0 && all_are(packs, 24, 0));
+    CHECK(requests == number && held == 0 && all_are(packs, 24, 0));
+}
+
+/* A stream is torn at each length but those of whole units, in each form; each room that is too small is refused. */
+static void edges_of_streams(void)
+{
+    static uint8_t stream[3 * 2448], packs[400];
+    static const uint32_t sizes[3] = { 96, 96, 2448 };
+    static const size_t texts[3] = { 120, 288, 120 };
+    ribjasper_converted told = { 9, 9, 9 };
+    uint32_t form;
+    size_t length, room;
+    memset(packs, 7, sizeof packs);
+    for (form = 0; form < 3; form++) {
+        for (length = 0; length <= 3 * sizes[form]; length++)
+            if (length % sizes[form] != 0)
+                CHECK(ribjasper_convert(stream, length, form, 0, packs, sizeof packs, &told) == RIBJASPER_TORN);
+        for (room = 0; room < texts[form]; room++)
+            CHECK(ribjasper_convert(stream, 3 * sizes[form], form, 0, packs, room, &told) == RIBJASPER_NO_ROOM);
+        CHECK(ribjasper_convert(stream, 3 * sizes[form] - 1, form, 0, packs, 0, &told) == RIBJASPER_TORN);
+        CHECK(ribjasper_convert(stream, 3 * sizes[form] - 1, form, 450001, packs, 0, &told) == RIBJASPER_USAGE);
+    }
+    CHECK(all_are(packs, sizeof packs, 7) && told.bytes == 9 && told.blocks == 9 && told.bad == 9);
+    for (form = 0; form < 3; form++) {
+        memset(packs, 7, sizeof packs);
+        CHECK(ribjasper_convert(stream, 3 * sizes[form], form, 0, packs, texts[form], &told) == RIBJASPER_CONVERTED);
+        CHECK(told.bytes == texts[form] && told.blocks == 3 && told.bad == 0);
+        CHECK(all_are(packs, texts[form], 0) && all_are(packs + texts[form], sizeof packs - texts[form], 7));
+    }
 }
 
 static void draws(ribjasper_player *player, uint8_t code, const uint8_t content[16])
@@ -233,6 +259,112 @@ static void drawn_packs(void)
     CHECK(held == 0);
 }
 
+/* What packs touch: of each instruction once. */
+static void touched_parts(void)
+{
+    uint8_t pack[24] = { 9 };
+    CHECK(ribjasper_pack_touches(pack) == RIBJASPER_TOUCHES_NOTHING);
+    pack[1] = 6;
+    CHECK(ribjasper_pack_touches(pack) == 0);
+    pack[6] = 0x20 + 17;
+    pack[7] = 49;
+    CHECK(ribjasper_pack_touches(pack) == 899);
+    pack[1] = 38;
+    pack[7] = 50;
+    CHECK(ribjasper_pack_touches(pack) == RIBJASPER_TOUCHES_NOTHING);
+    pack[6] = 18;
+    pack[7] = 0;
+    CHECK(ribjasper_pack_touches(pack) == RIBJASPER_TOUCHES_NOTHING);
+    pack[6] = 3;
+    CHECK(ribjasper_pack_touches(pack) == 150);
+    pack[1] = 1;
+    CHECK(ribjasper_pack_touches(pack) == RIBJASPER_TOUCHES_ALL);
+    pack[1] = 20;
+    CHECK(ribjasper_pack_touches(pack) == RIBJASPER_TOUCHES_ALL);
+    pack[1] = 24 + 0x80;
+    CHECK(ribjasper_pack_touches(pack) == RIBJASPER_TOUCHES_ALL);
+    pack[1] = 2;
+    CHECK(ribjasper_pack_touches(pack) == RIBJASPER_TOUCHES_BORDER);
+    pack[1] = 30;
+    CHECK(ribjasper_pack_touches(pack) == RIBJASPER_TOUCHES_COLOURS);
+    pack[1] = 31;
+    CHECK(ribjasper_pack_touches(pack) == RIBJASPER_TOUCHES_COLOURS);
+    pack[1] = 28;
+    CHECK(ribjasper_pack_touches(pack) == RIBJASPER_TOUCHES_LEVELS);
+    pack[0] = 8;
+    CHECK(ribjasper_pack_touches(pack) == RIBJASPER_TOUCHES_NOTHING);
+}
+
+/* A part of the screen is the same part of the whole, and each room that is too small is refused. */
+static void rectangles(void)
+{
+    static const uint8_t tile[16] = { 1, 2, 3, 4, 0x2a, 0x15, 0x3f, 1, 2, 4, 8, 0x10, 0x20, 7, 0, 0x33 };
+    static uint8_t pixels[RIBJASPER_PIXELS], part[RIBJASPER_PIXELS];
+    ribjasper_player player = RIBJASPER_CLOSED;
+    size_t room;
+    long i, j, wrong = 0;
+    CHECK(ribjasper_player_open(&player) == RIBJASPER_DONE);
+    draws(&player, 6, tile);
+    CHECK(ribjasper_player_screen(&player, pixels) == RIBJASPER_DONE);
+    memset(part, 7, sizeof part);
+    for (room = 0; room < 20 * 10 + 9; room++)
+        CHECK(ribjasper_player_rect(&player, 22, 34, 9, 11, part, room, 20) == RIBJASPER_REFUSED);
+    CHECK(ribjasper_player_rect(&player, 292, 34, 9, 11, part, 1000, 20) == RIBJASPER_REFUSED);
+    CHECK(ribjasper_player_rect(&player, 22, 206, 9, 11, part, 1000, 20) == RIBJASPER_REFUSED);
+    CHECK(ribjasper_player_rect(&player, 22, 34, 9, 11, part, 1000, 8) == RIBJASPER_REFUSED);
+    CHECK(ribjasper_player_rect(&player, 0xffffffff, 34, 9, 11, part, 1000, 20) == RIBJASPER_REFUSED);
+    CHECK(all_are(part, sizeof part, 7));
+    CHECK(ribjasper_player_rect(&player, 22, 34, 9, 11, part, 209, 20) == RIBJASPER_DONE);
+    for (j = 0; j < 11; j++)
+        for (i = 0; i < 20; i++)
+            wrong += part[20 * j + i] != (i < 9 ? pixels[300 * (34 + j) + 22 + i] : 7);
+    CHECK(wrong == 0 && pixels[300 * 36 + 24] == 2 && part[20 * 2 + 2] == 2);
+    CHECK(ribjasper_player_rect(&player, 300, 216, 0, 0, part, 0, 0) == RIBJASPER_DONE);
+    CHECK(ribjasper_player_rect(&player, 0, 0, 300, 216, part, RIBJASPER_PIXELS, 300) == RIBJASPER_DONE);
+    CHECK(memcmp(part, pixels, sizeof part) == 0);
+    ribjasper_player_close(&player);
+    CHECK(ribjasper_player_rect(&player, 0, 0, 1, 1, part, 1, 1) == RIBJASPER_REFUSED && held == 0);
+}
+
+/* A player draws for as long as it is fed: a tile that comes after more blocks than a program can have. Packs that are
+   drawn in between leave the stream as it is. */
+static void long_streams(void)
+{
+    static const uint8_t five[24] = { 9, 1, 0, 0, 5 };
+    static const uint8_t preset[96] = { 9, 1, 0x3c, 0x34, 0, 0, 0, 0, 0, 0, 0, 0, 0, 0, 0, 0, 0, 0, 0, 0, 13, 7, 42, 32 };
+    static const uint8_t idle[96] = { 0 };
+    uint8_t pixel = 0;
+    ribjasper_player player = RIBJASPER_CLOSED;
+    ribjasper_pack packs[4];
+    long fed;
+    CHECK(ribjasper_player_open(&player) == RIBJASPER_DONE);
+    CHECK(ribjasper_player_begin(&player, RIBJASPER_RAW, 450001) == RIBJASPER_REFUSED);
+    CHECK(ribjasper_player_begin(&player, RIBJASPER_PACKS, 450000) == RIBJASPER_DONE);
+    CHECK(ribjasper_player_draw(&player, five) == RIBJASPER_DONE);
+    for (fed = 0; fed < 450000; fed++)
+        if (ribjasper_player_feed(&player, preset) != RIBJASPER_DONE)
+            break;
+    CHECK(fed == 450000);
+    CHECK(ribjasper_player_pixel(&player, 6, 12, &pixel) == RIBJASPER_DONE && pixel == 5);
+    for (fed = 0; fed < 1000000; fed++)
+        if (ribjasper_player_feed(&player, idle) != RIBJASPER_DONE)
+            break;
+    CHECK(fed == 1000000);
+    CHECK(ribjasper_player_pixel(&player, 6, 12, &pixel) == RIBJASPER_DONE && pixel == 5);
+    CHECK(ribjasper_player_take(&player, preset, packs) == 4 && packs[0].wrong == 0 && packs[3].wrong == 0);
+    CHECK(ribjasper_player_pixel(&player, 6, 12, &pixel) == RIBJASPER_DONE && pixel == 0);
+    CHECK(ribjasper_player_draw(&player, five) == RIBJASPER_DONE);
+    CHECK(ribjasper_player_pixel(&player, 6, 12, &pixel) == RIBJASPER_DONE && pixel == 5);
+    /* Opening it again keeps its memory, and begins anew. */
+    fed = requests;
+    refused = requests;
+    CHECK(ribjasper_player_open(&player) == RIBJASPER_DONE && requests == fed && held == 2);
+    refused = -1;
+    CHECK(ribjasper_player_pixel(&player, 6, 12, &pixel) == RIBJASPER_DONE && pixel == 0);
+    ribjasper_player_close(&player);
+    CHECK(held == 0);
+}
+
 static void taken_blocks(void)
 {
     uint8_t first[96] = { 0 }, second[96] = { 0 };
@@ -241,7 +373,9 @@ static void taken_blocks(void)
     CHECK(ribjasper_player_open(&player) == RIBJASPER_DONE);
     first[50] = second[4] = 1;
     CHECK(ribjasper_player_take(&player, first, packs) == 0);
+    memset(packs, 7, sizeof packs);
     CHECK(ribjasper_player_take(&player, second, packs) == 1 && packs[0].wrong == 2 && all_are(packs[0].symbols, 24, 0));
+    CHECK(all_are((const uint8_t *)(packs + 1), 3 * sizeof *packs, 7));
     CHECK(ribjasper_player_take(&player, second, packs) == 4);
     /* After a reset no symbol of those blocks is left. */
     CHECK(ribjasper_player_begin(&player, RIBJASPER_RAW, 0) == RIBJASPER_DONE);
@@ -265,10 +399,12 @@ static void taken_blocks(void)
 static void closed_players(void)
 {
     static uint8_t bytes[RIBJASPER_PICTURE];
-    ribjasper_player player = RIBJASPER_CLOSED;
+    ribjasper_player player;
     ribjasper_pack packs[4];
     uint16_t table[16] = { 9 };
     long number;
+    /* Memory of zeros is a closed player. */
+    memset(&player, 0, sizeof player);
     memset(bytes, 7, sizeof bytes);
     memset(packs, 7, sizeof packs);
     CHECK(ribjasper_player_begin(&player, RIBJASPER_RAW, 0) == RIBJASPER_REFUSED);
@@ -303,8 +439,12 @@ int main(void)
     single_things();
     q_frames();
     whole_streams();
+    edges_of_streams();
     drawn_packs();
     taken_blocks();
+    touched_parts();
+    rectangles();
+    long_streams();
     closed_players();
     if (!failed)
         printf("test_library: each call gives what its row says\n");

@@ -1,3 +1,4 @@
 pub mod Picture
 pub mod Memory
 pub mod Texts
+pub mod Touched

@@ -1,2 +1,3 @@
 pub mod LiveViews
 pub mod Words
+pub mod Pictures

@@ -1,56 +1,163 @@
--- What stands after the blocks that a player was fed.
-use Rattle.std.proofs.Common.{◌≡◌, ℕ, ◌-◌, ◌*◌, ◌≤◌, List, [], length, ap, ◌∙◌, subst, sym, arith}
-use Rattle.disc_time.specs.Counts.{last_block}
-use Rattle.rw_interleave.specs.Interleave.{whole_packs}
-use Rattle.raw_subcode.specs.declared.form.Form.{Form}
-use Rattle.std.specs.Prelude.{take, drop}
-use Rattle.cdg_screen.specs.Picture.{blank}
-use Rattle.cdg_screen.proofs.Turns.{blank_is_whole}
-use Rattle.live_player.specs.Lives.{HasDrawn, HasPlayed, IsLiveView, IsLiveViewAt}
-use Rattle.raw_subcode.specs.Channels.{symbols_of}
-use Rattle.raw_subcode.specs.declared.form.Form.TheVariants.{Raw}
-use Rattle.std.specs.List.{flat_map}
+-- What stands after what a player was given.
+use Rattle.std.proofs.Common.{◌≡◌, ℕ, ◌+◌, ◌-◌, ◌*◌, ◌/◌, ◌^◌, ◌<◌, ◌≤◌, ◌==◌, Bool, true, false, cond, List, [], ◌∷◌, ◌++◌, length, map, take, drop, refl, ap, ap₂, ◌∙◌, subst, sym, arith, None, Some, length-append, length-drop}
 use Rattle.std.specs.declared.option.Option.{Option}
-use Rattle.std.proofs.lemmas.List.{take_all, length-drop}
-use Rattle.stream_stages.proofs.Slots.{length-all_symbols, sized_drop}
-use Rattle.live_player.specs.declared.live.LivePlayer.{LivePlayer}
+use Rattle.std.specs.List.{flat_map}
+use Rattle.std.proofs.lemmas.List.{take_all, length-map, map-append}
+use Rattle.arrayvec.specs.ArrayVec.{ArrayVec}
+use Rattle.cdg_io.specs.Run.{give, run_state, run_gives}
+use Rattle.cdg_io.proofs.Runs.{run_state-append}
+use Rattle.rw_code.specs.Finding.{finding}
+use Rattle.rw_interleave.specs.Interleave.{whole_packs}
+use Rattle.raw_subcode.specs.Channels.{symbols_of}
+use Rattle.raw_subcode.specs.declared.form.Form.{Form}
+use Rattle.raw_subcode.specs.declared.form.Form.TheVariants.{Raw}
+use Rattle.cdg_instructions.specs.declared.instr.Instr.{Instr}
+use Rattle.cdg_instructions.specs.Meaning.{meaning}
+use Rattle.cdg_screen.specs.Picture.{IsWholeStanding, Standing, blank, standing_after}
+use Rattle.cdg_screen.proofs.Turns.{blank_is_whole, in_turn}
+use Rattle.stream_stages.specs.Drawn.{drawing_next}
 use Rattle.stream_stages.specs.Screen.{AreMeant}
+use Rattle.stream_stages.specs.Steps.{slots_of, fresh_words, window_next, window_gives, words_next, words_give}
+use Rattle.stream_stages.specs.declared.block_words.BlockWords.{BlockWords}
+use Rattle.stream_stages.specs.declared.drawing.Drawing.{Drawing}
+use Rattle.stream_stages.proofs.Slots.{Sized, sized_append, sized_drop, length-all_symbols, length-slots_of}
+use Rattle.stream_stages.proofs.StageRuns.{all_items}
+use Rattle.stream_stages.proofs.PlayRuns.{gives_few}
 use Rattle.stream_stages.proofs.FormWords.{found_in, recovered}
-use Rattle.stream_stages.proofs.Draws.{instrs_of, are_meant}
-use Rattle.stream_stages.proofs.Views.{Drawings, IsReady, drawn_blocks, IsDrawn}
+use Rattle.stream_stages.proofs.Draws.{instrs_of, are_meant, are_drawn}
+use Rattle.live_player.specs.Lives.{Given, HasPlayed, IsLiveView, IsLiveViewAt, blocks_in, drawn_for, instruction_of, instructions_in, instructions_of, meant_by, packs_in, standing_on, stream_words, words_with}
+use Rattle.live_player.specs.Lives.Given.{Drawn, Fed}
+use Rattle.live_player.specs.declared.live.LivePlayer.{LivePlayer}
+use Rattle.live_player.proofs.Words.{nothing_after, no_words_yet, words_come, words_go_on, words_of_stream}
 
-pub live_view : (form : Form) (lead_in : ℕ) (blocks : List (List ℕ)) (player : LivePlayer) → HasPlayed form lead_in blocks player → length blocks ≤ 1000000
-    → IsLiveView form lead_in blocks player.stages.second.picture
-live_view form lead_in blocks player played few =
-    let ready : IsReady form lead_in last_block played.start = record { words = played.begun.words; left = played.begun.left; bad = played.begun.bad; blank = played.begun.blank } in
-    let drawn : IsDrawn form lead_in last_block blocks (player.stages).second = subst (λ (s : Drawings). IsDrawn form lead_in last_block blocks s.second) (sym played.run) (drawn_blocks form lead_in last_block played.start blocks ready few) in
+-- ---- instructions of words
+
+meant_same : (found : List (Option (List ℕ))) → meant_by found ≡ instrs_of found
+meant_same [] = refl
+meant_same (None ∷ rest) = meant_same rest
+meant_same (Some word ∷ rest) = ap (λ l. meaning word ∷ l) (meant_same rest)
+
+meant_append : (xs ys : List (Option (List ℕ))) → meant_by (xs ++ ys) ≡ meant_by xs ++ meant_by ys
+meant_append [] ys = refl
+meant_append (None ∷ xs) ys = meant_append xs ys
+meant_append (Some word ∷ xs) ys = ap (λ l. meaning word ∷ l) (meant_append xs ys)
+
+instructions_append : (words others : List (List ℕ)) → instructions_of (words ++ others) ≡ instructions_of words ++ instructions_of others
+instructions_append words others = ap meant_by (map-append finding words others) ∙ meant_append (map finding words) (map finding others)
+
+-- ---- a block
+
+few_of : (program : Bool) (xs : List (List ℕ)) (words : ArrayVec (List ℕ)) → Some words ≡ cond program (Some (record { items = xs })) None → length xs ≤ 4 → length words.items ≤ 4
+few_of true xs words gave few =
+    let same : words ≡ record { items = xs } = cc in
+    omega (arith, few, ap (λ (v : ArrayVec (List ℕ)). length v.items) same)
+few_of false xs words gave few = let no : ⊥ = cc in absurd no
+
+-- at most four words come with it
+few_given : (s : BlockWords) (block : List ℕ) (words : ArrayVec (List ℕ)) → Some words ≡ words_give s block → length words.items ≤ 4
+unfolding words_give
+few_given s block words gave =
+    few_of (s.lead_in == 0) (run_gives (window_next s.form) (window_gives s.form) s.gather (slots_of block)) words gave
+    (omega (arith, gives_few (window_next s.form) (window_gives s.form) s.gather (slots_of block), length-slots_of block))
+
+-- all words that come with a block are drawn
+pub words_drawn : (now : Standing) (new : Drawing) (s : BlockWords) (block : List ℕ) (words : ArrayVec (List ℕ)) → IsWholeStanding now → Some words ≡ words_give s block
+    → new ≡ drawing_next (record { picture = now; left = 4; bad = 0 }) words → new.picture ≡ standing_after now (drawn_for (words_give s block))
+unfolding drawing_next
+words_drawn now new s block words whole gave is =
+    let few : length words.items ≤ 4 = few_given s block words gave in
+    let drawn = are_drawn now 4 0 words.items whole (omega (arith, few)) in
+    let all : take 4 (map finding words.items) ≡ map finding words.items = take_all 4 (map finding words.items) (omega (arith, few, length-map words.items finding)) in
+    ap (λ (d : Drawing). d.picture) is ∙ drawn.stands ∙ ap (λ found. standing_after now (instrs_of found)) all ∙ ap (standing_after now) (sym (meant_same (map finding words.items)))
+    ∙ ap (λ o. standing_after now (drawn_for o)) gave
+
+pub nothing_drawn : (now : Standing) (s : BlockWords) (block : List ℕ) → IsWholeStanding now → None ≡ words_give s block → now ≡ standing_after now (drawn_for (words_give s block))
+nothing_drawn now s block whole gave = sym whole ∙ ap (λ o. standing_after now (drawn_for o)) gave
+
+items_drawn : (o : Option (ArrayVec (List ℕ))) → drawn_for o ≡ instructions_of (all_items (give o []))
+items_drawn None = refl
+items_drawn (Some words) = ap instructions_of (sym (nothing_after words.items))
+
+-- ---- what a player was given
+
+pub fed_more : (form : Form) (lead_in : ℕ) (given : List Given) (block : List ℕ) (old new : LivePlayer) → length block ≡ 96 → new.words ≡ words_next old.words block
+    → standing_on new ≡ standing_after (standing_on old) (drawn_for (words_give old.words block)) → HasPlayed form lead_in given old → HasPlayed form lead_in (Fed block ∷ given) new
+fed_more form lead_in given block old new size next draws played =
+    let came : drawn_for (words_give old.words block) ≡ instructions_of (words_with form lead_in (blocks_in given) block) =
+    items_drawn (words_give old.words block) ∙ ap instructions_of (sym (words_come form lead_in (blocks_in given) block old.words size played.sized played.gathers)) in
     record {
-      found = found_in form (drop lead_in blocks);
-      recovered = recovered form (drop lead_in blocks) (sized_drop 96 lead_in blocks played.sized);
-      instrs = instrs_of (take (whole_packs last_block) (found_in form (drop lead_in blocks)));
-      shown = are_meant (take (whole_packs last_block) (found_in form (drop lead_in blocks)));
-      stands = drawn.stands;
+      sized = sized_append 96 (blocks_in given) (block ∷ []) played.sized (size, tt);
+      gathers = next ∙ ap (λ w. words_next w block) played.gathers ∙ sym (run_state-append words_next (fresh_words form lead_in) (blocks_in given) (block ∷ []));
+      stands = draws ∙ ap₂ (λ now instrs. standing_after now instrs) played.stands came
+          ∙ sym (in_turn blank (instructions_in form lead_in given) (instructions_of (words_with form lead_in (blocks_in given) block)));
     }
 
--- a player on whose picture all is zero drew no packs
-pub none_drawn : (player : LivePlayer) → player.stages.second.picture ≡ blank → HasDrawn [] player
-none_drawn player zero = record { stands = zero ∙ sym blank_is_whole }
+pub drawn_more : (form : Form) (lead_in : ℕ) (given : List Given) (pack : List ℕ) (old new : LivePlayer) → new.words ≡ old.words
+    → standing_on new ≡ standing_after (standing_on old) (instruction_of pack ∷ []) → HasPlayed form lead_in given old → HasPlayed form lead_in (Drawn pack ∷ given) new
+drawn_more form lead_in given pack old new same draws played = record {
+  sized = played.sized;
+  gathers = same ∙ played.gathers;
+  stands = draws ∙ ap (λ now. standing_after now (instruction_of pack ∷ [])) played.stands ∙ sym (in_turn blank (instructions_in form lead_in given) (instruction_of pack ∷ []));
+}
+
+pub begun : (form : Form) (lead_in : ℕ) (player : LivePlayer) → player.words ≡ fresh_words form lead_in → standing_on player ≡ blank → HasPlayed form lead_in [] player
+begun form lead_in player words zero = record { sized = tt; gathers = words; stands = zero ∙ sym blank_is_whole }
+
+-- ---- blocks alone, and packs alone
+
+sized_before : (xs : List (List ℕ)) (x : List ℕ) → Sized 96 (xs ++ x ∷ []) → Sized 96 xs × (length x ≡ 96)
+sized_before [] x sized = (tt, sized.0)
+sized_before (y ∷ ys) x sized = let rest = sized_before ys x sized.1 in ((sized.0, rest.0), rest.1)
+
+not_none : {A : Type 0} (xs : List A) (x : A) → xs ++ x ∷ [] ≡ [] → ⊥
+not_none {A} xs x none = omega (arith, length-append xs (x ∷ []), ap (λ (l : List A). length l) none)
+
+all_drawn : (form : Form) (lead_in : ℕ) (given : List Given) → Sized 96 (blocks_in given) → packs_in given ≡ [] → instructions_in form lead_in given ≡ instructions_of (stream_words form lead_in (blocks_in given))
+all_drawn form lead_in [] sized none = ap instructions_of (sym (no_words_yet form lead_in))
+all_drawn form lead_in (Fed block ∷ before) sized none =
+    let parts = sized_before (blocks_in before) block sized in
+    ap (λ l. l ++ instructions_of (words_with form lead_in (blocks_in before) block)) (all_drawn form lead_in before parts.0 none)
+    ∙ sym (instructions_append (stream_words form lead_in (blocks_in before)) (words_with form lead_in (blocks_in before) block))
+    ∙ ap instructions_of (sym (words_go_on form lead_in (blocks_in before) block parts.1 parts.0))
+all_drawn form lead_in (Drawn pack ∷ before) sized none = absurd (not_none (packs_in before) pack none)
+
+packs_drawn : (form : Form) (lead_in : ℕ) (given : List Given) → blocks_in given ≡ [] → instructions_in form lead_in given ≡ map instruction_of (packs_in given)
+packs_drawn form lead_in [] none = refl
+packs_drawn form lead_in (Fed block ∷ before) none = absurd (not_none (blocks_in before) block none)
+packs_drawn form lead_in (Drawn pack ∷ before) none =
+    ap (λ l. l ++ instruction_of pack ∷ []) (packs_drawn form lead_in before none) ∙ sym (map-append instruction_of (packs_in before) (pack ∷ []))
+
+pub live_view : (form : Form) (lead_in : ℕ) (given : List Given) (player : LivePlayer) → HasPlayed form lead_in given player → packs_in given ≡ [] → IsLiveView form lead_in (blocks_in given) (standing_on player)
+live_view form lead_in given player played none =
+    let blocks : List (List ℕ) = blocks_in given in
+    let found : List (Option (List ℕ)) = found_in form (drop lead_in blocks) in
+    let words = words_of_stream form lead_in blocks played.sized in
+    record {
+      found = found;
+      recovered = recovered form (drop lead_in blocks) (sized_drop 96 lead_in blocks played.sized);
+      instrs = instrs_of found;
+      meant = are_meant found;
+      stands = played.stands ∙ ap (standing_after blank) (all_drawn form lead_in given played.sized none ∙ meant_same (map finding (stream_words form lead_in blocks)) ∙ ap (λ ws. instrs_of (map finding ws)) (sym words));
+    }
 
 -- of a raw stream, all packs that came are whole where the program is
-pub live_view_now : (lead_in : ℕ) (blocks : List (List ℕ)) (player : LivePlayer) → HasPlayed Raw lead_in blocks player → length blocks ≤ 1000000 → length blocks - lead_in ≤ last_block
-    → IsLiveViewAt Raw lead_in (length blocks - lead_in) blocks player.stages.second.picture
-live_view_now lead_in blocks player played few within =
-    let view : IsLiveView Raw lead_in blocks player.stages.second.picture = live_view Raw lead_in blocks player played few in
+pub live_view_now : (lead_in : ℕ) (given : List Given) (player : LivePlayer) → HasPlayed Raw lead_in given player → packs_in given ≡ []
+    → IsLiveViewAt Raw lead_in (length (blocks_in given) - lead_in) (blocks_in given) (standing_on player)
+live_view_now lead_in given player played none =
+    let blocks : List (List ℕ) = blocks_in given in
+    let view : IsLiveView Raw lead_in blocks (standing_on player) = live_view Raw lead_in given player played none in
     let n : ℕ = length blocks - lead_in in
     let program : List (List ℕ) = drop lead_in blocks in
     let symbols : length (flat_map symbols_of program) ≡ 96 * length program = length-all_symbols program (sized_drop 96 lead_in blocks played.sized) in
-    let blocks_left : length program ≡ n = length-drop lead_in blocks in
-    let count : length view.found ≡ whole_packs n = view.recovered.count ∙ ap whole_packs (omega (arith, symbols, blocks_left)) in
-    let same : take (whole_packs last_block) view.found ≡ take (whole_packs n) view.found = take_all (whole_packs last_block) view.found (omega (arith, count, within)) ∙ sym (take_all (whole_packs n) view.found (omega (arith, count))) in
+    let count : length view.found ≡ whole_packs n = view.recovered.count ∙ ap whole_packs (omega (arith, symbols, length-drop lead_in blocks)) in
+    let all : take (whole_packs n) view.found ≡ view.found = take_all (whole_packs n) view.found (omega (arith, count)) in
     record {
       found = view.found;
       recovered = view.recovered;
       instrs = view.instrs;
-      shown = subst (λ (l : List (Option (List ℕ))). AreMeant l view.instrs) same view.shown;
+      shown = subst (λ (l : List (Option (List ℕ))). AreMeant l view.instrs) (sym all) view.meant;
       stands = view.stands;
     }
+
+pub packs_view : (form : Form) (lead_in : ℕ) (given : List Given) (player : LivePlayer) → HasPlayed form lead_in given player → blocks_in given ≡ [] → standing_on player ≡ standing_after blank (map instruction_of (packs_in given))
+packs_view form lead_in given player played none = played.stands ∙ ap (standing_after blank) (packs_drawn form lead_in given none)

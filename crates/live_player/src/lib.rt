@@ -3,5 +3,7 @@
 
 mod live;
 mod looking;
+mod part;
 
 pub use live::LivePlayer;
+pub use part::Part;

@@ -1,37 +1,39 @@
 // A player that is fed blocks as they come.
-ghost use Rattle.std.specs.Prelude.{◌≡◌, ◌<◌, ◌≤◌, ◌-◌, ◌/◌, ◌%◌, ◌++◌, ◌∷◌, [], List, ℕ, length, slice_index, IfOk};
-ghost use Rattle.raw_subcode.specs.Sizes.{most_units};
-ghost use Rattle.disc_time.specs.Counts.{last_block};
-ghost use Rattle.cdg_screen.specs.Picture.{screen_pixel};
+ghost use Rattle.std.specs.Prelude.{◌≡◌, ◌<◌, ◌≤◌, ◌-◌, ◌/◌, ◌%◌, ◌++◌, ◌∷◌, [], List, ℕ, length, map, slice_index, IfOk};
+ghost use Rattle.cdg_screen.specs.Picture.{blank, screen_pixel, standing_after};
 ghost use Rattle.raw_subcode.specs.declared.form.Form.{Form};
-ghost use Rattle.stream_stages.specs.Steps.{words_give};
-ghost use Rattle.stream_stages.specs.Stages.{drawing_of, words_of};
-ghost use Rattle.live_player.specs.Lives.{live_next, standing_on, stream_words, picture_byte, HasDrawn, HasPlayed, IsLiveView, IsLiveViewAt};
+ghost use Rattle.stream_stages.specs.Steps.{words_next, words_give};
+ghost use Rattle.live_player.specs.Lives.{Given, blocks_in, drawn_for, instruction_of, packs_in, picture_byte, standing_on, stream_words, HasPlayed, IsLiveView, IsLiveViewAt};
+ghost use Rattle.live_player.specs.Lives.Given.{Drawn, Fed};
+ghost use Rattle.live_player.specs.Parts.{HasRoomFor, IsOnScreen, ShowsPart};
 
 use crate::looking;
+use crate::part::Part;
 use arrayvec::ArrayVec;
-use cdg_io::{Stage, Then};
-use disc_time::LAST_BLOCK;
-use raw_subcode::{BLOCK_BYTES, Form};
+use cdg_io::Stage;
+use raw_subcode::{BLOCK_BYTES, Form, SLOTS_A_BLOCK};
 use rw_code::{SYMBOLS, Word};
 use rw_interleave::Window;
 use std::alloc::{AllocError, Global};
 use stream_stages::{BlockOfWords, BlockWords, Drawing, Picture};
 
-/// Plays a stream as its blocks come. All its memory is taken at the start.
+/// Plays a stream as its blocks come, for as long as they come. All its memory is taken at the start.
 #[derive(Drop)]
 pub struct LivePlayer {
-    pub stages: Then<BlockWords, Drawing>,
+    /// Gathers the words of the stream.
+    pub words: BlockWords,
+    /// Draws them.
+    pub drawing: Drawing,
 }
 
 impl LivePlayer {
     /// A player of a raw stream with no lead-in, before its first block.
     pub fn start(alloc: Global) -> Result<LivePlayer, AllocError>
-        ensures { IfOk result (λ player. HasPlayed Form.Raw 0 [] player × HasDrawn [] player) }
+        ensures { IfOk result (HasPlayed Form.Raw 0 []) }
     {
         let drawing = Drawing {
             picture: Picture::start(alloc)?,
-            left: 4 * LAST_BLOCK - 7,
+            left: 0,
             bad: 0,
         };
         let words = BlockWords {
@@ -39,44 +41,38 @@ impl LivePlayer {
             lead_in: 0,
             gather: Window::new(),
         };
-        Ok(LivePlayer {
-            stages: Then::new(words, drawing),
-        })
+        Ok(LivePlayer { words, drawing })
     }
 
     /// Begins anew, with a stream of this form.
     pub fn begin(&mut self, lead_in: u32, form: Form)
-        ensures played { HasPlayed form lead_in [] self.new }
-        ensures drawn { HasDrawn [] self.new }
+        ensures { HasPlayed form lead_in [] self.new }
     {
-        let words = &mut self.stages.first;
+        let words = &mut self.words;
         words.form = form;
         words.lead_in = lead_in;
         words.gather.reset();
-        let drawing = &mut self.stages.second;
-        drawing.left = 4 * LAST_BLOCK - 7;
-        drawing.bad = 0;
-        drawing.picture.reset();
+        self.drawing.picture.reset();
     }
 
     /// Takes the next block.
     pub fn feed(&mut self, block: &[u8; BLOCK_BYTES])
-        ensures { (form : Form) (lead_in : ℕ) (blocks : List (List ℕ))
-            → HasPlayed form lead_in blocks self.old
-            → HasPlayed form lead_in (blocks ++ block.now ∷ []) self.new }
+        ensures { (form : Form) (lead_in : ℕ) (given : List Given)
+            → HasPlayed form lead_in given self.old
+            → HasPlayed form lead_in (Fed block.now ∷ given) self.new }
     {
-        self.stages.feed(block);
+        self.step(block);
     }
 
     /// Takes the next block, and gives the words that came with it, at most four.
     pub fn take(&mut self, block: &[u8; BLOCK_BYTES]) -> ArrayVec<Word, 4>
-        ensures fed { (form : Form) (lead_in : ℕ) (blocks : List (List ℕ))
-            → HasPlayed form lead_in blocks self.old
-            → HasPlayed form lead_in (blocks ++ block.now ∷ []) self.new }
-        ensures words { (form : Form) (lead_in : ℕ) (blocks : List (List ℕ))
-            → HasPlayed form lead_in blocks self.old
-            → stream_words form lead_in (blocks ++ block.now ∷ [])
-            ≡ stream_words form lead_in blocks ++ result.items }
+        ensures fed { (form : Form) (lead_in : ℕ) (given : List Given)
+            → HasPlayed form lead_in given self.old
+            → HasPlayed form lead_in (Fed block.now ∷ given) self.new }
+        ensures words { (form : Form) (lead_in : ℕ) (given : List Given)
+            → HasPlayed form lead_in given self.old
+            → stream_words form lead_in (blocks_in given ++ block.now ∷ [])
+            ≡ stream_words form lead_in (blocks_in given) ++ result.items }
     {
         match self.step(block) {
             Some(words) => words.into_words(),
@@ -84,46 +80,59 @@ impl LivePlayer {
         }
     }
 
+    // Gathers the words that come with a block, and draws them.
     fn step(&mut self, block: &[u8; BLOCK_BYTES]) -> Option<BlockOfWords>
-        ensures next { self.new.stages ≡ live_next self.old.stages block.now }
-        ensures gives { result ≡ words_give (words_of self.old.stages) block.now }
+        ensures gathers { self.new.words ≡ words_next self.old.words block.now }
+        ensures gives { result ≡ words_give self.old.words block.now }
+        ensures draws { standing_on self.new
+            ≡ standing_after (standing_on self.old) (drawn_for (words_give self.old.words block.now)) }
     {
-        let block_words = &mut self.stages.first;
-        let words = block_words.feed(block);
+        let words = self.words.feed(block);
+        let drawing = &mut self.drawing;
+        drawing.picture.screen.is_whole();
         if let Some(words) = &words {
-            let drawing = &mut self.stages.second;
+            // All words of a block are drawn, however many blocks came before.
+            drawing.left = SLOTS_A_BLOCK as u32;
+            drawing.bad = 0;
             drawing.feed(words);
         }
         words
     }
 
     /// Draws a pack of 24 bytes, as a file of packs has them. The low six bits of each byte are its symbols,
-    /// and the parity has no part in it.
+    /// and the parity has no part in it. The stream goes on as if the pack were not there.
     pub fn draw(&mut self, pack: &[u8; SYMBOLS])
-        ensures { (packs : List (List ℕ)) → HasDrawn packs self.old
-            → HasDrawn (packs ++ pack.now ∷ []) self.new }
+        ensures { (form : Form) (lead_in : ℕ) (given : List Given)
+            → HasPlayed form lead_in given self.old
+            → HasPlayed form lead_in (Drawn pack.now ∷ given) self.new }
     {
-        let drawing = &mut self.stages.second;
+        let drawing = &mut self.drawing;
         looking::draw(&mut drawing.picture, pack);
     }
 
-    /// A law: what stands is what the blocks since the start show.
+    /// A law: where no packs were drawn in between, what stands is what the blocks since the start show.
     pub fn shows_its_blocks(&self)
-        ensures last { (form : Form) (lead_in : ℕ) (blocks : List (List ℕ))
-            → HasPlayed form lead_in blocks self.now → length blocks ≤ most_units
-            → IsLiveView form lead_in blocks (standing_on self.now) }
+        ensures last { (form : Form) (lead_in : ℕ) (given : List Given)
+            → HasPlayed form lead_in given self.now → packs_in given ≡ []
+            → IsLiveView form lead_in (blocks_in given) (standing_on self.now) }
         // Of a raw stream it is what stands at the moment that the program has come to.
-        ensures so_far { (lead_in : ℕ) (blocks : List (List ℕ)) → HasPlayed Form.Raw lead_in blocks self.now
-            → length blocks ≤ most_units → length blocks - lead_in ≤ last_block
-            → IsLiveViewAt Form.Raw lead_in (length blocks - lead_in) blocks (standing_on self.now) }
+        ensures so_far { (lead_in : ℕ) (given : List Given) → HasPlayed Form.Raw lead_in given self.now
+            → packs_in given ≡ [] → IsLiveViewAt Form.Raw lead_in (length (blocks_in given) - lead_in)
+            (blocks_in given) (standing_on self.now) }
+    {}
+
+    /// A law: where no blocks were fed, what stands is what the packs since the start draw.
+    pub fn shows_its_packs(&self)
+        ensures { (form : Form) (lead_in : ℕ) (given : List Given)
+            → HasPlayed form lead_in given self.now → blocks_in given ≡ []
+            → standing_on self.now ≡ standing_after blank (map instruction_of (packs_in given)) }
     {}
 
     // The picture that is drawn.
     fn picture(&self) -> &Picture
-        ensures { result.now ≡ (drawing_of self.now.stages).picture }
+        ensures { result.now ≡ standing_on self.now }
     {
-        let drawing = &self.stages.second;
-        &drawing.picture
+        &self.drawing.picture
     }
 
     /// The pixel of the screen at a place: `x` below 300 from the left, `y` below 216 from the top.
@@ -152,6 +161,17 @@ impl LivePlayer {
             → slice_index pixels.new n ≡ screen_pixel (standing_on self.now) (n % 300) (n / 300) }
     {
         looking::screen(self.picture(), pixels);
+    }
+
+    /// Writes the numbers of the colours of a part of the screen, row by row: row j of it begins `stride` times
+    /// j bytes from the front.
+    pub fn part(&self, part: &Part, pixels: &mut [u8], stride: usize)
+        requires part { IsOnScreen part.now }
+        requires apart { part.now.width ≤ stride }
+        requires room { HasRoomFor part.now stride (length pixels.old) }
+        ensures { ShowsPart (standing_on self.now) part.now stride pixels.old pixels.new }
+    {
+        looking::part_of_screen(self.picture(), part, pixels, stride);
     }
 
     /// Writes the colours of the table, each as 0xRGB.

@@ -1,10 +1,12 @@
 // What stands on a picture, number by number.
-ghost use Rattle.std.specs.Prelude.{◌≡◌, ◌<◌, ◌≤◌, ◌/◌, ◌%◌, ◌∷◌, [], ℕ, slice_index};
+ghost use Rattle.std.specs.Prelude.{◌≡◌, ◌<◌, ◌≤◌, ◌+◌, ◌-◌, ◌/◌, ◌%◌, ◌&&◌, nat_le, nat_lt, if◌then◌else◌, ◌∷◌, [], ℕ, length, slice_index};
 ghost use Rattle.cdg_screen.specs.Picture.{screen_pixel, standing_after};
 ghost use Rattle.cdg_screen.specs.Texts.{colour_bytes};
 ghost use Rattle.live_player.specs.Lives.{instruction_of, picture_byte};
+ghost use Rattle.live_player.specs.Parts.{HasRoomFor, IsOnScreen, ShowsPart};
 
-use cdg_instructions::{SCREEN_PIXELS, SCREEN_WIDTH, read_word};
+use crate::part::Part;
+use cdg_instructions::{SCREEN_HEIGHT, SCREEN_PIXELS, SCREEN_WIDTH, read_word};
 use rw_code::{SYMBOLS, Word};
 use stream_stages::Picture;
 
@@ -35,13 +37,35 @@ pub(crate) fn screen(picture: &Picture, pixels: &mut [u8; SCREEN_PIXELS])
     ensures { (n : ℕ) → n < 64800
         → slice_index pixels.new n ≡ screen_pixel picture.now (n % 300) (n / 300) }
 {
-    for i in 0..SCREEN_PIXELS {
-        pixels[i] = pixel(
-            picture,
-            (i % SCREEN_WIDTH) as u32,
-            (i / SCREEN_WIDTH) as u32,
-        );
+    let mut row = [0; SCREEN_WIDTH];
+    for y in 0..SCREEN_HEIGHT {
+        picture.screen.write_row(y, &mut row);
+        write_at(pixels, SCREEN_WIDTH * y, &row);
     }
+}
+
+/// The pixels of a part of the screen: row j of it stands `stride` times j bytes from the front.
+pub(crate) fn part_of_screen(picture: &Picture, part: &Part, pixels: &mut [u8], stride: usize)
+    requires part { IsOnScreen part.now }
+    requires apart { part.now.width ≤ stride }
+    requires room { HasRoomFor part.now stride (length pixels.old) }
+    ensures { ShowsPart picture.now part.now stride pixels.old pixels.new }
+{
+    let mut row = [0; SCREEN_WIDTH];
+    for j in 0..part.height {
+        picture.screen.write_row(part.top + j, &mut row);
+        write_at(pixels, stride * j, &row[part.left..part.left + part.width]);
+    }
+}
+
+// Writes some pixels from a place on.
+fn write_at(room: &mut [u8], place: usize, pixels: &[u8])
+    requires { place + length pixels.now ≤ length room.old }
+    ensures { (n : ℕ) → slice_index room.new n
+        ≡ (if nat_le place n && nat_lt n (place + length pixels.now) then slice_index pixels.now (n - place)
+        else slice_index room.old n) }
+{
+    room[place..place + pixels.len()].copy_from_slice(pixels);
 }
 
 /// The colours of the table.
@@ -73,18 +97,43 @@ fn level(picture: &Picture, k: u8) -> u8
 pub(crate) fn bytes(picture: &Picture, bytes: &mut [u8; BYTES])
     ensures { (n : ℕ) → n < 194400 → slice_index bytes.new n ≡ picture_byte picture.now n }
 {
-    for i in 0..BYTES {
-        bytes[i] = byte(picture, i as u32);
+    let red = parts(picture, 0);
+    let green = parts(picture, 1);
+    let blue = parts(picture, 2);
+    let mut row = [0; SCREEN_WIDTH];
+    for y in 0..SCREEN_HEIGHT {
+        picture.screen.write_row(y, &mut row);
+        for x in 0..SCREEN_WIDTH {
+            let pixel = usize::from(row[x]);
+            let at = 3 * (SCREEN_WIDTH * y + x);
+            write_three(bytes, at, [red[pixel], green[pixel], blue[pixel]]);
+        }
     }
 }
 
-fn byte(picture: &Picture, n: u32) -> u8
-    requires { n < 194400 }
-    ensures { result ≡ picture_byte picture.now n }
+// Writes three bytes from a place on.
+#[inline(always)]
+fn write_three(bytes: &mut [u8; BYTES], at: usize, three: [u8; 3])
+    requires { at + 3 ≤ 194400 }
+    ensures { (n : ℕ) → n < at + 3 → slice_index bytes.new n
+        ≡ (if nat_le at n then slice_index three (n - at) else slice_index bytes.old n) }
 {
-    let at = n / 3;
-    let shown = colour(picture, pixel(picture, at % 300, at / 300));
-    part(shown, n % 3)
+    bytes[at] = three[0];
+    bytes[at + 1] = three[1];
+    bytes[at + 2] = three[2];
+}
+
+// A part of each colour of the table: 0 red, 1 green, 2 blue.
+fn parts(picture: &Picture, which: u32) -> [u8; 16]
+    requires { which < 3 }
+    ensures { (k : ℕ) → k < 16 → slice_index result k
+        ≡ slice_index (colour_bytes (slice_index picture.now.colours k)) which }
+{
+    let mut table = [0; 16];
+    for k in 0..16 {
+        table[k] = part(colour(picture, k as u8), which);
+    }
+    table
 }
 
 // A part of a colour as a byte: 0 red, 1 green, 2 blue.

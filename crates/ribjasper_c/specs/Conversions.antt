@@ -1,8 +1,10 @@
 -- A stream in memory and its packs.
-use Rattle.std.specs.Prelude.{◌≡◌, ◌==◌, ◌-◌, ◌/◌, if◌then◌else◌, ℕ, List, length}
+use Rattle.std.specs.Prelude.{◌≡◌, ◌≢◌, ◌⊎◌, ◌==◌, ◌<◌, ◌-◌, ◌*◌, ◌/◌, ◌%◌, if◌then◌else◌, ℕ, List, length}
 use Rattle.raw_subcode.specs.Channels.{unit_size}
+use Rattle.raw_subcode.specs.Sizes.{most_units}
 use Rattle.raw_subcode.specs.declared.form.Form.{Form}
 use Rattle.raw_subcode.specs.declared.form.Form.TheVariants.{Sector}
+use Rattle.rw_interleave.specs.Stream.{word_count}
 use Rattle.stream_stages.specs.Convert.{IsConverted}
 use Rattle.ribjasper_c.specs.Handles.{form_of}
 use Rattle.ribjasper_c.specs.declared.converting.Converted.{Converted}
@@ -11,9 +13,18 @@ use Rattle.ribjasper_c.specs.declared.converting.Converted.{Converted}
 abbrev pub stream_form : ℕ → Form
 stream_form n = if n == 2 then Sector else form_of n
 
+-- these bytes are no whole units, or too many
+abbrev pub IsNoStream : Form → List ℕ → Type 0
+IsNoStream form stream = (length stream % unit_size form ≢ 0) ⊎ (most_units * unit_size form < length stream)
+
+-- how many bytes the packs of a stream are: 24 for each
+abbrev pub text_size : Form → ℕ → List ℕ → ℕ
+text_size form lead_in stream = 24 * word_count form (length stream / unit_size form - lead_in)
+
 -- the text of the packs of a stream, and what is told of it: its bytes, the blocks of the program, and the packs with
 -- no codeword near
 pub record IsTold (form : Form) (lead_in : ℕ) (stream text : List ℕ) (told : Converted) : Type 0 where
   pub converted : IsConverted form lead_in stream text told.bad
   pub bytes : told.bytes ≡ length text
+  pub size : length text ≡ text_size form lead_in stream
   pub blocks : told.blocks ≡ length stream / unit_size form - lead_in

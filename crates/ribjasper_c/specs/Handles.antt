@@ -1,7 +1,5 @@
 -- What a handle owns: nothing, or a player in a block of its own.
-use Rattle.std.specs.Prelude.{◌≡◌, ◌==◌, ◌<◌, ◌≤◌, ◌-◌, ◌/◌, ◌%◌, if◌then◌else◌, ℕ, List, [], ◌∷◌, length, map, slice_index}
-use Rattle.disc_time.specs.Counts.{last_block}
-use Rattle.raw_subcode.specs.Sizes.{most_units}
+use Rattle.std.specs.Prelude.{◌≡◌, ◌==◌, ◌<◌, ◌-◌, ◌/◌, ◌%◌, if◌then◌else◌, ℕ, List, [], ◌∷◌, length, map, slice_index}
 use base.Fml.{Fml, ftrue}
 use base.Stored.{Coded}
 use denote.RawPtr.{Ptr}
@@ -14,7 +12,7 @@ use Rattle.raw_subcode.specs.declared.form.Form.TheVariants.{Raw, Cooked}
 use Rattle.live_player.specs.contracts.live.LivePlayer.{the_row}
 use Rattle.live_player.specs.declared.live.LivePlayer.{LivePlayer}
 use Rattle.cdg_screen.specs.Picture.{Standing, blank, screen_pixel, standing_after}
-use Rattle.live_player.specs.Lives.{instruction_of, picture_byte, HasDrawn, HasPlayed, IsLiveView, IsLiveViewAt}
+use Rattle.live_player.specs.Lives.{Given, blocks_in, instruction_of, instructions_in, packs_in, picture_byte, HasPlayed, IsLiveView, IsLiveViewAt}
 
 abbrev pub handle_owns : Global → Ptr → List LivePlayer → Fml
 handle_owns alloc at [] = ftrue
@@ -23,29 +21,25 @@ handle_owns alloc at (player ∷ rest) = box_owns (ghosts.dealloc_token alloc) t
 abbrev pub players_coded : Coded (List LivePlayer)
 players_coded = coded_list (the_row.coded)
 
--- there is one player, and it was fed these blocks since it began with a stream of this form
-abbrev pub IsPlaying : Form → ℕ → List (List ℕ) → List LivePlayer → Type 0
-IsPlaying form lead_in blocks players = (player : LivePlayer) × (players ≡ player ∷ [])
-    × HasPlayed form lead_in blocks player
-
--- there is one player, and it drew these packs since it began, and nothing else
-abbrev pub IsDrawing : List (List ℕ) → List LivePlayer → Type 0
-IsDrawing packs players = (player : LivePlayer) × (players ≡ player ∷ []) × HasDrawn packs player
+-- there is one player, and it was given this since it began with a stream of this form, the last one first
+abbrev pub IsPlaying : Form → ℕ → List Given → List LivePlayer → Type 0
+IsPlaying form lead_in given players = (player : LivePlayer) × (players ≡ player ∷ [])
+    × HasPlayed form lead_in given player
 
 -- What these blocks show; of a raw stream it is also what stands at the moment that the program has come to.
 pub record IsSeen (form : Form) (lead_in : ℕ) (blocks : List (List ℕ)) (now : Standing) : Type 0 where
   pub last : IsLiveView form lead_in blocks now
-  pub so_far : form ≡ Raw → length blocks - lead_in ≤ last_block
-      → IsLiveViewAt Raw lead_in (length blocks - lead_in) blocks now
+  pub so_far : form ≡ Raw → IsLiveViewAt Raw lead_in (length blocks - lead_in) blocks now
 
--- A player shows what the blocks show that it was fed since it began, at most 1,000,000, or what the packs draw that
--- it drew since.
+-- A player shows what all draws that it was given since it began, in order. Where this is blocks alone, it is what the
+-- blocks show, and where it is packs alone, what the packs draw.
 pub record IsShownBy (player : LivePlayer) (now : Standing) : Type 0 where
-  pub blocks : (form : Form) (lead_in : ℕ) (blocks : List (List ℕ)) → HasPlayed form lead_in blocks player
-      → length blocks ≤ most_units
-      → IsSeen form lead_in blocks now
-  pub packs : (packs : List (List ℕ)) → HasDrawn packs player
-      → now ≡ standing_after blank (map instruction_of packs)
+  pub all : (form : Form) (lead_in : ℕ) (given : List Given) → HasPlayed form lead_in given player
+      → now ≡ standing_after blank (instructions_in form lead_in given)
+  pub blocks : (form : Form) (lead_in : ℕ) (given : List Given) → HasPlayed form lead_in given player
+      → packs_in given ≡ [] → IsSeen form lead_in (blocks_in given) now
+  pub packs : (form : Form) (lead_in : ℕ) (given : List Given) → HasPlayed form lead_in given player
+      → blocks_in given ≡ [] → now ≡ standing_after blank (map instruction_of (packs_in given))
 
 -- this holds of what the one player shows
 abbrev pub PlayersShow : List LivePlayer → (Standing → Type 0) → Type 0

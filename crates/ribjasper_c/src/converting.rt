@@ -1,18 +1,21 @@
 // A whole stream in memory.
-ghost use Rattle.std.specs.Prelude.{◌≡◌, ◌≢◌, ◌<◌, ◌≤◌, ◌*◌, ◌-◌, ◌/◌, ◌%◌, ◌++◌, ◌⊎◌, ◌↔◌, IfOk, IsErrOf, List, ℕ, [], drop, length, pos};
+ghost use Rattle.std.specs.Prelude.{◌≡◌, ◌≢◌, ◌<◌, ◌≤◌, ◌+◌, ◌*◌, ◌-◌, ◌/◌, ◌++◌, ◌⊎◌, ◌↔◌, List, ℕ, MatchOption, drop, length, pos, take};
 ghost use Rattle.raw_subcode.specs.Sizes.{most_units};
 ghost use Rattle.disc_time.specs.Counts.{most_lead_in};
-ghost use Rattle.raw_subcode.specs.Channels.{unit_size};
-ghost use Rattle.ribjasper_c.specs.Conversions.{stream_form, IsTold};
+ghost use Rattle.raw_subcode.specs.Channels.{block_of, unit_size};
+ghost use Rattle.cdg_io.specs.Pump.{given_bytes};
+ghost use Rattle.ribjasper_c.specs.Conversions.{stream_form, text_size, IsNoStream, IsTold};
+ghost use Rattle.rw_interleave.specs.Stream.{word_count};
 ghost use Rattle.stream_stages.specs.Convert.{IsConverted};
+ghost use Rattle.stream_stages.specs.Steps.{fresh_words};
 
 use crate::playing::form_of;
-use cdg_io::{MemSink, SteadySource};
+use cdg_io::{Piece, Stage, Then};
 use disc_time::MOST_LEAD_IN;
-use raw_subcode::Form;
-use std::alloc::Global;
-use stream_calls::Converter;
-use stream_stages::{PlayStop, Played};
+use raw_subcode::{BLOCK_BYTES, Form, MOST_UNITS, SECTOR_BYTES, SLOTS_A_BLOCK};
+use rw_code::SYMBOLS;
+use rw_interleave::Window;
+use stream_stages::{BlockWords, Correction};
 
 // The exit numbers of the program.
 const DONE: i32 = 0;
@@ -25,7 +28,8 @@ const REFUSED: i32 = 3;
 
 const WRITE_FAULT: i32 = 6;
 
-const NO_MEMORY: i32 = 7;
+// The slots that a raw stream keeps back: a pack ends seven slots after the one that it begins in.
+const KEPT_BACK: usize = 7;
 
 /// What is told of a stream that was converted.
 #[repr(C)]
@@ -39,17 +43,9 @@ pub struct Converted {
     pub bad: u32,
 }
 
-// Why a stream is not converted.
-enum Stop {
-    /// Its bytes are not whole units, or too many.
-    Refused,
-    NoMemory,
-}
-
 /// Writes the packs of a stream to the front of a buffer, and answers by an exit number of the program.
 #[unsafe(no_mangle)]
 pub extern "C" fn ribjasper_convert(
-    alloc: Global,
     stream: &[u8],
     form: u32,
     lead_in: u32,
@@ -62,70 +58,133 @@ pub extern "C" fn ribjasper_convert(
     ensures whole { result ≡ pos 0 → told.new.bad ≡ 0 }
     ensures damaged { result ≡ pos 1 → 0 < told.new.bad }
     ensures usage { (result ≡ pos 2) ↔ ((2 < form) ⊎ (most_lead_in < lead_in)) }
-    ensures refused { result ≡ pos 3 → (length stream.now % unit_size (stream_form form) ≢ 0)
-        ⊎ (most_units * unit_size (stream_form form) < length stream.now) }
-    ensures small { result ≡ pos 6 → (text : List ℕ) × (bad : ℕ)
-        × IsConverted (stream_form form) lead_in stream.now text bad × (length packs.old < length text) }
-    ensures answer { (result ≡ pos 0) ⊎ (result ≡ pos 1) ⊎ (result ≡ pos 2) ⊎ (result ≡ pos 3)
-        ⊎ (result ≡ pos 6) ⊎ (result ≡ pos 7) }
+    ensures refused { (result ≡ pos 3)
+        ↔ (form ≤ 2) × (lead_in ≤ most_lead_in) × IsNoStream (stream_form form) stream.now }
+    ensures small { (result ≡ pos 6)
+        ↔ (form ≤ 2) × (lead_in ≤ most_lead_in) × (¬ IsNoStream (stream_form form) stream.now)
+        × (length packs.old < text_size (stream_form form) lead_in stream.now) }
+    ensures answer { (result ≡ pos 0) ⊎ (result ≡ pos 1) ⊎ (result ≡ pos 2) ⊎ (result ≡ pos 3) ⊎ (result ≡ pos 6) }
     ensures untouched { result ≢ pos 0 → result ≢ pos 1 → (packs.new ≡ packs.old) × (told.new ≡ told.old) }
 {
     if form > 2 || lead_in > MOST_LEAD_IN {
         return USAGE;
     }
-    let (sink, played) = match packs_of(alloc, stream_form(form), lead_in, stream) {
-        Ok(done) => done,
-        Err(Stop::Refused) => return REFUSED,
-        Err(Stop::NoMemory) => return NO_MEMORY,
+    let form = stream_form(form);
+    let Some(units) = units_in(form, stream) else {
+        return REFUSED;
     };
-    let text = sink.bytes();
-    if text.len() > packs.len() {
+    let size = size_of_text(form, lead_in, units);
+    if size > packs.len() {
         return WRITE_FAULT;
     }
-    copy_front(text, packs);
+    let bad = write_packs(form, lead_in, stream, units, packs);
     *told = Converted {
-        bytes: text.len() as u64,
-        blocks: played.blocks,
-        bad: played.bad,
+        bytes: size as u64,
+        blocks: units.saturating_sub(lead_in),
+        bad,
     };
-    if played.bad == 0 { DONE } else { DAMAGED }
+    if bad == 0 { DONE } else { DAMAGED }
 }
 
-fn packs_of(
-    alloc: Global,
-    form: Form,
-    lead_in: u32,
-    stream: &[u8],
-) -> Result<(MemSink, Played), Stop>
-    requires { lead_in ≤ most_lead_in }
-    ensures text { IfOk result (λ done. IsConverted form lead_in stream.now done.0.held done.1.bad) }
-    ensures blocks { IfOk result (λ done. done.1.blocks ≡ length stream.now / unit_size form - lead_in) }
-    ensures refused { IsErrOf result Stop.Refused → (length stream.now % unit_size form ≢ 0)
-        ⊎ (most_units * unit_size form < length stream.now) }
+// How many units a stream is, where it is whole units and not too many.
+fn units_in(form: Form, stream: &[u8]) -> Option<u32>
+    ensures { MatchOption result (IsNoStream form stream.now)
+        (λ units. (units ≤ most_units) × (length stream.now ≡ units * unit_size form)) }
 {
-    // No more bytes are written than are read.
-    let Ok(mut sink) = MemSink::new(alloc, stream.len(), Vec::new(alloc), Vec::new(alloc)) else {
-        return Err(Stop::NoMemory);
-    };
-    let played = write_packs(form, lead_in, stream, &mut sink)?;
-    Ok((sink, played))
-}
-
-// Converts a stream into a sink.
-fn write_packs(form: Form, lead_in: u32, stream: &[u8], sink: &mut MemSink) -> Result<Played, Stop>
-    requires lead_in { lead_in ≤ most_lead_in }
-    requires empty { sink.old.held ≡ [] }
-    ensures text { IfOk result (λ played. IsConverted form lead_in stream.now sink.new.held played.bad) }
-    ensures blocks { IfOk result (λ played. played.blocks ≡ length stream.now / unit_size form - lead_in) }
-    ensures refused { IsErrOf result Stop.Refused → (length stream.now % unit_size form ≢ 0)
-        ⊎ (most_units * unit_size form < length stream.now) }
-{
-    let mut source = SteadySource::new(stream);
-    match Converter::new().convert(lead_in, form, &mut source, sink) {
-        Ok(played) => Ok(played),
-        Err(PlayStop::Torn { .. } | PlayStop::TooLong) => Err(Stop::Refused),
-        Err(_) => Err(Stop::NoMemory),
+    let size = size_of_unit(form);
+    let units = stream.len() / size;
+    if stream.len() % size != 0 || units > MOST_UNITS as usize {
+        return None;
     }
+    Some(units as u32)
+}
+
+fn size_of_unit(form: Form) -> usize
+    ensures { result ≡ unit_size form }
+{
+    match form {
+        Form::Sector => SECTOR_BYTES,
+        Form::Raw | Form::Cooked => BLOCK_BYTES,
+    }
+}
+
+// How many bytes the packs of so many units are.
+fn size_of_text(form: Form, lead_in: u32, units: u32) -> usize
+    requires { units ≤ most_units }
+    ensures { result ≡ 24 * word_count form (units - lead_in) }
+{
+    let slots = SLOTS_A_BLOCK * units.saturating_sub(lead_in) as usize;
+    match form {
+        Form::Raw | Form::Sector => SYMBOLS * slots.saturating_sub(KEPT_BACK),
+        Form::Cooked => SYMBOLS * slots,
+    }
+}
+
+// Writes the packs of whole units to the front of a buffer, and answers how many are bad.
+fn write_packs(form: Form, lead_in: u32, stream: &[u8], units: u32, packs: &mut [u8]) -> u32
+    requires few { units ≤ most_units }
+    requires whole { length stream.now ≡ units * unit_size form }
+    requires room { 24 * word_count form (units - lead_in) ≤ length packs.old }
+    ensures { (text : List ℕ) × IsConverted form lead_in stream.now text result
+        × (length text ≡ 24 * word_count form (units - lead_in))
+        × (packs.new ≡ text ++ drop (length text) packs.old) }
+{
+    let mut stages = stages(form, lead_in);
+    let mut piece = None;
+    let mut at = 0;
+    for n in 0..units as usize {
+        stages.emit(&block_at(form, stream, n), &mut piece);
+        at += put(&piece, packs, at);
+    }
+    stages.second.bad
+}
+
+// What gathers and corrects the packs of a stream, before its first block.
+fn stages(form: Form, lead_in: u32) -> Then<BlockWords, Correction>
+    ensures first { result.first ≡ fresh_words form lead_in }
+    ensures second { result.second.bad ≡ 0 }
+{
+    let words = BlockWords {
+        form,
+        lead_in,
+        gather: Window::new(),
+    };
+    Then::new(words, Correction { bad: 0 })
+}
+
+// The block of unit n.
+fn block_at(form: Form, stream: &[u8], n: usize) -> [u8; BLOCK_BYTES]
+    requires { n * unit_size form + unit_size form ≤ length stream.now }
+    ensures { result ≡ block_of form (take (unit_size form) (drop (n * unit_size form) stream.now)) }
+{
+    let size = size_of_unit(form);
+    let unit = &stream[n * size..n * size + size];
+    let mut block = [0; BLOCK_BYTES];
+    block.copy_from_slice(&unit[size - BLOCK_BYTES..]);
+    block
+}
+
+// Writes a piece, if there is one, from a place on, and answers how many bytes it has.
+fn put(piece: &Option<Piece>, packs: &mut [u8], at: usize) -> usize
+    requires { at + length (given_bytes piece.now) ≤ length packs.old }
+    ensures count { result ≡ length (given_bytes piece.now) }
+    ensures written { packs.new ≡ take at packs.old ++ (given_bytes piece.now
+        ++ drop (at + length (given_bytes piece.now)) packs.old) }
+{
+    match piece {
+        Some(piece) => copy_to(piece.bytes(), packs, at),
+        None => 0,
+    }
+}
+
+fn copy_to(bytes: &[u8], packs: &mut [u8], at: usize) -> usize
+    requires { at + length bytes.now ≤ length packs.old }
+    ensures count { result ≡ length bytes.now }
+    ensures written { packs.new
+        ≡ take at packs.old ++ (bytes.now ++ drop (at + length bytes.now) packs.old) }
+{
+    packs[at..at + bytes.len()].copy_from_slice(bytes);
+    bytes.len()
 }
 
 pub(crate) fn stream_form(form: u32) -> Form

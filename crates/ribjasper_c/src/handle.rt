@@ -10,9 +10,9 @@ use parts::Parts;
 use std::alloc::Global;
 use std::marker::Model;
 
-/// A pointer to a player, or to nothing.
+/// A pointer to a player, or to nothing. It is not dropped: a player has to be taken out of it, and only a handle of no
+/// player can be let go.
 #[repr(C)]
-#[derive(Drop)]
 pub struct Handle {
     at: *mut u8,
     alloc: Global,
@@ -47,6 +47,22 @@ impl Handle {
         ensures { self.players ≡ result.value ∷ [] }
     {
         self.into_parts().into_box()
+    }
+
+    /// Lets a handle of no player go.
+    pub fn release(self)
+        requires { length self.players ≡ 0 }
+    {
+        let _alloc = self.into_allocator();
+    }
+
+    // The allocator of a handle of no player.
+    fn into_allocator(self) -> Global
+        requires { length self.players ≡ 0 }
+        ensures { result ≡ self.alloc }
+    {
+        let Handle { at: _, alloc } = self;
+        alloc
     }
 
     fn of_parts(parts: Parts<LivePlayer, Global>) -> Handle

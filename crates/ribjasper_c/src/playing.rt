@@ -1,9 +1,13 @@
 // A player that C feeds block by block.
-ghost use Rattle.std.specs.Prelude.{◌≡◌, ◌<◌, ◌⊎◌, ◌&&◌, nat_lt, if◌then◌else◌, ◌++◌, ◌∷◌, [], List, ℕ, pos, negsuc, length, true, false};
+ghost use Rattle.std.specs.Prelude.{◌≡◌, ◌≤◌, ◌⊎◌, ◌&&◌, nat_le, nat_lt, if◌then◌else◌, ◌∷◌, [], List, ℕ, pos, negsuc, length, true, false, IfSome};
+ghost use Rattle.disc_time.specs.Counts.{most_lead_in};
+ghost use Rattle.live_player.specs.Lives.{Given, HasPlayed};
+ghost use Rattle.live_player.specs.Lives.Given.{Drawn, Fed};
 ghost use Rattle.raw_subcode.specs.declared.form.Form.{Form};
-ghost use Rattle.ribjasper_c.specs.Handles.{form_of, IsDrawing, IsPlaying};
+ghost use Rattle.ribjasper_c.specs.Handles.{form_of, IsPlaying};
 
 use crate::Handle;
+use disc_time::MOST_LEAD_IN;
 use live_player::LivePlayer;
 use raw_subcode::{BLOCK_BYTES, Form};
 use rw_code::SYMBOLS;
@@ -12,11 +16,27 @@ use std::mem;
 
 /// What C keeps of a player. All zero it is closed.
 #[repr(C)]
-#[derive(Drop)]
 pub struct Playing {
     pub handle: Handle,
+    alloc: Global,
     pub is_open: bool,
-    ghost holds: { is_open ≡ true → length handle.players ≡ 1 },
+    ghost holds: { length handle.players ≡ (if is_open then 1 else 0) },
+}
+
+impl Drop for Playing {
+    /// Frees the player that is held.
+    fn drop(self) {
+        let Playing {
+            handle,
+            alloc: _,
+            is_open,
+        } = self;
+        if is_open {
+            drop(handle.into_box());
+        } else {
+            handle.release();
+        }
+    }
 }
 
 impl Playing {
@@ -26,48 +46,87 @@ impl Playing {
     {
         Playing {
             handle: Handle::none(alloc),
+            alloc,
             is_open: false,
         }
     }
 
-    pub(crate) fn of(player: Box<LivePlayer>) -> Playing
+    pub(crate) fn of(alloc: Global, player: Box<LivePlayer>) -> Playing
         ensures opened { result.is_open ≡ true }
         ensures held { result.handle.players ≡ player.value ∷ [] }
     {
         Playing {
             handle: Handle::of(player),
+            alloc,
             is_open: true,
         }
     }
 
-    pub(crate) fn into_box(self) -> Box<LivePlayer>
-        requires { length self.handle.players ≡ 1 }
+    fn into_box(self) -> Box<LivePlayer>
+        requires { self.is_open ≡ true }
         ensures { self.handle.players ≡ result.value ∷ [] }
     {
-        let Playing { handle, is_open: _ } = self;
+        let Playing {
+            handle,
+            alloc: _,
+            is_open: _,
+        } = self;
         handle.into_box()
+    }
+
+    // Takes the player out, and leaves none.
+    pub(crate) fn take_out(&mut self) -> Box<LivePlayer>
+        requires { self.old.is_open ≡ true }
+        ensures { self.old.handle.players ≡ result.value ∷ [] }
+    {
+        let none = Playing::closed(self.alloc);
+        mem::replace(self, none).into_box()
+    }
+
+    // Holds this player from now on.
+    pub(crate) fn put_back(&mut self, player: Box<LivePlayer>)
+        ensures opened { self.new.is_open ≡ true }
+        ensures held { self.new.handle.players ≡ player.value ∷ [] }
+    {
+        *self = Playing::of(self.alloc, player);
     }
 }
 
-/// Opens a player of a raw stream. 0, or -1 where no memory is left, and then none is held.
+/// Opens a player of a raw stream with no lead-in. One that is open keeps its memory and begins anew. 0, or -1 where
+/// no memory is left, and then none is held.
 #[unsafe(no_mangle)]
 pub extern "C" fn ribjasper_player_open(alloc: Global, player: &mut Playing) -> i32
     ensures begun { result ≡ pos 0 → IsPlaying Form.Raw 0 [] player.new.handle.players }
-    ensures drawn { result ≡ pos 0 → IsDrawing [] player.new.handle.players }
     ensures opened { result ≡ pos 0 → player.new.is_open ≡ true }
-    ensures refused { result ≡ negsuc 0 → player.new.handle.players ≡ [] }
+    ensures refused { result ≡ negsuc 0 → player.old.is_open ≡ false }
+    ensures none { result ≡ negsuc 0 → player.new.handle.players ≡ [] }
     ensures closed { result ≡ negsuc 0 → player.new.is_open ≡ false }
     ensures answer { (result ≡ pos 0) ⊎ (result ≡ negsuc 0) }
 {
-    ribjasper_player_close(alloc, player);
-    let Ok(live) = LivePlayer::start(alloc) else {
-        return -1;
-    };
-    let Ok(boxed) = Box::new(alloc, live) else {
-        return -1;
-    };
-    *player = Playing::of(boxed);
-    0
+    if player.is_open {
+        let mut live = player.take_out();
+        live.begin(0, Form::Raw);
+        player.put_back(live);
+        return 0;
+    }
+    match opened(alloc) {
+        Some(live) => {
+            player.put_back(live);
+            0
+        }
+        None => {
+            *player = Playing::closed(alloc);
+            -1
+        }
+    }
+}
+
+// A player of a raw stream, where there is memory.
+fn opened(alloc: Global) -> Option<Box<LivePlayer>>
+    ensures { IfSome result (λ live. HasPlayed Form.Raw 0 [] live.value) }
+{
+    let live = LivePlayer::start(alloc).ok()?;
+    Box::new(alloc, live).ok()
 }
 
 /// Closes a player, and frees what it holds.
@@ -76,22 +135,15 @@ pub extern "C" fn ribjasper_player_close(alloc: Global, player: &mut Playing)
     ensures none { player.new.handle.players ≡ [] }
     ensures closed { player.new.is_open ≡ false }
 {
-    let was = mem::replace(player, Playing::closed(alloc));
-    if was.is_open {
-        drop(was.into_box());
-    }
+    *player = Playing::closed(alloc);
 }
 
 /// Feeds an open player the next block. 0, or -1 where it is closed.
 #[unsafe(no_mangle)]
-pub extern "C" fn ribjasper_player_feed(
-    alloc: Global,
-    player: &mut Playing,
-    block: &[u8; BLOCK_BYTES],
-) -> i32
-    ensures fed { result ≡ pos 0 → (form : Form) (lead_in : ℕ) (blocks : List (List ℕ))
-        → IsPlaying form lead_in blocks player.old.handle.players
-        → IsPlaying form lead_in (blocks ++ block.now ∷ []) player.new.handle.players }
+pub extern "C" fn ribjasper_player_feed(player: &mut Playing, block: &[u8; BLOCK_BYTES]) -> i32
+    ensures fed { result ≡ pos 0 → (form : Form) (lead_in : ℕ) (given : List Given)
+        → IsPlaying form lead_in given player.old.handle.players
+        → IsPlaying form lead_in (Fed block.now ∷ given) player.new.handle.players }
     ensures answer { result ≡ (if player.old.is_open then pos 0 else negsuc 0) }
     ensures stays { player.new.is_open ≡ player.old.is_open }
     ensures refused { result ≡ negsuc 0 → player.new.handle.players ≡ player.old.handle.players }
@@ -99,21 +151,19 @@ pub extern "C" fn ribjasper_player_feed(
     if !player.is_open {
         return -1;
     }
-    let mut live = mem::replace(player, Playing::closed(alloc)).into_box();
+    let mut live = player.take_out();
     live.feed(block);
-    *player = Playing::of(live);
+    player.put_back(live);
     0
 }
 
-/// Draws a pack of 24 bytes, whose parity has no part in it. 0, or -1 where the player is closed.
+/// Draws a pack of 24 bytes, whose parity has no part in it. The stream goes on as if the pack were not there. 0, or
+/// -1 where the player is closed.
 #[unsafe(no_mangle)]
-pub extern "C" fn ribjasper_player_draw(
-    alloc: Global,
-    player: &mut Playing,
-    pack: &[u8; SYMBOLS],
-) -> i32
-    ensures drawn { result ≡ pos 0 → (packs : List (List ℕ)) → IsDrawing packs player.old.handle.players
-        → IsDrawing (packs ++ pack.now ∷ []) player.new.handle.players }
+pub extern "C" fn ribjasper_player_draw(player: &mut Playing, pack: &[u8; SYMBOLS]) -> i32
+    ensures drawn { result ≡ pos 0 → (form : Form) (lead_in : ℕ) (given : List Given)
+        → IsPlaying form lead_in given player.old.handle.players
+        → IsPlaying form lead_in (Drawn pack.now ∷ given) player.new.handle.players }
     ensures answer { result ≡ (if player.old.is_open then pos 0 else negsuc 0) }
     ensures stays { player.new.is_open ≡ player.old.is_open }
     ensures refused { result ≡ negsuc 0 → player.new.handle.players ≡ player.old.handle.players }
@@ -121,34 +171,29 @@ pub extern "C" fn ribjasper_player_draw(
     if !player.is_open {
         return -1;
     }
-    let mut live = mem::replace(player, Playing::closed(alloc)).into_box();
+    let mut live = player.take_out();
     live.draw(pack);
-    *player = Playing::of(live);
+    player.put_back(live);
     0
 }
 
-/// Begins anew, with so many lead-in blocks. The form is 0 for a raw stream, or 1 for one of packs, four a
-/// block.
-/// 0, or -1 where the player is closed or the form is another number.
+/// Begins anew, with so many lead-in blocks, at most 450,000. The form is 0 for a raw stream, or 1 for one of packs,
+/// four a block.
+/// 0, or -1 where the player is closed or a number is out of its range.
 #[unsafe(no_mangle)]
-pub extern "C" fn ribjasper_player_begin(
-    alloc: Global,
-    player: &mut Playing,
-    form: u32,
-    lead_in: u32,
-) -> i32
+pub extern "C" fn ribjasper_player_begin(player: &mut Playing, form: u32, lead_in: u32) -> i32
     ensures begun { result ≡ pos 0 → IsPlaying (form_of form) lead_in [] player.new.handle.players }
-    ensures drawn { result ≡ pos 0 → IsDrawing [] player.new.handle.players }
-    ensures answer { result ≡ (if player.old.is_open && nat_lt form 2 then pos 0 else negsuc 0) }
+    ensures answer { result ≡ (if player.old.is_open && nat_lt form 2 && nat_le lead_in most_lead_in
+        then pos 0 else negsuc 0) }
     ensures stays { player.new.is_open ≡ player.old.is_open }
     ensures refused { result ≡ negsuc 0 → player.new.handle.players ≡ player.old.handle.players }
 {
-    if !player.is_open || form >= 2 {
+    if !player.is_open || form >= 2 || lead_in > MOST_LEAD_IN {
         return -1;
     }
-    let mut live = mem::replace(player, Playing::closed(alloc)).into_box();
+    let mut live = player.take_out();
     live.begin(lead_in, form_of(form));
-    *player = Playing::of(live);
+    player.put_back(live);
     0
 }
 

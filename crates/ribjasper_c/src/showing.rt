@@ -5,14 +5,11 @@ ghost use Rattle.ribjasper_c.specs.Handles.{ArePictureBytes, AreLevels, IsScreen
 
 use crate::Playing;
 use live_player::LivePlayer;
-use std::alloc::Global;
-use std::mem;
 
 /// Writes the number of the colour that the screen shows at a place. 0, or -1 where the player is closed or
 /// the place is not on the screen.
 #[unsafe(no_mangle)]
 pub extern "C" fn ribjasper_player_pixel(
-    alloc: Global,
     player: &mut Playing,
     x: u32,
     y: u32,
@@ -29,9 +26,9 @@ pub extern "C" fn ribjasper_player_pixel(
     if !player.is_open || x >= 300 || y >= 216 {
         return -1;
     }
-    let live = mem::replace(player, Playing::closed(alloc)).into_box();
+    let live = player.take_out();
     *pixel = shown_pixel(&live, x, y);
-    *player = Playing::of(live);
+    player.put_back(live);
     0
 }
 
@@ -41,16 +38,13 @@ fn shown_pixel(live: &LivePlayer, x: u32, y: u32) -> u8
     ensures { PlayersShow (live.now ∷ []) (λ now. result ≡ screen_pixel now x y) }
 {
     live.shows_its_blocks();
+    live.shows_its_packs();
     live.pixel(x, y)
 }
 
 /// Writes the numbers of the colours of all pixels, row by row. 0, or -1 where the player is closed.
 #[unsafe(no_mangle)]
-pub extern "C" fn ribjasper_player_screen(
-    alloc: Global,
-    player: &mut Playing,
-    pixels: &mut [u8; 64_800],
-) -> i32
+pub extern "C" fn ribjasper_player_screen(player: &mut Playing, pixels: &mut [u8; 64_800]) -> i32
     ensures shows { result ≡ pos 0 → PlayersShow player.old.handle.players (λ now. IsScreen pixels.new now) }
     ensures answer { result ≡ (if player.old.is_open then pos 0 else negsuc 0) }
     ensures stays { player.new.is_open ≡ player.old.is_open }
@@ -60,9 +54,9 @@ pub extern "C" fn ribjasper_player_screen(
     if !player.is_open {
         return -1;
     }
-    let live = mem::replace(player, Playing::closed(alloc)).into_box();
+    let live = player.take_out();
     shown_screen(&live, pixels);
-    *player = Playing::of(live);
+    player.put_back(live);
     0
 }
 
@@ -70,17 +64,13 @@ fn shown_screen(live: &LivePlayer, pixels: &mut [u8; 64_800])
     ensures { PlayersShow (live.now ∷ []) (λ now. IsScreen pixels.new now) }
 {
     live.shows_its_blocks();
+    live.shows_its_packs();
     live.screen(pixels);
 }
 
 /// Writes colour k of the table as 0xRGB. 0, or -1 where the player is closed or k is above 15.
 #[unsafe(no_mangle)]
-pub extern "C" fn ribjasper_player_colour(
-    alloc: Global,
-    player: &mut Playing,
-    k: u8,
-    colour: &mut u16,
-) -> i32
+pub extern "C" fn ribjasper_player_colour(player: &mut Playing, k: u8, colour: &mut u16) -> i32
     ensures shows { result ≡ pos 0
         → PlayersShow player.old.handle.players (λ now. colour.new ≡ slice_index now.colours k) }
     ensures answer { result ≡ (if player.old.is_open && nat_lt k 16 then pos 0 else negsuc 0) }
@@ -91,9 +81,9 @@ pub extern "C" fn ribjasper_player_colour(
     if !player.is_open || k >= 16 {
         return -1;
     }
-    let live = mem::replace(player, Playing::closed(alloc)).into_box();
+    let live = player.take_out();
     *colour = shown_colour(&live, k);
-    *player = Playing::of(live);
+    player.put_back(live);
     0
 }
 
@@ -102,16 +92,13 @@ fn shown_colour(live: &LivePlayer, k: u8) -> u16
     ensures { PlayersShow (live.now ∷ []) (λ now. result ≡ slice_index now.colours k) }
 {
     live.shows_its_blocks();
+    live.shows_its_packs();
     live.colour(k)
 }
 
 /// Writes the colours of the table, each as 0xRGB. 0, or -1 where the player is closed.
 #[unsafe(no_mangle)]
-pub extern "C" fn ribjasper_player_colours(
-    alloc: Global,
-    player: &mut Playing,
-    table: &mut [u16; 16],
-) -> i32
+pub extern "C" fn ribjasper_player_colours(player: &mut Playing, table: &mut [u16; 16]) -> i32
     ensures shows { result ≡ pos 0 → PlayersShow player.old.handle.players (λ now. IsTable table.new now) }
     ensures answer { result ≡ (if player.old.is_open then pos 0 else negsuc 0) }
     ensures stays { player.new.is_open ≡ player.old.is_open }
@@ -121,9 +108,9 @@ pub extern "C" fn ribjasper_player_colours(
     if !player.is_open {
         return -1;
     }
-    let live = mem::replace(player, Playing::closed(alloc)).into_box();
+    let live = player.take_out();
     shown_colours(&live, table);
-    *player = Playing::of(live);
+    player.put_back(live);
     0
 }
 
@@ -131,16 +118,13 @@ fn shown_colours(live: &LivePlayer, table: &mut [u16; 16])
     ensures { PlayersShow (live.now ∷ []) (λ now. IsTable table.new now) }
 {
     live.shows_its_blocks();
+    live.shows_its_packs();
     live.colours(table);
 }
 
 /// Writes the levels of the colours, 0 to 63. 0, or -1 where the player is closed.
 #[unsafe(no_mangle)]
-pub extern "C" fn ribjasper_player_levels(
-    alloc: Global,
-    player: &mut Playing,
-    levels: &mut [u8; 16],
-) -> i32
+pub extern "C" fn ribjasper_player_levels(player: &mut Playing, levels: &mut [u8; 16]) -> i32
     ensures shows { result ≡ pos 0 → PlayersShow player.old.handle.players (λ now. AreLevels levels.new now) }
     ensures answer { result ≡ (if player.old.is_open then pos 0 else negsuc 0) }
     ensures stays { player.new.is_open ≡ player.old.is_open }
@@ -150,9 +134,9 @@ pub extern "C" fn ribjasper_player_levels(
     if !player.is_open {
         return -1;
     }
-    let live = mem::replace(player, Playing::closed(alloc)).into_box();
+    let live = player.take_out();
     shown_levels(&live, levels);
-    *player = Playing::of(live);
+    player.put_back(live);
     0
 }
 
@@ -160,16 +144,13 @@ fn shown_levels(live: &LivePlayer, levels: &mut [u8; 16])
     ensures { PlayersShow (live.now ∷ []) (λ now. AreLevels levels.new now) }
 {
     live.shows_its_blocks();
+    live.shows_its_packs();
     live.levels(levels);
 }
 
 /// Writes red, green and blue of all pixels, row by row. 0, or -1 where the player is closed.
 #[unsafe(no_mangle)]
-pub extern "C" fn ribjasper_player_picture(
-    alloc: Global,
-    player: &mut Playing,
-    bytes: &mut [u8; 194_400],
-) -> i32
+pub extern "C" fn ribjasper_player_picture(player: &mut Playing, bytes: &mut [u8; 194_400]) -> i32
     ensures shows { result ≡ pos 0
         → PlayersShow player.old.handle.players (λ now. ArePictureBytes bytes.new now) }
     ensures answer { result ≡ (if player.old.is_open then pos 0 else negsuc 0) }
@@ -180,9 +161,9 @@ pub extern "C" fn ribjasper_player_picture(
     if !player.is_open {
         return -1;
     }
-    let live = mem::replace(player, Playing::closed(alloc)).into_box();
+    let live = player.take_out();
     shown_picture(&live, bytes);
-    *player = Playing::of(live);
+    player.put_back(live);
     0
 }
 
@@ -190,16 +171,13 @@ fn shown_picture(live: &LivePlayer, bytes: &mut [u8; 194_400])
     ensures { PlayersShow (live.now ∷ []) (λ now. ArePictureBytes bytes.new now) }
 {
     live.shows_its_blocks();
+    live.shows_its_packs();
     live.bytes(bytes);
 }
 
 /// Writes the number of the border's colour. 0, or -1 where the player is closed.
 #[unsafe(no_mangle)]
-pub extern "C" fn ribjasper_player_border(
-    alloc: Global,
-    player: &mut Playing,
-    border: &mut u8,
-) -> i32
+pub extern "C" fn ribjasper_player_border(player: &mut Playing, border: &mut u8) -> i32
     ensures shows { result ≡ pos 0 → PlayersShow player.old.handle.players (λ now. border.new ≡ now.border) }
     ensures answer { result ≡ (if player.old.is_open then pos 0 else negsuc 0) }
     ensures stays { player.new.is_open ≡ player.old.is_open }
@@ -209,9 +187,9 @@ pub extern "C" fn ribjasper_player_border(
     if !player.is_open {
         return -1;
     }
-    let live = mem::replace(player, Playing::closed(alloc)).into_box();
+    let live = player.take_out();
     *border = shown_border(&live);
-    *player = Playing::of(live);
+    player.put_back(live);
     0
 }
 
@@ -219,6 +197,7 @@ fn shown_border(live: &LivePlayer) -> u8
     ensures { PlayersShow (live.now ∷ []) (λ now. result ≡ now.border) }
 {
     live.shows_its_blocks();
+    live.shows_its_packs();
     live.border()
 }
 
@@ -226,7 +205,6 @@ fn shown_border(live: &LivePlayer) -> u8
 /// player is closed.
 #[unsafe(no_mangle)]
 pub extern "C" fn ribjasper_player_offsets(
-    alloc: Global,
     player: &mut Playing,
     across: &mut u8,
     down: &mut u8,
@@ -241,9 +219,9 @@ pub extern "C" fn ribjasper_player_offsets(
     if !player.is_open {
         return -1;
     }
-    let live = mem::replace(player, Playing::closed(alloc)).into_box();
+    let live = player.take_out();
     (*across, *down) = shown_offsets(&live);
-    *player = Playing::of(live);
+    player.put_back(live);
     0
 }
 
@@ -251,5 +229,6 @@ fn shown_offsets(live: &LivePlayer) -> (u8, u8)
     ensures { PlayersShow (live.now ∷ []) (λ now. (result.0 ≡ now.h) × (result.1 ≡ now.v)) }
 {
     live.shows_its_blocks();
+    live.shows_its_packs();
     live.offsets()
 }

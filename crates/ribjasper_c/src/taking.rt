@@ -1,6 +1,7 @@
 // The packs that come with a block.
 ghost use Rattle.std.specs.Prelude.{◌≡◌, ◌≤◌, ◌++◌, ◌∷◌, [], List, ℕ, pos, negsuc, length, true, false};
-ghost use Rattle.live_player.specs.Lives.{stream_words};
+ghost use Rattle.live_player.specs.Lives.{Given, blocks_in, stream_words};
+ghost use Rattle.live_player.specs.Lives.Given.{Fed};
 ghost use Rattle.raw_subcode.specs.declared.form.Form.{Form};
 ghost use Rattle.ribjasper_c.specs.Answers.{IsCorrected};
 ghost use Rattle.ribjasper_c.specs.Handles.{IsPlaying};
@@ -9,8 +10,6 @@ ghost use Rattle.ribjasper_c.specs.Packs.{AreReadAs};
 use crate::Playing;
 use raw_subcode::BLOCK_BYTES;
 use rw_code::{SYMBOLS, Word, correct};
-use std::alloc::Global;
-use std::mem;
 
 /// A pack as it was read: the codeword near its 24 symbols and how many of them were wrong, or these and -1.
 #[repr(C)]
@@ -20,23 +19,23 @@ pub struct ReadPack {
     pub wrong: i32,
 }
 
-/// Feeds an open player the next block, and writes the packs that came with it. Their number, 0 to 4, or -1
-/// where it is closed.
+/// Feeds an open player the next block, and writes the packs that came with it; those behind them are left as they
+/// were. Their number, 0 to 4, or -1 where it is closed.
 #[unsafe(no_mangle)]
 pub extern "C" fn ribjasper_player_take(
-    alloc: Global,
     player: &mut Playing,
     block: &[u8; BLOCK_BYTES],
     packs: &mut [ReadPack; 4],
 ) -> i32
-    ensures fed { player.old.is_open ≡ true → (form : Form) (lead_in : ℕ) (blocks : List (List ℕ))
-        → IsPlaying form lead_in blocks player.old.handle.players
-        → IsPlaying form lead_in (blocks ++ block.now ∷ []) player.new.handle.players }
+    ensures fed { player.old.is_open ≡ true → (form : Form) (lead_in : ℕ) (given : List Given)
+        → IsPlaying form lead_in given player.old.handle.players
+        → IsPlaying form lead_in (Fed block.now ∷ given) player.new.handle.players }
     ensures packs { player.old.is_open ≡ true → (words : List (List ℕ)) × (length words ≤ 4)
-        × (result ≡ pos (length words)) × AreReadAs words packs.new
-        × ((form : Form) (lead_in : ℕ) (blocks : List (List ℕ))
-        → IsPlaying form lead_in blocks player.old.handle.players
-        → stream_words form lead_in (blocks ++ block.now ∷ []) ≡ stream_words form lead_in blocks ++ words) }
+        × (result ≡ pos (length words)) × AreReadAs words packs.old packs.new
+        × ((form : Form) (lead_in : ℕ) (given : List Given)
+        → IsPlaying form lead_in given player.old.handle.players
+        → stream_words form lead_in (blocks_in given ++ block.now ∷ [])
+        ≡ stream_words form lead_in (blocks_in given) ++ words) }
     ensures refused { player.old.is_open ≡ false → result ≡ negsuc 0 }
     ensures untouched { player.old.is_open ≡ false
         → (player.new.handle.players ≡ player.old.handle.players) × (packs.new ≡ packs.old) }
@@ -45,16 +44,16 @@ pub extern "C" fn ribjasper_player_take(
     if !player.is_open {
         return -1;
     }
-    let mut live = mem::replace(player, Playing::closed(alloc)).into_box();
+    let mut live = player.take_out();
     let words = live.take(block);
-    *player = Playing::of(live);
+    player.put_back(live);
     read_all(words.as_slice(), packs)
 }
 
 fn read_all(words: &[Word], packs: &mut [ReadPack; 4]) -> i32
     requires { length words.now ≤ 4 }
     ensures count { result ≡ pos (length words.now) }
-    ensures packs { AreReadAs words.now packs.new }
+    ensures packs { AreReadAs words.now packs.old packs.new }
 {
     for i in 0..words.len() {
         packs[i] = read(&words[i]);

@@ -1,6 +1,9 @@
-use Rattle.std.proofs.Common.{rules}
-use Rattle.live_player.proofs.LiveViews.{none_drawn}
+use Rattle.std.proofs.Common.{List, ℕ, ap}
+use Rattle.stream_stages.specs.declared.block_words.BlockWords.{BlockWords}
+use Rattle.live_player.proofs.LiveViews.{begun}
 use Rattle.live_player.proofs.live.LivePlayer.begin.Goals as goal
 
-pub returns-clause-drawn : goal.returns-clause-drawn
-returns-clause-drawn c = search (rules, none_drawn)
+pub returns : goal.returns
+returns c =
+    let words : List (List ℕ) → BlockWords = λ gather. record { form = c.args.form; lead_in = c.args.lead_in; gather = gather } in
+    begun c.args.form c.args.lead_in _ (ap words c.reset.ensures) c.reset-2.ensures

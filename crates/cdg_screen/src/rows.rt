@@ -1,0 +1,61 @@
+// Whole rows of the screen.
+ghost use Rattle.std.specs.Prelude.{◌≡◌, ◌<◌, ◌≤◌, ◌+◌, ◌-◌, ◌&&◌, nat_le, nat_lt, if◌then◌else◌, ℕ, length, slice_index};
+ghost use Rattle.cdg_screen.specs.Memory.{at};
+ghost use Rattle.cdg_screen.specs.Picture.{screen_pixel};
+
+use crate::Screen;
+use crate::memory::Memory;
+use cdg_instructions::{SCREEN_HEIGHT, SCREEN_WIDTH, TILE_HEIGHT, TILE_WIDTH, WINDOW_WIDTH};
+
+impl Screen {
+    /// Writes the numbers of the colours of a row of the screen's pixels. `y` is below 216.
+    pub fn write_row(&self, y: usize, row: &mut [u8; SCREEN_WIDTH])
+        requires { y < 216 }
+        ensures pixels { (x : ℕ) → x < 300 → slice_index row.new x ≡ screen_pixel self.now x y }
+        ensures range { (x : ℕ) → slice_index row.new x < 16 }
+    {
+        fill_row(row, self.border);
+        if y >= TILE_HEIGHT && y < SCREEN_HEIGHT - TILE_HEIGHT {
+            self.memory
+                .write_window(usize::from(self.h), y + usize::from(self.v), row);
+        }
+    }
+}
+
+impl Memory {
+    // Writes the part of a row that the window shows where it is moved by `h`.
+    fn write_window(&self, h: usize, y: usize, row: &mut [u8; SCREEN_WIDTH])
+        requires moved { h ≤ 5 }
+        requires height { y < 216 }
+        requires range { (x : ℕ) → slice_index row.old x < 16 }
+        ensures pixels { (x : ℕ) → x < 300 → slice_index row.new x
+            ≡ (if nat_le 6 x && nat_lt x 294 then at self.now (x + h) y else slice_index row.old x) }
+        ensures range { (x : ℕ) → slice_index row.new x < 16 }
+    {
+        let from = &self.rows[(y + self.top) % SCREEN_HEIGHT];
+        // What is past the end of the row goes on at its front.
+        let first = (TILE_WIDTH + h + self.left) % SCREEN_WIDTH;
+        let count = WINDOW_WIDTH.min(SCREEN_WIDTH - first);
+        write_at(row, TILE_WIDTH, &from[first..first + count]);
+        write_at(row, TILE_WIDTH + count, &from[..WINDOW_WIDTH - count]);
+    }
+}
+
+// Makes all pixels of a row one colour.
+fn fill_row(row: &mut [u8; SCREEN_WIDTH], colour: u8)
+    requires { colour < 16 }
+    ensures pixels { (x : ℕ) → x < 300 → slice_index row.new x ≡ colour }
+    ensures range { (x : ℕ) → slice_index row.new x < 16 }
+{
+    *row = [colour; SCREEN_WIDTH];
+}
+
+// Writes some pixels from a place of a row on.
+fn write_at(row: &mut [u8; SCREEN_WIDTH], place: usize, pixels: &[u8])
+    requires { place + length pixels.now ≤ 300 }
+    ensures { (x : ℕ) → x < 300 → slice_index row.new x
+        ≡ (if nat_le place x && nat_lt x (place + length pixels.now) then slice_index pixels.now (x - place)
+        else slice_index row.old x) }
+{
+    row[place..place + pixels.len()].copy_from_slice(pixels);
+}

@@ -1,0 +1,6 @@
+use Rattle.live_player.proofs.LiveViews.{fed_more}
+use Rattle.live_player.proofs.live.LivePlayer.feed.Goals as goal
+
+pub returns : goal.returns
+returns c form lead_in given played =
+    fed_more form lead_in given c.args.block.now c.args.self.now c.step.new.self c.told-block c.step.ensures.gathers c.step.ensures.draws played

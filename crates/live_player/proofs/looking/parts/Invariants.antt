@@ -1,0 +1,10 @@
+use Rattle.std.proofs.Common.{◌≡◌, ◌<◌, ℕ, length}
+use Rattle.std.specs.Prelude.{slice_index}
+use Rattle.cdg_screen.specs.Texts.{colour_bytes}
+use Rattle.live_player.proofs.looking.parts.Given as goal
+
+abbrev pub invariant-loop-k : goal.invariant-loop-k
+invariant-loop-k l = record {
+  size : length l.table ≡ 16;
+  shown : (n : ℕ) → n < l.k → slice_index l.table n ≡ slice_index (colour_bytes (slice_index l.picture.colours n)) l.which;
+}

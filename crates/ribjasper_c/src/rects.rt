@@ -1,0 +1,81 @@
+// A part of what a player shows.
+ghost use Rattle.std.specs.Prelude.{◌≡◌, ◌≤◌, ◌∷◌, [], ◌↔◌, ◌⊎◌, IsTrue, MatchOption, length, pos, negsuc, true};
+ghost use Rattle.live_player.specs.Parts.{HasRoomFor, IsOnScreen, ShowsPart};
+ghost use Rattle.ribjasper_c.specs.Handles.{PlayersShow};
+ghost use Rattle.ribjasper_c.specs.Rects.{rect};
+
+use crate::Playing;
+use cdg_instructions::{SCREEN_HEIGHT, SCREEN_WIDTH};
+use live_player::{LivePlayer, Part};
+
+/// Writes the numbers of the colours of a part of the screen, row by row; row j of it begins `stride` times j bytes from
+/// the front, and what is between the rows is left as it was. 0, or -1 where the player is closed, the part is not all
+/// on the screen, its rows lie over each other or the room is too small for them.
+#[unsafe(no_mangle)]
+pub extern "C" fn ribjasper_player_rect(
+    player: &mut Playing,
+    x: u32,
+    y: u32,
+    width: u32,
+    height: u32,
+    pixels: &mut [u8],
+    stride: u32,
+) -> i32
+    ensures shows { result ≡ pos 0 → PlayersShow player.old.handle.players
+        (λ now. ShowsPart now (rect x y width height) stride pixels.old pixels.new) }
+    ensures done { (result ≡ pos 0) ↔ (player.old.is_open ≡ true) × IsOnScreen (rect x y width height)
+        × (width ≤ stride) × HasRoomFor (rect x y width height) stride (length pixels.old) }
+    ensures answer { (result ≡ pos 0) ⊎ (result ≡ negsuc 0) }
+    ensures stays { player.new.is_open ≡ player.old.is_open }
+    ensures same { player.new.handle.players ≡ player.old.handle.players }
+    ensures refused { result ≡ negsuc 0 → pixels.new ≡ pixels.old }
+{
+    let Some(part) = part_of(x, y, width, height) else {
+        return -1;
+    };
+    if !player.is_open || !has_room(&part, stride, pixels.len()) {
+        return -1;
+    }
+    let live = player.take_out();
+    shown_part(&live, &part, pixels, stride as usize);
+    player.put_back(live);
+    0
+}
+
+// A part, where it is all on the screen.
+fn part_of(x: u32, y: u32, width: u32, height: u32) -> Option<Part>
+    ensures { MatchOption result (¬ IsOnScreen (rect x y width height))
+        (λ part. (part ≡ rect x y width height) × IsOnScreen (rect x y width height)) }
+{
+    let part = Part {
+        left: x as usize,
+        top: y as usize,
+        width: width as usize,
+        height: height as usize,
+    };
+    if part.left + part.width <= SCREEN_WIDTH && part.top + part.height <= SCREEN_HEIGHT {
+        Some(part)
+    } else {
+        None
+    }
+}
+
+// Whether the rows of a part do not lie over each other and so many bytes have room for them.
+fn has_room(part: &Part, stride: u32, room: usize) -> bool
+    requires { IsOnScreen part.now }
+    ensures { IsTrue result ↔ (part.now.width ≤ stride) × HasRoomFor part.now stride room }
+{
+    let stride = stride as usize;
+    part.width <= stride && (part.height == 0 || stride * (part.height - 1) + part.width <= room)
+}
+
+fn shown_part(live: &LivePlayer, part: &Part, pixels: &mut [u8], stride: usize)
+    requires part { IsOnScreen part.now }
+    requires apart { part.now.width ≤ stride }
+    requires room { HasRoomFor part.now stride (length pixels.old) }
+    ensures { PlayersShow (live.now ∷ []) (λ now. ShowsPart now part.now stride pixels.old pixels.new) }
+{
+    live.shows_its_blocks();
+    live.shows_its_packs();
+    live.part(part, pixels, stride);
+}
