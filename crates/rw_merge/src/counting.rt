@@ -1,5 +1,5 @@
 // Where two readings differ, and how much stands against a codeword.
-ghost use Rattle.std.specs.Prelude.{◌≡◌, ◌≤◌, ◌+◌, ◌*◌, MatchOption};
+ghost use Rattle.std.specs.Prelude.{◌≡◌, ◌≢◌, ◌≤◌, ◌+◌, ◌*◌, MatchOption};
 ghost use Rattle.rw_code.specs.Codeword.{IsWord, differences};
 ghost use Rattle.rw_merge.specs.Agreement.{equally_wrong};
 ghost use Rattle.rw_merge.specs.Places.{AreEqualFrom, IsNextDifference};
@@ -51,11 +51,23 @@ pub(crate) fn doubts(first: &Word, second: &Word, word: &Word) -> u8
     let word = word.bytes();
     let mut doubts = 0;
     for i in 0..SYMBOLS {
-        if first[i] != second[i] {
-            doubts += 1;
-        } else if first[i] != word[i] {
-            doubts += 2;
-        }
+        doubts += doubt(first[i], second[i], word[i]);
     }
     doubts
+}
+
+// What a symbol adds to these: a number in any case, so that many symbols are looked at in one step.
+#[inline(always)]
+fn doubt(first: u8, second: u8, word: u8) -> u8
+    ensures apart { first ≢ second → result ≡ 1 }
+    ensures wrong { first ≡ second → first ≢ word → result ≡ 2 }
+    ensures right { first ≡ second → first ≡ word → result ≡ 0 }
+{
+    if first != second {
+        1
+    } else if first != word {
+        2
+    } else {
+        0
+    }
 }

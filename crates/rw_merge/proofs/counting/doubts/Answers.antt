@@ -1,7 +1,7 @@
-use Rattle.std.proofs.Common.{◌≡◌, ◌<◌, ◌+◌, length, get_or, ap, sym, ◌∙◌, arith}
+use Rattle.std.proofs.Common.{◌≡◌, ◌<◌, ◌+◌, length, get_or, ap, sym, ◌∙◌, inl, inr, arith}
+use Rattle.std.proofs.lemmas.Bool.Decides.{eqb_tells}
 use Rattle.rw_merge.proofs.Readings.{no_doubts, doubts_differ, doubts_wrong, doubts_right}
 use Rattle.rw_merge.proofs.counting.doubts.Goals as goal
-use Rattle.rw_merge.proofs.counting.doubts.Goals.{then-first-i, else-first-i+then-first-i-2, else-first-i+else-first-i-2}
 
 pub loop-i-init : goal.loop-i-init
 loop-i-init c = record { count = no_doubts; few = omega arith }
@@ -22,14 +22,23 @@ loop-i-preserved c =
     let y_size : length xs ≡ length ys = x_24 ∙ sym y_24 in
     let w_size : length xs ≡ length ws = x_24 ∙ sym w_24 in
     let lt : i < length xs = omega (arith, c.loop-i-test.true, x_24) in
-    elim c.if-first-i.branch [
-      | then-first-i w ↦
-          let step = doubts_differ xs ys ws i y_size w_size lt (λ same. w.if-first-i.true (x_at ∙ same ∙ sym y_at)) in
-          record { count = w.doubts-is ∙ ap (λ n. n + 1) before.count ∙ sym step; few = omega (arith, w.doubts-is, before.few) }
-      | else-first-i+then-first-i-2 w ↦
-          let step = doubts_wrong xs ys ws i y_size w_size lt (sym x_at ∙ w.if-first-i.false ∙ y_at) (λ same. w.if-first-i-2.true (x_at ∙ same ∙ sym w_at)) in
-          record { count = w.doubts-is ∙ ap (λ n. n + 2) before.count ∙ sym step; few = omega (arith, w.doubts-is, before.few) }
-      | else-first-i+else-first-i-2 w ↦
-          let step = doubts_right xs ys ws i y_size w_size lt (sym x_at ∙ w.if-first-i.false ∙ y_at) (sym x_at ∙ w.if-first-i-2.false ∙ w_at) in
-          record { count = w.doubts-is ∙ before.count ∙ sym step; few = omega (arith, w.doubts-is, before.few) }
+    let xb = get_or c.bytes-first.result i 0 in
+    let yb = get_or c.bytes-second.result i 0 in
+    let wb = get_or c.bytes-word.result i 0 in
+    elim (eqb_tells xb yb) [
+      | inr (differ, apart) ↦
+          let one = c.doubt-doubts.ensures.apart apart in
+          let step = doubts_differ xs ys ws i y_size w_size lt (λ same. apart (x_at ∙ same ∙ sym y_at)) in
+          record { count = ap (λ n. c.loop-i.doubts + n) one ∙ ap (λ n. n + 1) before.count ∙ sym step; few = omega (arith, one, before.few) }
+      | inl (equal, same) ↦
+          elim (eqb_tells xb wb) [
+            | inr (differ, wrong) ↦
+                let two = c.doubt-doubts.ensures.wrong same wrong in
+                let step = doubts_wrong xs ys ws i y_size w_size lt (sym x_at ∙ same ∙ y_at) (λ right. wrong (x_at ∙ right ∙ sym w_at)) in
+                record { count = ap (λ n. c.loop-i.doubts + n) two ∙ ap (λ n. n + 2) before.count ∙ sym step; few = omega (arith, two, before.few) }
+            | inl (equal', right) ↦
+                let none = c.doubt-doubts.ensures.right same right in
+                let step = doubts_right xs ys ws i y_size w_size lt (sym x_at ∙ same ∙ y_at) (sym x_at ∙ right ∙ w_at) in
+                record { count = ap (λ n. c.loop-i.doubts + n) none ∙ omega arith ∙ before.count ∙ sym step; few = omega (arith, none, before.few) }
+          ]
     ]
