@@ -81,8 +81,8 @@ def seconds(survey: Survey) -> bytes:
 
 
 def draw_map(survey: Survey):
-    """The map of a dump, a picture: a row a minute, a cell a second. Rows are marked by the absolute time of their first
-    block, or where there is no Q by its place in the file."""
+    """The map of a dump, a picture: a row a minute, a cell a second. Rows are marked by the absolute time of their
+    first block, or where there is no Q by its place in the file."""
     clock = Clock(survey)
     cells = seconds(survey)
     firsts = range(0, survey.blocks, 60 * BLOCKS_A_SECOND)
