@@ -89,7 +89,8 @@ def best(dump: Dump, forms: list[Form], is_whole: bool) -> tuple[Form | None, di
 
 def fitting(dump: Dump, allow_torn: bool) -> list[Form]:
     """The forms that fit the size of a dump; where torn ones are allowed, those with a whole block."""
-    return [form for form in FORMS.values() if dump.units(form) and (allow_torn or not dump.rest(form))]
+    sized = (form for form in FORMS.values() if 0 < dump.units(form) <= library.MOST_BLOCKS)
+    return [form for form in sized if allow_torn or not dump.rest(form)]
 
 
 def form_of(dump: Dump, allow_torn: bool = False) -> tuple[Form | None, list[str]]:
