@@ -1,7 +1,8 @@
 #!/bin/sh
 # Runs the commands of README.md, docs/FORMATS.md and docs/GUIDE.md, as they stand, each document in an empty folder of
 # its own. The program is bin/ribjasper, or what the gate left; where there is none, nothing is run. A block that is
-# marked `sh desk` needs the desk, and one marked `sh library` a C compiler too: both are run where lib/ is built.
+# marked `sh desk` needs the desk, and one marked `sh library` a C compiler too: both are run where lib/ is built and
+# the desk has Pillow for its pictures.
 cd "$(dirname "$0")/.." || exit 1
 top=$PWD
 for program in bin/ribjasper crates/ribjasper/out/ribjasper; do
@@ -17,12 +18,12 @@ mkdir "$work/bin"
 cp "$program" "$work/bin/ribjasper"
 kinds='^```sh$'
 skipped=
-if [ -e lib/libribjasper.so ] && [ -x desk/ribjasper-desk ]; then
+if [ -e lib/libribjasper.so ] && /usr/bin/python3 -c 'import PIL' 2>/dev/null; then
     ln -s "$top/desk/ribjasper-desk" "$work/bin/ribjasper-desk"
     kinds="$kinds|^\`\`\`sh desk\$"
     command -v cc >/dev/null && kinds="$kinds|^\`\`\`sh library\$"
 else
-    skipped=" (the blocks for the desk and the library are skipped: make library)"
+    skipped=" (the blocks for the desk and the library are skipped: make library, apt-get install python3-pil)"
 fi
 failed=0
 for document in README.md docs/FORMATS.md docs/GUIDE.md; do

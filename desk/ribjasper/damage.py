@@ -29,12 +29,12 @@ class Damage(NamedTuple):
 def damaged(survey: Survey) -> bytes:
     """A byte for each block, not zero where anything is wrong with it."""
     words = (survey.column(name) for name in ("one", "two", "bad"))
-    return either(*words, survey.bad_frames(), survey.empty())
+    return either(*words, survey.bad_frames, survey.empty)
 
 
 def run_of(survey: Survey, clock: Clock, run: Run) -> Damage:
     track = clock.track(run.first)
-    q_bad, empty = survey.bad_frames(), survey.empty()
+    q_bad, empty = survey.bad_frames, survey.empty
     return Damage(
         "run",
         run.first,
@@ -70,9 +70,9 @@ def seconds(survey: Survey) -> bytes:
     worst = bytearray(survey.blocks)
     for state, column in (
         (pictures.CORRECTED, corrected),
-        (pictures.Q_BAD, survey.bad_frames()),
+        (pictures.Q_BAD, survey.bad_frames),
         (pictures.BAD, survey.column("bad")),
-        (pictures.EMPTY, survey.empty()),
+        (pictures.EMPTY, survey.empty),
     ):
         for run in runs(column):
             worst[run.first : run.last + 1] = bytes([state]) * (run.last - run.first + 1)
@@ -81,8 +81,8 @@ def seconds(survey: Survey) -> bytes:
 
 
 def draw_map(survey: Survey):
-    """The map of a dump, a picture: a row a minute, a cell a second. Rows are marked by the absolute time of their first
-    block, or where there is no Q by its place in the file."""
+    """The map of a dump, a picture: a row a minute, a cell a second. Rows are marked by the absolute time of their
+    first block, or where there is no Q by its place in the file."""
     clock = Clock(survey)
     cells = seconds(survey)
     firsts = range(0, survey.blocks, 60 * BLOCKS_A_SECOND)

@@ -7,7 +7,7 @@ from . import library
 from .dump import FORMS, Dump, Form
 from .library import BLOCK, PACK, RAW
 from .output import REFUSED, Refusal, shown, tell, write_row
-from .survey import Clock, Survey
+from .survey import Survey
 
 NAMES = ("file", "form", "lead-in", "graphics", "texts", "q-good")
 # A form is tried at the beginning, in the middle and at the end of a dump, in so many blocks each.
@@ -89,7 +89,8 @@ def best(dump: Dump, forms: list[Form], is_whole: bool) -> tuple[Form | None, di
 
 def fitting(dump: Dump, allow_torn: bool) -> list[Form]:
     """The forms that fit the size of a dump; where torn ones are allowed, those with a whole block."""
-    return [form for form in FORMS.values() if dump.units(form) and (allow_torn or not dump.rest(form))]
+    sized = (form for form in FORMS.values() if 0 < dump.units(form) <= library.MOST_BLOCKS)
+    return [form for form in sized if allow_torn or not dump.rest(form)]
 
 
 def form_of(dump: Dump, allow_torn: bool = False) -> tuple[Form | None, list[str]]:
@@ -105,24 +106,26 @@ def form_of(dump: Dump, allow_torn: bool = False) -> tuple[Form | None, list[str
         if it.name in found:
             against.append(f"{it.name}: {found[it.name].against()}")
         else:
-            against.append(f"{it.name}: the size is {dump.units(it)} blocks of {it.unit} bytes and {dump.rest(it)} more")
+            size = f"{dump.units(it)} blocks of {it.unit} bytes and {dump.rest(it)} more"
+            against.append(f"{it.name}: the size is {size}")
     return None, against
 
 
-def lead_in_of(survey: Survey) -> int:
+def lead_in_of(stream: bytes) -> int:
     """The blocks before that whose absolute time is zero, by the first block whose time is known."""
-    first = next(iter(Clock(survey).stretches), None)
-    return max(0, -first.shift) if first else 0
+    for start in range(0, len(stream) // BLOCK, TRIED):
+        stretches = Survey(stream[BLOCK * start : BLOCK * (start + TRIED)], RAW, 0).stretches()
+        if stretches:
+            return max(0, start - stretches[0].shift)
+    return 0
 
 
 def survey_of(stream: bytes, form: Form, lead_in: int | None = None) -> Survey:
     """The survey of a stream; where no lead-in is given, with that which its Q frames tell."""
-    survey = Survey(stream, form.library, lead_in or 0)
-    if lead_in is None and form.library == RAW:
-        told = lead_in_of(survey)
-        if 0 < told <= library.LONGEST_LEAD_IN:
-            return Survey(stream, form.library, told)
-    return survey
+    if lead_in is None:
+        told = lead_in_of(stream) if form.library == RAW else 0
+        lead_in = told if told <= library.LONGEST_LEAD_IN else 0
+    return Survey(stream, form.library, lead_in)
 
 
 def identity(stream: bytes, form: Form, survey: Survey) -> Identity:

@@ -1,7 +1,6 @@
 """The command line of the desk: each command is a module with `add_parser` and `run`."""
 import argparse
 import importlib
-import importlib.util
 import os
 import signal
 import sys
@@ -29,14 +28,13 @@ def parser() -> argparse.ArgumentParser:
     top = argparse.ArgumentParser(
         prog="ribjasper-desk",
         description="Works on dumps and songs of the subcode channels of Compact Discs, over the proved library.",
-        epilog="Exit: 0 done, 1 damage was found, 2 wrong words, 3 a file was refused, 4 a picture is late, 5 something has to be "
-        "installed or built first.",
+        epilog="Exit: 0 done, 1 damage was found, 2 wrong words, 3 a file was refused, 4 a picture is late, 5 something "
+        "has to be installed or built first.",
     )
     top.add_argument("--version", action=Version, help="tell the version and end")
     commands = top.add_subparsers(metavar="COMMAND", required=True)
     for name in COMMANDS:
-        if importlib.util.find_spec(f".{name}", __package__):
-            importlib.import_module(f".{name}", __package__).add_parser(commands)
+        importlib.import_module(f".{name}", __package__).add_parser(commands)
     return top
 
 

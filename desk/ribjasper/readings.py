@@ -77,7 +77,7 @@ class Aligned(NamedTuple):
 def placed(reading: Reading, parts: Sequence[Piece], start: int, blocks: int) -> bytes:
     """The blocks of a reading at their times; where one was read twice the first that is not empty."""
     stream, filled = bytearray(BLOCK * blocks), bytearray(blocks)
-    full = reading.survey.empty().translate(_NOT)
+    full = reading.survey.empty.translate(_NOT)
     for part in parts:
         move = part.shift - start
         for free in re.finditer(rb"\x00+", bytes(filled[part.first + move : part.end + move])):

@@ -4,6 +4,7 @@ import concurrent.futures
 import ctypes
 import hashlib
 import json
+import multiprocessing
 import os
 import signal
 import sys
@@ -138,7 +139,8 @@ def here(tasks: list[Task], with_pictures: bool, count: int) -> Iterator[Examine
     if count == 1:
         yield from (look(task, with_pictures) for task in tasks)
         return
-    pool = concurrent.futures.ProcessPoolExecutor(count, initializer=end_with_parent)
+    how = multiprocessing.get_context("fork")
+    pool = concurrent.futures.ProcessPoolExecutor(count, mp_context=how, initializer=end_with_parent)
     try:
         waiting = [pool.submit(look, task, with_pictures) for task in tasks]
         for done in concurrent.futures.as_completed(waiting):

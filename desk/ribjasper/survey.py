@@ -62,10 +62,12 @@ class Survey:
         if status != library.DONE:
             raise ValueError(f"ribjasper_survey answers {status}")
         self.rows = room.raw[: ROW * self.blocks]
+        self.columns: dict[str, bytes] = {}
 
-    @functools.lru_cache(maxsize=None)
     def column(self, name: str) -> bytes:
-        return self.rows[COLUMNS[name] :: ROW]
+        if name not in self.columns:
+            self.columns[name] = self.rows[COLUMNS[name] :: ROW]
+        return self.columns[name]
 
     def total(self, name: str) -> int:
         return sum(self.column(name))
@@ -74,10 +76,12 @@ class Survey:
         kinds = self.column("q")
         return sum(kinds.count(kind) for kind in GOOD_Q)
 
+    @functools.cached_property
     def bad_frames(self) -> bytes:
         """A byte for each block, 1 where its Q frame is bad."""
         return self.column("q").translate(_BAD_Q)
 
+    @functools.cached_property
     def empty(self) -> bytes:
         """A byte for each block, 1 where all of it is zero; idle packs without Q are no sign of damage."""
         return bytes(self.blocks) if self.form == library.PACKS else self.column("empty")

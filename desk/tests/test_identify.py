@@ -89,6 +89,13 @@ class IdentifyTest(FolderTest):
             self.assertIn(cause, ran.told)
             self.assertTrue(all(str(path) in line for line in ran.told.splitlines()))
 
+    def test_file_that_is_too_long(self):
+        path = self.folder / "long"
+        with open(path, "wb") as file:
+            file.truncate(2448 * 96 * 10_500)
+        ran = desk("identify", path)
+        self.assertEqual((ran.status, ran.rows()[0]["form"]), (3, "none"))
+
     def test_other_files_go_on(self):
         good = self.write("good", hello())
         locked = self.write("locked", hello())
