@@ -22,6 +22,12 @@ if [ -e lib/libribjasper.so ] && /usr/bin/python3 -c 'import PIL' 2>/dev/null; t
     ln -s "$top/desk/ribjasper-desk" "$work/bin/ribjasper-desk"
     kinds="$kinds|^\`\`\`sh desk\$"
     command -v cc >/dev/null && kinds="$kinds|^\`\`\`sh library\$"
+    if command -v ffmpeg >/dev/null && /usr/bin/python3 -c 'import PIL' 2>/dev/null &&
+        ls /usr/share/fonts/truetype/dejavu/*.ttf >/dev/null 2>&1; then
+        kinds="$kinds|^\`\`\`sh song\$"
+    else
+        skipped=" (the song is skipped: ffmpeg, python3-pil, fonts-dejavu-core)"
+    fi
 else
     skipped=" (the blocks for the desk and the library are skipped: make library, apt-get install python3-pil)"
 fi
