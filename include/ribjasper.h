@@ -290,6 +290,69 @@ int32_t ribjasper_plan(const uint8_t *sheet, size_t sheet_length, const uint8_t 
                        uint32_t lead_in, uint32_t audio, ribjasper_plan_row *rows, size_t room,
                        ribjasper_planned *told);
 
+/* What stands in each block of a stream, and what a lead-in holds. */
+
+#define RIBJASPER_NO_TIME 0xFFFFFFFFu /* in place of an absolute time */
+
+/* What the Q channel of a block is read as where it is no frame (RIBJASPER_Q_PROGRAM, 0, to RIBJASPER_Q_OTHER, 7). */
+#define RIBJASPER_Q_NONE 253      /* it is not read: a stream of RIBJASPER_PACKS has no frames */
+#define RIBJASPER_Q_BAD_FIELD 254 /* the check is right, but a field is out of its range */
+#define RIBJASPER_Q_BAD_CHECK 255 /* the check is wrong, as it is where all bits are zero */
+
+/* What is found of a block. The words counted are those whose last symbol comes with the block: with block b of the
+   program the words 4 b - 7 to 4 b - 4 (none below 0), or of RIBJASPER_PACKS its four; with a block of the lead-in none.
+   The sums of all rows are the numbers of the program's command `check`. */
+typedef struct ribjasper_row {
+    uint32_t absolute; /* of a frame of kind 0 the block of its absolute time, or RIBJASPER_NO_TIME */
+    uint8_t clean;     /* how many words are codewords */
+    uint8_t one;       /* how many have one wrong symbol */
+    uint8_t two;       /* how many have two */
+    uint8_t bad;       /* how many have no codeword near */
+    uint8_t q;         /* the kind of the frame, or one of the three numbers above */
+    uint8_t track;     /* of a frame of kind 0 to 3 its track, or 0 */
+    uint8_t index;     /* of a frame of kind 0 its index, or 0 */
+    uint8_t empty;     /* 1 where all 96 bytes are zero, or 0 */
+} ribjasper_row;
+
+/* What is told of a stream that was surveyed: its whole blocks, of lead-in and program, and the bytes that stand behind
+   the last of them (0 but where the stream is torn at its end). */
+typedef struct ribjasper_surveyed {
+    uint32_t blocks;
+    uint32_t rest;
+} ribjasper_surveyed;
+
+/* Writes a row for each whole block of the `length` bytes at `stream`, whose first `lead_in` blocks are the lead-in, to
+   the front of the `room` rows at `rows`. It asks for no memory. Answers RIBJASPER_CONVERTED, or else, whichever holds
+   first: RIBJASPER_USAGE; RIBJASPER_TORN, here only where there are more than 1,000,000 whole blocks;
+   RIBJASPER_NO_ROOM where there are more blocks than rows. Then nothing is written. */
+int32_t ribjasper_survey(const uint8_t *stream, size_t length, uint32_t form, uint32_t lead_in, ribjasper_row *rows,
+                         size_t room, ribjasper_surveyed *told);
+
+/* Writes the four CD-TEXT packs of a block of the lead-in, eighteen bytes each, one after another: the six bits of its
+   96 symbols in order. Which of them are packs ribjasper_text_pack_matches says. */
+void ribjasper_block_text_packs(const uint8_t block[RIBJASPER_BLOCK], uint8_t packs[72]);
+
+/* What is told of the texts of a lead-in: the bytes written, or where the texts are refused (then 0) the number of the
+   pack, 0 to 255, and of its byte. What does not belong to an answer is 0. */
+typedef struct ribjasper_listed {
+    uint64_t bytes;
+    uint32_t seq;
+    uint32_t byte;
+} ribjasper_listed;
+
+/* Why the packs of a lead-in give no texts. */
+#define RIBJASPER_TEXT_MISSING 8    /* pack `seq` is wanted and not there */
+#define RIBJASPER_TEXT_NO_SIZE 9    /* one of the three packs with the sizes is not there */
+#define RIBJASPER_TEXT_MALFORMED 10 /* byte `byte` of pack `seq` cannot be */
+
+/* Writes the lines of the texts of the first `lead_in` blocks, as the program's command `text` writes them, to the front
+   of the `room` bytes at `out`. Answers RIBJASPER_CONVERTED; RIBJASPER_USAGE, also where the form is RIBJASPER_PACKS;
+   RIBJASPER_TORN; RIBJASPER_NO_ROOM; RIBJASPER_NO_MEMORY (it asks for the room of the texts and a mebibyte for their
+   lines, and frees all of it); or one of the three above. `out` is written where it answers RIBJASPER_CONVERTED, and
+   `told` there and where the texts are refused; else nothing is. */
+int32_t ribjasper_texts(const uint8_t *stream, size_t length, uint32_t form, uint32_t lead_in, uint8_t *out, size_t room,
+                        ribjasper_listed *told);
+
 #ifdef __cplusplus
 }
 #endif

@@ -1,5 +1,5 @@
 -- What a call that lists texts answers.
-use Rattle.std.proofs.Common.{◌≡◌, ◌≢◌, ◌⊎◌, ℕ, ℤ, List, Ok, Err, Result, refl, sym, ap, ap₂, ◌∙◌, subst, inl, inr}
+use Rattle.std.proofs.Common.{◌≡◌, ◌≢◌, ◌⊎◌, ℕ, ℤ, List, Ok, Err, Result, refl, sym, ap, ◌∙◌, subst, inl, inr}
 use Rattle.std.specs.Prelude.{pos, IfOk, IfErr}
 use mir.Val.{to_z, of_z}
 use mir.Syntax.{w32}
@@ -7,7 +7,7 @@ use Rattle.raw_subcode.specs.declared.form.Form.{Form}
 use Rattle.cdg_io.specs.Memory.{SinkInMemory}
 use Rattle.cdtext_packs.specs.Reading.{read_texts}
 use Rattle.cdtext_packs.specs.Texts.{Texts}
-use Rattle.cdtext_packs.specs.TextLines.{counted_lines, text_lines}
+use Rattle.cdtext_packs.specs.TextLines.{counted_lines}
 use Rattle.cdtext_packs.specs.TextSteps.{HasRead}
 use Rattle.cdtext_packs.specs.declared.kinds.TextFault.{TextFault}
 use Rattle.cdtext_packs.specs.declared.kinds.TextFault.TheVariants.{Missing, NoSize, Malformed, NoMemory}

@@ -1,5 +1,5 @@
 -- The packs and the texts of a lead-in in memory.
-use Rattle.std.specs.Prelude.{◌≡◌, ℕ, ℤ, pos, ◌*◌, ◌<◌, List, length, take, drop, Err}
+use Rattle.std.specs.Prelude.{◌≡◌, ℕ, ℤ, pos, ◌*◌, ◌<◌, List, take, drop, Err}
 use Rattle.raw_subcode.specs.declared.form.Form.{Form}
 use Rattle.cdtext_packs.specs.LeadIn.{pack_at}
 use Rattle.cdtext_packs.specs.declared.kinds.TextFault.{TextFault}

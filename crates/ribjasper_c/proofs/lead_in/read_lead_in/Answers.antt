@@ -1,6 +1,6 @@
 use Rattle.std.proofs.Common.{◌≡◌, ◌∙◌, ◌/◌, ℕ, List, min, length, take, ap, subst, sym, arith}
 use Rattle.cdg_io.specs.Run.{run_state}
-use Rattle.raw_subcode.specs.Channels.{unit_size, blocks_of}
+use Rattle.raw_subcode.specs.Channels.{blocks_of}
 use Rattle.cdtext_packs.specs.LeadIn.{lead_in_packs}
 use Rattle.cdtext_packs.specs.TextSteps.{fresh_texts, text_next, HasRead}
 use Rattle.cdtext_packs.specs.declared.lead_in_texts.LeadInTexts.{LeadInTexts}
