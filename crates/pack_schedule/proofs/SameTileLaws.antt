@@ -1,12 +1,14 @@
 -- Tiles that are the same before and after.
-use Rattle.std.proofs.Common.{◌≡◌, ℕ, zero, suc, ◌+◌, ◌-◌, ◌/◌, ◌%◌, ◌<◌, ◌≤◌, Bool, true, false, List, [], ◌∷◌, map, length, get_or, refl, ap, sym, subst, ◌∙◌, arith, bit_xor}
-use Rattle.std.specs.Prelude.{Option, Some, None, not, slice_index, nat_lt, if◌then◌else◌}
+use Rattle.std.proofs.Common.{◌≡◌, ℕ, zero, suc, ◌+◌, ◌-◌, ◌*◌, ◌/◌, ◌%◌, ◌<◌, ◌≤◌, Bool, true, false, List, [], ◌∷◌, map, length, get_or, refl, ap, sym, subst, ◌∙◌, inl, inr, arith, bit_xor}
+use Rattle.std.specs.Prelude.{Option, Some, None, not, slice_index, slice_set, nat_lt, if◌then◌else◌}
 use Rattle.std.specs.Option.{is_some}
 use Rattle.std.specs.Int.Bits.{xor_self}
+use Rattle.std.proofs.lemmas.Bool.{cases_lt}
 use Rattle.std.proofs.lemmas.Bool.Decides.{nat_tests}
+use Rattle.std.proofs.lemmas.List.{get_or-set_other, get_or-set_same}
 use Rattle.bit_lists.specs.Counting.{below}
 use Rattle.tile_author.specs.Plan.{are_equal, delta, steps, plan}
-use Rattle.picture_script.specs.Script.{Drawing, picture_tile}
+use Rattle.picture_script.specs.Script.{Drawing, picture_pixel, picture_tile}
 use Rattle.picture_script.specs.Board.{Board, IsPicture, tile_of}
 use Rattle.picture_script.proofs.Drawn.{picture_tile_is}
 use Rattle.picture_script.proofs.Parts.{tile_pixel, tile_size}
@@ -45,6 +47,31 @@ pub same_picture_tile : (script : List Drawing) (k row column : ℕ) (before now
     → tile_of before.pixels row column ≡ tile_of now.pixels row column → picture_tile script (k - 1) row column ≡ picture_tile script k row column
 same_picture_tile script k row column before now row_ge row_le column_ge column_le was is same =
     sym (tile_picture script (k - 1) row column before row_ge row_le column_ge column_le was) ∙ same ∙ tile_picture script k row column now row_ge row_le column_ge column_le is
+
+-- a row of tiles that is the same in picture k and in the picture before
+pub row_kept : (script : List Drawing) (k r : ℕ) (before now : Board) → r < 16 → IsPicture script (k - 1) before → IsPicture script k now
+    → ((x y : ℕ) → y / 12 ≡ r → picture_pixel script (k - 1) x y ≡ picture_pixel script k x y) → SameRow before.pixels now.pixels (r + 1)
+row_kept script k r before now lt was is kept column from to =
+    picture_tile_is script k (r + 1) column now (tile_of before.pixels (r + 1) column) (omega arith) (omega (arith, lt)) from to (tile_size before.pixels (r + 1) column)
+    (λ q q_lt.
+    let x : ℕ = 6 * (column - 1) + q % 6 in
+    let y : ℕ = 12 * (r + 1 - 1) + q / 6 in
+    tile_pixel before.pixels (r + 1) column q q_lt ∙ was.pixels_are x y (omega arith) (omega arith) ∙ kept x y (omega arith) ∙ sym (is.pixels_are x y (omega arith) (omega arith)))
+    is ∙ sym (tile_picture script k (r + 1) column now (omega arith) (omega (arith, lt)) from to is)
+
+-- what is told of one row more
+pub row_told : (old new : List ℕ) (same : List Bool) (r : ℕ) (told : Bool) → r < length same → ((m : ℕ) → m < 16 → get_or same m false ≡ true → SameRow old new (m + 1)) → (told ≡ true → SameRow old new (r + 1))
+    → (m : ℕ) → m < 16 → get_or (slice_set same r told) m false ≡ true → SameRow old new (m + 1)
+row_told old new same r told inside so_far here m lt is = elim (cases_lt m r) [
+  | inl less ↦ so_far m lt (sym (get_or-set_other same r m told false (λ e. omega (arith, e, less))) ∙ is)
+  | inr from ↦ elim (cases_lt r m) [
+    | inl more ↦ so_far m lt (sym (get_or-set_other same r m told false (λ e. omega (arith, e, more))) ∙ is)
+    | inr to ↦
+        let equal : r ≡ m = omega (arith, from, to) in
+        let at : told ≡ true = sym (get_or-set_same same r told false inside) ∙ ap (λ n. get_or (slice_set same r told) n false) equal ∙ is in
+        subst (λ n. SameRow old new (n + 1)) equal (here at)
+  ]
+]
 
 -- a picture whose tiles all stand
 same_so_far : (script : List Drawing) (k : ℕ) (before now : Board) → IsPicture script (k - 1) before → IsPicture script k now → SameTiles before.pixels now.pixels

@@ -111,7 +111,7 @@ pub(crate) fn choose_start(
     ensures few { result.need ≤ 3076 }
 {
     let beside = count_settings(script, k, before, now);
-    let same = same_rows(before, now);
+    let same = same_rows(script, k, before, now);
     if k > 0 && is_same_picture(&same, before, now) {
         return Choice {
             preset: None,

@@ -64,6 +64,10 @@ impl Loom {
         planned_changes_are_changes();
         self.now.draw_until(script, self.k);
         self.start = self.survey.start(self.k);
+        if self.survey.need(self.k) == 0 {
+            self.change.clear();
+            return;
+        }
         let preset = self.survey.preset(self.k);
         self.change
             .plan(script, self.k, preset, &self.before, &self.now);

@@ -1,18 +1,27 @@
 // Which tiles two canvases share.
-ghost use Rattle.std.specs.Prelude.{◌≡◌, ◌≤◌, IsTrue, ◌↔◌};
-ghost use Rattle.picture_script.specs.Board.{tile_of};
+ghost use Rattle.std.specs.Prelude.{◌≡◌, ◌<◌, ◌≤◌, ◌-◌, IsTrue, ◌↔◌};
+ghost use Rattle.picture_script.specs.Board.{IsPicture, tile_of};
 ghost use Rattle.pack_schedule.specs.SameTiles.{AreSameRows, SameTiles};
 
 use cdg_instructions::WINDOW_ROWS;
-use picture_script::Canvas;
+use picture_script::{Canvas, Script};
 
-/// Whether the tiles of each row are the same on two canvases.
-pub(crate) fn same_rows(before: &Canvas, now: &Canvas) -> [bool; WINDOW_ROWS]
+/// Whether the tiles of each row are the same for picture `k`, which stands on `now`, and the picture before it, which
+/// stands on `before`. A row that no line drew on since is not looked at.
+pub(crate) fn same_rows(
+    script: &Script,
+    k: u32,
+    before: &Canvas,
+    now: &Canvas,
+) -> [bool; WINDOW_ROWS]
+    requires now { IsPicture script.now k now.now }
+    requires before { 0 < k → IsPicture script.now (k - 1) before.now }
     ensures { AreSameRows before.now.pixels now.now.pixels result }
 {
+    let drawn = script.drawn_rows(k);
     let mut same = [false; WINDOW_ROWS];
     for r in 0..WINDOW_ROWS {
-        same[r] = before.has_row_of(now, r as u8 + 1);
+        same[r] = !drawn[r] || before.has_row_of(now, r as u8 + 1);
     }
     same
 }

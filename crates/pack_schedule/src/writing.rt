@@ -138,7 +138,7 @@ impl Change {
         requires start { IsStart k preset }
         ensures { self.new ≡ self.old ++ planned_tiles script.now k preset }
     {
-        let same = same_rows(before, now);
+        let same = same_rows(script, k, before, now);
         for i in 0..WINDOW_TILES {
             let row = (i / 48) as u8 + 1;
             let column = (i % 48) as u8 + 1;

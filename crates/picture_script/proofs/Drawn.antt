@@ -39,7 +39,7 @@ pub before-most : (script : List Drawing) (k : ℕ) → length (lines_before scr
 before-most script k = omega (arith, ap length (before_prefix script k) ∙ length-take (length (lines_before script k)) script)
 
 -- one line more
-next_said : (pixels : List ℕ) (lines : List Line) (script : List Drawing) (i : ℕ) (line : Line) → all_said pixels lines ≡ script → i < length lines → line ≡ get_or lines i line
+pub next_said : (pixels : List ℕ) (lines : List Line) (script : List Drawing) (i : ℕ) (line : Line) → all_said pixels lines ≡ script → i < length lines → line ≡ get_or lines i line
     → drawn (drawn_by (take i script)) (said pixels line) ≡ drawn_by (take (i + 1) script)
 unfolding all_said
 next_said pixels lines script i line view i_lt read =

@@ -9,3 +9,4 @@ pub mod HexDigits
 pub mod Refusals
 pub mod Ranges
 pub mod ShowNumbers
+pub mod RowMarks

@@ -5,3 +5,4 @@ pub mod ScriptGrammar
 pub mod Sizes
 pub mod Stops
 pub mod ShowLines
+pub mod DrawnRows

@@ -3,6 +3,7 @@
 
 mod canvas;
 mod draft;
+mod drawn_rows;
 mod grammar;
 mod line;
 mod parse;

@@ -1,0 +1,72 @@
+// Which rows of tiles the lines between two pictures draw on.
+ghost use Rattle.std.specs.Prelude.{◌≡◌, ◌<◌, ◌≤◌, ◌+◌, ◌/◌, ◌⊎◌, ℕ, List, false, true, length, slice_index_or};
+ghost use Rattle.picture_script.specs.Script.{Picture, drawn};
+ghost use Rattle.picture_script.specs.DrawnRows.{KeepsRows, LeavesRows};
+ghost use Rattle.picture_script.specs.Lines.{is_kept, said};
+
+use crate::line::Line;
+use crate::script::Script;
+use cdg_instructions::{TILE_HEIGHT, WINDOW_ROWS};
+
+impl Script {
+    /// Whether each row of tiles, from the top, may differ between picture `k` and the picture before it: one that may not
+    /// is drawn on by no line between their shows. Each one may where there is no such picture or none before it.
+    pub fn drawn_rows(&self, k: u32) -> [bool; WINDOW_ROWS]
+        ensures { KeepsRows self.now k result }
+    {
+        if k == 0 || k >= self.pictures() {
+            return [true; WINDOW_ROWS];
+        }
+        self.rows_between(self.place(k - 1), self.place(k))
+    }
+
+    // The rows that lines from a place on up to another draw on.
+    fn rows_between(&self, from: usize, to: usize) -> [bool; WINDOW_ROWS]
+        requires order { from ≤ to }
+        requires lines { to ≤ length self.now }
+        ensures { LeavesRows self.now from to result }
+    {
+        let mut rows = [false; WINDOW_ROWS];
+        for i in from..to {
+            mark_line(&mut rows, self.lines[i]);
+        }
+        rows
+    }
+}
+
+// Marks the rows that a line draws on.
+fn mark_line(rows: &mut [bool; WINDOW_ROWS], line: Line)
+    requires kept { (size : ℕ) × (is_kept size line ≡ true) }
+    ensures { (pixels : List ℕ) (before : Picture) (r x y : ℕ) → slice_index_or rows.new r true ≡ false
+        → y / 12 ≡ r → (slice_index_or rows.old r true ≡ false)
+        × (before.pixel x y ≡ (drawn before (said pixels line)).pixel x y) }
+{
+    match line {
+        Line::Filled { .. } => mark_rows(rows, 0, WINDOW_ROWS),
+        Line::Rectangle { y, height, .. } => {
+            let top = usize::from(y);
+            let end = top + usize::from(height);
+            mark_rows(
+                rows,
+                top / TILE_HEIGHT,
+                (end + TILE_HEIGHT - 1) / TILE_HEIGHT,
+            )
+        }
+        Line::PixelRow { y, .. } => {
+            let row = usize::from(y) / TILE_HEIGHT;
+            mark_rows(rows, row, row + 1)
+        }
+        Line::TableColour { .. } | Line::BorderColour { .. } | Line::ShowLine { .. } => {}
+    }
+}
+
+// Marks the rows from one on up to another.
+fn mark_rows(rows: &mut [bool; WINDOW_ROWS], from: usize, to: usize)
+    requires { to ≤ 16 }
+    ensures { (r : ℕ) → slice_index_or rows.new r true ≡ false
+        → (slice_index_or rows.old r true ≡ false) × ((r < from) ⊎ (to ≤ r)) }
+{
+    for r in from..to {
+        rows[r] = true;
+    }
+}
