@@ -2,9 +2,9 @@
 # What lib/libribjasper.a does for programs in C. Builds examples/player.c on it, as C and as C++, and
 # compares its screens with those of the command `screen`, byte for byte, at ten moments of the stream of
 # the tour: fed as blocks and drawn as packs. A stream with twenty blocks lost has to be noticed. Runs
-# tools/test_library.c, tools/test_mend.c and tools/test_plan.c, and all of it once under the address sanitizer where that is
-# there. Skipped where a compiler or what make builds is missing. With the argument `measure` it also tells
-# how many blocks a second the player takes.
+# tools/test_library.c, tools/test_mend.c, tools/test_plan.c and tools/test_desk_calls.c, and all of it once
+# under the address sanitizer where that is there. Skipped where a compiler or what make builds is missing.
+# With the argument `measure` it also tells how many blocks a second the player takes.
 set -e
 cd "$(dirname "$0")/.."
 top=$PWD
@@ -23,18 +23,27 @@ cc $flags -std=c99 tools/test_library.c lib/libribjasper.a $wrap -o "$work/test_
 c++ $flags -x c++ tools/test_library.c -x none lib/libribjasper.a $wrap -o "$work/test_library_of_cxx"
 "$work/test_library"
 "$work/test_library_of_cxx" >/dev/null
-cc $flags -std=c99 tools/test_mend.c lib/libribjasper.a -o cc $flags -std=c99 tools/test_plan.c lib/libribjasper.a $wrap -o "$work/test_plan"
-c++ $flags -x c++ tools/test_plan.c -x none lib/libribjasper.a $wrap -o "$work/test_plan_of_cxx"
-"$work/test_mend"
-"$work/test_plan"
-"$work/test_plan_of_cxx" >/dev/null
+cc $flags -std=c99 tools/test_mend.c lib/libribjasper.a -o "$work/test_mend"
 c++ $flags -x c++ tools/test_mend.c -x none lib/libribjasper.a -o "$work/test_mend_of_cxx"
-"$work/test_mend"
-"$work/test_mend_of_cxx" >/dev/null
+for name in test_plan test_desk_calls; do
+    cc $flags -std=c99 tools/$name.c lib/libribjasper.a $wrap -o "$work/$name"
+    c++ $flags -x c++ tools/$name.c -x none lib/libribjasper.a $wrap -o "$work/${name}_of_cxx"
+done
+for name in test_mend test_plan test_desk_calls; do
+    "$work/$name"
+    "$work/${name}_of_cxx" >/dev/null
+done
 cp examples/hello.cue examples/hello.script "$work"
 cd "$work"
 "$top/bin/ribjasper" author --lead-in 0 --length 00:22:00 -- hello.cue hello.script >stream
 "$top/bin/ribjasper" convert --lead-in 0 <stream >file.cdg
+"$top/bin/ribjasper" author --lead-in 300 --length 00:22:00 -- hello.cue hello.script >whole
+"$top/bin/ribjasper" scratch --lead-in 300 --seed 3 <whole >scratched
+for disc in whole scratched; do
+    "$top/bin/ribjasper" check --lead-in 300 <$disc >$disc.check
+    "$top/bin/ribjasper" text --lead-in 300 <$disc >$disc.text
+    ./test_desk_calls $disc 300 $disc.check $disc.text
+done
 moments="2 77 150 301 449 535 777 1111 1350 1649"
 packs=
 for blocks in $moments; do
@@ -72,6 +81,8 @@ if cc $sanitize empty.c -o empty 2>/dev/null && ./empty 2>/dev/null; then
     cc $flags $sanitize -std=c99 "$top/tools/test_library.c" "$top/lib/libribjasper.a" $wrap -o test_watched
     cc $flags $sanitize -std=c99 "$top/tools/test_mend.c" "$top/lib/libribjasper.a" -o test_mend_watched
     cc $flags $sanitize -std=c99 "$top/tools/test_plan.c" "$top/lib/libribjasper.a" $wrap -o test_plan_watched
+    cc $flags $sanitize -std=c99 "$top/tools/test_desk_calls.c" "$top/lib/libribjasper.a" $wrap -o test_desk_watched
+    ./test_desk_watched scratched 300 scratched.check scratched.text >/dev/null
     mkdir watched
     (cd watched && ../player_watched $moments <../stream && ../test_watched >/dev/null && ../test_mend_watched >/dev/null &&
         ../test_plan_watched >/dev/null)

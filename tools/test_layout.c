@@ -73,7 +73,6 @@ LIES(ribjasper_planned, why, 12);
 LIES(ribjasper_planned, line, 16);
 LIES(ribjasper_planned, number, 20);
 
-#ifdef RIBJASPER_NO_TIME
 HOLDS(row, sizeof(ribjasper_row) == 12);
 LIES(ribjasper_row, clean, 4);
 LIES(ribjasper_row, one, 5);
@@ -83,7 +82,13 @@ LIES(ribjasper_row, q, 8);
 LIES(ribjasper_row, track, 9);
 LIES(ribjasper_row, index, 10);
 LIES(ribjasper_row, empty, 11);
-#endif
+
+HOLDS(surveyed, sizeof(ribjasper_surveyed) == 8);
+LIES(ribjasper_surveyed, rest, 4);
+
+HOLDS(listed, sizeof(ribjasper_listed) == 16);
+LIES(ribjasper_listed, seq, 8);
+LIES(ribjasper_listed, byte, 12);
 
 int main(void)
 {

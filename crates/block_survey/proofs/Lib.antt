@@ -1,3 +1,4 @@
 pub mod Counts
 pub mod EndedWords
 pub mod Rows
+pub mod Sums
