@@ -1,5 +1,5 @@
 -- The rows of a stream add up to what is counted of all of it.
-use Rattle.std.proofs.Common.{◌≡◌, ℕ, zero, suc, ◌+◌, ◌-◌, ◌*◌, ◌/◌, ◌<◌, ◌≤◌, Bool, true, false, List, [], ◌∷◌, ◌++◌, length, get_or, map, take, drop, Some, None, refl, sym, ap, ap₂, ◌∙◌, subst, arith, length-drop, Result, Ok, Err}
+use Rattle.std.proofs.Common.{◌≡◌, ℕ, zero, suc, ◌+◌, ◌-◌, ◌/◌, ◌<◌, ◌≤◌, Bool, false, List, [], ◌∷◌, ◌++◌, length, get_or, map, drop, Some, None, refl, sym, ap, ap₂, ◌∙◌, arith, length-drop, Result, Ok, Err}
 use Rattle.std.specs.Prelude.{if◌then◌else◌, nat_le, count_by, sum_by, is_none, is_ok, is_err, min}
 use Rattle.std.specs.declared.option.Option.{Option}
 use Rattle.std.specs.List.{range_with_len, zip}
@@ -7,7 +7,6 @@ use Rattle.std.proofs.lemmas.List.{ext_get_or, length-map, get_or-map}
 use Rattle.std.proofs.lemmas.List.Sums.{sum_by-cons}
 use Rattle.std.proofs.lemmas.List.FromFn.{length-map-range_with_len, get_or-map-range_with_len, fill_by_all, sum_by-map-range_with_len_more}
 use Rattle.bit_lists.specs.Counting.{below, whole_parts}
-use Rattle.rw_code.specs.Codeword.{IsWord}
 use Rattle.rw_code.specs.Finding.{finding}
 use Rattle.rw_code.proofs.Finding.{only_finding}
 use Rattle.raw_subcode.specs.Channels.{unit_size, blocks_of, program_symbols, q_bits, channel_bit}
@@ -26,7 +25,7 @@ use Rattle.q_channel.specs.declared.frame.QFault.TheVariants.{BadCrc, BadField}
 use Rattle.stream_stages.specs.Check.{has_wrong, stream_lines, wrong_lines, pack_count_lines, frame_count_lines, found_passes, is_idle, is_graphics, is_unknown, is_foreign, check_text, IsCheckListed}
 use Rattle.stream_stages.proofs.Slots.{Sized, sized_drop, symbols_small, length-all_symbols}
 use Rattle.stream_stages.proofs.Conversion.{units_sized, blocks_sized}
-use Rattle.block_survey.specs.Rows.{kind_told, reading_in, row_of, ended_words, survey_rows}
+use Rattle.block_survey.specs.Rows.{kind_told, row_of, ended_words, survey_rows}
 use Rattle.block_survey.specs.Sums.{tells_frame, tells_refusal, AddUpTo}
 use Rattle.block_survey.specs.declared.row.BlockRow.{BlockRow}
 use Rattle.block_survey.proofs.EndedWords.{length-blocks}

@@ -14,7 +14,8 @@ tells_refusal row = nat_le 254 row.q
 -- Lines of `check` whose counts of wrong symbols and of frames are the sums of rows. The lines before them tell how many
 -- blocks and words there are, and those between what the packs hold.
 pub record AddUpTo (rows : List BlockRow) (text : List ℕ) (bad : ℕ) : Type 0 where
-  pub before between : List ℕ
+  pub before : List ℕ
+  pub between : List ℕ
   pub text_is : text ≡ before
       ++ (wrong_lines (sum_by (λ row. row.clean) rows) (sum_by (λ row. row.one) rows)
       (sum_by (λ row. row.two) rows) (sum_by (λ row. row.bad) rows)
