@@ -1,4 +1,5 @@
 """Where a dump is damaged: runs of blocks, jumps of its time, and a map."""
+import argparse
 from typing import Iterator, NamedTuple
 
 from . import output, pictures
@@ -113,7 +114,7 @@ def lead_in(word: str) -> int:
     """A number of lead-in blocks, of the command line."""
     number = int(word) if word.isascii() and word.isdigit() else -1
     if not 0 <= number <= LONGEST_LEAD_IN:
-        raise ValueError(word)
+        raise argparse.ArgumentTypeError(f"{word} is not a number from 0 to {LONGEST_LEAD_IN}")
     return number
 
 

@@ -44,10 +44,9 @@ class Part(NamedTuple):
 def part(word: str) -> Part:
     """K/M of the command line."""
     number, _, of = word.partition("/")
-    found = Part(int(number), int(of))
-    if not 1 <= found.number <= found.of:
-        raise ValueError(word)
-    return found
+    if number.isdecimal() and of.isdecimal() and 1 <= int(number) <= int(of):
+        return Part(int(number), int(of))
+    raise argparse.ArgumentTypeError(f"{word} is not K/M with K from 1 to M")
 
 
 def add_parser(commands) -> None:
@@ -72,10 +71,9 @@ def add_parser(commands) -> None:
 
 
 def jobs(word: str) -> int:
-    number = int(word)
-    if number < 1:
-        raise argparse.ArgumentTypeError("at least 1")
-    return number
+    if word.isdecimal() and int(word) > 0:
+        return int(word)
+    raise argparse.ArgumentTypeError(f"{word} is not a number from 1 on")
 
 
 def files_below(folder: str, out: str) -> list[Task]:
