@@ -120,6 +120,11 @@ def picture_names(name: str) -> tuple[str, str]:
     return f"pictures/{digest}-first.png", f"pictures/{digest}-map.png"
 
 
+def has_pictures(out: Path, row: dict, wanted: bool) -> bool:
+    """Whether the map of a dump is there, where one is wanted."""
+    return not wanted or row["form"] is None or (out / picture_names(row["file"])[1]).exists()
+
+
 def look(task: Task, with_pictures: bool) -> Examined:
     return examine(task.path, task.name, with_pictures)
 
@@ -205,11 +210,14 @@ def keep(out: Path, journal, entry: Examined, stamped: str) -> None:
 
 def look_at_all(arguments, tasks: list[Task], known: dict, out: Path) -> dict[str, dict]:
     """The rows of all files: those that are known and did not change, and the others looked at."""
-    settings = f"{LAYOUT} {library.version()} {not arguments.no_pictures}"
-    stamps = {task.name: stamp(task.path, settings) for task in tasks}
-    todo = [task for task in tasks if known.get(task.name, ("",))[0] != stamps[task.name]]
-    rows = {task.name: known[task.name][1] for task in tasks if task not in set(todo)}
     how = not arguments.no_pictures
+    stamps = {task.name: stamp(task.path, f"{LAYOUT} {library.version()} {how}") for task in tasks}
+    rows = {
+        task.name: known[task.name][1]
+        for task in tasks
+        if known.get(task.name, ("",))[0] == stamps[task.name] and has_pictures(out, known[task.name][1], how)
+    }
+    todo = [task for task in tasks if task.name not in rows]
     if not todo:
         found = iter(())
     elif arguments.cluster:
@@ -240,6 +248,14 @@ def plain(row: dict) -> dict:
     return row | {"file": os.fsencode(row["file"]).decode("utf-8", "backslashreplace")}
 
 
+def clear_pictures(out: Path, rows: list[dict]) -> None:
+    """Removes the pictures of dumps that are gone."""
+    wanted = {name for row in rows for name in picture_names(row["file"])}
+    for path in (out / "pictures").iterdir():
+        if f"pictures/{path.name}" not in wanted:
+            path.unlink()
+
+
 def write_tables(out: Path, rows: list[dict]) -> None:
     with beside(out / "table.tsv") as table:
         lines = ["\t".join(COLUMNS), *("\t".join(shown(cell(row[name])) for name in COLUMNS) for row in rows)]
@@ -263,6 +279,7 @@ def run(arguments) -> int:
     rows = look_at_all(arguments, tasks, known_rows(out), out)
     ordered = [rows[task.name] for task in tasks]
     if not arguments.part:
+        clear_pictures(out, ordered)
         write_tables(out, ordered)
     write_row(("status", "files"))
     for status in sorted({row["status"] for row in ordered}):
