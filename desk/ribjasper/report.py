@@ -12,7 +12,7 @@ from concurrent.futures.process import BrokenProcessPool
 from pathlib import Path
 from typing import Iterator, NamedTuple
 
-from . import library, page
+from . import library, report_page
 from .examine import COLUMNS, UNREAD, Examined, examine
 from .output import REFUSED, Refusal, beside, cause, package, shown, tell, write_file, write_row
 
@@ -262,7 +262,7 @@ def write_tables(out: Path, rows: list[dict]) -> None:
         table.write("".join(f"{line}\n" for line in lines).encode(errors="surrogateescape"))
     with beside(out / "table.jsonl") as table:
         table.write("".join(json.dumps(plain(row)) + "\n" for row in rows).encode())
-    write_file(out / "index.html", page.html(rows, out, picture_names))
+    write_file(out / "index.html", report_page.html(rows, out, picture_names))
 
 
 def run(arguments) -> int:
