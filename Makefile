@@ -1,6 +1,6 @@
 # Builds the program, shows it at work, and checks the repository.
 
-.PHONY: all library example demo check bench guide install uninstall clean
+.PHONY: all library example demo check bench guide install uninstall deb clean
 
 PREFIX ?= /usr/local
 # Where libraries go; some systems have a folder for each processor.
@@ -64,6 +64,10 @@ uninstall:
 		cd $(DESTDIR)$(PREFIX) && rmdir -p share/man/man1 share/man/man3 share/bash-completion/completions \
 			share/zsh/site-functions bin lib/pkgconfig include 2>/dev/null || true ;; \
 	esac
+
+# Packages for Debian of what `make` and `make library` built.
+deb:
+	tools/make_deb.sh
 
 clean:
 	rm -rf bin lib crates/*/out

@@ -1,7 +1,8 @@
 """Where a dump is damaged: runs of blocks, jumps of its time, and a map."""
+import argparse
 from typing import Iterator, NamedTuple
 
-from . import output, pictures
+from . import damage_map, output
 from .dump import FORMS, Dump, Form
 from .identify import form_of, survey_of
 from .library import BLOCKS_A_SECOND, LONGEST_LEAD_IN
@@ -65,14 +66,14 @@ def damages(survey: Survey) -> list[Damage]:
 
 
 def seconds(survey: Survey) -> bytes:
-    """For each second of the file the worst that is in it, as a number of pictures.STATES."""
+    """For each second of the file the worst that is in it, as a number of damage_map.STATES."""
     corrected = either(survey.column("one"), survey.column("two"))
     worst = bytearray(survey.blocks)
     for state, column in (
-        (pictures.CORRECTED, corrected),
-        (pictures.Q_BAD, survey.bad_frames),
-        (pictures.BAD, survey.column("bad")),
-        (pictures.EMPTY, survey.empty),
+        (damage_map.CORRECTED, corrected),
+        (damage_map.Q_BAD, survey.bad_frames),
+        (damage_map.BAD, survey.column("bad")),
+        (damage_map.EMPTY, survey.empty),
     ):
         for run in runs(column):
             worst[run.first : run.last + 1] = bytes([state]) * (run.last - run.first + 1)
@@ -91,7 +92,7 @@ def draw_map(survey: Survey):
     else:
         marks = [spelled(first) for first in firsts]
     jumped = {damage.first // BLOCKS_A_SECOND for damage in jumps(survey, clock)}
-    return pictures.damage_map(cells, jumped, marks)
+    return damage_map.draw(cells, jumped, marks)
 
 
 def add_parser(commands) -> None:
@@ -113,7 +114,7 @@ def lead_in(word: str) -> int:
     """A number of lead-in blocks, of the command line."""
     number = int(word) if word.isascii() and word.isdigit() else -1
     if not 0 <= number <= LONGEST_LEAD_IN:
-        raise ValueError(word)
+        raise argparse.ArgumentTypeError(f"{word} is not a number from 0 to {LONGEST_LEAD_IN}")
     return number
 
 

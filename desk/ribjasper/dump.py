@@ -46,7 +46,7 @@ def from_planar(planar: bytes) -> bytes:
         range(target, target + whole, BLOCK),
     )
     collections.deque(turned, maxlen=0)
-    return room.raw[:whole]
+    return ctypes.string_at(room, whole)
 
 
 class Dump:

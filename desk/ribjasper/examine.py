@@ -9,8 +9,7 @@ from .damage import damages, draw_map
 from .dump import Dump, Form
 from .identify import GRAPHICS, form_of, survey_of, yes
 from .library import BLOCK, HEIGHT, PACK, RAW, WIDTH
-from .output import Refusal
-from .pictures import screen
+from .output import Refusal, package
 from .survey import Survey
 
 COLUMNS = (
@@ -70,6 +69,11 @@ def first_picture(packs: bytes) -> bytes | None:
     return None
 
 
+def image_of(picture: bytes):
+    """The picture of a player as one of Pillow."""
+    return package("PIL.Image", "python3-pil").frombytes("RGB", (WIDTH, HEIGHT), picture)
+
+
 def png(image) -> bytes:
     out = io.BytesIO()
     image.save(out, "PNG", optimize=True)
@@ -126,7 +130,7 @@ def examine(path: str, name: str, with_pictures: bool = True) -> Examined:
         row.update(row_of(dump, form, survey, stream, packs))
         if with_pictures:
             picture = first_picture(packs)
-            first = png(screen(picture)) if picture else None
+            first = png(image_of(picture)) if picture else None
             mapped = png(draw_map(survey))
     except Refusal as refusal:
         row["status"], row["why"] = UNREAD, refusal.cause

@@ -226,7 +226,7 @@ def convert(stream: bytes, form: int, lead_in: int) -> tuple[bytes, Converted]:
         raise NoMemory
     if status not in (DONE, DAMAGED):
         raise ValueError(f"ribjasper_convert answers {status}")
-    return packs.raw[: told.bytes], told
+    return ctypes.string_at(packs, told.bytes), told
 
 
 def texts(stream: bytes, lead_in: int) -> str:
@@ -238,7 +238,7 @@ def texts(stream: bytes, lead_in: int) -> str:
         room *= 4
     if status == NO_MEMORY:
         raise NoMemory
-    return lines.raw[: told.bytes].decode("ascii") if status == DONE else ""
+    return ctypes.string_at(lines, told.bytes).decode("ascii") if status == DONE else ""
 
 
 def mend(first: bytes, second: bytes, lead_in: int) -> tuple[bytes, Mended]:
@@ -249,7 +249,7 @@ def mend(first: bytes, second: bytes, lead_in: int) -> tuple[bytes, Mended]:
     status = call("ribjasper_mend")(first, len(first), second, len(second), lead_in, packs, room, told)
     if status not in (DONE, DAMAGED):
         raise ValueError(f"ribjasper_mend answers {status}")
-    return packs.raw[: told.bytes], told
+    return ctypes.string_at(packs, told.bytes), told
 
 
 def q_frame(block: bytes) -> QFrame | None:

@@ -12,7 +12,7 @@ from concurrent.futures.process import BrokenProcessPool
 from pathlib import Path
 from typing import Iterator, NamedTuple
 
-from . import library, page
+from . import library, report_page
 from .examine import COLUMNS, UNREAD, Examined, examine
 from .output import REFUSED, Refusal, beside, cause, package, shown, tell, write_file, write_row
 
@@ -44,10 +44,9 @@ class Part(NamedTuple):
 def part(word: str) -> Part:
     """K/M of the command line."""
     number, _, of = word.partition("/")
-    found = Part(int(number), int(of))
-    if not 1 <= found.number <= found.of:
-        raise ValueError(word)
-    return found
+    if number.isdecimal() and of.isdecimal() and 1 <= int(number) <= int(of):
+        return Part(int(number), int(of))
+    raise argparse.ArgumentTypeError(f"{word} is not K/M with K from 1 to M")
 
 
 def add_parser(commands) -> None:
@@ -72,10 +71,9 @@ def add_parser(commands) -> None:
 
 
 def jobs(word: str) -> int:
-    number = int(word)
-    if number < 1:
-        raise argparse.ArgumentTypeError("at least 1")
-    return number
+    if word.isdecimal() and int(word) > 0:
+        return int(word)
+    raise argparse.ArgumentTypeError(f"{word} is not a number from 1 on")
 
 
 def files_below(folder: str, out: str) -> list[Task]:
@@ -120,6 +118,11 @@ def picture_names(name: str) -> tuple[str, str]:
     """The names of the files of a dump's first picture and of its map."""
     digest = hashlib.sha256(os.fsencode(name)).hexdigest()[:20]
     return f"pictures/{digest}-first.png", f"pictures/{digest}-map.png"
+
+
+def has_pictures(out: Path, row: dict, wanted: bool) -> bool:
+    """Whether the map of a dump is there, where one is wanted."""
+    return not wanted or row["form"] is None or (out / picture_names(row["file"])[1]).exists()
 
 
 def look(task: Task, with_pictures: bool) -> Examined:
@@ -207,11 +210,14 @@ def keep(out: Path, journal, entry: Examined, stamped: str) -> None:
 
 def look_at_all(arguments, tasks: list[Task], known: dict, out: Path) -> dict[str, dict]:
     """The rows of all files: those that are known and did not change, and the others looked at."""
-    settings = f"{LAYOUT} {library.version()} {not arguments.no_pictures}"
-    stamps = {task.name: stamp(task.path, settings) for task in tasks}
-    todo = [task for task in tasks if known.get(task.name, ("",))[0] != stamps[task.name]]
-    rows = {task.name: known[task.name][1] for task in tasks if task not in set(todo)}
     how = not arguments.no_pictures
+    stamps = {task.name: stamp(task.path, f"{LAYOUT} {library.version()} {how}") for task in tasks}
+    rows = {
+        task.name: known[task.name][1]
+        for task in tasks
+        if known.get(task.name, ("",))[0] == stamps[task.name] and has_pictures(out, known[task.name][1], how)
+    }
+    todo = [task for task in tasks if task.name not in rows]
     if not todo:
         found = iter(())
     elif arguments.cluster:
@@ -242,13 +248,21 @@ def plain(row: dict) -> dict:
     return row | {"file": os.fsencode(row["file"]).decode("utf-8", "backslashreplace")}
 
 
+def clear_pictures(out: Path, rows: list[dict]) -> None:
+    """Removes the pictures of dumps that are gone."""
+    wanted = {name for row in rows for name in picture_names(row["file"])}
+    for path in (out / "pictures").iterdir():
+        if f"pictures/{path.name}" not in wanted:
+            path.unlink()
+
+
 def write_tables(out: Path, rows: list[dict]) -> None:
     with beside(out / "table.tsv") as table:
         lines = ["\t".join(COLUMNS), *("\t".join(shown(cell(row[name])) for name in COLUMNS) for row in rows)]
         table.write("".join(f"{line}\n" for line in lines).encode(errors="surrogateescape"))
     with beside(out / "table.jsonl") as table:
         table.write("".join(json.dumps(plain(row)) + "\n" for row in rows).encode())
-    write_file(out / "index.html", page.html(rows, out, picture_names))
+    write_file(out / "index.html", report_page.html(rows, out, picture_names))
 
 
 def run(arguments) -> int:
@@ -265,6 +279,7 @@ def run(arguments) -> int:
     rows = look_at_all(arguments, tasks, known_rows(out), out)
     ordered = [rows[task.name] for task in tasks]
     if not arguments.part:
+        clear_pictures(out, ordered)
         write_tables(out, ordered)
     write_row(("status", "files"))
     for status in sorted({row["status"] for row in ordered}):

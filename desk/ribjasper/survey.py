@@ -61,7 +61,7 @@ class Survey:
         )
         if status != library.DONE:
             raise ValueError(f"ribjasper_survey answers {status}")
-        self.rows = room.raw[: ROW * self.blocks]
+        self.rows = ctypes.string_at(room, ROW * self.blocks)
         self.columns: dict[str, bytes] = {}
 
     def column(self, name: str) -> bytes:

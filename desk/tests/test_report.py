@@ -111,6 +111,19 @@ class ReportTest(FolderTest):
         pixmap = program("screen", "--lead-in", LEAD_IN, "--at", "00:04:00", stdin=hello())
         self.assertEqual(Image.open(picture).convert("RGB").tobytes(), pixmap[15:])
 
+    @needs_pillow
+    def test_pictures_that_are_gone(self):
+        dumps(self.dumps, 2)
+        self.report()
+        before = {path.name for path in self.out.glob("pictures/*")}
+        for path in self.out.glob("pictures/*"):
+            path.unlink()
+        self.assertIn("2 files read", self.report().told)
+        self.assertEqual({path.name for path in self.out.glob("pictures/*")}, before)
+        (self.dumps / "box-0" / "dump-000").unlink()
+        self.report()
+        self.assertEqual(len(list(self.out.glob("pictures/*"))), 2)
+
     def test_without_pictures_no_package_is_asked_for(self):
         dumps(self.dumps, 3)
         self.report("--no-pictures", env={**os.environ, "PYTHONNOUSERSITE": "1"})

@@ -1,7 +1,6 @@
-"""Pictures that the desk draws, by Pillow."""
+"""The map of a dump: what each of its seconds is, as a picture."""
 from typing import Sequence
 
-from .library import HEIGHT, WIDTH
 from .output import package
 
 # What a second of a dump is, the worse the higher. Colours that colour-blind readers tell apart (Okabe and Ito).
@@ -20,32 +19,27 @@ LINE = 16
 INK, PAPER = (0, 0, 0), (255, 255, 255)
 
 
-def damage_map(cells: bytes, jumped: set[int], marks: Sequence[str]):
+def draw(cells: bytes, jumped: set[int], marks: Sequence[str]):
     """A row a minute with the time at its left, a cell a second, and what the colours mean below."""
     drawing, images = package("PIL.ImageDraw", "python3-pil"), package("PIL.Image", "python3-pil")
     rows = max(1, len(marks))
     legend = TOP + rows * CELL + 8
     size = LEFT + SECONDS_A_ROW * CELL + 8, legend + LINE * (len(STATES) + 1) + 4
     image = images.new("RGB", size, PAPER)
-    draw = drawing.Draw(image)
+    pen = drawing.Draw(image)
     for second in range(0, SECONDS_A_ROW, 10):
-        draw.text((LEFT + second * CELL, 4), f":{second:02}", fill=INK)
+        pen.text((LEFT + second * CELL, 4), f":{second:02}", fill=INK)
     for row, mark in enumerate(marks):
         # A mark needs the height of two rows.
         if row % 2 == 0:
-            draw.text((6, TOP + row * CELL - 1), mark, fill=INK)
+            pen.text((6, TOP + row * CELL - 1), mark, fill=INK)
     for number, state in enumerate(cells):
         x, y = LEFT + number % SECONDS_A_ROW * CELL, TOP + number // SECONDS_A_ROW * CELL
-        draw.rectangle((x, y, x + CELL - 1 - GAP, y + CELL - 1 - GAP), fill=STATES[state][1])
+        pen.rectangle((x, y, x + CELL - 1 - GAP, y + CELL - 1 - GAP), fill=STATES[state][1])
         if number in jumped:
-            draw.rectangle((x, y, x + 2, y + CELL - 1 - GAP), fill=JUMP[1])
+            pen.rectangle((x, y, x + 2, y + CELL - 1 - GAP), fill=JUMP[1])
     for place, (name, colour) in enumerate([*STATES.values(), JUMP]):
         y = legend + LINE * place
-        draw.rectangle((LEFT, y, LEFT + 10, y + 10), fill=colour, outline=INK)
-        draw.text((LEFT + 18, y), name, fill=INK)
+        pen.rectangle((LEFT, y, LEFT + 10, y + 10), fill=colour, outline=INK)
+        pen.text((LEFT + 18, y), name, fill=INK)
     return image
-
-
-def screen(picture: bytes):
-    """The picture of a player as an image."""
-    return package("PIL.Image", "python3-pil").frombytes("RGB", (WIDTH, HEIGHT), picture)

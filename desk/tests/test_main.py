@@ -1,0 +1,62 @@
+"""What all commands share: the version, help, and what is told where something has to be installed or built."""
+import os
+import sys
+import unittest
+
+from archivists import TOP, FolderTest, desk, has, hello, needs_library
+
+COMMANDS = "identify damage mend report sheet texts plan picture lyrics image film".split()
+
+
+class MainTest(FolderTest):
+    def test_help(self):
+        ran = desk("--help")
+        self.assertEqual(ran.status, 0)
+        for command in COMMANDS:
+            self.assertIn(f"    {command} ", ran.out)
+            self.assertEqual(desk(command, "--help").status, 0, command)
+
+    @unittest.skipUnless(has("ribjasper_version"), "lib/ or the program is not built (make library, make)")
+    def test_version(self):
+        self.assertEqual(desk("--version").out, f"ribjasper-desk {(TOP / 'VERSION').read_text().strip()}\n")
+
+    def test_without_the_library(self):
+        path = self.write("dump", bytes(96))
+        ran = desk("identify", path, env={**os.environ, "RIBJASPER_LIBRARY": str(self.folder / "none.so")})
+        self.assertEqual(ran.status, 5)
+        self.assertIn("'make library' builds it", ran.told)
+        self.assertNotIn("Traceback", ran.told)
+
+    @needs_library
+    def test_without_a_package(self):
+        """Each package is asked for where it is used, and named."""
+        for module in ("PIL", "distributed"):
+            folder = self.folder / "broken" / module
+            folder.mkdir(parents=True)
+            (folder / "__init__.py").write_text("raise ImportError('not here')\n")
+        how = dict(env={**os.environ, "PYTHONPATH": str(self.folder / "broken")})
+        dump = self.write("dumps/dump", hello())
+        self.assertEqual(desk("identify", dump, **how).status, 0)
+        self.assertEqual(desk("damage", dump, **how).status, 0)
+        for words, package in (
+            (("damage", dump, "--map", self.folder / "map.png"), "python3-pil"),
+            (("report", dump.parent, "-o", self.folder / "out"), "python3-pil"),
+            (("report", dump.parent, "-o", self.folder / "out", "--no-pictures", "--cluster", "a:1"), "python3-distributed"),
+        ):
+            ran = desk(*words, **how)
+            self.assertEqual(ran.status, 5, ran.told)
+            self.assertIn(f"apt-get install {package}", ran.told)
+            self.assertNotIn("Traceback", ran.told)
+
+    def test_a_reader_that_has_seen_enough(self):
+        import subprocess
+
+        path = self.write("dump", bytes(960))
+        words = [sys.executable, TOP / "desk" / "ribjasper-desk", "identify", *[path] * 50]
+        with subprocess.Popen(words, stdout=subprocess.PIPE, stderr=subprocess.PIPE) as running:
+            running.stdout.close()
+            self.assertNotIn(b"Traceback", running.stderr.read())
+
+
+if __name__ == "__main__":
+    unittest.main()
