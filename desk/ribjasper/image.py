@@ -169,7 +169,18 @@ def warn(arguments: argparse.Namespace, disc: Disc, program: bytes) -> None:
             tell(f"{arguments.sheet}: track {track.number} is shorter than four seconds; burners may refuse it")
 
 
+def outputs(arguments: argparse.Namespace) -> list[str]:
+    """The names of the three files, none of which is one that is read."""
+    names = [f"{os.fspath(arguments.output)}{ending}" for ending in (".bin", ".toc", ".cue")]
+    read = [arguments.sheet, arguments.stream, arguments.audio]
+    for name in names:
+        if os.path.exists(name) and any(path.exists() and os.path.samefile(name, path) for path in read):
+            raise Refusal(name, "is read here and would be overwritten; -o takes another name")
+    return names
+
+
 def run(arguments: argparse.Namespace) -> int:
+    binary, toc, cue = outputs(arguments)
     sheet = read_file(arguments.sheet)
     if arguments.latin_1:
         sheet = latin1.as_latin_1(arguments.sheet, sheet)
@@ -184,11 +195,11 @@ def run(arguments: argparse.Namespace) -> int:
             tell(str(late))
             return LATE
     warn(arguments, disc, program)
-    base, name = os.fspath(arguments.output), arguments.output.name
-    with beside(f"{base}.bin") as out:
+    name = os.path.basename(binary)
+    with beside(binary) as out:
         for sector in sectors(disc, program, arguments.audio):
             out.write(sector)
-    write_file(f"{base}.toc", toc_of(disc, f"{name}.bin").encode())
-    write_file(f"{base}.cue", cue_of(disc, f"{name}.bin"))
-    tell(f"{disc.blocks - PAUSE} sectors, {clock(disc.blocks - PAUSE)}; `cdrdao write --swap {base}.toc` burns them")
+    write_file(toc, toc_of(disc, name).encode())
+    write_file(cue, cue_of(disc, name))
+    tell(f"{disc.blocks - PAUSE} sectors, {clock(disc.blocks - PAUSE)}; `cdrdao write --swap {toc}` burns them")
     return 0

@@ -42,6 +42,7 @@ class Font:
         if not self.path.exists() and path is None:
             raise Missing(f"this needs the package {FONT_PACKAGE} (apt-get install {FONT_PACKAGE}), or --font FILE")
         self._made: dict[int, object] = {}
+        self._widths: dict[tuple[str, int], float] = {}
         self.of_size(size)
 
     def of_size(self, size: int):
@@ -60,7 +61,9 @@ class Font:
         return {letter for letter in seen if bytes(font.getmask(letter)) == none}
 
     def width(self, text: str, size: int) -> float:
-        return self.of_size(size).getlength(text)
+        if (text, size) not in self._widths:
+            self._widths[text, size] = self.of_size(size).getlength(text)
+        return self._widths[text, size]
 
     def heights(self, texts: list[str], size: int) -> tuple[int, int]:
         """How far the letters reach above the line that they stand on, and below it."""
@@ -107,13 +110,16 @@ def wrapped(line: Line, font: Font) -> list[list[list[Syllable]]]:
 def sung_later(rows: list[list[list[Syllable]]]) -> list[list[list[Syllable]]]:
     """The same rows; where one time is told for words that stand on several of them, those on a later row are sung later,
     as far as the letters before them tell."""
-    for before, row in zip(rows, rows[1:]):
-        told = before[-1][-1]
-        parts = [syllable for word in row for syllable in word if syllable.start == told.start]
-        done = [syllable for word in before for syllable in word if syllable.start == told.start]
-        letters = [sum(len(syllable.text) for syllable in some) for some in (done, parts)]
-        time = told.start + (told.end - told.start) * letters[0] / sum(letters)
-        for syllable in parts:
+    for number, row in enumerate(rows[:-1]):
+        told = row[-1][-1]
+        here = [syllable for word in row for syllable in word if syllable.start == told.start]
+        later = [syllable for below in rows[number + 1 :] for word in below for syllable in word
+                 if syllable.start == told.start]
+        done, left = (sum(len(syllable.text) for syllable in some) for some in (here, later))
+        time = told.start + (told.end - told.start) * done / (done + left)
+        for syllable in here:
+            syllable.end = time
+        for syllable in later:
             syllable.start = time
     return rows
 

@@ -5,7 +5,7 @@ from pathlib import Path
 from . import audio, times
 from .lettering import Font, Letters, Setter, wrapped
 from .output import Refusal, shown, tell, write_file
-from .pages import STYLES, SUNG, Draw, Light, Placed, Show, Step, Style, pages_of
+from .pages import LINES, STYLES, SUNG, Draw, Light, Placed, Show, Step, Style, pages_of
 from .picture import ONE_TRACK, PLAIN, number_in, whole
 from .planning import MOST_PICTURES, plan
 from .raster import HEIGHT, TILE_HEIGHT, Raster, lines_between
@@ -98,15 +98,18 @@ def title_text(song: Song, font: Font, style: Style) -> Raster | None:
 
 
 def tasks_of(pages: list[list[Placed]], begin: int) -> list[Task]:
-    """What is to be drawn, and from when on: not before what stood there is sung; and what stays without need goes."""
-    tasks = []
+    """What is to be drawn, and from when on: not before what stood there is sung, and four rows ahead at most; and what
+    stays without need goes."""
+    tasks, rows = [], []
     for placed in (placed for page in pages for placed in page):
-        start, release = times.nearest_block(placed.start), begin
-        if placed.before:
-            release = times.nearest_block(placed.before.end) + STAYS
-        if not placed.letters:
-            start, release = start + LATER, start + GOES
-        tasks.append(Task(placed, list(placed.draws), max(begin, release), start))
+        due = times.nearest_block(placed.start)
+        if placed.letters:
+            before = [placed.before, *rows[-LINES : 1 - LINES]]
+            release = max([begin, *(times.nearest_block(one.end) + STAYS for one in before if one)])
+            rows.append(placed)
+        else:
+            due, release = due + LATER, max(begin, due + GOES)
+        tasks.append(Task(placed, list(placed.draws), release, due))
     return tasks
 
 

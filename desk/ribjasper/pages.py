@@ -7,6 +7,8 @@ from .raster import COLOURS, HEIGHT, TILE_HEIGHT, WIDTH, Raster
 from .songs import Line, Song
 
 LINES = 4
+# How long nothing is sung, in seconds, before a page that is not full is left.
+REST = 3.0
 SLOT = HEIGHT // LINES
 # What is sung has the number of the same level with this bit, so that one pack a tile lights a word.
 SUNG = 8
@@ -113,16 +115,17 @@ def draws_of(placed: Placed) -> list[Draw]:
 
 
 def groups_of(song: Song, font: Font) -> list[list[tuple[Line, list]]]:
-    """The rows of the song, at most four of them a page; a verse begins a page, and a line stays on one where it can."""
+    """The rows of the song, four of them a page; after a rest a new page begins."""
     pages: list[list[tuple[Line, list]]] = []
-    for number, line in enumerate(song.lines):
-        rows = [(line, row) for row in wrapped(line, font)]
-        if not pages or number in song.verses or len(pages[-1]) + len(rows) > LINES:
+    end = -REST
+    for line in song.lines:
+        if line.start - end >= REST:
             pages.append([])
-        for row in rows:
+        for row in wrapped(line, font):
             if len(pages[-1]) == LINES:
                 pages.append([])
-            pages[-1].append(row)
+            pages[-1].append((line, row))
+        end = line.end
     return pages
 
 

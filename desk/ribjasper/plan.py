@@ -60,7 +60,7 @@ def run(arguments: argparse.Namespace) -> int:
                    "yes" if row.is_late else "no"))
     if arguments.chart:
         draw_plan(found, arguments.chart)
+    names = shown(str(arguments.latin_1 or arguments.sheet)), shown(str(arguments.script))
     tell(f"{len(found.rows)} pictures, {len(found.late())} of them late; the disc is authored by ribjasper author "
-         f"--lead-in {least_lead_in(sheet, length)} --length {clock(length)} -- {shown(str(arguments.sheet))} "
-         f"{shown(str(arguments.script))}")
+         f"--lead-in {least_lead_in(sheet, length)} --length {clock(length)} -- {' '.join(names)}")
     return LATE if found.late() else 0

@@ -44,9 +44,7 @@ class Span(NamedTuple):
     pixels: bytes
 
     def line(self) -> str:
-        """The line that draws it."""
-        if len(set(self.pixels)) == 1:
-            return f"rect {self.left} {self.top} {len(self.pixels)} 1 {self.pixels[0]}"
+        """The line that draws it, pixel by pixel."""
         return f"row {self.left} {self.top} {self.pixels.translate(AS_DIGITS).decode()}"
 
 
@@ -54,8 +52,9 @@ def spans(before: list[bytearray], after: list[bytearray]) -> Iterator[Span]:
     """For each row that changes the stretch from its first to its last pixel that does."""
     for top, (old, new) in enumerate(zip(before, after)):
         if old != new:
-            changed = [x for x in range(WIDTH) if old[x] != new[x]]
-            yield Span(changed[0], top, bytes(new[changed[0] : changed[-1] + 1]))
+            differ = (int.from_bytes(old, "big") ^ int.from_bytes(new, "big")).to_bytes(WIDTH, "big")
+            left, right = WIDTH - len(differ.lstrip(b"\0")), len(differ.rstrip(b"\0"))
+            yield Span(left, top, bytes(new[left:right]))
 
 
 def joined(stretches: list[Span]) -> Iterator[str]:

@@ -41,10 +41,9 @@ class Line:
 
 @dataclass
 class Song:
-    """Lines in the order of their times, the numbers of those that begin a verse, and what the file calls the song."""
+    """Lines in the order of their times, what the file calls the song, and what it has beside them."""
 
     lines: list[Line]
-    verses: set[int] = field(default_factory=set)
     title: str = ""
     performer: str = ""
     left_out: list[str] = field(default_factory=list)
@@ -105,8 +104,6 @@ def from_lrc(text: str, path: Path) -> Song:
     for place, one in enumerate(stamped):
         following = stamped[place + 1].start if place + 1 < len(stamped) else None
         if not one.is_empty():
-            if place == 0 or stamped[place - 1].is_empty():
-                song.verses.add(len(song.lines))
             song.lines.append(lrc_line(one, following, offset, path))
     return song
 
@@ -171,8 +168,6 @@ def from_ass(text: str, path: Path) -> Song:
         elif section == "[script info]" and line.lower().startswith("title:"):
             song.title = line.partition(":")[2].strip()
     song.lines.sort(key=lambda one: one.start)
-    song.verses = {place for place, one in enumerate(song.lines)
-                   if place == 0 or one.start - song.lines[place - 1].end > LONGEST_WORD}
     return song
 
 

@@ -7,6 +7,8 @@ from .times import nearest_block
 PACKS_A_BLOCK = 4
 # By how many blocks a word may be lit before its time at most, so that others are lit at theirs.
 EARLY = 8
+# What is late by no more blocks is not seen.
+SEEN = 3
 FOREVER = 10**9
 
 
@@ -153,10 +155,14 @@ class Arranger:
                 self.told.lost.append(placed.before)
             self.take_over(task)
             self.draw(task, len(task.steps), self.line.now)
-            self.told.drawn_late[placed] = max(self.told.drawn_late.get(placed, 0), self.line.now - due.block)
-        ready = self.line.put(list(due.steps), start)
-        if ready > due.block:
-            self.told.lit_late[placed] = max(self.told.lit_late.get(placed, 0), ready - due.block)
+            note(self.told.drawn_late, placed, self.line.now - due.block)
+        note(self.told.lit_late, placed, self.line.put(list(due.steps), start) - due.block)
+
+
+def note(late: dict[Placed, int], placed: Placed, blocks: int) -> None:
+    """Keeps how late a line is at most, where that can be seen."""
+    if blocks > SEEN:
+        late[placed] = max(blocks, late.get(placed, 0))
 
 
 def fitting(steps: list[Draw], blocks: int) -> int:

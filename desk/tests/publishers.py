@@ -18,6 +18,7 @@ SONG = TOP / "examples" / "song"
 sys.path.insert(0, str(HERE.parent))
 
 from ribjasper import library, main, output, program  # noqa: E402
+from ribjasper.lettering import DEFAULT_FONT  # noqa: E402
 
 PAUSE = 150
 LEAD_IN = 60
@@ -43,6 +44,7 @@ def has_program() -> bool:
 needs_plan = unittest.skipUnless(is_there("ribjasper_plan"), "lib/ is not built, or has no ribjasper_plan")
 needs_program = unittest.skipUnless(has_program(), "the program is not built")
 needs_pillow = unittest.skipUnless(importlib.util.find_spec("PIL"), "python3-pil is not installed")
+needs_font = unittest.skipUnless(DEFAULT_FONT.exists(), "fonts-dejavu-core is not installed")
 needs_ffmpeg = unittest.skipUnless(shutil.which("ffmpeg"), "ffmpeg is not installed")
 needs_cdrdao = unittest.skipUnless(shutil.which("cdrdao"), "cdrdao is not installed")
 

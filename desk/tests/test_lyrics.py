@@ -4,7 +4,7 @@ import io
 import unittest
 from pathlib import Path
 
-from publishers import SONG, FolderTest, author, desk, needs_pillow, needs_plan, needs_program, screen
+from publishers import SONG, FolderTest, author, desk, needs_font, needs_pillow, needs_plan, needs_program, screen
 
 from ribjasper.lyrics import Maker, parser_of
 from ribjasper.output import Refusal
@@ -41,7 +41,6 @@ class SongTest(FolderTest):
         self.assertEqual((song.title, song.performer), ("A song", "Somebody"))
         self.assertEqual(words(song), [[("First line", 5.5)], [("Second", 10)], [("Third", 60)]])
         self.assertEqual([line.end for line in song.lines], [10, 12.5, 70])
-        self.assertEqual(song.verses, {0, 2})
 
     def test_words_with_times(self):
         song = self.song("[00:05.00]<00:05.10>One <00:05.60>two<00:05.90>fold <00:06.40>\n[00:09.00]So <00:09.50>on\n")
@@ -77,6 +76,7 @@ class SongTest(FolderTest):
 
 @needs_plan
 @needs_pillow
+@needs_font
 class LyricsTest(FolderTest):
     def made(self, song: Path, *words):
         """Runs the command; and makes the pages once more, to know where each word stands."""
@@ -110,6 +110,24 @@ class LyricsTest(FolderTest):
         self.assertIn("none is late", ran.told)
         self.assertEqual(desk("plan", self.write("a.cue", SHEET), script, "--length", clock(30_000)).status, 0)
         self.check_words(script, maker, 9)
+
+    def test_rows_flow_over_pages_until_a_rest(self):
+        song = self.write("a.lrc", "[00:06.00]One\n[00:08.00]Two\n[00:10.00]Three\n[00:12.00]Four\n[00:14.00]Five\n"
+                                   "[00:16.00]\n[00:20.00]Six, after a rest\n[00:22.00]\n")
+        _, _, maker = self.made(song)
+        texts = [[placed.text() for placed in page if placed.letters] for page in maker.pages]
+        self.assertEqual(texts, [["One", "Two", "Three", "Four"], ["Five"], ["Six, after a rest"], []])
+
+    def test_rows_of_a_line_are_sung_one_after_the_other(self):
+        song = self.write("a.lrc", "[00:06.00]Twelve words of which there are many more than in a single row\n[00:12.00]\n")
+        _, _, maker = self.made(song, "--size", "24")
+        rows = [placed for placed in maker.pages[0] if placed.letters]
+        self.assertGreater(len(rows), 2)
+        self.assertEqual([row.start for row in rows], sorted({row.start for row in rows}))
+        self.assertEqual([row.end for row in rows], [*(row.start for row in rows[1:]), 12])
+        letters = sum(len(row.text()) + 1 for row in rows)
+        for row, following in zip(rows, rows[1:]):
+            self.assertAlmostEqual(following.start - row.start, 6 * (len(row.text()) + 1) / letters, delta=0.15)
 
     @needs_program
     def test_lines_of_which_the_beginning_is_told(self):

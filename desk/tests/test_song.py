@@ -3,7 +3,7 @@ import subprocess
 import sys
 import unittest
 
-from publishers import (SONG, TOP, FolderTest, desk, needs_ffmpeg, needs_pillow, needs_plan, needs_program, run_program,
+from publishers import (SONG, TOP, FolderTest, desk, needs_ffmpeg, needs_font, needs_pillow, needs_plan, needs_program, run_program,
                         screen)
 
 LEAD_IN = 30
@@ -14,6 +14,7 @@ THIRD = 150 + 348 * 3
 @needs_plan
 @needs_program
 @needs_pillow
+@needs_font
 @needs_ffmpeg
 class SongTest(FolderTest):
     def test_five_commands(self):
