@@ -23,14 +23,14 @@ cc $flags -std=c99 tools/test_library.c lib/libribjasper.a $wrap -o "$work/test_
 c++ $flags -x c++ tools/test_library.c -x none lib/libribjasper.a $wrap -o "$work/test_library_of_cxx"
 "$work/test_library"
 "$work/test_library_of_cxx" >/dev/null
-cc $flags -std=c99 tools/test_mend.c lib/libribjasper.a -o cc $flags -std=c99 tools/test_plan.c lib/libribjasper.a $wrap -o "$work/test_plan"
+cc $flags -std=c99 tools/test_mend.c lib/libribjasper.a -o "$work/test_mend"
+c++ $flags -x c++ tools/test_mend.c -x none lib/libribjasper.a -o "$work/test_mend_of_cxx"
+cc $flags -std=c99 tools/test_plan.c lib/libribjasper.a $wrap -o "$work/test_plan"
 c++ $flags -x c++ tools/test_plan.c -x none lib/libribjasper.a $wrap -o "$work/test_plan_of_cxx"
 "$work/test_mend"
+"$work/test_mend_of_cxx" >/dev/null
 "$work/test_plan"
 "$work/test_plan_of_cxx" >/dev/null
-c++ $flags -x c++ tools/test_mend.c -x none lib/libribjasper.a -o "$work/test_mend_of_cxx"
-"$work/test_mend"
-"$work/test_mend_of_cxx" >/dev/null
 cp examples/hello.cue examples/hello.script "$work"
 cd "$work"
 "$top/bin/ribjasper" author --lead-in 0 --length 00:22:00 -- hello.cue hello.script >stream
