@@ -63,7 +63,8 @@ pub extern "C" fn ribjasper_convert(
     ensures small { (result ≡ pos 6)
         ↔ (form ≤ 2) × (lead_in ≤ most_lead_in) × (¬ IsNoStream (stream_form form) stream.now)
         × (length packs.old < text_size (stream_form form) lead_in stream.now) }
-    ensures answer { (result ≡ pos 0) ⊎ (result ≡ pos 1) ⊎ (result ≡ pos 2) ⊎ (result ≡ pos 3) ⊎ (result ≡ pos 6) }
+    ensures answer { (result ≡ pos 0) ⊎ (result ≡ pos 1) ⊎ (result ≡ pos 2) ⊎ (result ≡ pos 3)
+        ⊎ (result ≡ pos 6) }
     ensures untouched { result ≢ pos 0 → result ≢ pos 1 → (packs.new ≡ packs.old) × (told.new ≡ told.old) }
 {
     if form > 2 || lead_in > MOST_LEAD_IN {

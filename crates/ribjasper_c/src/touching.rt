@@ -25,8 +25,9 @@ const LEVELS: i32 = 904;
 #[unsafe(no_mangle)]
 pub extern "C" fn ribjasper_pack_touches(pack: &[u8; SYMBOLS]) -> i32
     ensures touched { result ≡ pos (touched_number (touched_by (instruction_of pack.now))) }
-    ensures keeps { (now : Standing) → IsWholeStanding now → KeepsTheRest (touched_by (instruction_of pack.now))
-        now (standing_after now (instruction_of pack.now ∷ [])) }
+    ensures keeps { (now : Standing) → IsWholeStanding now
+        → KeepsTheRest (touched_by (instruction_of pack.now)) now
+        (standing_after now (instruction_of pack.now ∷ [])) }
 {
     untouched_stays();
     number(touched(pack))
