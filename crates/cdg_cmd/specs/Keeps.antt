@@ -2,7 +2,8 @@
 use Rattle.std.specs.Prelude.{◌≡◌, ◌≢◌, ◌⊎◌, ℕ, List, ⊤}
 use Rattle.cue_sheet.specs.CueSheet.{CueSheet}
 use Rattle.cdg_cmd.specs.Authors.{ReadsSheet}
-use Rattle.cdg_io.specs.Change.{Bytes, Change}
+use Rattle.cdg_io.specs.Causes.{RoseOnce}
+use Rattle.cdg_io.specs.Change.{Input}
 use Rattle.cdg_cmd.specs.Checkpoints.{ReadsCheckpoint}
 use Rattle.cdg_cmd.specs.declared.command.Command.{Command}
 use Rattle.cdg_cmd.specs.declared.command.Command.TheVariants.{Convert, Screen, State, Check, Q, Text, Author, Planar, Raw, Scratch, Gen, Trial, Merge, Press, Save, Resume}
@@ -15,13 +16,16 @@ ReadsNone (Gen seed pictures) = ⊤
 ReadsNone (Trial seed pictures) = ⊤
 ReadsNone command = ⊥
 
--- it reads its second input: `author` and `press` only after the first was read to its end, and its grammar accepted it;
--- `resume` only after the first is the file of a checkpoint that is not later
-abbrev pub ReadsSecond : Command → Change Bytes → Type 0
-ReadsSecond (Author lead_in length) first = (sheet : CueSheet) × ReadsSheet first sheet
-ReadsSecond (Press lead_in length) first = (sheet : CueSheet) × ReadsSheet first sheet
+-- it reads its second input: `author` and `press` only after the first was read to its end, which was told, and its
+-- grammar accepted it; `resume` only after the first was read so and is the file of a checkpoint that is not later
+abbrev pub ReadsSecond : Command → Input → Type 0
+ReadsSecond (Author lead_in length) first = RoseOnce first.ends.before first.ends.after
+    × ((sheet : CueSheet) × ReadsSheet first.left sheet)
+ReadsSecond (Press lead_in length) first = RoseOnce first.ends.before first.ends.after
+    × ((sheet : CueSheet) × ReadsSheet first.left sheet)
 ReadsSecond (Merge lead_in) first = ⊤
-ReadsSecond (Resume at) first = (file : List ℕ) × ReadsCheckpoint at first file
+ReadsSecond (Resume at) first = RoseOnce first.ends.before first.ends.after
+    × ((file : List ℕ) × ReadsCheckpoint at first.left file)
 ReadsSecond command first = ⊥
 
 -- it writes nothing but where its work is whole or a write fails
@@ -63,7 +67,7 @@ TakesFirst (Press lead_in length) = ⊥
 TakesFirst command = ⊤
 
 -- Of the two inputs and the output, in this order: what is not read and what is not written is as it was.
-pub record Keeps {S T K : Type 0} (command : Command) (read : Change Bytes) (before after : S × T × K)
+pub record Keeps {S T K : Type 0} (command : Command) (read : Input) (before after : S × T × K)
     (status : Status) : Type 0 where
   pub first : ReadsNone command → after.0 ≡ before.0
   pub second : (after.1 ≡ before.1) ⊎ ReadsSecond command read
