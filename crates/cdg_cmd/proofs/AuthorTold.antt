@@ -103,11 +103,6 @@ read_within : (left : Bytes) (ends : Change Count) (text : CueSheet) → IfSome 
 read_within None ends text reads told = (inr told, tt)
 read_within (Some bytes) ends text reads told = (inr told, (λ within. told, λ long. absurd (omega (arith, reads.within, long))))
 
--- one that is too long was not read to its end
-pub not_within : (left : Bytes) (ends : Change Count) → IfSome left (λ bytes. most_text_bytes < length bytes) → ends.after ≡ ends.before → EndsWithin left ends
-not_within None ends long same = (inl same, tt)
-not_within (Some bytes) ends long same = (inl same, (λ within. absurd (omega (arith, within, long)), λ more. same))
-
 of_sheet : (answer : Result (Unit {0}) AuthorStop) (first : Input) → RoseOnce first.ends.before first.ends.after → SheetEnds first (author_status answer)
 of_sheet (Ok done) first told = told
 of_sheet (Err (stop.LengthShort need)) first told = told

@@ -78,8 +78,10 @@ field_within Check k lt = omega (arith, lt)
 -- where the file is not too long, its bad byte is within
 bad_within : (file : List ℕ) (byte : ℕ) → IsBadAt file byte → length file ≤ file_size → byte < file_size
 bad_within file byte bad le =
-    elim (eq-or-lt_of_le le) [ inl whole ↦ (let here = (bad.field whole).here in omega (arith, here.byte_is, field_within (bad.field whole).part here.k here.field))
-    | inr short ↦ omega (arith, bad.short short, short) ]
+    elim (eq-or-lt_of_le le) [
+      | inl whole ↦ (let here = (bad.field whole).here in omega (arith, here.byte_is, field_within (bad.field whole).part here.k here.field))
+      | inr short ↦ omega (arith, bad.short short, short)
+    ]
 
 whole_first : (n n' : Count) (good : Bool) (bad : ℕ) → RoseOnce n n' → CheckpointEnds (count n n') (if good then Done else Damaged bad)
 whole_first n n' true bad rose = rose
@@ -89,8 +91,10 @@ module _ (at : ℕ) (n n' : Count) (file : List ℕ) where
   -- a byte that tells that the file is too long is past its last, and any other is not
   bad_end : (byte : ℕ) → IsBadAt file byte → (length file ≤ file_size → RoseOnce n n') → (file_size < length file → n' ≡ n) → (byte < file_size → RoseOnce n n') × (file_size ≤ byte → n' ≡ n)
   bad_end byte bad rises stays =
-      elim (cases_lt file_size (length file)) [ inl lt ↦ (λ below. absurd (omega (arith, bad.long lt, below)), λ past. stays lt)
-      | inr le ↦ (λ below. rises le, λ past. absurd (omega (arith, bad_within file byte bad le, past))) ]
+      elim (cases_lt file_size (length file)) [
+        | inl lt ↦ (λ below. absurd (omega (arith, bad.long lt, below)), λ past. stays lt)
+        | inr le ↦ (λ below. rises le, λ past. absurd (omega (arith, bad_within file byte bad le, past)))
+      ]
 
   of_file : IsCheckpointFile file → (length file ≤ file_size → RoseOnce n n') → RoseOnce n n'
   of_file is rises = rises (omega (arith, is.size))

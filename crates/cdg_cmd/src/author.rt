@@ -7,7 +7,7 @@ ghost use Rattle.cdg_io.specs.Change.{change, input};
 ghost use Rattle.cdg_cmd.specs.Call.{call};
 ghost use Rattle.cdg_cmd.specs.Ends.{ScriptEnds, SheetEnds};
 ghost use Rattle.cdg_cmd.specs.Faults.{TellsFaults};
-ghost use Rattle.cdg_cmd.specs.Keeps.{ReadsSecond};
+ghost use Rattle.cdg_cmd.specs.Keeps.{MayReadSecond};
 
 use crate::{Command, Refusal, Status, Which};
 use cdg_io::{ReadStop, Sink, Source, read_whole};
@@ -110,7 +110,7 @@ pub(crate) fn run_author<S: Source, T: Source, K: Sink>(
     ensures never { result ≢ Status.Usage }
     ensures untouched { result ≢ Status.Done → result ≢ Status.WriteFault → out.new ≡ out.old }
     ensures second { (second.new ≡ second.old)
-        ⊎ ReadsSecond (Command.Author lead_in length) (input S.left S.ends first.old first.new) }
+        ⊎ MayReadSecond (Command.Author lead_in length) (input S.left S.ends first.old first.new) }
     ensures faults { TellsFaults (call S.faults T.faults K.faults (first.old, second.old, out.old)
         (first.new, second.new, out.new)) result }
     ensures first_ended { SheetEnds (input S.left S.ends first.old first.new) result }

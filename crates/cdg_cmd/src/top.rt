@@ -16,7 +16,7 @@ ghost use Rattle.cdg_cmd.specs.Words.{texts};
 ghost use Rattle.cdg_cmd.specs.Spelling.{IsAllowed, Spells};
 ghost use Rattle.cdg_io.specs.Change.{Bytes, change, input};
 ghost use Rattle.cdg_cmd.specs.Call.{call, dry_call};
-ghost use Rattle.cdg_cmd.specs.Keeps.{Keeps, MayWrite, ReadsNone, ReadsSecond, TakesFirst, TakesNone, WantsMemory, WritesLast};
+ghost use Rattle.cdg_cmd.specs.Keeps.{Keeps, MayReadSecond, MayWrite, ReadsNone, TakesFirst, TakesNone, WantsMemory, WritesLast};
 ghost use Rattle.cdg_cmd.specs.Answer.{Does, GivesBack, GivesIfFound};
 ghost use Rattle.cdg_cmd.specs.Faults.{IsAnswered, NoneRose, TellsFaults};
 ghost use Rattle.cdg_cmd.specs.Ends.{TellsEnds};
@@ -224,7 +224,8 @@ fn perform<S: Source, T: Source, K: Sink>(
     requires { IsAllowed command }
     ensures never { result ≢ Status.Usage }
     ensures reads_none { ReadsNone command → first.new ≡ first.old }
-    ensures second { (second.new ≡ second.old) ⊎ ReadsSecond command (input S.left S.ends first.old first.new) }
+    ensures second { (second.new ≡ second.old)
+        ⊎ MayReadSecond command (input S.left S.ends first.old first.new) }
     ensures writes_last { WritesLast command → ¬ (MayWrite result) → out.new ≡ out.old }
     ensures no_memory { result ≡ Status.NoMemory → out.new ≡ out.old }
     ensures no_memory_first { TakesFirst command → result ≡ Status.NoMemory
