@@ -7,6 +7,8 @@ mod laws;
 mod press;
 mod stops;
 
+// Thinning is another work on such a file; it stands in a crate that needs no sheets.
+pub use cdg_thin::Thinner;
 pub use laws::each_press_has_one_answer;
 pub use press::press_stream;
 pub use stops::PressStop;
