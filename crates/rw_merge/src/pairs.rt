@@ -2,8 +2,9 @@
 ghost use Rattle.std.specs.Prelude.{◌≡◌, List, ℕ, Ok, true};
 ghost use Rattle.std.specs.Io.KnownBytes.{Consumes};
 ghost use Rattle.cdg_io.specs.Change.{change};
-ghost use Rattle.rw_merge.specs.Steps.{CountsReadFaults, IsEndRead, IsPairRead, TellsFirstAfter, TellsFirstOfPair, TellsSecondAfter, TellsSecondOfPair, taken_of};
+ghost use Rattle.rw_merge.specs.Steps.{CountsReadFaults, FillsAfter, FillsFirstOfPair, FillsSecondOfPair, IsEndRead, IsPairRead, TellsFirstAfter, TellsFirstOfPair, TellsSecondAfter, TellsSecondOfPair, taken_of};
 
+use crate::blocks::next_block;
 use crate::merge::MergeStop;
 use cdg_io::{Failed, Source, fill};
 use raw_subcode::BLOCK_BYTES;
@@ -27,15 +28,17 @@ pub(crate) fn next_pair<S: Source, T: Source>(
         (change T.faults second.old second.new) }
     ensures told { TellsFirstOfPair result (S.ends first.old) (S.ends first.new)
         × TellsSecondOfPair result (T.ends second.old) (T.ends second.new) }
+    ensures rooms { FillsFirstOfPair result (S.fills first.old) (S.fills first.new)
+        × FillsSecondOfPair result (T.fills second.old) (T.fills second.new) }
 {
-    let from_first = match fill(first, one) {
+    let from_first = match next_block(first, one) {
         Ok(count) => count,
         Err(Failed) => return Err(MergeStop::FirstFault),
     };
     if 0 < from_first && from_first < BLOCK_BYTES {
         return Err(MergeStop::Torn { block });
     }
-    let from_second = match fill(second, other) {
+    let from_second = match next_block(second, other) {
         Ok(count) => count,
         Err(Failed) => return Err(MergeStop::SecondFault),
     };
@@ -66,6 +69,8 @@ pub(crate) fn nothing_follows<S: Source, T: Source>(
         (change T.faults second.old second.new) }
     ensures told { TellsFirstAfter result (S.ends first.old) (S.ends first.new)
         × TellsSecondAfter result (T.ends second.old) (T.ends second.new) }
+    ensures rooms { FillsAfter result (S.fills first.old) (S.fills first.new)
+        × FillsAfter result (T.fills second.old) (T.fills second.new) }
 {
     match fill(first, &mut [0; 1]) {
         Ok(0) => {}
