@@ -19,7 +19,7 @@ use Rattle.stream_stages.proofs.FormWords.{words_are}
 use Rattle.stream_stages.proofs.StageRuns.{all_items, words_run}
 use Rattle.stream_stages.proofs.Conversion.{length-units_of, units_sized, blocks_sized}
 use Rattle.block_survey.specs.Rows.{ended_words}
-use Rattle.block_survey.specs.Steps.{words_in}
+use Rattle.block_survey.specs.Steps.{words_with_block}
 
 -- ---- where the blocks stand
 
@@ -56,7 +56,7 @@ items-append : (us vs : List (ArrayVec (List ℕ))) → all_items (us ++ vs) ≡
 items-append [] vs = refl
 items-append (u ∷ us) vs = ap (λ l. u.items ++ l) (items-append us vs) ∙ sym (append_assoc u.items (all_items us) (all_items vs))
 
-items_given : (o : Option (ArrayVec (List ℕ))) (rest : List (ArrayVec (List ℕ))) → all_items (give o rest) ≡ words_in o ++ all_items rest
+items_given : (o : Option (ArrayVec (List ℕ))) (rest : List (ArrayVec (List ℕ))) → all_items (give o rest) ≡ words_with_block o ++ all_items rest
 items_given (Some words) rest = refl
 items_given None rest = refl
 
@@ -70,7 +70,7 @@ module _ (form : Form) (lead_in : ℕ) where
   after blocks = run_state words_next (fresh_words form lead_in) blocks
 
   words_with-append : (xs : List (List ℕ)) (block : List ℕ) (ys : List (List ℕ)) → words_with (xs ++ block ∷ ys)
-      ≡ words_with xs ++ (words_in (words_give (after xs) block) ++ all_items (run_gives words_next words_give (words_next (after xs) block) ys))
+      ≡ words_with xs ++ (words_with_block (words_give (after xs) block) ++ all_items (run_gives words_next words_give (words_next (after xs) block) ys))
   words_with-append xs block ys =
       ap all_items (run_gives-append words_next words_give (fresh_words form lead_in) xs (block ∷ ys)) ∙ items-append (run_gives words_next words_give (fresh_words form lead_in) xs) _
       ∙ ap (λ (l : List (List ℕ)). words_with xs ++ l) (items_given (words_give (after xs) block) _)
@@ -114,7 +114,7 @@ around xs b lt =
     sym (take-append-drop (b + 1) xs) ∙ ap (λ (l : List (List ℕ)). l ++ drop (b + 1) xs) (take_more xs b [] lt) ∙ append_assoc (take b xs) (get_or xs b [] ∷ []) (drop (b + 1) xs)
 
 pub words_there : (form : Form) (lead_in : ℕ) (bytes : List ℕ) (b : ℕ) → b < length bytes / unit_size form
-    → words_in (words_give (after form lead_in (take b (blocks_of form bytes))) (get_or (blocks_of form bytes) b [])) ≡ ended_words form lead_in bytes b
+    → words_with_block (words_give (after form lead_in (take b (blocks_of form bytes))) (get_or (blocks_of form bytes) b [])) ≡ ended_words form lead_in bytes b
 words_there form lead_in bytes b lt =
     let size : ℕ = unit_size form in
     let blocks : List (List ℕ) = blocks_of form bytes in
@@ -122,7 +122,7 @@ words_there form lead_in bytes b lt =
     let before : List (List ℕ) = take b blocks in
     let many : length blocks ≡ length bytes / size = length-blocks form bytes in
     let sized : Sized 96 blocks = blocks_sized form (whole_parts size bytes) (units_sized size (length bytes / size) bytes (omega arith)) in
-    let words : List (List ℕ) = words_in (words_give (after form lead_in before) block) in
+    let words : List (List ℕ) = words_with_block (words_give (after form lead_in before) block) in
     let so_far : length before ≡ b = length-take-le b blocks (omega (arith, lt, many)) in
     let old : length (words_with form lead_in before) ≡ word_count form (b - lead_in) = length-words_with form lead_in before (sized_take 96 b blocks sized) ∙ ap (λ n. word_count form (n - lead_in)) so_far in
     let next : take (b + 1) blocks ≡ before ++ block ∷ [] = take_more blocks b [] (omega (arith, lt, many)) in

@@ -25,7 +25,7 @@ use Rattle.q_channel.specs.declared.frame.QFault.TheVariants.{BadCrc, BadField}
 use Rattle.stream_stages.specs.Check.{has_wrong, stream_lines, wrong_lines, pack_count_lines, frame_count_lines, found_passes, is_idle, is_graphics, is_unknown, is_foreign, check_text, IsCheckListed}
 use Rattle.stream_stages.proofs.Slots.{Sized, sized_drop, symbols_small, length-all_symbols}
 use Rattle.stream_stages.proofs.Conversion.{units_sized, blocks_sized}
-use Rattle.block_survey.specs.Rows.{kind_told, row_of, ended_words, survey_rows}
+use Rattle.block_survey.specs.Rows.{kind_told, row_of_block, ended_words, survey_rows}
 use Rattle.block_survey.specs.Sums.{tells_frame, tells_refusal, AddUpTo}
 use Rattle.block_survey.specs.declared.row.BlockRow.{BlockRow}
 use Rattle.block_survey.proofs.EndedWords.{length-blocks}
@@ -86,10 +86,10 @@ module _ (form : Form) (lead_in : ℕ) (bytes : List ℕ) where
   word_at n = form_word form (program_symbols form bytes lead_in) n
 
   abbrev rows_of : ℕ → List BlockRow
-  rows_of n = map (row_of form lead_in bytes) (below n)
+  rows_of n = map (row_of_block form lead_in bytes) (below n)
 
   -- the sums of a field of the first rows
-  sums : (field : BlockRow → ℕ) (test : List ℕ → Bool) → ((b : ℕ) → field (row_of form lead_in bytes b) ≡ count_by test (ended_words form lead_in bytes b))
+  sums : (field : BlockRow → ℕ) (test : List ℕ → Bool) → ((b : ℕ) → field (row_of_block form lead_in bytes b) ≡ count_by test (ended_words form lead_in bytes b))
       → (n : ℕ) → sum_by field (rows_of n) ≡ count_by test (map word_at (below (word_count form (n - lead_in))))
   sums field test is zero = sym (ap (λ k. count_by test (map word_at (below k))) (none_before form lead_in))
   sums field test is (suc n) =
@@ -97,8 +97,8 @@ module _ (form : Form) (lead_in : ℕ) (bytes : List ℕ) where
       let new : ℕ = word_count form (suc n - lead_in) in
       let all : new ≡ old + (new - old) = omega (arith, grows form n lead_in) in
       let next : suc n ≡ n + 1 = omega arith in
-      let more : sum_by field (rows_of (suc n)) ≡ sum_by field (rows_of n) + field (row_of form lead_in bytes n) =
-      ap (λ k. sum_by field (rows_of k)) next ∙ sum_by-map-range_with_len_more field (row_of form lead_in bytes) 0 n n (omega arith) in
+      let more : sum_by field (rows_of (suc n)) ≡ sum_by field (rows_of n) + field (row_of_block form lead_in bytes n) =
+      ap (λ k. sum_by field (rows_of k)) next ∙ sum_by-map-range_with_len_more field (row_of_block form lead_in bytes) 0 n n (omega arith) in
       more ∙ ap₂ (λ a b. a + b) (sums field test is n) (is n) ∙ sym (two_parts test word_at old (new - old)) ∙ ap (λ k. count_by test (map word_at (below k))) (sym all)
 
   sized : Sized 96 (blocks_of form bytes)
@@ -164,24 +164,24 @@ readings_by_number blocks =
 
 -- a count of rows with frames is that of readings
 abbrev CountsFrames : (BlockRow → Bool) → (Result QFrame QFault → Bool) → Form → ℕ → List ℕ → List (Result QFrame QFault) → Type 0
-CountsFrames told test form lead_in bytes readings = count_by test readings ≡ count_by told (map (row_of form lead_in bytes) (below (length (blocks_of form bytes))))
+CountsFrames told test form lead_in bytes readings = count_by test readings ≡ count_by told (map (row_of_block form lead_in bytes) (below (length (blocks_of form bytes))))
 
 by_blocks : (told : BlockRow → Bool) (test : Result QFrame QFault → Bool) (form : Form) (lead_in : ℕ) (bytes : List ℕ) (readings : List (Result QFrame QFault))
-    → ((b : ℕ) → told (row_of form lead_in bytes b) ≡ test (reading_at (get_or (blocks_of form bytes) b []))) → AreQReadings (blocks_of form bytes) readings → CountsFrames told test form lead_in bytes readings
+    → ((b : ℕ) → told (row_of_block form lead_in bytes b) ≡ test (reading_at (get_or (blocks_of form bytes) b []))) → AreQReadings (blocks_of form bytes) readings → CountsFrames told test form lead_in bytes readings
 by_blocks told test form lead_in bytes readings same are =
     let blocks : List (List ℕ) = blocks_of form bytes in
     ap (count_by test) (readings_are blocks (sized form lead_in bytes) readings are ∙ readings_by_number blocks)
-    ∙ sym (same_tests told test (row_of form lead_in bytes) (λ b. reading_at (get_or blocks b [])) same 0 (length blocks))
+    ∙ sym (same_tests told test (row_of_block form lead_in bytes) (λ b. reading_at (get_or blocks b [])) same 0 (length blocks))
 
 frames_told : (form : Form) (lead_in : ℕ) (bytes : List ℕ) (readings : List (Result QFrame QFault)) → AreQReadings (q_blocks form bytes) readings → CountsFrames tells_frame is_ok form lead_in bytes readings
 frames_told Raw lead_in bytes readings are = by_blocks tells_frame is_ok Raw lead_in bytes readings (λ b. frame_kinds (reading_at (get_or (blocks_of Raw bytes) b []))) are
 frames_told Sector lead_in bytes readings are = by_blocks tells_frame is_ok Sector lead_in bytes readings (λ b. frame_kinds (reading_at (get_or (blocks_of Sector bytes) b []))) are
-frames_told Cooked lead_in bytes readings are = ap (count_by is_ok) are ∙ sym (no_tests tells_frame (row_of Cooked lead_in bytes) (λ b. refl) 0 (length (blocks_of Cooked bytes)))
+frames_told Cooked lead_in bytes readings are = ap (count_by is_ok) are ∙ sym (no_tests tells_frame (row_of_block Cooked lead_in bytes) (λ b. refl) 0 (length (blocks_of Cooked bytes)))
 
 refusals_told : (form : Form) (lead_in : ℕ) (bytes : List ℕ) (readings : List (Result QFrame QFault)) → AreQReadings (q_blocks form bytes) readings → CountsFrames tells_refusal is_err form lead_in bytes readings
 refusals_told Raw lead_in bytes readings are = by_blocks tells_refusal is_err Raw lead_in bytes readings (λ b. refusal_kinds (reading_at (get_or (blocks_of Raw bytes) b []))) are
 refusals_told Sector lead_in bytes readings are = by_blocks tells_refusal is_err Sector lead_in bytes readings (λ b. refusal_kinds (reading_at (get_or (blocks_of Sector bytes) b []))) are
-refusals_told Cooked lead_in bytes readings are = ap (count_by is_err) are ∙ sym (no_tests tells_refusal (row_of Cooked lead_in bytes) (λ b. refl) 0 (length (blocks_of Cooked bytes)))
+refusals_told Cooked lead_in bytes readings are = ap (count_by is_err) are ∙ sym (no_tests tells_refusal (row_of_block Cooked lead_in bytes) (λ b. refl) 0 (length (blocks_of Cooked bytes)))
 
 -- ---- the lines
 
@@ -195,7 +195,7 @@ add_up form lead_in bytes text bad listed =
     let n : ℕ = length (blocks_of form bytes) in
     let words : List (List ℕ) = map (word_at form lead_in bytes) (below (word_count form (n - lead_in))) in
     let found : listed.found ≡ map finding words = found_is form lead_in bytes listed.found listed.recovered in
-    let rows : map (row_of form lead_in bytes) (below n) ≡ survey_rows form lead_in bytes = ap (λ k. map (row_of form lead_in bytes) (below k)) (length-blocks form bytes) in
+    let rows : map (row_of_block form lead_in bytes) (below n) ≡ survey_rows form lead_in bytes = ap (λ k. map (row_of_block form lead_in bytes) (below k)) (length-blocks form bytes) in
     let wrong : (k : ℕ) → count_by (has_wrong k) (zip words listed.found) ≡ count_by (λ w. has_wrong k (w, finding w)) words = λ k.
     ap (λ (l : List (Option (List ℕ))). count_by (has_wrong k) (zip words l)) found ∙ ap (count_by (has_wrong k)) (sym (zip_found words)) ∙ count-map (has_wrong k) (λ w. (w, finding w)) words in
     let bad_words : bad_count listed.found ≡ count_by (λ w. is_none (finding w)) words = ap bad_count found ∙ count-map is_none finding words in

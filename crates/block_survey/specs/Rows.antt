@@ -75,10 +75,10 @@ ended_words form lead_in bytes b =
     (range_with_len before (word_count form (suc b - lead_in) - before))
 
 -- the row of block b of a stream
-abbrev pub row_of : Form → ℕ → List ℕ → ℕ → BlockRow
-row_of form lead_in bytes b =
+abbrev pub row_of_block : Form → ℕ → List ℕ → ℕ → BlockRow
+row_of_block form lead_in bytes b =
     row_with form (ended_words form lead_in bytes b) (slice_index_or (blocks_of form bytes) b [])
 
 -- a row for each whole block of a stream
 abbrev pub survey_rows : Form → ℕ → List ℕ → List BlockRow
-survey_rows form lead_in bytes = map (row_of form lead_in bytes) (below (length bytes / unit_size form))
+survey_rows form lead_in bytes = map (row_of_block form lead_in bytes) (below (length bytes / unit_size form))

@@ -6,9 +6,9 @@ use Rattle.block_survey.specs.Rows.{wrong_count, bad_words}
 use Rattle.block_survey.specs.declared.counting.WordMarks.{WordMarks}
 
 -- the words that were given, if any were
-abbrev pub words_in : Option (ArrayVec (List ℕ)) → List (List ℕ)
-words_in (Some words) = words.items
-words_in None = []
+abbrev pub words_with_block : Option (ArrayVec (List ℕ)) → List (List ℕ)
+words_with_block (Some words) = words.items
+words_with_block None = []
 
 -- the counts of some words
 abbrev pub marks_of : List (List ℕ) → WordMarks

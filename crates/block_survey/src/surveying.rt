@@ -4,7 +4,7 @@ ghost use Rattle.std.specs.List.{list_all};
 ghost use Rattle.raw_subcode.specs.Channels.{unit_size};
 ghost use Rattle.stream_stages.specs.Steps.{words_give, words_next};
 ghost use Rattle.block_survey.specs.Rows.{row_with, survey_rows};
-ghost use Rattle.block_survey.specs.Steps.{marks_of, words_in};
+ghost use Rattle.block_survey.specs.Steps.{marks_of, words_with_block};
 
 use crate::BlockRow;
 use crate::blocks::{block_at, unit_bytes};
@@ -32,7 +32,7 @@ pub fn survey(form: Form, lead_in: u32, stream: &[u8], rows: &mut [BlockRow])
 // The row of the next block of a stream of this form.
 fn next_row(form: Form, words: &mut BlockWords, block: &[u8; BLOCK_BYTES]) -> BlockRow
     ensures next { words.new ≡ words_next words.old block.now }
-    ensures row { result ≡ row_with form (words_in (words_give words.old block.now)) block.now }
+    ensures row { result ≡ row_with form (words_with_block (words_give words.old block.now)) block.now }
 {
     let marks = marks_with(words, block);
     let frame = FrameMark::of_block(form, block);
@@ -53,7 +53,7 @@ fn next_row(form: Form, words: &mut BlockWords, block: &[u8; BLOCK_BYTES]) -> Bl
 #[inline]
 fn marks_with(words: &mut BlockWords, block: &[u8; BLOCK_BYTES]) -> WordMarks
     ensures next { words.new ≡ words_next words.old block.now }
-    ensures marks { result ≡ marks_of (words_in (words_give words.old block.now)) }
+    ensures marks { result ≡ marks_of (words_with_block (words_give words.old block.now)) }
 {
     // Most blocks of a disc are idle.
     if words.is_idle(block) {

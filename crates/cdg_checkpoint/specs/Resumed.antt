@@ -65,7 +65,8 @@ IsAcceptedBy (Err stop) time file = ⊥
 
 -- How the first input was read: this was taken of it, at most one byte more than a checkpoint has, and its end was told
 -- where there was no such byte. Where a read failed, no more than the bytes of a checkpoint were taken.
-pub record ReadsSaved {T : Type 0} (saved : Input) (result : Result T ResumeStop) (file : List ℕ) : Type 0 where
+pub record ReadsSaved {T : Type 0} (saved : Input) (result : Result T ResumeStop)
+    (file : List ℕ) : Type 0 where
   pub most : length file ≤ file_size + 1
   pub taken : result ≢ Err FirstFault → Consumes saved.left.before saved.left.after file
   pub end : result ≢ Err FirstFault → length file ≤ file_size → IsAtEnd saved.left.after

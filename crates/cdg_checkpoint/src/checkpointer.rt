@@ -1,6 +1,6 @@
 // What saves and resumes.
 ghost use Rattle.std.specs.Prelude.{IfOk};
-ghost use Rattle.cdg_checkpoint.specs.Fresh.{IsFresh};
+ghost use Rattle.cdg_checkpoint.specs.Fresh.{HasReadNothing};
 
 use cdg_io::Then;
 use checkpoint_files::CheckpointFile;
@@ -24,7 +24,7 @@ impl Checkpointer {
     ///
     /// `AllocError` where that memory is not found.
     pub fn start(alloc: Global) -> Result<Checkpointer, AllocError>
-        ensures { IfOk result IsFresh }
+        ensures { IfOk result HasReadNothing }
     {
         let drawing = Drawing {
             picture: Picture::start(alloc)?,

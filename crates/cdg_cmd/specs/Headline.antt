@@ -49,4 +49,5 @@ written_packs _ packs = packs
 
 -- the pixmap of a screen that shows picture k was put, unless a read or a write failed or no memory was found
 abbrev pub PutsPicture : List Drawing → ℕ → Change Bytes → Status → Type 0
-PutsPicture script k out status = OnDone ((text : List ℕ) × IsPictureText script k text × Appends out.before out.after text) status
+PutsPicture script k out status = OnDone ((text : List ℕ) × IsPictureText script k text
+    × Appends out.before out.after text) status

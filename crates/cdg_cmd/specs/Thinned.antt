@@ -4,7 +4,7 @@ use Rattle.cdg_io.specs.Pump.{IsUnlessFault, answer_of}
 use Rattle.cdg_io.specs.declared.pumping.Pumped.{Pumped}
 use Rattle.cdg_io.specs.declared.pumping.PumpStop.{PumpStop}
 use Rattle.cdg_io.specs.declared.pumping.PumpStop.TheVariants as pump
-use Rattle.cdg_thin.specs.Calls.{Thins, most_packs}
+use Rattle.cdg_thin.specs.Calls.{Thins, most_file_packs}
 use Rattle.cdg_io.specs.Change.{Bytes}
 use Rattle.cdg_cmd.specs.Call.{Call, through}
 use Rattle.cdg_cmd.specs.Endings.{EndsWith}
@@ -25,5 +25,6 @@ thin_status (Err pump.TooLong) = Refused TooLong
 abbrev pub ThinsWith : Call Bytes → Status → Type 0
 ThinsWith call status =
     EndsWith thin_status (Thins (through call))
-    (λ answer. IfSome call.first.before (λ all. IsUnlessFault answer (answer_of 24 most_packs (length all))))
+    (λ answer. IfSome call.first.before
+    (λ all. IsUnlessFault answer (answer_of 24 most_file_packs (length all))))
     status

@@ -20,17 +20,17 @@ abbrev pub tile_colour : ℕ → ℕ → List ℕ → ℕ → ℕ → ℕ
 tile_colour colour0 colour1 lines i j = if has_bit (5 - i) (slice_index lines j) then colour1 else colour0
 
 -- the pixels of a tile that an instruction draws, line by line from the left
-abbrev pub drawn : ℕ → ℕ → List ℕ → ℕ → ℕ
-drawn colour0 colour1 lines p = tile_colour colour0 colour1 lines (p % tile_width) (p / tile_width)
+abbrev pub drawn_pixel : ℕ → ℕ → List ℕ → ℕ → ℕ
+drawn_pixel colour0 colour1 lines p = tile_colour colour0 colour1 lines (p % tile_width) (p / tile_width)
 
 -- the 72 pixels of a tile after instructions of its place, which are given the last one first
 unfoldable pub tile_from : List ℕ → List Instr → List ℕ
 tile_from old [] = old
 tile_from old (SetTile colour0 colour1 row column lines ∷ before) =
-    map (drawn colour0 colour1 lines) (below tile_pixels)
+    map (drawn_pixel colour0 colour1 lines) (below tile_pixels)
 tile_from old (XorTile colour0 colour1 row column lines ∷ before) =
     let older = tile_from old before in
-    map (λ p. bit_xor (drawn colour0 colour1 lines p) (slice_index older p)) (below tile_pixels)
+    map (λ p. bit_xor (drawn_pixel colour0 colour1 lines p) (slice_index older p)) (below tile_pixels)
 tile_from old (_ ∷ before) = tile_from old before
 
 -- the same of instructions in order

@@ -91,13 +91,15 @@ abbrev pub written_symbols : Instr → List ℕ
 written_symbols Idle = replicate 18 0
 written_symbols (MemoryPreset colour repeat) = 9 ∷ 1 ∷ colour ∷ repeat ∷ replicate 14 0
 written_symbols (BorderPreset colour) = 9 ∷ 2 ∷ colour ∷ replicate 15 0
-written_symbols (SetTile colour0 colour1 row column lines) = 9 ∷ 6 ∷ tile_symbols colour0 colour1 row column lines
+written_symbols (SetTile colour0 colour1 row column lines) =
+    9 ∷ 6 ∷ tile_symbols colour0 colour1 row column lines
 written_symbols (ScrollPreset colour across h down v) = 9 ∷ 20 ∷ scroll_symbols colour across h down v
 written_symbols (ScrollCopy colour across h down v) = 9 ∷ 24 ∷ scroll_symbols colour across h down v
 written_symbols (Transparency levels) = 9 ∷ 28 ∷ levels
 written_symbols (ColoursLow colours) = 9 ∷ 30 ∷ flat_map colour_symbols colours
 written_symbols (ColoursHigh colours) = 9 ∷ 31 ∷ flat_map colour_symbols colours
-written_symbols (XorTile colour0 colour1 row column lines) = 9 ∷ 38 ∷ tile_symbols colour0 colour1 row column lines
+written_symbols (XorTile colour0 colour1 row column lines) =
+    9 ∷ 38 ∷ tile_symbols colour0 colour1 row column lines
 written_symbols _ = []
 
 -- symbols 0, 1 and 4 to 19 of a word: all but the parity

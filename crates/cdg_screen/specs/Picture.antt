@@ -33,7 +33,14 @@ sixteen number = map number (below 16)
 
 -- all zero, as at the start
 abbrev pub blank : Standing
-blank = record { memory = rows_of (λ x y. 0); border = 0; colours = sixteen (λ k. 0); levels = sixteen (λ k. 0); h = 0; v = 0 }
+blank = record {
+  memory = rows_of (λ x y. 0);
+  border = 0;
+  colours = sixteen (λ k. 0);
+  levels = sixteen (λ k. 0);
+  h = 0;
+  v = 0;
+}
 
 -- whether the tile of a row and column is on the memory and holds the pixel
 abbrev pub covers : ℕ → ℕ → ℕ → ℕ → Bool
@@ -42,7 +49,8 @@ covers row column x y = nat_le row 17 && nat_le column 49 && x / 6 == column && 
 -- Where a pixel comes from in a scroll, plus the size in that direction, so that it is no negative number:
 -- a move of 1 goes right or down, one of 2 left or up, by one tile.
 abbrev pub source : ℕ → ℕ → ℕ → ℕ → ℕ
-source size step direction x = if direction == 1 then x + size - step else (if direction == 2 then x + size + step else x + size)
+source size step direction x =
+    if direction == 1 then x + size - step else (if direction == 2 then x + size + step else x + size)
 
 -- where a pixel comes from across, plus the width of the memory
 abbrev pub source_x : ℕ → ℕ → ℕ
@@ -72,7 +80,8 @@ memory_from start (XorTile colour0 colour1 row column lines ∷ before) x y =
 memory_from start (ScrollPreset colour across h down v ∷ before) x y =
     let old = memory_from start before (source_x across x - 300) (source_y down y - 216) in
     if is_inside 300 (source_x across x) && is_inside 216 (source_y down y) then old else colour
-memory_from start (ScrollCopy colour across h down v ∷ before) x y = memory_from start before (source_x across x % 300) (source_y down y % 216)
+memory_from start (ScrollCopy colour across h down v ∷ before) x y =
+    memory_from start before (source_x across x % 300) (source_y down y % 216)
 memory_from start (_ ∷ before) x y = memory_from start before x y
 
 -- the border: the last colour that it was set to
@@ -84,8 +93,10 @@ border_from start (_ ∷ before) = border_from start before
 -- colour k of the table: the last value that it was set to
 abbrev pub colour_from : (ℕ → ℕ) → List Instr → ℕ → ℕ
 colour_from start [] k = start k
-colour_from start (ColoursLow colours ∷ before) k = let old = colour_from start before k in if nat_lt k 8 then slice_index colours k else old
-colour_from start (ColoursHigh colours ∷ before) k = let old = colour_from start before k in if nat_lt k 8 then old else slice_index colours (k - 8)
+colour_from start (ColoursLow colours ∷ before) k =
+    let old = colour_from start before k in if nat_lt k 8 then slice_index colours k else old
+colour_from start (ColoursHigh colours ∷ before) k =
+    let old = colour_from start before k in if nat_lt k 8 then old else slice_index colours (k - 8)
 colour_from start (_ ∷ before) k = colour_from start before k
 
 -- level k: the last value that it was set to
@@ -121,4 +132,6 @@ IsWholeStanding now = standing_after now [] ≡ now
 
 -- pixel (x, y) of the screen: in the window the memory, moved by the offsets, and elsewhere the border
 abbrev pub screen_pixel : Standing → ℕ → ℕ → ℕ
-screen_pixel now x y = if nat_le 6 x && nat_le x 293 && nat_le 12 y && nat_le y 203 then pixel_at now.memory (x + now.h) (y + now.v) else now.border
+screen_pixel now x y =
+    if nat_le 6 x && nat_le x 293 && nat_le 12 y && nat_le y 203
+    then pixel_at now.memory (x + now.h) (y + now.v) else now.border

@@ -22,7 +22,8 @@ pixmap now = pixmap_header ++ flat_map (pixmap_row now) (below 216)
 
 -- the line of colour and level k
 unfoldable pub state_row : Standing → ℕ → List ℕ
-state_row now k = codes "colour " ++ digits 2 k ++ codes " " ++ hex_digits 4 (slice_index now.colours k) ++ codes " level "
+state_row now k =
+    codes "colour " ++ digits 2 k ++ codes " " ++ hex_digits 4 (slice_index now.colours k) ++ codes " level "
     ++ digits 2 (slice_index now.levels k) ++ line_feed
 
 -- the lines of the border and of the offsets

@@ -37,7 +37,8 @@ IsSamePlace old new = (new.h ≡ old.h) × (new.v ≡ old.v)
 abbrev pub KeepsTheRest : Touched → Standing → Standing → Type 0
 KeepsTheRest Nothing old new = new ≡ old
 KeepsTheRest (Tile row column) old new =
-    ((x y : ℕ) → x < 300 → y < 216 → ¬ ((x / 6 ≡ column) × (y / 12 ≡ row)) → pixel_at new.memory x y ≡ pixel_at old.memory x y)
+    ((x y : ℕ) → x < 300 → y < 216 → ¬ ((x / 6 ≡ column) × (y / 12 ≡ row))
+    → pixel_at new.memory x y ≡ pixel_at old.memory x y)
     × IsSameBeside old new × IsSamePlace old new
 KeepsTheRest All old new = IsSameBeside old new
 KeepsTheRest Border old new =

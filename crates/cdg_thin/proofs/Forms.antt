@@ -12,7 +12,7 @@ use Rattle.cdg_instructions.specs.declared.instr.Instr.{Instr}
 use Rattle.cdg_instructions.specs.declared.instr.Instr.TheVariants.{Idle}
 use Rattle.rw_code.specs.Packs.{idle_pack}
 use Rattle.cdg_thin.specs.Thin.{AreInstructionsOf, IsInstructionOf, IsNeedless, IsThinned, is_graphic, IsThinForm, IsThinText, StandAlike}
-use Rattle.cdg_thin.specs.Steps.{instruction_of}
+use Rattle.cdg_thin.specs.Steps.{pack_instruction}
 use Rattle.cdg_thin.proofs.Meanings.{only_instruction, instruction_size, idle_instruction}
 
 -- pack n and instruction n of a list
@@ -24,7 +24,7 @@ instr_at instrs n = get_or instrs n Idle
 
 -- the instructions of all packs, as a function
 abbrev pub instructions_of : List (List ℕ) → List Instr
-instructions_of packs = map instruction_of packs
+instructions_of packs = map pack_instruction packs
 
 -- what stands at the start after some instructions
 abbrev pub after : List Instr → Standing
@@ -35,13 +35,13 @@ idle_changes_nothing before = in_turn blank before (Idle ∷ []) ∙ whole_after
 
 -- ---- instructions of packs
 
-pub instructions_at : (packs : List (List ℕ)) (n : ℕ) → n < length packs → instr_at (instructions_of packs) n ≡ instruction_of (pack_at packs n)
-instructions_at packs n lt = get_or-map instruction_of packs n [] Idle lt
+pub instructions_at : (packs : List (List ℕ)) (n : ℕ) → n < length packs → instr_at (instructions_of packs) n ≡ pack_instruction (pack_at packs n)
+instructions_at packs n lt = get_or-map pack_instruction packs n [] Idle lt
 
 -- packs of 24 bytes have these
-pub read_each : (packs : List (List ℕ)) → ((n : ℕ) → n < length packs → IsInstructionOf (pack_at packs n) (instruction_of (pack_at packs n))) → AreInstructionsOf packs (instructions_of packs)
+pub read_each : (packs : List (List ℕ)) → ((n : ℕ) → n < length packs → IsInstructionOf (pack_at packs n) (pack_instruction (pack_at packs n))) → AreInstructionsOf packs (instructions_of packs)
 read_each packs each = record {
-  count = length-map packs instruction_of;
+  count = length-map packs pack_instruction;
   each = λ n lt. subst (IsInstructionOf (pack_at packs n)) (sym (instructions_at packs n lt)) (each n lt);
 }
 
@@ -53,10 +53,10 @@ default_at (x ∷ xs) (suc n) d e lt = default_at xs n d e (omega arith)
 -- and no others
 pub only_reading : (packs : List (List ℕ)) (instrs : List Instr) → AreInstructionsOf packs instrs → instrs ≡ instructions_of packs
 only_reading packs instrs h =
-    same_lists instrs (instructions_of packs) (h.count ∙ sym (length-map packs instruction_of)) (λ n d lt.
+    same_lists instrs (instructions_of packs) (h.count ∙ sym (length-map packs pack_instruction)) (λ n d lt.
     let n_lt : n < length packs = omega (arith, h.count) in
     default_at instrs n d Idle lt ∙ only_instruction (pack_at packs n) (instr_at instrs n) (h.each n n_lt) ∙ sym (instructions_at packs n n_lt)
-    ∙ sym (default_at (instructions_of packs) n d Idle (omega (arith, length-map packs instruction_of))))
+    ∙ sym (default_at (instructions_of packs) n d Idle (omega (arith, length-map packs pack_instruction))))
 
 pub first_read : (m : ℕ) (packs : List (List ℕ)) (instrs : List Instr) → AreInstructionsOf packs instrs → AreInstructionsOf (take m packs) (take m instrs)
 first_read m packs instrs h =
@@ -80,26 +80,26 @@ pub thin_read : (packs thins : List (List ℕ)) → IsThinForm packs thins → A
 thin_read packs thins f = read_each thins (λ n n_lt.
     let lt : n < length packs = omega (arith, f.count) in
     elim (f.each n lt) [
-      | inl idle ↦ subst (λ (p : List ℕ). IsInstructionOf p (instruction_of p)) (sym idle.1) (subst (IsInstructionOf idle_pack) (only_instruction idle_pack Idle idle_instruction) idle_instruction)
+      | inl idle ↦ subst (λ (p : List ℕ). IsInstructionOf p (pack_instruction p)) (sym idle.1) (subst (IsInstructionOf idle_pack) (only_instruction idle_pack Idle idle_instruction) idle_instruction)
       | inr kept ↦
-          subst (λ (p : List ℕ). IsInstructionOf p (instruction_of p)) (sym kept.1)
+          subst (λ (p : List ℕ). IsInstructionOf p (pack_instruction p)) (sym kept.1)
           (subst (IsInstructionOf (pack_at packs n)) (only_instruction (pack_at packs n) (instr_at f.instrs n) (f.read.each n lt)) (f.read.each n lt))
     ])
 
 -- instruction n of the thin form
 idled_instr : (thins : List (List ℕ)) (n : ℕ) → n < length thins → pack_at thins n ≡ idle_pack → instr_at (instructions_of thins) n ≡ Idle
-idled_instr thins n lt same = instructions_at thins n lt ∙ ap instruction_of same ∙ sym (only_instruction idle_pack Idle idle_instruction)
+idled_instr thins n lt same = instructions_at thins n lt ∙ ap pack_instruction same ∙ sym (only_instruction idle_pack Idle idle_instruction)
 
 kept_instr : (packs thins : List (List ℕ)) (instrs : List Instr) (n : ℕ) → AreInstructionsOf packs instrs → n < length packs → n < length thins → pack_at thins n ≡ pack_at packs n
     → instr_at (instructions_of thins) n ≡ instr_at instrs n
 kept_instr packs thins instrs n read lt thin_lt same =
-    instructions_at thins n thin_lt ∙ ap instruction_of same ∙ sym (only_instruction (pack_at packs n) (instr_at instrs n) (read.each n lt))
+    instructions_at thins n thin_lt ∙ ap pack_instruction same ∙ sym (only_instruction (pack_at packs n) (instr_at instrs n) (read.each n lt))
 
 pub stand_alike : (packs thins : List (List ℕ)) (f : IsThinForm packs thins) (m : ℕ) → after (take m f.instrs) ≡ after (take m (instructions_of thins))
 stand_alike packs thins f zero = refl
 stand_alike packs thins f (suc m) =
     let others : List Instr = instructions_of thins in
-    let others_count : length others ≡ length packs = length-map thins instruction_of ∙ f.count in
+    let others_count : length others ≡ length packs = length-map thins pack_instruction ∙ f.count in
     let before = stand_alike packs thins f m in
     let next : suc m ≡ m + 1 = omega arith in
     subst (λ k. after (take k f.instrs) ≡ after (take k others)) (sym next)

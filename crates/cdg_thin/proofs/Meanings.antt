@@ -14,7 +14,7 @@ use Rattle.cdg_instructions.specs.declared.instr.Instr.TheVariants.{Idle, Foreig
 use Rattle.rw_code.specs.Packs.{idle_pack}
 use Rattle.raw_subcode.specs.Channels.{symbols_of}
 use Rattle.cdg_thin.specs.Thin.{IsInstructionOf}
-use Rattle.cdg_thin.specs.Steps.{instruction_of}
+use Rattle.cdg_thin.specs.Steps.{pack_instruction}
 use Rattle.cdg_thin.proofs.Sealing.{sealed_word}
 
 -- two words that differ in their parity alone
@@ -79,13 +79,13 @@ length-symbols_of : (pack : List ℕ) → length (symbols_of pack) ≡ length pa
 length-symbols_of pack = length-map pack (λ byte. byte % 64)
 
 -- the codeword made of a pack means what its symbols mean
-pub made_good_means : (pack word : List ℕ) (instr : Instr) → IsMadeGood (symbols_of pack) word → Means word instr → instr ≡ instruction_of pack
-unfolding instruction_of
+pub made_good_means : (pack word : List ℕ) (instr : Instr) → IsMadeGood (symbols_of pack) word → Means word instr → instr ≡ pack_instruction pack
+unfolding pack_instruction
 made_good_means pack word instr made means =
     only_meaning (symbols_of pack) instr (means_same word (symbols_of pack) instr (alike word (symbols_of pack) made.codeword.is_word.size made.size made.message) means)
 
 -- 24 bytes have one instruction
-pub only_instruction : (pack : List ℕ) (instr : Instr) → IsInstructionOf pack instr → instr ≡ instruction_of pack
+pub only_instruction : (pack : List ℕ) (instr : Instr) → IsInstructionOf pack instr → instr ≡ pack_instruction pack
 only_instruction pack instr h = made_good_means pack h.0 instr h.1 h.2
 
 pub instruction_size : (pack : List ℕ) (instr : Instr) → IsInstructionOf pack instr → length pack ≡ 24
@@ -104,8 +104,8 @@ split_message (a ∷ []) size = absurd (omega arith)
 split_message (a ∷ b ∷ rest) size = refl
 
 -- each 24 bytes have an instruction
-pub has_instruction : (pack : List ℕ) → length pack ≡ 24 → IsInstructionOf pack (instruction_of pack)
-unfolding instruction_of
+pub has_instruction : (pack : List ℕ) → length pack ≡ 24 → IsInstructionOf pack (pack_instruction pack)
+unfolding pack_instruction
 has_instruction pack size =
     let symbols : List ℕ = symbols_of pack in
     let count : length symbols ≡ 24 = length-symbols_of pack ∙ size in
@@ -121,6 +121,6 @@ pub idle_instruction : IsInstructionOf idle_pack Idle
 idle_instruction = (idle_pack, record { size = refl; codeword = idle_is_codeword; message = refl }, refl)
 
 -- a pack whose mode is 0 says nothing
-pub idle_by_mode : (pack : List ℕ) → get_or (symbols_of pack) 0 0 ≡ 0 → instruction_of pack ≡ Idle
-unfolding instruction_of meaning
+pub idle_by_mode : (pack : List ℕ) → get_or (symbols_of pack) 0 0 ≡ 0 → pack_instruction pack ≡ Idle
+unfolding pack_instruction meaning
 idle_by_mode pack mode = ap (λ m. meaning_by (symbols_of pack) m (get_or (symbols_of pack) 1 0)) mode

@@ -12,7 +12,7 @@ use Rattle.cdg_screen.proofs.Turns.{blank_is_whole, in_turn}
 use Rattle.cdg_instructions.specs.declared.instr.Instr.{Instr}
 use Rattle.rw_code.specs.Packs.{idle_pack}
 use Rattle.cdg_thin.specs.Thin.{IsNeedless, IsThinned, IsThinForm, IsThinText}
-use Rattle.cdg_thin.specs.Steps.{instruction_of, is_needless, thin_next, thin_gives}
+use Rattle.cdg_thin.specs.Steps.{pack_instruction, is_needless, thin_next, thin_gives}
 use Rattle.cdg_thin.proofs.Forms.{after, instructions_at, instructions_of, read_each}
 use Rattle.cdg_thin.proofs.Meanings.{has_instruction}
 use Rattle.cdg_thin.proofs.Sameness.{if_needless, needless_if}
@@ -25,12 +25,12 @@ run_of now packs = run_gives thin_next thin_gives now packs
 
 -- the pack that is given
 abbrev given_pack : Standing → List ℕ → List ℕ
-given_pack now pack = if is_needless now (instruction_of pack) then idle_pack else pack
+given_pack now pack = if is_needless now (pack_instruction pack) then idle_pack else pack
 
 -- what stands after one instruction more
-next_stands : (now : Standing) (before : List Instr) (pack : List ℕ) → now ≡ after before → thin_next now pack ≡ after (before ++ instruction_of pack ∷ [])
+next_stands : (now : Standing) (before : List Instr) (pack : List ℕ) → now ≡ after before → thin_next now pack ≡ after (before ++ pack_instruction pack ∷ [])
 unfolding thin_next
-next_stands now before pack same = ap (λ (now : Standing). standing_after now (instruction_of pack ∷ [])) same ∙ sym (in_turn blank before (instruction_of pack ∷ []))
+next_stands now before pack same = ap (λ (now : Standing). standing_after now (pack_instruction pack ∷ [])) same ∙ sym (in_turn blank before (pack_instruction pack ∷ []))
 
 -- a pack is thinned by what stands
 module _ (now : Standing) (before : List Instr) (same : now ≡ after before) where
@@ -46,9 +46,9 @@ module _ (now : Standing) (before : List Instr) (same : now ≡ after before) wh
   from_needless : (instr : Instr) → IsNeedless before instr → is_needless now instr ≡ true
   from_needless instr h = needless_if now instr h.graphic (with_one instr ∙ h.nothing ∙ sym same)
 
-  thinned : (pack : List ℕ) → IsThinned before (instruction_of pack) pack (given_pack now pack)
+  thinned : (pack : List ℕ) → IsThinned before (pack_instruction pack) pack (given_pack now pack)
   thinned pack =
-      let instr = instruction_of pack in
+      let instr = pack_instruction pack in
       elim (cases_Bool (is_needless now instr)) [
         | inl holds ↦ inl (to_needless instr holds, rw holds refl)
         | inr fails ↦ inr ((λ h. true≢false (sym (from_needless instr h) ∙ fails)), rw fails refl)
@@ -60,15 +60,15 @@ run_count now [] = refl
 run_count now (pack ∷ packs) = ap suc (run_count (thin_next now pack) packs)
 
 run_thinned : (now : Standing) (before : List Instr) (packs : List (List ℕ)) → now ≡ after before → (n : ℕ) → n < length packs
-    → IsThinned (before ++ take n (instructions_of packs)) (instruction_of (get_or packs n [])) (get_or packs n []) (get_or (run_of now packs) n [])
+    → IsThinned (before ++ take n (instructions_of packs)) (pack_instruction (get_or packs n [])) (get_or packs n []) (get_or (run_of now packs) n [])
 unfolding thin_gives
 run_thinned now before [] same n lt = absurd (omega arith)
 run_thinned now before (pack ∷ packs) same zero lt =
-    subst (λ (is : List Instr). IsThinned is (instruction_of pack) pack (given_pack now pack)) (sym (append-nil before)) (thinned now before same pack)
+    subst (λ (is : List Instr). IsThinned is (pack_instruction pack) pack (given_pack now pack)) (sym (append-nil before)) (thinned now before same pack)
 run_thinned now before (pack ∷ packs) same (suc n) lt =
-    subst (λ (is : List Instr). IsThinned is (instruction_of (get_or packs n [])) (get_or packs n []) (get_or (run_of (thin_next now pack) packs) n []))
-    (append_assoc before (instruction_of pack ∷ []) (take n (instructions_of packs)))
-    (run_thinned (thin_next now pack) (before ++ instruction_of pack ∷ []) packs (next_stands now before pack same) n (omega arith))
+    subst (λ (is : List Instr). IsThinned is (pack_instruction (get_or packs n [])) (get_or packs n []) (get_or (run_of (thin_next now pack) packs) n []))
+    (append_assoc before (pack_instruction pack ∷ []) (take n (instructions_of packs)))
+    (run_thinned (thin_next now pack) (before ++ pack_instruction pack ∷ []) packs (next_stands now before pack same) n (omega arith))
 
 -- the run over packs of 24 bytes, from where all is zero
 run_is_thin : (now : Standing) (packs : List (List ℕ)) → now ≡ blank → ((n : ℕ) → n < length packs → length (get_or packs n []) ≡ 24) → IsThinForm packs (run_of now packs)

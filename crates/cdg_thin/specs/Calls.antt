@@ -10,8 +10,8 @@ use Rattle.cdg_io.specs.declared.pumping.Pumped.{Pumped}
 use Rattle.cdg_io.specs.declared.pumping.PumpStop.{PumpStop}
 
 -- the most packs that are read: those of the most blocks
-abbrev pub most_packs : ℕ
-most_packs = 4 * most_units
+abbrev pub most_file_packs : ℕ
+most_file_packs = 4 * most_units
 
 -- the number of whole packs of some bytes, and the text that is written for them
 pub record IsThinnedBy (bytes : List ℕ) (pumped : Pumped) (text : List ℕ) : Type 0 where
@@ -20,7 +20,7 @@ pub record IsThinnedBy (bytes : List ℕ) (pumped : Pumped) (text : List ℕ) : 
 
 -- how a call reads packs that writes their thin form
 abbrev pub thinning : Reading Pumped PumpStop
-thinning = as_pumped (record { size = 24; limit = most_packs }) IsThinnedBy
+thinning = as_pumped (record { size = 24; limit = most_file_packs }) IsThinnedBy
 
 -- The call took these bytes, and put the thin form of their packs as it took them.
 abbrev pub Thins : Passed → Result Pumped PumpStop → List ℕ → Type 0

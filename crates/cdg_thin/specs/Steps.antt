@@ -9,8 +9,8 @@ use Rattle.cdg_thin.specs.Thin.{is_graphic}
 use Rattle.cdg_instructions.specs.declared.instr.Instr.{Instr}
 
 -- the instruction of 24 bytes, as a function: the parity has no part in it
-unfoldable pub instruction_of : List ℕ → Instr
-instruction_of pack = meaning (symbols_of pack)
+unfoldable pub pack_instruction : List ℕ → Instr
+pack_instruction pack = meaning (symbols_of pack)
 
 -- whether the same stands in both
 unfoldable pub is_same : Standing → Standing → Bool
@@ -28,8 +28,8 @@ is_needless now instr = is_graphic instr && is_same (standing_after now (instr �
 
 -- what stands after a pack
 unfoldable pub thin_next : Standing → List ℕ → Standing
-thin_next now pack = standing_after now (instruction_of pack ∷ [])
+thin_next now pack = standing_after now (pack_instruction pack ∷ [])
 
 -- the pack, or an idle one in its place
 unfoldable pub thin_gives : Standing → List ℕ → Option (List ℕ)
-thin_gives now pack = Some (if is_needless now (instruction_of pack) then idle_pack else pack)
+thin_gives now pack = Some (if is_needless now (pack_instruction pack) then idle_pack else pack)

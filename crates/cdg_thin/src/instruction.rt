@@ -2,7 +2,7 @@
 ghost use Rattle.std.specs.Prelude.{◌≡◌, IsTrue};
 ghost use Rattle.cdg_instructions.specs.declared.instr.Instr.TheVariants.{Idle};
 ghost use Rattle.cdg_instructions.specs.Instruction.{InRange};
-ghost use Rattle.cdg_thin.specs.Steps.{instruction_of};
+ghost use Rattle.cdg_thin.specs.Steps.{pack_instruction};
 ghost use Rattle.cdg_thin.specs.Thin.{is_graphic};
 
 use cdg_instructions::{Instr, read_word};
@@ -11,7 +11,7 @@ use rw_code::Word;
 /// The instruction of 24 bytes. The codeword that they make, whose parity is made good, has the same. Most packs are
 /// idle, which one byte tells.
 pub(crate) fn instruction(bytes: &[u8; 24]) -> Instr
-    ensures meaning { result ≡ instruction_of bytes.now }
+    ensures meaning { result ≡ pack_instruction bytes.now }
     ensures range { InRange result }
 {
     if is_idle(bytes) {
@@ -23,7 +23,7 @@ pub(crate) fn instruction(bytes: &[u8; 24]) -> Instr
 // Whether 24 bytes are seen to say nothing, by the first of them.
 #[inline]
 fn is_idle(bytes: &[u8; 24]) -> bool
-    ensures { IsTrue result → instruction_of bytes.now ≡ Idle }
+    ensures { IsTrue result → pack_instruction bytes.now ≡ Idle }
 {
     bytes[0] % 64 == 0
 }

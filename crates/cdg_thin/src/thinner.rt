@@ -5,8 +5,8 @@ ghost use Rattle.cdg_io.specs.Causes.{TellsFault};
 ghost use Rattle.cdg_io.specs.Change.{change, passed};
 ghost use Rattle.cdg_io.specs.Pump.{FillsUnits, IsUnlessFault, TellsEndOf, answer_of};
 ghost use Rattle.cdg_screen.specs.Picture.{blank, standing_after};
-ghost use Rattle.cdg_thin.specs.Calls.{Thins, ThinsAll, most_packs};
-ghost use Rattle.cdg_thin.specs.Steps.{instruction_of, is_needless, thin_next, thin_gives};
+ghost use Rattle.cdg_thin.specs.Calls.{Thins, ThinsAll, most_file_packs};
+ghost use Rattle.cdg_thin.specs.Steps.{pack_instruction, is_needless, thin_next, thin_gives};
 
 use crate::instruction::{instruction, is_graphic};
 use crate::laws::thin_forms_stand_alike;
@@ -71,11 +71,11 @@ impl Thinner {
             (λ all. ThinsAll all (change K.held out.old out.new) result) }
         // Where nothing failed, the answer is that of the whole input's length.
         ensures answer { IfSome (S.left source.old)
-            (λ all. IsUnlessFault result (answer_of 24 most_packs (length all))) }
+            (λ all. IsUnlessFault result (answer_of 24 most_file_packs (length all))) }
         ensures read_fault { TellsFault PumpStop.ReadFault
             (S.faults source.old) (S.faults source.new) result }
         ensures ended { TellsEndOf result (S.ends source.old) (S.ends source.new) }
-        ensures rooms { FillsUnits most_packs result (S.fills source.old) (S.fills source.new) }
+        ensures rooms { FillsUnits most_file_packs result (S.fills source.old) (S.fills source.new) }
         ensures write_fault { TellsFault PumpStop.WriteFault
             (K.faults out.old) (K.faults out.new) result }
     {
@@ -108,7 +108,7 @@ impl Thinner {
     #[inline]
     fn is_needless(&mut self, pack: &[u8; 24]) -> bool
         ensures next { self.new ≡ thin_next self.old pack.now }
-        ensures needless { result ≡ is_needless self.old (instruction_of pack.now) }
+        ensures needless { result ≡ is_needless self.old (pack_instruction pack.now) }
     {
         self.passes_over(&instruction(pack))
     }

@@ -68,4 +68,5 @@ pub record IsScratched (lead_in seed : ℕ) (bytes : List ℕ) (pumped : Pumped)
 
 -- how a call reads raw blocks that scratches them
 abbrev pub scratching : ℕ → ℕ → Reading Pumped PumpStop
-scratching lead_in seed = as_pumped (record { size = block_bytes; limit = most_units }) (IsScratched lead_in seed)
+scratching lead_in seed =
+    as_pumped (record { size = block_bytes; limit = most_units }) (IsScratched lead_in seed)

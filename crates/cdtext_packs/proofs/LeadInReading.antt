@@ -12,7 +12,8 @@ use Rattle.cdtext_packs.specs.declared.kinds.Offer.{Offer}
 use Rattle.cdtext_packs.specs.declared.kinds.Offer.TheVariants.{Kept, Again, BadCrc, OtherBlock}
 use Rattle.cdtext_packs.proofs.Offers.{bad_offer, other_offer, again_offer, kept_offer, kept_none, kept_more}
 use Rattle.cdtext_packs.specs.declared.lead_in_texts.LeadInTexts.{LeadInTexts}
-use Rattle.cdtext_packs.specs.TextSteps.{fresh_texts, counted, answered, offered, text_next, HasRead}
+use Rattle.bit_lists.specs.Counting.{counted}
+use Rattle.cdtext_packs.specs.TextSteps.{fresh_texts, answered, offered, text_next, HasRead}
 
 count-push : (p : List ℕ → Bool) (packs : List (List ℕ)) (pack : List ℕ) → count_by p (packs ++ pack ∷ []) ≡ count_by p packs + (0 + cond (p pack) 1 0)
 count-push p packs pack = sum_by-append (λ (x : List ℕ). cond (p x) 1 0) packs (pack ∷ [])

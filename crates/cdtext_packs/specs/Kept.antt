@@ -1,13 +1,13 @@
 -- What a reader keeps: at place n of 256 the kept pack with the number n.
 use Rattle.std.specs.Prelude.{ℕ, not, ◌&&◌, List, map, find, replicate, set, slice_index_or, Option, Some, None, is_some, ◌==◌, if◌then◌else◌}
 use Rattle.bit_lists.specs.Counting.{below}
-use Rattle.cdtext_packs.specs.Packs.{most_packs, pack_number, check_matches, is_first_block, is_good}
+use Rattle.cdtext_packs.specs.Packs.{most_text_packs, pack_number, check_matches, is_first_block, is_good}
 use Rattle.cdtext_packs.specs.declared.kinds.Offer.{Offer}
 use Rattle.cdtext_packs.specs.declared.kinds.Offer.TheVariants.{Kept, Again, BadCrc, OtherBlock}
 
 -- no pack is kept
 unfoldable pub nothing_kept : List (Option (List ℕ))
-nothing_kept = replicate most_packs None
+nothing_kept = replicate most_text_packs None
 
 -- the kept pack with a number
 abbrev pub with_number : List (Option (List ℕ)) → ℕ → Option (List ℕ)
@@ -30,4 +30,5 @@ kept_by OtherBlock kept pack = kept
 
 -- what is kept of a list of offered packs: for each number the first good pack with it
 abbrev pub kept_among : List (List ℕ) → List (Option (List ℕ))
-kept_among packs = map (λ n. find (λ pack. is_good pack && pack_number pack == n) packs) (below most_packs)
+kept_among packs =
+    map (λ n. find (λ pack. is_good pack && pack_number pack == n) packs) (below most_text_packs)

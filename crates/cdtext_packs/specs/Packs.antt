@@ -3,8 +3,8 @@ use Rattle.std.specs.Prelude.{ℕ, ◌+◌, ◌*◌, ◌/◌, ◌%◌, Bool, not
 use Rattle.bit_lists.specs.Check.{check_of}
 
 -- the most packs of a disc: the number of a pack is a byte
-abbrev pub most_packs : ℕ
-most_packs = 256
+abbrev pub most_text_packs : ℕ
+most_text_packs = 256
 
 -- the type: 80 to 85 and 8E of the kinds of strings, 8F of the size packs, in hexadecimal
 abbrev pub pack_type : List ℕ → ℕ

@@ -1,4 +1,5 @@
 -- The steps of the stage that reads the text packs of the lead-in.
+use Rattle.bit_lists.specs.Counting.{counted}
 use Rattle.std.specs.Prelude.{◌≡◌, ℕ, ◌+◌, ◌-◌, ◌^◌, min, not, List, count_by, ◌==◌, if◌then◌else◌}
 use Rattle.cdtext_packs.specs.Packs.{check_matches, is_good, is_of_other_block}
 use Rattle.cdtext_packs.specs.Kept.{nothing_kept, offer_of, kept_by, kept_among}
@@ -10,10 +11,6 @@ use Rattle.cdtext_packs.specs.declared.lead_in_texts.LeadInTexts.{LeadInTexts}
 -- before the first block
 abbrev pub fresh_texts : ℕ → LeadInTexts
 fresh_texts lead_in = record { left = lead_in; reader = nothing_kept; good = 0; bad = 0; other = 0 }
-
--- one more: a u32 that stays at its last value
-abbrev pub counted : ℕ → ℕ
-counted n = min (n + 1) (2 ^ 32 - 1)
 
 -- after an offer with this answer
 abbrev pub answered : Offer → LeadInTexts → List ℕ → LeadInTexts

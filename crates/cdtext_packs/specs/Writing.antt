@@ -2,7 +2,7 @@
 use Rattle.std.specs.Prelude.{ℕ, ◌+◌, ◌-◌, ◌*◌, ◌/◌, ◌≡◌, ◌<◌, ◌≤◌, List, [], ◌∷◌, ◌++◌, length, map, flat_map, take, drop, replicate, slice_index_or, min, ◌==◌, if◌then◌else◌}
 use Rattle.std.specs.List.{enumerate_from}
 use Rattle.bit_lists.specs.Counting.{below}
-use Rattle.cdtext_packs.specs.Packs.{most_packs, sealed}
+use Rattle.cdtext_packs.specs.Packs.{most_text_packs, sealed}
 use Rattle.cdtext_packs.specs.Texts.{Texts, kinds, strings_of, are_empty, has_no_text}
 use Rattle.cdtext_packs.specs.declared.kinds.TextKind.{TextKind}
 use Rattle.cdtext_packs.specs.declared.kinds.TextKind.TheVariants.{Title, Performer, Songwriter, Composer, Arranger, Message, Code}
@@ -105,5 +105,5 @@ packs_of texts = numbered 0 (contents texts)
 
 -- why texts have no packs: there would be too many, or, where there would not, memory is short
 abbrev pub IsPackStop : Texts → PackStop → Type 0
-IsPackStop texts (TooMany packs) = (most_packs < packs) × (packs ≡ length (contents texts))
-IsPackStop texts NoMemory = length (contents texts) ≤ most_packs
+IsPackStop texts (TooMany packs) = (most_text_packs < packs) × (packs ≡ length (contents texts))
+IsPackStop texts NoMemory = length (contents texts) ≤ most_text_packs

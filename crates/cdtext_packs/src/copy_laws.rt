@@ -2,7 +2,7 @@
 ghost use Rattle.std.specs.Prelude.{◌≡◌, ◌≢◌, ◌≤◌, ◌++◌, ℕ, List, Bool, Option, Ok, false, true, length};
 ghost use Rattle.bit_lists.specs.Bits.{bits_of_bytes};
 ghost use Rattle.cdtext_packs.specs.Kept.{offer_of, kept_among};
-ghost use Rattle.cdtext_packs.specs.Packs.{check_matches, most_packs};
+ghost use Rattle.cdtext_packs.specs.Packs.{check_matches, most_text_packs};
 ghost use Rattle.cdtext_packs.specs.Reading.{read_texts};
 ghost use Rattle.cdtext_packs.specs.Texts.{Texts, HasTracks, has_no_text};
 ghost use Rattle.cdtext_packs.specs.Writing.{packs_of};
@@ -23,6 +23,6 @@ pub fn bursts_are_noticed()
 pub fn texts_come_back()
     ensures { (texts : Texts) (offered : List (List ℕ)) → HasTracks texts → has_no_text texts ≡ false
         → HasNoTab texts
-        → length (packs_of texts) ≤ most_packs → AreCopies texts offered
+        → length (packs_of texts) ≤ most_text_packs → AreCopies texts offered
         → read_texts (kept_among offered) ≡ Ok texts }
 {}

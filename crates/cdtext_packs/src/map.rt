@@ -1,7 +1,7 @@
 // The texts of a disc.
 ghost use Rattle.std.specs.Prelude.{◌≡◌, ◌≤◌, ◌+◌, ◌-◌, length, None, IfOk, All};
 ghost use Rattle.disc_time.specs.Counts.{most_tracks};
-ghost use Rattle.cdtext_packs.specs.Packs.{most_packs};
+ghost use Rattle.cdtext_packs.specs.Packs.{most_text_packs};
 ghost use Rattle.cdtext_packs.specs.Texts.{no_texts, strings_of, text_of, texts_with, has_no_text, unless_empty, AreTexts, IsString};
 ghost use Rattle.cdtext_packs.specs.Reading.{first_short, all_texts};
 
@@ -128,7 +128,7 @@ impl TextMap {
         requires first { 1 ≤ first }
         requires last { first ≤ last }
         requires limit { last ≤ most_tracks }
-        requires few { length kept.now ≤ most_packs }
+        requires few { length kept.now ≤ most_text_packs }
         requires enough { first_short kept.now (last - first + 2) ≡ None }
         ensures { IfOk result (λ map. map ≡ all_texts kept.now first last) }
     {

@@ -1,7 +1,7 @@
 // The reader of packs in any order, with any repeats.
 ghost use Rattle.std.specs.Prelude.{◌≡◌, ◌≤◌, ◌⊎◌, List, ℕ, Option, true, length, vec_len, IsOk, IfOk, IfErr, Ok, Err};
 ghost use Rattle.cdtext_packs.specs.Kept.{nothing_kept, offer_of, kept_by};
-ghost use Rattle.cdtext_packs.specs.Packs.{most_packs};
+ghost use Rattle.cdtext_packs.specs.Packs.{most_text_packs};
 ghost use Rattle.cdtext_packs.specs.Reading.{keeps_nothing, first_missing, read_numbers, read_sized, read_texts};
 ghost use Rattle.disc_time.specs.Counts.{most_tracks};
 
@@ -24,7 +24,7 @@ impl Model for TextReader {
 
     ghost view = { λ r. r.kept.items };
 
-    ghost invariant = { λ r. vec_len r.kept ≡ most_packs };
+    ghost invariant = { λ r. vec_len r.kept ≡ most_text_packs };
 }
 
 impl TextReader {
@@ -96,7 +96,7 @@ fn read_sized(
     tracks: &TextPack,
     counts: &TextPack,
 ) -> Result<TextMap, TextFault>
-    requires { length kept.now ≡ most_packs }
+    requires { length kept.now ≡ most_text_packs }
     ensures texts { IfOk result (λ map. read_sized kept.now tracks.now counts.now ≡ Ok map) }
     ensures fault { IfErr result
         (λ fault. (fault ≡ TextFault.NoMemory) ⊎ (read_sized kept.now tracks.now counts.now ≡ Err fault)) }
@@ -125,7 +125,7 @@ fn read_numbers(
     last: u8,
 ) -> Result<TextMap, TextFault>
     requires kept { count ≤ length kept.now }
-    requires few { count ≤ most_packs }
+    requires few { count ≤ most_text_packs }
     requires first { 1 ≤ first }
     requires last { first ≤ last }
     requires limit { last ≤ most_tracks }

@@ -3,7 +3,7 @@ ghost use Rattle.std.specs.Prelude.{◌≡◌, ◌≤◌, ◌*◌, false, [], le
 ghost use Rattle.std.specs.List.{position_or_len};
 ghost use Rattle.std.specs.Option.{option_map};
 ghost use Rattle.text_lines.specs.Text.{most_text_bytes};
-ghost use Rattle.cdtext_packs.specs.Packs.{most_packs};
+ghost use Rattle.cdtext_packs.specs.Packs.{most_text_packs};
 ghost use Rattle.cdtext_packs.specs.Texts.{IsString};
 ghost use Rattle.cdtext_packs.specs.Reading.{keeps_nothing, is_size_pack, size_pack, first_missing, first_short, kind_packs, last_number, is_short, is_zero, ends_in, kind_texts, kind_bytes, strings_in, resolved};
 
@@ -42,7 +42,7 @@ fn is_size_pack(pack: &TextPack, d: u8) -> bool
 /// The least number below `count` that is not kept.
 pub(crate) fn first_missing(kept: &[Option<TextPack>], count: usize) -> Option<u8>
     requires kept { count ≤ length kept.now }
-    requires count { count ≤ most_packs }
+    requires count { count ≤ most_text_packs }
     ensures { result ≡ first_missing kept.now count }
 {
     for number in 0..count {
@@ -55,7 +55,7 @@ pub(crate) fn first_missing(kept: &[Option<TextPack>], count: usize) -> Option<u
 
 /// The number of the last pack of the first kind with fewer strings than are wanted.
 pub(crate) fn first_short(kept: &[Option<TextPack>], count: usize) -> Option<u8>
-    requires { length kept.now ≤ most_packs }
+    requires { length kept.now ≤ most_text_packs }
     ensures { result ≡ option_map (λ kind. last_number (kind_packs kept.now kind))
         (first_short kept.now count) }
 {
@@ -70,7 +70,7 @@ pub(crate) fn first_short(kept: &[Option<TextPack>], count: usize) -> Option<u8>
 
 // The number of the last pack of a kind, if it has fewer strings than are wanted.
 fn short_at(kept: &[Option<TextPack>], count: usize, kind: TextKind) -> Option<u8>
-    requires { length kept.now ≤ most_packs }
+    requires { length kept.now ≤ most_text_packs }
     ensures { result ≡ (if is_short kept.now count kind then Some (last_number (kind_packs kept.now kind))
         else None) }
 {
@@ -102,7 +102,7 @@ pub(crate) fn kind_texts(
     count: usize,
     kind: TextKind,
 ) -> Result<Strings, AllocError>
-    requires few { length kept.now ≤ most_packs }
+    requires few { length kept.now ≤ most_text_packs }
     requires enough { is_short kept.now count kind ≡ false }
     ensures texts { IfOk result (λ strings. strings ≡ kind_texts kept.now count kind) }
     ensures count { IfOk result (λ strings. length strings ≡ count) }

@@ -1,6 +1,6 @@
 // The packs of texts.
 ghost use Rattle.std.specs.Prelude.{◌≡◌, ◌<◌, ◌≤◌, ◌+◌, ◌*◌, ◌++◌, length, flat_map, MatchResult, IfOk};
-ghost use Rattle.cdtext_packs.specs.Packs.{most_packs, sealed};
+ghost use Rattle.cdtext_packs.specs.Packs.{most_text_packs, sealed};
 ghost use Rattle.cdtext_packs.specs.Texts.{kinds};
 ghost use Rattle.cdtext_packs.specs.Writing.{joined, twelve, text_content, kind_contents, contents, content_bytes, numbered, packs_of, type_of, size_bytes, size_contents, IsPackStop};
 
@@ -15,7 +15,7 @@ use std::alloc::{AllocError, Global};
 /// The packs of the texts, in order of their numbers. There are none where every string is empty.
 pub fn pack_all(alloc: Global, map: &TextMap) -> Result<Vec<TextPack>, PackStop>
     ensures { MatchResult result (λ packs. (packs.items ≡ packs_of map.now)
-        × (length packs.items ≤ most_packs)) (IsPackStop map.now) }
+        × (length packs.items ≤ most_text_packs)) (IsPackStop map.now) }
 {
     let packs = packs_needed(map);
     if packs > MOST_PACKS {
@@ -67,7 +67,7 @@ fn push_kind(
     map: &TextMap,
     kind: TextKind,
 ) -> Result<(), AllocError>
-    requires { length packs.old.items + length (kind_contents map.now kind) ≤ most_packs }
+    requires { length packs.old.items + length (kind_contents map.now kind) ≤ most_text_packs }
     ensures { IfOk result (λ _. packs.new.items ≡ packs.old.items
         ++ numbered (length packs.old.items) (kind_contents map.now kind)) }
 {

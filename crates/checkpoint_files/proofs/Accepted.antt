@@ -12,7 +12,7 @@ use Rattle.std.specs.Prelude.{slice_index}
 use Rattle.cdg_screen.specs.Picture.{pixel_at, standing_after}
 use Rattle.cdg_screen.proofs.Lists.{rows_same, sixteen_same}
 use Rattle.checkpoint_files.specs.Table.{Part, Mark, ToCome, LeadIn, Program, Bad, Slots, Memory, Border, Across, Down, Colours, Levels, Check, row, all_parts, number, number_at, mark, IsPartInRange, IsCheckpointFile}
-use Rattle.checkpoint_files.specs.Checkpoint.{Checkpoint, value, bytes_of, part_bytes, body, file_of, checkpoint_in, standing_in}
+use Rattle.checkpoint_files.specs.Checkpoint.{Checkpoint, written_value, bytes_of, part_bytes, body, file_of, checkpoint_in, standing_in}
 use Rattle.checkpoint_files.specs.Sound.{IsSoundCheckpoint}
 use Rattle.checkpoint_files.proofs.Writing.{slots_written}
 use Rattle.checkpoint_files.proofs.ReadBack.{BeginsAt, from_on, begins, next_part, byte_in, byte_read, four_read, length-file, at_to_come, at_lead_in, at_program, at_bad, at_slots, at_memory, at_border, at_across, at_down, at_colours, at_levels}
@@ -37,8 +37,8 @@ mark_read c =
 -- ---- single bytes and pairs of them
 
 -- a part of single bytes that are below 256
-byte_is : (c : Checkpoint) (part : Part) (late : List Part) (k first count : ℕ) → (row part).size ≡ 1 → BeginsAt c (file_of c) (row part).first (part ∷ late) → first ≡ (row part).first → count ≡ (row part).count → k < count → value c part k < 256
-    → number_at (file_of c) 1 (first + 1 * k) ≡ value c part k
+byte_is : (c : Checkpoint) (part : Part) (late : List Part) (k first count : ℕ) → (row part).size ≡ 1 → BeginsAt c (file_of c) (row part).first (part ∷ late) → first ≡ (row part).first → count ≡ (row part).count → k < count → written_value c part k < 256
+    → number_at (file_of c) 1 (first + 1 * k) ≡ written_value c part k
 byte_is c part late k first count one b f e lt small = omega (arith, byte_read c part late k first count one b f e lt, small)
 
 colour_read : (c : Checkpoint) (k : ℕ) → k < 16 → slice_index c.standing.colours k < 65536 → number (file_of c) Colours k ≡ slice_index c.standing.colours k

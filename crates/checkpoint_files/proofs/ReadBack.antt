@@ -4,7 +4,7 @@ use Rattle.std.specs.List.{flat_map, range_with_len}
 use Rattle.std.proofs.lemmas.List.{drop-drop, drop_at, get_or-drop, get_or_append_left, get_or-append_right}
 use Rattle.bit_lists.specs.Check.{check_of}
 use Rattle.checkpoint_files.specs.Table.{Part, Mark, ToCome, LeadIn, Program, Bad, Slots, Memory, Border, Across, Down, Colours, Levels, row, body_parts, number_at}
-use Rattle.checkpoint_files.specs.Checkpoint.{Checkpoint, value, bytes_of, part_bytes, body, file_of}
+use Rattle.checkpoint_files.specs.Checkpoint.{Checkpoint, written_value, bytes_of, part_bytes, body, file_of}
 
 length-bytes_of : (size n : ℕ) → length (bytes_of size n) ≡ size
 length-bytes_of zero n = refl
@@ -39,20 +39,20 @@ pub step : (file part rest : List ℕ) (a n b : ℕ) → drop a file ≡ part ++
 step file part rest a n b at size e = ap (λ k. drop k file) (sym e) ∙ sym (drop-drop n a file) ∙ ap (drop n) at ∙ drop_at part rest n size
 
 pub part_byte : (c : Checkpoint) (part : Part) (file rest : List ℕ) (k i count : ℕ) → count ≡ (row part).count → drop (row part).first file ≡ part_bytes c part ++ rest → k < count → i < (row part).size
-    → get_or file ((row part).first + ((row part).size * k + i)) 0 ≡ get_or (bytes_of (row part).size (value c part k)) i 0
+    → get_or file ((row part).first + ((row part).size * k + i)) 0 ≡ get_or (bytes_of (row part).size (written_value c part k)) i 0
 unfolding part_bytes fields
 part_byte c part file rest k i count e at lt within =
-    let size : length (fields (row part).size (value c part) 0 count) ≡ (row part).size * count = length-fields (row part).size (value c part) count 0 in
+    let size : length (fields (row part).size (written_value c part) 0 count) ≡ (row part).size * count = length-fields (row part).size (written_value c part) count 0 in
     let fits : (row part).size * k + i < (row part).size * count = grind arith in
-    let same : fields (row part).size (value c part) 0 count ≡ part_bytes c part = ap (fields (row part).size (value c part) 0) e in
+    let same : fields (row part).size (written_value c part) 0 count ≡ part_bytes c part = ap (fields (row part).size (written_value c part) 0) e in
     let here : 0 + k ≡ k = omega arith in
     sym (get_or-drop (row part).first file ((row part).size * k + i) 0) ∙ ap (λ (l : List ℕ). get_or l ((row part).size * k + i) 0) (at ∙ ap (λ (l : List ℕ). l ++ rest) (sym same))
-    ∙ get_or_append_left (fields (row part).size (value c part) 0 count) rest 0 ((row part).size * k + i) (omega (arith, fits, size))
-    ∙ field_at (row part).size (value c part) count 0 k i lt within ∙ ap (λ j. get_or (bytes_of (row part).size (value c part j)) i 0) here
+    ∙ get_or_append_left (fields (row part).size (written_value c part) 0 count) rest 0 ((row part).size * k + i) (omega (arith, fits, size))
+    ∙ field_at (row part).size (written_value c part) count 0 k i lt within ∙ ap (λ j. get_or (bytes_of (row part).size (written_value c part j)) i 0) here
 
 pub part_length : (c : Checkpoint) (part : Part) (n : ℕ) → n ≡ (row part).size * (row part).count → length (part_bytes c part) ≡ n
 unfolding part_bytes fields
-part_length c part n e = length-fields (row part).size (value c part) (row part).count 0 ∙ sym e
+part_length c part n e = length-fields (row part).size (written_value c part) (row part).count 0 ∙ sym e
 
 -- ---- where each part begins
 
@@ -128,25 +128,25 @@ pub at_levels : (c : Checkpoint) → BeginsAt c (file_of c) 65027 (Levels ∷ []
 at_levels c = next_part c (file_of c) 64995 32 65027 Colours _ (at_colours c) refl refl
 
 pub byte_in : (c : Checkpoint) (part : Part) (late : List Part) (k i count at : ℕ) → BeginsAt c (file_of c) (row part).first (part ∷ late) → count ≡ (row part).count → k < count → i < (row part).size → (row part).first + ((row part).size * k + i) ≡ at
-    → get_or (file_of c) at 0 ≡ get_or (bytes_of (row part).size (value c part k)) i 0
+    → get_or (file_of c) at 0 ≡ get_or (bytes_of (row part).size (written_value c part k)) i 0
 byte_in c part late k i count at b e lt within place =
     ap (λ p. get_or (file_of c) p 0) (sym place)
     ∙ part_byte c part (file_of c) (from_on c late) k i count e (b.is ∙ append_assoc (part_bytes c part) (flat_map (part_bytes c) late) (bytes_of 2 (check_of (body c)))) lt within
 
 -- a part of single bytes
 pub byte_read : (c : Checkpoint) (part : Part) (late : List Part) (k first count : ℕ) → (row part).size ≡ 1 → BeginsAt c (file_of c) (row part).first (part ∷ late) → first ≡ (row part).first → count ≡ (row part).count → k < count
-    → number_at (file_of c) 1 (first + 1 * k) ≡ value c part k % 256
+    → number_at (file_of c) 1 (first + 1 * k) ≡ written_value c part k % 256
 byte_read c part late k first count one b f e lt =
     let there = byte_in c part late k 0 count (first + 1 * k) b e lt (omega (arith, one)) (ap₂ (λ x s. x + (s * k + 0)) (sym f) one ∙ omega arith) in
-    let byte : get_or (bytes_of (row part).size (value c part k)) 0 0 ≡ value c part k / 1 % 256 = ap (λ s. get_or (bytes_of s (value c part k)) 0 0) one in
+    let byte : get_or (bytes_of (row part).size (written_value c part k)) 0 0 ≡ written_value c part k / 1 % 256 = ap (λ s. get_or (bytes_of s (written_value c part k)) 0 0) one in
     omega (arith, there, byte)
 
 -- a number of four bytes
-pub four_read : (c : Checkpoint) (part : Part) (late : List Part) (first : ℕ) → (row part).size ≡ 4 → (row part).count ≡ 1 → BeginsAt c (file_of c) (row part).first (part ∷ late) → first ≡ (row part).first → value c part 0 < 2 ^ 32
-    → number_at (file_of c) 4 first ≡ value c part 0
+pub four_read : (c : Checkpoint) (part : Part) (late : List Part) (first : ℕ) → (row part).size ≡ 4 → (row part).count ≡ 1 → BeginsAt c (file_of c) (row part).first (part ∷ late) → first ≡ (row part).first → written_value c part 0 < 2 ^ 32
+    → number_at (file_of c) 4 first ≡ written_value c part 0
 four_read c part late first four one b f lt =
-    let spot : (i at : ℕ) → i < 4 → first + i ≡ at → get_or (file_of c) at 0 ≡ get_or (bytes_of 4 (value c part 0)) i 0 =
-    λ i at within place. byte_in c part late 0 i 1 at b (sym one) (omega arith) (omega (arith, four, within)) (ap₂ (λ x s. x + (s * 0 + i)) (sym f) four ∙ omega (arith, place)) ∙ ap (λ s. get_or (bytes_of s (value c part 0)) i 0) four in
+    let spot : (i at : ℕ) → i < 4 → first + i ≡ at → get_or (file_of c) at 0 ≡ get_or (bytes_of 4 (written_value c part 0)) i 0 =
+    λ i at within place. byte_in c part late 0 i 1 at b (sym one) (omega arith) (omega (arith, four, within)) (ap₂ (λ x s. x + (s * 0 + i)) (sym f) four ∙ omega (arith, place)) ∙ ap (λ s. get_or (bytes_of s (written_value c part 0)) i 0) four in
     let a0 = spot 0 first (omega arith) (omega arith) in
     let a1 = spot 1 (first + 1) (omega arith) refl in
     let a2 = spot 2 (first + 1 + 1) (omega arith) (omega arith) in

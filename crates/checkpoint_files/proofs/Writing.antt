@@ -6,7 +6,7 @@ use Rattle.std.proofs.lemmas.List.{append-nil, take_more, take_all}
 use Rattle.bit_lists.specs.Counting.{below}
 use Rattle.bit_lists.specs.Check.{check_of}
 use Rattle.checkpoint_files.specs.Table.{Part, Slots, row, body_parts}
-use Rattle.checkpoint_files.specs.Checkpoint.{Checkpoint, value, bytes_of, part_bytes, with_parts, body, file_of}
+use Rattle.checkpoint_files.specs.Checkpoint.{Checkpoint, written_value, bytes_of, part_bytes, with_parts, body, file_of}
 
 -- one element more
 pub flat_map_more : (f : ℕ → List ℕ) (a n j : ℕ) → a + n ≡ j → flat_map f (range_with_len a (n + 1)) ≡ flat_map f (range_with_len a n) ++ f j
@@ -17,11 +17,11 @@ flat_map_more f a (suc n) j e =
 
 -- the first fields of a part
 unfoldable pub first_fields : Checkpoint → Part → ℕ → List ℕ
-first_fields c part n = flat_map (λ k. bytes_of (row part).size (value c part k)) (below n)
+first_fields c part n = flat_map (λ k. bytes_of (row part).size (written_value c part k)) (below n)
 
-pub fields_more : (c : Checkpoint) (part : Part) (n : ℕ) (bytes : List ℕ) → bytes_of (row part).size (value c part n) ≡ bytes → first_fields c part (n + 1) ≡ first_fields c part n ++ bytes
+pub fields_more : (c : Checkpoint) (part : Part) (n : ℕ) (bytes : List ℕ) → bytes_of (row part).size (written_value c part n) ≡ bytes → first_fields c part (n + 1) ≡ first_fields c part n ++ bytes
 unfolding first_fields
-fields_more c part n bytes e = flat_map_more (λ k. bytes_of (row part).size (value c part k)) 0 n n (omega arith) ∙ ap (λ b. first_fields c part n ++ b) e
+fields_more c part n bytes e = flat_map_more (λ k. bytes_of (row part).size (written_value c part k)) 0 n n (omega arith) ∙ ap (λ b. first_fields c part n ++ b) e
 
 pub no_fields : (c : Checkpoint) (part : Part) → first_fields c part 0 ≡ []
 unfolding first_fields
@@ -29,7 +29,7 @@ no_fields c part = refl
 
 pub all_fields : (c : Checkpoint) (part : Part) (n : ℕ) → n ≡ (row part).count → first_fields c part n ≡ part_bytes c part
 unfolding first_fields part_bytes
-all_fields c part n e = ap (λ k. flat_map (λ k. bytes_of (row part).size (value c part k)) (below k)) e
+all_fields c part n e = ap (λ k. flat_map (λ k. bytes_of (row part).size (written_value c part k)) (below k)) e
 
 -- a byte as it is written
 pub one_byte : (n : ℕ) → n < 256 → bytes_of 1 n ≡ n ∷ []
@@ -40,12 +40,12 @@ with_parts_are file c [] = sym (append-nil file)
 with_parts_are file c (part ∷ parts) = with_parts_are (file ++ part_bytes c part) c parts ∙ append_assoc file (part_bytes c part) (flat_map (part_bytes c) parts)
 
 -- the bytes of a part with one field
-pub one_field : (c : Checkpoint) (part : Part) (bytes : List ℕ) → (row part).count ≡ 1 → bytes_of (row part).size (value c part 0) ≡ bytes → part_bytes c part ≡ bytes
+pub one_field : (c : Checkpoint) (part : Part) (bytes : List ℕ) → (row part).count ≡ 1 → bytes_of (row part).size (written_value c part 0) ≡ bytes → part_bytes c part ≡ bytes
 one_field c part bytes one e =
     sym (all_fields c part 1 (sym one)) ∙ fields_more c part 0 bytes e ∙ ap (λ l. l ++ bytes) (no_fields c part)
 
 -- bytes after those of a file, as a part of it
-pub then_part : (file new old bytes : List ℕ) (c : Checkpoint) (part : Part) → new ≡ old ++ bytes → old ≡ file → (row part).count ≡ 1 → bytes_of (row part).size (value c part 0) ≡ bytes → new ≡ file ++ part_bytes c part
+pub then_part : (file new old bytes : List ℕ) (c : Checkpoint) (part : Part) → new ≡ old ++ bytes → old ≡ file → (row part).count ≡ 1 → bytes_of (row part).size (written_value c part 0) ≡ bytes → new ≡ file ++ part_bytes c part
 then_part file new old bytes c part put before one e = put ∙ ap₂ (λ (a b : List ℕ). a ++ b) before (sym (one_field c part bytes one e))
 
 -- a number below 256 as one byte
@@ -57,7 +57,7 @@ pub two_bytes : (n m : ℕ) → n ≡ m → bytes_of 2 n ≡ to_be_bytes w16 m
 two_bytes n m e = ap (bytes_of 2) e ∙ ap (λ b. (m / 256 % 256) ∷ b ∷ []) (omega arith)
 
 -- one field more was put
-pub field_put : (file new old bytes : List ℕ) (c : Checkpoint) (part : Part) (n : ℕ) → new ≡ old ++ bytes → old ≡ file ++ first_fields c part n → bytes_of (row part).size (value c part n) ≡ bytes → new ≡ file ++ first_fields c part (n + 1)
+pub field_put : (file new old bytes : List ℕ) (c : Checkpoint) (part : Part) (n : ℕ) → new ≡ old ++ bytes → old ≡ file ++ first_fields c part n → bytes_of (row part).size (written_value c part n) ≡ bytes → new ≡ file ++ first_fields c part (n + 1)
 field_put file new old bytes c part n put before e =
     put ∙ ap (λ o. o ++ bytes) before ∙ append_assoc file (first_fields c part n) bytes ∙ ap (λ l. file ++ l) (sym (fields_more c part n bytes e))
 

@@ -31,20 +31,20 @@ kept counts slots now = record {
 -- Writing
 
 -- the number that is written in field k of a part
-abbrev pub value : Checkpoint → Part → ℕ → ℕ
-value c Mark k = mark
-value c ToCome k = c.to_come
-value c LeadIn k = c.lead_in
-value c Program k = c.program
-value c Bad k = c.bad
-value c Slots k = slice_index c.slots k
-value c Memory k = pixel_at c.standing.memory (k % screen_width) (k / screen_width)
-value c Border k = c.standing.border
-value c Across k = c.standing.h
-value c Down k = c.standing.v
-value c Colours k = slice_index c.standing.colours k
-value c Levels k = slice_index c.standing.levels k
-value c Check k = 0
+abbrev pub written_value : Checkpoint → Part → ℕ → ℕ
+written_value c Mark k = mark
+written_value c ToCome k = c.to_come
+written_value c LeadIn k = c.lead_in
+written_value c Program k = c.program
+written_value c Bad k = c.bad
+written_value c Slots k = slice_index c.slots k
+written_value c Memory k = pixel_at c.standing.memory (k % screen_width) (k / screen_width)
+written_value c Border k = c.standing.border
+written_value c Across k = c.standing.h
+written_value c Down k = c.standing.v
+written_value c Colours k = slice_index c.standing.colours k
+written_value c Levels k = slice_index c.standing.levels k
+written_value c Check k = 0
 
 -- a number as so many bytes, the highest first
 abbrev pub bytes_of : ℕ → ℕ → List ℕ
@@ -53,7 +53,7 @@ bytes_of (suc size) n = (n / 256 ^ size % 256) ∷ bytes_of size n
 
 -- the bytes of a part
 unfoldable pub part_bytes : Checkpoint → Part → List ℕ
-part_bytes c part = flat_map (λ k. bytes_of (row part).size (value c part k)) (below (row part).count)
+part_bytes c part = flat_map (λ k. bytes_of (row part).size (written_value c part k)) (below (row part).count)
 
 -- bytes followed by those of parts
 abbrev pub with_parts : List ℕ → Checkpoint → List Part → List ℕ

@@ -1,6 +1,6 @@
 // Laws on files.
 ghost use Rattle.std.specs.Prelude.{◌≡◌, ◌<◌, ◌%◌, ◌^◌, ℕ, length};
-ghost use Rattle.checkpoint_files.specs.Checkpoint.{Checkpoint, checkpoint_in, file_of, value};
+ghost use Rattle.checkpoint_files.specs.Checkpoint.{Checkpoint, checkpoint_in, file_of, written_value};
 ghost use Rattle.checkpoint_files.specs.Sound.{IsSoundCheckpoint};
 ghost use Rattle.checkpoint_files.specs.Table.{Bad, IsCheckpointFile, LeadIn, Memory, Program, Slots, ToCome, number};
 
@@ -12,9 +12,10 @@ pub fn files_are_read_back()
     ensures lead_in { (c : Checkpoint) → c.lead_in < 2 ^ 32 → number (file_of c) LeadIn 0 ≡ c.lead_in }
     ensures program { (c : Checkpoint) → c.program < 2 ^ 32 → number (file_of c) Program 0 ≡ c.program }
     ensures bad { (c : Checkpoint) → c.bad < 2 ^ 32 → number (file_of c) Bad 0 ≡ c.bad }
-    ensures slots { (c : Checkpoint) (k : ℕ) → k < 168 → number (file_of c) Slots k ≡ value c Slots k % 256 }
+    ensures slots { (c : Checkpoint) (k : ℕ) → k < 168
+        → number (file_of c) Slots k ≡ written_value c Slots k % 256 }
     ensures memory { (c : Checkpoint) (k : ℕ) → k < 64800
-        → number (file_of c) Memory k ≡ value c Memory k % 256 }
+        → number (file_of c) Memory k ≡ written_value c Memory k % 256 }
 {}
 
 /// A law: the file of a checkpoint whose numbers are in their ranges is accepted, and the checkpoint in it

@@ -8,7 +8,7 @@ use Rattle.text_lines.specs.Reading.{at_line, read_on}
 use Rattle.text_lines.proofs.ReadOn.{read_on-taken, read_on-refused, read_on-end}
 use Rattle.cue_sheet.specs.CueSheet.{CueTrack, CueSheet, CueSection, track_from, sheet_from, IsSheet}
 use Rattle.cue_sheet.specs.CueLines.{CueLine, SaysNothing, SaysCatalogue, SaysFile, SaysTitle, SaysPerformer, SaysSongwriter, SaysTrack, SaysFlags, SaysIsrc, SaysPregap, SaysIndex, SaysPostgap, command_named}
-use Rattle.cue_sheet.specs.Grammar.{CueState, no_section, nothing_said, track_with, has_index_one, obeyed, step, ended, read_cue}
+use Rattle.cue_sheet.specs.Grammar.{CueState, no_section, nothing_said, track_with, has_index_one, obeyed, sheet_step, ended, read_cue}
 use Rattle.cue_sheet.specs.Steps.{after, unless, end_reason, sheet_said}
 use Rattle.cue_sheet.specs.declared.fault.CueWhy.{CueWhy}
 use Rattle.cue_sheet.specs.declared.fault.CueWhy.TheVariants.{NoFile, NoTrack, NoIndex}
@@ -102,7 +102,7 @@ module _ (P : ℕ → Type 0) where
       )
 
   abbrev Reads : List (List ℕ) → CueSheet → Type 0
-  Reads rest sheet = (number : ℕ) (s : CueState) → IsGood s → StateHas s → read_on step ended number s rest ≡ Ok sheet → IsAccepted sheet
+  Reads rest sheet = (number : ℕ) (s : CueState) → IsGood s → StateHas s → read_on sheet_step ended number s rest ≡ Ok sheet → IsAccepted sheet
 
   step_keeps : (s : CueState) (some : Bool) (word argument : List ℕ) (next : CueState) → Fits P 67108864 argument → IsGood s → StateHas s
       → (if some then obeyed s (command_named word) argument else Ok s) ≡ Ok next → IsGood next × StateHas next
@@ -115,18 +115,18 @@ module _ (P : ℕ → Type 0) where
   never fault sheet e = cc
 
   line_read : (number : ℕ) (s : CueState) (line : List ℕ) (rest : List (List ℕ)) (sheet : CueSheet) (answer : Result CueState CueWhy)
-      → step s line ≡ answer → ((next : CueState) → answer ≡ Ok next → IsGood next × StateHas next) → Reads rest sheet
-      → read_on step ended number s (line ∷ rest) ≡ Ok sheet → IsAccepted sheet
+      → sheet_step s line ≡ answer → ((next : CueState) → answer ≡ Ok next → IsGood next × StateHas next) → Reads rest sheet
+      → read_on sheet_step ended number s (line ∷ rest) ≡ Ok sheet → IsAccepted sheet
   line_read number s line rest sheet (Ok next) is keeps reads e =
       let kept = keeps next refl in
-      reads (number + 1) next kept.0 kept.1 (sym (read_on-taken step ended number s next line rest is) ∙ e)
-  line_read number s line rest sheet (Err why) is keeps reads e = never (number, why) sheet (sym (read_on-refused step ended number s why line rest is) ∙ e)
+      reads (number + 1) next kept.0 kept.1 (sym (read_on-taken sheet_step ended number s next line rest is) ∙ e)
+  line_read number s line rest sheet (Err why) is keeps reads e = never (number, why) sheet (sym (read_on-refused sheet_step ended number s why line rest is) ∙ e)
 
   lines_read : (lines : List (List ℕ)) (sheet : CueSheet) → EachFits P 67108864 lines → Reads lines sheet
   lines_read [] sheet fits number s good has e =
-      finish s number sheet (end_reason s) refl good has (ap (at_line number) (sym (ended_is s)) ∙ (sym (read_on-end step ended number s) ∙ e))
+      finish s number sheet (end_reason s) refl good has (ap (at_line number) (sym (ended_is s)) ∙ (sym (read_on-end sheet_step ended number s) ∙ e))
   lines_read (line ∷ rest) sheet fits number s good has e =
-      line_read number s line rest sheet (step s line) refl
+      line_read number s line rest sheet (sheet_step s line) refl
       (λ next. step_keeps s (is_some_bytes (trimmed line)) (first_word (trimmed line)) (argument_of (trimmed line)) next (fits_argument P 67108864 (trimmed line) (fits_trimmed P 67108864 line fits.0)) good has)
       (lines_read rest sheet fits.1) e
 

@@ -9,7 +9,7 @@ use Rattle.std.proofs.Math.Seq.{get_or-append_seam}
 use Rattle.cue_sheet.specs.CueSheet.{CueTrack, IsText, IsTrack, IsSheet, CueSection, track_from, sheet_from, is_catalogue_number, is_capital_code, no_track}
 use Rattle.cue_sheet.specs.CueLines.{CueLine, SaysNothing, SaysCatalogue, SaysFile, SaysTitle, SaysPerformer, SaysSongwriter, SaysTrack, SaysFlags, SaysIsrc, SaysPregap, SaysIndex, SaysPostgap, IsLineInRange}
 use Rattle.cue_sheet.specs.Grammar.{CueState, nothing_said, follows_index, follows_number, has_index_one, lacks_index, track_with}
-use Rattle.cue_sheet.specs.Steps.{after, later_reason}
+use Rattle.cue_sheet.specs.Steps.{after, later_sheet_reason}
 use Rattle.cue_sheet.specs.declared.fault.CueWhy.TheVariants.{NoIndex, NotAudio, NumberOrder, IndexOrder, TimeOrder}
 
 abbrev number_at : List (ℕ × ℕ) → ℕ → ℕ
@@ -311,8 +311,8 @@ with_track : (s : CueState) (number : ℕ) → IsGood s → lacks_index s ≡ fa
     → AreInOrder s.latest (if is_some s.number then s.album else s.section) (s.tracks ++ track_with s.number s.section) (Some number) []
 with_track s number good full follows range = with_track_of s s.number number good refl full follows range
 
-pub good_more : (s : CueState) (line : CueLine) → IsGood s → IsLineInRange line → later_reason s line ≡ None → IsGood (after s line)
-unfolding later_reason
+pub good_more : (s : CueState) (line : CueLine) → IsGood s → IsLineInRange line → later_sheet_reason s line ≡ None → IsGood (after s line)
+unfolding later_sheet_reason
 good_more s SaysNothing g range free = g
 good_more s SaysFile g range free = g
 good_more s (SaysCatalogue t) g range free = ((range, g.0.1, g.0.2, g.0.3, g.0.4, g.0.5, g.0.6, g.0.7), g.1)

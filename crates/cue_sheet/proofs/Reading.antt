@@ -6,7 +6,7 @@ use Rattle.text_lines.specs.Reading.{at_line, read_on}
 use Rattle.text_lines.proofs.ReadOn.{read_on-taken, read_on-refused, read_on-end}
 use Rattle.std.proofs.lemmas.Bool.{cases_Bool}
 use Rattle.cue_sheet.specs.CueSheet.{IsSheet, sheet_from}
-use Rattle.cue_sheet.specs.Grammar.{CueState, nothing_said, has_index_one, track_with, step, ended, read_cue}
+use Rattle.cue_sheet.specs.Grammar.{CueState, nothing_said, has_index_one, track_with, sheet_step, ended, read_cue}
 use Rattle.cue_sheet.specs.Answers.{IsCueAnswer}
 use Rattle.cue_sheet.specs.Steps.{unless, end_reason, sheet_said, TakesLine, IsEmpty, Says, RefusesLine}
 use Rattle.cue_sheet.specs.declared.fault.CueWhy.{CueWhy}
@@ -18,23 +18,23 @@ use Rattle.cue_sheet.proofs.Stepping.{ended_is}
 
 -- the lines read so far said what the draft says, and the rest goes on from there
 pub record Reading (text rest : List ℕ) (number : ℕ) (draft : CueState) : Type 0 where
-  pub same : read_cue text ≡ read_on step ended number draft (lines_in rest)
+  pub same : read_cue text ≡ read_on sheet_step ended number draft (lines_in rest)
   pub good : IsGood draft
   pub bound : number + length rest ≤ 67108865
   pub positive : 1 ≤ number
 
 pub reading_starts : (text rest : List ℕ) (draft : CueState) → rest ≡ without_mark text → length rest ≤ 67108864 → draft ≡ nothing_said → Reading text rest 1 draft
 reading_starts text rest draft is short empty = record {
-  same = ap (λ r. read_on step ended 1 nothing_said (lines_in r)) (sym is) ∙ ap (λ s. read_on step ended 1 s (lines_in rest)) (sym empty);
+  same = ap (λ r. read_on sheet_step ended 1 nothing_said (lines_in r)) (sym is) ∙ ap (λ s. read_on sheet_step ended 1 s (lines_in rest)) (sym empty);
   good = subst IsGood (sym empty) good_start;
   bound = omega arith;
   positive = omega arith;
 }
 
 read_line : (text rest line next : List ℕ) (number : ℕ) (old new : CueState) → Reading text rest number old → lines_in rest ≡ line ∷ lines_in next
-    → length next < length rest → step old line ≡ Ok new → IsGood new → Reading text next (number + 1) new
+    → length next < length rest → sheet_step old line ≡ Ok new → IsGood new → Reading text next (number + 1) new
 read_line text rest line next number old new reading lines shorter taken good = record {
-  same = reading.same ∙ (ap (read_on step ended number old) lines ∙ read_on-taken step ended number old new line (lines_in next) taken);
+  same = reading.same ∙ (ap (read_on sheet_step ended number old) lines ∙ read_on-taken sheet_step ended number old new line (lines_in next) taken);
   good = good;
   bound = omega (arith, reading.bound);
   positive = omega arith;
@@ -51,15 +51,15 @@ reading_goes_on text rest line next number old new reading lines shorter (Says s
 pub reading_stops : (text rest line next : List ℕ) (number : ℕ) (old : CueState) (stop : CueStop) → Reading text rest number old → lines_in rest ≡ line ∷ lines_in next
     → RefusesLine old number line stop → IsCueAnswer (read_cue text) (Err stop)
 reading_stops text rest line next number old (Fault at why) reading lines refuses =
-    reading.same ∙ (ap (read_on step ended number old) lines
-    ∙ (read_on-refused step ended number old why line (lines_in next) refuses.1 ∙ ap (λ n. Err (n, why)) (sym refuses.0)))
+    reading.same ∙ (ap (read_on sheet_step ended number old) lines
+    ∙ (read_on-refused sheet_step ended number old why line (lines_in next) refuses.1 ∙ ap (λ n. Err (n, why)) (sym refuses.0)))
 reading_stops text rest line next number old NoMemory reading lines refuses = tt
 
 pub reading_ends : (text rest : List ℕ) (number : ℕ) (draft : CueState) (why : Option CueWhy) → Reading text rest number draft → lines_in rest ≡ [] → why ≡ end_reason draft
     → read_cue text ≡ at_line number (unless (sheet_said draft) why)
 reading_ends text rest number draft why reading lines is =
-    reading.same ∙ (ap (read_on step ended number draft) lines
-    ∙ (read_on-end step ended number draft ∙ (ap (at_line number) (ended_is draft) ∙ ap (λ w. at_line number (unless (sheet_said draft) w)) (sym is))))
+    reading.same ∙ (ap (read_on sheet_step ended number draft) lines
+    ∙ (read_on-end sheet_step ended number draft ∙ (ap (at_line number) (ended_is draft) ∙ ap (λ w. at_line number (unless (sheet_said draft) w)) (sym is))))
 
 end_needs_file : (f : Bool) → f ≡ false → (if not f then Some NoFile else Some NoTrack) ≡ None → ⊥
 end_needs_file false is h = cc

@@ -10,8 +10,8 @@ use Rattle.std.proofs.lemmas.Bool.{and_parts, cond_both, false≢true, leb-true}
 use Rattle.text_lines.specs.Text.{words_in, number_in, two_digit_number, time_of, parsed_time, is_some_bytes}
 use Rattle.cue_sheet.specs.CueSheet.{IsText, is_catalogue_number, is_capital_code}
 use Rattle.cue_sheet.specs.CueLines.{CueLine, SaysNothing, SaysCatalogue, SaysFile, SaysTitle, SaysPerformer, SaysSongwriter, SaysTrack, SaysFlags, SaysIsrc, SaysPregap, SaysIndex, SaysPostgap, is_plain, is_quote, begins_quoted, plain, quoted, quoted_text, text_argument, is_file, catalogue_argument, code_argument, is_flag, control_of, flags_argument, track_argument, track_of_words, index_argument, index_of_words, command_words, command_named, IsLineInRange}
-use Rattle.cue_sheet.specs.Grammar.{CueState, spelled, obeyed, has_index_one}
-use Rattle.cue_sheet.specs.Steps.{after, later_reason, unless}
+use Rattle.cue_sheet.specs.Grammar.{CueState, spelled_line, obeyed, has_index_one}
+use Rattle.cue_sheet.specs.Steps.{after, later_sheet_reason, unless}
 use Rattle.cue_sheet.proofs.Stepping.{taken_is}
 use Rattle.cue_sheet.specs.declared.fault.CueWhy.{CueWhy}
 use Rattle.cue_sheet.specs.declared.fault.CueWhy.TheVariants.{SecondFile, Misplaced}
@@ -187,17 +187,17 @@ module _ (P : ℕ → Type 0) where
   pub record Takes (s next : CueState) : Type 0 where
     pub line : CueLine
     pub said : IsSaid line
-    pub free : later_reason s line ≡ None
+    pub free : later_sheet_reason s line ≡ None
     pub is : next ≡ after s line
 
-  free_is : (s : CueState) (line : CueLine) (next : CueState) (why : Option CueWhy) → later_reason s line ≡ why → unless (after s line) why ≡ Ok next → (later_reason s line ≡ None) × (next ≡ after s line)
+  free_is : (s : CueState) (line : CueLine) (next : CueState) (why : Option CueWhy) → later_sheet_reason s line ≡ why → unless (after s line) why ≡ Ok next → (later_sheet_reason s line ≡ None) × (next ≡ after s line)
   free_is s line next None is e = (is, cc)
   free_is s line next (Some why) is e = cc
 
-  line_is : (s : CueState) (o : Option CueLine) (next : CueState) → ((line : CueLine) → o ≡ Some line → IsSaid line) → spelled s o ≡ Ok next → Takes s next
+  line_is : (s : CueState) (o : Option CueLine) (next : CueState) → ((line : CueLine) → o ≡ Some line → IsSaid line) → spelled_line s o ≡ Ok next → Takes s next
   line_is s None next each e = cc
   line_is s (Some line) next each e =
-      let is = free_is s line next (later_reason s line) refl (sym (taken_is s line) ∙ e) in
+      let is = free_is s line next (later_sheet_reason s line) refl (sym (taken_is s line) ∙ e) in
       record { line = line; said = each line refl; free = is.0; is = is.1 }
 
   passed : (second placed : Bool) (answer : Result CueState CueWhy) (next : CueState)
@@ -207,8 +207,8 @@ module _ (P : ℕ → Type 0) where
   passed false false answer next e = cc
 
   entry_is : (s : CueState) (second placed : Bool) (o : Option CueLine) (next : CueState) → ((line : CueLine) → o ≡ Some line → IsSaid line)
-      → (if second then Err SecondFile else (if not placed then Err Misplaced else spelled s o)) ≡ Ok next → Takes s next
-  entry_is s second placed o next each e = line_is s o next each (passed second placed (spelled s o) next e)
+      → (if second then Err SecondFile else (if not placed then Err Misplaced else spelled_line s o)) ≡ Ok next → Takes s next
+  entry_is s second placed o next each e = line_is s o next each (passed second placed (spelled_line s o) next e)
 
   nothing_is : (line : CueLine) → Some SaysNothing ≡ Some line → IsSaid line
   nothing_is line e = let same : SaysNothing ≡ line = cc in subst IsSaid same (tt, tt)

@@ -4,8 +4,8 @@ use Rattle.std.specs.Prelude.{Result, Ok, Err, is_some, not, max, nat_lt, if◌t
 use Rattle.cue_sheet.specs.CueSheet.{CueSheet}
 use Rattle.text_lines.specs.Text.{trimmed, first_word, argument_of, is_some_bytes}
 use Rattle.cue_sheet.specs.CueLines.{command_named, said_by, CueLine, SaysNothing, SaysCatalogue, SaysFile, SaysTitle, SaysPerformer, SaysSongwriter, SaysTrack, SaysFlags, SaysIsrc, SaysPregap, SaysIndex, SaysPostgap}
-use Rattle.cue_sheet.specs.Grammar.{CueState, has_index_one, lacks_index, follows_number, follows_index, begun, with_index, once, taken, is_second_file, is_placed, spelled, obeyed, step, ended}
-use Rattle.cue_sheet.specs.Steps.{after, later_reason, unless, end_reason, sheet_said}
+use Rattle.cue_sheet.specs.Grammar.{CueState, has_index_one, lacks_index, follows_number, follows_index, begun, with_index, once, taken, is_second_file, is_placed, spelled_line, obeyed, sheet_step, ended}
+use Rattle.cue_sheet.specs.Steps.{after, later_sheet_reason, unless, end_reason, sheet_said}
 use Rattle.cue_sheet.specs.declared.command.Command.{Command}
 use Rattle.cue_sheet.specs.declared.fault.CueWhy.{CueWhy}
 use Rattle.cue_sheet.specs.declared.fault.CueWhy.TheVariants.{SecondFile, Misplaced, Repeated, NoIndex, NotAudio, NumberOrder, IndexOrder, TimeOrder, NoFile, NoTrack}
@@ -33,8 +33,8 @@ latest_is : (time latest : ℕ) → nat_lt time latest ≡ false → time ≡ ma
 latest_is time latest free = let late : latest ≤ time = grind (arith, free) in omega arith
 
 -- what a line makes of what was said, unless there is a reason against it
-pub taken_is : (s : CueState) (line : CueLine) → taken s line ≡ unless (after s line) (later_reason s line)
-unfolding taken later_reason
+pub taken_is : (s : CueState) (line : CueLine) → taken s line ≡ unless (after s line) (later_sheet_reason s line)
+unfolding taken later_sheet_reason
 taken_is s SaysNothing = refl
 taken_is s SaysFile = refl
 taken_is s (SaysCatalogue t) = once_is s.section.catalogue _
@@ -69,12 +69,12 @@ passed_is true placed answer first here = cc
 
 -- a command that stands well and is spelled well: the line that it says is taken, unless there is a reason against it
 pub obeyed_is : (s : CueState) (word : Option Command) (command : Command) (argument : List ℕ) (line : CueLine) (reason : Option CueWhy)
-    → word ≡ Some command → is_second_file s command ≡ false → is_placed s command ≡ true → said_by command argument ≡ Some line → later_reason s line ≡ reason
+    → word ≡ Some command → is_second_file s command ≡ false → is_placed s command ≡ true → said_by command argument ≡ Some line → later_sheet_reason s line ≡ reason
     → obeyed s word argument ≡ unless (after s line) reason
 obeyed_is s word command argument line reason named first here said is =
     ap (λ w. obeyed s w argument) named
-    ∙ (passed_is (is_second_file s command) (is_placed s command) (spelled s (said_by command argument)) first here
-    ∙ (ap (spelled s) said ∙ (taken_is s line ∙ ap (unless (after s line)) is)))
+    ∙ (passed_is (is_second_file s command) (is_placed s command) (spelled_line s (said_by command argument)) first here
+    ∙ (ap (spelled_line s) said ∙ (taken_is s line ∙ ap (unless (after s line)) is)))
 
 some_is : (s : CueState) (line : List ℕ) → 0 < length line
     → (if is_some_bytes line then obeyed s (command_named (first_word line)) (argument_of line) else Ok s) ≡ obeyed s (command_named (first_word line)) (argument_of line)
@@ -83,6 +83,6 @@ some_is s line some =
     ap (λ b. if b then obeyed s (command_named (first_word line)) (argument_of line) else Ok s) is
 
 -- a line that is not empty is its command and its argument
-pub step_is : (s : CueState) (line rest : List ℕ) → rest ≡ trimmed line → 0 < length rest → step s line ≡ obeyed s (command_named (first_word rest)) (argument_of rest)
+pub step_is : (s : CueState) (line rest : List ℕ) → rest ≡ trimmed line → 0 < length rest → sheet_step s line ≡ obeyed s (command_named (first_word rest)) (argument_of rest)
 step_is s line rest is some =
     ap (λ l. if is_some_bytes l then obeyed s (command_named (first_word l)) (argument_of l) else Ok s) (sym is) ∙ some_is s rest some

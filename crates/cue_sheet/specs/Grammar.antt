@@ -131,9 +131,9 @@ taken s (SaysIndex number time) =
     else Ok (record (with_index s number time) { latest = time }))
 
 -- what a line that is placed well makes of what was said, if it is spelled as it must be
-abbrev pub spelled : CueState → Option CueLine → Result CueState CueWhy
-spelled s None = Err BadArgument
-spelled s (Some line) = taken s line
+abbrev pub spelled_line : CueState → Option CueLine → Result CueState CueWhy
+spelled_line s None = Err BadArgument
+spelled_line s (Some line) = taken s line
 
 -- what a command, if it is one, and its argument make of what was said, or the first reason for which they are refused
 abbrev pub obeyed : CueState → Option Command → List ℕ → Result CueState CueWhy
@@ -141,12 +141,12 @@ obeyed s None argument = Err UnknownCommand
 obeyed s (Some command) argument =
     if is_second_file s command then Err SecondFile
     else (if not (is_placed s command) then Err Misplaced
-    else spelled s (said_by command argument))
+    else spelled_line s (said_by command argument))
 
 -- what a line of the text makes of what was said, or the first reason for which it is refused; an empty one changes
 -- nothing
-abbrev pub step : CueState → List ℕ → Result CueState CueWhy
-step s line =
+abbrev pub sheet_step : CueState → List ℕ → Result CueState CueWhy
+sheet_step s line =
     if is_some_bytes (trimmed line)
     then obeyed s (command_named (first_word (trimmed line))) (argument_of (trimmed line)) else Ok s
 
@@ -160,4 +160,4 @@ ended s =
 
 -- what a text is read as: its sheet, or its first line that is refused with the first reason
 abbrev pub read_cue : List ℕ → Result CueSheet (ℕ × CueWhy)
-read_cue text = read_on step ended 1 nothing_said (lines_of text)
+read_cue text = read_on sheet_step ended 1 nothing_said (lines_of text)

@@ -2,7 +2,7 @@
 use Rattle.std.specs.Prelude.{◌≡◌, Result, Ok, Err, ℕ, List, ◌++◌, max, Bool, false, not, Option, Some, None, is_some, true, nat_lt, if◌then◌else◌}
 use Rattle.cue_sheet.specs.CueSheet.{CueSheet, CueSection, sheet_from}
 use Rattle.cue_sheet.specs.CueLines.{CueLine, SaysNothing, SaysCatalogue, SaysFile, SaysTitle, SaysPerformer, SaysSongwriter, SaysTrack, SaysFlags, SaysIsrc, SaysPregap, SaysIndex, SaysPostgap, IsLineInRange}
-use Rattle.cue_sheet.specs.Grammar.{CueState, has_index_one, lacks_index, follows_number, follows_index, track_with, begun, with_index, in_section, obeyed, step}
+use Rattle.cue_sheet.specs.Grammar.{CueState, has_index_one, lacks_index, follows_number, follows_index, track_with, begun, with_index, in_section, obeyed, sheet_step}
 use Rattle.cue_sheet.specs.declared.command.Command.{Command}
 use Rattle.cue_sheet.specs.declared.fault.CueWhy.{CueWhy}
 use Rattle.cue_sheet.specs.declared.fault.CueWhy.TheVariants.{Repeated, NoIndex, NotAudio, NumberOrder, IndexOrder, TimeOrder, NoFile, NoTrack}
@@ -39,15 +39,15 @@ is_repeated s (SaysPostgap _) = is_some s.postgap
 is_repeated s _ = false
 
 -- the reason for which a line that is spelled and placed well is refused
-unfoldable pub later_reason : CueState → CueLine → Option CueWhy
-later_reason s (SaysTrack number audio) =
+unfoldable pub later_sheet_reason : CueState → CueLine → Option CueWhy
+later_sheet_reason s (SaysTrack number audio) =
     if lacks_index s then Some NoIndex
     else (if not audio then Some NotAudio
     else (if follows_number s.number number then None else Some NumberOrder))
-later_reason s (SaysIndex number time) =
+later_sheet_reason s (SaysIndex number time) =
     if follows_index s.section.indices number then (if nat_lt time s.latest then Some TimeOrder else None)
     else Some IndexOrder
-later_reason s line = if is_repeated s.section line then Some Repeated else None
+later_sheet_reason s line = if is_repeated s.section line then Some Repeated else None
 
 -- what is line_said after one more line, if it is not refused
 abbrev pub after : CueState → CueLine → CueState
@@ -83,16 +83,16 @@ sheet_said s = sheet_from s.album (s.tracks ++ track_with s.number s.section)
 -- what a check of a line answers
 abbrev pub IsCheckedLine : CueState → Option Command → List ℕ → Result Line CueWhy → Type 0
 IsCheckedLine s command argument (Ok line) = (obeyed s command argument ≡ Ok (after s (line_said line)))
-    × IsLineInRange (line_said line) × (later_reason s (line_said line) ≡ None)
+    × IsLineInRange (line_said line) × (later_sheet_reason s (line_said line) ≡ None)
 IsCheckedLine s command argument (Err why) = obeyed s command argument ≡ Err why
 
 -- what a whole line does to what is line_said
 pub data TakesLine (old : CueState) (line : List ℕ) (new : CueState) : Type 0 where
-  IsEmpty : step old line ≡ Ok new → new ≡ old → TakesLine old line new
-  Says : (line_said : CueLine) → step old line ≡ Ok new → IsLineInRange line_said
-      → later_reason old line_said ≡ None → new ≡ after old line_said → TakesLine old line new
+  IsEmpty : sheet_step old line ≡ Ok new → new ≡ old → TakesLine old line new
+  Says : (line_said : CueLine) → sheet_step old line ≡ Ok new → IsLineInRange line_said
+      → later_sheet_reason old line_said ≡ None → new ≡ after old line_said → TakesLine old line new
 
 -- why a line is not taken
 abbrev pub RefusesLine : CueState → ℕ → List ℕ → CueStop → Type 0
-RefusesLine old number line (Fault at why) = (at ≡ number) × (step old line ≡ Err why)
+RefusesLine old number line (Fault at why) = (at ≡ number) × (sheet_step old line ≡ Err why)
 RefusesLine old number line NoMemory = Unit {0}

@@ -43,7 +43,7 @@ impl Draft {
     ghost use Rattle.cue_sheet.specs.Grammar.{nothing_said, is_second_file, is_placed, read_cue};
     ghost use Rattle.cue_sheet.specs.Answers.{IsCueAnswer};
     ghost use Rattle.cue_sheet.specs.CueSheet.{IsSheet};
-    ghost use Rattle.cue_sheet.specs.Steps.{after, line_said, later_reason, end_reason, sheet_said, IsCheckedLine, TakesLine, RefusesLine};
+    ghost use Rattle.cue_sheet.specs.Steps.{after, line_said, later_sheet_reason, end_reason, sheet_said, IsCheckedLine, TakesLine, RefusesLine};
     ghost use Rattle.cue_sheet.specs.CueLines.{SaysTrack, SaysIndex, command_named};
     ghost use Rattle.text_lines.specs.Text.{first_word, argument_of};
 
@@ -87,9 +87,9 @@ impl Draft {
     }
 
     // Why a line that is spelled and placed well is refused.
-    #[tactic(auto, unfolding(crate::specs::Steps::later_reason))]
+    #[tactic(auto, unfolding(crate::specs::Steps::later_sheet_reason))]
     fn later_reason(&self, line: &Line<'_>) -> Option<CueWhy>
-        ensures { result ≡ later_reason self.now (line_said line.now) }
+        ensures { result ≡ later_sheet_reason self.now (line_said line.now) }
     {
         match line {
             Line::Track { number, audio } => self.track_reason(*number, *audio),
@@ -99,9 +99,9 @@ impl Draft {
         }
     }
 
-    #[tactic(auto, unfolding(crate::specs::Steps::later_reason))]
+    #[tactic(auto, unfolding(crate::specs::Steps::later_sheet_reason))]
     fn track_reason(&self, number: u8, audio: bool) -> Option<CueWhy>
-        ensures { result ≡ later_reason self.now (SaysTrack number audio) }
+        ensures { result ≡ later_sheet_reason self.now (SaysTrack number audio) }
     {
         if self.number.is_some() && !self.section.has_index_one() {
             return Some(CueWhy::NoIndex);
@@ -115,9 +115,9 @@ impl Draft {
         }
     }
 
-    #[tactic(auto, unfolding(crate::specs::Steps::later_reason))]
+    #[tactic(auto, unfolding(crate::specs::Steps::later_sheet_reason))]
     fn index_reason(&self, number: u8, time: u32) -> Option<CueWhy>
-        ensures { result ≡ later_reason self.now (SaysIndex number time) }
+        ensures { result ≡ later_sheet_reason self.now (SaysIndex number time) }
     {
         if !self.section.follows(number) {
             return Some(CueWhy::IndexOrder);

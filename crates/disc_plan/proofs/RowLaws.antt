@@ -9,7 +9,7 @@ use Rattle.std.proofs.lemmas.List.Sums.{count_by_more_no, count_by_more_yes}
 use Rattle.picture_script.specs.Script.{Drawing, pictures}
 use Rattle.pack_schedule.specs.Plans.{IsPlanRow}
 use Rattle.pack_schedule.specs.declared.planned.PlanRow.{PlanRow}
-use Rattle.disc_plan.specs.Rows.{is_late, no_row, told_row, AreToldRows, IsToldRow}
+use Rattle.disc_plan.specs.Rows.{is_late, no_disc_row, told_row, AreToldRows, IsToldRow}
 use Rattle.disc_plan.specs.declared.rows.PlannedRow.{PlannedRow}
 
 -- The rows of the first k pictures are written, of which so many are late; the lines still to come are these. The rows
@@ -47,22 +47,22 @@ module _ (script : List Drawing) (all : List ℕ) (before rows : List PlannedRow
 
   row_written : AreToldRows script all k rows → k < length rows → IsPlanRow script k plan → line ≡ get_or all k 0 → AreToldRows script all (k + 1) written
   row_written are inside is line_is j lt = elim (cases_lt j k) [
-    | inl earlier ↦ subst (IsToldRow script (get_or all j 0) j) (sym (get_or-set_other rows k j (told_row line plan) no_row (λ e. omega (arith, e, earlier)))) (are j earlier)
+    | inl earlier ↦ subst (IsToldRow script (get_or all j 0) j) (sym (get_or-set_other rows k j (told_row line plan) no_disc_row (λ e. omega (arith, e, earlier)))) (are j earlier)
     | inr from ↦
         let here : k ≡ j = omega (arith, lt, from) in
-        let told : IsToldRow script (get_or all k 0) k (get_or written k no_row) =
-        (plan, is, get_or-set_same rows k (told_row line plan) no_row inside ∙ ap (λ n. told_row n plan) line_is) in
-        subst (λ n. IsToldRow script (get_or all n 0) n (get_or written n no_row)) here told
+        let told : IsToldRow script (get_or all k 0) k (get_or written k no_disc_row) =
+        (plan, is, get_or-set_same rows k (told_row line plan) no_disc_row inside ∙ ap (λ n. told_row n plan) line_is) in
+        subst (λ n. IsToldRow script (get_or all n 0) n (get_or written n no_disc_row)) here told
   ]
 
   late_counted : (late late' : ℕ) (b : Bool) → plan.late ≡ b → late ≡ count_by is_late (take k rows) → late' ≡ late + (if b then 1 else 0) → k < length rows → late' ≡ count_by is_late (take (k + 1) written)
   late_counted late late' true is so_far more inside =
-      let at : is_late (get_or written k no_row) ≡ true = ap is_late (get_or-set_same rows k (told_row line plan) no_row inside) ∙ late_told line plan true is in
-      let one = count_by_more_yes is_late written k no_row (omega (arith, inside, length-set rows k (told_row line plan))) at in
+      let at : is_late (get_or written k no_disc_row) ≡ true = ap is_late (get_or-set_same rows k (told_row line plan) no_disc_row inside) ∙ late_told line plan true is in
+      let one = count_by_more_yes is_late written k no_disc_row (omega (arith, inside, length-set rows k (told_row line plan))) at in
       omega (arith, one, so_far, more, ap (count_by is_late) (take-set rows k (told_row line plan)))
   late_counted late late' false is so_far more inside =
-      let at : is_late (get_or written k no_row) ≡ false = ap is_late (get_or-set_same rows k (told_row line plan) no_row inside) ∙ late_told line plan false is in
-      let none = count_by_more_no is_late written k no_row (omega (arith, inside, length-set rows k (told_row line plan))) at in
+      let at : is_late (get_or written k no_disc_row) ≡ false = ap is_late (get_or-set_same rows k (told_row line plan) no_disc_row inside) ∙ late_told line plan false is in
+      let none = count_by_more_no is_late written k no_disc_row (omega (arith, inside, length-set rows k (told_row line plan))) at in
       omega (arith, none, so_far, more, ap (count_by is_late) (take-set rows k (told_row line plan)))
 
   if_most : (b : Bool) → (if b then 1 else 0) ≤ 1

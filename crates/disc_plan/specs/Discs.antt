@@ -23,8 +23,9 @@ pub record DiscTexts : Type 0 where
   pub audio : ℕ
 
 -- the disc of these
-abbrev pub disc_of : List ℕ → List ℕ → ℕ → ℕ → DiscTexts
-disc_of sheet script lead_in audio = record { sheet = sheet; script = script; lead_in = lead_in; audio = audio }
+abbrev pub planned_disc : List ℕ → List ℕ → ℕ → ℕ → DiscTexts
+planned_disc sheet script lead_in audio =
+    record { sheet = sheet; script = script; lead_in = lead_in; audio = audio }
 
 -- the texts of a disc are read as this sheet and this script
 abbrev pub IsReadAs : DiscTexts → CueSheet → List Drawing → Type 0
@@ -36,18 +37,19 @@ HasPlan disc sheet script = IsReadAs disc sheet script × HoldsPictures sheet sc
     × HasRoom sheet disc.lead_in
 
 -- why a text is no sheet
-abbrev pub IsSheetStop : List ℕ → PlanStop → Type 0
-IsSheetStop text SheetTooLong = most_text_bytes < length text
-IsSheetStop text (Sheet line why) = (length text ≤ most_text_bytes) × (read_cue text ≡ Err (line, why))
-IsSheetStop text NoMemory = ⊤
-IsSheetStop text _ = ⊥
+abbrev pub IsPlanSheetStop : List ℕ → PlanStop → Type 0
+IsPlanSheetStop text SheetTooLong = most_text_bytes < length text
+IsPlanSheetStop text (Sheet line why) = (length text ≤ most_text_bytes) × (read_cue text ≡ Err (line, why))
+IsPlanSheetStop text NoMemory = ⊤
+IsPlanSheetStop text _ = ⊥
 
 -- why a text is no script
-abbrev pub IsScriptStop : List ℕ → PlanStop → Type 0
-IsScriptStop text ScriptTooLong = most_text_bytes < length text
-IsScriptStop text (Script line why) = (length text ≤ most_text_bytes) × (read_script text ≡ Err (line, why))
-IsScriptStop text NoMemory = ⊤
-IsScriptStop text _ = ⊥
+abbrev pub IsPlanScriptStop : List ℕ → PlanStop → Type 0
+IsPlanScriptStop text ScriptTooLong = most_text_bytes < length text
+IsPlanScriptStop text (Script line why) =
+    (length text ≤ most_text_bytes) × (read_script text ≡ Err (line, why))
+IsPlanScriptStop text NoMemory = ⊤
+IsPlanScriptStop text _ = ⊥
 
 -- why a disc has no plan in so many rows: each reason comes only where those before it do not hold
 abbrev pub IsPlanStop : DiscTexts → ℕ → PlanStop → Type 0
@@ -57,10 +59,10 @@ IsPlanStop disc room (NoRoom count blocks) = (sheet : CueSheet) × (script : Lis
     × HasPlan disc sheet script
     × (count ≡ pictures script) × (blocks ≡ program_blocks sheet disc.audio) × (room < count)
 IsPlanStop disc room ScriptTooLong = (sheet : CueSheet) × (read_cue disc.sheet ≡ Ok sheet)
-    × IsScriptStop disc.script ScriptTooLong
+    × IsPlanScriptStop disc.script ScriptTooLong
 IsPlanStop disc room (Script line why) = (sheet : CueSheet) × (read_cue disc.sheet ≡ Ok sheet)
-    × IsScriptStop disc.script (Script line why)
-IsPlanStop disc room stop = IsSheetStop disc.sheet stop
+    × IsPlanScriptStop disc.script (Script line why)
+IsPlanStop disc room stop = IsPlanSheetStop disc.sheet stop
 
 -- The rows of a disc, and what is told of it.
 pub record IsPlan (disc : DiscTexts) (rows : List PlannedRow) (told : PlannedDisc) : Type 0 where

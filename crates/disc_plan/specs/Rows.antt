@@ -5,8 +5,8 @@ use Rattle.pack_schedule.specs.Plans.{IsPlanRow}
 use Rattle.pack_schedule.specs.declared.planned.PlanRow.{PlanRow}
 use Rattle.disc_plan.specs.declared.rows.PlannedRow.{PlannedRow}
 
-abbrev pub no_row : PlannedRow
-no_row = record { line = 0; ready = 0; hold = 0; need = 0; free = 0; first = 0; late = 0 }
+abbrev pub no_disc_row : PlannedRow
+no_disc_row = record { line = 0; ready = 0; hold = 0; need = 0; free = 0; first = 0; late = 0 }
 
 -- the row of a picture whose `show` stands on this line
 abbrev pub told_row : ℕ → PlanRow → PlannedRow
@@ -31,4 +31,4 @@ IsToldRow script line k row = (plan : PlanRow) × IsPlanRow script k plan × (ro
 -- the rows of the first pictures, whose `show` lines are these
 abbrev pub AreToldRows : List Drawing → List ℕ → ℕ → List PlannedRow → Type 0
 AreToldRows script lines count rows = (k : ℕ) → k < count
-    → IsToldRow script (slice_index lines k) k (slice_index_or rows k no_row)
+    → IsToldRow script (slice_index lines k) k (slice_index_or rows k no_disc_row)

@@ -24,7 +24,8 @@ told_plan disc = record {
 
 -- of a disc that has none: the reason, its line and its number
 abbrev pub refusal : ℕ → ℕ → ℕ → Planned
-refusal why line number = record { pictures = 0; blocks = 0; late = 0; why = why; line = line; number = number }
+refusal why line number =
+    record { pictures = 0; blocks = 0; late = 0; why = why; line = line; number = number }
 
 -- the number of the reason for which a line of a sheet is refused
 abbrev pub cue_number : CueWhy → ℕ

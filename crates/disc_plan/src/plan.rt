@@ -1,7 +1,7 @@
 // The plan of a disc.
 ghost use Rattle.std.specs.Prelude.{◌≡◌, ◌≤◌, OnErr, IfErr, IfOk, drop, length};
 ghost use Rattle.disc_time.specs.Counts.{most_program};
-ghost use Rattle.disc_plan.specs.Discs.{disc_of, IsPlan, IsPlanStop};
+ghost use Rattle.disc_plan.specs.Discs.{planned_disc, IsPlan, IsPlanStop};
 
 use crate::disc::PlannedDisc;
 use crate::reading::{read_script, read_sheet};
@@ -26,9 +26,10 @@ pub fn plan_disc(
     rows: &mut [PlannedRow],
 ) -> Result<PlannedDisc, PlanStop>
     requires { audio ≤ most_program }
-    ensures plan { IfOk result (IsPlan (disc_of sheet.now script.now lead_in audio) rows.new) }
+    ensures plan { IfOk result (IsPlan (planned_disc sheet.now script.now lead_in audio) rows.new) }
     ensures rest { IfOk result (λ told. drop told.pictures rows.new ≡ drop told.pictures rows.old) }
-    ensures stop { IfErr result (IsPlanStop (disc_of sheet.now script.now lead_in audio) (length rows.old)) }
+    ensures stop { IfErr result (IsPlanStop (planned_disc sheet.now script.now lead_in audio)
+        (length rows.old)) }
     ensures untouched { OnErr result (rows.new ≡ rows.old) }
 {
     let cues = read_sheet(alloc, sheet)?;

@@ -3,7 +3,7 @@ ghost use Rattle.std.specs.Prelude.{◌≡◌, ◌≢◌, ◌<◌, ◌≤◌, Ok
 ghost use Rattle.text_lines.specs.Text.{most_text_bytes};
 ghost use Rattle.cue_sheet.specs.Grammar.{read_cue};
 ghost use Rattle.picture_script.specs.ScriptGrammar.{read_script};
-ghost use Rattle.disc_plan.specs.Discs.{IsSheetStop, IsScriptStop};
+ghost use Rattle.disc_plan.specs.Discs.{IsPlanSheetStop, IsPlanScriptStop};
 
 use crate::stops::PlanStop;
 use cue_sheet::{CueStop, Sheet};
@@ -14,7 +14,7 @@ use text_lines::MOST_TEXT_BYTES;
 /// What the text of a cue sheet says, or why it is refused.
 pub(crate) fn read_sheet(alloc: Global, text: &[u8]) -> Result<Sheet, PlanStop>
     ensures read { IfOk result (λ sheet. read_cue text.now ≡ Ok sheet) }
-    ensures stop { IfErr result (IsSheetStop text.now) }
+    ensures stop { IfErr result (IsPlanSheetStop text.now) }
 {
     if text.len() > MOST_TEXT_BYTES {
         return Err(PlanStop::SheetTooLong);
@@ -30,7 +30,7 @@ pub(crate) fn read_sheet(alloc: Global, text: &[u8]) -> Result<Sheet, PlanStop>
 pub(crate) fn read_script(alloc: Global, text: &[u8]) -> Result<Script, PlanStop>
     ensures read { IfOk result (λ script. read_script text.now ≡ Ok script) }
     ensures few { IfOk result (λ _. length text.now ≤ most_text_bytes) }
-    ensures stop { IfErr result (IsScriptStop text.now) }
+    ensures stop { IfErr result (IsPlanScriptStop text.now) }
 {
     if text.len() > MOST_TEXT_BYTES {
         return Err(PlanStop::ScriptTooLong);

@@ -25,7 +25,7 @@ use Rattle.stream_stages.proofs.StageRuns.{all_items}
 use Rattle.stream_stages.proofs.PlayRuns.{gives_few}
 use Rattle.stream_stages.proofs.FormWords.{found_in, recovered}
 use Rattle.stream_stages.proofs.Draws.{instrs_of, are_meant, are_drawn}
-use Rattle.live_player.specs.Lives.{Given, HasPlayed, IsLiveView, IsLiveViewAt, blocks_in, drawn_for, instruction_of, instructions_in, instructions_of, meant_by, packs_in, standing_on, stream_words, words_with}
+use Rattle.live_player.specs.Lives.{Given, HasPlayed, IsLiveView, IsLiveViewAt, blocks_in, drawn_for, instruction_of, instructions_in, instructions_of, meant_by, packs_given, standing_on, stream_words, words_with}
 use Rattle.live_player.specs.Lives.Given.{Drawn, Fed}
 use Rattle.live_player.specs.declared.live.LivePlayer.{LivePlayer}
 use Rattle.live_player.proofs.Words.{nothing_after, no_words_yet, words_come, words_go_on, words_of_stream}
@@ -112,22 +112,22 @@ sized_before (y ∷ ys) x sized = let rest = sized_before ys x sized.1 in ((size
 not_none : {A : Type 0} (xs : List A) (x : A) → xs ++ x ∷ [] ≡ [] → ⊥
 not_none {A} xs x none = omega (arith, length-append xs (x ∷ []), ap (λ (l : List A). length l) none)
 
-all_drawn : (form : Form) (lead_in : ℕ) (given : List Given) → Sized 96 (blocks_in given) → packs_in given ≡ [] → instructions_in form lead_in given ≡ instructions_of (stream_words form lead_in (blocks_in given))
+all_drawn : (form : Form) (lead_in : ℕ) (given : List Given) → Sized 96 (blocks_in given) → packs_given given ≡ [] → instructions_in form lead_in given ≡ instructions_of (stream_words form lead_in (blocks_in given))
 all_drawn form lead_in [] sized none = ap instructions_of (sym (no_words_yet form lead_in))
 all_drawn form lead_in (Fed block ∷ before) sized none =
     let parts = sized_before (blocks_in before) block sized in
     ap (λ l. l ++ instructions_of (words_with form lead_in (blocks_in before) block)) (all_drawn form lead_in before parts.0 none)
     ∙ sym (instructions_append (stream_words form lead_in (blocks_in before)) (words_with form lead_in (blocks_in before) block))
     ∙ ap instructions_of (sym (words_go_on form lead_in (blocks_in before) block parts.1 parts.0))
-all_drawn form lead_in (Drawn pack ∷ before) sized none = absurd (not_none (packs_in before) pack none)
+all_drawn form lead_in (Drawn pack ∷ before) sized none = absurd (not_none (packs_given before) pack none)
 
-packs_drawn : (form : Form) (lead_in : ℕ) (given : List Given) → blocks_in given ≡ [] → instructions_in form lead_in given ≡ map instruction_of (packs_in given)
+packs_drawn : (form : Form) (lead_in : ℕ) (given : List Given) → blocks_in given ≡ [] → instructions_in form lead_in given ≡ map instruction_of (packs_given given)
 packs_drawn form lead_in [] none = refl
 packs_drawn form lead_in (Fed block ∷ before) none = absurd (not_none (blocks_in before) block none)
 packs_drawn form lead_in (Drawn pack ∷ before) none =
-    ap (λ l. l ++ instruction_of pack ∷ []) (packs_drawn form lead_in before none) ∙ sym (map-append instruction_of (packs_in before) (pack ∷ []))
+    ap (λ l. l ++ instruction_of pack ∷ []) (packs_drawn form lead_in before none) ∙ sym (map-append instruction_of (packs_given before) (pack ∷ []))
 
-pub live_view : (form : Form) (lead_in : ℕ) (given : List Given) (player : LivePlayer) → HasPlayed form lead_in given player → packs_in given ≡ [] → IsLiveView form lead_in (blocks_in given) (standing_on player)
+pub live_view : (form : Form) (lead_in : ℕ) (given : List Given) (player : LivePlayer) → HasPlayed form lead_in given player → packs_given given ≡ [] → IsLiveView form lead_in (blocks_in given) (standing_on player)
 live_view form lead_in given player played none =
     let blocks : List (List ℕ) = blocks_in given in
     let found : List (Option (List ℕ)) = found_in form (drop lead_in blocks) in
@@ -141,7 +141,7 @@ live_view form lead_in given player played none =
     }
 
 -- of a raw stream, all packs that came are whole where the program is
-pub live_view_now : (lead_in : ℕ) (given : List Given) (player : LivePlayer) → HasPlayed Raw lead_in given player → packs_in given ≡ []
+pub live_view_now : (lead_in : ℕ) (given : List Given) (player : LivePlayer) → HasPlayed Raw lead_in given player → packs_given given ≡ []
     → IsLiveViewAt Raw lead_in (length (blocks_in given) - lead_in) (blocks_in given) (standing_on player)
 live_view_now lead_in given player played none =
     let blocks : List (List ℕ) = blocks_in given in
@@ -159,5 +159,5 @@ live_view_now lead_in given player played none =
       stands = view.stands;
     }
 
-pub packs_view : (form : Form) (lead_in : ℕ) (given : List Given) (player : LivePlayer) → HasPlayed form lead_in given player → blocks_in given ≡ [] → standing_on player ≡ standing_after blank (map instruction_of (packs_in given))
+pub packs_view : (form : Form) (lead_in : ℕ) (given : List Given) (player : LivePlayer) → HasPlayed form lead_in given player → blocks_in given ≡ [] → standing_on player ≡ standing_after blank (map instruction_of (packs_given given))
 packs_view form lead_in given player played none = played.stands ∙ ap (standing_after blank) (packs_drawn form lead_in given none)

@@ -59,10 +59,10 @@ blocks_in (Fed block ∷ before) = blocks_in before ++ block ∷ []
 blocks_in (Drawn pack ∷ before) = blocks_in before
 
 -- the packs among it, in order
-abbrev pub packs_in : List Given → List (List ℕ)
-packs_in [] = []
-packs_in (Fed block ∷ before) = packs_in before
-packs_in (Drawn pack ∷ before) = packs_in before ++ pack ∷ []
+abbrev pub packs_given : List Given → List (List ℕ)
+packs_given [] = []
+packs_given (Fed block ∷ before) = packs_given before
+packs_given (Drawn pack ∷ before) = packs_given before ++ pack ∷ []
 
 -- the instructions of all of it, in order: those of the words that come with each block, and that of each pack
 abbrev pub instructions_in : Form → ℕ → List Given → List Instr
@@ -89,7 +89,8 @@ pub record IsLiveView (form : Form) (lead_in : ℕ) (blocks : List (List ℕ)) (
   pub stands : now ≡ standing_after blank instrs
 
 -- what these blocks show at a moment: the packs that are whole then, drawn in the same way
-pub record IsLiveViewAt (form : Form) (lead_in time : ℕ) (blocks : List (List ℕ)) (now : Standing) : Type 0 where
+pub record IsLiveViewAt (form : Form) (lead_in time : ℕ) (blocks : List (List ℕ))
+    (now : Standing) : Type 0 where
   pub found : List (Option (List ℕ))
   pub recovered : IsRecovered form (flat_map symbols_of (drop lead_in blocks)) found
   pub instrs : List Instr
@@ -103,5 +104,6 @@ drawn_for (Some words) = instructions_of words.items
 
 -- byte n of the picture: red, green or blue of the colour of pixel n / 3, of the pixels row by row
 unfoldable pub picture_byte : Standing → ℕ → ℕ
-picture_byte now n = slice_index (colour_bytes (slice_index now.colours (screen_pixel now (n / 3 % 300) (n / 3 / 300))))
+picture_byte now n =
+    slice_index (colour_bytes (slice_index now.colours (screen_pixel now (n / 3 % 300) (n / 3 / 300))))
     (n % 3)

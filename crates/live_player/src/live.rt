@@ -3,7 +3,7 @@ ghost use Rattle.std.specs.Prelude.{◌≡◌, ◌<◌, ◌≤◌, ◌-◌, ◌/
 ghost use Rattle.cdg_screen.specs.Picture.{blank, screen_pixel, standing_after};
 ghost use Rattle.raw_subcode.specs.declared.form.Form.{Form};
 ghost use Rattle.stream_stages.specs.Steps.{words_next, words_give};
-ghost use Rattle.live_player.specs.Lives.{Given, blocks_in, drawn_for, instruction_of, packs_in, picture_byte, standing_on, stream_words, HasPlayed, IsLiveView, IsLiveViewAt};
+ghost use Rattle.live_player.specs.Lives.{Given, blocks_in, drawn_for, instruction_of, packs_given, picture_byte, standing_on, stream_words, HasPlayed, IsLiveView, IsLiveViewAt};
 ghost use Rattle.live_player.specs.Lives.Given.{Drawn, Fed};
 ghost use Rattle.live_player.specs.Parts.{HasRoomFor, IsOnScreen, ShowsPart};
 
@@ -113,11 +113,11 @@ impl LivePlayer {
     /// A law: where no packs were drawn in between, what stands is what the blocks since the start show.
     pub fn shows_its_blocks(&self)
         ensures last { (form : Form) (lead_in : ℕ) (given : List Given)
-            → HasPlayed form lead_in given self.now → packs_in given ≡ []
+            → HasPlayed form lead_in given self.now → packs_given given ≡ []
             → IsLiveView form lead_in (blocks_in given) (standing_on self.now) }
         // Of a raw stream it is what stands at the moment that the program has come to.
         ensures so_far { (lead_in : ℕ) (given : List Given) → HasPlayed Form.Raw lead_in given self.now
-            → packs_in given ≡ [] → IsLiveViewAt Form.Raw lead_in (length (blocks_in given) - lead_in)
+            → packs_given given ≡ [] → IsLiveViewAt Form.Raw lead_in (length (blocks_in given) - lead_in)
             (blocks_in given) (standing_on self.now) }
     {}
 
@@ -125,7 +125,7 @@ impl LivePlayer {
     pub fn shows_its_packs(&self)
         ensures { (form : Form) (lead_in : ℕ) (given : List Given)
             → HasPlayed form lead_in given self.now → blocks_in given ≡ []
-            → standing_on self.now ≡ standing_after blank (map instruction_of (packs_in given)) }
+            → standing_on self.now ≡ standing_after blank (map instruction_of (packs_given given)) }
     {}
 
     // The picture that is drawn.

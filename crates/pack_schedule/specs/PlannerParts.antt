@@ -7,7 +7,8 @@ use Rattle.pack_schedule.specs.Weights.{AreWeights}
 use Rattle.pack_schedule.specs.declared.weights.Weighed.{Weighed}
 
 -- the picture before picture k stands on both canvases, and what is kept of its tiles
-pub record IsBeforePicture (script : List Drawing) (k : ℕ) (before now : Board) (weights : List Weighed) : Type 0 where
+pub record IsBeforePicture (script : List Drawing) (k : ℕ) (before now : Board)
+    (weights : List Weighed) : Type 0 where
   pub k_most : k ≤ pictures script
   pub before_stands : Stands script k before
   pub now_stands : Stands script k now

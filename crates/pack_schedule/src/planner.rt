@@ -63,7 +63,8 @@ impl<'a> Planner<'a> {
         ensures some { IsSome result ↔ (self.old.given < pictures self.old.script) }
         ensures script { self.new.script ≡ self.old.script }
         ensures given { self.new.given
-            ≡ (if nat_lt self.old.given (pictures self.old.script) then self.old.given + 1 else self.old.given) }
+            ≡ (if nat_lt self.old.given (pictures self.old.script) then self.old.given + 1
+            else self.old.given) }
     {
         if self.given == self.script.pictures() {
             return None;

@@ -4,7 +4,7 @@ use Rattle.std.specs.declared.option.Option.{Option}
 use Rattle.std.specs.List.{AllByRecursion}
 use Rattle.std.proofs.lemmas.List.{get_or-replicate}
 use Rattle.std.proofs.lemmas.List.FromFn.{length-map-range_with_len, get_or-map-range_with_len}
-use Rattle.cdg_instructions.specs.Drawing.{IsOfPlace, drawn, tile_colour, tile_from}
+use Rattle.cdg_instructions.specs.Drawing.{IsOfPlace, drawn_pixel, tile_colour, tile_from}
 use Rattle.cdg_instructions.specs.declared.instr.Instr.{Instr}
 use Rattle.cdg_instructions.specs.declared.instr.Instr.TheVariants.{MemoryPreset, SetTile, XorTile, ScrollPreset, ScrollCopy}
 use Rattle.cdg_screen.specs.Picture.{covers, memory_from}
@@ -52,7 +52,7 @@ own_tile start row column old (SetTile colour0 colour1 r' c' lines ∷ before) r
     let across : tile_x column p % 6 ≡ p % 6 = omega arith in
     let down : tile_y row p % 12 ≡ p / 6 = omega (arith, lt) in
     ap (λ t. cond t drawn_pixel old_pixel) here ∙ ap₂ (tile_colour colour0 colour1 lines) across down
-    ∙ sym (get_or-map-range_with_len (drawn colour0 colour1 lines) 0 72 p p 0 lt (omega arith))
+    ∙ sym (get_or-map-range_with_len (drawn_pixel colour0 colour1 lines) 0 72 p p 0 lt (omega arith))
     ∙ sym (ap (λ t. get_or (tile_from base (cond t (SetTile colour0 colour1 r' c' lines ∷ rest) rest)) p 0) yes))
     (λ other.
     let away : covers r' c' (tile_x column p) (tile_y row p) ≡ false = covers_only r' c' row column p lt (λ e f. absurd (let yes = are_eq r' row c' column e f in cc)) in
@@ -69,7 +69,7 @@ own_tile start row column old (XorTile colour0 colour1 r' c' lines ∷ before) r
     let across : tile_x column p % 6 ≡ p % 6 = omega arith in
     let down : tile_y row p % 12 ≡ p / 6 = omega (arith, lt) in
     ap (λ t. cond t (bit_xor drawn_pixel old_pixel) old_pixel) here ∙ ap₂ bit_xor (ap₂ (tile_colour colour0 colour1 lines) across down) (own_tile start row column old before r c all.1 holds p lt)
-    ∙ sym (get_or-map-range_with_len (λ q. bit_xor (drawn colour0 colour1 lines q) (get_or (tile_from base rest) q 0)) 0 72 p p 0 lt (omega arith))
+    ∙ sym (get_or-map-range_with_len (λ q. bit_xor (drawn_pixel colour0 colour1 lines q) (get_or (tile_from base rest) q 0)) 0 72 p p 0 lt (omega arith))
     ∙ sym (ap (λ t. get_or (tile_from base (cond t (XorTile colour0 colour1 r' c' lines ∷ rest) rest)) p 0) yes))
     (λ other.
     let away : covers r' c' (tile_x column p) (tile_y row p) ≡ false = covers_only r' c' row column p lt (λ e f. absurd (let yes = are_eq r' row c' column e f in cc)) in
@@ -103,6 +103,6 @@ own_placed row column (_ ∷ before) all = own_placed row column before all.1
 pub length-tile_from : (row column : ℕ) (old : List ℕ) (before : List Instr) → AllByRecursion (IsOfPlace row column) before → length old ≡ 72 → length (tile_from old before) ≡ 72
 unfolding tile_from
 length-tile_from row column old [] all size = size
-length-tile_from row column old (SetTile colour0 colour1 r c lines ∷ before) all size = length-map-range_with_len (drawn colour0 colour1 lines) 0 72
-length-tile_from row column old (XorTile colour0 colour1 r c lines ∷ before) all size = length-map-range_with_len (λ q. bit_xor (drawn colour0 colour1 lines q) (get_or (tile_from old before) q 0)) 0 72
+length-tile_from row column old (SetTile colour0 colour1 r c lines ∷ before) all size = length-map-range_with_len (drawn_pixel colour0 colour1 lines) 0 72
+length-tile_from row column old (XorTile colour0 colour1 r c lines ∷ before) all size = length-map-range_with_len (λ q. bit_xor (drawn_pixel colour0 colour1 lines q) (get_or (tile_from old before) q 0)) 0 72
 length-tile_from row column old (_ ∷ before) all size = absurd all.0

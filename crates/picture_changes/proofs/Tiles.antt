@@ -7,7 +7,7 @@ use Rattle.std.proofs.lemmas.List.{reverse-append}
 use Rattle.std.proofs.lemmas.List.Elements.{recursion_from_All}
 use Rattle.std.proofs.lemmas.List.FromFn.{get_or-map-range_with_len}
 use Rattle.bit_lists.specs.Counting.{below}
-use Rattle.cdg_instructions.specs.Drawing.{IsOfPlace, drawn, tile_colour, tile_from, Turns}
+use Rattle.cdg_instructions.specs.Drawing.{IsOfPlace, drawn_pixel, tile_colour, tile_from, Turns}
 use Rattle.cdg_instructions.specs.declared.instr.Instr.{Instr}
 use Rattle.cdg_instructions.specs.declared.instr.Instr.TheVariants.{SetTile, XorTile}
 use Rattle.std.specs.Prelude.{slice_index}
@@ -86,7 +86,7 @@ tile_memory start row column old (SetTile colour0 colour1 row' column' lines ∷
     let down : tile_y row p % 12 ≡ p / 6 = omega (arith, lt) in
     ap (λ t. cond t (tile_colour colour0 colour1 lines (tile_x column p % 6) (tile_y row p % 12)) (memory_from start before (tile_x column p) (tile_y row p))) here
     ∙ ap₂ (tile_colour colour0 colour1 lines) across down
-    ∙ sym (get_or-map-range_with_len (drawn colour0 colour1 lines) 0 72 p p 0 lt (omega arith))
+    ∙ sym (get_or-map-range_with_len (drawn_pixel colour0 colour1 lines) 0 72 p p 0 lt (omega arith))
 tile_memory start row column old (XorTile colour0 colour1 row' column' lines ∷ before) r c all holds p lt =
     let here : covers row' column' (tile_x column p) (tile_y row p) ≡ true = ap₂ (λ a b. covers a b (tile_x column p) (tile_y row p)) all.0.0 all.0.1 ∙ covers_here row column p r c lt in
     let across : tile_x column p % 6 ≡ p % 6 = omega arith in
@@ -94,7 +94,7 @@ tile_memory start row column old (XorTile colour0 colour1 row' column' lines ∷
     let old_pixel : ℕ = memory_from start before (tile_x column p) (tile_y row p) in
     ap (λ t. cond t (bit_xor (tile_colour colour0 colour1 lines (tile_x column p % 6) (tile_y row p % 12)) (memory_from start before (tile_x column p) (tile_y row p))) (memory_from start before (tile_x column p) (tile_y row p))) here
     ∙ ap₂ bit_xor (ap₂ (tile_colour colour0 colour1 lines) across down) (tile_memory start row column old before r c all.1 holds p lt)
-    ∙ sym (get_or-map-range_with_len (λ p. bit_xor (drawn colour0 colour1 lines p) (get_or (tile_from old before) p 0)) 0 72 p p 0 lt (omega arith))
+    ∙ sym (get_or-map-range_with_len (λ p. bit_xor (drawn_pixel colour0 colour1 lines p) (get_or (tile_from old before) p 0)) 0 72 p p 0 lt (omega arith))
 tile_memory start row column old (_ ∷ before) r c all holds p lt = absurd all.0
 
 other_memory : (start : ℕ → ℕ → ℕ) (row column : ℕ) (before : List Instr) (x y : ℕ) → AllByRecursion (IsOfPlace row column) before → covers row column x y ≡ false → memory_from start before x y ≡ start x y

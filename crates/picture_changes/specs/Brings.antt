@@ -59,7 +59,8 @@ pub record Brings (script : List Drawing) (k : ℕ) (now : Standing) (instrs : L
 -- a change for picture k: it brings the picture from whatever may stand before it, and no list brings it from any of that with fewer instructions
 pub record IsChange (script : List Drawing) (k : ℕ) (instrs : List Instr) : Type 0 where
   pub brings : (now : Standing) → IsBefore script k now → Brings script k now instrs
-  pub shortest : (now : Standing) (others : List Instr) → IsBefore script k now → Brings script k now others → length instrs ≤ length others
+  pub shortest : (now : Standing) (others : List Instr) → IsBefore script k now → Brings script k now others
+      → length instrs ≤ length others
 
 -- the number of instructions that picture k needs: the fewest that bring it
 abbrev pub IsNeed : List Drawing → ℕ → ℕ → Type 0

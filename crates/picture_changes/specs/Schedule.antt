@@ -29,9 +29,11 @@ pub record IsSchedule (script : List Drawing) (blocks : ℕ) (packs : List (List
   pub change : (k : ℕ) → k < pictures script → IsChange script k (slice_index_or changes k [])
   pub fits : (k : ℕ) → k < pictures script → IsInTime script k (length (slice_index_or changes k []))
   pub written : (k j : ℕ) → k < pictures script → j < length (slice_index_or changes k []) →
-      IsWritten (slice_index_or (slice_index_or changes k []) j Idle) (slice_index_or packs (start_of script k + j) [])
+      IsWritten (slice_index_or (slice_index_or changes k []) j Idle)
+      (slice_index_or packs (start_of script k + j) [])
   pub others : (n : ℕ) → n < whole_packs blocks →
-      ((k : ℕ) → k < pictures script → (n < start_of script k) ⊎ (start_of script k + length (slice_index_or changes k []) ≤ n)) →
+      ((k : ℕ) → k < pictures script
+      → (n < start_of script k) ⊎ (start_of script k + length (slice_index_or changes k []) ≤ n)) →
       slice_index_or packs n [] ≡ idle_pack
 
 -- picture k is the first that does not fit

@@ -6,7 +6,7 @@ use Rattle.std.proofs.lemmas.Bool.Decides.{nat_tests}
 use Rattle.text_lines.specs.Text.{words_in, lines_in, without_mark}
 use Rattle.text_lines.proofs.ReadOn.{read_on-taken, read_on-refused, read_on-end}
 use Rattle.picture_script.specs.Script.{Drawing, Colour, Border, Fill, Rect, Row, Show, pictures}
-use Rattle.picture_script.specs.ScriptGrammar.{read_script, step, grown, checked_lines, checked_words, is_passed_over, checked_command, colour_line, row_line, show_line, checked_line, is_in_range, is_after_hold, unless_refused, numbers_in, border_line, fill_line, rect_line, border_of, fill_of, rect_of}
+use Rattle.picture_script.specs.ScriptGrammar.{read_script, script_step, grown, checked_lines, checked_words, is_passed_over, checked_command, colour_line, row_line, show_line, checked_line, is_in_range, is_after_hold, unless_refused, numbers_in, border_line, fill_line, rect_line, border_of, fill_of, rect_of}
 use Rattle.picture_script.specs.Stops.{IsRead, IsRefused}
 use Rattle.picture_script.specs.Lines.{said_in, IsSound, Adds, Stops, Takes}
 use Rattle.picture_script.specs.declared.draft.Draft.{Draft}
@@ -170,14 +170,14 @@ test_is command text slice found b same test h = ap (bytes_eq command) (sym same
 
 -- The lines in turn.
 
-pub one_taken : (number : ℕ) (old new : List Drawing) (line : List ℕ) (rest : List (List ℕ)) → step old line ≡ Ok new → checked_lines number old (line ∷ rest) ≡ checked_lines (number + 1) new rest
+pub one_taken : (number : ℕ) (old new : List Drawing) (line : List ℕ) (rest : List (List ℕ)) → script_step old line ≡ Ok new → checked_lines number old (line ∷ rest) ≡ checked_lines (number + 1) new rest
 unfolding checked_lines
-one_taken number old new line rest h = read_on-taken step (λ script. Ok script) number old new line rest h
+one_taken number old new line rest h = read_on-taken script_step (λ script. Ok script) number old new line rest h
 
-pub step_passed : (before : List Drawing) (line : List ℕ) → is_passed_over line ≡ true → step before line ≡ Ok before
+pub step_passed : (before : List Drawing) (line : List ℕ) → is_passed_over line ≡ true → script_step before line ≡ Ok before
 step_passed before line h = ap (λ b. if b then Ok before else grown before (checked_words before (words_in line))) h
 
-pub step_heard : (before : List Drawing) (line : List ℕ) → is_passed_over line ≡ false → step before line ≡ grown before (checked_words before (words_in line))
+pub step_heard : (before : List Drawing) (line : List ℕ) → is_passed_over line ≡ false → script_step before line ≡ grown before (checked_words before (words_in line))
 step_heard before line h = ap (λ b. if b then Ok before else grown before (checked_words before (words_in line))) h
 
 pub passed : (number : ℕ) (before : List Drawing) (line : List ℕ) (rest : List (List ℕ)) → is_passed_over line ≡ true → checked_lines number before (line ∷ rest) ≡ checked_lines (number + 1) before rest
@@ -190,7 +190,7 @@ accepted number old new line rest h grow = one_taken number old new line rest (s
 pub refused : (number : ℕ) (old : List Drawing) (line : List ℕ) (rest : List (List ℕ)) (why : ScriptWhy) → is_passed_over line ≡ false → checked_words old (words_in line) ≡ Err why
     → checked_lines number old (line ∷ rest) ≡ Err (number, why)
 unfolding checked_lines
-refused number old line rest why h stops = read_on-refused step (λ script. Ok script) number old why line rest (step_heard old line h ∙ ap (grown old) stops)
+refused number old line rest why h stops = read_on-refused script_step (λ script. Ok script) number old why line rest (step_heard old line h ∙ ap (grown old) stops)
 
 -- A line is read.
 
@@ -222,4 +222,4 @@ reading_begins text draft h = ap (λ before. checked_lines 1 before (lines_in (w
 
 pub reading_ends : (number : ℕ) (before : List Drawing) (lines : List (List ℕ)) → lines ≡ [] → checked_lines number before lines ≡ Ok before
 unfolding checked_lines
-reading_ends number before lines h = ap (checked_lines number before) h ∙ read_on-end step (λ script. Ok script) number before
+reading_ends number before lines h = ap (checked_lines number before) h ∙ read_on-end script_step (λ script. Ok script) number before

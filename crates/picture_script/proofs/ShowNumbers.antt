@@ -7,7 +7,7 @@ use Rattle.std.proofs.lemmas.List.Elements.{filter_map-append}
 use Rattle.text_lines.specs.Text.{words_in, lines_of}
 use Rattle.text_lines.proofs.ReadOn.{read_on-refused}
 use Rattle.picture_script.specs.Script.{Drawing, Colour, Border, Fill, Rect, Row, Show, shows, shown_times, pictures}
-use Rattle.picture_script.specs.ScriptGrammar.{read_script, step, grown, checked_lines, checked_words, checked_command, checked_line, unless_refused, later_reason, is_passed_over, colour_line, colour_of, border_line, border_of, fill_line, fill_of, rect_line, rect_of, row_line, row_of, show_line, show_of, numbers_in, small_number, colour_in, pixels_in}
+use Rattle.picture_script.specs.ScriptGrammar.{read_script, script_step, grown, checked_lines, checked_words, checked_command, checked_line, unless_refused, later_reason, is_passed_over, colour_line, colour_of, border_line, border_of, fill_line, fill_of, rect_line, rect_of, row_line, row_of, show_line, show_of, numbers_in, small_number, colour_in, pixels_in}
 use Rattle.text_lines.specs.Text.{parsed_time}
 use Rattle.picture_script.specs.ShowLines.{is_show_line, show_lines, show_lines_from}
 use Rattle.picture_script.specs.declared.reasons.ScriptWhy.{ScriptWhy}
@@ -176,7 +176,7 @@ unfolding checked_words
 by_words before next [] h = absurd (cc)
 by_words before next (command ∷ words) h = by_show before next command words (checked_command before command words) (bytes_eq command (codes "show")) refl refl h
 
-by_line : (before next : List Drawing) (line : List ℕ) (passed : Bool) → is_passed_over line ≡ passed → step before line ≡ Ok next → pictures next ≡ pictures before + shown_one (is_show_line line)
+by_line : (before next : List Drawing) (line : List ℕ) (passed : Bool) → is_passed_over line ≡ passed → script_step before line ≡ Ok next → pictures next ≡ pictures before + shown_one (is_show_line line)
 unfolding is_show_line shown_one
 by_line before next line true is h =
     let same : Ok before ≡ Ok next = sym (step_passed before line is) ∙ h in
@@ -196,15 +196,15 @@ one_more false number rest = omega arith
 never : (why : ℕ × ScriptWhy) (script : List Drawing) (n m : ℕ) → Err why ≡ Ok script → n ≡ m
 never why script n m h = cc
 
-line_refused : (number : ℕ) (before : List Drawing) (line : List ℕ) (rest : List (List ℕ)) (why : ScriptWhy) (script : List Drawing) (n m : ℕ) → step before line ≡ Err why → checked_lines number before (line ∷ rest) ≡ Ok script → n ≡ m
+line_refused : (number : ℕ) (before : List Drawing) (line : List ℕ) (rest : List (List ℕ)) (why : ScriptWhy) (script : List Drawing) (n m : ℕ) → script_step before line ≡ Err why → checked_lines number before (line ∷ rest) ≡ Ok script → n ≡ m
 unfolding checked_lines
-line_refused number before line rest why script n m is h = never (number, why) script n m (sym (read_on-refused step (λ script. Ok script) number before why line rest is) ∙ h)
+line_refused number before line rest why script n m is h = never (number, why) script n m (sym (read_on-refused script_step (λ script. Ok script) number before why line rest is) ∙ h)
 
 -- the lines from a number on add as many pictures as show lines
 abbrev Counts : List (List ℕ) → Type 0
 Counts lines = (number from : ℕ) (before script : List Drawing) → checked_lines number before lines ≡ Ok script → pictures before + length (show_lines_from from lines) ≡ pictures script
 
-line_counts : (line : List ℕ) (rest : List (List ℕ)) → Counts rest → (number from : ℕ) (before script : List Drawing) (found : Result (List Drawing) ScriptWhy) → step before line ≡ found
+line_counts : (line : List ℕ) (rest : List (List ℕ)) → Counts rest → (number from : ℕ) (before script : List Drawing) (found : Result (List Drawing) ScriptWhy) → script_step before line ≡ found
     → checked_lines number before (line ∷ rest) ≡ Ok script → pictures before + length (show_lines_from from (line ∷ rest)) ≡ pictures script
 unfolding show_lines_from
 line_counts line rest counts number from before script (Ok next) is h =
@@ -220,7 +220,7 @@ lines_count [] number from before script h =
     let same : Ok before ≡ Ok script = sym (reading_ends number before [] refl) ∙ h in
     let is : before ≡ script = cc in
     omega (arith, ap pictures is)
-lines_count (line ∷ rest) number from before script h = line_counts line rest (lines_count rest) number from before script (step before line) refl h
+lines_count (line ∷ rest) number from before script h = line_counts line rest (lines_count rest) number from before script (script_step before line) refl h
 
 pub lines_are_pictures : (text : List ℕ) (script : List Drawing) → read_script text ≡ Ok script → length (show_lines text) ≡ pictures script
 unfolding read_script shows

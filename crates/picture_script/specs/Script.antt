@@ -62,7 +62,8 @@ drawn old (Rect left top width height colour) = record old {
   pixel = λ x y. if is_within left width x && is_within top height y then colour else old.pixel x y;
 }
 drawn old (Row left top colours) = record old {
-  pixel = λ x y. if is_within left (length colours) x && y == top then slice_index colours (x - left) else old.pixel x y;
+  pixel = λ x y. if is_within left (length colours) x && y == top then slice_index colours (x - left)
+      else old.pixel x y;
 }
 drawn old (Show ready hold) = old
 

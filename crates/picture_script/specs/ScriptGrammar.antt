@@ -156,14 +156,14 @@ grown before (Ok line) = Ok (before ++ line ∷ [])
 grown before (Err why) = Err why
 
 -- what a line of the text adds to the lines before it, or the first reason for which it is refused
-abbrev pub step : List Drawing → List ℕ → Result (List Drawing) ScriptWhy
-step before line =
+abbrev pub script_step : List Drawing → List ℕ → Result (List Drawing) ScriptWhy
+script_step before line =
     if is_passed_over line then Ok before else grown before (checked_words before (words_in line))
 
 -- the lines of a script from a number on, after those before them; or the first that is refused, with its
 -- first reason
 unfoldable pub checked_lines : ℕ → List Drawing → List (List ℕ) → Result (List Drawing) (ℕ × ScriptWhy)
-checked_lines number before lines = read_on step (λ script. Ok script) number before lines
+checked_lines number before lines = read_on script_step (λ script. Ok script) number before lines
 
 -- what a text is read as: what the lines of its script say, or its first refused line with the first reason
 unfoldable pub read_script : List ℕ → Result (List Drawing) (ℕ × ScriptWhy)

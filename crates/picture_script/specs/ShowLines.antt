@@ -12,7 +12,8 @@ is_show_line line = not (is_passed_over line) && bytes_eq (slice_index_or (words
 unfoldable pub show_lines_from : ℕ → List (List ℕ) → List ℕ
 show_lines_from number [] = []
 show_lines_from number (line ∷ rest) =
-    if is_show_line line then number ∷ show_lines_from (number + 1) rest else show_lines_from (number + 1) rest
+    if is_show_line line then number ∷ show_lines_from (number + 1) rest
+    else show_lines_from (number + 1) rest
 
 -- the numbers of the lines of a text that show a picture, counted from 1
 abbrev pub show_lines : List ℕ → List ℕ

@@ -8,8 +8,8 @@ use Rattle.plain_frames.specs.declared.plain.PlainFrame.{PlainFrame}
 
 -- the frame that a plain one stands for, by the number of its kind; the fields that its kind does not name are passed
 -- over
-abbrev pub frame_of : PlainFrame → Option QFrame
-frame_of p =
+abbrev pub frame_of_plain : PlainFrame → Option QFrame
+frame_of_plain p =
     if p.kind == 0 then Some (Program p.control p.track p.index p.time p.absolute)
     else if p.kind == 1 then Some (Toc p.control (Track p.track p.absolute) p.time)
     else if p.kind == 2 then Some (Toc p.control (First p.track p.disc) p.time)
@@ -65,5 +65,5 @@ IsWhereValid result frame = MatchOption result (¬ IsValid frame) (λ found. (fo
 
 -- the frame that a plain one stands for where it is valid, or nothing where there is no such frame
 abbrev pub IsValidOf : Option QFrame → PlainFrame → Type 0
-IsValidOf result plain = MatchOption result (IfSome (frame_of plain) (λ frame. ¬ IsValid frame))
-    (λ found. (frame_of plain ≡ Some found) × IsValid found)
+IsValidOf result plain = MatchOption result (IfSome (frame_of_plain plain) (λ frame. ¬ IsValid frame))
+    (λ found. (frame_of_plain plain ≡ Some found) × IsValid found)

@@ -1,6 +1,6 @@
 // The plain frame of a frame.
 ghost use Rattle.std.specs.Prelude.{◌≡◌, ◌≤◌, ◌-◌, ◌++◌, Some, length, replicate, take};
-ghost use Rattle.plain_frames.specs.Plain.{frame_of, plain_kind, plain_of};
+ghost use Rattle.plain_frames.specs.Plain.{frame_of_plain, plain_kind, plain_of};
 ghost use Rattle.q_channel.specs.declared.frame.QFrame.TheVariants.{Toc};
 
 use crate::PlainFrame;
@@ -9,7 +9,7 @@ use q_channel::{QFrame, TocPoint};
 /// A frame as a plain one. The fields that its kind does not name are zero.
 pub fn plain_of(frame: &QFrame) -> PlainFrame
     ensures exact { result ≡ plain_of frame.now }
-    ensures back { frame_of result ≡ Some frame.now }
+    ensures back { frame_of_plain result ≡ Some frame.now }
 {
     match frame {
         QFrame::Program {

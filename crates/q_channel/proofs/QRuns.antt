@@ -11,7 +11,8 @@ use Rattle.q_channel.specs.ReadingOf.{reading_of}
 use Rattle.q_channel.proofs.ReadingLaws.{is_reading}
 use Rattle.q_channel.specs.declared.frame.QFrame.{QFrame}
 use Rattle.q_channel.specs.declared.frame.QFault.{QFault}
-use Rattle.q_channel.specs.QSteps.{counted, q_next, q_give}
+use Rattle.bit_lists.specs.Counting.{counted}
+use Rattle.q_channel.specs.QSteps.{q_next, q_give}
 use Rattle.q_channel.specs.QList.{q_lines, AreQReadings}
 
 abbrev pub reading_at : List ℕ → Result QFrame QFault

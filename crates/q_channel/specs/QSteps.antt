@@ -1,14 +1,11 @@
 -- The steps of the stage that gives the lines of the Q channel.
+use Rattle.bit_lists.specs.Counting.{counted}
 use Rattle.std.specs.Prelude.{ℕ, ◌+◌, ◌-◌, ◌^◌, min, if◌then◌else◌, List, Option, Some, is_err}
 use Rattle.raw_subcode.specs.Channels.{q_bits}
 use Rattle.raw_subcode.specs.Sizes.{most_units}
 use Rattle.q_channel.specs.QLine.{q_line}
 use Rattle.q_channel.specs.ReadingOf.{reading_of}
 use Rattle.q_channel.specs.declared.q_lines.QLines.{QLines}
-
--- a count of 32 bits, which stays at its last value
-abbrev pub counted : ℕ → ℕ
-counted n = min (n + 1) (2 ^ 32 - 1)
 
 -- the counts after a block: of all blocks, and of those whose frame is refused
 unfoldable pub q_next : QLines → List ℕ → QLines

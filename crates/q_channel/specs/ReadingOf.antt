@@ -17,7 +17,8 @@ reading_by true None frame = Ok frame
 
 -- whether the last sixteen bits are the check of the first eighty
 abbrev pub q_check_matches : List Bool → Bool
-q_check_matches message = number_of (drop field_bits message) == number_of (check_bits (take field_bits message))
+q_check_matches message =
+    number_of (drop field_bits message) == number_of (check_bits (take field_bits message))
 
 -- what the bits are read as
 unfoldable pub reading_of : List Bool → Result QFrame QFault

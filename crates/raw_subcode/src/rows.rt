@@ -82,7 +82,8 @@ fn exchanged(upper: u8x16, lower: u8x16, places: u8, mask: u8) -> (u8x16, u8x16)
     ensures upper_size { length result.0 ≡ 16 }
     ensures lower_size { length result.1 ≡ 16 }
     ensures upper { (b i : ℕ) → i < 16 → has_bit b (slice_index result.0 i)
-        ≡ (if has_bit b mask then has_bit (places + b) (slice_index lower i) else has_bit b (slice_index upper i)) }
+        ≡ (if has_bit b mask then has_bit (places + b) (slice_index lower i)
+        else has_bit b (slice_index upper i)) }
     ensures lower { (b i : ℕ) → i < 16 → has_bit b (slice_index result.1 i)
         ≡ (if nat_le places b && has_bit (b - places) mask then has_bit (b - places) (slice_index upper i)
         else has_bit b (slice_index lower i)) }
@@ -202,7 +203,8 @@ fn put_row(bytes: &mut [u8], first: usize, row: u8x16)
     requires bytes { length bytes.old ≡ block_bytes }
     requires first { first ≤ 80 }
     requires row { length row ≡ 16 }
-    ensures here { (n : ℕ) → first ≤ n → n < first + 16 → slice_index bytes.new n ≡ slice_index row (n - first) }
+    ensures here { (n : ℕ) → first ≤ n → n < first + 16
+        → slice_index bytes.new n ≡ slice_index row (n - first) }
     ensures before { (n : ℕ) → n < first → slice_index bytes.new n ≡ slice_index bytes.old n }
 {
     row.copy_to_slice(&mut bytes[first..]);

@@ -23,7 +23,7 @@ text_size form lead_in stream = 24 * word_count form (length stream / unit_size 
 
 -- the text of the packs of a stream, and what is told of it: its bytes, the blocks of the program, and the packs with
 -- no codeword near
-pub record IsTold (form : Form) (lead_in : ℕ) (stream text : List ℕ) (told : Converted) : Type 0 where
+pub record IsToldOf (form : Form) (lead_in : ℕ) (stream text : List ℕ) (told : Converted) : Type 0 where
   pub converted : IsConverted form lead_in stream text told.bad
   pub bytes : told.bytes ≡ length text
   pub size : length text ≡ text_size form lead_in stream

@@ -12,7 +12,7 @@ use Rattle.raw_subcode.specs.declared.form.Form.TheVariants.{Raw, Cooked}
 use Rattle.live_player.specs.contracts.live.LivePlayer.{the_row}
 use Rattle.live_player.specs.declared.live.LivePlayer.{LivePlayer}
 use Rattle.cdg_screen.specs.Picture.{Standing, blank, screen_pixel, standing_after}
-use Rattle.live_player.specs.Lives.{Given, blocks_in, instruction_of, instructions_in, packs_in, picture_byte, HasPlayed, IsLiveView, IsLiveViewAt}
+use Rattle.live_player.specs.Lives.{Given, blocks_in, instruction_of, instructions_in, packs_given, picture_byte, HasPlayed, IsLiveView, IsLiveViewAt}
 
 abbrev pub handle_owns : Global → Ptr → List LivePlayer → Fml
 handle_owns alloc at [] = ftrue
@@ -33,18 +33,18 @@ pub record IsSeen (form : Form) (lead_in : ℕ) (blocks : List (List ℕ)) (now 
 
 -- A player shows what all draws that it was given since it began, in order. Where this is blocks alone, it is what the
 -- blocks show, and where it is packs alone, what the packs draw.
-pub record IsShownBy (player : LivePlayer) (now : Standing) : Type 0 where
+pub record IsShownByPlayer (player : LivePlayer) (now : Standing) : Type 0 where
   pub all : (form : Form) (lead_in : ℕ) (given : List Given) → HasPlayed form lead_in given player
       → now ≡ standing_after blank (instructions_in form lead_in given)
   pub blocks : (form : Form) (lead_in : ℕ) (given : List Given) → HasPlayed form lead_in given player
-      → packs_in given ≡ [] → IsSeen form lead_in (blocks_in given) now
+      → packs_given given ≡ [] → IsSeen form lead_in (blocks_in given) now
   pub packs : (form : Form) (lead_in : ℕ) (given : List Given) → HasPlayed form lead_in given player
-      → blocks_in given ≡ [] → now ≡ standing_after blank (map instruction_of (packs_in given))
+      → blocks_in given ≡ [] → now ≡ standing_after blank (map instruction_of (packs_given given))
 
 -- this holds of what the one player shows
 abbrev pub PlayersShow : List LivePlayer → (Standing → Type 0) → Type 0
 PlayersShow players tells = (player : LivePlayer) → players ≡ player ∷ []
-    → (now : Standing) × IsShownBy player now × tells now
+    → (now : Standing) × IsShownByPlayer player now × tells now
 
 -- the numbers of the colours of the screen's pixels, row by row
 abbrev pub IsScreen : List ℕ → Standing → Type 0

@@ -11,7 +11,8 @@ use Rattle.ribjasper_c.specs.declared.mending.MendedStream.{MendedStream}
 abbrev pub refusal_of : ℕ → ℕ → ℕ → ℕ → Option ℕ
 refusal_of first second lead_in room =
     if nat_lt most_lead_in lead_in then Some 2
-    else (if not (first == second) || not (first % block_bytes == 0) || nat_lt (block_bytes * most_units) first then Some 3
+    else (if not (first == second) || not (first % block_bytes == 0)
+    || nat_lt (block_bytes * most_units) first then Some 3
     else (if nat_lt room (24 * whole_packs (first / block_bytes - lead_in)) then Some 6
     else None))
 

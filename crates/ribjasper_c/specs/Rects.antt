@@ -3,5 +3,5 @@ use Rattle.std.specs.Prelude.{ℕ}
 use Rattle.live_player.specs.declared.part.Part.{Part}
 
 -- the rectangle that begins at (x, y) and has this width and height
-abbrev pub rect : ℕ → ℕ → ℕ → ℕ → Part
-rect x y width height = record { left = x; top = y; width = width; height = height }
+abbrev pub shown_rect : ℕ → ℕ → ℕ → ℕ → Part
+shown_rect x y width height = record { left = x; top = y; width = width; height = height }

@@ -4,7 +4,7 @@ ghost use Rattle.raw_subcode.specs.Sizes.{most_units};
 ghost use Rattle.disc_time.specs.Counts.{most_lead_in};
 ghost use Rattle.raw_subcode.specs.Channels.{block_of, unit_size};
 ghost use Rattle.cdg_io.specs.Pump.{given_bytes};
-ghost use Rattle.ribjasper_c.specs.Conversions.{stream_form, text_size, IsNoStream, IsTold};
+ghost use Rattle.ribjasper_c.specs.Conversions.{stream_form, text_size, IsNoStream, IsToldOf};
 ghost use Rattle.rw_interleave.specs.Stream.{word_count};
 ghost use Rattle.stream_stages.specs.Convert.{IsConverted};
 ghost use Rattle.stream_stages.specs.Steps.{fresh_words};
@@ -53,7 +53,7 @@ pub extern "C" fn ribjasper_convert(
     told: &mut Converted,
 ) -> i32
     ensures done { (result ≡ pos 0) ⊎ (result ≡ pos 1) → (text : List ℕ)
-        × IsTold (stream_form form) lead_in stream.now text told.new
+        × IsToldOf (stream_form form) lead_in stream.now text told.new
         × (packs.new ≡ text ++ drop (length text) packs.old) }
     ensures whole { result ≡ pos 0 → told.new.bad ≡ 0 }
     ensures damaged { result ≡ pos 1 → 0 < told.new.bad }

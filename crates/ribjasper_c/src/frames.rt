@@ -2,7 +2,7 @@
 ghost use Rattle.std.specs.Prelude.{◌≡◌, ◌≢◌, ◌↔◌, ◌⊎◌, IfSome, Some, Err, pos, negsuc, take, drop};
 ghost use Rattle.bit_lists.specs.Bits.{bits_of_bytes};
 ghost use Rattle.bit_lists.specs.Check.{check_bits};
-ghost use Rattle.plain_frames.specs.Plain.{frame_of, plain_of};
+ghost use Rattle.plain_frames.specs.Plain.{frame_of_plain, plain_of};
 ghost use Rattle.q_channel.specs.QReading.{IsReading};
 ghost use Rattle.q_channel.specs.QFrame.{IsFrame, IsValid};
 ghost use Rattle.q_channel.specs.declared.frame.QFault.TheVariants.{BadField};
@@ -42,9 +42,9 @@ pub extern "C" fn ribjasper_q_decode(bytes: &[u8; 12], frame: &mut PlainFrame, b
 /// have.
 #[unsafe(no_mangle)]
 pub extern "C" fn ribjasper_q_encode(frame: &PlainFrame, bytes: &mut [u8; 12]) -> i32
-    ensures bytes { result ≡ pos 0 → (found : QFrame) × (frame_of frame.now ≡ Some found)
+    ensures bytes { result ≡ pos 0 → (found : QFrame) × (frame_of_plain frame.now ≡ Some found)
         × IsFrame found (bits_of_bytes bytes.new) }
-    ensures refused { result ≡ negsuc 0 → IfSome (frame_of frame.now) (λ found. ¬ IsValid found) }
+    ensures refused { result ≡ negsuc 0 → IfSome (frame_of_plain frame.now) (λ found. ¬ IsValid found) }
     ensures answer { (result ≡ pos 0) ⊎ (result ≡ negsuc 0) }
     ensures untouched { result ≡ negsuc 0 → bytes.new ≡ bytes.old }
 {

@@ -1,7 +1,7 @@
 // The plan of a disc.
 ghost use Rattle.std.specs.Prelude.{◌≡◌, ◌≢◌, ◌<◌, ◌⊎◌, ◌↔◌, drop, length, pos};
 ghost use Rattle.disc_time.specs.Counts.{most_lead_in, most_program};
-ghost use Rattle.disc_plan.specs.Discs.{disc_of, IsPlan, IsPlanStop};
+ghost use Rattle.disc_plan.specs.Discs.{planned_disc, IsPlan, IsPlanStop};
 ghost use Rattle.disc_plan.specs.Told.{told_plan};
 ghost use Rattle.disc_plan.specs.declared.disc.PlannedDisc.{PlannedDisc};
 ghost use Rattle.disc_plan.specs.declared.stops.PlanStop.{PlanStop};
@@ -37,13 +37,13 @@ pub extern "C" fn ribjasper_plan(
     told: &mut Planned,
 ) -> i32
     ensures plan { (result ≡ pos 0) ⊎ (result ≡ pos 4) → (disc : PlannedDisc)
-        × IsPlan (disc_of sheet.now script.now lead_in audio) rows.new disc
+        × IsPlan (planned_disc sheet.now script.now lead_in audio) rows.new disc
         × (told.new ≡ told_plan disc) × (drop disc.pictures rows.new ≡ drop disc.pictures rows.old) }
     ensures prompt { result ≡ pos 0 → told.new.late ≡ 0 }
     ensures late { result ≡ pos 4 → 0 < told.new.late }
     ensures usage { (result ≡ pos 2) ↔ ((most_lead_in < lead_in) ⊎ (most_program < audio)) }
     ensures stop { (result ≡ pos 3) ⊎ (result ≡ pos 6) ⊎ (result ≡ pos 7) → (stop : PlanStop)
-        × IsPlanStop (disc_of sheet.now script.now lead_in audio) (length rows.old) stop
+        × IsPlanStop (planned_disc sheet.now script.now lead_in audio) (length rows.old) stop
         × (result ≡ stop_answer stop) × (told.new ≡ told_at_stop told.old stop) }
     ensures answer { (result ≡ pos 0) ⊎ (result ≡ pos 2) ⊎ (result ≡ pos 3) ⊎ (result ≡ pos 4)
         ⊎ (result ≡ pos 6) ⊎ (result ≡ pos 7) }

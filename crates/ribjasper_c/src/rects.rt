@@ -2,7 +2,7 @@
 ghost use Rattle.std.specs.Prelude.{◌≡◌, ◌≤◌, ◌∷◌, [], ◌↔◌, ◌⊎◌, IsTrue, MatchOption, length, pos, negsuc, true};
 ghost use Rattle.live_player.specs.Parts.{HasRoomFor, IsOnScreen, ShowsPart};
 ghost use Rattle.ribjasper_c.specs.Handles.{PlayersShow};
-ghost use Rattle.ribjasper_c.specs.Rects.{rect};
+ghost use Rattle.ribjasper_c.specs.Rects.{shown_rect};
 
 use crate::Playing;
 use cdg_instructions::{SCREEN_HEIGHT, SCREEN_WIDTH};
@@ -22,9 +22,9 @@ pub extern "C" fn ribjasper_player_rect(
     stride: u32,
 ) -> i32
     ensures shows { result ≡ pos 0 → PlayersShow player.old.handle.players
-        (λ now. ShowsPart now (rect x y width height) stride pixels.old pixels.new) }
-    ensures done { (result ≡ pos 0) ↔ (player.old.is_open ≡ true) × IsOnScreen (rect x y width height)
-        × (width ≤ stride) × HasRoomFor (rect x y width height) stride (length pixels.old) }
+        (λ now. ShowsPart now (shown_rect x y width height) stride pixels.old pixels.new) }
+    ensures done { (result ≡ pos 0) ↔ (player.old.is_open ≡ true) × IsOnScreen (shown_rect x y width height)
+        × (width ≤ stride) × HasRoomFor (shown_rect x y width height) stride (length pixels.old) }
     ensures answer { (result ≡ pos 0) ⊎ (result ≡ negsuc 0) }
     ensures stays { player.new.is_open ≡ player.old.is_open }
     ensures same { player.new.handle.players ≡ player.old.handle.players }
@@ -44,8 +44,8 @@ pub extern "C" fn ribjasper_player_rect(
 
 // A part, where it is all on the screen.
 fn part_of(x: u32, y: u32, width: u32, height: u32) -> Option<Part>
-    ensures { MatchOption result (¬ IsOnScreen (rect x y width height))
-        (λ part. (part ≡ rect x y width height) × IsOnScreen (rect x y width height)) }
+    ensures { MatchOption result (¬ IsOnScreen (shown_rect x y width height))
+        (λ part. (part ≡ shown_rect x y width height) × IsOnScreen (shown_rect x y width height)) }
 {
     let part = Part {
         left: x as usize,

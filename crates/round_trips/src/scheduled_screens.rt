@@ -38,7 +38,8 @@ pub fn shown_moments_give_pictures()
     ensures { (form : Form) (lead_in time : ℕ) (all : List ℕ) (left : Bytes) (out : Change Bytes)
         (answer : Result Played PlayStop) (taken : List ℕ) (script : List Drawing) (k : ℕ)
         → IsScheduledStream form lead_in script all → IsHeldAt script k time
-        → Shows pixmap (moment form lead_in time) (record { left = from_to (Some all) left; held = out }) answer taken
+        → Shows pixmap (moment form lead_in time)
+        (record { left = from_to (Some all) left; held = out }) answer taken
         → IsShownBy answer lead_in time (unit_size form) (length all)
         → GivesPicture script k answer out.before out.after }
 {

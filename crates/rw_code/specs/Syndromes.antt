@@ -32,8 +32,8 @@ ContinuesTo n old symbol new =
     (j : ℕ) → j < n → (xs : List ℕ) → weighted_sum j (xs ++ old) ≡ 0 → weighted_sum j (xs ++ symbol ∷ new) ≡ 0
 
 -- the value of a polynomial at power j of alpha, which is what it adds to sum j as the last four symbols of a word
-abbrev pub value : ℕ → LastFour → ℕ
-value j last = weighted_sum j (last.cubic ∷ last.square ∷ last.linear ∷ last.constant ∷ [])
+abbrev pub value_at : ℕ → LastFour → ℕ
+value_at j last = weighted_sum j (last.cubic ∷ last.square ∷ last.linear ∷ last.constant ∷ [])
 
 -- the lanes of the four sums over all symbols
 pub record AreLanes (lanes : ℕ) (sums : Sums) : Type 0 where

@@ -2,7 +2,7 @@
 ghost use Rattle.std.specs.Prelude.{◌≡◌, ◌∷◌, [], ◌+◌, ◌<◌, ℕ, take, slice_index, bit_xor};
 ghost use Rattle.gf64.specs.Field.{product, alpha_power};
 ghost use Rattle.rw_code.specs.Codeword.{weighted_sum};
-ghost use Rattle.rw_code.specs.Syndromes.{ContinuesTo, lane, value};
+ghost use Rattle.rw_code.specs.Syndromes.{ContinuesTo, lane, value_at};
 
 use crate::Word;
 use crate::syndromes::Syndromes;
@@ -56,7 +56,7 @@ impl LastFour {
 
     #[inline]
     fn times(self, factor: Sym) -> LastFour
-        ensures { (j : ℕ) → value j result ≡ product (value j self) factor }
+        ensures { (j : ℕ) → value_at j result ≡ product (value_at j self) factor }
     {
         LastFour {
             cubic: self.cubic.mul(factor),
@@ -68,7 +68,7 @@ impl LastFour {
 
     #[inline]
     fn add(self, other: LastFour) -> LastFour
-        ensures { (j : ℕ) → value j result ≡ bit_xor (value j self) (value j other) }
+        ensures { (j : ℕ) → value_at j result ≡ bit_xor (value_at j self) (value_at j other) }
     {
         LastFour {
             cubic: self.cubic.add(other.cubic),
@@ -81,7 +81,7 @@ impl LastFour {
     // The polynomial whose values at 1, α, α² and α³ are the four sums over all symbols: each sum times the polynomial
     // that is 1 at its own power and 0 at the other three.
     fn of(syndromes: Syndromes) -> LastFour
-        ensures { (j : ℕ) → j < 4 → value j result ≡ lane j syndromes.lanes }
+        ensures { (j : ℕ) → j < 4 → value_at j result ≡ lane j syndromes.lanes }
     {
         let sums = syndromes.sums();
         let zeroth = LastFour::powers(13, 40, 42, 19).times(sums.zeroth);

@@ -39,4 +39,5 @@ pub record Carries (blocks : ℕ) (symbols : List ℕ) (packs : List (List ℕ))
   pub count : length packs ≡ whole_packs blocks
   pub codewords : All IsCodeword packs
   pub words : (n : ℕ) → n < whole_packs blocks → word_of symbols n ≡ slice_index_or packs n []
-  pub others : (p : ℕ) → p < block_bytes * blocks → ((n i : ℕ) → n < whole_packs blocks → i < 24 → place n i ≢ p) → slice_index symbols p ≡ 0
+  pub others : (p : ℕ) → p < block_bytes * blocks
+      → ((n i : ℕ) → n < whole_packs blocks → i < 24 → place n i ≢ p) → slice_index symbols p ≡ 0

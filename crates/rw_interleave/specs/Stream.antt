@@ -37,8 +37,10 @@ all_packs form blocks packs = packs ++ replicate (word_count form blocks - lengt
 -- other program symbols hold each word of these with at most two wrong symbols, and further words are nearly zero
 pub record IsDamaged (symbols : List ℕ) (form : Form) (others : List ℕ) : Type 0 where
   pub size : length others ≡ length symbols
-  pub words : (n : ℕ) → n < whole_packs (length symbols / block_bytes) → IsNear (word_of symbols n) (form_word form others n)
-  pub further : (n : ℕ) → whole_packs (length symbols / block_bytes) ≤ n → n < word_count form (length symbols / block_bytes) → IsNear (form_word form others n) idle_pack
+  pub words : (n : ℕ) → n < whole_packs (length symbols / block_bytes)
+      → IsNear (word_of symbols n) (form_word form others n)
+  pub further : (n : ℕ) → whole_packs (length symbols / block_bytes) ≤ n
+      → n < word_count form (length symbols / block_bytes) → IsNear (form_word form others n) idle_pack
 
 -- Symbols that differ in bursts
 

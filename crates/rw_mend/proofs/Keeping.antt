@@ -23,7 +23,7 @@ use Rattle.rw_merge.specs.Readings.{IsDamagedTwice}
 use Rattle.rw_merge.proofs.Slots.{program_is}
 use Rattle.rw_mend.specs.Mending.{Gives, IsMendedBy, IsMending}
 use Rattle.rw_mend.specs.Noise.{IsReadBesideNoise}
-use Rattle.rw_mend.specs.Streams.{AreMended, block_at, blocks_under, coverage_of, is_empty, mended_bytes, mended_text, program_of, reading_at}
+use Rattle.rw_mend.specs.Streams.{AreMended, block_at, blocks_under, coverage_of, is_empty_block, mended_bytes, mended_text, program_of, reading_at}
 use Rattle.rw_mend.specs.declared.words.Coverage.{Coverage}
 use Rattle.rw_mend.specs.declared.words.Coverage.TheVariants.{Whole, Partly, Unread}
 use Rattle.rw_mend.specs.declared.words.Mended.{Mended}
@@ -68,11 +68,11 @@ both_true : (a b : Bool) → (a && b) ≡ true → a ≡ true
 both_true true b is = refl
 both_true false b is = is
 
-empty_symbols : (block : List ℕ) → is_empty block ≡ true → list_all (λ symbol. symbol == 0) (symbols_of block) ≡ true
-unfolding is_empty
+empty_symbols : (block : List ℕ) → is_empty_block block ≡ true → list_all (λ symbol. symbol == 0) (symbols_of block) ≡ true
+unfolding is_empty_block
 empty_symbols block is = both_true _ _ is
 
-zero_symbol : (block : List ℕ) (j : ℕ) → is_empty block ≡ true → get_or (symbols_of block) j 0 ≡ 0
+zero_symbol : (block : List ℕ) (j : ℕ) → is_empty_block block ≡ true → get_or (symbols_of block) j 0 ≡ 0
 zero_symbol block j is =
     let symbols : List ℕ = symbols_of block in
     elim (leb_tells (length symbols) j) [
@@ -98,16 +98,16 @@ in_block program b j lt =
     ∙ sym (symbol_get program (96 * b + j))
 
 -- where all blocks under a word are empty, it has no symbols
-empty_under : (program : List ℕ) (n b : ℕ) → list_all is_empty (blocks_under program n) ≡ true → n / 4 ≤ b → b ≤ (n + 7) / 4 → is_empty (block_at program b) ≡ true
+empty_under : (program : List ℕ) (n b : ℕ) → list_all is_empty_block (blocks_under program n) ≡ true → n / 4 ≤ b → b ≤ (n + 7) / 4 → is_empty_block (block_at program b) ≡ true
 empty_under program n b all low high =
     let count : ℕ = (n + 7) / 4 - n / 4 + 1 in
     let blocks : List (List ℕ) = map (block_at program) (range_with_len (n / 4) count) in
     let k : ℕ = b - n / 4 in
     let lt : k < count = omega (arith, low, high) in
     let here : get_or blocks k [] ≡ block_at program b = get_or-map-range_with_len (block_at program) (n / 4) count k b [] lt (omega (arith, low)) in
-    ap is_empty (sym here) ∙ AllPass-from_list_all is_empty blocks all k [] (omega (arith, lt, length-map-range_with_len (block_at program) (n / 4) count))
+    ap is_empty_block (sym here) ∙ AllPass-from_list_all is_empty_block blocks all k [] (omega (arith, lt, length-map-range_with_len (block_at program) (n / 4) count))
 
-no_symbol : (program : List ℕ) (n i : ℕ) → list_all is_empty (blocks_under program n) ≡ true → i < 24 → get_or (symbols_of program) (place n i) 0 ≡ 0
+no_symbol : (program : List ℕ) (n i : ℕ) → list_all is_empty_block (blocks_under program n) ≡ true → i < 24 → get_or (symbols_of program) (place n i) 0 ≡ 0
 no_symbol program n i all lt =
     let p : ℕ = place n i in
     let b : ℕ = p / 96 in
@@ -121,7 +121,7 @@ unread_zero : (program : List ℕ) (n : ℕ) → (reading_at program n).coverage
 unfolding word_of
 unread_zero program n is =
     let blocks : List (List ℕ) = blocks_under program n in
-    let all = unread_all (list_all is_empty blocks) (list_any is_empty blocks) (sym (reading-coverage program n) ∙ is) in
+    let all = unread_all (list_all is_empty_block blocks) (list_any is_empty_block blocks) (sym (reading-coverage program n) ∙ is) in
     let symbols : List ℕ = symbols_of program in
     let size = length-map-range_with_len (λ i. get_or symbols (place n i) 0) 0 24 in
     ext_get_or 0 (map (λ i. get_or symbols (place n i) 0) (range_with_len 0 24)) (replicate 24 0) size (λ i lt.

@@ -13,7 +13,8 @@ IsNearAlone word other codeword = IsNear word codeword
 
 -- Of program symbols that carry these packs there are two readings: for each word one of them is within two symbols of
 -- the pack, and the other, which may be noise, is near no other codeword.
-pub record IsReadBesideNoise (lead_in blocks : ℕ) (packs : List (List ℕ)) (first second : List ℕ) : Type 0 where
+pub record IsReadBesideNoise (lead_in blocks : ℕ) (packs : List (List ℕ))
+    (first second : List ℕ) : Type 0 where
   pub readings : AreReadings lead_in blocks first second
   pub symbols : List ℕ
   pub carries : Carries blocks symbols packs

@@ -22,8 +22,9 @@ abbrev pub block_at : List ℕ → ℕ → List ℕ
 block_at program b = slice_range program (96 * b) (96 * b + 96)
 
 -- whether a block is empty: its symbols are 0, and its Q channel is no frame
-unfoldable pub is_empty : List ℕ → Bool
-is_empty block = list_all (λ symbol. symbol == 0) (symbols_of block) && not (is_ok (reading_of (q_bits block)))
+unfoldable pub is_empty_block : List ℕ → Bool
+is_empty_block block =
+    list_all (λ symbol. symbol == 0) (symbols_of block) && not (is_ok (reading_of (q_bits block)))
 
 -- the blocks in which the symbols of word n stand, which are those of eight slots
 abbrev pub blocks_under : List ℕ → ℕ → List (List ℕ)
@@ -31,7 +32,8 @@ blocks_under program n = map (block_at program) (range_with_len (n / 4) ((n + 7)
 
 -- how much of some blocks was read
 abbrev pub coverage_of : List (List ℕ) → Coverage
-coverage_of blocks = if list_all is_empty blocks then Unread else (if list_any is_empty blocks then Partly else Whole)
+coverage_of blocks = if list_all is_empty_block blocks then Unread
+    else (if list_any is_empty_block blocks then Partly else Whole)
 
 -- the reading of word n of a program
 unfoldable pub reading_at : List ℕ → ℕ → Reading
@@ -79,7 +81,8 @@ pub record AreCounts (found : List (Option Mended)) (counts : Counts) : Type 0 w
 -- The words of both readings are mended, and their text stands at the front of a buffer; what is behind it stays.
 pub record IsMendedInto (lead_in : ℕ) (first second old new : List ℕ) (counts : Counts) : Type 0 where
   pub found : List (Option Mended)
-  pub mended : AreMended (length first / 96 - lead_in) (program_of lead_in first) (program_of lead_in second) found
+  pub mended : AreMended (length first / 96 - lead_in) (program_of lead_in first)
+      (program_of lead_in second) found
   pub counts_are : AreCounts found counts
   pub size : length (mended_text found) ≡ 24 * whole_packs (length first / 96 - lead_in)
   pub text : new ≡ mended_text found ++ drop (length (mended_text found)) old

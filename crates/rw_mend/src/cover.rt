@@ -1,7 +1,7 @@
 // Which blocks under a word are empty.
 ghost use Rattle.std.specs.Prelude.{◌≡◌, ◌==◌, ◌≤◌, ◌<◌, ◌+◌, ◌-◌, ◌*◌, ◌/◌, ◌%◌, ◌^◌, List, ℕ, length, if◌then◌else◌};
 ghost use Rattle.std.specs.List.{list_all};
-ghost use Rattle.rw_mend.specs.Streams.{block_at, blocks_under, coverage_of, is_empty};
+ghost use Rattle.rw_mend.specs.Streams.{block_at, blocks_under, coverage_of, is_empty_block};
 ghost use Rattle.rw_mend.specs.Trails.{IsTrail};
 
 use crate::Coverage;
@@ -46,7 +46,8 @@ impl Trail {
     /// How much of word n was read.
     pub(crate) fn coverage(&self, n: usize) -> Coverage
         requires { n < 2 ^ 63 }
-        ensures { (program : List ℕ) → IsTrail program n self.now → result ≡ coverage_of (blocks_under program n) }
+        ensures { (program : List ℕ) → IsTrail program n self.now
+            → result ≡ coverage_of (blocks_under program n) }
     {
         let all = self.first && self.second;
         let any = self.first || self.second;
@@ -74,7 +75,7 @@ fn covered(all: bool, any: bool) -> Coverage
 // Whether a block of a program is empty.
 fn is_empty_at(program: &[u8], b: usize) -> bool
     requires { 96 * b + 96 ≤ length program.now }
-    ensures { result ≡ is_empty (block_at program.now b) }
+    ensures { result ≡ is_empty_block (block_at program.now b) }
 {
     let at = BLOCK_BYTES * b;
     is_empty(&program[at..at + BLOCK_BYTES])
@@ -83,7 +84,7 @@ fn is_empty_at(program: &[u8], b: usize) -> bool
 // Whether a block is empty.
 fn is_empty(block: &[u8]) -> bool
     requires { length block.now ≡ 96 }
-    ensures { result ≡ is_empty block.now }
+    ensures { result ≡ is_empty_block block.now }
 {
     if !has_no_symbol(block) {
         return false;

@@ -12,7 +12,8 @@ ghost use Rattle.rw_mend.specs.declared.words.Reading.{Reading};
 
 /// A law: for two readings of a word one codeword at most is mended, in one way; so it is for each word of two streams.
 pub fn one_codeword_is_mended()
-    ensures word { (first second : Reading) (found other : Option Mended) → IsWord first.word → IsWord second.word
+    ensures word { (first second : Reading) (found other : Option Mended) → IsWord first.word
+        → IsWord second.word
         → IsMending first second found → IsMending first second other → found ≡ other }
     ensures stream { (blocks : ℕ) (first second : List ℕ) (found other : List (Option Mended))
         → AreMended blocks first second found → AreMended blocks first second other → found ≡ other }
@@ -31,7 +32,8 @@ pub fn what_one_reading_gives_is_kept()
 /// A law: the packs of a stream come back from two readings of which, for each word, one is within two symbols and the
 /// other near no other codeword. So it is where each reading is damaged in at most two symbols of each word.
 pub fn packs_come_back()
-    ensures noise { (lead_in blocks : ℕ) (packs : List (List ℕ)) (first second : List ℕ) (found : List (Option Mended))
+    ensures noise { (lead_in blocks : ℕ) (packs : List (List ℕ)) (first second : List ℕ)
+        (found : List (Option Mended))
         → IsReadBesideNoise lead_in blocks packs first second
         → AreMended blocks (program_of lead_in first) (program_of lead_in second) found
         → mended_text found ≡ concat packs }

@@ -130,7 +130,8 @@ fn word_at(program: &[u8], n: usize) -> Word
 // Puts what is found for word n.
 fn put(packs: &mut [u8], n: usize, found: &Option<Mended>)
     requires { 24 * n + 24 ≤ length packs.old }
-    ensures packs { packs.new ≡ take (24 * n) packs.old ++ mended_bytes found.now ++ drop (24 * n + 24) packs.old }
+    ensures packs { packs.new ≡ take (24 * n) packs.old ++ mended_bytes found.now
+        ++ drop (24 * n + 24) packs.old }
     ensures size { length (mended_bytes found.now) ≡ 24 }
 {
     let bytes = bytes_of(found);

@@ -20,7 +20,7 @@ cleared power (symbol ∷ rest) =
     product (bit_xor (alpha_power (length rest)) power) symbol ∷ cleared power rest
 
 -- a word with these four sums, whose symbols outside of these positions are 0
-pub record AreErrors (sums : Sums) (places errors : List ℕ) : Type 0 where
+pub record ArePlacedErrors (sums : Sums) (places errors : List ℕ) : Type 0 where
   pub is_word : IsWord errors
   pub have_sums : AreFirstSums 4 errors sums
   pub outside : (i : ℕ) → i < 24 → IsOutside i places → slice_index errors i ≡ 0

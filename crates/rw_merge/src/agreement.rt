@@ -17,7 +17,8 @@ pub fn agree(a: &Word, b: &Word) -> Option<Pack>
     ensures agreed { MatchOption result
         ((w : List ℕ) → ¬ IsAgreed a.now b.now w)
         (λ pack. IsAgreed a.now b.now pack) }
-    ensures only { (one other : List ℕ) → IsAgreed a.now b.now one → IsAgreed a.now b.now other → one ≡ other }
+    ensures only { (one other : List ℕ) → IsAgreed a.now b.now one → IsAgreed a.now b.now other
+        → one ≡ other }
     ensures words { IsWord a.now × IsWord b.now }
 {
     let apart = differing(a, b);

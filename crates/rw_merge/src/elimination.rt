@@ -2,7 +2,7 @@
 ghost use Rattle.std.specs.Prelude.{◌≡◌, ◌≢◌, ◌<◌, ◌-◌, [], ◌∷◌, List, ℕ, suc, bit_xor, slice_index, slice_set};
 ghost use Rattle.gf64.specs.Field.{alpha_power};
 ghost use Rattle.rw_code.specs.Codeword.{IsCodeword, IsWord, weighted_sum};
-ghost use Rattle.rw_merge.specs.Elimination.{AreErrors, AreFirstSums, cleared};
+ghost use Rattle.rw_merge.specs.Elimination.{ArePlacedErrors, AreFirstSums, cleared};
 ghost use Rattle.rw_merge.specs.Places.{AreApart, AreEqualOutside, all_of};
 
 use crate::places::Places;
@@ -53,7 +53,7 @@ impl Sums {
         requires one { (one < 24) × (one ≢ at) }
         requires two { (two < 24) × (two ≢ at) }
         requires three { (three < 24) × (three ≢ at) }
-        ensures { (errors : List ℕ) → AreErrors self.now (at ∷ one ∷ two ∷ three ∷ []) errors
+        ensures { (errors : List ℕ) → ArePlacedErrors self.now (at ∷ one ∷ two ∷ three ∷ []) errors
             → result ≡ slice_index errors at }
     {
         let power = power_at(at);

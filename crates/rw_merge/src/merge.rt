@@ -217,7 +217,8 @@ impl Merger {
 
     // Whether four words of zeros come with each block of a pair, and the windows stay as they are.
     fn stay_idle(&self, first: &[u8; BLOCK_BYTES], second: &[u8; BLOCK_BYTES]) -> bool
-        ensures first { result ≡ true → self.now.first ≡ window_after self.now.first (leading_slots 4 first.now) }
+        ensures first { result ≡ true
+            → self.now.first ≡ window_after self.now.first (leading_slots 4 first.now) }
         ensures second { result ≡ true
             → self.now.second ≡ window_after self.now.second (leading_slots 4 second.now) }
         ensures first_words { result ≡ true → replicate 4 (replicate 24 0)

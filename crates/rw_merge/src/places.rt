@@ -2,7 +2,7 @@
 ghost use Rattle.std.specs.Prelude.{◌≡◌, ◌≢◌, ◌<◌, ◌-◌, [], ◌∷◌, List, ℕ, MatchOption};
 ghost use Rattle.gf64.specs.Field.{product, alpha_power};
 ghost use Rattle.rw_merge.specs.Agreement.{IsAgreed};
-ghost use Rattle.rw_merge.specs.Elimination.{AreErrors, AreFirstSums};
+ghost use Rattle.rw_merge.specs.Elimination.{ArePlacedErrors, AreFirstSums};
 ghost use Rattle.rw_merge.specs.Places.{AreApart, AreEqualOutside, all_of};
 
 use crate::counting::next_difference;
@@ -59,9 +59,10 @@ fn with_further(sums: &Sums, first: usize, second: usize) -> Option<Places>
     requires first { first < 24 }
     requires second { (second < 24) × (second ≢ first) }
     ensures { MatchOption result
-        ((further : ℕ) (errors : List ℕ) → ¬ AreErrors sums.now (first ∷ second ∷ further ∷ []) errors)
+        ((further : ℕ) (errors : List ℕ) → ¬ ArePlacedErrors sums.now (first ∷ second ∷ further ∷ []) errors)
         (λ p. AreApart p × ((further : ℕ) (errors : List ℕ)
-        → AreErrors sums.now (first ∷ second ∷ further ∷ []) errors → AreErrors sums.now (all_of p) errors)) }
+        → ArePlacedErrors sums.now (first ∷ second ∷ further ∷ []) errors
+        → ArePlacedErrors sums.now (all_of p) errors)) }
 {
     let left = sums.without(first).without(second);
     if left.zeroth.is_zero() {

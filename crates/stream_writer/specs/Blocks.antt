@@ -21,13 +21,13 @@ built_block p (q ∷ qs) [] = []
 built_block p (q ∷ qs) (symbol ∷ symbols) = built_byte p q symbol ∷ built_block p qs symbols
 
 -- the 96 bits of a frame: its fields and their check
-unfoldable pub frame_bits : QFrame → List Bool
-frame_bits frame = spelled (fields_of frame) ++ check_bits (spelled (fields_of frame))
+unfoldable pub bits_of_frame : QFrame → List Bool
+bits_of_frame frame = spelled (fields_of frame) ++ check_bits (spelled (fields_of frame))
 
 -- block l of so many lead-in blocks: no pause, an entry of the table of contents, and the text packs as they stand
 unfoldable pub lead_in_block : DiscLayout → List (List ℕ) → ℕ → ℕ → List ℕ
 lead_in_block layout texts lead_in l =
-    built_block false (frame_bits (toc_frame layout lead_in l)) (lead_in_symbols texts l)
+    built_block false (bits_of_frame (toc_frame layout lead_in l)) (lead_in_symbols texts l)
 
 -- the symbols of block b, where these are the symbols of all program blocks
 abbrev pub symbols_at : List ℕ → ℕ → List ℕ
@@ -35,7 +35,8 @@ symbols_at symbols b = take block_bytes (drop (block_bytes * b) symbols)
 
 -- program block b with these symbols
 unfoldable pub carrying_block : DiscLayout → ℕ → List ℕ → List ℕ
-carrying_block layout b symbols = built_block (p_bit layout b) (frame_bits (program_frame layout b)) symbols
+carrying_block layout b symbols =
+    built_block (p_bit layout b) (bits_of_frame (program_frame layout b)) symbols
 
 -- program block b, where these are the symbols of all program blocks
 abbrev pub program_block : DiscLayout → List ℕ → ℕ → List ℕ

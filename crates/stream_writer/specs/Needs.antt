@@ -4,7 +4,7 @@ use Rattle.disc_time.specs.Counts.{most_program}
 use Rattle.cue_sheet.specs.CueSheet.{CueSheet}
 use Rattle.toc_model.specs.Places.{audio_need, program_blocks}
 use Rattle.stream_writer.specs.SheetTexts.{texts_of_sheet}
-use Rattle.cdtext_packs.specs.Packs.{most_packs}
+use Rattle.cdtext_packs.specs.Packs.{most_text_packs}
 use Rattle.cdtext_packs.specs.Writing.{packs_of}
 
 -- the sheet has a layout with this audio
@@ -23,14 +23,16 @@ lead_in_need sheet = max (3 * (length sheet.tracks + 3)) ((length (text_packs sh
 -- a lead-in, if there is one, has room for the texts and the table of contents
 abbrev pub HasRoom : CueSheet → ℕ → Type 0
 HasRoom sheet lead_in = 0 < lead_in
-    → (length (text_packs sheet) ≤ most_packs) × (lead_in_need sheet ≤ lead_in)
+    → (length (text_packs sheet) ≤ most_text_packs) × (lead_in_need sheet ≤ lead_in)
 
 -- a lead-in was asked for, and its texts need so many packs, which are more than 256
 abbrev pub IsTextTooLong : CueSheet → ℕ → ℕ → Type 0
-IsTextTooLong sheet lead_in packs = (0 < lead_in) × (most_packs < packs) × (packs ≡ length (text_packs sheet))
+IsTextTooLong sheet lead_in packs =
+    (0 < lead_in) × (most_text_packs < packs) × (packs ≡ length (text_packs sheet))
 
 -- a lead-in was asked for, its texts have at most 256 packs, and it has fewer blocks than these and the table of
 -- contents need
 abbrev pub IsLeadInShort : CueSheet → ℕ → ℕ → Type 0
-IsLeadInShort sheet lead_in need = (0 < lead_in) × (length (text_packs sheet) ≤ most_packs) × (lead_in < need)
+IsLeadInShort sheet lead_in need =
+    (0 < lead_in) × (length (text_packs sheet) ≤ most_text_packs) × (lead_in < need)
     × (need ≡ lead_in_need sheet)

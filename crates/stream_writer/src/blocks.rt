@@ -4,7 +4,7 @@ ghost use Rattle.disc_time.specs.Counts.{most_lead_in};
 ghost use Rattle.q_channel.specs.QFrame.{IsValid};
 ghost use Rattle.toc_model.specs.Layout.{p_bit, program_frame, toc_frame};
 ghost use Rattle.cdtext_packs.specs.LeadIn.{lead_in_symbols};
-ghost use Rattle.stream_writer.specs.Blocks.{built_block, carrying_block, frame_bits, lead_in_block, IsBuilt};
+ghost use Rattle.stream_writer.specs.Blocks.{built_block, carrying_block, bits_of_frame, lead_in_block, IsBuilt};
 
 use cdtext_packs::{TextPack, lead_in_symbols};
 use q_channel::{QFrame, encode};
@@ -15,7 +15,7 @@ use toc_model::Layout;
 fn built(p: bool, frame: &QFrame, symbols: &[u8; BLOCK_BYTES]) -> [u8; BLOCK_BYTES]
     requires frame { IsValid frame.now }
     requires symbols { All (λ s. s < 64) symbols.now }
-    ensures bytes { result ≡ built_block p (frame_bits frame.now) symbols.now }
+    ensures bytes { result ≡ built_block p (bits_of_frame frame.now) symbols.now }
     ensures built { IsBuilt result p frame.now symbols.now }
 {
     Block::build(p, &encode(frame), symbols).bytes()

@@ -1,6 +1,6 @@
 // The text packs of a lead-in.
 ghost use Rattle.std.specs.Prelude.{◌≡◌, ◌<◌, ◌≤◌, ℕ, length, IfOk, IfErr, OnOk};
-ghost use Rattle.cdtext_packs.specs.Packs.{most_packs};
+ghost use Rattle.cdtext_packs.specs.Packs.{most_text_packs};
 ghost use Rattle.cdtext_packs.specs.Writing.{packs_of, IsPackStop};
 ghost use Rattle.cdtext_packs.specs.declared.kinds.PackStop.{PackStop};
 ghost use Rattle.stream_writer.specs.Needs.{text_packs, HasRoom};
@@ -44,8 +44,9 @@ pub fn pack_texts(
 // The text packs of a sheet, at most 256.
 fn packs_of_sheet(alloc: Global, sheet: &Sheet) -> Result<Vec<TextPack>, LeadInStop>
     ensures packs { IfOk result (λ packs. packs.items ≡ text_packs sheet.now) }
-    ensures few { IfOk result (λ packs. length packs.items ≤ most_packs) }
-    ensures err { IfErr result (λ stop. (lead_in : ℕ) → 0 < lead_in → IsLeadInRefusal sheet.now lead_in stop) }
+    ensures few { IfOk result (λ packs. length packs.items ≤ most_text_packs) }
+    ensures err { IfErr result (λ stop. (lead_in : ℕ) → 0 < lead_in
+        → IsLeadInRefusal sheet.now lead_in stop) }
 {
     let map = texts_of_sheet(alloc, sheet)?;
     packs_of_map(alloc, &map)
@@ -54,8 +55,9 @@ fn packs_of_sheet(alloc: Global, sheet: &Sheet) -> Result<Vec<TextPack>, LeadInS
 // The packs of texts, at most 256.
 fn packs_of_map(alloc: Global, map: &TextMap) -> Result<Vec<TextPack>, LeadInStop>
     ensures packs { IfOk result (λ packs. packs.items ≡ packs_of map.now) }
-    ensures few { IfOk result (λ packs. length packs.items ≤ most_packs) }
-    ensures err { IfErr result (λ stop. (fault : PackStop) × IsPackStop map.now fault × (stop ≡ of_packs fault)) }
+    ensures few { IfOk result (λ packs. length packs.items ≤ most_text_packs) }
+    ensures err { IfErr result (λ stop. (fault : PackStop) × IsPackStop map.now fault
+        × (stop ≡ of_packs fault)) }
 {
     Ok(pack_all(alloc, map)?)
 }

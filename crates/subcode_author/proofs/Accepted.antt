@@ -9,7 +9,7 @@ use Rattle.std.proofs.lemmas.Bool.Decides.{nat_tests}
 use Rattle.std.proofs.lemmas.List.{append-nil}
 use Rattle.text_lines.specs.Text.{lines_of, words_in, parsed_time, is_some_bytes}
 use Rattle.picture_script.specs.Script.{Drawing, Colour, Border, Fill, Rect, Row, Show, shows, pictures, hold_time, picture_pixel}
-use Rattle.picture_script.specs.ScriptGrammar.{small_number, numbers_in, colour_in, pixels_in, colour_of, border_of, fill_of, rect_of, row_of, show_of, colour_line, border_line, fill_line, rect_line, row_line, show_line, is_in_range, is_after_hold, later_reason, unless_refused, checked_line, checked_command, checked_words, checked_lines, is_passed_over, read_script, grown, step}
+use Rattle.picture_script.specs.ScriptGrammar.{small_number, numbers_in, colour_in, pixels_in, colour_of, border_of, fill_of, rect_of, row_of, show_of, colour_line, border_line, fill_line, rect_line, row_line, show_line, is_in_range, is_after_hold, later_reason, unless_refused, checked_line, checked_command, checked_words, checked_lines, is_passed_over, read_script, grown, script_step}
 use Rattle.picture_script.proofs.Refusals.{reading_ends}
 use Rattle.text_lines.proofs.ReadOn.{read_on-taken, read_on-refused}
 use Rattle.picture_script.specs.declared.reasons.ScriptWhy.{ScriptWhy}
@@ -244,13 +244,13 @@ step_sound before next (Err why) false taken sound h = absurd (cc)
 none_left : (number : ℕ) (before script : List Drawing) → checked_lines number before [] ≡ Ok script → before ≡ script
 none_left number before script h = let same : checked_lines number before [] ≡ Ok before = reading_ends number before [] refl in cc
 
-line_sound : (number : ℕ) (before : List Drawing) (line : List ℕ) (rest : List (List ℕ)) (script : List Drawing) (answer : Result (List Drawing) ScriptWhy) → step before line ≡ answer
+line_sound : (number : ℕ) (before : List Drawing) (line : List ℕ) (rest : List (List ℕ)) (script : List Drawing) (answer : Result (List Drawing) ScriptWhy) → script_step before line ≡ answer
     → ((n : ℕ) (next : List Drawing) → IsSound next → checked_lines n next rest ≡ Ok script → IsSound script)
     → ((next : List Drawing) → answer ≡ Ok next → IsSound next) → checked_lines number before (line ∷ rest) ≡ Ok script → IsSound script
 unfolding checked_lines
 line_sound number before line rest script (Ok next) is later sound h =
-    later (number + 1) next (sound next refl) (sym (read_on-taken step (λ script. Ok script) number before next line rest is) ∙ h)
-line_sound number before line rest script (Err why) is later sound h = never (number, why) script (sym (read_on-refused step (λ script. Ok script) number before why line rest is) ∙ h)
+    later (number + 1) next (sound next refl) (sym (read_on-taken script_step (λ script. Ok script) number before next line rest is) ∙ h)
+line_sound number before line rest script (Err why) is later sound h = never (number, why) script (sym (read_on-refused script_step (λ script. Ok script) number before why line rest is) ∙ h)
   where
     never : (fault : ℕ × ScriptWhy) (script : List Drawing) → Err fault ≡ Ok script → IsSound script
     never fault script h = absurd (cc)
@@ -258,7 +258,7 @@ line_sound number before line rest script (Err why) is later sound h = never (nu
 lines_sound : (number : ℕ) (before : List Drawing) (lines : List (List ℕ)) (script : List Drawing) → IsSound before → checked_lines number before lines ≡ Ok script → IsSound script
 lines_sound number before [] script sound h = subst IsSound (none_left number before script h) sound
 lines_sound number before (line ∷ rest) script sound h =
-    line_sound number before line rest script (step before line) refl (λ n next. lines_sound n next rest script)
+    line_sound number before line rest script (script_step before line) refl (λ n next. lines_sound n next rest script)
     (λ next. step_sound before next (checked_words before (words_in line)) (is_passed_over line) (taken_words before (words_in line)) sound) h
 
 -- The whole script.

@@ -5,7 +5,7 @@ use Rattle.std.proofs.lemmas.List.Elements.{All-from_recursion}
 use Rattle.raw_subcode.specs.Channels.{channel_bit, p_bits, q_bits, symbols_of}
 use Rattle.q_channel.specs.QFrame.{IsValid}
 use Rattle.q_channel.specs.declared.frame.QFrame.{QFrame}
-use Rattle.stream_writer.specs.Blocks.{built_byte, built_block, frame_bits, IsBuilt}
+use Rattle.stream_writer.specs.Blocks.{built_byte, built_block, bits_of_frame, IsBuilt}
 use Rattle.subcode_author.proofs.Codewords.{AreSymbols}
 use Rattle.subcode_author.proofs.FrameBits.{frame_size}
 use Rattle.subcode_author.proofs.LeadIns.{IsSymbols}
@@ -50,8 +50,8 @@ made (suc n) p (q ∷ bits) (s ∷ symbols) bits_size size small =
       small = (byte.small, rest.small);
     }
 
-pub is_built : (p : Bool) (frame : QFrame) (symbols : List ℕ) → IsValid frame → IsSymbols 96 symbols → IsBuilt (built_block p (frame_bits frame) symbols) p frame symbols
-unfolding frame_bits
+pub is_built : (p : Bool) (frame : QFrame) (symbols : List ℕ) → IsValid frame → IsSymbols 96 symbols → IsBuilt (built_block p (bits_of_frame frame) symbols) p frame symbols
+unfolding bits_of_frame
 is_built p frame symbols valid are =
-    let block = made 96 p (frame_bits frame) symbols (frame_size frame valid) are.0 are.1 in
-    record { size = block.size; are_bytes = All-from_recursion (λ b. b < 256) (built_block p (frame_bits frame) symbols) block.small; channels = record { p = block.p_are; q = record { valid = valid; spelling = block.q_are } }; carried = block.symbols_are }
+    let block = made 96 p (bits_of_frame frame) symbols (frame_size frame valid) are.0 are.1 in
+    record { size = block.size; are_bytes = All-from_recursion (λ b. b < 256) (built_block p (bits_of_frame frame) symbols) block.small; channels = record { p = block.p_are; q = record { valid = valid; spelling = block.q_are } }; carried = block.symbols_are }

@@ -11,7 +11,7 @@ use Rattle.toc_model.specs.Places.{DiscLayout, layout_of}
 use Rattle.toc_model.specs.Layout.{p_bit, program_frame, toc_frame}
 use Rattle.cdtext_packs.specs.LeadIn.{lead_in_symbols}
 use Rattle.picture_script.specs.Script.{Drawing}
-use Rattle.stream_writer.specs.Blocks.{built_block, frame_bits, lead_in_block, carrying_block, program_block, symbols_at, stream_bytes, HasChannels}
+use Rattle.stream_writer.specs.Blocks.{built_block, bits_of_frame, lead_in_block, carrying_block, program_block, symbols_at, stream_bytes, HasChannels}
 use Rattle.stream_writer.specs.Framing.{raw_block, HasFraming}
 use Rattle.subcode_author.specs.Authored.{text_packs, IsWrittenStream, disc_of}
 use Rattle.stream_writer.proofs.Built.{made_of}
@@ -21,9 +21,9 @@ use Rattle.subcode_author.proofs.Symbols.{same_symbols}
 
 -- a block of bytes has its P bit, its frame and its symbols, and nothing else
 block_is : (paused : Bool) (frame : QFrame) (symbols block : List ℕ) → length block ≡ 96 → All (λ b. b < 256) block → HasChannels block paused frame → symbols_of block ≡ symbols
-    → built_block paused (frame_bits frame) symbols ≡ block
-unfolding frame_bits
-block_is paused frame symbols block size small channels carried = sym (made_of paused (frame_bits frame) symbols block size small channels.p channels.q.spelling carried)
+    → built_block paused (bits_of_frame frame) symbols ≡ block
+unfolding bits_of_frame
+block_is paused frame symbols block size small channels carried = sym (made_of paused (bits_of_frame frame) symbols block size small channels.p channels.q.spelling carried)
 
 module _ (layout : DiscLayout) (texts : List (List ℕ)) (lead_in : ℕ) (bytes : List ℕ) (framing : HasFraming layout texts lead_in bytes) where
   size_at : (k : ℕ) → k < lead_in + layout.blocks → length (bytes_at bytes k) ≡ 96

@@ -61,4 +61,5 @@ ComesBeforePlans stop = ⊤
 
 -- why a disc has no plan: one of the refusals that come before any picture is planned
 abbrev pub IsDiscRefusal : CueSheet → List Drawing → ℕ → ℕ → AuthorStop → Type 0
-IsDiscRefusal sheet script lead_in audio stop = IsAuthorStop sheet script lead_in audio stop × ComesBeforePlans stop
+IsDiscRefusal sheet script lead_in audio stop =
+    IsAuthorStop sheet script lead_in audio stop × ComesBeforePlans stop

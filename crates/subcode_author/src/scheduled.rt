@@ -14,7 +14,8 @@ impl<'a> PackSource for Scheduled<'a> {
     ghost use Rattle.pack_schedule.specs.Woven.{IsPackAt};
 
     // The weaver's count of packs stays at the last value of its type.
-    ghost comes = { λ s n pack. s.weaver.given + n < 4294967295 → IsPackAt s.weaver.script (s.weaver.given + n) pack };
+    ghost comes = { λ s n pack. s.weaver.given + n < 4294967295
+        → IsPackAt s.weaver.script (s.weaver.given + n) pack };
 
     fn next_pack(&mut self) -> Option<Pack> {
         self.weaver.next_unless_idle()

@@ -7,7 +7,7 @@ use Rattle.std.proofs.lemmas.List.{length-map, length-take-le, length-drop, get_
 use Rattle.bit_lists.specs.Counting.{parts}
 use Rattle.bit_lists.specs.Bits.{has_bit, number_of}
 use Rattle.bit_lists.proofs.BitsLemmas.{number_of-lt}
-use Rattle.cdg_instructions.specs.Drawing.{drawn}
+use Rattle.cdg_instructions.specs.Drawing.{drawn_pixel}
 use Rattle.tile_author.specs.Plan.{basis, differences_from_first, selection, member_bits, tile_lines}
 
 digit : Bool → ℕ
@@ -64,7 +64,7 @@ line_bit bs p size h =
     ∙ get_or-drop (q * 6) bs (p % 6) false
     ∙ ap (λ n. get_or bs n false) at
 
-pub drawn_member : (w : List ℕ) (j c0 c1 p : ℕ) → length w ≡ 72 → p < 72 → drawn c0 c1 (tile_lines w j) p ≡ (if has_bit j (selection (basis w) (bit_xor (slice_index w 0) (slice_index w p))) then c1 else c0)
+pub drawn_member : (w : List ℕ) (j c0 c1 p : ℕ) → length w ≡ 72 → p < 72 → drawn_pixel c0 c1 (tile_lines w j) p ≡ (if has_bit j (selection (basis w) (bit_xor (slice_index w 0) (slice_index w p))) then c1 else c0)
 unfolding tile_lines member_bits differences_from_first
 drawn_member w j c0 c1 p size h =
     let chosen : ℕ → Bool = λ d. has_bit j (selection (basis w) d) in

@@ -7,7 +7,7 @@ use Rattle.std.proofs.lemmas.List.Elements.{All-head, All-tail, All-push}
 use Rattle.std.proofs.lemmas.List.FromFn.{get_or-map-range_with_len}
 use Rattle.bit_lists.specs.Counting.{below}
 use Rattle.bit_lists.specs.Bits.{has_bit}
-use Rattle.cdg_instructions.specs.Drawing.{IsOfPlace, drawn, tile_from}
+use Rattle.cdg_instructions.specs.Drawing.{IsOfPlace, drawn_pixel, tile_from}
 use Rattle.cdg_instructions.specs.declared.instr.Instr.{Instr}
 use Rattle.cdg_instructions.specs.declared.instr.Instr.TheVariants.{Idle, Foreign, Unknown, MemoryPreset, BorderPreset, SetTile, XorTile, ScrollPreset, ScrollCopy, Transparency, ColoursLow, ColoursHigh}
 use Rattle.tile_author.proofs.Span.{Spans, Spanned}
@@ -58,7 +58,7 @@ after_set old lines c0 c1 row column rs = record {
   flat = inl (
     omega arith,
     λ p p_lt.
-        Spans-same (bit_xor c0 c1 ∷ []) _ _ (ap (bit_xor c0) (sym (at_below 72 p (drawn c0 c1 lines) 0 p_lt)))
+        Spans-same (bit_xor c0 c1 ∷ []) _ _ (ap (bit_xor c0) (sym (at_below 72 p (drawn_pixel c0 c1 lines) 0 p_lt)))
         (choice_spans (has_bit (5 - p % 6) (slice_index lines (p / 6))) c0 c1),
   );
 }
@@ -67,8 +67,8 @@ after_xor : (old lines : List ℕ) (c0 c1 row column : ℕ) (rs : List Instr) �
 unfolding tile_from Flat
 after_xor old lines c0 c1 row column rs e =
     let older = tile_from old rs in
-    let value : (p : ℕ) → p < 72 → bit_xor (drawn c0 c1 lines p) (slice_index older p) ≡ slice_index (tile_from old (XorTile c0 c1 row column lines ∷ rs)) p =
-    λ p p_lt. sym (at_below 72 p (λ q. bit_xor (drawn c0 c1 lines q) (slice_index older q)) 0 p_lt) in
+    let value : (p : ℕ) → p < 72 → bit_xor (drawn_pixel c0 c1 lines p) (slice_index older p) ≡ slice_index (tile_from old (XorTile c0 c1 row column lines ∷ rs)) p =
+    λ p p_lt. sym (at_below 72 p (λ q. bit_xor (drawn_pixel c0 c1 lines q) (slice_index older q)) 0 p_lt) in
     record {
       gs = bit_xor c0 c1 ∷ e.gs;
       base = bit_xor c0 e.base;
@@ -82,7 +82,7 @@ after_xor old lines c0 c1 row column rs e =
         )
         | inr combined ↦ inr (λ p p_lt.
             Spans-same (bit_xor c0 c1 ∷ e.gs) _ _
-            (ap (bit_xor (bit_xor c0 e.base)) (swap (drawn c0 c1 lines p) (slice_index old p) (slice_index older p) ∙ ap (bit_xor (slice_index old p)) (value p p_lt)))
+            (ap (bit_xor (bit_xor c0 e.base)) (swap (drawn_pixel c0 c1 lines p) (slice_index old p) (slice_index older p) ∙ ap (bit_xor (slice_index old p)) (value p p_lt)))
             (choice_adds e.gs (has_bit (5 - p % 6) (slice_index lines (p / 6))) c0 c1 e.base (bit_xor (slice_index old p) (slice_index older p)) (combined p p_lt)))
       ];
     }

@@ -10,7 +10,7 @@ use Rattle.std.proofs.lemmas.List.FromFn.{map-range_with_len_more, length-map-ra
 use Rattle.std.proofs.lemmas.Bool.Decides.{eqb_tells}
 use Rattle.bit_lists.specs.Counting.{below}
 use Rattle.bit_lists.specs.Bits.{has_bit}
-use Rattle.cdg_instructions.specs.Drawing.{drawn, tile_from, tile_after}
+use Rattle.cdg_instructions.specs.Drawing.{drawn_pixel, tile_from, tile_after}
 use Rattle.cdg_instructions.specs.declared.instr.Instr.{Instr}
 use Rattle.cdg_instructions.specs.declared.instr.Instr.TheVariants.{Idle, Foreign, Unknown, MemoryPreset, BorderPreset, SetTile, XorTile, ScrollPreset, ScrollCopy, Transparency, ColoursLow, ColoursHigh}
 use Rattle.tile_author.proofs.Span.{Spans}
@@ -147,7 +147,7 @@ pixel_so_far true row column old w zero p size h =
     let m = slice_index (basis w) 0 in
     let chosen = selection (basis w) (bit_xor first (slice_index w p)) in
     ap (λ rs. slice_index (tile_from old rs) p) (so_far-more true row column w 0)
-    ∙ at_below 72 p (drawn first (bit_xor first m) (tile_lines w 0)) 0 h
+    ∙ at_below 72 p (drawn_pixel first (bit_xor first m) (tile_lines w 0)) 0 h
     ∙ drawn_member w 0 first (bit_xor first m) p size h
     ∙ first_choice (has_bit 0 chosen) first m
 pixel_so_far false row column old w zero p size h =
@@ -155,7 +155,7 @@ pixel_so_far false row column old w zero p size h =
     let m = slice_index (basis w) 0 in
     let chosen = selection (basis w) (bit_xor first (slice_index w p)) in
     ap (λ rs. slice_index (tile_from old rs) p) (so_far-more false row column w 0)
-    ∙ at_below 72 p (λ q. bit_xor (drawn first (bit_xor first m) (tile_lines w 0) q) (slice_index old q)) 0 h
+    ∙ at_below 72 p (λ q. bit_xor (drawn_pixel first (bit_xor first m) (tile_lines w 0) q) (slice_index old q)) 0 h
     ∙ ap (λ n. bit_xor n (slice_index old p)) (drawn_member w 0 first (bit_xor first m) p size h ∙ first_choice (has_bit 0 chosen) first m)
     ∙ xor_assoc (bit_xor (if has_bit 0 chosen then m else 0) 0) first (slice_index old p)
 pixel_so_far draws row column old w (suc n) p size h =
@@ -163,16 +163,16 @@ pixel_so_far draws row column old w (suc n) p size h =
     let chosen = selection (basis w) (bit_xor (slice_index w 0) (slice_index w p)) in
     let before = so_far draws row column w (suc n) in
     ap (λ rs. slice_index (tile_from old rs) p) (so_far-more draws row column w (suc n) ∙ ap (λ i. i ∷ before) (planned_later draws row column w n))
-    ∙ at_below 72 p (λ q. bit_xor (drawn 0 (bit_xor 0 m) (tile_lines w (suc n)) q) (slice_index (tile_from old before) q)) 0 h
+    ∙ at_below 72 p (λ q. bit_xor (drawn_pixel 0 (bit_xor 0 m) (tile_lines w (suc n)) q) (slice_index (tile_from old before) q)) 0 h
     ∙ ap₂ bit_xor (drawn_member w (suc n) 0 (bit_xor 0 m) p size h ∙ later_choice (has_bit (suc n) chosen) m) (pixel_so_far draws row column old w n p size h)
     ∙ sym (xor_assoc (if has_bit (suc n) chosen then m else 0) (partial (basis w) chosen (suc n)) (ground_of draws old w p))
 
 length-tile_from : (old : List ℕ) (rs : List Instr) → length old ≡ 72 → length (tile_from old rs) ≡ 72
 unfolding tile_from
 length-tile_from old [] size = size
-length-tile_from old (SetTile c0 c1 r c lines ∷ rs) size = length-map-range_with_len (drawn c0 c1 lines) 0 72
+length-tile_from old (SetTile c0 c1 r c lines ∷ rs) size = length-map-range_with_len (drawn_pixel c0 c1 lines) 0 72
 length-tile_from old (XorTile c0 c1 r c lines ∷ rs) size =
-    length-map-range_with_len (λ p. bit_xor (drawn c0 c1 lines p) (slice_index (tile_from old rs) p)) 0 72
+    length-map-range_with_len (λ p. bit_xor (drawn_pixel c0 c1 lines p) (slice_index (tile_from old rs) p)) 0 72
 length-tile_from old (Idle ∷ rs) size = length-tile_from old rs size
 length-tile_from old (Foreign ∷ rs) size = length-tile_from old rs size
 length-tile_from old (Unknown ∷ rs) size = length-tile_from old rs size

@@ -48,7 +48,11 @@ impl Model for Layout {
 
     ghost view = { λ l. record { catalogue = l.catalogue; tracks = l.tracks.items; blocks = l.blocks } };
 
-    ghost invariant = { λ l. IsLayout (record { catalogue = l.catalogue; tracks = l.tracks.items; blocks = l.blocks }) };
+    ghost invariant = { λ l. IsLayout (record {
+      catalogue = l.catalogue;
+      tracks = l.tracks.items;
+      blocks = l.blocks;
+    }) };
 }
 
 impl Layout {

@@ -25,9 +25,21 @@ pub(crate) struct Place {
 impl Model for Place {
     ghost Value = { TrackPlace };
 
-    ghost view = { λ p. record { number = p.number; control = p.control; isrc = p.isrc; begin = p.begin; lines = p.lines.items } };
+    ghost view = { λ p. record {
+      number = p.number;
+      control = p.control;
+      isrc = p.isrc;
+      begin = p.begin;
+      lines = p.lines.items;
+    } };
 
-    ghost invariant = { λ p. IsPlace (record { number = p.number; control = p.control; isrc = p.isrc; begin = p.begin; lines = p.lines.items }) };
+    ghost invariant = { λ p. IsPlace (record {
+      number = p.number;
+      control = p.control;
+      isrc = p.isrc;
+      begin = p.begin;
+      lines = p.lines.items;
+    }) };
 }
 
 impl Place {

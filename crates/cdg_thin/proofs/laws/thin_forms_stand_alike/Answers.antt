@@ -2,7 +2,7 @@ use Rattle.std.proofs.Common.{sym, ◌∙◌}
 use Rattle.cdg_thin.proofs.Forms.{only_reading, only_text, text_again, text_alike, text_size}
 use Rattle.cdg_thin.proofs.Meanings.{has_instruction}
 use Rattle.cdg_thin.proofs.Runs.{some_text}
-use Rattle.cdg_thin.specs.Steps.{instruction_of}
+use Rattle.cdg_thin.specs.Steps.{pack_instruction}
 use Rattle.cdg_thin.proofs.laws.thin_forms_stand_alike.Goals as goal
 
 pub returns-clause-alike : goal.returns-clause-alike
@@ -15,7 +15,7 @@ pub returns-clause-some : goal.returns-clause-some
 returns-clause-some c = some_text
 
 pub returns-clause-reading : goal.returns-clause-reading
-returns-clause-reading c = λ pack size. (instruction_of pack, has_instruction pack size)
+returns-clause-reading c = λ pack size. (pack_instruction pack, has_instruction pack size)
 
 pub returns-clause-only : goal.returns-clause-only
 returns-clause-only c = only_text

@@ -5,11 +5,11 @@ use Rattle.std.proofs.lemmas.List.Folds.{list_all-map}
 use Rattle.bit_lists.specs.Bits.{bits_of_bytes}
 use Rattle.raw_subcode.specs.Channels.{q_bits}
 use Rattle.q_channel.specs.ReadingOf.{reading_of}
-use Rattle.rw_mend.specs.Streams.{is_empty}
+use Rattle.rw_mend.specs.Streams.{is_empty_block}
 use Rattle.rw_mend.proofs.cover.is_empty.Goals as goal
 
-empty_is : (block : List ℕ) → is_empty block ≡ (list_all (λ byte. byte % 64 == 0) block && not (is_ok (reading_of (q_bits block))))
-unfolding is_empty
+empty_is : (block : List ℕ) → is_empty_block block ≡ (list_all (λ byte. byte % 64 == 0) block && not (is_ok (reading_of (q_bits block))))
+unfolding is_empty_block
 empty_is block = ap (λ (t : Bool). t && not (is_ok (reading_of (q_bits block)))) (list_all-map (λ (symbol : ℕ). symbol == 0) (λ (byte : ℕ). byte % 64) block)
 
 pub returns-then-not-has_no_symbol : goal.returns-then-not-has_no_symbol

@@ -1,5 +1,5 @@
 use Rattle.std.proofs.Common.{◌∷◌, [], bit_xor, get_or, sym, ap, ◌∙◌}
-use Rattle.rw_merge.specs.Elimination.{AreErrors}
+use Rattle.rw_merge.specs.Elimination.{ArePlacedErrors}
 use Rattle.rw_merge.proofs.Solving.{gaps, gap_at, errors_of, put_right, all_right, unmoved}
 use Rattle.rw_merge.proofs.elimination.solved.Goals as goal
 
@@ -12,11 +12,11 @@ returns c codeword is_codeword equal =
     let w_word = is_codeword.is_word in
     let errors = gaps xs codeword in
     let are1 = errors_of c.args.sums.now (p.first ∷ p.second ∷ p.third ∷ p.fourth ∷ []) xs codeword x_word is_codeword c.requires.sums equal in
-    let are2 : AreErrors c.args.sums.now (p.second ∷ p.first ∷ p.third ∷ p.fourth ∷ []) errors =
+    let are2 : ArePlacedErrors c.args.sums.now (p.second ∷ p.first ∷ p.third ∷ p.fourth ∷ []) errors =
     record { is_word = are1.is_word; have_sums = are1.have_sums; outside = λ i lt out. are1.outside i lt (out.1.0, (out.0, out.1.1)) } in
-    let are3 : AreErrors c.args.sums.now (p.third ∷ p.first ∷ p.second ∷ p.fourth ∷ []) errors =
+    let are3 : ArePlacedErrors c.args.sums.now (p.third ∷ p.first ∷ p.second ∷ p.fourth ∷ []) errors =
     record { is_word = are1.is_word; have_sums = are1.have_sums; outside = λ i lt out. are1.outside i lt (out.1.0, (out.1.1.0, (out.0, out.1.1.1))) } in
-    let are4 : AreErrors c.args.sums.now (p.fourth ∷ p.first ∷ p.second ∷ p.third ∷ []) errors =
+    let are4 : ArePlacedErrors c.args.sums.now (p.fourth ∷ p.first ∷ p.second ∷ p.third ∷ []) errors =
     record { is_word = are1.is_word; have_sums = are1.have_sums; outside = λ i lt out. are1.outside i lt (out.1.0, (out.1.1.0, (out.1.1.1.0, (out.0, tt)))) } in
     let error1 = c.error_at.ensures errors are1 ∙ gap_at xs codeword p.first x_word w_word apart.first in
     let error2 = c.error_at-2.ensures errors are2 ∙ gap_at xs codeword p.second x_word w_word apart.second.0 in

@@ -1,13 +1,13 @@
 use Rattle.std.proofs.Common.{sym, subst, ◌∙◌}
 use Rattle.q_channel.specs.QFrame.{IsFrame}
-use Rattle.stream_writer.specs.Blocks.{frame_bits, IsBuilt}
+use Rattle.stream_writer.specs.Blocks.{bits_of_frame, IsBuilt}
 use Rattle.stream_writer.proofs.Built.{made_of}
 use Rattle.stream_writer.proofs.blocks.built.Goals as goal
 
 pub returns-clause-bytes : goal.returns-clause-bytes
-unfolding frame_bits
+unfolding bits_of_frame
 returns-clause-bytes c =
-    c.bytes.ensures.bytes ∙ made_of c.args.p (frame_bits c.args.frame.now) c.args.symbols.now c.build.result c.bytes.ensures.size c.bytes.ensures.small
+    c.bytes.ensures.bytes ∙ made_of c.args.p (bits_of_frame c.args.frame.now) c.args.symbols.now c.build.result c.bytes.ensures.size c.bytes.ensures.small
     c.build.ensures.p (c.build.ensures.q ∙ c.encode.ensures.spelling) c.build.ensures.symbols
 
 pub returns-clause-built : goal.returns-clause-built
