@@ -23,6 +23,9 @@ impl Model for Handle {
     ghost also_owns = { λ h. handle_owns h.alloc h.at h.players };
 }
 
+// A player holds plain numbers alone, and the heap takes its blocks back from any thread.
+unsafe impl Send for Handle {}
+
 impl Handle {
     /// A handle of no player.
     pub fn none(alloc: Global) -> Handle
