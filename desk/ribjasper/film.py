@@ -15,7 +15,7 @@ from .picture import number_in
 from .streams import Stream, open_stream
 
 # A picture that stands so long, in seconds, has a place on a page of stills.
-STANDS = 0.5
+STANDS = 0.2
 MOST_STILLS = 1_000
 # A still in pixels, the line below it, and what is between them.
 STILL_WIDTH, STILL_HEIGHT, LABEL, BETWEEN = WIDTH // 2, HEIGHT // 2, 14, 8
@@ -33,7 +33,7 @@ def add_parser(commands) -> None:
     parser.add_argument("--scale", type=number_in(1, 8), default=3, metavar="N", help="how much larger (3: 900 by 648)")
     parser.add_argument("--lossless", action="store_true", help="keep each pixel as it is; fewer programs play such films")
     parser.add_argument("--stills", type=Path, metavar="OUT.png",
-                        help="a page with each picture that stands for half a second, and its time")
+                        help="a page with each picture that stands for a fifth of a second, and its time")
     parser.add_argument("--every", type=float, metavar="SECONDS", help="a still for each so many seconds")
     parser.set_defaults(run=run, parser=parser)
 

@@ -39,8 +39,8 @@ def add_parser(commands) -> None:
 def checked(arguments: argparse.Namespace, disc: Disc) -> bytes:
     """The program of the stream: its blocks from the first pause on, as the sheet and the audio ask for."""
     stream = open_stream(arguments.stream)
-    if stream.unit != BLOCK:
-        raise Refusal(arguments.stream, "is no raw stream of blocks of 96 bytes")
+    if stream.is_packs():
+        raise Refusal(arguments.stream, "is no raw stream, but a .cdg file: the program's press makes one of it")
     program = stream.content[BLOCK * stream.lead_in :]
     if len(program) != BLOCK * disc.blocks:
         length = audio.length(arguments.audio)

@@ -208,7 +208,7 @@ def tell_late(song: Song, path: Path, told: Told) -> None:
     for placed in told.lost:
         tell(f"{path}: line {placed.letters.line.number} is not sung out when another has to come in its place: {placed.text()}")
     for placed, blocks in told.drawn_late.items():
-        tell(f"{path}: line {placed.letters.line.number} is drawn {blocks / SECOND:.2f} seconds after it is sung: {placed.text()}")
+        tell(f"{path}: line {placed.letters.line.number} is drawn {blocks / SECOND:.2f} seconds after it begins: {placed.text()}")
     for placed, blocks in told.lit_late.items():
         if placed not in told.drawn_late:
             tell(f"{path}: line {placed.letters.line.number} has words that are lit up to {blocks / SECOND:.2f} seconds late: "

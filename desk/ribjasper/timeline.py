@@ -135,16 +135,20 @@ class Arranger:
         """What was still to be drawn in the same place before is not drawn any more, and these columns come with the
         task."""
         before = self.tasks.get(task.placed.before)
-        needs = {step.left: step.need for step in before.steps} if before else {}
+        if not before or not before.steps:
+            return
+        self.take_over(before)
+        needs = {step.left: step.need for step in before.steps}
         for step in task.steps:
             step.need = max(step.need, needs.get(step.left, 0))
-        if before:
-            before.steps.clear()
+        before.steps.clear()
 
     def draw(self, task: Task, count: int, start: int) -> None:
         """Draws so many columns."""
-        self.line.put(list(task.steps[:count]), start)
+        now = self.line.put(list(task.steps[:count]), start)
         del task.steps[:count]
+        if not task.steps and task.placed.letters:
+            note(self.told.drawn_late, task.placed, now - task.block)
 
     def light(self, due: Due, start: int) -> None:
         task, placed = self.tasks[due.placed], due.placed
@@ -155,7 +159,6 @@ class Arranger:
                 self.told.lost.append(placed.before)
             self.take_over(task)
             self.draw(task, len(task.steps), self.line.now)
-            note(self.told.drawn_late, placed, self.line.now - due.block)
         note(self.told.lit_late, placed, self.line.put(list(due.steps), start) - due.block)
 
 

@@ -93,18 +93,18 @@ class FilmTest(FolderTest):
 
     def test_refusals(self):
         ran = desk("film", self.write("a.cdg", bytes(25)), "--stills", self.folder / "a.png")
-        self.assertEqual((ran.status, "a.cdg: is no raw stream" in ran.told), (3, True))
+        self.assertEqual((ran.status, "a.cdg: is no stream and no .cdg file: 25 bytes" in ran.told), (3, True))
         self.assertEqual(desk("film", self.folder / "none", "--stills", self.folder / "a.png").status, 3)
         self.assertEqual(desk("film", self.stream).status, 2)
 
 
 class StillsTest(unittest.TestCase):
-    def test_what_stands_for_half_a_second(self):
+    def test_what_stands_for_a_fifth_of_a_second(self):
         stills = Stills(10, None)
-        for picture in [b"a"] * 5 + [b"b"] * 4 + [b"c"] * 9:
+        for picture in [b"a"] * 2 + [b"b"] + [b"c"] * 9:
             stills.see(picture)
         stills.close()
-        self.assertEqual(stills.kept, [(0, b"a"), (0.9, b"c")])
+        self.assertEqual(stills.kept, [(0, b"a"), (0.3, b"c")])
 
     def test_one_for_each_so_many_seconds(self):
         stills = Stills(10, 0.25)

@@ -3,12 +3,13 @@ import subprocess
 import sys
 import unittest
 
-from publishers import (SONG, TOP, FolderTest, desk, needs_ffmpeg, needs_font, needs_pillow, needs_plan, needs_program, run_program,
+from publishers import (PAUSE, SONG, TOP, FolderTest, desk, needs_ffmpeg, needs_font, needs_pillow, needs_plan, needs_program, run_program,
                         screen)
 
-LEAD_IN = 30
-# The third picture that stands: its block of the program.
-THIRD = 150 + 348 * 3
+from ribjasper.film import Stills
+from ribjasper.streams import open_stream
+
+LEAD_IN, RATE = 30, 25
 
 
 @needs_plan
@@ -32,10 +33,15 @@ class SongTest(FolderTest):
         self.check_picture(raw)
 
     def check_picture(self, raw):
-        """The picture of README is one of the song, and stands on the image too."""
+        """The picture in the documents is the third of the stills, and stands on the image too."""
         from PIL import Image
-        stands = screen(raw, THIRD, lead_in=LEAD_IN)
-        self.assertEqual(screen(self.folder / "song.bin", THIRD - 150, "--form", "sector", lead_in=0), stands)
+        stream, stills = open_stream(raw), Stills(RATE, None)
+        for picture in stream.frames(RATE, 20 * RATE):
+            stills.see(picture)
+        block = PAUSE + round(stills.kept[2].second * 75)
+        stands = screen(raw, block, lead_in=LEAD_IN)
+        self.assertEqual(stills.kept[2].picture, stands.pixels)
+        self.assertEqual(screen(self.folder / "song.bin", block - PAUSE, "--form", "sector", lead_in=0), stands)
         with Image.open(TOP / "docs" / "song.png") as image:
             self.assertEqual(image.convert("RGB").resize((300, 216), Image.NEAREST).tobytes(), stands.pixels)
 
