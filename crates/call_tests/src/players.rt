@@ -2,7 +2,7 @@ use crate::stopped::is_as_new;
 use cdg_io::Then;
 use cdg_screen::Screen;
 use cdtext_packs::{LeadInTexts, TextReader};
-use rw_interleave::Window;
+use rw_interleave::Gather;
 use std::test::Fail;
 use stream_calls::{Checker, Converter, TextLister, Viewer};
 use stream_stages::{
@@ -123,7 +123,7 @@ fn see_words(words: &BlockWords) {
     } = words;
     let _form: &Form = form;
     let _lead_in: &u32 = lead_in;
-    let _gather: &Window = gather;
+    let _gather: &Gather = gather;
 }
 
 fn see_correction(correction: &Correction) {

@@ -27,11 +27,14 @@ use Rattle.stream_stages.proofs.PumpedBlocks.{plain_blocks}
 use Rattle.stream_stages.proofs.Conversion.{units_sized, length-units_of}
 use Rattle.stream_stages.proofs.Playing.{units_in}
 use Rattle.stream_stages.proofs.Views.{IsReady, drawings_next, viewed_bytes, whole_taken}
-use Rattle.cdg_checkpoint.specs.Tracked.{TracksBlocks, track_next}
+use Rattle.cdg_checkpoint.specs.Tracked.{TracksBlocks, words_drawn}
 use Rattle.cdg_checkpoint.specs.Saved.{IsSaved, Saves, last_symbols}
 use Rattle.cdg_checkpoint.specs.Keeping.{IsKept}
-use Rattle.cdg_checkpoint.specs.declared.tracking.Tracking.{Tracking}
-use Rattle.cdg_checkpoint.proofs.Tails.{after, tail_after, words_alone}
+use Rattle.cdg_checkpoint.proofs.Tails.{kept_after}
+use Rattle.cdg_io.proofs.Runs.{then_next_first}
+use Rattle.rw_interleave.specs.Gathering.{kept_symbols}
+use Rattle.stream_stages.specs.Steps.{words_give, words_next}
+use Rattle.stream_stages.specs.Drawn.{drawing_next}
 
 -- ---- the blocks of whole bytes
 
@@ -46,32 +49,28 @@ symbols_count lead_in n bytes whole =
     ap length (symbols_are lead_in n bytes whole) ∙ length-all_symbols (drop lead_in (units_of 96 n bytes)) (sized_drop 96 lead_in _ (units_sized 96 n bytes whole.fits))
     ∙ ap (λ k. 96 * k) (length-drop lead_in (units_of 96 n bytes) ∙ ap (λ k. k - lead_in) (length-units_of 96 n bytes))
 
--- the state before a stream
-pub record IsFresh (lead_in : ℕ) (s : Tracking) : Type 0 where
-  pub ready : IsReady Raw lead_in 1000000 s.words
-  pub tail : s.tail ≡ replicate 168 0
-
-module _ (lead_in n : ℕ) (bytes file : List ℕ) (s s' : Tracking) (fresh : IsFresh lead_in s) (few : n ≤ 1000000) (size : length bytes ≡ n * 96) (run : s' ≡ run_state track_next s (units_of 96 n bytes)) (kept : IsKept n lead_in s' file) where
+module _ (lead_in n : ℕ) (bytes file : List ℕ) (s s' : Then BlockWords Drawing) (ready : IsReady Raw lead_in 1000000 s) (few : n ≤ 1000000) (size : length bytes ≡ n * 96) (run : s' ≡ run_state words_drawn s (units_of 96 n bytes)) (kept : IsKept n lead_in s' file) where
   whole : IsWhole 96 n bytes
   whole = whole_taken Raw n bytes size
 
   units : List (List ℕ)
   units = units_of 96 n bytes
 
-  viewed : IsViewed (moment Raw lead_in 1000000) bytes s'.words.second.picture s'.words.second.bad
+  viewed : IsViewed (moment Raw lead_in 1000000) bytes s'.second.picture s'.second.bad
   viewed =
-      viewed_bytes Raw lead_in 1000000 s.words bytes n s'.words.second fresh.ready few whole
-      (ap (λ (t : Tracking). t.words.second) run ∙ ap (λ (t : Then BlockWords Drawing). t.second) (words_alone s (units_of 96 n bytes))
-      ∙ ap (λ (us : List (List ℕ)). (run_state drawings_next s.words us).second) (sym (plain_blocks Raw refl (units_of 96 n bytes))))
+      viewed_bytes Raw lead_in 1000000 s bytes n s'.second ready few whole
+      (ap (λ (t : Then BlockWords Drawing). t.second) run
+      ∙ ap (λ (us : List (List ℕ)). (run_state drawings_next s us).second) (sym (plain_blocks Raw refl (units_of 96 n bytes))))
 
   all_found : take (whole_packs 1000000) viewed.found ≡ viewed.found
   all_found = take_all (whole_packs 1000000) viewed.found (omega (arith, viewed.recovered.count, symbols_count lead_in n bytes whole, few))
 
-  slots : s'.tail ≡ last_symbols 168 (program_symbols Raw bytes lead_in)
+  slots : kept_symbols s'.first.gather ≡ last_symbols 168 (program_symbols Raw bytes lead_in)
   slots =
-      ap (λ (t : Tracking). t.tail) run
-      ∙ tail_after lead_in s (units_of 96 n bytes) (ap (λ (w : BlockWords). w.lead_in) fresh.ready.words) (ap length fresh.tail) (units_sized 96 n bytes whole.fits)
-      ∙ ap₂ after fresh.tail (sym (symbols_are lead_in n bytes whole))
+      ap (λ (t : Then BlockWords Drawing). kept_symbols t.first.gather) run
+      ∙ ap (λ (w : BlockWords). kept_symbols w.gather) (then_next_first words_next words_give drawing_next s (units_of 96 n bytes))
+      ∙ kept_after lead_in s.first (units_of 96 n bytes) ready.words (units_sized 96 n bytes whole.fits)
+      ∙ ap (last_symbols 168) (sym (symbols_are lead_in n bytes whole))
 
   pub is_saved : IsSaved lead_in bytes (record { units = n }) file
   is_saved =
@@ -96,9 +95,9 @@ module _ (lead_in n : ℕ) (bytes file : List ℕ) (s s' : Tracking) (fresh : Is
 
 -- ---- the answers
 
-module _ (lead_in : ℕ) (left left' held held' : Option (List ℕ)) (s s' : Tracking) (taken file : List ℕ) (pumped : Pumped) (fresh : IsFresh lead_in s) (w : TracksBlocks most_units track_next (feeding (from_to left left') (from_to s s')) (Ok pumped) taken) (kept : IsKept pumped.units lead_in s' file) where
+module _ (lead_in : ℕ) (left left' held held' : Option (List ℕ)) (s s' : Then BlockWords Drawing) (taken file : List ℕ) (pumped : Pumped) (ready : IsReady Raw lead_in 1000000 s) (w : TracksBlocks most_units words_drawn (feeding (from_to left left') (from_to s s')) (Ok pumped) taken) (kept : IsKept pumped.units lead_in s' file) where
   saved : IsSaved lead_in taken pumped file
-  saved = is_saved lead_in pumped.units taken file s s' fresh w.done.2 w.done.1 w.done.3 kept
+  saved = is_saved lead_in pumped.units taken file s s' ready w.done.2 w.done.1 w.done.3 kept
 
   pub saves_done : (text : List ℕ) → text ≡ file → Appends held held' text → Saves lead_in (passing (from_to left left') (from_to held held')) (Ok pumped) taken
   saves_done text e put = record {

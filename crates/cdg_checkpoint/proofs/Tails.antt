@@ -1,85 +1,80 @@
--- The last symbols of a stream, block by block.
-use Rattle.std.proofs.Common.{◌≡◌, ◌==◌, ℕ, zero, suc, ◌+◌, ◌-◌, ◌%◌, ◌<◌, ◌≤◌, Bool, true, false, cond, List, [], ◌∷◌, ◌++◌, length, get_or, drop, refl, sym, ap, ap₂, ◌∙◌, arith, length-append, length-drop, append_assoc, inl, inr}
-use Rattle.std.specs.List.{flat_map}
-use Rattle.std.proofs.lemmas.Bool.Decides.{eqb_tells}
-use Rattle.std.proofs.lemmas.List.{append-nil, drop-append-le, drop-drop, length-map, get_or-drop, get_or_append_left, get_or-append_right, get_or-map}
+-- The last slots of a stream, and their symbols.
+use Rattle.std.proofs.Common.{◌≡◌, ℕ, zero, suc, ◌+◌, ◌-◌, ◌*◌, ◌≤◌, List, [], ◌∷◌, ◌++◌, length, drop, replicate, refl, sym, ap, ap₂, ◌∙◌, arith, length-append, length-drop, append_assoc, inl, inr}
+use Rattle.std.specs.List.{concat, flat_map}
+use Rattle.std.proofs.Math.Seq.{drop-append-add, drop-nil}
+use Rattle.std.proofs.lemmas.Bool.{cases_lt}
+use Rattle.std.proofs.lemmas.List.{append-nil, drop-append-le, drop-drop, drop-replicate, length-replicate}
 use Rattle.cdg_io.specs.Run.{run_state}
 use Rattle.raw_subcode.specs.Channels.{symbols_of}
-use Rattle.stream_stages.specs.Steps.{words_next, window_next, slots_of}
+use Rattle.raw_subcode.specs.declared.form.Form.TheVariants.{Raw}
+use Rattle.rw_interleave.specs.Gathering.{gather_next, kept_symbols, last_seven}
+use Rattle.stream_stages.specs.Steps.{slots_of, window_next, words_next}
 use Rattle.stream_stages.specs.declared.block_words.BlockWords.{BlockWords}
-use Rattle.stream_stages.proofs.Slots.{Sized}
-use Rattle.cdg_checkpoint.specs.Tracked.{track_next, tail_next, words_drawn}
-use Rattle.cdg_checkpoint.specs.declared.tracking.Tracking.{Tracking}
+use Rattle.stream_stages.proofs.Slots.{Sized, all_slots_sized, all_slots_together, sized_drop}
+use Rattle.stream_stages.proofs.StageRuns.{window_run}
+use Rattle.cdg_checkpoint.specs.Saved.{last_symbols}
 
-length-symbols : (block : List ℕ) → length (symbols_of block) ≡ length block
-length-symbols block = length-map block (λ (byte : ℕ). byte % 64)
+-- the last seven of the last seven and others are those of all
+seven_again : (w : List (List ℕ)) (s : List ℕ) (slots : List (List ℕ)) → length w ≤ 7 → last_seven (last_seven (w ++ s ∷ []) ++ slots) ≡ last_seven (w ++ s ∷ slots)
+seven_again w s slots few =
+    let l : List (List ℕ) = w ++ s ∷ [] in
+    let k : ℕ = length (w ++ s ∷ []) - 7 in
+    let all : List (List ℕ) = (w ++ s ∷ []) ++ slots in
+    let place : k + (length (drop k all) - 7) ≡ length all - 7 = omega (arith, few, length-append w (s ∷ []), length-append l slots, length-drop k all) in
+    ap last_seven (sym (drop-append-le k l slots (omega arith))) ∙ drop-drop (length (drop k all) - 7) k all ∙ ap (λ n. drop n all) place ∙ ap last_seven (append_assoc w (s ∷ []) slots)
 
-pub length-tail : (tail block : List ℕ) → length tail ≡ 168 → length block ≡ 96 → length (drop 96 (tail ++ symbols_of block)) ≡ 168
-length-tail tail block size block_size = omega (arith, length-drop 96 (tail ++ symbols_of block), length-append tail (symbols_of block), length-symbols block, size, block_size)
+keeps_last : (w slots : List (List ℕ)) → length w ≤ 7 → run_state gather_next w slots ≡ last_seven (w ++ slots)
+unfolding gather_next
+keeps_last w [] few =
+    let none : length w - 7 ≡ 0 = omega (arith, few) in
+    sym (ap last_seven (append-nil w) ∙ ap (λ n. drop n w) none)
+keeps_last w (s ∷ slots) few =
+    keeps_last (last_seven (w ++ s ∷ [])) slots (omega (arith, few, length-append w (s ∷ []), length-drop (length (w ++ s ∷ []) - 7) (w ++ s ∷ []))) ∙ seven_again w s slots few
 
--- the words go on as by themselves
-pub words_alone : (s : Tracking) (blocks : List (List ℕ)) → (run_state track_next s blocks).words ≡ run_state words_drawn s.words blocks
-words_alone s [] = refl
-words_alone s (block ∷ blocks) = words_alone (track_next s block) blocks
+concat_drop : (m : ℕ) (slots : List (List ℕ)) → Sized 24 slots → concat (drop m slots) ≡ drop (24 * m) (concat slots)
+concat_drop zero slots all = refl
+concat_drop (suc m) [] all = sym (drop-nil {A = ℕ} (24 * suc m))
+concat_drop (suc m) (s ∷ slots) all =
+    let place : length s + 24 * m ≡ 24 * suc m = omega (arith, all.0) in
+    concat_drop m slots all.1 ∙ sym (drop-append-add s (concat slots) (24 * m)) ∙ ap (λ n. drop n (s ++ concat slots)) place
 
-choose : (t b : Bool) (m n : BlockWords) (k : ℕ) → t ≡ b → (cond b m n).lead_in ≡ k → (cond t m n).lead_in ≡ k
-choose t b m n k e h = ap (λ t. (cond t m n).lead_in) e ∙ h
+length-concat : (slots : List (List ℕ)) → Sized 24 slots → length (concat slots) ≡ 24 * length slots
+length-concat [] all = refl
+length-concat (s ∷ slots) all = omega (arith, length-append s (concat slots), all.0, length-concat slots all.1)
 
-fewer : (w : BlockWords) (block : List ℕ) (n : ℕ) → w.lead_in ≡ suc n → (words_next w block).lead_in ≡ n
-unfolding words_next
-fewer w block n e = elim (eqb_tells w.lead_in 0) [
-  | inl none ↦ absurd (omega (arith, none.1, e))
-  | inr some ↦ let less : w.lead_in - 1 ≡ n = omega (arith, e) in choose (w.lead_in == 0) false (record w { gather = run_state (window_next w.form) w.gather (slots_of block) }) (record w { lead_in = w.lead_in - 1 }) n some.0 less
-]
+-- the symbols of the last seven, with zeros before them
+kept_last : (slots : List (List ℕ)) → Sized 24 slots → kept_symbols (last_seven slots) ≡ last_symbols 168 (concat slots)
+kept_last slots all =
+    let n : ℕ = length slots in
+    let m : ℕ = length slots - 7 in
+    let size = length-concat slots all in
+    let zeros : List ℕ = replicate 168 0 in
+    let kept : 24 * (7 - length (drop m slots)) ≡ 168 - 24 * n = omega (arith, length-drop m slots) in
+    let left : kept_symbols (last_seven slots) ≡ replicate (168 - 24 * n) 0 ++ drop (24 * m) (concat slots) = ap₂ (λ k (l : List ℕ). replicate k 0 ++ l) kept (concat_drop m slots all) in
+    elim (cases_lt 7 n) [
+      | inl many ↦
+          let none : 168 - 24 * n ≡ 0 = omega (arith, many) in
+          let place : length (replicate {A = ℕ} 168 0) + 24 * m ≡ length (concat slots) = omega (arith, many, size, length-replicate {A = ℕ}) in
+          left ∙ ap (λ k. replicate k 0 ++ drop (24 * m) (concat slots)) none ∙ sym (drop-append-add zeros (concat slots) (24 * m)) ∙ ap (λ k. drop k (zeros ++ concat slots)) place
+      | inr few ↦
+          let none : 24 * m ≡ 0 = omega (arith, few) in
+          let fits : length (concat slots) ≤ length (replicate {A = ℕ} 168 0) = omega (arith, few, size, length-replicate {A = ℕ}) in
+          let rest : 168 - 24 * n ≡ 168 - length (concat slots) = omega (arith, size) in
+          left ∙ ap (λ k. replicate (168 - 24 * n) 0 ++ drop k (concat slots)) none ∙ ap (λ k. replicate k 0 ++ concat slots) rest
+          ∙ ap (λ (l : List ℕ). l ++ concat slots) (sym (drop-replicate (length (concat slots)) 168 0)) ∙ sym (drop-append-le (length (concat slots)) zeros (concat slots) fits)
+    ]
 
-still_none : (w : BlockWords) (block : List ℕ) → w.lead_in ≡ 0 → (words_next w block).lead_in ≡ 0
-unfolding words_next
-still_none w block e = elim (eqb_tells w.lead_in 0) [
-  | inl none ↦ choose (w.lead_in == 0) true (record w { gather = run_state (window_next w.form) w.gather (slots_of block) }) (record w { lead_in = w.lead_in - 1 }) 0 none.0 e
-  | inr some ↦ absurd (some.1 e)
-]
+raw_window : (w slots : List (List ℕ)) → run_state (window_next Raw) w slots ≡ run_state gather_next w slots
+unfolding window_next
+raw_window w [] = refl
+raw_window w (s ∷ slots) = raw_window (gather_next w s) slots
 
-tail_of_program : (to_come : ℕ) (tail block : List ℕ) → to_come ≡ 0 → tail_next to_come tail block ≡ drop 96 (tail ++ symbols_of block)
-unfolding tail_next
-tail_of_program to_come tail block e = ap (λ n. cond (n == 0) (drop 96 (tail ++ symbols_of block)) tail) e
-
-tail_of_lead_in : (to_come n : ℕ) (tail block : List ℕ) → to_come ≡ suc n → tail_next to_come tail block ≡ tail
-unfolding tail_next
-tail_of_lead_in to_come n tail block e = elim (eqb_tells to_come 0) [
-  | inl none ↦ absurd (omega (arith, none.1, e))
-  | inr some ↦ ap (λ t. cond t (drop 96 (tail ++ symbols_of block)) tail) some.0
-]
-
--- symbol i of the tail after a block
-pub kept_symbol : (tail block : List ℕ) (i : ℕ) → length tail ≡ 168 → i < 72 → get_or tail (96 + i) 0 ≡ get_or (drop 96 (tail ++ symbols_of block)) i 0
-kept_symbol tail block i size lt = sym (get_or-drop 96 (tail ++ symbols_of block) i 0 ∙ get_or_append_left tail (symbols_of block) 0 (96 + i) (omega (arith, size, lt)))
-
-pub new_symbol : (tail block : List ℕ) (i : ℕ) → length tail ≡ 168 → length block ≡ 96 → 72 ≤ i → i < 168 → get_or block (i - 72) 0 % 64 ≡ get_or (drop 96 (tail ++ symbols_of block)) i 0
-new_symbol tail block i size block_size le lt =
-    let place : 96 + i - 168 ≡ i - 72 = omega (arith, le) in
-    let rest : get_or (tail ++ symbols_of block) (96 + i) 0 ≡ get_or (symbols_of block) (96 + i - 168) 0 = get_or-append_right tail (symbols_of block) 168 (96 + i) 0 size (omega (arith, le)) in
-    sym (get_or-drop 96 (tail ++ symbols_of block) i 0 ∙ rest ∙ ap (λ k. get_or (symbols_of block) k 0) place ∙ get_or-map (λ (byte : ℕ). byte % 64) block (i - 72) 0 0 (omega (arith, block_size, le, lt)))
-
--- the last symbols of a tail and what follows it
-abbrev pub after : List ℕ → List ℕ → List ℕ
-after tail symbols = drop (length symbols) (tail ++ symbols)
-
-one_block : (tail block rest : List ℕ) → length tail ≡ 168 → length block ≡ 96 → after (drop 96 (tail ++ symbols_of block)) rest ≡ after tail (symbols_of block ++ rest)
-one_block tail block rest size block_size =
-    let fits : 96 ≤ length (tail ++ symbols_of block) = omega (arith, length-append tail (symbols_of block), length-symbols block, size, block_size) in
-    let whole : 96 + length rest ≡ length (symbols_of block ++ rest) = omega (arith, length-append (symbols_of block) rest, length-symbols block, block_size) in
-    ap (drop (length rest)) (sym (drop-append-le 96 (tail ++ symbols_of block) rest fits)) ∙ drop-drop (length rest) 96 (tail ++ symbols_of block ++ rest)
-    ∙ ap₂ (λ n (l : List ℕ). drop n l) whole (append_assoc tail (symbols_of block) rest)
-
-pub tail_after : (to_come : ℕ) (s : Tracking) (blocks : List (List ℕ)) → s.words.first.lead_in ≡ to_come → length s.tail ≡ 168 → Sized 96 blocks
-    → (run_state track_next s blocks).tail ≡ after s.tail (flat_map symbols_of (drop to_come blocks))
-tail_after zero s [] e size sized = sym (append-nil s.tail)
-tail_after (suc n) s [] e size sized = sym (append-nil s.tail)
-tail_after zero s (block ∷ blocks) e size sized =
-    let next = tail_of_program s.words.first.lead_in s.tail block e in
-    tail_after zero (track_next s block) blocks (still_none s.words.first block e) (ap length next ∙ length-tail s.tail block size sized.0) sized.1
-    ∙ ap (λ (t : List ℕ). after t (flat_map symbols_of blocks)) next ∙ one_block s.tail block (flat_map symbols_of blocks) size sized.0
-tail_after (suc n) s (block ∷ blocks) e size sized =
-    let next = tail_of_lead_in s.words.first.lead_in n s.tail block e in
-    tail_after n (track_next s block) blocks (fewer s.words.first block n e) (ap length next ∙ size) sized.1
-    ∙ ap (λ (t : List ℕ). after t (flat_map symbols_of (drop n blocks))) next
+-- what a window keeps of a stream are its last symbols
+pub kept_after : (lead_in : ℕ) (s : BlockWords) (blocks : List (List ℕ)) → s ≡ record { form = Raw; lead_in = lead_in; gather = [] } → Sized 96 blocks
+    → kept_symbols (run_state words_next s blocks).gather ≡ last_symbols 168 (flat_map symbols_of (drop lead_in blocks))
+kept_after lead_in s blocks fresh sized =
+    let program : List (List ℕ) = drop lead_in blocks in
+    let sized_program : Sized 96 program = sized_drop 96 lead_in blocks sized in
+    let slots : List (List ℕ) = flat_map slots_of program in
+    let window = ap (λ (s : BlockWords). (run_state words_next s blocks).gather) fresh ∙ window_run Raw lead_in [] blocks ∙ raw_window [] slots ∙ keeps_last [] slots (omega arith) in
+    ap kept_symbols window ∙ kept_last slots (all_slots_sized program sized_program) ∙ ap (last_symbols 168) (all_slots_together program sized_program)

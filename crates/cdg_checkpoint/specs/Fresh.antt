@@ -1,5 +1,5 @@
 -- The state before any stream.
-use Rattle.std.specs.Prelude.{◌≡◌, [], replicate}
+use Rattle.std.specs.Prelude.{◌≡◌, []}
 use Rattle.cdg_screen.specs.Picture.{blank}
 use Rattle.raw_subcode.specs.declared.form.Form.TheVariants.{Raw}
 use Rattle.stream_stages.specs.Steps.{fresh_words}
@@ -8,8 +8,7 @@ use Rattle.cdg_checkpoint.specs.declared.checkpointer.Checkpointer.{Checkpointer
 
 -- nothing was read: no slot is kept, no word is bad, all that stands is zero, and there is no file
 pub record IsFresh (c : Checkpointer) : Type 0 where
-  pub words : words_of c.tracking.words ≡ fresh_words Raw 0
-  pub bad : (drawing_of c.tracking.words).bad ≡ 0
-  pub stands : (drawing_of c.tracking.words).picture ≡ blank
-  pub slots : c.tracking.tail ≡ replicate 168 0
+  pub words : words_of c.words ≡ fresh_words Raw 0
+  pub bad : (drawing_of c.words).bad ≡ 0
+  pub stands : (drawing_of c.words).picture ≡ blank
   pub file : c.file ≡ []

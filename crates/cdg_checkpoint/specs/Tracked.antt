@@ -1,5 +1,5 @@
--- The steps of a stage that draws all packs of a stream and keeps its last slots.
-use Rattle.std.specs.Prelude.{◌≡◌, ℕ, ◌==◌, ◌+◌, ◌*◌, ◌<◌, ◌≤◌, if◌then◌else◌, List, ◌++◌, drop, length, Result, Err, IfOk, ◌≢◌}
+-- The steps of a stage that draws the packs of a stream.
+use Rattle.std.specs.Prelude.{◌≡◌, ℕ, ◌+◌, ◌*◌, ◌<◌, ◌≤◌, List, length, Result, Err, IfOk, ◌≢◌}
 use Rattle.std.specs.Io.KnownBytes.{Consumes, IsAtEnd}
 use Rattle.cdg_io.specs.Change.{Fed}
 use Rattle.cdg_io.specs.Pump.{units_of}
@@ -8,29 +8,16 @@ use Rattle.cdg_io.specs.declared.pumping.Pumped.{Pumped}
 use Rattle.cdg_io.specs.declared.pumping.PumpStop.{PumpStop}
 use Rattle.cdg_io.specs.declared.pumping.PumpStop.TheVariants.{WriteFault, Torn}
 use Rattle.cdg_io.specs.declared.stage.Then.{Then}
-use Rattle.raw_subcode.specs.Channels.{symbols_of}
 use Rattle.stream_stages.specs.Steps.{words_next, words_give}
-use Rattle.stream_stages.specs.Stages.{words_of}
 use Rattle.stream_stages.specs.Drawn.{drawing_next}
 use Rattle.stream_stages.specs.declared.block_words.BlockWords.{BlockWords}
 use Rattle.stream_stages.specs.declared.drawing.Drawing.{Drawing}
-use Rattle.cdg_checkpoint.specs.declared.tracking.Tracking.{Tracking}
 
 -- the words of a stream, and what they draw, after a block
 abbrev pub words_drawn : Then BlockWords Drawing → List ℕ → Then BlockWords Drawing
 words_drawn s block = record {
   first = words_next s.first block;
   second = then_second drawing_next s.second (words_give s.first block);
-}
-
--- the last symbols of the program after a block: those of a block of the lead-in do not count
-unfoldable pub tail_next : ℕ → List ℕ → List ℕ → List ℕ
-tail_next to_come tail block = if to_come == 0 then drop 96 (tail ++ symbols_of block) else tail
-
-abbrev pub track_next : Tracking → List ℕ → Tracking
-track_next s block = record {
-  words = words_drawn s.words block;
-  tail = tail_next (words_of s.words).lead_in s.tail block;
 }
 
 -- These bytes were taken, and where they are whole blocks to the end, the stage is in the last state of its run over

@@ -2,11 +2,8 @@
 ghost use Rattle.std.specs.Prelude.{IfOk};
 ghost use Rattle.cdg_checkpoint.specs.Fresh.{IsFresh};
 
-use crate::Tracking;
 use cdg_io::Then;
-use checkpoint_files::{CheckpointFile, SLOTS_BYTES};
-use raw_subcode::Form;
-use rw_interleave::Window;
+use checkpoint_files::CheckpointFile;
 use std::alloc::{AllocError, Global};
 use stream_stages::{BlockWords, Drawing, Picture};
 
@@ -14,8 +11,8 @@ use stream_stages::{BlockWords, Drawing, Picture};
 /// each call begins anew, whatever stopped the one before.
 #[derive(Drop)]
 pub struct Checkpointer {
-    /// What a stream drew, and its last slots.
-    pub tracking: Tracking,
+    /// The last slots of a stream, and what it drew.
+    pub words: Then<BlockWords, Drawing>,
     /// The file of a checkpoint.
     pub file: CheckpointFile,
 }
@@ -29,21 +26,13 @@ impl Checkpointer {
     pub fn start(alloc: Global) -> Result<Checkpointer, AllocError>
         ensures { IfOk result IsFresh }
     {
-        let words = BlockWords {
-            form: Form::Raw,
-            lead_in: 0,
-            gather: Window::new(),
-        };
         let drawing = Drawing {
             picture: Picture::start(alloc)?,
             left: 0,
             bad: 0,
         };
         Ok(Checkpointer {
-            tracking: Tracking {
-                words: Then::new(words, drawing),
-                tail: [0; SLOTS_BYTES],
-            },
+            words: Then::new(BlockWords::new(), drawing),
             file: CheckpointFile::start(alloc)?,
         })
     }

@@ -7,10 +7,8 @@ mod pictures;
 mod resuming;
 mod saving;
 mod stops;
-mod tracking;
 mod watch;
 
 pub use checkpointer::Checkpointer;
 pub use laws::{a_resumed_stream_is_the_whole, a_saved_stream_goes_on_as_the_whole};
 pub use stops::{ResumeStop, Resumed};
-pub use tracking::Tracking;

@@ -123,7 +123,7 @@ impl Checkpointer {
     {
         match self.go_on(at, rest) {
             Ok(resumed) => {
-                let drawing = &self.tracking.words.second;
+                let drawing = &self.words.second;
                 match drawing.picture.write_ppm(out) {
                     Ok(()) => Ok(resumed),
                     Err(Failed) => Err(ResumeStop::WriteFault),
@@ -190,7 +190,7 @@ impl Checkpointer {
         requires not_later { (checkpoint_in self.old.file).program ≤ at }
         ensures goes_on { (taken : List ℕ)
             × GoesOn (time_after (checkpoint_in self.old.file) at) (change S.left rest.old rest.new)
-            (drawing_of self.new.tracking.words).picture result taken }
+            (drawing_of self.new.words).picture result taken }
         ensures answer { IfSome (S.left rest.old)
             (λ all. IsGoneOnBy result (checkpoint_in self.old.file) at (length all)) }
         ensures file { self.new.file ≡ self.old.file }
@@ -205,7 +205,7 @@ impl Checkpointer {
         let counts = self.file.counts();
         self.begin_again(&counts, at);
         let read = counts.lead_in + counts.program;
-        match watch_some(MOST_UNITS - read, rest, &mut self.tracking.words) {
+        match watch_some(MOST_UNITS - read, rest, &mut self.words) {
             Ok(pumped) => self.resumed(&counts, pumped, at),
             Err(stop) => match stop {
                 PumpStop::ReadFault | PumpStop::WriteFault => Err(ResumeStop::SecondFault),
@@ -220,13 +220,13 @@ impl Checkpointer {
         requires { counts.now.program + pumped.units < 2 ^ 32 }
         ensures accepted { IsOk (acceptance result) }
         ensures answer { result ≡ reached (counts.now.program + (pumped.units - counts.now.to_come)) at
-            (drawing_of self.now.tracking.words).bad }
+            (drawing_of self.now.words).bad }
     {
         let blocks = counts.program + pumped.units.saturating_sub(counts.to_come);
         if blocks < at {
             return Err(ResumeStop::PastEnd { blocks });
         }
-        let drawing = &self.tracking.words.second;
+        let drawing = &self.words.second;
         Ok(Resumed {
             blocks,
             bad: drawing.bad,
@@ -240,21 +240,21 @@ impl Checkpointer {
         requires to_come { counts.now.to_come ≡ (checkpoint_in self.old.file).to_come }
         requires program { counts.now.program ≡ (checkpoint_in self.old.file).program }
         requires not_later { counts.now.program ≤ at }
-        ensures words { words_of self.new.tracking.words ≡ record {
+        ensures words { words_of self.new.words ≡ record {
           form = Form.Raw;
           lead_in = counts.now.to_come;
           gather = run_state gather_next [] (saved_slots (checkpoint_in self.old.file));
         } }
-        ensures left { (drawing_of self.new.tracking.words).left ≡ packs_until (checkpoint_in self.old.file) at }
-        ensures bad { (drawing_of self.new.tracking.words).bad ≡ counts.now.bad }
-        ensures stands { (drawing_of self.new.tracking.words).picture ≡ standing_in self.old.file }
+        ensures left { (drawing_of self.new.words).left ≡ packs_until (checkpoint_in self.old.file) at }
+        ensures bad { (drawing_of self.new.words).bad ≡ counts.now.bad }
+        ensures stands { (drawing_of self.new.words).picture ≡ standing_in self.old.file }
         ensures file { self.new.file ≡ self.old.file }
     {
         self.gather_slots(counts);
-        let words = &mut self.tracking.words.first;
+        let words = &mut self.words.first;
         words.form = Form::Raw;
         words.lead_in = counts.to_come;
-        let drawing = &mut self.tracking.words.second;
+        let drawing = &mut self.words.second;
         drawing.left = whole_packs(at) - whole_packs(counts.program);
         drawing.bad = counts.bad;
         bring_back(&self.file, &mut drawing.picture);
@@ -264,11 +264,11 @@ impl Checkpointer {
     fn gather_slots(&mut self, counts: &Counts)
         requires file { IsCheckpointFile self.old.file }
         requires program { counts.now.program ≡ (checkpoint_in self.old.file).program }
-        ensures gather { (words_of self.new.tracking.words).gather
+        ensures gather { (words_of self.new.words).gather
             ≡ run_state gather_next [] (saved_slots (checkpoint_in self.old.file)) }
         ensures file { self.new.file ≡ self.old.file }
     {
-        let words = &mut self.tracking.words.first;
+        let words = &mut self.words.first;
         let gather = &mut words.gather;
         gather.reset();
         let kept = SLOTS.min(4 * counts.program.min(2));

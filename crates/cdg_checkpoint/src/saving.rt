@@ -54,7 +54,7 @@ impl Checkpointer {
         ensures no_write_fault { result ≢ Err PumpStop.WriteFault → K.faults out.new ≡ K.faults out.old }
     {
         self.begin(lead_in);
-        match watch(MOST_UNITS, source, &mut self.tracking) {
+        match watch(MOST_UNITS, source, &mut self.words) {
             Ok(pumped) => {
                 self.keep(pumped, lead_in);
                 match put_all(out, self.file.bytes()) {
@@ -68,36 +68,31 @@ impl Checkpointer {
 
     // Brings back the state before a stream, all of whose packs are drawn.
     fn begin(&mut self, lead_in: u32)
-        ensures words { words_of self.new.tracking.words ≡ fresh_words Form.Raw lead_in }
-        ensures left { (drawing_of self.new.tracking.words).left ≡ whole_packs most_units }
-        ensures bad { (drawing_of self.new.tracking.words).bad ≡ 0 }
-        ensures blank { (drawing_of self.new.tracking.words).picture ≡ blank }
-        ensures tail { self.new.tracking.tail ≡ replicate 168 0 }
+        ensures words { words_of self.new.words ≡ fresh_words Form.Raw lead_in }
+        ensures left { (drawing_of self.new.words).left ≡ whole_packs most_units }
+        ensures bad { (drawing_of self.new.words).bad ≡ 0 }
+        ensures blank { (drawing_of self.new.words).picture ≡ blank }
     {
-        let words = &mut self.tracking.words.first;
-        words.form = Form::Raw;
-        words.lead_in = lead_in;
-        words.gather.reset();
-        let drawing = &mut self.tracking.words.second;
+        self.words.first.begin(lead_in, Form::Raw);
+        let drawing = &mut self.words.second;
         drawing.left = MOST_PACKS;
         drawing.bad = 0;
         drawing.picture.reset();
-        self.tracking.tail = [0; SLOTS_BYTES];
     }
 
     // Composes the file of what was read of a stream.
     fn keep(&mut self, pumped: Pumped, lead_in: u32)
-        ensures { IsKept pumped.units lead_in self.old.tracking self.new.file }
+        ensures { IsKept pumped.units lead_in self.old.words self.new.file }
     {
         let read = pumped.units.min(lead_in);
-        let tracking = &self.tracking;
-        let drawing = &tracking.words.second;
+        let drawing = &self.words.second;
         let counts = Counts {
             to_come: lead_in - read,
             lead_in: read,
             program: pumped.units - read,
             bad: drawing.bad,
         };
-        compose(&mut self.file, &counts, &tracking.tail, &drawing.picture);
+        let slots = self.words.first.gather.symbols();
+        compose(&mut self.file, &counts, &slots, &drawing.picture);
     }
 }

@@ -23,6 +23,10 @@ pixel_at rows x y = slice_index (slice_index_or rows y []) x
 unfoldable pub rows_of : (ℕ → ℕ → ℕ) → List (List ℕ)
 rows_of pixel = map (λ y. map (λ x. pixel x y) (below 300)) (below 216)
 
+-- the rows of the memory, of its pixels in one list, row by row from the left
+abbrev pub rows_in : List ℕ → List (List ℕ)
+rows_in pixels = rows_of (λ x y. slice_index pixels (300 * y + x))
+
 -- sixteen numbers, by what number k is
 unfoldable pub sixteen : (ℕ → ℕ) → List ℕ
 sixteen number = map number (below 16)

@@ -1,5 +1,4 @@
 pub mod Checkpoint
 pub mod Table
 pub mod Scan
-pub mod Drawn
 pub mod Sound

@@ -13,7 +13,7 @@ use arrayvec::ArrayVec;
 use cdg_io::Stage;
 use raw_subcode::{BLOCK_BYTES, Form, SLOTS_A_BLOCK};
 use rw_code::{SYMBOLS, Word};
-use rw_interleave::Window;
+use rw_interleave::Gather;
 use std::alloc::{AllocError, Global};
 use stream_stages::{BlockOfWords, BlockWords, Drawing, Picture};
 
@@ -39,7 +39,7 @@ impl LivePlayer {
         let words = BlockWords {
             form: Form::Raw,
             lead_in: 0,
-            gather: Window::new(),
+            gather: Gather::new(),
         };
         Ok(LivePlayer { words, drawing })
     }

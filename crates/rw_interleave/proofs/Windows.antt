@@ -1,18 +1,18 @@
 -- What a window of slots gives with a block, and what it is afterwards.
-use Rattle.std.proofs.Common.{◌≡◌, ℕ, zero, suc, ◌+◌, ◌-◌, ◌*◌, ◌%◌, ◌<◌, ◌≤◌, false, List, [], ◌∷◌, ◌++◌, length, map, min, refl, sym, ap, ap₂, zero-add, ◌∙◌, arith, Some, None, inl, inr, bit_or}
+use Rattle.std.proofs.Common.{◌≡◌, ℕ, zero, suc, ◌+◌, ◌-◌, ◌*◌, ◌%◌, ◌<◌, ◌≤◌, Bool, false, List, [], ◌∷◌, ◌++◌, length, length-append, length-drop, map, min, take, drop, refl, sym, ap, ap₂, zero-add, ◌∙◌, arith, Some, None, inl, inr, bit_or}
 use Rattle.std.specs.Prelude.{slice_index, replicate}
 use Rattle.std.specs.declared.option.Option.{Option}
-use Rattle.std.specs.List.{range_with_len}
+use Rattle.std.specs.List.{concat, range_with_len}
 use Rattle.std.proofs.lemmas.Bool.{cases_lt}
 use Rattle.std.proofs.lemmas.Nat.{or_mod, le_or_l, le_or_r}
-use Rattle.std.proofs.lemmas.List.{append-nil, get_or-replicate}
+use Rattle.std.proofs.lemmas.List.{append-nil, drop_all, drop-drop, get_or-append_right, get_or_append_left, get_or-drop, get_or-replicate, get_or-take, length-replicate, length-take-le, replicate-append-replicate, take-append-drop}
 use Rattle.std.proofs.lemmas.Grind.{same_number_lists}
 use Rattle.std.proofs.lemmas.List.Elements.{All-get_or}
 use Rattle.std.proofs.lemmas.List.FromFn.{map-range_with_len_more, get_or-map-range_with_len, length-map-range_with_len}
 use Rattle.rw_code.specs.Codeword.{IsWord}
 use Rattle.cdg_io.specs.Run.{give, run_state, run_gives}
 use Rattle.cdg_io.proofs.Runs.{run_state-append, run_gives-append}
-use Rattle.rw_interleave.specs.Gathering.{gathered, gather_next, gather_gives, symbol_at}
+use Rattle.rw_interleave.specs.Gathering.{gathered, gather_next, gather_gives, kept_symbols, symbol_at}
 use Rattle.rw_interleave.specs.Interleave.{swapped}
 use Rattle.rw_interleave.specs.Windows.{IsWindow, slot_in, slots_in}
 use Rattle.rw_interleave.proofs.Gathers.{gather_short, gather_full}
@@ -241,6 +241,81 @@ pub moved_symbols : (p m : List ℕ) → ((n : ℕ) → n < 264 → slice_index 
     → (n : ℕ) → n < 168 → slice_index m n < 64
 moved_symbols p m small moved n within = let there = small (96 + n) (omega arith) in let same = moved n within in omega (arith, there, same)
 
+-- ---- The last seven slots as two lists, of three slots and of four.
+
+-- where each is that of a row
+pub joined_at : (early late row : List ℕ) (at : ℕ) → length early ≡ 72 → ((n : ℕ) → n < 72 → slice_index early n ≡ slice_index row (at + n)) → ((n : ℕ) → n < 96 → slice_index late n ≡ slice_index row (at + 72 + n))
+    → (n : ℕ) → n < 168 → slice_index (early ++ late) n ≡ slice_index row (at + n)
+joined_at early late row at size first second n within =
+    elim (cases_lt n 72) [
+      | inl lt ↦ get_or_append_left early late 0 n (omega (arith, lt, size)) ∙ first n lt
+      | inr ge ↦
+          let place : at + 72 + (n - 72) ≡ at + n = omega (arith, ge) in
+          get_or-append_right early late 72 n 0 size ge ∙ second (n - 72) (omega (arith, ge, within)) ∙ ap (slice_index row) place
+    ]
+
+-- where each is so
+pub joined_zeros : (early late : List ℕ) → length early ≡ 72 → ((n : ℕ) → n < 72 → slice_index early n % 64 ≡ 0) → ((n : ℕ) → n < 96 → slice_index late n % 64 ≡ 0) → (n : ℕ) → n < 168 → slice_index (early ++ late) n % 64 ≡ 0
+joined_zeros early late size first second n within =
+    elim (cases_lt n 72) [
+      | inl lt ↦ ap (λ x. x % 64) (get_or_append_left early late 0 n (omega (arith, lt, size))) ∙ first n lt
+      | inr ge ↦ ap (λ x. x % 64) (get_or-append_right early late 72 n 0 size ge) ∙ second (n - 72) (omega (arith, ge, within))
+    ]
+
+-- ---- Their symbols.
+
+slot_bytes : (b : List ℕ) (k : ℕ) → 24 * k + 24 ≤ length b → ((n : ℕ) → n < length b → slice_index b n < 64) → slot_in b k ≡ take 24 (drop (24 * k) b)
+unfolding slot_in
+slot_bytes b k fits small =
+    let size : length (map (λ i. slice_index b (24 * k + i) % 64) (range_with_len 0 24)) ≡ 24 = length-map-range_with_len (λ i. slice_index b (24 * k + i) % 64) 0 24 in
+    let other : length (take 24 (drop (24 * k) b)) ≡ 24 = length-take-le 24 (drop (24 * k) b) (omega (arith, fits, length-drop (24 * k) b)) in
+    same_number_lists _ (take 24 (drop (24 * k) b)) (size ∙ sym other) (λ i lt.
+    let within : i < 24 = omega (arith, lt, size) in
+    let below : slice_index b (24 * k + i) < 64 = small (24 * k + i) (omega (arith, fits, within)) in
+    let low : slice_index b (24 * k + i) % 64 ≡ slice_index b (24 * k + i) = omega (arith, below) in
+    get_or-map-range_with_len (λ i. slice_index b (24 * k + i) % 64) 0 24 i i 0 within (omega arith) ∙ low ∙ sym (get_or-take 24 (drop (24 * k) b) i 0 within ∙ get_or-drop (24 * k) b i 0))
+
+slots_rest : (b : List ℕ) (f n : ℕ) → 24 * (f + n) ≡ length b → ((n : ℕ) → n < length b → slice_index b n < 64) → concat (slots_in b f n) ≡ drop (24 * f) b
+unfolding slots_in
+slots_rest b f zero size small = sym (drop_all (24 * f) b (omega (arith, size)))
+slots_rest b f (suc n) size small =
+    let place : 24 * f + 24 ≡ 24 * (f + 1) = omega arith in
+    let rest : drop (24 * (f + 1)) b ≡ drop 24 (drop (24 * f) b) = sym (drop-drop 24 (24 * f) b ∙ ap (λ k. drop k b) place) in
+    ap₂ (λ (x y : List ℕ). x ++ y) (slot_bytes b f (omega (arith, size)) small) (slots_rest b (f + 1) n (omega (arith, size)) small ∙ rest) ∙ take-append-drop 24 (drop (24 * f) b)
+
+-- zeros, and the symbols of the slots that have come
+pub kept_in : (b : List ℕ) (count : ℕ) (quiet : Bool) → IsWindow b count quiet → replicate (24 * (7 - count)) 0 ++ drop (24 * (7 - count)) b ≡ kept_symbols (start b count)
+kept_in b count quiet w =
+    let few = w.few in
+    ap₂ (λ k (l : List ℕ). replicate (24 * (7 - k)) 0 ++ l) (sym (length-slots_in b (7 - count) count))
+    (sym (slots_rest b (7 - count) count (omega (arith, few, w.size)) (λ n lt. w.symbols n (omega (arith, lt, w.size)))))
+
+-- a list whose first bytes are zeros, and whose rest is that of the slots
+pub padded : (b p symbols : List ℕ) (first : ℕ) → first ≤ 168 → length b ≡ 168 → length symbols ≡ 168 → ((n : ℕ) → n < 168 → slice_index p n ≡ slice_index b n) → ((n : ℕ) → n < first → slice_index symbols n ≡ 0)
+    → ((n : ℕ) → first ≤ n → n < 168 → slice_index symbols n ≡ slice_index p n) → symbols ≡ replicate first 0 ++ drop first b
+padded b p symbols first most size count before zeros rest =
+    let whole : length (replicate first 0 ++ drop first b) ≡ 168 = omega (arith, length-append (replicate {A = ℕ} first 0) (drop first b), length-replicate {A = ℕ}, length-drop first b, size, most) in
+    same_number_lists symbols (replicate first 0 ++ drop first b) (count ∙ sym whole) (λ n lt.
+    let within : n < 168 = omega (arith, lt, count) in
+    elim (cases_lt n first) [
+      | inl early ↦ zeros n early ∙ sym (get_or_append_left (replicate first 0) (drop first b) 0 n (omega (arith, early, within, length-replicate {A = ℕ})) ∙ get_or-replicate {A = ℕ} first n 0 0 (omega (arith, early, within)))
+      | inr late ↦
+          let place : first + (n - first) ≡ n = omega (arith, late, within) in
+          rest n late within ∙ before n within ∙ sym (get_or-append_right (replicate first 0) (drop first b) first n 0 (length-replicate {A = ℕ} first 0) (omega (arith, late)) ∙ get_or-drop first b (n - first) 0 ∙ ap (slice_index b) place)
+    ])
+
+-- ---- The word that comes with a slot.
+
+pub none_given : (b : List ℕ) (count : ℕ) → count < 7 → gather_gives (start b count) (slot_in b 7) ≡ None
+none_given b count lt =
+    let none : min (count + 0) 7 ≡ count = omega (arith, lt) in
+    ap (λ m. gather_gives (slots_in b (7 - m) m) (slot_in b 7)) (sym none) ∙ (step_short b count 0 (omega (arith, lt))).1
+
+pub one_given : (b : List ℕ) (count : ℕ) → count ≡ 7 → gather_gives (start b count) (slot_in b 7) ≡ Some (gathered (slots_in b 0 8))
+one_given b count full =
+    let none : min (count + 0) 7 ≡ count = omega (arith, full) in
+    ap (λ m. gather_gives (slots_in b (7 - m) m) (slot_in b 7)) (sym none) ∙ (step_full b count 0 (omega (arith, full))).1
+
 -- ---- A slot that is put behind the slots before it, and the slots that are then moved up.
 
 pub slot_symbols : (b p m slot : List ℕ) → ((n : ℕ) → n < 168 → slice_index b n < 64) → IsWord slot → ((n : ℕ) → n < 168 → slice_index p n ≡ slice_index b n)
@@ -256,6 +331,14 @@ slot_symbols b p m slot small word before after moved n within =
           let low : slice_index slot (n - 144) < 64 = All-get_or (λ s. s < 64) slot (n - 144) 0 (omega (arith, word.size)) word.symbols in
           omega (arith, here, there, at, low)
     ]
+
+-- a slot that is put as a block that begins with it
+pub alone_put : (p block slot : List ℕ) → IsWord slot → ((n : ℕ) → n < 96 → slice_index p (168 + n) ≡ slice_index block n % 64) → ((n : ℕ) → n < 24 → slice_index block n ≡ slice_index slot n)
+    → (n : ℕ) → n < 24 → slice_index p (168 + n) ≡ slice_index slot n
+alone_put p block slot word put same n lt =
+    let small : slice_index slot n < 64 = All-get_or (λ s. s < 64) slot n 0 (omega (arith, word.size, lt)) word.symbols in
+    let there = put n (omega (arith, lt)) in
+    omega (arith, small, there, same n lt)
 
 -- a symbol that is put is itself its low six bits
 low_same : (p slot : List ℕ) (i : ℕ) → IsWord slot → i < 24 → slice_index p (168 + i) ≡ slice_index slot i → slice_index p (24 * 7 + i) % 64 ≡ slice_index slot i
@@ -273,6 +356,12 @@ slot_same p slot word after =
     let within : i < 24 = omega (arith, lt, size) in
     get_or-map-range_with_len (λ i. slice_index p (24 * 7 + i) % 64) 0 24 i i 0 within (omega arith) ∙ low_same p slot i word within (after i within))
 
+pub slot_gives : (b p slot : List ℕ) (count : ℕ) → count ≤ 7 → IsWord slot → ((n : ℕ) → n < 168 → slice_index p n ≡ slice_index b n)
+    → ((n : ℕ) → n < 24 → slice_index p (168 + n) ≡ slice_index slot n) → gather_gives (start p count) (slot_in p 7) ≡ gather_gives (start b count) slot
+slot_gives b p slot count few word before after =
+    let old : start p count ≡ start b count = slots_same p b (7 - count) (7 - count) count (λ k lt. ap (λ x. x % 64) (before (24 * (7 - count) + k) (omega arith))) in
+    ap₂ gather_gives old (slot_same p slot word after)
+
 pub slot_state : (b p m slot : List ℕ) (count : ℕ) → count ≤ 7 → IsWord slot → ((n : ℕ) → n < 168 → slice_index p n ≡ slice_index b n)
     → ((n : ℕ) → n < 24 → slice_index p (168 + n) ≡ slice_index slot n) → ((n : ℕ) → n < 168 → slice_index m n ≡ slice_index p (24 + n))
     → start m (min (count + 1) 7) ≡ gather_next (start b count) slot
@@ -287,11 +376,14 @@ slot_state b p m slot count few word before after moved =
     back ∙ sym (step_next p count 0) ∙ ap₂ gather_next (first ∙ old) (slot_same p slot word after)
 
 -- a window of zeros of which no slot has come
-pub fresh_window : IsWindow (replicate 264 0) 0 false
+pub fresh_window : IsWindow (replicate 72 0 ++ replicate 96 0) 0 false
 fresh_window = record {
-  size = refl;
+  size = omega (arith, length-append (replicate {A = ℕ} 72 0) (replicate 96 0), length-replicate {A = ℕ});
   few = omega arith;
-  symbols = λ n lt. let none = get_or-replicate {A = ℕ} 264 n 0 0 (omega arith) in omega (arith, none);
+  symbols = λ n lt.
+      let none = get_or-replicate {A = ℕ} 168 n 0 0 (omega arith) in
+      let all = ap (λ (l : List ℕ). slice_index l n) (replicate-append-replicate 72 96 0) in
+      omega (arith, none, all);
   full = λ yes. absurd (cc);
   zeros = λ yes. absurd (cc);
 }

@@ -1,12 +1,18 @@
 -- The steps of a gatherer: from the last slots, at most seven, and a further slot.
-use Rattle.std.specs.Prelude.{ℕ, ◌-◌, ◌%◌, List, [], ◌∷◌, ◌++◌, length, map, drop, slice_index, slice_index_or, nat_lt, if◌then◌else◌, None, Some}
+use Rattle.std.specs.Prelude.{ℕ, ◌-◌, ◌*◌, ◌%◌, List, [], ◌∷◌, ◌++◌, length, map, drop, replicate, slice_index, slice_index_or, nat_lt, if◌then◌else◌, None, Some}
 use Rattle.std.specs.declared.option.Option.{Option}
+use Rattle.std.specs.List.{concat}
 use Rattle.bit_lists.specs.Counting.{below}
+use Rattle.raw_subcode.specs.Sizes.{symbols_a_slot}
 use Rattle.rw_interleave.specs.Interleave.{packs_kept_back, swapped}
 
 -- the last seven
 abbrev pub last_seven : List (List ℕ) → List (List ℕ)
 last_seven slots = drop (length slots - packs_kept_back) slots
+
+-- the symbols of the last slots, at most seven, with zeros before the first
+abbrev pub kept_symbols : List (List ℕ) → List ℕ
+kept_symbols slots = replicate (symbols_a_slot * (packs_kept_back - length slots)) 0 ++ concat slots
 
 -- the symbol at a position of the slot that is so many slots after the first
 abbrev pub symbol_at : List (List ℕ) → ℕ → ℕ

@@ -12,10 +12,10 @@ slot_in bytes k = map (λ i. slice_index bytes (24 * k + i) % 64) (below 24)
 unfoldable pub slots_in : List ℕ → ℕ → ℕ → List (List ℕ)
 slots_in bytes first count = map (slot_in bytes) (range_with_len first count)
 
--- Of 264 bytes the first seven slots are the symbols of the last of a stream, as many as have come. Quiet is only a
--- window of seven slots of zeros.
+-- The bytes of the last seven slots of a stream, of which so many have come, are symbols. Quiet is only a window of
+-- seven slots of zeros.
 pub record IsWindow (bytes : List ℕ) (count : ℕ) (quiet : Bool) : Type 0 where
-  pub size : length bytes ≡ 264
+  pub size : length bytes ≡ 168
   pub few : count ≤ packs_kept_back
   pub symbols : (n : ℕ) → n < 168 → slice_index bytes n < 64
   pub full : quiet ≡ true → count ≡ packs_kept_back

@@ -1,65 +1,143 @@
-// From slots to words.
-ghost use Rattle.std.specs.Prelude.{◌≡◌, ◌-◌, ◌≤◌, ◌<◌, [], All, List, ℕ, length, map, slice_index, slice_index_or, slice_set, IfOk};
+// From slots and blocks to words.
+ghost use Rattle.std.specs.Prelude.{◌≡◌, ◌-◌, ◌≤◌, ◌<◌, ◌%◌, ◌++◌, true, [], All, List, ℕ, IfOk, length, map, replicate, slice_index};
 ghost use Rattle.std.specs.List.{concat};
-ghost use Rattle.cdg_io.specs.Run.{run_gives};
+ghost use Rattle.cdg_io.specs.Run.{run_gives, run_state};
 ghost use Rattle.bit_lists.specs.Counting.{below};
 ghost use Rattle.rw_code.specs.Codeword.{IsWord};
-ghost use Rattle.rw_interleave.specs.Gathering.{gathered, gather_gives, gather_next};
-ghost use Rattle.rw_interleave.specs.Interleave.{swapped, word_of, whole_of_slots};
+ghost use Rattle.rw_interleave.specs.Gathering.{gather_gives, gather_next, kept_symbols};
+ghost use Rattle.rw_interleave.specs.Interleave.{word_of, whole_of_slots};
+ghost use Rattle.rw_interleave.specs.Windows.{slot_in, slots_in};
 
 use crate::Slot;
-use crate::slot::{SPAN, swapped};
+use crate::slot::PACKS_KEPT_BACK;
+use crate::window::{
+    ALL, BEFORE, EARLY, are_idle, four_slots, idle_words, row_of, three_slots, word_at, words_of,
+};
+use arrayvec::ArrayVec;
 use cdg_io::Stage;
-use circular_buffer::HeapCircularBuffer;
-use rw_code::Word;
+use raw_subcode::BLOCK_BYTES;
+use rw_code::{SYMBOLS, Word};
 use std::alloc::{AllocError, Global};
 use std::marker::Model;
 
-/// Gathers words from slots. Seen as the last slots, at most seven.
+/// Gathers words from slots, one at a time, or from the four of a block at once. Seen as the last slots, at most seven.
+/// It takes no memory.
 #[derive(Drop)]
 pub struct Gather {
-    slots: HeapCircularBuffer<Slot>,
+    /// The symbols of the first three of the last seven slots. Where fewer have come, the first of the seven stand for
+    /// none.
+    pub early: [u8; EARLY],
+    /// The symbols of the other four.
+    pub late: [u8; BLOCK_BYTES],
+    /// How many of the seven have come.
+    pub count: usize,
+    /// Only where all seven have come, with no symbol but 0.
+    pub quiet: bool,
 }
 
 impl Model for Gather {
-    ghost use Rattle.std.specs.Prelude.{◌≡◌, ◌≤◌, List, ℕ, length};
+    ghost use Rattle.std.specs.Prelude.{◌-◌, ◌++◌, List, ℕ};
+    ghost use Rattle.rw_interleave.specs.Windows.{slots_in, IsWindow};
 
     ghost Value = { List (List ℕ) };
 
-    ghost view = { λ g. g.slots.items };
+    ghost view = { λ g. slots_in (g.early ++ g.late) (7 - g.count) g.count };
 
-    ghost invariant = { λ g. (length g.slots.items ≤ 7) × (g.slots.capacity ≡ 8) };
+    ghost invariant = { λ g. IsWindow (g.early ++ g.late) g.count g.quiet };
 }
 
 impl Gather {
     /// A gatherer of no slots yet.
-    pub fn start(alloc: Global) -> Result<Gather, AllocError>
+    pub fn new() -> Gather
+        ensures { result ≡ [] }
+    {
+        Gather {
+            early: [0; EARLY],
+            late: [0; BLOCK_BYTES],
+            count: 0,
+            quiet: false,
+        }
+    }
+
+    /// The same, for a caller who has an allocator at hand: nothing is taken of it.
+    pub fn start(_: Global) -> Result<Gather, AllocError>
         ensures { IfOk result (λ g. g ≡ []) }
     {
-        let slots = HeapCircularBuffer::with_capacity(alloc, SPAN)?;
-        Ok(Gather { slots })
+        Ok(Gather::new())
     }
 
     /// Forgets all slots.
     pub fn reset(&mut self)
         ensures { self.new ≡ [] }
     {
-        self.slots.clear();
+        self.count = 0;
+        self.quiet = false;
     }
 
     /// Takes a slot, and gives the word whose last symbol came with it: none for the first seven slots.
-    #[tactic(auto, unfolding(crate::specs::Gathering::gather_next, crate::specs::Gathering::gather_gives))]
     pub fn push(&mut self, slot: &Slot) -> Option<Word>
         ensures next { self.new ≡ gather_next self.old slot.now }
         ensures gives { result ≡ gather_gives self.old slot.now }
     {
-        self.slots.push_back(*slot);
-        if self.slots.len() < SPAN {
-            return None;
+        let row = row_of(&self.early, &self.late, &alone(slot));
+        let word = last_word(&row, self.count);
+        self.early = three_slots(&row, SYMBOLS);
+        self.late = four_slots(&row, SYMBOLS);
+        self.count = (self.count + 1).min(PACKS_KEPT_BACK);
+        self.quiet = false;
+        word
+    }
+
+    /// Whether the words that come with a block are four of zeros, and the slots stay as they are.
+    #[inline]
+    pub fn stays_idle(&self, block: &[u8; BLOCK_BYTES]) -> bool
+        ensures next { result ≡ true → self.now ≡ run_state gather_next self.now (slots_in block.now 0 4) }
+        ensures gives { result ≡ true → replicate 4 (replicate 24 0)
+            ≡ run_gives gather_next gather_gives self.now (slots_in block.now 0 4) }
+    {
+        if self.quiet && are_idle(block) {
+            return true;
         }
-        let word = gathered(&self.slots);
-        self.slots.pop_front();
-        Some(word)
+        false
+    }
+
+    /// Takes the four slots of a block, which are the low six bits of its bytes, and gives the words whose last symbol
+    /// came with them.
+    #[inline]
+    pub fn push_block(&mut self, block: &[u8; BLOCK_BYTES]) -> ArrayVec<Word, 4>
+        ensures next { self.new ≡ run_state gather_next self.old (slots_in block.now 0 4) }
+        ensures gives { result.items ≡ run_gives gather_next gather_gives self.old (slots_in block.now 0 4) }
+    {
+        let idle = are_idle(block);
+        if self.quiet && idle {
+            return idle_words();
+        }
+        self.gather_block(block, idle)
+    }
+
+    // The same, where there may be something to gather. It is a function of its own so that idle blocks do not pay for
+    // its variables.
+    #[inline(never)]
+    fn gather_block(&mut self, block: &[u8; BLOCK_BYTES], idle: bool) -> ArrayVec<Word, 4>
+        ensures next { self.new ≡ run_state gather_next self.old (slots_in block.now 0 4) }
+        ensures gives { result.items ≡ run_gives gather_next gather_gives self.old (slots_in block.now 0 4) }
+    {
+        let row = row_of(&self.early, &self.late, block);
+        let words = words_of(&row, self.count);
+        self.early = three_slots(&row, BLOCK_BYTES);
+        self.late = four_slots(&row, BLOCK_BYTES);
+        self.count = (self.count + 4).min(PACKS_KEPT_BACK);
+        self.quiet = idle && are_quiet(&self.early, &self.late, self.count);
+        words
+    }
+
+    /// The symbols of the last seven slots, zeros before the first.
+    pub fn symbols(&self) -> [u8; BEFORE]
+        ensures { result ≡ kept_symbols self.now }
+    {
+        let first = SYMBOLS * (PACKS_KEPT_BACK - self.count);
+        let row = row_of(&self.early, &self.late, &[0; BLOCK_BYTES]);
+        slots_from(&row, first)
     }
 }
 
@@ -77,38 +155,50 @@ impl Stage for Gather {
     }
 }
 
-// The word of eight slots.
-#[tactic(auto, unfolding(crate::specs::Gathering::gathered))]
-fn gathered(slots: &HeapCircularBuffer<Slot>) -> Word
-    requires { length slots.now.items ≡ 8 }
-    ensures { result ≡ gathered slots.now.items }
+// Whether seven slots have come, with no symbol but 0.
+fn are_quiet(early: &[u8; EARLY], late: &[u8; BLOCK_BYTES], count: usize) -> bool
+    ensures full { result ≡ true → 7 ≤ count }
+    ensures zeros { result ≡ true → (n : ℕ) → n < 168 → slice_index (early.now ++ late.now) n % 64 ≡ 0 }
 {
-    let mut bytes = [0; 24];
-    for k in 0..SPAN {
-        let slot = slot_at(slots, k);
-        bring(&mut bytes, &slot, k);
-        bring(&mut bytes, &slot, k + 8);
-        bring(&mut bytes, &slot, k + 16);
+    if count < PACKS_KEPT_BACK || !are_idle(early) {
+        return false;
     }
-    Word::new(&bytes)
+    are_idle(late)
 }
 
-// The symbols of one of eight slots.
-fn slot_at(slots: &HeapCircularBuffer<Slot>, k: usize) -> [u8; 24]
-    requires slots { length slots.now.items ≡ 8 }
-    requires k { k < 8 }
-    ensures same { result ≡ slice_index_or slots.now.items k [] }
-    ensures word { IsWord result }
+// The seven slots of a row, with zeros before a byte.
+fn slots_from(row: &[u8; ALL], first: usize) -> [u8; BEFORE]
+    requires { first ≤ 168 }
+    ensures zeros { (n : ℕ) → n < first → slice_index result n ≡ 0 }
+    ensures rest { (n : ℕ) → first ≤ n → n < 168 → slice_index result n ≡ slice_index row.now n }
 {
-    slots.get(k).unwrap().bytes()
+    let mut symbols = [0; BEFORE];
+    for i in first..BEFORE {
+        symbols[i] = row[i];
+    }
+    symbols
 }
 
-// Brings the symbol at a position of a slot to where it stands in a word.
-fn bring(word: &mut [u8; 24], slot: &[u8; 24], position: usize)
-    requires { position < 24 }
-    ensures { word.new ≡ slice_set word.old (swapped position) (slice_index slot.now position) }
+// A slot, as a block that begins with it.
+fn alone(slot: &Slot) -> [u8; BLOCK_BYTES]
+    ensures word { IsWord slot.now }
+    ensures symbols { (n : ℕ) → n < 24 → slice_index result n ≡ slice_index slot.now n }
 {
-    word[swapped(position)] = slot[position];
+    let mut block = [0; BLOCK_BYTES];
+    block[..SYMBOLS].copy_from_slice(&slot.bytes());
+    block
+}
+
+// The word whose last symbol is in the slot behind seven others, of which so many have come.
+fn last_word(row: &[u8; ALL], count: usize) -> Option<Word>
+    requires count { count ≤ 7 }
+    requires symbols { (n : ℕ) → n < 264 → slice_index row.now n < 64 }
+    ensures { result ≡ gather_gives (slots_in row.now (7 - count) count) (slot_in row.now 7) }
+{
+    if count < PACKS_KEPT_BACK {
+        return None;
+    }
+    Some(word_at(row, 0))
 }
 
 /// A law: for any slots since the start, the words given are those by places, each as soon as its last symbol has come.

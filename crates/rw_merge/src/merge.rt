@@ -16,7 +16,7 @@ use crate::packs::Packs;
 use crate::pairs::{next_pair, nothing_follows};
 use cdg_io::{Failed, Sink, Source, put_all};
 use raw_subcode::{BLOCK_BYTES, MOST_UNITS};
-use rw_interleave::{Window, text_of_packs};
+use rw_interleave::{Gather, text_of_packs};
 use std::alloc::{AllocError, Global};
 use std::marker::Model;
 
@@ -64,8 +64,8 @@ pub fn two_readings_give_packs()
 /// call begins anew, whatever stopped the one before. Seen as the last slots of both readings.
 #[derive(Drop)]
 pub struct Merger {
-    first: Window,
-    second: Window,
+    first: Gather,
+    second: Gather,
 }
 
 impl Model for Merger {
@@ -82,8 +82,8 @@ impl Merger {
         ensures { IfOk result (λ m. m ≡ record { first = []; second = [] }) }
     {
         Ok(Merger {
-            first: Window::new(),
-            second: Window::new(),
+            first: Gather::new(),
+            second: Gather::new(),
         })
     }
 

@@ -8,7 +8,7 @@ use Rattle.std.proofs.lemmas.Bool.Decides.{eqb_tells}
 use Rattle.std.proofs.lemmas.List.Sums.{sum_by-cons}
 use Rattle.arrayvec.specs.ArrayVec.{ArrayVec}
 use Rattle.cdg_io.specs.Run.{give, run_state, run_gives}
-use Rattle.cdg_io.proofs.Runs.{run_gives-append}
+use Rattle.cdg_io.proofs.Runs.{run_gives-append, run_state-append}
 use Rattle.rw_code.specs.Finding.{finding}
 use Rattle.rw_interleave.specs.Texts.{entry_bytes, cdg_bytes}
 use Rattle.rw_interleave.specs.Stream.{bad_count}
@@ -52,6 +52,16 @@ words_run form (suc lead_in) window (block ∷ blocks) =
     let step = lead_in_block form lead_in window block in
     ap (λ o. all_items (give o (run_gives words_next words_give (words_next (at form (suc lead_in) window) block) blocks))) step.1
     ∙ ap (λ s. all_items (run_gives words_next words_give s blocks)) step.0 ∙ words_run form lead_in window blocks
+
+-- the last slots after some blocks
+pub window_run : (form : Form) (lead_in : ℕ) (window blocks : List (List ℕ)) → (run_state words_next (at form lead_in window) blocks).gather ≡ run_state (window_next form) window (flat_map slots_of (drop lead_in blocks))
+window_run form zero window [] = refl
+window_run form (suc lead_in) window [] = refl
+window_run form zero window (block ∷ blocks) =
+    ap (λ (s : BlockWords). (run_state words_next s blocks).gather) (program_block form window block).0 ∙ window_run form 0 (run_state (window_next form) window (slots_of block)) blocks
+    ∙ sym (run_state-append (window_next form) window (slots_of block) (flat_map slots_of blocks))
+window_run form (suc lead_in) window (block ∷ blocks) =
+    ap (λ (s : BlockWords). (run_state words_next s blocks).gather) (lead_in_block form lead_in window block).0 ∙ window_run form lead_in window blocks
 
 text_append : (words others : List (List ℕ)) → cdg_bytes (map finding (words ++ others)) ≡ cdg_bytes (map finding words) ++ cdg_bytes (map finding others)
 text_append [] others = refl

@@ -8,7 +8,7 @@ use arrayvec::ArrayVec;
 use cdg_io::Stage;
 use raw_subcode::{BLOCK_BYTES, Form, SLOTS_A_BLOCK, SYMBOLS_A_SLOT};
 use rw_code::Word;
-use rw_interleave::Window;
+use rw_interleave::Gather;
 use std::marker::Model;
 
 /// The words that come with a block, at most one with each slot.
@@ -67,7 +67,7 @@ pub struct BlockWords {
     /// The blocks of the lead-in that are still to come.
     pub lead_in: u32,
     /// The last slots, from which words are gathered.
-    pub gather: Window,
+    pub gather: Gather,
 }
 
 impl BlockWords {
@@ -78,7 +78,7 @@ impl BlockWords {
         BlockWords {
             form: Form::Raw,
             lead_in: 0,
-            gather: Window::new(),
+            gather: Gather::new(),
         }
     }
 

@@ -10,7 +10,7 @@ use cdg_screen::instructions_in_turn;
 use picture_changes::scheduled_pictures_are_shown;
 use picture_script::Script;
 use raw_subcode::BLOCK_BYTES;
-use rw_interleave::{Window, gather_gives_words};
+use rw_interleave::{Gather, gather_gives_words};
 use std::alloc::{AllocError, Global};
 
 /// What was counted of a stream.
@@ -39,7 +39,7 @@ pub(crate) fn play(alloc: Global, script: &Script, bytes: &[u8]) -> Result<Count
     scheduled_pictures_are_shown();
     // What holds of every script: its pictures are in order.
     let _times = script.pictures();
-    let mut gather = Window::new();
+    let mut gather = Gather::new();
     let mut replay = Replay::start(alloc)?;
     let mut gallery = Gallery::start(alloc)?;
     let blocks = bytes.len() / BLOCK_BYTES;

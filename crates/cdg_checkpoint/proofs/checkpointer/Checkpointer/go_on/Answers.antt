@@ -25,8 +25,8 @@ pub returns-in-Ok-clause-goes_on : goal.returns-in-Ok-clause-goes_on
 returns-in-Ok-clause-goes_on g c =
     let (taken, w) = c.in-Ok.ensures.watches in (
       taken,
-      goes_on (checkpoint_in c.args.self.now.file) c.args.at _ _ _ taken c.begin_again.new.self.tracking.words c.watch_some.new.stage c.in-Ok.pumped (sound_file c.args.self.now.file c.requires.file)
-          (brought_back (checkpoint_in c.args.self.now.file) c.args.at _ _ c.begin_again.new.self.tracking.words c.begin_again.ensures.words c.counts-counts.ensures.to_come c.begin_again.ensures.left c.begin_again.ensures.bad c.counts-counts.ensures.bad c.begin_again.ensures.stands)
+      goes_on (checkpoint_in c.args.self.now.file) c.args.at _ _ _ taken c.begin_again.new.self.words c.watch_some.new.stage c.in-Ok.pumped (sound_file c.args.self.now.file c.requires.file)
+          (brought_back (checkpoint_in c.args.self.now.file) c.args.at _ _ c.begin_again.new.self.words c.begin_again.ensures.words c.counts-counts.ensures.to_come c.begin_again.ensures.left c.begin_again.ensures.bad c.counts-counts.ensures.bad c.begin_again.ensures.stands)
           (ap₂ (λ a b. 1000000 - (a + b)) c.counts-counts.ensures.lead_in c.counts-counts.ensures.program) w _ _ _ c.counts-counts.ensures.to_come c.counts-counts.ensures.program c.resumed.ensures.answer,
     )
 
@@ -43,17 +43,17 @@ returns-in-Torn-clause-answer g c =
 pub returns-in-ReadFault-clause-goes_on : goal.returns-in-ReadFault-clause-goes_on
 returns-in-ReadFault-clause-goes_on g c =
     let (taken, w) = c.in-Err.ensures.watches in
-    (taken, gone_on_to_stop (checkpoint_in c.args.self.now.file) c.args.at _ _ _ taken c.begin_again.new.self.tracking.words c.watch_some.new.stage c.in-Err.stop _ (ap₂ (λ a b. 1000000 - (a + b)) c.counts-counts.ensures.lead_in c.counts-counts.ensures.program) w (λ block e. absurd (cc)) (λ blocks e. (cc)))
+    (taken, gone_on_to_stop (checkpoint_in c.args.self.now.file) c.args.at _ _ _ taken c.begin_again.new.self.words c.watch_some.new.stage c.in-Err.stop _ (ap₂ (λ a b. 1000000 - (a + b)) c.counts-counts.ensures.lead_in c.counts-counts.ensures.program) w (λ block e. absurd (cc)) (λ blocks e. (cc)))
 
 pub returns-in-Torn-clause-goes_on : goal.returns-in-Torn-clause-goes_on
 returns-in-Torn-clause-goes_on g c =
     let (taken, w) = c.in-Err.ensures.watches in
-    (taken, gone_on_to_stop (checkpoint_in c.args.self.now.file) c.args.at _ _ _ taken c.begin_again.new.self.tracking.words c.watch_some.new.stage c.in-Err.stop _ (ap₂ (λ a b. 1000000 - (a + b)) c.counts-counts.ensures.lead_in c.counts-counts.ensures.program) w (λ block e. (w.torn c.in-Torn.unit (ap error c.in-Torn.is)).0) (λ blocks e. (cc)))
+    (taken, gone_on_to_stop (checkpoint_in c.args.self.now.file) c.args.at _ _ _ taken c.begin_again.new.self.words c.watch_some.new.stage c.in-Err.stop _ (ap₂ (λ a b. 1000000 - (a + b)) c.counts-counts.ensures.lead_in c.counts-counts.ensures.program) w (λ block e. (w.torn c.in-Torn.unit (ap error c.in-Torn.is)).0) (λ blocks e. (cc)))
 
 pub returns-in-TooLong-clause-goes_on : goal.returns-in-TooLong-clause-goes_on
 returns-in-TooLong-clause-goes_on g c =
     let (taken, w) = c.in-Err.ensures.watches in
-    (taken, gone_on_to_stop (checkpoint_in c.args.self.now.file) c.args.at _ _ _ taken c.begin_again.new.self.tracking.words c.watch_some.new.stage c.in-Err.stop _ (ap₂ (λ a b. 1000000 - (a + b)) c.counts-counts.ensures.lead_in c.counts-counts.ensures.program) w (λ block e. absurd (cc)) (λ blocks e. (cc)))
+    (taken, gone_on_to_stop (checkpoint_in c.args.self.now.file) c.args.at _ _ _ taken c.begin_again.new.self.words c.watch_some.new.stage c.in-Err.stop _ (ap₂ (λ a b. 1000000 - (a + b)) c.counts-counts.ensures.lead_in c.counts-counts.ensures.program) w (λ block e. absurd (cc)) (λ blocks e. (cc)))
 
 pub returns-in-Ok-clause-ended : goal.returns-in-Ok-clause-ended
 returns-in-Ok-clause-ended g c = ends_as_reached c.resumed.result _ c.args.at _ _ _ c.resumed.ensures.answer c.in-Ok.ensures.ended

@@ -1,5 +1,0 @@
-use Rattle.rw_interleave.proofs.Windows.{none_in}
-use Rattle.rw_interleave.proofs.window.Window.reset.Goals as goal
-
-pub returns : goal.returns
-returns c = none_in _ 7
