@@ -14,7 +14,7 @@ use cdg_io::{Piece, Stage, Then};
 use disc_time::MOST_LEAD_IN;
 use raw_subcode::{BLOCK_BYTES, Form, MOST_UNITS, SECTOR_BYTES, SLOTS_A_BLOCK};
 use rw_code::SYMBOLS;
-use rw_interleave::Window;
+use rw_interleave::Gather;
 use stream_stages::{BlockWords, Correction};
 
 // The exit numbers of the program.
@@ -148,7 +148,7 @@ fn stages(form: Form, lead_in: u32) -> Then<BlockWords, Correction>
     let words = BlockWords {
         form,
         lead_in,
-        gather: Window::new(),
+        gather: Gather::new(),
     };
     Then::new(words, Correction { bad: 0 })
 }
