@@ -5,7 +5,7 @@ use Rattle.std.specs.declared.option.Option.{Option}
 use Rattle.std.specs.List.{concat, range_with_len}
 use Rattle.std.proofs.lemmas.Bool.{cases_lt}
 use Rattle.std.proofs.lemmas.Nat.{or_mod, le_or_l, le_or_r}
-use Rattle.std.proofs.lemmas.List.{append-nil, drop_all, drop-drop, get_or-append_right, get_or_append_left, get_or-drop, get_or-replicate, get_or-take, length-replicate, length-take-le, replicate-append-replicate, take-append-drop}
+use Rattle.std.proofs.lemmas.List.{append-nil, append_assoc, drop_all, drop-drop, get_or-append_right, get_or_append_left, get_or-drop, get_or-replicate, get_or-take, length-replicate, length-take-le, replicate-append-replicate, take-append-drop}
 use Rattle.std.proofs.lemmas.Grind.{same_number_lists}
 use Rattle.std.proofs.lemmas.List.Elements.{All-get_or}
 use Rattle.std.proofs.lemmas.List.FromFn.{map-range_with_len_more, get_or-map-range_with_len, length-map-range_with_len}
@@ -253,6 +253,32 @@ joined_at early late row at size first second n within =
           let place : at + 72 + (n - 72) ≡ at + n = omega (arith, ge) in
           get_or-append_right early late 72 n 0 size ge ∙ second (n - 72) (omega (arith, ge, within)) ∙ ap (slice_index row) place
     ]
+
+-- and a block behind them
+pub joined_put : (early late symbols block : List ℕ) → length early ≡ 72 → length late ≡ 96 → ((n : ℕ) → n < 96 → slice_index symbols n ≡ slice_index block n % 64) → IsPut (early ++ late) (early ++ (late ++ symbols)) block
+joined_put early late symbols block early_size late_size same =
+    let size : length (early ++ late) ≡ 168 = omega (arith, length-append early late, early_size, late_size) in
+    let together : early ++ (late ++ symbols) ≡ (early ++ late) ++ symbols = sym (append_assoc early late symbols) in
+    record {
+      before = λ n lt. ap (λ (l : List ℕ). slice_index l n) together ∙ get_or_append_left (early ++ late) symbols 0 n (omega (arith, lt, size));
+      after = λ n lt.
+          let place : 168 + n - 168 ≡ n = omega arith in
+          ap (λ (l : List ℕ). slice_index l (168 + n)) together ∙ get_or-append_right (early ++ late) symbols 168 (168 + n) 0 size (omega arith) ∙ ap (slice_index symbols) place ∙ same n lt;
+    }
+
+-- the last three of the four, and the block, are the last seven then
+pub joined_moved : (early late three symbols : List ℕ) → length early ≡ 72 → length late ≡ 96 → length three ≡ 72 → ((n : ℕ) → n < 72 → slice_index three n ≡ slice_index late (24 + n)) → (n : ℕ) → n < 168
+    → slice_index (three ++ symbols) n ≡ slice_index (early ++ (late ++ symbols)) (96 + n)
+joined_moved early late three symbols early_size late_size three_size same =
+    let size : length (early ++ late) ≡ 168 = omega (arith, length-append early late, early_size, late_size) in
+    let together : (early ++ late) ++ symbols ≡ early ++ (late ++ symbols) = append_assoc early late symbols in
+    joined_at three symbols (early ++ (late ++ symbols)) 96 three_size
+    (λ n lt.
+    let place : 96 + n - 72 ≡ 24 + n = omega arith in
+    same n lt ∙ sym (sym (ap (λ (l : List ℕ). slice_index l (96 + n)) together) ∙ get_or_append_left (early ++ late) symbols 0 (96 + n) (omega (arith, lt, size)) ∙ get_or-append_right early late 72 (96 + n) 0 early_size (omega arith) ∙ ap (slice_index late) place))
+    (λ n lt.
+    let place : 96 + 72 + n - 168 ≡ n = omega arith in
+    sym (sym (ap (λ (l : List ℕ). slice_index l (96 + 72 + n)) together) ∙ get_or-append_right (early ++ late) symbols 168 (96 + 72 + n) 0 size (omega arith) ∙ ap (slice_index symbols) place))
 
 -- where each is so
 pub joined_zeros : (early late : List ℕ) → length early ≡ 72 → ((n : ℕ) → n < 72 → slice_index early n % 64 ≡ 0) → ((n : ℕ) → n < 96 → slice_index late n % 64 ≡ 0) → (n : ℕ) → n < 168 → slice_index (early ++ late) n % 64 ≡ 0

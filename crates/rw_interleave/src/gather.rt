@@ -11,7 +11,8 @@ ghost use Rattle.rw_interleave.specs.Windows.{slot_in, slots_in};
 use crate::Slot;
 use crate::slot::PACKS_KEPT_BACK;
 use crate::window::{
-    ALL, BEFORE, EARLY, are_idle, four_slots, idle_words, row_of, three_slots, word_at, words_of,
+    ALL, BEFORE, EARLY, are_idle, four_slots, idle_words, last_three, row_of, symbols_of,
+    three_slots, word_at, words_of,
 };
 use arrayvec::ArrayVec;
 use cdg_io::Stage;
@@ -79,8 +80,9 @@ impl Gather {
         ensures next { self.new ≡ gather_next self.old slot.now }
         ensures gives { result ≡ gather_gives self.old slot.now }
     {
-        let row = row_of(&self.early, &self.late, &alone(slot));
-        let word = last_word(&row, self.count);
+        let block = alone(slot);
+        let word = last_word(&self.early, &self.late, &symbols_of(&block), self.count);
+        let row = row_of(&self.early, &self.late, &block);
         self.early = three_slots(&row, SYMBOLS);
         self.late = four_slots(&row, SYMBOLS);
         self.count = (self.count + 1).min(PACKS_KEPT_BACK);
@@ -122,10 +124,10 @@ impl Gather {
         ensures next { self.new ≡ run_state gather_next self.old (slots_in block.now 0 4) }
         ensures gives { result.items ≡ run_gives gather_next gather_gives self.old (slots_in block.now 0 4) }
     {
-        let row = row_of(&self.early, &self.late, block);
-        let words = words_of(&row, self.count);
-        self.early = three_slots(&row, BLOCK_BYTES);
-        self.late = four_slots(&row, BLOCK_BYTES);
+        let symbols = symbols_of(block);
+        let words = words_of(&self.early, &self.late, &symbols, self.count);
+        self.early = last_three(&self.late);
+        self.late = symbols;
         self.count = (self.count + 4).min(PACKS_KEPT_BACK);
         self.quiet = idle && are_quiet(&self.early, &self.late, self.count);
         words
@@ -190,15 +192,21 @@ fn alone(slot: &Slot) -> [u8; BLOCK_BYTES]
 }
 
 // The word whose last symbol is in the slot behind seven others, of which so many have come.
-fn last_word(row: &[u8; ALL], count: usize) -> Option<Word>
+fn last_word(
+    early: &[u8; EARLY],
+    late: &[u8; BLOCK_BYTES],
+    block: &[u8; BLOCK_BYTES],
+    count: usize,
+) -> Option<Word>
     requires count { count ≤ 7 }
-    requires symbols { (n : ℕ) → n < 264 → slice_index row.now n < 64 }
-    ensures { result ≡ gather_gives (slots_in row.now (7 - count) count) (slot_in row.now 7) }
+    requires symbols { (n : ℕ) → n < 264 → slice_index (early.now ++ (late.now ++ block.now)) n < 64 }
+    ensures { result ≡ gather_gives (slots_in (early.now ++ (late.now ++ block.now)) (7 - count) count)
+        (slot_in (early.now ++ (late.now ++ block.now)) 7) }
 {
     if count < PACKS_KEPT_BACK {
         return None;
     }
-    Some(word_at(row, 0))
+    Some(word_at(early, late, block, 0))
 }
 
 /// A law: for any slots since the start, the words given are those by places, each as soon as its last symbol has come.

@@ -92,37 +92,69 @@ pub(crate) fn four_slots(row: &[u8; ALL], at: usize) -> [u8; BLOCK_BYTES]
     slots
 }
 
+/// The symbols of a block: the low six bits of its bytes.
+#[inline(always)]
+pub(crate) fn symbols_of(block: &[u8; BLOCK_BYTES]) -> [u8; BLOCK_BYTES]
+    ensures { (n : ℕ) → n < 96 → slice_index result n ≡ slice_index block.now n % 64 }
+{
+    let mut symbols = [0; BLOCK_BYTES];
+    for i in 0..BLOCK_BYTES {
+        symbols[i] = block[i] % 64;
+    }
+    symbols
+}
+
+/// The bytes of the last three of four slots.
+#[inline(always)]
+pub(crate) fn last_three(four: &[u8; BLOCK_BYTES]) -> [u8; EARLY]
+    ensures { (n : ℕ) → n < 72 → slice_index result n ≡ slice_index four.now (24 + n) }
+{
+    let mut slots = [0; EARLY];
+    slots.copy_from_slice(&four[SYMBOLS..SYMBOLS + EARLY]);
+    slots
+}
+
 /// The words that come with a block, where so many slots have come before it.
 #[inline]
-pub(crate) fn words_of(bytes: &[u8; ALL], count: usize) -> ArrayVec<Word, 4>
+pub(crate) fn words_of(
+    early: &[u8; EARLY],
+    late: &[u8; BLOCK_BYTES],
+    block: &[u8; BLOCK_BYTES],
+    count: usize,
+) -> ArrayVec<Word, 4>
     requires count { count ≤ 7 }
-    requires symbols { (n : ℕ) → n < 264 → slice_index bytes.now n < 64 }
-    ensures { result.items ≡ run_gives gather_next gather_gives (slots_in bytes.now (7 - count) count)
-        (slots_in bytes.now 7 4) }
+    requires symbols { (n : ℕ) → n < 264 → slice_index (early.now ++ (late.now ++ block.now)) n < 64 }
+    ensures { result.items ≡ run_gives gather_next gather_gives (slots_in (early.now ++ (late.now ++ block.now)) (7 - count) count)
+        (slots_in (early.now ++ (late.now ++ block.now)) 7 4) }
 {
     if count == SPAN - 1 {
         return ArrayVec::from([
-            word_at(bytes, 0),
-            word_at(bytes, 1),
-            word_at(bytes, 2),
-            word_at(bytes, 3),
+            word_at(early, late, block, 0),
+            word_at(early, late, block, 1),
+            word_at(early, late, block, 2),
+            word_at(early, late, block, 3),
         ]);
     }
-    first_words(bytes, count)
+    first_words(early, late, block, count)
 }
 
 // The same at the start of a stream, where fewer words come.
 #[inline(never)]
-fn first_words(bytes: &[u8; ALL], count: usize) -> ArrayVec<Word, 4>
+fn first_words(
+    early: &[u8; EARLY],
+    late: &[u8; BLOCK_BYTES],
+    block: &[u8; BLOCK_BYTES],
+    count: usize,
+) -> ArrayVec<Word, 4>
     requires count { count ≤ 7 }
-    requires symbols { (n : ℕ) → n < 264 → slice_index bytes.now n < 64 }
-    ensures { result.items ≡ run_gives gather_next gather_gives (slots_in bytes.now (7 - count) count)
-        (slots_in bytes.now 7 4) }
+    requires symbols { (n : ℕ) → n < 264 → slice_index (early.now ++ (late.now ++ block.now)) n < 64 }
+    ensures { result.items ≡ run_gives gather_next gather_gives (slots_in (early.now ++ (late.now ++ block.now)) (7 - count) count)
+        (slots_in (early.now ++ (late.now ++ block.now)) 7 4) }
 {
     let mut words = ArrayVec::new();
     for first in 0..4 {
         if count + first >= SPAN - 1 {
-            words.push(word_at(bytes, first));
+            words.push(word_at(early, late, block, first));
         }
     }
     words
@@ -130,44 +162,65 @@ fn first_words(bytes: &[u8; ALL], count: usize) -> ArrayVec<Word, 4>
 
 /// The word of eight slots from one on: a symbol stands where that of a pack is spread to.
 #[inline]
-pub(crate) fn word_at(bytes: &[u8; ALL], first: usize) -> Word
+pub(crate) fn word_at(
+    early: &[u8; EARLY],
+    late: &[u8; BLOCK_BYTES],
+    block: &[u8; BLOCK_BYTES],
+    first: usize,
+) -> Word
     requires first { first < 4 }
-    requires symbols { (n : ℕ) → n < 264 → slice_index bytes.now n < 64 }
-    ensures { result ≡ gathered (slots_in bytes.now first 8) }
+    requires symbols { (n : ℕ) → n < 264 → slice_index (early.now ++ (late.now ++ block.now)) n < 64 }
+    ensures { result ≡ gathered (slots_in (early.now ++ (late.now ++ block.now)) first 8) }
 {
     let at = SYMBOLS * first;
     Word::of_eights(
         [
-            bytes[at],
-            bytes[at + 66],
-            bytes[at + 125],
-            bytes[at + 191],
-            bytes[at + 100],
-            bytes[at + 50],
-            bytes[at + 150],
-            bytes[at + 175],
+            symbol(early, late, block, at),
+            symbol(early, late, block, at + 66),
+            symbol(early, late, block, at + 125),
+            symbol(early, late, block, at + 191),
+            symbol(early, late, block, at + 100),
+            symbol(early, late, block, at + 50),
+            symbol(early, late, block, at + 150),
+            symbol(early, late, block, at + 175),
         ],
         [
-            bytes[at + 8],
-            bytes[at + 33],
-            bytes[at + 58],
-            bytes[at + 83],
-            bytes[at + 108],
-            bytes[at + 133],
-            bytes[at + 158],
-            bytes[at + 183],
+            symbol(early, late, block, at + 8),
+            symbol(early, late, block, at + 33),
+            symbol(early, late, block, at + 58),
+            symbol(early, late, block, at + 83),
+            symbol(early, late, block, at + 108),
+            symbol(early, late, block, at + 133),
+            symbol(early, late, block, at + 158),
+            symbol(early, late, block, at + 183),
         ],
         [
-            bytes[at + 16],
-            bytes[at + 41],
-            bytes[at + 25],
-            bytes[at + 91],
-            bytes[at + 116],
-            bytes[at + 141],
-            bytes[at + 166],
-            bytes[at + 75],
+            symbol(early, late, block, at + 16),
+            symbol(early, late, block, at + 41),
+            symbol(early, late, block, at + 25),
+            symbol(early, late, block, at + 91),
+            symbol(early, late, block, at + 116),
+            symbol(early, late, block, at + 141),
+            symbol(early, late, block, at + 166),
+            symbol(early, late, block, at + 75),
         ],
     )
+}
+
+// Symbol i of the last seven slots and a block behind them. It stands in line, so that a place that is known costs
+// nothing.
+#[inline(always)]
+fn symbol(early: &[u8; EARLY], late: &[u8; BLOCK_BYTES], block: &[u8; BLOCK_BYTES], i: usize) -> u8
+    requires { i < 264 }
+    ensures { result ≡ slice_index (early.now ++ (late.now ++ block.now)) i }
+{
+    if i < EARLY {
+        early[i]
+    } else if i < BEFORE {
+        late[i - EARLY]
+    } else {
+        block[i - BEFORE]
+    }
 }
 
 /// Four words of zeros.

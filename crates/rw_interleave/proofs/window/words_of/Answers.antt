@@ -1,4 +1,4 @@
-use Rattle.std.proofs.Common.{◌≡◌, ◌-◌, ◌∙◌, sym, ap}
+use Rattle.std.proofs.Common.{◌++◌, ◌≡◌, ◌-◌, ◌∙◌, sym, ap}
 use Rattle.cdg_io.specs.Run.{run_gives}
 use Rattle.rw_interleave.specs.Gathering.{gather_next, gather_gives}
 use Rattle.rw_interleave.specs.Windows.{slots_in}
@@ -7,7 +7,7 @@ use Rattle.rw_interleave.proofs.window.words_of.Goals as goal
 
 pub returns-then-count : goal.returns-then-count
 returns-then-count c =
-    let b = c.args.bytes.now in
+    let b = (c.args.early.now ++ (c.args.late.now ++ c.args.block.now)) in
     let all : 7 ≡ c.args.count = sym c.if-count.true in
     c.from.ensures.0
     ∙ four_words b c.word_at.result c.word_at-then-count.result c.word_at-then-count-2.result c.word_at-then-count-3.result
