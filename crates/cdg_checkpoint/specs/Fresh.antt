@@ -7,7 +7,7 @@ use Rattle.stream_stages.specs.Stages.{drawing_of, words_of}
 use Rattle.cdg_checkpoint.specs.declared.checkpointer.Checkpointer.{Checkpointer}
 
 -- nothing was read: no slot is kept, no word is bad, all that stands is zero, and there is no file
-pub record IsFresh (c : Checkpointer) : Type 0 where
+pub record HasReadNothing (c : Checkpointer) : Type 0 where
   pub words : words_of c.words ≡ fresh_words Raw 0
   pub bad : (drawing_of c.words).bad ≡ 0
   pub stands : (drawing_of c.words).picture ≡ blank

@@ -124,7 +124,8 @@ pub(crate) fn words_of(
 ) -> ArrayVec<Word, 4>
     requires count { count ≤ 7 }
     requires symbols { (n : ℕ) → n < 264 → slice_index (early.now ++ (late.now ++ block.now)) n < 64 }
-    ensures { result.items ≡ run_gives gather_next gather_gives (slots_in (early.now ++ (late.now ++ block.now)) (7 - count) count)
+    ensures { result.items ≡ run_gives gather_next gather_gives (slots_in (early.now ++ (late.now
+        ++ block.now)) (7 - count) count)
         (slots_in (early.now ++ (late.now ++ block.now)) 7 4) }
 {
     if count == SPAN - 1 {
@@ -148,7 +149,8 @@ fn first_words(
 ) -> ArrayVec<Word, 4>
     requires count { count ≤ 7 }
     requires symbols { (n : ℕ) → n < 264 → slice_index (early.now ++ (late.now ++ block.now)) n < 64 }
-    ensures { result.items ≡ run_gives gather_next gather_gives (slots_in (early.now ++ (late.now ++ block.now)) (7 - count) count)
+    ensures { result.items ≡ run_gives gather_next gather_gives (slots_in (early.now ++ (late.now
+        ++ block.now)) (7 - count) count)
         (slots_in (early.now ++ (late.now ++ block.now)) 7 4) }
 {
     let mut words = ArrayVec::new();
