@@ -1,16 +1,15 @@
 -- Which answer is no other one, and what still holds of a file that is kept.
 use Rattle.std.proofs.Common.{◌≡◌, ◌≢◌, ℕ, ◌*◌, ◌<◌, ◌≤◌, List, length, sym, subst, ap, arith, ◌⊎◌, inl, inr}
 use Rattle.std.specs.Prelude.{Option, Some, None, Result, Ok, Err, IfSome, IsOk, IsErr, nat_lt, ◌==◌, ◌%◌, ◌/◌}
-use Rattle.std.specs.Io.KnownBytes.{Consumes}
-use Rattle.cdg_io.specs.Causes.{Rose}
-use Rattle.cdg_io.specs.Change.{Passed}
+use Rattle.cdg_io.specs.Causes.{Count, RoseOnce}
+use Rattle.cdg_io.specs.Change.{Input, Passed}
 use Rattle.cdg_io.specs.Pump.{IsUnlessFault, TellsEndOf, answer_of}
 use Rattle.cdg_io.specs.declared.pumping.Pumped.{Pumped}
 use Rattle.cdg_io.specs.declared.pumping.PumpStop.{PumpStop}
 use Rattle.cdg_io.specs.declared.pumping.PumpStop.TheVariants as pump_stop
 use Rattle.checkpoint_files.specs.Checkpoint.{Checkpoint, checkpoint_in}
 use Rattle.stream_stages.proofs.Views.{is_over, long_tests}
-use Rattle.cdg_checkpoint.specs.Resumed.{IsAcceptedBy, IsGoneOnBy, IsResumedBy, Resumes, acceptance, blocks_left}
+use Rattle.cdg_checkpoint.specs.Resumed.{IsAcceptedBy, IsGoneOnBy, IsResumedBy, ReadsSaved, Resumes, acceptance, blocks_left}
 use Rattle.cdg_checkpoint.specs.declared.stops.Resumed.{Resumed}
 use Rattle.cdg_checkpoint.specs.declared.stops.ResumeStop.{ResumeStop}
 use Rattle.cdg_checkpoint.specs.declared.stops.ResumeStop.TheVariants.{FirstFault, SecondFault, WriteFault, Torn, TooLong, PastEnd}
@@ -39,13 +38,13 @@ torn_no_read stop unit is = λ e. (cc)
 pub long_no_read : (stop : PumpStop) → stop ≡ pump_stop.TooLong → pump_stopped stop ≢ Err pump_stop.ReadFault
 long_no_read stop is = λ e. (cc)
 
-pub read_told : (stop : PumpStop) (before now : ℕ) → pump_stopped stop ≡ Err pump_stop.ReadFault → TellsEndOf (Err stop) before now → now ≡ before
+pub read_told : (stop : PumpStop) (before now : Count) → pump_stopped stop ≡ Err pump_stop.ReadFault → TellsEndOf (Err stop) before now → now ≡ before
 read_told stop before now is told = subst (λ (r : Result Pumped PumpStop). TellsEndOf r before now) is told
 
-pub torn_told : (stop : PumpStop) (unit before now : ℕ) → stop ≡ pump_stop.Torn unit → TellsEndOf (Err stop) before now → Rose before now
+pub torn_told : (stop : PumpStop) (unit : ℕ) (before now : Count) → stop ≡ pump_stop.Torn unit → TellsEndOf (Err stop) before now → RoseOnce before now
 torn_told stop unit before now is told = subst (λ st. TellsEndOf (Err st) before now) is told
 
-pub long_told : (stop : PumpStop) (before now : ℕ) → stop ≡ pump_stop.TooLong → TellsEndOf (Err stop) before now → now ≡ before
+pub long_told : (stop : PumpStop) (before now : Count) → stop ≡ pump_stop.TooLong → TellsEndOf (Err stop) before now → now ≡ before
 long_told stop before now is told = subst (λ st. TellsEndOf (Err st) before now) is told
 
 -- ---- The answer by the length of the rest, where a fault was met or the rest is too long.
@@ -133,9 +132,6 @@ accepted_not_refused (Err stop) A ok err = absurd (cc)
 
 -- ---- The file is kept while the rest is played.
 
-pub taken_still : (left left' : Option (List ℕ)) (file now : List ℕ) → now ≡ file → Consumes left left' file → Consumes left left' now
-taken_still left left' file now kept h = subst (λ f. Consumes left left' f) (sym kept) h
-
 pub resumes_still : (file now : List ℕ) (time : ℕ) (passed : Passed) (result : Result Resumed ResumeStop) (taken : List ℕ) → now ≡ file → Resumes file time passed result taken → Resumes now time passed result taken
 resumes_still file now time passed result taken kept h = subst (λ f. Resumes f time passed result taken) (sym kept) h
 
@@ -143,12 +139,30 @@ pub answer_still : (left : Option (List ℕ)) (file now : List ℕ) (time : ℕ)
     → IfSome left (λ all. IsResumedBy result (checkpoint_in now) time (length all))
 answer_still left file now time result kept h = subst (λ f. IfSome left (λ all. IsResumedBy result (checkpoint_in f) time (length all))) (sym kept) h
 
-pub few_still : (file now : List ℕ) (n : ℕ) → now ≡ file → length now ≤ n → length file ≤ n
-few_still file now n kept few = subst (λ f. length f ≤ n) kept few
-
-pub many_still : (file now : List ℕ) (n : ℕ) → now ≡ file → n < length now → n < length file
-many_still file now n kept many = subst (λ f. n < length f) kept many
-
 -- a count that is as it was
 pub no_less : (n : ℕ) → n ≤ n
 no_less n = omega arith
+
+-- ---- How the first input was read, where it is accepted and where it is not.
+
+pub reads_on : (first : Input) (result : Result Resumed ResumeStop) (file now : List ℕ) → now ≡ file → result ≢ Err FirstFault → ReadsSaved {T = Unit {0}} first (Ok tt) file → ReadsSaved first result now
+reads_on first result file now kept other reads = subst (λ f. ReadsSaved first result f) (sym kept) (record {
+  most = reads.most;
+  taken = λ e. reads.taken (accepted_no_stop tt FirstFault);
+  end = λ e. reads.end (accepted_no_stop tt FirstFault);
+  told = λ e. reads.told (accepted_no_stop tt FirstFault);
+  goes_on = λ e. reads.goes_on (accepted_no_stop tt FirstFault);
+  cut = λ e. absurd (other e);
+  not_told = λ e. absurd (other e);
+})
+
+pub reads_stopped : (first : Input) (stop : ResumeStop) (file : List ℕ) → ReadsSaved first (not_accepted stop) file → ReadsSaved first (stopped stop) file
+reads_stopped first stop file reads = record {
+  most = reads.most;
+  taken = λ other. reads.taken (other_stop stop FirstFault other);
+  end = λ other. reads.end (other_stop stop FirstFault other);
+  told = λ other. reads.told (other_stop stop FirstFault other);
+  goes_on = λ other. reads.goes_on (other_stop stop FirstFault other);
+  cut = λ e. reads.cut (same_stop stop FirstFault e);
+  not_told = λ e. reads.not_told (same_stop stop FirstFault e);
+}

@@ -2,9 +2,9 @@
 use Rattle.std.specs.Prelude.{◌≡◌, ◌≢◌, ℕ, ◌+◌, ◌-◌, ◌*◌, ◌/◌, ◌%◌, ◌<◌, ◌≤◌, ⊤, List, [], ◌++◌, length, map, nat_lt, if◌then◌else◌, take, drop, min, slice_index_or, Option, None, Result, Ok, Err, IfOk}
 use Rattle.std.specs.List.{range_with_len}
 use Rattle.std.specs.Io.KnownBytes.{Appends, Consumes, IsAtEnd}
-use Rattle.cdg_io.specs.Causes.{Rose}
-use Rattle.cdg_io.specs.Change.{Bytes, Change, Passed}
-use Rattle.cdg_io.specs.Moves.{AppendsPrefix}
+use Rattle.cdg_io.specs.Causes.{Count, RoseOnce}
+use Rattle.cdg_io.specs.Change.{Bytes, Change, Input, Passed}
+use Rattle.cdg_io.specs.Moves.{AppendsPrefix, ConsumesBelow}
 use Rattle.rw_code.specs.Finding.{IsFinding}
 use Rattle.rw_interleave.specs.Interleave.{word_of, whole_packs}
 use Rattle.raw_subcode.specs.Channels.{symbols_of, program_symbols}
@@ -13,7 +13,7 @@ use Rattle.rw_interleave.specs.Stream.{bad_count}
 use Rattle.cdg_instructions.specs.declared.instr.Instr.{Instr}
 use Rattle.cdg_screen.specs.Picture.{Standing, standing_after}
 use Rattle.cdg_screen.specs.Texts.{pixmap}
-use Rattle.checkpoint_files.specs.Table.{IsBadAt, IsCheckpointFile, empty_symbols}
+use Rattle.checkpoint_files.specs.Table.{IsBadAt, IsCheckpointFile, empty_symbols, file_size}
 use Rattle.checkpoint_files.specs.Checkpoint.{Checkpoint, checkpoint_in}
 use Rattle.stream_stages.specs.Screen.{AreMeant}
 use Rattle.raw_subcode.specs.Sizes.{most_units}
@@ -63,6 +63,17 @@ IsAcceptedBy (Err (BeforeSave blocks)) time file = IsCheckpointFile file
 IsAcceptedBy (Err FirstFault) time file = ⊤
 IsAcceptedBy (Err stop) time file = ⊥
 
+-- How the first input was read: this was taken of it, at most one byte more than a checkpoint has, and its end was told
+-- where there was no such byte. Where a read failed, no more than the bytes of a checkpoint were taken.
+pub record ReadsSaved {T : Type 0} (saved : Input) (result : Result T ResumeStop) (file : List ℕ) : Type 0 where
+  pub most : length file ≤ file_size + 1
+  pub taken : result ≢ Err FirstFault → Consumes saved.left.before saved.left.after file
+  pub end : result ≢ Err FirstFault → length file ≤ file_size → IsAtEnd saved.left.after
+  pub told : result ≢ Err FirstFault → length file ≤ file_size → RoseOnce saved.ends.before saved.ends.after
+  pub goes_on : result ≢ Err FirstFault → file_size < length file → saved.ends.after ≡ saved.ends.before
+  pub cut : result ≡ Err FirstFault → ConsumesBelow saved.left.before saved.left.after (file_size + 1)
+  pub not_told : result ≡ Err FirstFault → saved.ends.after ≡ saved.ends.before
+
 -- the most blocks that may follow a checkpoint
 abbrev pub blocks_left : Checkpoint → ℕ
 blocks_left c = most_units - (c.lead_in + c.program)
@@ -101,11 +112,11 @@ pub record GoesOn (to : TimeAfter) (left : Change Bytes) (now : Standing)
       → IsAtEnd left.after × (blocks ≡ blocks_after to.checkpoint taken) × (blocks < to.time)
 
 -- The count of told ends rose where the rest was read to its end, and nowhere else.
-abbrev pub EndsAsResumed : Result Resumed ResumeStop → ℕ → ℕ → Type 0
-EndsAsResumed (Ok resumed) before now = Rose before now
-EndsAsResumed (Err (Torn block)) before now = Rose before now
-EndsAsResumed (Err (PastEnd blocks)) before now = Rose before now
-EndsAsResumed (Err WriteFault) before now = Rose before now
+abbrev pub EndsAsResumed : Result Resumed ResumeStop → Count → Count → Type 0
+EndsAsResumed (Ok resumed) before now = RoseOnce before now
+EndsAsResumed (Err (Torn block)) before now = RoseOnce before now
+EndsAsResumed (Err (PastEnd blocks)) before now = RoseOnce before now
+EndsAsResumed (Err WriteFault) before now = RoseOnce before now
 EndsAsResumed (Err stop) before now = now ≡ before
 
 -- what is answered after so many program blocks

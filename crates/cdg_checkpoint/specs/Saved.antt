@@ -1,7 +1,7 @@
 -- The checkpoint of a stream.
 use Rattle.std.specs.Prelude.{◌≡◌, ℕ, ◌-◌, ◌/◌, ⊤, List, ◌++◌, length, drop, replicate, min, Option, Result, Ok, Err}
 use Rattle.cdg_io.specs.Streams.{WholeReading, WritesAtEnd}
-use Rattle.cdg_io.specs.Causes.{Rose}
+use Rattle.cdg_io.specs.Causes.{Count, RoseOnce}
 use Rattle.cdg_io.specs.Change.{Passed}
 use Rattle.cdg_io.specs.declared.pumping.Pumped.{Pumped}
 use Rattle.cdg_io.specs.declared.pumping.PumpStop.{PumpStop}
@@ -59,9 +59,9 @@ abbrev pub Saves : ℕ → Passed → Result Pumped PumpStop → List ℕ → Ty
 Saves lead_in passed result taken = WritesAtEnd (saving lead_in) passed result taken
 
 -- The count of told ends rose where the input was read to its end, and nowhere else.
-abbrev pub EndsAsSaved : Result Pumped PumpStop → ℕ → ℕ → Type 0
-EndsAsSaved (Ok pumped) before now = Rose before now
-EndsAsSaved (Err (Torn unit)) before now = Rose before now
-EndsAsSaved (Err WriteFault) before now = Rose before now
+abbrev pub EndsAsSaved : Result Pumped PumpStop → Count → Count → Type 0
+EndsAsSaved (Ok pumped) before now = RoseOnce before now
+EndsAsSaved (Err (Torn unit)) before now = RoseOnce before now
+EndsAsSaved (Err WriteFault) before now = RoseOnce before now
 EndsAsSaved (Err TooLong) before now = now ≡ before
 EndsAsSaved (Err ReadFault) before now = now ≡ before

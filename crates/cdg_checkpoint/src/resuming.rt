@@ -1,10 +1,8 @@
 // Playing that goes on from a checkpoint.
 ghost use Rattle.std.specs.Prelude.{◌≡◌, ◌≢◌, ◌≤◌, ◌<◌, ◌+◌, ◌-◌, ◌^◌, List, ℕ, [], length, IfSome, IfErr, IsErr, IsErrOf, IsOk, Err};
-ghost use Rattle.std.specs.Io.KnownBytes.{Consumes, IsAtEnd};
 ghost use Rattle.disc_time.specs.Counts.{last_block};
-ghost use Rattle.cdg_io.specs.Causes.{Rose};
-ghost use Rattle.cdg_io.specs.Change.{change, passed};
-ghost use Rattle.cdg_io.specs.Moves.{ConsumesBelow};
+ghost use Rattle.cdg_io.specs.Causes.{TellsFault};
+ghost use Rattle.cdg_io.specs.Change.{change, input, passed};
 ghost use Rattle.cdg_io.specs.Run.{run_state};
 ghost use Rattle.raw_subcode.specs.Sizes.{most_units};
 ghost use Rattle.rw_interleave.specs.Interleave.{whole_packs};
@@ -12,7 +10,7 @@ ghost use Rattle.rw_interleave.specs.Gathering.{gather_next};
 ghost use Rattle.checkpoint_files.specs.Table.{IsCheckpointFile};
 ghost use Rattle.checkpoint_files.specs.Checkpoint.{checkpoint_in, standing_in};
 ghost use Rattle.stream_stages.specs.Stages.{drawing_of, words_of};
-ghost use Rattle.cdg_checkpoint.specs.Resumed.{GoesOn, IsAcceptedBy, IsGoneOnBy, IsResumedBy, Resumes, acceptance, EndsAsResumed, packs_until, reached, saved_slots, time_after};
+ghost use Rattle.cdg_checkpoint.specs.Resumed.{GoesOn, IsAcceptedBy, IsGoneOnBy, IsResumedBy, ReadsSaved, Resumes, acceptance, EndsAsResumed, packs_until, reached, saved_slots, time_after};
 
 use crate::pictures::bring_back;
 use crate::watch::watch_some;
@@ -47,14 +45,8 @@ impl Checkpointer {
         requires { at ≤ last_block }
         // The checkpoint is accepted, or refused for the first reason.
         ensures accepted { IsAcceptedBy (acceptance result) at self.new.file }
-        ensures saved_taken { result ≢ Err ResumeStop.FirstFault
-            → Consumes (S.left saved.old) (S.left saved.new) self.new.file }
-        ensures saved_end { result ≢ Err ResumeStop.FirstFault → length self.new.file ≤ 65045
-            → IsAtEnd (S.left saved.new) }
-        ensures saved_part { result ≡ Err ResumeStop.FirstFault
-            → ConsumesBelow (S.left saved.old) (S.left saved.new) 65046 }
-        ensures saved_most { length self.new.file ≤ 65046 }
-        // Where it is not, the rest is not touched.
+        ensures reads { ReadsSaved (input S.left S.ends saved.old saved.new) result self.new.file }
+        // Where it is refused, the rest is not touched.
         ensures rest_untouched { IsErr (acceptance result) → rest.new ≡ rest.old }
         ensures resumes { IsOk (acceptance result)
             → (taken : List ℕ) × Resumes self.new.file at
@@ -64,25 +56,12 @@ impl Checkpointer {
             (λ all. IsResumedBy result (checkpoint_in self.new.file) at (length all)) }
         // Where the output is not written it is as it was.
         ensures untouched { IfErr result (λ stop. stop ≢ ResumeStop.WriteFault → out.new ≡ out.old) }
-        ensures saved_later { S.faults saved.old ≤ S.faults saved.new }
-        ensures rest_later { T.faults rest.old ≤ T.faults rest.new }
-        ensures out_later { K.faults out.old ≤ K.faults out.new }
-        ensures first_fault { IsErrOf result ResumeStop.FirstFault
-            → Rose (S.faults saved.old) (S.faults saved.new) }
-        ensures no_first_fault { result ≢ Err ResumeStop.FirstFault
-            → S.faults saved.new ≡ S.faults saved.old }
-        ensures second_fault { IsErrOf result ResumeStop.SecondFault
-            → Rose (T.faults rest.old) (T.faults rest.new) }
-        ensures no_second_fault { result ≢ Err ResumeStop.SecondFault
-            → T.faults rest.new ≡ T.faults rest.old }
-        ensures write_fault { IsErrOf result ResumeStop.WriteFault
-            → Rose (K.faults out.old) (K.faults out.new) }
-        ensures no_write_fault { result ≢ Err ResumeStop.WriteFault → K.faults out.new ≡ K.faults out.old }
-        ensures saved_told { result ≢ Err ResumeStop.FirstFault → length self.new.file ≤ 65045
-            → Rose (S.ends saved.old) (S.ends saved.new) }
-        ensures saved_goes_on { result ≢ Err ResumeStop.FirstFault → 65045 < length self.new.file
-            → S.ends saved.new ≡ S.ends saved.old }
-        ensures saved_not_told { result ≡ Err ResumeStop.FirstFault → S.ends saved.new ≡ S.ends saved.old }
+        ensures first_fault { TellsFault ResumeStop.FirstFault
+            (S.faults saved.old) (S.faults saved.new) result }
+        ensures second_fault { TellsFault ResumeStop.SecondFault
+            (T.faults rest.old) (T.faults rest.new) result }
+        ensures write_fault { TellsFault ResumeStop.WriteFault
+            (K.faults out.old) (K.faults out.new) result }
         ensures rest_told { IsOk (acceptance result)
             → EndsAsResumed result (T.ends rest.old) (T.ends rest.new) }
     {
@@ -110,15 +89,10 @@ impl Checkpointer {
         ensures answer { IfSome (T.left rest.old)
             (λ all. IsResumedBy result (checkpoint_in self.old.file) at (length all)) }
         ensures untouched { IfErr result (λ stop. stop ≢ ResumeStop.WriteFault → out.new ≡ out.old) }
-        ensures rest_later { T.faults rest.old ≤ T.faults rest.new }
-        ensures out_later { K.faults out.old ≤ K.faults out.new }
-        ensures second_fault { IsErrOf result ResumeStop.SecondFault
-            → Rose (T.faults rest.old) (T.faults rest.new) }
-        ensures no_second_fault { result ≢ Err ResumeStop.SecondFault
-            → T.faults rest.new ≡ T.faults rest.old }
-        ensures write_fault { IsErrOf result ResumeStop.WriteFault
-            → Rose (K.faults out.old) (K.faults out.new) }
-        ensures no_write_fault { result ≢ Err ResumeStop.WriteFault → K.faults out.new ≡ K.faults out.old }
+        ensures second_fault { TellsFault ResumeStop.SecondFault
+            (T.faults rest.old) (T.faults rest.new) result }
+        ensures write_fault { TellsFault ResumeStop.WriteFault
+            (K.faults out.old) (K.faults out.new) result }
         ensures rest_told { EndsAsResumed result (T.ends rest.old) (T.ends rest.new) }
     {
         match self.go_on(at, rest) {
@@ -136,22 +110,9 @@ impl Checkpointer {
     /// Reads a checkpoint that is not later than a moment.
     pub(crate) fn accept<S: Source>(&mut self, at: u32, saved: &mut S) -> Result<(), ResumeStop>
         ensures accepted { IsAcceptedBy result at self.new.file }
-        ensures taken { result ≢ Err ResumeStop.FirstFault
-            → Consumes (S.left saved.old) (S.left saved.new) self.new.file }
-        ensures end { result ≢ Err ResumeStop.FirstFault → length self.new.file ≤ 65045
-            → IsAtEnd (S.left saved.new) }
-        ensures part { result ≡ Err ResumeStop.FirstFault
-            → ConsumesBelow (S.left saved.old) (S.left saved.new) 65046 }
-        ensures most { length self.new.file ≤ 65046 }
-        ensures later { S.faults saved.old ≤ S.faults saved.new }
-        ensures fault { IsErrOf result ResumeStop.FirstFault
-            → Rose (S.faults saved.old) (S.faults saved.new) }
-        ensures no_fault { result ≢ Err ResumeStop.FirstFault → S.faults saved.new ≡ S.faults saved.old }
-        ensures told { result ≢ Err ResumeStop.FirstFault → length self.new.file ≤ 65045
-            → Rose (S.ends saved.old) (S.ends saved.new) }
-        ensures goes_on { result ≢ Err ResumeStop.FirstFault → 65045 < length self.new.file
-            → S.ends saved.new ≡ S.ends saved.old }
-        ensures not_told { result ≡ Err ResumeStop.FirstFault → S.ends saved.new ≡ S.ends saved.old }
+        ensures reads { ReadsSaved (input S.left S.ends saved.old saved.new) result self.new.file }
+        ensures fault { TellsFault ResumeStop.FirstFault
+            (S.faults saved.old) (S.faults saved.new) result }
     {
         match self.file.read(saved) {
             Ok(()) => self.accepted(at),
@@ -194,9 +155,8 @@ impl Checkpointer {
         ensures answer { IfSome (S.left rest.old)
             (λ all. IsGoneOnBy result (checkpoint_in self.old.file) at (length all)) }
         ensures file { self.new.file ≡ self.old.file }
-        ensures later { S.faults rest.old ≤ S.faults rest.new }
-        ensures fault { IsErrOf result ResumeStop.SecondFault → Rose (S.faults rest.old) (S.faults rest.new) }
-        ensures no_fault { result ≢ Err ResumeStop.SecondFault → S.faults rest.new ≡ S.faults rest.old }
+        ensures fault { TellsFault ResumeStop.SecondFault
+            (S.faults rest.old) (S.faults rest.new) result }
         ensures ended { EndsAsResumed result (S.ends rest.old) (S.ends rest.new) }
         ensures no_write { result ≢ Err ResumeStop.WriteFault }
         ensures no_first { result ≢ Err ResumeStop.FirstFault }

@@ -1,7 +1,7 @@
 // The checkpoint after a stream.
 ghost use Rattle.std.specs.Prelude.{◌≡◌, ◌≢◌, ◌≤◌, ◌-◌, List, ℕ, length, min, replicate, IfSome, IfErr, IsErrOf, Err};
 ghost use Rattle.disc_time.specs.Counts.{most_lead_in};
-ghost use Rattle.cdg_io.specs.Causes.{Rose};
+ghost use Rattle.cdg_io.specs.Causes.{TellsFault};
 ghost use Rattle.cdg_io.specs.Change.{passed};
 ghost use Rattle.cdg_io.specs.Pump.{IsUnlessFault, answer_of};
 ghost use Rattle.raw_subcode.specs.Sizes.{block_bytes, most_units};
@@ -43,15 +43,11 @@ impl Checkpointer {
             (λ all. IsUnlessFault result (answer_of block_bytes most_units (length all))) }
         // Where the output is not written it is as it was.
         ensures untouched { IfErr result (λ stop. stop ≢ PumpStop.WriteFault → out.new ≡ out.old) }
-        ensures source_later { S.faults source.old ≤ S.faults source.new }
-        ensures out_later { K.faults out.old ≤ K.faults out.new }
-        ensures read_fault { IsErrOf result PumpStop.ReadFault
-            → Rose (S.faults source.old) (S.faults source.new) }
-        ensures no_read_fault { result ≢ Err PumpStop.ReadFault → S.faults source.new ≡ S.faults source.old }
+        ensures read_fault { TellsFault PumpStop.ReadFault
+            (S.faults source.old) (S.faults source.new) result }
         ensures ended { EndsAsSaved result (S.ends source.old) (S.ends source.new) }
-        ensures write_fault { IsErrOf result PumpStop.WriteFault
-            → Rose (K.faults out.old) (K.faults out.new) }
-        ensures no_write_fault { result ≢ Err PumpStop.WriteFault → K.faults out.new ≡ K.faults out.old }
+        ensures write_fault { TellsFault PumpStop.WriteFault
+            (K.faults out.old) (K.faults out.new) result }
     {
         self.begin(lead_in);
         match watch(MOST_UNITS, source, &mut self.tracking) {

@@ -1,6 +1,6 @@
 // A stage at work on the blocks of a whole input, of which nothing is written.
 ghost use Rattle.std.specs.Prelude.{◌≡◌, ◌≢◌, ◌≤◌, List, ℕ, length, IfSome, IsErrOf, Err};
-ghost use Rattle.cdg_io.specs.Causes.{Rose};
+ghost use Rattle.cdg_io.specs.Causes.{TellsFault};
 ghost use Rattle.cdg_io.specs.Change.{fed};
 ghost use Rattle.cdg_io.specs.Pump.{IsUnlessFault, TellsEndOf, answer_of};
 ghost use Rattle.cdg_checkpoint.specs.Tracked.{TracksBlocks};
@@ -21,10 +21,8 @@ pub(crate) fn watch<S: Source, G: Stage<Item = [u8; BLOCK_BYTES], Out = Piece>>(
     // Where nothing failed, the answer is that of the whole input's length.
     ensures answer { IfSome (S.left source.old)
         (λ all. IsUnlessFault result (answer_of 96 limit (length all))) }
-    ensures source_later { S.faults source.old ≤ S.faults source.new }
-    ensures read_fault { IsErrOf result PumpStop.ReadFault
-        → Rose (S.faults source.old) (S.faults source.new) }
-    ensures no_read_fault { result ≢ Err PumpStop.ReadFault → S.faults source.new ≡ S.faults source.old }
+    ensures read_fault { TellsFault PumpStop.ReadFault
+        (S.faults source.old) (S.faults source.new) result }
     ensures ended { TellsEndOf result (S.ends source.old) (S.ends source.new) }
 {
     pump(source, limit, stage, &mut SteadySink::new())
@@ -41,10 +39,8 @@ pub(crate) fn watch_some<S: Source, G: Stage<Item = [u8; BLOCK_BYTES], Out = Pie
         result taken }
     ensures answer { IfSome (S.left source.old)
         (λ all. IsUnlessFault result (answer_of 96 limit (length all))) }
-    ensures source_later { S.faults source.old ≤ S.faults source.new }
-    ensures read_fault { IsErrOf result PumpStop.ReadFault
-        → Rose (S.faults source.old) (S.faults source.new) }
-    ensures no_read_fault { result ≢ Err PumpStop.ReadFault → S.faults source.new ≡ S.faults source.old }
+    ensures read_fault { TellsFault PumpStop.ReadFault
+        (S.faults source.old) (S.faults source.new) result }
     ensures ended { TellsEndOf result (S.ends source.old) (S.ends source.new) }
 {
     if limit > 0 {

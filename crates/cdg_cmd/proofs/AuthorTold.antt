@@ -1,13 +1,16 @@
 -- From the answers of the parts of `author` to its status.
-use Rattle.std.proofs.Common.{◌≡◌, ◌≢◌, ◌≤◌, ℕ, Result, Ok, Err, refl, sym, ap, subst, inl, inr, arith}
-use Rattle.cdg_io.specs.Causes.{Rose}
+use Rattle.std.proofs.Common.{◌≡◌, ◌≢◌, ◌<◌, ◌≤◌, ℕ, None, Some, IfSome, length, Result, Ok, Err, refl, sym, ap, subst, inl, inr, arith}
+use Rattle.cue_sheet.specs.CueSheet.{CueSheet}
+use Rattle.text_lines.specs.Text.{most_text_bytes}
+use Rattle.cdg_io.specs.Causes.{Count, Rose, RoseOnce, TellsFault}
 use Rattle.subcode_author.specs.declared.stops.AuthorStop.{AuthorStop}
 use Rattle.subcode_author.specs.declared.stops.AuthorStop.TheVariants as stop
-use Rattle.cdg_cmd.specs.Authors.{IsScriptStop, IsSheetStop, author_status}
-use Rattle.cdg_io.specs.Change.{Bytes}
-use Rattle.cdg_cmd.specs.Ends.{ScriptEnds, SheetEnds}
+use Rattle.cdg_cmd.specs.Authors.{IsScriptStop, IsSheetStop, IsSheetText, ReadsSheet, author_status}
+use Rattle.cdg_io.specs.Change.{Bytes, Change, Input}
+use Rattle.cdg_cmd.specs.Ends.{EndsWithin, ScriptEnds, SheetEnds}
 use Rattle.cdg_cmd.specs.Faults.{IsTold, TellsFaults}
 use Rattle.cdg_cmd.specs.declared.status.Which.TheVariants.{First, Second}
+use Rattle.cdg_cmd.specs.declared.status.Refusal.TheVariants.{TooLong, Cue}
 use Rattle.cdg_cmd.specs.declared.status.Status.{Status}
 use Rattle.cdg_cmd.specs.declared.status.Status.TheVariants.{Done, Damaged, Usage, Refused, Late, ReadFault, WriteFault, NoMemory}
 use Rattle.cdg_cmd.proofs.Quiet.{count, silent, told}
@@ -17,12 +20,11 @@ pub still : (fault status : Status) (n : ℕ) → status ≢ fault → IsTold fa
 still fault status n other = silent fault status n n (omega arith) other refl
 
 -- the count of an input from the answer of the function that read it
-pub of_input : {A : Type 0} (fault status : Status) (n n' : ℕ) → n ≤ n' → (◌≡◌ {A = Result A Status} (Err status) (Err fault) → Rose n n')
-    → (◌≢◌ {A = Result A Status} (Err status) (Err fault) → n' ≡ n) → IsTold fault (count n n') status
-of_input {A} fault status n n' later rose same = record {
-  later = later;
-  rose = λ e. rose (ap (λ (s : Status). Err s) e);
-  same = λ other. same (λ e. other (cc));
+pub of_input : {A : Type 0} (fault status : Status) (n n' : ℕ) → TellsFault {T = A} fault n n' (Err status) → IsTold fault (count n n') status
+of_input {A} fault status n n' read = record {
+  later = read.later;
+  rose = λ e. read.rose (ap (λ (s : Status). Err s) e);
+  same = λ other. read.same (λ e. other (cc));
 }
 
 not_second : (left : Bytes) (status : Status) → IsSheetStop left status → status ≢ ReadFault Second
@@ -38,23 +40,20 @@ script_not_cut : (left : Bytes) (status : Status) → IsScriptStop left status �
 script_not_cut left status why e = subst (IsScriptStop left) e why
 
 -- the cue sheet stopped it
-pub told_at_sheet : {A : Type 0} (status : Status) (left : Bytes) (f f' t k : ℕ) → IsSheetStop left status → f ≤ f'
-    → (◌≡◌ {A = Result A Status} (Err status) (Err (ReadFault First)) → Rose f f') → (◌≢◌ {A = Result A Status} (Err status) (Err (ReadFault First)) → f' ≡ f)
+pub told_at_sheet : {A : Type 0} (status : Status) (left : Bytes) (f f' t k : ℕ) → IsSheetStop left status → TellsFault {T = A} (ReadFault First) f f' (Err status)
     → TellsFaults (record { first = count f f'; second = count t t; out = count k k }) status
-told_at_sheet status left f f' t k why later rose same = record {
-  first = of_input (ReadFault First) status f f' later rose same;
+told_at_sheet status left f f' t k why read = record {
+  first = of_input (ReadFault First) status f f' read;
   second = still (ReadFault Second) status t (not_second left status why);
   out = still WriteFault status k (sheet_not_cut left status why);
 }
 
 -- the script stopped it
-pub told_at_script : {A B : Type 0} (sheet : B) (status : Status) (left : Bytes) (f f' t t' k : ℕ) → IsScriptStop left status → f ≤ f'
-    → (◌≢◌ {A = Result B Status} (Ok sheet) (Err (ReadFault First)) → f' ≡ f) → t ≤ t'
-    → (◌≡◌ {A = Result A Status} (Err status) (Err (ReadFault Second)) → Rose t t') → (◌≢◌ {A = Result A Status} (Err status) (Err (ReadFault Second)) → t' ≡ t)
-    → TellsFaults (record { first = count f f'; second = count t t'; out = count k k }) status
-told_at_script sheet status left f f' t t' k why early read later rose same = record {
-  first = silent (ReadFault First) status f f' early (not_first left status why) (read (λ e. cc));
-  second = of_input (ReadFault Second) status t t' later rose same;
+pub told_at_script : {A B : Type 0} (sheet : B) (status : Status) (left : Bytes) (f f' t t' k : ℕ) → IsScriptStop left status → TellsFault {T = B} (ReadFault First) f f' (Ok sheet)
+    → TellsFault {T = A} (ReadFault Second) t t' (Err status) → TellsFaults (record { first = count f f'; second = count t t'; out = count k k }) status
+told_at_script sheet status left f f' t t' k why first second = record {
+  first = silent (ReadFault First) status f f' first.later (not_first left status why) (first.same (λ e. cc));
+  second = of_input (ReadFault Second) status t t' second;
   out = still WriteFault status k (script_not_cut left status why);
 }
 
@@ -91,62 +90,72 @@ told_at_end answer f f' t t' k k' early first late second later cut same = recor
 
 -- both texts were read
 pub told_of_both : {A B : Type 0} (sheet : A) (script : B) (answer : Result (Unit {0}) AuthorStop) (status : Status) (f f' t t' k k' : ℕ) → status ≡ author_status answer
-    → f ≤ f' → (◌≢◌ {A = Result A Status} (Ok sheet) (Err (ReadFault First)) → f' ≡ f) → t ≤ t' → (◌≢◌ {A = Result B Status} (Ok script) (Err (ReadFault Second)) → t' ≡ t)
-    → k ≤ k' → (answer ≡ Err stop.WriteFault → Rose k k') → (answer ≢ Err stop.WriteFault → k' ≡ k)
+    → TellsFault {T = A} (ReadFault First) f f' (Ok sheet) → TellsFault {T = B} (ReadFault Second) t t' (Ok script) → TellsFault stop.WriteFault k k' answer
     → TellsFaults (record { first = count f f'; second = count t t'; out = count k k' }) status
-told_of_both sheet script answer status f f' t t' k k' is early first late second later cut same =
+told_of_both sheet script answer status f f' t t' k k' is first second out =
     subst (λ (s : Status). TellsFaults (record { first = count f f'; second = count t t'; out = count k k' }) s) (sym is)
-    (told_at_end answer f f' t t' k k' early (first (λ e. cc)) late (second (λ e. cc)) later cut same)
+    (told_at_end answer f f' t t' k k' first.later (first.same (λ e. cc)) second.later (second.same (λ e. cc)) out.later out.rose out.same)
 
 -- Ends
 
-of_sheet : (answer : Result (Unit {0}) AuthorStop) (n n' : ℕ) → Rose n n' → SheetEnds (count n n') (author_status answer)
-of_sheet (Ok done) n n' told = told
-of_sheet (Err (stop.LengthShort need)) n n' told = inr told
-of_sheet (Err (stop.DiscTooLong blocks)) n n' told = inr told
-of_sheet (Err (stop.PastEnd blocks)) n n' told = inr told
-of_sheet (Err (stop.TextTooLong packs)) n n' told = inr told
-of_sheet (Err (stop.LeadInShort need)) n n' told = inr told
-of_sheet (Err (stop.Late picture need free)) n n' told = told
-of_sheet (Err stop.WriteFault) n n' told = told
-of_sheet (Err stop.NoMemory) n n' told = inr told
+-- a text that was read is not too long
+read_within : (left : Bytes) (ends : Change Count) (text : CueSheet) → IfSome left (λ bytes. IsSheetText bytes text) → RoseOnce ends.before ends.after → EndsWithin left ends
+read_within None ends text reads told = (inr told, tt)
+read_within (Some bytes) ends text reads told = (inr told, (λ within. told, λ long. absurd (omega (arith, reads.within, long))))
 
-of_script : (answer : Result (Unit {0}) AuthorStop) (n n' : ℕ) → Rose n n' → ScriptEnds (count n n') (author_status answer)
+of_sheet : (answer : Result (Unit {0}) AuthorStop) (first : Input) → RoseOnce first.ends.before first.ends.after → SheetEnds first (author_status answer)
+of_sheet (Ok done) first told = told
+of_sheet (Err (stop.LengthShort need)) first told = told
+of_sheet (Err (stop.DiscTooLong blocks)) first told = told
+of_sheet (Err (stop.PastEnd blocks)) first told = told
+of_sheet (Err (stop.TextTooLong packs)) first told = told
+of_sheet (Err (stop.LeadInShort need)) first told = told
+of_sheet (Err (stop.Late picture need free)) first told = told
+of_sheet (Err stop.WriteFault) first told = told
+of_sheet (Err stop.NoMemory) first told = inr told
+
+of_script : (answer : Result (Unit {0}) AuthorStop) (n n' : Count) → RoseOnce n n' → ScriptEnds (count n n') (author_status answer)
 of_script (Ok done) n n' told = told
-of_script (Err (stop.LengthShort need)) n n' told = inr told
-of_script (Err (stop.DiscTooLong blocks)) n n' told = inr told
-of_script (Err (stop.PastEnd blocks)) n n' told = inr told
-of_script (Err (stop.TextTooLong packs)) n n' told = inr told
-of_script (Err (stop.LeadInShort need)) n n' told = inr told
+of_script (Err (stop.LengthShort need)) n n' told = told
+of_script (Err (stop.DiscTooLong blocks)) n n' told = told
+of_script (Err (stop.PastEnd blocks)) n n' told = told
+of_script (Err (stop.TextTooLong packs)) n n' told = told
+of_script (Err (stop.LeadInShort need)) n n' told = told
 of_script (Err (stop.Late picture need free)) n n' told = told
 of_script (Err stop.WriteFault) n n' told = told
 of_script (Err stop.NoMemory) n n' told = inr told
 
 -- the sheet is refused, and the script is not read
-pub sheet_stopped : (left : Bytes) (status : Status) (n : ℕ) → IsSheetStop left status → ScriptEnds (count n n) status
+pub sheet_stopped : (left : Bytes) (status : Status) (n : Count) → IsSheetStop left status → ScriptEnds (count n n) status
 sheet_stopped left Done n why = absurd why
-sheet_stopped left (Damaged k) n why = inl refl
-sheet_stopped left (Refused reason) n why = inl refl
+sheet_stopped left (Damaged k) n why = absurd why
+sheet_stopped left (Refused TooLong) n why = refl
+sheet_stopped left (Refused (Cue line reason)) n why = refl
+sheet_stopped left (Refused reason) n why = absurd why
 sheet_stopped left (Late picture need free) n why = absurd why
 sheet_stopped left NoMemory n why = inl refl
-sheet_stopped left Usage n why = inl refl
+sheet_stopped left Usage n why = absurd why
 sheet_stopped left (ReadFault which) n why = refl
 sheet_stopped left WriteFault n why = absurd why
 
--- the sheet was read, and the script is refused
-pub script_stopped : (left : Bytes) (status : Status) (n n' : ℕ) → IsScriptStop left status → Rose n n' → SheetEnds (count n n') status
-script_stopped left Done n n' why told = told
-script_stopped left (Damaged k) n n' why told = inr told
-script_stopped left (Refused reason) n n' why told = inr told
-script_stopped left (Late picture need free) n n' why told = told
-script_stopped left NoMemory n n' why told = inr told
-script_stopped left Usage n n' why told = inr told
-script_stopped left (ReadFault First) n n' why told = absurd why
-script_stopped left (ReadFault Second) n n' why told = told
-script_stopped left WriteFault n n' why told = told
+-- the sheet was read, and the second input is not too long, or is
+pub second_stopped : (first : Input) (sheet : CueSheet) (status : Status) → ReadsSheet first.left sheet → RoseOnce first.ends.before first.ends.after → status ≢ ReadFault First → SheetEnds first status
+second_stopped first sheet Done reads told other = told
+second_stopped first sheet (Damaged k) reads told other = told
+second_stopped first sheet (Refused TooLong) reads told other = read_within first.left.before first.ends sheet reads.1 told
+second_stopped first sheet (Refused reason) reads told other = told
+second_stopped first sheet (Late picture need free) reads told other = told
+second_stopped first sheet NoMemory reads told other = inr told
+second_stopped first sheet Usage reads told other = told
+second_stopped first sheet (ReadFault First) reads told other = absurd (other refl)
+second_stopped first sheet (ReadFault Second) reads told other = told
+second_stopped first sheet WriteFault reads told other = told
 
-pub sheet_read : (answer : Result (Unit {0}) AuthorStop) (status : Status) (n n' : ℕ) → status ≡ author_status answer → Rose n n' → SheetEnds (count n n') status
-sheet_read answer status n n' is told = subst (λ (s : Status). SheetEnds (count n n') s) (sym is) (of_sheet answer n n' told)
+pub script_stopped : (first : Input) (sheet : CueSheet) (left : Bytes) (status : Status) → IsScriptStop left status → ReadsSheet first.left sheet → RoseOnce first.ends.before first.ends.after → SheetEnds first status
+script_stopped first sheet left status why reads told = second_stopped first sheet status reads told (not_first left status why)
 
-pub script_read : (answer : Result (Unit {0}) AuthorStop) (status : Status) (n n' : ℕ) → status ≡ author_status answer → Rose n n' → ScriptEnds (count n n') status
+pub sheet_read : (answer : Result (Unit {0}) AuthorStop) (status : Status) (first : Input) → status ≡ author_status answer → RoseOnce first.ends.before first.ends.after → SheetEnds first status
+sheet_read answer status first is told = subst (λ (s : Status). SheetEnds first s) (sym is) (of_sheet answer first told)
+
+pub script_read : (answer : Result (Unit {0}) AuthorStop) (status : Status) (n n' : Count) → status ≡ author_status answer → RoseOnce n n' → ScriptEnds (count n n') status
 script_read answer status n n' is told = subst (λ (s : Status). ScriptEnds (count n n') s) (sym is) (of_script answer n n' told)

@@ -1,6 +1,6 @@
 -- From the answer of a merger to the status of a command.
 use Rattle.std.proofs.Common.{◌≡◌, ◌≢◌, ◌≤◌, ◌==◌, ℕ, Bool, true, false, Result, Ok, Err, IsErrOf, refl, sym, subst, ◌∙◌, if◌then◌else◌, arith}
-use Rattle.cdg_io.specs.Causes.{Rose}
+use Rattle.cdg_io.specs.Causes.{Count, Rose, RoseOnce, TellsFault}
 use Rattle.rw_merge.specs.Merging.{TellsFirst, TellsSecond}
 use Rattle.rw_merge.specs.declared.merge.Merged.{Merged}
 use Rattle.rw_merge.specs.declared.merge.MergeStop.{MergeStop}
@@ -55,14 +55,11 @@ module _ (f f' t t' k k' : ℕ) (first_later : f ≤ f') (second_later : t ≤ t
   faults (Err (merge.SecondTorn block)) rose same rises stays cut kept = none _ (λ e. cc) (λ e. cc) (λ e. cc) (same (λ e. cc)) (stays (λ e. cc)) (kept (λ e. cc))
   faults (Err (merge.Unequal blocks)) rose same rises stays cut kept = none _ (λ e. cc) (λ e. cc) (λ e. cc) (same (λ e. cc)) (stays (λ e. cc)) (kept (λ e. cc))
 
-pub told : (answer : Result Merged MergeStop) (status : Status) (f f' t t' k k' : ℕ) → status ≡ merge_status answer → f ≤ f' → t ≤ t' → k ≤ k'
-    → (IsErrOf answer merge.FirstFault → Rose f f') → (answer ≢ Err merge.FirstFault → f' ≡ f)
-    → (IsErrOf answer merge.SecondFault → Rose t t') → (answer ≢ Err merge.SecondFault → t' ≡ t)
-    → (IsErrOf answer merge.WriteFault → Rose k k') → (answer ≢ Err merge.WriteFault → k' ≡ k)
-    → TellsFaults (record { first = count f f'; second = count t t'; out = count k k' }) status
-told answer status f f' t t' k k' is a b d rose same rises stays cut kept =
+pub told : (answer : Result Merged MergeStop) (status : Status) (f f' t t' k k' : ℕ) → status ≡ merge_status answer → TellsFault merge.FirstFault f f' answer → TellsFault merge.SecondFault t t' answer
+    → TellsFault merge.WriteFault k k' answer → TellsFaults (record { first = count f f'; second = count t t'; out = count k k' }) status
+told answer status f f' t t' k k' is first second out =
     subst (λ (s : Status). TellsFaults (record { first = count f f'; second = count t t'; out = count k k' }) s) (sym is)
-    (faults f f' t t' k k' a b d answer rose same rises stays cut kept)
+    (faults f f' t t' k k' first.later second.later out.later answer first.rose first.same second.rose second.same out.rose out.same)
 
 -- no memory was found, and nothing was done
 pub told_none : (f t k : ℕ) → TellsFaults (record { first = count f f; second = count t t; out = count k k }) NoMemory
@@ -70,11 +67,11 @@ told_none f t k = none f f t t k k (omega arith) (omega arith) (omega arith) NoM
 
 -- Ends
 
-whole_first : (n n' : ℕ) (good : Bool) (bad : ℕ) → Rose n n' → ReadingEnds (count n n') (if good then Done else Damaged bad)
+whole_first : (n n' : Count) (good : Bool) (bad : ℕ) → RoseOnce n n' → ReadingEnds (count n n') (if good then Done else Damaged bad)
 whole_first n n' true bad rose = rose
 whole_first n n' false bad rose = rose
 
-first_end : (answer : Result Merged MergeStop) (n n' : ℕ) → TellsFirst answer n n' → ReadingEnds (count n n') (merge_status answer)
+first_end : (answer : Result Merged MergeStop) (n n' : Count) → TellsFirst answer n n' → ReadingEnds (count n n') (merge_status answer)
 first_end (Ok merged) n n' tells = whole_first n n' (merged.bad == 0) merged.bad tells
 first_end (Err merge.FirstFault) n n' tells = tells
 first_end (Err merge.SecondFault) n n' tells = tells
@@ -84,11 +81,11 @@ first_end (Err (merge.Torn block)) n n' tells = tells
 first_end (Err (merge.SecondTorn block)) n n' tells = tells
 first_end (Err (merge.Unequal blocks)) n n' tells = tells
 
-whole_second : (n n' : ℕ) (good : Bool) (bad : ℕ) → Rose n n' → OtherEnds (count n n') (if good then Done else Damaged bad)
+whole_second : (n n' : Count) (good : Bool) (bad : ℕ) → RoseOnce n n' → OtherEnds (count n n') (if good then Done else Damaged bad)
 whole_second n n' true bad rose = rose
 whole_second n n' false bad rose = rose
 
-second_end : (answer : Result Merged MergeStop) (n n' : ℕ) → TellsSecond answer n n' → OtherEnds (count n n') (merge_status answer)
+second_end : (answer : Result Merged MergeStop) (n n' : Count) → TellsSecond answer n n' → OtherEnds (count n n') (merge_status answer)
 second_end (Ok merged) n n' tells = whole_second n n' (merged.bad == 0) merged.bad tells
 second_end (Err merge.FirstFault) n n' tells = tells
 second_end (Err merge.SecondFault) n n' tells = tells
@@ -98,10 +95,10 @@ second_end (Err (merge.Torn block)) n n' tells = tells
 second_end (Err (merge.SecondTorn block)) n n' tells = tells
 second_end (Err (merge.Unequal blocks)) n n' tells = tells
 
-pub first_ended : (answer : Result Merged MergeStop) (status : Status) (n n' : ℕ) → status ≡ merge_status answer → TellsFirst answer n n' → ReadingEnds (count n n') status
+pub first_ended : (answer : Result Merged MergeStop) (status : Status) (n n' : Count) → status ≡ merge_status answer → TellsFirst answer n n' → ReadingEnds (count n n') status
 first_ended answer status n n' is tells = subst (λ (s : Status). ReadingEnds (count n n') s) (sym is) (first_end answer n n' tells)
 
-pub second_ended : (answer : Result Merged MergeStop) (status : Status) (n n' : ℕ) → status ≡ merge_status answer → TellsSecond answer n n' → OtherEnds (count n n') status
+pub second_ended : (answer : Result Merged MergeStop) (status : Status) (n n' : Count) → status ≡ merge_status answer → TellsSecond answer n n' → OtherEnds (count n n') status
 second_ended answer status n n' is tells = subst (λ (s : Status). OtherEnds (count n n') s) (sym is) (second_end answer n n' tells)
 
 -- A merger never lacks memory, and its words were a form

@@ -1,6 +1,6 @@
 -- From the answer of a player to the status of a command.
 use Rattle.std.proofs.Common.{inr, ◌≡◌, ◌≢◌, ◌≤◌, ◌==◌, ℕ, Bool, true, false, Result, Ok, Err, IfErr, IsErrOf, refl, sym, subst, ◌∙◌, if◌then◌else◌, arith}
-use Rattle.cdg_io.specs.Causes.{Rose}
+use Rattle.cdg_io.specs.Causes.{Count, Rose, RoseOnce}
 use Rattle.cdtext_packs.specs.declared.kinds.TextFault.{TextFault}
 use Rattle.cdtext_packs.specs.declared.kinds.TextFault.TheVariants as fault
 use Rattle.stream_stages.specs.Calls.{EndFirst, EndInTurn, IsMomentStop, IsStreamStop}
@@ -9,7 +9,7 @@ use Rattle.stream_stages.specs.declared.played.Played.{Played}
 use Rattle.stream_stages.specs.declared.played.PlayStop.{PlayStop}
 use Rattle.stream_stages.specs.declared.played.PlayStop.TheVariants as play
 use Rattle.cdg_cmd.specs.Answer.{play_status, text_fault_status}
-use Rattle.cdg_cmd.specs.Ends.{EndsFirst, EndsInTurn, StreamEnds}
+use Rattle.cdg_cmd.specs.Ends.{EndsAsListed, EndsFirst, EndsInTurn, StreamEnds}
 use Rattle.cdg_cmd.specs.Keeps.{MayWrite}
 use Rattle.cdg_cmd.proofs.Quiet.{count}
 use Rattle.cdg_cmd.proofs.Quiet as quiet
@@ -49,39 +49,68 @@ told_none f k = quiet.none f f k k (omega arith) (omega arith) NoMemory (λ e. c
 
 -- Ends
 
-whole_end : (cut : Type 0) (n n' : ℕ) (good : Bool) (bad : ℕ) → Rose n n' → StreamEnds cut (count n n') (if good then Done else Damaged bad)
+whole_end : (cut : Type 0) (n n' : Count) (good : Bool) (bad : ℕ) → RoseOnce n n' → StreamEnds cut (count n n') (if good then Done else Damaged bad)
 whole_end cut n n' true bad told = told
 whole_end cut n n' false bad told = told
 
-in_turn : (answer : Result Played PlayStop) (n n' : ℕ) → EndInTurn answer n n' → EndsInTurn (count n n') (play_status answer)
-in_turn (Ok played) n n' told = whole_end (n' ≡ n) n n' (played.bad == 0) played.bad told
-in_turn (Err play.ReadFault) n n' told = told
-in_turn (Err play.WriteFault) n n' told = told
-in_turn (Err (play.Torn block)) n n' told = told
-in_turn (Err play.TooLong) n n' told = told
-in_turn (Err (play.PastEnd blocks)) n n' told = told
-in_turn (Err (play.Text (fault.Missing seq))) n n' told = told
-in_turn (Err (play.Text fault.NoSize)) n n' told = told
-in_turn (Err (play.Text (fault.Malformed seq byte))) n n' told = told
-in_turn (Err (play.Text fault.NoMemory)) n n' told = inr told
+moment_stop : (answer : Result Played PlayStop) → IfErr answer IsStreamStop → IfErr answer IsMomentStop
+moment_stop (Ok played) stops = tt
+moment_stop (Err play.ReadFault) stops = tt
+moment_stop (Err play.WriteFault) stops = tt
+moment_stop (Err (play.Torn block)) stops = tt
+moment_stop (Err play.TooLong) stops = tt
+moment_stop (Err (play.PastEnd blocks)) stops = tt
+moment_stop (Err (play.Text why)) stops = absurd stops
 
-first : (answer : Result Played PlayStop) (n n' : ℕ) → EndFirst answer n n' → EndsFirst (count n n') (play_status answer)
-first (Ok played) n n' told = whole_end (Rose n n') n n' (played.bad == 0) played.bad told
-first (Err play.ReadFault) n n' told = told
-first (Err play.WriteFault) n n' told = told
-first (Err (play.Torn block)) n n' told = told
-first (Err play.TooLong) n n' told = told
-first (Err (play.PastEnd blocks)) n n' told = told
-first (Err (play.Text (fault.Missing seq))) n n' told = told
-first (Err (play.Text fault.NoSize)) n n' told = told
-first (Err (play.Text (fault.Malformed seq byte))) n n' told = told
-first (Err (play.Text fault.NoMemory)) n n' told = inr told
+in_turn : (answer : Result Played PlayStop) (n n' : Count) → IfErr answer IsStreamStop → EndInTurn answer n n' → EndsInTurn (count n n') (play_status answer)
+in_turn (Ok played) n n' stops told = whole_end (n' ≡ n) n n' (played.bad == 0) played.bad told
+in_turn (Err play.ReadFault) n n' stops told = told
+in_turn (Err play.WriteFault) n n' stops told = told
+in_turn (Err (play.Torn block)) n n' stops told = told
+in_turn (Err play.TooLong) n n' stops told = told
+in_turn (Err (play.PastEnd blocks)) n n' stops told = absurd stops
+in_turn (Err (play.Text why)) n n' stops told = absurd stops
 
-pub ended_in_turn : (answer : Result Played PlayStop) (status : Status) (n n' : ℕ) → status ≡ play_status answer → EndInTurn answer n n' → EndsInTurn (count n n') status
-ended_in_turn answer status n n' is told = subst (λ (s : Status). EndsInTurn (count n n') s) (sym is) (in_turn answer n n' told)
+first : (answer : Result Played PlayStop) (n n' : Count) → IfErr answer IsMomentStop → EndFirst answer n n' → EndsFirst (count n n') (play_status answer)
+first (Ok played) n n' stops told = whole_end (RoseOnce n n') n n' (played.bad == 0) played.bad told
+first (Err play.ReadFault) n n' stops told = told
+first (Err play.WriteFault) n n' stops told = told
+first (Err (play.Torn block)) n n' stops told = told
+first (Err play.TooLong) n n' stops told = told
+first (Err (play.PastEnd blocks)) n n' stops told = told
+first (Err (play.Text why)) n n' stops told = absurd stops
 
-pub ended_first : (answer : Result Played PlayStop) (status : Status) (n n' : ℕ) → status ≡ play_status answer → EndFirst answer n n' → EndsFirst (count n n') status
-ended_first answer status n n' is told = subst (λ (s : Status). EndsFirst (count n n') s) (sym is) (first answer n n' told)
+whole_list : (n n' : Count) (good : Bool) (bad : ℕ) → RoseOnce n n' → EndsAsListed (count n n') (if good then Done else Damaged bad)
+whole_list n n' true bad told = told
+whole_list n n' false bad told = told
+
+listed : (answer : Result Played PlayStop) (n n' : Count) → EndFirst answer n n' → EndsAsListed (count n n') (play_status answer)
+listed (Ok played) n n' told = whole_list n n' (played.bad == 0) played.bad told
+listed (Err play.ReadFault) n n' told = told
+listed (Err play.WriteFault) n n' told = told
+listed (Err (play.Torn block)) n n' told = told
+listed (Err play.TooLong) n n' told = told
+listed (Err (play.PastEnd blocks)) n n' told = told
+listed (Err (play.Text (fault.Missing seq))) n n' told = told
+listed (Err (play.Text fault.NoSize)) n n' told = told
+listed (Err (play.Text (fault.Malformed seq byte))) n n' told = told
+listed (Err (play.Text fault.NoMemory)) n n' told = inr told
+
+-- of a call that writes as it reads,
+pub ended_in_turn : (answer : Result Played PlayStop) (status : Status) (n n' : Count) → status ≡ play_status answer → IfErr answer IsStreamStop → EndInTurn answer n n' → EndsInTurn (count n n') status
+ended_in_turn answer status n n' is stops told = subst (λ (s : Status). EndsInTurn (count n n') s) (sym is) (in_turn answer n n' stops told)
+
+-- that shows a moment,
+pub ended_first : (answer : Result Played PlayStop) (status : Status) (n n' : Count) → status ≡ play_status answer → IfErr answer IsMomentStop → EndFirst answer n n' → EndsFirst (count n n') status
+ended_first answer status n n' is stops told = subst (λ (s : Status). EndsFirst (count n n') s) (sym is) (first answer n n' stops told)
+
+-- that writes after the whole of a stream,
+pub ended_whole : (answer : Result Played PlayStop) (status : Status) (n n' : Count) → status ≡ play_status answer → IfErr answer IsStreamStop → EndFirst answer n n' → EndsFirst (count n n') status
+ended_whole answer status n n' is stops told = ended_first answer status n n' is (moment_stop answer stops) told
+
+-- and that lists texts
+pub ended_listed : (answer : Result Played PlayStop) (status : Status) (n n' : Count) → status ≡ play_status answer → EndFirst answer n n' → EndsAsListed (count n n') status
+ended_listed answer status n n' is told = subst (λ (s : Status). EndsAsListed (count n n') s) (sym is) (listed answer n n' told)
 
 -- Where the output may not be written
 
@@ -119,15 +148,6 @@ never_memory_at (Err (play.Text why)) stops e = absurd stops
 
 pub shown_never_memory : (answer : Result Played PlayStop) (status : Status) → status ≡ play_status answer → IfErr answer IsMomentStop → status ≢ NoMemory
 shown_never_memory answer status is stops e = never_memory_at answer stops (sym is ∙ e)
-
-moment_stop : (answer : Result Played PlayStop) → IfErr answer IsStreamStop → IfErr answer IsMomentStop
-moment_stop (Ok played) stops = tt
-moment_stop (Err play.ReadFault) stops = tt
-moment_stop (Err play.WriteFault) stops = tt
-moment_stop (Err (play.Torn block)) stops = tt
-moment_stop (Err play.TooLong) stops = tt
-moment_stop (Err (play.PastEnd blocks)) stops = tt
-moment_stop (Err (play.Text why)) stops = absurd stops
 
 pub never_memory : (answer : Result Played PlayStop) (status : Status) → status ≡ play_status answer → IfErr answer IsStreamStop → status ≢ NoMemory
 never_memory answer status is stops = shown_never_memory answer status is (moment_stop answer stops)

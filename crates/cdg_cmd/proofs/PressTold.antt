@@ -1,13 +1,14 @@
 -- From the answers of the parts of `press` to its status.
 use Rattle.std.proofs.Common.{◌≡◌, ◌≢◌, ◌≤◌, ℕ, List, [], Result, Ok, Err, OnOk, IfErr, refl, sym, ap, subst, inr}
 use Rattle.std.specs.Io.KnownBytes.{Appends}
-use Rattle.cdg_io.specs.Causes.{Rose}
+use Rattle.cdg_io.specs.Causes.{Count, Rose, RoseOnce, TellsFault}
 use Rattle.cue_sheet.specs.CueSheet.{CueSheet}
 use Rattle.cdg_press.specs.Pressed.{IsPressed, press_of}
 use Rattle.cdg_press.specs.Refusals.{IsPressable, IsPressStop}
 use Rattle.cdg_press.specs.declared.stops.PressStop.{PressStop}
 use Rattle.cdg_press.specs.declared.stops.PressStop.TheVariants as stop
-use Rattle.cdg_io.specs.Change.{Bytes, change}
+use Rattle.cdg_io.specs.Change.{Bytes, Input, change}
+use Rattle.cdg_cmd.specs.Authors.{ReadsSheet}
 use Rattle.cdg_cmd.specs.Ends.{ScriptEnds, SheetEnds}
 use Rattle.cdg_cmd.specs.Faults.{IsTold, TellsFaults}
 use Rattle.cdg_cmd.specs.Presses.{IsFileStop, IsPressedFor, PutsPressedPart, press_status}
@@ -15,7 +16,7 @@ use Rattle.cdg_cmd.specs.declared.status.Which.TheVariants.{First, Second}
 use Rattle.cdg_cmd.specs.declared.status.Status.{Status}
 use Rattle.cdg_cmd.specs.declared.status.Status.TheVariants.{Done, Damaged, Usage, Refused, Late, ReadFault, WriteFault, NoMemory}
 use Rattle.cdg_cmd.proofs.AuthorStatus.{unchanged}
-use Rattle.cdg_cmd.proofs.AuthorTold.{of_input, still}
+use Rattle.cdg_cmd.proofs.AuthorTold.{of_input, second_stopped, still}
 use Rattle.cdg_cmd.proofs.Quiet.{count, silent, told}
 
 not_first : (left : Bytes) (status : Status) → IsFileStop left status → status ≢ ReadFault First
@@ -25,13 +26,11 @@ not_cut : (left : Bytes) (status : Status) → IsFileStop left status → status
 not_cut left status why e = subst (IsFileStop left) e why
 
 -- the file stopped it
-pub told_at_file : {A B : Type 0} (sheet : B) (status : Status) (left : Bytes) (f f' t t' k : ℕ) → IsFileStop left status → f ≤ f'
-    → (◌≢◌ {A = Result B Status} (Ok sheet) (Err (ReadFault First)) → f' ≡ f) → t ≤ t'
-    → (◌≡◌ {A = Result A Status} (Err status) (Err (ReadFault Second)) → Rose t t') → (◌≢◌ {A = Result A Status} (Err status) (Err (ReadFault Second)) → t' ≡ t)
-    → TellsFaults (record { first = count f f'; second = count t t'; out = count k k }) status
-told_at_file sheet status left f f' t t' k why early read later rose same = record {
-  first = silent (ReadFault First) status f f' early (not_first left status why) (read (λ e. cc));
-  second = of_input (ReadFault Second) status t t' later rose same;
+pub told_at_file : {A B : Type 0} (sheet : B) (status : Status) (left : Bytes) (f f' t t' k : ℕ) → IsFileStop left status → TellsFault {T = B} (ReadFault First) f f' (Ok sheet)
+    → TellsFault {T = A} (ReadFault Second) t t' (Err status) → TellsFaults (record { first = count f f'; second = count t t'; out = count k k }) status
+told_at_file sheet status left f f' t t' k why first second = record {
+  first = silent (ReadFault First) status f f' first.later (not_first left status why) (first.same (λ e. cc));
+  second = of_input (ReadFault Second) status t t' second;
   out = still WriteFault status k (not_cut left status why);
 }
 
@@ -70,56 +69,47 @@ told_at_end answer f f' t t' k k' early first late second later cut same = recor
 
 -- both inputs were read
 pub told_of_both : {A B : Type 0} (sheet : A) (file : B) (answer : Result (Unit {0}) PressStop) (status : Status) (f f' t t' k k' : ℕ) → status ≡ press_status answer
-    → f ≤ f' → (◌≢◌ {A = Result A Status} (Ok sheet) (Err (ReadFault First)) → f' ≡ f) → t ≤ t' → (◌≢◌ {A = Result B Status} (Ok file) (Err (ReadFault Second)) → t' ≡ t)
-    → k ≤ k' → (answer ≡ Err stop.WriteFault → Rose k k') → (answer ≢ Err stop.WriteFault → k' ≡ k)
+    → TellsFault {T = A} (ReadFault First) f f' (Ok sheet) → TellsFault {T = B} (ReadFault Second) t t' (Ok file) → TellsFault stop.WriteFault k k' answer
     → TellsFaults (record { first = count f f'; second = count t t'; out = count k k' }) status
-told_of_both sheet file answer status f f' t t' k k' is early first late second later cut same =
+told_of_both sheet file answer status f f' t t' k k' is first second out =
     subst (λ (s : Status). TellsFaults (record { first = count f f'; second = count t t'; out = count k k' }) s) (sym is)
-    (told_at_end answer f f' t t' k k' early (first (λ e. cc)) late (second (λ e. cc)) later cut same)
+    (told_at_end answer f f' t t' k k' first.later (first.same (λ e. cc)) second.later (second.same (λ e. cc)) out.later out.rose out.same)
 
 -- Ends
 
-of_sheet : (answer : Result (Unit {0}) PressStop) (n n' : ℕ) → Rose n n' → SheetEnds (count n n') (press_status answer)
-of_sheet (Ok done) n n' rose = rose
-of_sheet (Err (stop.PackTorn pack)) n n' rose = inr rose
-of_sheet (Err (stop.LengthShort need)) n n' rose = inr rose
-of_sheet (Err (stop.DiscTooLong blocks)) n n' rose = inr rose
-of_sheet (Err (stop.Gap track)) n n' rose = inr rose
-of_sheet (Err (stop.CdgTooLong packs room)) n n' rose = inr rose
-of_sheet (Err (stop.TextTooLong packs)) n n' rose = inr rose
-of_sheet (Err (stop.LeadInShort need)) n n' rose = inr rose
-of_sheet (Err stop.NoMemory) n n' rose = inr rose
-of_sheet (Err stop.WriteFault) n n' rose = rose
+of_sheet : (answer : Result (Unit {0}) PressStop) (first : Input) → RoseOnce first.ends.before first.ends.after → SheetEnds first (press_status answer)
+of_sheet (Ok done) first told = told
+of_sheet (Err (stop.PackTorn pack)) first told = told
+of_sheet (Err (stop.LengthShort need)) first told = told
+of_sheet (Err (stop.DiscTooLong blocks)) first told = told
+of_sheet (Err (stop.Gap track)) first told = told
+of_sheet (Err (stop.CdgTooLong packs room)) first told = told
+of_sheet (Err (stop.TextTooLong packs)) first told = told
+of_sheet (Err (stop.LeadInShort need)) first told = told
+of_sheet (Err stop.NoMemory) first told = inr told
+of_sheet (Err stop.WriteFault) first told = told
 
-of_file : (answer : Result (Unit {0}) PressStop) (n n' : ℕ) → Rose n n' → ScriptEnds (count n n') (press_status answer)
-of_file (Ok done) n n' rose = rose
-of_file (Err (stop.PackTorn pack)) n n' rose = inr rose
-of_file (Err (stop.LengthShort need)) n n' rose = inr rose
-of_file (Err (stop.DiscTooLong blocks)) n n' rose = inr rose
-of_file (Err (stop.Gap track)) n n' rose = inr rose
-of_file (Err (stop.CdgTooLong packs room)) n n' rose = inr rose
-of_file (Err (stop.TextTooLong packs)) n n' rose = inr rose
-of_file (Err (stop.LeadInShort need)) n n' rose = inr rose
-of_file (Err stop.NoMemory) n n' rose = inr rose
-of_file (Err stop.WriteFault) n n' rose = rose
+of_file : (answer : Result (Unit {0}) PressStop) (n n' : Count) → RoseOnce n n' → ScriptEnds (count n n') (press_status answer)
+of_file (Ok done) n n' told = told
+of_file (Err (stop.PackTorn pack)) n n' told = told
+of_file (Err (stop.LengthShort need)) n n' told = told
+of_file (Err (stop.DiscTooLong blocks)) n n' told = told
+of_file (Err (stop.Gap track)) n n' told = told
+of_file (Err (stop.CdgTooLong packs room)) n n' told = told
+of_file (Err (stop.TextTooLong packs)) n n' told = told
+of_file (Err (stop.LeadInShort need)) n n' told = told
+of_file (Err stop.NoMemory) n n' told = inr told
+of_file (Err stop.WriteFault) n n' told = told
 
 -- the sheet was read, and the file is refused
-pub file_stopped : (left : Bytes) (status : Status) (n n' : ℕ) → IsFileStop left status → Rose n n' → SheetEnds (count n n') status
-file_stopped left Done n n' why rose = rose
-file_stopped left (Damaged k) n n' why rose = inr rose
-file_stopped left (Refused reason) n n' why rose = inr rose
-file_stopped left (Late picture need free) n n' why rose = rose
-file_stopped left NoMemory n n' why rose = inr rose
-file_stopped left Usage n n' why rose = inr rose
-file_stopped left (ReadFault First) n n' why rose = absurd why
-file_stopped left (ReadFault Second) n n' why rose = rose
-file_stopped left WriteFault n n' why rose = rose
+pub file_stopped : (first : Input) (sheet : CueSheet) (left : Bytes) (status : Status) → IsFileStop left status → ReadsSheet first.left sheet → RoseOnce first.ends.before first.ends.after → SheetEnds first status
+file_stopped first sheet left status why reads told = second_stopped first sheet status reads told (not_first left status why)
 
-pub sheet_read : (answer : Result (Unit {0}) PressStop) (status : Status) (n n' : ℕ) → status ≡ press_status answer → Rose n n' → SheetEnds (count n n') status
-sheet_read answer status n n' is rose = subst (λ (s : Status). SheetEnds (count n n') s) (sym is) (of_sheet answer n n' rose)
+pub sheet_read : (answer : Result (Unit {0}) PressStop) (status : Status) (first : Input) → status ≡ press_status answer → RoseOnce first.ends.before first.ends.after → SheetEnds first status
+sheet_read answer status first is told = subst (λ (s : Status). SheetEnds first s) (sym is) (of_sheet answer first told)
 
-pub file_read : (answer : Result (Unit {0}) PressStop) (status : Status) (n n' : ℕ) → status ≡ press_status answer → Rose n n' → ScriptEnds (count n n') status
-file_read answer status n n' is rose = subst (λ (s : Status). ScriptEnds (count n n') s) (sym is) (of_file answer n n' rose)
+pub file_read : (answer : Result (Unit {0}) PressStop) (status : Status) (n n' : Count) → status ≡ press_status answer → RoseOnce n n' → ScriptEnds (count n n') status
+file_read answer status n n' is told = subst (λ (s : Status). ScriptEnds (count n n') s) (sym is) (of_file answer n n' told)
 
 -- What is put
 

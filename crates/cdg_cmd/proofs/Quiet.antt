@@ -7,7 +7,7 @@ use Rattle.cdg_cmd.specs.declared.status.Which.TheVariants.{First, Second}
 use Rattle.cdg_cmd.specs.declared.status.Status.{Status}
 use Rattle.cdg_cmd.specs.declared.status.Status.TheVariants.{Usage, ReadFault, WriteFault}
 
-abbrev pub count : ℕ → ℕ → Change ℕ
+abbrev pub count : {A : Type 0} → A → A → Change A
 count before after = record { before = before; after = after }
 
 -- this fault is told

@@ -2,16 +2,17 @@
 use Rattle.std.proofs.Common.{◌≡◌, ◌≢◌, ◌≤◌, ◌<◌, ◌==◌, ◌⊎◌, ℕ, Bool, true, false, List, length, Result, Ok, Err, IfErr, IsErrOf, refl, sym, subst, ◌∙◌, inl, inr, if◌then◌else◌, arith}
 use Rattle.std.specs.Prelude.{IsErr, IsOk}
 use Rattle.std.specs.Io.KnownBytes.{Consumes, IsAtEnd}
+use Rattle.std.proofs.Math.Nat.{eq-or-lt_of_le}
 use Rattle.std.proofs.lemmas.Bool.{cases_lt}
-use Rattle.cdg_io.specs.Causes.{Rose}
-use Rattle.checkpoint_files.specs.Table.{IsCheckpointFile, file_size}
+use Rattle.cdg_io.specs.Causes.{Count, Rose, RoseOnce, TellsFault}
+use Rattle.checkpoint_files.specs.Table.{Across, Bad, Border, Check, Colours, Down, IsBadAt, IsCheckpointFile, LeadIn, Levels, Mark, Memory, Part, Program, Slots, ToCome, byte_of, file_size, row}
 use Rattle.cdg_checkpoint.specs.Resumed.{IsAcceptedBy, acceptance, EndsAsResumed as TellsRest}
 use Rattle.cdg_checkpoint.specs.declared.stops.Resumed.{Resumed}
 use Rattle.cdg_checkpoint.specs.declared.stops.ResumeStop.{ResumeStop}
 use Rattle.cdg_checkpoint.specs.declared.stops.ResumeStop.TheVariants as resume
-use Rattle.cdg_io.specs.Change.{Bytes, Change}
+use Rattle.cdg_io.specs.Change.{Input}
 use Rattle.cdg_cmd.specs.Checkpoints.{ReadsCheckpoint, resume_status}
-use Rattle.cdg_cmd.specs.Ends.{AtMostOnce, CheckpointEnds, RestEnds}
+use Rattle.cdg_cmd.specs.Ends.{CheckpointEnds, RestEnds}
 use Rattle.cdg_cmd.specs.Faults.{TellsFaults}
 use Rattle.cdg_cmd.specs.Keeps.{MayWrite}
 use Rattle.cdg_cmd.specs.declared.status.Which.TheVariants.{First, Second}
@@ -50,50 +51,76 @@ module _ (f f' t t' k k' : ℕ) (first_later : f ≤ f') (second_later : t ≤ t
   faults (Err resume.TooLong) rose same rises stays cut kept = none f f' t t' k k' first_later second_later out_later _ (λ e. cc) (λ e. cc) (λ e. cc) (same (λ e. cc)) (stays (λ e. cc)) (kept (λ e. cc))
   faults (Err (resume.PastEnd blocks)) rose same rises stays cut kept = none f f' t t' k k' first_later second_later out_later _ (λ e. cc) (λ e. cc) (λ e. cc) (same (λ e. cc)) (stays (λ e. cc)) (kept (λ e. cc))
 
-pub told : (answer : Result Resumed ResumeStop) (status : Status) (f f' t t' k k' : ℕ) → status ≡ resume_status answer → f ≤ f' → t ≤ t' → k ≤ k'
-    → (IsErrOf answer resume.FirstFault → Rose f f') → (answer ≢ Err resume.FirstFault → f' ≡ f)
-    → (IsErrOf answer resume.SecondFault → Rose t t') → (answer ≢ Err resume.SecondFault → t' ≡ t)
-    → (IsErrOf answer resume.WriteFault → Rose k k') → (answer ≢ Err resume.WriteFault → k' ≡ k)
-    → TellsFaults (record { first = count f f'; second = count t t'; out = count k k' }) status
-told answer status f f' t t' k k' is a b d rose same rises stays cut kept =
+pub told : (answer : Result Resumed ResumeStop) (status : Status) (f f' t t' k k' : ℕ) → status ≡ resume_status answer → TellsFault resume.FirstFault f f' answer → TellsFault resume.SecondFault t t' answer
+    → TellsFault resume.WriteFault k k' answer → TellsFaults (record { first = count f f'; second = count t t'; out = count k k' }) status
+told answer status f f' t t' k k' is first second out =
     subst (λ (s : Status). TellsFaults (record { first = count f f'; second = count t t'; out = count k k' }) s) (sym is)
-    (faults f f' t t' k k' a b d answer rose same rises stays cut kept)
+    (faults f f' t t' k k' first.later second.later out.later answer first.rose first.same second.rose second.same out.rose out.same)
 
 -- Ends
 
-whole_first : (n n' : ℕ) (good : Bool) (bad : ℕ) → Rose n n' → CheckpointEnds (count n n') (if good then Done else Damaged bad)
+-- each field begins within the file
+field_within : (part : Part) (k : ℕ) → k < (row part).count → byte_of part k < file_size
+field_within Mark k lt = omega (arith, lt)
+field_within ToCome k lt = omega (arith, lt)
+field_within LeadIn k lt = omega (arith, lt)
+field_within Program k lt = omega (arith, lt)
+field_within Bad k lt = omega (arith, lt)
+field_within Slots k lt = omega (arith, lt)
+field_within Memory k lt = omega (arith, lt)
+field_within Border k lt = omega (arith, lt)
+field_within Across k lt = omega (arith, lt)
+field_within Down k lt = omega (arith, lt)
+field_within Colours k lt = omega (arith, lt)
+field_within Levels k lt = omega (arith, lt)
+field_within Check k lt = omega (arith, lt)
+
+-- where the file is not too long, its bad byte is within
+bad_within : (file : List ℕ) (byte : ℕ) → IsBadAt file byte → length file ≤ file_size → byte < file_size
+bad_within file byte bad le =
+    elim (eq-or-lt_of_le le) [
+      | inl whole ↦ (let here = (bad.field whole).here in omega (arith, here.byte_is, field_within (bad.field whole).part here.k here.field))
+      | inr short ↦ omega (arith, bad.short short, short)
+    ]
+
+whole_first : (n n' : Count) (good : Bool) (bad : ℕ) → RoseOnce n n' → CheckpointEnds (count n n') (if good then Done else Damaged bad)
 whole_first n n' true bad rose = rose
 whole_first n n' false bad rose = rose
 
-module _ (at n n' : ℕ) (file : List ℕ) where
-  once : (answer : Result Resumed ResumeStop) → (length file ≤ file_size → Rose n n') → (file_size < length file → n' ≡ n) → AtMostOnce (count n n')
-  once answer rises stays = elim (cases_lt file_size (length file)) [ inl lt ↦ inl (stays lt) | inr le ↦ inr (rises le) ]
+module _ (at : ℕ) (n n' : Count) (file : List ℕ) where
+  -- a byte that tells that the file is too long is past its last, and any other is not
+  bad_end : (byte : ℕ) → IsBadAt file byte → (length file ≤ file_size → RoseOnce n n') → (file_size < length file → n' ≡ n) → (byte < file_size → RoseOnce n n') × (file_size ≤ byte → n' ≡ n)
+  bad_end byte bad rises stays =
+      elim (cases_lt file_size (length file)) [
+        | inl lt ↦ (λ below. absurd (omega (arith, bad.long lt, below)), λ past. stays lt)
+        | inr le ↦ (λ below. rises le, λ past. absurd (omega (arith, bad_within file byte bad le, past)))
+      ]
 
-  of_file : IsCheckpointFile file → (length file ≤ file_size → Rose n n') → Rose n n'
+  of_file : IsCheckpointFile file → (length file ≤ file_size → RoseOnce n n') → RoseOnce n n'
   of_file is rises = rises (omega (arith, is.size))
 
-  first_end : (answer : Result Resumed ResumeStop) → IsAcceptedBy (acceptance answer) at file → (answer ≢ Err resume.FirstFault → length file ≤ file_size → Rose n n')
+  first_end : (answer : Result Resumed ResumeStop) → IsAcceptedBy (acceptance answer) at file → (answer ≢ Err resume.FirstFault → length file ≤ file_size → RoseOnce n n')
       → (answer ≢ Err resume.FirstFault → file_size < length file → n' ≡ n) → (answer ≡ Err resume.FirstFault → n' ≡ n) → CheckpointEnds (count n n') (resume_status answer)
   first_end (Ok resumed) accepted rises stays failed = whole_first n n' (resumed.bad == 0) resumed.bad (of_file accepted.0 (rises (λ e. cc)))
   first_end (Err resume.FirstFault) accepted rises stays failed = failed refl
   first_end (Err resume.SecondFault) accepted rises stays failed = of_file accepted.0 (rises (λ e. cc))
   first_end (Err resume.WriteFault) accepted rises stays failed = of_file accepted.0 (rises (λ e. cc))
-  first_end (Err (resume.BadSave byte)) accepted rises stays failed = once (Err (resume.BadSave byte)) (rises (λ e. cc)) (stays (λ e. cc))
+  first_end (Err (resume.BadSave byte)) accepted rises stays failed = bad_end byte accepted (rises (λ e. cc)) (stays (λ e. cc))
   first_end (Err (resume.BeforeSave blocks)) accepted rises stays failed = of_file accepted.0 (rises (λ e. cc))
   first_end (Err (resume.Torn block)) accepted rises stays failed = of_file accepted.0 (rises (λ e. cc))
   first_end (Err resume.TooLong) accepted rises stays failed = of_file accepted.0 (rises (λ e. cc))
   first_end (Err (resume.PastEnd blocks)) accepted rises stays failed = of_file accepted.0 (rises (λ e. cc))
 
   pub first_ended : (answer : Result Resumed ResumeStop) (status : Status) → status ≡ resume_status answer → IsAcceptedBy (acceptance answer) at file
-      → (answer ≢ Err resume.FirstFault → length file ≤ file_size → Rose n n')
+      → (answer ≢ Err resume.FirstFault → length file ≤ file_size → RoseOnce n n')
       → (answer ≢ Err resume.FirstFault → file_size < length file → n' ≡ n) → (answer ≡ Err resume.FirstFault → n' ≡ n) → CheckpointEnds (count n n') status
   first_ended answer status is accepted rises stays failed = subst (λ (s : Status). CheckpointEnds (count n n') s) (sym is) (first_end answer accepted rises stays failed)
 
-whole_second : (n n' : ℕ) (good : Bool) (bad : ℕ) → Rose n n' → RestEnds (count n n') (if good then Done else Damaged bad)
+whole_second : (n n' : Count) (good : Bool) (bad : ℕ) → RoseOnce n n' → RestEnds (count n n') (if good then Done else Damaged bad)
 whole_second n n' true bad rose = rose
 whole_second n n' false bad rose = rose
 
-second_end : (answer : Result Resumed ResumeStop) (n n' : ℕ) → (IsErr (acceptance answer) → n' ≡ n) → (IsOk (acceptance answer) → TellsRest answer n n') → RestEnds (count n n') (resume_status answer)
+second_end : (answer : Result Resumed ResumeStop) (n n' : Count) → (IsErr (acceptance answer) → n' ≡ n) → (IsOk (acceptance answer) → TellsRest answer n n') → RestEnds (count n n') (resume_status answer)
 second_end (Ok resumed) n n' same tells = whole_second n n' (resumed.bad == 0) resumed.bad (tells refl)
 second_end (Err resume.FirstFault) n n' same tells = same refl
 second_end (Err resume.SecondFault) n n' same tells = tells refl
@@ -104,36 +131,37 @@ second_end (Err (resume.Torn block)) n n' same tells = tells refl
 second_end (Err resume.TooLong) n n' same tells = tells refl
 second_end (Err (resume.PastEnd blocks)) n n' same tells = tells refl
 
-pub second_ended : (answer : Result Resumed ResumeStop) (status : Status) (n n' : ℕ) → status ≡ resume_status answer → (IsErr (acceptance answer) → n' ≡ n)
+pub second_ended : (answer : Result Resumed ResumeStop) (status : Status) (n n' : Count) → status ≡ resume_status answer → (IsErr (acceptance answer) → n' ≡ n)
     → (IsOk (acceptance answer) → TellsRest answer n n') → RestEnds (count n n') status
 second_ended answer status n n' is same tells = subst (λ (s : Status). RestEnds (count n n') s) (sym is) (second_end answer n n' same tells)
 
 -- The rest is read only after a checkpoint
-module _ {T : Type 0} (x y : T) (at : ℕ) (input : Change Bytes) (file : List ℕ) where
-  read_file : (answer : Result Resumed ResumeStop) → answer ≢ Err resume.FirstFault → IsAcceptedBy (Ok tt) at file → (answer ≢ Err resume.FirstFault → Consumes input.before input.after file)
-      → (answer ≢ Err resume.FirstFault → length file ≤ file_size → IsAtEnd input.after) → (y ≡ x) ⊎ ((bytes : List ℕ) × ReadsCheckpoint at input bytes)
-  read_file answer other accepted taken end = inr (
-    file,
-    record {
-      is_file = accepted.0;
-      not_later = accepted.1;
-      taken = taken other;
-      end = end other (omega (arith, accepted.0.size));
-    },
-  )
+module _ {T : Type 0} (x y : T) (at : ℕ) (first : Input) (file : List ℕ) where
+  read_file : (answer : Result Resumed ResumeStop) → answer ≢ Err resume.FirstFault → IsAcceptedBy (Ok tt) at file → (answer ≢ Err resume.FirstFault → Consumes first.left.before first.left.after file)
+      → (answer ≢ Err resume.FirstFault → length file ≤ file_size → IsAtEnd first.left.after) → (answer ≢ Err resume.FirstFault → length file ≤ file_size → RoseOnce first.ends.before first.ends.after)
+      → (y ≡ x) ⊎ (RoseOnce first.ends.before first.ends.after × ((bytes : List ℕ) × ReadsCheckpoint at first.left bytes))
+  read_file answer other accepted taken end told =
+      let reads : ReadsCheckpoint at first.left file = record {
+        is_file = accepted.0;
+        not_later = accepted.1;
+        taken = taken other;
+        end = end other (omega (arith, accepted.0.size));
+      } in
+      inr (told other (omega (arith, accepted.0.size)), (file, reads))
 
   pub reads_second : (answer : Result Resumed ResumeStop) → (IsErr (acceptance answer) → y ≡ x) → IsAcceptedBy (acceptance answer) at file
-      → (answer ≢ Err resume.FirstFault → Consumes input.before input.after file)
-      → (answer ≢ Err resume.FirstFault → length file ≤ file_size → IsAtEnd input.after) → (y ≡ x) ⊎ ((bytes : List ℕ) × ReadsCheckpoint at input bytes)
-  reads_second (Err resume.FirstFault) same accepted taken end = inl (same refl)
-  reads_second (Err (resume.BadSave byte)) same accepted taken end = inl (same refl)
-  reads_second (Err (resume.BeforeSave blocks)) same accepted taken end = inl (same refl)
-  reads_second (Ok resumed) same accepted taken end = read_file (Ok resumed) (λ e. cc) accepted taken end
-  reads_second (Err resume.SecondFault) same accepted taken end = read_file (Err resume.SecondFault) (λ e. cc) accepted taken end
-  reads_second (Err resume.WriteFault) same accepted taken end = read_file (Err resume.WriteFault) (λ e. cc) accepted taken end
-  reads_second (Err (resume.Torn block)) same accepted taken end = read_file (Err (resume.Torn block)) (λ e. cc) accepted taken end
-  reads_second (Err resume.TooLong) same accepted taken end = read_file (Err resume.TooLong) (λ e. cc) accepted taken end
-  reads_second (Err (resume.PastEnd blocks)) same accepted taken end = read_file (Err (resume.PastEnd blocks)) (λ e. cc) accepted taken end
+      → (answer ≢ Err resume.FirstFault → Consumes first.left.before first.left.after file)
+      → (answer ≢ Err resume.FirstFault → length file ≤ file_size → IsAtEnd first.left.after) → (answer ≢ Err resume.FirstFault → length file ≤ file_size → RoseOnce first.ends.before first.ends.after)
+      → (y ≡ x) ⊎ (RoseOnce first.ends.before first.ends.after × ((bytes : List ℕ) × ReadsCheckpoint at first.left bytes))
+  reads_second (Err resume.FirstFault) same accepted taken end told = inl (same refl)
+  reads_second (Err (resume.BadSave byte)) same accepted taken end told = inl (same refl)
+  reads_second (Err (resume.BeforeSave blocks)) same accepted taken end told = inl (same refl)
+  reads_second (Ok resumed) same accepted taken end told = read_file (Ok resumed) (λ e. cc) accepted taken end told
+  reads_second (Err resume.SecondFault) same accepted taken end told = read_file (Err resume.SecondFault) (λ e. cc) accepted taken end told
+  reads_second (Err resume.WriteFault) same accepted taken end told = read_file (Err resume.WriteFault) (λ e. cc) accepted taken end told
+  reads_second (Err (resume.Torn block)) same accepted taken end told = read_file (Err (resume.Torn block)) (λ e. cc) accepted taken end told
+  reads_second (Err resume.TooLong) same accepted taken end told = read_file (Err resume.TooLong) (λ e. cc) accepted taken end told
+  reads_second (Err (resume.PastEnd blocks)) same accepted taken end told = read_file (Err (resume.PastEnd blocks)) (λ e. cc) accepted taken end told
 
 -- Where the output may not be written
 

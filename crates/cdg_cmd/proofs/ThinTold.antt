@@ -1,6 +1,6 @@
 -- From the answer of a thinner to the status of a command.
 use Rattle.std.proofs.Common.{◌≡◌, ◌≢◌, ◌≤◌, ℕ, Result, Ok, Err, IsErrOf, refl, sym, subst, ◌∙◌}
-use Rattle.cdg_io.specs.Causes.{Rose}
+use Rattle.cdg_io.specs.Causes.{Count, Rose, TellsFault}
 use Rattle.cdg_io.specs.Pump.{TellsEndOf}
 use Rattle.cdg_io.specs.declared.pumping.Pumped.{Pumped}
 use Rattle.cdg_io.specs.declared.pumping.PumpStop.{PumpStop}
@@ -21,19 +21,19 @@ faults (Err pump.WriteFault) f f' k k' r w rose same cut kept = quiet.write f f'
 faults (Err (pump.Torn unit)) f f' k k' r w rose same cut kept = quiet.none f f' k k' r w _ (λ e. cc) (λ e. cc) (λ e. cc) (λ e. cc) (same (λ e. cc)) (kept (λ e. cc))
 faults (Err pump.TooLong) f f' k k' r w rose same cut kept = quiet.none f f' k k' r w _ (λ e. cc) (λ e. cc) (λ e. cc) (λ e. cc) (same (λ e. cc)) (kept (λ e. cc))
 
-pub told_one : (answer : Result Pumped PumpStop) (status : Status) (f f' k k' : ℕ) → status ≡ thin_status answer → f ≤ f' → k ≤ k' → (IsErrOf answer pump.ReadFault → Rose f f')
-    → (answer ≢ Err pump.ReadFault → f' ≡ f) → (IsErrOf answer pump.WriteFault → Rose k k') → (answer ≢ Err pump.WriteFault → k' ≡ k) → TellsOne (count f f') (count k k') status
-told_one answer status f f' k k' is r w rose same cut kept =
-    subst (λ (s : Status). TellsOne (count f f') (count k k') s) (sym is) (faults answer f f' k k' r w rose same cut kept)
+pub told_one : (answer : Result Pumped PumpStop) (status : Status) (f f' k k' : ℕ) → status ≡ thin_status answer → TellsFault pump.ReadFault f f' answer → TellsFault pump.WriteFault k k' answer
+    → TellsOne (count f f') (count k k') status
+told_one answer status f f' k k' is read write =
+    subst (λ (s : Status). TellsOne (count f f') (count k k') s) (sym is) (faults answer f f' k k' read.later write.later read.rose read.same write.rose write.same)
 
-pumped : (answer : Result Pumped PumpStop) (n n' : ℕ) → TellsEndOf answer n n' → EndsInTurn (count n n') (thin_status answer)
+pumped : (answer : Result Pumped PumpStop) (n n' : Count) → TellsEndOf answer n n' → EndsInTurn (count n n') (thin_status answer)
 pumped (Ok done) n n' told = told
 pumped (Err pump.ReadFault) n n' told = told
 pumped (Err pump.WriteFault) n n' told = told
 pumped (Err (pump.Torn unit)) n n' told = told
 pumped (Err pump.TooLong) n n' told = told
 
-pub ended_in_turn : (answer : Result Pumped PumpStop) (status : Status) (n n' : ℕ) → status ≡ thin_status answer → TellsEndOf answer n n' → EndsInTurn (count n n') status
+pub ended_in_turn : (answer : Result Pumped PumpStop) (status : Status) (n n' : Count) → status ≡ thin_status answer → TellsEndOf answer n n' → EndsInTurn (count n n') status
 ended_in_turn answer status n n' is told = subst (λ (s : Status). EndsInTurn (count n n') s) (sym is) (pumped answer n n' told)
 
 never_memory_at : (answer : Result Pumped PumpStop) → thin_status answer ≢ NoMemory

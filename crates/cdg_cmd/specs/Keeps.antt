@@ -2,7 +2,8 @@
 use Rattle.std.specs.Prelude.{◌≡◌, ◌≢◌, ◌⊎◌, ℕ, List, ⊤}
 use Rattle.cue_sheet.specs.CueSheet.{CueSheet}
 use Rattle.cdg_cmd.specs.Authors.{ReadsSheet}
-use Rattle.cdg_io.specs.Change.{Bytes, Change}
+use Rattle.cdg_io.specs.Causes.{RoseOnce}
+use Rattle.cdg_io.specs.Change.{Bytes, Change, Input}
 use Rattle.cdg_cmd.specs.Checkpoints.{ReadsCheckpoint}
 use Rattle.cdg_cmd.specs.declared.command.Command.{Command}
 use Rattle.cdg_cmd.specs.declared.command.Command.TheVariants.{Convert, Screen, State, Check, Q, Text, Author, Planar, Raw, Scratch, Gen, Trial, Merge, Press, Save, Resume}
@@ -23,6 +24,11 @@ ReadsSecond (Press lead_in length) first = (sheet : CueSheet) × ReadsSheet firs
 ReadsSecond (Merge lead_in) first = ⊤
 ReadsSecond (Resume at) first = (file : List ℕ) × ReadsCheckpoint at first file
 ReadsSecond command first = ⊥
+
+-- and but for `merge`, which reads both in turn, only after the end of the first was told
+abbrev pub MayReadSecond : Command → Input → Type 0
+MayReadSecond (Merge lead_in) first = ⊤
+MayReadSecond command first = RoseOnce first.ends.before first.ends.after × ReadsSecond command first.left
 
 -- it writes nothing but where its work is whole or a write fails
 abbrev pub WritesLast : Command → Type 0
@@ -63,10 +69,10 @@ TakesFirst (Press lead_in length) = ⊥
 TakesFirst command = ⊤
 
 -- Of the two inputs and the output, in this order: what is not read and what is not written is as it was.
-pub record Keeps {S T K : Type 0} (command : Command) (read : Change Bytes) (before after : S × T × K)
+pub record Keeps {S T K : Type 0} (command : Command) (read : Input) (before after : S × T × K)
     (status : Status) : Type 0 where
   pub first : ReadsNone command → after.0 ≡ before.0
-  pub second : (after.1 ≡ before.1) ⊎ ReadsSecond command read
+  pub second : (after.1 ≡ before.1) ⊎ MayReadSecond command read
   pub out : WritesLast command → ¬ (MayWrite status) → after.2 ≡ before.2
 
 -- Where no memory was found nothing was written, nor read where all memory is taken first.

@@ -1,13 +1,13 @@
 // The command that writes the stream of a cue sheet and a picture script.
 ghost use Rattle.std.specs.Prelude.{◌≡◌, ◌≢◌, ◌≤◌, ◌<◌, ◌⊎◌, IfOk, IfErr, OnOk, Err};
 ghost use Rattle.disc_time.specs.Counts.{most_lead_in, time_count};
-ghost use Rattle.cdg_io.specs.Causes.{Rose};
+ghost use Rattle.cdg_io.specs.Causes.{RoseOnce, TellsFault};
 ghost use Rattle.cdg_cmd.specs.Authors.{author_status, AuthorsWith, IsScriptStop, IsSheetStop, ReadsScript, ReadsSheet, TakesAtStop};
-ghost use Rattle.cdg_io.specs.Change.{change};
+ghost use Rattle.cdg_io.specs.Change.{change, input};
 ghost use Rattle.cdg_cmd.specs.Call.{call};
 ghost use Rattle.cdg_cmd.specs.Ends.{ScriptEnds, SheetEnds};
 ghost use Rattle.cdg_cmd.specs.Faults.{TellsFaults};
-ghost use Rattle.cdg_cmd.specs.Keeps.{ReadsSecond};
+ghost use Rattle.cdg_cmd.specs.Keeps.{MayReadSecond};
 
 use crate::{Command, Refusal, Status, Which};
 use cdg_io::{ReadStop, Sink, Source, read_whole};
@@ -22,12 +22,10 @@ pub(crate) fn read_sheet<S: Source>(alloc: Global, first: &mut S) -> Result<Shee
     ensures ok { IfOk result (ReadsSheet (change S.left first.old first.new)) }
     ensures err { IfErr result (IsSheetStop (S.left first.old)) }
     ensures taken { IfErr result (TakesAtStop (change S.left first.old first.new)) }
-    ensures later { S.faults first.old ≤ S.faults first.new }
-    ensures fault { result ≡ Err (Status.ReadFault Which.First)
-        → Rose (S.faults first.old) (S.faults first.new) }
-    ensures no_fault { result ≢ Err (Status.ReadFault Which.First) → S.faults first.new ≡ S.faults first.old }
-    ensures told { OnOk result (Rose (S.ends first.old) (S.ends first.new)) }
-    ensures once { IfErr result (SheetEnds (change S.ends first.old first.new)) }
+    ensures fault { TellsFault (Status.ReadFault Which.First)
+        (S.faults first.old) (S.faults first.new) result }
+    ensures told { OnOk result (RoseOnce (S.ends first.old) (S.ends first.new)) }
+    ensures once { IfErr result (SheetEnds (input S.left S.ends first.old first.new)) }
 {
     let text = match read_whole(alloc, first, MOST_TEXT_BYTES) {
         Ok(text) => text,
@@ -47,12 +45,9 @@ fn read_script<S: Source>(alloc: Global, second: &mut S) -> Result<Script, Statu
     ensures ok { IfOk result (ReadsScript (change S.left second.old second.new)) }
     ensures err { IfErr result (IsScriptStop (S.left second.old)) }
     ensures taken { IfErr result (TakesAtStop (change S.left second.old second.new)) }
-    ensures later { S.faults second.old ≤ S.faults second.new }
-    ensures fault { result ≡ Err (Status.ReadFault Which.Second)
-        → Rose (S.faults second.old) (S.faults second.new) }
-    ensures no_fault { result ≢ Err (Status.ReadFault Which.Second)
-        → S.faults second.new ≡ S.faults second.old }
-    ensures told { OnOk result (Rose (S.ends second.old) (S.ends second.new)) }
+    ensures fault { TellsFault (Status.ReadFault Which.Second)
+        (S.faults second.old) (S.faults second.new) result }
+    ensures told { OnOk result (RoseOnce (S.ends second.old) (S.ends second.new)) }
     ensures once { IfErr result (ScriptEnds (change S.ends second.old second.new)) }
 {
     let text = match read_whole(alloc, second, MOST_TEXT_BYTES) {
@@ -115,10 +110,10 @@ pub(crate) fn run_author<S: Source, T: Source, K: Sink>(
     ensures never { result ≢ Status.Usage }
     ensures untouched { result ≢ Status.Done → result ≢ Status.WriteFault → out.new ≡ out.old }
     ensures second { (second.new ≡ second.old)
-        ⊎ ReadsSecond (Command.Author lead_in length) (change S.left first.old first.new) }
+        ⊎ MayReadSecond (Command.Author lead_in length) (input S.left S.ends first.old first.new) }
     ensures faults { TellsFaults (call S.faults T.faults K.faults (first.old, second.old, out.old)
         (first.new, second.new, out.new)) result }
-    ensures first_ended { SheetEnds (change S.ends first.old first.new) result }
+    ensures first_ended { SheetEnds (input S.left S.ends first.old first.new) result }
     ensures second_ended { ScriptEnds (change T.ends second.old second.new) result }
 {
     let sheet = match read_sheet(alloc, first) {

@@ -15,7 +15,7 @@ use raw_subcode::Form;
 use stream_calls::Checker;
 
 /// Writes the counts of a stream.
-#[tactic(auto, using(crate::proofs::Played::told_one, crate::proofs::Played::never_memory, crate::proofs::Played::ended_first, crate::proofs::Played::untouched))]
+#[tactic(auto, using(crate::proofs::Played::told_one, crate::proofs::Played::never_memory, crate::proofs::Played::ended_whole, crate::proofs::Played::untouched))]
 pub(crate) fn run_check<S: Source, K: Sink>(
     lead_in: u32,
     form: Form,

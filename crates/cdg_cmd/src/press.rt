@@ -1,13 +1,13 @@
 // The command that writes the stream of a cue sheet and a file of packs.
 ghost use Rattle.std.specs.Prelude.{◌≡◌, ◌≢◌, ◌≤◌, ◌<◌, ◌⊎◌, IfOk, IfErr, OnOk, Err};
 ghost use Rattle.disc_time.specs.Counts.{most_lead_in, time_count};
-ghost use Rattle.cdg_io.specs.Causes.{Rose};
+ghost use Rattle.cdg_io.specs.Causes.{RoseOnce, TellsFault};
 ghost use Rattle.cdg_cmd.specs.Authors.{TakesAtStop};
-ghost use Rattle.cdg_io.specs.Change.{change};
+ghost use Rattle.cdg_io.specs.Change.{change, input};
 ghost use Rattle.cdg_cmd.specs.Call.{call};
 ghost use Rattle.cdg_cmd.specs.Ends.{ScriptEnds, SheetEnds};
 ghost use Rattle.cdg_cmd.specs.Faults.{TellsFaults};
-ghost use Rattle.cdg_cmd.specs.Keeps.{ReadsSecond};
+ghost use Rattle.cdg_cmd.specs.Keeps.{MayReadSecond};
 ghost use Rattle.cdg_cmd.specs.Presses.{IsFileStop, PressesWith, ReadsFile, press_status};
 
 use crate::author::read_sheet;
@@ -22,12 +22,9 @@ fn read_file<S: Source>(alloc: Global, second: &mut S) -> Result<Vec<u8>, Status
     ensures ok { IfOk result (λ v. ReadsFile (change S.left second.old second.new) v.items) }
     ensures err { IfErr result (IsFileStop (S.left second.old)) }
     ensures taken { IfErr result (TakesAtStop (change S.left second.old second.new)) }
-    ensures later { S.faults second.old ≤ S.faults second.new }
-    ensures fault { result ≡ Err (Status.ReadFault Which.Second)
-        → Rose (S.faults second.old) (S.faults second.new) }
-    ensures no_fault { result ≢ Err (Status.ReadFault Which.Second)
-        → S.faults second.new ≡ S.faults second.old }
-    ensures told { OnOk result (Rose (S.ends second.old) (S.ends second.new)) }
+    ensures fault { TellsFault (Status.ReadFault Which.Second)
+        (S.faults second.old) (S.faults second.new) result }
+    ensures told { OnOk result (RoseOnce (S.ends second.old) (S.ends second.new)) }
     ensures once { IfErr result (ScriptEnds (change S.ends second.old second.new)) }
 {
     match read_whole(alloc, second, MOST_TEXT_BYTES) {
@@ -74,10 +71,10 @@ pub(crate) fn run_press<S: Source, T: Source, K: Sink>(
     ensures never { result ≢ Status.Usage }
     ensures untouched { result ≢ Status.Done → result ≢ Status.WriteFault → out.new ≡ out.old }
     ensures second { (second.new ≡ second.old)
-        ⊎ ReadsSecond (Command.Press lead_in length) (change S.left first.old first.new) }
+        ⊎ MayReadSecond (Command.Press lead_in length) (input S.left S.ends first.old first.new) }
     ensures faults { TellsFaults (call S.faults T.faults K.faults (first.old, second.old, out.old)
         (first.new, second.new, out.new)) result }
-    ensures first_ended { SheetEnds (change S.ends first.old first.new) result }
+    ensures first_ended { SheetEnds (input S.left S.ends first.old first.new) result }
     ensures second_ended { ScriptEnds (change T.ends second.old second.new) result }
 {
     let sheet = match read_sheet(alloc, first) {

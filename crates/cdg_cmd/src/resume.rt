@@ -2,12 +2,12 @@
 ghost use Rattle.std.specs.Prelude.{◌≡◌, ◌≢◌, ◌<◌, ◌⊎◌};
 ghost use Rattle.disc_time.specs.Counts.{time_count};
 ghost use Rattle.cdg_cmd.specs.Answer.{Does};
-ghost use Rattle.cdg_io.specs.Change.{change};
+ghost use Rattle.cdg_io.specs.Change.{change, input};
 ghost use Rattle.cdg_cmd.specs.Call.{call};
 ghost use Rattle.cdg_cmd.specs.Checkpoints.{resume_status};
 ghost use Rattle.cdg_cmd.specs.Ends.{CheckpointEnds, RestEnds};
 ghost use Rattle.cdg_cmd.specs.Faults.{TellsFaults};
-ghost use Rattle.cdg_cmd.specs.Keeps.{MayWrite, ReadsSecond};
+ghost use Rattle.cdg_cmd.specs.Keeps.{MayReadSecond, MayWrite};
 
 use crate::{Command, Refusal, Status, Which};
 use cdg_checkpoint::{Checkpointer, ResumeStop, Resumed};
@@ -49,7 +49,7 @@ pub(crate) fn run_resume<S: Source, T: Source, K: Sink>(
     ensures never { result ≢ Status.Usage }
     ensures untouched { ¬ (MayWrite result) → out.new ≡ out.old }
     ensures second { (second.new ≡ second.old)
-        ⊎ ReadsSecond (Command.Resume at) (change S.left first.old first.new) }
+        ⊎ MayReadSecond (Command.Resume at) (input S.left S.ends first.old first.new) }
     ensures faults { TellsFaults (call S.faults T.faults K.faults (first.old, second.old, out.old)
         (first.new, second.new, out.new)) result }
     ensures first_ended { CheckpointEnds (change S.ends first.old first.new) result }

@@ -4,7 +4,7 @@ ghost use Rattle.disc_time.specs.Counts.{most_lead_in};
 ghost use Rattle.cdg_cmd.specs.Answer.{Does};
 ghost use Rattle.cdg_io.specs.Change.{change};
 ghost use Rattle.cdg_cmd.specs.Call.{one_input};
-ghost use Rattle.cdg_cmd.specs.Ends.{EndsFirst};
+ghost use Rattle.cdg_cmd.specs.Ends.{EndsAsListed};
 ghost use Rattle.cdg_cmd.specs.Faults.{TellsOne};
 ghost use Rattle.cdg_cmd.specs.Keeps.{MayWrite};
 
@@ -31,7 +31,7 @@ pub(crate) fn run_text<S: Source, K: Sink>(
     ensures untouched { ¬ (MayWrite result) → out.new ≡ out.old }
     ensures faults { TellsOne (change S.faults source.old source.new)
         (change K.faults out.old out.new) result }
-    ensures ended { EndsFirst (change S.ends source.old source.new) result }
+    ensures ended { EndsAsListed (change S.ends source.old source.new) result }
 {
     match TextLister::start(alloc) {
         Ok(mut lister) => play_status(lister.text_list(alloc, lead_in, form, source, out)),

@@ -14,9 +14,9 @@ ghost use Rattle.round_trips.specs.Pictured.{IsHeldAt};
 ghost use Rattle.round_trips.specs.FrameLines.{frame_lines};
 ghost use Rattle.cdg_cmd.specs.Words.{texts};
 ghost use Rattle.cdg_cmd.specs.Spelling.{IsAllowed, Spells};
-ghost use Rattle.cdg_io.specs.Change.{Bytes, change};
+ghost use Rattle.cdg_io.specs.Change.{Bytes, change, input};
 ghost use Rattle.cdg_cmd.specs.Call.{call, dry_call};
-ghost use Rattle.cdg_cmd.specs.Keeps.{Keeps, MayWrite, ReadsNone, ReadsSecond, TakesFirst, TakesNone, WantsMemory, WritesLast};
+ghost use Rattle.cdg_cmd.specs.Keeps.{Keeps, MayReadSecond, MayWrite, ReadsNone, TakesFirst, TakesNone, WantsMemory, WritesLast};
 ghost use Rattle.cdg_cmd.specs.Answer.{Does, GivesBack, GivesIfFound};
 ghost use Rattle.cdg_cmd.specs.Faults.{IsAnswered, NoneRose, TellsFaults};
 ghost use Rattle.cdg_cmd.specs.Ends.{TellsEnds};
@@ -84,7 +84,7 @@ pub fn run<S: Source, T: Source, K: Sink, E: Sink>(
         → (first.new ≡ first.old) × (second.new ≡ second.old) × (out.new ≡ out.old)) }
     // What the command does not read, and what it does not write, is left as it was.
     ensures keeps { (command : Command) → Spells command (texts words.now) → Keeps command
-        (change S.left first.old first.new) (first.old, second.old, out.old)
+        (input S.left S.ends first.old first.new) (first.old, second.old, out.old)
         (first.new, second.new, out.new) result }
     // Where no memory is found nothing was written, nor read where all memory is taken first.
     ensures memory { (command : Command) → Spells command (texts words.now) → WantsMemory command
@@ -104,7 +104,7 @@ pub fn run<S: Source, T: Source, K: Sink, E: Sink>(
         (first.old, second.old, out.old) (first.new, second.new, out.new)) → IsAnswered result }
     // The end of an input is told once where it was read to its end, and else not.
     ensures ends { (command : Command) → Spells command (texts words.now) → TellsEnds command
-        (change S.ends first.old first.new) (change T.ends second.old second.new) result }
+        (input S.left S.ends first.old first.new) (change T.ends second.old second.new) result }
     // The error output took the line of the status, or a prefix of it where its count rose.
     ensures told { Tells E.held E.faults err.old err.new result }
 
@@ -195,7 +195,7 @@ fn answer<S: Source, T: Source, K: Sink>(
     ensures untouched { result ≡ Status.Usage
         → (first.new ≡ first.old) × (second.new ≡ second.old) × (out.new ≡ out.old) }
     ensures keeps { (command : Command) → Spells command (texts words.now) → Keeps command
-        (change S.left first.old first.new) (first.old, second.old, out.old)
+        (input S.left S.ends first.old first.new) (first.old, second.old, out.old)
         (first.new, second.new, out.new) result }
     ensures memory { (command : Command) → Spells command (texts words.now) → WantsMemory command
         (first.old, second.old, out.old) (first.new, second.new, out.new) result }
@@ -205,7 +205,7 @@ fn answer<S: Source, T: Source, K: Sink>(
     ensures faults { TellsFaults (call S.faults T.faults K.faults (first.old, second.old, out.old)
         (first.new, second.new, out.new)) result }
     ensures ends { (command : Command) → Spells command (texts words.now) → TellsEnds command
-        (change S.ends first.old first.new) (change T.ends second.old second.new) result }
+        (input S.left S.ends first.old first.new) (change T.ends second.old second.new) result }
 {
     match read_words(words) {
         Some(command) => perform(alloc, command, first, second, out),
@@ -224,7 +224,8 @@ fn perform<S: Source, T: Source, K: Sink>(
     requires { IsAllowed command }
     ensures never { result ≢ Status.Usage }
     ensures reads_none { ReadsNone command → first.new ≡ first.old }
-    ensures second { (second.new ≡ second.old) ⊎ ReadsSecond command (change S.left first.old first.new) }
+    ensures second { (second.new ≡ second.old)
+        ⊎ MayReadSecond command (input S.left S.ends first.old first.new) }
     ensures writes_last { WritesLast command → ¬ (MayWrite result) → out.new ≡ out.old }
     ensures no_memory { result ≡ Status.NoMemory → out.new ≡ out.old }
     ensures no_memory_first { TakesFirst command → result ≡ Status.NoMemory
@@ -234,7 +235,7 @@ fn perform<S: Source, T: Source, K: Sink>(
         (call S.left T.left K.held (first.old, second.old, out.old) (first.new, second.new, out.new)) result }
     ensures faults { TellsFaults (call S.faults T.faults K.faults (first.old, second.old, out.old)
         (first.new, second.new, out.new)) result }
-    ensures ends { TellsEnds command (change S.ends first.old first.new)
+    ensures ends { TellsEnds command (input S.left S.ends first.old first.new)
         (change T.ends second.old second.new) result }
 {
     match command {

@@ -1,12 +1,13 @@
 -- What holds of an answer that is a fault, and of the bytes that were taken before a read gave none.
-use Rattle.std.proofs.Common.{◌≡◌, ℕ, ◌+◌, ◌<◌, ◌≤◌, None, Some, List, ◌++◌, length, take, sym, ap, ◌∙◌, subst, arith, le_refl, append-nil, length-append, Result, Ok, Err}
+use Rattle.std.proofs.Common.{◌≡◌, ℕ, ◌+◌, ◌-◌, ◌^◌, ◌<◌, ◌≤◌, min, inl, inr, None, Some, List, ◌++◌, length, take, sym, ap, ◌∙◌, subst, arith, le_refl, append-nil, length-append, Result, Ok, Err}
 use Rattle.std.specs.Prelude.{IsErr, IsErrAnd, OnErr, OnOk, IfOk, IfSome}
 use Rattle.std.specs.declared.option.Option.{Option}
 use borrow.Rule.Slice.PartMut.{put_mid, post_of}
+use Rattle.std.proofs.lemmas.Bool.{cases_lt}
 use Rattle.std.proofs.lemmas.Slice.{take-put_mid_below}
 use Rattle.std.specs.Io.KnownBytes.{Consumes, IsAtEnd}
 use Rattle.std.proofs.KnownBytes.{Consumes-trans}
-use Rattle.cdg_io.specs.Causes.{FillsRoom, HasCause, Rose, TellsEnd}
+use Rattle.cdg_io.specs.Causes.{Count, FillsRoom, HasCause, Rose, RoseOnce, TellsEnd}
 
 -- ---- faults
 
@@ -41,18 +42,26 @@ pub failed_cause : {T E : Type 0} (r : Result T E) (before now : ℕ) → IsErr 
 failed_cause (Ok value) before now err later rose = (cc)
 failed_cause (Err fault) before now err later rose = record { later = later; failed = rose; same = tt }
 
-pub failed_end : {E : Type 0} (r : Result ℕ E) (room before now : ℕ) → IsErr r → now ≡ before → TellsEnd room before now r
+pub failed_end : {E : Type 0} (r : Result ℕ E) (room : ℕ) (before now : Count) → IsErr r → now ≡ before → TellsEnd room before now r
 failed_end (Ok count) room before now err same = (cc)
 failed_end (Err fault) room before now err same = record { ended = tt; goes_on = tt; failed = same }
 
-pub failed_room : {E : Type 0} (r : Result ℕ E) (room before now : ℕ) → IsErr r → now ≡ before → FillsRoom room before now r
+pub failed_room : {E : Type 0} (r : Result ℕ E) (room : ℕ) (before now : Count) → IsErr r → now ≡ before → FillsRoom room before now r
 failed_room (Ok count) room before now err same = (cc)
 failed_room (Err fault) room before now err same = record { full = tt; short = tt; failed = same }
 
 -- ---- counts that stayed until a moment
 
+-- one more, at most the last value of a counter, is a rise
+pub rose_by_one : (before now : ℕ) → now ≡ min (before + 1) (2 ^ 64 - 1) → Rose before now
+rose_by_one before now more =
+    elim (cases_lt before now) [ inl lt ↦ inl lt | inr le ↦ inr (omega (arith, more, le)) ]
+
 pub rose_since : {before mid now : ℕ} → mid ≡ before → Rose mid now → Rose before now
 rose_since {before} {mid} {now} same rose = subst (λ (n : ℕ). Rose n now) same rose
+
+pub rose_once_since : {before mid now : Count} → mid ≡ before → RoseOnce mid now → RoseOnce before now
+rose_once_since {before} {mid} {now} same rose = subst (λ (n : Count). RoseOnce n now) same rose
 
 pub later_since : {before mid now : ℕ} → mid ≡ before → mid ≤ now → before ≤ now
 later_since same later = omega (arith, same, later)

@@ -1,10 +1,10 @@
 -- What a pump takes, puts and answers.
 use Rattle.bit_lists.specs.Counting.{parts}
-use Rattle.std.specs.Prelude.{◌≡◌, ◌≢◌, ◌<◌, ◌≤◌, ◌+◌, ◌*◌, ◌-◌, ◌^◌, ◌/◌, ◌%◌, ◌==◌, nat_lt, ℕ, ⊤, Some, None, min, List, [], length, Result, Ok, Err, IfOk, if◌then◌else◌}
+use Rattle.std.specs.Prelude.{◌≡◌, ◌≢◌, ◌<◌, ◌≤◌, ◌+◌, ◌*◌, ◌/◌, ◌%◌, ◌==◌, nat_lt, ℕ, ⊤, Some, None, min, List, [], length, Result, Ok, Err, IfOk, if◌then◌else◌}
 use Rattle.std.specs.List.{concat}
 use Rattle.std.specs.declared.option.Option.{Option}
 use Rattle.std.specs.Io.KnownBytes.{Appends, Consumes, IsAtEnd}
-use Rattle.cdg_io.specs.Causes.{Rose}
+use Rattle.cdg_io.specs.Causes.{Count, RoseOnce, counted_up}
 use Rattle.cdg_io.specs.Change.{Fed, Moved}
 use Rattle.cdg_io.specs.Moves.{AppendsBetween}
 use Rattle.cdg_io.specs.Run.{run_state, run_gives}
@@ -51,19 +51,19 @@ IsUnlessFault (Err WriteFault) answer = ⊤
 IsUnlessFault result answer = result ≡ answer
 
 -- The count of told ends rose where the input was read to its end, and nowhere else.
-abbrev pub TellsEndOf : Result Pumped PumpStop → ℕ → ℕ → Type 0
-TellsEndOf (Ok pumped) before now = Rose before now
-TellsEndOf (Err (Torn unit)) before now = Rose before now
+abbrev pub TellsEndOf : Result Pumped PumpStop → Count → Count → Type 0
+TellsEndOf (Ok pumped) before now = RoseOnce before now
+TellsEndOf (Err (Torn unit)) before now = RoseOnce before now
 TellsEndOf (Err TooLong) before now = now ≡ before
 TellsEndOf (Err ReadFault) before now = now ≡ before
 TellsEndOf (Err WriteFault) before now = now ≡ before
 
--- so many more, at most the last value of a counter
-abbrev pub RoseBy : ℕ → ℕ → ℕ → Type 0
-RoseBy n before now = (n ≡ 0 → now ≡ before) × (0 < n → now ≡ min (before + n) (2 ^ 64 - 1))
+-- A count is so many more than before, where it is kept.
+abbrev pub RoseBy : ℕ → Count → Count → Type 0
+RoseBy n before now = (n ≡ 0 → now ≡ before) × (0 < n → now ≡ counted_up n before)
 
 -- One read filled each whole unit, and one the byte past the limit.
-abbrev pub FillsUnits : ℕ → Result Pumped PumpStop → ℕ → ℕ → Type 0
+abbrev pub FillsUnits : ℕ → Result Pumped PumpStop → Count → Count → Type 0
 FillsUnits limit (Ok pumped) before now = RoseBy pumped.units before now
 FillsUnits limit (Err (Torn unit)) before now = RoseBy unit before now
 FillsUnits limit (Err TooLong) before now = RoseBy (limit + 1) before now

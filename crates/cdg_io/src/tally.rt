@@ -1,6 +1,6 @@
 // What a source counts of its answers.
-ghost use Rattle.std.specs.Prelude.{◌≡◌, ◌<◌, ◌≤◌};
-ghost use Rattle.cdg_io.specs.Causes.{Rose};
+ghost use Rattle.std.specs.Prelude.{◌≡◌, ◌<◌, ◌≤◌, Some};
+ghost use Rattle.cdg_io.specs.Causes.{RoseOnce};
 
 /// How often a source told its end, and how often it gave all that it was offered room for.
 #[derive(Clone, Copy)]
@@ -20,9 +20,9 @@ impl Tally {
     /// Counts an answer of so many bytes, of the most that there was room for.
     pub fn add(&mut self, count: usize, room: usize)
         requires { 0 < room }
-        ensures ended { count < 1 → Rose self.old.ends self.new.ends }
+        ensures ended { count < 1 → RoseOnce (Some self.old.ends) (Some self.new.ends) }
         ensures goes_on { 1 ≤ count → self.new.ends ≡ self.old.ends }
-        ensures full { room ≤ count → Rose self.old.fills self.new.fills }
+        ensures full { room ≤ count → RoseOnce (Some self.old.fills) (Some self.new.fills) }
         ensures short { count < room → self.new.fills ≡ self.old.fills }
     {
         if count == 0 {

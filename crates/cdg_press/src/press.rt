@@ -2,7 +2,7 @@
 ghost use Rattle.std.specs.Prelude.{◌≡◌, ◌≢◌, ◌≤◌, ◌<◌, [], List, ℕ, IfErr, IfOk, OnOk, Err};
 ghost use Rattle.disc_time.specs.Counts.{most_lead_in, most_program};
 ghost use Rattle.std.specs.Io.KnownBytes.{Appends};
-ghost use Rattle.cdg_io.specs.Causes.{Rose};
+ghost use Rattle.cdg_io.specs.Causes.{TellsFault};
 ghost use Rattle.cdg_io.specs.Change.{change};
 ghost use Rattle.toc_model.specs.Places.{layout_of};
 ghost use Rattle.stream_writer.specs.Given.{PutsStreamPart, framing_of};
@@ -58,12 +58,11 @@ pub fn press_stream<K: Sink>(
     ensures untouched { IfErr result (λ stop. stop ≢ PressStop.WriteFault → out.new ≡ out.old) }
 
     // A write failed, and a prefix of the lead-in and of program blocks with packs of the file was written.
-    ensures write_fault { result ≡ Err PressStop.WriteFault → Rose (K.faults out.old) (K.faults out.new) }
-    ensures no_write_fault { result ≢ Err PressStop.WriteFault → K.faults out.new ≡ K.faults out.old }
+    ensures write_fault { TellsFault PressStop.WriteFault
+        (K.faults out.old) (K.faults out.new) result }
     ensures part { result ≡ Err PressStop.WriteFault → (n : ℕ) × (packs : List (List ℕ))
         × PutsStreamPart (framing_of (layout_of sheet.now length) (text_packs sheet.now) lead_in)
         (IsPackAfter file_begin cdg.now) (change K.held out.old out.new) n packs }
-    ensures later { K.faults out.old ≤ K.faults out.new }
 {
     let Ready {
         layout,

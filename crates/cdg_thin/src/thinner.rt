@@ -1,7 +1,7 @@
 // From packs to those of the thin form.
 ghost use Rattle.std.specs.Prelude.{◌≡◌, ◌≢◌, ◌≤◌, List, ℕ, [], ◌∷◌, length, Err, IfOk, IfSome, IsErrOf, Some};
 ghost use Rattle.cdg_instructions.specs.Instruction.{InRange};
-ghost use Rattle.cdg_io.specs.Causes.{Rose};
+ghost use Rattle.cdg_io.specs.Causes.{TellsFault};
 ghost use Rattle.cdg_io.specs.Change.{change, passed};
 ghost use Rattle.cdg_io.specs.Pump.{FillsUnits, IsUnlessFault, TellsEndOf, answer_of};
 ghost use Rattle.cdg_screen.specs.Picture.{blank, standing_after};
@@ -72,18 +72,12 @@ impl Thinner {
         // Where nothing failed, the answer is that of the whole input's length.
         ensures answer { IfSome (S.left source.old)
             (λ all. IsUnlessFault result (answer_of 24 most_packs (length all))) }
-        ensures source_later { S.faults source.old ≤ S.faults source.new }
-        ensures out_later { K.faults out.old ≤ K.faults out.new }
-        ensures read_fault { IsErrOf result PumpStop.ReadFault
-            → Rose (S.faults source.old) (S.faults source.new) }
-        ensures no_read_fault { result ≢ Err PumpStop.ReadFault
-            → S.faults source.new ≡ S.faults source.old }
+        ensures read_fault { TellsFault PumpStop.ReadFault
+            (S.faults source.old) (S.faults source.new) result }
         ensures ended { TellsEndOf result (S.ends source.old) (S.ends source.new) }
         ensures rooms { FillsUnits most_packs result (S.fills source.old) (S.fills source.new) }
-        ensures write_fault { IsErrOf result PumpStop.WriteFault
-            → Rose (K.faults out.old) (K.faults out.new) }
-        ensures no_write_fault { result ≢ Err PumpStop.WriteFault
-            → K.faults out.new ≡ K.faults out.old }
+        ensures write_fault { TellsFault PumpStop.WriteFault
+            (K.faults out.old) (K.faults out.new) result }
     {
         thin_forms_stand_alike();
         self.reset();

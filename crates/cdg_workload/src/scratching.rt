@@ -2,7 +2,7 @@
 ghost use Rattle.std.specs.Prelude.{◌≡◌, ◌≢◌, ◌≤◌, ◌*◌, ◌/◌, List, ℕ, length, map, take, drop, IfSome, IsErrOf, Some, Err};
 ghost use Rattle.disc_time.specs.Counts.{most_lead_in};
 ghost use Rattle.raw_subcode.specs.Sizes.{block_bytes, most_units};
-ghost use Rattle.cdg_io.specs.Causes.{Rose};
+ghost use Rattle.cdg_io.specs.Causes.{TellsFault};
 ghost use Rattle.cdg_io.specs.Change.{passed};
 ghost use Rattle.cdg_io.specs.Pump.{IsUnlessFault, TellsEndOf, answer_of};
 ghost use Rattle.cdg_io.specs.Streams.{Streams};
@@ -101,14 +101,10 @@ pub fn scratch<S: Source, K: Sink>(
     // Where nothing failed, the answer is that of the whole input's length.
     ensures answer { IfSome (S.left source.old)
         (λ all. IsUnlessFault result (answer_of block_bytes most_units (length all))) }
-    ensures source_later { S.faults source.old ≤ S.faults source.new }
-    ensures out_later { K.faults out.old ≤ K.faults out.new }
-    ensures read_fault { IsErrOf result PumpStop.ReadFault
-        → Rose (S.faults source.old) (S.faults source.new) }
-    ensures no_read_fault { result ≢ Err PumpStop.ReadFault → S.faults source.new ≡ S.faults source.old }
+    ensures read_fault { TellsFault PumpStop.ReadFault
+        (S.faults source.old) (S.faults source.new) result }
     ensures ended { TellsEndOf result (S.ends source.old) (S.ends source.new) }
-    ensures write_fault { IsErrOf result PumpStop.WriteFault → Rose (K.faults out.old) (K.faults out.new) }
-    ensures no_write_fault { result ≢ Err PumpStop.WriteFault → K.faults out.new ≡ K.faults out.old }
+    ensures write_fault { TellsFault PumpStop.WriteFault (K.faults out.old) (K.faults out.new) result }
 {
     pump(
         source,

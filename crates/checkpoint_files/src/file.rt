@@ -1,7 +1,7 @@
 // The bytes of a file.
 ghost use Rattle.std.specs.Prelude.{◌≡◌, ◌<◌, ◌≤◌, ◌+◌, [], ◌++◌, List, ℕ, length, IfOk, OnOk, OnErr, vec_len, vec_capacity};
 ghost use Rattle.std.specs.Io.KnownBytes.{Consumes, IsAtEnd};
-ghost use Rattle.cdg_io.specs.Causes.{HasCause, Rose};
+ghost use Rattle.cdg_io.specs.Causes.{HasCause, RoseOnce};
 ghost use Rattle.cdg_io.specs.Moves.{ConsumesBelow};
 
 use cdg_io::{Failed, Source};
@@ -80,7 +80,7 @@ impl CheckpointFile {
         ensures part { OnErr result (ConsumesBelow (S.left source.old) (S.left source.new) 65046) }
         ensures cause { HasCause (S.faults source.old) (S.faults source.new) result }
         // The end is told once, and only where the input has no more bytes than a file.
-        ensures told { OnOk result (length self.new ≤ 65045 → Rose (S.ends source.old) (S.ends source.new)) }
+        ensures told { OnOk result (length self.new ≤ 65045 → RoseOnce (S.ends source.old) (S.ends source.new)) }
         ensures goes_on { OnOk result (65045 < length self.new → S.ends source.new ≡ S.ends source.old) }
         ensures not_told { OnErr result (S.ends source.new ≡ S.ends source.old) }
     {

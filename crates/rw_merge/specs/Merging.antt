@@ -1,7 +1,7 @@
 -- What a merge of two readings of a stream takes, writes and answers.
 use Rattle.std.specs.Prelude.{◌≡◌, ◌≢◌, ◌⊎◌, ℕ, ◌+◌, ◌-◌, ◌*◌, ◌/◌, ◌%◌, ◌<◌, ◌≤◌, ⊤, min, List, length, take, slice_index_or, Option, None, Result, Ok, Err, IfOk}
 use Rattle.std.specs.Io.KnownBytes.{Appends, IsAtEnd}
-use Rattle.cdg_io.specs.Causes.{Rose}
+use Rattle.cdg_io.specs.Causes.{Count, RoseOnce}
 use Rattle.cdg_io.specs.Change.{Bytes, Change}
 use Rattle.cdg_io.specs.Moves.{AppendsBetween}
 use Rattle.raw_subcode.specs.Channels.{program_symbols}
@@ -75,8 +75,8 @@ pub record Merges (lead_in : ℕ) (held : Change Bytes) (result : Result Merged 
       × AppendsBetween held.before held.after low high)
 
 -- The end of an input was told once, or not.
-abbrev pub RoseAtMost : ℕ → ℕ → Type 0
-RoseAtMost before now = (now ≡ before) ⊎ Rose before now
+abbrev pub RoseAtMost : Count → Count → Type 0
+RoseAtMost before now = (now ≡ before) ⊎ RoseOnce before now
 
 -- The first input is at its end, where the answer says so.
 abbrev pub FirstIsAtEnd : Result Merged MergeStop → Option (List ℕ) → Type 0
@@ -91,16 +91,16 @@ EndsSecond (Err (SecondTorn block)) left = IsAtEnd left
 EndsSecond (Err stop) left = ⊤
 
 -- How often the end of the first input was told: it is asked for first, and never again once its end is told.
-abbrev pub TellsFirst : Result Merged MergeStop → ℕ → ℕ → Type 0
-TellsFirst (Ok merged) before now = Rose before now
-TellsFirst (Err (Torn block)) before now = Rose before now
+abbrev pub TellsFirst : Result Merged MergeStop → Count → Count → Type 0
+TellsFirst (Ok merged) before now = RoseOnce before now
+TellsFirst (Err (Torn block)) before now = RoseOnce before now
 TellsFirst (Err FirstFault) before now = now ≡ before
 TellsFirst (Err WriteFault) before now = now ≡ before
 TellsFirst (Err stop) before now = RoseAtMost before now
 
 -- And that of the second.
-abbrev pub TellsSecond : Result Merged MergeStop → ℕ → ℕ → Type 0
-TellsSecond (Ok merged) before now = Rose before now
-TellsSecond (Err (SecondTorn block)) before now = Rose before now
+abbrev pub TellsSecond : Result Merged MergeStop → Count → Count → Type 0
+TellsSecond (Ok merged) before now = RoseOnce before now
+TellsSecond (Err (SecondTorn block)) before now = RoseOnce before now
 TellsSecond (Err (Unequal blocks)) before now = RoseAtMost before now
 TellsSecond (Err stop) before now = now ≡ before

@@ -6,7 +6,7 @@ use Rattle.raw_subcode.specs.Channels.{symbols_of}
 use Rattle.rw_interleave.specs.Gathering.{gather_next, gather_gives}
 use Rattle.cdg_io.specs.Run.{run_state, run_gives}
 use Rattle.rw_merge.specs.Agreement.{IsAgreement}
-use Rattle.cdg_io.specs.Causes.{Rose}
+use Rattle.cdg_io.specs.Causes.{Count, Rose, RoseOnce}
 use Rattle.cdg_io.specs.Change.{Change}
 use Rattle.rw_merge.specs.Merging.{RoseAtMost}
 use Rattle.rw_merge.specs.declared.merge.Merged.{Merged}
@@ -73,30 +73,30 @@ IsEndRead (Err SecondFault) first second = (first.bytes ≡ []) × (second.bytes
 IsEndRead (Err stop) first second = ⊥
 
 -- How often the end of the first input was told by then,
-abbrev pub TellsFirstOfPair : Result Bool MergeStop → ℕ → ℕ → Type 0
+abbrev pub TellsFirstOfPair : Result Bool MergeStop → Count → Count → Type 0
 TellsFirstOfPair (Ok true) before now = now ≡ before
-TellsFirstOfPair (Ok false) before now = Rose before now
-TellsFirstOfPair (Err (Torn n)) before now = Rose before now
+TellsFirstOfPair (Ok false) before now = RoseOnce before now
+TellsFirstOfPair (Err (Torn n)) before now = RoseOnce before now
 TellsFirstOfPair (Err FirstFault) before now = now ≡ before
 TellsFirstOfPair (Err stop) before now = RoseAtMost before now
 
 -- and that of the second
-abbrev pub TellsSecondOfPair : Result Bool MergeStop → ℕ → ℕ → Type 0
+abbrev pub TellsSecondOfPair : Result Bool MergeStop → Count → Count → Type 0
 TellsSecondOfPair (Ok true) before now = now ≡ before
-TellsSecondOfPair (Ok false) before now = Rose before now
-TellsSecondOfPair (Err (SecondTorn n)) before now = Rose before now
+TellsSecondOfPair (Ok false) before now = RoseOnce before now
+TellsSecondOfPair (Err (SecondTorn n)) before now = RoseOnce before now
 TellsSecondOfPair (Err (Unequal n)) before now = RoseAtMost before now
 TellsSecondOfPair (Err stop) before now = now ≡ before
 
 -- The same where nothing more may follow: of the first input,
-abbrev pub TellsFirstAfter : Result (Unit {0}) MergeStop → ℕ → ℕ → Type 0
-TellsFirstAfter (Ok done) before now = Rose before now
+abbrev pub TellsFirstAfter : Result (Unit {0}) MergeStop → Count → Count → Type 0
+TellsFirstAfter (Ok done) before now = RoseOnce before now
 TellsFirstAfter (Err FirstFault) before now = now ≡ before
 TellsFirstAfter (Err stop) before now = RoseAtMost before now
 
 -- and of the second
-abbrev pub TellsSecondAfter : Result (Unit {0}) MergeStop → ℕ → ℕ → Type 0
-TellsSecondAfter (Ok done) before now = Rose before now
+abbrev pub TellsSecondAfter : Result (Unit {0}) MergeStop → Count → Count → Type 0
+TellsSecondAfter (Ok done) before now = RoseOnce before now
 TellsSecondAfter (Err stop) before now = now ≡ before
 
 -- A count of faults rose,

@@ -4,7 +4,7 @@ ghost use Rattle.std.specs.List.{concat};
 ghost use Rattle.std.specs.Io.KnownBytes.{Consumes};
 ghost use Rattle.std.specs.declared.option.Option.{Option};
 ghost use Rattle.disc_time.specs.Counts.{most_lead_in};
-ghost use Rattle.cdg_io.specs.Causes.{Rose};
+ghost use Rattle.cdg_io.specs.Causes.{TellsFault};
 ghost use Rattle.cdg_io.specs.Change.{change};
 ghost use Rattle.rw_interleave.specs.Stream.{bad_count};
 ghost use Rattle.rw_interleave.specs.Texts.{cdg_bytes};
@@ -127,21 +127,12 @@ impl Merger {
         ensures second_end { EndsSecond result (T.left second.new) }
         ensures first_told { TellsFirst result (S.ends first.old) (S.ends first.new) }
         ensures second_told { TellsSecond result (T.ends second.old) (T.ends second.new) }
-        ensures first_later { S.faults first.old ≤ S.faults first.new }
-        ensures second_later { T.faults second.old ≤ T.faults second.new }
-        ensures out_later { K.faults out.old ≤ K.faults out.new }
-        ensures first_fault { IsErrOf result MergeStop.FirstFault
-            → Rose (S.faults first.old) (S.faults first.new) }
-        ensures no_first_fault { result ≢ Err MergeStop.FirstFault
-            → S.faults first.new ≡ S.faults first.old }
-        ensures second_fault { IsErrOf result MergeStop.SecondFault
-            → Rose (T.faults second.old) (T.faults second.new) }
-        ensures no_second_fault { result ≢ Err MergeStop.SecondFault
-            → T.faults second.new ≡ T.faults second.old }
-        ensures write_fault { IsErrOf result MergeStop.WriteFault
-            → Rose (K.faults out.old) (K.faults out.new) }
-        ensures no_write_fault { result ≢ Err MergeStop.WriteFault
-            → K.faults out.new ≡ K.faults out.old }
+        ensures first_fault { TellsFault MergeStop.FirstFault
+            (S.faults first.old) (S.faults first.new) result }
+        ensures second_fault { TellsFault MergeStop.SecondFault
+            (T.faults second.old) (T.faults second.new) result }
+        ensures write_fault { TellsFault MergeStop.WriteFault
+            (K.faults out.old) (K.faults out.new) result }
     {
         two_readings_give_packs();
         self.first.reset();

@@ -1,12 +1,12 @@
 -- How the faults of an input and of an output are told by a call of a player.
 use Rattle.std.proofs.Common.{◌≡◌, ◌≢◌, ◌≤◌, ℕ, List, Result, Ok, Err, IfErr, refl, sym, subst, arith}
 use Rattle.std.specs.declared.option.Option.{Option}
-use Rattle.cdg_io.specs.Causes.{HasCause, Rose}
+use Rattle.cdg_io.specs.Causes.{HasCause, Rose, TellsFault}
 use Rattle.cdg_io.specs.declared.pumping.Pumped.{Pumped}
 use Rattle.cdg_io.specs.declared.pumping.PumpStop.{PumpStop}
 use Rattle.cdg_io.specs.declared.pumping.PumpStop.TheVariants as pump
 use Rattle.cdtext_packs.specs.declared.lead_in_texts.LeadInTexts.{LeadInTexts}
-use Rattle.stream_stages.specs.Faults.{IsStopTold, TellsStops}
+use Rattle.stream_stages.specs.Faults.{TellsStops}
 use Rattle.stream_stages.specs.Watch.{WritesTexts, play_stop}
 use Rattle.stream_stages.specs.declared.played.Played.{Played}
 use Rattle.stream_stages.specs.declared.played.PlayStop.{PlayStop}
@@ -24,10 +24,10 @@ done played = Ok played
 abbrev error : PlayStop → Result Played PlayStop
 error stop = Err stop
 
-silent : (stop : PlayStop) (answer : Result Played PlayStop) (n n' : ℕ) → n ≤ n' → answer ≢ error stop → n' ≡ n → IsStopTold stop n n' answer
+silent : (stop : PlayStop) (answer : Result Played PlayStop) (n n' : ℕ) → n ≤ n' → answer ≢ error stop → n' ≡ n → TellsFault stop n n' answer
 silent stop answer n n' later other same = record { later = later; rose = λ e. absurd (other e); same = λ e. same }
 
-told : (stop : PlayStop) (n n' : ℕ) → n ≤ n' → Rose n n' → IsStopTold stop n n' (error stop)
+told : (stop : PlayStop) (n n' : ℕ) → n ≤ n' → Rose n n' → TellsFault stop n n' (error stop)
 told stop n n' later rose = record { later = later; rose = λ e. rose; same = λ other. absurd (other refl) }
 
 module _ (f f' k k' : ℕ) (r : f ≤ f') (w : k ≤ k') where

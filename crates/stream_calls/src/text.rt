@@ -1,7 +1,7 @@
 // The texts of a stream's lead-in.
 ghost use Rattle.std.specs.Prelude.{◌≡◌, ◌≢◌, ◌≤◌, ◌-◌, List, ℕ, IfSome, IfOk, IfErr, IsErrOf, Ok, Err};
 ghost use Rattle.disc_time.specs.Counts.{most_lead_in};
-ghost use Rattle.cdg_io.specs.Causes.{Rose};
+ghost use Rattle.cdg_io.specs.Causes.{TellsFault};
 ghost use Rattle.cdg_io.specs.Change.{passed};
 ghost use Rattle.cdtext_packs.specs.Reading.{read_texts};
 ghost use Rattle.cdtext_packs.specs.TextSteps.{fresh_texts};
@@ -84,10 +84,8 @@ impl TextLister {
     ) -> Result<Played, PlayStop>
         ensures writes { WritesTexts self.now.texts.blocks blocks (K.held out.old) (K.held out.new) result }
         ensures untouched { IfErr result (λ stop. stop ≢ PlayStop.WriteFault → out.new ≡ out.old) }
-        ensures later { K.faults out.old ≤ K.faults out.new }
-        ensures write_fault { IsErrOf result PlayStop.WriteFault
-            → Rose (K.faults out.old) (K.faults out.new) }
-        ensures no_write_fault { result ≢ Err PlayStop.WriteFault → K.faults out.new ≡ K.faults out.old }
+        ensures write_fault { TellsFault PlayStop.WriteFault
+            (K.faults out.old) (K.faults out.new) result }
     {
         let map = match self.texts.blocks.reader.finish(alloc) {
             Ok(map) => map,
@@ -108,10 +106,8 @@ impl TextLister {
         requires { read_texts self.now.texts.blocks.reader ≡ Ok map.now }
         ensures writes { WritesTexts self.now.texts.blocks blocks (K.held out.old) (K.held out.new) result }
         ensures untouched { IfErr result (λ stop. stop ≢ PlayStop.WriteFault → out.new ≡ out.old) }
-        ensures later { K.faults out.old ≤ K.faults out.new }
-        ensures write_fault { IsErrOf result PlayStop.WriteFault
-            → Rose (K.faults out.old) (K.faults out.new) }
-        ensures no_write_fault { result ≢ Err PlayStop.WriteFault → K.faults out.new ≡ K.faults out.old }
+        ensures write_fault { TellsFault PlayStop.WriteFault
+            (K.faults out.old) (K.faults out.new) result }
     {
         let texts = &self.texts.blocks;
         match write_lines(map, texts.good, texts.bad, texts.other, out) {

@@ -3,7 +3,7 @@
 -- `writes bytes text bad` says of some bytes, whole units and maybe a rest of a unit, which text is written for the
 -- units, and how many words or frames are bad.
 use Rattle.std.specs.Prelude.{◌≡◌, ◌≢◌, ℕ, ◌-◌, ◌*◌, ◌/◌, ◌%◌, ◌<◌, ◌≤◌, ⊤, List, length, Result, Ok, Err}
-use Rattle.cdg_io.specs.Causes.{Rose}
+use Rattle.cdg_io.specs.Causes.{Count, RoseOnce}
 use Rattle.cdg_io.specs.Streams.{Reading, WholeReading}
 use Rattle.raw_subcode.specs.Channels.{unit_size}
 use Rattle.raw_subcode.specs.Sizes.{most_units}
@@ -68,24 +68,24 @@ IsListStop stop = IsStreamStop stop
 
 -- The count of told ends rose where the input was read to its end, and nowhere else: of a call that writes while it
 -- reads,
-abbrev pub EndInTurn : Result Played PlayStop → ℕ → ℕ → Type 0
-EndInTurn (Ok played) before now = Rose before now
-EndInTurn (Err (Torn block)) before now = Rose before now
-EndInTurn (Err (PastEnd blocks)) before now = Rose before now
-EndInTurn (Err (Text fault)) before now = Rose before now
+abbrev pub EndInTurn : Result Played PlayStop → Count → Count → Type 0
+EndInTurn (Ok played) before now = RoseOnce before now
+EndInTurn (Err (Torn block)) before now = RoseOnce before now
+EndInTurn (Err (PastEnd blocks)) before now = RoseOnce before now
+EndInTurn (Err (Text fault)) before now = RoseOnce before now
 EndInTurn (Err TooLong) before now = now ≡ before
 EndInTurn (Err ReadFault) before now = now ≡ before
 EndInTurn (Err WriteFault) before now = now ≡ before
 
 -- and of one that writes nothing before it read all
-abbrev pub EndFirst : Result Played PlayStop → ℕ → ℕ → Type 0
-EndFirst (Ok played) before now = Rose before now
-EndFirst (Err (Torn block)) before now = Rose before now
-EndFirst (Err (PastEnd blocks)) before now = Rose before now
-EndFirst (Err (Text fault)) before now = Rose before now
+abbrev pub EndFirst : Result Played PlayStop → Count → Count → Type 0
+EndFirst (Ok played) before now = RoseOnce before now
+EndFirst (Err (Torn block)) before now = RoseOnce before now
+EndFirst (Err (PastEnd blocks)) before now = RoseOnce before now
+EndFirst (Err (Text fault)) before now = RoseOnce before now
 EndFirst (Err TooLong) before now = now ≡ before
 EndFirst (Err ReadFault) before now = now ≡ before
-EndFirst (Err WriteFault) before now = Rose before now
+EndFirst (Err WriteFault) before now = RoseOnce before now
 
 -- the answer to an input of so many bytes that is read and written without a fault
 abbrev pub IsAnsweredBy : Result Played PlayStop → ℕ → ℕ → Type 0

@@ -1,6 +1,6 @@
 // A stage at work on the blocks of a whole input.
 ghost use Rattle.std.specs.Prelude.{◌≡◌, ◌≢◌, ◌≤◌, List, ℕ, length, IfSome, IsErrOf, Err};
-ghost use Rattle.cdg_io.specs.Causes.{Rose};
+ghost use Rattle.cdg_io.specs.Causes.{TellsFault};
 ghost use Rattle.cdg_io.specs.Change.{fed, moved};
 ghost use Rattle.cdg_io.specs.Pump.{IsUnlessFault, Pumps, TellsEndOf, answer_of};
 ghost use Rattle.raw_subcode.specs.Channels.{unit_size};
@@ -25,14 +25,10 @@ pub fn pump_blocks<S: Source, G: Stage<Item = [u8; BLOCK_BYTES], Out = Piece>, K
     // Where nothing failed, the answer is that of the whole input's length.
     ensures answer { IfSome (S.left source.old) (λ all.
         IsUnlessFault result (answer_of (unit_size form) most_units (length all))) }
-    ensures source_later { S.faults source.old ≤ S.faults source.new }
-    ensures out_later { K.faults out.old ≤ K.faults out.new }
-    ensures read_fault { IsErrOf result PumpStop.ReadFault
-        → Rose (S.faults source.old) (S.faults source.new) }
-    ensures no_read_fault { result ≢ Err PumpStop.ReadFault → S.faults source.new ≡ S.faults source.old }
+    ensures read_fault { TellsFault PumpStop.ReadFault
+        (S.faults source.old) (S.faults source.new) result }
     ensures ended { TellsEndOf result (S.ends source.old) (S.ends source.new) }
-    ensures write_fault { IsErrOf result PumpStop.WriteFault → Rose (K.faults out.old) (K.faults out.new) }
-    ensures no_write_fault { result ≢ Err PumpStop.WriteFault → K.faults out.new ≡ K.faults out.old }
+    ensures write_fault { TellsFault PumpStop.WriteFault (K.faults out.old) (K.faults out.new) result }
 {
     match form {
         Form::Sector => pump(source, MOST_UNITS, stages, out),
@@ -51,10 +47,8 @@ pub fn watch<S: Source, G: Stage<Item = [u8; BLOCK_BYTES], Out = Piece>>(
     // Where nothing failed, the answer is that of the whole input's length.
     ensures answer { IfSome (S.left source.old) (λ all.
         IsUnlessFault result (answer_of (unit_size form) most_units (length all))) }
-    ensures source_later { S.faults source.old ≤ S.faults source.new }
-    ensures read_fault { IsErrOf result PumpStop.ReadFault
-        → Rose (S.faults source.old) (S.faults source.new) }
-    ensures no_read_fault { result ≢ Err PumpStop.ReadFault → S.faults source.new ≡ S.faults source.old }
+    ensures read_fault { TellsFault PumpStop.ReadFault
+        (S.faults source.old) (S.faults source.new) result }
     ensures ended { TellsEndOf result (S.ends source.old) (S.ends source.new) }
 {
     pump_blocks(form, source, stages, &mut SteadySink::new())

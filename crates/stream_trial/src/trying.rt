@@ -2,7 +2,7 @@
 ghost use Rattle.std.specs.Prelude.{◌≡◌, ◌≢◌, ◌≤◌, ◌*◌, ◌/◌, ◌%◌, ℕ, List, length, Err, OnOk, IfOk, IfErr};
 ghost use Rattle.cdg_workload.specs.Script.{most_generated};
 ghost use Rattle.std.specs.Io.KnownBytes.{Appends};
-ghost use Rattle.cdg_io.specs.Causes.{Rose};
+ghost use Rattle.cdg_io.specs.Causes.{TellsFault};
 ghost use Rattle.cdg_io.specs.Moves.{AppendsPrefix};
 ghost use Rattle.raw_subcode.specs.Channels.{program_symbols, symbols_of};
 ghost use Rattle.raw_subcode.specs.Sizes.{block_bytes, most_units};
@@ -49,15 +49,14 @@ pub fn trial<K: Sink>(alloc: Global, seed: u64, pictures: u32, out: &mut K) -> R
         ((text : List ℕ) × IsTrial seed pictures text × Appends (K.held out.old) (K.held out.new) text) }
 
     // A write failed, and a prefix of them was written.
-    ensures write_fault { result ≡ Err TrialStop.WriteFault → Rose (K.faults out.old) (K.faults out.new) }
-    ensures no_write_fault { result ≢ Err TrialStop.WriteFault → K.faults out.new ≡ K.faults out.old }
+    ensures write_fault { TellsFault TrialStop.WriteFault
+        (K.faults out.old) (K.faults out.new) result }
     ensures part { result ≡ Err TrialStop.WriteFault
         → (text : List ℕ) × IsTrial seed pictures text
         × AppendsPrefix (K.held out.old) (K.held out.new) text }
 
     // Memory ran out, and nothing was written.
     ensures untouched { result ≡ Err TrialStop.NoMemory → out.new ≡ out.old }
-    ensures later { K.faults out.old ≤ K.faults out.new }
 {
     let report = make_report(alloc, seed, pictures)?;
     let lines = report.lines();

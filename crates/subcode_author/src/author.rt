@@ -2,7 +2,7 @@
 ghost use Rattle.std.specs.Prelude.{◌≡◌, ◌≢◌, ◌<◌, ◌≤◌, List, ℕ, IfErr, OnOk, Err};
 ghost use Rattle.disc_time.specs.Counts.{most_lead_in, most_program};
 ghost use Rattle.std.specs.Io.KnownBytes.{Appends};
-ghost use Rattle.cdg_io.specs.Causes.{Rose};
+ghost use Rattle.cdg_io.specs.Causes.{TellsFault};
 ghost use Rattle.picture_script.specs.Script.{pictures};
 ghost use Rattle.picture_changes.specs.Brings.{CannotBeReady, IsChange};
 ghost use Rattle.picture_changes.specs.PlannedChange.{planned_change};
@@ -61,12 +61,11 @@ pub fn author_stream<K: Sink>(
         → CannotBeReady script.now picture need free }
 
     // A write failed, and a prefix of the lead-in and of program blocks with packs of the script was written.
-    ensures write_fault { result ≡ Err AuthorStop.WriteFault → Rose (K.faults out.old) (K.faults out.new) }
-    ensures no_write_fault { result ≢ Err AuthorStop.WriteFault → K.faults out.new ≡ K.faults out.old }
+    ensures write_fault { TellsFault AuthorStop.WriteFault
+        (K.faults out.old) (K.faults out.new) result }
     ensures part { result ≡ Err AuthorStop.WriteFault → (n : ℕ) × (packs : List (List ℕ))
         × PutsScriptPart (disc_of sheet.now script.now lead_in length) (K.held out.old) (K.held out.new) n
         packs }
-    ensures later { K.faults out.old ≤ K.faults out.new }
 {
     packs_are_a_schedule();
     needs_are_fewest();

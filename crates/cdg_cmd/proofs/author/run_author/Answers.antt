@@ -1,4 +1,5 @@
 use Rattle.std.proofs.KnownBytes.{Appends-nil}
+use Rattle.cdg_io.specs.Change.{input}
 use Rattle.cdg_cmd.specs.Authors.{StopsAtScript, Answers}
 use Rattle.cdg_cmd.proofs.AuthorStatus.{put_for}
 use Rattle.cdg_cmd.proofs.AuthorTold.{script_read, script_stopped, sheet_read, sheet_stopped, told_at_script, told_at_sheet, told_of_both}
@@ -20,25 +21,23 @@ returns-clause-does g c =
 
 pub returns-clause-faults : goal.returns-clause-faults
 returns-clause-faults g c =
-    told_of_both c.in-Ok.sheet c.in-Ok-read_script.script c.author_stream.result _ _ _ _ _ _ _ c.author_status.ensures c.in-Ok.ensures.later c.in-Ok.ensures.no_fault
-    c.in-Ok-read_script.ensures.later c.in-Ok-read_script.ensures.no_fault c.author_stream.ensures.later c.author_stream.ensures.write_fault c.author_stream.ensures.no_write_fault
+    told_of_both c.in-Ok.sheet c.in-Ok-read_script.script c.author_stream.result _ _ _ _ _ _ _ c.author_status.ensures c.in-Ok.ensures.fault c.in-Ok-read_script.ensures.fault c.author_stream.ensures.write_fault
 
 pub returns-in-Err-clause-faults : goal.returns-in-Err-clause-faults
-returns-in-Err-clause-faults g c = told_at_sheet _ _ _ _ _ _ c.in-Err.ensures.err c.in-Err.ensures.later c.in-Err.ensures.fault c.in-Err.ensures.no_fault
+returns-in-Err-clause-faults g c = told_at_sheet _ _ _ _ _ _ c.in-Err.ensures.err c.in-Err.ensures.fault
 
 pub returns-in-Err-clause-second_ended : goal.returns-in-Err-clause-second_ended
 returns-in-Err-clause-second_ended g c = sheet_stopped _ _ _ c.in-Err.ensures.err
 
 pub returns-in-Err-read_script-clause-faults : goal.returns-in-Err-read_script-clause-faults
 returns-in-Err-read_script-clause-faults g c =
-    told_at_script c.in-Ok.sheet _ _ _ _ _ _ _ c.in-Err-read_script.ensures.err c.in-Ok.ensures.later c.in-Ok.ensures.no_fault
-    c.in-Err-read_script.ensures.later c.in-Err-read_script.ensures.fault c.in-Err-read_script.ensures.no_fault
+    told_at_script c.in-Ok.sheet _ _ _ _ _ _ _ c.in-Err-read_script.ensures.err c.in-Ok.ensures.fault c.in-Err-read_script.ensures.fault
 
 pub returns-in-Err-read_script-clause-first_ended : goal.returns-in-Err-read_script-clause-first_ended
-returns-in-Err-read_script-clause-first_ended g c = script_stopped _ _ _ _ c.in-Err-read_script.ensures.err c.in-Ok.ensures.told
+returns-in-Err-read_script-clause-first_ended g c = script_stopped (input g.S.Source.left g.S.Source.ends c.args.first.now c.read_sheet.new.first) c.in-Ok.sheet _ _ c.in-Err-read_script.ensures.err c.in-Ok.ensures.ok c.in-Ok.ensures.told
 
 pub returns-clause-first_ended : goal.returns-clause-first_ended
-returns-clause-first_ended g c = sheet_read c.author_stream.result _ _ _ c.author_status.ensures c.in-Ok.ensures.told
+returns-clause-first_ended g c = sheet_read c.author_stream.result _ (input g.S.Source.left g.S.Source.ends c.args.first.now c.read_sheet.new.first) c.author_status.ensures c.in-Ok.ensures.told
 
 pub returns-clause-second_ended : goal.returns-clause-second_ended
 returns-clause-second_ended g c = script_read c.author_stream.result _ _ _ c.author_status.ensures c.in-Ok-read_script.ensures.told

@@ -27,8 +27,7 @@ returns-in-Ok-clause-never g c = never_usage c.run.result _ c.merge_status.ensur
 pub returns-in-Ok-clause-faults : goal.returns-in-Ok-clause-faults
 returns-in-Ok-clause-faults g c =
     let done = c.run.ensures in
-    told c.run.result _ _ _ _ _ _ _ c.merge_status.ensures done.first_later done.second_later done.out_later
-    done.first_fault done.no_first_fault done.second_fault done.no_second_fault done.write_fault done.no_write_fault
+    told c.run.result _ _ _ _ _ _ _ c.merge_status.ensures done.first_fault done.second_fault done.write_fault
 
 pub returns-in-Ok-clause-first_ended : goal.returns-in-Ok-clause-first_ended
 returns-in-Ok-clause-first_ended g c = first_ended c.run.result _ _ _ c.merge_status.ensures c.run.ensures.first_told

@@ -1,6 +1,6 @@
 use Rattle.std.proofs.Common.{sym, subst}
 use Rattle.std.proofs.KnownBytes.{Appends-nil}
-use Rattle.cdg_io.specs.Change.{change}
+use Rattle.cdg_io.specs.Change.{change, input}
 use Rattle.cdg_cmd.specs.Presses.{Presses, ReadsFile, RefusesFile}
 use Rattle.cdg_cmd.proofs.AuthorTold.{sheet_stopped, told_at_sheet}
 use Rattle.cdg_cmd.proofs.PressTold.{file_read, file_stopped, pressed_for, sheet_read, told_at_file, told_of_both}
@@ -19,25 +19,23 @@ returns-clause-does g c =
 
 pub returns-clause-faults : goal.returns-clause-faults
 returns-clause-faults g c =
-    told_of_both c.in-Ok.sheet c.in-Ok-read_file.file c.press_stream.result _ _ _ _ _ _ _ c.press_status.ensures c.in-Ok.ensures.later c.in-Ok.ensures.no_fault
-    c.in-Ok-read_file.ensures.later c.in-Ok-read_file.ensures.no_fault c.press_stream.ensures.later c.press_stream.ensures.write_fault c.press_stream.ensures.no_write_fault
+    told_of_both c.in-Ok.sheet c.in-Ok-read_file.file c.press_stream.result _ _ _ _ _ _ _ c.press_status.ensures c.in-Ok.ensures.fault c.in-Ok-read_file.ensures.fault c.press_stream.ensures.write_fault
 
 pub returns-in-Err-clause-faults : goal.returns-in-Err-clause-faults
-returns-in-Err-clause-faults g c = told_at_sheet _ _ _ _ _ _ c.in-Err.ensures.err c.in-Err.ensures.later c.in-Err.ensures.fault c.in-Err.ensures.no_fault
+returns-in-Err-clause-faults g c = told_at_sheet _ _ _ _ _ _ c.in-Err.ensures.err c.in-Err.ensures.fault
 
 pub returns-in-Err-clause-second_ended : goal.returns-in-Err-clause-second_ended
 returns-in-Err-clause-second_ended g c = sheet_stopped _ _ _ c.in-Err.ensures.err
 
 pub returns-in-Err-read_file-clause-faults : goal.returns-in-Err-read_file-clause-faults
 returns-in-Err-read_file-clause-faults g c =
-    told_at_file c.in-Ok.sheet _ _ _ _ _ _ _ c.in-Err-read_file.ensures.err c.in-Ok.ensures.later c.in-Ok.ensures.no_fault
-    c.in-Err-read_file.ensures.later c.in-Err-read_file.ensures.fault c.in-Err-read_file.ensures.no_fault
+    told_at_file c.in-Ok.sheet _ _ _ _ _ _ _ c.in-Err-read_file.ensures.err c.in-Ok.ensures.fault c.in-Err-read_file.ensures.fault
 
 pub returns-in-Err-read_file-clause-first_ended : goal.returns-in-Err-read_file-clause-first_ended
-returns-in-Err-read_file-clause-first_ended g c = file_stopped _ _ _ _ c.in-Err-read_file.ensures.err c.in-Ok.ensures.told
+returns-in-Err-read_file-clause-first_ended g c = file_stopped (input g.S.Source.left g.S.Source.ends c.args.first.now c.read_sheet.new.first) c.in-Ok.sheet _ _ c.in-Err-read_file.ensures.err c.in-Ok.ensures.ok c.in-Ok.ensures.told
 
 pub returns-clause-first_ended : goal.returns-clause-first_ended
-returns-clause-first_ended g c = sheet_read c.press_stream.result _ _ _ c.press_status.ensures c.in-Ok.ensures.told
+returns-clause-first_ended g c = sheet_read c.press_stream.result _ (input g.S.Source.left g.S.Source.ends c.args.first.now c.read_sheet.new.first) c.press_status.ensures c.in-Ok.ensures.told
 
 pub returns-clause-second_ended : goal.returns-clause-second_ended
 returns-clause-second_ended g c = file_read c.press_stream.result _ _ _ c.press_status.ensures c.in-Ok-read_file.ensures.told

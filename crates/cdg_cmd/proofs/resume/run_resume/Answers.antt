@@ -1,4 +1,5 @@
 use Rattle.std.proofs.Common.{ap}
+use Rattle.cdg_io.specs.Change.{input}
 use Rattle.cdg_cmd.proofs.ResumeTold.{first_ended, reads_second, second_ended, told, untouched}
 use Rattle.cdg_cmd.proofs.resume.run_resume.Goals as goal
 
@@ -9,10 +10,10 @@ returns-in-Ok-clause-does g c = λ found.
       answer = c.resume.result;
       status_is = c.resume_status.ensures;
       file = c.resume.new.self.file;
-      most = done.saved_most;
-      taken = done.saved_taken;
-      cut = done.saved_part;
-      whole = done.saved_end;
+      most = done.reads.most;
+      taken = done.reads.taken;
+      cut = done.reads.cut;
+      whole = done.reads.end;
       accepted = done.accepted;
       goes_on = done.resumes;
       exactly = done.answer;
@@ -24,12 +25,13 @@ returns-in-Ok-clause-untouched g c = untouched c.resume.result _ _ _ c.resume_st
 pub returns-in-Ok-clause-second : goal.returns-in-Ok-clause-second
 returns-in-Ok-clause-second g c =
     let done = c.resume.ensures in
-    reads_second _ _ c.args.at _ c.resume.new.self.file c.resume.result done.rest_untouched done.accepted done.saved_taken done.saved_end
+    let first = input g.S.Source.left g.S.Source.ends c.args.first.now c.resume.new.saved in
+    reads_second _ _ c.args.at first c.resume.new.self.file c.resume.result done.rest_untouched done.accepted done.reads.taken done.reads.end done.reads.told
 
 pub returns-in-Ok-clause-first_ended : goal.returns-in-Ok-clause-first_ended
 returns-in-Ok-clause-first_ended g c =
     let done = c.resume.ensures in
-    first_ended c.args.at _ _ c.resume.new.self.file c.resume.result _ c.resume_status.ensures done.accepted done.saved_told done.saved_goes_on done.saved_not_told
+    first_ended c.args.at _ _ c.resume.new.self.file c.resume.result _ c.resume_status.ensures done.accepted done.reads.told done.reads.goes_on done.reads.not_told
 
 pub returns-in-Ok-clause-second_ended : goal.returns-in-Ok-clause-second_ended
 returns-in-Ok-clause-second_ended g c =
@@ -39,5 +41,4 @@ returns-in-Ok-clause-second_ended g c =
 pub returns-in-Ok-clause-faults : goal.returns-in-Ok-clause-faults
 returns-in-Ok-clause-faults g c =
     let done = c.resume.ensures in
-    told c.resume.result _ _ _ _ _ _ _ c.resume_status.ensures done.saved_later done.rest_later done.out_later
-    done.first_fault done.no_first_fault done.second_fault done.no_second_fault done.write_fault done.no_write_fault
+    told c.resume.result _ _ _ _ _ _ _ c.resume_status.ensures done.first_fault done.second_fault done.write_fault

@@ -22,8 +22,7 @@ returns-in-Ok-clause-untouched g c = untouched c.save.result _ _ _ c.pump_status
 pub returns-in-Ok-clause-faults : goal.returns-in-Ok-clause-faults
 returns-in-Ok-clause-faults g c =
     let saved = c.save.ensures in
-    told_one c.save.result _ _ _ _ _ c.pump_status.ensures saved.source_later saved.out_later
-    saved.read_fault saved.no_read_fault saved.write_fault saved.no_write_fault
+    told_one c.save.result _ _ _ _ _ c.pump_status.ensures saved.read_fault saved.write_fault
 
 pub returns-in-Ok-clause-ended : goal.returns-in-Ok-clause-ended
 returns-in-Ok-clause-ended g c = ended_first c.save.result _ _ _ c.pump_status.ensures c.save.ensures.ended

@@ -1,4 +1,4 @@
-use Rattle.cdg_cmd.proofs.Played.{ended_first, told_one, untouched}
+use Rattle.cdg_cmd.proofs.Played.{ended_listed, told_one, untouched}
 use Rattle.cdg_cmd.proofs.text.run_text.Goals as goal
 
 pub returns-in-Ok-clause-does : goal.returns-in-Ok-clause-does
@@ -19,4 +19,4 @@ pub returns-in-Ok-clause-faults : goal.returns-in-Ok-clause-faults
 returns-in-Ok-clause-faults g c = told_one c.text_list.result _ _ _ _ _ c.play_status.ensures c.text_list.ensures.faults
 
 pub returns-in-Ok-clause-ended : goal.returns-in-Ok-clause-ended
-returns-in-Ok-clause-ended g c = ended_first c.text_list.result _ _ _ c.play_status.ensures c.text_list.ensures.ended
+returns-in-Ok-clause-ended g c = ended_listed c.text_list.result _ _ _ c.play_status.ensures c.text_list.ensures.ended

@@ -1,6 +1,6 @@
 use Rattle.std.proofs.Common.{refl, subst}
 use Rattle.cdg_cmd.specs.Answer.{Does}
-use Rattle.cdg_io.specs.Change.{change}
+use Rattle.cdg_io.specs.Change.{change, input}
 use Rattle.cdg_cmd.specs.Call.{call}
 use Rattle.cdg_cmd.specs.Ends.{TellsEnds}
 use Rattle.cdg_cmd.specs.Keeps.{Keeps, WantsMemory}
@@ -21,7 +21,7 @@ returns-in-None-clause-usage g c =
 
 pub returns-in-Some-clause-keeps : goal.returns-in-Some-clause-keeps
 returns-in-Some-clause-keeps g c = λ command spelled.
-    subst (λ (k : Command). Keeps k (change g.S.Source.left c.args.first.now c.perform.new.first)
+    subst (λ (k : Command). Keeps k (input g.S.Source.left g.S.Source.ends c.args.first.now c.perform.new.first)
     (c.args.first.now, c.args.second.now, c.args.out.now) (c.perform.new.first, c.perform.new.second, c.perform.new.out) c.perform.result) (same_command _ _ (c.in-Some.ensures.all command spelled))
     (record { first = c.perform.ensures.reads_none; second = c.perform.ensures.second; out = c.perform.ensures.writes_last })
 
@@ -37,7 +37,7 @@ returns-in-Some-clause-does g c = λ command spelled found.
 
 pub returns-in-Some-clause-ends : goal.returns-in-Some-clause-ends
 returns-in-Some-clause-ends g c = λ command spelled.
-    subst (λ (k : Command). TellsEnds k (change g.S.Source.ends c.args.first.now c.perform.new.first) (change g.T.Source.ends c.args.second.now c.perform.new.second) c.perform.result)
+    subst (λ (k : Command). TellsEnds k (input g.S.Source.left g.S.Source.ends c.args.first.now c.perform.new.first) (change g.T.Source.ends c.args.second.now c.perform.new.second) c.perform.result)
     (same_command _ _ (c.in-Some.ensures.all command spelled)) c.perform.ensures.ends
 
 pub returns-in-None-clause-keeps : goal.returns-in-None-clause-keeps

@@ -1,6 +1,6 @@
 use Rattle.std.proofs.Common.{refl, subst, sym}
 use Rattle.cdg_cmd.specs.Answer.{Does}
-use Rattle.cdg_io.specs.Change.{change}
+use Rattle.cdg_io.specs.Change.{change, input}
 use Rattle.cdg_cmd.specs.Call.{call}
 use Rattle.cdg_cmd.specs.Ends.{TellsEnds}
 use Rattle.cdg_cmd.specs.declared.command.Command.{Command}
@@ -14,7 +14,7 @@ returns-in-Convert-clause-does g c = λ _.
 
 pub returns-in-Convert-clause-ends : goal.returns-in-Convert-clause-ends
 returns-in-Convert-clause-ends g c =
-    subst (λ (k : Command). TellsEnds k (change g.S.Source.ends c.args.first.now c.run_convert.new.source) (change g.T.Source.ends c.args.second.now c.args.second.now) c.run_convert.result)
+    subst (λ (k : Command). TellsEnds k (input g.S.Source.left g.S.Source.ends c.args.first.now c.run_convert.new.source) (change g.T.Source.ends c.args.second.now c.args.second.now) c.run_convert.result)
     (sym c.in-Convert.is) (record { first = c.run_convert.ensures.ended; second = refl })
 
 pub returns-in-Screen-clause-does : goal.returns-in-Screen-clause-does
@@ -24,7 +24,7 @@ returns-in-Screen-clause-does g c = λ found.
 
 pub returns-in-Screen-clause-ends : goal.returns-in-Screen-clause-ends
 returns-in-Screen-clause-ends g c =
-    subst (λ (k : Command). TellsEnds k (change g.S.Source.ends c.args.first.now c.run_screen.new.source) (change g.T.Source.ends c.args.second.now c.args.second.now) c.run_screen.result)
+    subst (λ (k : Command). TellsEnds k (input g.S.Source.left g.S.Source.ends c.args.first.now c.run_screen.new.source) (change g.T.Source.ends c.args.second.now c.args.second.now) c.run_screen.result)
     (sym c.in-Screen.is) (record { first = c.run_screen.ensures.ended; second = refl })
 
 pub returns-in-State-clause-does : goal.returns-in-State-clause-does
@@ -34,7 +34,7 @@ returns-in-State-clause-does g c = λ found.
 
 pub returns-in-State-clause-ends : goal.returns-in-State-clause-ends
 returns-in-State-clause-ends g c =
-    subst (λ (k : Command). TellsEnds k (change g.S.Source.ends c.args.first.now c.run_state.new.source) (change g.T.Source.ends c.args.second.now c.args.second.now) c.run_state.result)
+    subst (λ (k : Command). TellsEnds k (input g.S.Source.left g.S.Source.ends c.args.first.now c.run_state.new.source) (change g.T.Source.ends c.args.second.now c.args.second.now) c.run_state.result)
     (sym c.in-State.is) (record { first = c.run_state.ensures.ended; second = refl })
 
 pub returns-in-Check-clause-does : goal.returns-in-Check-clause-does
@@ -44,7 +44,7 @@ returns-in-Check-clause-does g c = λ _.
 
 pub returns-in-Check-clause-ends : goal.returns-in-Check-clause-ends
 returns-in-Check-clause-ends g c =
-    subst (λ (k : Command). TellsEnds k (change g.S.Source.ends c.args.first.now c.run_check.new.source) (change g.T.Source.ends c.args.second.now c.args.second.now) c.run_check.result)
+    subst (λ (k : Command). TellsEnds k (input g.S.Source.left g.S.Source.ends c.args.first.now c.run_check.new.source) (change g.T.Source.ends c.args.second.now c.args.second.now) c.run_check.result)
     (sym c.in-Check.is) (record { first = c.run_check.ensures.ended; second = refl })
 
 pub returns-in-Q-clause-does : goal.returns-in-Q-clause-does
@@ -54,7 +54,7 @@ returns-in-Q-clause-does g c = λ found.
 
 pub returns-in-Q-clause-ends : goal.returns-in-Q-clause-ends
 returns-in-Q-clause-ends g c =
-    subst (λ (k : Command). TellsEnds k (change g.S.Source.ends c.args.first.now c.run_q.new.source) (change g.T.Source.ends c.args.second.now c.args.second.now) c.run_q.result)
+    subst (λ (k : Command). TellsEnds k (input g.S.Source.left g.S.Source.ends c.args.first.now c.run_q.new.source) (change g.T.Source.ends c.args.second.now c.args.second.now) c.run_q.result)
     (sym c.in-Q.is) (record { first = c.run_q.ensures.ended; second = refl })
 
 pub returns-in-Text-clause-does : goal.returns-in-Text-clause-does
@@ -64,7 +64,7 @@ returns-in-Text-clause-does g c = λ found.
 
 pub returns-in-Text-clause-ends : goal.returns-in-Text-clause-ends
 returns-in-Text-clause-ends g c =
-    subst (λ (k : Command). TellsEnds k (change g.S.Source.ends c.args.first.now c.run_text.new.source) (change g.T.Source.ends c.args.second.now c.args.second.now) c.run_text.result)
+    subst (λ (k : Command). TellsEnds k (input g.S.Source.left g.S.Source.ends c.args.first.now c.run_text.new.source) (change g.T.Source.ends c.args.second.now c.args.second.now) c.run_text.result)
     (sym c.in-Text.is) (record { first = c.run_text.ensures.ended; second = refl })
 
 pub returns-in-Planar-clause-does : goal.returns-in-Planar-clause-does
@@ -74,7 +74,7 @@ returns-in-Planar-clause-does g c = λ found.
 
 pub returns-in-Planar-clause-ends : goal.returns-in-Planar-clause-ends
 returns-in-Planar-clause-ends g c =
-    subst (λ (k : Command). TellsEnds k (change g.S.Source.ends c.args.first.now c.run_planar.new.source) (change g.T.Source.ends c.args.second.now c.args.second.now) c.run_planar.result)
+    subst (λ (k : Command). TellsEnds k (input g.S.Source.left g.S.Source.ends c.args.first.now c.run_planar.new.source) (change g.T.Source.ends c.args.second.now c.args.second.now) c.run_planar.result)
     (sym c.in-Planar.is) (record { first = c.run_planar.ensures.ended; second = refl })
 
 pub returns-in-Raw-clause-does : goal.returns-in-Raw-clause-does
@@ -84,7 +84,7 @@ returns-in-Raw-clause-does g c = λ found.
 
 pub returns-in-Raw-clause-ends : goal.returns-in-Raw-clause-ends
 returns-in-Raw-clause-ends g c =
-    subst (λ (k : Command). TellsEnds k (change g.S.Source.ends c.args.first.now c.run_raw.new.source) (change g.T.Source.ends c.args.second.now c.args.second.now) c.run_raw.result)
+    subst (λ (k : Command). TellsEnds k (input g.S.Source.left g.S.Source.ends c.args.first.now c.run_raw.new.source) (change g.T.Source.ends c.args.second.now c.args.second.now) c.run_raw.result)
     (sym c.in-Raw.is) (record { first = c.run_raw.ensures.ended; second = refl })
 
 pub returns-in-Scratch-clause-does : goal.returns-in-Scratch-clause-does
@@ -94,7 +94,7 @@ returns-in-Scratch-clause-does g c = λ found.
 
 pub returns-in-Scratch-clause-ends : goal.returns-in-Scratch-clause-ends
 returns-in-Scratch-clause-ends g c =
-    subst (λ (k : Command). TellsEnds k (change g.S.Source.ends c.args.first.now c.run_scratch.new.source) (change g.T.Source.ends c.args.second.now c.args.second.now) c.run_scratch.result)
+    subst (λ (k : Command). TellsEnds k (input g.S.Source.left g.S.Source.ends c.args.first.now c.run_scratch.new.source) (change g.T.Source.ends c.args.second.now c.args.second.now) c.run_scratch.result)
     (sym c.in-Scratch.is) (record { first = c.run_scratch.ensures.ended; second = refl })
 
 pub returns-in-Gen-clause-does : goal.returns-in-Gen-clause-does
@@ -104,7 +104,7 @@ returns-in-Gen-clause-does g c = λ found.
 
 pub returns-in-Gen-clause-ends : goal.returns-in-Gen-clause-ends
 returns-in-Gen-clause-ends g c =
-    subst (λ (k : Command). TellsEnds k (change g.S.Source.ends c.args.first.now c.args.first.now) (change g.T.Source.ends c.args.second.now c.args.second.now) c.run_gen.result)
+    subst (λ (k : Command). TellsEnds k (input g.S.Source.left g.S.Source.ends c.args.first.now c.args.first.now) (change g.T.Source.ends c.args.second.now c.args.second.now) c.run_gen.result)
     (sym c.in-Gen.is) (record { first = refl; second = refl })
 
 pub returns-in-Trial-clause-does : goal.returns-in-Trial-clause-does
@@ -114,7 +114,7 @@ returns-in-Trial-clause-does g c = λ found.
 
 pub returns-in-Trial-clause-ends : goal.returns-in-Trial-clause-ends
 returns-in-Trial-clause-ends g c =
-    subst (λ (k : Command). TellsEnds k (change g.S.Source.ends c.args.first.now c.args.first.now) (change g.T.Source.ends c.args.second.now c.args.second.now) c.run_trial.result)
+    subst (λ (k : Command). TellsEnds k (input g.S.Source.left g.S.Source.ends c.args.first.now c.args.first.now) (change g.T.Source.ends c.args.second.now c.args.second.now) c.run_trial.result)
     (sym c.in-Trial.is) (record { first = refl; second = refl })
 
 pub returns-in-Author-clause-does : goal.returns-in-Author-clause-does
@@ -129,7 +129,7 @@ returns-in-Merge-clause-does g c = λ found.
 
 pub returns-in-Merge-clause-ends : goal.returns-in-Merge-clause-ends
 returns-in-Merge-clause-ends g c =
-    subst (λ (k : Command). TellsEnds k (change g.S.Source.ends c.args.first.now c.run_merge.new.first) (change g.T.Source.ends c.args.second.now c.run_merge.new.second) c.run_merge.result)
+    subst (λ (k : Command). TellsEnds k (input g.S.Source.left g.S.Source.ends c.args.first.now c.run_merge.new.first) (change g.T.Source.ends c.args.second.now c.run_merge.new.second) c.run_merge.result)
     (sym c.in-Merge.is) (record { first = c.run_merge.ensures.first_ended; second = c.run_merge.ensures.second_ended })
 
 pub returns-in-Thin-clause-does : goal.returns-in-Thin-clause-does
@@ -139,7 +139,7 @@ returns-in-Thin-clause-does g c = λ found.
 
 pub returns-in-Thin-clause-ends : goal.returns-in-Thin-clause-ends
 returns-in-Thin-clause-ends g c =
-    subst (λ (k : Command). TellsEnds k (change g.S.Source.ends c.args.first.now c.run_thin.new.source) (change g.T.Source.ends c.args.second.now c.args.second.now) c.run_thin.result)
+    subst (λ (k : Command). TellsEnds k (input g.S.Source.left g.S.Source.ends c.args.first.now c.run_thin.new.source) (change g.T.Source.ends c.args.second.now c.args.second.now) c.run_thin.result)
     (sym c.in-Thin.is) (record { first = c.run_thin.ensures.ended; second = refl })
 
 pub returns-in-Press-clause-does : goal.returns-in-Press-clause-does
@@ -149,7 +149,7 @@ returns-in-Press-clause-does g c = λ found.
 
 pub returns-in-Press-clause-ends : goal.returns-in-Press-clause-ends
 returns-in-Press-clause-ends g c =
-    subst (λ (k : Command). TellsEnds k (change g.S.Source.ends c.args.first.now c.run_press.new.first) (change g.T.Source.ends c.args.second.now c.run_press.new.second) c.run_press.result)
+    subst (λ (k : Command). TellsEnds k (input g.S.Source.left g.S.Source.ends c.args.first.now c.run_press.new.first) (change g.T.Source.ends c.args.second.now c.run_press.new.second) c.run_press.result)
     (sym c.in-Press.is) (record { first = c.run_press.ensures.first_ended; second = c.run_press.ensures.second_ended })
 
 pub returns-in-Save-clause-does : goal.returns-in-Save-clause-does
@@ -159,7 +159,7 @@ returns-in-Save-clause-does g c = λ found.
 
 pub returns-in-Save-clause-ends : goal.returns-in-Save-clause-ends
 returns-in-Save-clause-ends g c =
-    subst (λ (k : Command). TellsEnds k (change g.S.Source.ends c.args.first.now c.run_save.new.source) (change g.T.Source.ends c.args.second.now c.args.second.now) c.run_save.result)
+    subst (λ (k : Command). TellsEnds k (input g.S.Source.left g.S.Source.ends c.args.first.now c.run_save.new.source) (change g.T.Source.ends c.args.second.now c.args.second.now) c.run_save.result)
     (sym c.in-Save.is) (record { first = c.run_save.ensures.ended; second = refl })
 
 pub returns-in-Resume-clause-does : goal.returns-in-Resume-clause-does
@@ -169,7 +169,7 @@ returns-in-Resume-clause-does g c = λ found.
 
 pub returns-in-Resume-clause-ends : goal.returns-in-Resume-clause-ends
 returns-in-Resume-clause-ends g c =
-    subst (λ (k : Command). TellsEnds k (change g.S.Source.ends c.args.first.now c.run_resume.new.first) (change g.T.Source.ends c.args.second.now c.run_resume.new.second) c.run_resume.result)
+    subst (λ (k : Command). TellsEnds k (input g.S.Source.left g.S.Source.ends c.args.first.now c.run_resume.new.first) (change g.T.Source.ends c.args.second.now c.run_resume.new.second) c.run_resume.result)
     (sym c.in-Resume.is) (record { first = c.run_resume.ensures.first_ended; second = c.run_resume.ensures.second_ended })
 
 pub returns-in-Convert-clause-faults : goal.returns-in-Convert-clause-faults

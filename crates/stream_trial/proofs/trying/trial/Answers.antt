@@ -7,10 +7,11 @@ pub returns-in-Ok-clause-lines : goal.returns-in-Ok-clause-lines
 returns-in-Ok-clause-lines g c = put_text c.args.seed c.args.pictures _ c.in_ok-report.report _ _ (c.as_bytes.ensures.value ∙ c.as_str.ensures.value ∙ c.lines-lines.ensures) c.in_ok-report.ensures.report c.in-Ok.ensures.ok
 
 pub returns-in-Ok-clause-write_fault : goal.returns-in-Ok-clause-write_fault
-returns-in-Ok-clause-write_fault g c = λ e. absurd (done_no_stop WriteFault e)
-
-pub returns-in-Ok-clause-no_write_fault : goal.returns-in-Ok-clause-no_write_fault
-returns-in-Ok-clause-no_write_fault g c = λ other. c.in-Ok.ensures.cause.same
+returns-in-Ok-clause-write_fault g c = record {
+  later = c.in-Ok.ensures.cause.later;
+  rose = λ e. absurd (done_no_stop WriteFault e);
+  same = λ other. c.in-Ok.ensures.cause.same;
+}
 
 pub returns-in-Ok-clause-part : goal.returns-in-Ok-clause-part
 returns-in-Ok-clause-part g c = λ e. absurd (done_no_stop WriteFault e)
@@ -18,23 +19,18 @@ returns-in-Ok-clause-part g c = λ e. absurd (done_no_stop WriteFault e)
 pub returns-in-Ok-clause-untouched : goal.returns-in-Ok-clause-untouched
 returns-in-Ok-clause-untouched g c = λ e. absurd (done_no_stop NoMemory e)
 
-pub returns-in-Ok-clause-later : goal.returns-in-Ok-clause-later
-returns-in-Ok-clause-later g c = c.in-Ok.ensures.cause.later
-
 pub returns-in-Err-clause-lines : goal.returns-in-Err-clause-lines
 returns-in-Err-clause-lines g c = tt
 
 pub returns-in-Err-clause-write_fault : goal.returns-in-Err-clause-write_fault
-returns-in-Err-clause-write_fault g c = λ e. c.in-Err.ensures.cause.failed
-
-pub returns-in-Err-clause-no_write_fault : goal.returns-in-Err-clause-no_write_fault
-returns-in-Err-clause-no_write_fault g c = λ other. absurd (other refl)
+returns-in-Err-clause-write_fault g c = record {
+  later = c.in-Err.ensures.cause.later;
+  rose = λ e. c.in-Err.ensures.cause.failed;
+  same = λ other. absurd (other refl);
+}
 
 pub returns-in-Err-clause-part : goal.returns-in-Err-clause-part
 returns-in-Err-clause-part g c = λ e. put_part c.args.seed c.args.pictures _ c.in_ok-report.report _ _ (c.as_bytes.ensures.value ∙ c.as_str.ensures.value ∙ c.lines-lines.ensures) c.in_ok-report.ensures.report c.in-Err.ensures.part
 
 pub returns-in-Err-clause-untouched : goal.returns-in-Err-clause-untouched
 returns-in-Err-clause-untouched g c = λ e. absurd (write_no_memory e)
-
-pub returns-in-Err-clause-later : goal.returns-in-Err-clause-later
-returns-in-Err-clause-later g c = c.in-Err.ensures.cause.later

@@ -82,14 +82,12 @@ begin_again-requires-clause-not_later g c = subst (λ n. n ≤ c.args.at) (sym c
 pub returns-in-Ok-clause-file : goal.returns-in-Ok-clause-file
 returns-in-Ok-clause-file g c = c.begin_again.ensures.file
 
-pub returns-in-Ok-clause-later : goal.returns-in-Ok-clause-later
-returns-in-Ok-clause-later g c = c.in-Ok.ensures.source_later
-
 pub returns-in-Ok-clause-fault : goal.returns-in-Ok-clause-fault
-returns-in-Ok-clause-fault g c = λ e. absurd (reached_is_not c.resumed.result _ c.args.at _ _ c.resumed.ensures.answer second_is_not_past e)
-
-pub returns-in-Ok-clause-no_fault : goal.returns-in-Ok-clause-no_fault
-returns-in-Ok-clause-no_fault g c = λ other. c.in-Ok.ensures.no_read_fault (done_no_read c.in-Ok.pumped)
+returns-in-Ok-clause-fault g c = record {
+  later = c.in-Ok.ensures.read_fault.later;
+  rose = λ e. absurd (reached_is_not c.resumed.result _ c.args.at _ _ c.resumed.ensures.answer second_is_not_past e);
+  same = λ other. c.in-Ok.ensures.read_fault.same (done_no_read c.in-Ok.pumped);
+}
 
 pub returns-in-Ok-clause-accepted : goal.returns-in-Ok-clause-accepted
 returns-in-Ok-clause-accepted g c = c.resumed.ensures.accepted
@@ -100,14 +98,12 @@ returns-in-ReadFault-clause-answer g c = fault_by _ (checkpoint_in c.args.self.n
 pub returns-in-ReadFault-clause-file : goal.returns-in-ReadFault-clause-file
 returns-in-ReadFault-clause-file g c = c.begin_again.ensures.file
 
-pub returns-in-ReadFault-clause-later : goal.returns-in-ReadFault-clause-later
-returns-in-ReadFault-clause-later g c = c.in-Err.ensures.source_later
-
 pub returns-in-ReadFault-clause-fault : goal.returns-in-ReadFault-clause-fault
-returns-in-ReadFault-clause-fault g c = λ e. let (taken, w) = c.in-Err.ensures.watches in c.in-Err.ensures.read_fault (is_read c.in-Err.stop c.in-ReadFault.is w.no_write)
-
-pub returns-in-ReadFault-clause-no_fault : goal.returns-in-ReadFault-clause-no_fault
-returns-in-ReadFault-clause-no_fault g c = λ other. absurd (other refl)
+returns-in-ReadFault-clause-fault g c = record {
+  later = c.in-Err.ensures.read_fault.later;
+  rose = λ e. let (taken, w) = c.in-Err.ensures.watches in c.in-Err.ensures.read_fault.rose (is_read c.in-Err.stop c.in-ReadFault.is w.no_write);
+  same = λ other. absurd (other refl);
+}
 
 pub returns-in-ReadFault-clause-ended : goal.returns-in-ReadFault-clause-ended
 returns-in-ReadFault-clause-ended g c = let (taken, w) = c.in-Err.ensures.watches in read_told c.in-Err.stop _ _ (is_read c.in-Err.stop c.in-ReadFault.is w.no_write) c.in-Err.ensures.ended
@@ -124,14 +120,12 @@ returns-in-ReadFault-clause-accepted g c = refl
 pub returns-in-Torn-clause-file : goal.returns-in-Torn-clause-file
 returns-in-Torn-clause-file g c = c.begin_again.ensures.file
 
-pub returns-in-Torn-clause-later : goal.returns-in-Torn-clause-later
-returns-in-Torn-clause-later g c = c.in-Err.ensures.source_later
-
 pub returns-in-Torn-clause-fault : goal.returns-in-Torn-clause-fault
-returns-in-Torn-clause-fault g c = λ e. absurd (torn_no_second _ e)
-
-pub returns-in-Torn-clause-no_fault : goal.returns-in-Torn-clause-no_fault
-returns-in-Torn-clause-no_fault g c = λ other. c.in-Err.ensures.no_read_fault (torn_no_read c.in-Err.stop c.in-Torn.unit c.in-Torn.is)
+returns-in-Torn-clause-fault g c = record {
+  later = c.in-Err.ensures.read_fault.later;
+  rose = λ e. absurd (torn_no_second _ e);
+  same = λ other. c.in-Err.ensures.read_fault.same (torn_no_read c.in-Err.stop c.in-Torn.unit c.in-Torn.is);
+}
 
 pub returns-in-Torn-clause-ended : goal.returns-in-Torn-clause-ended
 returns-in-Torn-clause-ended g c = torn_told c.in-Err.stop c.in-Torn.unit _ _ c.in-Torn.is c.in-Err.ensures.ended
@@ -151,14 +145,12 @@ returns-in-TooLong-clause-answer g c = long_by (checkpoint_in c.args.self.now.fi
 pub returns-in-TooLong-clause-file : goal.returns-in-TooLong-clause-file
 returns-in-TooLong-clause-file g c = c.begin_again.ensures.file
 
-pub returns-in-TooLong-clause-later : goal.returns-in-TooLong-clause-later
-returns-in-TooLong-clause-later g c = c.in-Err.ensures.source_later
-
 pub returns-in-TooLong-clause-fault : goal.returns-in-TooLong-clause-fault
-returns-in-TooLong-clause-fault g c = λ e. absurd (long_no_second e)
-
-pub returns-in-TooLong-clause-no_fault : goal.returns-in-TooLong-clause-no_fault
-returns-in-TooLong-clause-no_fault g c = λ other. c.in-Err.ensures.no_read_fault (long_no_read c.in-Err.stop c.in-TooLong.is)
+returns-in-TooLong-clause-fault g c = record {
+  later = c.in-Err.ensures.read_fault.later;
+  rose = λ e. absurd (long_no_second e);
+  same = λ other. c.in-Err.ensures.read_fault.same (long_no_read c.in-Err.stop c.in-TooLong.is);
+}
 
 pub returns-in-TooLong-clause-ended : goal.returns-in-TooLong-clause-ended
 returns-in-TooLong-clause-ended g c = long_told c.in-Err.stop _ _ c.in-TooLong.is c.in-Err.ensures.ended

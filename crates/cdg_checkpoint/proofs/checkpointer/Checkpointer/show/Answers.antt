@@ -48,8 +48,12 @@ returns-in-Ok-write_ppm-clause-file g c = c.in-Ok.ensures.file
 pub returns-in-Ok-write_ppm-clause-accepted : goal.returns-in-Ok-write_ppm-clause-accepted
 returns-in-Ok-write_ppm-clause-accepted g c = refl
 
-pub returns-in-Ok-write_ppm-clause-rest_later : goal.returns-in-Ok-write_ppm-clause-rest_later
-returns-in-Ok-write_ppm-clause-rest_later g c = c.in-Ok.ensures.later
+pub returns-in-Ok-write_ppm-clause-second_fault : goal.returns-in-Ok-write_ppm-clause-second_fault
+returns-in-Ok-write_ppm-clause-second_fault g c = record {
+  later = c.in-Ok.ensures.fault.later;
+  rose = λ e. absurd (done_no_stop c.in-Ok.resumed SecondFault e);
+  same = λ other. c.in-Ok.ensures.fault.same (done_no_stop c.in-Ok.resumed SecondFault);
+}
 
 pub returns-in-Ok-write_ppm-clause-no_first : goal.returns-in-Ok-write_ppm-clause-no_first
 returns-in-Ok-write_ppm-clause-no_first g c = done_no_stop c.in-Ok.resumed FirstFault
@@ -57,20 +61,12 @@ returns-in-Ok-write_ppm-clause-no_first g c = done_no_stop c.in-Ok.resumed First
 pub returns-in-Ok-write_ppm-clause-untouched : goal.returns-in-Ok-write_ppm-clause-untouched
 returns-in-Ok-write_ppm-clause-untouched g c = tt
 
-pub returns-in-Ok-write_ppm-clause-out_later : goal.returns-in-Ok-write_ppm-clause-out_later
-returns-in-Ok-write_ppm-clause-out_later g c = c.in-Ok-write_ppm.ensures.cause.later
-
-pub returns-in-Ok-write_ppm-clause-second_fault : goal.returns-in-Ok-write_ppm-clause-second_fault
-returns-in-Ok-write_ppm-clause-second_fault g c = λ e. absurd (done_no_stop c.in-Ok.resumed SecondFault e)
-
-pub returns-in-Ok-write_ppm-clause-no_second_fault : goal.returns-in-Ok-write_ppm-clause-no_second_fault
-returns-in-Ok-write_ppm-clause-no_second_fault g c = λ other. c.in-Ok.ensures.no_fault (done_no_stop c.in-Ok.resumed SecondFault)
-
 pub returns-in-Ok-write_ppm-clause-write_fault : goal.returns-in-Ok-write_ppm-clause-write_fault
-returns-in-Ok-write_ppm-clause-write_fault g c = λ e. absurd (done_no_stop c.in-Ok.resumed WriteFault e)
-
-pub returns-in-Ok-write_ppm-clause-no_write_fault : goal.returns-in-Ok-write_ppm-clause-no_write_fault
-returns-in-Ok-write_ppm-clause-no_write_fault g c = λ other. c.in-Ok-write_ppm.ensures.cause.same
+returns-in-Ok-write_ppm-clause-write_fault g c = record {
+  later = c.in-Ok-write_ppm.ensures.cause.later;
+  rose = λ e. absurd (done_no_stop c.in-Ok.resumed WriteFault e);
+  same = λ other. c.in-Ok-write_ppm.ensures.cause.same;
+}
 
 pub returns-in-Ok-write_ppm-clause-rest_told : goal.returns-in-Ok-write_ppm-clause-rest_told
 returns-in-Ok-write_ppm-clause-rest_told g c = c.in-Ok.ensures.ended
@@ -81,8 +77,12 @@ returns-in-Err-write_ppm-clause-file g c = c.in-Ok.ensures.file
 pub returns-in-Err-write_ppm-clause-accepted : goal.returns-in-Err-write_ppm-clause-accepted
 returns-in-Err-write_ppm-clause-accepted g c = refl
 
-pub returns-in-Err-write_ppm-clause-rest_later : goal.returns-in-Err-write_ppm-clause-rest_later
-returns-in-Err-write_ppm-clause-rest_later g c = c.in-Ok.ensures.later
+pub returns-in-Err-write_ppm-clause-second_fault : goal.returns-in-Err-write_ppm-clause-second_fault
+returns-in-Err-write_ppm-clause-second_fault g c = record {
+  later = c.in-Ok.ensures.fault.later;
+  rose = λ e. absurd (write_no_second e);
+  same = λ other. c.in-Ok.ensures.fault.same (done_no_stop c.in-Ok.resumed SecondFault);
+}
 
 pub returns-in-Err-write_ppm-clause-no_first : goal.returns-in-Err-write_ppm-clause-no_first
 returns-in-Err-write_ppm-clause-no_first g c = write_no_first
@@ -93,20 +93,12 @@ returns-in-Err-write_ppm-clause-answer g c = unwritten_by _ (checkpoint_in c.arg
 pub returns-in-Err-write_ppm-clause-untouched : goal.returns-in-Err-write_ppm-clause-untouched
 returns-in-Err-write_ppm-clause-untouched g c = λ other. absurd (other refl)
 
-pub returns-in-Err-write_ppm-clause-out_later : goal.returns-in-Err-write_ppm-clause-out_later
-returns-in-Err-write_ppm-clause-out_later g c = c.in-Err-write_ppm.ensures.cause.later
-
-pub returns-in-Err-write_ppm-clause-second_fault : goal.returns-in-Err-write_ppm-clause-second_fault
-returns-in-Err-write_ppm-clause-second_fault g c = λ e. absurd (write_no_second e)
-
-pub returns-in-Err-write_ppm-clause-no_second_fault : goal.returns-in-Err-write_ppm-clause-no_second_fault
-returns-in-Err-write_ppm-clause-no_second_fault g c = λ other. c.in-Ok.ensures.no_fault (done_no_stop c.in-Ok.resumed SecondFault)
-
 pub returns-in-Err-write_ppm-clause-write_fault : goal.returns-in-Err-write_ppm-clause-write_fault
-returns-in-Err-write_ppm-clause-write_fault g c = λ e. c.in-Err-write_ppm.ensures.cause.failed
-
-pub returns-in-Err-write_ppm-clause-no_write_fault : goal.returns-in-Err-write_ppm-clause-no_write_fault
-returns-in-Err-write_ppm-clause-no_write_fault g c = λ other. absurd (other refl)
+returns-in-Err-write_ppm-clause-write_fault g c = record {
+  later = c.in-Err-write_ppm.ensures.cause.later;
+  rose = λ e. c.in-Err-write_ppm.ensures.cause.failed;
+  same = λ other. absurd (other refl);
+}
 
 pub returns-in-Err-write_ppm-clause-rest_told : goal.returns-in-Err-write_ppm-clause-rest_told
 returns-in-Err-write_ppm-clause-rest_told g c = c.in-Ok.ensures.ended
@@ -120,20 +112,12 @@ returns-in-Err-clause-no_first g c = c.in-Err.ensures.no_first
 pub returns-in-Err-clause-untouched : goal.returns-in-Err-clause-untouched
 returns-in-Err-clause-untouched g c = λ other. refl
 
-pub returns-in-Err-clause-rest_later : goal.returns-in-Err-clause-rest_later
-returns-in-Err-clause-rest_later g c = c.in-Err.ensures.later
-
-pub returns-in-Err-clause-out_later : goal.returns-in-Err-clause-out_later
-returns-in-Err-clause-out_later g c = no_less _
-
 pub returns-in-Err-clause-second_fault : goal.returns-in-Err-clause-second_fault
 returns-in-Err-clause-second_fault g c = c.in-Err.ensures.fault
 
-pub returns-in-Err-clause-no_second_fault : goal.returns-in-Err-clause-no_second_fault
-returns-in-Err-clause-no_second_fault g c = c.in-Err.ensures.no_fault
-
 pub returns-in-Err-clause-write_fault : goal.returns-in-Err-clause-write_fault
-returns-in-Err-clause-write_fault g c = λ e. absurd (c.in-Err.ensures.no_write e)
-
-pub returns-in-Err-clause-no_write_fault : goal.returns-in-Err-clause-no_write_fault
-returns-in-Err-clause-no_write_fault g c = λ other. refl
+returns-in-Err-clause-write_fault g c = record {
+  later = no_less _;
+  rose = λ e. absurd (c.in-Err.ensures.no_write e);
+  same = λ other. refl;
+}

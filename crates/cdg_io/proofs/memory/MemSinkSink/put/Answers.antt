@@ -1,5 +1,6 @@
 use Rattle.std.proofs.Common.{◌≡◌, ◌+◌, ◌-◌, ◌^◌, min, ap, ◌∙◌, arith}
 use Rattle.cdg_io.specs.Memory.{SinkInMemory, next_number}
+use Rattle.cdg_io.proofs.Stops.{rose_by_one}
 use Rattle.cdg_io.proofs.memory.MemSinkSink.put.Goals as goal
 
 -- ---- The call fails.
@@ -16,7 +17,7 @@ returns-then-room-eq0-clause-counted c = c.saturating_add-self-inside-then-room-
 pub returns-then-room-eq0-clause-cause : goal.returns-then-room-eq0-clause-cause
 returns-then-room-eq0-clause-cause c =
     let same : c.self.inside.faults ≡ c.args.self.now.faults = ap (λ (v : SinkInMemory). v.faults) c.self.view_is in
-    record { later = omega (arith, same); failed = returns-then-room-eq0-clause-counted c; same = tt }
+    record { later = omega (arith, same); failed = rose_by_one _ _ (returns-then-room-eq0-clause-counted c); same = tt }
 
 pub returns-then-room-eq0-clause-takes : goal.returns-then-room-eq0-clause-takes
 returns-then-room-eq0-clause-takes c = tt

@@ -2,7 +2,7 @@ use Rattle.std.proofs.Common.{◌++◌, [], length, sym, ap, ◌∙◌, refl, su
 use Rattle.std.specs.Prelude.{Bool, Err}
 use Rattle.std.specs.Io.KnownBytes.{Appends}
 use Rattle.rw_merge.specs.Merging.{TellsFirst, TellsSecond}
-use Rattle.cdg_io.proofs.Stops.{later_since, rose_since}
+use Rattle.cdg_io.proofs.Stops.{later_since, rose_once_since, rose_since}
 use Rattle.rw_merge.proofs.Faults.{counted_last}
 use Rattle.rw_merge.proofs.Stops.{first_at_end, first_at_end_after, first_told, first_told_after, second_at_end, second_at_end_after, second_told, second_told_after, write_answer}
 use Rattle.rw_merge.proofs.Working.{both_end, both_of_whole, end_of_whole, end_stops, pair_found, pair_of_whole, pair_stops, skipped_as, works_more, works_none, write_stops}
@@ -129,8 +129,8 @@ returns-in-Ok-false-clause-ends g c =
     let told = rw c.in-Ok-false.field-0-test at c.in-Ok-false.ensures.told in (
       read.2,
       read.3,
-      rose_since c.loop-block.invariant.first_told told.0,
-      rose_since c.loop-block.invariant.second_told told.1,
+      rose_once_since c.loop-block.invariant.first_told told.0,
+      rose_once_since c.loop-block.invariant.second_told told.1,
     )
 
 pub returns-in-Err-clause-faults : goal.returns-in-Err-clause-faults
@@ -158,8 +158,8 @@ returns-in-Ok-nothing_follows-clause-ends g c =
     let told = c.in-Ok-nothing_follows.ensures.told in (
       read.2,
       read.3,
-      rose_since c.loop-block.invariant.first_told told.0,
-      rose_since c.loop-block.invariant.second_told told.1,
+      rose_once_since c.loop-block.invariant.first_told told.0,
+      rose_once_since c.loop-block.invariant.second_told told.1,
     )
 
 pub returns-in-Err-nothing_follows-clause-faults : goal.returns-in-Err-nothing_follows-clause-faults

@@ -27,29 +27,23 @@ returns-clause-first_told g c = c.merge_pairs.ensures.ends.2
 pub returns-clause-second_told : goal.returns-clause-second_told
 returns-clause-second_told g c = c.merge_pairs.ensures.ends.3
 
-pub returns-clause-first_later : goal.returns-clause-first_later
-returns-clause-first_later g c = (first_counted c.merge_pairs.result _ _ _ c.merge_pairs.ensures.faults).later
-
 pub returns-clause-first_fault : goal.returns-clause-first_fault
-returns-clause-first_fault g c = (first_counted c.merge_pairs.result _ _ _ c.merge_pairs.ensures.faults).fault
-
-pub returns-clause-no_first_fault : goal.returns-clause-no_first_fault
-returns-clause-no_first_fault g c = (first_counted c.merge_pairs.result _ _ _ c.merge_pairs.ensures.faults).no_fault
-
-pub returns-clause-second_later : goal.returns-clause-second_later
-returns-clause-second_later g c = (second_counted c.merge_pairs.result _ _ _ c.merge_pairs.ensures.faults).later
+returns-clause-first_fault g c = record {
+  later = (first_counted c.merge_pairs.result _ _ _ c.merge_pairs.ensures.faults).later;
+  rose = (first_counted c.merge_pairs.result _ _ _ c.merge_pairs.ensures.faults).fault;
+  same = (first_counted c.merge_pairs.result _ _ _ c.merge_pairs.ensures.faults).no_fault;
+}
 
 pub returns-clause-second_fault : goal.returns-clause-second_fault
-returns-clause-second_fault g c = (second_counted c.merge_pairs.result _ _ _ c.merge_pairs.ensures.faults).fault
-
-pub returns-clause-no_second_fault : goal.returns-clause-no_second_fault
-returns-clause-no_second_fault g c = (second_counted c.merge_pairs.result _ _ _ c.merge_pairs.ensures.faults).no_fault
-
-pub returns-clause-out_later : goal.returns-clause-out_later
-returns-clause-out_later g c = (out_counted c.merge_pairs.result _ _ _ c.merge_pairs.ensures.faults).later
+returns-clause-second_fault g c = record {
+  later = (second_counted c.merge_pairs.result _ _ _ c.merge_pairs.ensures.faults).later;
+  rose = (second_counted c.merge_pairs.result _ _ _ c.merge_pairs.ensures.faults).fault;
+  same = (second_counted c.merge_pairs.result _ _ _ c.merge_pairs.ensures.faults).no_fault;
+}
 
 pub returns-clause-write_fault : goal.returns-clause-write_fault
-returns-clause-write_fault g c = (out_counted c.merge_pairs.result _ _ _ c.merge_pairs.ensures.faults).fault
-
-pub returns-clause-no_write_fault : goal.returns-clause-no_write_fault
-returns-clause-no_write_fault g c = (out_counted c.merge_pairs.result _ _ _ c.merge_pairs.ensures.faults).no_fault
+returns-clause-write_fault g c = record {
+  later = (out_counted c.merge_pairs.result _ _ _ c.merge_pairs.ensures.faults).later;
+  rose = (out_counted c.merge_pairs.result _ _ _ c.merge_pairs.ensures.faults).fault;
+  same = (out_counted c.merge_pairs.result _ _ _ c.merge_pairs.ensures.faults).no_fault;
+}

@@ -23,9 +23,9 @@ returns-in-Err-clause-answer g c = checked_stop (unit_size c.args.form) _ _ _ c.
 pub returns-in-Ok-clause-faults : goal.returns-in-Ok-clause-faults
 returns-in-Ok-clause-faults g c =
     let cause = c.write_counts.ensures.cause in
-    counts_told _ _ _ _ c.in-Ok.ensures.source_later cause.later c.in-Ok.pumped c.write_counts.result _ c.in-Ok.ensures.no_read_fault cause c.write_counts.ensures.part
+    counts_told _ _ _ _ c.in-Ok.ensures.read_fault.later cause.later c.in-Ok.pumped c.write_counts.result _ c.in-Ok.ensures.read_fault.same cause c.write_counts.ensures.part
 
 pub returns-in-Err-clause-faults : goal.returns-in-Err-clause-faults
 returns-in-Err-clause-faults g c =
     let (taken, w) = c.in-Err.ensures.watches in
-    unread _ _ _ c.in-Err.ensures.source_later _ _ c.play_stop.ensures w.no_write c.in-Err.ensures.read_fault c.in-Err.ensures.no_read_fault
+    unread _ _ _ c.in-Err.ensures.read_fault.later _ _ c.play_stop.ensures w.no_write c.in-Err.ensures.read_fault.rose c.in-Err.ensures.read_fault.same

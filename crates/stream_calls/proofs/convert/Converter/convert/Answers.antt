@@ -39,12 +39,12 @@ returns-in-Err-clause-restores g c =
 pub returns-in-Ok-clause-faults : goal.returns-in-Ok-clause-faults
 returns-in-Ok-clause-faults g c =
     let read = c.in-Ok.ensures in
-    done_told _ _ _ _ read.source_later read.out_later _ _ read.no_read_fault read.no_write_fault
+    done_told _ _ _ _ read.read_fault.later read.write_fault.later _ _ read.read_fault.same read.write_fault.same
 
 pub returns-in-Err-clause-faults : goal.returns-in-Err-clause-faults
 returns-in-Err-clause-faults g c =
     let read = c.in-Err.ensures in
-    stop_told _ _ _ _ read.source_later read.out_later _ _ c.play_stop.ensures read.read_fault read.no_read_fault read.write_fault read.no_write_fault
+    stop_told _ _ _ _ read.read_fault.later read.write_fault.later _ _ c.play_stop.ensures read.read_fault.rose read.read_fault.same read.write_fault.rose read.write_fault.same
 
 pub returns-in-Ok-clause-answer : goal.returns-in-Ok-clause-answer
 returns-in-Ok-clause-answer g c = answered_done (unit_size c.args.form) _ c.played.result _ c.in-Ok.ensures.answer

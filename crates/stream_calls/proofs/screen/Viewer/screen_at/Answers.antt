@@ -23,14 +23,14 @@ returns-in-Err-clause-shows g c =
 pub returns-in-Ok-write_ppm-clause-faults : goal.returns-in-Ok-write_ppm-clause-faults
 returns-in-Ok-write_ppm-clause-faults g c =
     let cause = c.in-Ok-write_ppm.ensures.cause in
-    shown_told _ _ _ _ c.in-Ok.ensures.source_later cause.later _ _ c.in-Ok.ensures.no_read_fault cause.same
+    shown_told _ _ _ _ c.in-Ok.ensures.read_fault.later cause.later _ _ c.in-Ok.ensures.read_fault.same cause.same
 
 pub returns-in-Err-write_ppm-clause-faults : goal.returns-in-Err-write_ppm-clause-faults
 returns-in-Err-write_ppm-clause-faults g c =
     let cause = c.in-Err-write_ppm.ensures.cause in
-    cut_told _ _ _ _ c.in-Ok.ensures.source_later cause.later _ c.in-Ok.ensures.no_read_fault cause.failed
+    cut_told _ _ _ _ c.in-Ok.ensures.read_fault.later cause.later _ c.in-Ok.ensures.read_fault.same cause.failed
 
 pub returns-in-Err-clause-faults : goal.returns-in-Err-clause-faults
 returns-in-Err-clause-faults g c =
     let (taken, v) = c.in-Err.ensures.views in
-    unread_view _ _ _ c.in-Err.ensures.source_later _ v.no_write c.in-Err.ensures.read_fault c.in-Err.ensures.no_read_fault
+    unread_view _ _ _ c.in-Err.ensures.read_fault.later _ v.no_write c.in-Err.ensures.read_fault.rose c.in-Err.ensures.read_fault.same

@@ -18,12 +18,12 @@ returns-in-Ok-clause-answer g c =
 pub returns-in-Ok-clause-faults : goal.returns-in-Ok-clause-faults
 returns-in-Ok-clause-faults g c =
     let wrote = c.write_texts.ensures in
-    texts_told _ _ _ _ c.in-Ok.ensures.source_later wrote.later c.watch.new.stages.blocks _ (g.K.Sink.held c.args.out.now) (g.K.Sink.held c.write_texts.new.out) c.in-Ok.pumped c.write_texts.result wrote.writes c.in-Ok.ensures.no_read_fault wrote.write_fault wrote.no_write_fault
+    texts_told _ _ _ _ c.in-Ok.ensures.read_fault.later wrote.write_fault.later c.watch.new.stages.blocks _ (g.K.Sink.held c.args.out.now) (g.K.Sink.held c.write_texts.new.out) c.in-Ok.pumped c.write_texts.result wrote.writes c.in-Ok.ensures.read_fault.same wrote.write_fault.rose wrote.write_fault.same
 
 pub returns-in-Err-clause-faults : goal.returns-in-Err-clause-faults
 returns-in-Err-clause-faults g c =
     let (taken, w) = c.in-Err.ensures.watches in
-    unread _ _ _ c.in-Err.ensures.source_later _ _ c.play_stop.ensures w.no_write c.in-Err.ensures.read_fault c.in-Err.ensures.no_read_fault
+    unread _ _ _ c.in-Err.ensures.read_fault.later _ _ c.play_stop.ensures w.no_write c.in-Err.ensures.read_fault.rose c.in-Err.ensures.read_fault.same
 
 pub returns-in-Ok-clause-stops : goal.returns-in-Ok-clause-stops
 returns-in-Ok-clause-stops g c = stops_list c.watch.new.stages.blocks _ (g.K.Sink.held c.args.out.now) (g.K.Sink.held c.write_texts.new.out) c.write_texts.result c.write_texts.ensures.writes

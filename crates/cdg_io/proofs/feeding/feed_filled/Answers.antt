@@ -1,7 +1,7 @@
 use Rattle.std.proofs.Common.{◌≡◌, length, take, refl, arith, rules, length-take-le}
 use Rattle.cdg_io.proofs.Stops.{failed_cause, failed_end, failed_room, if_no_value, on_err}
 use Rattle.cdg_io.proofs.PumpSteps.{Consumes-filled}
-use Rattle.cdg_io.proofs.pumping.feed_filled.Goals as goal
+use Rattle.cdg_io.proofs.feeding.feed_filled.Goals as goal
 
 pub returns-then-filled-clause-feeds : goal.returns-then-filled-clause-feeds
 returns-then-filled-clause-feeds g c =
