@@ -10,7 +10,8 @@ RATE, CHANNELS, SAMPLE_BYTES = 44_100, 2, 2
 # The audio of a block.
 FRAMES_A_BLOCK = RATE // 75
 SECTOR_AUDIO = FRAMES_A_BLOCK * CHANNELS * SAMPLE_BYTES
-REMEDY = "a disc takes 44,100 Hz, 2 channels, 16 bits: `ffmpeg -i IN -ar 44100 -ac 2 -c:a pcm_s16le OUT.wav` makes such a one"
+REMEDY = ("a disc takes 44,100 Hz, 2 channels, 16 bits, and `ffmpeg -i IN -ar 44100 -ac 2 -c:a pcm_s16le OUT.wav` "
+          "makes such a one")
 
 
 def opened(path: Path) -> wave.Wave_read:

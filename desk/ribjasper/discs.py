@@ -1,5 +1,5 @@
-"""What a cue sheet says of its disc. The sheet is never read here: the library answers for it and for its beginnings, and
-the rest stands in the lead-in of the stream that the program authors of it."""
+"""What a cue sheet says of its disc. The sheet is never read here: the library answers for it and for its beginnings,
+and the rest stands in the lead-in of the stream that the program authors of it."""
 import re
 from dataclasses import dataclass, field
 from pathlib import Path
@@ -19,8 +19,8 @@ COPY, PRE_EMPHASIS, FOUR_CHANNELS = 2, 1, 8
 
 @dataclass
 class Track:
-    """A track: blocks of the program for where it begins, for its indices from 01 on, and for where it ends; the silence
-    before and behind it; the control bits of its frames; and its texts by their kinds."""
+    """A track: blocks of the program for where it begins, for its indices from 01 on, and for where it ends; the
+    silence before and behind it; the control bits of its frames; and its texts by their kinds."""
 
     number: int
     begin: int
@@ -53,8 +53,8 @@ class Disc:
 
 @dataclass
 class Beginning:
-    """The first lines of a sheet, which are a sheet of their own: the file time of the last index, and the blocks of all
-    gaps."""
+    """The first lines of a sheet, which are a sheet of their own: the file time of the last index, and the blocks of
+    all gaps."""
 
     lines: int
     last_index: int
@@ -94,8 +94,8 @@ class Asked:
 
 
 def tracks_of(asked: Asked) -> list[tuple[Track, int]]:
-    """The tracks with their indices, as far as the beginnings of the sheet tell them; and how many lines come before each
-    index 01."""
+    """The tracks with their indices, as far as the beginnings of the sheet tell them; and how many lines come before
+    each index 01."""
     tracks: list[tuple[Track, int]] = []
     before = Beginning(0, -1, 0)
     for one in asked.beginnings():

@@ -30,8 +30,10 @@ def add_parser(commands) -> None:
     parser.add_argument("-o", "--output", type=Path, metavar="OUT.mp4", help="the film")
     parser.add_argument("--audio", type=Path, metavar="WAV", help="the audio of the film")
     parser.add_argument("--rate", type=number_in(1, 75), default=25, metavar="N", help="frames a second (25)")
-    parser.add_argument("--scale", type=number_in(1, 8), default=3, metavar="N", help="how much larger (3: 900 by 648)")
-    parser.add_argument("--lossless", action="store_true", help="keep each pixel as it is; fewer programs play such films")
+    parser.add_argument("--scale", type=number_in(1, 8), default=3, metavar="N",
+                        help="how much larger (3: 900 by 648)")
+    parser.add_argument("--lossless", action="store_true",
+                        help="keep each pixel as it is; fewer programs play such films")
     parser.add_argument("--stills", type=Path, metavar="OUT.png",
                         help="a page with each picture that stands for a fifth of a second, and its time")
     parser.add_argument("--every", type=float, metavar="SECONDS", help="a still for each so many seconds")
@@ -56,9 +58,9 @@ def film_words(arguments: argparse.Namespace, out: str) -> list[str]:
     size, scale = f"{WIDTH}x{HEIGHT}", arguments.scale
     coding = ["-c:v", "libx264rgb", "-qp", "0"] if arguments.lossless else ["-crf", "16", "-pix_fmt", "yuv420p"]
     sound = ["-i", os.fspath(arguments.audio), "-map", "0:v", "-map", "1:a"] if arguments.audio else []
-    return ["ffmpeg", "-v", "error", "-y", "-f", "rawvideo", "-pix_fmt", "rgb24", "-s", size, "-r", str(arguments.rate),
-            "-i", "pipe:0", *sound, "-vf", f"scale=iw*{scale}:ih*{scale}:flags=neighbor", *coding,
-            "-movflags", "+faststart", out]
+    frames = ["-f", "rawvideo", "-pix_fmt", "rgb24", "-s", size, "-r", str(arguments.rate), "-i", "pipe:0"]
+    larger = ["-vf", f"scale=iw*{scale}:ih*{scale}:flags=neighbor"]
+    return ["ffmpeg", "-v", "error", "-y", *frames, *sound, *larger, *coding, "-movflags", "+faststart", out]
 
 
 @contextlib.contextmanager

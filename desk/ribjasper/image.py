@@ -162,8 +162,8 @@ def cue_of(disc: Disc, name: str) -> bytes:
 
 def warn(arguments: argparse.Namespace, disc: Disc, program: bytes) -> None:
     if loses_pictures(program):
-        tell(f"{arguments.stream}: what is sent in the first pause is not on an image, and the pictures that need it will "
-             "not be whole; --hold-through-pause SCRIPT puts a black picture before them")
+        tell(f"{arguments.stream}: what is sent in the first pause is not on an image, and the pictures that need it "
+             "will not be whole; --hold-through-pause SCRIPT puts a black picture before them")
     for track in disc.tracks:
         if track.end - track.indices[0] < SHORTEST_TRACK:
             tell(f"{arguments.sheet}: track {track.number} is shorter than four seconds; burners may refuse it")

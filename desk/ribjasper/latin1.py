@@ -1,5 +1,5 @@
-"""Texts of a disc that are not ASCII. The character code of the texts is 00, which players read as Latin-1 (ISO 8859-1),
-and the bytes of a sheet go onto the disc as they are."""
+"""Texts of a disc that are not ASCII. The character code of the texts is 00, which players read as Latin-1 (ISO
+8859-1), and the bytes of a sheet go onto the disc as they are."""
 import re
 import unicodedata
 from pathlib import Path
@@ -30,8 +30,8 @@ def warn(path: Path, sheet: bytes) -> None:
 
 
 def as_latin_1(path: Path, sheet: bytes) -> bytes:
-    """The sheet with its texts as players expect them, or a refusal that names the line which cannot be said so. A line
-    that is no UTF-8 is taken to be Latin-1 already."""
+    """The sheet with its texts as players expect them, or a refusal that names the line which cannot be said so. A
+    line that is no UTF-8 is taken to be Latin-1 already."""
     lines = sheet.removeprefix(b"\xef\xbb\xbf").split(b"\n")
     for number, line in lines_beyond_ascii(b"\n".join(lines)):
         try:

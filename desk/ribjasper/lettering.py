@@ -82,7 +82,7 @@ def words_of(line: Line) -> list[list[Syllable]]:
     words: list[list[Syllable]] = []
     is_new = True
     for syllable in line.syllables:
-        for text in PIECE.findall(syllable.text):
+        for text in PIECE.findall(re.sub(r"\s+", " ", syllable.text)):
             if is_new or text[0].isspace():
                 words.append([])
             words[-1].append(Syllable(text, syllable.start, syllable.end))
@@ -108,8 +108,8 @@ def wrapped(line: Line, font: Font) -> list[list[list[Syllable]]]:
 
 
 def sung_later(rows: list[list[list[Syllable]]]) -> list[list[list[Syllable]]]:
-    """The same rows; where one time is told for words that stand on several of them, those on a later row are sung later,
-    as far as the letters before them tell."""
+    """The same rows; where one time is told for words that stand on several of them, those on a later row are sung
+    later, as far as the letters before them tell."""
     for number, row in enumerate(rows[:-1]):
         told = row[-1][-1]
         here = [syllable for word in row for syllable in word if syllable.start == told.start]

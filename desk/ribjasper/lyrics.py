@@ -34,9 +34,9 @@ ROUNDS = 8
 def add_parser(commands) -> None:
     parser = commands.add_parser(
         "lyrics", help="make a picture script of a song",
-        description="Makes a picture script of lyrics with times: LRC with times of lines or of words, or ASS with \\k "
-        "times. Words light up when they are sung; a page has four lines, and the next one is drawn while the last is "
-        "still sung. Nothing of the script is late; what cannot be shown at its time is told with its line.")
+        description="Makes a picture script of lyrics with times: LRC with times of lines or of words, or ASS with "
+        "\\k times. Words light up when they are sung; a page has four rows, and the next one is drawn while the last "
+        "is still sung. Nothing of the script is late; what cannot be shown at its time is told with its line.")
     parser.add_argument("song", type=Path, metavar="SONG", help="the lyrics: SONG.lrc or SONG.ass")
     parser.add_argument("--title", type=Path, metavar="IMAGE", help="a picture that stands before the first words")
     parser.add_argument("--font", type=Path, metavar="FILE", help="a font (DejaVu Sans Bold)")
@@ -98,8 +98,8 @@ def title_text(song: Song, font: Font, style: Style) -> Raster | None:
 
 
 def tasks_of(pages: list[list[Placed]], begin: int) -> list[Task]:
-    """What is to be drawn, and from when on: not before what stood there is sung, and four rows ahead at most; and what
-    stays without need goes."""
+    """What is to be drawn, and from when on: not before what stood there is sung, and four rows ahead at most; and
+    what stays without need goes."""
     tasks, rows = [], []
     for placed in (placed for page in pages for placed in page):
         due = times.nearest_block(placed.start)
@@ -119,8 +119,8 @@ def font_for(song: Song, arguments: argparse.Namespace) -> Font:
     for line in song.lines:
         if missing := fonts[0].missing(line.text):
             letters = ", ".join(f"{letter} (U+{ord(letter):04X})" for letter in sorted(missing))
-            raise Refusal(arguments.song, f"line {line.number}: the font {fonts[0].path} has no {letters}; --font names "
-                          "another")
+            told = f"line {line.number}: the font {fonts[0].path} has no {letters}; --font names another"
+            raise Refusal(arguments.song, told)
     rows = {font: sum(len(wrapped(line, font)) for line in song.lines) for font in fonts}
     return next(font for font in fonts if rows[font] <= MORE_ROWS * min(rows.values()))
 
@@ -136,7 +136,8 @@ class Maker:
                             for due in dues_of(placed, arguments.sweep)), key=lambda due: due.block)
         ask_needs(steps_of(self.pages, self.dues), self.style.empty())
         self.first = self.dues[0].block
-        self.page_begin = self.first - BEFORE_FIRST - blocks_for([step for placed in self.pages[0] for step in placed.draws])
+        first_page = [step for placed in self.pages[0] for step in placed.draws]
+        self.page_begin = self.first - BEFORE_FIRST - blocks_for(first_page)
         self.title = self.title_steps()
         self.empty = Show(self.style.empty())
         ask_needs([self.empty], self.title[0].picture if self.title else Raster())
@@ -203,16 +204,18 @@ def within(pictures: list[Picture], end: int | None) -> list[Picture]:
     return [picture for picture in pictures if end is None or picture.ready <= end or not only_clears(picture)]
 
 
-def tell_late(song: Song, path: Path, told: Told) -> None:
-    """A line for each line of the song that cannot be shown at its time."""
+def tell_late(path: Path, told: Told) -> None:
+    """A line for each row of the song that cannot be shown at its time."""
+    def tell_of(placed: Placed, what: str) -> None:
+        tell(f"{path}: line {placed.letters.line.number} {what}: {placed.text()}")
+
     for placed in told.lost:
-        tell(f"{path}: line {placed.letters.line.number} is not sung out when another has to come in its place: {placed.text()}")
+        tell_of(placed, "is not sung out when another has to come in its place")
     for placed, blocks in told.drawn_late.items():
-        tell(f"{path}: line {placed.letters.line.number} is drawn {blocks / SECOND:.2f} seconds after it begins: {placed.text()}")
+        tell_of(placed, f"is drawn {blocks / SECOND:.2f} seconds after it begins")
     for placed, blocks in told.lit_late.items():
         if placed not in told.drawn_late:
-            tell(f"{path}: line {placed.letters.line.number} has words that are lit up to {blocks / SECOND:.2f} seconds late: "
-                 f"{placed.text()}")
+            tell_of(placed, f"has words that are lit up to {blocks / SECOND:.2f} seconds late")
 
 
 def run(arguments: argparse.Namespace) -> int:
@@ -222,10 +225,10 @@ def run(arguments: argparse.Namespace) -> int:
     maker = Maker(song, arguments)
     end = times.PAUSE + audio.length(arguments.audio) if arguments.audio else None
     if end and maker.dues[-1].block > end:
-        raise Refusal(arguments.song, f"is sung until {clock(maker.dues[-1].block - times.PAUSE)}, and {arguments.audio} "
-                      f"ends at {clock(end - times.PAUSE)}")
+        last, ends = clock(maker.dues[-1].block - times.PAUSE), clock(end - times.PAUSE)
+        raise Refusal(arguments.song, f"is sung until {last}, and {arguments.audio} ends at {ends}")
     lines, pictures, told = maker.in_time(end)
-    tell_late(song, arguments.song, told)
+    tell_late(arguments.song, told)
     write_file(arguments.output, "".join(f"{line}\n" for line in lines).encode())
     words = sum(len(due.steps) for due in maker.dues)
     tell(f"{len(song.lines)} lines on {len(maker.pages) - 1} pages, {words} words or parts of words, "

@@ -43,8 +43,8 @@ STYLES = {
 
 @dataclass(eq=False)
 class Placed:
-    """Letters in one of the four places of a page, or none where it is to be empty; when they are sung, in seconds; and
-    what stood there before them."""
+    """Letters in one of the four places of a page, or none where it is to be empty; when they are sung, in seconds;
+    and what stood there before them."""
 
     slot: int
     top: int

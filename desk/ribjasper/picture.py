@@ -163,7 +163,7 @@ def flat_of(image, most: int = COLOURS, simple: float = PLAIN, dither: bool = Fa
 
 
 def raster_of(flat: Flat, ground: Raster, left: int, top: int, first: int = 0) -> Raster:
-    """What stands where it is drawn on something else from this pixel on, its colours having numbers from `first` on."""
+    """What stands where it is drawn on something else from a pixel on, its colours having numbers from `first` on."""
     numbers = numbered(flat, range(first, COLOURS))
     raster = ground.copy()
     for number, colour in zip(numbers, flat.colours):

@@ -5,7 +5,7 @@ from pathlib import Path
 
 from .output import Refusal, read_file
 
-# How long the last word of a line is sung at most, where nothing tells it; and a line of which only the beginning is told.
+# How long the last word of a line is sung at most, where nothing tells it; and a line whose words have no times.
 LONGEST_WORD = 3.0
 LONGEST_LINE = 10.0
 
@@ -55,9 +55,10 @@ def read_song(path: Path) -> Song:
         text = read_file(path).decode("utf-8-sig")
     except UnicodeDecodeError as wrong:
         raise Refusal(path, f"byte {wrong.start} is no UTF-8; `iconv -f WINDOWS-1252 -t UTF-8` may help") from None
-    song = from_ass(text, path) if re.search(r"^\[Events\]", text, re.MULTILINE | re.IGNORECASE) else from_lrc(text, path)
+    has_events = re.search(r"^\[Events\]", text, re.MULTILINE | re.IGNORECASE)
+    song = (from_ass if has_events else from_lrc)(text, path)
     if not song.lines:
-        raise Refusal(path, f"no line has a time like [00:12.50], and there is no Dialogue")
+        raise Refusal(path, "no line has a time like [00:12.50], and there is no Dialogue")
     return song
 
 
@@ -83,7 +84,7 @@ class Stamped:
 
 
 def from_lrc(text: str, path: Path) -> Song:
-    """Lines begin with `[mm:ss.xx]`; words may have times of their own, `<mm:ss.xx>`. A line without text is a rest."""
+    """Lines begin with `[mm:ss.xx]`, and words may have times of their own, `<mm:ss.xx>`; no text is a rest."""
     song, stamped, offset = Song([]), [], 0.0
     for number, line in enumerate(text.splitlines(), 1):
         line = line.strip()

@@ -47,8 +47,8 @@ class Stream:
 
 
 def open_stream(path: Path) -> Stream:
-    """A raw stream, an image of sectors, or a `.cdg` file, by what is in it. A stream that begins with the audio, as that
-    of an image does, has no pause."""
+    """A raw stream, an image of sectors, or a `.cdg` file, by what is in it. A stream that begins with the audio, as
+    that of an image does, has no pause."""
     dump = Dump(path)
     form, _ = form_of(dump)
     if form and form.library == RAW:

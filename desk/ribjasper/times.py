@@ -3,12 +3,17 @@ import argparse
 import re
 
 from .library import BLOCKS_A_SECOND
-from .survey import spelled as clock
+from .survey import spelled
 
 SECONDS_A_MINUTE = 60
 # The two seconds before the audio of the first track.
 PAUSE = 2 * BLOCKS_A_SECOND
 CLOCK = re.compile(r"(\d\d):([0-5]\d):([0-6]\d|7[0-4])")
+
+
+def clock(number: int) -> str:
+    """A number of blocks as a time."""
+    return spelled(number)
 
 
 def blocks(time: str) -> int:

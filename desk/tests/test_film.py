@@ -4,8 +4,8 @@ import subprocess
 import unittest
 from unittest import mock
 
-from publishers import (LEAD_IN, PAUSE, TOP, FolderTest, author, desk, needs_ffmpeg, needs_pillow, needs_plan, needs_program,
-                        run_program, screen, write_wav)
+from publishers import (LEAD_IN, PAUSE, TOP, FolderTest, author, desk, needs_ffmpeg, needs_pillow, needs_plan,
+                        needs_program, run_program, screen, write_wav)
 
 from ribjasper.film import Stills
 from ribjasper.streams import open_stream
@@ -38,11 +38,13 @@ class FilmTest(FolderTest):
 
     def test_frames_of_packs_without_parity(self):
         packs = self.packs()
-        bare = b"".join(packs[at : at + 2] + bytes(2) + packs[at + 4 : at + 20] + bytes(4) for at in range(0, len(packs), 24))
+        starts = range(0, len(packs), 24)
+        bare = b"".join(packs[at : at + 2] + bytes(2) + packs[at + 4 : at + 20] + bytes(4) for at in starts)
         frames = list(open_stream(self.write("a.cdg", bare)).frames(RATE, 600))
         # At these times nothing is on its way.
         for number in (60, 110, 350, 599):
-            self.assertEqual(frames[number], screen(self.stream, min(BLOCKS_A_FRAME * number + 2, 1799)).pixels, number)
+            stands = screen(self.stream, min(BLOCKS_A_FRAME * number + 2, 1799)).pixels
+            self.assertEqual(frames[number], stands, number)
 
     @needs_ffmpeg
     def test_the_film_has_these_frames(self):
@@ -55,8 +57,8 @@ class FilmTest(FolderTest):
         size = 3 * 300 * 216
         self.assertEqual(len(shown), 550 * size)
         self.check([shown[at : at + size] for at in range(0, len(shown), size)])
-        streams = subprocess.run(["ffprobe", "-v", "error", "-show_entries", "stream=codec_type", "-of", "csv=p=0", film],
-                                 capture_output=True, text=True, check=True).stdout.split()
+        words = ["ffprobe", "-v", "error", "-show_entries", "stream=codec_type", "-of", "csv=p=0", film]
+        streams = subprocess.run(words, capture_output=True, text=True, check=True).stdout.split()
         self.assertEqual(streams, ["video", "audio"])
 
     @needs_ffmpeg

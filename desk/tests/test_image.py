@@ -104,8 +104,9 @@ class ImageTest(FolderTest):
         self.assertEqual([re.findall(r'SONGWRITER "(.*)"', track) for track in tracks], [[""], ["J. Jasper"], [""]])
         cue = (self.folder / "disc.cue").read_text()
         self.assertEqual(re.findall(r"INDEX (\d\d) (\S+)", cue),
-                         [("00", "00:00:00"), ("01", "00:01:00"), ("02", "00:05:00"), ("00", "00:06:49"), ("01", "00:08:05"),
-                          ("02", "00:08:30"), ("03", "00:09:20"), ("00", "00:15:20"), ("01", "00:17:20")])
+                         [("00", "00:00:00"), ("01", "00:01:00"), ("02", "00:05:00"),
+                          ("00", "00:06:49"), ("01", "00:08:05"), ("02", "00:08:30"), ("03", "00:09:20"),
+                          ("00", "00:15:20"), ("01", "00:17:20")])
         self.assertEqual(re.findall(r"FLAGS (.*)", cue), ["DCP PRE", "4CH"])
 
     def test_latin_1(self):

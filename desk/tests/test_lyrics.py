@@ -37,7 +37,8 @@ class SongTest(FolderTest):
         return read_song(self.write(name, text))
 
     def test_lines_with_times(self):
-        song = self.song("[ti:A song]\n[ar: Somebody ]\n[00:05.50]First line\n[00:10]Second\n[00:12.5]\n[01:00.00]Third\n")
+        song = self.song("[ti:A song]\n[ar: Somebody ]\n[00:05.50]First line\n[00:10]Second\n[00:12.5]\n"
+                         "[01:00.00]Third\n")
         self.assertEqual((song.title, song.performer), ("A song", "Somebody"))
         self.assertEqual(words(song), [[("First line", 5.5)], [("Second", 10)], [("Third", 60)]])
         self.assertEqual([line.end for line in song.lines], [10, 12.5, 70])
@@ -101,7 +102,8 @@ class LyricsTest(FolderTest):
             self.assertGreater(len(full), 5)
             self.assertEqual({before.at(*pixel) for pixel in full}, {plain}, placed.text())
             self.assertEqual({after.at(*pixel) for pixel in full}, {sung}, placed.text())
-            box = [(x, placed.top + y) for y in range(len(placed.letters.rows)) for x in range(light.left, light.right)]
+            height = len(placed.letters.rows)
+            box = [(x, placed.top + y) for y in range(height) for x in range(light.left, light.right)]
             self.assertIn(tuple(17 * part for part in style.ground), {after.at(*pixel) for pixel in box})
 
     @needs_program
@@ -119,7 +121,7 @@ class LyricsTest(FolderTest):
         self.assertEqual(texts, [["One", "Two", "Three", "Four"], ["Five"], ["Six, after a rest"], []])
 
     def test_rows_of_a_line_are_sung_one_after_the_other(self):
-        song = self.write("a.lrc", "[00:06.00]Twelve words of which there are many more than in a single row\n[00:12.00]\n")
+        song = self.write("a.lrc", "[00:06.00]Many words, of which there are more than in a single row\n[00:12.00]\n")
         _, _, maker = self.made(song, "--size", "24")
         rows = [placed for placed in maker.pages[0] if placed.letters]
         self.assertGreater(len(rows), 2)
@@ -141,8 +143,7 @@ class LyricsTest(FolderTest):
         lines = []
         for number in range(24):
             start = 8 + 2 * number
-            stamps = "".join(f"<00:{start + 0.22 * word:05.2f}>ba" if word % 2 else f" <00:{start + 0.22 * word:05.2f}>du"
-                             for word in range(8))
+            stamps = "".join(f"{' ' * (word % 2)}<00:{start + 0.22 * word:05.2f}>ba" for word in range(8))
             lines.append(f"[00:{start:05.2f}]{stamps}")
         text = "\n".join(lines).replace("00:6", "01:0")
         ran, script, maker = self.made(self.write("a.lrc", text))

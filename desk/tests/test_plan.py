@@ -23,20 +23,22 @@ class PlanTest(FolderTest):
         self.assertTrue(all(int(row[4]) <= int(row[5]) for row in rows))
 
     def test_all_late_pictures(self):
-        script = self.write("late.script", "fill 5\nshow 00:00:02 00:00:02\nrect 0 0 288 96 3\nshow 00:00:05 00:00:05\n"
-                                           "fill 5\nshow 00:10:00 00:10:00\n")
+        script = self.write("late.script", "fill 5\nshow 00:00:02 00:00:02\nrect 0 0 288 96 3\n"
+                                           "show 00:00:05 00:00:05\nfill 5\nshow 00:10:00 00:10:00\n")
         ran = desk("plan", self.write("a.cue", SHEET), script, "--length", "00:22:00")
         self.assertEqual(ran.status, 4)
         self.assertEqual([row[7] for row in ran.rows()[1:]], ["yes", "yes", "no"])
 
     @needs_program
     def test_first_late_is_that_of_author(self):
-        script = self.write("late.script", "show 00:00:20 00:00:20\nfill 5\nrect 6 12 60 60 7\nshow 00:00:22 00:00:22\n")
+        script = self.write("late.script", "show 00:00:20 00:00:20\nfill 5\nrect 6 12 60 60 7\n"
+                                           "show 00:00:22 00:00:22\n")
         sheet = self.write("a.cue", SHEET)
         late = next(row for row in desk("plan", sheet, script, "--length", "00:22:00").rows() if row[-1] == "yes")
         with self.assertRaises(Exception) as refused:
             run_program("author", "--lead-in", 30, "--length", "00:22:00", "--", sheet, script)
-        self.assertEqual(refused.exception.stderr.decode().split(), ["late", late[0], "need", late[4], "free", late[5]])
+        told = refused.exception.stderr.decode().split()
+        self.assertEqual(told, ["late", late[0], "need", late[4], "free", late[5]])
 
     def test_length_of_audio(self):
         audio = write_wav(self.folder / "a.wav", 588 * 100 + 1)
@@ -89,7 +91,8 @@ class Latin1Test(FolderTest):
         ran = self.plan(sheet, "--latin-1", out)
         self.assertEqual(ran.status, 0)
         self.assertNotIn("UTF-8", ran.told)
-        self.assertEqual(out.read_bytes(), "REM \u00fcber\n".encode() + SHEET.replace("Song", "S\u00f6ng").encode("latin-1"))
+        texts = SHEET.replace("Song", "S\u00f6ng").encode("latin-1")
+        self.assertEqual(out.read_bytes(), "REM \u00fcber\n".encode() + texts)
         self.assertNotIn("UTF-8", self.plan(out).told)
 
     def test_names_the_line_that_cannot_be_said(self):

@@ -3,8 +3,8 @@ import subprocess
 import sys
 import unittest
 
-from publishers import (PAUSE, SONG, TOP, FolderTest, desk, needs_ffmpeg, needs_font, needs_pillow, needs_plan, needs_program, run_program,
-                        screen)
+from publishers import (PAUSE, SONG, TOP, FolderTest, desk, needs_ffmpeg, needs_font, needs_pillow, needs_plan,
+                        needs_program, run_program, screen)
 
 from ribjasper.film import Stills
 from ribjasper.streams import open_stream
@@ -25,10 +25,12 @@ class SongTest(FolderTest):
         self.assertEqual((ran.status, "none is late" in ran.told), (0, True), ran.told)
         ran = desk("plan", SONG / "song.cue", script, "--audio", audio, "--chart", self.folder / "plan.png")
         self.assertEqual((ran.status, "0 of them late" in ran.told), (0, True), ran.told)
-        raw.write_bytes(run_program("author", "--lead-in", LEAD_IN, "--length", "01:00:00", "--", SONG / "song.cue", script))
+        words = "--lead-in", LEAD_IN, "--length", "01:00:00", "--", SONG / "song.cue", script
+        raw.write_bytes(run_program("author", *words))
         ran = desk("image", SONG / "song.cue", raw, "--audio", audio, "-o", self.folder / "song")
         self.assertEqual((ran.status, "pause" in ran.told), (0, False), ran.told)
-        ran = desk("film", raw, "--audio", audio, "-o", self.folder / "song.mp4", "--stills", self.folder / "stills.png")
+        film, stills = self.folder / "song.mp4", self.folder / "stills.png"
+        ran = desk("film", raw, "--audio", audio, "-o", film, "--stills", stills)
         self.assertEqual(ran.status, 0, ran.told)
         self.check_picture(raw)
 

@@ -80,7 +80,8 @@ def chords() -> Iterator[Note]:
         for beat in range(4):
             start = bar * BAR + beat * BEAT
             for number, pitch in enumerate(chord):
-                yield Note(start + number * BEAT / 3, BEAT / 3, pitch + 12 * (beat % 2), 4_000, (0.2, 0.5, 0.8)[number])
+                side = (0.2, 0.5, 0.8)[number]
+                yield Note(start + number * BEAT / 3, BEAT / 3, pitch + 12 * (beat % 2), 4_000, side)
         yield Note(bar * BAR, BAR * 0.9, chord[0] - 12, 6_000, 0.5)
 
 
