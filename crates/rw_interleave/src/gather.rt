@@ -61,9 +61,10 @@ impl Gather {
     }
 
     /// The same, for a caller who has an allocator at hand: nothing is taken of it.
-    pub fn start(_: Global) -> Result<Gather, AllocError>
+    pub fn start(alloc: Global) -> Result<Gather, AllocError>
         ensures { IfOk result (λ g. g ≡ []) }
     {
+        let _ = alloc;
         Ok(Gather::new())
     }
 
