@@ -127,18 +127,18 @@ found_text lead_in blocks xs ys us vs w v found f =
 
 -- No further pair is whole, and no write failed.
 pub stops : (lead_in blocks : ℕ) (left left' other other' held held' : Option (List ℕ)) (w v : List (List ℕ)) (bad : ℕ) (xs ys us vs : List ℕ) (result : Result Merged MergeStop)
-    → Works lead_in blocks left left' other other' held held' w v bad xs ys → length us ≤ 96 → length vs ≤ 96 → (length us < 96) ⊎ (length vs < 96) → blocks * 96 + length us ≤ most_units * 96 + 1
+    → Works lead_in blocks left left' other other' held held' w v bad xs ys → length us ≤ 96 → length vs ≤ 96 → (length us < 96) ⊎ (length vs < 96) → blocks * 96 + length us ≤ most_units * 96 + 1 → blocks * 96 + length vs ≤ most_units * 96 + 1
     → result ≢ Err WriteFault → (((a b : ℕ) → a ≡ blocks * 96 + length us → b ≡ blocks * 96 + length vs → IsAnswer lead_in result a b))
     → IfOk result (λ merged. (text : List ℕ) × IsMergedText lead_in (xs ++ us) (ys ++ vs) text merged.bad × Appends held held' text)
     → Merges lead_in (from_to held held') result (xs ++ us) (ys ++ vs)
-stops lead_in blocks left left' other other' held held' w v bad xs ys us vs result works u_le v_le short within other_result answer done =
+stops lead_in blocks left left' other other' held held' w v bad xs ys us vs result works u_le v_le short within within' other_result answer done =
     let f = works.is_found in
     let long : length (xs ++ us) ≡ blocks * 96 + length us = length-append xs us ∙ ap (λ n. n + length us) f.first_size in
     let long' : length (ys ++ vs) ≡ blocks * 96 + length vs = length-append ys vs ∙ ap (λ n. n + length vs) f.second_size in
     let pairs : blocks ≡ min (length (xs ++ us) / 96) (length (ys ++ vs) / 96) = elim short [ inl lt ↦ omega (arith, lt, v_le, long, long') | inr lt ↦ omega (arith, lt, u_le, long, long') ] in
     record {
       in_step = (omega (arith, long, long', u_le), omega (arith, long, long', v_le));
-      within = omega (arith, long, within);
+      within = (omega (arith, long, within), omega (arith, long', within'));
       answer = answer (length (xs ++ us)) (length (ys ++ vs)) long long';
       done = done;
       put = λ _. (cdg_bytes works.found, subst (λ n. GivesMergedText n lead_in (xs ++ us) (ys ++ vs) (cdg_bytes works.found)) pairs (found_text lead_in blocks xs ys us vs w v works.found f), works.put);
@@ -155,7 +155,7 @@ ends lead_in blocks total left left' other other' held held' w v bad xs ys us vs
     let second : ys ++ vs ≡ ys = ap (λ l. ys ++ l) v_is ∙ append-nil ys in
     let text = subst₂ (λ (a b : List ℕ). IsMergedText lead_in a b (cdg_bytes works.found) (bad_count works.found)) (sym first) (sym second) (merged_text lead_in blocks xs ys works.found f.first_size f.second_size f.all) in
     stops lead_in blocks left left' other other' held held' w v bad xs ys us vs (Ok (record { blocks = total; bad = bad })) works (omega (arith, ap length u_is)) (omega (arith, ap length v_is)) (inl (omega (arith, ap length u_is)))
-    (omega (arith, ap length u_is)) (λ e. (cc))
+    (omega (arith, ap length u_is)) (omega (arith, ap length v_is)) (λ e. (cc))
     (λ a b a_is b_is.
     let none : length us ≡ 0 = ap length u_is in
     let none' : length vs ≡ 0 = ap length v_is in
@@ -207,7 +207,7 @@ pair_stops lead_in blocks left left' left'' other other' other'' held held' w v 
       ys ++ vs,
       Consumes-trans left left' left'' xs us works.first_taken first,
       Consumes-trans other other' other'' ys vs works.second_taken second,
-      stops lead_in blocks left left' other other' held held' w v bad xs ys us vs (Err stop) works is.first is.second is.short (omega (arith, is.first, lt)) (λ e. is.is_other (let same : stop ≡ WriteFault = cc in same))
+      stops lead_in blocks left left' other other' held held' w v bad xs ys us vs (Err stop) works is.first is.second is.short (omega (arith, is.first, lt)) (omega (arith, is.second, lt)) (λ e. is.is_other (let same : stop ≡ WriteFault = cc in same))
           (λ a b a_is b_is. pair_answer lead_in blocks a b left'' other'' stop us vs (taken_exactly a _ left'' a_is) (taken_exactly b _ other'' b_is) lt read) tt,
     )
 
@@ -220,7 +220,7 @@ end_stops lead_in blocks left left' left'' other other' other'' held held' w v b
       ys ++ vs,
       Consumes-trans left left' left'' xs us works.first_taken first,
       Consumes-trans other other' other'' ys vs works.second_taken second,
-      stops lead_in blocks left left' other other' held held' w v bad xs ys us vs (Err stop) works (omega (arith, one)) (omega (arith, two)) (inl (omega (arith, one))) (omega (arith, one, all)) (λ e. is_other (let same : stop ≡ WriteFault = cc in same))
+      stops lead_in blocks left left' other other' held held' w v bad xs ys us vs (Err stop) works (omega (arith, one)) (omega (arith, two)) (inl (omega (arith, one))) (omega (arith, one, all)) (omega (arith, two, all)) (λ e. is_other (let same : stop ≡ WriteFault = cc in same))
           (λ a b a_is b_is. end_answer lead_in blocks a b left'' other'' stop us vs (taken_exactly a _ left'' a_is) (taken_exactly b _ other'' b_is) all read) tt,
     )
 
@@ -317,7 +317,7 @@ write_stops lead_in blocks left left' left'' other other' other'' held held' hel
       Consumes-trans other other' other'' ys vs works.second_taken second,
       record {
         in_step = (omega (arith, next.first_size, next.second_size), omega (arith, next.first_size, next.second_size));
-        within = omega (arith, next.first_size, lt);
+        within = (omega (arith, next.first_size, lt), omega (arith, next.second_size, lt));
         answer = tt;
         done = tt;
         put = λ e. absurd (e refl);

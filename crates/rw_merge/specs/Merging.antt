@@ -59,7 +59,7 @@ pub record Merges (lead_in : ℕ) (held : Change Bytes) (result : Result Merged 
     (first second : List ℕ) : Type 0 where
   -- of neither is more taken than a block beyond the other
   pub in_step : (length first ≤ length second + 96) × (length second ≤ length first + 96)
-  pub within : length first ≤ most_units * 96 + 1
+  pub within : (length first ≤ most_units * 96 + 1) × (length second ≤ most_units * 96 + 1)
   pub answer : IsAnswer lead_in result (length first) (length second)
   pub done : IfOk result (λ merged. (text : List ℕ) × IsMergedText lead_in first second text merged.bad
       × Appends held.before held.after text)
