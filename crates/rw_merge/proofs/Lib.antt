@@ -9,3 +9,4 @@ pub mod Faults
 pub mod Stops
 pub mod Working
 pub mod Restoring
+pub mod Rooms

@@ -4,6 +4,7 @@ use Rattle.std.specs.Io.KnownBytes.{Appends, IsAtEnd}
 use Rattle.cdg_io.specs.Causes.{Count, RoseOnce}
 use Rattle.cdg_io.specs.Change.{Bytes, Change}
 use Rattle.cdg_io.specs.Moves.{AppendsBetween}
+use Rattle.cdg_io.specs.Pump.{RoseBy}
 use Rattle.raw_subcode.specs.Channels.{program_symbols}
 use Rattle.raw_subcode.specs.Sizes.{most_units}
 use Rattle.raw_subcode.specs.declared.form.Form.TheVariants.{Raw}
@@ -104,3 +105,25 @@ TellsSecond (Ok merged) before now = RoseOnce before now
 TellsSecond (Err (SecondTorn block)) before now = RoseOnce before now
 TellsSecond (Err (Unequal blocks)) before now = RoseAtMost before now
 TellsSecond (Err stop) before now = now ≡ before
+
+-- A count rose by so many or by one more.
+abbrev pub RoseByAbout : ℕ → Count → Count → Type 0
+RoseByAbout n before now = RoseBy n before now ⊎ RoseBy (n + 1) before now
+
+-- One read of the first input filled each whole block, and one the byte past the most.
+abbrev pub FillsFirst : ℕ → Result Merged MergeStop → Count → Count → Type 0
+FillsFirst lead_in (Ok merged) before now = (n : ℕ) × (merged.blocks ≡ n - lead_in) × RoseBy n before now
+FillsFirst lead_in (Err (Torn block)) before now = RoseBy block before now
+FillsFirst lead_in (Err (SecondTorn block)) before now = RoseByAbout block before now
+FillsFirst lead_in (Err (Unequal blocks)) before now = RoseByAbout blocks before now
+FillsFirst lead_in (Err TooLong) before now = RoseByAbout most_units before now
+FillsFirst lead_in (Err fault) before now = (n : ℕ) × (n ≤ most_units) × RoseBy n before now
+
+-- And so it is with the second.
+abbrev pub FillsSecond : ℕ → Result Merged MergeStop → Count → Count → Type 0
+FillsSecond lead_in (Ok merged) before now = (n : ℕ) × (merged.blocks ≡ n - lead_in) × RoseBy n before now
+FillsSecond lead_in (Err (Torn block)) before now = RoseBy block before now
+FillsSecond lead_in (Err (SecondTorn block)) before now = RoseBy block before now
+FillsSecond lead_in (Err (Unequal blocks)) before now = RoseByAbout blocks before now
+FillsSecond lead_in (Err TooLong) before now = RoseByAbout most_units before now
+FillsSecond lead_in (Err fault) before now = (n : ℕ) × (n ≤ most_units) × RoseBy n before now

@@ -120,3 +120,23 @@ CountsFaults (Err FirstFault) first second out = Rises first × Stays second × 
 CountsFaults (Err SecondFault) first second out = Stays first × Rises second × Stays out
 CountsFaults (Err WriteFault) first second out = Stays first × Stays second × Rises out
 CountsFaults result first second out = Stays first × Stays second × Stays out
+
+-- How often a read filled the block that it was given, where a pair of blocks is looked for: of the first input,
+abbrev pub FillsFirstOfPair : Result Bool MergeStop → Count → Count → Type 0
+FillsFirstOfPair (Ok true) before now = RoseOnce before now
+FillsFirstOfPair (Ok false) before now = now ≡ before
+FillsFirstOfPair (Err (Torn n)) before now = now ≡ before
+FillsFirstOfPair (Err FirstFault) before now = now ≡ before
+FillsFirstOfPair (Err stop) before now = RoseAtMost before now
+
+-- and of the second
+abbrev pub FillsSecondOfPair : Result Bool MergeStop → Count → Count → Type 0
+FillsSecondOfPair (Ok true) before now = RoseOnce before now
+FillsSecondOfPair (Ok false) before now = now ≡ before
+FillsSecondOfPair (Err (Unequal n)) before now = RoseAtMost before now
+FillsSecondOfPair (Err stop) before now = now ≡ before
+
+-- The same of either, where nothing more may follow: one byte is asked for.
+abbrev pub FillsAfter : Result (Unit {0}) MergeStop → Count → Count → Type 0
+FillsAfter (Err TooLong) before now = RoseAtMost before now
+FillsAfter result before now = now ≡ before

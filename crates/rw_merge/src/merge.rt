@@ -8,7 +8,7 @@ ghost use Rattle.cdg_io.specs.Causes.{TellsFault};
 ghost use Rattle.cdg_io.specs.Change.{change};
 ghost use Rattle.rw_interleave.specs.Stream.{bad_count};
 ghost use Rattle.rw_interleave.specs.Texts.{cdg_bytes};
-ghost use Rattle.rw_merge.specs.Merging.{FirstIsAtEnd, EndsSecond, IsAnswer, IsMergedText, Merges, TellsFirst, TellsSecond};
+ghost use Rattle.rw_merge.specs.Merging.{FillsFirst, FillsSecond, FirstIsAtEnd, EndsSecond, IsAnswer, IsMergedText, Merges, TellsFirst, TellsSecond};
 ghost use Rattle.rw_merge.specs.Readings.{IsDamagedTwice, IsReadTwice, MergeRestores};
 ghost use Rattle.rw_merge.specs.Steps.{AreAgreements, CountsFaults, leading_slots, window_after, words_after};
 
@@ -127,6 +127,8 @@ impl Merger {
         ensures second_end { EndsSecond result (T.left second.new) }
         ensures first_told { TellsFirst result (S.ends first.old) (S.ends first.new) }
         ensures second_told { TellsSecond result (T.ends second.old) (T.ends second.new) }
+        ensures first_rooms { FillsFirst lead_in result (S.fills first.old) (S.fills first.new) }
+        ensures second_rooms { FillsSecond lead_in result (T.fills second.old) (T.fills second.new) }
         ensures first_fault { TellsFault MergeStop.FirstFault
             (S.faults first.old) (S.faults first.new) result }
         ensures second_fault { TellsFault MergeStop.SecondFault
@@ -159,6 +161,8 @@ impl Merger {
         ensures ends { FirstIsAtEnd result (S.left first.new) × EndsSecond result (T.left second.new)
             × TellsFirst result (S.ends first.old) (S.ends first.new)
             × TellsSecond result (T.ends second.old) (T.ends second.new) }
+        ensures rooms { FillsFirst lead_in result (S.fills first.old) (S.fills first.new)
+            × FillsSecond lead_in result (T.fills second.old) (T.fills second.new) }
         ensures faults { CountsFaults result (change S.faults first.old first.new)
             (change T.faults second.old second.new) (change K.faults out.old out.new) }
     {

@@ -2,7 +2,7 @@
 ghost use Rattle.std.specs.Prelude.{◌≡◌, List, ℕ, Ok, true};
 ghost use Rattle.std.specs.Io.KnownBytes.{Consumes};
 ghost use Rattle.cdg_io.specs.Change.{change};
-ghost use Rattle.rw_merge.specs.Steps.{CountsReadFaults, IsEndRead, IsPairRead, TellsFirstAfter, TellsFirstOfPair, TellsSecondAfter, TellsSecondOfPair, taken_of};
+ghost use Rattle.rw_merge.specs.Steps.{CountsReadFaults, FillsAfter, FillsFirstOfPair, FillsSecondOfPair, IsEndRead, IsPairRead, TellsFirstAfter, TellsFirstOfPair, TellsSecondAfter, TellsSecondOfPair, taken_of};
 
 use crate::merge::MergeStop;
 use cdg_io::{Failed, Source, fill};
@@ -27,6 +27,8 @@ pub(crate) fn next_pair<S: Source, T: Source>(
         (change T.faults second.old second.new) }
     ensures told { TellsFirstOfPair result (S.ends first.old) (S.ends first.new)
         × TellsSecondOfPair result (T.ends second.old) (T.ends second.new) }
+    ensures rooms { FillsFirstOfPair result (S.fills first.old) (S.fills first.new)
+        × FillsSecondOfPair result (T.fills second.old) (T.fills second.new) }
 {
     let from_first = match fill(first, one) {
         Ok(count) => count,
@@ -66,6 +68,8 @@ pub(crate) fn nothing_follows<S: Source, T: Source>(
         (change T.faults second.old second.new) }
     ensures told { TellsFirstAfter result (S.ends first.old) (S.ends first.new)
         × TellsSecondAfter result (T.ends second.old) (T.ends second.new) }
+    ensures rooms { FillsAfter result (S.fills first.old) (S.fills first.new)
+        × FillsAfter result (T.fills second.old) (T.fills second.new) }
 {
     match fill(first, &mut [0; 1]) {
         Ok(0) => {}

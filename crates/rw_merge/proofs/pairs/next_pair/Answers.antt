@@ -1,6 +1,7 @@
 use Rattle.std.proofs.Common.{◌≡◌, ◌≤◌, ◌∙◌, length, refl, inl, inr, arith}
 use Rattle.cdg_io.proofs.PumpSteps.{Consumes-filled}
 use Rattle.rw_merge.proofs.PairReads.{IsWholeOrNone, both_at_end, first_failed, first_torn, is_none, one_has_more, second_failed, second_torn, told_at_most}
+use Rattle.rw_merge.proofs.Rooms.{filled_at_most}
 use Rattle.rw_merge.proofs.pairs.next_pair.Goals as goal
 use Rattle.rw_merge.proofs.pairs.next_pair.Goals.{else-from_first-gt0-via-then-from_first-gt0+else-from_first-lt-BLOCK_BYTES, else-from_first-gt0-via-else-from_first-gt0}
 use Rattle.rw_merge.proofs.pairs.next_pair.Goals.{else-from_second-gt0-via-then-from_second-gt0+else-from_second-lt-BLOCK_BYTES, else-from_second-gt0-via-else-from_second-gt0}
@@ -135,3 +136,56 @@ returns-clause-told g c =
       | else-from_first-gt0-via-else-from_first-gt0 w ↦ absurd (omega (arith, w.if-from_first-gt0.false, c.if-from_first-eq0.false))
     ] in
     (c.in-Ok.ensures.told.goes_on (omega (arith, c.told-one, full)), c.in-Ok-fill.ensures.told.goes_on (omega (arith, c.told-other, full, c.if-from_first-from_second.false)))
+
+pub returns-in-Err-clause-rooms : goal.returns-in-Err-clause-rooms
+returns-in-Err-clause-rooms g c =
+    (c.in-Err.ensures.room.failed, refl)
+
+pub returns-then-from_first-lt-BLOCK_BYTES-clause-rooms : goal.returns-then-from_first-lt-BLOCK_BYTES-clause-rooms
+returns-then-from_first-lt-BLOCK_BYTES-clause-rooms g c =
+    (c.in-Ok.ensures.room.short (omega (arith, c.told-one, c.if-from_first-lt-BLOCK_BYTES.true)), refl)
+
+pub returns-in-Err-fill-clause-rooms : goal.returns-in-Err-fill-clause-rooms
+returns-in-Err-fill-clause-rooms g c =
+    let first : IsWholeOrNone c.in-Ok.count =
+    elim c.else-from_first-gt0.branch [
+      | else-from_first-gt0-via-then-from_first-gt0+else-from_first-lt-BLOCK_BYTES w ↦ inr w.if-from_first-lt-BLOCK_BYTES.false
+      | else-from_first-gt0-via-else-from_first-gt0 w ↦ inl (is_none _ w.if-from_first-gt0.false)
+    ] in
+    (filled_at_most _ _ _ _ c.told-one first c.in-Ok.ensures.room, c.in-Err-fill.ensures.room.failed)
+
+pub returns-then-from_second-lt-BLOCK_BYTES-clause-rooms : goal.returns-then-from_second-lt-BLOCK_BYTES-clause-rooms
+returns-then-from_second-lt-BLOCK_BYTES-clause-rooms g c =
+    let first : IsWholeOrNone c.in-Ok.count =
+    elim c.else-from_first-gt0.branch [
+      | else-from_first-gt0-via-then-from_first-gt0+else-from_first-lt-BLOCK_BYTES w ↦ inr w.if-from_first-lt-BLOCK_BYTES.false
+      | else-from_first-gt0-via-else-from_first-gt0 w ↦ inl (is_none _ w.if-from_first-gt0.false)
+    ] in
+    (filled_at_most _ _ _ _ c.told-one first c.in-Ok.ensures.room, c.in-Ok-fill.ensures.room.short (omega (arith, c.told-other, c.if-from_second-lt-BLOCK_BYTES.true)))
+
+pub returns-then-from_first-from_second-clause-rooms : goal.returns-then-from_first-from_second-clause-rooms
+returns-then-from_first-from_second-clause-rooms g c =
+    let first : IsWholeOrNone c.in-Ok.count =
+    elim c.else-from_first-gt0.branch [
+      | else-from_first-gt0-via-then-from_first-gt0+else-from_first-lt-BLOCK_BYTES w ↦ inr w.if-from_first-lt-BLOCK_BYTES.false
+      | else-from_first-gt0-via-else-from_first-gt0 w ↦ inl (is_none _ w.if-from_first-gt0.false)
+    ] in
+    let second : IsWholeOrNone c.in-Ok-fill.count =
+    elim c.else-from_second-gt0.branch [
+      | else-from_second-gt0-via-then-from_second-gt0+else-from_second-lt-BLOCK_BYTES w ↦ inr w.if-from_second-lt-BLOCK_BYTES.false
+      | else-from_second-gt0-via-else-from_second-gt0 w ↦ inl (is_none _ w.if-from_second-gt0.false)
+    ] in
+    (filled_at_most _ _ _ _ c.told-one first c.in-Ok.ensures.room, filled_at_most _ _ _ _ c.told-other second c.in-Ok-fill.ensures.room)
+
+pub returns-then-from_first-eq0-clause-rooms : goal.returns-then-from_first-eq0-clause-rooms
+returns-then-from_first-eq0-clause-rooms g c =
+    (c.in-Ok.ensures.room.short (omega (arith, c.told-one, c.if-from_first-eq0.true)), c.in-Ok-fill.ensures.room.short (omega (arith, c.told-other, c.if-from_first-eq0.true, c.if-from_first-from_second.false)))
+
+pub returns-clause-rooms : goal.returns-clause-rooms
+returns-clause-rooms g c =
+    let full : 96 ≤ c.in-Ok.count =
+    elim c.else-from_first-gt0.branch [
+      | else-from_first-gt0-via-then-from_first-gt0+else-from_first-lt-BLOCK_BYTES w ↦ w.if-from_first-lt-BLOCK_BYTES.false
+      | else-from_first-gt0-via-else-from_first-gt0 w ↦ absurd (omega (arith, w.if-from_first-gt0.false, c.if-from_first-eq0.false))
+    ] in
+    (c.in-Ok.ensures.room.full (omega (arith, c.told-one, full)), c.in-Ok-fill.ensures.room.full (omega (arith, c.told-other, full, c.if-from_first-from_second.false)))

@@ -46,3 +46,23 @@ returns-in-Err-fill-clause-faults g c = (c.in-Ok-eq0.ensures.cause.same, (c.in-E
 
 pub returns-in-Err-fill-clause-told : goal.returns-in-Err-fill-clause-told
 returns-in-Err-fill-clause-told g c = (inr (c.in-Ok-eq0.ensures.told.ended (omega (arith, c.in-Ok-eq0.field-0-test))), c.in-Err-fill.ensures.told.failed)
+
+pub returns-in-Ok-clause-rooms : goal.returns-in-Ok-clause-rooms
+returns-in-Ok-clause-rooms g c =
+    (inr (c.in-Ok.ensures.room.full (omega (arith, c.in-Ok.field-0-test.1))), inl refl)
+
+pub returns-in-Err-clause-rooms : goal.returns-in-Err-clause-rooms
+returns-in-Err-clause-rooms g c =
+    (c.in-Err.ensures.room.failed, refl)
+
+pub returns-in-Ok-eq0-fill-clause-rooms : goal.returns-in-Ok-eq0-fill-clause-rooms
+returns-in-Ok-eq0-fill-clause-rooms g c =
+    (c.in-Ok-eq0.ensures.room.short (omega (arith, c.in-Ok-eq0.field-0-test)), c.in-Ok-eq0-fill.ensures.room.short (omega (arith, c.in-Ok-eq0-fill.field-0-test)))
+
+pub returns-in-Ok-fill-clause-rooms : goal.returns-in-Ok-fill-clause-rooms
+returns-in-Ok-fill-clause-rooms g c =
+    (inl (c.in-Ok-eq0.ensures.room.short (omega (arith, c.in-Ok-eq0.field-0-test))), inr (c.in-Ok-fill.ensures.room.full (omega (arith, c.in-Ok-fill.field-0-test.1))))
+
+pub returns-in-Err-fill-clause-rooms : goal.returns-in-Err-fill-clause-rooms
+returns-in-Err-fill-clause-rooms g c =
+    (c.in-Ok-eq0.ensures.room.short (omega (arith, c.in-Ok-eq0.field-0-test)), c.in-Err-fill.ensures.room.failed)

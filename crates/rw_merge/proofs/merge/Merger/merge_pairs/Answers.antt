@@ -1,7 +1,11 @@
-use Rattle.std.proofs.Common.{◌++◌, [], length, sym, ap, ◌∙◌, refl, subst, arith}
+use Rattle.std.proofs.Common.{◌≡◌, ◌+◌, ℕ, ◌++◌, [], length, sym, ap, ◌∙◌, refl, subst, arith}
 use Rattle.std.specs.Prelude.{Bool, Err}
 use Rattle.std.specs.Io.KnownBytes.{Appends}
+use Rattle.cdg_io.specs.Pump.{RoseBy}
+use Rattle.cdg_io.proofs.PumpSteps.{no_more, one_more}
+use Rattle.raw_subcode.specs.Sizes.{most_units}
 use Rattle.rw_merge.specs.Merging.{TellsFirst, TellsSecond}
+use Rattle.rw_merge.proofs.Rooms.{first_filled, first_filled_after, second_filled, second_filled_after}
 use Rattle.cdg_io.proofs.Stops.{later_since, rose_once_since, rose_since}
 use Rattle.rw_merge.proofs.Faults.{counted_last}
 use Rattle.rw_merge.proofs.Stops.{first_at_end, first_at_end_after, first_told, first_told_after, second_at_end, second_at_end_after, second_told, second_told_after, write_answer}
@@ -18,6 +22,8 @@ loop-block-init g c = record {
   no_write_fault = refl;
   first_told = refl;
   second_told = refl;
+  first_rooms = ((λ _. refl), λ some. absurd (omega (arith, some)));
+  second_rooms = ((λ _. refl), λ some. absurd (omega (arith, some)));
 }
 
 pub returns-in-Ok-false-clause-merges : goal.returns-in-Ok-false-clause-merges
@@ -84,6 +90,7 @@ loop-block-preserved g c =
     let (us, vs, first, second, read, whole) = rw c.in-Ok-true.field-0-test at c.in-Ok-true.ensures.pair in
     let (u_is, v_is) = whole refl in
     let told = rw c.in-Ok-true.field-0-test at c.in-Ok-true.ensures.told in
+    let rooms = rw c.in-Ok-true.field-0-test at c.in-Ok-true.ensures.rooms in
     elim c.if-block-lead_in.branch [
       | then-block-lead_in+in-Ok w ↦
           let first_is = ap (λ s. s.first) w.self-is in
@@ -100,6 +107,8 @@ loop-block-preserved g c =
             no_write_fault = ap g.K.Sink.faults w.out-is ∙ w.in-Ok.ensures.cause.same ∙ before.no_write_fault;
             first_told = told.0 ∙ before.first_told;
             second_told = told.1 ∙ before.second_told;
+            first_rooms = one_more _ _ _ _ before.first_rooms rooms.0;
+            second_rooms = one_more _ _ _ _ before.second_rooms rooms.1;
           }
       | else-block-lead_in w ↦
           let held = ap g.K.Sink.held w.out-is in
@@ -115,6 +124,8 @@ loop-block-preserved g c =
             no_write_fault = ap g.K.Sink.faults w.out-is ∙ before.no_write_fault;
             first_told = told.0 ∙ before.first_told;
             second_told = told.1 ∙ before.second_told;
+            first_rooms = one_more _ _ _ _ before.first_rooms rooms.0;
+            second_rooms = one_more _ _ _ _ before.second_rooms rooms.1;
           }
     ]
 
@@ -195,3 +206,46 @@ returns-in-Err-put_all-clause-answer g c = write_answer c.args.lead_in _ _
 
 pub merge-packs-requires : goal.merge-packs-requires
 merge-packs-requires g c = c.loop-block.invariant.same
+
+pub returns-in-Ok-false-clause-rooms : goal.returns-in-Ok-false-clause-rooms
+returns-in-Ok-false-clause-rooms g c =
+    let rooms = rw c.in-Ok-false.field-0-test at c.in-Ok-false.ensures.rooms in
+    let before = c.loop-block.invariant in (
+      (c.loop-block.block, c.saturating_sub.ensures, no_more _ _ _ _ before.first_rooms rooms.0),
+      (c.loop-block.block, c.saturating_sub.ensures, no_more _ _ _ _ before.second_rooms rooms.1),
+    )
+
+pub returns-in-Err-clause-rooms : goal.returns-in-Err-clause-rooms
+returns-in-Err-clause-rooms g c =
+    let (us, vs, first, second, read, whole) = c.in-Err.ensures.pair in
+    let before = c.loop-block.invariant in (
+      first_filled c.args.lead_in c.loop-block.block _ _ _ _ _ c.in-Err.stop c.loop-block-test.true read before.first_rooms c.in-Err.ensures.rooms.0,
+      second_filled c.args.lead_in c.loop-block.block _ _ _ _ _ c.in-Err.stop c.loop-block-test.true read before.second_rooms c.in-Err.ensures.rooms.1,
+    )
+
+pub returns-in-Ok-nothing_follows-clause-rooms : goal.returns-in-Ok-nothing_follows-clause-rooms
+returns-in-Ok-nothing_follows-clause-rooms g c =
+    let rooms = c.in-Ok-nothing_follows.ensures.rooms in
+    let before = c.loop-block.invariant in
+    let all : c.loop-block.block ≡ 1000000 = omega (arith, c.loop-block.auto.block-end, c.loop-block-test.false) in (
+      (c.loop-block.block, omega (arith, all), no_more _ _ _ _ before.first_rooms rooms.0),
+      (c.loop-block.block, omega (arith, all), no_more _ _ _ _ before.second_rooms rooms.1),
+    )
+
+pub returns-in-Err-nothing_follows-clause-rooms : goal.returns-in-Err-nothing_follows-clause-rooms
+returns-in-Err-nothing_follows-clause-rooms g c =
+    let (us, vs, first, second, read) = c.in-Err-nothing_follows.ensures.end in
+    let rooms = c.in-Err-nothing_follows.ensures.rooms in
+    let before = c.loop-block.invariant in
+    let all : c.loop-block.block ≡ most_units = omega (arith, c.loop-block.auto.block-end, c.loop-block-test.false) in (
+      first_filled_after c.args.lead_in _ _ _ _ _ c.in-Err-nothing_follows.stop read (subst (λ (n : ℕ). RoseBy n (g.S.Source.fills c.args.first.now) (g.S.Source.fills c.loop-block.first)) all before.first_rooms) rooms.0,
+      second_filled_after c.args.lead_in _ _ _ _ _ c.in-Err-nothing_follows.stop read (subst (λ (n : ℕ). RoseBy n (g.T.Source.fills c.args.second.now) (g.T.Source.fills c.loop-block.second)) all before.second_rooms) rooms.1,
+    )
+
+pub returns-in-Err-put_all-clause-rooms : goal.returns-in-Err-put_all-clause-rooms
+returns-in-Err-put_all-clause-rooms g c =
+    let rooms = rw c.in-Ok-true.field-0-test at c.in-Ok-true.ensures.rooms in
+    let before = c.loop-block.invariant in (
+      (c.loop-block.block + 1, omega (arith, c.loop-block-test.true), one_more _ _ _ _ before.first_rooms rooms.0),
+      (c.loop-block.block + 1, omega (arith, c.loop-block-test.true), one_more _ _ _ _ before.second_rooms rooms.1),
+    )

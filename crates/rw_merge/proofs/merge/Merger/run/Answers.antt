@@ -27,6 +27,12 @@ returns-clause-first_told g c = c.merge_pairs.ensures.ends.2
 pub returns-clause-second_told : goal.returns-clause-second_told
 returns-clause-second_told g c = c.merge_pairs.ensures.ends.3
 
+pub returns-clause-first_rooms : goal.returns-clause-first_rooms
+returns-clause-first_rooms g c = c.merge_pairs.ensures.rooms.0
+
+pub returns-clause-second_rooms : goal.returns-clause-second_rooms
+returns-clause-second_rooms g c = c.merge_pairs.ensures.rooms.1
+
 pub returns-clause-first_fault : goal.returns-clause-first_fault
 returns-clause-first_fault g c = record {
   later = (first_counted c.merge_pairs.result _ _ _ c.merge_pairs.ensures.faults).later;
