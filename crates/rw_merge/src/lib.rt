@@ -2,6 +2,7 @@
 #![tactic(auto)]
 
 mod agreement;
+mod blocks;
 mod counting;
 mod elimination;
 mod merge;

@@ -4,6 +4,7 @@ ghost use Rattle.std.specs.Io.KnownBytes.{Consumes};
 ghost use Rattle.cdg_io.specs.Change.{change};
 ghost use Rattle.rw_merge.specs.Steps.{CountsReadFaults, FillsAfter, FillsFirstOfPair, FillsSecondOfPair, IsEndRead, IsPairRead, TellsFirstAfter, TellsFirstOfPair, TellsSecondAfter, TellsSecondOfPair, taken_of};
 
+use crate::blocks::next_block;
 use crate::merge::MergeStop;
 use cdg_io::{Failed, Source, fill};
 use raw_subcode::BLOCK_BYTES;
@@ -30,14 +31,14 @@ pub(crate) fn next_pair<S: Source, T: Source>(
     ensures rooms { FillsFirstOfPair result (S.fills first.old) (S.fills first.new)
         × FillsSecondOfPair result (T.fills second.old) (T.fills second.new) }
 {
-    let from_first = match fill(first, one) {
+    let from_first = match next_block(first, one) {
         Ok(count) => count,
         Err(Failed) => return Err(MergeStop::FirstFault),
     };
     if 0 < from_first && from_first < BLOCK_BYTES {
         return Err(MergeStop::Torn { block });
     }
-    let from_second = match fill(second, other) {
+    let from_second = match next_block(second, other) {
         Ok(count) => count,
         Err(Failed) => return Err(MergeStop::SecondFault),
     };
