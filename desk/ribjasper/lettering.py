@@ -14,6 +14,9 @@ FONT_PACKAGE = "fonts-dejavu-core"
 MARGIN, SMALLEST = 6, 9
 # Levels of a pixel: 0 is the ground, 3 the full colour.
 FULL = 3
+# The level of each lightness of a pixel, and that of plain letters.
+SMOOTH = bytes((FULL * light + 127) // 255 for light in range(256))
+PLAIN = bytes(FULL * (light > 127) for light in range(256))
 # A word with the blanks around it.
 PIECE = re.compile(r"\s*\S+\s*")
 # No letter of any font, whose picture is that of a letter that is missing.
@@ -31,11 +34,11 @@ class Letters:
 
 
 class Font:
-    """The letters of a file in one size."""
+    """The letters of a file in one size; plain ones have no levels between the ground and the full colour."""
 
-    def __init__(self, path: Path | None, size: int):
+    def __init__(self, path: Path | None, size: int, is_plain: bool = False):
         self.path = path or DEFAULT_FONT
-        self.size = size
+        self.size, self.is_plain = size, is_plain
         self.fonts = package("PIL.ImageFont", "python3-pil")
         self.images = package("PIL.Image", "python3-pil")
         self.draws = package("PIL.ImageDraw", "python3-pil")
@@ -161,7 +164,7 @@ class Setter:
         image = self.font.images.new("L", (WIDTH, self.height), 0)
         pen = self.font.draws.Draw(image)
         pen.text((left, self.above), text, 255, font=self.font.of_size(size), anchor="ls")
-        levels = bytes((FULL * light + 127) // 255 for light in image.tobytes())
+        levels = image.tobytes().translate(PLAIN if self.font.is_plain else SMOOTH)
         return [levels[at : at + WIDTH] for at in range(0, len(levels), WIDTH)]
 
     def extents(self, syllables: list[Syllable], text: str, left: int, size: int) -> list[tuple[int, int]]:

@@ -25,6 +25,8 @@ GOES = 2 * SECOND
 TITLE_LOSSES = ((PLAIN, 16), (12.0, 16), (30.0, 12), (60.0, 8), (120.0, 4))
 # Sizes of letters, and by how much the rows may be more for the sake of larger ones.
 SIZES, MORE_ROWS = range(24, 15, -1), 1.1
+# Where one row of so many, or one alone, is late, that is no reason for other letters.
+FEW_LATE = 20
 # So much later than others what only clears a place is due.
 LATER = 60 * SECOND
 # Schedules that are tried until the plan finds nothing late.
@@ -113,8 +115,9 @@ def tasks_of(pages: list[list[Placed]], begin: int) -> list[Task]:
     return tasks
 
 
-def font_for(song: Song, arguments: argparse.Namespace) -> Font:
-    """The font, in the largest size that does not need many more rows than a small one; it has to have all letters."""
+def fonts_for(song: Song, arguments: argparse.Namespace) -> list[Font]:
+    """The font, first in the largest size that does not need many more rows than a small one, and then in smaller ones and
+    plain, which needs fewer packs; it has to have all letters."""
     fonts = [Font(arguments.font, size) for size in ([arguments.size] if arguments.size else SIZES)]
     for line in song.lines:
         if missing := fonts[0].missing(line.text):
@@ -122,15 +125,17 @@ def font_for(song: Song, arguments: argparse.Namespace) -> Font:
             told = f"line {line.number}: the font {fonts[0].path} has no {letters}; --font names another"
             raise Refusal(arguments.song, told)
     rows = {font: sum(len(wrapped(line, font)) for line in song.lines) for font in fonts}
-    return next(font for font in fonts if rows[font] <= MORE_ROWS * min(rows.values()))
+    first = next(font for font in fonts if rows[font] <= MORE_ROWS * min(rows.values()))
+    smaller = [font for font in fonts if font.size < first.size and font.size % 4 == 0]
+    return [first, *smaller, Font(arguments.font, fonts[-1].size, True)]
 
 
 class Maker:
-    """Makes the script of a song."""
+    """Makes the script of a song in a font."""
 
-    def __init__(self, song: Song, arguments: argparse.Namespace):
-        self.song, self.arguments = song, arguments
-        self.style, self.font = STYLES[arguments.style], font_for(song, arguments)
+    def __init__(self, song: Song, arguments: argparse.Namespace, font: Font):
+        self.song, self.arguments, self.font = song, arguments, font
+        self.style = STYLES[arguments.style]
         self.pages = pages_of(song, self.font)
         self.dues = sorted((due for page in self.pages for placed in page if placed.letters
                             for due in dues_of(placed, arguments.sweep)), key=lambda due: due.block)
@@ -144,6 +149,7 @@ class Maker:
 
     def title_steps(self) -> list[Show]:
         """The title, in as many colours and details as there is room for it, or none."""
+        self.title_is_left_out = ""
         room, image = self.page_begin - TITLE_STANDS - BEGIN, self.arguments.title
         need = 0
         for loss, most in TITLE_LOSSES if image else TITLE_LOSSES[:1]:
@@ -156,8 +162,9 @@ class Maker:
             if need <= room:
                 return [title]
         if image:
-            tell(f"{image}: the title is left out: it needs {need / SECOND:.1f} seconds, and there is room for "
-                 f"{max(0, room) / SECOND:.1f}, so that the first page stands before it is sung")
+            self.title_is_left_out = (
+                f"{image}: the title is left out: it needs {need / SECOND:.1f} seconds, and there is room for "
+                f"{max(0, room) / SECOND:.1f}, so that the first page stands before it is sung")
         return []
 
     def arranged(self) -> tuple[list[Picture], Told]:
@@ -181,7 +188,7 @@ class Maker:
                 step.apply(before)
         return lines
 
-    def in_time(self, end: int | None) -> tuple[list[str], list[Picture], Told]:
+    def in_time(self, end: int | None) -> tuple[list[str], Told]:
         """Schedules until the plan finds nothing late."""
         for _ in range(ROUNDS):
             pictures, told = self.arranged()
@@ -189,7 +196,7 @@ class Maker:
             lines = self.script(pictures, end)
             found = plan_of(lines)
             if not found.late():
-                return lines, pictures, told
+                return lines, told
             for number in found.late():
                 steps = pictures[number - 1].steps
                 steps[-1].need += found.rows[number].need - sum(step.need for step in steps)
@@ -218,19 +225,35 @@ def tell_late(path: Path, told: Told) -> None:
             tell_of(placed, f"has words that are lit up to {blocks / SECOND:.2f} seconds late")
 
 
+def best(song: Song, arguments: argparse.Namespace, end: int | None) -> tuple[Maker, list[str], Told]:
+    """The script in the first font in which hardly a row of the song is late, or else that in which least is."""
+    made = []
+    for font in fonts_for(song, arguments):
+        maker = Maker(song, arguments, font)
+        if end and maker.dues[-1].block > end:
+            last, ends = clock(maker.dues[-1].block - times.PAUSE), clock(end - times.PAUSE)
+            raise Refusal(arguments.song, f"is sung until {last}, and {arguments.audio} ends at {ends}")
+        lines, told = maker.in_time(end)
+        made.append((maker, lines, told))
+        rows = sum(len(page) for page in maker.pages)
+        if len(told.rows()) <= max(1, rows // FEW_LATE):
+            return made[-1]
+    return min(made, key=lambda one: one[2].total())
+
+
 def run(arguments: argparse.Namespace) -> int:
     song = read_song(arguments.song)
     for line in song.left_out:
         tell(line)
-    maker = Maker(song, arguments)
     end = times.PAUSE + audio.length(arguments.audio) if arguments.audio else None
-    if end and maker.dues[-1].block > end:
-        last, ends = clock(maker.dues[-1].block - times.PAUSE), clock(end - times.PAUSE)
-        raise Refusal(arguments.song, f"is sung until {last}, and {arguments.audio} ends at {ends}")
-    lines, pictures, told = maker.in_time(end)
+    maker, lines, told = best(song, arguments, end)
+    if maker.title_is_left_out:
+        tell(maker.title_is_left_out)
     tell_late(arguments.song, told)
     write_file(arguments.output, "".join(f"{line}\n" for line in lines).encode())
     words = sum(len(due.steps) for due in maker.dues)
-    tell(f"{len(song.lines)} lines on {len(maker.pages) - 1} pages, {words} words or parts of words, "
-         f"{len(pictures) + 1} pictures; none is late")
+    pictures = sum(line.startswith("show") for line in lines)
+    plain = "plain " * maker.font.is_plain
+    tell(f"{len(song.lines)} lines on {len(maker.pages) - 1} pages in {plain}letters of {maker.font.size} pixels, {words} "
+         f"words or parts of words, {pictures} pictures; none is late")
     return 0

@@ -9,7 +9,7 @@ PACKS_A_BLOCK = 4
 EARLY = 8
 # What is late by no more blocks is not seen.
 SEEN = 3
-FOREVER = 10**9
+FOREVER, A_MINUTE = 10**9, 60 * 75
 
 
 def blocks_for(steps: list[Step]) -> int:
@@ -95,6 +95,14 @@ class Told:
     drawn_late: dict[Placed, int] = field(default_factory=dict)
     lit_late: dict[Placed, int] = field(default_factory=dict)
     lost: list[Placed] = field(default_factory=list)
+
+    def rows(self) -> set[Placed]:
+        """The rows of which something is told."""
+        return {*self.drawn_late, *self.lit_late, *self.lost}
+
+    def total(self) -> int:
+        """How bad it is: blocks, and a minute for each line that is lost."""
+        return sum(self.drawn_late.values()) + sum(self.lit_late.values()) + A_MINUTE * len(self.lost)
 
 
 class Arranger:

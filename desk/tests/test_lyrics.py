@@ -1,12 +1,10 @@
 """`lyrics`: what is read of LRC and ASS, and that each script is in time and shows its words when they are sung."""
-import contextlib
-import io
 import unittest
 from pathlib import Path
 
 from publishers import SONG, FolderTest, author, desk, needs_font, needs_pillow, needs_plan, needs_program, screen
 
-from ribjasper.lyrics import Maker, parser_of
+from ribjasper.lyrics import best, parser_of
 from ribjasper.output import Refusal
 from ribjasper.pages import STYLES
 from ribjasper.songs import read_song
@@ -85,8 +83,7 @@ class LyricsTest(FolderTest):
         ran = desk("lyrics", song, "-o", script, *words)
         self.assertEqual(ran.status, 0, ran.told)
         arguments = parser_of(str(song), "-o", str(script), *map(str, words))
-        with contextlib.redirect_stderr(io.StringIO()):
-            return ran, script, Maker(read_song(song), arguments)
+        return ran, script, best(read_song(song), arguments, None)[0]
 
     def check_words(self, script, maker, step=1):
         """That words stand in the one colour before their times, and in the other from them on."""
@@ -149,6 +146,17 @@ class LyricsTest(FolderTest):
         ran, script, maker = self.made(self.write("a.lrc", text))
         self.assertNotIn("line", ran.told.replace("24 lines", ""))
         self.check_words(script, maker, 37)
+
+    def test_letters_become_smaller_and_plain_where_all_would_be_late(self):
+        lines = []
+        for number in range(20):
+            start = 10 + 1.36 * number
+            stamps = "".join(f"<00:{start + 0.09 * word:05.2f}>{'nevermore' if word % 3 else 'to'} " for word in range(14))
+            lines.append(f"[00:{start:05.2f}]{stamps}")
+        ran, _, maker = self.made(self.write("a.lrc", "\n".join(lines)))
+        self.assertTrue(maker.font.is_plain)
+        ran, _, maker = self.made(self.write("a.lrc", "\n".join(lines[:2])))
+        self.assertFalse(maker.font.is_plain)
 
     @needs_program
     def test_sweep_of_ass(self):
