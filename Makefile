@@ -44,24 +44,22 @@ guide:
 # The program, its manual page, the completions of two shells, and the library where it is built, below PREFIX.
 install:
 	[ -x bin/ribjasper ] || tools/build.sh
-	install -d $(DESTDIR)$(PREFIX)/bin $(DESTDIR)$(PREFIX)/share/man/man1
-	install -d $(DESTDIR)$(PREFIX)/share/bash-completion/completions $(DESTDIR)$(PREFIX)/share/zsh/site-functions
-	install -m 755 bin/ribjasper $(DESTDIR)$(PREFIX)/bin/ribjasper
-	install -m 644 share/ribjasper.1 $(DESTDIR)$(PREFIX)/share/man/man1/ribjasper.1
-	install -m 644 share/ribjasper.bash $(DESTDIR)$(PREFIX)/share/bash-completion/completions/ribjasper
-	install -m 644 share/_ribjasper $(DESTDIR)$(PREFIX)/share/zsh/site-functions/_ribjasper
+	install -d "$(DESTDIR)$(PREFIX)/bin" "$(DESTDIR)$(PREFIX)/share/man/man1"
+	install -d "$(DESTDIR)$(PREFIX)/share/bash-completion/completions"
+	install -d "$(DESTDIR)$(PREFIX)/share/zsh/site-functions"
+	install -m 755 bin/ribjasper "$(DESTDIR)$(PREFIX)/bin/ribjasper"
+	install -m 644 share/ribjasper.1 "$(DESTDIR)$(PREFIX)/share/man/man1/ribjasper.1"
+	install -m 644 share/ribjasper.bash "$(DESTDIR)$(PREFIX)/share/bash-completion/completions/ribjasper"
+	install -m 644 share/_ribjasper "$(DESTDIR)$(PREFIX)/share/zsh/site-functions/_ribjasper"
 	[ ! -f lib/libribjasper.a ] || tools/install_library.sh "$(DESTDIR)" "$(PREFIX)" "$(LIBDIR)"
 
 # What was installed, and the folders that are then empty, but for those of the system.
 uninstall:
-	rm -f $(DESTDIR)$(LIBDIR)/libribjasper.a $(DESTDIR)$(LIBDIR)/libribjasper.so.0 $(DESTDIR)$(LIBDIR)/libribjasper.so
-	rm -f $(DESTDIR)$(LIBDIR)/pkgconfig/ribjasper.pc $(DESTDIR)$(PREFIX)/include/ribjasper.h
-	rm -f $(DESTDIR)$(PREFIX)/share/man/man3/ribjasper.3
-	rm -f $(DESTDIR)$(PREFIX)/bin/ribjasper $(DESTDIR)$(PREFIX)/share/man/man1/ribjasper.1
-	rm -f $(DESTDIR)$(PREFIX)/share/bash-completion/completions/ribjasper
-	rm -f $(DESTDIR)$(PREFIX)/share/zsh/site-functions/_ribjasper
-	case $(PREFIX) in /usr | /usr/local) ;; *) \
-		cd $(DESTDIR)$(PREFIX) && rmdir -p share/man/man1 share/man/man3 share/bash-completion/completions \
+	cd "$(DESTDIR)$(LIBDIR)" 2>/dev/null && rm -f libribjasper.a libribjasper.so.0 libribjasper.so pkgconfig/ribjasper.pc || true
+	cd "$(DESTDIR)$(PREFIX)" && rm -f include/ribjasper.h share/man/man3/ribjasper.3 bin/ribjasper \
+		share/man/man1/ribjasper.1 share/bash-completion/completions/ribjasper share/zsh/site-functions/_ribjasper
+	case "$(PREFIX)" in /usr | /usr/local) ;; *) \
+		cd "$(DESTDIR)$(PREFIX)" && rmdir -p share/man/man1 share/man/man3 share/bash-completion/completions \
 			share/zsh/site-functions bin lib/pkgconfig include 2>/dev/null || true ;; \
 	esac
 

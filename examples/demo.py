@@ -302,6 +302,7 @@ def run(program, call):
 
 def main():
     DEMO.mkdir(exist_ok=True)
+    print("A tour of the commands. Its input is made here: the sheet and script of examples/, a stream authored of them.")
     built = [program for program in PROGRAMS if program.exists()]
     program = Built(built[0]) if built else Tried([call for step in STEPS for call in step.calls])
     try:
@@ -312,6 +313,7 @@ def main():
             step.show()
     finally:
         program.end()
+    print(f"\nThe files are in {DEMO}. Where to go next: docs/GUIDE.md, for publishers, archivists or makers of players.")
 
 
 if __name__ == "__main__":

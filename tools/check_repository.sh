@@ -9,6 +9,17 @@ complain() {
     failed=1
 }
 
+# try COMMAND ..: runs a check, and keeps what it says that it skipped for the end.
+skipped=$(mktemp)
+trap 'rm -f "$skipped" "$skipped.told"' EXIT
+try() {
+    "$@" >"$skipped.told" 2>&1
+    status=$?
+    cat "$skipped.told"
+    grep -i 'skipped' "$skipped.told" >>"$skipped"
+    return "$status"
+}
+
 # No handle is allowed.
 [ "$(cat HANDLES)" = "Handles allowed: none." ] || complain "HANDLES is changed"
 
@@ -27,13 +38,20 @@ for crate in $present; do
     grep -qw "$crate" docs/ARCHITECTURE.md || complain "docs/ARCHITECTURE.md leaves out $crate"
 done
 
+# No name means two things, no line is too long, and each name that callers were promised is there.
+tools/check_names.py || complain "names or lines are not in order"
+tools/check_surface.py || complain "a promised name is gone or changed"
+
 # The tables of numbers are those that are reckoned.
 tools/tables.py || complain "a table of numbers is not what tools/tables.py reckons"
+
+# What rows want is what their definitions give.
+tools/reckon_rows.py --check >/dev/null || complain "a row does not want what tools/reckon_rows.py reckons"
 
 # The manual page and the completions are those of the table of commands, which README.md lists too, and
 # the guide's commands do what it says.
 tools/commands.py --check || complain "share/ is not what tools/commands.py writes"
-tools/run_guide.sh || complain "the guide does not run"
+try tools/run_guide.sh || complain "the guide does not run"
 
 # The tour does what it says, and each example of a refusal is refused so, where the program is built.
 for program in bin/ribjasper crates/ribjasper/out/ribjasper; do
@@ -47,11 +65,25 @@ for program in bin/ribjasper crates/ribjasper/out/ribjasper; do
 done
 
 # The library and its example do what the program does, where they are built and a C compiler is there.
-tools/compare_player.sh || complain "the library for programs in C is not as the program"
-tools/test_linking.sh || complain "the library for programs in C is not linked as it should be"
+try tools/compare_player.sh || complain "the library for programs in C is not as the program"
+try tools/test_linking.sh || complain "the library for programs in C is not linked as it should be"
 
 # The desk does what it says, where the program and the library are built.
-tools/test_desk.sh || complain "a test of the desk fails"
+try tools/test_desk.sh || complain "a test of the desk fails"
+
+# Packages are made, installed and removed again, where that can be done.
+if [ -x bin/ribjasper ] && command -v dpkg-deb >/dev/null; then
+    try tools/make_deb.sh >/dev/null || complain "make deb fails"
+    try tools/try_deb.sh || complain "the packages cannot be installed and removed"
+else
+    echo "try_deb: skipped, there is no bin/ribjasper (make) or no dpkg-deb" | tee -a "$skipped"
+fi
+
+# Other programs agree, where they are installed.
+for other in compare_ffmpeg compare_cdrskin; do
+    try tools/$other.sh || complain "tools/$other.sh fails"
+done
+[ ! -x bin/ribjasper ] || try tools/compare_trial.sh || complain "tools/compare_trial.sh fails"
 
 # Each file that a document links to is there.
 for document in $(git ls-files '*.md'); do
@@ -77,5 +109,9 @@ for script in .ci/run tools/*.sh tools/list_definitions.py tools/commands.py too
     [ -x "$script" ] || complain "$script cannot be run"
 done
 
+if [ -s "$skipped" ]; then
+    echo "check: $(wc -l <"$skipped") checks were skipped, in whole or in part:"
+    sort -u "$skipped"
+fi
 [ "$failed" = 0 ] && echo "check: the repository is in order"
 exit "$failed"
