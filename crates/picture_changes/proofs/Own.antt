@@ -44,36 +44,36 @@ own_tile start row column old (MemoryPreset colour repeat ∷ before) r c all ho
 own_tile start row column old (SetTile colour0 colour1 r' c' lines ∷ before) r c all holds p lt =
     let base : List ℕ = tile_since (preset_in before) old in
     let rest : List Instr = own row column before in
-    let drawn_pixel : ℕ = tile_colour colour0 colour1 lines (tile_x column p % 6) (tile_y row p % 12) in
+    let new_pixel : ℕ = tile_colour colour0 colour1 lines (tile_x column p % 6) (tile_y row p % 12) in
     let old_pixel : ℕ = memory_from start before (tile_x column p) (tile_y row p) in
     by_test (is_here row column r' c') (λ yes.
     let tests = and_both (r' == row) (c' == column) yes in
     let here : covers r' c' (tile_x column p) (tile_y row p) ≡ true = ap₂ (λ a b. covers a b (tile_x column p) (tile_y row p)) (eq_of r' row tests.0) (eq_of c' column tests.1) ∙ covers_here row column p r c lt in
     let across : tile_x column p % 6 ≡ p % 6 = omega arith in
     let down : tile_y row p % 12 ≡ p / 6 = omega (arith, lt) in
-    ap (λ t. cond t drawn_pixel old_pixel) here ∙ ap₂ (tile_colour colour0 colour1 lines) across down
+    ap (λ t. cond t new_pixel old_pixel) here ∙ ap₂ (tile_colour colour0 colour1 lines) across down
     ∙ sym (get_or-map-range_with_len (drawn_pixel colour0 colour1 lines) 0 72 p p 0 lt (omega arith))
     ∙ sym (ap (λ t. get_or (tile_from base (cond t (SetTile colour0 colour1 r' c' lines ∷ rest) rest)) p 0) yes))
     (λ other.
     let away : covers r' c' (tile_x column p) (tile_y row p) ≡ false = covers_only r' c' row column p lt (λ e f. absurd (let yes = are_eq r' row c' column e f in cc)) in
-    ap (λ t. cond t drawn_pixel old_pixel) away ∙ own_tile start row column old before r c all.1 holds p lt
+    ap (λ t. cond t new_pixel old_pixel) away ∙ own_tile start row column old before r c all.1 holds p lt
     ∙ sym (ap (λ t. get_or (tile_from base (cond t (SetTile colour0 colour1 r' c' lines ∷ rest) rest)) p 0) other))
 own_tile start row column old (XorTile colour0 colour1 r' c' lines ∷ before) r c all holds p lt =
     let base : List ℕ = tile_since (preset_in before) old in
     let rest : List Instr = own row column before in
-    let drawn_pixel : ℕ = tile_colour colour0 colour1 lines (tile_x column p % 6) (tile_y row p % 12) in
+    let new_pixel : ℕ = tile_colour colour0 colour1 lines (tile_x column p % 6) (tile_y row p % 12) in
     let old_pixel : ℕ = memory_from start before (tile_x column p) (tile_y row p) in
     by_test (is_here row column r' c') (λ yes.
     let tests = and_both (r' == row) (c' == column) yes in
     let here : covers r' c' (tile_x column p) (tile_y row p) ≡ true = ap₂ (λ a b. covers a b (tile_x column p) (tile_y row p)) (eq_of r' row tests.0) (eq_of c' column tests.1) ∙ covers_here row column p r c lt in
     let across : tile_x column p % 6 ≡ p % 6 = omega arith in
     let down : tile_y row p % 12 ≡ p / 6 = omega (arith, lt) in
-    ap (λ t. cond t (bit_xor drawn_pixel old_pixel) old_pixel) here ∙ ap₂ bit_xor (ap₂ (tile_colour colour0 colour1 lines) across down) (own_tile start row column old before r c all.1 holds p lt)
+    ap (λ t. cond t (bit_xor new_pixel old_pixel) old_pixel) here ∙ ap₂ bit_xor (ap₂ (tile_colour colour0 colour1 lines) across down) (own_tile start row column old before r c all.1 holds p lt)
     ∙ sym (get_or-map-range_with_len (λ q. bit_xor (drawn_pixel colour0 colour1 lines q) (get_or (tile_from base rest) q 0)) 0 72 p p 0 lt (omega arith))
     ∙ sym (ap (λ t. get_or (tile_from base (cond t (XorTile colour0 colour1 r' c' lines ∷ rest) rest)) p 0) yes))
     (λ other.
     let away : covers r' c' (tile_x column p) (tile_y row p) ≡ false = covers_only r' c' row column p lt (λ e f. absurd (let yes = are_eq r' row c' column e f in cc)) in
-    ap (λ t. cond t (bit_xor drawn_pixel old_pixel) old_pixel) away ∙ own_tile start row column old before r c all.1 holds p lt
+    ap (λ t. cond t (bit_xor new_pixel old_pixel) old_pixel) away ∙ own_tile start row column old before r c all.1 holds p lt
     ∙ sym (ap (λ t. get_or (tile_from base (cond t (XorTile colour0 colour1 r' c' lines ∷ rest) rest)) p 0) other))
 own_tile start row column old (ScrollPreset a b h d v ∷ before) r c all holds p lt = absurd all.0
 own_tile start row column old (ScrollCopy a b h d v ∷ before) r c all holds p lt = absurd all.0
