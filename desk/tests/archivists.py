@@ -1,50 +1,25 @@
 """What the tests of the archivists' commands share: streams that the program authors, and the same with damage whose
 places are known."""
 import functools
-import importlib.util
 import os
 import random
-import shutil
 import subprocess
 import sys
-import tempfile
 import unittest
 from pathlib import Path
 from typing import NamedTuple
 
-HERE = Path(__file__).resolve().parent
-TOP = HERE.parent.parent
-DESK = HERE.parent / "ribjasper-desk"
-sys.path.insert(0, str(HERE.parent))
+from support import TOP, FolderTest, found_program, has, needs, needs_pillow  # noqa: F401
 
-from ribjasper import library, output  # noqa: E402
-
-PROGRAMS = (TOP / "bin" / "ribjasper", TOP / "crates" / "ribjasper" / "out" / "ribjasper")
-PROGRAM = next((str(it) for it in PROGRAMS if it.exists()), None)
+DESK = TOP / "desk" / "ribjasper-desk"
+PROGRAM = found_program()
 HELLO = TOP / "examples" / "hello.cue", TOP / "examples" / "hello.script"
 BLOCK, SECTOR, AUDIO, PACK = 96, 2448, 2352, 24
 LEAD_IN = 30
 # The stream of the examples has so many program blocks.
 PROGRAM_BLOCKS = 1800
-
-
-def has(*names: str) -> bool:
-    """Whether the library is there and has these calls."""
-    try:
-        return all(library.call(name) for name in names)
-    except output.Missing:
-        return False
-
-
 CALLS = "ribjasper_survey", "ribjasper_texts", "ribjasper_mend", "ribjasper_block_text_packs"
 needs_library = unittest.skipUnless(PROGRAM and has(*CALLS), "lib/ or the program is not built (make library, make)")
-
-
-def needs(module: str, package: str):
-    return unittest.skipUnless(importlib.util.find_spec(module), f"{package} is not installed")
-
-
-needs_pillow = needs("PIL", "python3-pil")
 
 
 class Ran(NamedTuple):
@@ -128,17 +103,3 @@ def with_zeros(stream: bytes, first: int, last: int) -> bytes:
 def without(stream: bytes, first: int, last: int) -> bytes:
     """A stream that lacks blocks."""
     return stream[: BLOCK * first] + stream[BLOCK * (last + 1) :]
-
-
-class FolderTest(unittest.TestCase):
-    """A test with a folder of its own."""
-
-    def setUp(self):
-        self.folder = Path(tempfile.mkdtemp(prefix="ribjasper-test-"))
-        self.addCleanup(shutil.rmtree, self.folder)
-
-    def write(self, name: str, content: bytes) -> Path:
-        path = self.folder / name
-        path.parent.mkdir(parents=True, exist_ok=True)
-        path.write_bytes(content)
-        return path

@@ -1,49 +1,24 @@
 """What the tests of the publishers' commands share: the desk, the program, and files to work on."""
 import contextlib
-import importlib.util
 import io
 import os
 import shutil
 import subprocess
-import sys
-import tempfile
 import unittest
 import wave
 from pathlib import Path
 from typing import NamedTuple
 
-HERE = Path(__file__).resolve().parent
-TOP = HERE.parent.parent
+from support import TOP, FolderTest, has, needs_pillow, needs_program  # noqa: F401
+
+from ribjasper import main, program
+from ribjasper.lettering import DEFAULT_FONT
+
 SONG = TOP / "examples" / "song"
-sys.path.insert(0, str(HERE.parent))
-
-from ribjasper import library, main, output, program  # noqa: E402
-from ribjasper.lettering import DEFAULT_FONT  # noqa: E402
-
 PAUSE = 150
 LEAD_IN = 60
 
-
-def is_there(name: str) -> bool:
-    """Whether the library has a call."""
-    try:
-        library.call(name)
-    except output.Missing:
-        return False
-    return True
-
-
-def has_program() -> bool:
-    try:
-        program.program()
-    except output.Missing:
-        return False
-    return True
-
-
-needs_plan = unittest.skipUnless(is_there("ribjasper_plan"), "lib/ is not built, or has no ribjasper_plan")
-needs_program = unittest.skipUnless(has_program(), "the program is not built")
-needs_pillow = unittest.skipUnless(importlib.util.find_spec("PIL"), "python3-pil is not installed")
+needs_plan = unittest.skipUnless(has("ribjasper_plan"), "lib/ is not built, or has no ribjasper_plan")
 needs_font = unittest.skipUnless(DEFAULT_FONT.exists(), "fonts-dejavu-core is not installed")
 needs_ffmpeg = unittest.skipUnless(shutil.which("ffmpeg"), "ffmpeg is not installed")
 needs_cdrdao = unittest.skipUnless(shutil.which("cdrdao"), "cdrdao is not installed")
@@ -107,16 +82,3 @@ def write_wav(path: Path, frames: int, rate: int = 44_100, channels: int = 2, wi
             file.writeframes(samples)
         file.writeframes(samples[: frames % 44_100 * channels * width])
     return path
-
-
-class FolderTest(unittest.TestCase):
-    """A test with a folder of its own."""
-
-    def setUp(self):
-        self.folder = Path(tempfile.mkdtemp(prefix="ribjasper-test-"))
-        self.addCleanup(shutil.rmtree, self.folder)
-
-    def write(self, name: str, content: str | bytes) -> Path:
-        path = self.folder / name
-        path.write_bytes(content.encode() if isinstance(content, str) else content)
-        return path

@@ -4,8 +4,8 @@ import html.parser
 import json
 import os
 import random
-import shutil
 import signal
+import socket
 import subprocess
 import sys
 import time
@@ -13,11 +13,9 @@ import unittest
 from pathlib import Path
 
 from archivists import (
-    BLOCK, DESK, LEAD_IN, TOP, FolderTest, as_sectors, desk, hello, hello_packs, needs, needs_library, needs_pillow, program,
+    BLOCK, DESK, LEAD_IN, FolderTest, as_sectors, desk, hello, hello_packs, needs, needs_library, needs_pillow, program,
     with_bad_q, with_burst, with_zeros, without,
 )  # fmt: skip
-
-STATUSES = {"good", "damaged", "torn", "empty", "foreign", "unread"}
 
 
 class Links(html.parser.HTMLParser):
@@ -150,7 +148,7 @@ class ReportTest(FolderTest):
         words = [sys.executable, DESK, "report", self.dumps, "-o", self.out, "--no-pictures", "--jobs", "2"]
         running = subprocess.Popen(words, stdout=subprocess.DEVNULL, stderr=subprocess.DEVNULL)
         journal = self.out / "journal.jsonl"
-        until = time.monotonic() + 60
+        until = time.monotonic() + 300
         while not (journal.exists() and journal.read_bytes().count(b"\n") >= 20) and time.monotonic() < until:
             time.sleep(0.002)
         running.send_signal(signal.SIGKILL)
@@ -216,11 +214,17 @@ class ReportTest(FolderTest):
 
 
 def free_port() -> int:
-    import socket
-
     with socket.socket() as it:
         it.bind(("127.0.0.1", 0))
         return it.getsockname()[1]
+
+
+def wait_for(port: int) -> None:
+    """Waits until somebody listens, two minutes at most."""
+    for _ in range(1200):
+        with contextlib.suppress(OSError), socket.create_connection(("127.0.0.1", port)):
+            return
+        time.sleep(0.1)
 
 
 @needs_library
@@ -238,8 +242,10 @@ class ClusterTest(FolderTest):
         dumps(self.folder / "dumps", 26)
         one, several = self.folder / "one", self.folder / "several"
         self.assertEqual(desk("report", self.folder / "dumps", "-o", one, "--no-pictures", "--jobs", "1").status, 0)
-        address = f"tcp://127.0.0.1:{free_port()}"
+        port = free_port()
+        address = f"tcp://127.0.0.1:{port}"
         self.start("distributed.cli.dask_scheduler", "--host", address, "--no-dashboard")
+        wait_for(port)
         for _ in range(2):
             self.start("distributed.cli.dask_worker", address, "--nthreads", "1", "--no-dashboard")
         ran = desk("report", self.folder / "dumps", "-o", several, "--no-pictures", "--cluster", address)
