@@ -121,25 +121,27 @@ pub fn run<S: Source, T: Source, K: Sink, E: Sink>(
         → IfSome (T.left second.old) (λ text. IsScriptText text script
         → CannotBeReady script picture need free) }
     // From an authored stream, after damage of at most two symbols a word, a conversion gives back every
-    // scheduled pack,
+    // scheduled pack.
     ensures gives_back { (form : Form) (disc : Disc) (stream : List ℕ) (packs : List (List ℕ))
         → Spells (Command.Convert disc.lead_in form) (texts words.now) → IsAuthored disc stream packs
         → IfSome (S.left first.old) (λ all. IsDamagedCopy form disc.lead_in stream all
         → GivesBack (concat (written_packs form packs)) (change K.held out.old out.new) result) }
-    // and the screen shows each picture of an accepted script from its ready time to its hold time.
+    // From an authored stream, after such damage, the screen shows each picture of an accepted script from its ready
+    // time to its hold time.
     ensures shows { (form : Form) (disc : Disc) (stream text : List ℕ) (packs : List (List ℕ)) (k at : ℕ)
         → Spells (Command.Screen disc.lead_in form at) (texts words.now) → IsScriptText text disc.script
         → IsHeldAt disc.script k at → IsAuthored disc stream packs
         → IfSome (S.left first.old) (λ all. IsDamagedCopy form disc.lead_in stream all
         → PutsPicture disc.script k (change K.held out.old out.new) result) }
-    // Of an authored stream the frame of each block is listed,
+    // Of an authored stream the frame of each block is listed.
     ensures frames { (disc : Disc) (packs : List (List ℕ))
         → Spells (Command.Q disc.lead_in Form.Raw) (texts words.now)
         → program_blocks disc.sheet disc.audio ≤ most_program
         → IfSome (S.left first.old) (λ all. IsAuthored disc all packs
         → GivesBack (frame_lines (layout_of disc.sheet disc.audio) disc.lead_in)
         (change K.held out.old out.new) result) }
-    // and each string of the sheet that is not empty, also where slots of the lead-in are damaged.
+    // Of an authored stream each string of the sheet that is not empty is listed, also where slots of the lead-in are
+    // damaged.
     ensures strings { (form : Form) (disc : Disc) (stream lines : List ℕ) (packs : List (List ℕ))
         → Spells (Command.Text disc.lead_in form) (texts words.now) → IsAuthored disc stream packs
         → IfSome (S.left first.old) (λ all. AreLinesOf disc form stream all lines

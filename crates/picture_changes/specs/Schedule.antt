@@ -1,6 +1,7 @@
 -- When the packs of a change are sent, so that each picture stands from its ready time to its hold time.
 use Rattle.std.specs.Prelude.{◌≡◌, ℕ, zero, suc, ◌+◌, ◌-◌, ◌*◌, ◌<◌, ◌≤◌, ◌⊎◌, List, [], length, slice_index_or}
-use Rattle.rw_interleave.specs.Interleave.{whole_packs}
+use Rattle.raw_subcode.specs.Sizes.{slots_a_block}
+use Rattle.rw_interleave.specs.Interleave.{packs_kept_back, whole_packs}
 use Rattle.rw_code.specs.Packs.{idle_pack}
 use Rattle.cdg_instructions.specs.Instruction.{IsWritten}
 use Rattle.picture_script.specs.Script.{Drawing, pictures, ready_time, hold_time}
@@ -15,7 +16,7 @@ start_of script (suc k) = whole_packs (hold_time script k)
 
 -- so many packs are whole at the ready time of picture k
 abbrev pub IsInTime : List Drawing → ℕ → ℕ → Type 0
-IsInTime script k need = start_of script k + need + 7 ≤ 4 * ready_time script k
+IsInTime script k need = start_of script k + need + packs_kept_back ≤ slots_a_block * ready_time script k
 
 -- the packs that are free for picture k
 abbrev pub free_packs : List Drawing → ℕ → ℕ
