@@ -13,15 +13,12 @@ use crate::laws::thin_forms_stand_alike;
 use cdg_instructions::Instr;
 use cdg_io::{Piece, PumpStop, Pumped, Sink, Source, Stage, pump};
 use cdg_screen::Screen;
-use raw_subcode::{MOST_UNITS, SLOTS_A_BLOCK};
+use raw_subcode::{MOST_UNITS, SLOTS_A_BLOCK, SYMBOLS_A_SLOT};
 use std::alloc::{AllocError, Global};
 use std::marker::Model;
 
 // The most packs that are read: those of the most blocks.
 const MOST_PACKS: u32 = SLOTS_A_BLOCK as u32 * MOST_UNITS;
-
-// The pack that says nothing.
-const IDLE: [u8; 24] = [0; 24];
 
 /// Makes packs that change nothing idle. All its memory is taken at the start.
 #[derive(Drop)]
@@ -113,17 +110,16 @@ impl Thinner {
         self.passes_over(&instruction(pack))
     }
 
-    // Puts a pack into an empty piece, or an idle one where it is needless.
+    // Makes a piece of a pack, or of an idle one where it is needless.
     #[tactic(auto, unfolding(crate::specs::Steps::thin_gives))]
     fn pass(&mut self, pack: &[u8; 24], piece: &mut Piece)
-        requires { piece.old ≡ [] }
         ensures next { self.new ≡ thin_next self.old pack.now }
         ensures gives { Some piece.new ≡ thin_gives self.old pack.now }
     {
         if self.is_needless(pack) {
-            piece.add(&IDLE);
+            piece.set_zeros(SYMBOLS_A_SLOT);
         } else {
-            piece.add(pack);
+            piece.set(pack);
         }
     }
 }
@@ -145,10 +141,7 @@ impl Stage for Thinner {
 
     fn emit(&mut self, pack: &[u8; 24], out: &mut Option<Piece>) {
         match out {
-            Some(piece) => {
-                *piece = Piece::new();
-                self.pass(pack, piece);
-            }
+            Some(piece) => self.pass(pack, piece),
             None => *out = self.feed(pack),
         }
     }

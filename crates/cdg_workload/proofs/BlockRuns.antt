@@ -167,6 +167,23 @@ pass_run (y ∷ ys) (suc g) l c w fits =
           ∙ ap (λ h. bit_xor y 0 ∷ run h ys) (sym (next_before g l c w y)) ∙ ap (λ o. give o (run (byte_next (at (suc g) l c w) y) ys)) (sym (gives_before g l c w y)),
     )
 
+-- a block before the next burst stays
+pub skipped : (s t : Needle) (block : List ℕ) → length block ≡ 96 → 96 ≤ s.gap → t ≡ record s { gap = s.gap - 96 } → (t ≡ state s block) × (block ≡ run s block)
+skipped s t block size before is =
+    let (after, given) = pass_run block s.gap s.left s.change s.words (omega (arith, size, before)) in
+    (is ∙ ap (λ n. at (s.gap - n) s.left s.change s.words) (sym size) ∙ after, given)
+
+-- so does what is given for it
+pub block_skipped : (s : Scratches) (t : Needle) (block : List ℕ) → s.lead_in ≡ 0 → length block ≡ 96 → 96 ≤ s.needle.gap → t ≡ record s.needle { gap = s.needle.gap - 96 }
+    → (stage s.lead_in t ≡ block_next s block) × (Some block ≡ block_gives s block)
+unfolding block_next block_gives
+block_skipped s t block none size before is =
+    let (after, given) = skipped s.needle t block size before is in
+    let program : (s.lead_in == 0) ≡ true = ap (λ n. n == 0) none in (
+      ap (stage s.lead_in) after ∙ sym (ap (λ u. cond u (stage s.lead_in (state s.needle block)) (stage (s.lead_in - 1) s.needle)) program),
+      ap (λ (l : List ℕ). Some l) given ∙ sym (ap (λ u. cond u (Some (run s.needle block)) (Some block)) program),
+    )
+
 -- some symbols more that stay
 pub pass_more : (s t t' : Needle) (block old : List ℕ) (i m k : ℕ) → i + m ≡ k → k ≤ length block → m ≤ t.gap → t' ≡ record t { gap = t.gap - m }
     → t ≡ state s (take i block) → take i old ≡ run s (take i block) → drop i old ≡ drop i block

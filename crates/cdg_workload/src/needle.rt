@@ -1,5 +1,5 @@
 // The changes of neighbouring symbols, by the words of a generator.
-ghost use Rattle.std.specs.Prelude.{◌≡◌, ◌<◌, ◌≤◌, ◌-◌, ◌^◌, ◌++◌, Some, bit_xor, drop, map, take};
+ghost use Rattle.std.specs.Prelude.{◌≡◌, ◌<◌, ◌≤◌, ◌-◌, ◌^◌, ◌++◌, Some, bit_xor, drop, false, map, take, true};
 ghost use Rattle.raw_subcode.specs.Sizes.{block_bytes};
 ghost use Rattle.cdg_io.specs.Run.{run_state, run_gives};
 ghost use Rattle.cdg_workload.specs.Steps.{next_needle, ready, change_now, past_byte, byte_next, byte_gives};
@@ -69,6 +69,20 @@ impl Needle {
         let passed = self.gap.min(most as u32);
         self.gap -= passed;
         passed as usize
+    }
+
+    /// Whether the next burst comes after a whole block: then that block is gone over.
+    #[inline]
+    pub(crate) fn skip_block(&mut self) -> bool
+        ensures skips { result ≡ true → block_bytes ≤ self.old.gap }
+        ensures next { result ≡ true → self.new ≡ record self.old { gap = self.old.gap - block_bytes } }
+        ensures meets { result ≡ false → (self.old.gap < block_bytes) × (self.new ≡ self.old) }
+    {
+        if self.gap < BLOCK_BYTES as u32 {
+            return false;
+        }
+        self.gap -= BLOCK_BYTES as u32;
+        true
     }
 
     // Goes over the symbols of a burst that has begun, at most so many: how many they are.

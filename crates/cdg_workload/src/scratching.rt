@@ -40,7 +40,8 @@ impl Scratches {
         }
     }
 
-    // Makes a piece of a block, scratched where it is one of the program.
+    // Makes a piece of a block, scratched where it is one of the program. Most blocks are before the next burst, and
+    // stay whole.
     #[tactic(auto, unfolding(crate::specs::Steps::block_next, crate::specs::Steps::block_gives))]
     fn pass(&mut self, block: &[u8; BLOCK_BYTES], piece: &mut Piece)
         ensures next { self.new ≡ block_next self.old block.now }
@@ -49,11 +50,13 @@ impl Scratches {
         if self.lead_in > 0 {
             self.lead_in -= 1;
             piece.set(block);
-            return;
+        } else if self.needle.skip_block() {
+            piece.set(block);
+        } else {
+            let mut scratched = *block;
+            self.needle.scratch(&mut scratched);
+            piece.set(&scratched);
         }
-        let mut scratched = *block;
-        self.needle.scratch(&mut scratched);
-        piece.set(&scratched);
     }
 }
 
