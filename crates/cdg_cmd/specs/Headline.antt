@@ -6,6 +6,7 @@ use Rattle.raw_subcode.specs.declared.form.Form.{Form}
 use Rattle.raw_subcode.specs.declared.form.Form.TheVariants.{Raw, Cooked}
 use Rattle.picture_script.specs.Script.{Drawing}
 use Rattle.picture_changes.specs.Schedule.{IsLate}
+use Rattle.rw_interleave.specs.Interleave.{packs_kept_back}
 use Rattle.rw_interleave.specs.Stream.{IsDamaged}
 use Rattle.subcode_author.specs.Authored.{Disc}
 use Rattle.subcode_author.specs.AuthorAnswer.{AreReady, HasRoom, HoldsPictures}
@@ -44,7 +45,7 @@ pub record IsDamagedCopy (form : Form) (lead_in : ℕ) (stream bytes : List ℕ)
 
 -- scheduled packs as a conversion writes them: in a cooked stream seven packs of zeros follow them
 abbrev pub written_packs : Form → List (List ℕ) → List (List ℕ)
-written_packs Cooked packs = packs ++ replicate 7 idle_pack
+written_packs Cooked packs = packs ++ replicate packs_kept_back idle_pack
 written_packs _ packs = packs
 
 -- the pixmap of a screen that shows picture k was put, unless a read or a write failed or no memory was found
