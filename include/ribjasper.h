@@ -4,7 +4,7 @@
    player; no call is for a signal handler. Where a pointer stands, so many bytes or structs must stand as its type says,
    or as its line says; none may be null, for the library cannot tell a null pointer and reads it. What two arguments
    point to may not overlap; what is only read (const) must not change during the call. Numbers may be any: one out of its
-   range is refused. Memory is asked of malloc when a player is opened that is closed, 65,192 bytes in two requests, and
+   range is refused. Memory is asked of malloc when a player is opened that is closed, 65,112 bytes in two requests, and
    within a call whose lines say so, which frees it before it returns. */
 #ifndef RIBJASPER_H
 #define RIBJASPER_H
