@@ -28,7 +28,7 @@ use Rattle.stream_stages.proofs.StageRuns.{all_items}
 use Rattle.stream_stages.proofs.PlayRuns.{gives_few}
 use Rattle.stream_stages.proofs.FormWords.{found_in, recovered}
 use Rattle.stream_stages.proofs.Draws.{instrs_of, are_meant, are_drawn}
-use Rattle.live_player.specs.Lives.{Given, HasPlayed, IsLiveView, IsLiveViewAt, bad_counted, bad_words, blocks_in, drawn_for, instruction_of, instructions_in, instructions_of, meant_by, packs_given, standing_on, stream_words, words_with}
+use Rattle.live_player.specs.Lives.{Given, HasPlayed, IsLiveView, IsLiveViewAt, bad_counted, bad_words_in, blocks_in, drawn_for, instruction_of, instructions_in, instructions_of, meant_by, packs_given, standing_on, stream_words, words_with}
 use Rattle.live_player.specs.Lives.Given.{Drawn, Fed}
 use Rattle.live_player.specs.declared.live.LivePlayer.{LivePlayer}
 use Rattle.live_player.proofs.Words.{more_words, nothing_after, no_words_yet, words_come, words_go_on, words_of_stream}
@@ -110,7 +110,7 @@ pub fed_more : (form : Form) (lead_in : ℕ) (given : List Given) (block : List 
     → new.lead_in ≡ old.lead_in → new.blocks ≡ min (old.blocks + 1) (2 ^ 32 - 1) → new.bad ≡ bad_counted old.bad (words_give old.words block)
     → HasPlayed form lead_in given old → HasPlayed form lead_in (Fed block ∷ given) new
 fed_more form lead_in given block old new size next draws begun counted bad played =
-    let more : bad_words form lead_in (blocks_in given ++ block ∷ []) ≡ bad_words form lead_in (blocks_in given) + bad_count (map finding (all_items (give (words_give old.words block) []))) =
+    let more : bad_words_in form lead_in (blocks_in given ++ block ∷ []) ≡ bad_words_in form lead_in (blocks_in given) + bad_count (map finding (all_items (give (words_give old.words block) []))) =
     ap (λ ws. bad_count (map finding ws)) (more_words form lead_in (blocks_in given) block old.words size played.sized played.gathers)
     ∙ ap bad_count (map-append finding (stream_words form lead_in (blocks_in given)) (all_items (give (words_give old.words block) [])))
     ∙ bad_append (map finding (stream_words form lead_in (blocks_in given))) (map finding (all_items (give (words_give old.words block) []))) in
@@ -123,7 +123,7 @@ fed_more form lead_in given block old new size next draws begun counted bad play
           ∙ sym (in_turn blank (instructions_in form lead_in given) (instructions_of (words_with form lead_in (blocks_in given) block)));
       begun = begun ∙ played.begun;
       counted = omega (arith, counted, played.counted, length-append (blocks_in given) (block ∷ []));
-      bad = bad ∙ items_counted (words_give old.words block) old.bad (bad_words form lead_in (blocks_in given)) played.bad ∙ ap (λ n. min n (2 ^ 32 - 1)) (sym more);
+      bad = bad ∙ items_counted (words_give old.words block) old.bad (bad_words_in form lead_in (blocks_in given)) played.bad ∙ ap (λ n. min n (2 ^ 32 - 1)) (sym more);
     }
 
 pub drawn_more : (form : Form) (lead_in : ℕ) (given : List Given) (pack : List ℕ) (old new : LivePlayer) → new.words ≡ old.words
@@ -140,7 +140,7 @@ drawn_more form lead_in given pack old new same draws begun counted bad played =
 
 pub begun : (form : Form) (lead_in : ℕ) (player : LivePlayer) → player.words ≡ fresh_words form lead_in → standing_on player ≡ blank → player.lead_in ≡ lead_in → player.blocks ≡ 0 → player.bad ≡ 0 → HasPlayed form lead_in [] player
 begun form lead_in player words zero lead_in_is none none_bad =
-    let nothing : bad_words form lead_in [] ≡ 0 = ap (λ ws. bad_count (map finding ws)) (no_words_yet form lead_in) in
+    let nothing : bad_words_in form lead_in [] ≡ 0 = ap (λ ws. bad_count (map finding ws)) (no_words_yet form lead_in) in
     record {
       sized = tt;
       gathers = words;

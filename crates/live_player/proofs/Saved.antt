@@ -22,7 +22,7 @@ use Rattle.stream_stages.proofs.StageRuns.{window_run}
 use Rattle.cdg_checkpoint.specs.Saved.{last_symbols}
 use Rattle.cdg_checkpoint.proofs.GoneOn.{both_small, dropped_small}
 use Rattle.cdg_checkpoint.proofs.Tails.{kept_after}
-use Rattle.live_player.specs.Lives.{Given, HasPlayed, bad_words, blocks_in, stream_words}
+use Rattle.live_player.specs.Lives.{Given, HasPlayed, bad_words_in, blocks_in, stream_words}
 use Rattle.live_player.specs.Saving.{IsAt, checkpoint_of}
 use Rattle.live_player.specs.declared.live.LivePlayer.{LivePlayer}
 use Rattle.live_player.proofs.Slots.{AreSlots, all_slots, form_stays, gathered_again, gathered_count, gathered_slots, lead_in_falls, raw_window}
@@ -70,7 +70,7 @@ module _ (lead_in : ℕ) (given : List Given) (saved : LivePlayer) (played : Has
   few_bad =
       let words : List (List ℕ) = stream_words Raw lead_in blocks in
       let blocks_are : length symbols / 96 ≡ c.program = omega (arith, count) in
-      let few_words : bad_words Raw lead_in blocks ≤ length (map finding words) = count_by-le-length is_none (map finding words) in
+      let few_words : bad_words_in Raw lead_in blocks ≤ length (map finding words) = count_by-le-length is_none (map finding words) in
       omega (arith, played.bad, few_words, length-map words finding, words_count lead_in blocks ∙ ap whole_packs blocks_are)
 
   slots_are : c.slots ≡ last_symbols 168 symbols

@@ -73,8 +73,8 @@ instructions_in form lead_in (Drawn pack ∷ before) =
     instructions_in form lead_in before ++ instruction_of pack ∷ []
 
 -- how many words of the blocks have no codeword near
-abbrev pub bad_words : Form → ℕ → List (List ℕ) → ℕ
-bad_words form lead_in blocks = bad_count (map finding (stream_words form lead_in blocks))
+abbrev pub bad_words_in : Form → ℕ → List (List ℕ) → ℕ
+bad_words_in form lead_in blocks = bad_count (map finding (stream_words form lead_in blocks))
 
 -- The player began with a stream of this form and was given this since, the last one first. What stands is what all
 -- of it draws, in order, on a blank screen. The blocks and the words with no codeword near are counted; each count
@@ -85,7 +85,7 @@ pub record HasPlayed (form : Form) (lead_in : ℕ) (given : List Given) (player 
   pub stands : standing_on player ≡ standing_after blank (instructions_in form lead_in given)
   pub begun : player.lead_in ≡ lead_in
   pub counted : player.blocks ≡ min (length (blocks_in given)) (2 ^ 32 - 1)
-  pub bad : player.bad ≡ min (bad_words form lead_in (blocks_in given)) (2 ^ 32 - 1)
+  pub bad : player.bad ≡ min (bad_words_in form lead_in (blocks_in given)) (2 ^ 32 - 1)
 
 -- what these blocks show: all packs that came with them, each read as the codeword near it, drawn in turn on a blank
 -- screen

@@ -37,7 +37,8 @@ pub extern "C" fn ribjasper_player_save(
     ensures refused { result ≡ negsuc 0 → (live : LivePlayer) → player.old.handle.players ≡ live ∷ []
         → CannotBeSaved live }
     // A player of a raw stream that is no longer than a checkpoint can say is saved, where there is memory.
-    ensures can { (lead_in : ℕ) (given : List Given) → IsPlaying Form.Raw lead_in given player.old.handle.players
+    ensures can { (lead_in : ℕ) (given : List Given)
+        → IsPlaying Form.Raw lead_in given player.old.handle.players
         → lead_in ≤ most_lead_in → length (blocks_in given) ≤ most_units → result ≢ negsuc 0 }
     ensures closed { player.old.is_open ≡ false → result ≡ negsuc 0 }
     ensures answer { (result ≡ pos 0) ⊎ (result ≡ negsuc 0) ⊎ (result ≡ pos 7) }
