@@ -4,7 +4,7 @@
    player; no call is for a signal handler. Where a pointer stands, so many bytes or structs must stand as its type says,
    or as its line says; none may be null, for the library cannot tell a null pointer and reads it. What two arguments
    point to may not overlap; what is only read (const) must not change during the call. Numbers may be any: one out of its
-   range is refused. Memory is asked of malloc when a player is opened that is closed, 65,192 bytes in two requests, and
+   range is refused. Memory is asked of malloc when a player is opened that is closed, 65,112 bytes in two requests, and
    within a call whose lines say so, which frees it before it returns. */
 #ifndef RIBJASPER_H
 #define RIBJASPER_H
@@ -118,6 +118,26 @@ int32_t ribjasper_player_border(ribjasper_player *player, uint8_t *border);
 
 /* Writes how many pixels further right (0 to 5) and further down (0 to 11) in the memory the screen begins. */
 int32_t ribjasper_player_offsets(ribjasper_player *player, uint8_t *across, uint8_t *down);
+
+/* Going back and copying. The file of a checkpoint is that of the program's commands `save` and `resume`. */
+#define RIBJASPER_CHECKPOINT 65045 /* bytes of the file */
+#define RIBJASPER_NO_CHECKPOINT 3  /* what ribjasper_player_load answers where the bytes are no such file */
+
+/* Writes where an open player is: how many blocks came, how many words of them were bad, the last seven slots, and
+   what stands. Refused where the form is RIBJASPER_PACKS, or more than 1,000,000 blocks came since it began; packs that
+   were drawn are not counted. It asks malloc for 65,046 bytes, and answers RIBJASPER_NO_MEMORY where it is refused
+   them; it frees them before it returns. Where it is not done nothing is written. */
+int32_t ribjasper_player_save(ribjasper_player *player, uint8_t file[RIBJASPER_CHECKPOINT]);
+
+/* Brings an open player to where a file was saved, in a stream of the form RIBJASPER_RAW: blocks that come from now on
+   go on from there, and show what they would show after the player that was saved. Where the bytes are no checkpoint's
+   it answers RIBJASPER_NO_CHECKPOINT, and writes the first byte of the first field that is out of its range. It asks for
+   memory as the call above. Where it is not done the player stays as it is. */
+int32_t ribjasper_player_load(ribjasper_player *player, const uint8_t file[RIBJASPER_CHECKPOINT], uint32_t *byte);
+
+/* Makes an open player show and gather from now on what another open player does, in any form and after any number of
+   blocks. The other stays as it is. It asks for no memory, and uses 65,000 bytes of the stack. */
+int32_t ribjasper_player_copy(ribjasper_player *from, ribjasper_player *to);
 
 /* What the instruction of a pack of 24 bytes touches, whatever stands: 50 times the row and the column of a tile of the
    memory, 0 to 899, or one of the numbers below. No pixel of the memory outside of a tile that is told changes, nor

@@ -365,6 +365,69 @@ static void long_streams(void)
     CHECK(held == 0);
 }
 
+/* A player that goes back to where it was, and one that goes on as another: it shows and gathers the same from there. */
+static void saved_players(void)
+{
+    static const uint8_t five[16] = { 5 };
+    static uint8_t file[RIBJASPER_CHECKPOINT], again[RIBJASPER_CHECKPOINT];
+    static uint8_t one[RIBJASPER_PIXELS], other[RIBJASPER_PIXELS];
+    uint8_t first[96] = { 0 }, second[96] = { 0 };
+    ribjasper_player player = RIBJASPER_CLOSED, back = RIBJASPER_CLOSED;
+    ribjasper_pack packs[4];
+    uint32_t byte = 7;
+    long number;
+    first[50] = second[4] = second[54] = 1;
+    memset(file, 7, sizeof file);
+    CHECK(ribjasper_player_save(&player, file) == RIBJASPER_REFUSED && all_are(file, sizeof file, 7));
+    CHECK(ribjasper_player_load(&player, file, &byte) == RIBJASPER_REFUSED && byte == 7);
+    CHECK(ribjasper_player_open(&player) == RIBJASPER_DONE);
+    CHECK(ribjasper_player_copy(&player, &back) == RIBJASPER_REFUSED);
+    CHECK(ribjasper_player_copy(&back, &player) == RIBJASPER_REFUSED);
+    CHECK(ribjasper_player_open(&back) == RIBJASPER_DONE);
+    /* One block of the lead-in came, and one of the program, which begins a word. */
+    CHECK(ribjasper_player_begin(&player, RIBJASPER_RAW, 1) == RIBJASPER_DONE);
+    CHECK(ribjasper_player_feed(&player, second) == RIBJASPER_DONE);
+    CHECK(ribjasper_player_feed(&player, first) == RIBJASPER_DONE);
+    draws(&player, 1, five);
+    number = requests;
+    CHECK(ribjasper_player_save(&player, file) == RIBJASPER_DONE && requests == number + 1 && held == 4);
+    CHECK(memcmp(file, "CDGSAVE1", 8) == 0 && all_are(file + 8, 7, 0) && file[15] == 1 && file[19] == 1);
+    CHECK(all_are(file + 20, 124, 0) && file[24 + 168 - 46] == 1 && file[192] == 5);
+    CHECK(ribjasper_player_take(&player, second, packs) == 1 && packs[0].wrong == -1);
+    CHECK(ribjasper_player_save(&player, again) == RIBJASPER_DONE && again[19] == 2 && again[23] == 1);
+    /* It is brought back, by another player and by itself, and the block that came then gives the same word. */
+    CHECK(ribjasper_player_load(&back, file, &byte) == RIBJASPER_DONE && byte == 7 && held == 4);
+    CHECK(ribjasper_player_screen(&player, one) == RIBJASPER_DONE);
+    CHECK(ribjasper_player_screen(&back, other) == RIBJASPER_DONE);
+    CHECK(memcmp(one, other, sizeof one) == 0 && one[300 * 12 + 6] == 5);
+    memset(packs, 0, sizeof packs);
+    CHECK(ribjasper_player_take(&back, second, packs) == 1 && packs[0].wrong == -1 && packs[0].symbols[4] == 1);
+    CHECK(ribjasper_player_save(&back, file) == RIBJASPER_DONE && memcmp(file, again, sizeof file) == 0);
+    /* A copy gathers the same, and does not change with the other. */
+    CHECK(ribjasper_player_begin(&back, RIBJASPER_RAW, 0) == RIBJASPER_DONE);
+    CHECK(ribjasper_player_feed(&back, first) == RIBJASPER_DONE);
+    number = requests;
+    CHECK(ribjasper_player_copy(&back, &player) == RIBJASPER_DONE && requests == number);
+    CHECK(ribjasper_player_begin(&back, RIBJASPER_PACKS, 0) == RIBJASPER_DONE);
+    CHECK(ribjasper_player_pixel(&player, 6, 12, other) == RIBJASPER_DONE && other[0] == 0);
+    CHECK(ribjasper_player_take(&player, second, packs) == 1 && packs[0].wrong == -1);
+    /* What is no checkpoint is refused at its first byte, and no memory is told. */
+    CHECK(ribjasper_player_save(&back, again) == RIBJASPER_REFUSED);
+    file[200] = 16;
+    CHECK(ribjasper_player_load(&back, file, &byte) == RIBJASPER_NO_CHECKPOINT && byte == 200);
+    file[8] = 1;
+    CHECK(ribjasper_player_load(&back, file, &byte) == RIBJASPER_NO_CHECKPOINT && byte == 8);
+    CHECK(ribjasper_player_take(&back, second, packs) == 4);
+    refused = requests;
+    CHECK(ribjasper_player_load(&back, again, &byte) == RIBJASPER_NO_MEMORY && byte == 8);
+    refused = requests;
+    CHECK(ribjasper_player_save(&player, file) == RIBJASPER_NO_MEMORY && file[200] == 16);
+    refused = -1;
+    ribjasper_player_close(&player);
+    ribjasper_player_close(&back);
+    CHECK(held == 0);
+}
+
 static void taken_blocks(void)
 {
     uint8_t first[96] = { 0 }, second[96] = { 0 };
@@ -442,6 +505,7 @@ int main(void)
     edges_of_streams();
     drawn_packs();
     taken_blocks();
+    saved_players();
     touched_parts();
     rectangles();
     long_streams();

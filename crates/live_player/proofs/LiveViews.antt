@@ -7,7 +7,10 @@ use Rattle.arrayvec.specs.ArrayVec.{ArrayVec}
 use Rattle.cdg_io.specs.Run.{give, run_state, run_gives}
 use Rattle.cdg_io.proofs.Runs.{run_state-append}
 use Rattle.rw_code.specs.Finding.{finding}
+use Rattle.std.specs.Prelude.{min}
+use Rattle.std.proofs.lemmas.List.Sums.{sum_by-append}
 use Rattle.rw_interleave.specs.Interleave.{whole_packs}
+use Rattle.rw_interleave.specs.Stream.{bad_count}
 use Rattle.raw_subcode.specs.Channels.{symbols_of}
 use Rattle.raw_subcode.specs.declared.form.Form.{Form}
 use Rattle.raw_subcode.specs.declared.form.Form.TheVariants.{Raw}
@@ -25,10 +28,10 @@ use Rattle.stream_stages.proofs.StageRuns.{all_items}
 use Rattle.stream_stages.proofs.PlayRuns.{gives_few}
 use Rattle.stream_stages.proofs.FormWords.{found_in, recovered}
 use Rattle.stream_stages.proofs.Draws.{instrs_of, are_meant, are_drawn}
-use Rattle.live_player.specs.Lives.{Given, HasPlayed, IsLiveView, IsLiveViewAt, blocks_in, drawn_for, instruction_of, instructions_in, instructions_of, meant_by, packs_given, standing_on, stream_words, words_with}
+use Rattle.live_player.specs.Lives.{Given, HasPlayed, IsLiveView, IsLiveViewAt, bad_counted, bad_words_in, blocks_in, drawn_for, instruction_of, instructions_in, instructions_of, meant_by, packs_given, standing_on, stream_words, words_with}
 use Rattle.live_player.specs.Lives.Given.{Drawn, Fed}
 use Rattle.live_player.specs.declared.live.LivePlayer.{LivePlayer}
-use Rattle.live_player.proofs.Words.{nothing_after, no_words_yet, words_come, words_go_on, words_of_stream}
+use Rattle.live_player.proofs.Words.{more_words, nothing_after, no_words_yet, words_come, words_go_on, words_of_stream}
 
 -- ---- instructions of words
 
@@ -71,6 +74,28 @@ words_drawn now new s block words whole gave is =
     ap (λ (d : Drawing). d.picture) is ∙ drawn.stands ∙ ap (λ found. standing_after now (instrs_of found)) all ∙ ap (standing_after now) (sym (meant_same (map finding words.items)))
     ∙ ap (λ o. standing_after now (drawn_for o)) gave
 
+-- and those with no codeword near are counted
+pub words_counted : (now : Standing) (new : Drawing) (s : BlockWords) (block : List ℕ) (words : ArrayVec (List ℕ)) → IsWholeStanding now → Some words ≡ words_give s block
+    → new ≡ drawing_next (record { picture = now; left = 4; bad = 0 }) words → new.bad ≡ bad_count (map finding words.items)
+unfolding drawing_next
+words_counted now new s block words whole gave is =
+    let few : length words.items ≤ 4 = few_given s block words gave in
+    let drawn = are_drawn now 4 0 words.items whole (omega (arith, few)) in
+    let all : take 4 (map finding words.items) ≡ map finding words.items = take_all 4 (map finding words.items) (omega (arith, few, length-map words.items finding)) in
+    let counted : new.bad ≡ 0 + bad_count (take 4 (map finding words.items)) = ap (λ (d : Drawing). d.bad) is ∙ drawn.counted in
+    let same : bad_count (take 4 (map finding words.items)) ≡ bad_count (map finding words.items) = ap bad_count all in
+    omega (arith, counted, same)
+
+-- a count of some words, and then of those that come with a block
+items_counted : (o : Option (ArrayVec (List ℕ))) (old before : ℕ) → old ≡ min before (2 ^ 32 - 1) → bad_counted old o ≡ min (before + bad_count (map finding (all_items (give o [])))) (2 ^ 32 - 1)
+items_counted None old before is = let none : bad_count (map finding (all_items [])) ≡ 0 = refl in omega (arith, is, none)
+items_counted (Some words) old before is =
+    let same : bad_count (map finding (all_items (words ∷ []))) ≡ bad_count (map finding words.items) = ap (λ ws. bad_count (map finding ws)) (nothing_after words.items) in
+    omega (arith, is, same)
+
+bad_append : (fs gs : List (Option (List ℕ))) → bad_count (fs ++ gs) ≡ bad_count fs + bad_count gs
+bad_append fs gs = sum_by-append _ fs gs
+
 pub nothing_drawn : (now : Standing) (s : BlockWords) (block : List ℕ) → IsWholeStanding now → None ≡ words_give s block → now ≡ standing_after now (drawn_for (words_give s block))
 nothing_drawn now s block whole gave = sym whole ∙ ap (λ o. standing_after now (drawn_for o)) gave
 
@@ -81,8 +106,14 @@ items_drawn (Some words) = ap instructions_of (sym (nothing_after words.items))
 -- ---- what a player was given
 
 pub fed_more : (form : Form) (lead_in : ℕ) (given : List Given) (block : List ℕ) (old new : LivePlayer) → length block ≡ 96 → new.words ≡ words_next old.words block
-    → standing_on new ≡ standing_after (standing_on old) (drawn_for (words_give old.words block)) → HasPlayed form lead_in given old → HasPlayed form lead_in (Fed block ∷ given) new
-fed_more form lead_in given block old new size next draws played =
+    → standing_on new ≡ standing_after (standing_on old) (drawn_for (words_give old.words block))
+    → new.lead_in ≡ old.lead_in → new.blocks ≡ min (old.blocks + 1) (2 ^ 32 - 1) → new.bad ≡ bad_counted old.bad (words_give old.words block)
+    → HasPlayed form lead_in given old → HasPlayed form lead_in (Fed block ∷ given) new
+fed_more form lead_in given block old new size next draws begun counted bad played =
+    let more : bad_words_in form lead_in (blocks_in given ++ block ∷ []) ≡ bad_words_in form lead_in (blocks_in given) + bad_count (map finding (all_items (give (words_give old.words block) []))) =
+    ap (λ ws. bad_count (map finding ws)) (more_words form lead_in (blocks_in given) block old.words size played.sized played.gathers)
+    ∙ ap bad_count (map-append finding (stream_words form lead_in (blocks_in given)) (all_items (give (words_give old.words block) [])))
+    ∙ bad_append (map finding (stream_words form lead_in (blocks_in given))) (map finding (all_items (give (words_give old.words block) []))) in
     let came : drawn_for (words_give old.words block) ≡ instructions_of (words_with form lead_in (blocks_in given) block) =
     items_drawn (words_give old.words block) ∙ ap instructions_of (sym (words_come form lead_in (blocks_in given) block old.words size played.sized played.gathers)) in
     record {
@@ -90,18 +121,34 @@ fed_more form lead_in given block old new size next draws played =
       gathers = next ∙ ap (λ w. words_next w block) played.gathers ∙ sym (run_state-append words_next (fresh_words form lead_in) (blocks_in given) (block ∷ []));
       stands = draws ∙ ap₂ (λ now instrs. standing_after now instrs) played.stands came
           ∙ sym (in_turn blank (instructions_in form lead_in given) (instructions_of (words_with form lead_in (blocks_in given) block)));
+      begun = begun ∙ played.begun;
+      counted = omega (arith, counted, played.counted, length-append (blocks_in given) (block ∷ []));
+      bad = bad ∙ items_counted (words_give old.words block) old.bad (bad_words_in form lead_in (blocks_in given)) played.bad ∙ ap (λ n. min n (2 ^ 32 - 1)) (sym more);
     }
 
 pub drawn_more : (form : Form) (lead_in : ℕ) (given : List Given) (pack : List ℕ) (old new : LivePlayer) → new.words ≡ old.words
-    → standing_on new ≡ standing_after (standing_on old) (instruction_of pack ∷ []) → HasPlayed form lead_in given old → HasPlayed form lead_in (Drawn pack ∷ given) new
-drawn_more form lead_in given pack old new same draws played = record {
+    → standing_on new ≡ standing_after (standing_on old) (instruction_of pack ∷ [])
+    → new.lead_in ≡ old.lead_in → new.blocks ≡ old.blocks → new.bad ≡ old.bad → HasPlayed form lead_in given old → HasPlayed form lead_in (Drawn pack ∷ given) new
+drawn_more form lead_in given pack old new same draws begun counted bad played = record {
   sized = played.sized;
   gathers = same ∙ played.gathers;
   stands = draws ∙ ap (λ now. standing_after now (instruction_of pack ∷ [])) played.stands ∙ sym (in_turn blank (instructions_in form lead_in given) (instruction_of pack ∷ []));
+  begun = begun ∙ played.begun;
+  counted = counted ∙ played.counted;
+  bad = bad ∙ played.bad;
 }
 
-pub begun : (form : Form) (lead_in : ℕ) (player : LivePlayer) → player.words ≡ fresh_words form lead_in → standing_on player ≡ blank → HasPlayed form lead_in [] player
-begun form lead_in player words zero = record { sized = tt; gathers = words; stands = zero ∙ sym blank_is_whole }
+pub begun : (form : Form) (lead_in : ℕ) (player : LivePlayer) → player.words ≡ fresh_words form lead_in → standing_on player ≡ blank → player.lead_in ≡ lead_in → player.blocks ≡ 0 → player.bad ≡ 0 → HasPlayed form lead_in [] player
+begun form lead_in player words zero lead_in_is none none_bad =
+    let nothing : bad_words_in form lead_in [] ≡ 0 = ap (λ ws. bad_count (map finding ws)) (no_words_yet form lead_in) in
+    record {
+      sized = tt;
+      gathers = words;
+      stands = zero ∙ sym blank_is_whole;
+      begun = lead_in_is;
+      counted = omega (arith, none);
+      bad = omega (arith, none_bad, nothing);
+    }
 
 -- ---- blocks alone, and packs alone
 

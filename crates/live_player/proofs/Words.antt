@@ -40,7 +40,7 @@ items_append : (us vs : List (ArrayVec (List ℕ))) → all_items (us ++ vs) ≡
 items_append [] vs = refl
 items_append (u ∷ us) vs = ap (λ l. u.items ++ l) (items_append us vs) ∙ sym (assoc u.items (all_items us) (all_items vs))
 
-rest_of : {A : Type 0} (xs ys : List A) → drop (length xs) (xs ++ ys) ≡ ys
+pub rest_of : {A : Type 0} (xs ys : List A) → drop (length xs) (xs ++ ys) ≡ ys
 rest_of [] ys = refl
 rest_of (x ∷ xs) ys = rest_of xs ys
 

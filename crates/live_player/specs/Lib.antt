@@ -1,2 +1,3 @@
 pub mod Lives
 pub mod Parts
+pub mod Saving

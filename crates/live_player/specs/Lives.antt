@@ -1,5 +1,5 @@
 -- A player that is fed block by block, and what it shows.
-use Rattle.std.specs.Prelude.{◌≡◌, ◌+◌, ◌/◌, ◌%◌, ◌++◌, ℕ, List, [], ◌∷◌, length, map, drop, slice_index, Option, Some, None}
+use Rattle.std.specs.Prelude.{◌≡◌, ◌+◌, ◌-◌, ◌^◌, ◌/◌, ◌%◌, ◌++◌, ℕ, List, [], ◌∷◌, length, map, drop, min, slice_index, Option, Some, None}
 use Rattle.bit_lists.specs.Counting.{below}
 use Rattle.std.specs.List.{flat_map, AllByRecursion}
 use Rattle.arrayvec.specs.ArrayVec.{ArrayVec}
@@ -7,7 +7,7 @@ use Rattle.cdg_io.specs.Run.{run_state}
 use Rattle.raw_subcode.specs.Channels.{symbols_of}
 use Rattle.raw_subcode.specs.declared.form.Form.{Form}
 use Rattle.rw_code.specs.Finding.{finding}
-use Rattle.rw_interleave.specs.Stream.{IsRecovered, form_word, word_count}
+use Rattle.rw_interleave.specs.Stream.{IsRecovered, bad_count, form_word, word_count}
 use Rattle.cdg_instructions.specs.declared.instr.Instr.{Instr}
 use Rattle.cdg_instructions.specs.Meaning.{meaning}
 use Rattle.cdg_screen.specs.Picture.{Standing, blank, screen_pixel, standing_after}
@@ -72,12 +72,20 @@ instructions_in form lead_in (Fed block ∷ before) =
 instructions_in form lead_in (Drawn pack ∷ before) =
     instructions_in form lead_in before ++ instruction_of pack ∷ []
 
+-- how many words of the blocks have no codeword near
+abbrev pub bad_words_in : Form → ℕ → List (List ℕ) → ℕ
+bad_words_in form lead_in blocks = bad_count (map finding (stream_words form lead_in blocks))
+
 -- The player began with a stream of this form and was given this since, the last one first. What stands is what all
--- of it draws, in order, on a blank screen.
+-- of it draws, in order, on a blank screen. The blocks and the words with no codeword near are counted; each count
+-- stays where it is at its last value.
 pub record HasPlayed (form : Form) (lead_in : ℕ) (given : List Given) (player : LivePlayer) : Type 0 where
   pub sized : AllByRecursion (λ block. length block ≡ 96) (blocks_in given)
   pub gathers : player.words ≡ run_state words_next (fresh_words form lead_in) (blocks_in given)
   pub stands : standing_on player ≡ standing_after blank (instructions_in form lead_in given)
+  pub begun : player.lead_in ≡ lead_in
+  pub counted : player.blocks ≡ min (length (blocks_in given)) (2 ^ 32 - 1)
+  pub bad : player.bad ≡ min (bad_words_in form lead_in (blocks_in given)) (2 ^ 32 - 1)
 
 -- what these blocks show: all packs that came with them, each read as the codeword near it, drawn in turn on a blank
 -- screen
@@ -101,6 +109,11 @@ pub record IsLiveViewAt (form : Form) (lead_in time : ℕ) (blocks : List (List 
 abbrev pub drawn_for : Option (ArrayVec (List ℕ)) → List Instr
 drawn_for None = []
 drawn_for (Some words) = instructions_of words.items
+
+-- the count of bad words after those that came with a block, if any: a u32 that stays at its last value
+abbrev pub bad_counted : ℕ → Option (ArrayVec (List ℕ)) → ℕ
+bad_counted bad None = bad
+bad_counted bad (Some words) = min (bad + bad_count (map finding words.items)) (2 ^ 32 - 1)
 
 -- byte n of the picture: red, green or blue of the colour of pixel n / 3, of the pixels row by row
 unfoldable pub picture_byte : Standing → ℕ → ℕ

@@ -1,9 +1,12 @@
 //! A player of subcode streams that is fed blocks as they come.
 #![tactic(auto)]
 
+mod copying;
 mod live;
 mod looking;
 mod part;
+mod saving;
 
 pub use live::LivePlayer;
 pub use part::Part;
+pub use saving::a_saved_player_goes_on;

@@ -1,9 +1,9 @@
 // A player that is fed blocks as they come.
-ghost use Rattle.std.specs.Prelude.{◌≡◌, ◌<◌, ◌≤◌, ◌-◌, ◌/◌, ◌%◌, ◌++◌, ◌∷◌, [], List, ℕ, length, map, slice_index, IfOk};
+ghost use Rattle.std.specs.Prelude.{◌≡◌, ◌<◌, ◌≤◌, ◌+◌, ◌-◌, ◌^◌, ◌/◌, ◌%◌, ◌++◌, ◌∷◌, [], List, ℕ, length, map, min, slice_index, IfOk};
 ghost use Rattle.cdg_screen.specs.Picture.{blank, screen_pixel, standing_after};
 ghost use Rattle.raw_subcode.specs.declared.form.Form.{Form};
 ghost use Rattle.stream_stages.specs.Steps.{words_next, words_give};
-ghost use Rattle.live_player.specs.Lives.{Given, blocks_in, drawn_for, instruction_of, packs_given, picture_byte, standing_on, stream_words, HasPlayed, IsLiveView, IsLiveViewAt};
+ghost use Rattle.live_player.specs.Lives.{Given, bad_counted, blocks_in, drawn_for, instruction_of, packs_given, picture_byte, standing_on, stream_words, HasPlayed, IsLiveView, IsLiveViewAt};
 ghost use Rattle.live_player.specs.Lives.Given.{Drawn, Fed};
 ghost use Rattle.live_player.specs.Parts.{HasRoomFor, IsOnScreen, ShowsPart};
 
@@ -24,6 +24,12 @@ pub struct LivePlayer {
     pub words: BlockWords,
     /// Draws them.
     pub drawing: Drawing,
+    /// The blocks of the lead-in, those that came and those still to come.
+    pub lead_in: u32,
+    /// The blocks that came. From 4,294,967,295 on it stays, and so does the count of bad words.
+    pub blocks: u32,
+    /// The words with no codeword near among those that came.
+    pub bad: u32,
 }
 
 impl LivePlayer {
@@ -41,7 +47,13 @@ impl LivePlayer {
             lead_in: 0,
             gather: Gather::new(),
         };
-        Ok(LivePlayer { words, drawing })
+        Ok(LivePlayer {
+            words,
+            drawing,
+            lead_in: 0,
+            blocks: 0,
+            bad: 0,
+        })
     }
 
     /// Begins anew, with a stream of this form.
@@ -53,6 +65,9 @@ impl LivePlayer {
         words.lead_in = lead_in;
         words.gather.reset();
         self.drawing.picture.reset();
+        self.lead_in = lead_in;
+        self.blocks = 0;
+        self.bad = 0;
     }
 
     /// Takes the next block.
@@ -86,15 +101,23 @@ impl LivePlayer {
         ensures gives { result ≡ words_give self.old.words block.now }
         ensures draws { standing_on self.new
             ≡ standing_after (standing_on self.old) (drawn_for (words_give self.old.words block.now)) }
+        ensures lead_in { self.new.lead_in ≡ self.old.lead_in }
+        ensures blocks { self.new.blocks ≡ min (self.old.blocks + 1) (2 ^ 32 - 1) }
+        ensures bad { self.new.bad ≡ bad_counted self.old.bad (words_give self.old.words block.now) }
     {
         let words = self.words.feed(block);
+        self.blocks = self.blocks.saturating_add(1);
         let drawing = &mut self.drawing;
         drawing.picture.screen.is_whole();
-        if let Some(words) = &words {
-            // All words of a block are drawn, however many blocks came before.
-            drawing.left = SLOTS_A_BLOCK as u32;
-            drawing.bad = 0;
-            drawing.feed(words);
+        match &words {
+            Some(words) => {
+                // All words of a block are drawn, however many blocks came before.
+                drawing.left = SLOTS_A_BLOCK as u32;
+                drawing.bad = 0;
+                drawing.feed(words);
+                self.bad = self.bad.saturating_add(drawing.bad);
+            }
+            None => {}
         }
         words
     }

@@ -70,7 +70,9 @@ fn write_at(room: &mut [u8], place: usize, pixels: &[u8])
 
 /// The colours of the table.
 pub(crate) fn colours(picture: &Picture, table: &mut [u16; 16])
-    ensures { (k : ℕ) → k < 16 → slice_index table.new k ≡ slice_index picture.now.colours k }
+    ensures size { length table.new ≡ 16 }
+    ensures colours { (k : ℕ) → k < 16 → slice_index table.new k ≡ slice_index picture.now.colours k }
+    ensures range { (k : ℕ) → k < 16 → slice_index table.new k < 4096 }
 {
     for k in 0..16 {
         table[k] = colour(picture, k as u8);
@@ -79,7 +81,9 @@ pub(crate) fn colours(picture: &Picture, table: &mut [u16; 16])
 
 /// The levels of the colours.
 pub(crate) fn levels(picture: &Picture, levels: &mut [u8; 16])
-    ensures { (k : ℕ) → k < 16 → slice_index levels.new k ≡ slice_index picture.now.levels k }
+    ensures size { length levels.new ≡ 16 }
+    ensures levels { (k : ℕ) → k < 16 → slice_index levels.new k ≡ slice_index picture.now.levels k }
+    ensures range { (k : ℕ) → k < 16 → slice_index levels.new k < 64 }
 {
     for k in 0..16 {
         levels[k] = level(picture, k as u8);
@@ -88,7 +92,8 @@ pub(crate) fn levels(picture: &Picture, levels: &mut [u8; 16])
 
 fn level(picture: &Picture, k: u8) -> u8
     requires { k < 16 }
-    ensures { result ≡ slice_index picture.now.levels k }
+    ensures level { result ≡ slice_index picture.now.levels k }
+    ensures range { result < 64 }
 {
     picture.screen.level(k)
 }

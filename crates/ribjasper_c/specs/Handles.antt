@@ -12,7 +12,7 @@ use Rattle.raw_subcode.specs.declared.form.Form.TheVariants.{Raw, Cooked}
 use Rattle.live_player.specs.contracts.live.LivePlayer.{the_row}
 use Rattle.live_player.specs.declared.live.LivePlayer.{LivePlayer}
 use Rattle.cdg_screen.specs.Picture.{Standing, blank, screen_pixel, standing_after}
-use Rattle.live_player.specs.Lives.{Given, blocks_in, instruction_of, instructions_in, packs_given, picture_byte, HasPlayed, IsLiveView, IsLiveViewAt}
+use Rattle.live_player.specs.Lives.{Given, blocks_in, instruction_of, instructions_in, packs_given, picture_byte, standing_on, HasPlayed, IsLiveView, IsLiveViewAt}
 
 abbrev pub handle_owns : Global → Ptr → List LivePlayer → Fml
 handle_owns alloc at [] = ftrue
@@ -31,9 +31,10 @@ pub record IsSeen (form : Form) (lead_in : ℕ) (blocks : List (List ℕ)) (now 
   pub last : IsLiveView form lead_in blocks now
   pub so_far : form ≡ Raw → IsLiveViewAt Raw lead_in (length blocks - lead_in) blocks now
 
--- A player shows what all draws that it was given since it began, in order. Where this is blocks alone, it is what the
--- blocks show, and where it is packs alone, what the packs draw.
+-- A player shows what stands on its picture: what all draws that it was given since it began, in order. Where this is
+-- blocks alone, it is what the blocks show, and where it is packs alone, what the packs draw.
 pub record IsShownByPlayer (player : LivePlayer) (now : Standing) : Type 0 where
+  pub stands : now ≡ standing_on player
   pub all : (form : Form) (lead_in : ℕ) (given : List Given) → HasPlayed form lead_in given player
       → now ≡ standing_after blank (instructions_in form lead_in given)
   pub blocks : (form : Form) (lead_in : ℕ) (given : List Given) → HasPlayed form lead_in given player

@@ -6,4 +6,5 @@ abbrev pub invariant-loop-k : goal.invariant-loop-k
 invariant-loop-k l = record {
   size : length l.levels ≡ 16;
   shown : (n : ℕ) → n < l.k → slice_index l.levels n ≡ slice_index l.picture.levels n;
+  range : (n : ℕ) → n < l.k → slice_index l.levels n < 64;
 }

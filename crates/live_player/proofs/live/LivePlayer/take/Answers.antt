@@ -7,7 +7,7 @@ use Rattle.live_player.proofs.live.LivePlayer.take.Goals as goal
 
 pub returns-in-Some-clause-fed : goal.returns-in-Some-clause-fed
 returns-in-Some-clause-fed c form lead_in given played =
-    fed_more form lead_in given c.args.block.now c.args.self.now c.step.new.self c.told-block c.step.ensures.gathers c.step.ensures.draws played
+    fed_more form lead_in given c.args.block.now c.args.self.now c.step.new.self c.told-block c.step.ensures.gathers c.step.ensures.draws c.step.ensures.lead_in c.step.ensures.blocks c.step.ensures.bad played
 
 pub returns-in-Some-clause-words : goal.returns-in-Some-clause-words
 returns-in-Some-clause-words c form lead_in given played =
@@ -16,7 +16,7 @@ returns-in-Some-clause-words c form lead_in given played =
 
 pub returns-in-None-clause-fed : goal.returns-in-None-clause-fed
 returns-in-None-clause-fed c form lead_in given played =
-    fed_more form lead_in given c.args.block.now c.args.self.now c.step.new.self c.told-block c.step.ensures.gathers c.step.ensures.draws played
+    fed_more form lead_in given c.args.block.now c.args.self.now c.step.new.self c.told-block c.step.ensures.gathers c.step.ensures.draws c.step.ensures.lead_in c.step.ensures.blocks c.step.ensures.bad played
 
 pub returns-in-None-clause-words : goal.returns-in-None-clause-words
 returns-in-None-clause-words c form lead_in given played =

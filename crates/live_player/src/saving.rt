@@ -1,0 +1,86 @@
+// A player that is saved, and one that goes back to where another was saved.
+ghost use Rattle.std.specs.Prelude.{◌≡◌, ◌≤◌, [], List, ℕ, length};
+ghost use Rattle.disc_time.specs.Counts.{most_lead_in};
+ghost use Rattle.raw_subcode.specs.Sizes.{most_units};
+ghost use Rattle.raw_subcode.specs.declared.form.Form.{Form};
+ghost use Rattle.live_player.specs.Lives.{Given, HasPlayed, blocks_in};
+ghost use Rattle.live_player.specs.declared.live.LivePlayer.{LivePlayer};
+ghost use Rattle.cdg_checkpoint.specs.Resumed.{saved_slots};
+ghost use Rattle.cdg_io.specs.Run.{run_state};
+ghost use Rattle.checkpoint_files.specs.Checkpoint.{checkpoint_in, file_of};
+ghost use Rattle.checkpoint_files.specs.Table.{IsCheckpointFile};
+ghost use Rattle.live_player.specs.Saving.{checkpoint_of, IsAt};
+ghost use Rattle.rw_interleave.specs.Gathering.{gather_next};
+
+use crate::LivePlayer;
+use checkpoint_files::{CheckpointFile, Counts};
+use raw_subcode::Form;
+use rw_interleave::{Gather, Slot};
+
+// The slots that a checkpoint keeps.
+const SLOTS: u32 = 7;
+
+impl LivePlayer {
+    /// Writes the file of the checkpoint at which the player is. It is accepted only where the stream is raw and no
+    /// longer than a checkpoint can say.
+    pub fn save(&self, file: &mut CheckpointFile)
+        ensures { file.new ≡ file_of (checkpoint_of self.now) }
+    {
+        let read = self.blocks.min(self.lead_in);
+        let counts = Counts {
+            to_come: self.lead_in - read,
+            lead_in: read,
+            program: self.blocks - read,
+            bad: self.bad,
+        };
+        let slots = self.words.gather.symbols();
+        file.compose(&counts, &slots, &self.drawing.picture.screen);
+    }
+
+    /// Goes to the checkpoint of a file, in a raw stream.
+    pub fn load(&mut self, file: &CheckpointFile)
+        requires { IsCheckpointFile file.now }
+        ensures { IsAt (checkpoint_in file.now) self.new }
+    {
+        let counts = file.counts();
+        let lead_in = counts.to_come + counts.lead_in;
+        let blocks = counts.lead_in + counts.program;
+        self.lead_in = lead_in;
+        self.blocks = blocks;
+        self.bad = counts.bad;
+        let words = &mut self.words;
+        words.form = Form::Raw;
+        words.lead_in = counts.to_come;
+        words.gather = gathered_slots(file, counts.program);
+        file.bring_back(&mut self.drawing.picture.screen);
+    }
+}
+
+// Gathers the saved slots, the oldest first.
+fn gathered_slots(file: &CheckpointFile, program: u32) -> Gather
+    requires file { IsCheckpointFile file.now }
+    requires program { program ≡ (checkpoint_in file.now).program }
+    ensures { result ≡ run_state gather_next [] (saved_slots (checkpoint_in file.now)) }
+{
+    let mut gather = Gather::new();
+    let kept = SLOTS.min(4 * program.min(2));
+    for k in 0..kept {
+        let slot = file.slot((SLOTS - kept + k) as usize);
+        gather.push(&Slot::new(&slot));
+    }
+    gather
+}
+
+/// A law: where a raw stream has no more blocks than a checkpoint counts, the file of a player is a checkpoint's, and a
+/// player that goes to it goes on as the one that was saved.
+pub fn a_saved_player_goes_on()
+    ensures raw { (lead_in : ℕ) (given : List Given) (saved : LivePlayer)
+        → HasPlayed Form.Raw lead_in given saved → saved.words.form ≡ Form.Raw }
+    ensures accepted { (lead_in : ℕ) (given : List Given) (saved : LivePlayer)
+        → HasPlayed Form.Raw lead_in given saved → lead_in ≤ most_lead_in
+        → length (blocks_in given) ≤ most_units → IsCheckpointFile (file_of (checkpoint_of saved)) }
+    ensures goes_on { (lead_in : ℕ) (given : List Given) (saved back : LivePlayer)
+        → HasPlayed Form.Raw lead_in given saved → lead_in ≤ most_lead_in
+        → length (blocks_in given) ≤ most_units
+        → IsAt (checkpoint_in (file_of (checkpoint_of saved))) back → HasPlayed Form.Raw lead_in given back }
+{}

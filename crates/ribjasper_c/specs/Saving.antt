@@ -1,0 +1,19 @@
+-- Players and the files of their checkpoints.
+use Rattle.std.specs.Prelude.{◌≡◌, ◌≢◌, ◌⊎◌, ℕ, List, [], ◌∷◌}
+use Rattle.checkpoint_files.specs.Checkpoint.{checkpoint_in, file_of}
+use Rattle.checkpoint_files.specs.Table.{IsCheckpointFile}
+use Rattle.raw_subcode.specs.declared.form.Form.TheVariants.{Raw}
+use Rattle.live_player.specs.Saving.{IsAt, checkpoint_of}
+use Rattle.live_player.specs.declared.live.LivePlayer.{LivePlayer}
+
+-- this is the file of the checkpoint at which the player is
+abbrev pub IsSavedAs : List ℕ → LivePlayer → Type 0
+IsSavedAs file player = (file ≡ file_of (checkpoint_of player)) × IsCheckpointFile file
+
+-- the player's stream is not raw, or is longer than a checkpoint can say
+abbrev pub CannotBeSaved : LivePlayer → Type 0
+CannotBeSaved player = (player.words.form ≢ Raw) ⊎ (¬ IsCheckpointFile (file_of (checkpoint_of player)))
+
+-- there is one player, and it is at the checkpoint in a file
+abbrev pub AreAt : List ℕ → List LivePlayer → Type 0
+AreAt file players = (player : LivePlayer) × (players ≡ player ∷ []) × IsAt (checkpoint_in file) player

@@ -1,0 +1,153 @@
+// A player that is saved to a file and brought back, and one that is copied to another.
+ghost use Rattle.std.specs.Prelude.{◌≡◌, ◌≢◌, ◌≤◌, ◌⊎◌, ◌↔◌, ◌&&◌, ◌∷◌, [], List, ℕ, false, if◌then◌else◌, pos, negsuc, length, IfSome};
+ghost use Rattle.disc_time.specs.Counts.{most_lead_in};
+ghost use Rattle.raw_subcode.specs.Sizes.{most_units};
+ghost use Rattle.raw_subcode.specs.declared.form.Form.{Form};
+ghost use Rattle.checkpoint_files.specs.Table.{IsBadAt, IsCheckpointFile};
+ghost use Rattle.live_player.specs.Lives.{Given, HasPlayed, blocks_in};
+ghost use Rattle.live_player.specs.declared.live.LivePlayer.{LivePlayer};
+ghost use Rattle.ribjasper_c.specs.Handles.{IsPlaying};
+ghost use Rattle.ribjasper_c.specs.Saving.{CannotBeSaved, IsSavedAs, AreAt};
+
+use crate::Playing;
+use cdg_io::SteadySource;
+use checkpoint_files::{CheckpointFile, FILE_BYTES};
+use live_player::{LivePlayer, a_saved_player_goes_on};
+use raw_subcode::Form;
+use std::alloc::Global;
+
+const DONE: i32 = 0;
+
+const REFUSED: i32 = -1;
+
+const NO_CHECKPOINT: i32 = 3;
+
+const NO_MEMORY: i32 = 7;
+
+/// Writes the file of the checkpoint at which an open player is. 0, or -1 where the player is closed or cannot be
+/// saved, or 7 where no memory is left.
+#[unsafe(no_mangle)]
+pub extern "C" fn ribjasper_player_save(
+    alloc: Global,
+    player: &mut Playing,
+    file: &mut [u8; FILE_BYTES],
+) -> i32
+    ensures saved { result ≡ pos 0 → (live : LivePlayer) × (player.old.handle.players ≡ live ∷ [])
+        × IsSavedAs file.new live }
+    ensures refused { result ≡ negsuc 0 → (live : LivePlayer) → player.old.handle.players ≡ live ∷ []
+        → CannotBeSaved live }
+    // A player of a raw stream that is no longer than a checkpoint can say is saved, where there is memory.
+    ensures can { (lead_in : ℕ) (given : List Given)
+        → IsPlaying Form.Raw lead_in given player.old.handle.players
+        → lead_in ≤ most_lead_in → length (blocks_in given) ≤ most_units → result ≢ negsuc 0 }
+    ensures closed { player.old.is_open ≡ false → result ≡ negsuc 0 }
+    ensures answer { (result ≡ pos 0) ⊎ (result ≡ negsuc 0) ⊎ (result ≡ pos 7) }
+    ensures stays { player.new.is_open ≡ player.old.is_open }
+    ensures same { player.new.handle.players ≡ player.old.handle.players }
+    ensures untouched { result ≢ pos 0 → file.new ≡ file.old }
+{
+    a_saved_player_goes_on();
+    if !player.is_open {
+        return REFUSED;
+    }
+    let live = player.take_out();
+    let answer = save(alloc, &live, file);
+    player.put_back(live);
+    answer
+}
+
+// Writes the file of a player.
+fn save(alloc: Global, live: &LivePlayer, file: &mut [u8; FILE_BYTES]) -> i32
+    ensures saved { result ≡ pos 0 → IsSavedAs file.new live.now }
+    ensures refused { result ≡ negsuc 0 → CannotBeSaved live.now }
+    ensures answer { (result ≡ pos 0) ⊎ (result ≡ negsuc 0) ⊎ (result ≡ pos 7) }
+    ensures untouched { result ≢ pos 0 → file.new ≡ file.old }
+{
+    if !matches!(live.words.form, Form::Raw) {
+        return REFUSED;
+    }
+    let Ok(mut saved) = CheckpointFile::start(alloc) else {
+        return NO_MEMORY;
+    };
+    live.save(&mut saved);
+    match saved.check() {
+        Ok(()) => {
+            file.copy_from_slice(saved.bytes());
+            DONE
+        }
+        Err(_) => REFUSED,
+    }
+}
+
+/// Brings an open player to the checkpoint of a file, in a raw stream. 0; or -1 where it is closed, 7 where no memory is
+/// left, or 3 where the file is none: then the byte that shows it is told.
+#[unsafe(no_mangle)]
+pub extern "C" fn ribjasper_player_load(
+    alloc: Global,
+    player: &mut Playing,
+    file: &[u8; FILE_BYTES],
+    byte: &mut u32,
+) -> i32
+    ensures loaded { result ≡ pos 0 → IsCheckpointFile file.now × AreAt file.now player.new.handle.players }
+    // Where the file is that of a player that was saved, this one was given from here on what that one was given.
+    ensures goes_on { result ≡ pos 0 → (saved : LivePlayer) (lead_in : ℕ) (given : List Given)
+        → IsSavedAs file.now saved → HasPlayed Form.Raw lead_in given saved
+        → lead_in ≤ most_lead_in → length (blocks_in given) ≤ most_units
+        → IsPlaying Form.Raw lead_in given player.new.handle.players }
+    ensures bad { result ≡ pos 3 → IsBadAt file.now byte.new }
+    ensures closed { (result ≡ negsuc 0) ↔ (player.old.is_open ≡ false) }
+    ensures answer { (result ≡ pos 0) ⊎ (result ≡ negsuc 0) ⊎ (result ≡ pos 3) ⊎ (result ≡ pos 7) }
+    ensures stays { player.new.is_open ≡ player.old.is_open }
+    ensures refused { result ≢ pos 0 → player.new.handle.players ≡ player.old.handle.players }
+    ensures same { result ≢ pos 3 → byte.new ≡ byte.old }
+{
+    a_saved_player_goes_on();
+    if !player.is_open {
+        return REFUSED;
+    }
+    let Some(saved) = read_file(alloc, file) else {
+        return NO_MEMORY;
+    };
+    match saved.check() {
+        Ok(()) => {
+            let mut live = player.take_out();
+            live.load(&saved);
+            player.put_back(live);
+            DONE
+        }
+        Err(bad) => {
+            *byte = bad;
+            NO_CHECKPOINT
+        }
+    }
+}
+
+// The file of these bytes, where there is memory.
+fn read_file(alloc: Global, bytes: &[u8; FILE_BYTES]) -> Option<CheckpointFile>
+    ensures { IfSome result (λ file. file ≡ bytes.now) }
+{
+    let mut file = CheckpointFile::start(alloc).ok()?;
+    let mut source = SteadySource::new(bytes);
+    file.read(&mut source).ok()?;
+    Some(file)
+}
+
+/// Makes one open player show and gather from here on what another does. 0, or -1 where one of them is closed.
+#[unsafe(no_mangle)]
+pub extern "C" fn ribjasper_player_copy(from: &mut Playing, to: &mut Playing) -> i32
+    ensures copied { result ≡ pos 0 → to.new.handle.players ≡ from.old.handle.players }
+    ensures answer { result ≡ (if from.old.is_open && to.old.is_open then pos 0 else negsuc 0) }
+    ensures stays { (from.new.is_open ≡ from.old.is_open) × (to.new.is_open ≡ to.old.is_open) }
+    ensures same { from.new.handle.players ≡ from.old.handle.players }
+    ensures refused { result ≡ negsuc 0 → to.new.handle.players ≡ to.old.handle.players }
+{
+    if !from.is_open || !to.is_open {
+        return REFUSED;
+    }
+    let other = from.take_out();
+    let mut live = to.take_out();
+    live.copy_from(&other);
+    from.put_back(other);
+    to.put_back(live);
+    DONE
+}
