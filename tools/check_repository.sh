@@ -16,7 +16,7 @@ try() {
     "$@" >"$skipped.told" 2>&1
     status=$?
     cat "$skipped.told"
-    grep -i 'skipped' "$skipped.told" >>"$skipped"
+    grep -i 'skipped' "$skipped.told" | grep -v ' 0 skipped' >>"$skipped"
     return "$status"
 }
 

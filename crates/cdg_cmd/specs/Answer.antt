@@ -125,7 +125,8 @@ Does (Press lead_in length) call status = PressesWith lead_in length call status
 Does (Save lead_in) call status = SavesWith lead_in call status
 Does (Resume at) call status = ResumesWith at call status
 
--- where the work is done and nothing is bad, this holds; else a read or a write failed or no memory was found
+-- the status is that the work is done and nothing is bad, and this holds; or it is a failed read, a failed write or want
+-- of memory, of which nothing is said
 abbrev pub OnDone : Type 0 → Status → Type 0
 OnDone holds Done = holds
 OnDone holds (ReadFault which) = ⊤

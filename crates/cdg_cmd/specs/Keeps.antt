@@ -25,7 +25,7 @@ ReadsSecond (Merge lead_in) first = ⊤
 ReadsSecond (Resume at) first = (file : List ℕ) × ReadsCheckpoint at first file
 ReadsSecond command first = ⊥
 
--- and but for `merge`, which reads both in turn, only after the end of the first was told
+-- it may read its second input so: `merge` in turn with the first, every other only after the end of the first was told
 abbrev pub MayReadSecond : Command → Input → Type 0
 MayReadSecond (Merge lead_in) first = ⊤
 MayReadSecond command first = RoseOnce first.ends.before first.ends.after × ReadsSecond command first.left

@@ -85,7 +85,7 @@ FirstIsAtEnd (Ok merged) left = IsAtEnd left
 FirstIsAtEnd (Err (Torn block)) left = IsAtEnd left
 FirstIsAtEnd (Err stop) left = ⊤
 
--- and the second
+-- the same of the second
 abbrev pub EndsSecond : Result Merged MergeStop → Option (List ℕ) → Type 0
 EndsSecond (Ok merged) left = IsAtEnd left
 EndsSecond (Err (SecondTorn block)) left = IsAtEnd left
