@@ -1,62 +1,12 @@
 /* The calls that tell what stands in a stream and in its lead-in, on streams that are made here: the values come from
    docs/FORMATS.md. With three arguments, a stream, the blocks of its lead-in and what `check` says of it, followed by what
-   `text` says, the sums of the rows and the lines are compared with those of the program. The link hands malloc, realloc
-   and free to the functions below (-Wl,--wrap), so that requests can be refused and what is held can be counted. */
+   `text` says, the sums of the rows and the lines are compared with those of the program. Linked with a
+   heap that counts (testing.h). */
 #include "ribjasper.h"
 
-#include <stdio.h>
-#include <stdlib.h>
-#include <string.h>
-
-#define CHECK(holds) check((holds) ? 1 : 0, #holds, __LINE__)
+#include "testing.h"
 
 enum { BLOCKS = 4, BYTES = 96 * BLOCKS };
-
-static int failed;
-static long requests;
-static long refused = -1;
-static long held;
-
-#ifdef __cplusplus
-extern "C" {
-#endif
-void *__real_malloc(size_t size);
-void *__real_realloc(void *at, size_t size);
-void __real_free(void *at);
-void *__wrap_malloc(size_t size);
-void *__wrap_realloc(void *at, size_t size);
-void __wrap_free(void *at);
-#ifdef __cplusplus
-}
-#endif
-
-void *__wrap_malloc(size_t size)
-{
-    void *at = requests++ == refused ? NULL : __real_malloc(size);
-    held += at != NULL;
-    return at;
-}
-
-void *__wrap_realloc(void *at, size_t size)
-{
-    void *moved = requests++ == refused ? NULL : __real_realloc(at, size);
-    held += at == NULL && moved != NULL;
-    return moved;
-}
-
-void __wrap_free(void *at)
-{
-    held -= at != NULL;
-    __real_free(at);
-}
-
-static void check(int holds, const char *what, int line)
-{
-    if (!holds) {
-        printf("test_desk_calls: line %d: %s\n", line, what);
-        failed = 1;
-    }
-}
 
 static int all_are(const void *bytes, size_t count, uint8_t value)
 {

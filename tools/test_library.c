@@ -1,59 +1,8 @@
 /* Each call of the library on rows whose values come from docs/FORMATS.md and from the standards that it names, and
-   what each call refuses. The link hands malloc, realloc and free to the functions below (-Wl,--wrap), so that requests
-   can be refused and what is held can be counted. */
+   what each call refuses. Linked with a heap that counts (testing.h). */
 #include "ribjasper.h"
 
-#include <stdio.h>
-#include <stdlib.h>
-#include <string.h>
-
-#define CHECK(holds) check((holds) ? 1 : 0, #holds, __LINE__)
-
-static int failed;
-static long requests;
-static long refused = -1;
-static long held;
-
-#ifdef __cplusplus
-extern "C" {
-#endif
-void *__real_malloc(size_t size);
-void *__real_realloc(void *at, size_t size);
-void __real_free(void *at);
-void *__wrap_malloc(size_t size);
-void *__wrap_realloc(void *at, size_t size);
-void __wrap_free(void *at);
-#ifdef __cplusplus
-}
-#endif
-
-void *__wrap_malloc(size_t size)
-{
-    void *at = requests++ == refused ? NULL : __real_malloc(size);
-    held += at != NULL;
-    return at;
-}
-
-void *__wrap_realloc(void *at, size_t size)
-{
-    void *moved = requests++ == refused ? NULL : __real_realloc(at, size);
-    held += at == NULL && moved != NULL;
-    return moved;
-}
-
-void __wrap_free(void *at)
-{
-    held -= at != NULL;
-    __real_free(at);
-}
-
-static void check(int holds, const char *what, int line)
-{
-    if (!holds) {
-        printf("test_library: line %d: %s\n", line, what);
-        failed = 1;
-    }
-}
+#include "testing.h"
 
 /* Whether all of these bytes are this one. */
 static int all_are(const uint8_t *bytes, size_t count, uint8_t value)

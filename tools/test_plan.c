@@ -3,57 +3,7 @@
    prints the rows of that disc instead. Linked as tools/test_library.c is. */
 #include "ribjasper.h"
 
-#include <stdio.h>
-#include <stdlib.h>
-#include <string.h>
-
-#define CHECK(holds) check((holds) ? 1 : 0, #holds, __LINE__)
-
-static int failed;
-static long requests;
-static long refused = -1;
-static long held;
-
-#ifdef __cplusplus
-extern "C" {
-#endif
-void *__real_malloc(size_t size);
-void *__real_realloc(void *at, size_t size);
-void __real_free(void *at);
-void *__wrap_malloc(size_t size);
-void *__wrap_realloc(void *at, size_t size);
-void __wrap_free(void *at);
-#ifdef __cplusplus
-}
-#endif
-
-void *__wrap_malloc(size_t size)
-{
-    void *at = requests++ == refused ? NULL : __real_malloc(size);
-    held += at != NULL;
-    return at;
-}
-
-void *__wrap_realloc(void *at, size_t size)
-{
-    void *moved = requests++ == refused ? NULL : __real_realloc(at, size);
-    held += at == NULL && moved != NULL;
-    return moved;
-}
-
-void __wrap_free(void *at)
-{
-    held -= at != NULL;
-    __real_free(at);
-}
-
-static void check(int holds, const char *what, int line)
-{
-    if (!holds) {
-        printf("test_plan: line %d: %s\n", line, what);
-        failed = 1;
-    }
-}
+#include "testing.h"
 
 static const char sheet[] = "FILE \"a\" WAVE\nTRACK 01 AUDIO\nINDEX 01 00:00:00\n";
 
