@@ -25,9 +25,9 @@ use Rattle.cdg_screen.specs.Picture.{IsWholeStanding, Standing, standing_after}
 use Rattle.checkpoint_files.specs.Checkpoint.{Checkpoint}
 use Rattle.checkpoint_files.specs.Table.{empty_symbols}
 use Rattle.stream_stages.specs.Steps.{slots_of, window_next, window_gives, words_next, words_give}
-use Rattle.stream_stages.specs.Drawn.{draw_after, drawing_next}
+use Rattle.stream_stages.specs.Drawn.{draw_after, painting_next}
 use Rattle.stream_stages.specs.declared.block_words.BlockWords.{BlockWords}
-use Rattle.stream_stages.specs.declared.drawing.Drawing.{Drawing}
+use Rattle.stream_stages.specs.declared.painting.Painting.{Painting}
 use Rattle.stream_stages.proofs.Slots.{Sized, sized_append, sized_drop, all_slots_sized, all_slots_together, length-all_slots, symbols_small}
 use Rattle.stream_stages.proofs.StageRuns.{all_items, words_run}
 use Rattle.stream_stages.proofs.Conversion.{units_sized, length-units_of}
@@ -114,7 +114,7 @@ both_small xs ys small small' p =
 -- ---- what stands
 
 -- the state of a checkpoint is brought back, to play up to a time
-pub record IsBroughtBack (c : Checkpoint) (time : ℕ) (s : Then BlockWords Drawing) : Type 0 where
+pub record IsBroughtBack (c : Checkpoint) (time : ℕ) (s : Then BlockWords Painting) : Type 0 where
   pub words : s.first ≡ record { form = Raw; lead_in = c.to_come; gather = run_state gather_next [] (saved_slots c) }
   pub left : s.second.left ≡ packs_until c time
   pub bad : s.second.bad ≡ c.bad
@@ -127,7 +127,7 @@ pub record IsSound (c : Checkpoint) : Type 0 where
   pub few_bad : c.bad ≤ 4000000
   pub standing : IsWholeStanding c.standing
 
-module _ (c : Checkpoint) (time n : ℕ) (bytes : List ℕ) (s s' : Then BlockWords Drawing) (sound : IsSound c) (back : IsBroughtBack c time s) (few : n ≤ 1000000) (size : length bytes ≡ n * 96) (run : s' ≡ run_state words_drawn s (units_of 96 n bytes)) where
+module _ (c : Checkpoint) (time n : ℕ) (bytes : List ℕ) (s s' : Then BlockWords Painting) (sound : IsSound c) (back : IsBroughtBack c time s) (few : n ≤ 1000000) (size : length bytes ≡ n * 96) (run : s' ≡ run_state words_drawn s (units_of 96 n bytes)) where
   whole : IsWhole 96 n bytes
   whole = whole_taken Raw n bytes size
 
@@ -189,7 +189,7 @@ module _ (c : Checkpoint) (time n : ℕ) (bytes : List ℕ) (s s' : Then BlockWo
       ap (λ (w : BlockWords). all_items (run_gives words_next words_give w (units_of 96 n bytes))) back.words ∙ words_run Raw c.to_come (run_state gather_next [] (saved_slots c)) (units_of 96 n bytes)
       ∙ raw_words (run_state gather_next [] (saved_slots c)) (flat_map slots_of program) in
       let end : s'.second ≡ draw_after (record { picture = s.second.picture; left = packs_until c time; bad = c.bad }) words =
-      ap (λ (t : Then BlockWords Drawing). t.second) run ∙ then_next_second words_next words_give drawing_next s (units_of 96 n bytes) ∙ drawing_runs s.second (run_gives words_next words_give s.first (units_of 96 n bytes))
+      ap (λ (t : Then BlockWords Painting). t.second) run ∙ then_next_second words_next words_give painting_next s (units_of 96 n bytes) ∙ drawing_runs s.second (run_gives words_next words_give s.first (units_of 96 n bytes))
       ∙ ap₂ draw_after start given in
       subst (AreDrawn s.second.picture (packs_until c time) c.bad words) (sym end) (are_drawn s.second.picture (packs_until c time) c.bad words (subst IsWholeStanding (sym back.stands) sound.standing) (omega (arith, sound.few_bad, words_count, saved_count, slots_count, few)))
 

@@ -17,7 +17,7 @@ use Rattle.rw_interleave.specs.Gathering.{gather_next}
 use Rattle.checkpoint_files.specs.Checkpoint.{Checkpoint, checkpoint_in}
 use Rattle.checkpoint_files.specs.Table.{IsCheckpointFile}
 use Rattle.stream_stages.specs.declared.block_words.BlockWords.{BlockWords}
-use Rattle.stream_stages.specs.declared.drawing.Drawing.{Drawing}
+use Rattle.stream_stages.specs.declared.painting.Painting.{Painting}
 use Rattle.stream_stages.proofs.Playing.{units_in}
 use Rattle.stream_stages.proofs.Views.{done_tests, torn_tests, not_over, is_over, zero_rest, some_rest, whole_taken}
 use Rattle.cdg_checkpoint.specs.Tracked.{TracksBlocks, words_drawn}
@@ -54,11 +54,11 @@ sound_file file good = record {
 abbrev begun_at : Checkpoint → ℕ → BlockWords
 begun_at c to_come = record { form = Raw; lead_in = to_come; gather = run_state gather_next [] (saved_slots c) }
 
-pub brought_back : (c : Checkpoint) (time to_come bad : ℕ) (s : Then BlockWords Drawing) → s.first ≡ begun_at c to_come → to_come ≡ c.to_come → s.second.left ≡ packs_until c time → s.second.bad ≡ bad → bad ≡ c.bad
+pub brought_back : (c : Checkpoint) (time to_come bad : ℕ) (s : Then BlockWords Painting) → s.first ≡ begun_at c to_come → to_come ≡ c.to_come → s.second.left ≡ packs_until c time → s.second.bad ≡ bad → bad ≡ c.bad
     → s.second.picture ≡ c.standing → IsBroughtBack c time s
 brought_back c time to_come bad s words t left b e stands = record { words = words ∙ ap (begun_at c) t; left = left; bad = b ∙ e; stands = stands }
 
-module _ (c : Checkpoint) (time limit : ℕ) (left left' : Option (List ℕ)) (taken : List ℕ) (s s' : Then BlockWords Drawing) (pumped : Pumped) (sound : IsSound c) (back : IsBroughtBack c time s) (fits : limit ≡ blocks_left c)
+module _ (c : Checkpoint) (time limit : ℕ) (left left' : Option (List ℕ)) (taken : List ℕ) (s s' : Then BlockWords Painting) (pumped : Pumped) (sound : IsSound c) (back : IsBroughtBack c time s) (fits : limit ≡ blocks_left c)
     (w : TracksBlocks limit words_drawn (feeding (from_to left left') (from_to s s')) (Ok pumped) taken) where
   blocks_are : c.program + (pumped.units - c.to_come) ≡ blocks_after c taken
   blocks_are = ap (λ n. c.program + (n - c.to_come)) (sym (units_in Raw pumped.units taken (whole_taken Raw pumped.units taken w.done.1)))

@@ -21,7 +21,7 @@ use Rattle.rw_interleave.specs.Stream.{bad_count}
 use Rattle.stream_stages.specs.Screen.{AreMeant, moment}
 use Rattle.stream_stages.specs.Watch.{IsViewed}
 use Rattle.stream_stages.specs.declared.block_words.BlockWords.{BlockWords}
-use Rattle.stream_stages.specs.declared.drawing.Drawing.{Drawing}
+use Rattle.stream_stages.specs.declared.painting.Painting.{Painting}
 use Rattle.stream_stages.proofs.Slots.{sized_drop, length-all_symbols}
 use Rattle.stream_stages.proofs.PumpedBlocks.{plain_blocks}
 use Rattle.stream_stages.proofs.Conversion.{units_sized, length-units_of}
@@ -34,7 +34,7 @@ use Rattle.cdg_checkpoint.proofs.Tails.{kept_after}
 use Rattle.cdg_io.proofs.Runs.{then_next_first}
 use Rattle.rw_interleave.specs.Gathering.{kept_symbols}
 use Rattle.stream_stages.specs.Steps.{words_give, words_next}
-use Rattle.stream_stages.specs.Drawn.{drawing_next}
+use Rattle.stream_stages.specs.Drawn.{painting_next}
 
 -- ---- the blocks of whole bytes
 
@@ -49,7 +49,7 @@ symbols_count lead_in n bytes whole =
     ap length (symbols_are lead_in n bytes whole) ∙ length-all_symbols (drop lead_in (units_of 96 n bytes)) (sized_drop 96 lead_in _ (units_sized 96 n bytes whole.fits))
     ∙ ap (λ k. 96 * k) (length-drop lead_in (units_of 96 n bytes) ∙ ap (λ k. k - lead_in) (length-units_of 96 n bytes))
 
-module _ (lead_in n : ℕ) (bytes file : List ℕ) (s s' : Then BlockWords Drawing) (ready : IsReady Raw lead_in 1000000 s) (few : n ≤ 1000000) (size : length bytes ≡ n * 96) (run : s' ≡ run_state words_drawn s (units_of 96 n bytes)) (kept : IsKept n lead_in s' file) where
+module _ (lead_in n : ℕ) (bytes file : List ℕ) (s s' : Then BlockWords Painting) (ready : IsReady Raw lead_in 1000000 s) (few : n ≤ 1000000) (size : length bytes ≡ n * 96) (run : s' ≡ run_state words_drawn s (units_of 96 n bytes)) (kept : IsKept n lead_in s' file) where
   whole : IsWhole 96 n bytes
   whole = whole_taken Raw n bytes size
 
@@ -59,7 +59,7 @@ module _ (lead_in n : ℕ) (bytes file : List ℕ) (s s' : Then BlockWords Drawi
   viewed : IsViewed (moment Raw lead_in 1000000) bytes s'.second.picture s'.second.bad
   viewed =
       viewed_bytes Raw lead_in 1000000 s bytes n s'.second ready few whole
-      (ap (λ (t : Then BlockWords Drawing). t.second) run
+      (ap (λ (t : Then BlockWords Painting). t.second) run
       ∙ ap (λ (us : List (List ℕ)). (run_state drawings_next s us).second) (sym (plain_blocks Raw refl (units_of 96 n bytes))))
 
   all_found : take (whole_packs 1000000) viewed.found ≡ viewed.found
@@ -67,8 +67,8 @@ module _ (lead_in n : ℕ) (bytes file : List ℕ) (s s' : Then BlockWords Drawi
 
   slots : kept_symbols s'.first.gather ≡ last_symbols 168 (program_symbols Raw bytes lead_in)
   slots =
-      ap (λ (t : Then BlockWords Drawing). kept_symbols t.first.gather) run
-      ∙ ap (λ (w : BlockWords). kept_symbols w.gather) (then_next_first words_next words_give drawing_next s (units_of 96 n bytes))
+      ap (λ (t : Then BlockWords Painting). kept_symbols t.first.gather) run
+      ∙ ap (λ (w : BlockWords). kept_symbols w.gather) (then_next_first words_next words_give painting_next s (units_of 96 n bytes))
       ∙ kept_after lead_in s.first (units_of 96 n bytes) ready.words (units_sized 96 n bytes whole.fits)
       ∙ ap (last_symbols 168) (sym (symbols_are lead_in n bytes whole))
 
@@ -95,7 +95,7 @@ module _ (lead_in n : ℕ) (bytes file : List ℕ) (s s' : Then BlockWords Drawi
 
 -- ---- the answers
 
-module _ (lead_in : ℕ) (left left' held held' : Option (List ℕ)) (s s' : Then BlockWords Drawing) (taken file : List ℕ) (pumped : Pumped) (ready : IsReady Raw lead_in 1000000 s) (w : TracksBlocks most_units words_drawn (feeding (from_to left left') (from_to s s')) (Ok pumped) taken) (kept : IsKept pumped.units lead_in s' file) where
+module _ (lead_in : ℕ) (left left' held held' : Option (List ℕ)) (s s' : Then BlockWords Painting) (taken file : List ℕ) (pumped : Pumped) (ready : IsReady Raw lead_in 1000000 s) (w : TracksBlocks most_units words_drawn (feeding (from_to left left') (from_to s s')) (Ok pumped) taken) (kept : IsKept pumped.units lead_in s' file) where
   saved : IsSaved lead_in taken pumped file
   saved = is_saved lead_in pumped.units taken file s s' ready w.done.2 w.done.1 w.done.3 kept
 

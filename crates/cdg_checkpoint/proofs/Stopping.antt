@@ -9,7 +9,7 @@ use Rattle.cdg_io.specs.declared.pumping.PumpStop.{PumpStop}
 use Rattle.cdg_io.specs.declared.stage.Then.{Then}
 use Rattle.checkpoint_files.specs.Checkpoint.{Checkpoint}
 use Rattle.stream_stages.specs.declared.block_words.BlockWords.{BlockWords}
-use Rattle.stream_stages.specs.declared.drawing.Drawing.{Drawing}
+use Rattle.stream_stages.specs.declared.painting.Painting.{Painting}
 use Rattle.cdg_checkpoint.specs.Tracked.{TracksBlocks, words_drawn}
 use Rattle.cdg_checkpoint.specs.Resumed.{EndsAsResumed, GoesOn, IsAcceptedBy, IsGoneOnBy, IsResumedBy, acceptance, blocks_left, reached, time_after}
 use Rattle.cdg_checkpoint.specs.declared.stops.Resumed.{Resumed}
@@ -55,7 +55,7 @@ all_resumed_by None stop c time h = tt
 all_resumed_by (Some all) stop c time h = resumed_by stop c time (length all) h
 
 -- the rest was taken as far as the stop says
-pub gone_on_to_stop : (c : Checkpoint) (time limit : ℕ) (left left' : Option (List ℕ)) (taken : List ℕ) (s s' : Then BlockWords Drawing) (stop : PumpStop) (other : ResumeStop) → limit ≡ blocks_left c
+pub gone_on_to_stop : (c : Checkpoint) (time limit : ℕ) (left left' : Option (List ℕ)) (taken : List ℕ) (s s' : Then BlockWords Painting) (stop : PumpStop) (other : ResumeStop) → limit ≡ blocks_left c
     → TracksBlocks limit words_drawn (feeding (from_to left left') (from_to s s')) (Err stop) taken → ((block : ℕ) → other ≡ Torn block → IsAtEnd left') → ((blocks : ℕ) → other ≢ PastEnd blocks)
     → GoesOn (time_after c time) (from_to left left') s'.second.picture (Err other) taken
 gone_on_to_stop c time limit left left' taken s s' stop other fits w torn not_past = record {

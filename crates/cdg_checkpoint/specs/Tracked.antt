@@ -9,15 +9,15 @@ use Rattle.cdg_io.specs.declared.pumping.PumpStop.{PumpStop}
 use Rattle.cdg_io.specs.declared.pumping.PumpStop.TheVariants.{WriteFault, Torn}
 use Rattle.cdg_io.specs.declared.stage.Then.{Then}
 use Rattle.stream_stages.specs.Steps.{words_next, words_give}
-use Rattle.stream_stages.specs.Drawn.{drawing_next}
+use Rattle.stream_stages.specs.Drawn.{painting_next}
 use Rattle.stream_stages.specs.declared.block_words.BlockWords.{BlockWords}
-use Rattle.stream_stages.specs.declared.drawing.Drawing.{Drawing}
+use Rattle.stream_stages.specs.declared.painting.Painting.{Painting}
 
 -- the words of a stream, and what they draw, after a block
-abbrev pub words_drawn : Then BlockWords Drawing → List ℕ → Then BlockWords Drawing
+abbrev pub words_drawn : Then BlockWords Painting → List ℕ → Then BlockWords Painting
 words_drawn s block = record {
   first = words_next s.first block;
-  second = then_second drawing_next s.second (words_give s.first block);
+  second = then_second painting_next s.second (words_give s.first block);
 }
 
 -- These bytes were taken, and where they are whole blocks to the end, the stage is in the last state of its run over

@@ -5,14 +5,14 @@ ghost use Rattle.cdg_checkpoint.specs.Fresh.{HasReadNothing};
 use cdg_io::Then;
 use checkpoint_files::CheckpointFile;
 use std::alloc::{AllocError, Global};
-use stream_stages::{BlockWords, Drawing, Picture};
+use stream_stages::{BlockWords, Painting, Picture};
 
 /// Saves checkpoints of streams and resumes from them, one at a time. All its memory is taken at the start;
 /// each call begins anew, whatever stopped the one before.
 #[derive(Drop)]
 pub struct Checkpointer {
     /// The last slots of a stream, and what it drew.
-    pub words: Then<BlockWords, Drawing>,
+    pub words: Then<BlockWords, Painting>,
     /// The file of a checkpoint.
     pub file: CheckpointFile,
 }
@@ -26,13 +26,13 @@ impl Checkpointer {
     pub fn start(alloc: Global) -> Result<Checkpointer, AllocError>
         ensures { IfOk result HasReadNothing }
     {
-        let drawing = Drawing {
+        let painting = Painting {
             picture: Picture::start(alloc)?,
             left: 0,
             bad: 0,
         };
         Ok(Checkpointer {
-            words: Then::new(BlockWords::new(), drawing),
+            words: Then::new(BlockWords::new(), painting),
             file: CheckpointFile::start(alloc)?,
         })
     }

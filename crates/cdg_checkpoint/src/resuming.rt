@@ -9,7 +9,7 @@ ghost use Rattle.rw_interleave.specs.Interleave.{whole_packs};
 ghost use Rattle.rw_interleave.specs.Gathering.{gather_next};
 ghost use Rattle.checkpoint_files.specs.Table.{IsCheckpointFile};
 ghost use Rattle.checkpoint_files.specs.Checkpoint.{checkpoint_in, standing_in};
-ghost use Rattle.stream_stages.specs.Stages.{drawing_of, words_of};
+ghost use Rattle.stream_stages.specs.Stages.{painting_of, words_of};
 ghost use Rattle.cdg_checkpoint.specs.Resumed.{GoesOn, IsAcceptedBy, IsGoneOnBy, IsResumedBy, ReadsSaved, Resumes, acceptance, EndsAsResumed, packs_until, reached, saved_slots, time_after};
 
 use crate::pictures::bring_back;
@@ -97,8 +97,8 @@ impl Checkpointer {
     {
         match self.go_on(at, rest) {
             Ok(resumed) => {
-                let drawing = &self.words.second;
-                match drawing.picture.write_ppm(out) {
+                let painting = &self.words.second;
+                match painting.picture.write_ppm(out) {
                     Ok(()) => Ok(resumed),
                     Err(Failed) => Err(ResumeStop::WriteFault),
                 }
@@ -151,7 +151,7 @@ impl Checkpointer {
         requires not_later { (checkpoint_in self.old.file).program ≤ at }
         ensures goes_on { (taken : List ℕ)
             × GoesOn (time_after (checkpoint_in self.old.file) at) (change S.left rest.old rest.new)
-            (drawing_of self.new.words).picture result taken }
+            (painting_of self.new.words).picture result taken }
         ensures answer { IfSome (S.left rest.old)
             (λ all. IsGoneOnBy result (checkpoint_in self.old.file) at (length all)) }
         ensures file { self.new.file ≡ self.old.file }
@@ -180,16 +180,16 @@ impl Checkpointer {
         requires { counts.now.program + pumped.units < 2 ^ 32 }
         ensures accepted { IsOk (acceptance result) }
         ensures answer { result ≡ reached (counts.now.program + (pumped.units - counts.now.to_come)) at
-            (drawing_of self.now.words).bad }
+            (painting_of self.now.words).bad }
     {
         let blocks = counts.program + pumped.units.saturating_sub(counts.to_come);
         if blocks < at {
             return Err(ResumeStop::PastEnd { blocks });
         }
-        let drawing = &self.words.second;
+        let painting = &self.words.second;
         Ok(Resumed {
             blocks,
-            bad: drawing.bad,
+            bad: painting.bad,
         })
     }
 
@@ -205,19 +205,19 @@ impl Checkpointer {
           lead_in = counts.now.to_come;
           gather = run_state gather_next [] (saved_slots (checkpoint_in self.old.file));
         } }
-        ensures left { (drawing_of self.new.words).left ≡ packs_until (checkpoint_in self.old.file) at }
-        ensures bad { (drawing_of self.new.words).bad ≡ counts.now.bad }
-        ensures stands { (drawing_of self.new.words).picture ≡ standing_in self.old.file }
+        ensures left { (painting_of self.new.words).left ≡ packs_until (checkpoint_in self.old.file) at }
+        ensures bad { (painting_of self.new.words).bad ≡ counts.now.bad }
+        ensures stands { (painting_of self.new.words).picture ≡ standing_in self.old.file }
         ensures file { self.new.file ≡ self.old.file }
     {
         self.gather_slots(counts);
         let words = &mut self.words.first;
         words.form = Form::Raw;
         words.lead_in = counts.to_come;
-        let drawing = &mut self.words.second;
-        drawing.left = whole_packs(at) - whole_packs(counts.program);
-        drawing.bad = counts.bad;
-        bring_back(&self.file, &mut drawing.picture);
+        let painting = &mut self.words.second;
+        painting.left = whole_packs(at) - whole_packs(counts.program);
+        painting.bad = counts.bad;
+        bring_back(&self.file, &mut painting.picture);
     }
 
     // Gathers the saved slots, the oldest first.

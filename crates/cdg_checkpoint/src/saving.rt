@@ -8,7 +8,7 @@ ghost use Rattle.raw_subcode.specs.Sizes.{block_bytes, most_units};
 ghost use Rattle.rw_interleave.specs.Interleave.{whole_packs};
 ghost use Rattle.cdg_screen.specs.Picture.{blank};
 ghost use Rattle.stream_stages.specs.Steps.{fresh_words};
-ghost use Rattle.stream_stages.specs.Stages.{drawing_of, words_of};
+ghost use Rattle.stream_stages.specs.Stages.{painting_of, words_of};
 ghost use Rattle.cdg_checkpoint.specs.Saved.{EndsAsSaved, Saves};
 ghost use Rattle.cdg_checkpoint.specs.Keeping.{IsKept};
 
@@ -65,15 +65,15 @@ impl Checkpointer {
     // Brings back the state before a stream, all of whose packs are drawn.
     fn begin(&mut self, lead_in: u32)
         ensures words { words_of self.new.words ≡ fresh_words Form.Raw lead_in }
-        ensures left { (drawing_of self.new.words).left ≡ whole_packs most_units }
-        ensures bad { (drawing_of self.new.words).bad ≡ 0 }
-        ensures blank { (drawing_of self.new.words).picture ≡ blank }
+        ensures left { (painting_of self.new.words).left ≡ whole_packs most_units }
+        ensures bad { (painting_of self.new.words).bad ≡ 0 }
+        ensures blank { (painting_of self.new.words).picture ≡ blank }
     {
         self.words.first.begin(lead_in, Form::Raw);
-        let drawing = &mut self.words.second;
-        drawing.left = MOST_PACKS;
-        drawing.bad = 0;
-        drawing.picture.reset();
+        let painting = &mut self.words.second;
+        painting.left = MOST_PACKS;
+        painting.bad = 0;
+        painting.picture.reset();
     }
 
     // Composes the file of what was read of a stream.
@@ -81,14 +81,14 @@ impl Checkpointer {
         ensures { IsKept pumped.units lead_in self.old.words self.new.file }
     {
         let read = pumped.units.min(lead_in);
-        let drawing = &self.words.second;
+        let painting = &self.words.second;
         let counts = Counts {
             to_come: lead_in - read,
             lead_in: read,
             program: pumped.units - read,
-            bad: drawing.bad,
+            bad: painting.bad,
         };
         let slots = self.words.first.gather.symbols();
-        compose(&mut self.file, &counts, &slots, &drawing.picture);
+        compose(&mut self.file, &counts, &slots, &painting.picture);
     }
 }

@@ -6,7 +6,7 @@ use Rattle.text_lines.specs.Text.{trimmed, first_word, argument_of, is_some_byte
 use Rattle.cue_sheet.specs.CueLines.{command_named, said_by, CueLine, SaysNothing, SaysCatalogue, SaysFile, SaysTitle, SaysPerformer, SaysSongwriter, SaysTrack, SaysFlags, SaysIsrc, SaysPregap, SaysIndex, SaysPostgap}
 use Rattle.cue_sheet.specs.Grammar.{CueState, has_index_one, lacks_index, follows_number, follows_index, begun, with_index, once, taken, is_second_file, is_placed, spelled_line, obeyed, sheet_step, ended}
 use Rattle.cue_sheet.specs.Steps.{after, later_sheet_reason, unless, end_reason, sheet_said}
-use Rattle.cue_sheet.specs.declared.command.Command.{Command}
+use Rattle.cue_sheet.specs.declared.command.SheetCommand.{SheetCommand}
 use Rattle.cue_sheet.specs.declared.fault.CueWhy.{CueWhy}
 use Rattle.cue_sheet.specs.declared.fault.CueWhy.TheVariants.{SecondFile, Misplaced, Repeated, NoIndex, NotAudio, NumberOrder, IndexOrder, TimeOrder, NoFile, NoTrack}
 
@@ -68,7 +68,7 @@ passed_is false false answer first here = cc
 passed_is true placed answer first here = cc
 
 -- a command that stands well and is spelled well: the line that it says is taken, unless there is a reason against it
-pub obeyed_is : (s : CueState) (word : Option Command) (command : Command) (argument : List ℕ) (line : CueLine) (reason : Option CueWhy)
+pub obeyed_is : (s : CueState) (word : Option SheetCommand) (command : SheetCommand) (argument : List ℕ) (line : CueLine) (reason : Option CueWhy)
     → word ≡ Some command → is_second_file s command ≡ false → is_placed s command ≡ true → said_by command argument ≡ Some line → later_sheet_reason s line ≡ reason
     → obeyed s word argument ≡ unless (after s line) reason
 obeyed_is s word command argument line reason named first here said is =

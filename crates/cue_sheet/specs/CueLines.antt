@@ -5,8 +5,8 @@ use Rattle.std.specs.Str.{str_to_ascii_uppercase, str_eq_ignore_ascii_case}
 use Rattle.disc_time.specs.Counts.{most_tracks, time_count}
 use Rattle.text_lines.specs.Text.{words_in, is_some_bytes, two_digit_number, parsed_time}
 use Rattle.cue_sheet.specs.CueSheet.{IsText, is_catalogue_number, is_capital_code}
-use Rattle.cue_sheet.specs.declared.command.Command.{Command}
-use Rattle.cue_sheet.specs.declared.command.Command.TheVariants.{Remark, Catalogue, File, Title, Performer, Songwriter, Track, Flags, Isrc, Pregap, Index, Postgap}
+use Rattle.cue_sheet.specs.declared.command.SheetCommand.{SheetCommand}
+use Rattle.cue_sheet.specs.declared.command.SheetCommand.TheVariants.{Remark, Catalogue, File, Title, Performer, Songwriter, Track, Flags, Isrc, Pregap, Index, Postgap}
 
 -- a line that is spelled as it must be
 pub data CueLine : Type 0 where
@@ -24,7 +24,7 @@ pub data CueLine : Type 0 where
   SaysPostgap : ℕ → CueLine
 
 -- the words of commands, their letters in either case
-abbrev pub command_words : List (List ℕ × Command)
+abbrev pub command_words : List (List ℕ × SheetCommand)
 command_words =
     (codes "REM", Remark) ∷ (codes "CDTEXTFILE", Remark) ∷ (codes "CATALOG", Catalogue)
     ∷ (codes "FILE", File)
@@ -33,10 +33,10 @@ command_words =
     ∷ (codes "PREGAP", Pregap) ∷ (codes "INDEX", Index) ∷ (codes "POSTGAP", Postgap) ∷ []
 
 -- the command of a word
-unfoldable pub command_named : List ℕ → Option Command
+unfoldable pub command_named : List ℕ → Option SheetCommand
 command_named word =
-    option_map (λ (entry : List ℕ × Command). entry.1)
-    (find (λ (entry : List ℕ × Command). str_eq_ignore_ascii_case word entry.0) command_words)
+    option_map (λ (entry : List ℕ × SheetCommand). entry.1)
+    (find (λ (entry : List ℕ × SheetCommand). str_eq_ignore_ascii_case word entry.0) command_words)
 
 -- a byte that is no control byte
 abbrev pub is_plain : ℕ → Bool
@@ -134,7 +134,7 @@ index_argument (number ∷ time ∷ []) = index_of_words (two_digit_number numbe
 index_argument _ = None
 
 -- what a command says with its argument, if that is spelled as it must be
-abbrev pub said_by : Command → List ℕ → Option CueLine
+abbrev pub said_by : SheetCommand → List ℕ → Option CueLine
 said_by Remark s = Some SaysNothing
 said_by Catalogue s = option_map SaysCatalogue (catalogue_argument s)
 said_by File s = if is_file s then Some SaysFile else None

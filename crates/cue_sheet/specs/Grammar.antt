@@ -5,8 +5,8 @@ use Rattle.text_lines.specs.Text.{lines_of, trimmed, first_word, argument_of, is
 use Rattle.text_lines.specs.Reading.{read_on}
 use Rattle.cue_sheet.specs.CueSheet.{CueTrack, CueSheet, CueSection, track_from, sheet_from}
 use Rattle.cue_sheet.specs.CueLines.{CueLine, SaysNothing, SaysCatalogue, SaysFile, SaysTitle, SaysPerformer, SaysSongwriter, SaysTrack, SaysFlags, SaysIsrc, SaysPregap, SaysIndex, SaysPostgap, command_named, said_by}
-use Rattle.cue_sheet.specs.declared.command.Command.{Command}
-use Rattle.cue_sheet.specs.declared.command.Command.TheVariants.{Catalogue, File, Track, Flags, Isrc, Pregap, Index, Postgap}
+use Rattle.cue_sheet.specs.declared.command.SheetCommand.{SheetCommand}
+use Rattle.cue_sheet.specs.declared.command.SheetCommand.TheVariants.{Catalogue, File, Track, Flags, Isrc, Pregap, Index, Postgap}
 use Rattle.cue_sheet.specs.declared.fault.CueWhy.{CueWhy}
 use Rattle.cue_sheet.specs.declared.fault.CueWhy.TheVariants.{UnknownCommand, SecondFile, Misplaced, BadArgument, Repeated, NoIndex, NotAudio, NumberOrder, IndexOrder, TimeOrder, NoFile, NoTrack}
 
@@ -50,12 +50,12 @@ abbrev pub has_index_one : CueSection → Bool
 has_index_one s = list_any (λ (line : ℕ × ℕ). line.0 == 1) s.indices
 
 -- whether a command is a FILE after a FILE
-abbrev pub is_second_file : CueState → Command → Bool
+abbrev pub is_second_file : CueState → SheetCommand → Bool
 is_second_file s File = s.has_file
 is_second_file s _ = false
 
 -- whether a command may stand here
-abbrev pub is_placed : CueState → Command → Bool
+abbrev pub is_placed : CueState → SheetCommand → Bool
 is_placed s Catalogue = not (is_some s.number)
 is_placed s Track = s.has_file
 is_placed s Flags = is_some s.number
@@ -136,7 +136,7 @@ spelled_line s None = Err BadArgument
 spelled_line s (Some line) = taken s line
 
 -- what a command, if it is one, and its argument make of what was said, or the first reason for which they are refused
-abbrev pub obeyed : CueState → Option Command → List ℕ → Result CueState CueWhy
+abbrev pub obeyed : CueState → Option SheetCommand → List ℕ → Result CueState CueWhy
 obeyed s None argument = Err UnknownCommand
 obeyed s (Some command) argument =
     if is_second_file s command then Err SecondFile

@@ -3,16 +3,16 @@ use Rattle.std.specs.Prelude.{◌≡◌, Result, Ok, Err, ℕ, List, ◌++◌, m
 use Rattle.cue_sheet.specs.CueSheet.{CueSheet, CueSection, sheet_from}
 use Rattle.cue_sheet.specs.CueLines.{CueLine, SaysNothing, SaysCatalogue, SaysFile, SaysTitle, SaysPerformer, SaysSongwriter, SaysTrack, SaysFlags, SaysIsrc, SaysPregap, SaysIndex, SaysPostgap, IsLineInRange}
 use Rattle.cue_sheet.specs.Grammar.{CueState, has_index_one, lacks_index, follows_number, follows_index, track_with, begun, with_index, in_section, obeyed, sheet_step}
-use Rattle.cue_sheet.specs.declared.command.Command.{Command}
+use Rattle.cue_sheet.specs.declared.command.SheetCommand.{SheetCommand}
 use Rattle.cue_sheet.specs.declared.fault.CueWhy.{CueWhy}
 use Rattle.cue_sheet.specs.declared.fault.CueWhy.TheVariants.{Repeated, NoIndex, NotAudio, NumberOrder, IndexOrder, TimeOrder, NoFile, NoTrack}
 use Rattle.cue_sheet.specs.declared.fault.CueStop.{CueStop}
 use Rattle.cue_sheet.specs.declared.fault.CueStop.TheVariants.{Fault, NoMemory}
-use Rattle.cue_sheet.specs.declared.line.Line.{Line}
-use Rattle.cue_sheet.specs.declared.line.Line.TheVariants.{Remark, Catalogue, File, Title, Performer, Songwriter, Track, Flags, Isrc, Pregap, Index, Postgap}
+use Rattle.cue_sheet.specs.declared.line.SheetLine.{SheetLine}
+use Rattle.cue_sheet.specs.declared.line.SheetLine.TheVariants.{Remark, Catalogue, File, Title, Performer, Songwriter, Track, Flags, Isrc, Pregap, Index, Postgap}
 
 -- what a line says, without where its texts lie in memory
-abbrev pub line_said : Line → CueLine
+abbrev pub line_said : SheetLine → CueLine
 line_said Remark = SaysNothing
 line_said (Catalogue digits) = SaysCatalogue digits
 line_said File = SaysFile
@@ -81,7 +81,7 @@ abbrev pub sheet_said : CueState → CueSheet
 sheet_said s = sheet_from s.album (s.tracks ++ track_with s.number s.section)
 
 -- what a check of a line answers
-abbrev pub IsCheckedLine : CueState → Option Command → List ℕ → Result Line CueWhy → Type 0
+abbrev pub IsCheckedLine : CueState → Option SheetCommand → List ℕ → Result SheetLine CueWhy → Type 0
 IsCheckedLine s command argument (Ok line) = (obeyed s command argument ≡ Ok (after s (line_said line)))
     × IsLineInRange (line_said line) × (later_sheet_reason s (line_said line) ≡ None)
 IsCheckedLine s command argument (Err why) = obeyed s command argument ≡ Err why

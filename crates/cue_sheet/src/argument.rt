@@ -8,40 +8,40 @@ ghost use Rattle.cue_sheet.specs.CueSheet.{IsText, is_catalogue_number, is_capit
 ghost use Rattle.cue_sheet.specs.CueLines.{IsLineInRange, begins_quoted, catalogue_argument, code_argument, flags_argument, index_argument, is_file, is_flag, is_plain, is_quote, names_flag, plain, quoted, said_by, text_argument, track_argument, two_words};
 ghost use Rattle.cue_sheet.specs.Steps.{line_said};
 
-use crate::command::{Command, is_word};
-use crate::line::Line;
+use crate::command::{SheetCommand, is_word};
+use crate::line::SheetLine;
 use text_lines::{next_word, time, two_digits};
 
 /// What a command says with its argument, if that is spelled as it must be.
-pub(crate) fn spelled(command: Command, argument: &[u8]) -> Option<Line<'_>>
+pub(crate) fn spelled(command: SheetCommand, argument: &[u8]) -> Option<SheetLine<'_>>
     requires { length argument.now ≤ most_text_bytes }
     ensures line { option_map line_said result ≡ said_by command argument.now }
     ensures range { IfSome result (λ line. IsLineInRange (line_said line)) }
 {
     match command {
-        Command::Remark => Some(Line::Remark),
-        Command::Catalogue => Some(Line::Catalogue(catalogue(argument)?)),
-        Command::File => {
+        SheetCommand::Remark => Some(SheetLine::Remark),
+        SheetCommand::Catalogue => Some(SheetLine::Catalogue(catalogue(argument)?)),
+        SheetCommand::File => {
             if !is_file(argument) {
                 return None;
             }
-            Some(Line::File)
+            Some(SheetLine::File)
         }
-        Command::Title => Some(Line::Title(text(argument)?)),
-        Command::Performer => Some(Line::Performer(text(argument)?)),
-        Command::Songwriter => Some(Line::Songwriter(text(argument)?)),
-        Command::Track => {
+        SheetCommand::Title => Some(SheetLine::Title(text(argument)?)),
+        SheetCommand::Performer => Some(SheetLine::Performer(text(argument)?)),
+        SheetCommand::Songwriter => Some(SheetLine::Songwriter(text(argument)?)),
+        SheetCommand::Track => {
             let (number, audio) = track(argument)?;
-            Some(Line::Track { number, audio })
+            Some(SheetLine::Track { number, audio })
         }
-        Command::Flags => Some(Line::Flags(flags(argument)?)),
-        Command::Isrc => Some(Line::Isrc(code(argument)?)),
-        Command::Pregap => Some(Line::Pregap(time(argument)?)),
-        Command::Index => {
+        SheetCommand::Flags => Some(SheetLine::Flags(flags(argument)?)),
+        SheetCommand::Isrc => Some(SheetLine::Isrc(code(argument)?)),
+        SheetCommand::Pregap => Some(SheetLine::Pregap(time(argument)?)),
+        SheetCommand::Index => {
             let (number, time) = index(argument)?;
-            Some(Line::Index { number, time })
+            Some(SheetLine::Index { number, time })
         }
-        Command::Postgap => Some(Line::Postgap(time(argument)?)),
+        SheetCommand::Postgap => Some(SheetLine::Postgap(time(argument)?)),
     }
 }
 

@@ -4,7 +4,7 @@ ghost use Rattle.std.specs.Str.{str_eq_ignore_ascii_case};
 
 /// A command of a cue sheet.
 #[derive(Clone, Copy)]
-pub(crate) enum Command {
+pub(crate) enum SheetCommand {
     Remark,
     Catalogue,
     File,
@@ -19,38 +19,38 @@ pub(crate) enum Command {
     Postgap,
 }
 
-impl Command {
+impl SheetCommand {
     ghost use Rattle.cue_sheet.specs.CueLines.{command_named};
 
     /// The command of a word, its letters in either case.
     #[tactic(auto, unfolding(crate::specs::CueLines::command_named))]
-    pub(crate) fn named(word: &[u8]) -> Option<Command>
+    pub(crate) fn named(word: &[u8]) -> Option<SheetCommand>
         ensures { result ≡ command_named word.now }
     {
         if is_word(word, b"REM") || is_word(word, b"CDTEXTFILE") {
-            Some(Command::Remark)
+            Some(SheetCommand::Remark)
         } else if is_word(word, b"CATALOG") {
-            Some(Command::Catalogue)
+            Some(SheetCommand::Catalogue)
         } else if is_word(word, b"FILE") {
-            Some(Command::File)
+            Some(SheetCommand::File)
         } else if is_word(word, b"TITLE") {
-            Some(Command::Title)
+            Some(SheetCommand::Title)
         } else if is_word(word, b"PERFORMER") {
-            Some(Command::Performer)
+            Some(SheetCommand::Performer)
         } else if is_word(word, b"SONGWRITER") {
-            Some(Command::Songwriter)
+            Some(SheetCommand::Songwriter)
         } else if is_word(word, b"TRACK") {
-            Some(Command::Track)
+            Some(SheetCommand::Track)
         } else if is_word(word, b"FLAGS") {
-            Some(Command::Flags)
+            Some(SheetCommand::Flags)
         } else if is_word(word, b"ISRC") {
-            Some(Command::Isrc)
+            Some(SheetCommand::Isrc)
         } else if is_word(word, b"PREGAP") {
-            Some(Command::Pregap)
+            Some(SheetCommand::Pregap)
         } else if is_word(word, b"INDEX") {
-            Some(Command::Index)
+            Some(SheetCommand::Index)
         } else if is_word(word, b"POSTGAP") {
-            Some(Command::Postgap)
+            Some(SheetCommand::Postgap)
         } else {
             None
         }

@@ -5,9 +5,9 @@ ghost use Rattle.cue_sheet.specs.Grammar.{CueState, track_with};
 ghost use Rattle.cue_sheet.specs.Views.{section_of, track_value};
 
 use crate::argument::spelled;
-use crate::command::Command;
+use crate::command::SheetCommand;
 use crate::fault::{CueStop, CueWhy};
-use crate::line::Line;
+use crate::line::SheetLine;
 use crate::section::{Section, Track};
 use crate::sheet::Sheet;
 use std::alloc::{AllocError, Global};
@@ -17,7 +17,7 @@ use text_lines::{next_line, split_command, trim, without_mark};
 
 /// What the lines so far say. `section` has the lines of the last track, or those before the first one.
 #[derive(Drop)]
-pub(crate) struct Draft {
+pub(crate) struct SheetDraft {
     has_file: bool,
     latest: u32,
     album: Section,
@@ -26,7 +26,7 @@ pub(crate) struct Draft {
     section: Section,
 }
 
-impl Model for Draft {
+impl Model for SheetDraft {
     ghost Value = { CueState };
 
     ghost view = { λ d. record {
@@ -39,7 +39,7 @@ impl Model for Draft {
     } };
 }
 
-impl Draft {
+impl SheetDraft {
     ghost use Rattle.cue_sheet.specs.Grammar.{nothing_said, is_second_file, is_placed, read_cue};
     ghost use Rattle.cue_sheet.specs.Answers.{IsCueAnswer};
     ghost use Rattle.cue_sheet.specs.CueSheet.{IsSheet};
@@ -48,10 +48,10 @@ impl Draft {
     ghost use Rattle.text_lines.specs.Text.{first_word, argument_of};
 
     /// Nothing said yet.
-    pub(crate) fn new(alloc: Global) -> Draft
+    pub(crate) fn new(alloc: Global) -> SheetDraft
         ensures { result ≡ nothing_said }
     {
-        Draft {
+        SheetDraft {
             has_file: false,
             latest: 0,
             album: Section::new(alloc),
@@ -62,38 +62,38 @@ impl Draft {
     }
 
     // Whether a command is a FILE after a FILE.
-    fn is_second_file(&self, command: Command) -> bool
+    fn is_second_file(&self, command: SheetCommand) -> bool
         ensures { result ≡ is_second_file self.now command }
     {
         match command {
-            Command::File => self.has_file,
+            SheetCommand::File => self.has_file,
             _ => false,
         }
     }
 
     // Whether a command may stand here.
-    fn is_placed(&self, command: Command) -> bool
+    fn is_placed(&self, command: SheetCommand) -> bool
         ensures { result ≡ is_placed self.now command }
     {
         match command {
-            Command::Catalogue => self.number.is_none(),
-            Command::Track => self.has_file,
-            Command::Flags | Command::Isrc => self.number.is_some(),
-            Command::Pregap => self.number.is_some() && self.section.indices.is_empty(),
-            Command::Index => self.number.is_some() && self.section.postgap.is_none(),
-            Command::Postgap => self.number.is_some() && self.section.has_index_one(),
+            SheetCommand::Catalogue => self.number.is_none(),
+            SheetCommand::Track => self.has_file,
+            SheetCommand::Flags | SheetCommand::Isrc => self.number.is_some(),
+            SheetCommand::Pregap => self.number.is_some() && self.section.indices.is_empty(),
+            SheetCommand::Index => self.number.is_some() && self.section.postgap.is_none(),
+            SheetCommand::Postgap => self.number.is_some() && self.section.has_index_one(),
             _ => true,
         }
     }
 
     // Why a line that is spelled and placed well is refused.
     #[tactic(auto, unfolding(crate::specs::Steps::later_sheet_reason))]
-    fn later_reason(&self, line: &Line<'_>) -> Option<CueWhy>
+    fn later_reason(&self, line: &SheetLine<'_>) -> Option<CueWhy>
         ensures { result ≡ later_sheet_reason self.now (line_said line.now) }
     {
         match line {
-            Line::Track { number, audio } => self.track_reason(*number, *audio),
-            Line::Index { number, time } => self.index_reason(*number, *time),
+            SheetLine::Track { number, audio } => self.track_reason(*number, *audio),
+            SheetLine::Index { number, time } => self.index_reason(*number, *time),
             _ if self.section.is_repeated(line) => Some(CueWhy::Repeated),
             _ => None,
         }
@@ -144,12 +144,12 @@ impl Draft {
     }
 
     // What a trimmed line says that is not empty, or the first reason for which it is refused.
-    fn checked<'a>(&self, line: &'a [u8]) -> Result<Line<'a>, CueWhy>
+    fn checked<'a>(&self, line: &'a [u8]) -> Result<SheetLine<'a>, CueWhy>
         requires { length line.now ≤ most_text_bytes }
         ensures { IsCheckedLine self.now (command_named (first_word line.now)) (argument_of line.now) result }
     {
         let (word, argument) = split_command(line);
-        let Some(command) = Command::named(word) else {
+        let Some(command) = SheetCommand::named(word) else {
             return Err(CueWhy::UnknownCommand);
         };
         if self.is_second_file(command) {
@@ -168,14 +168,14 @@ impl Draft {
     }
 
     // Takes a line that is in order. An error leaves the draft in a state of which nothing is said.
-    fn add(&mut self, alloc: Global, line: &Line<'_>) -> Result<(), AllocError>
+    fn add(&mut self, alloc: Global, line: &SheetLine<'_>) -> Result<(), AllocError>
         ensures { IfOk result (λ _. self.new ≡ after self.old (line_said line.now)) }
     {
         match line {
-            Line::File => self.has_file = true,
-            Line::Track { number, .. } => self.begin_track(alloc, *number)?,
+            SheetLine::File => self.has_file = true,
+            SheetLine::Track { number, .. } => self.begin_track(alloc, *number)?,
             _ => {
-                if let Line::Index { time, .. } = line {
+                if let SheetLine::Index { time, .. } = line {
                     self.latest = self.latest.max(*time);
                 }
                 self.section.add(alloc, line)?;

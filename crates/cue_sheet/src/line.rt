@@ -2,7 +2,7 @@
 
 /// A line that is spelled as it must be. Its texts are parts of the sheet's text.
 #[derive(Drop)]
-pub(crate) enum Line<'a> {
+pub(crate) enum SheetLine<'a> {
     Remark,
     Catalogue([u8; 13]),
     File,

@@ -3,7 +3,7 @@ ghost use Rattle.std.specs.Prelude.{◌≡◌, ◌≢◌, ℕ, Bool, [], Some, u
 ghost use Rattle.std.specs.Option.{option_map};
 
 use crate::fault::CueText;
-use crate::line::Line;
+use crate::line::SheetLine;
 use std::alloc::{AllocError, Global};
 
 /// What the lines of one track say, or those before the first track. A line that may stand once is kept in an `Option`.
@@ -68,39 +68,39 @@ impl Section {
     }
 
     /// Whether a line that may stand once stands here already.
-    pub(crate) fn is_repeated(&self, line: &Line<'_>) -> bool
+    pub(crate) fn is_repeated(&self, line: &SheetLine<'_>) -> bool
         ensures { result ≡ is_repeated (section_of self.now) (line_said line.now) }
     {
         match line {
-            Line::Catalogue(_) => self.catalogue.is_some(),
-            Line::Title(_) => self.title.is_some(),
-            Line::Performer(_) => self.performer.is_some(),
-            Line::Songwriter(_) => self.songwriter.is_some(),
-            Line::Flags(_) => self.control.is_some(),
-            Line::Isrc(_) => self.isrc.is_some(),
-            Line::Pregap(_) => self.pregap.is_some(),
-            Line::Postgap(_) => self.postgap.is_some(),
+            SheetLine::Catalogue(_) => self.catalogue.is_some(),
+            SheetLine::Title(_) => self.title.is_some(),
+            SheetLine::Performer(_) => self.performer.is_some(),
+            SheetLine::Songwriter(_) => self.songwriter.is_some(),
+            SheetLine::Flags(_) => self.control.is_some(),
+            SheetLine::Isrc(_) => self.isrc.is_some(),
+            SheetLine::Pregap(_) => self.pregap.is_some(),
+            SheetLine::Postgap(_) => self.postgap.is_some(),
             _ => false,
         }
     }
 
     /// Takes a line that begins no track. An error leaves the section in a state of which nothing is said.
-    pub(crate) fn add(&mut self, alloc: Global, line: &Line<'_>) -> Result<(), AllocError>
+    pub(crate) fn add(&mut self, alloc: Global, line: &SheetLine<'_>) -> Result<(), AllocError>
         requires { (number : ℕ) (audio : Bool) → line_said line.now ≢ SaysTrack number audio }
         ensures { IfOk result (λ _. section_of self.new
             ≡ (after (record nothing_said { section = section_of self.old }) (line_said line.now)).section) }
     {
         match line {
-            Line::Catalogue(digits) => self.catalogue = Some(*digits),
-            Line::Title(text) => keep_text(alloc, &mut self.title, text)?,
-            Line::Performer(text) => keep_text(alloc, &mut self.performer, text)?,
-            Line::Songwriter(text) => keep_text(alloc, &mut self.songwriter, text)?,
-            Line::Flags(control) => self.control = Some(*control),
-            Line::Isrc(code) => self.isrc = Some(*code),
-            Line::Pregap(time) => self.pregap = Some(*time),
-            Line::Postgap(time) => self.postgap = Some(*time),
-            Line::Index { number, time } => self.indices.push((*number, *time))?,
-            Line::Remark | Line::File | Line::Track { .. } => {}
+            SheetLine::Catalogue(digits) => self.catalogue = Some(*digits),
+            SheetLine::Title(text) => keep_text(alloc, &mut self.title, text)?,
+            SheetLine::Performer(text) => keep_text(alloc, &mut self.performer, text)?,
+            SheetLine::Songwriter(text) => keep_text(alloc, &mut self.songwriter, text)?,
+            SheetLine::Flags(control) => self.control = Some(*control),
+            SheetLine::Isrc(code) => self.isrc = Some(*code),
+            SheetLine::Pregap(time) => self.pregap = Some(*time),
+            SheetLine::Postgap(time) => self.postgap = Some(*time),
+            SheetLine::Index { number, time } => self.indices.push((*number, *time))?,
+            SheetLine::Remark | SheetLine::File | SheetLine::Track { .. } => {}
         }
         Ok(())
     }

@@ -5,7 +5,7 @@ ghost use Rattle.text_lines.specs.Text.{most_text_bytes};
 ghost use Rattle.cue_sheet.specs.CueSheet.{CueSheet, IsSheet, IsText, IsTrack, is_capital_code, is_catalogue_number, track_of, text_at, index_line_of};
 ghost use Rattle.cue_sheet.specs.Views.{sheet_value, track_value};
 
-use crate::draft::Draft;
+use crate::draft::SheetDraft;
 use crate::fault::{CueStop, CueText};
 use crate::section::{Section, Track};
 use std::alloc::Global;
@@ -36,7 +36,7 @@ impl Sheet {
         requires { length text.now ≤ most_text_bytes }
         ensures { IsCueAnswer (read_cue text.now) result }
     {
-        let mut draft = Draft::new(alloc);
+        let mut draft = SheetDraft::new(alloc);
         if let Err(stop) = draft.read(alloc, text) {
             drop(draft);
             return Err(stop);

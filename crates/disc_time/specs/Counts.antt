@@ -10,6 +10,10 @@ blocks_a_second = 75
 abbrev pub blocks_a_minute : ℕ
 blocks_a_minute = 4500
 
+-- blocks of the pause before the first track: two seconds, so that file time 00:00:00 is absolute time 00:02:00
+abbrev pub pause_blocks : ℕ
+pause_blocks = 150
+
 -- how many times can be written: 00:00:00 to 99:59:74, since minutes have two decimal digits
 abbrev pub time_count : ℕ
 time_count = 450000

@@ -7,6 +7,9 @@ pub const BLOCKS_A_SECOND: u32 = 75;
 /// Blocks a minute of sixty seconds.
 pub const BLOCKS_A_MINUTE: u32 = 60 * BLOCKS_A_SECOND;
 
+/// Blocks of the pause before the first track: two seconds, so that file time 00:00:00 is absolute time 00:02:00.
+pub const PAUSE_BLOCKS: u32 = 2 * BLOCKS_A_SECOND;
+
 /// How many times can be written: 00:00:00 to 99:59:74, since minutes have two decimal digits.
 pub const TIME_COUNT: u32 = 100 * BLOCKS_A_MINUTE;
 

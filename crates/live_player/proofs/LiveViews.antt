@@ -18,11 +18,11 @@ use Rattle.cdg_instructions.specs.declared.instr.Instr.{Instr}
 use Rattle.cdg_instructions.specs.Meaning.{meaning}
 use Rattle.cdg_screen.specs.Picture.{IsWholeStanding, Standing, blank, standing_after}
 use Rattle.cdg_screen.proofs.Turns.{blank_is_whole, in_turn}
-use Rattle.stream_stages.specs.Drawn.{drawing_next}
+use Rattle.stream_stages.specs.Drawn.{painting_next}
 use Rattle.stream_stages.specs.Screen.{AreMeant}
 use Rattle.stream_stages.specs.Steps.{slots_of, fresh_words, window_next, window_gives, words_next, words_give}
 use Rattle.stream_stages.specs.declared.block_words.BlockWords.{BlockWords}
-use Rattle.stream_stages.specs.declared.drawing.Drawing.{Drawing}
+use Rattle.stream_stages.specs.declared.painting.Painting.{Painting}
 use Rattle.stream_stages.proofs.Slots.{Sized, sized_append, sized_drop, length-all_symbols, length-slots_of}
 use Rattle.stream_stages.proofs.StageRuns.{all_items}
 use Rattle.stream_stages.proofs.PlayRuns.{gives_few}
@@ -64,25 +64,25 @@ few_given s block words gave =
     (omega (arith, gives_few (window_next s.form) (window_gives s.form) s.gather (slots_of block), length-slots_of block))
 
 -- all words that come with a block are drawn
-pub words_drawn : (now : Standing) (new : Drawing) (s : BlockWords) (block : List ℕ) (words : ArrayVec (List ℕ)) → IsWholeStanding now → Some words ≡ words_give s block
-    → new ≡ drawing_next (record { picture = now; left = 4; bad = 0 }) words → new.picture ≡ standing_after now (drawn_for (words_give s block))
-unfolding drawing_next
+pub words_drawn : (now : Standing) (new : Painting) (s : BlockWords) (block : List ℕ) (words : ArrayVec (List ℕ)) → IsWholeStanding now → Some words ≡ words_give s block
+    → new ≡ painting_next (record { picture = now; left = 4; bad = 0 }) words → new.picture ≡ standing_after now (drawn_for (words_give s block))
+unfolding painting_next
 words_drawn now new s block words whole gave is =
     let few : length words.items ≤ 4 = few_given s block words gave in
     let drawn = are_drawn now 4 0 words.items whole (omega (arith, few)) in
     let all : take 4 (map finding words.items) ≡ map finding words.items = take_all 4 (map finding words.items) (omega (arith, few, length-map words.items finding)) in
-    ap (λ (d : Drawing). d.picture) is ∙ drawn.stands ∙ ap (λ found. standing_after now (instrs_of found)) all ∙ ap (standing_after now) (sym (meant_same (map finding words.items)))
+    ap (λ (d : Painting). d.picture) is ∙ drawn.stands ∙ ap (λ found. standing_after now (instrs_of found)) all ∙ ap (standing_after now) (sym (meant_same (map finding words.items)))
     ∙ ap (λ o. standing_after now (drawn_for o)) gave
 
 -- and those with no codeword near are counted
-pub words_counted : (now : Standing) (new : Drawing) (s : BlockWords) (block : List ℕ) (words : ArrayVec (List ℕ)) → IsWholeStanding now → Some words ≡ words_give s block
-    → new ≡ drawing_next (record { picture = now; left = 4; bad = 0 }) words → new.bad ≡ bad_count (map finding words.items)
-unfolding drawing_next
+pub words_counted : (now : Standing) (new : Painting) (s : BlockWords) (block : List ℕ) (words : ArrayVec (List ℕ)) → IsWholeStanding now → Some words ≡ words_give s block
+    → new ≡ painting_next (record { picture = now; left = 4; bad = 0 }) words → new.bad ≡ bad_count (map finding words.items)
+unfolding painting_next
 words_counted now new s block words whole gave is =
     let few : length words.items ≤ 4 = few_given s block words gave in
     let drawn = are_drawn now 4 0 words.items whole (omega (arith, few)) in
     let all : take 4 (map finding words.items) ≡ map finding words.items = take_all 4 (map finding words.items) (omega (arith, few, length-map words.items finding)) in
-    let counted : new.bad ≡ 0 + bad_count (take 4 (map finding words.items)) = ap (λ (d : Drawing). d.bad) is ∙ drawn.counted in
+    let counted : new.bad ≡ 0 + bad_count (take 4 (map finding words.items)) = ap (λ (d : Painting). d.bad) is ∙ drawn.counted in
     let same : bad_count (take 4 (map finding words.items)) ≡ bad_count (map finding words.items) = ap bad_count all in
     omega (arith, counted, same)
 

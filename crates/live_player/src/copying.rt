@@ -21,10 +21,10 @@ impl LivePlayer {
         words.form = other.words.form;
         words.lead_in = other.words.lead_in;
         words.gather = copy_of(&other.words.gather);
-        let drawing = &mut self.drawing;
-        drawing.left = other.drawing.left;
-        drawing.bad = other.drawing.bad;
-        copy_picture(&other.drawing.picture, &mut drawing.picture);
+        let painting = &mut self.painting;
+        painting.left = other.painting.left;
+        painting.bad = other.painting.bad;
+        copy_picture(&other.painting.picture, &mut painting.picture);
     }
 }
 

@@ -15,7 +15,7 @@ use raw_subcode::{BLOCK_BYTES, Form, SLOTS_A_BLOCK};
 use rw_code::{SYMBOLS, Word};
 use rw_interleave::Gather;
 use std::alloc::{AllocError, Global};
-use stream_stages::{BlockOfWords, BlockWords, Drawing, Picture};
+use stream_stages::{BlockOfWords, BlockWords, Painting, Picture};
 
 /// Plays a stream as its blocks come, for as long as they come. All its memory is taken at the start.
 #[derive(Drop)]
@@ -23,7 +23,7 @@ pub struct LivePlayer {
     /// Gathers the words of the stream.
     pub words: BlockWords,
     /// Draws them.
-    pub drawing: Drawing,
+    pub painting: Painting,
     /// The blocks of the lead-in, those that came and those still to come.
     pub lead_in: u32,
     /// The blocks that came. From 4,294,967,295 on it stays, and so does the count of bad words.
@@ -37,7 +37,7 @@ impl LivePlayer {
     pub fn start(alloc: Global) -> Result<LivePlayer, AllocError>
         ensures { IfOk result (HasPlayed Form.Raw 0 []) }
     {
-        let drawing = Drawing {
+        let painting = Painting {
             picture: Picture::start(alloc)?,
             left: 0,
             bad: 0,
@@ -49,7 +49,7 @@ impl LivePlayer {
         };
         Ok(LivePlayer {
             words,
-            drawing,
+            painting,
             lead_in: 0,
             blocks: 0,
             bad: 0,
@@ -64,7 +64,7 @@ impl LivePlayer {
         words.form = form;
         words.lead_in = lead_in;
         words.gather.reset();
-        self.drawing.picture.reset();
+        self.painting.picture.reset();
         self.lead_in = lead_in;
         self.blocks = 0;
         self.bad = 0;
@@ -107,15 +107,15 @@ impl LivePlayer {
     {
         let words = self.words.feed(block);
         self.blocks = self.blocks.saturating_add(1);
-        let drawing = &mut self.drawing;
-        drawing.picture.screen.is_whole();
+        let painting = &mut self.painting;
+        painting.picture.screen.is_whole();
         match &words {
             Some(words) => {
                 // All words of a block are drawn, however many blocks came before.
-                drawing.left = SLOTS_A_BLOCK as u32;
-                drawing.bad = 0;
-                drawing.feed(words);
-                self.bad = self.bad.saturating_add(drawing.bad);
+                painting.left = SLOTS_A_BLOCK as u32;
+                painting.bad = 0;
+                painting.feed(words);
+                self.bad = self.bad.saturating_add(painting.bad);
             }
             None => {}
         }
@@ -129,8 +129,8 @@ impl LivePlayer {
             → HasPlayed form lead_in given self.old
             → HasPlayed form lead_in (Drawn pack.now ∷ given) self.new }
     {
-        let drawing = &mut self.drawing;
-        looking::draw(&mut drawing.picture, pack);
+        let painting = &mut self.painting;
+        looking::draw(&mut painting.picture, pack);
     }
 
     /// A law: where no packs were drawn in between, what stands is what the blocks since the start show.
@@ -155,7 +155,7 @@ impl LivePlayer {
     fn picture(&self) -> &Picture
         ensures { result.now ≡ standing_on self.now }
     {
-        &self.drawing.picture
+        &self.painting.picture
     }
 
     /// The pixel of the screen at a place: `x` below 300 from the left, `y` below 216 from the top.

@@ -11,9 +11,9 @@ use Rattle.picture_script.specs.Script.{Drawing, Row, Show, shows, pictures, sho
 use Rattle.picture_script.specs.ScriptGrammar.{is_after_hold}
 use Rattle.picture_script.specs.Board.{AreColours}
 use Rattle.picture_script.specs.Lines.{said, all_said, is_kept, is_drawing, no_show, times_of, IsIndexed, said_in, IsSound, Adds}
-use Rattle.picture_script.specs.declared.draft.Draft.{Draft}
-use Rattle.picture_script.specs.declared.line.Line.{Line}
-use Rattle.picture_script.specs.declared.line.Line.TheVariants.{TableColour, BorderColour, Filled, Rectangle, PixelRow, ShowLine}
+use Rattle.picture_script.specs.declared.draft.ScriptDraft.{ScriptDraft}
+use Rattle.picture_script.specs.declared.line.ScriptLine.{ScriptLine}
+use Rattle.picture_script.specs.declared.line.ScriptLine.TheVariants.{TableColour, BorderColour, Filled, Rectangle, PixelRow, ShowLine}
 use Rattle.picture_script.specs.declared.line.Shown.{Shown}
 use Rattle.picture_script.proofs.Scripts.{before_snoc, before_last}
 use Rattle.picture_script.proofs.Drawn.{length-all_said}
@@ -31,11 +31,11 @@ empty-indexed = record {
   most = omega arith;
 }
 
-pub none-indexed : (pixels : List ℕ) (lines : List Line) (shown : List Shown) → pixels ≡ [] → lines ≡ [] → shown ≡ [] → IsIndexed pixels lines shown
+pub none-indexed : (pixels : List ℕ) (lines : List ScriptLine) (shown : List Shown) → pixels ≡ [] → lines ≡ [] → shown ≡ [] → IsIndexed pixels lines shown
 none-indexed pixels lines shown p l s =
     subst (λ ps. IsIndexed ps lines shown) (sym p) (subst (λ ls. IsIndexed [] ls shown) (sym l) (subst (λ ss. IsIndexed [] [] ss) (sym s) empty-indexed))
 
-pub none-said : (pixels : List ℕ) (lines : List Line) → lines ≡ [] → all_said pixels lines ≡ []
+pub none-said : (pixels : List ℕ) (lines : List ScriptLine) → lines ≡ [] → all_said pixels lines ≡ []
 unfolding all_said
 none-said pixels lines h = ap (map (said pixels)) h
 
@@ -47,7 +47,7 @@ row_fits x y first count size h = (grind (arith, nat_tests), grind (arith, nat_t
 pub fits_row : (x y first count size : ℕ) → x + count ≤ 288 → y < 192 → first + count ≤ size → is_kept size (PixelRow x y first count) ≡ true
 fits_row x y first count size a b c = grind (arith, nat_tests)
 
-kept_more : (size more : ℕ) (line : Line) → size ≤ more → is_kept size line ≡ true → is_kept more line ≡ true
+kept_more : (size more : ℕ) (line : ScriptLine) → size ≤ more → is_kept size line ≡ true → is_kept more line ≡ true
 kept_more size more (TableColour number value) le h = h
 kept_more size more (BorderColour colour) le h = h
 kept_more size more (Filled colour) le h = h
@@ -55,7 +55,7 @@ kept_more size more (Rectangle x y width height colour) le h = h
 kept_more size more (PixelRow x y first count) le h = let fits = row_fits x y first count size h in fits_row x y first count more fits.0 fits.1 (omega arith)
 kept_more size more (ShowLine ready hold) le h = h
 
-said_more : (pixels more : List ℕ) (line : Line) → is_kept (length pixels) line ≡ true → said (pixels ++ more) line ≡ said pixels line
+said_more : (pixels more : List ℕ) (line : ScriptLine) → is_kept (length pixels) line ≡ true → said (pixels ++ more) line ≡ said pixels line
 said_more pixels more (TableColour number value) h = refl
 said_more pixels more (BorderColour colour) h = refl
 said_more pixels more (Filled colour) h = refl
@@ -66,14 +66,14 @@ said_more pixels more (PixelRow x y first count) h =
     ap (Row x y) (ap (take count) (drop-append-le first pixels more (omega arith)) ∙ take-append-le count (drop first pixels) more (omega arith))
 said_more pixels more (ShowLine ready hold) h = refl
 
-pub all_said_more : (pixels more : List ℕ) (lines : List Line) → All (λ line. is_kept (length pixels) line ≡ true) lines → all_said (pixels ++ more) lines ≡ all_said pixels lines
+pub all_said_more : (pixels more : List ℕ) (lines : List ScriptLine) → All (λ line. is_kept (length pixels) line ≡ true) lines → all_said (pixels ++ more) lines ≡ all_said pixels lines
 unfolding all_said
 all_said_more pixels more [] all = refl
 all_said_more pixels more (line ∷ lines) all =
     ap (λ d. d ∷ map (said (pixels ++ more)) lines) (said_more pixels more line (All-head (λ l. is_kept (length pixels) l ≡ true) line lines all))
     ∙ ap (λ ds. said pixels line ∷ ds) (all_said_more pixels more lines (All-tail (λ l. is_kept (length pixels) l ≡ true) line lines all))
 
-all_kept_more : (size more : ℕ) (lines : List Line) → size ≤ more → All (λ line. is_kept size line ≡ true) lines → All (λ line. is_kept more line ≡ true) lines
+all_kept_more : (size more : ℕ) (lines : List ScriptLine) → size ≤ more → All (λ line. is_kept size line ≡ true) lines → All (λ line. is_kept more line ≡ true) lines
 all_kept_more size more [] le all = All-nil (λ line. is_kept more line ≡ true)
 all_kept_more size more (line ∷ lines) le all = All-cons (λ l. is_kept more l ≡ true) line lines
     (kept_more size more line le (All-head (λ l. is_kept size l ≡ true) line lines all))
@@ -98,7 +98,7 @@ colours_more pixels more old new i = elim (cases_lt i (length pixels)) [
   | inr past ↦ subst (λ n. n < 16) (sym (get_or-append_right pixels more (length pixels) i 0 refl past)) (new (i - length pixels))
 ]
 
-pub more-indexed : (pixels more : List ℕ) (lines : List Line) (shown : List Shown) → IsIndexed pixels lines shown → AreColours (pixels ++ more) → IsIndexed (pixels ++ more) lines shown
+pub more-indexed : (pixels more : List ℕ) (lines : List ScriptLine) (shown : List Shown) → IsIndexed pixels lines shown → AreColours (pixels ++ more) → IsIndexed (pixels ++ more) lines shown
 more-indexed pixels more lines shown h new =
     let size = length-append pixels more in
     let same = all_said_more pixels more lines h.kept in
@@ -115,11 +115,11 @@ more-indexed pixels more lines shown h new =
 
 -- A line that draws.
 
-pub all_said-snoc : (pixels : List ℕ) (lines : List Line) (line : Line) → all_said pixels (lines ++ line ∷ []) ≡ all_said pixels lines ++ said pixels line ∷ []
+pub all_said-snoc : (pixels : List ℕ) (lines : List ScriptLine) (line : ScriptLine) → all_said pixels (lines ++ line ∷ []) ≡ all_said pixels lines ++ said pixels line ∷ []
 unfolding all_said
 all_said-snoc pixels lines line = map-append (said pixels) lines (line ∷ [])
 
-drawing_shows : (pixels : List ℕ) (line : Line) → is_drawing line ≡ true → filter_map shown_times (said pixels line ∷ []) ≡ []
+drawing_shows : (pixels : List ℕ) (line : ScriptLine) → is_drawing line ≡ true → filter_map shown_times (said pixels line ∷ []) ≡ []
 drawing_shows pixels (TableColour number value) h = refl
 drawing_shows pixels (BorderColour colour) h = refl
 drawing_shows pixels (Filled colour) h = refl
@@ -127,15 +127,15 @@ drawing_shows pixels (Rectangle x y width height colour) h = refl
 drawing_shows pixels (PixelRow x y first count) h = refl
 drawing_shows pixels (ShowLine ready hold) h = absurd (cc)
 
-shows-drawing : (script : List Drawing) (pixels : List ℕ) (line : Line) → is_drawing line ≡ true → shows (script ++ said pixels line ∷ []) ≡ shows script
+shows-drawing : (script : List Drawing) (pixels : List ℕ) (line : ScriptLine) → is_drawing line ≡ true → shows (script ++ said pixels line ∷ []) ≡ shows script
 unfolding shows
 shows-drawing script pixels line h =
     filter_map-append shown_times script (said pixels line ∷ []) ∙ ap (λ ts. filter_map shown_times script ++ ts) (drawing_shows pixels line h) ∙ append-nil (filter_map shown_times script)
 
-pub shown_count : (pixels : List ℕ) (lines : List Line) (shown : List Shown) → IsIndexed pixels lines shown → length shown ≡ pictures (all_said pixels lines)
+pub shown_count : (pixels : List ℕ) (lines : List ScriptLine) (shown : List Shown) → IsIndexed pixels lines shown → length shown ≡ pictures (all_said pixels lines)
 shown_count pixels lines shown h = sym (length-map shown times_of) ∙ ap length h.times
 
-pub drawing-indexed : (pixels : List ℕ) (lines : List Line) (shown : List Shown) (line : Line) → IsIndexed pixels lines shown → is_kept (length pixels) line ≡ true → is_drawing line ≡ true
+pub drawing-indexed : (pixels : List ℕ) (lines : List ScriptLine) (shown : List Shown) (line : ScriptLine) → IsIndexed pixels lines shown → is_kept (length pixels) line ≡ true → is_drawing line ≡ true
     → IsIndexed pixels (lines ++ line ∷ []) shown
 drawing-indexed pixels lines shown line h kept draws =
     let count = shown_count pixels lines shown h in
@@ -179,7 +179,7 @@ last_or_before xs x k lt =
           inr (last, ap (λ n. get_or (xs ++ x ∷ []) n no_show) (last ∙ start) ∙ get_or-append-add xs (x ∷ []) 0 no_show)
     ]
 
-last_hold : (pixels : List ℕ) (lines : List Line) (shown : List Shown) (ready k : ℕ) → IsIndexed pixels lines shown → is_after_hold (all_said pixels lines) ready ≡ true → k + 1 ≡ length shown
+last_hold : (pixels : List ℕ) (lines : List ScriptLine) (shown : List Shown) (ready k : ℕ) → IsIndexed pixels lines shown → is_after_hold (all_said pixels lines) ready ≡ true → k + 1 ≡ length shown
     → (get_or shown k no_show).hold < ready
 last_hold pixels lines shown ready k h after last =
     let count = shown_count pixels lines shown h in
@@ -188,7 +188,7 @@ last_hold pixels lines shown ready k h after last =
     ap (λ n. (get_or {A = ℕ × ℕ} (shows (all_said pixels lines)) n (0, 0)).1) at ∙ ap (λ (ts : List (ℕ × ℕ)). (get_or {A = ℕ × ℕ} ts k (0, 0)).1) (sym h.times) ∙ ap (λ (t : ℕ × ℕ). t.1) (get_or-map times_of shown k no_show (0, 0) (omega arith)) in
     grind (arith, nat_tests)
 
-pub show-indexed : (pixels : List ℕ) (lines : List Line) (shown : List Shown) (ready hold : ℕ) → IsIndexed pixels lines shown → ready ≤ hold → hold < 450000
+pub show-indexed : (pixels : List ℕ) (lines : List ScriptLine) (shown : List Shown) (ready hold : ℕ) → IsIndexed pixels lines shown → ready ≤ hold → hold < 450000
     → is_after_hold (all_said pixels lines) ready ≡ true → pictures (all_said pixels lines) < 20000
     → IsIndexed pixels (lines ++ ShowLine ready hold ∷ []) (shown ++ record { place = length lines; ready = ready; hold = hold } ∷ [])
 show-indexed pixels lines shown ready hold h order ending after room =
@@ -225,14 +225,14 @@ show-indexed pixels lines shown ready hold h order ending after room =
 
 -- Drafts.
 
-pub line-added : (old new : Draft) (line : Line) → IsSound old → is_kept (length old.pixels.items) line ≡ true → is_drawing line ≡ true
+pub line-added : (old new : ScriptDraft) (line : ScriptLine) → IsSound old → is_kept (length old.pixels.items) line ≡ true → is_drawing line ≡ true
     → new.lines.items ≡ old.lines.items ++ line ∷ [] → new.pixels.items ≡ old.pixels.items → new.shown.items ≡ old.shown.items → Adds old new (said old.pixels.items line)
 line-added old new line sound kept draws lines pixels shown = record {
   sound = rw (lines, pixels, shown) (drawing-indexed old.pixels.items old.lines.items old.shown.items line sound kept draws);
   lines_are = rw (lines, pixels) (all_said-snoc old.pixels.items old.lines.items line);
 }
 
-pub show-added : (old new : Draft) (ready hold : ℕ) → IsSound old → ready ≤ hold → hold < 450000 → is_after_hold (said_in old) ready ≡ true → pictures (said_in old) < 20000
+pub show-added : (old new : ScriptDraft) (ready hold : ℕ) → IsSound old → ready ≤ hold → hold < 450000 → is_after_hold (said_in old) ready ≡ true → pictures (said_in old) < 20000
     → new.lines.items ≡ old.lines.items ++ ShowLine ready hold ∷ [] → new.pixels.items ≡ old.pixels.items
     → new.shown.items ≡ old.shown.items ++ record { place = length old.lines.items; ready = ready; hold = hold } ∷ [] → Adds old new (Show ready hold)
 show-added old new ready hold sound order ending after room lines pixels shown = record {
@@ -240,7 +240,7 @@ show-added old new ready hold sound order ending after room lines pixels shown =
   lines_are = rw (lines, pixels) (all_said-snoc old.pixels.items old.lines.items (ShowLine ready hold));
 }
 
-pub row-added : (old mid new : Draft) (x y first count : ℕ) (digits : List ℕ) → IsSound old → mid.lines.items ≡ old.lines.items → mid.pixels.items ≡ old.pixels.items ++ map digit_value digits
+pub row-added : (old mid new : ScriptDraft) (x y first count : ℕ) (digits : List ℕ) → IsSound old → mid.lines.items ≡ old.lines.items → mid.pixels.items ≡ old.pixels.items ++ map digit_value digits
     → first ≡ length old.pixels.items → count ≡ length digits → Adds mid new (said mid.pixels.items (PixelRow x y first count)) → Adds old new (Row x y (map digit_value digits))
 row-added old mid new x y first count digits sound lines pixels start size h =
     let same : said_in mid ≡ said_in old = rw (lines, pixels) (all_said_more old.pixels.items (map digit_value digits) old.lines.items sound.kept) in
@@ -248,6 +248,6 @@ row-added old mid new x y first count digits sound lines pixels start size h =
     ap (λ n. said mid.pixels.items (PixelRow x y n count)) start ∙ row_said old.pixels.items digits mid.pixels.items x y count pixels size in
     record { sound = h.sound; lines_are = h.lines_are ∙ ap₂ (λ before line. before ++ line ∷ []) same line }
 
-pub more-sound : (old : Draft) (pixels digits : List ℕ) → IsSound old → list_all is_ascii_hexdigit digits ≡ true → pixels ≡ old.pixels.items ++ map digit_value digits → IsIndexed pixels old.lines.items old.shown.items
+pub more-sound : (old : ScriptDraft) (pixels digits : List ℕ) → IsSound old → list_all is_ascii_hexdigit digits ≡ true → pixels ≡ old.pixels.items ++ map digit_value digits → IsIndexed pixels old.lines.items old.shown.items
 more-sound old pixels digits sound hex grown =
     rw grown (more-indexed old.pixels.items (map digit_value digits) old.lines.items old.shown.items sound (colours_more old.pixels.items (map digit_value digits) sound.colours (digits_colours digits hex)))

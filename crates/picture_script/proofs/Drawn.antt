@@ -9,8 +9,8 @@ use Rattle.std.proofs.lemmas.List.Elements.{All-get_or}
 use Rattle.std.proofs.lemmas.List.Sums.{fold-append}
 use Rattle.picture_script.specs.Script.{Drawing, Fill, Picture, blank_picture, drawn, drawn_by, lines_before, picture_pixel, picture_border, picture_colour, picture_tile}
 use Rattle.picture_script.specs.Lines.{said, all_said, is_kept}
-use Rattle.picture_script.specs.declared.line.Line.{Line}
-use Rattle.picture_script.specs.declared.line.Line.TheVariants.{Filled}
+use Rattle.picture_script.specs.declared.line.ScriptLine.{ScriptLine}
+use Rattle.picture_script.specs.declared.line.ScriptLine.TheVariants.{Filled}
 use Rattle.std.proofs.lemmas.Bool.Decides.{nat_tests}
 use Rattle.picture_script.specs.Board.{Board, IsBlank, IsPicture, IsDrawn, IsSet, ArePixelsOf, StandsBefore, pixel_of, tile_of}
 use Rattle.picture_script.proofs.Scripts.{before_prefix, before_rising}
@@ -31,7 +31,7 @@ drawn-picture script k n board at size h =
     let all = subst (λ lines. IsDrawn (drawn_by lines) board) (sym (before_prefix script k ∙ ap (λ m. take m script) (sym size))) h in
     record { pixels_are = all.pixels_are; border_is = all.border_is; colours_are = all.colours_are }
 
-pub length-all_said : (pixels : List ℕ) (lines : List Line) → length (all_said pixels lines) ≡ length lines
+pub length-all_said : (pixels : List ℕ) (lines : List ScriptLine) → length (all_said pixels lines) ≡ length lines
 unfolding all_said
 length-all_said pixels lines = length-map lines (said pixels)
 
@@ -39,7 +39,7 @@ pub before-most : (script : List Drawing) (k : ℕ) → length (lines_before scr
 before-most script k = omega (arith, ap length (before_prefix script k) ∙ length-take (length (lines_before script k)) script)
 
 -- one line more
-pub next_said : (pixels : List ℕ) (lines : List Line) (script : List Drawing) (i : ℕ) (line : Line) → all_said pixels lines ≡ script → i < length lines → line ≡ get_or lines i line
+pub next_said : (pixels : List ℕ) (lines : List ScriptLine) (script : List Drawing) (i : ℕ) (line : ScriptLine) → all_said pixels lines ≡ script → i < length lines → line ≡ get_or lines i line
     → drawn (drawn_by (take i script)) (said pixels line) ≡ drawn_by (take (i + 1) script)
 unfolding all_said
 next_said pixels lines script i line view i_lt read =
@@ -50,12 +50,12 @@ next_said pixels lines script i line view i_lt read =
     ∙ ap (λ x. take i script ++ x ∷ []) (ap (λ xs. get_or xs i (said pixels line)) (sym view) ∙ get_or-map (said pixels) lines i line (said pixels line) i_lt ∙ ap (said pixels) (sym read)) in
     sym (ap drawn_by more ∙ fold-append drawn blank_picture (take i script) (said pixels line ∷ []))
 
-pub next_line : (pixels : List ℕ) (lines : List Line) (script : List Drawing) (i : ℕ) (line : Line) (board : Board) → all_said pixels lines ≡ script → i < length lines → line ≡ get_or lines i line
+pub next_line : (pixels : List ℕ) (lines : List ScriptLine) (script : List Drawing) (i : ℕ) (line : ScriptLine) (board : Board) → all_said pixels lines ≡ script → i < length lines → line ≡ get_or lines i line
     → IsDrawn (drawn (drawn_by (take i script)) (said pixels line)) board → IsDrawn (drawn_by (take (i + 1) script)) board
 next_line pixels lines script i line board view i_lt read h = subst (λ p. IsDrawn p board) (next_said pixels lines script i line view i_lt read) h
 
 -- the same of what lines set
-pub next_set : (pixels : List ℕ) (lines : List Line) (script : List Drawing) (i : ℕ) (line : Line) (board : Board) → all_said pixels lines ≡ script → i < length lines → line ≡ get_or lines i line
+pub next_set : (pixels : List ℕ) (lines : List ScriptLine) (script : List Drawing) (i : ℕ) (line : ScriptLine) (board : Board) → all_said pixels lines ≡ script → i < length lines → line ≡ get_or lines i line
     → IsSet (drawn (drawn_by (take i script)) (said pixels line)) board → IsSet (drawn_by (take (i + 1) script)) board
 next_set pixels lines script i line board view i_lt read h = subst (λ p. IsSet p board) (next_said pixels lines script i line view i_lt read) h
 
@@ -77,18 +77,18 @@ filled-drawn script place colour border pixels colours at old lt is filled h bor
     subst (λ p. IsDrawn p (record { pixels = pixels; border = border; colours = colours; at = at })) (sym lines) all
 
 -- what a line says stands in the script
-pub fill_there : (pixels : List ℕ) (lines : List Line) (script : List Drawing) (i colour : ℕ) (line : Line) → all_said pixels lines ≡ script → i < length lines → line ≡ get_or lines i line → line ≡ Filled colour
+pub fill_there : (pixels : List ℕ) (lines : List ScriptLine) (script : List Drawing) (i colour : ℕ) (line : ScriptLine) → all_said pixels lines ≡ script → i < length lines → line ≡ get_or lines i line → line ≡ Filled colour
     → get_or script i (Fill 0) ≡ Fill colour
 unfolding all_said
 fill_there pixels lines script i colour line view i_lt read is =
     ap (λ xs. get_or xs i (Fill 0)) (sym view) ∙ get_or-map (said pixels) lines i line (Fill 0) i_lt ∙ ap (said pixels) (sym read) ∙ ap (said pixels) is
 
-pub fill_small : (lines : List Line) (size i colour : ℕ) (line : Line) → All (λ l. is_kept size l ≡ true) lines → i < length lines → line ≡ get_or lines i line → line ≡ Filled colour → colour < 16
+pub fill_small : (lines : List ScriptLine) (size i colour : ℕ) (line : ScriptLine) → All (λ l. is_kept size l ≡ true) lines → i < length lines → line ≡ get_or lines i line → line ≡ Filled colour → colour < 16
 fill_small lines size i colour line all i_lt read is =
     let kept : is_kept size (Filled colour) ≡ true = subst (λ l. is_kept size l ≡ true) (sym read ∙ is) (All-get_or (λ l. is_kept size l ≡ true) lines i line i_lt all) in
     grind (arith, nat_tests)
 
-pub kept_at : (lines : List Line) (size n i : ℕ) (line : Line) → All (λ l. is_kept size l ≡ true) lines → n ≡ size → i < length lines → line ≡ get_or lines i line → is_kept n line ≡ true
+pub kept_at : (lines : List ScriptLine) (size n i : ℕ) (line : ScriptLine) → All (λ l. is_kept size l ≡ true) lines → n ≡ size → i < length lines → line ≡ get_or lines i line → is_kept n line ≡ true
 kept_at lines size n i line all same i_lt read =
     subst (λ m. is_kept m line ≡ true) (sym same) (subst (λ l. is_kept size l ≡ true) (sym read) (All-get_or (λ l. is_kept size l ≡ true) lines i line i_lt all))
 

@@ -9,7 +9,7 @@ use Rattle.picture_script.specs.Script.{Drawing, Colour, Border, Fill, Rect, Row
 use Rattle.picture_script.specs.ScriptGrammar.{read_script, script_step, grown, checked_lines, checked_words, is_passed_over, checked_command, colour_line, row_line, show_line, checked_line, is_in_range, is_after_hold, unless_refused, numbers_in, border_line, fill_line, rect_line, border_of, fill_of, rect_of}
 use Rattle.picture_script.specs.Stops.{IsRead, IsRefused}
 use Rattle.picture_script.specs.Lines.{said_in, IsSound, Adds, Stops, Takes}
-use Rattle.picture_script.specs.declared.draft.Draft.{Draft}
+use Rattle.picture_script.specs.declared.draft.ScriptDraft.{ScriptDraft}
 use Rattle.picture_script.specs.declared.draft.LineStop.{LineStop}
 use Rattle.picture_script.specs.declared.draft.LineStop.TheVariants.{Refused, NoRoom}
 use Rattle.picture_script.specs.declared.reasons.ScriptWhy.{ScriptWhy}
@@ -87,7 +87,7 @@ unfolding by_order
 shown_line before said ready hold h le after room = checked_show before said ready hold false true false h (test_false hold ready le) after (le_false 20000 (pictures before) room)
 
 -- a line is taken, unless there is no room
-pub taken : (checked : Result Drawing ScriptWhy) (old new : Draft) (line : Drawing) (result : Result (Unit {0}) LineStop) → checked ≡ Ok line → OnOk result (Adds old new line) → IfErr result (λ stop. stop ≡ NoRoom)
+pub taken : (checked : Result Drawing ScriptWhy) (old new : ScriptDraft) (line : Drawing) (result : Result (Unit {0}) LineStop) → checked ≡ Ok line → OnOk result (Adds old new line) → IfErr result (λ stop. stop ≡ NoRoom)
     → Takes checked old new result
 taken checked old new line (Ok u) h adds err = (adds.sound, ap (grown (said_in old)) h ∙ ap Ok (sym adds.lines_are))
 taken checked old new line (Err stop) h adds err = subst (Stops checked) (sym err) tt
@@ -194,14 +194,14 @@ refused number old line rest why h stops = read_on-refused script_step (λ scrip
 
 -- A line is read.
 
-pub blank-read : (draft : Draft) (line : List ℕ) → IsSound draft → is_passed_over line ≡ true → IsRead draft draft line
+pub blank-read : (draft : ScriptDraft) (line : List ℕ) → IsSound draft → is_passed_over line ≡ true → IsRead draft draft line
 blank-read draft line sound h = record { sound = sound; lines_are = λ number rest. passed number (said_in draft) line rest h }
 
-pub taken-read : (old new : Draft) (line : List ℕ) (result : Result (Unit {0}) LineStop) → is_passed_over line ≡ false → Takes (checked_words (said_in old) (words_in line)) old new result → OnOk result (IsRead old new line)
+pub taken-read : (old new : ScriptDraft) (line : List ℕ) (result : Result (Unit {0}) LineStop) → is_passed_over line ≡ false → Takes (checked_words (said_in old) (words_in line)) old new result → OnOk result (IsRead old new line)
 taken-read old new line (Ok u) h takes = record { sound = takes.0; lines_are = λ number rest. accepted number (said_in old) (said_in new) line rest h takes.1 }
 taken-read old new line (Err stop) h takes = tt
 
-pub taken-refused : (old new : Draft) (line : List ℕ) (result : Result (Unit {0}) LineStop) → is_passed_over line ≡ false → Takes (checked_words (said_in old) (words_in line)) old new result → IfErr result (IsRefused (said_in old) line)
+pub taken-refused : (old new : ScriptDraft) (line : List ℕ) (result : Result (Unit {0}) LineStop) → is_passed_over line ≡ false → Takes (checked_words (said_in old) (words_in line)) old new result → IfErr result (IsRefused (said_in old) line)
 taken-refused old new line (Ok u) h takes = tt
 taken-refused old new line (Err (Refused why)) h takes = λ number rest. refused number (said_in old) line rest why h takes
 taken-refused old new line (Err NoRoom) h takes = tt
@@ -216,7 +216,7 @@ words_none before all h = ap (checked_words before) h
 
 -- The whole text.
 
-pub reading_begins : (text : List ℕ) (draft : Draft) → said_in draft ≡ [] → checked_lines 1 (said_in draft) (lines_in (without_mark text)) ≡ read_script text
+pub reading_begins : (text : List ℕ) (draft : ScriptDraft) → said_in draft ≡ [] → checked_lines 1 (said_in draft) (lines_in (without_mark text)) ≡ read_script text
 unfolding read_script
 reading_begins text draft h = ap (λ before. checked_lines 1 before (lines_in (without_mark text))) h
 

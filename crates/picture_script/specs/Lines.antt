@@ -5,16 +5,16 @@ use Rattle.picture_script.specs.Script.{Drawing, Colour, Border, Fill, Rect, Row
 use Rattle.picture_script.specs.ScriptGrammar.{grown}
 use Rattle.picture_script.specs.Sizes.{most_pictures}
 use Rattle.picture_script.specs.Board.{AreColours}
-use Rattle.picture_script.specs.declared.line.Line.{Line}
-use Rattle.picture_script.specs.declared.line.Line.TheVariants.{TableColour, BorderColour, Filled, Rectangle, PixelRow, ShowLine}
+use Rattle.picture_script.specs.declared.line.ScriptLine.{ScriptLine}
+use Rattle.picture_script.specs.declared.line.ScriptLine.TheVariants.{TableColour, BorderColour, Filled, Rectangle, PixelRow, ShowLine}
 use Rattle.picture_script.specs.declared.line.Shown.{Shown}
-use Rattle.picture_script.specs.declared.draft.Draft.{Draft}
+use Rattle.picture_script.specs.declared.draft.ScriptDraft.{ScriptDraft}
 use Rattle.picture_script.specs.declared.draft.LineStop.{LineStop}
 use Rattle.picture_script.specs.declared.draft.LineStop.TheVariants.{Refused, NoRoom}
 use Rattle.picture_script.specs.declared.reasons.ScriptWhy.{ScriptWhy}
 
 -- what a line says; a row's colours stand among those of all rows
-abbrev pub said : List ℕ → Line → Drawing
+abbrev pub said : List ℕ → ScriptLine → Drawing
 said pixels (TableColour number value) = Colour number value
 said pixels (BorderColour colour) = Border colour
 said pixels (Filled colour) = Fill colour
@@ -22,11 +22,11 @@ said pixels (Rectangle x y width height colour) = Rect x y width height colour
 said pixels (PixelRow x y first count) = Row x y (take count (drop first pixels))
 said pixels (ShowLine ready hold) = Show ready hold
 
-unfoldable pub all_said : List ℕ → List Line → List Drawing
+unfoldable pub all_said : List ℕ → List ScriptLine → List Drawing
 all_said pixels lines = map (said pixels) lines
 
 -- whether a line is in its ranges, and a row's colours are among so many
-abbrev pub is_kept : ℕ → Line → Bool
+abbrev pub is_kept : ℕ → ScriptLine → Bool
 is_kept size (TableColour number value) = nat_lt number 16 && nat_lt value 4096
 is_kept size (BorderColour colour) = nat_lt colour 16
 is_kept size (Filled colour) = nat_lt colour 16
@@ -43,7 +43,7 @@ abbrev pub times_of : Shown → ℕ × ℕ
 times_of shown = (shown.ready, shown.hold)
 
 -- the show lines of a script: how many lines stand before each, and its times
-pub record IsIndexed (pixels : List ℕ) (lines : List Line) (shown : List Shown) : Type 0 where
+pub record IsIndexed (pixels : List ℕ) (lines : List ScriptLine) (shown : List Shown) : Type 0 where
   pub kept : All (λ line. is_kept (length pixels) line ≡ true) lines
   pub colours : AreColours pixels
   pub times : map times_of shown ≡ shows (all_said pixels lines)
@@ -57,14 +57,14 @@ pub record IsIndexed (pixels : List ℕ) (lines : List Line) (shown : List Shown
   pub most : length shown ≤ most_pictures
 
 -- what the lines of a draft say
-abbrev pub said_in : Draft → List Drawing
+abbrev pub said_in : ScriptDraft → List Drawing
 said_in draft = all_said draft.pixels.items draft.lines.items
 
-abbrev pub IsSound : Draft → Type 0
+abbrev pub IsSound : ScriptDraft → Type 0
 IsSound draft = IsIndexed draft.pixels.items draft.lines.items draft.shown.items
 
 -- a draft with one more line
-pub record Adds (old new : Draft) (line : Drawing) : Type 0 where
+pub record Adds (old new : ScriptDraft) (line : Drawing) : Type 0 where
   pub sound : IsSound new
   pub lines_are : said_in new ≡ said_in old ++ line ∷ []
 
@@ -74,11 +74,11 @@ Stops checked (Refused why) = checked ≡ Err why
 Stops checked NoRoom = ⊤
 
 -- a draft takes a line where it is accepted, and else the reason is told
-abbrev pub Takes : Result Drawing ScriptWhy → Draft → Draft → Result (Unit {0}) LineStop → Type 0
+abbrev pub Takes : Result Drawing ScriptWhy → ScriptDraft → ScriptDraft → Result (Unit {0}) LineStop → Type 0
 Takes checked old new result = MatchResult result (λ _. IsSound new
     × (grown (said_in old) checked ≡ Ok (said_in new))) (Stops checked)
 
 -- whether a line draws
-abbrev pub is_drawing : Line → Bool
+abbrev pub is_drawing : ScriptLine → Bool
 is_drawing (ShowLine ready hold) = false
 is_drawing _ = true

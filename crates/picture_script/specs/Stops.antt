@@ -6,7 +6,7 @@ use Rattle.picture_script.specs.Lines.{said_in, IsSound}
 use Rattle.picture_script.specs.declared.reasons.ScriptWhy.{ScriptWhy}
 use Rattle.picture_script.specs.declared.reasons.ScriptStop.{ScriptStop}
 use Rattle.picture_script.specs.declared.reasons.ScriptStop.TheVariants.{Fault, NoMemory}
-use Rattle.picture_script.specs.declared.draft.Draft.{Draft}
+use Rattle.picture_script.specs.declared.draft.ScriptDraft.{ScriptDraft}
 use Rattle.picture_script.specs.declared.draft.LineStop.{LineStop}
 use Rattle.picture_script.specs.declared.draft.LineStop.TheVariants.{Refused, NoRoom}
 
@@ -22,7 +22,7 @@ IsRefused before line (Refused why) = (number : ℕ) (rest : List (List ℕ))
 IsRefused before line NoRoom = ⊤
 
 -- a line is read: the lines after it are read on from the new draft
-pub record IsRead (old new : Draft) (line : List ℕ) : Type 0 where
+pub record IsRead (old new : ScriptDraft) (line : List ℕ) : Type 0 where
   pub sound : IsSound new
   pub lines_are : (number : ℕ) (rest : List (List ℕ))
       → checked_lines number (said_in old) (line ∷ rest) ≡ checked_lines (number + 1) (said_in new) rest

@@ -1,5 +1,5 @@
 // A canvas on which the pictures of a script are drawn.
-use crate::line::Line;
+use crate::line::ScriptLine;
 use crate::script::Script;
 use crate::window::Window;
 use cdg_instructions::{PIXELS, Tile, WINDOW_WIDTH};
@@ -63,17 +63,17 @@ impl Canvas {
     }
 
     // Draws what one line says.
-    fn draw(&mut self, line: Line, pixels: &[u8])
+    fn draw(&mut self, line: ScriptLine, pixels: &[u8])
         requires kept { is_kept (length pixels.now) line ≡ true }
         requires colours { AreColours pixels.now }
         ensures drawn { (before : Picture) → IsDrawn before self.old
             → IsDrawn (drawn before (said pixels.now line)) self.new }
     {
         match line {
-            Line::TableColour { number, value } => self.colours[usize::from(number)] = value,
-            Line::BorderColour { colour } => self.border = colour,
-            Line::Filled { colour } => self.window.clear(colour),
-            Line::Rectangle {
+            ScriptLine::TableColour { number, value } => self.colours[usize::from(number)] = value,
+            ScriptLine::BorderColour { colour } => self.border = colour,
+            ScriptLine::Filled { colour } => self.window.clear(colour),
+            ScriptLine::Rectangle {
                 x,
                 y,
                 width,
@@ -86,24 +86,24 @@ impl Canvas {
                 usize::from(height),
                 colour,
             ),
-            Line::PixelRow { x, y, first, count } => {
+            ScriptLine::PixelRow { x, y, first, count } => {
                 let end = first + usize::from(count);
                 self.window
                     .draw_row(usize::from(x), usize::from(y), &pixels[first..end]);
             }
-            Line::ShowLine { .. } => {}
+            ScriptLine::ShowLine { .. } => {}
         }
     }
 
     // Sets what one line says of the border and the colours.
-    fn set(&mut self, line: Line)
+    fn set(&mut self, line: ScriptLine)
         requires kept { (size : ℕ) × (is_kept size line ≡ true) }
         ensures set { (pixels : List ℕ) (before : Picture) → IsSet before self.old
             → IsSet (drawn before (said pixels line)) self.new }
     {
         match line {
-            Line::TableColour { number, value } => self.colours[usize::from(number)] = value,
-            Line::BorderColour { colour } => self.border = colour,
+            ScriptLine::TableColour { number, value } => self.colours[usize::from(number)] = value,
+            ScriptLine::BorderColour { colour } => self.border = colour,
             _ => {}
         }
     }

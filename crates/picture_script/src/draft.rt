@@ -4,15 +4,15 @@ ghost use Rattle.std.specs.List.{list_all};
 ghost use Rattle.std.specs.Char.{is_ascii_hexdigit, digit_value};
 ghost use Rattle.picture_script.specs.declared.draft.LineStop;
 
-use crate::line::{Line, Shown};
+use crate::line::{ScriptLine, Shown};
 use crate::reasons::ScriptWhy;
 use crate::words::hex_digit;
 use std::alloc::{AllocFailed, Global};
 
 /// What has been read of a script.
 #[derive(Drop)]
-pub(crate) struct Draft {
-    pub(crate) lines: Vec<Line>,
+pub(crate) struct ScriptDraft {
+    pub(crate) lines: Vec<ScriptLine>,
     pub(crate) pixels: Vec<u8>,
     pub(crate) shown: Vec<Shown>,
 }
@@ -35,7 +35,7 @@ impl<T: Drop> From<AllocFailed<T>> for LineStop {
     }
 }
 
-impl Draft {
+impl ScriptDraft {
     ghost use Rattle.std.specs.Prelude.{◌<◌, ◌≤◌, ◌+◌, [], length};
     ghost use Rattle.disc_time.specs.Counts.{time_count};
     ghost use Rattle.picture_script.specs.Script.{pictures, Row, Show};
@@ -44,11 +44,11 @@ impl Draft {
     ghost use Rattle.picture_script.specs.Lines.{said, said_in, IsSound, Adds, is_kept, is_drawing};
 
     /// No lines.
-    pub(crate) fn new(alloc: Global) -> Draft
+    pub(crate) fn new(alloc: Global) -> ScriptDraft
         ensures sound { IsSound result }
         ensures lines { said_in result ≡ [] }
     {
-        Draft {
+        ScriptDraft {
             lines: Vec::new(alloc),
             pixels: Vec::new(alloc),
             shown: Vec::new(alloc),
@@ -56,7 +56,7 @@ impl Draft {
     }
 
     /// Takes a line that draws.
-    pub(crate) fn push_line(&mut self, line: Line) -> Result<(), LineStop>
+    pub(crate) fn push_line(&mut self, line: ScriptLine) -> Result<(), LineStop>
         requires sound { IsSound self.old }
         requires kept { is_kept (length self.old.pixels.items) line ≡ true }
         requires draws { is_drawing line ≡ true }
@@ -78,7 +78,7 @@ impl Draft {
     {
         let first = self.pixels.len();
         push_pixels(&mut self.pixels, digits)?;
-        self.push_line(Line::PixelRow {
+        self.push_line(ScriptLine::PixelRow {
             x,
             y,
             first,
@@ -109,7 +109,7 @@ impl Draft {
         ensures err { IfErr result (λ stop. stop ≡ LineStop.NoRoom) }
     {
         let place = self.lines.len();
-        self.lines.push(Line::ShowLine { ready, hold })?;
+        self.lines.push(ScriptLine::ShowLine { ready, hold })?;
         self.shown.push(Shown { place, ready, hold })?;
         Ok(())
     }

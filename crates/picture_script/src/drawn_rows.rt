@@ -4,7 +4,7 @@ ghost use Rattle.picture_script.specs.Script.{Picture, drawn};
 ghost use Rattle.picture_script.specs.DrawnRows.{KeepsRows, LeavesRows};
 ghost use Rattle.picture_script.specs.Lines.{is_kept, said};
 
-use crate::line::Line;
+use crate::line::ScriptLine;
 use crate::script::Script;
 use cdg_instructions::{TILE_HEIGHT, WINDOW_ROWS};
 
@@ -35,15 +35,15 @@ impl Script {
 }
 
 // Marks the rows that a line draws on.
-fn mark_line(rows: &mut [bool; WINDOW_ROWS], line: Line)
+fn mark_line(rows: &mut [bool; WINDOW_ROWS], line: ScriptLine)
     requires kept { (size : ℕ) × (is_kept size line ≡ true) }
     ensures { (pixels : List ℕ) (before : Picture) (r x y : ℕ) → slice_index_or rows.new r true ≡ false
         → y / 12 ≡ r → (slice_index_or rows.old r true ≡ false)
         × (before.pixel x y ≡ (drawn before (said pixels line)).pixel x y) }
 {
     match line {
-        Line::Filled { .. } => mark_rows(rows, 0, WINDOW_ROWS),
-        Line::Rectangle { y, height, .. } => {
+        ScriptLine::Filled { .. } => mark_rows(rows, 0, WINDOW_ROWS),
+        ScriptLine::Rectangle { y, height, .. } => {
             let top = usize::from(y);
             let end = top + usize::from(height);
             mark_rows(
@@ -52,11 +52,13 @@ fn mark_line(rows: &mut [bool; WINDOW_ROWS], line: Line)
                 (end + TILE_HEIGHT - 1) / TILE_HEIGHT,
             )
         }
-        Line::PixelRow { y, .. } => {
+        ScriptLine::PixelRow { y, .. } => {
             let row = usize::from(y) / TILE_HEIGHT;
             mark_rows(rows, row, row + 1)
         }
-        Line::TableColour { .. } | Line::BorderColour { .. } | Line::ShowLine { .. } => {}
+        ScriptLine::TableColour { .. }
+        | ScriptLine::BorderColour { .. }
+        | ScriptLine::ShowLine { .. } => {}
     }
 }
 

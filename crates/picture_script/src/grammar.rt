@@ -5,13 +5,13 @@ ghost use Rattle.text_lines.specs.Text.{words_in};
 ghost use Rattle.picture_script.specs.ScriptGrammar.{is_in_range, numbers_in, checked_line, checked_command, colour_line, border_line, fill_line, rect_line, row_line, show_line};
 ghost use Rattle.picture_script.specs.Lines.{said_in, IsSound, Stops, Takes};
 
-use crate::draft::{Draft, LineStop};
-use crate::line::Line;
+use crate::draft::{LineStop, ScriptDraft};
+use crate::line::ScriptLine;
 use crate::reasons::ScriptWhy;
 use crate::sizes::MOST_PICTURES;
 use crate::words::{colour_words, numbers, row_words, show_words};
 
-impl Draft {
+impl ScriptDraft {
     // Takes the words after `colour`.
     fn take_colour(&mut self, words: &[u8]) -> Result<(), LineStop>
         requires { IsSound self.old }
@@ -24,7 +24,7 @@ impl Draft {
         if number > 15 {
             return Err(LineStop::Refused(ScriptWhy::OutOfRange));
         }
-        self.push_line(Line::TableColour {
+        self.push_line(ScriptLine::TableColour {
             number: number as u8,
             value,
         })
@@ -37,7 +37,7 @@ impl Draft {
             result }
     {
         let colour = colour_number(words)?;
-        self.push_line(Line::BorderColour { colour })
+        self.push_line(ScriptLine::BorderColour { colour })
     }
 
     // Takes the words after `fill`.
@@ -47,7 +47,7 @@ impl Draft {
             result }
     {
         let colour = colour_number(words)?;
-        self.push_line(Line::Filled { colour })
+        self.push_line(ScriptLine::Filled { colour })
     }
 
     // Takes the words after `rect`.
@@ -63,7 +63,7 @@ impl Draft {
         if !is_rect(x, y, width, height, colour) {
             return Err(LineStop::Refused(ScriptWhy::OutOfRange));
         }
-        self.push_line(Line::Rectangle {
+        self.push_line(ScriptLine::Rectangle {
             x,
             y: y as u8,
             width,

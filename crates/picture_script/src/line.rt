@@ -2,7 +2,7 @@
 
 /// A line that says something. The colours of a row are those from a place on among the colours of all rows.
 #[derive(Clone, Copy)]
-pub(crate) enum Line {
+pub(crate) enum ScriptLine {
     TableColour {
         number: u8,
         value: u16,

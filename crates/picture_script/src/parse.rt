@@ -4,13 +4,13 @@ ghost use Rattle.picture_script.specs.Script.{Drawing};
 ghost use Rattle.picture_script.specs.ScriptGrammar.{checked_lines, is_passed_over};
 ghost use Rattle.picture_script.specs.Stops.{IsRefused, StopsAt};
 
-use crate::draft::{Draft, LineStop};
+use crate::draft::{LineStop, ScriptDraft};
 use crate::reasons::{ScriptStop, ScriptWhy};
 use crate::script::Script;
 use std::alloc::Global;
 use text_lines::{next_line, next_word, trim_start, without_mark};
 
-impl Draft {
+impl ScriptDraft {
     ghost use Rattle.std.specs.Prelude.{OnOk, IfErr};
     ghost use Rattle.picture_script.specs.Stops.{IsRead};
     ghost use Rattle.text_lines.specs.Text.{words_in};
@@ -64,7 +64,7 @@ impl Script {
         ensures ok { IfOk result (λ script. read_script text.now ≡ Ok script) }
         ensures err { IfErr result (StopsAt (read_script text.now)) }
     {
-        let mut draft = Draft::new(alloc);
+        let mut draft = ScriptDraft::new(alloc);
         let mut rest = without_mark(text);
         let mut number = 1u32;
         while let Some((line, after)) = next_line(rest) {
@@ -75,7 +75,7 @@ impl Script {
             number += 1;
             rest = after;
         }
-        let Draft {
+        let ScriptDraft {
             lines,
             pixels,
             shown,

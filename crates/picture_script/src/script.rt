@@ -1,5 +1,5 @@
 // A picture script.
-use crate::line::{Line, Shown};
+use crate::line::{ScriptLine, Shown};
 use std::alloc::{AllocError, Global};
 use std::marker::Model;
 
@@ -8,7 +8,7 @@ use std::marker::Model;
 /// A contract sees the list of what its lines say.
 #[derive(Drop)]
 pub struct Script {
-    pub(crate) lines: Vec<Line>,
+    pub(crate) lines: Vec<ScriptLine>,
     pub(crate) pixels: Vec<u8>,
     pub(crate) shown: Vec<Shown>,
 }
@@ -88,7 +88,7 @@ impl Script {
     {
         let mut last = None;
         for i in from..to {
-            if let Line::Filled { colour } = self.lines[i] {
+            if let ScriptLine::Filled { colour } = self.lines[i] {
                 last = Some((i, colour));
             }
         }

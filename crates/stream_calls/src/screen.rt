@@ -10,7 +10,7 @@ ghost use Rattle.cdg_screen.specs.Texts.{pixmap, state_text};
 ghost use Rattle.stream_stages.specs.Faults.{TellsStops};
 ghost use Rattle.stream_stages.specs.Calls.{EndFirst, IsMomentStop};
 ghost use Rattle.stream_stages.specs.Steps.{fresh_words};
-ghost use Rattle.stream_stages.specs.Stages.{drawing_of, words_of};
+ghost use Rattle.stream_stages.specs.Stages.{painting_of, words_of};
 ghost use Rattle.stream_stages.specs.Screen.{IsShownBy, Shows, moment};
 ghost use Rattle.stream_stages.specs.Watch.{Views, viewed};
 
@@ -18,7 +18,7 @@ use cdg_io::{Failed, Pumped, Sink, Source, Then};
 use raw_subcode::Form;
 use std::alloc::{AllocError, Global};
 use stream_stages::{
-    BlockWords, Drawing, Picture, PlayStop, Played, SectorBlocks, play_stop, watch,
+    BlockWords, Painting, Picture, PlayStop, Played, SectorBlocks, play_stop, watch,
 };
 
 /// Shows moments of streams, one at a time: each call begins anew, whatever stopped the one before. It holds one
@@ -26,7 +26,7 @@ use stream_stages::{
 #[derive(Drop)]
 pub struct Viewer {
     /// The picture at a moment of a stream.
-    pub views: SectorBlocks<Then<BlockWords, Drawing>>,
+    pub views: SectorBlocks<Then<BlockWords, Painting>>,
 }
 
 impl Viewer {
@@ -34,14 +34,14 @@ impl Viewer {
     pub fn start(alloc: Global) -> Result<Viewer, AllocError>
         ensures { IfOk result (λ viewer. words_of viewer.views.blocks ≡ fresh_words Form.Raw 0) }
     {
-        let drawing = Drawing {
+        let painting = Painting {
             picture: Picture::start(alloc)?,
             left: 0,
             bad: 0,
         };
         Ok(Viewer {
             views: SectorBlocks {
-                blocks: Then::new(BlockWords::new(), drawing),
+                blocks: Then::new(BlockWords::new(), painting),
             },
         })
     }
@@ -81,8 +81,8 @@ impl Viewer {
     {
         match self.view(lead_in, form, at, source) {
             Ok(played) => {
-                let drawing = &self.views.blocks.second;
-                match drawing.picture.write_ppm(out) {
+                let painting = &self.views.blocks.second;
+                match painting.picture.write_ppm(out) {
                     Ok(()) => Ok(played),
                     Err(Failed) => Err(PlayStop::WriteFault),
                 }
@@ -118,8 +118,8 @@ impl Viewer {
     {
         match self.view(lead_in, form, at, source) {
             Ok(played) => {
-                let drawing = &self.views.blocks.second;
-                match drawing.picture.write_state(out) {
+                let painting = &self.views.blocks.second;
+                match painting.picture.write_state(out) {
                     Ok(()) => Ok(played),
                     Err(Failed) => Err(PlayStop::WriteFault),
                 }
@@ -141,7 +141,7 @@ impl Viewer {
         requires at { at ≤ last_block }
         ensures views { (taken : List ℕ)
             × Views (moment form lead_in at) (change S.left source.old source.new)
-            (drawing_of self.new.views.blocks).picture result taken }
+            (painting_of self.new.views.blocks).picture result taken }
         ensures stops { IfErr result IsMomentStop }
         ensures answer { IfSome (S.left source.old) (λ all.
             IsShownBy result lead_in at (unit_size form) (length all)) }
@@ -158,16 +158,16 @@ impl Viewer {
 
     // What was played, where the program reaches the moment.
     fn viewed(&self, pumped: Pumped, lead_in: u32, at: u32) -> Result<Played, PlayStop>
-        ensures { result ≡ viewed (pumped.units - lead_in) at (drawing_of self.now.views.blocks).bad }
+        ensures { result ≡ viewed (pumped.units - lead_in) at (painting_of self.now.views.blocks).bad }
     {
         let blocks = pumped.units.saturating_sub(lead_in);
         if blocks < at {
             return Err(PlayStop::PastEnd { blocks });
         }
-        let drawing = &self.views.blocks.second;
+        let painting = &self.views.blocks.second;
         Ok(Played {
             blocks,
-            bad: drawing.bad,
+            bad: painting.bad,
         })
     }
 
@@ -175,14 +175,14 @@ impl Viewer {
     fn begin_view(&mut self, lead_in: u32, form: Form, at: u32)
         requires { at ≤ last_block }
         ensures words { words_of self.new.views.blocks ≡ fresh_words form lead_in }
-        ensures left { (drawing_of self.new.views.blocks).left ≡ whole_packs at }
-        ensures bad { (drawing_of self.new.views.blocks).bad ≡ 0 }
-        ensures blank { (drawing_of self.new.views.blocks).picture ≡ blank }
+        ensures left { (painting_of self.new.views.blocks).left ≡ whole_packs at }
+        ensures bad { (painting_of self.new.views.blocks).bad ≡ 0 }
+        ensures blank { (painting_of self.new.views.blocks).picture ≡ blank }
     {
         self.views.blocks.first.begin(lead_in, form);
-        let drawing = &mut self.views.blocks.second;
-        drawing.left = (4 * at).saturating_sub(7);
-        drawing.bad = 0;
-        drawing.picture.reset();
+        let painting = &mut self.views.blocks.second;
+        painting.left = (4 * at).saturating_sub(7);
+        painting.bad = 0;
+        painting.picture.reset();
     }
 }

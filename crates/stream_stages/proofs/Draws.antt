@@ -15,39 +15,39 @@ use Rattle.cdg_instructions.specs.declared.instr.Instr.{Instr}
 use Rattle.cdg_screen.specs.Picture.{IsWholeStanding, Standing, standing_after}
 use Rattle.cdg_screen.proofs.Turns.{in_turn, whole_after}
 use Rattle.stream_stages.specs.Steps.{bad_next}
-use Rattle.stream_stages.specs.Drawn.{entry_drawn, draw_next, draw_after, drawing_next}
+use Rattle.stream_stages.specs.Drawn.{entry_drawn, draw_next, draw_after, painting_next}
 use Rattle.stream_stages.specs.Screen.{AreMeant}
 use Rattle.stream_stages.proofs.Recovers.{found_itself, bad_some}
-use Rattle.stream_stages.specs.declared.drawing.Drawing.{Drawing}
+use Rattle.stream_stages.specs.declared.painting.Painting.{Painting}
 use Rattle.stream_stages.proofs.StageRuns.{all_items, one_bad, count_more, at_most_one}
 
-abbrev state : Standing → ℕ → ℕ → Drawing
+abbrev state : Standing → ℕ → ℕ → Painting
 state picture left bad = record { picture = picture; left = left; bad = bad }
 
 -- ---- a loop over words
 
-draw_append : (s : Drawing) (words others : List (List ℕ)) → draw_after s (words ++ others) ≡ draw_after (draw_after s words) others
+draw_append : (s : Painting) (words others : List (List ℕ)) → draw_after s (words ++ others) ≡ draw_after (draw_after s words) others
 unfolding draw_after
 draw_append s [] others = refl
 draw_append s (w ∷ words) others = draw_append (draw_next s w) words others
 
-draw_more : (s : Drawing) (words : List (List ℕ)) (word : List ℕ) → draw_after s (words ++ word ∷ []) ≡ draw_next (draw_after s words) word
+draw_more : (s : Painting) (words : List (List ℕ)) (word : List ℕ) → draw_after s (words ++ word ∷ []) ≡ draw_next (draw_after s words) word
 unfolding draw_after
 draw_more s [] word = refl
 draw_more s (w ∷ words) word = draw_more (draw_next s w) words word
 
-pub draw_step : (words : List (List ℕ)) (i : ℕ) (word : List ℕ) (start old new : Drawing) → i < length words → word ≡ get_or words i word → old ≡ draw_after start (take i words) → new ≡ draw_next old word → new ≡ draw_after start (take (i + 1) words)
+pub draw_step : (words : List (List ℕ)) (i : ℕ) (word : List ℕ) (start old new : Painting) → i < length words → word ≡ get_or words i word → old ≡ draw_after start (take i words) → new ≡ draw_next old word → new ≡ draw_after start (take (i + 1) words)
 draw_step words i word start old new lt is done step =
-    step ∙ ap (λ (s : Drawing). draw_next s word) done ∙ sym (draw_more start (take i words) word) ∙ ap (draw_after start) (sym (take_more words i word lt ∙ ap (λ w. take i words ++ w ∷ []) (sym is)))
+    step ∙ ap (λ (s : Painting). draw_next s word) done ∙ sym (draw_more start (take i words) word) ∙ ap (draw_after start) (sym (take_more words i word lt ∙ ap (λ w. take i words ++ w ∷ []) (sym is)))
 
-pub drawn_none_yet : (start : Drawing) → start ≡ draw_after start []
+pub drawn_none_yet : (start : Painting) → start ≡ draw_after start []
 unfolding draw_after
 drawn_none_yet start = refl
 
-pub drawing_runs : (s : Drawing) (vs : List (ArrayVec (List ℕ))) → run_state drawing_next s vs ≡ draw_after s (all_items vs)
-unfolding drawing_next draw_after
-drawing_runs s [] = refl
-drawing_runs s (v ∷ vs) = drawing_runs (draw_after s v.items) vs ∙ sym (draw_append s v.items (all_items vs))
+pub painting_runs : (s : Painting) (vs : List (ArrayVec (List ℕ))) → run_state painting_next s vs ≡ draw_after s (all_items vs)
+unfolding painting_next draw_after
+painting_runs s [] = refl
+painting_runs s (v ∷ vs) = painting_runs (draw_after s v.items) vs ∙ sym (draw_append s v.items (all_items vs))
 
 -- ---- what stands
 
@@ -97,17 +97,17 @@ idle_drawn picture (suc left) bad is stays =
     next_of picture left bad word ∙ ap₂ (λ (p : Standing) (b : ℕ). state p left b) same none ∙ ap (λ n. state picture n bad) less
 
 -- four of them
-pub four_idle_drawn : (s : Drawing) → IsCodeword (replicate 24 0) → s.picture ≡ standing_after s.picture (meaning (replicate 24 0) ∷ [])
+pub four_idle_drawn : (s : Painting) → IsCodeword (replicate 24 0) → s.picture ≡ standing_after s.picture (meaning (replicate 24 0) ∷ [])
     → record s { left = s.left - 4 } ≡ draw_after s (replicate 4 (replicate 24 0))
 unfolding draw_after
 four_idle_drawn s is stays =
-    let next : Drawing → Drawing = λ (t : Drawing). draw_next t (replicate 24 0) in
+    let next : Painting → Painting = λ (t : Painting). draw_next t (replicate 24 0) in
     let at : (left : ℕ) → next (state s.picture left s.bad) ≡ state s.picture (left - 1) s.bad = λ left. idle_drawn s.picture left s.bad is stays in
     let left : s.left - 1 - 1 - 1 - 1 ≡ s.left - 4 = omega arith in
     sym (ap next (ap next (ap next (at s.left) ∙ at (s.left - 1)) ∙ at (s.left - 1 - 1)) ∙ at (s.left - 1 - 1 - 1) ∙ ap (λ n. state s.picture n s.bad) left)
 
 -- The words were drawn from this state: what stands, and how many of them are bad.
-pub record AreDrawn (picture : Standing) (left bad : ℕ) (words : List (List ℕ)) (end : Drawing) : Type 0 where
+pub record AreDrawn (picture : Standing) (left bad : ℕ) (words : List (List ℕ)) (end : Painting) : Type 0 where
   pub stands : end.picture ≡ standing_after picture (instrs_of (take left (map finding words)))
   pub counted : end.bad ≡ bad + bad_count (take left (map finding words))
 
@@ -117,7 +117,7 @@ one_counted bad word fits = one_bad bad (finding word) fits
 
 first_drawn : (picture : Standing) (left bad : ℕ) (w : List ℕ) (words : List (List ℕ)) → draw_after (state picture (suc left) bad) (w ∷ words) ≡ draw_after (state (entry_drawn picture (finding w)) left (bad_next bad w)) words
 unfolding draw_after
-first_drawn picture left bad w words = ap (λ (s : Drawing). draw_after s words) (next_of picture left bad w)
+first_drawn picture left bad w words = ap (λ (s : Painting). draw_after s words) (next_of picture left bad w)
 
 pub are_drawn : (picture : Standing) (left bad : ℕ) (words : List (List ℕ)) → IsWholeStanding picture → bad + length words < 2 ^ 32 → AreDrawn picture left bad words (draw_after (state picture left bad) words)
 are_drawn picture zero bad words whole fits = subst (AreDrawn picture 0 bad words) (sym (none_left picture bad words)) (record { stands = sym whole; counted = omega arith })

@@ -29,11 +29,11 @@ use Rattle.cdg_screen.proofs.Turns.{blank_is_whole}
 use Rattle.raw_subcode.specs.Sizes.{most_units}
 use Rattle.stream_stages.specs.Calls.{IsEarly}
 use Rattle.stream_stages.specs.Steps.{fresh_words, slots_of, window_next, window_gives, words_next, words_give}
-use Rattle.stream_stages.specs.Drawn.{draw_after, drawing_next}
+use Rattle.stream_stages.specs.Drawn.{draw_after, painting_next}
 use Rattle.stream_stages.specs.Watch.{IsViewed, Views, Watches, play_stop, viewed}
 use Rattle.stream_stages.specs.Screen.{IsShownBy, IsWrittenAt, Shows, moment}
 use Rattle.stream_stages.specs.declared.block_words.BlockWords.{BlockWords}
-use Rattle.stream_stages.specs.declared.drawing.Drawing.{Drawing}
+use Rattle.stream_stages.specs.declared.painting.Painting.{Painting}
 use Rattle.stream_stages.specs.declared.played.Played.{Played}
 use Rattle.stream_stages.specs.declared.played.PlayStop.{PlayStop}
 use Rattle.stream_stages.specs.declared.played.PlayStop.TheVariants.{ReadFault, WriteFault, TooLong, PastEnd}
@@ -42,16 +42,16 @@ use Rattle.stream_stages.proofs.FormWords.{words_from, found_in, recovered}
 use Rattle.stream_stages.proofs.PlayRuns.{block_words, gives_few}
 use Rattle.stream_stages.proofs.Conversion.{program, units_sized, blocks_sized, length-units_of}
 use Rattle.stream_stages.proofs.Playing.{units_in, unit_some}
-use Rattle.stream_stages.proofs.Draws.{instrs_of, are_meant, are_drawn, drawing_runs}
+use Rattle.stream_stages.proofs.Draws.{instrs_of, are_meant, are_drawn, painting_runs}
 
-abbrev pub Drawings : Type 0
-Drawings = Then BlockWords Drawing
+abbrev pub Paintings : Type 0
+Paintings = Then BlockWords Painting
 
-abbrev pub drawings_next : Drawings → List ℕ → Drawings
-drawings_next s x = then_next words_next words_give drawing_next s x
+abbrev pub paintings_next : Paintings → List ℕ → Paintings
+paintings_next s x = then_next words_next words_give painting_next s x
 
 -- the state before the first block
-pub record IsReady (form : Form) (lead_in time : ℕ) (s : Drawings) : Type 0 where
+pub record IsReady (form : Form) (lead_in time : ℕ) (s : Paintings) : Type 0 where
   pub words : s.first ≡ fresh_words form lead_in
   pub left : s.second.left ≡ whole_packs time
   pub bad : s.second.bad ≡ 0
@@ -62,16 +62,16 @@ few_words form lead_in blocks few =
     omega (arith, few, gives_few (window_next form) (window_gives form) [] (flat_map slots_of (drop lead_in blocks)), length-all_slots (drop lead_in blocks), length-drop lead_in blocks)
 
 -- what stands after the blocks, and what is bad
-pub record IsDrawn (form : Form) (lead_in time : ℕ) (blocks : List (List ℕ)) (end : Drawing) : Type 0 where
+pub record IsDrawn (form : Form) (lead_in time : ℕ) (blocks : List (List ℕ)) (end : Painting) : Type 0 where
   pub stands : end.picture ≡ standing_after blank (instrs_of (take (whole_packs time) (found_in form (drop lead_in blocks))))
   pub counted : end.bad ≡ bad_count (take (whole_packs time) (found_in form (drop lead_in blocks)))
 
-pub drawn_blocks : (form : Form) (lead_in time : ℕ) (s : Drawings) (blocks : List (List ℕ)) → IsReady form lead_in time s → length blocks ≤ 1000000 → IsDrawn form lead_in time blocks (run_state drawings_next s blocks).second
+pub drawn_blocks : (form : Form) (lead_in time : ℕ) (s : Paintings) (blocks : List (List ℕ)) → IsReady form lead_in time s → length blocks ≤ 1000000 → IsDrawn form lead_in time blocks (run_state paintings_next s blocks).second
 drawn_blocks form lead_in time s blocks ready few =
     let words : List (List ℕ) = words_from form (flat_map slots_of (drop lead_in blocks)) in
     let start : s.second ≡ record { picture = s.second.picture; left = whole_packs time; bad = 0 } = ap₂ (λ l b. record { picture = s.second.picture; left = l; bad = b }) ready.left ready.bad in
-    let run : (run_state drawings_next s blocks).second ≡ draw_after (record { picture = s.second.picture; left = whole_packs time; bad = 0 }) words =
-    then_next_second words_next words_give drawing_next s blocks ∙ drawing_runs s.second (run_gives words_next words_give s.first blocks) ∙ ap₂ draw_after start (block_words form lead_in s.first blocks ready.words) in
+    let run : (run_state paintings_next s blocks).second ≡ draw_after (record { picture = s.second.picture; left = whole_packs time; bad = 0 }) words =
+    then_next_second words_next words_give painting_next s blocks ∙ painting_runs s.second (run_gives words_next words_give s.first blocks) ∙ ap₂ draw_after start (block_words form lead_in s.first blocks ready.words) in
     let drawn = are_drawn s.second.picture (whole_packs time) 0 words (subst IsWholeStanding (sym ready.blank) blank_is_whole) (few_words form lead_in blocks few) in
     subst (IsDrawn form lead_in time blocks) (sym run) (record {
       stands = drawn.stands ∙ ap (λ (now : Standing). standing_after now (instrs_of (take (whole_packs time) (map finding words)))) ready.blank;
@@ -85,8 +85,8 @@ recovered_units form lead_in bytes units same sized =
     (recovered form (program form lead_in units) (sized_drop 96 lead_in _ (blocks_sized form units sized)))
 
 -- the same by the bytes
-pub viewed_bytes : (form : Form) (lead_in time : ℕ) (s : Drawings) (bytes : List ℕ) (n : ℕ) (end : Drawing) → IsReady form lead_in time s → n ≤ most_units → IsWhole (unit_size form) n bytes
-    → end ≡ (run_state drawings_next s (map (block_of form) (units_of (unit_size form) n bytes))).second → IsViewed (moment form lead_in time) bytes end.picture end.bad
+pub viewed_bytes : (form : Form) (lead_in time : ℕ) (s : Paintings) (bytes : List ℕ) (n : ℕ) (end : Painting) → IsReady form lead_in time s → n ≤ most_units → IsWhole (unit_size form) n bytes
+    → end ≡ (run_state paintings_next s (map (block_of form) (units_of (unit_size form) n bytes))).second → IsViewed (moment form lead_in time) bytes end.picture end.bad
 viewed_bytes form lead_in time s bytes n end ready few whole_units e =
     let size : ℕ = unit_size form in
     let units : List (List ℕ) = units_of size n bytes in
@@ -107,7 +107,7 @@ pub whole_taken : (form : Form) (n : ℕ) (bytes : List ℕ) → length bytes �
 whole_taken form n bytes e = record { fits = omega (arith, e); rest = omega (arith, e, unit_some form) }
 
 module _ (form : Form) (lead_in time : ℕ) (left left' : Option (List ℕ)) (taken : List ℕ) where
-  views_by : (s s' : Drawings) (pumped : Pumped) (past : Bool) → IsReady form lead_in time s → Watches form drawings_next (feeding (from_to left left') (from_to s s')) (Ok pumped) taken → nat_lt (pumped.units - lead_in) time ≡ past
+  views_by : (s s' : Paintings) (pumped : Pumped) (past : Bool) → IsReady form lead_in time s → Watches form paintings_next (feeding (from_to left left') (from_to s s')) (Ok pumped) taken → nat_lt (pumped.units - lead_in) time ≡ past
       → Views (moment form lead_in time) (from_to left left') s'.second.picture (if past then Err (PastEnd (pumped.units - lead_in)) else Ok (record { blocks = pumped.units - lead_in; bad = s'.second.bad })) taken
   views_by s s' pumped true ready w past =
       let units : length taken / unit_size form ≡ pumped.units = units_in form pumped.units taken (whole_taken form pumped.units taken w.done.1) in
@@ -127,17 +127,17 @@ module _ (form : Form) (lead_in time : ℕ) (left left' : Option (List ℕ)) (ta
       record {
         taken_from = w.taken_from;
         within = w.within;
-        done = (w.done.0, ap (λ n. n - lead_in) (sym (units_in form pumped.units taken whole_units)), reached, viewed_bytes form lead_in time s taken pumped.units s'.second ready w.done.2 whole_units (ap (λ (t : Drawings). t.second) w.done.3));
+        done = (w.done.0, ap (λ n. n - lead_in) (sym (units_in form pumped.units taken whole_units)), reached, viewed_bytes form lead_in time s taken pumped.units s'.second ready w.done.2 whole_units (ap (λ (t : Paintings). t.second) w.done.3));
         ended = λ stop e not. (cc);
         past_end = λ blocks e. (cc);
         no_write = λ e. (cc);
       }
 
-  views_done : (s s' : Drawings) (pumped : Pumped) → IsReady form lead_in time s → Watches form drawings_next (feeding (from_to left left') (from_to s s')) (Ok pumped) taken
+  views_done : (s s' : Paintings) (pumped : Pumped) → IsReady form lead_in time s → Watches form paintings_next (feeding (from_to left left') (from_to s s')) (Ok pumped) taken
       → Views (moment form lead_in time) (from_to left left') s'.second.picture (viewed (pumped.units - lead_in) time s'.second.bad) taken
   views_done s s' pumped ready w = views_by s s' pumped (nat_lt (pumped.units - lead_in) time) ready w refl
 
-  views_stop : (s s' : Drawings) (now : Standing) (stop : PumpStop) → Watches form drawings_next (feeding (from_to left left') (from_to s s')) (Err stop) taken → Views (moment form lead_in time) (from_to left left') now (Err (play_stop stop)) taken
+  views_stop : (s s' : Paintings) (now : Standing) (stop : PumpStop) → Watches form paintings_next (feeding (from_to left left') (from_to s s')) (Err stop) taken → Views (moment form lead_in time) (from_to left left') now (Err (play_stop stop)) taken
   views_stop s s' now pump_stop.ReadFault w = record {
     taken_from = w.taken_from;
     within = w.within;
@@ -164,11 +164,11 @@ module _ (form : Form) (lead_in time : ℕ) (left left' : Option (List ℕ)) (ta
     no_write = λ e. (cc);
   }
 
-  pub view_done : (s s' : Drawings) (pumped : Pumped) (answer : Result Played PlayStop) → IsReady form lead_in time s → Watches form drawings_next (feeding (from_to left left') (from_to s s')) (Ok pumped) taken → answer ≡ viewed (pumped.units - lead_in) time s'.second.bad
+  pub view_done : (s s' : Paintings) (pumped : Pumped) (answer : Result Played PlayStop) → IsReady form lead_in time s → Watches form paintings_next (feeding (from_to left left') (from_to s s')) (Ok pumped) taken → answer ≡ viewed (pumped.units - lead_in) time s'.second.bad
       → Views (moment form lead_in time) (from_to left left') s'.second.picture answer taken
   view_done s s' pumped answer ready w e = subst (λ (r : Result Played PlayStop). Views (moment form lead_in time) (from_to left left') s'.second.picture r taken) (sym e) (views_done s s' pumped ready w)
 
-  pub view_stop : (s s' : Drawings) (now : Standing) (stop : PumpStop) (answer : PlayStop) → Watches form drawings_next (feeding (from_to left left') (from_to s s')) (Err stop) taken → answer ≡ play_stop stop → Views (moment form lead_in time) (from_to left left') now (Err answer) taken
+  pub view_stop : (s s' : Paintings) (now : Standing) (stop : PumpStop) (answer : PlayStop) → Watches form paintings_next (feeding (from_to left left') (from_to s s')) (Err stop) taken → answer ≡ play_stop stop → Views (moment form lead_in time) (from_to left left') now (Err answer) taken
   view_stop s s' now stop answer w e = subst (λ (a : PlayStop). Views (moment form lead_in time) (from_to left left') now (Err a) taken) (sym e) (views_stop s s' now stop w)
 
   module _ (write : Standing → List ℕ) (now : Standing) (held held' : Option (List ℕ)) where

@@ -5,7 +5,7 @@ use Rattle.rw_code.specs.Finding.{finding}
 use Rattle.cdg_instructions.specs.Meaning.{meaning}
 use Rattle.cdg_screen.specs.Picture.{Standing, standing_after}
 use Rattle.stream_stages.specs.Steps.{bad_next}
-use Rattle.stream_stages.specs.declared.drawing.Drawing.{Drawing}
+use Rattle.stream_stages.specs.declared.painting.Painting.{Painting}
 
 -- after what is found for a word, if anything
 abbrev pub entry_drawn : Standing → Option (List ℕ) → Standing
@@ -13,7 +13,7 @@ entry_drawn picture (Some codeword) = standing_after picture (meaning codeword �
 entry_drawn picture None = picture
 
 -- after a word: only the packs that are left are drawn
-unfoldable pub draw_next : Drawing → List ℕ → Drawing
+unfoldable pub draw_next : Painting → List ℕ → Painting
 draw_next s word = if s.left == 0 then s else record {
   picture = entry_drawn s.picture (finding word);
   left = s.left - 1;
@@ -21,14 +21,14 @@ draw_next s word = if s.left == 0 then s else record {
 }
 
 -- after some words
-unfoldable pub draw_after : Drawing → List (List ℕ) → Drawing
+unfoldable pub draw_after : Painting → List (List ℕ) → Painting
 draw_after s [] = s
 draw_after s (word ∷ words) = draw_after (draw_next s word) words
 
 -- after the words of a block
-unfoldable pub drawing_next : Drawing → ArrayVec (List ℕ) → Drawing
-drawing_next s words = draw_after s words.items
+unfoldable pub painting_next : Painting → ArrayVec (List ℕ) → Painting
+painting_next s words = draw_after s words.items
 
 -- nothing is given
-unfoldable pub drawing_gives : Drawing → ArrayVec (List ℕ) → Option (List ℕ)
-drawing_gives s words = None
+unfoldable pub painting_gives : Painting → ArrayVec (List ℕ) → Option (List ℕ)
+painting_gives s words = None

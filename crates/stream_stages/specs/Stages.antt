@@ -2,7 +2,7 @@
 use Rattle.cdg_io.specs.declared.stage.Then.{Then}
 use Rattle.stream_stages.specs.declared.block_words.BlockWords.{BlockWords}
 use Rattle.stream_stages.specs.declared.correction.Correction.{Correction}
-use Rattle.stream_stages.specs.declared.drawing.Drawing.{Drawing}
+use Rattle.stream_stages.specs.declared.painting.Painting.{Painting}
 use Rattle.stream_stages.specs.declared.counting.WordCounts.{WordCounts}
 
 -- what gathers the words
@@ -14,8 +14,8 @@ abbrev pub correction_of : Then BlockWords Correction → Correction
 correction_of s = s.second
 
 -- what draws their packs
-abbrev pub drawing_of : Then BlockWords Drawing → Drawing
-drawing_of s = s.second
+abbrev pub painting_of : Then BlockWords Painting → Painting
+painting_of s = s.second
 
 -- what counts them
 abbrev pub counts_of : Then BlockWords WordCounts → WordCounts

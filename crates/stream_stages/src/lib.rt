@@ -5,8 +5,8 @@
 mod block_words;
 mod correction;
 mod counting;
-mod drawing;
 mod idle_words;
+mod painting;
 mod picture;
 mod played;
 mod sector_blocks;
@@ -15,7 +15,7 @@ mod watching;
 pub use block_words::{BlockOfWords, BlockWords};
 pub use correction::Correction;
 pub use counting::{Counting, FrameCounts, WordCounts};
-pub use drawing::Drawing;
+pub use painting::Painting;
 pub use picture::Picture;
 pub use played::{PlayStop, Played, play_stop};
 pub use sector_blocks::SectorBlocks;

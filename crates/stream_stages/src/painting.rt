@@ -1,0 +1,120 @@
+// From words to what stands on a screen.
+ghost use Rattle.std.specs.Prelude.{◌≡◌, replicate};
+ghost use Rattle.rw_code.specs.Codeword.{IsCodeword};
+ghost use Rattle.rw_code.specs.Finding.{finding};
+ghost use Rattle.rw_code.specs.Packs.{idle_pack};
+ghost use Rattle.stream_stages.specs.Steps.{bad_next};
+ghost use Rattle.stream_stages.specs.Drawn.{entry_drawn, draw_next, draw_after, painting_next, painting_gives};
+
+use crate::Picture;
+use crate::block_words::BlockOfWords;
+use crate::idle_words::{idle_is_codeword, is_idle};
+use arrayvec::ArrayVec;
+use cdg_io::{Piece, Stage};
+use rw_code::{Word, correct};
+
+/// Draws the corrected packs up to a number of them, and counts the words with no codeword near among these.
+#[derive(Drop)]
+pub struct Painting {
+    pub picture: Picture,
+    /// The packs that are still to be drawn.
+    pub left: u32,
+    pub bad: u32,
+}
+
+impl Painting {
+    // Draws the words of a block.
+    #[inline]
+    fn draw_block(&mut self, words: &BlockOfWords)
+        ensures { self.new ≡ painting_next self.old words.now }
+    {
+        idle_is_codeword();
+        match words.unless_idle() {
+            // Most blocks of a disc are idle.
+            None => self.draw_four_idle(),
+            Some(words) => self.draw_each(words),
+        }
+    }
+
+    // Draws the words of a block, one by one.
+    #[inline(never)]
+    fn draw_each(&mut self, words: &ArrayVec<Word, 4>)
+        ensures { self.new ≡ painting_next self.old words.now }
+    {
+        for word in words.as_slice() {
+            self.draw(word);
+        }
+    }
+
+    // Draws four idle words: the picture stays.
+    fn draw_four_idle(&mut self)
+        requires { IsCodeword idle_pack }
+        ensures { self.new ≡ draw_after self.old (replicate 4 idle_pack) }
+    {
+        self.left = self.left.saturating_sub(4);
+        self.picture.stays_at_idle();
+    }
+
+    // Draws what is found for a word, if a pack is left to be drawn.
+    #[tactic(auto, unfolding(crate::specs::Drawn::draw_next))]
+    fn draw(&mut self, word: &Word)
+        ensures { self.new ≡ draw_next self.old word.now }
+    {
+        if self.left > 0 {
+            self.left -= 1;
+            self.take(word);
+        }
+    }
+
+    // Draws the codeword near a word, or counts the word.
+    fn take(&mut self, word: &Word)
+        ensures picture { self.new.picture ≡ entry_drawn self.old.picture (finding word.now) }
+        ensures bad { self.new.bad ≡ bad_next self.old.bad word.now }
+        ensures left { self.new.left ≡ self.old.left }
+    {
+        // Most words of a disc are idle, and draw nothing. Few others begin with 0.
+        if word.get(0).value() == 0 && is_idle(word) {
+            self.picture.stays_at_idle();
+        } else {
+            self.take_corrected(word);
+        }
+    }
+
+    // Draws what the correction of a word finds, or counts the word.
+    fn take_corrected(&mut self, word: &Word)
+        ensures picture { self.new.picture ≡ entry_drawn self.old.picture (finding word.now) }
+        ensures bad { self.new.bad ≡ bad_next self.old.bad word.now }
+        ensures left { self.new.left ≡ self.old.left }
+    {
+        match correct(word) {
+            Some(fixed) => self.picture.obey(&fixed.pack),
+            None => self.bad = self.bad.saturating_add(1),
+        }
+    }
+}
+
+impl Stage for Painting {
+    type Item = BlockOfWords;
+
+    type Out = Piece;
+
+    ghost next = { painting_next };
+
+    ghost gives = { painting_gives };
+
+    #[tactic(auto, unfolding(crate::specs::Drawn::painting_gives))]
+    fn feed(&mut self, words: &BlockOfWords) -> Option<Piece> {
+        self.draw_block(words);
+        None
+    }
+
+    #[inline]
+    #[tactic(auto, unfolding(crate::specs::Drawn::painting_gives))]
+    fn emit(&mut self, words: &BlockOfWords, out: &mut Option<Piece>) {
+        self.draw_block(words);
+        // Nothing is given. Where nothing stands there, nothing is written.
+        if out.is_some() {
+            *out = None;
+        }
+    }
+}
