@@ -56,7 +56,7 @@ module _ (lead_in n : ℕ) (bytes file : List ℕ) (s s' : Then BlockWords Paint
   units : List (List ℕ)
   units = units_of 96 n bytes
 
-  viewed : IsViewed (moment Raw lead_in 1000000) bytes s'.second.picture s'.second.bad
+  viewed : IsViewed (moment Raw lead_in 1000000) bytes s'.second.screen s'.second.bad
   viewed =
       viewed_bytes Raw lead_in 1000000 s bytes n s'.second ready few whole
       (ap (λ (t : Then BlockWords Painting). t.second) run
