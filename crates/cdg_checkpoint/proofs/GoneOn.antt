@@ -32,7 +32,7 @@ use Rattle.stream_stages.proofs.Slots.{Sized, sized_append, sized_drop, all_slot
 use Rattle.stream_stages.proofs.StageRuns.{all_items, words_run}
 use Rattle.stream_stages.proofs.Conversion.{units_sized, length-units_of}
 use Rattle.stream_stages.proofs.Playing.{units_in}
-use Rattle.stream_stages.proofs.Draws.{AreDrawn, instrs_of, are_meant, are_drawn, drawing_runs}
+use Rattle.stream_stages.proofs.Draws.{AreDrawn, instrs_of, are_meant, are_drawn, painting_runs}
 use Rattle.stream_stages.proofs.Views.{whole_taken}
 use Rattle.cdg_checkpoint.specs.Tracked.{words_drawn}
 use Rattle.cdg_checkpoint.specs.Resumed.{IsGoneOn, blocks_after, packs_until, resumed_symbols, saved_slots}
@@ -189,7 +189,7 @@ module _ (c : Checkpoint) (time n : ℕ) (bytes : List ℕ) (s s' : Then BlockWo
       ap (λ (w : BlockWords). all_items (run_gives words_next words_give w (units_of 96 n bytes))) back.words ∙ words_run Raw c.to_come (run_state gather_next [] (saved_slots c)) (units_of 96 n bytes)
       ∙ raw_words (run_state gather_next [] (saved_slots c)) (flat_map slots_of program) in
       let end : s'.second ≡ draw_after (record { screen = s.second.screen; left = packs_until c time; bad = c.bad }) words =
-      ap (λ (t : Then BlockWords Painting). t.second) run ∙ then_next_second words_next words_give painting_next s (units_of 96 n bytes) ∙ drawing_runs s.second (run_gives words_next words_give s.first (units_of 96 n bytes))
+      ap (λ (t : Then BlockWords Painting). t.second) run ∙ then_next_second words_next words_give painting_next s (units_of 96 n bytes) ∙ painting_runs s.second (run_gives words_next words_give s.first (units_of 96 n bytes))
       ∙ ap₂ draw_after start given in
       subst (AreDrawn s.second.screen (packs_until c time) c.bad words) (sym end) (are_drawn s.second.screen (packs_until c time) c.bad words (subst IsWholeStanding (sym back.stands) sound.standing) (omega (arith, sound.few_bad, words_count, saved_count, slots_count, few)))
 
