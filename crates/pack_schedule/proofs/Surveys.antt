@@ -73,9 +73,11 @@ is_late known script k need free planned ranges small lt are need_is' free_is' l
   need_is = (planned_change script k, known.change script k ranges small, sym need_is');
   free_is = free_is';
   late = late;
-  before = λ j n j_lt h.
-      let planned_j = are.each j j_lt in
-      subst (λ m. IsInTime script j m) (planned_j.need_is ∙ sym (known.planned script j n ranges small h)) planned_j.in_time;
+  before = λ j j_lt.
+      let row = are.each j j_lt in
+      let need : ℕ = (get_or planned j nothing_planned).need in
+      let is : IsNeed script j need = (planned_change script j, known.change script j ranges small, sym row.need_is) in
+      (need, is, row.in_time);
 }
 
 -- each planned number is what its picture needs

@@ -23,7 +23,7 @@ pub fn changes_have_planned_lengths()
 
 /// A law: the change that is written for a picture is a change in order for it, of at most 3,076 instructions: four
 /// that set all memory, the border and the colours, and four for each of 768 tiles. That it is a shortest one of any
-/// form is a law of the crate `shortest_changes`.
+/// form says `ordered_changes_are_shortest`.
 pub fn planned_changes_are_changes()
     ensures change { (script : List Drawing) (k : ℕ) → ((k x y : ℕ) → picture_pixel script k x y < 16)
         → IsOrderedChange script k (planned_change script k) }

@@ -62,7 +62,7 @@ returns-in_err-write_stream-clause-part g c = λ failed.
 pub returns-clause-authored : goal.returns-clause-authored
 returns-clause-authored g c =
     let blocks = c.blocks-2.ensures.blocks ∙ ap (λ (l : DiscLayout). l.blocks) c.in_ok-layout.ensures.layout in
-    authored c.packs_are_a_schedule.ensures c.args.sheet.now c.args.script.now c.in_ok-weaver.weaver c.in_ok-layout.layout c.deref.result.now c.args.lead_in c.args.length
+    authored c.packs_are_a_schedule.ensures.schedule c.args.sheet.now c.args.script.now c.in_ok-weaver.weaver c.in_ok-layout.layout c.deref.result.now c.args.lead_in c.args.length
     (g.K.Sink.held c.args.out.now) (g.K.Sink.held c.write_stream.new.out)
     c.in_ok-layout.ensures.layout
     (few_blocks c.in_ok-layout.layout.blocks c.blocks-2.result c.blocks-2.ensures.blocks c.blocks-2.ensures.bound)
@@ -76,13 +76,13 @@ returns-clause-authored g c =
 pub returns-clause-accepted : goal.returns-clause-accepted
 returns-clause-accepted g c =
     let known = c.pictures-times.ensures in
-    is_accepted c.needs_are_fewest.ensures.planned c.args.sheet.now c.args.script.now c.args.lead_in c.args.length c.in_ok-layout.ensures.good c.in_ok-texts.ensures.room
+    is_accepted c.needs_are_fewest.ensures.change c.args.sheet.now c.args.script.now c.args.lead_in c.args.length c.in_ok-layout.ensures.good c.in_ok-texts.ensures.room
     (record { border = known.borders; colour = known.colours }) known.pixels c.in_ok-weaver.ensures.planned
 
 pub returns-in_err-write_stream-clause-stop : goal.returns-in_err-write_stream-clause-stop
 returns-in_err-write_stream-clause-stop g c =
     let known = c.pictures-times.ensures in
-    let accepted = is_accepted c.needs_are_fewest.ensures.planned c.args.sheet.now c.args.script.now c.args.lead_in c.args.length c.in_ok-layout.ensures.good c.in_ok-texts.ensures.room
+    let accepted = is_accepted c.needs_are_fewest.ensures.change c.args.sheet.now c.args.script.now c.args.lead_in c.args.length c.in_ok-layout.ensures.good c.in_ok-texts.ensures.room
     (record { border = known.borders; colour = known.colours }) known.pixels c.in_ok-weaver.ensures.planned in
     let p = err_from_is_err_and c.from_residual-in_err-write_stream.result c.from_residual-in_err-write_stream.ensures.1 in
     rw (p.1, p.2) accepted
