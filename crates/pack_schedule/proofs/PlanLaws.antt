@@ -7,9 +7,9 @@ use Rattle.picture_changes.specs.Schedule.{CanBeReady, IsLate}
 use Rattle.pack_schedule.specs.Plans.{ArePlanRows, IsFirstLate, IsPlanRow, no_row}
 use Rattle.pack_schedule.specs.PlannerParts.{IsBeforePicture}
 use Rattle.pack_schedule.specs.Weights.{AreWeights}
-use Rattle.pack_schedule.specs.declared.planned.PlanRow.{PlanRow}
-use Rattle.pack_schedule.specs.declared.weights.Weighed.{Weighed}
-use Rattle.pack_schedule.proofs.Surveys.{stands_next}
+use Rattle.pack_schedule.specs.declared.planner.PlanRow.{PlanRow}
+use Rattle.pack_schedule.specs.declared.change.weights.Weighed.{Weighed}
+use Rattle.pack_schedule.proofs.SurveyLaws.{stands_next}
 
 -- the picture of a row that is not late can be ready
 pub row_is_ready : (script : List Drawing) (k : ℕ) (row : PlanRow) → IsPlanRow script k row → row.late ≡ false

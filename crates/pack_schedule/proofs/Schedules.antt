@@ -11,14 +11,14 @@ use Rattle.picture_changes.specs.Schedule.{start_of, IsInTime, IsScheduleOf}
 use Rattle.picture_changes.specs.PlannedChange.{planned_change}
 use Rattle.pack_schedule.specs.Survey.{IsSurvey, IsWithin}
 use Rattle.pack_schedule.specs.Woven.{ArePacks}
-use Rattle.pack_schedule.specs.declared.planned.Planned.{Planned}
+use Rattle.pack_schedule.specs.declared.surveys.told.PlannedChange.{PlannedChange}
 
 the_same : (n : ℕ) → 0 + n ≡ n
 the_same n = omega arith
 
 -- they are a schedule of each kind of which the planned changes are
 pub is_schedule : (IsOne : List Drawing → ℕ → List Instr → Type 0) (script : List Drawing) (blocks : ℕ)
-    (survey : List Planned) (packs : List (List ℕ)) → ((k : ℕ) → IsOne script k (planned_change script k))
+    (survey : List PlannedChange) (packs : List (List ℕ)) → ((k : ℕ) → IsOne script k (planned_change script k))
     → ((k : ℕ) → k < pictures script → ready_time script k ≤ hold_time script k)
     → IsWithin script blocks → IsSurvey script survey → length packs ≡ whole_packs blocks → ArePacks script packs
     → IsScheduleOf IsOne script blocks packs

@@ -7,8 +7,8 @@ use Rattle.picture_changes.specs.Schedule.{IsInTime, free_packs, IsLate}
 use Rattle.picture_changes.specs.Shown.{AreColoursInRange}
 use Rattle.picture_changes.specs.PlannedChange.{planned_change}
 use Rattle.pack_schedule.specs.Survey.{IsPastEnd, IsStop}
-use Rattle.pack_schedule.specs.declared.planned.Stop.{Stop}
-use Rattle.pack_schedule.specs.declared.planned.Stop.TheVariants.{PastEnd as past_end, Late as late, NoMemory as no_memory}
+use Rattle.pack_schedule.specs.declared.stops.Stop.{Stop}
+use Rattle.pack_schedule.specs.declared.stops.Stop.TheVariants.{PastEnd as past_end, Late as late, NoMemory as no_memory}
 use Rattle.subcode_author.specs.AuthorAnswer.{AreReady, HasLayout, HasRoom, IsAccepted, IsAuthorStop}
 use Rattle.subcode_author.proofs.Late.{ready_not_late}
 use Rattle.subcode_author.proofs.Prompt.{PlannedIsChange}

@@ -11,7 +11,7 @@ use Rattle.picture_changes.specs.PlannedChange.{planned_change}
 use Rattle.picture_changes.specs.Shown.{AreColoursInRange}
 use Rattle.pack_schedule.specs.Survey.{IsSurvey, IsWithin}
 use Rattle.pack_schedule.specs.Woven.{Woven, IsPackAt, ArePacks}
-use Rattle.pack_schedule.specs.declared.planned.Planned.{Planned}
+use Rattle.pack_schedule.specs.declared.surveys.told.PlannedChange.{PlannedChange}
 use Rattle.rw_code.specs.Packs.{idle_pack}
 use Rattle.cdg_io.specs.Change.{from_to}
 use Rattle.stream_writer.specs.Given.{AreGiven, CarriesComing, PutsStreamPart, framing_of}
@@ -24,16 +24,16 @@ use Rattle.subcode_author.proofs.Prompt.{PlannedIsChange}
 -- what is known of a script that has a schedule
 pub record IsPlannedScript (script : List Drawing) (blocks : ℕ) : Type 0 where
   pub within : IsWithin script blocks
-  pub survey : List Planned
+  pub survey : List PlannedChange
   pub surveyed : IsSurvey script survey
   pub held : (k : ℕ) → k < pictures script → ready_time script k ≤ hold_time script k
   pub ranges : AreColoursInRange script
   pub pixels : (k x y : ℕ) → picture_pixel script k x y < 16
 
-in_time : (script : List Drawing) (survey : List Planned) → IsSurvey script survey → (k : ℕ) → k < pictures script → IsInTime script k (length (planned_change script k))
+in_time : (script : List Drawing) (survey : List PlannedChange) → IsSurvey script survey → (k : ℕ) → k < pictures script → IsInTime script k (length (planned_change script k))
 in_time script survey surveyed k lt = subst (IsInTime script k) (surveyed.each k lt).need_is (surveyed.each k lt).in_time
 
-are_ready : PlannedIsChange → (script : List Drawing) (survey : List Planned) → AreColoursInRange script
+are_ready : PlannedIsChange → (script : List Drawing) (survey : List PlannedChange) → AreColoursInRange script
     → ((k x y : ℕ) → picture_pixel script k x y < 16) → IsSurvey script survey → AreReady script
 are_ready is_change script survey ranges pixels surveyed k lt = (
   length (planned_change script k),
@@ -44,7 +44,7 @@ are_ready is_change script survey ranges pixels surveyed k lt = (
 pub is_accepted : PlannedIsChange → (sheet : CueSheet) (script : List Drawing) (lead_in audio : ℕ)
     → HoldsPictures sheet script audio → HasRoom sheet lead_in
     → AreColoursInRange script → ((k x y : ℕ) → picture_pixel script k x y < 16)
-    → ((survey : List Planned) × IsSurvey script survey) → IsAccepted sheet script lead_in audio
+    → ((survey : List PlannedChange) × IsSurvey script survey) → IsAccepted sheet script lead_in audio
 is_accepted needs sheet script lead_in audio disc room ranges pixels planned = record {
   disc = disc;
   room = room;
@@ -84,7 +84,7 @@ cut_idle script woven blocks few first known n pack past lt comes =
 
 -- what the law of the layer below says
 abbrev pub PacksAreSchedule : Type 0
-PacksAreSchedule = (script : List Drawing) (blocks : ℕ) (survey : List Planned) (packs : List (List ℕ))
+PacksAreSchedule = (script : List Drawing) (blocks : ℕ) (survey : List PlannedChange) (packs : List (List ℕ))
     → AreColoursInRange script → ((k x y : ℕ) → picture_pixel script k x y < 16) → ((k : ℕ) → k < pictures script → ready_time script k ≤ hold_time script k)
     → IsWithin script blocks → IsSurvey script survey → length packs ≡ whole_packs blocks → ArePacks script packs → IsSchedule script blocks packs
 
