@@ -13,7 +13,8 @@ pub record IsWeighed (tile : List ℕ) (kept : Weighed) : Type 0 where
   pub few : kept.weight ≤ 4
   pub colour : IfSome kept.single (λ c. c < 16)
   pub from_own : (c : ℕ) → c < 16 → kept.single ≡ Some c → steps (replicate tile_pixels c) tile ≡ 0
-  pub from_other : (c : ℕ) → c < 16 → ¬ (kept.single ≡ Some c) → steps (replicate tile_pixels c) tile ≡ kept.weight
+  pub from_other : (c : ℕ) → c < 16 → ¬ (kept.single ≡ Some c)
+      → steps (replicate tile_pixels c) tile ≡ kept.weight
 
 -- what is kept of tile i of picture k
 abbrev pub IsWeighedAt : List Drawing → ℕ → ℕ → List Weighed → Type 0

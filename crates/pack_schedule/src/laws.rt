@@ -15,13 +15,15 @@ use picture_changes::{needs_are_fewest, planned_changes_are_changes};
 /// A law: the packs that a weaver gives, as many as are whole in a program of so many blocks, are a schedule, and one
 /// of changes in their fixed order.
 pub fn packs_are_a_schedule()
-    ensures schedule { (script : List Drawing) (blocks : ℕ) (survey : List PlannedChange) (packs : List (List ℕ))
+    ensures schedule { (script : List Drawing) (blocks : ℕ) (survey : List PlannedChange)
+        (packs : List (List ℕ))
         → AreColoursInRange script → ((k x y : ℕ) → picture_pixel script k x y < 16)
         → ((k : ℕ) → k < pictures script → ready_time script k ≤ hold_time script k)
         → IsWithin script blocks → IsSurvey script survey → length packs ≡ whole_packs blocks
         → ArePacks script packs
         → IsSchedule script blocks packs }
-    ensures ordered { (script : List Drawing) (blocks : ℕ) (survey : List PlannedChange) (packs : List (List ℕ))
+    ensures ordered { (script : List Drawing) (blocks : ℕ) (survey : List PlannedChange)
+        (packs : List (List ℕ))
         → ((k x y : ℕ) → picture_pixel script k x y < 16)
         → ((k : ℕ) → k < pictures script → ready_time script k ≤ hold_time script k)
         → IsWithin script blocks → IsSurvey script survey → length packs ≡ whole_packs blocks

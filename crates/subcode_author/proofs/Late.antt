@@ -1,5 +1,5 @@
 -- The first picture that is late.
-use Rattle.std.proofs.Common.{◌≡◌, ℕ, zero, suc, ◌+◌, ◌*◌, ◌<◌, ◌⊎◌, List, length, refl, inl, inr, sym, subst, arith}
+use Rattle.std.proofs.Common.{◌≡◌, ℕ, zero, suc, ◌+◌, ◌*◌, ◌<◌, ◌⊎◌, List, length, refl, inl, inr, subst, arith}
 use Rattle.std.proofs.lemmas.Bool.{cases_lt}
 use Rattle.picture_script.specs.Script.{Drawing, pictures, ready_time, picture_pixel}
 use Rattle.picture_changes.specs.Brings.{IsChange, IsNeed}
