@@ -8,7 +8,7 @@ ghost use Rattle.cdg_screen.specs.Picture.{blank, standing_after};
 ghost use Rattle.cdg_thin.specs.Calls.{Thins, ThinsAll, most_file_packs};
 ghost use Rattle.cdg_thin.specs.Steps.{pack_instruction, is_needless, thin_next, thin_gives};
 
-use crate::instruction::{instruction, is_graphic};
+use crate::instruction::{instruction, is_graphic, is_idle};
 use crate::laws::thin_forms_stand_alike;
 use cdg_instructions::Instr;
 use cdg_io::{Piece, PumpStop, Pumped, Sink, Source, Stage, pump};
@@ -89,6 +89,7 @@ impl Thinner {
     }
 
     // Carries out an instruction, and tells whether it was needless.
+    #[inline]
     fn passes_over(&mut self, instr: &Instr) -> bool
         requires { InRange instr.now }
         ensures next { self.new ≡ standing_after self.old (instr.now ∷ []) }
@@ -101,9 +102,21 @@ impl Thinner {
         is_graphic(instr)
     }
 
-    // The same of the instruction of a pack.
+    // The same of the instruction of a pack. Most packs are idle.
     #[inline]
     fn is_needless(&mut self, pack: &[u8; 24]) -> bool
+        ensures next { self.new ≡ thin_next self.old pack.now }
+        ensures needless { result ≡ is_needless self.old (pack_instruction pack.now) }
+    {
+        if is_idle(pack) {
+            return self.passes_over(&Instr::Idle);
+        }
+        self.is_needless_drawing(pack)
+    }
+
+    // The same where the pack is seen to say something. It stands apart, so that idle packs do not pay for it.
+    #[inline(never)]
+    fn is_needless_drawing(&mut self, pack: &[u8; 24]) -> bool
         ensures next { self.new ≡ thin_next self.old pack.now }
         ensures needless { result ≡ is_needless self.old (pack_instruction pack.now) }
     {
@@ -133,6 +146,9 @@ impl Stage for Thinner {
 
     ghost gives = { thin_gives };
 
+    // It stands apart, so that a piece that is written over does not pay for one that is made.
+    #[cold]
+    #[inline(never)]
     fn feed(&mut self, pack: &[u8; 24]) -> Option<Piece> {
         let mut piece = Piece::new();
         self.pass(pack, &mut piece);
