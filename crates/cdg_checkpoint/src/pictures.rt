@@ -3,13 +3,13 @@ ghost use Rattle.std.specs.Prelude.{◌≡◌};
 ghost use Rattle.checkpoint_files.specs.Checkpoint.{file_of, kept, standing_in};
 ghost use Rattle.checkpoint_files.specs.Table.{IsCheckpointFile};
 
-use checkpoint_files::{CheckpointFile, Counts, SLOTS_BYTES};
+use checkpoint_files::{CheckpointFile, SLOTS_BYTES, StreamCounts};
 use stream_stages::Picture;
 
 /// Composes the file of these counts and slots, and of what stands on the picture.
 pub(crate) fn compose(
     file: &mut CheckpointFile,
-    counts: &Counts,
+    counts: &StreamCounts,
     slots: &[u8; SLOTS_BYTES],
     picture: &Picture,
 )
