@@ -4,7 +4,6 @@
 mod checkpointer;
 mod gathering;
 mod laws;
-mod pictures;
 mod resuming;
 mod saving;
 mod stops;

@@ -11,7 +11,6 @@ ghost use Rattle.stream_stages.specs.Stages.{painting_of, words_of};
 ghost use Rattle.cdg_checkpoint.specs.Resumed.{GoesOn, IsAcceptedBy, IsGoneOnBy, IsResumedBy, ReadsSaved, Resumes, acceptance, EndsAsResumed, packs_until, reached, saved_slots, time_after};
 
 use crate::gathering::gathered_slots;
-use crate::pictures::bring_back;
 use crate::watch::watch_some;
 use crate::{Checkpointer, ResumeStop, Resumed};
 use cdg_io::{Failed, PumpStop, Pumped, Sink, Source};
@@ -94,7 +93,7 @@ impl Checkpointer {
         match self.go_on(at, rest) {
             Ok(resumed) => {
                 let painting = &self.words.second;
-                match painting.picture.write_ppm(out) {
+                match painting.screen.write_ppm(out) {
                     Ok(()) => Ok(resumed),
                     Err(Failed) => Err(ResumeStop::WriteFault),
                 }
@@ -147,7 +146,7 @@ impl Checkpointer {
         requires not_later { (checkpoint_in self.old.file).program ≤ at }
         ensures goes_on { (taken : List ℕ)
             × GoesOn (time_after (checkpoint_in self.old.file) at) (change S.left rest.old rest.new)
-            (painting_of self.new.words).picture result taken }
+            (painting_of self.new.words).screen result taken }
         ensures answer { IfSome (S.left rest.old)
             (λ all. IsGoneOnBy result (checkpoint_in self.old.file) at (length all)) }
         ensures file { self.new.file ≡ self.old.file }
@@ -203,7 +202,7 @@ impl Checkpointer {
         } }
         ensures left { (painting_of self.new.words).left ≡ packs_until (checkpoint_in self.old.file) at }
         ensures bad { (painting_of self.new.words).bad ≡ counts.now.bad }
-        ensures stands { (painting_of self.new.words).picture ≡ standing_in self.old.file }
+        ensures stands { (painting_of self.new.words).screen ≡ standing_in self.old.file }
         ensures file { self.new.file ≡ self.old.file }
     {
         let words = &mut self.words.first;
@@ -213,6 +212,6 @@ impl Checkpointer {
         let painting = &mut self.words.second;
         painting.left = whole_packs(at) - whole_packs(counts.program);
         painting.bad = counts.bad;
-        bring_back(&self.file, &mut painting.picture);
+        self.file.bring_back(&mut painting.screen);
     }
 }

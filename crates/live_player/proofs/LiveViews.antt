@@ -65,18 +65,18 @@ few_given s block words gave =
 
 -- all words that come with a block are drawn
 pub words_drawn : (now : Standing) (new : Painting) (s : BlockWords) (block : List ℕ) (words : ArrayVec (List ℕ)) → IsWholeStanding now → Some words ≡ words_give s block
-    → new ≡ painting_next (record { picture = now; left = 4; bad = 0 }) words → new.picture ≡ standing_after now (drawn_for (words_give s block))
+    → new ≡ painting_next (record { screen = now; left = 4; bad = 0 }) words → new.screen ≡ standing_after now (drawn_for (words_give s block))
 unfolding painting_next
 words_drawn now new s block words whole gave is =
     let few : length words.items ≤ 4 = few_given s block words gave in
     let drawn = are_drawn now 4 0 words.items whole (omega (arith, few)) in
     let all : take 4 (map finding words.items) ≡ map finding words.items = take_all 4 (map finding words.items) (omega (arith, few, length-map words.items finding)) in
-    ap (λ (d : Painting). d.picture) is ∙ drawn.stands ∙ ap (λ found. standing_after now (instrs_of found)) all ∙ ap (standing_after now) (sym (meant_same (map finding words.items)))
+    ap (λ (d : Painting). d.screen) is ∙ drawn.stands ∙ ap (λ found. standing_after now (instrs_of found)) all ∙ ap (standing_after now) (sym (meant_same (map finding words.items)))
     ∙ ap (λ o. standing_after now (drawn_for o)) gave
 
 -- and those with no codeword near are counted
 pub words_counted : (now : Standing) (new : Painting) (s : BlockWords) (block : List ℕ) (words : ArrayVec (List ℕ)) → IsWholeStanding now → Some words ≡ words_give s block
-    → new ≡ painting_next (record { picture = now; left = 4; bad = 0 }) words → new.bad ≡ bad_count (map finding words.items)
+    → new ≡ painting_next (record { screen = now; left = 4; bad = 0 }) words → new.bad ≡ bad_count (map finding words.items)
 unfolding painting_next
 words_counted now new s block words whole gave is =
     let few : length words.items ≤ 4 = few_given s block words gave in

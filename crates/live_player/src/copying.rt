@@ -3,7 +3,6 @@ ghost use Rattle.std.specs.Prelude.{◌≡◌};
 
 use crate::LivePlayer;
 use rw_interleave::Gather;
-use stream_stages::Picture;
 
 impl LivePlayer {
     /// Shows, gathers and counts from here on what another player does.
@@ -20,7 +19,7 @@ impl LivePlayer {
         let painting = &mut self.painting;
         painting.left = other.painting.left;
         painting.bad = other.painting.bad;
-        copy_picture(&other.painting.picture, &mut painting.picture);
+        painting.screen.copy_from(&other.painting.screen);
     }
 }
 
@@ -34,11 +33,4 @@ fn copy_of(gather: &Gather) -> Gather
         count: gather.count,
         quiet: gather.quiet,
     }
-}
-
-// What stands on one picture stands on the other too.
-fn copy_picture(from: &Picture, to: &mut Picture)
-    ensures { to.new ≡ from.now }
-{
-    to.screen.copy_from(&from.screen);
 }

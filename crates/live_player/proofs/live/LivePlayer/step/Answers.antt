@@ -12,7 +12,7 @@ use Rattle.live_player.proofs.live.LivePlayer.step.Goals as goal
 pub returns-in-Some-clause-draws : goal.returns-in-Some-clause-draws
 returns-in-Some-clause-draws c =
     let words = c.args.self.now.words in
-    let same = ap (λ (painting : Painting). painting.picture) c.painting.view_is in
+    let same = ap (λ (painting : Painting). painting.screen) c.painting.view_is in
     words_drawn _ c.feed.new.self words c.args.block.now c.in-Some.words c.is_whole.ensures (sym c.in-Some.is ∙ c.feed-words.ensures.gives) c.feed.ensures.next
     ∙ ap (λ now. standing_after now (drawn_for (words_give words c.args.block.now))) same
 
