@@ -137,7 +137,7 @@ int32_t ribjasper_player_save(const ribjasper_player *player, uint8_t file[RIBJA
 int32_t ribjasper_player_load(ribjasper_player *player, const uint8_t file[RIBJASPER_CHECKPOINT], uint32_t *byte);
 
 /* Makes an open player show and gather from now on what another open player does, in any form and after any number of
-   blocks. The other stays as it is. It asks for no memory, and uses 65,000 bytes of the stack. */
+   blocks. The other stays as it is. It asks for no memory. */
 int32_t ribjasper_player_copy(const ribjasper_player *from, ribjasper_player *to);
 
 /* What the instruction of a pack of 24 bytes touches, whatever stands: 50 times the row and the column of a tile of the
