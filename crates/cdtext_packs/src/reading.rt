@@ -33,6 +33,7 @@ pub(crate) fn size_pack(kept: &[Option<TextPack>], d: u8) -> Option<TextPack>
     None
 }
 
+// Whether it is size pack `d`, of 0 to 2.
 fn is_size_pack(pack: &TextPack, d: u8) -> bool
     ensures { result ≡ is_size_pack d pack.now }
 {
