@@ -15,11 +15,9 @@ ghost use Rattle.cdg_checkpoint.specs.Keeping.{IsKept};
 use crate::Checkpointer;
 use crate::watch::watch;
 use cdg_io::{Failed, PumpStop, Pumped, Sink, Source, put_all};
-use checkpoint_files::{Counts, SLOTS_BYTES};
+use checkpoint_files::{SLOTS_BYTES, StreamCounts};
 use raw_subcode::{Form, MOST_UNITS};
-
-// The packs of the longest stream.
-const MOST_PACKS: u32 = 4 * MOST_UNITS - 7;
+use rw_interleave::whole_packs;
 
 impl Checkpointer {
     /// Writes the checkpoint after a stream of raw blocks, once it was read to its end. `lead_in` is at most
@@ -70,7 +68,7 @@ impl Checkpointer {
     {
         self.words.first.begin(lead_in, Form::Raw);
         let painting = &mut self.words.second;
-        painting.left = MOST_PACKS;
+        painting.left = whole_packs(MOST_UNITS);
         painting.bad = 0;
         painting.screen.reset();
     }
@@ -81,7 +79,7 @@ impl Checkpointer {
     {
         let read = pumped.units.min(lead_in);
         let painting = &self.words.second;
-        let counts = Counts {
+        let counts = StreamCounts {
             to_come: lead_in - read,
             lead_in: read,
             program: pumped.units - read,

@@ -45,6 +45,14 @@ rows_are rows pixel count widths same =
     let x_lt : x < 300 = omega (arith, widths y y_lt) in
     same x y x_lt y_lt ∙ sym (pixel_of_rows pixel x y x_lt y_lt)))
 
+-- and one row of them
+pub row_is : (row : List ℕ) (pixel : ℕ → ℕ → ℕ) (y : ℕ) → y < 216 → length row ≡ 300
+    → ((x : ℕ) → x < 300 → get_or row x 0 ≡ pixel x y) → row ≡ get_or (rows_of pixel) y []
+unfolding pixel_at
+row_is row pixel y lt width same = ext_get_or 0 row (get_or (rows_of pixel) y []) (width ∙ sym (length-row pixel y lt)) (λ x x_in.
+    let x_lt : x < 300 = omega (arith, width, x_in) in
+    same x x_lt ∙ sym (pixel_of_rows pixel x y x_lt lt))
+
 -- and of sixteen numbers
 pub sixteen_are : (numbers : List ℕ) (number : ℕ → ℕ) → length numbers ≡ 16 → ((k : ℕ) → k < 16 → slice_index numbers k ≡ number k) → numbers ≡ sixteen number
 unfolding sixteen

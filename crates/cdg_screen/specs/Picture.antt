@@ -4,6 +4,7 @@ use Rattle.bit_lists.specs.Counting.{below}
 use Rattle.cdg_instructions.specs.Drawing.{tile_colour}
 use Rattle.cdg_instructions.specs.declared.instr.Instr.{Instr}
 use Rattle.cdg_instructions.specs.declared.instr.Instr.TheVariants.{MemoryPreset, BorderPreset, SetTile, XorTile, ScrollPreset, ScrollCopy, Transparency, ColoursLow, ColoursHigh}
+use Rattle.cdg_instructions.specs.Sizes.{screen_height, screen_width}
 
 -- what stands at a moment: the memory as 216 rows of 300 pixels from the top left, the border, sixteen colours and levels,
 -- and the offsets of the screen
@@ -21,11 +22,11 @@ pixel_at rows x y = slice_index (slice_index_or rows y []) x
 
 -- the rows of the memory, by what pixel (x, y) is
 unfoldable pub rows_of : (ℕ → ℕ → ℕ) → List (List ℕ)
-rows_of pixel = map (λ y. map (λ x. pixel x y) (below 300)) (below 216)
+rows_of pixel = map (λ y. map (λ x. pixel x y) (below screen_width)) (below screen_height)
 
 -- the rows of the memory, of its pixels in one list, row by row from the left
 abbrev pub rows_in : List ℕ → List (List ℕ)
-rows_in pixels = rows_of (λ x y. slice_index pixels (300 * y + x))
+rows_in pixels = rows_of (λ x y. slice_index pixels (screen_width * y + x))
 
 -- sixteen numbers, by what number k is
 unfoldable pub sixteen : (ℕ → ℕ) → List ℕ
@@ -54,11 +55,11 @@ source size step direction x =
 
 -- where a pixel comes from across, plus the width of the memory
 abbrev pub source_x : ℕ → ℕ → ℕ
-source_x across x = source 300 6 across x
+source_x across x = source screen_width 6 across x
 
 -- where a pixel comes from down, plus the height of the memory
 abbrev pub source_y : ℕ → ℕ → ℕ
-source_y down y = source 216 12 down y
+source_y down y = source screen_height 12 down y
 
 -- whether it comes from the memory and not from outside
 abbrev pub is_inside : ℕ → ℕ → Bool
@@ -78,10 +79,11 @@ memory_from start (XorTile colour0 colour1 row column lines ∷ before) x y =
     let old = memory_from start before x y in
     if covers row column x y then bit_xor (tile_colour colour0 colour1 lines (x % 6) (y % 12)) old else old
 memory_from start (ScrollPreset colour across h down v ∷ before) x y =
-    let old = memory_from start before (source_x across x - 300) (source_y down y - 216) in
-    if is_inside 300 (source_x across x) && is_inside 216 (source_y down y) then old else colour
+    let old = memory_from start before (source_x across x - screen_width) (source_y down y - screen_height) in
+    if is_inside screen_width (source_x across x) && is_inside screen_height (source_y down y)
+    then old else colour
 memory_from start (ScrollCopy colour across h down v ∷ before) x y =
-    memory_from start before (source_x across x % 300) (source_y down y % 216)
+    memory_from start before (source_x across x % screen_width) (source_y down y % screen_height)
 memory_from start (_ ∷ before) x y = memory_from start before x y
 
 -- the border: the last colour that it was set to

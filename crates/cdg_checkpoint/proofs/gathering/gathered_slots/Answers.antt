@@ -3,7 +3,7 @@ use Rattle.std.specs.Prelude.{min}
 use Rattle.raw_subcode.specs.Channels.{symbols_of}
 use Rattle.checkpoint_files.specs.Checkpoint.{checkpoint_in}
 use Rattle.cdg_checkpoint.proofs.GoneOn.{slots_all, slots_more}
-use Rattle.live_player.proofs.saving.gathered_slots.Goals as goal
+use Rattle.cdg_checkpoint.proofs.gathering.gathered_slots.Goals as goal
 
 pub loop-k-preserved : goal.loop-k-preserved
 loop-k-preserved c =
@@ -11,5 +11,5 @@ loop-k-preserved c =
 
 pub returns : goal.returns
 returns c =
-    slots_all (checkpoint_in c.args.file.now).slots c.min-kept.result c.loop-k.k (min 7 (4 * (checkpoint_in c.args.file.now).program)) c.loop-k.gather (omega (arith, c.min-kept.ensures, c.min.ensures, c.requires.program))
-    (omega (arith, c.min-kept.ensures, c.min.ensures, c.requires.program, c.loop-k.auto.k-end, c.loop-k-test.false)) c.loop-k.invariant
+    slots_all (checkpoint_in c.args.file.now).slots c.min-kept.result c.loop-k.k (min 7 (4 * (checkpoint_in c.args.file.now).program)) c.loop-k.gather (omega (arith, c.min-kept.ensures, c.counts.ensures.program))
+    (omega (arith, c.min-kept.ensures, c.counts.ensures.program, c.loop-k.auto.k-end, c.loop-k-test.false)) c.loop-k.invariant
