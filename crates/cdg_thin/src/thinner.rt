@@ -109,7 +109,9 @@ impl Thinner {
         ensures needless { result ≡ is_needless self.old (pack_instruction pack.now) }
     {
         if is_idle(pack) {
-            return self.passes_over(&Instr::Idle);
+            // A law: what stands is as after no instructions, and so after an idle pack.
+            self.screen.is_whole();
+            return false;
         }
         self.is_needless_drawing(pack)
     }
