@@ -4,13 +4,13 @@ use Rattle.std.proofs.lemmas.List.{get_or_default}
 use Rattle.std.proofs.lemmas.List.Sums.{count_by-le-length}
 use Rattle.rw_merge.specs.Agreement.{IsAgreement}
 use Rattle.rw_merge.proofs.Words.{agreement_of, agreements-nil, found_next, found_whole}
-use Rattle.rw_merge.proofs.packs.Packs.agreed.Goals as goal
+use Rattle.rw_merge.proofs.packs.Packs.set_agreed.Goals as goal
 
 pub loop-i-init : goal.loop-i-init
 loop-i-init c = record {
-  size = omega (arith, ap length c.new.ensures);
+  size = omega (arith, ap length c.new-self.ensures);
   few_bad = omega arith;
-  packs = record { found = []; all = agreements-nil; text_is = c.new.ensures; bad_is = refl; few = omega arith };
+  packs = record { found = []; all = agreements-nil; text_is = c.new-self.ensures; bad_is = refl; few = omega arith };
 }
 
 pub loop-i-preserved : goal.loop-i-preserved
