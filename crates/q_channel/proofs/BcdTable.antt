@@ -20,7 +20,8 @@ pub number_at : (byte place found : ℕ) → byte < 256 → place ≡ byte → f
     → found ≡ (if is_bcd_within 0 99 byte then bcd_value byte else 255)
 unfolding has_number
 number_at byte place found small same is =
-    is ∙ ap (λ k. get_or NUMBERS k 0) same ∙ eqb-true _ _ (all_below-at has_number 256 byte test_numbers small)
+    is ∙ ap (λ k. get_or NUMBERS k 0) same
+    ∙ eqb-true _ _ (all_below-at has_number 256 byte test_numbers small)
 
 -- a byte whose number there is at most this one
 pub number_up_to : (most byte found : ℕ) → found ≡ (if is_bcd_within 0 99 byte then bcd_value byte else 255)
@@ -29,7 +30,8 @@ unfolding is_bcd_within
 number_up_to most byte found is most_le le = elim (bool_cases (is_bcd_within 0 99 byte)) [
   | inl within ↦
       let value = 10 * (byte / 16) + byte % 16 in
-      let one = and_parts (nat_le (byte / 16) 9 && nat_le (byte % 16) 9 && nat_le 0 value) (nat_le value 99) within in
+      let one = and_parts (nat_le (byte / 16) 9 && nat_le (byte % 16) 9 && nat_le 0 value)
+      (nat_le value 99) within in
       let same : found ≡ value = rw within at is in
       let few : nat_le value most ≡ true = le-leb _ _ (omega arith) in
       rw (one.0, few) refl

@@ -1,5 +1,5 @@
-// Frames of the program, which most blocks carry: their fields are tested without a table, and their line has the digits
-// of the frame as they stand.
+// Frames of the program, which most blocks carry: their fields are tested without the table of ranges, and their line
+// has the digits of the frame as they stand.
 ghost use Rattle.std.specs.Prelude.{◌≡◌, ◌≤◌, ◌+◌, ◌/◌, ◌%◌, ◌++◌, ◌∷◌, [], true, None, Ok, length, take, drop, if◌then◌else◌};
 ghost use Rattle.bit_lists.specs.Bits.{bits_of_bytes};
 ghost use Rattle.q_channel.specs.QFrame.{field_value, is_bcd_within};
