@@ -18,7 +18,8 @@ use Rattle.q_channel.proofs.Frames.{good_at, is_frame}
 use Rattle.q_channel.proofs.ReadingLaws.{only_reading}
 
 -- what the bytes of a frame of the program are read as, over the steps of the code
-pub program_reading : (bytes : List ℕ) (m : List Bool) (kind : Kind) (mode track point : ℕ) → m ≡ bits_of_bytes bytes
+pub program_reading : (bytes : List ℕ) (m : List Bool) (kind : Kind) (mode track point : ℕ)
+    → m ≡ bits_of_bytes bytes
     → length (bits_of_bytes bytes) ≡ 96 → kind ≡ kind_by mode track point → kind ≡ ProgramFrame
     → mode ≡ field_value m 4 4 → track ≡ field_value m 8 8 → point ≡ field_value m 16 8
     → first_outside m program_ranges ≡ None
@@ -54,7 +55,8 @@ within : (low high byte : ℕ) → is_bcd_within low high byte ≡ true → With
 unfolding is_bcd_within
 within low high byte h =
     let value = 10 * (byte / 16) + byte % 16 in
-    let one = and_parts (nat_le (byte / 16) 9 && nat_le (byte % 16) 9 && nat_le low value) (nat_le value high) h in
+    let one = and_parts (nat_le (byte / 16) 9 && nat_le (byte % 16) 9 && nat_le low value)
+    (nat_le value high) h in
     let two = and_parts (nat_le (byte / 16) 9 && nat_le (byte % 16) 9) (nat_le low value) one.0 in
     let three = and_parts (nat_le (byte / 16) 9) (nat_le (byte % 16) 9) two.0 in
     record { tens = leb-true _ _ three.0; ones = leb-true _ _ three.1; most = leb-true _ _ one.1 }
@@ -80,33 +82,41 @@ abbrev template : List ℕ
 template = codes "000000 0 track 00 index 00 00:00:00 abs 00:00:00\n"
 
 -- the line with its digits, as the code puts them one behind another
-abbrev pub filled : List ℕ → List ℕ → List ℕ → List ℕ → List ℕ → List ℕ → List ℕ → List ℕ → List ℕ → List ℕ → List ℕ
+abbrev pub filled : List ℕ → List ℕ → List ℕ → List ℕ → List ℕ → List ℕ → List ℕ → List ℕ → List ℕ → List ℕ
+    → List ℕ
 filled number control track index m s f m2 s2 f2 =
-    put_at 46 f2 (put_at 43 s2 (put_at 40 m2 (put_at 33 f (put_at 30 s (put_at 27 m (put_at 24 index (put_at 15 track
+    put_at 46 f2 (put_at 43 s2 (put_at 40 m2 (put_at 33 f (put_at 30 s (put_at 27 m (put_at 24 index
+    (put_at 15 track
     (put_at 7 control (put_at 0 number template)))))))))
 
 pub filled_by_steps : (number control track index m s f m2 s2 f2 l1 l2 l3 l4 l5 l6 l7 l8 l9 l10 : List ℕ)
-    → l1 ≡ put_at 0 number template → l2 ≡ put_at 7 control l1 → l3 ≡ put_at 15 track l2 → l4 ≡ put_at 24 index l3
+    → l1 ≡ put_at 0 number template → l2 ≡ put_at 7 control l1 → l3 ≡ put_at 15 track l2
+    → l4 ≡ put_at 24 index l3
     → l5 ≡ put_at 27 m l4 → l6 ≡ put_at 30 s l5 → l7 ≡ put_at 33 f l6 → l8 ≡ put_at 40 m2 l7
     → l9 ≡ put_at 43 s2 l8 → l10 ≡ put_at 46 f2 l9 → l10 ≡ filled number control track index m s f m2 s2 f2
-filled_by_steps number control track index m s f m2 s2 f2 l1 l2 l3 l4 l5 l6 l7 l8 l9 l10 e1 e2 e3 e4 e5 e6 e7 e8 e9 e10 =
+filled_by_steps number control track index m s f m2 s2 f2 l1 l2 l3 l4 l5 l6 l7 l8 l9 l10 e1 e2 e3 e4 e5 e6 e7
+    e8 e9 e10 =
     e10 ∙ ap (put_at 46 f2) (e9 ∙ ap (put_at 43 s2) (e8 ∙ ap (put_at 40 m2) (e7 ∙ ap (put_at 33 f)
     (e6 ∙ ap (put_at 30 s) (e5 ∙ ap (put_at 27 m) (e4 ∙ ap (put_at 24 index) (e3 ∙ ap (put_at 15 track)
     (e2 ∙ ap (put_at 7 control) e1))))))))
 
 pub control_is : (c n : ℕ) → n < 2 ^ 4 → c ≡ digit_char n → c ∷ [] ≡ hex_digits 1 n
-control_is c n small is = ap (λ d. d ∷ []) (is ∙ ap digit_char (let same : n ≡ n / 16 ^ 0 % 16 = omega arith in same))
+control_is c n small is = ap (λ d. d ∷ []) (is ∙ ap digit_char
+    (let same : n ≡ n / 16 ^ 0 % 16 = omega arith in same))
 
 -- the line of a frame of the program, by its parts
-abbrev line_of : List ℕ → List ℕ → List ℕ → List ℕ → List ℕ → List ℕ → List ℕ → List ℕ → List ℕ → List ℕ → List ℕ
+abbrev line_of : List ℕ → List ℕ → List ℕ → List ℕ → List ℕ → List ℕ → List ℕ → List ℕ → List ℕ → List ℕ
+    → List ℕ
 line_of number control track index m s f m2 s2 f2 =
     number ++ codes " " ++ (control ++ codes " track " ++ track ++ codes " index " ++ index
-    ++ codes " " ++ (m ++ codes ":" ++ s ++ codes ":" ++ f) ++ codes " abs " ++ (m2 ++ codes ":" ++ s2 ++ codes ":" ++ f2))
+    ++ codes " " ++ (m ++ codes ":" ++ s ++ codes ":" ++ f) ++ codes " abs "
+    ++ (m2 ++ codes ":" ++ s2 ++ codes ":" ++ f2))
     ++ codes "\n"
 
 -- the line that the code puts together
 pub program_text : (m : List Bool) (block : ℕ) → first_outside m program_ranges ≡ None
-    → filled (digits 6 block) (hex_digits 1 (field_value m 0 4)) (pair (field_value m 8 8)) (pair (field_value m 16 8))
+    → filled (digits 6 block) (hex_digits 1 (field_value m 0 4)) (pair (field_value m 8 8))
+    (pair (field_value m 16 8))
     (pair (field_value m 24 8)) (pair (field_value m 32 8)) (pair (field_value m 40 8))
     (pair (field_value m 56 8)) (pair (field_value m 64 8)) (pair (field_value m 72 8))
     ≡ q_line block (Ok (frame_at ProgramFrame m))
@@ -138,9 +148,12 @@ program_text m block h =
     let t = pair_is _ (bcd_value (field_value m 8 8)) track.tens track.ones refl in
     let x = pair_is _ (bcd_value (field_value m 16 8)) index.tens index.ones refl in
     let ta = pair_is _ ((75 * (60 * va + vb) + vc) / 4500) a.tens a.ones (minute_is va vb vc b.most c.most) in
-    let tb = pair_is _ ((75 * (60 * va + vb) + vc) / 75 % 60) b.tens b.ones (second_is va vb vc b.most c.most) in
+    let tb = pair_is _ ((75 * (60 * va + vb) + vc) / 75 % 60) b.tens b.ones
+    (second_is va vb vc b.most c.most) in
     let tc = pair_is _ ((75 * (60 * va + vb) + vc) % 75) c.tens c.ones (frame_is va vb vc c.most) in
     let td = pair_is _ ((75 * (60 * vd + ve) + vf) / 4500) d.tens d.ones (minute_is vd ve vf e.most f.most) in
-    let te = pair_is _ ((75 * (60 * vd + ve) + vf) / 75 % 60) e.tens e.ones (second_is vd ve vf e.most f.most) in
+    let te = pair_is _ ((75 * (60 * vd + ve) + vf) / 75 % 60) e.tens e.ones
+    (second_is vd ve vf e.most f.most) in
     let tf = pair_is _ ((75 * (60 * vd + ve) + vf) % 75) f.tens f.ones (frame_is vd ve vf f.most) in
-    λ i. line_of (digits 6 block) (hex_digits 1 (field_value m 0 4)) (t i) (x i) (ta i) (tb i) (tc i) (td i) (te i) (tf i)
+    λ i. line_of (digits 6 block) (hex_digits 1 (field_value m 0 4)) (t i) (x i) (ta i) (tb i) (tc i) (td i)
+    (te i) (tf i)

@@ -1,19 +1,19 @@
-// Frames of the program, which most blocks carry: their fields are tested without a table, and their line has the digits
-// of the frame as they stand.
-ghost use Rattle.std.specs.Prelude.{◌≡◌, ◌≤◌, ◌+◌, ◌/◌, ◌%◌, ◌++◌, ◌∷◌, [], true, None, Ok, length, take, drop};
+// Frames of the program, which most blocks carry: their fields are tested without the table of ranges, and their line
+// has the digits of the frame as they stand.
+ghost use Rattle.std.specs.Prelude.{◌≡◌, ◌≤◌, ◌+◌, ◌/◌, ◌%◌, ◌++◌, ◌∷◌, [], true, None, Ok, length, take, drop, if◌then◌else◌};
 ghost use Rattle.bit_lists.specs.Bits.{bits_of_bytes};
 ghost use Rattle.q_channel.specs.QFrame.{field_value, is_bcd_within};
 ghost use Rattle.q_channel.specs.QLine.{q_line};
 ghost use Rattle.q_channel.specs.QReading.{first_outside, program_ranges};
 ghost use Rattle.q_channel.specs.ReadingOf.{reading_of};
-ghost use Rattle.q_channel.specs.Kinds.{frame_at};
+ghost use Rattle.q_channel.specs.Kinds.{bcd_value, frame_at};
 ghost use Rattle.q_channel.specs.Sizes.{frame_bits};
 
 use crate::Message;
+use crate::bcd_table::NUMBERS;
 use crate::kinds::Kind;
 use crate::lines::{digit, six_digits};
 use crate::sizes::{CHECK_BITS, FIELD_BITS};
-use disc_time::to_bcd;
 use subcode_crc::crc16;
 
 /// The bytes of the line of a frame of the program: each of its parts has one width.
@@ -77,12 +77,20 @@ fn has_time(message: &Message, first: u8) -> bool
 
 // Whether a byte is of two decimal digits whose number is at most this one.
 #[inline]
-#[tactic(auto, using(crate::proofs::Ranges::bcd_up_to))]
+#[tactic(auto, using(crate::proofs::BcdTable::number_up_to))]
 fn is_bcd_up_to(byte: u8, most: u8) -> bool
     requires { most ≤ 99 }
     ensures { result ≡ true → is_bcd_within 0 most byte ≡ true }
 {
-    byte % 16 <= 9 && byte <= to_bcd(most)
+    bcd_number(byte) <= most
+}
+
+// The number of a byte of two decimal digits, and 255 for another.
+#[inline]
+fn bcd_number(byte: u8) -> u8
+    ensures { result ≡ (if is_bcd_within 0 99 byte then bcd_value byte else 255) }
+{
+    NUMBERS[usize::from(byte)]
 }
 
 /// The line of a block with such a frame.

@@ -1,5 +1,10 @@
 // The lines of the Q channel.
-ghost use Rattle.std.specs.Prelude.{◌≡◌, Some};
+ghost use Rattle.std.specs.Prelude.{◌≡◌, ◌<◌, Some, if◌then◌else◌, is_err};
+ghost use Rattle.bit_lists.specs.Bits.{bits_of_bytes};
+ghost use Rattle.bit_lists.specs.Counting.{counted};
+ghost use Rattle.raw_subcode.specs.Sizes.{most_units};
+ghost use Rattle.q_channel.specs.QLine.{q_line};
+ghost use Rattle.q_channel.specs.ReadingOf.{reading_of};
 ghost use Rattle.q_channel.specs.QSteps.{q_next, q_give};
 
 use crate::program::{is_program_frame, program_line};
@@ -32,9 +37,22 @@ impl QLines {
         // Most blocks carry a frame of the program.
         if is_program_frame(&frame) {
             piece.set(&program_line(number, &frame));
-            return;
+        } else {
+            self.put_reading(number, &frame, piece);
         }
-        let reading = decode(&frame);
+    }
+
+    // Puts the line of any frame, with the number of its block. It is a function of its own so that frames of the
+    // program do not pay for its variables.
+    #[inline(never)]
+    fn put_reading(&mut self, number: u32, frame: &[u8; 12], piece: &mut Piece)
+        requires { number < most_units }
+        ensures block { self.new.block ≡ self.old.block }
+        ensures bad { self.new.bad
+            ≡ (if is_err (reading_of (bits_of_bytes frame.now)) then counted self.old.bad else self.old.bad) }
+        ensures gives { piece.new ≡ q_line number (reading_of (bits_of_bytes frame.now)) }
+    {
+        let reading = decode(frame);
         if reading.is_err() {
             self.bad = self.bad.saturating_add(1);
         }
