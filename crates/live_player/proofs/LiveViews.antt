@@ -1,10 +1,10 @@
 -- What stands after what a player was given.
-use Rattle.std.proofs.Common.{◌≡◌, ℕ, ◌+◌, ◌-◌, ◌*◌, ◌/◌, ◌^◌, ◌<◌, ◌≤◌, ◌==◌, Bool, true, false, cond, List, [], ◌∷◌, ◌++◌, length, map, take, drop, refl, ap, ap₂, ◌∙◌, subst, sym, arith, None, Some, length-append, length-drop}
+use Rattle.std.proofs.Common.{◌≡◌, ℕ, ◌+◌, ◌-◌, ◌*◌, ◌^◌, ◌≤◌, ◌==◌, Bool, true, false, cond, List, [], ◌∷◌, ◌++◌, length, map, take, drop, refl, ap, ap₂, ◌∙◌, subst, sym, arith, None, Some, length-append, length-drop}
 use Rattle.std.specs.declared.option.Option.{Option}
 use Rattle.std.specs.List.{flat_map}
 use Rattle.std.proofs.lemmas.List.{take_all, length-map, map-append}
 use Rattle.arrayvec.specs.ArrayVec.{ArrayVec}
-use Rattle.cdg_io.specs.Run.{give, run_state, run_gives}
+use Rattle.cdg_io.specs.Run.{give, run_gives}
 use Rattle.cdg_io.proofs.Runs.{run_state-append}
 use Rattle.rw_code.specs.Finding.{finding}
 use Rattle.std.specs.Prelude.{min}
@@ -14,7 +14,6 @@ use Rattle.rw_interleave.specs.Stream.{bad_count}
 use Rattle.raw_subcode.specs.Channels.{symbols_of}
 use Rattle.raw_subcode.specs.declared.form.Form.{Form}
 use Rattle.raw_subcode.specs.declared.form.Form.TheVariants.{Raw}
-use Rattle.cdg_instructions.specs.declared.instr.Instr.{Instr}
 use Rattle.cdg_instructions.specs.Meaning.{meaning}
 use Rattle.cdg_screen.specs.Picture.{IsWholeStanding, Standing, blank, standing_after}
 use Rattle.cdg_screen.proofs.Turns.{blank_is_whole, in_turn}

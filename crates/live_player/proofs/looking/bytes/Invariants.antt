@@ -1,6 +1,5 @@
 use Rattle.std.proofs.Common.{◌≡◌, ◌<◌, ◌+◌, ◌*◌, ℕ}
 use Rattle.std.specs.Prelude.{slice_index}
-use Rattle.cdg_screen.specs.Picture.{screen_pixel}
 use Rattle.live_player.specs.Lives.{picture_byte}
 use Rattle.live_player.proofs.looking.bytes.Given as goal
 

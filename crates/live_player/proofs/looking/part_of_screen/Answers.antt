@@ -1,5 +1,4 @@
-use Rattle.std.proofs.Common.{◌≡◌, ◌+◌, ◌-◌, ◌<◌, ◌∙◌, ℕ, get_or, length, arith}
-use Rattle.cdg_screen.specs.Picture.{screen_pixel}
+use Rattle.std.proofs.Common.{◌≡◌, ◌+◌, ◌-◌, ◌<◌, ◌∙◌, ℕ, arith}
 use Rattle.live_player.proofs.Pictures.{length-piece, part_others, part_pixels, piece_at}
 use Rattle.live_player.proofs.looking.part_of_screen.Goals as goal
 
