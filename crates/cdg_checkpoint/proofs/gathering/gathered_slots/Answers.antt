@@ -11,5 +11,5 @@ loop-k-preserved c =
 
 pub returns : goal.returns
 returns c =
-    slots_all (checkpoint_in c.args.file.now).slots c.min-kept.result c.loop-k.k (min 7 (4 * (checkpoint_in c.args.file.now).program)) c.loop-k.gather (omega (arith, c.min-kept.ensures, c.counts.ensures.program))
-    (omega (arith, c.min-kept.ensures, c.counts.ensures.program, c.loop-k.auto.k-end, c.loop-k-test.false)) c.loop-k.invariant
+    slots_all (checkpoint_in c.args.file.now).slots c.min-kept.result c.loop-k.k (min 7 (4 * (checkpoint_in c.args.file.now).program)) c.loop-k.gather (omega (arith, c.min-kept.ensures, c.counts-program.ensures.program))
+    (omega (arith, c.min-kept.ensures, c.counts-program.ensures.program, c.loop-k.auto.k-end, c.loop-k-test.false)) c.loop-k.invariant
