@@ -90,7 +90,7 @@ impl<'a> Planner<'a> {
         let k = self.given;
         self.now.draw_until(self.script, k);
         let row = plan_row(self.script, k, &self.before, &self.now, &mut self.weights);
-        self.before.draw_until(self.script, k);
+        self.before.draw_like(self.script, k, &self.now);
         self.given += 1;
         Some(row)
     }

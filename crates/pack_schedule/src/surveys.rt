@@ -88,7 +88,7 @@ fn survey_on(
     for k in 0..pictures {
         let change = plan_in_time(script, k, before, now, &mut weights)?;
         planned.push(change)?;
-        before.draw_until(script, k);
+        before.draw_like(script, k, now);
     }
     Ok(Survey { planned })
 }

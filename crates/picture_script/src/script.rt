@@ -86,12 +86,11 @@ impl Script {
         ensures fill { IfSome result (λ found. slice_index_or self.now found.0 (Fill 0) ≡ Fill found.1) }
         ensures colour { IfSome result (λ found. found.1 < 16) }
     {
-        let mut last = None;
-        for i in from..to {
+        for i in (from..to).rev() {
             if let ScriptLine::Filled { colour } = self.lines[i] {
-                last = Some((i, colour));
+                return Some((i, colour));
             }
         }
-        last
+        None
     }
 }

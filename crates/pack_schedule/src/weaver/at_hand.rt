@@ -88,7 +88,7 @@ impl ChangeAtHand {
         ensures next { self.new.k ≡ self.old.k + 1 }
     {
         let pictures = script.pictures();
-        self.before.draw_until(script, self.k);
+        self.before.draw_like(script, self.k, &self.now);
         self.k += 1;
         self.start = u32::MAX;
         if self.k < pictures {
