@@ -121,8 +121,8 @@ late_needs_more script (suc k) need free order late =
     let held = order.held k (omega (arith, late.picture)) in
     let next : suc k ≡ k + 1 = omega arith in
     let later : hold_time script k < ready_time script (suc k) =
-        subst (λ n. hold_time script k < ready_time script n) (sym next)
-        (order.later k (subst (λ n. n < pictures script) next late.picture)) in
+    subst (λ n. hold_time script k < ready_time script n) (sym next)
+    (order.later k (subst (λ n. n < pictures script) next late.picture)) in
     let room : start_of script (suc k) + packs_kept_back ≤ slots_a_block * ready_time script (suc k) =
-        omega (arith, earlier, held, later) in
+    omega (arith, earlier, held, later) in
     omega (arith, late.free_is, free_few (start_of script (suc k)) (ready_time script (suc k)) need late.late room)
