@@ -1,5 +1,5 @@
 -- What waits in a buffer, as the part of it from one place to another.
-use Rattle.std.proofs.Common.{◌≡◌, ℕ, ◌+◌, ◌-◌, ◌≤◌, List, ◌++◌, [], length, take, drop, slice_range, sym, ap, ◌∙◌, arith, length-take-le, append_assoc, length-drop}
+use Rattle.std.proofs.Common.{◌≡◌, ℕ, ◌+◌, ◌-◌, ◌≤◌, List, ◌++◌, length, take, drop, slice_range, sym, ap, ◌∙◌, arith, length-take-le, append_assoc, length-drop}
 use Rattle.std.proofs.Math.Seq.{take-add, take-take, take-append-add, take-append_seam}
 use Rattle.std.proofs.lemmas.List.{drop-append-le, drop-drop, drop-take}
 
