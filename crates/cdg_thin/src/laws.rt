@@ -13,9 +13,11 @@ pub fn thin_forms_stand_alike()
     ensures again { (bytes text : List ℕ) → IsThinText bytes text → IsThinText text text }
     ensures some { (bytes : List ℕ) → (text : List ℕ) × IsThinText bytes text }
     ensures only { (bytes one other : List ℕ) → IsThinText bytes one → IsThinText bytes other → one ≡ other }
-    ensures size { (bytes text : List ℕ) → IsThinText bytes text → length text ≡ symbols_a_slot * (length bytes / symbols_a_slot) }
+    ensures size { (bytes text : List ℕ) → IsThinText bytes text
+        → length text ≡ symbols_a_slot * (length bytes / symbols_a_slot) }
     // 24 bytes have an instruction, and packs have no more than one list of them.
-    ensures reading { (pack : List ℕ) → length pack ≡ symbols_a_slot → (instr : Instr) × IsInstructionOf pack instr }
+    ensures reading { (pack : List ℕ) → length pack ≡ symbols_a_slot
+        → (instr : Instr) × IsInstructionOf pack instr }
     ensures one_reading { (packs : List (List ℕ)) (one other : List Instr)
         → AreInstructionsOf packs one → AreInstructionsOf packs other → one ≡ other }
 {}
