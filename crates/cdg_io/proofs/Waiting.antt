@@ -1,5 +1,5 @@
 -- What waits in a buffer, as the part of it from one place to another.
-use Rattle.std.proofs.Common.{◌≡◌, ℕ, ◌+◌, ◌-◌, ◌≤◌, List, ◌++◌, [], length, take, drop, slice_range, sym, ap, ◌∙◌, arith, length-take-le, append_assoc, length-drop}
+use Rattle.std.proofs.Common.{◌≡◌, ℕ, ◌+◌, ◌-◌, ◌≤◌, List, ◌++◌, length, take, drop, slice_range, sym, ap, ◌∙◌, arith, length-take-le, append_assoc, length-drop}
 use Rattle.std.proofs.Math.Seq.{take-add, take-take, take-append-add, take-append_seam}
 use Rattle.std.proofs.lemmas.List.{drop-append-le, drop-drop, drop-take}
 
@@ -29,7 +29,8 @@ piece_behind xs piece rest post start end order within =
     let room : end - start ≤ length (drop start xs) = omega (arith, length-drop start xs, order, within) in
     let long : length before ≡ end - start = length-take-le (end - start) (drop start xs) room in
     let count : end + length piece - start ≡ length before + length piece = omega (arith, long, order) in
-    ap (λ (l : List ℕ). take (end + length piece - start) l) (drop-append-le start (take end xs) behind (omega (arith, front, order)))
+    ap (λ (l : List ℕ). take (end + length piece - start) l)
+    (drop-append-le start (take end xs) behind (omega (arith, front, order)))
     ∙ ap (λ (l : List ℕ). take (end + length piece - start) (l ++ behind)) part
     ∙ ap (λ (k : ℕ). take k (before ++ behind)) count
     ∙ take-append-add before behind (length piece)

@@ -1,6 +1,6 @@
-use Rattle.std.proofs.Common.{[], ◌∷◌, ◌∙◌, ap, refl, sym}
+use Rattle.std.proofs.Common.{[], ◌∷◌, ◌∙◌, ap, sym}
 use Rattle.cdg_instructions.specs.declared.instr.Instr.{Instr}
-use Rattle.cdg_screen.specs.Picture.{Standing, standing_after}
+use Rattle.cdg_screen.specs.Picture.{standing_after}
 use Rattle.cdg_thin.specs.Steps.{is_needless, thin_next}
 use Rattle.cdg_thin.proofs.thinner.Thinner.is_needless.Goals as goal
 
