@@ -24,11 +24,17 @@ pub joined_more : (f : ℕ → List ℕ) (k bytes : ℕ) → bytes ≡ length (j
     → bytes + (length (f k) + 1) ≡ length (joined (map f (below (k + 1))))
 joined_more f k bytes is =
     let more : map f (below (k + 1)) ≡ map f (below k) ++ f k ∷ [] =
-        map-range_with_len_more f 0 k k (omega arith) in
+    map-range_with_len_more f 0 k k (omega arith) in
     let parts : joined (map f (below (k + 1))) ≡ joined (map f (below k)) ++ joined (f k ∷ []) =
-        ap joined more ∙ flat_map-append (λ s. s ++ 0 ∷ []) (map f (below k)) (f k ∷ []) in
-    omega (arith, is, ap length parts, length-append (joined (map f (below k))) (joined (f k ∷ [])),
-        length-append (f k ++ 0 ∷ []) [], length-append (f k) (0 ∷ []))
+    ap joined more ∙ flat_map-append (λ s. s ++ 0 ∷ []) (map f (below k)) (f k ∷ []) in
+    omega (
+      arith,
+      is,
+      ap length parts,
+      length-append (joined (map f (below k))) (joined (f k ∷ [])),
+      length-append (f k ++ 0 ∷ []) [],
+      length-append (f k) (0 ∷ []),
+    )
 
 -- strings are all empty, or have more bytes than zeros
 Emptiness : List (List ℕ) → Type 0
@@ -71,7 +77,7 @@ packs_filled strings count bytes counted is = elim (emptiness strings) [
       ∙ sym (ap (λ (b : Bool). if b then 0 else (length (joined strings) + 11) / 12) e.0)
   | inr m ↦
       ap (λ (b : Bool). if b then 0 else (bytes + 11) / 12)
-          (ne_eqb bytes count (λ same. omega (arith, m.1, is, counted, same)))
+      (ne_eqb bytes count (λ same. omega (arith, m.1, is, counted, same)))
       ∙ ap (λ n. (n + 11) / 12) is
       ∙ sym (ap (λ (b : Bool). if b then 0 else (length (joined strings) + 11) / 12) m.0)
 ]
@@ -85,7 +91,7 @@ empty_of_none strings none = elim (emptiness strings) [
   | inl e ↦ e.0
   | inr m ↦
       let count : pack_count strings ≡ (length (joined strings) + 11) / 12 =
-          ap (λ (b : Bool). if b then 0 else (length (joined strings) + 11) / 12) m.0 in
+      ap (λ (b : Bool). if b then 0 else (length (joined strings) + 11) / 12) m.0 in
       absurd (omega (arith, none, count, m.1))
 ]
 
@@ -105,7 +111,7 @@ length-kind : (texts : Texts) (kind : TextKind)
 unfolding kind_contents
 length-kind texts kind =
     length-map-range_with_len (text_content texts.first (type_of kind) (strings_of kind texts)) 0
-        (pack_count (strings_of kind texts))
+    (pack_count (strings_of kind texts))
 
 abbrev count_of : Texts → TextKind → ℕ
 count_of texts kind = pack_count (strings_of kind texts)
@@ -113,9 +119,17 @@ count_of texts kind = pack_count (strings_of kind texts)
 length-kinds : (texts : Texts) → length (flat_map (kind_contents texts) kinds)
     ≡ count_of texts Title + count_of texts Performer + count_of texts Songwriter + count_of texts Composer
     + count_of texts Arranger + count_of texts Message + count_of texts Code
-length-kinds texts = omega (arith, length-flat_map (kind_contents texts) kinds, length-kind texts Title,
-    length-kind texts Performer, length-kind texts Songwriter, length-kind texts Composer,
-    length-kind texts Arranger, length-kind texts Message, length-kind texts Code)
+length-kinds texts = omega (
+  arith,
+  length-flat_map (kind_contents texts) kinds,
+  length-kind texts Title,
+  length-kind texts Performer,
+  length-kind texts Songwriter,
+  length-kind texts Composer,
+  length-kind texts Arranger,
+  length-kind texts Message,
+  length-kind texts Code,
+)
 
 -- the kinds that a sheet does not have have no strings
 record HasFour (texts : Texts) : Type 0 where
@@ -130,10 +144,16 @@ length-with_text : (texts : Texts) → HasFour texts → has_no_text texts ≡ f
     → length (contents texts) ≡ filled texts + 3
 length-with_text texts four some =
     let all : length (contents texts) ≡ length (flat_map (kind_contents texts) kinds ++ size_contents texts) =
-        ap (λ (b : Bool). length (if b then [] else flat_map (kind_contents texts) kinds ++ size_contents texts)) some in
-    omega (arith, all, length-append (flat_map (kind_contents texts) kinds) (size_contents texts),
-        length-kinds texts, none_filled texts.composer four.composer, none_filled texts.arranger four.arranger,
-        none_filled texts.message four.message)
+    ap (λ (b : Bool). length (if b then [] else flat_map (kind_contents texts) kinds ++ size_contents texts)) some in
+    omega (
+      arith,
+      all,
+      length-append (flat_map (kind_contents texts) kinds) (size_contents texts),
+      length-kinds texts,
+      none_filled texts.composer four.composer,
+      none_filled texts.arranger four.arranger,
+      none_filled texts.message four.message,
+    )
 
 -- where none of the four kinds fills a pack there is no text
 no_text : (texts : Texts) → HasFour texts → filled texts ≡ 0 → has_no_text texts ≡ true
@@ -169,8 +189,13 @@ none_of_no_text texts none =
     let arranger = none_here texts Arranger after_arranger composer.1 in
     let message = none_here texts Message after_message arranger.1 in
     let c = none_here texts Code [] message.1 in
-    omega (arith, none_filled texts.title t.0, none_filled texts.performer p.0,
-        none_filled texts.songwriter s.0, none_filled texts.code c.0)
+    omega (
+      arith,
+      none_filled texts.title t.0,
+      none_filled texts.performer p.0,
+      none_filled texts.songwriter s.0,
+      none_filled texts.code c.0,
+    )
 
 length-unless_empty : (texts : Texts) → HasFour texts
     → ((filled texts ≡ 0) × (length (contents (unless_empty texts)) ≡ 0))
@@ -179,7 +204,7 @@ length-unless_empty texts four = elim (cases_lt 0 (filled texts)) [
   | inr none ↦
       let zero_ : filled texts ≡ 0 = omega (arith, none) in
       let gone : unless_empty texts ≡ no_texts =
-          ap (λ (b : Bool). if b then no_texts else texts) (no_text texts four zero_) in
+      ap (λ (b : Bool). if b then no_texts else texts) (no_text texts four zero_) in
       inl (zero_, ap (λ (t : Texts). length (contents t)) gone)
   | inl some ↦ elim (cases_Bool (has_no_text texts)) [
     | inl silent ↦ absurd (omega (arith, some, none_of_no_text texts silent))
@@ -200,7 +225,7 @@ packs_counted sheet all is =
     let texts : Texts = sheet_texts sheet in
     let empty = all_empty (length sheet.tracks + 1) in
     let size : length (text_packs sheet) ≡ length (contents (unless_empty texts)) =
-        length-packs_of (unless_empty texts) in
+    length-packs_of (unless_empty texts) in
     elim (length-unless_empty texts (record { composer = empty; arranger = empty; message = empty })) [
       | inl none ↦ inl (is ∙ none.0, size ∙ none.1)
       | inr some ↦ inr (omega (arith, is, some.0), omega (arith, size, some.1, is))

@@ -9,11 +9,7 @@ use std::alloc::{AllocError, Global};
 
 /// The text packs of a sheet for a lead-in of so many blocks, which has room for them. Without a lead-in there are
 /// none.
-pub fn pack_texts(
-    alloc: Global,
-    sheet: &Sheet,
-    lead_in: u32,
-) -> Result<Vec<TextPack>, AllocError>
+pub fn pack_texts(alloc: Global, sheet: &Sheet, lead_in: u32) -> Result<Vec<TextPack>, AllocError>
     requires { HasRoom sheet.now lead_in }
     ensures { IfOk result (λ packs. 0 < lead_in → packs.items ≡ text_packs sheet.now) }
 {

@@ -35,7 +35,8 @@ time_in_track place block = if nat_lt block (music_begin place) then music_begin
 
 -- whether a block lies in the two seconds before index 01 of a track, or in its pause where that is longer
 abbrev pub is_paused_for : ℕ → TrackPlace → Bool
-is_paused_for block place = nat_le (music_begin place - max pause_blocks (music_begin place - place.begin)) block
+is_paused_for block place =
+    nat_le (music_begin place - max pause_blocks (music_begin place - place.begin)) block
     && nat_lt block (music_begin place)
 
 -- whether the P bit of a block is set: the block lies in the pause of some track

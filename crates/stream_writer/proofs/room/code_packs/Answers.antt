@@ -11,7 +11,7 @@ loop-place-preserved c =
     let f : ℕ → List ℕ = code_at c.args.sheet.now in
     let so_far = c.loop-place.invariant in
     let string = code_at_string c.args.sheet.now c.loop-place.place c.tracks-strings.ensures.sheet
-        (omega (arith, c.tracks-strings.ensures.count)) in
+    (omega (arith, c.tracks-strings.ensures.count)) in
     record {
       joined =
           ap (λ (s : List ℕ). c.loop-place.bytes + (length s + 1)) c.code_at.ensures
@@ -24,9 +24,9 @@ returns-clause-packs c =
     let sheet = c.args.sheet.now in
     let f : ℕ → List ℕ = code_at sheet in
     let end : c.loop-place.place ≡ length sheet.tracks + 1 =
-        omega (arith, c.tracks-strings.ensures.count) in
+    omega (arith, c.tracks-strings.ensures.count) in
     let count : c.tracks-strings.result + 1 ≡ length (for_each sheet f) =
-        omega (arith, c.tracks-strings.ensures.count, length-for_each sheet f (for_each sheet f) refl) in
+    omega (arith, c.tracks-strings.ensures.count, length-for_each sheet f (for_each sheet f) refl) in
     c.filled_packs.ensures
     ∙ packs_filled (for_each sheet f) (c.tracks-strings.result + 1) c.loop-place.bytes count
-        (c.loop-place.invariant.joined ∙ ap (λ n. length (joined (map f (below n)))) end)
+    (c.loop-place.invariant.joined ∙ ap (λ n. length (joined (map f (below n)))) end)

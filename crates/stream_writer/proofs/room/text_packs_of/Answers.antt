@@ -23,9 +23,9 @@ returns-clause-packs c =
     let sheet = c.args.sheet.now in
     let f : ℕ → List ℕ = text_at c.args.kind sheet in
     let end : c.loop-place.place ≡ length sheet.tracks + 1 =
-        omega (arith, c.tracks-strings.ensures.count) in
+    omega (arith, c.tracks-strings.ensures.count) in
     let count : c.tracks-strings.result + 1 ≡ length (for_each sheet f) =
-        omega (arith, c.tracks-strings.ensures.count, length-for_each sheet f (for_each sheet f) refl) in
+    omega (arith, c.tracks-strings.ensures.count, length-for_each sheet f (for_each sheet f) refl) in
     c.filled_packs.ensures
     ∙ packs_filled (for_each sheet f) (c.tracks-strings.result + 1) c.loop-place.bytes count
-        (c.loop-place.invariant.joined ∙ ap (λ n. length (joined (map f (below n)))) end)
+    (c.loop-place.invariant.joined ∙ ap (λ n. length (joined (map f (below n)))) end)
