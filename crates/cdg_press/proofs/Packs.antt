@@ -14,7 +14,7 @@ use Rattle.cdg_instructions.specs.MadeGood.{IsMadeGood}
 use Rattle.cdg_instructions.proofs.Symbols.{message_of-has}
 use Rattle.rw_code.specs.Packs.{idle_pack}
 use Rattle.cdg_press.specs.Pressed.{file_begin, file_pack, IsPackAfter}
-use Rattle.subcode_author.proofs.Codewords.{has_codeword}
+use Rattle.cdg_instructions.proofs.Codewords.{has_codeword}
 
 -- the symbols of a pack of a file
 

@@ -6,9 +6,8 @@ use Rattle.raw_subcode.specs.Channels.{channel_bit, p_bits, q_bits, symbols_of}
 use Rattle.q_channel.specs.QFrame.{IsValid}
 use Rattle.q_channel.specs.declared.frame.QFrame.{QFrame}
 use Rattle.stream_writer.specs.Blocks.{built_byte, built_block, bits_of_frame, IsBuilt}
-use Rattle.subcode_author.proofs.Codewords.{AreSymbols}
-use Rattle.subcode_author.proofs.FrameBits.{frame_size}
-use Rattle.subcode_author.proofs.LeadIns.{IsSymbols}
+use Rattle.stream_writer.proofs.FrameBits.{frame_size}
+use Rattle.stream_writer.proofs.LeadIns.{AreSymbols, IsSymbols}
 
 abbrev AreBytes : List ℕ → Type 0
 AreBytes bytes = AllByRecursion (λ b. b < 256) bytes

@@ -1,5 +1,5 @@
-use Rattle.round_trips.proofs.Existing.{same_pressed_bytes, same_pressed_packs}
-use Rattle.round_trips.proofs.pressed.pressed_streams_are_one.Goals as goal
+use Rattle.cdg_press.proofs.Existing.{same_pressed_bytes, same_pressed_packs}
+use Rattle.cdg_press.proofs.laws.pressed_streams_are_one.Goals as goal
 
 pub returns-clause-packs : goal.returns-clause-packs
 returns-clause-packs c sheet file lead_in audio one other packs others = same_pressed_packs sheet file lead_in audio one other packs others

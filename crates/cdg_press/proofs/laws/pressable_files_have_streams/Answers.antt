@@ -1,5 +1,5 @@
-use Rattle.round_trips.proofs.Existing.{has_stream, part_is_prefix}
-use Rattle.round_trips.proofs.pressed.pressable_files_have_streams.Goals as goal
+use Rattle.cdg_press.proofs.Existing.{has_stream, part_is_prefix}
+use Rattle.cdg_press.proofs.laws.pressable_files_have_streams.Goals as goal
 
 pub returns-clause-stream : goal.returns-clause-stream
 returns-clause-stream c sheet file lead_in audio = has_stream sheet file lead_in audio c.spread_carries.ensures

@@ -13,7 +13,6 @@ use Rattle.cdtext_packs.specs.Texts.{Texts, kinds, has_no_text}
 use Rattle.cdtext_packs.specs.Writing.{Content, text_content, kind_contents, size_content, size_contents, contents, content_bytes, numbered, packs_of, twelve}
 use Rattle.cdtext_packs.specs.LeadIn.{pack_symbols, lead_in_slot, lead_in_symbols}
 use Rattle.cdtext_packs.specs.declared.kinds.TextKind.{TextKind}
-use Rattle.subcode_author.proofs.Codewords.{AreSymbols, symbols-append}
 
 -- The packs of texts have eighteen bytes.
 
@@ -73,6 +72,9 @@ packs_eighteen texts = numbered_eighteen 0 (contents texts) (contents_twelve tex
 
 -- The symbols of a slot, and of four.
 
+abbrev pub AreSymbols : List ℕ → Type 0
+AreSymbols symbols = AllByRecursion (λ s. s < 64) symbols
+
 abbrev pub IsSymbols : ℕ → List ℕ → Type 0
 IsSymbols n symbols = (length symbols ≡ n) × AreSymbols symbols
 
@@ -117,7 +119,7 @@ slot_is packs j all = elim (cases_lt 0 (length packs)) [
 ]
 
 joined_is : (m n all : ℕ) (xs ys : List ℕ) → IsSymbols m xs → IsSymbols n ys → m + n ≡ all → IsSymbols all (xs ++ ys)
-joined_is m n all xs ys these those sum = (length-append xs ys ∙ omega (arith, these.0, those.0, sum), symbols-append xs ys these.1 those.1)
+joined_is m n all xs ys these those sum = (length-append xs ys ∙ omega (arith, these.0, those.0, sum), all-append (λ s. s < 64) xs ys these.1 those.1)
 
 pub lead_in_is : (packs : List (List ℕ)) (block : ℕ) → AllByRecursion IsEighteen packs → IsSymbols 96 (lead_in_symbols packs block)
 lead_in_is packs block all =

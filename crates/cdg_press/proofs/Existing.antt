@@ -14,10 +14,10 @@ use Rattle.stream_writer.proofs.Whole.{SpreadCarries}
 use Rattle.cdg_instructions.specs.MadeGood.{IsMadeGood}
 use Rattle.cdg_press.specs.Pressed.{file_begin, file_pack, IsPackAfter, IsPressed, press_of}
 use Rattle.cdg_press.specs.Refusals.{IsPressable}
-use Rattle.subcode_author.proofs.Existing.{carrying_stream}
-use Rattle.subcode_author.proofs.StreamParts.{prefix_of_stream}
-use Rattle.subcode_author.proofs.Streams.{same_bytes}
-use Rattle.round_trips.proofs.Packs.{one_pack, packs_exist, same_packs}
+use Rattle.stream_writer.proofs.Carrying.{carrying_stream}
+use Rattle.stream_writer.proofs.Prefixes.{prefix_of_stream}
+use Rattle.stream_writer.proofs.SameBytes.{same_bytes}
+use Rattle.cdg_press.proofs.Packs.{one_pack, packs_exist, same_packs}
 
 module _ (sheet : CueSheet) (file : List ℕ) (lead_in audio : ℕ) where
   pub has_stream : SpreadCarries → IsSheet sheet → lead_in ≤ 450000 → IsPressable sheet file lead_in audio
