@@ -1,4 +1,4 @@
-use Rattle.std.proofs.Common.{refl, sym, ◌∙◌, arith, rules}
+use Rattle.std.proofs.Common.{refl, sym, ◌∙◌, rules}
 use Rattle.cdg_instructions.specs.declared.effect.Effect.TheVariants.{Nothing, Clear, Border, Draw, Scroll, Levels, Colours}
 use Rattle.cdg_screen.proofs.Obeyed.{Kept, obeyed_by}
 use Rattle.cdg_screen.proofs.screen.Screen.obey.Goals as goal

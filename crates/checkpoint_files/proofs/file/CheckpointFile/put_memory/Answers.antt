@@ -1,4 +1,4 @@
-use Rattle.std.proofs.Common.{◌*◌, length, sym, ap, arith, length-append}
+use Rattle.std.proofs.Common.{◌*◌, length, ap, arith, length-append}
 use Rattle.checkpoint_files.specs.Table.{Memory}
 use Rattle.checkpoint_files.specs.Checkpoint.{kept}
 use Rattle.checkpoint_files.proofs.Writing.{none_put, all_put}
