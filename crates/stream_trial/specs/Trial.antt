@@ -13,7 +13,7 @@ use Rattle.cdg_workload.specs.Script.{generated_script}
 use Rattle.cdg_workload.specs.Scratches.{scratched}
 use Rattle.stream_trial.specs.TrialSheet.{trial_text}
 use Rattle.subcode_author.specs.Authored.{IsWrittenStream, disc_of}
-use Rattle.stream_trial.specs.Counts.{differing}
+use Rattle.stream_trial.specs.Differing.{differing}
 use Rattle.stream_trial.specs.TrialLines.{input_lines, output_lines}
 
 -- the blocks of audio of a trial of so many pictures: the one that is ready last is held for twenty more
