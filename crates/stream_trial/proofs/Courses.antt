@@ -1,5 +1,5 @@
 -- What the course of a trial has gone over.
-use Rattle.std.proofs.Common.{◌≡◌, ◌≢◌, ℕ, zero, suc, ◌+◌, ◌-◌, ◌*◌, ◌/◌, ◌<◌, ◌≤◌, List, [], ◌∷◌, ◌++◌, length, map, take, drop, Some, refl, sym, ap, ap₂, ◌∙◌, subst, arith, append_assoc, length-append, length-drop}
+use Rattle.std.proofs.Common.{◌≡◌, ◌≢◌, ℕ, ◌+◌, ◌-◌, ◌*◌, ◌/◌, ◌<◌, ◌≤◌, List, [], ◌++◌, length, map, take, drop, Some, refl, sym, ap, ap₂, ◌∙◌, subst, arith, append_assoc, length-append, length-drop}
 use Rattle.std.specs.Prelude.{unwrap_or}
 use borrow.Rule.Slice.PartMut.{post_of, same_len_mid}
 use Rattle.std.specs.declared.option.Option.{Option}
@@ -14,7 +14,7 @@ use Rattle.picture_changes.specs.Shown.{ShowsPicture, AreTimesInOrder, AreColour
 use Rattle.cdg_workload.specs.Generated.{generated_drawings}
 use Rattle.cdg_workload.specs.Scratches.{scratched}
 use Rattle.cdg_workload.specs.Steps.{block_next, block_gives, scratches_after}
-use Rattle.stream_trial.specs.Course.{stream_block, gathered_before, words_with_block, HasGoneOver, HasTaken, HasShown, IsSteady, Knows}
+use Rattle.stream_trial.specs.Course.{stream_block, gathered_before, words_with_stream_block, HasGoneOver, HasTaken, HasShown, IsSteady, Knows}
 use Rattle.stream_trial.specs.Replay.{IsDamagedSchedule, IsPlayedOut}
 use Rattle.stream_trial.specs.declared.found.Found.{Found}
 use Rattle.stream_trial.specs.declared.course.Course.{Course}
@@ -47,7 +47,7 @@ pub gone_over : GathersWords → ShowsScheduled → ChannelsStay → ScratchesGo
     → new.scratches ≡ block_next old.scratches block → Some changed ≡ block_gives old.scratches block
     → new.gather ≡ run_state gather_next old.gather (slots_in changed 0 4)
     → words ≡ run_gives gather_next gather_gives old.gather (slots_in changed 0 4)
-    → ((bytes : List ℕ) (b : ℕ) → 96 * b + 96 ≤ length bytes → words ≡ words_with_block bytes b
+    → ((bytes : List ℕ) (b : ℕ) → 96 * b + 96 ≤ length bytes → words ≡ words_with_stream_block bytes b
     → HasTaken script bytes (whole_packs b) old.replay → HasTaken script bytes (whole_packs (b + 1)) new.replay)
     → ((old.gallery.next < pictures script → 4 * (old.blocks + 1) ≢ 4 * ready_time script old.gallery.next)
     → (new.gallery.next ≡ old.gallery.next) × (new.gallery.equal ≡ old.gallery.equal))
@@ -64,7 +64,7 @@ gone_over law shows stay next gives script order ranges old new block changed wo
     let changed_is : changed ≡ stream_block others b =
     some_inside changed (stream_block others b)
     (change ∙ ap₂ block_gives before.scratches block_is ∙ sym (gives seed b bytes fits)) in
-    let words_are : words ≡ words_with_block others b =
+    let words_are : words ≡ words_with_stream_block others b =
     come ∙ ap₂ (λ w l. run_gives gather_next gather_gives w (slots_in l 0 4)) before.gather changed_is in
     record {
       scratches = scratches ∙ ap₂ block_next before.scratches block_is ∙ sym (next seed b bytes fits)

@@ -21,7 +21,7 @@ use Rattle.picture_changes.specs.Schedule.{IsSchedule}
 use Rattle.picture_changes.specs.Shown.{ShowsPicture, AreTimesInOrder, AreColoursInRange}
 use Rattle.picture_changes.specs.Meanings.{AreMeantBy}
 use Rattle.stream_trial.specs.Differing.{differing}
-use Rattle.stream_trial.specs.Course.{AreTaken, AreCompared, AreTakenAndCompared, HasTaken, HasShown, words_with_block}
+use Rattle.stream_trial.specs.Course.{AreTaken, AreCompared, AreTakenAndCompared, HasTaken, HasShown, words_with_stream_block}
 use Rattle.stream_trial.specs.Replay.{one_where, TakesWord, IsBelow, IsDamagedSchedule, IsPlayedOut}
 use Rattle.stream_trial.specs.declared.replay.Replay.{Replay}
 use Rattle.stream_trial.specs.declared.gallery.Gallery.{Gallery}
@@ -192,7 +192,7 @@ begins script bytes replay gallery screen counts none = λ symbols packs damaged
 
 -- a further word of block b
 pub takes_on : GathersWords → InTurn → (script : List Drawing) (bytes : List ℕ) (b j : ℕ) (old new : Replay) (words : List (List ℕ)) → b < length bytes / 96
-    → words ≡ words_with_block bytes b → 4 * b - 7 + j < whole_packs (length bytes / 96) → j < length words → HasTaken script bytes (4 * b - 7 + j) old
+    → words ≡ words_with_stream_block bytes b → 4 * b - 7 + j < whole_packs (length bytes / 96) → j < length words → HasTaken script bytes (4 * b - 7 + j) old
     → ((codeword : List ℕ) → Reads (get_or words j []) codeword → TakesWord (get_or words j []) codeword old new)
     → HasTaken script bytes (4 * b - 7 + (j + 1)) new
 takes_on law in_turn script bytes b j old new words b_lt is k_lt lt taken takes = λ symbols packs damaged.

@@ -1,6 +1,6 @@
 -- The text of a trial.
 use Rattle.std.proofs.Common.{◌≡◌, ◌≢◌, ℕ, zero, suc, ◌+◌, ◌*◌, ◌/◌, ◌%◌, ◌≤◌, List, [], ◌++◌, length, map, take, drop, flat_map, refl, sym, ap, ap₂, ◌∙◌, subst, arith, length-drop, Result, Ok, Err}
-use Rattle.std.specs.Prelude.{Option, IfOk}
+use Rattle.std.specs.Prelude.{Option}
 use Rattle.std.proofs.lemmas.List.{length-map, map-append, nil_from_length, take-append-drop}
 use Rattle.bit_lists.specs.Counting.{parts}
 use Rattle.raw_subcode.specs.Channels.{symbols_of, block_of, program_symbols}

@@ -1,8 +1,8 @@
 -- What is known after the first blocks of a stream, which were scratched, corrected and played.
-use Rattle.std.specs.Prelude.{◌≡◌, ℕ, ◌+◌, ◌-◌, ◌*◌, ◌/◌, ◌<◌, ◌≤◌, List, [], ◌++◌, length, map, take, drop}
+use Rattle.std.specs.Prelude.{◌≡◌, ℕ, ◌+◌, ◌*◌, ◌/◌, ◌<◌, ◌≤◌, List, [], ◌++◌, length, map, take, drop}
 use Rattle.bit_lists.specs.Counting.{below}
 use Rattle.raw_subcode.specs.Channels.{symbols_of}
-use Rattle.raw_subcode.specs.Sizes.{block_bytes, most_units, slots_a_block, symbols_a_slot}
+use Rattle.raw_subcode.specs.Sizes.{block_bytes, slots_a_block, symbols_a_slot}
 use Rattle.cdg_io.specs.Run.{run_gives, run_state}
 use Rattle.rw_interleave.specs.Gathering.{gather_gives, gather_next}
 use Rattle.rw_interleave.specs.Interleave.{whole_of_slots}
@@ -40,9 +40,10 @@ abbrev pub gathered_before : List ℕ → ℕ → List (List ℕ)
 gathered_before bytes b = run_state gather_next [] (slots_before bytes (slots_a_block * b))
 
 -- the words that come with block b
-abbrev pub words_with_block : List ℕ → ℕ → List (List ℕ)
-words_with_block bytes b =
-    run_gives gather_next gather_gives (gathered_before bytes b) (slots_in (stream_block bytes b) 0 slots_a_block)
+abbrev pub words_with_stream_block : List ℕ → ℕ → List (List ℕ)
+words_with_stream_block bytes b =
+    run_gives gather_next gather_gives (gathered_before bytes b)
+    (slots_in (stream_block bytes b) 0 slots_a_block)
 
 -- ---- Words and pictures, where these symbols are damaged from those that carry these packs.
 

@@ -1,10 +1,11 @@
 -- What is known while a stream is played again.
-use Rattle.std.specs.Prelude.{◌≡◌, ℕ, ◌+◌, ◌-◌, ◌*◌, ◌<◌, ◌≤◌, ◌==◌, ◌&&◌, nat_le, if◌then◌else◌, List, [], ◌∷◌, slice_index}
+use Rattle.std.specs.Prelude.{◌≡◌, ℕ, ◌+◌, ◌-◌, ◌<◌, ◌≤◌, ◌==◌, ◌&&◌, nat_le, if◌then◌else◌, List, [], ◌∷◌, slice_index}
 use Rattle.raw_subcode.specs.declared.form.Form.TheVariants.{Raw}
 use Rattle.rw_code.specs.Codeword.{differences}
 use Rattle.rw_interleave.specs.Interleave.{whole_packs, Carries}
 use Rattle.rw_interleave.specs.Stream.{IsDamaged}
 use Rattle.cdg_instructions.specs.Instruction.{Means}
+use Rattle.cdg_instructions.specs.Sizes.{screen_height, screen_width}
 use Rattle.cdg_instructions.specs.declared.instr.Instr.{Instr}
 use Rattle.cdg_screen.specs.Picture.{Standing, standing_after, screen_pixel}
 use Rattle.picture_script.specs.Script.{Drawing, pictures}
@@ -23,7 +24,8 @@ wanted_pixel board x y = if nat_le 6 x && nat_le x 293 && nat_le 12 y
 pub record Agrees (now : Standing) (board : Board) : Type 0 where
   pub border : now.border ≡ board.border
   pub colours : (n : ℕ) → n < 16 → slice_index now.colours n ≡ slice_index board.colours n
-  pub pixels : (x y : ℕ) → x < 300 → y < 216 → screen_pixel now x y ≡ wanted_pixel board x y
+  pub pixels : (x y : ℕ) → x < screen_width → y < screen_height
+      → screen_pixel now x y ≡ wanted_pixel board x y
 
 -- each count is at most so great
 pub record IsBelow (most : ℕ) (replay : Replay) : Type 0 where

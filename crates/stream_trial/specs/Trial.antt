@@ -1,6 +1,7 @@
 -- What a trial of a seed writes.
 use Rattle.std.specs.Prelude.{◌≡◌, ℕ, ◌+◌, ◌*◌, List, ◌++◌, length, sum_by, Ok}
 use Rattle.bit_lists.specs.Counting.{below}
+use Rattle.disc_time.specs.Counts.{pause_blocks}
 use Rattle.raw_subcode.specs.Channels.{program_symbols}
 use Rattle.raw_subcode.specs.declared.form.Form.TheVariants.{Raw}
 use Rattle.rw_interleave.specs.Interleave.{whole_packs}
@@ -20,9 +21,9 @@ use Rattle.stream_trial.specs.TrialLines.{input_lines, output_lines}
 abbrev pub trial_audio : ℕ → ℕ
 trial_audio count = 800 * count + 20
 
--- the blocks of its program: a pause of 150 comes before the audio
+-- the blocks of its program: a pause comes before the audio
 abbrev pub trial_blocks : ℕ → ℕ
-trial_blocks count = 800 * count + 170
+trial_blocks count = pause_blocks + trial_audio count
 
 -- the instructions of all changes of a script
 unfoldable pub all_changes : List Drawing → ℕ

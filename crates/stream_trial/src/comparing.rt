@@ -1,5 +1,6 @@
 // A screen beside a canvas.
 ghost use Rattle.std.specs.Prelude.{◌≡◌, ◌<◌, ◌≤◌, ◌↔◌, ℕ, slice_index, IsTrue};
+ghost use Rattle.cdg_instructions.specs.Sizes.{screen_height, screen_width};
 ghost use Rattle.cdg_screen.specs.Picture.{screen_pixel};
 ghost use Rattle.stream_trial.specs.Replay.{Agrees, wanted_pixel};
 
@@ -31,8 +32,8 @@ fn colours_agree(screen: &Screen, canvas: &Canvas) -> bool
 // Whether all pixels agree, where the borders do.
 fn pixels_agree(screen: &Screen, canvas: &Canvas) -> bool
     requires { screen.now.border ≡ canvas.now.border }
-    ensures { IsTrue result ↔ ((x y : ℕ) → x < 300 → y < 216 → screen_pixel screen.now x y
-        ≡ wanted_pixel canvas.now x y) }
+    ensures { IsTrue result ↔ ((x y : ℕ) → x < screen_width → y < screen_height
+        → screen_pixel screen.now x y ≡ wanted_pixel canvas.now x y) }
 {
     for y in 12..204 {
         if !row_agrees(screen, canvas, y) {
@@ -44,7 +45,7 @@ fn pixels_agree(screen: &Screen, canvas: &Canvas) -> bool
 
 // Whether the pixels of a row agree in the window.
 fn row_agrees(screen: &Screen, canvas: &Canvas, y: u32) -> bool
-    requires { y < 216 }
+    requires { y < screen_height }
     ensures { IsTrue result ↔ ((x : ℕ) → 6 ≤ x → x < 294
         → screen_pixel screen.now x y ≡ wanted_pixel canvas.now x y) }
 {
@@ -58,8 +59,8 @@ fn row_agrees(screen: &Screen, canvas: &Canvas, y: u32) -> bool
 
 // The pixel that a screen is to show: that of the canvas in its window, and else the border.
 fn wanted(canvas: &Canvas, x: u32, y: u32) -> u8
-    requires x { x < 300 }
-    requires y { y < 216 }
+    requires x { x < screen_width }
+    requires y { y < screen_height }
     ensures { result ≡ wanted_pixel canvas.now x y }
 {
     if 6 <= x && x <= 293 && 12 <= y && y <= 203 {

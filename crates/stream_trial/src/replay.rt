@@ -5,7 +5,7 @@ ghost use Rattle.raw_subcode.specs.Sizes.{block_bytes, slots_a_block};
 ghost use Rattle.rw_interleave.specs.Interleave.{whole_packs};
 ghost use Rattle.cdg_screen.specs.Picture.{blank};
 ghost use Rattle.picture_script.specs.Script.{Drawing};
-ghost use Rattle.stream_trial.specs.Course.{HasTaken, words_with_block};
+ghost use Rattle.stream_trial.specs.Course.{HasTaken, words_with_stream_block};
 ghost use Rattle.stream_trial.specs.Replay.{IsBelow, TakesWord, TakesBad, one_where};
 
 use arrayvec::ArrayVec;
@@ -46,7 +46,7 @@ impl Replay {
         requires { IsBelow 3999999996 self.old }
         ensures more { (most : ℕ) → IsBelow most self.old → IsBelow (most + length words.now.items) self.new }
         ensures taken { (script : List Drawing) (bytes : List ℕ) (b : ℕ)
-            → block_bytes * b + block_bytes ≤ length bytes → words.now.items ≡ words_with_block bytes b
+            → block_bytes * b + block_bytes ≤ length bytes → words.now.items ≡ words_with_stream_block bytes b
             → HasTaken script bytes (whole_packs b) self.old
             → HasTaken script bytes (whole_packs (b + 1)) self.new }
     {

@@ -57,7 +57,8 @@ fn write_stream(
     requires script { (seed : ℕ) × (script.now ≡ generated_drawings seed pictures) }
     requires begun { run.old.history.bytes ≡ [] }
     ensures stream { OnOk result ((packs : List (List ℕ))
-        × IsWrittenStream (disc_of trial_sheet script.now 0 (trial_audio pictures)) run.new.history.bytes packs) }
+        × IsWrittenStream (disc_of trial_sheet script.now 0 (trial_audio pictures)) run.new.history.bytes
+        packs) }
     ensures of { OnOk result ((run.new.seed ≡ run.old.seed) × (run.new.pictures ≡ run.old.pictures)) }
     ensures err { IfErr result (λ stop. stop ≡ NoMemory) }
 {

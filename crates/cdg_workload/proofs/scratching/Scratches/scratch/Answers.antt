@@ -1,4 +1,4 @@
-use Rattle.std.proofs.Common.{◌≡◌, ℕ, refl, arith}
+use Rattle.std.proofs.Common.{◌≡◌, refl, arith}
 use Rattle.cdg_workload.proofs.BlockRuns.{block_skipped}
 use Rattle.cdg_workload.proofs.scratching.Scratches.scratch.Goals as goal
 

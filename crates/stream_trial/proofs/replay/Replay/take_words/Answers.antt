@@ -1,8 +1,8 @@
-use Rattle.std.proofs.Common.{◌≡◌, ℕ, ◌+◌, ◌-◌, ◌*◌, ◌/◌, ◌<◌, List, [], length, get_or, subst, ap, ◌∙◌, sym, arith}
+use Rattle.std.proofs.Common.{◌≡◌, ℕ, ◌+◌, ◌-◌, ◌*◌, ◌<◌, List, [], length, get_or, subst, ap, ◌∙◌, sym, arith}
 use Rattle.std.proofs.lemmas.List.{get_or_default}
 use Rattle.rw_code.specs.Codeword.{Reads}
 use Rattle.rw_interleave.specs.Interleave.{whole_packs}
-use Rattle.stream_trial.specs.Course.{HasTaken, words_with_block}
+use Rattle.stream_trial.specs.Course.{HasTaken, words_with_stream_block}
 use Rattle.stream_trial.specs.Replay.{TakesWord}
 use Rattle.stream_trial.proofs.Slots.{length-given}
 use Rattle.stream_trial.proofs.Plays.{takes_on, still_below}
@@ -34,7 +34,7 @@ loop-j-preserved c =
           (c.take_word.ensures.more (most + j) (c.loop-j.invariant.small most below));
       taken = λ script bytes b fits is before.
           let size = length-given c.gather_gives_words.ensures bytes b fits in
-          let sizes : length items ≡ length (words_with_block bytes b) = ap (λ (l : List (List ℕ)). length l) is in
+          let sizes : length items ≡ length (words_with_stream_block bytes b) = ap (λ (l : List (List ℕ)). length l) is in
           takes_on c.gather_gives_words.ensures c.instructions_in_turn.ensures script bytes b j old new items
           (omega (arith, fits)) is (omega (arith, size, sizes, lt, fits)) lt
           (c.loop-j.invariant.taken script bytes b fits is before)
@@ -46,7 +46,7 @@ pub returns-clause-taken : goal.returns-clause-taken
 returns-clause-taken c = λ script bytes b fits is before.
     let j = c.loop-j.j in
     let size = length-given c.gather_gives_words.ensures bytes b fits in
-    let sizes : length c.args.words.now.items ≡ length (words_with_block bytes b) =
+    let sizes : length c.args.words.now.items ≡ length (words_with_stream_block bytes b) =
     ap (λ (l : List (List ℕ)). length l) is in
     let all : j ≡ length c.args.words.now.items = omega (arith, c.len-j-end.ensures.value) in
     let last : 4 * b - 7 + j ≡ whole_packs (b + 1) = omega (arith, size, sizes, all) in
