@@ -4,6 +4,7 @@ ghost use Rattle.cdg_instructions.specs.Sizes.{screen_height, screen_width};
 ghost use Rattle.cdg_screen.specs.Picture.{screen_pixel};
 ghost use Rattle.stream_trial.specs.Replay.{Agrees, wanted_pixel};
 
+use cdg_instructions::SCREEN_WIDTH;
 use cdg_screen::Screen;
 use picture_script::Canvas;
 
@@ -43,18 +44,19 @@ fn pixels_agree(screen: &Screen, canvas: &Canvas) -> bool
     true
 }
 
-// Whether the pixels of a row agree in the window.
+// Whether the pixels of a row agree in the window. It looks at all of them, so that many can be compared at once.
 fn row_agrees(screen: &Screen, canvas: &Canvas, y: u32) -> bool
     requires { y < screen_height }
     ensures { IsTrue result ↔ ((x : ℕ) → 6 ≤ x → x < 294
         → screen_pixel screen.now x y ≡ wanted_pixel canvas.now x y) }
 {
+    let mut row = [0; SCREEN_WIDTH];
+    screen.write_row(y as usize, &mut row);
+    let mut same = true;
     for x in 6..294 {
-        if screen.pixel(x, y) != wanted(canvas, x, y) {
-            return false;
-        }
+        same &= row[x as usize] == wanted(canvas, x, y);
     }
-    true
+    same
 }
 
 // The pixel that a screen is to show: that of the canvas in its window, and else the border.
