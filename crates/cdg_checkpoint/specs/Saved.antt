@@ -11,7 +11,7 @@ use Rattle.raw_subcode.specs.Sizes.{block_bytes, most_units}
 use Rattle.raw_subcode.specs.declared.form.Form.TheVariants.{Raw}
 use Rattle.rw_interleave.specs.Stream.{IsRecovered, bad_count}
 use Rattle.cdg_instructions.specs.declared.instr.Instr.{Instr}
-use Rattle.cdg_screen.specs.Picture.{blank, standing_after}
+use Rattle.cdg_screen.specs.Standing.{blank, standing_after}
 use Rattle.checkpoint_files.specs.Checkpoint.{Checkpoint, file_of}
 use Rattle.checkpoint_files.specs.Table.{slots_bytes}
 use Rattle.stream_stages.specs.Screen.{AreMeant}

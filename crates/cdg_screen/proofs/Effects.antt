@@ -7,7 +7,7 @@ use Rattle.cdg_instructions.specs.declared.effect.Effect.{Effect}
 use Rattle.cdg_instructions.specs.declared.effect.Effect.TheVariants.{Clear, Border, Draw, Scroll, Levels, Colours}
 use Rattle.cdg_instructions.specs.declared.instr.Instr.{Instr}
 use Rattle.cdg_instructions.specs.declared.instr.Instr.TheVariants.{Idle, Foreign, Unknown, MemoryPreset, BorderPreset, SetTile, XorTile, ScrollPreset, ScrollCopy, Transparency, ColoursLow, ColoursHigh}
-use Rattle.cdg_screen.specs.Picture.{memory_from, border_from, colour_from, level_from, offsets_from}
+use Rattle.cdg_screen.specs.Standing.{memory_from, border_from, colour_from, level_from, offsets_from}
 use Rattle.cdg_screen.specs.Memory.{scrolled, with_tile}
 
 -- the pixels of the memory after an effect

@@ -4,7 +4,7 @@ use Rattle.std.specs.Prelude.{slice_index}
 use Rattle.std.proofs.lemmas.List.{ext_get_or}
 use Rattle.std.proofs.lemmas.List.FromFn.{length-map-range_with_len, get_or-map-range_with_len, fill_by_all}
 use Rattle.bit_lists.specs.Counting.{below}
-use Rattle.cdg_screen.specs.Picture.{IsWholeStanding, Standing, pixel_at, rows_of, sixteen, standing_after}
+use Rattle.cdg_screen.specs.Standing.{IsWholeStanding, Standing, pixel_at, rows_of, sixteen, standing_after}
 
 -- the same pixels stand in both, at each place of the memory
 abbrev pub AreSamePixels : (ℕ → ℕ → ℕ) → (ℕ → ℕ → ℕ) → Type 0

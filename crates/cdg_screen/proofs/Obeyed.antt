@@ -6,7 +6,7 @@ use Rattle.std.proofs.lemmas.Bool.Decides.{nat_tests}
 use Rattle.cdg_instructions.specs.declared.instr.Instr.{Instr}
 use Rattle.cdg_instructions.specs.Effect.{effect_of}
 use Rattle.cdg_instructions.specs.declared.effect.Effect.{Effect}
-use Rattle.cdg_screen.specs.Picture.{IsWholeStanding, Standing, blank, pixel_at, rows_of, sixteen, memory_from, border_from, colour_from, level_from, offsets_from, standing_after}
+use Rattle.cdg_screen.specs.Standing.{IsWholeStanding, Standing, blank, pixel_at, rows_of, sixteen, memory_from, border_from, colour_from, level_from, offsets_from, standing_after}
 use Rattle.cdg_screen.specs.Memory.{Grid, at, Becomes}
 use Rattle.cdg_screen.proofs.Lists.{AreSamePixels, rows_same, pixel_of_rows, sixteen_are, number_of_sixteen}
 use Rattle.cdg_screen.proofs.Turns.{same_memory}

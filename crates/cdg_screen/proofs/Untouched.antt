@@ -6,7 +6,7 @@ use Rattle.std.proofs.lemmas.Bool.Decides.{nat_tests}
 use Rattle.cdg_instructions.specs.Drawing.{tile_colour}
 use Rattle.cdg_instructions.specs.declared.instr.Instr.{Instr}
 use Rattle.cdg_instructions.specs.declared.instr.Instr.TheVariants.{Idle, Foreign, Unknown, MemoryPreset, BorderPreset, SetTile, XorTile, ScrollPreset, ScrollCopy, Transparency, ColoursLow, ColoursHigh}
-use Rattle.cdg_screen.specs.Picture.{IsWholeStanding, Standing, covers, pixel_at, rows_of, standing_after}
+use Rattle.cdg_screen.specs.Standing.{IsWholeStanding, Standing, covers, pixel_at, rows_of, standing_after}
 use Rattle.cdg_screen.specs.Touched.{IsSameBeside, KeepsTheRest, touched_by}
 use Rattle.cdg_screen.specs.declared.touching.Touched.TheVariants.{Nothing, Tile}
 use Rattle.cdg_screen.proofs.Lists.{pixel_of_rows, rows_same}

@@ -6,7 +6,7 @@ use Rattle.bit_lists.proofs.Groups.{all_below_bound}
 use Rattle.std.specs.Prelude.{All}
 use Rattle.cdg_screen.specs.Memory.{Grid, IsGrid, at}
 use Rattle.cdg_screen.proofs.Grids.{at-below}
-use Rattle.cdg_screen.specs.Picture.{pixel_at, screen_pixel}
+use Rattle.cdg_screen.specs.Standing.{pixel_at, screen_pixel}
 use Rattle.cdg_screen.proofs.Lists.{pixel_of_rows}
 use Rattle.cdg_screen.proofs.Obeyed.{Kept, seen}
 use Rattle.cdg_screen.proofs.Window.{window_pixel}

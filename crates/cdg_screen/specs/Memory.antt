@@ -5,7 +5,7 @@ use Rattle.cdg_instructions.specs.Drawing.{tile_colour}
 use Rattle.cdg_instructions.specs.declared.effect.DrawnTile.{DrawnTile}
 use Rattle.cdg_instructions.specs.declared.effect.Scrolling.{Scrolling}
 use Rattle.cdg_instructions.specs.Sizes.{screen_height, screen_width}
-use Rattle.cdg_screen.specs.Picture.{covers, is_inside, source_x, source_y}
+use Rattle.cdg_screen.specs.Standing.{covers, is_inside, source_x, source_y}
 
 -- The memory as rows that begin at a moving origin: pixel (0, 0) is element `left` of row `top`, and what is past an
 -- end goes on at the other.

@@ -3,7 +3,7 @@ use Rattle.std.specs.Prelude.{ℕ, ◌*◌, ◌/◌, ◌%◌, List, [], ◌∷�
 use Rattle.bit_lists.specs.Counting.{below}
 use Rattle.bit_lists.specs.Digits.{digits, hex_digits, line_feed}
 use Rattle.cdg_instructions.specs.Sizes.{screen_height, screen_width}
-use Rattle.cdg_screen.specs.Picture.{Standing, screen_pixel}
+use Rattle.cdg_screen.specs.Standing.{Standing, screen_pixel}
 
 -- the header of a pixmap: its kind, its size and the greatest value of a channel
 abbrev pub pixmap_header : List ℕ

@@ -2,7 +2,7 @@
 ghost use Rattle.std.specs.Prelude.{◌≡◌, ◌<◌, ◌≤◌, ◌+◌, ◌-◌, ◌&&◌, nat_le, nat_lt, if◌then◌else◌, ℕ, [], All, length, slice_index, slice_index_or};
 ghost use Rattle.cdg_instructions.specs.Sizes.{screen_height, screen_width};
 ghost use Rattle.cdg_screen.specs.Memory.{at};
-ghost use Rattle.cdg_screen.specs.Picture.{screen_pixel};
+ghost use Rattle.cdg_screen.specs.Standing.{screen_pixel};
 
 use crate::Screen;
 use crate::memory::Memory;

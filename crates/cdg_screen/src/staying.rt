@@ -2,7 +2,7 @@
 ghost use Rattle.std.specs.Prelude.{◌≡◌, ◌<◌, ◌≤◌, ◌+◌, ◌-◌, ◌*◌, ◌%◌, ◌↔◌, ◌==◌, ◌&&◌, nat_le, nat_lt, if◌then◌else◌, ℕ, All, IsTrue, slice_index};
 ghost use Rattle.cdg_instructions.specs.Drawing.{tile_colour};
 ghost use Rattle.cdg_instructions.specs.Sizes.{screen_height, screen_width};
-ghost use Rattle.cdg_screen.specs.Picture.{covers, is_inside, source, source_x, source_y};
+ghost use Rattle.cdg_screen.specs.Standing.{covers, is_inside, source, source_x, source_y};
 ghost use Rattle.cdg_instructions.specs.Effect.{IsScrollInRange};
 ghost use Rattle.cdg_screen.specs.Memory.{at, Becomes, drawn_over, line_colour, scrolled, with_tile};
 

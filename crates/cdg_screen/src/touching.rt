@@ -1,7 +1,7 @@
 // What an instruction can change, whatever stands.
 ghost use Rattle.std.specs.Prelude.{◌≡◌, ◌∷◌, []};
 ghost use Rattle.cdg_instructions.specs.declared.instr.Instr.{Instr};
-ghost use Rattle.cdg_screen.specs.Picture.{IsWholeStanding, Standing, standing_after};
+ghost use Rattle.cdg_screen.specs.Standing.{IsWholeStanding, Standing, standing_after};
 ghost use Rattle.cdg_screen.specs.Touched.{KeepsTheRest, tile_touched, touched_by};
 
 use crate::memory::is_on_memory;

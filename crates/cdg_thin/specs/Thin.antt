@@ -7,7 +7,7 @@ use Rattle.cdg_instructions.specs.MadeGood.{IsMadeGood}
 use Rattle.rw_code.specs.Packs.{idle_pack}
 use Rattle.raw_subcode.specs.Channels.{symbols_of}
 use Rattle.raw_subcode.specs.Sizes.{symbols_a_slot}
-use Rattle.cdg_screen.specs.Picture.{blank, standing_after}
+use Rattle.cdg_screen.specs.Standing.{blank, standing_after}
 use Rattle.cdg_instructions.specs.declared.instr.Instr.{Instr}
 use Rattle.cdg_instructions.specs.declared.instr.Instr.TheVariants.{Idle, Foreign, Unknown}
 

@@ -4,7 +4,7 @@ ghost use Rattle.cdg_instructions.specs.Instruction.{InRange};
 ghost use Rattle.cdg_io.specs.Causes.{TellsFault};
 ghost use Rattle.cdg_io.specs.Change.{change, passed};
 ghost use Rattle.cdg_io.specs.Pump.{FillsUnits, IsUnlessFault, TellsEndOf, answer_of};
-ghost use Rattle.cdg_screen.specs.Picture.{blank, standing_after};
+ghost use Rattle.cdg_screen.specs.Standing.{blank, standing_after};
 ghost use Rattle.raw_subcode.specs.Sizes.{symbols_a_slot};
 ghost use Rattle.cdg_thin.specs.Calls.{Thins, ThinsAll, most_file_packs};
 ghost use Rattle.cdg_thin.specs.Steps.{pack_instruction, is_needless, thin_next, thin_gives};
@@ -28,7 +28,7 @@ pub struct Thinner {
 }
 
 impl Model for Thinner {
-    ghost use Rattle.cdg_screen.specs.Picture.{Standing};
+    ghost use Rattle.cdg_screen.specs.Standing.{Standing};
 
     ghost Value = { Standing };
 
@@ -111,7 +111,7 @@ impl Thinner {
     {
         if is_idle(pack) {
             // A law: what stands is as after no instructions, and so after an idle pack.
-            self.screen.is_whole();
+            self.screen.what_stands_is_whole();
             return false;
         }
         self.is_needless_drawing(pack)

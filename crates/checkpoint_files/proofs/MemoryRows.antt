@@ -3,7 +3,7 @@ use Rattle.std.proofs.Common.{◌≡◌, ℕ, zero, suc, ◌+◌, ◌*◌, ◌/�
 use Rattle.std.specs.Prelude.{All}
 use Rattle.std.proofs.lemmas.List.{append-nil, take_more, take_all}
 use Rattle.std.proofs.lemmas.List.Elements.{All-get_or}
-use Rattle.cdg_screen.specs.Picture.{pixel_at}
+use Rattle.cdg_screen.specs.Standing.{pixel_at}
 use Rattle.checkpoint_files.specs.Table.{Memory}
 use Rattle.checkpoint_files.specs.Checkpoint.{Checkpoint}
 use Rattle.checkpoint_files.proofs.Writing.{first_fields, fields_more, written_byte}

@@ -3,7 +3,7 @@ use Rattle.std.specs.Prelude.{ℕ, zero, suc, ◌+◌, ◌*◌, ◌/◌, ◌%◌
 use Rattle.bit_lists.specs.Counting.{below}
 use Rattle.bit_lists.specs.Check.{check_of}
 use Rattle.cdg_instructions.specs.Sizes.{screen_width}
-use Rattle.cdg_screen.specs.Picture.{Standing, pixel_at, rows_of, sixteen}
+use Rattle.cdg_screen.specs.Standing.{Standing, pixel_at, rows_of, sixteen}
 use Rattle.checkpoint_files.specs.declared.counts.StreamCounts.{StreamCounts}
 use Rattle.checkpoint_files.specs.Table.{Part, Mark, ToCome, LeadIn, Program, Bad, Slots, Memory, Border, Across, Down, Colours, Levels, Check, row, body_parts, mark, number, slots_bytes}
 

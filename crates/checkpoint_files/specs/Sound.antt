@@ -4,7 +4,7 @@ use Rattle.disc_time.specs.Counts.{most_lead_in}
 use Rattle.raw_subcode.specs.Sizes.{most_units}
 use Rattle.rw_interleave.specs.Interleave.{whole_packs}
 use Rattle.cdg_instructions.specs.Sizes.{screen_height, screen_width}
-use Rattle.cdg_screen.specs.Picture.{IsWholeStanding, Standing, pixel_at}
+use Rattle.cdg_screen.specs.Standing.{IsWholeStanding, Standing, pixel_at}
 use Rattle.checkpoint_files.specs.Table.{empty_symbols, slots_bytes}
 use Rattle.checkpoint_files.specs.Checkpoint.{Checkpoint}
 

@@ -1,6 +1,6 @@
 // The file of a checkpoint, written.
 ghost use Rattle.std.specs.Prelude.{◌≡◌, ◌≤◌, ◌+◌, ◌++◌, [], ◌∷◌, List, ℕ, length};
-ghost use Rattle.cdg_screen.specs.Picture.{Standing};
+ghost use Rattle.cdg_screen.specs.Standing.{Standing};
 ghost use Rattle.checkpoint_files.specs.Table.{Mark, ToCome, LeadIn, Program, Bad, Memory, Border, Across, Down, Colours, Levels, body_size};
 ghost use Rattle.checkpoint_files.specs.Checkpoint.{bytes_of, file_of, kept, part_bytes, with_parts};
 

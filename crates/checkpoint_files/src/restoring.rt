@@ -1,7 +1,7 @@
 // What stood, brought back.
 ghost use Rattle.std.specs.Prelude.{◌≡◌, ◌*◌, ◌<◌, All, length, drop, take};
 ghost use Rattle.cdg_instructions.specs.Sizes.{screen_pixels};
-ghost use Rattle.cdg_screen.specs.Picture.{rows_in};
+ghost use Rattle.cdg_screen.specs.Standing.{rows_in};
 ghost use Rattle.raw_subcode.specs.Sizes.{symbols_a_slot};
 ghost use Rattle.rw_interleave.specs.Interleave.{packs_kept_back};
 ghost use Rattle.checkpoint_files.specs.Checkpoint.{checkpoint_in, standing_in};

@@ -11,7 +11,7 @@ use Rattle.rw_interleave.specs.Stream.{IsRecovered, bad_count, form_word, word_c
 use Rattle.cdg_instructions.specs.declared.instr.Instr.{Instr}
 use Rattle.cdg_instructions.specs.Meaning.{meaning}
 use Rattle.cdg_instructions.specs.Sizes.{screen_width}
-use Rattle.cdg_screen.specs.Picture.{Standing, blank, screen_pixel, standing_after}
+use Rattle.cdg_screen.specs.Standing.{Standing, blank, screen_pixel, standing_after}
 use Rattle.cdg_screen.specs.Texts.{colour_bytes}
 use Rattle.stream_stages.specs.Screen.{AreMeant, AreShown}
 use Rattle.stream_stages.specs.Steps.{fresh_words, words_next}

@@ -1,7 +1,7 @@
 -- Parts of the screen.
 use Rattle.std.specs.Prelude.{◌≡◌, ◌+◌, ◌*◌, ◌<◌, ◌≤◌, ℕ, List, slice_index}
 use Rattle.cdg_instructions.specs.Sizes.{screen_height, screen_width}
-use Rattle.cdg_screen.specs.Picture.{Standing, screen_pixel}
+use Rattle.cdg_screen.specs.Standing.{Standing, screen_pixel}
 use Rattle.live_player.specs.declared.part.Part.{Part}
 
 -- all of a part is on the screen

@@ -1,7 +1,7 @@
 // A player that is fed blocks as they come.
 ghost use Rattle.std.specs.Prelude.{◌≡◌, ◌<◌, ◌≤◌, ◌+◌, ◌-◌, ◌^◌, ◌/◌, ◌%◌, ◌++◌, ◌∷◌, [], List, ℕ, length, map, min, slice_index, IfOk};
 ghost use Rattle.cdg_instructions.specs.Sizes.{screen_height, screen_pixels, screen_width};
-ghost use Rattle.cdg_screen.specs.Picture.{blank, screen_pixel, standing_after};
+ghost use Rattle.cdg_screen.specs.Standing.{blank, screen_pixel, standing_after};
 ghost use Rattle.raw_subcode.specs.declared.form.Form.{Form};
 ghost use Rattle.stream_stages.specs.Steps.{words_next, words_give};
 ghost use Rattle.live_player.specs.Lives.{Given, bad_counted, blocks_in, drawn_for, instruction_of, packs_given, picture_byte, picture_bytes, standing_on, stream_words, HasPlayed, IsLiveView, IsLiveViewAt};
@@ -112,7 +112,7 @@ impl LivePlayer {
         self.blocks = self.blocks.saturating_add(1);
         let painting = &mut self.painting;
         // A law: instructions are carried out on what stands.
-        painting.screen.is_whole();
+        painting.screen.what_stands_is_whole();
         match &words {
             Some(words) => {
                 // All words of a block are drawn, however many blocks came before.

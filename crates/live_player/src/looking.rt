@@ -1,7 +1,7 @@
 // What a screen shows, number by number.
 ghost use Rattle.std.specs.Prelude.{◌≡◌, ◌<◌, ◌≤◌, ◌+◌, ◌-◌, ◌/◌, ◌%◌, ◌&&◌, nat_le, nat_lt, if◌then◌else◌, ◌∷◌, [], ℕ, length, slice_index};
 ghost use Rattle.cdg_instructions.specs.Sizes.{screen_pixels, screen_width};
-ghost use Rattle.cdg_screen.specs.Picture.{screen_pixel, standing_after};
+ghost use Rattle.cdg_screen.specs.Standing.{screen_pixel, standing_after};
 ghost use Rattle.cdg_screen.specs.Texts.{colour_bytes};
 ghost use Rattle.live_player.specs.Lives.{instruction_of, picture_byte, picture_bytes};
 ghost use Rattle.live_player.specs.Parts.{HasRoomFor, IsOnScreen, ShowsPart};

@@ -7,7 +7,7 @@ use Rattle.std.proofs.lemmas.List.{length-reverse}
 use Rattle.raw_subcode.specs.Sizes.{slots_a_block}
 use Rattle.rw_interleave.specs.Interleave.{packs_kept_back, whole_packs}
 use Rattle.cdg_instructions.specs.declared.instr.Instr.{Instr}
-use Rattle.cdg_screen.specs.Picture.{Standing, blank, pixel_at, rows_of, sixteen}
+use Rattle.cdg_screen.specs.Standing.{Standing, blank, pixel_at, rows_of, sixteen}
 use Rattle.cdg_screen.proofs.Lists.{pixel_of_rows, number_of_sixteen}
 use Rattle.picture_script.specs.Script.{Drawing, pictures, ready_time, hold_time, picture_border, picture_colour, picture_pixel}
 use Rattle.picture_changes.specs.Change.{IsChangeFrom, IsOrderedChange, IsStart}

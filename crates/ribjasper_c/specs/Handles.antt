@@ -12,7 +12,7 @@ use Rattle.raw_subcode.specs.declared.form.Form.TheVariants.{Raw, Cooked}
 use Rattle.live_player.specs.contracts.live.LivePlayer.{the_row}
 use Rattle.live_player.specs.declared.live.LivePlayer.{LivePlayer}
 use Rattle.cdg_instructions.specs.Sizes.{screen_pixels, screen_width}
-use Rattle.cdg_screen.specs.Picture.{Standing, blank, screen_pixel, standing_after}
+use Rattle.cdg_screen.specs.Standing.{Standing, blank, screen_pixel, standing_after}
 use Rattle.live_player.specs.Lives.{Given, blocks_in, instruction_of, instructions_in, packs_given, picture_byte, picture_bytes, standing_on, HasPlayed, IsLiveView, IsLiveViewAt}
 
 -- what a handle owns of the heap: the block of its player, where it has one

@@ -1,7 +1,7 @@
 // What a player shows, as C asks for it.
 ghost use Rattle.std.specs.Prelude.{◌≡◌, ◌<◌, ◌&&◌, nat_lt, slice_index, if◌then◌else◌, ◌∷◌, [], pos, negsuc};
 ghost use Rattle.cdg_instructions.specs.Sizes.{screen_height, screen_width};
-ghost use Rattle.cdg_screen.specs.Picture.{screen_pixel};
+ghost use Rattle.cdg_screen.specs.Standing.{screen_pixel};
 ghost use Rattle.ribjasper_c.specs.Handles.{ArePictureBytes, AreLevels, IsScreen, IsTable, PlayersShow};
 
 use crate::Playing;

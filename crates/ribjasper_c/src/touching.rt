@@ -1,6 +1,6 @@
 // What a pack can change.
 ghost use Rattle.std.specs.Prelude.{◌≡◌, ◌∷◌, [], pos};
-ghost use Rattle.cdg_screen.specs.Picture.{IsWholeStanding, Standing, standing_after};
+ghost use Rattle.cdg_screen.specs.Standing.{IsWholeStanding, Standing, standing_after};
 ghost use Rattle.cdg_screen.specs.Touched.{KeepsTheRest, touched_by};
 ghost use Rattle.live_player.specs.Lives.{instruction_of};
 ghost use Rattle.ribjasper_c.specs.Touches.{touched_number};

@@ -1,6 +1,6 @@
 use Rattle.std.specs.Prelude.{◌%◌, ◌&&◌, nat_lt, if◌then◌else◌, slice_index}
 use Rattle.cdg_instructions.specs.Drawing.{tile_colour}
-use Rattle.cdg_screen.specs.Picture.{covers}
+use Rattle.cdg_screen.specs.Standing.{covers}
 use Rattle.cdg_screen.specs.Memory.{at, Becomes, drawn_over}
 use Rattle.cdg_screen.proofs.memory.Memory.keeps_tile.Given as goal
 

@@ -1,6 +1,6 @@
 use Rattle.std.proofs.Common.{[], ap, get_or, ◌∙◌}
 use Rattle.cdg_screen.specs.Memory.{at}
-use Rattle.cdg_screen.specs.Picture.{Standing}
+use Rattle.cdg_screen.specs.Standing.{Standing}
 use Rattle.cdg_screen.proofs.Lists.{row_is}
 use Rattle.cdg_screen.proofs.screen.Screen.memory_row.Goals as goal
 

@@ -2,7 +2,7 @@ use Rattle.std.proofs.Common.{◌≡◌, ℕ, List, true, refl, sym, ap, ◌∙�
 use Rattle.std.specs.Prelude.{IsTrue, slice_index, ◌==◌}
 use Rattle.std.proofs.lemmas.Bool.Decides.{nat_tests}
 use Rattle.cdg_instructions.specs.declared.effect.Effect.TheVariants.{Nothing, Clear, Border, Draw, Scroll, Levels, Colours}
-use Rattle.cdg_screen.specs.Picture.{Standing}
+use Rattle.cdg_screen.specs.Standing.{Standing}
 use Rattle.cdg_screen.proofs.Effects.{first_most}
 use Rattle.cdg_screen.proofs.Obeyed.{Kept, stays_by, colours_kept, colours_back}
 use Rattle.cdg_screen.proofs.screen.Screen.stays_at.Goals as goal

@@ -1,6 +1,6 @@
 use Rattle.std.proofs.Common.{[], ◌∷◌, ◌∙◌, ap, sym}
 use Rattle.cdg_instructions.specs.declared.instr.Instr.{Instr}
-use Rattle.cdg_screen.specs.Picture.{standing_after}
+use Rattle.cdg_screen.specs.Standing.{standing_after}
 use Rattle.cdg_thin.specs.Steps.{is_needless, thin_next}
 use Rattle.cdg_thin.proofs.thinner.Thinner.is_needless.Goals as goal
 
@@ -8,7 +8,7 @@ pub returns-then-is_idle-clause-next : goal.returns-then-is_idle-clause-next
 unfolding thin_next
 returns-then-is_idle-clause-next c =
     let idle = c.is_idle.ensures c.if-is_idle.true in
-    let stands = ap (λ (i : Instr). standing_after c.self.inside.screen (i ∷ [])) idle ∙ c.is_whole.ensures in
+    let stands = ap (λ (i : Instr). standing_after c.self.inside.screen (i ∷ [])) idle ∙ c.what_stands_is_whole.ensures in
     rw (← c.self.view_is) (sym stands)
 
 pub returns-then-is_idle-clause-needless : goal.returns-then-is_idle-clause-needless

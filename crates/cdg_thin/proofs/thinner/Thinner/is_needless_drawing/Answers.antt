@@ -1,6 +1,6 @@
 use Rattle.std.proofs.Common.{[], ◌∷◌, ◌∙◌, ap}
 use Rattle.cdg_instructions.specs.declared.instr.Instr.{Instr}
-use Rattle.cdg_screen.specs.Picture.{standing_after}
+use Rattle.cdg_screen.specs.Standing.{standing_after}
 use Rattle.cdg_thin.specs.Steps.{thin_next}
 use Rattle.cdg_thin.proofs.thinner.Thinner.is_needless_drawing.Goals as goal
 

@@ -1,5 +1,5 @@
 use Rattle.cdg_screen.proofs.Obeyed.{Kept, seen_is_whole}
-use Rattle.cdg_screen.proofs.screen.Screen.is_whole.Goals as goal
+use Rattle.cdg_screen.proofs.screen.Screen.what_stands_is_whole.Goals as goal
 
 pub returns : goal.returns
 returns c =
