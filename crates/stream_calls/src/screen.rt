@@ -19,9 +19,7 @@ use cdg_screen::Screen;
 use raw_subcode::Form;
 use rw_interleave::whole_packs;
 use std::alloc::{AllocError, Global};
-use stream_stages::{
-    BlockWords, Painting, PlayStop, Played, SectorBlocks, play_stop, watch,
-};
+use stream_stages::{BlockWords, Painting, PlayStop, Played, SectorBlocks, play_stop, watch};
 
 /// Shows moments of streams, one at a time: each call begins anew, whatever stopped the one before. It holds one
 /// screen.
