@@ -10,7 +10,7 @@ ghost use Rattle.round_trips.specs.Damaged.{DamagedPress, IsFileText};
 
 use cdg_instructions::each_pack_has_a_meaning;
 use cdg_screen::instructions_in_turn;
-use rw_interleave::{packs_are_recovered, text_of_packs};
+use rw_interleave::{found_packs_are_the_text, packs_are_recovered};
 
 /// A law: whole units, of any form, that differ from a pressed stream in at most two symbols of a word are damaged
 /// from its packs, and these are recovered.
@@ -40,7 +40,7 @@ pub fn pressed_files_are_shown()
         → IsScreenAt (moment form lead_in (150 + time)) others text bad → bad ≡ 0 }
 {
     packs_are_recovered();
-    text_of_packs();
+    found_packs_are_the_text();
     each_pack_has_a_meaning();
     instructions_in_turn();
 }
