@@ -1,6 +1,6 @@
 -- What a command answers and writes.
-use Rattle.std.specs.Prelude.{IfErr, IfSome, ℕ, ◌==◌, ⊤, List, length, Result, Ok, Err, if◌then◌else◌}
-use Rattle.std.specs.Io.KnownBytes.{Appends}
+use Rattle.std.specs.Prelude.{IfErr, IfSome, ℕ, ◌≡◌, ◌⊎◌, ◌==◌, ⊤, List, length, Result, Ok, Err, if◌then◌else◌}
+use Rattle.std.specs.Io.KnownBytes.{Appends, IsAtEnd}
 use Rattle.cdg_io.specs.Moves.{AppendsPrefix}
 use Rattle.cdg_io.specs.Streams.{Streams, WritesAtEnd}
 use Rattle.cdg_screen.specs.Picture.{Standing}
@@ -11,7 +11,7 @@ use Rattle.stream_stages.specs.Calls.{IsAnsweredBy, IsListStop, IsMomentStop, Is
 use Rattle.stream_stages.specs.Convert.{IsConverted}
 use Rattle.stream_stages.specs.Check.{IsCheckListed}
 use Rattle.stream_stages.specs.Screen.{IsShownBy, Moment, Shows, moment}
-use Rattle.stream_stages.specs.TextListing.{IsListedBy, ListsTexts}
+use Rattle.stream_stages.specs.TextListing.{IsListedBy, IsWholeInput, ListsTexts}
 use Rattle.cdtext_packs.specs.declared.kinds.TextFault.{TextFault}
 use Rattle.cdtext_packs.specs.declared.kinds.TextFault.TheVariants as fault
 use Rattle.stream_stages.specs.declared.played.Played.{Played}
@@ -124,6 +124,15 @@ Does Thin call status = ThinsWith call status
 Does (Press lead_in length) call status = PressesWith lead_in length call status
 Does (Save lead_in) call status = SavesWith lead_in call status
 Does (Resume at) call status = ResumesWith at call status
+
+-- What is known where no memory was found. `author` and `press` are said like any other end of theirs, and `text` has
+-- read nothing, or all of an input of whole blocks, not too many; the others take their memory before they read.
+abbrev pub LacksMemory : Command → Call Bytes → Type 0
+LacksMemory (Text lead_in form) call = (call.first.after ≡ call.first.before)
+    ⊎ (IsAtEnd call.first.after × IfSome call.first.before (IsWholeInput form))
+LacksMemory (Author lead_in length) call = AuthorsWith lead_in length call NoMemory
+LacksMemory (Press lead_in length) call = PressesWith lead_in length call NoMemory
+LacksMemory command call = ⊤
 
 -- the status is that the work is done and nothing is bad, and this holds; or it is a failed read, a failed write or want
 -- of memory, of which nothing is said

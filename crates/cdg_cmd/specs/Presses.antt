@@ -24,11 +24,11 @@ pub record ReadsFile (input : Change Bytes) (file : List ℕ) : Type 0 where
   pub within : length file ≤ most_text_bytes
   pub held : IfSome input.before (λ bytes. file ≡ bytes)
 
--- why the second input gives no file
+-- why the second input gives no file: memory is lacking only for one that is not too long
 abbrev pub IsFileStop : Bytes → Status → Type 0
 IsFileStop left (ReadFault Second) = ⊤
 IsFileStop left (Refused TooLong) = IfSome left (λ file. most_text_bytes < length file)
-IsFileStop left NoMemory = ⊤
+IsFileStop left NoMemory = IfSome left (λ file. length file ≤ most_text_bytes)
 IsFileStop left status = ⊥
 
 -- the status of the answer to a sheet and a file

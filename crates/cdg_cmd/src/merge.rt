@@ -2,9 +2,9 @@
 ghost use Rattle.std.specs.Prelude.{◌≡◌, ◌≢◌, ◌≤◌};
 ghost use Rattle.disc_time.specs.Counts.{most_lead_in};
 ghost use Rattle.cdg_cmd.specs.Answer.{Does};
-ghost use Rattle.cdg_io.specs.Change.{change};
+ghost use Rattle.cdg_io.specs.Change.{input};
 ghost use Rattle.cdg_cmd.specs.Call.{call};
-ghost use Rattle.cdg_cmd.specs.Ends.{OtherEnds, ReadingEnds};
+ghost use Rattle.cdg_cmd.specs.Ends.{ReadingsEnd};
 ghost use Rattle.cdg_cmd.specs.Faults.{TellsFaults};
 ghost use Rattle.cdg_cmd.specs.Merges.{merge_status};
 
@@ -47,8 +47,8 @@ pub(crate) fn run_merge<S: Source, T: Source, K: Sink>(
     ensures never { result ≢ Status.Usage }
     ensures faults { TellsFaults (call S.faults T.faults K.faults (first.old, second.old, out.old)
         (first.new, second.new, out.new)) result }
-    ensures first_ended { ReadingEnds (change S.ends first.old first.new) result }
-    ensures second_ended { OtherEnds (change T.ends second.old second.new) result }
+    ensures ended { ReadingsEnd (input S.left S.ends first.old first.new)
+        (input T.left T.ends second.old second.new) result }
 {
     match Merger::start(alloc) {
         Ok(mut merger) => merge_status(merger.run(lead_in, first, second, out)),

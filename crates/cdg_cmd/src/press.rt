@@ -25,7 +25,7 @@ fn read_file<S: Source>(alloc: Global, second: &mut S) -> Result<Vec<u8>, Status
     ensures fault { TellsFault (Status.ReadFault Which.Second)
         (S.faults second.old) (S.faults second.new) result }
     ensures told { OnOk result (RoseOnce (S.ends second.old) (S.ends second.new)) }
-    ensures once { IfErr result (ScriptEnds (change S.ends second.old second.new)) }
+    ensures once { IfErr result (ScriptEnds (input S.left S.ends second.old second.new)) }
 {
     match read_whole(alloc, second, MOST_TEXT_BYTES) {
         Ok(file) => Ok(file),
@@ -75,7 +75,7 @@ pub(crate) fn run_press<S: Source, T: Source, K: Sink>(
     ensures faults { TellsFaults (call S.faults T.faults K.faults (first.old, second.old, out.old)
         (first.new, second.new, out.new)) result }
     ensures first_ended { SheetEnds (input S.left S.ends first.old first.new) result }
-    ensures second_ended { ScriptEnds (change T.ends second.old second.new) result }
+    ensures second_ended { ScriptEnds (input T.left T.ends second.old second.new) result }
 {
     let sheet = match read_sheet(alloc, first) {
         Ok(sheet) => sheet,

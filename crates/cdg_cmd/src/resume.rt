@@ -2,7 +2,7 @@
 ghost use Rattle.std.specs.Prelude.{◌≡◌, ◌≢◌, ◌<◌, ◌⊎◌};
 ghost use Rattle.disc_time.specs.Counts.{time_count};
 ghost use Rattle.cdg_cmd.specs.Answer.{Does};
-ghost use Rattle.cdg_io.specs.Change.{change, input};
+ghost use Rattle.cdg_io.specs.Change.{input};
 ghost use Rattle.cdg_cmd.specs.Call.{call};
 ghost use Rattle.cdg_cmd.specs.Checkpoints.{resume_status};
 ghost use Rattle.cdg_cmd.specs.Ends.{CheckpointEnds, RestEnds};
@@ -52,8 +52,8 @@ pub(crate) fn run_resume<S: Source, T: Source, K: Sink>(
         ⊎ MayReadSecond (Command.Resume at) (input S.left S.ends first.old first.new) }
     ensures faults { TellsFaults (call S.faults T.faults K.faults (first.old, second.old, out.old)
         (first.new, second.new, out.new)) result }
-    ensures first_ended { CheckpointEnds (change S.ends first.old first.new) result }
-    ensures second_ended { RestEnds (change T.ends second.old second.new) result }
+    ensures first_ended { CheckpointEnds (input S.left S.ends first.old first.new) result }
+    ensures second_ended { RestEnds (input T.left T.ends second.old second.new) result }
 {
     match Checkpointer::start(alloc) {
         Ok(mut checkpointer) => resume_status(checkpointer.resume(at, first, second, out)),

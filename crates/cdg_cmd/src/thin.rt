@@ -1,7 +1,7 @@
 // The command that writes the thin form of a file of packs.
 ghost use Rattle.std.specs.Prelude.{◌≡◌, ◌≢◌};
 ghost use Rattle.cdg_cmd.specs.Answer.{Does};
-ghost use Rattle.cdg_io.specs.Change.{change};
+ghost use Rattle.cdg_io.specs.Change.{change, input};
 ghost use Rattle.cdg_cmd.specs.Call.{one_input};
 ghost use Rattle.cdg_cmd.specs.Ends.{EndsInTurn};
 ghost use Rattle.cdg_cmd.specs.Faults.{TellsOne};
@@ -33,7 +33,7 @@ pub(crate) fn run_thin<S: Source, K: Sink>(alloc: Global, source: &mut S, out: &
     ensures no_memory { result ≡ Status.NoMemory → (source.new ≡ source.old) × (out.new ≡ out.old) }
     ensures faults { TellsOne (change S.faults source.old source.new)
         (change K.faults out.old out.new) result }
-    ensures ended { EndsInTurn (change S.ends source.old source.new) result }
+    ensures ended { EndsInTurn (input S.left S.ends source.old source.new) result }
 {
     match Thinner::start(alloc) {
         Ok(mut thinner) => thin_status(thinner.run(source, out)),

@@ -6,7 +6,7 @@ ghost use Rattle.cdg_io.specs.Causes.{TellsFault};
 ghost use Rattle.cdg_io.specs.Pump.{IsUnlessFault, TellsEndOf, answer_of};
 ghost use Rattle.q_channel.specs.PlanarStream.{IsBlockStream, IsPlanarStream};
 ghost use Rattle.cdg_cmd.specs.Answer.{Does};
-ghost use Rattle.cdg_io.specs.Change.{change, passed};
+ghost use Rattle.cdg_io.specs.Change.{change, input, passed};
 ghost use Rattle.cdg_cmd.specs.Call.{one_input};
 ghost use Rattle.cdg_cmd.specs.Ends.{EndsInTurn};
 ghost use Rattle.cdg_cmd.specs.Faults.{TellsOne};
@@ -75,7 +75,7 @@ pub(crate) fn run_scratch<S: Source, K: Sink>(
     ensures memory { result ≢ Status.NoMemory }
     ensures faults { TellsOne (change S.faults source.old source.new)
         (change K.faults out.old out.new) result }
-    ensures ended { EndsInTurn (change S.ends source.old source.new) result }
+    ensures ended { EndsInTurn (input S.left S.ends source.old source.new) result }
 {
     pump_status(scratch(lead_in, seed, source, out))
 }
@@ -88,7 +88,7 @@ pub(crate) fn run_planar<S: Source, K: Sink>(source: &mut S, out: &mut K) -> Sta
     ensures memory { result ≢ Status.NoMemory }
     ensures faults { TellsOne (change S.faults source.old source.new)
         (change K.faults out.old out.new) result }
-    ensures ended { EndsInTurn (change S.ends source.old source.new) result }
+    ensures ended { EndsInTurn (input S.left S.ends source.old source.new) result }
 {
     pump_status(planar_stream(source, out))
 }
@@ -101,7 +101,7 @@ pub(crate) fn run_raw<S: Source, K: Sink>(source: &mut S, out: &mut K) -> Status
     ensures memory { result ≢ Status.NoMemory }
     ensures faults { TellsOne (change S.faults source.old source.new)
         (change K.faults out.old out.new) result }
-    ensures ended { EndsInTurn (change S.ends source.old source.new) result }
+    ensures ended { EndsInTurn (input S.left S.ends source.old source.new) result }
 {
     pump_status(raw_stream(source, out))
 }

@@ -25,4 +25,4 @@ returns-in-Ok-clause-faults g c =
     told_one c.save.result _ _ _ _ _ c.pump_status.ensures saved.read_fault saved.write_fault
 
 pub returns-in-Ok-clause-ended : goal.returns-in-Ok-clause-ended
-returns-in-Ok-clause-ended g c = ended_first c.save.result _ _ _ c.pump_status.ensures c.save.ensures.ended
+returns-in-Ok-clause-ended g c = ended_first c.save.result _ _ c.pump_status.ensures c.save.ensures.ended

@@ -22,4 +22,4 @@ pub returns-in-Ok-clause-faults : goal.returns-in-Ok-clause-faults
 returns-in-Ok-clause-faults g c = told_one c.screen_at.result _ _ _ _ _ c.play_status.ensures c.screen_at.ensures.faults
 
 pub returns-in-Ok-clause-ended : goal.returns-in-Ok-clause-ended
-returns-in-Ok-clause-ended g c = ended_first c.screen_at.result _ _ _ c.play_status.ensures c.screen_at.ensures.stops c.screen_at.ensures.ended
+returns-in-Ok-clause-ended g c = ended_first c.screen_at.result _ _ c.play_status.ensures c.screen_at.ensures.stops c.screen_at.ensures.ended
