@@ -7,8 +7,6 @@ use Rattle.checkpoint_files.specs.Table.{file_size}
 use Rattle.rw_merge.specs.Merging.{EndIsTold, EndIsUntold, EndsAtStop}
 use Rattle.rw_merge.specs.declared.merge.MergeStop.TheVariants as merge
 use Rattle.text_lines.specs.Text.{most_text_bytes}
-use Rattle.cdg_cmd.specs.declared.command.Command.{Command}
-use Rattle.cdg_cmd.specs.declared.command.Command.TheVariants.{Convert, Screen, State, Check, Q, Text, Author, Planar, Raw, Scratch, Gen, Trial, Merge, Thin, Press, Save, Resume}
 use Rattle.cdg_cmd.specs.declared.status.Which.TheVariants.{First, Second}
 use Rattle.cdg_cmd.specs.declared.status.Refusal.TheVariants.{TooLong, Torn, SecondTorn, Unequal, PastEnd, BadSave, Cue}
 use Rattle.cdg_cmd.specs.declared.status.Status.{Status}
@@ -108,23 +106,3 @@ FirstEnds ends one other status = ends one status × EndIsUntold other
 -- Of a command that reads two inputs one after the other: their ends are told so.
 abbrev pub BothEnd : (Input → Status → Type 0) → (Input → Status → Type 0) → Input → Input → Status → Type 0
 BothEnd ends other_ends one other status = ends one status × other_ends other status
-
--- Of both inputs: the end is told once where the input was read to its end, and else not at all.
-abbrev pub TellsEnds : Command → Input → Input → Status → Type 0
-TellsEnds (Convert lead_in form) = FirstEnds EndsInTurn
-TellsEnds (Screen lead_in form at) = FirstEnds EndsFirst
-TellsEnds (State lead_in form at) = FirstEnds EndsFirst
-TellsEnds (Check lead_in form) = FirstEnds EndsFirst
-TellsEnds (Q lead_in form) = FirstEnds EndsInTurn
-TellsEnds (Text lead_in form) = FirstEnds EndsAsListed
-TellsEnds (Author lead_in length) = BothEnd SheetEnds ScriptEnds
-TellsEnds Planar = FirstEnds EndsInTurn
-TellsEnds Raw = FirstEnds EndsInTurn
-TellsEnds (Scratch lead_in seed) = FirstEnds EndsInTurn
-TellsEnds (Gen seed pictures) = FirstEnds NeverEnds
-TellsEnds (Trial seed pictures) = FirstEnds NeverEnds
-TellsEnds (Merge lead_in) = ReadingsEnd
-TellsEnds Thin = FirstEnds EndsInTurn
-TellsEnds (Press lead_in length) = BothEnd SheetEnds ScriptEnds
-TellsEnds (Save lead_in) = FirstEnds EndsFirst
-TellsEnds (Resume at) = BothEnd CheckpointEnds RestEnds

@@ -11,6 +11,7 @@ pub mod LeadInTexts
 pub mod Line
 pub mod Merges
 pub mod Presses
+pub mod Profile
 pub mod Resumes
 pub mod Spelling
 pub mod Splitting

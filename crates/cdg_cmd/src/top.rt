@@ -19,7 +19,7 @@ ghost use Rattle.cdg_cmd.specs.Call.{call, dry_call};
 ghost use Rattle.cdg_cmd.specs.Keeps.{Keeps, MayReadSecond, MayWrite, ReadsNone, TakesFirst, TakesNone, WantsMemory, WritesLast};
 ghost use Rattle.cdg_cmd.specs.Answer.{Does, GivesBack, GivesIfFound, LacksMemory};
 ghost use Rattle.cdg_cmd.specs.Faults.{IsAnswered, NoneRose, TellsFaults};
-ghost use Rattle.cdg_cmd.specs.Ends.{TellsEnds};
+ghost use Rattle.cdg_cmd.specs.Profile.{TellsEnds};
 ghost use Rattle.cdg_cmd.specs.Told.{Tells};
 ghost use Rattle.cdg_cmd.specs.Authors.{IsScriptText, IsSheetText};
 ghost use Rattle.cdg_cmd.specs.Headline.{HavePlace, IsDamagedCopy, PutsPicture, WritesOrIsLate, written_packs};

@@ -2,7 +2,7 @@ use Rattle.std.proofs.Common.{refl, subst}
 use Rattle.cdg_cmd.specs.Answer.{Does, LacksMemory}
 use Rattle.cdg_io.specs.Change.{input}
 use Rattle.cdg_cmd.specs.Call.{call}
-use Rattle.cdg_cmd.specs.Ends.{TellsEnds}
+use Rattle.cdg_cmd.specs.Profile.{TellsEnds}
 use Rattle.cdg_cmd.specs.Keeps.{Keeps, WantsMemory}
 use Rattle.cdg_cmd.specs.declared.command.Command.{Command}
 use Rattle.cdg_cmd.proofs.Told.{unchanged}

@@ -5,7 +5,7 @@ use Rattle.cdg_cmd.specs.Presses.{PressesWith}
 use Rattle.cdg_cmd.specs.declared.status.Status.{Status}
 use Rattle.cdg_io.specs.Change.{input}
 use Rattle.cdg_cmd.specs.Call.{call}
-use Rattle.cdg_cmd.specs.Ends.{TellsEnds}
+use Rattle.cdg_cmd.specs.Profile.{TellsEnds}
 use Rattle.cdg_cmd.specs.declared.command.Command.{Command}
 use Rattle.cdg_cmd.proofs.Told.{of_gen, of_one, of_trial}
 use Rattle.cdg_cmd.proofs.top.perform.Goals as goal
