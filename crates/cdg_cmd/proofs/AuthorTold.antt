@@ -7,10 +7,11 @@ use Rattle.cdg_io.specs.Causes.{Rose, RoseOnce, TellsFault}
 use Rattle.rw_merge.specs.Merging.{EndIsTold, EndIsUntold}
 use Rattle.subcode_author.specs.declared.stops.AuthorStop.{AuthorStop}
 use Rattle.subcode_author.specs.declared.stops.AuthorStop.TheVariants as stop
-use Rattle.cdg_cmd.specs.Authors.{IsScriptStop, IsSheetStop, IsSheetText, ReadsSheet, author_status}
+use Rattle.cdg_cmd.specs.Authors.{IsScriptStop, IsSheetStop, IsSheetText, ReadsSheet}
 use Rattle.cdg_io.specs.Change.{Bytes, Input}
 use Rattle.cdg_cmd.specs.Ends.{EndsWithin, ScriptEnds, SheetEnds}
 use Rattle.cdg_cmd.specs.Faults.{IsTold, TellsFaults}
+use Rattle.cdg_cmd.specs.Stops.{author_status}
 use Rattle.cdg_cmd.specs.declared.status.Which.TheVariants.{First, Second}
 use Rattle.cdg_cmd.specs.declared.status.Refusal.TheVariants.{TooLong, Cue}
 use Rattle.cdg_cmd.specs.declared.status.Status.{Status}

@@ -8,7 +8,7 @@ use Rattle.rw_merge.specs.declared.merge.MergeStop.{MergeStop}
 use Rattle.rw_merge.specs.declared.merge.MergeStop.TheVariants as merge
 use Rattle.cdg_cmd.specs.Ends.{ReadingsEnd}
 use Rattle.cdg_cmd.specs.Faults.{TellsFaults}
-use Rattle.cdg_cmd.specs.Merges.{merge_status}
+use Rattle.cdg_cmd.specs.Stops.{merge_status}
 use Rattle.cdg_cmd.specs.declared.status.Which.TheVariants.{First, Second}
 use Rattle.cdg_cmd.specs.declared.status.Status.{Status}
 use Rattle.cdg_cmd.specs.declared.status.Status.TheVariants.{Done, Damaged, Usage, ReadFault, WriteFault, NoMemory}

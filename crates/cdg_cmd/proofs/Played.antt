@@ -13,12 +13,12 @@ use Rattle.stream_stages.specs.Faults.{TellsStops}
 use Rattle.stream_stages.specs.declared.played.Played.{Played}
 use Rattle.stream_stages.specs.declared.played.PlayStop.{PlayStop}
 use Rattle.stream_stages.specs.declared.played.PlayStop.TheVariants as play
-use Rattle.cdg_cmd.specs.Answer.{play_status, text_fault_status}
 use Rattle.cdg_cmd.specs.Ends.{EndsAsListed, EndsFirst, EndsInTurn, StreamEnds}
 use Rattle.cdg_cmd.specs.Keeps.{MayWrite}
 use Rattle.cdg_cmd.proofs.Quiet.{count}
 use Rattle.cdg_cmd.proofs.Quiet as quiet
 use Rattle.cdg_cmd.specs.Faults.{TellsOne}
+use Rattle.cdg_cmd.specs.Stops.{play_status, text_fault_status}
 use Rattle.cdg_cmd.specs.declared.status.Status.{Status}
 use Rattle.cdg_cmd.specs.declared.status.Status.TheVariants.{Done, Damaged, NoMemory}
 

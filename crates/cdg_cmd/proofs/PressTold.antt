@@ -12,7 +12,8 @@ use Rattle.cdg_io.specs.Change.{Bytes, Input, change}
 use Rattle.cdg_cmd.specs.Authors.{ReadsSheet}
 use Rattle.cdg_cmd.specs.Ends.{ScriptEnds, SheetEnds}
 use Rattle.cdg_cmd.specs.Faults.{IsTold, TellsFaults}
-use Rattle.cdg_cmd.specs.Presses.{IsFileStop, IsPressedFor, PutsPressedPart, press_status}
+use Rattle.cdg_cmd.specs.Presses.{IsFileStop, IsPressedFor, PutsPressedPart}
+use Rattle.cdg_cmd.specs.Stops.{press_status}
 use Rattle.cdg_cmd.specs.declared.status.Which.TheVariants.{First, Second}
 use Rattle.cdg_cmd.specs.declared.status.Status.{Status}
 use Rattle.cdg_cmd.specs.declared.status.Status.TheVariants.{Done, Damaged, Usage, Refused, Late, ReadFault, WriteFault, NoMemory}

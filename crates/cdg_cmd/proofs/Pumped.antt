@@ -7,10 +7,10 @@ use Rattle.cdg_io.specs.declared.pumping.Pumped.{Pumped}
 use Rattle.cdg_io.specs.declared.pumping.PumpStop.{PumpStop}
 use Rattle.cdg_io.specs.declared.pumping.PumpStop.TheVariants as pump
 use Rattle.cdg_cmd.specs.Ends.{EndsInTurn}
-use Rattle.cdg_cmd.specs.Turns.{pump_status}
 use Rattle.cdg_cmd.proofs.Quiet.{count}
 use Rattle.cdg_cmd.proofs.Quiet as quiet
 use Rattle.cdg_cmd.specs.Faults.{TellsOne}
+use Rattle.cdg_cmd.specs.Stops.{pump_status}
 use Rattle.cdg_cmd.specs.declared.status.Status.{Status}
 use Rattle.cdg_cmd.specs.declared.status.Status.TheVariants.{NoMemory}
 

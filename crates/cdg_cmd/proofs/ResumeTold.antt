@@ -12,10 +12,11 @@ use Rattle.cdg_checkpoint.specs.declared.stops.Resumed.{Resumed}
 use Rattle.cdg_checkpoint.specs.declared.stops.ResumeStop.{ResumeStop}
 use Rattle.cdg_checkpoint.specs.declared.stops.ResumeStop.TheVariants as resume
 use Rattle.cdg_io.specs.Change.{Input}
-use Rattle.cdg_cmd.specs.Checkpoints.{ReadsCheckpoint, resume_status}
+use Rattle.cdg_cmd.specs.Checkpoints.{ReadsCheckpoint}
 use Rattle.cdg_cmd.specs.Ends.{CheckpointEnds, RestEnds}
 use Rattle.cdg_cmd.specs.Faults.{TellsFaults}
 use Rattle.cdg_cmd.specs.Keeps.{MayWrite}
+use Rattle.cdg_cmd.specs.Stops.{resume_status}
 use Rattle.cdg_cmd.specs.declared.status.Which.TheVariants.{First, Second}
 use Rattle.cdg_cmd.specs.declared.status.Status.{Status}
 use Rattle.cdg_cmd.specs.declared.status.Status.TheVariants.{Done, Damaged, Usage, ReadFault, WriteFault, NoMemory}

@@ -7,7 +7,7 @@ use Rattle.cdg_io.specs.declared.pumping.PumpStop.TheVariants as pump
 use Rattle.cdg_checkpoint.specs.Saved.{EndsAsSaved}
 use Rattle.cdg_cmd.specs.Ends.{EndsFirst}
 use Rattle.cdg_cmd.specs.Keeps.{MayWrite}
-use Rattle.cdg_cmd.specs.Turns.{pump_status}
+use Rattle.cdg_cmd.specs.Stops.{pump_status}
 use Rattle.cdg_cmd.specs.declared.status.Status.{Status}
 
 ends : (answer : Result Pumped PumpStop) (input : Input) → EndsAsSaved answer input.ends.before input.ends.after → EndsFirst input (pump_status answer)

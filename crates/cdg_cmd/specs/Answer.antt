@@ -31,29 +31,13 @@ use Rattle.cdg_cmd.specs.Turns.{IsTurned, TurnsWith}
 use Rattle.cdg_workload.specs.Scratches.{IsScratched}
 use Rattle.cdg_workload.specs.Script.{generated_script}
 use Rattle.stream_trial.specs.Trial.{IsTrial}
+use Rattle.cdg_cmd.specs.Stops.{play_status}
 use Rattle.cdg_cmd.specs.declared.command.Command.{Command}
 use Rattle.cdg_cmd.specs.declared.command.Command.TheVariants.{Convert, Screen, State, Check, Q, Text, Author, Planar, Raw, Scratch, Gen, Trial, Merge, Thin, Press, Save, Resume}
 use Rattle.cdg_cmd.specs.declared.status.Which.TheVariants.{First}
 use Rattle.cdg_cmd.specs.declared.status.Refusal.TheVariants.{Torn, TooLong, PastEnd, TextMissing, TextNoSize, TextMalformed}
 use Rattle.cdg_cmd.specs.declared.status.Status.{Status}
 use Rattle.cdg_cmd.specs.declared.status.Status.TheVariants.{Done, Damaged, Refused, ReadFault, WriteFault, NoMemory}
-
--- the status where the text packs of a lead-in give no texts
-abbrev pub text_fault_status : TextFault → Status
-text_fault_status (fault.Missing seq) = Refused (TextMissing seq)
-text_fault_status fault.NoSize = Refused TextNoSize
-text_fault_status (fault.Malformed seq byte) = Refused (TextMalformed seq byte)
-text_fault_status fault.NoMemory = NoMemory
-
--- the status of what a player answers
-abbrev pub play_status : Result Played PlayStop → Status
-play_status (Ok played) = if played.bad == 0 then Done else Damaged played.bad
-play_status (Err play.ReadFault) = ReadFault First
-play_status (Err play.WriteFault) = WriteFault
-play_status (Err (play.Torn block)) = Refused (Torn block)
-play_status (Err play.TooLong) = Refused TooLong
-play_status (Err (play.PastEnd blocks)) = Refused (PastEnd blocks)
-play_status (Err (play.Text why)) = text_fault_status why
 
 -- whatever the input, a stream that is played is never told to be past its end, nor to have faulty texts; where the
 -- input tells its bytes, the answer is the exact one, unless a fault is told

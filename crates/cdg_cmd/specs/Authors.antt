@@ -14,6 +14,7 @@ use Rattle.subcode_author.specs.declared.stops.AuthorStop.{AuthorStop}
 use Rattle.subcode_author.specs.declared.stops.AuthorStop.TheVariants as stop
 use Rattle.cdg_io.specs.Change.{Bytes, Change}
 use Rattle.cdg_cmd.specs.Call.{Call}
+use Rattle.cdg_cmd.specs.Stops.{author_status}
 use Rattle.cdg_cmd.specs.declared.status.Which.TheVariants.{First, Second}
 use Rattle.cdg_cmd.specs.declared.status.Refusal.TheVariants.{TooLong, PastEnd, Cue, Script, LengthShort, DiscTooLong, LeadInShort, TextTooLong}
 use Rattle.cdg_cmd.specs.declared.status.Status.{Status}
@@ -69,18 +70,6 @@ abbrev pub IsStopped : Status → Type 0
 IsStopped (ReadFault which) = ⊤
 IsStopped NoMemory = ⊤
 IsStopped status = ⊥
-
--- the status of the answer to a sheet and a script
-abbrev pub author_status : Result (Unit {0}) AuthorStop → Status
-author_status (Ok done) = Done
-author_status (Err (stop.LengthShort need)) = Refused (LengthShort need)
-author_status (Err (stop.DiscTooLong blocks)) = Refused (DiscTooLong blocks)
-author_status (Err (stop.PastEnd blocks)) = Refused (PastEnd blocks)
-author_status (Err (stop.TextTooLong packs)) = Refused (TextTooLong packs)
-author_status (Err (stop.LeadInShort need)) = Refused (LeadInShort need)
-author_status (Err (stop.Late picture need free)) = Late picture need free
-author_status (Err stop.WriteFault) = WriteFault
-author_status (Err stop.NoMemory) = NoMemory
 
 -- the authored stream with the planned changes was put
 abbrev pub PutsAuthored : Disc → Change Bytes → Type 0

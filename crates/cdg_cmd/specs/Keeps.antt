@@ -55,12 +55,12 @@ MayWrite status = ⊥
 -- no memory is taken
 abbrev pub IsWithoutMemory : MemoryUse → Type 0
 IsWithoutMemory TakesNothing = ⊤
-IsWithoutMemory use = ⊥
+IsWithoutMemory memory = ⊥
 
 -- no memory is taken once the inputs are read
 abbrev pub IsMemoryFirst : MemoryUse → Type 0
 IsMemoryFirst TakesLater = ⊥
-IsMemoryFirst use = ⊤
+IsMemoryFirst memory = ⊤
 
 -- it takes no memory
 abbrev pub TakesNone : Command → Type 0

@@ -16,6 +16,7 @@ pub mod Resumes
 pub mod Spelling
 pub mod Splitting
 pub mod Thinned
+pub mod Stops
 pub mod Told
 pub mod Turns
 pub mod Unpresses

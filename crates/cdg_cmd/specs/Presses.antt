@@ -13,6 +13,7 @@ use Rattle.cdg_press.specs.declared.stops.PressStop.TheVariants as stop
 use Rattle.cdg_cmd.specs.Authors.{IsSheetStop, ReadsSheet, TakesAtStop}
 use Rattle.cdg_io.specs.Change.{Bytes, Change}
 use Rattle.cdg_cmd.specs.Call.{Call}
+use Rattle.cdg_cmd.specs.Stops.{press_status}
 use Rattle.cdg_cmd.specs.declared.status.Which.TheVariants.{Second}
 use Rattle.cdg_cmd.specs.declared.status.Refusal.TheVariants.{TooLong, LengthShort, DiscTooLong, LeadInShort, TextTooLong, PackTorn, Gap, CdgTooLong}
 use Rattle.cdg_cmd.specs.declared.status.Status.{Status}
@@ -30,19 +31,6 @@ IsFileStop left (ReadFault Second) = ⊤
 IsFileStop left (Refused TooLong) = IfSome left (λ file. most_text_bytes < length file)
 IsFileStop left NoMemory = IfSome left (λ file. length file ≤ most_text_bytes)
 IsFileStop left status = ⊥
-
--- the status of the answer to a sheet and a file
-abbrev pub press_status : Result (Unit {0}) PressStop → Status
-press_status (Ok done) = Done
-press_status (Err (stop.PackTorn pack)) = Refused (PackTorn pack)
-press_status (Err (stop.LengthShort need)) = Refused (LengthShort need)
-press_status (Err (stop.DiscTooLong blocks)) = Refused (DiscTooLong blocks)
-press_status (Err (stop.Gap track)) = Refused (Gap track)
-press_status (Err (stop.CdgTooLong packs room)) = Refused (CdgTooLong packs room)
-press_status (Err (stop.TextTooLong packs)) = Refused (TextTooLong packs)
-press_status (Err (stop.LeadInShort need)) = Refused (LeadInShort need)
-press_status (Err stop.WriteFault) = WriteFault
-press_status (Err stop.NoMemory) = NoMemory
 
 -- a pressed stream was put
 abbrev pub PutsPressed : Press → Change Bytes → Type 0

@@ -10,9 +10,9 @@ use Rattle.cdg_checkpoint.specs.declared.stops.ResumeStop.{ResumeStop}
 use Rattle.cdg_cmd.specs.Answer.{Does}
 use Rattle.cdg_io.specs.Change.{Bytes, Change}
 use Rattle.cdg_cmd.specs.Call.{Call}
-use Rattle.cdg_cmd.specs.Checkpoints.{resume_status}
 use Rattle.cdg_cmd.specs.Faults.{IsAnswered}
 use Rattle.cdg_cmd.specs.Spelling.{IsAllowed}
+use Rattle.cdg_cmd.specs.Stops.{resume_status}
 use Rattle.cdg_cmd.specs.declared.command.Command.TheVariants.{Save, Screen}
 use Rattle.cdg_cmd.specs.declared.status.Status.{Status}
 use Rattle.cdg_cmd.specs.declared.status.Status.TheVariants.{Done}

@@ -8,18 +8,11 @@ use Rattle.cdg_thin.specs.Calls.{Thins, most_file_packs}
 use Rattle.cdg_io.specs.Change.{Bytes}
 use Rattle.cdg_cmd.specs.Call.{Call, through}
 use Rattle.cdg_cmd.specs.Endings.{EndsWith}
+use Rattle.cdg_cmd.specs.Stops.{thin_status}
 use Rattle.cdg_cmd.specs.declared.status.Which.TheVariants.{First}
 use Rattle.cdg_cmd.specs.declared.status.Refusal.TheVariants.{PackTorn, TooLong}
 use Rattle.cdg_cmd.specs.declared.status.Status.{Status}
 use Rattle.cdg_cmd.specs.declared.status.Status.TheVariants.{Done, Refused, ReadFault, WriteFault}
-
--- the status of what a thinner answers
-abbrev pub thin_status : Result Pumped PumpStop → Status
-thin_status (Ok pumped) = Done
-thin_status (Err pump.ReadFault) = ReadFault First
-thin_status (Err pump.WriteFault) = WriteFault
-thin_status (Err (pump.Torn unit)) = Refused (PackTorn unit)
-thin_status (Err pump.TooLong) = Refused TooLong
 
 -- the thin form of a file was written as its packs were read
 abbrev pub ThinsWith : Call Bytes → Status → Type 0

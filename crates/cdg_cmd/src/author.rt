@@ -2,19 +2,20 @@
 ghost use Rattle.std.specs.Prelude.{◌≡◌, ◌≢◌, ◌≤◌, ◌<◌, ◌⊎◌, IfOk, IfErr, OnOk, Err};
 ghost use Rattle.disc_time.specs.Counts.{most_lead_in, time_count};
 ghost use Rattle.cdg_io.specs.Causes.{RoseOnce, TellsFault};
-ghost use Rattle.cdg_cmd.specs.Authors.{author_status, AuthorsWith, IsScriptStop, IsSheetStop, ReadsScript, ReadsSheet, TakesAtStop};
+ghost use Rattle.cdg_cmd.specs.Authors.{AuthorsWith, IsScriptStop, IsSheetStop, ReadsScript, ReadsSheet, TakesAtStop};
 ghost use Rattle.cdg_io.specs.Change.{change, input};
 ghost use Rattle.cdg_cmd.specs.Call.{call};
 ghost use Rattle.cdg_cmd.specs.Ends.{ScriptEnds, SheetEnds};
 ghost use Rattle.cdg_cmd.specs.Faults.{TellsFaults};
 ghost use Rattle.cdg_cmd.specs.Keeps.{MayReadSecond};
 
+use crate::stops::author_status;
 use crate::{Command, Refusal, Status, Which};
 use cdg_io::{ReadStop, Sink, Source, read_whole};
 use cue_sheet::{CueStop, Sheet};
 use picture_script::{Script, ScriptStop};
 use std::alloc::Global;
-use subcode_author::{AuthorStop, accepted_scripts_have_streams, author_stream};
+use subcode_author::{accepted_scripts_have_streams, author_stream};
 use text_lines::MOST_TEXT_BYTES;
 
 /// The cue sheet of the first input, or the status that says why there is none.
@@ -62,35 +63,6 @@ fn read_script<S: Source>(alloc: Global, second: &mut S) -> Result<Script, Statu
             Err(Status::Refused(Refusal::Script { line, why }))
         }
         Err(ScriptStop::NoMemory) => Err(Status::NoMemory),
-    }
-}
-
-// The status of the answer to a sheet and a script.
-fn author_status(answer: Result<(), AuthorStop>) -> Status
-    ensures { result ≡ author_status answer }
-{
-    match answer {
-        Ok(()) => Status::Done,
-        Err(AuthorStop::LengthShort { need }) => Status::Refused(Refusal::LengthShort { need }),
-        Err(AuthorStop::DiscTooLong { blocks }) => {
-            Status::Refused(Refusal::DiscTooLong { blocks })
-        }
-        Err(AuthorStop::PastEnd { blocks }) => Status::Refused(Refusal::PastEnd { blocks }),
-        Err(AuthorStop::TextTooLong { packs }) => Status::Refused(Refusal::TextTooLong { packs }),
-        Err(AuthorStop::LeadInShort { need }) => Status::Refused(Refusal::LeadInShort { need }),
-        Err(
-            AuthorStop::Late {
-                picture,
-                need,
-                free,
-            },
-        ) => Status::Late {
-            picture,
-            need,
-            free,
-        },
-        Err(AuthorStop::WriteFault) => Status::WriteFault,
-        Err(AuthorStop::NoMemory) => Status::NoMemory,
     }
 }
 

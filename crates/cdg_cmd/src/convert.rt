@@ -7,7 +7,7 @@ ghost use Rattle.cdg_cmd.specs.Call.{one_input};
 ghost use Rattle.cdg_cmd.specs.Ends.{EndsInTurn};
 ghost use Rattle.cdg_cmd.specs.Faults.{TellsOne};
 
-use crate::play::play_status;
+use crate::stops::play_status;
 use crate::{Command, Status};
 use cdg_io::{Sink, Source};
 use raw_subcode::Form;

@@ -6,29 +6,12 @@ ghost use Rattle.cdg_io.specs.Change.{input};
 ghost use Rattle.cdg_cmd.specs.Call.{call};
 ghost use Rattle.cdg_cmd.specs.Ends.{ReadingsEnd};
 ghost use Rattle.cdg_cmd.specs.Faults.{TellsFaults};
-ghost use Rattle.cdg_cmd.specs.Merges.{merge_status};
 
-use crate::{Command, Refusal, Status, Which};
+use crate::stops::merge_status;
+use crate::{Command, Status};
 use cdg_io::{Sink, Source};
-use rw_merge::{MergeStop, Merged, Merger};
+use rw_merge::Merger;
 use std::alloc::Global;
-
-// The status of what a merger answers.
-fn merge_status(answer: Result<Merged, MergeStop>) -> Status
-    ensures { result ≡ merge_status answer }
-{
-    match answer {
-        Ok(merged) if merged.bad == 0 => Status::Done,
-        Ok(merged) => Status::Damaged(merged.bad),
-        Err(MergeStop::FirstFault) => Status::ReadFault(Which::First),
-        Err(MergeStop::SecondFault) => Status::ReadFault(Which::Second),
-        Err(MergeStop::WriteFault) => Status::WriteFault,
-        Err(MergeStop::TooLong) => Status::Refused(Refusal::TooLong),
-        Err(MergeStop::Torn { block }) => Status::Refused(Refusal::Torn { block }),
-        Err(MergeStop::SecondTorn { block }) => Status::Refused(Refusal::SecondTorn { block }),
-        Err(MergeStop::Unequal { blocks }) => Status::Refused(Refusal::Unequal { blocks }),
-    }
-}
 
 /// Writes the packs on which two readings of a stream agree, as their blocks are read.
 #[tactic(auto, using(crate::proofs::MergeTold::told_none))]

@@ -8,7 +8,7 @@ ghost use Rattle.cdg_cmd.specs.Ends.{EndsFirst};
 ghost use Rattle.cdg_cmd.specs.Faults.{TellsOne};
 ghost use Rattle.cdg_cmd.specs.Keeps.{MayWrite};
 
-use crate::turn::pump_status;
+use crate::stops::pump_status;
 use crate::{Command, Status};
 use cdg_checkpoint::Checkpointer;
 use cdg_io::{Sink, Source};

@@ -8,7 +8,7 @@ ghost use Rattle.cdg_cmd.specs.Ends.{EndsAsListed};
 ghost use Rattle.cdg_cmd.specs.Faults.{TellsOne};
 ghost use Rattle.cdg_cmd.specs.Keeps.{MayWrite};
 
-use crate::play::play_status;
+use crate::stops::play_status;
 use crate::{Command, Status};
 use cdg_io::{Sink, Source};
 use raw_subcode::Form;

@@ -10,26 +10,14 @@ ghost use Rattle.cdg_io.specs.Change.{change, input, passed};
 ghost use Rattle.cdg_cmd.specs.Call.{one_input};
 ghost use Rattle.cdg_cmd.specs.Ends.{EndsInTurn};
 ghost use Rattle.cdg_cmd.specs.Faults.{TellsOne};
-ghost use Rattle.cdg_cmd.specs.Turns.{IsTurned, ChangesBlocks, pump_status};
+ghost use Rattle.cdg_cmd.specs.Turns.{IsTurned, ChangesBlocks};
 
-use crate::{Command, Refusal, Status, Which};
+use crate::stops::pump_status;
+use crate::{Command, Status};
 use cdg_io::{PumpStop, Pumped, Sink, Source, pump};
 use cdg_workload::scratch;
 use q_channel::{BlockForms, PlanarForms};
 use raw_subcode::MOST_UNITS;
-
-/// The status of what a pump answers.
-pub(crate) fn pump_status(answer: Result<Pumped, PumpStop>) -> Status
-    ensures { result ≡ pump_status answer }
-{
-    match answer {
-        Ok(_) => Status::Done,
-        Err(PumpStop::ReadFault) => Status::ReadFault(Which::First),
-        Err(PumpStop::WriteFault) => Status::WriteFault,
-        Err(PumpStop::Torn { unit }) => Status::Refused(Refusal::Torn { block: unit }),
-        Err(PumpStop::TooLong) => Status::Refused(Refusal::TooLong),
-    }
-}
 
 // Writes the planar form of each block as the blocks are read.
 fn planar_stream<S: Source, K: Sink>(source: &mut S, out: &mut K) -> Result<Pumped, PumpStop>
