@@ -3,7 +3,6 @@
 
 mod checkpointer;
 mod laws;
-mod pictures;
 mod resuming;
 mod saving;
 mod stops;

@@ -12,7 +12,6 @@ ghost use Rattle.checkpoint_files.specs.Checkpoint.{checkpoint_in, standing_in};
 ghost use Rattle.stream_stages.specs.Stages.{painting_of, words_of};
 ghost use Rattle.cdg_checkpoint.specs.Resumed.{GoesOn, IsAcceptedBy, IsGoneOnBy, IsResumedBy, ReadsSaved, Resumes, acceptance, EndsAsResumed, packs_until, reached, saved_slots, time_after};
 
-use crate::pictures::bring_back;
 use crate::watch::watch_some;
 use crate::{Checkpointer, ResumeStop, Resumed};
 use cdg_io::{Failed, PumpStop, Pumped, Sink, Source};
@@ -98,7 +97,7 @@ impl Checkpointer {
         match self.go_on(at, rest) {
             Ok(resumed) => {
                 let painting = &self.words.second;
-                match painting.picture.write_ppm(out) {
+                match painting.screen.write_ppm(out) {
                     Ok(()) => Ok(resumed),
                     Err(Failed) => Err(ResumeStop::WriteFault),
                 }
@@ -151,7 +150,7 @@ impl Checkpointer {
         requires not_later { (checkpoint_in self.old.file).program ≤ at }
         ensures goes_on { (taken : List ℕ)
             × GoesOn (time_after (checkpoint_in self.old.file) at) (change S.left rest.old rest.new)
-            (painting_of self.new.words).picture result taken }
+            (painting_of self.new.words).screen result taken }
         ensures answer { IfSome (S.left rest.old)
             (λ all. IsGoneOnBy result (checkpoint_in self.old.file) at (length all)) }
         ensures file { self.new.file ≡ self.old.file }
@@ -207,7 +206,7 @@ impl Checkpointer {
         } }
         ensures left { (painting_of self.new.words).left ≡ packs_until (checkpoint_in self.old.file) at }
         ensures bad { (painting_of self.new.words).bad ≡ counts.now.bad }
-        ensures stands { (painting_of self.new.words).picture ≡ standing_in self.old.file }
+        ensures stands { (painting_of self.new.words).screen ≡ standing_in self.old.file }
         ensures file { self.new.file ≡ self.old.file }
     {
         self.gather_slots(counts);
@@ -217,7 +216,7 @@ impl Checkpointer {
         let painting = &mut self.words.second;
         painting.left = whole_packs(at) - whole_packs(counts.program);
         painting.bad = counts.bad;
-        bring_back(&self.file, &mut painting.picture);
+        self.file.bring_back(&mut painting.screen);
     }
 
     // Gathers the saved slots, the oldest first.

@@ -13,7 +13,6 @@ ghost use Rattle.cdg_checkpoint.specs.Saved.{EndsAsSaved, Saves};
 ghost use Rattle.cdg_checkpoint.specs.Keeping.{IsKept};
 
 use crate::Checkpointer;
-use crate::pictures::compose;
 use crate::watch::watch;
 use cdg_io::{Failed, PumpStop, Pumped, Sink, Source, put_all};
 use checkpoint_files::{Counts, SLOTS_BYTES};
@@ -67,13 +66,13 @@ impl Checkpointer {
         ensures words { words_of self.new.words ≡ fresh_words Form.Raw lead_in }
         ensures left { (painting_of self.new.words).left ≡ whole_packs most_units }
         ensures bad { (painting_of self.new.words).bad ≡ 0 }
-        ensures blank { (painting_of self.new.words).picture ≡ blank }
+        ensures blank { (painting_of self.new.words).screen ≡ blank }
     {
         self.words.first.begin(lead_in, Form::Raw);
         let painting = &mut self.words.second;
         painting.left = MOST_PACKS;
         painting.bad = 0;
-        painting.picture.reset();
+        painting.screen.reset();
     }
 
     // Composes the file of what was read of a stream.
@@ -89,6 +88,6 @@ impl Checkpointer {
             bad: painting.bad,
         };
         let slots = self.words.first.gather.symbols();
-        compose(&mut self.file, &counts, &slots, &painting.picture);
+        self.file.compose(&counts, &slots, &painting.screen);
     }
 }

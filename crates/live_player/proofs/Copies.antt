@@ -1,11 +1,11 @@
 -- What stands, copied place by place.
-use Rattle.std.proofs.Common.{◌≡◌, ◌<◌, ◌+◌, ◌*◌, ◌/◌, ◌%◌, ◌∙◌, ℕ, List, length, get_or, inl, inr, ap₂, arith, sym}
+use Rattle.std.proofs.Common.{◌≡◌, ◌<◌, ◌+◌, ◌*◌, ◌/◌, ◌%◌, ◌∙◌, ℕ, List, length, inl, inr, ap₂, arith}
 use Rattle.std.specs.Prelude.{All, slice_index}
 use Rattle.std.proofs.lemmas.Bool.{cases_lt}
 use Rattle.std.proofs.lemmas.List.{get_or_past}
 use Rattle.bit_lists.proofs.Groups.{all_below_bound}
 use Rattle.cdg_screen.specs.Picture.{IsWholeStanding, Standing, pixel_at, rows_in}
-use Rattle.cdg_screen.proofs.Lists.{rows_same, sixteen_are, sixteen_same}
+use Rattle.cdg_screen.proofs.Lists.{rows_same, sixteen_are}
 
 pub below_all : (bound count : ℕ) (xs : List ℕ) → 0 < bound → length xs ≡ count → ((n : ℕ) → n < count → slice_index xs n < bound) → All (λ x. x < bound) xs
 below_all bound count xs some size small = all_below_bound bound xs (λ n. elim (cases_lt n count) [

@@ -18,7 +18,7 @@ use Rattle.live_player.specs.declared.live.LivePlayer.{LivePlayer}
 
 -- what stands on a player's picture
 abbrev pub standing_on : LivePlayer → Standing
-standing_on player = player.painting.picture
+standing_on player = player.painting.screen
 
 -- the words of a stream, each in the order of its last symbol
 unfoldable pub stream_words : Form → ℕ → List (List ℕ) → List (List ℕ)

@@ -4,8 +4,8 @@ ghost use Rattle.cdg_screen.specs.Picture.{pixel_at};
 
 use crate::{LivePlayer, looking};
 use cdg_instructions::{SCREEN_PIXELS, SCREEN_WIDTH};
+use cdg_screen::Screen;
 use rw_interleave::Gather;
-use stream_stages::Picture;
 
 const WIDTH: u32 = SCREEN_WIDTH as u32;
 
@@ -24,7 +24,7 @@ impl LivePlayer {
         let painting = &mut self.painting;
         painting.left = other.painting.left;
         painting.bad = other.painting.bad;
-        copy_picture(&other.painting.picture, &mut painting.picture);
+        copy_screen(&other.painting.screen, &mut painting.screen);
     }
 }
 
@@ -40,30 +40,29 @@ fn copy_of(gather: &Gather) -> Gather
     }
 }
 
-// What stands on one picture stands on the other too.
-fn copy_picture(from: &Picture, to: &mut Picture)
+// What stands on one screen stands on the other too.
+fn copy_screen(from: &Screen, to: &mut Screen)
     ensures { to.new ≡ from.now }
 {
-    from.screen.is_whole();
+    from.is_whole();
     let mut pixels = [0; SCREEN_PIXELS];
     let mut colours = [0; 16];
     let mut levels = [0; 16];
     write_memory(from, &mut pixels);
     looking::colours(from, &mut colours);
     looking::levels(from, &mut levels);
-    let border = looking::border(from);
+    let border = from.border();
     let offsets = looking::offsets(from);
-    to.screen
-        .restore(&pixels, border, &colours, &levels, offsets);
+    to.restore(&pixels, border, &colours, &levels, offsets);
 }
 
 // The pixels of the memory, row by row.
-fn write_memory(picture: &Picture, pixels: &mut [u8; SCREEN_PIXELS])
+fn write_memory(screen: &Screen, pixels: &mut [u8; SCREEN_PIXELS])
     ensures pixels { (n : ℕ) → n < 64800
-        → slice_index pixels.new n ≡ pixel_at picture.now.memory (n % 300) (n / 300) }
+        → slice_index pixels.new n ≡ pixel_at screen.now.memory (n % 300) (n / 300) }
     ensures range { (n : ℕ) → n < 64800 → slice_index pixels.new n < 16 }
 {
     for n in 0..SCREEN_PIXELS {
-        pixels[n] = picture.screen.memory(n as u32 % WIDTH, n as u32 / WIDTH);
+        pixels[n] = screen.memory(n as u32 % WIDTH, n as u32 / WIDTH);
     }
 }

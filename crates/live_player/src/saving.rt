@@ -34,7 +34,7 @@ impl LivePlayer {
             bad: self.bad,
         };
         let slots = self.words.gather.symbols();
-        file.compose(&counts, &slots, &self.painting.picture.screen);
+        file.compose(&counts, &slots, &self.painting.screen);
     }
 
     /// Goes to the checkpoint of a file, in a raw stream.
@@ -52,7 +52,7 @@ impl LivePlayer {
         words.form = Form::Raw;
         words.lead_in = counts.to_come;
         words.gather = gathered_slots(file, counts.program);
-        file.bring_back(&mut self.painting.picture.screen);
+        file.bring_back(&mut self.painting.screen);
     }
 }
 

@@ -9,13 +9,13 @@ use Rattle.stream_stages.specs.declared.painting.Painting.{Painting}
 
 -- after what is found for a word, if anything
 abbrev pub entry_drawn : Standing → Option (List ℕ) → Standing
-entry_drawn picture (Some codeword) = standing_after picture (meaning codeword ∷ [])
-entry_drawn picture None = picture
+entry_drawn standing (Some codeword) = standing_after standing (meaning codeword ∷ [])
+entry_drawn standing None = standing
 
 -- after a word: only the packs that are left are drawn
 unfoldable pub draw_next : Painting → List ℕ → Painting
 draw_next s word = if s.left == 0 then s else record {
-  picture = entry_drawn s.picture (finding word);
+  screen = entry_drawn s.screen (finding word);
   left = s.left - 1;
   bad = bad_next s.bad word;
 }

@@ -5,6 +5,6 @@ use Rattle.live_player.proofs.copying.write_memory.Given as goal
 
 abbrev pub invariant-loop-n : goal.invariant-loop-n
 invariant-loop-n l = record {
-  shown : (n : ℕ) → n < l.n → slice_index l.pixels n ≡ pixel_at l.picture.memory (n % 300) (n / 300);
+  shown : (n : ℕ) → n < l.n → slice_index l.pixels n ≡ pixel_at l.screen.memory (n % 300) (n / 300);
   range : (n : ℕ) → n < l.n → slice_index l.pixels n < 16;
 }

@@ -2,9 +2,8 @@ use Rattle.std.proofs.Common.{[], ◌∷◌, ap, ◌∙◌}
 use Rattle.cdg_instructions.proofs.Meaning.{only_meaning}
 use Rattle.cdg_screen.specs.Picture.{standing_after}
 use Rattle.cdg_instructions.specs.declared.instr.Instr.{Instr}
-use Rattle.stream_stages.proofs.picture.Picture.obey.Goals as goal
+use Rattle.stream_stages.proofs.painting.carry_out.Goals as goal
 
 pub returns : goal.returns
 returns c =
-    rw (← c.self.view_is)
-    (c.obey.ensures ∙ ap (λ (i : Instr). standing_after c.self.inside.screen (i ∷ [])) (only_meaning c.args.pack.now c.read.result c.read.ensures.meaning))
+    c.obey.ensures ∙ ap (λ (i : Instr). standing_after c.args.screen.now (i ∷ [])) (only_meaning c.args.pack.now c.read.result c.read.ensures.meaning)

@@ -1,6 +1,6 @@
 use Rattle.std.proofs.Common.{◌≡◌, ◌∙◌, arith}
 use Rattle.stream_stages.proofs.Blocks.{raw_state, raw_gives, taken_next, taken_gives}
-use Rattle.stream_stages.proofs.block_words.BlockWordsStage.is_idle.Goals as goal
+use Rattle.stream_stages.proofs.block_words.BlockWords.stays_idle.Goals as goal
 
 pub returns-in-Raw : goal.returns-in-Raw
 returns-in-Raw c = λ yes.
