@@ -4,8 +4,7 @@ use Rattle.disc_time.specs.Counts.{most_program}
 use Rattle.cue_sheet.specs.CueSheet.{CueSheet}
 use Rattle.toc_model.specs.Places.{audio_need, program_blocks}
 use Rattle.picture_script.specs.Script.{Drawing, pictures}
-use Rattle.picture_changes.specs.Schedule.{IsInTime, IsLate}
-use Rattle.picture_changes.specs.Brings.{IsNeed}
+use Rattle.picture_changes.specs.Schedule.{CanBeReady, IsLate}
 use Rattle.pack_schedule.specs.Survey.{IsPastEnd}
 pub use Rattle.stream_writer.specs.Needs.{HasLayout, HasRoom, IsLeadInShort, IsTextTooLong}
 use Rattle.subcode_author.specs.declared.stops.AuthorStop.{AuthorStop}
@@ -15,9 +14,9 @@ use Rattle.subcode_author.specs.declared.stops.AuthorStop.TheVariants.{LengthSho
 abbrev pub HoldsPictures : CueSheet → List Drawing → ℕ → Type 0
 HoldsPictures sheet script audio = HasLayout sheet audio × ¬ IsPastEnd script (program_blocks sheet audio)
 
--- every picture is ready in time: what it needs fits
+-- every picture can be ready in time
 abbrev pub AreReady : List Drawing → Type 0
-AreReady script = (k need : ℕ) → k < pictures script → IsNeed script k need → IsInTime script k need
+AreReady script = (k : ℕ) → k < pictures script → CanBeReady script k
 
 -- why a sheet, with its audio and the last picture, has no place on a disc; want of memory comes only where it has a
 -- layout

@@ -3,8 +3,8 @@ use Rattle.toc_model.specs.declared.layout.LayoutStop.{LayoutStop}
 use Rattle.toc_model.specs.declared.layout.LayoutStop.TheVariants.{LengthShort as layout_short, DiscTooLong as layout_long, NoMemory as layout_memory}
 use Rattle.stream_writer.specs.declared.stops.LeadInStop.{LeadInStop}
 use Rattle.stream_writer.specs.declared.stops.LeadInStop.TheVariants.{TextTooLong as text_long, LeadInShort as lead_in_short, NoMemory as text_memory}
-use Rattle.pack_schedule.specs.declared.planned.Stop.{Stop}
-use Rattle.pack_schedule.specs.declared.planned.Stop.TheVariants.{PastEnd as past, Late as late, NoMemory as plan_memory}
+use Rattle.pack_schedule.specs.declared.stops.Stop.{Stop}
+use Rattle.pack_schedule.specs.declared.stops.Stop.TheVariants.{PastEnd as past, Late as late, NoMemory as plan_memory}
 use Rattle.subcode_author.specs.declared.stops.AuthorStop.{AuthorStop}
 use Rattle.subcode_author.specs.declared.stops.AuthorStop.TheVariants.{LengthShort, DiscTooLong, PastEnd, TextTooLong, LeadInShort, Late, NoMemory}
 

@@ -3,7 +3,7 @@ ghost use Rattle.std.specs.Prelude.{◌≡◌, ◌<◌, List, IfOk, IfErr, OnOk}
 ghost use Rattle.disc_time.specs.Counts.{time_count};
 ghost use Rattle.toc_model.specs.Places.{layout_of};
 ghost use Rattle.pack_schedule.specs.Survey.{IsPastEnd, IsSurvey, IsWithin};
-ghost use Rattle.pack_schedule.specs.declared.planned.Planned.{Planned};
+ghost use Rattle.pack_schedule.specs.declared.surveys.told.PlannedChange.{PlannedChange};
 ghost use Rattle.subcode_author.specs.AuthorAnswer.{HoldsPictures, IsDiscStop, IsPictureStop};
 
 use crate::stops::AuthorStop;
@@ -44,7 +44,7 @@ pub(crate) fn start_weaver<'a>(
     ensures script { IfOk result (λ w. w.script ≡ script.now) }
     ensures given { IfOk result (λ w. w.given ≡ 0) }
     ensures within { OnOk result (IsWithin script.now blocks) }
-    ensures planned { OnOk result ((planned : List Planned) × IsSurvey script.now planned) }
+    ensures planned { OnOk result ((planned : List PlannedChange) × IsSurvey script.now planned) }
     ensures err { IfErr result (IsPictureStop script.now) }
 {
     let planned = survey(alloc, script, blocks)?;

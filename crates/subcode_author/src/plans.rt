@@ -5,7 +5,7 @@ ghost use Rattle.cue_sheet.specs.CueSheet.{CueSheet};
 ghost use Rattle.toc_model.specs.Places.{program_blocks};
 ghost use Rattle.picture_script.specs.Script.{Drawing, pictures};
 ghost use Rattle.pack_schedule.specs.Plans.{ArePlanRows, IsFirstLate, no_row};
-ghost use Rattle.pack_schedule.specs.declared.planned.PlanRow.{PlanRow};
+ghost use Rattle.pack_schedule.specs.declared.planner.PlanRow.{PlanRow};
 ghost use Rattle.subcode_author.specs.AuthorAnswer.{HasRoom, HoldsPictures, IsAccepted, IsAuthorStop, IsDiscRefusal};
 
 use crate::parts::lay_out;

@@ -4,7 +4,7 @@ use Rattle.toc_model.specs.Places.{DiscLayout}
 use Rattle.picture_script.specs.Script.{Drawing, pictures, ready_time, hold_time, picture_pixel}
 use Rattle.picture_changes.specs.Shown.{AreColoursInRange}
 use Rattle.pack_schedule.specs.Survey.{IsSurvey, IsWithin}
-use Rattle.pack_schedule.specs.declared.planned.Planned.{Planned}
+use Rattle.pack_schedule.specs.declared.surveys.told.PlannedChange.{PlannedChange}
 use Rattle.stream_writer.proofs.Room.{track_count}
 use Rattle.subcode_author.proofs.Schedules.{authored, cut_idle, is_accepted, part_of, IsPlannedScript}
 use Rattle.subcode_author.proofs.PictureStops.{late_told, picture_stop}
@@ -27,7 +27,7 @@ returns-in_err-weaver-clause-late g c picture need free told =
     late_told c.needs_are_fewest.ensures.late c.args.sheet.now c.args.script.now c.args.lead_in c.args.length c.in_err-weaver.field-0.0 (record { held = known.held; later = known.later })
     (record { border = known.borders; colour = known.colours }) known.pixels stop picture need free (let first = p.1 in let second = p.2 in cc)
 
-known_script : (script : List Drawing) (blocks blocks' : ℕ) → blocks ≡ blocks' → IsWithin script blocks → ((planned : List Planned) × IsSurvey script planned)
+known_script : (script : List Drawing) (blocks blocks' : ℕ) → blocks ≡ blocks' → IsWithin script blocks → ((planned : List PlannedChange) × IsSurvey script planned)
     → ((k : ℕ) → k < pictures script → ready_time script k ≤ hold_time script k) → AreColoursInRange script → ((k x y : ℕ) → picture_pixel script k x y < 16) → IsPlannedScript script blocks'
 known_script script blocks blocks' same within planned held ranges pixels = record {
   within = subst (IsWithin script) same within;
@@ -62,7 +62,7 @@ returns-in_err-write_stream-clause-part g c = λ failed.
 pub returns-clause-authored : goal.returns-clause-authored
 returns-clause-authored g c =
     let blocks = c.blocks-2.ensures.blocks ∙ ap (λ (l : DiscLayout). l.blocks) c.in_ok-layout.ensures.layout in
-    authored c.packs_are_a_schedule.ensures c.args.sheet.now c.args.script.now c.in_ok-weaver.weaver c.in_ok-layout.layout c.deref.result.now c.args.lead_in c.args.length
+    authored c.packs_are_a_schedule.ensures.schedule c.args.sheet.now c.args.script.now c.in_ok-weaver.weaver c.in_ok-layout.layout c.deref.result.now c.args.lead_in c.args.length
     (g.K.Sink.held c.args.out.now) (g.K.Sink.held c.write_stream.new.out)
     c.in_ok-layout.ensures.layout
     (few_blocks c.in_ok-layout.layout.blocks c.blocks-2.result c.blocks-2.ensures.blocks c.blocks-2.ensures.bound)
@@ -76,13 +76,13 @@ returns-clause-authored g c =
 pub returns-clause-accepted : goal.returns-clause-accepted
 returns-clause-accepted g c =
     let known = c.pictures-times.ensures in
-    is_accepted c.needs_are_fewest.ensures.planned c.args.sheet.now c.args.script.now c.args.lead_in c.args.length c.in_ok-layout.ensures.good c.in_ok-texts.ensures.room
+    is_accepted c.needs_are_fewest.ensures.change c.args.sheet.now c.args.script.now c.args.lead_in c.args.length c.in_ok-layout.ensures.good c.in_ok-texts.ensures.room
     (record { border = known.borders; colour = known.colours }) known.pixels c.in_ok-weaver.ensures.planned
 
 pub returns-in_err-write_stream-clause-stop : goal.returns-in_err-write_stream-clause-stop
 returns-in_err-write_stream-clause-stop g c =
     let known = c.pictures-times.ensures in
-    let accepted = is_accepted c.needs_are_fewest.ensures.planned c.args.sheet.now c.args.script.now c.args.lead_in c.args.length c.in_ok-layout.ensures.good c.in_ok-texts.ensures.room
+    let accepted = is_accepted c.needs_are_fewest.ensures.change c.args.sheet.now c.args.script.now c.args.lead_in c.args.length c.in_ok-layout.ensures.good c.in_ok-texts.ensures.room
     (record { border = known.borders; colour = known.colours }) known.pixels c.in_ok-weaver.ensures.planned in
     let p = err_from_is_err_and c.from_residual-in_err-write_stream.result c.from_residual-in_err-write_stream.ensures.1 in
     rw (p.1, p.2) accepted
