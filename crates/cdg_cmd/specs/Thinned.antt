@@ -1,5 +1,6 @@
 -- What `thin` answers to a file of packs, and what it writes.
 use Rattle.std.specs.Prelude.{length, Result, Ok, Err, IfSome}
+use Rattle.raw_subcode.specs.Sizes.{symbols_a_slot}
 use Rattle.cdg_io.specs.Pump.{IsUnlessFault, answer_of}
 use Rattle.cdg_io.specs.declared.pumping.Pumped.{Pumped}
 use Rattle.cdg_io.specs.declared.pumping.PumpStop.{PumpStop}
@@ -19,5 +20,5 @@ abbrev pub ThinsWith : Call Bytes → Status → Type 0
 ThinsWith call status =
     EndsWith thin_status (Thins (through call))
     (λ answer. IfSome call.first.before
-    (λ all. IsUnlessFault answer (answer_of 24 most_file_packs (length all))))
+    (λ all. IsUnlessFault answer (answer_of symbols_a_slot most_file_packs (length all))))
     status
