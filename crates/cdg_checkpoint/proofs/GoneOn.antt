@@ -21,7 +21,7 @@ use Rattle.rw_interleave.specs.Gathering.{gather_next, gather_gives}
 use Rattle.rw_interleave.proofs.Gathers.{gathers}
 use Rattle.raw_subcode.specs.Channels.{symbols_of, program_symbols}
 use Rattle.raw_subcode.specs.declared.form.Form.TheVariants.{Raw}
-use Rattle.cdg_screen.specs.Picture.{IsWholeStanding, Standing, standing_after}
+use Rattle.cdg_screen.specs.Standing.{IsWholeStanding, Standing, standing_after}
 use Rattle.checkpoint_files.specs.Checkpoint.{Checkpoint}
 use Rattle.checkpoint_files.specs.Table.{empty_symbols}
 use Rattle.stream_stages.specs.Steps.{slots_of, window_next, window_gives, words_next, words_give}

@@ -1,6 +1,6 @@
 -- The state before any stream.
 use Rattle.std.specs.Prelude.{◌≡◌, []}
-use Rattle.cdg_screen.specs.Picture.{blank}
+use Rattle.cdg_screen.specs.Standing.{blank}
 use Rattle.raw_subcode.specs.declared.form.Form.TheVariants.{Raw}
 use Rattle.stream_stages.specs.Steps.{fresh_words}
 use Rattle.stream_stages.specs.Stages.{painting_of, words_of}

@@ -2,6 +2,7 @@ pub mod Pieces
 pub mod GeneratorLemmas
 pub mod Needles
 pub mod BlockRuns
+pub mod BlockByBlock
 pub mod BurstLaws
 pub mod ScriptTexts
 pub mod DamageLaws

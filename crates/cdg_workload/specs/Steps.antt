@@ -1,5 +1,6 @@
 -- The steps of the stage that scratches a stream.
-use Rattle.std.specs.Prelude.{ℕ, ◌-◌, ◌==◌, ◌&&◌, if◌then◌else◌, List, bit_xor, Option, Some}
+use Rattle.std.specs.Prelude.{ℕ, ◌-◌, ◌*◌, ◌==◌, ◌&&◌, if◌then◌else◌, List, take, bit_xor, Option, Some}
+use Rattle.raw_subcode.specs.Sizes.{block_bytes}
 use Rattle.rand_pcg.specs.Lcg.{Lcg}
 use Rattle.rand_pcg.specs.Pcg.{pcg32}
 use Rattle.cdg_io.specs.Run.{run_state, run_gives}
@@ -53,4 +54,11 @@ abbrev pub fresh_scratches : ℕ → ℕ → Scratches
 fresh_scratches lead_in seed = record {
   lead_in = lead_in;
   needle = record { gap = 0; left = 0; change = 0; words = generator seed };
+}
+
+-- after the first b blocks of a stream with no lead-in
+abbrev pub scratches_after : ℕ → List ℕ → ℕ → Scratches
+scratches_after seed bytes b = record {
+  lead_in = 0;
+  needle = run_state byte_next (fresh_scratches 0 seed).needle (take (block_bytes * b) bytes);
 }

@@ -7,7 +7,9 @@ mod script;
 mod script_laws;
 mod words;
 
-pub use scratching::{scratch, scratches_are_bursts, scratches_are_damage};
+pub use scratching::{
+    Scratches, scratch, scratches_are_bursts, scratches_are_damage, scratches_go_block_by_block,
+};
 pub use script::{BLOCKS_A_PICTURE, BLOCKS_HELD, MOST_GENERATED, write_script};
 pub use script_laws::{
     generated_scripts_are_read, generated_scripts_are_short, generated_scripts_have_times,

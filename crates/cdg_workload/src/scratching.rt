@@ -1,5 +1,5 @@
 // Scratches of a raw stream.
-ghost use Rattle.std.specs.Prelude.{◌≡◌, ◌≢◌, ◌≤◌, ◌*◌, ◌/◌, List, ℕ, length, map, take, drop, IfSome, IsErrOf, Some, Err};
+ghost use Rattle.std.specs.Prelude.{◌≡◌, ◌≢◌, ◌≤◌, ◌+◌, ◌*◌, ◌/◌, List, ℕ, length, map, take, drop, IfSome, IsErrOf, Some, Err};
 ghost use Rattle.disc_time.specs.Counts.{most_lead_in};
 ghost use Rattle.raw_subcode.specs.Sizes.{block_bytes, most_units};
 ghost use Rattle.cdg_io.specs.Causes.{TellsFault};
@@ -9,7 +9,7 @@ ghost use Rattle.cdg_io.specs.Streams.{Streams};
 ghost use Rattle.raw_subcode.specs.Channels.{symbols_of, program_symbols};
 ghost use Rattle.rw_interleave.specs.Stream.{DiffersInBursts, IsDamaged};
 ghost use Rattle.cdg_workload.specs.Scratches.{scratched, scratching};
-ghost use Rattle.cdg_workload.specs.Steps.{fresh_scratches, block_next, block_gives};
+ghost use Rattle.cdg_workload.specs.Steps.{fresh_scratches, scratches_after, block_next, block_gives};
 
 use crate::needle::Needle;
 use crate::words::generator;
@@ -26,7 +26,8 @@ pub struct Scratches {
 }
 
 impl Scratches {
-    fn start(lead_in: u32, seed: u64) -> Scratches
+    /// Before the first block of a stream with so many blocks of lead-in.
+    pub fn start(lead_in: u32, seed: u64) -> Scratches
         ensures { result ≡ fresh_scratches lead_in seed }
     {
         Scratches {
@@ -37,6 +38,20 @@ impl Scratches {
                 change: 0,
                 words: generator(seed),
             },
+        }
+    }
+
+    /// Goes over the next block, and scratches it where it is one of the program.
+    #[inline]
+    #[tactic(auto, unfolding(crate::specs::Steps::block_next, crate::specs::Steps::block_gives))]
+    pub fn scratch(&mut self, block: &mut [u8; BLOCK_BYTES])
+        ensures next { self.new ≡ block_next self.old block.old }
+        ensures gives { Some block.new ≡ block_gives self.old block.old }
+    {
+        if self.lead_in > 0 {
+            self.lead_in -= 1;
+        } else if !self.needle.skip_block() {
+            self.needle.scratch(block);
         }
     }
 
@@ -137,3 +152,16 @@ pub fn scratches_are_damage()
 {
     bursts_are_damage();
 }
+
+/// A law: scratches go over a stream with no lead-in block by block. Before its first block nothing is known of it, and
+/// what they make of block b, after the blocks before it, is block b of the stream with scratches.
+pub fn scratches_go_block_by_block()
+    ensures start { (seed : ℕ) (bytes : List ℕ)
+        → scratches_after seed bytes 0 ≡ fresh_scratches 0 seed }
+    ensures next { (seed b : ℕ) (bytes : List ℕ) → block_bytes * b + block_bytes ≤ length bytes
+        → scratches_after seed bytes (b + 1)
+        ≡ block_next (scratches_after seed bytes b) (take block_bytes (drop (block_bytes * b) bytes)) }
+    ensures gives { (seed b : ℕ) (bytes : List ℕ) → block_bytes * b + block_bytes ≤ length bytes
+        → Some (take block_bytes (drop (block_bytes * b) (scratched 0 seed bytes)))
+        ≡ block_gives (scratches_after seed bytes b) (take block_bytes (drop (block_bytes * b) bytes)) }
+{}

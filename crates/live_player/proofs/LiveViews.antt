@@ -15,7 +15,7 @@ use Rattle.raw_subcode.specs.Channels.{symbols_of}
 use Rattle.raw_subcode.specs.declared.form.Form.{Form}
 use Rattle.raw_subcode.specs.declared.form.Form.TheVariants.{Raw}
 use Rattle.cdg_instructions.specs.Meaning.{meaning}
-use Rattle.cdg_screen.specs.Picture.{IsWholeStanding, Standing, blank, standing_after}
+use Rattle.cdg_screen.specs.Standing.{IsWholeStanding, Standing, blank, standing_after}
 use Rattle.cdg_screen.proofs.Turns.{blank_is_whole, in_turn}
 use Rattle.stream_stages.specs.Drawn.{painting_next}
 use Rattle.stream_stages.specs.Screen.{AreMeant}

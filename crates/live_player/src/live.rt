@@ -1,15 +1,17 @@
 // A player that is fed blocks as they come.
 ghost use Rattle.std.specs.Prelude.{◌≡◌, ◌<◌, ◌≤◌, ◌+◌, ◌-◌, ◌^◌, ◌/◌, ◌%◌, ◌++◌, ◌∷◌, [], List, ℕ, length, map, min, slice_index, IfOk};
-ghost use Rattle.cdg_screen.specs.Picture.{blank, screen_pixel, standing_after};
+ghost use Rattle.cdg_instructions.specs.Sizes.{screen_height, screen_pixels, screen_width};
+ghost use Rattle.cdg_screen.specs.Standing.{blank, screen_pixel, standing_after};
 ghost use Rattle.raw_subcode.specs.declared.form.Form.{Form};
 ghost use Rattle.stream_stages.specs.Steps.{words_next, words_give};
-ghost use Rattle.live_player.specs.Lives.{Given, bad_counted, blocks_in, drawn_for, instruction_of, packs_given, picture_byte, standing_on, stream_words, HasPlayed, IsLiveView, IsLiveViewAt};
+ghost use Rattle.live_player.specs.Lives.{Given, bad_counted, blocks_in, drawn_for, instruction_of, packs_given, picture_byte, picture_bytes, standing_on, stream_words, HasPlayed, IsLiveView, IsLiveViewAt};
 ghost use Rattle.live_player.specs.Lives.Given.{Drawn, Fed};
 ghost use Rattle.live_player.specs.Parts.{HasRoomFor, IsOnScreen, ShowsPart};
 
-use crate::looking;
+use crate::looking::{self, PICTURE_BYTES};
 use crate::part::Part;
 use arrayvec::ArrayVec;
+use cdg_instructions::SCREEN_PIXELS;
 use cdg_io::Stage;
 use cdg_screen::Screen;
 use raw_subcode::{BLOCK_BYTES, Form, SLOTS_A_BLOCK};
@@ -109,7 +111,8 @@ impl LivePlayer {
         let words = self.words.feed(block);
         self.blocks = self.blocks.saturating_add(1);
         let painting = &mut self.painting;
-        painting.screen.is_whole();
+        // A law: instructions are carried out on what stands.
+        painting.screen.what_stands_is_whole();
         match &words {
             Some(words) => {
                 // All words of a block are drawn, however many blocks came before.
@@ -154,8 +157,8 @@ impl LivePlayer {
 
     /// The pixel of the screen at a place: `x` below 300 from the left, `y` below 216 from the top.
     pub fn pixel(&self, x: u32, y: u32) -> u8
-        requires width { x < 300 }
-        requires height { y < 216 }
+        requires width { x < screen_width }
+        requires height { y < screen_height }
         ensures pixel { result ≡ screen_pixel (standing_on self.now) x y }
         ensures range { result < 16 }
     {
@@ -173,9 +176,10 @@ impl LivePlayer {
 
     /// Writes the numbers of the colours of the screen's pixels, row by row: that at (x, y) is number
     /// 300 y + x.
-    pub fn screen(&self, pixels: &mut [u8; 64_800])
-        ensures { (n : ℕ) → n < 64800
-            → slice_index pixels.new n ≡ screen_pixel (standing_on self.now) (n % 300) (n / 300) }
+    pub fn screen(&self, pixels: &mut [u8; SCREEN_PIXELS])
+        ensures { (n : ℕ) → n < screen_pixels
+            → slice_index pixels.new n
+            ≡ screen_pixel (standing_on self.now) (n % screen_width) (n / screen_width) }
     {
         looking::pixels(&self.painting.screen, pixels);
     }
@@ -207,8 +211,8 @@ impl LivePlayer {
 
     /// Writes red, green and blue of the screen's pixels, row by row: those of (x, y) begin at
     /// byte 3 (300 y + x).
-    pub fn bytes(&self, bytes: &mut [u8; 194_400])
-        ensures { (n : ℕ) → n < 194400
+    pub fn bytes(&self, bytes: &mut [u8; PICTURE_BYTES])
+        ensures { (n : ℕ) → n < picture_bytes
             → slice_index bytes.new n ≡ picture_byte (standing_on self.now) n }
     {
         looking::bytes(&self.painting.screen, bytes);

@@ -1,8 +1,9 @@
 // What a screen shows, number by number.
 ghost use Rattle.std.specs.Prelude.{◌≡◌, ◌<◌, ◌≤◌, ◌+◌, ◌-◌, ◌/◌, ◌%◌, ◌&&◌, nat_le, nat_lt, if◌then◌else◌, ◌∷◌, [], ℕ, length, slice_index};
-ghost use Rattle.cdg_screen.specs.Picture.{screen_pixel, standing_after};
+ghost use Rattle.cdg_instructions.specs.Sizes.{screen_pixels, screen_width};
+ghost use Rattle.cdg_screen.specs.Standing.{screen_pixel, standing_after};
 ghost use Rattle.cdg_screen.specs.Texts.{colour_bytes};
-ghost use Rattle.live_player.specs.Lives.{instruction_of, picture_byte};
+ghost use Rattle.live_player.specs.Lives.{instruction_of, picture_byte, picture_bytes};
 ghost use Rattle.live_player.specs.Parts.{HasRoomFor, IsOnScreen, ShowsPart};
 
 use crate::part::Part;
@@ -10,13 +11,13 @@ use cdg_instructions::{SCREEN_HEIGHT, SCREEN_PIXELS, SCREEN_WIDTH, read_word};
 use cdg_screen::Screen;
 use rw_code::{SYMBOLS, Word};
 
-// Red, green and blue of each pixel.
-const BYTES: usize = 3 * SCREEN_PIXELS;
+/// How many bytes a picture has: red, green and blue of each pixel.
+pub const PICTURE_BYTES: usize = 3 * SCREEN_PIXELS;
 
 /// The pixels of the screen, row by row.
 pub(crate) fn pixels(screen: &Screen, pixels: &mut [u8; SCREEN_PIXELS])
-    ensures { (n : ℕ) → n < 64800
-        → slice_index pixels.new n ≡ screen_pixel screen.now (n % 300) (n / 300) }
+    ensures { (n : ℕ) → n < screen_pixels
+        → slice_index pixels.new n ≡ screen_pixel screen.now (n % screen_width) (n / screen_width) }
 {
     let mut row = [0; SCREEN_WIDTH];
     for y in 0..SCREEN_HEIGHT {
@@ -72,8 +73,8 @@ pub(crate) fn levels(screen: &Screen, levels: &mut [u8; 16])
 }
 
 /// Red, green and blue of the pixels of the screen, row by row.
-pub(crate) fn bytes(screen: &Screen, bytes: &mut [u8; BYTES])
-    ensures { (n : ℕ) → n < 194400 → slice_index bytes.new n ≡ picture_byte screen.now n }
+pub(crate) fn bytes(screen: &Screen, bytes: &mut [u8; PICTURE_BYTES])
+    ensures { (n : ℕ) → n < picture_bytes → slice_index bytes.new n ≡ picture_byte screen.now n }
 {
     let red = parts(screen, 0);
     let green = parts(screen, 1);
@@ -91,8 +92,8 @@ pub(crate) fn bytes(screen: &Screen, bytes: &mut [u8; BYTES])
 
 // Writes three bytes from a place on.
 #[inline(always)]
-fn write_three(bytes: &mut [u8; BYTES], at: usize, three: [u8; 3])
-    requires { at + 3 ≤ 194400 }
+fn write_three(bytes: &mut [u8; PICTURE_BYTES], at: usize, three: [u8; 3])
+    requires { at + 3 ≤ picture_bytes }
     ensures { (n : ℕ) → n < at + 3 → slice_index bytes.new n
         ≡ (if nat_le at n then slice_index three (n - at) else slice_index bytes.old n) }
 {

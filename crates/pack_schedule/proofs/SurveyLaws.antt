@@ -28,6 +28,13 @@ stands_next script k board at h =
       drawn = λ lt. subst (λ n. IsPicture script n board) here h;
     }
 
+-- picture k stands there
+pub stands_now : (script : List Drawing) (k : ℕ) (board : Board) → Stands script (k + 1) board
+    → IsPicture script k board × (board.at ≡ Some k)
+stands_now script k board h =
+    let here : k + 1 - 1 ≡ k = omega arith in
+    (subst (λ n. IsPicture script n board) here (h.drawn (omega arith)), h.at_some (omega arith) ∙ ap Some here)
+
 -- nothing is drawn before the first picture
 pub stands_first : (script : List Drawing) (board : Board) → IsBlank board → board.at ≡ None → Stands script 0 board
 stands_first script board blank at = record {

@@ -90,7 +90,7 @@ impl<'a> Planner<'a> {
         let k = self.given;
         self.now.draw_until(self.script, k);
         let row = plan_row(self.script, k, &self.before, &self.now, &mut self.weights);
-        self.before.draw_until(self.script, k);
+        self.before.draw_like(self.script, k, &self.now);
         self.given += 1;
         Some(row)
     }
@@ -112,8 +112,9 @@ fn plan_row(
     ensures few { result.need ≤ most_change }
     ensures weights { AreWeights script.now k weights.new }
 {
+    // For the proof alone: what is counted is what the picture needs.
     needs_are_fewest();
-    let _ranges = script.pictures();
+    script.times_rise_and_colours_are_in_range();
     let change = plan_picture(script, k, before, now, weights);
     PlanRow {
         ready: script.ready(k),

@@ -48,8 +48,9 @@ pub fn survey(alloc: Global, script: &Script, blocks: u32) -> Result<Survey, Sto
     ensures late { (picture need free : ℕ) → result ≡ Err (Stop.Late picture need free)
         → CannotBeReady script.now picture need free }
 {
+    // For the proof alone: what is counted is what each picture needs.
     needs_are_fewest();
-    let _ranges = script.pictures();
+    script.times_rise_and_colours_are_in_range();
     if is_past_end(script, blocks) {
         return Err(Stop::PastEnd { blocks });
     }
@@ -81,6 +82,7 @@ fn survey_on(
     ensures planned { IfOk result (IsSurvey script.now) }
     ensures err { IfErr result (IsStop script.now blocks) }
 {
+    // For the proof alone: a late picture needs what is told.
     needs_are_fewest();
     let pictures = script.pictures();
     let mut weights = [NOT_WEIGHED; WINDOW_TILES];
@@ -88,7 +90,7 @@ fn survey_on(
     for k in 0..pictures {
         let change = plan_in_time(script, k, before, now, &mut weights)?;
         planned.push(change)?;
-        before.draw_until(script, k);
+        before.draw_like(script, k, now);
     }
     Ok(Survey { planned })
 }
@@ -142,9 +144,10 @@ pub(crate) fn plan_picture(
     ensures need { result.need ≡ length (planned_change script.now k) }
     ensures below { (result.start < slots_a_block * time_count) × (result.need ≤ most_change) }
 {
+    // For the proof alone: the change that is written has the length that was counted.
     planned_changes_are_changes();
     changes_have_planned_lengths();
-    let _ranges = script.pictures();
+    script.times_rise_and_colours_are_in_range();
     let choice = choose_start(script, k, before, now, weights);
     PlannedChange {
         start: start_of(script, k),

@@ -7,7 +7,7 @@ use Rattle.std.proofs.lemmas.List.{length-reverse}
 use Rattle.raw_subcode.specs.Sizes.{slots_a_block}
 use Rattle.rw_interleave.specs.Interleave.{packs_kept_back, whole_packs}
 use Rattle.cdg_instructions.specs.declared.instr.Instr.{Instr}
-use Rattle.cdg_screen.specs.Picture.{Standing, blank, pixel_at, rows_of, sixteen}
+use Rattle.cdg_screen.specs.Standing.{Standing, blank, pixel_at, rows_of, sixteen}
 use Rattle.cdg_screen.proofs.Lists.{pixel_of_rows, number_of_sixteen}
 use Rattle.picture_script.specs.Script.{Drawing, pictures, ready_time, hold_time, picture_border, picture_colour, picture_pixel}
 use Rattle.picture_changes.specs.Change.{IsChangeFrom, IsOrderedChange, IsStart}
@@ -121,8 +121,8 @@ late_needs_more script (suc k) need free order late =
     let held = order.held k (omega (arith, late.picture)) in
     let next : suc k ≡ k + 1 = omega arith in
     let later : hold_time script k < ready_time script (suc k) =
-        subst (λ n. hold_time script k < ready_time script n) (sym next)
-        (order.later k (subst (λ n. n < pictures script) next late.picture)) in
+    subst (λ n. hold_time script k < ready_time script n) (sym next)
+    (order.later k (subst (λ n. n < pictures script) next late.picture)) in
     let room : start_of script (suc k) + packs_kept_back ≤ slots_a_block * ready_time script (suc k) =
-        omega (arith, earlier, held, later) in
+    omega (arith, earlier, held, later) in
     omega (arith, late.free_is, free_few (start_of script (suc k)) (ready_time script (suc k)) need late.late room)

@@ -5,7 +5,7 @@ ghost use Rattle.cdg_io.specs.Causes.{TellsFault};
 ghost use Rattle.cdg_io.specs.Change.{change, passed};
 ghost use Rattle.raw_subcode.specs.Channels.{unit_size};
 ghost use Rattle.rw_interleave.specs.Interleave.{whole_packs};
-ghost use Rattle.cdg_screen.specs.Picture.{blank};
+ghost use Rattle.cdg_screen.specs.Standing.{blank};
 ghost use Rattle.cdg_screen.specs.Texts.{pixmap, state_text};
 ghost use Rattle.stream_stages.specs.Faults.{TellsStops};
 ghost use Rattle.stream_stages.specs.Calls.{EndFirst, IsMomentStop};
@@ -19,9 +19,7 @@ use cdg_screen::Screen;
 use raw_subcode::Form;
 use rw_interleave::whole_packs;
 use std::alloc::{AllocError, Global};
-use stream_stages::{
-    BlockWords, Painting, PlayStop, Played, SectorBlocks, play_stop, watch,
-};
+use stream_stages::{BlockWords, Painting, PlayStop, Played, SectorBlocks, play_stop, watch};
 
 /// Shows moments of streams, one at a time: each call begins anew, whatever stopped the one before. It holds one
 /// screen.

@@ -12,7 +12,7 @@ use Rattle.rw_interleave.specs.Stream.{bad_count}
 use Rattle.cdg_instructions.specs.Meaning.{meaning}
 use Rattle.cdg_instructions.proofs.Meaning.{meaning_means}
 use Rattle.cdg_instructions.specs.declared.instr.Instr.{Instr}
-use Rattle.cdg_screen.specs.Picture.{IsWholeStanding, Standing, standing_after}
+use Rattle.cdg_screen.specs.Standing.{IsWholeStanding, Standing, standing_after}
 use Rattle.cdg_screen.proofs.Turns.{in_turn, whole_after}
 use Rattle.stream_stages.specs.Steps.{bad_next}
 use Rattle.stream_stages.specs.Drawn.{entry_drawn, draw_next, draw_after, painting_next}

@@ -24,7 +24,7 @@ use Rattle.rw_interleave.specs.Interleave.{whole_packs}
 use Rattle.raw_subcode.specs.Channels.{unit_size, block_of, symbols_of, program_symbols}
 use Rattle.raw_subcode.specs.declared.form.Form.{Form}
 use Rattle.rw_interleave.specs.Stream.{IsRecovered, bad_count}
-use Rattle.cdg_screen.specs.Picture.{IsWholeStanding, Standing, blank, standing_after}
+use Rattle.cdg_screen.specs.Standing.{IsWholeStanding, Standing, blank, standing_after}
 use Rattle.cdg_screen.proofs.Turns.{blank_is_whole}
 use Rattle.raw_subcode.specs.Sizes.{most_units}
 use Rattle.stream_stages.specs.Calls.{IsEarly}

@@ -3,7 +3,7 @@ use Rattle.std.specs.Prelude.{ℕ, ◌-◌, ◌==◌, if◌then◌else◌, List,
 use Rattle.arrayvec.specs.ArrayVec.{ArrayVec}
 use Rattle.rw_code.specs.Finding.{finding}
 use Rattle.cdg_instructions.specs.Meaning.{meaning}
-use Rattle.cdg_screen.specs.Picture.{Standing, standing_after}
+use Rattle.cdg_screen.specs.Standing.{Standing, standing_after}
 use Rattle.stream_stages.specs.Steps.{bad_next}
 use Rattle.stream_stages.specs.declared.painting.Painting.{Painting}
 

@@ -1,7 +1,7 @@
 // From words to what stands on a screen.
 ghost use Rattle.std.specs.Prelude.{◌≡◌, ◌∷◌, [], replicate};
 ghost use Rattle.cdg_instructions.specs.Meaning.{meaning};
-ghost use Rattle.cdg_screen.specs.Picture.{standing_after};
+ghost use Rattle.cdg_screen.specs.Standing.{standing_after};
 ghost use Rattle.rw_code.specs.Codeword.{IsCodeword};
 ghost use Rattle.rw_code.specs.Finding.{finding};
 ghost use Rattle.rw_code.specs.Packs.{idle_pack};
@@ -108,7 +108,7 @@ fn carry_out(pack: &Pack, screen: &mut Screen)
 fn idle_packs_draw_nothing(screen: &Screen)
     ensures { screen.now ≡ standing_after screen.now (meaning idle_pack ∷ []) }
 {
-    screen.is_whole();
+    screen.what_stands_is_whole();
 }
 
 impl Stage for Painting {

@@ -1,5 +1,7 @@
 pub mod Slots
 pub mod Plays
+pub mod Courses
+pub mod Steady
 pub mod Trials
 pub mod Pixels
 pub mod Ready

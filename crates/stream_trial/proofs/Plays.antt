@@ -15,17 +15,18 @@ use Rattle.rw_interleave.proofs.Recovery.{differences-turned, form_words}
 use Rattle.cdg_instructions.specs.Instruction.{Means}
 use Rattle.cdg_instructions.specs.declared.instr.Instr.{Instr}
 use Rattle.cdg_screen.proofs.Turns.{blank_is_whole}
-use Rattle.cdg_screen.specs.Picture.{Standing, blank, standing_after}
+use Rattle.cdg_screen.specs.Standing.{Standing, blank, standing_after}
 use Rattle.picture_script.specs.Script.{Drawing, pictures, ready_time, hold_time}
 use Rattle.picture_changes.specs.Schedule.{IsSchedule}
 use Rattle.picture_changes.specs.Shown.{ShowsPicture, AreTimesInOrder, AreColoursInRange}
 use Rattle.picture_changes.specs.Meanings.{AreMeantBy}
-use Rattle.stream_trial.specs.Counts.{differing}
+use Rattle.stream_trial.specs.Differing.{differing}
+use Rattle.stream_trial.specs.Course.{AreTaken, AreCompared, AreTakenAndCompared, HasTaken, HasShown, words_with_stream_block}
 use Rattle.stream_trial.specs.Replay.{one_where, TakesWord, IsBelow, IsDamagedSchedule, IsPlayedOut}
 use Rattle.stream_trial.specs.declared.replay.Replay.{Replay}
 use Rattle.stream_trial.specs.declared.gallery.Gallery.{Gallery}
-use Rattle.stream_trial.specs.declared.playing.Counts.{Counts}
-use Rattle.stream_trial.proofs.Slots.{GathersWords, given, given_at}
+use Rattle.stream_trial.specs.declared.found.Found.{Found}
+use Rattle.stream_trial.proofs.Slots.{GathersWords, given_at}
 
 -- the laws that this rests on
 abbrev pub ShowsScheduled : Type 0
@@ -64,35 +65,6 @@ meant_more (p ∷ packs) [] pack instr meant means = absurd meant
 meant_more (p ∷ packs) (i ∷ instrs) pack instr meant means = (meant.0, meant_more packs instrs pack instr meant.1 means)
 
 -- ---- what n words leave
-
--- the first words were counted, and what their packs mean was carried out
-pub record AreTaken (symbols : List ℕ) (packs : List (List ℕ)) (others : List ℕ) (n : ℕ) (replay : Replay) : Type 0 where
-  pub one : replay.one ≡ differing 1 n symbols others
-  pub two : replay.two ≡ differing 2 n symbols others
-  pub bad : replay.bad ≡ 0
-  pub instrs : List Instr
-  pub meant : AreMeantBy (take n packs) instrs
-  pub screen : replay.screen ≡ standing_after blank instrs
-
--- every picture that was ready after n slots was shown, and the next one is not ready yet
-pub record AreShown (script : List Drawing) (n : ℕ) (gallery : Gallery) : Type 0 where
-  pub equal : gallery.equal ≡ gallery.next
-  pub later : gallery.next < pictures script → n < 4 * ready_time script gallery.next
-
--- both, after n slots
-pub record ArePlayed (script : List Drawing) (symbols : List ℕ) (packs : List (List ℕ)) (others : List ℕ) (n : ℕ) (replay : Replay) (gallery : Gallery) : Type 0 where
-  pub taken : AreTaken symbols packs others (n - 7) replay
-  pub shown : AreShown script n gallery
-
--- so many words of any damaged schedule were taken
-abbrev pub IsTaken : List Drawing → List ℕ → ℕ → Replay → Type 0
-IsTaken script bytes n replay = (symbols : List ℕ) (packs : List (List ℕ)) → IsDamagedSchedule script (length bytes / 96) symbols packs (symbols_of bytes)
-    → AreTaken symbols packs (symbols_of bytes) n replay
-
--- so many blocks of any damaged schedule were played
-abbrev pub IsPlayed : List Drawing → List ℕ → ℕ → Replay → Gallery → Type 0
-IsPlayed script bytes b replay gallery = (symbols : List ℕ) (packs : List (List ℕ)) → IsDamagedSchedule script (length bytes / 96) symbols packs (symbols_of bytes)
-    → ArePlayed script symbols packs (symbols_of bytes) (4 * b) replay gallery
 
 nothing_taken : (symbols others : List ℕ) (packs : List (List ℕ)) (replay : Replay) → replay.screen ≡ blank → (replay.one ≡ 0) × (replay.two ≡ 0) × (replay.bad ≡ 0) → AreTaken symbols packs others 0 replay
 nothing_taken symbols others packs replay screen counts = record {
@@ -155,9 +127,9 @@ module _ (script : List Drawing) (symbols : List ℕ) (packs : List (List ℕ)) 
       law script (length bytes / 96) packs k (ready_time script k) taken.instrs order damaged.schedule lt same held (subst (λ m. AreMeantBy (take m packs) taken.instrs) whole taken.meant)
 
   -- the gallery after one block more
-  looked : AreTimesInOrder script → (n : ℕ) (old new : Gallery) → n % 4 ≡ 0 → AreShown script n old
+  looked : AreTimesInOrder script → (n : ℕ) (old new : Gallery) → n % 4 ≡ 0 → AreCompared script n old
       → ((old.next < pictures script → n + 4 ≢ 4 * ready_time script old.next) → (new.next ≡ old.next) × (new.equal ≡ old.equal))
-      → (old.next < pictures script → n + 4 ≡ 4 * ready_time script old.next → (new.next ≡ old.next + 1) × (new.equal ≡ old.equal + 1)) → AreShown script (n + 4) new
+      → (old.next < pictures script → n + 4 ≡ 4 * ready_time script old.next → (new.next ≡ old.next + 1) × (new.equal ≡ old.equal + 1)) → AreCompared script (n + 4) new
   looked order n old new blocks_whole before waits looks =
       elim (cases_lt old.next (pictures script)) [
         | inr none ↦
@@ -182,7 +154,7 @@ module _ (script : List Drawing) (symbols : List ℕ) (packs : List (List ℕ)) 
             ]
       ]
 
-  first_ahead : (gallery : Gallery) → gallery.next ≡ 0 → gallery.equal ≡ 0 → AreShown script 0 gallery
+  first_ahead : (gallery : Gallery) → gallery.next ≡ 0 → gallery.equal ≡ 0 → AreCompared script 0 gallery
   first_ahead gallery next equal = record {
     equal = equal ∙ sym next;
     later = λ lt.
@@ -192,37 +164,37 @@ module _ (script : List Drawing) (symbols : List ℕ) (packs : List (List ℕ)) 
   }
 
   -- all of it was played
-  all_out : AreTimesInOrder script → (n : ℕ) (replay : Replay) (gallery : Gallery) (counts : Counts) → n ≡ 4 * (length bytes / 96) → ArePlayed script symbols packs (symbols_of bytes) n replay gallery → gallery.next ≤ pictures script
-      → counts ≡ record { one = replay.one; two = replay.two; bad = replay.bad; equal = gallery.equal } → IsPlayedOut script (length bytes / 96) symbols (symbols_of bytes) counts
-  all_out order n replay gallery counts all played most is =
+  all_out : AreTimesInOrder script → (n : ℕ) (replay : Replay) (gallery : Gallery) (found : Found) → n ≡ 4 * (length bytes / 96) → AreTakenAndCompared script symbols packs (symbols_of bytes) n replay gallery → gallery.next ≤ pictures script
+      → found ≡ record { one = replay.one; two = replay.two; bad = replay.bad; equal = gallery.equal } → IsPlayedOut script (length bytes / 96) symbols (symbols_of bytes) found
+  all_out order n replay gallery found all played most is =
       let whole : n - 7 ≡ whole_packs (length bytes / 96) = omega arith in
       let last : gallery.next ≡ pictures script = elim (cases_lt gallery.next (pictures script)) [
         | inl some ↦
             let held : ready_time script gallery.next ≤ hold_time script gallery.next = order.held gallery.next some in
             let within : hold_time script gallery.next ≤ length bytes / 96 = damaged.schedule.held gallery.next some in
-            absurd (omega (arith, played.shown.later some, held, within, all))
+            absurd (omega (arith, played.compared.later some, held, within, all))
         | inr none ↦ omega arith
       ] in
       record {
-        one = ap (λ (c : Counts). c.one) is ∙ played.taken.one ∙ ap (λ m. differing 1 m symbols (symbols_of bytes)) whole;
-        two = ap (λ (c : Counts). c.two) is ∙ played.taken.two ∙ ap (λ m. differing 2 m symbols (symbols_of bytes)) whole;
-        bad = ap (λ (c : Counts). c.bad) is ∙ played.taken.bad;
-        equal = ap (λ (c : Counts). c.equal) is ∙ played.shown.equal ∙ last;
+        one = ap (λ (f : Found). f.one) is ∙ played.taken.one ∙ ap (λ m. differing 1 m symbols (symbols_of bytes)) whole;
+        two = ap (λ (f : Found). f.two) is ∙ played.taken.two ∙ ap (λ m. differing 2 m symbols (symbols_of bytes)) whole;
+        bad = ap (λ (f : Found). f.bad) is ∙ played.taken.bad;
+        equal = ap (λ (f : Found). f.equal) is ∙ played.compared.equal ∙ last;
       }
 
 -- ---- the loops over blocks and their words
 
-pub begins : (script : List Drawing) (bytes : List ℕ) (replay : Replay) (gallery : Gallery) → replay.screen ≡ blank → (replay.one ≡ 0) × (replay.two ≡ 0) × (replay.bad ≡ 0) → (gallery.next ≡ 0) × (gallery.equal ≡ 0) → IsPlayed script bytes 0 replay gallery
+pub begins : (script : List Drawing) (bytes : List ℕ) (replay : Replay) (gallery : Gallery) → replay.screen ≡ blank → (replay.one ≡ 0) × (replay.two ≡ 0) × (replay.bad ≡ 0) → (gallery.next ≡ 0) × (gallery.equal ≡ 0) → HasShown script bytes 0 replay gallery
 begins script bytes replay gallery screen counts none = λ symbols packs damaged. record {
   taken = nothing_taken symbols (symbols_of bytes) packs replay screen counts;
-  shown = first_ahead script symbols packs bytes damaged gallery none.0 none.1;
+  compared = first_ahead script symbols packs bytes damaged gallery none.0 none.1;
 }
 
 -- a further word of block b
 pub takes_on : GathersWords → InTurn → (script : List Drawing) (bytes : List ℕ) (b j : ℕ) (old new : Replay) (words : List (List ℕ)) → b < length bytes / 96
-    → words ≡ given bytes b → 4 * b - 7 + j < whole_packs (length bytes / 96) → j < length words → IsTaken script bytes (4 * b - 7 + j) old
+    → words ≡ words_with_stream_block bytes b → 4 * b - 7 + j < whole_packs (length bytes / 96) → j < length words → HasTaken script bytes (4 * b - 7 + j) old
     → ((codeword : List ℕ) → Reads (get_or words j []) codeword → TakesWord (get_or words j []) codeword old new)
-    → IsTaken script bytes (4 * b - 7 + (j + 1)) new
+    → HasTaken script bytes (4 * b - 7 + (j + 1)) new
 takes_on law in_turn script bytes b j old new words b_lt is k_lt lt taken takes = λ symbols packs damaged.
     let k : ℕ = 4 * b - 7 + j in
     let next : 4 * b - 7 + j + 1 ≡ 4 * b - 7 + (j + 1) = omega arith in
@@ -234,28 +206,28 @@ takes_on law in_turn script bytes b j old new words b_lt is k_lt lt taken takes 
     (one_taken script symbols packs bytes damaged in_turn (4 * b - 7 + j) old new k_lt (taken symbols packs damaged) (subst (λ (w : List ℕ). TakesWord w pack old new) word (takes pack reads)))
 
 pub goes_on : ShowsScheduled → (script : List Drawing) → AreTimesInOrder script → AreColoursInRange script → (bytes : List ℕ) (b m : ℕ) (old new : Replay) (before after : Gallery)
-    → m ≡ 4 * (b + 1) - 7 → IsPlayed script bytes b old before → IsTaken script bytes m new
+    → m ≡ 4 * (b + 1) - 7 → HasShown script bytes b old before → HasTaken script bytes m new
     → ((before.next < pictures script → 4 * (b + 1) ≢ 4 * ready_time script before.next) → (after.next ≡ before.next) × (after.equal ≡ before.equal))
     → (before.next < pictures script → 4 * (b + 1) ≡ 4 * ready_time script before.next → (after.next ≡ before.next + 1) × (ShowsPicture script before.next new.screen → after.equal ≡ before.equal + 1))
-    → IsPlayed script bytes (b + 1) new after
+    → HasShown script bytes (b + 1) new after
 goes_on shows script order ranges bytes b m old new before after last played words waits looks = λ symbols packs damaged.
     let so_far = played symbols packs damaged in
     let all : 4 * b + 4 ≡ 4 * (b + 1) = omega arith in
     let taken : AreTaken symbols packs (symbols_of bytes) (4 * (b + 1) - 7) new = subst (λ k. AreTaken symbols packs (symbols_of bytes) k new) last (words symbols packs damaged) in
     record {
       taken = taken;
-      shown = subst (λ n. AreShown script n after) all (looked script symbols packs bytes damaged order (4 * b) before after (omega arith) so_far.shown
+      compared = subst (λ n. AreCompared script n after) all (looked script symbols packs bytes damaged order (4 * b) before after (omega arith) so_far.compared
           (λ early. waits (λ some due. early some (all ∙ due)))
           (λ some due.
           let (next, equal) = looks some (sym all ∙ due) in
           (next, equal (subst (ShowsPicture script before.next) (sym taken.screen) (shown_now script symbols packs bytes damaged shows order ranges before.next (4 * (b + 1)) new some (sym all ∙ due) taken)))));
     }
 
-pub ends : (script : List Drawing) → AreTimesInOrder script → (bytes : List ℕ) (b : ℕ) (replay : Replay) (gallery : Gallery) (counts : Counts) → b ≡ length bytes / 96 → IsPlayed script bytes b replay gallery → gallery.next ≤ pictures script
-    → counts ≡ record { one = replay.one; two = replay.two; bad = replay.bad; equal = gallery.equal }
-    → (symbols : List ℕ) (packs : List (List ℕ)) → IsDamagedSchedule script (length bytes / 96) symbols packs (symbols_of bytes) → IsPlayedOut script (length bytes / 96) symbols (symbols_of bytes) counts
-ends script order bytes b replay gallery counts last played most is symbols packs damaged =
-    all_out script symbols packs bytes damaged order (4 * b) replay gallery counts (omega arith) (played symbols packs damaged) most is
+pub ends : (script : List Drawing) → AreTimesInOrder script → (bytes : List ℕ) (b : ℕ) (replay : Replay) (gallery : Gallery) (found : Found) → b ≡ length bytes / 96 → HasShown script bytes b replay gallery → gallery.next ≤ pictures script
+    → found ≡ record { one = replay.one; two = replay.two; bad = replay.bad; equal = gallery.equal }
+    → (symbols : List ℕ) (packs : List (List ℕ)) → IsDamagedSchedule script (length bytes / 96) symbols packs (symbols_of bytes) → IsPlayedOut script (length bytes / 96) symbols (symbols_of bytes) found
+ends script order bytes b replay gallery found last played most is symbols packs damaged =
+    all_out script symbols packs bytes damaged order (4 * b) replay gallery found (omega arith) (played symbols packs damaged) most is
 
 -- ---- bounds
 

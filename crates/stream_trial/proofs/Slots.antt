@@ -16,23 +16,11 @@ use Rattle.rw_interleave.specs.Gathering.{gather_next, gather_gives}
 use Rattle.rw_interleave.specs.Windows.{slot_in, slots_in}
 use Rattle.rw_interleave.proofs.Ranges.{map_range}
 use Rattle.rw_interleave.proofs.Places.{swapped-lt}
-use Rattle.stream_trial.specs.Replay.{stream_block}
-
--- the symbols of slot n of a stream
-unfoldable pub stream_slot : List ℕ → ℕ → List ℕ
-stream_slot bytes n = symbols_of (take 24 (drop (24 * n) bytes))
+use Rattle.stream_trial.specs.Course.{stream_block, stream_slot, slots_before, gathered_before, words_with_stream_block}
 
 -- what the law on gatherers says
 abbrev pub GathersWords : Type 0
 GathersWords = (slots : List (List ℕ)) → All (λ slot. length slot ≡ 24) slots → run_gives gather_next gather_gives [] slots ≡ map (word_of (concat slots)) (below (whole_of_slots (length slots)))
-
--- the first slots of a stream
-abbrev pub slots_before : List ℕ → ℕ → List (List ℕ)
-slots_before bytes n = map (stream_slot bytes) (below n)
-
--- what a gatherer holds after the first blocks
-abbrev pub gathered_before : List ℕ → ℕ → List (List ℕ)
-gathered_before bytes b = run_state gather_next [] (slots_before bytes (4 * b))
 
 slots_more : (bytes : List ℕ) (n : ℕ) → slots_before bytes (n + 1) ≡ slots_before bytes n ++ stream_slot bytes n ∷ []
 slots_more bytes n = map-range_with_len_more (stream_slot bytes) 0 n n (omega arith)
@@ -110,35 +98,31 @@ pub gathered_more : (bytes : List ℕ) (b : ℕ) → 96 * b + 96 ≤ length byte
 gathered_more bytes b fits =
     ap (run_state gather_next []) (block_more bytes b fits) ∙ run_state-append gather_next [] (slots_before bytes (4 * b)) (slots_in (stream_block bytes b) 0 4)
 
--- the words that block b gives
-abbrev pub given : List ℕ → ℕ → List (List ℕ)
-given bytes b = run_gives gather_next gather_gives (gathered_before bytes b) (slots_in (stream_block bytes b) 0 4)
-
 -- what block b gives, after the words of the blocks before
 words_more : GathersWords → (bytes : List ℕ) (b : ℕ) → 96 * b + 96 ≤ length bytes
-    → map (word_of (symbols_of (take (24 * (4 * b)) bytes))) (below (4 * b - 7)) ++ given bytes b ≡ map (word_of (symbols_of (take (24 * (4 * (b + 1))) bytes))) (below (4 * (b + 1) - 7))
+    → map (word_of (symbols_of (take (24 * (4 * b)) bytes))) (below (4 * b - 7)) ++ words_with_stream_block bytes b ≡ map (word_of (symbols_of (take (24 * (4 * (b + 1))) bytes))) (below (4 * (b + 1) - 7))
 words_more law bytes b fits =
-    ap (λ (l : List (List ℕ)). l ++ given bytes b) (sym (words_before law bytes (4 * b) (omega arith)))
+    ap (λ (l : List (List ℕ)). l ++ words_with_stream_block bytes b) (sym (words_before law bytes (4 * b) (omega arith)))
     ∙ sym (run_gives-append gather_next gather_gives [] (slots_before bytes (4 * b)) (slots_in (stream_block bytes b) 0 4))
     ∙ ap (run_gives gather_next gather_gives []) (sym (block_more bytes b fits)) ∙ words_before law bytes (4 * (b + 1)) (omega arith)
 
 -- each slot but the first seven ends a word
-pub length-given : GathersWords → (bytes : List ℕ) (b : ℕ) → 96 * b + 96 ≤ length bytes → 4 * b - 7 + length (given bytes b) ≡ 4 * (b + 1) - 7
+pub length-given : GathersWords → (bytes : List ℕ) (b : ℕ) → 96 * b + 96 ≤ length bytes → 4 * b - 7 + length (words_with_stream_block bytes b) ≡ 4 * (b + 1) - 7
 length-given law bytes b fits =
     let before : ℕ → List ℕ = word_of (symbols_of (take (24 * (4 * b)) bytes)) in
     let after : ℕ → List ℕ = word_of (symbols_of (take (24 * (4 * (b + 1))) bytes)) in
-    let size : length (map before (below (4 * b - 7)) ++ given bytes b) ≡ length (map after (below (4 * (b + 1) - 7))) = ap length (words_more law bytes b fits) in
-    omega (arith, size, length-append (map before (below (4 * b - 7))) (given bytes b), length-map-range_with_len before 0 (4 * b - 7), length-map-range_with_len after 0 (4 * (b + 1) - 7))
+    let size : length (map before (below (4 * b - 7)) ++ words_with_stream_block bytes b) ≡ length (map after (below (4 * (b + 1) - 7))) = ap length (words_more law bytes b fits) in
+    omega (arith, size, length-append (map before (below (4 * b - 7))) (words_with_stream_block bytes b), length-map-range_with_len before 0 (4 * b - 7), length-map-range_with_len after 0 (4 * (b + 1) - 7))
 
 -- the words come in turn
-pub given_at : GathersWords → (bytes : List ℕ) (b j : ℕ) → 96 * b + 96 ≤ length bytes → j < length (given bytes b) → get_or (given bytes b) j [] ≡ word_of (symbols_of bytes) (4 * b - 7 + j)
+pub given_at : GathersWords → (bytes : List ℕ) (b j : ℕ) → 96 * b + 96 ≤ length bytes → j < length (words_with_stream_block bytes b) → get_or (words_with_stream_block bytes b) j [] ≡ word_of (symbols_of bytes) (4 * b - 7 + j)
 given_at law bytes b j fits lt =
     let before : ℕ → List ℕ = word_of (symbols_of (take (24 * (4 * b)) bytes)) in
     let after : ℕ → List ℕ = word_of (symbols_of (take (24 * (4 * (b + 1))) bytes)) in
     let early : length (map before (below (4 * b - 7))) ≡ 4 * b - 7 = length-map-range_with_len before 0 (4 * b - 7) in
     let size = length-given law bytes b fits in
     let place_is : 4 * b - 7 + j ≡ length (map before (below (4 * b - 7))) + j = omega (arith, early) in
-    sym (ap (λ p. get_or (map before (below (4 * b - 7)) ++ given bytes b) p []) place_is ∙ get_or-append-add (map before (below (4 * b - 7))) (given bytes b) j [])
+    sym (ap (λ p. get_or (map before (below (4 * b - 7)) ++ words_with_stream_block bytes b) p []) place_is ∙ get_or-append-add (map before (below (4 * b - 7))) (words_with_stream_block bytes b) j [])
     ∙ ap (λ (l : List (List ℕ)). get_or l (4 * b - 7 + j) []) (words_more law bytes b fits)
     ∙ get_or-map-range_with_len after 0 (4 * (b + 1) - 7) (4 * b - 7 + j) (4 * b - 7 + j) [] (omega (arith, size, lt)) (omega arith)
     ∙ word_of_front bytes (4 * b - 7 + j) (4 * (b + 1)) (omega (arith, size, lt))

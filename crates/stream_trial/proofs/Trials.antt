@@ -1,6 +1,6 @@
 -- The text of a trial.
 use Rattle.std.proofs.Common.{◌≡◌, ◌≢◌, ℕ, zero, suc, ◌+◌, ◌*◌, ◌/◌, ◌%◌, ◌≤◌, List, [], ◌++◌, length, map, take, drop, flat_map, refl, sym, ap, ap₂, ◌∙◌, subst, arith, length-drop, Result, Ok, Err}
-use Rattle.std.specs.Prelude.{Option, IfOk}
+use Rattle.std.specs.Prelude.{Option}
 use Rattle.std.proofs.lemmas.List.{length-map, map-append, nil_from_length, take-append-drop}
 use Rattle.bit_lists.specs.Counting.{parts}
 use Rattle.raw_subcode.specs.Channels.{symbols_of, block_of, program_symbols}
@@ -17,14 +17,14 @@ use Rattle.cdg_workload.specs.Script.{generated_script}
 use Rattle.cdg_workload.specs.Scratches.{scratched}
 use Rattle.cdg_workload.specs.Generated.{generated_drawings}
 use Rattle.subcode_author.specs.Authored.{IsAuthored, IsWrittenStream, disc_of}
-use Rattle.stream_trial.specs.Counts.{differing}
+use Rattle.stream_trial.specs.Differing.{differing}
 use Rattle.stream_trial.specs.TrialLines.{input_lines, output_lines}
 use Rattle.stream_trial.specs.TrialSheet.{trial_text, trial_sheet}
 use Rattle.stream_trial.specs.Trial.{trial_audio, trial_blocks, all_changes, IsTrial}
 use Rattle.stream_trial.specs.Told.{told}
 use Rattle.stream_trial.specs.Replay.{IsDamagedSchedule, IsPlayedOut}
 use Rattle.stream_trial.specs.declared.lines.Report.{Report}
-use Rattle.stream_trial.specs.declared.playing.Counts.{Counts}
+use Rattle.stream_trial.specs.declared.found.Found.{Found}
 use Rattle.stream_trial.specs.declared.stops.TrialStop.{TrialStop}
 use Rattle.stream_trial.specs.declared.stops.TrialStop.TheVariants.{NoMemory, WriteFault}
 use Rattle.std.specs.Io.KnownBytes.{Appends}
@@ -96,27 +96,14 @@ trial_program has count = has (trial_audio count) ∙ omega arith
 pub trial_size : HasBlocks → (script : List Drawing) (count : ℕ) (bytes : List ℕ) (packs : List (List ℕ)) → IsAuthored (disc_of trial_sheet script 0 (trial_audio count)) bytes packs → length bytes ≡ 96 * trial_blocks count
 trial_size has script count bytes packs authored = stream_size trial_sheet script (trial_audio count) bytes packs authored ∙ ap (λ n. 96 * n) (trial_program has count)
 
-pub scratched_length : ChannelsStay → (seed : ℕ) (bytes others : List ℕ) → others ≡ scratched 0 seed bytes → length others ≡ length bytes
-scratched_length stay seed bytes others is = ap length is ∙ same_length stay seed bytes
-
--- a size of whole blocks, and not too many
-pub whole_size : (count size : ℕ) → size ≡ 96 * trial_blocks count → size % 96 ≡ 0
-whole_size count size is = omega (arith, is)
-
-pub few_bytes : (count size : ℕ) → count ≤ 500 → size ≡ 96 * trial_blocks count → size ≤ 96000000
-few_bytes count size few is = omega (arith, few, is)
-
 -- what is counted of each stream that carries the schedule
-abbrev pub Plays : List Drawing → List ℕ → Counts → Type 0
-Plays script others counts = (symbols : List ℕ) (packs : List (List ℕ)) → IsDamagedSchedule script (length others / 96) symbols packs (symbols_of others) → IsPlayedOut script (length others / 96) symbols (symbols_of others) counts
-
-pub plays_same : (script : List Drawing) (others same : List ℕ) (counts : Counts) → others ≡ same → Plays script others counts → Plays script same counts
-plays_same script others same counts is plays = subst (λ (l : List ℕ). Plays script l counts) is plays
+abbrev pub Plays : List Drawing → List ℕ → Found → Type 0
+Plays script others found = (symbols : List ℕ) (packs : List (List ℕ)) → IsDamagedSchedule script (length others / 96) symbols packs (symbols_of others) → IsPlayedOut script (length others / 96) symbols (symbols_of others) found
 
 -- what is counted of the stream with scratches
-pub played_out : HasBlocks → ScratchesDamage → ChannelsStay → (script : List Drawing) (count seed : ℕ) (bytes : List ℕ) (packs : List (List ℕ)) (counts : Counts) → IsAuthored (disc_of trial_sheet script 0 (trial_audio count)) bytes packs
-    → Plays script (scratched 0 seed bytes) counts → IsPlayedOut script (trial_blocks count) (program_symbols Raw bytes 0) (program_symbols Raw (scratched 0 seed bytes) 0) counts
-played_out has damage stay script count seed bytes packs counts authored plays =
+pub played_out : HasBlocks → ScratchesDamage → ChannelsStay → (script : List Drawing) (count seed : ℕ) (bytes : List ℕ) (packs : List (List ℕ)) (found : Found) → IsAuthored (disc_of trial_sheet script 0 (trial_audio count)) bytes packs
+    → Plays script (scratched 0 seed bytes) found → IsPlayedOut script (trial_blocks count) (program_symbols Raw bytes 0) (program_symbols Raw (scratched 0 seed bytes) 0) found
+played_out has damage stay script count seed bytes packs found authored plays =
     let others : List ℕ = scratched 0 seed bytes in
     let size : length others ≡ 96 * trial_blocks count = same_length stay seed bytes ∙ trial_size has script count bytes packs authored in
     let blocks : length others / 96 ≡ trial_blocks count = omega (arith, size) in
@@ -129,20 +116,29 @@ played_out has damage stay script count seed bytes packs counts authored plays =
       equal = played.equal;
     }
 
-pub trial_played : HasBlocks → ScratchesDamage → ChannelsStay → (script : List Drawing) (count seed : ℕ) (bytes held : List ℕ) (packs : List (List ℕ)) (result : Result Counts TrialStop) → held ≡ bytes → IsWrittenStream (disc_of trial_sheet script 0 (trial_audio count)) bytes packs
-    → IfOk result (λ counts. Plays script (scratched 0 seed held) counts)
-    → IfOk result (λ counts. (written : List ℕ) × (packs : List (List ℕ)) × IsWrittenStream (disc_of trial_sheet script 0 (trial_audio count)) written packs × IsPlayedOut script (trial_blocks count) (program_symbols Raw written 0) (program_symbols Raw (scratched 0 seed written) 0) counts)
-trial_played has damage stay script count seed bytes held packs (Ok counts) is written plays =
-    (bytes, packs, written, played_out has damage stay script count seed bytes packs counts written.authored (plays_same script (scratched 0 seed held) (scratched 0 seed bytes) counts (ap (scratched 0 seed) is) plays))
-trial_played has damage stay script count seed bytes held packs (Err stop) is written plays = tt
+pub trial_played : HasBlocks → ScratchesDamage → ChannelsStay → (script : List Drawing) (seed count seed' count' : ℕ)
+    (bytes : List ℕ) (packs : List (List ℕ)) (found : Found)
+    → script ≡ generated_drawings seed count → seed' ≡ seed → count' ≡ count
+    → IsWrittenStream (disc_of trial_sheet script 0 (trial_audio count)) bytes packs
+    → Plays (generated_drawings seed' count') (scratched 0 seed' bytes) found
+    → (written : List ℕ) × (packs : List (List ℕ))
+    × IsWrittenStream (disc_of trial_sheet script 0 (trial_audio count)) written packs
+    × IsPlayedOut script (trial_blocks count) (program_symbols Raw written 0)
+    (program_symbols Raw (scratched 0 seed written) 0) found
+trial_played has damage stay script seed count seed' count' bytes packs found script_is seed_is count_is written plays =
+    let same : generated_drawings seed' count' ≡ script = ap₂ generated_drawings seed_is count_is ∙ sym script_is in
+    let its : Plays script (scratched 0 seed bytes) found =
+    subst (λ (n : ℕ). Plays script (scratched 0 n bytes) found) seed_is
+    (subst (λ (l : List Drawing). Plays l (scratched 0 seed' bytes) found) same plays) in
+    (bytes, packs, written, played_out has damage stay script count seed bytes packs found written.authored its)
 
 -- what is told of a stream that was played out is the text of a trial
-pub is_trial : SheetIsRead → ScriptsAreRead → ScriptsHavePictures → (seed count : ℕ) (script : List Drawing) (bytes : List ℕ) (packs : List (List ℕ)) (counts : Counts) (report : Report)
+pub is_trial : SheetIsRead → ScriptsAreRead → ScriptsHavePictures → (seed count : ℕ) (script : List Drawing) (bytes : List ℕ) (packs : List (List ℕ)) (found : Found) (report : Report)
     → count ≤ 500 → script ≡ generated_drawings seed count → IsWrittenStream (disc_of trial_sheet script 0 (trial_audio count)) bytes packs
-    → IsPlayedOut script (trial_blocks count) (program_symbols Raw bytes 0) (program_symbols Raw (scratched 0 seed bytes) 0) counts
+    → IsPlayedOut script (trial_blocks count) (program_symbols Raw bytes 0) (program_symbols Raw (scratched 0 seed bytes) 0) found
     → report.seed ≡ seed → report.pictures ≡ count → report.blocks ≡ trial_blocks count → report.packs ≡ whole_packs (trial_blocks count) → report.changes ≡ all_changes script
-    → report.one ≡ counts.one → report.two ≡ counts.two → report.bad ≡ counts.bad → report.equal ≡ counts.equal → IsTrial seed count (told report)
-is_trial read reads have seed count script bytes packs counts report few script_is authored played e_seed e_pictures e_blocks e_packs e_changes e_one e_two e_bad e_equal =
+    → report.one ≡ found.one → report.two ≡ found.two → report.bad ≡ found.bad → report.equal ≡ found.equal → IsTrial seed count (told report)
+is_trial read reads have seed count script bytes packs found report few script_is authored played e_seed e_pictures e_blocks e_packs e_changes e_one e_two e_bad e_equal =
     let number : ℕ = whole_packs (trial_blocks count) in
     let one : report.one ≡ differing 1 number (program_symbols Raw bytes 0) (program_symbols Raw (scratched 0 seed bytes) 0) = e_one ∙ played.one in
     let two : report.two ≡ differing 2 number (program_symbols Raw bytes 0) (program_symbols Raw (scratched 0 seed bytes) 0) = e_two ∙ played.two in

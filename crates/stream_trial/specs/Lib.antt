@@ -1,6 +1,7 @@
-pub mod Counts
+pub mod Differing
 pub mod TrialLines
 pub mod Trial
 pub mod Replay
+pub mod Course
 pub mod Told
 pub mod TrialSheet

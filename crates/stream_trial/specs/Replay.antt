@@ -1,18 +1,19 @@
 -- What is known while a stream is played again.
-use Rattle.std.specs.Prelude.{◌≡◌, ℕ, ◌+◌, ◌-◌, ◌*◌, ◌<◌, ◌≤◌, ◌==◌, ◌&&◌, nat_le, if◌then◌else◌, List, [], ◌∷◌, take, drop, slice_index}
+use Rattle.std.specs.Prelude.{◌≡◌, ℕ, ◌+◌, ◌-◌, ◌<◌, ◌≤◌, ◌==◌, ◌&&◌, nat_le, if◌then◌else◌, List, [], ◌∷◌, slice_index}
 use Rattle.raw_subcode.specs.declared.form.Form.TheVariants.{Raw}
 use Rattle.rw_code.specs.Codeword.{differences}
 use Rattle.rw_interleave.specs.Interleave.{whole_packs, Carries}
 use Rattle.rw_interleave.specs.Stream.{IsDamaged}
 use Rattle.cdg_instructions.specs.Instruction.{Means}
+use Rattle.cdg_instructions.specs.Sizes.{screen_height, screen_width}
 use Rattle.cdg_instructions.specs.declared.instr.Instr.{Instr}
-use Rattle.cdg_screen.specs.Picture.{Standing, standing_after, screen_pixel}
+use Rattle.cdg_screen.specs.Standing.{Standing, standing_after, screen_pixel}
 use Rattle.picture_script.specs.Script.{Drawing, pictures}
 use Rattle.picture_script.specs.Board.{Board, pixel_of}
 use Rattle.picture_changes.specs.Schedule.{IsSchedule}
-use Rattle.stream_trial.specs.Counts.{differing}
+use Rattle.stream_trial.specs.Differing.{differing}
 use Rattle.stream_trial.specs.declared.replay.Replay.{Replay}
-use Rattle.stream_trial.specs.declared.playing.Counts.{Counts}
+use Rattle.stream_trial.specs.declared.found.Found.{Found}
 
 -- the pixel that a screen is to show for a canvas: that of its window, and else the border
 abbrev pub wanted_pixel : Board → ℕ → ℕ → ℕ
@@ -23,7 +24,8 @@ wanted_pixel board x y = if nat_le 6 x && nat_le x 293 && nat_le 12 y
 pub record Agrees (now : Standing) (board : Board) : Type 0 where
   pub border : now.border ≡ board.border
   pub colours : (n : ℕ) → n < 16 → slice_index now.colours n ≡ slice_index board.colours n
-  pub pixels : (x y : ℕ) → x < 300 → y < 216 → screen_pixel now x y ≡ wanted_pixel board x y
+  pub pixels : (x y : ℕ) → x < screen_width → y < screen_height
+      → screen_pixel now x y ≡ wanted_pixel board x y
 
 -- each count is at most so great
 pub record IsBelow (most : ℕ) (replay : Replay) : Type 0 where
@@ -51,10 +53,6 @@ pub record TakesBad (old new : Replay) : Type 0 where
   pub bad : new.bad ≡ old.bad + 1
   pub screen : new.screen ≡ old.screen
 
--- block b of a stream
-abbrev pub stream_block : List ℕ → ℕ → List ℕ
-stream_block bytes b = take 96 (drop (96 * b) bytes)
-
 -- program symbols that are damaged from those which carry a schedule of the script
 pub record IsDamagedSchedule (script : List Drawing) (blocks : ℕ) (symbols : List ℕ) (packs : List (List ℕ))
     (others : List ℕ) : Type 0 where
@@ -62,10 +60,10 @@ pub record IsDamagedSchedule (script : List Drawing) (blocks : ℕ) (symbols : L
   pub carries : Carries blocks symbols packs
   pub damaged : IsDamaged symbols Raw others
 
--- what was counted of such a stream
+-- what was found of such a stream
 pub record IsPlayedOut (script : List Drawing) (blocks : ℕ) (symbols others : List ℕ)
-    (counts : Counts) : Type 0 where
-  pub one : counts.one ≡ differing 1 (whole_packs blocks) symbols others
-  pub two : counts.two ≡ differing 2 (whole_packs blocks) symbols others
-  pub bad : counts.bad ≡ 0
-  pub equal : counts.equal ≡ pictures script
+    (found : Found) : Type 0 where
+  pub one : found.one ≡ differing 1 (whole_packs blocks) symbols others
+  pub two : found.two ≡ differing 2 (whole_packs blocks) symbols others
+  pub bad : found.bad ≡ 0
+  pub equal : found.equal ≡ pictures script

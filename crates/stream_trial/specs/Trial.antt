@@ -1,6 +1,7 @@
 -- What a trial of a seed writes.
 use Rattle.std.specs.Prelude.{◌≡◌, ℕ, ◌+◌, ◌*◌, List, ◌++◌, length, sum_by, Ok}
 use Rattle.bit_lists.specs.Counting.{below}
+use Rattle.disc_time.specs.Counts.{pause_blocks}
 use Rattle.raw_subcode.specs.Channels.{program_symbols}
 use Rattle.raw_subcode.specs.declared.form.Form.TheVariants.{Raw}
 use Rattle.rw_interleave.specs.Interleave.{whole_packs}
@@ -13,16 +14,16 @@ use Rattle.cdg_workload.specs.Script.{generated_script}
 use Rattle.cdg_workload.specs.Scratches.{scratched}
 use Rattle.stream_trial.specs.TrialSheet.{trial_text}
 use Rattle.subcode_author.specs.Authored.{IsWrittenStream, disc_of}
-use Rattle.stream_trial.specs.Counts.{differing}
+use Rattle.stream_trial.specs.Differing.{differing}
 use Rattle.stream_trial.specs.TrialLines.{input_lines, output_lines}
 
 -- the blocks of audio of a trial of so many pictures: the one that is ready last is held for twenty more
 abbrev pub trial_audio : ℕ → ℕ
 trial_audio count = 800 * count + 20
 
--- the blocks of its program: a pause of 150 comes before the audio
+-- the blocks of its program: a pause comes before the audio
 abbrev pub trial_blocks : ℕ → ℕ
-trial_blocks count = 800 * count + 170
+trial_blocks count = pause_blocks + trial_audio count
 
 -- the instructions of all changes of a script
 unfoldable pub all_changes : List Drawing → ℕ

@@ -1,8 +1,10 @@
 // A screen beside a canvas.
 ghost use Rattle.std.specs.Prelude.{◌≡◌, ◌<◌, ◌≤◌, ◌↔◌, ℕ, slice_index, IsTrue};
-ghost use Rattle.cdg_screen.specs.Picture.{screen_pixel};
+ghost use Rattle.cdg_instructions.specs.Sizes.{screen_height, screen_width};
+ghost use Rattle.cdg_screen.specs.Standing.{screen_pixel};
 ghost use Rattle.stream_trial.specs.Replay.{Agrees, wanted_pixel};
 
+use cdg_instructions::SCREEN_WIDTH;
 use cdg_screen::Screen;
 use picture_script::Canvas;
 
@@ -31,8 +33,8 @@ fn colours_agree(screen: &Screen, canvas: &Canvas) -> bool
 // Whether all pixels agree, where the borders do.
 fn pixels_agree(screen: &Screen, canvas: &Canvas) -> bool
     requires { screen.now.border ≡ canvas.now.border }
-    ensures { IsTrue result ↔ ((x y : ℕ) → x < 300 → y < 216 → screen_pixel screen.now x y
-        ≡ wanted_pixel canvas.now x y) }
+    ensures { IsTrue result ↔ ((x y : ℕ) → x < screen_width → y < screen_height
+        → screen_pixel screen.now x y ≡ wanted_pixel canvas.now x y) }
 {
     for y in 12..204 {
         if !row_agrees(screen, canvas, y) {
@@ -42,24 +44,25 @@ fn pixels_agree(screen: &Screen, canvas: &Canvas) -> bool
     true
 }
 
-// Whether the pixels of a row agree in the window.
+// Whether the pixels of a row agree in the window. It looks at all of them, so that many can be compared at once.
 fn row_agrees(screen: &Screen, canvas: &Canvas, y: u32) -> bool
-    requires { y < 216 }
+    requires { y < screen_height }
     ensures { IsTrue result ↔ ((x : ℕ) → 6 ≤ x → x < 294
         → screen_pixel screen.now x y ≡ wanted_pixel canvas.now x y) }
 {
+    let mut row = [0; SCREEN_WIDTH];
+    screen.write_row(y as usize, &mut row);
+    let mut same = true;
     for x in 6..294 {
-        if screen.pixel(x, y) != wanted(canvas, x, y) {
-            return false;
-        }
+        same &= row[x as usize] == wanted(canvas, x, y);
     }
-    true
+    same
 }
 
 // The pixel that a screen is to show: that of the canvas in its window, and else the border.
 fn wanted(canvas: &Canvas, x: u32, y: u32) -> u8
-    requires x { x < 300 }
-    requires y { y < 216 }
+    requires x { x < screen_width }
+    requires y { y < screen_height }
     ensures { result ≡ wanted_pixel canvas.now x y }
 {
     if 6 <= x && x <= 293 && 12 <= y && y <= 203 {

@@ -2,12 +2,15 @@
 #![tactic(auto)]
 
 mod comparing;
+mod course;
+mod found;
 mod gallery;
 mod generating;
+mod history;
 mod lines;
 mod needs;
-mod playing;
 mod replay;
+mod run;
 mod schedules;
 mod scratches;
 mod sheet;

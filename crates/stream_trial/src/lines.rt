@@ -45,11 +45,11 @@ impl Report {
             self.now.blocks self.now.packs self.now.changes }
         ensures short { length text.new.bytes ≤ length text.old.bytes + 150 }
     {
-        push_count(text, "seed", self.seed);
-        push_count(text, "pictures", self.pictures);
-        push_count(text, "blocks", self.blocks);
-        push_count(text, "packs", self.packs);
-        push_count(text, "changes", self.changes);
+        push_number(text, "seed", self.seed);
+        push_number(text, "pictures", self.pictures);
+        push_number(text, "blocks", self.blocks);
+        push_number(text, "packs", self.packs);
+        push_number(text, "changes", self.changes);
     }
 
     // The lines on what was found.
@@ -59,16 +59,16 @@ impl Report {
         ensures text { text.new.bytes
             ≡ text.old.bytes ++ output_lines self.now.one self.now.two self.now.bad self.now.equal }
     {
-        push_count(text, "one", self.one);
-        push_count(text, "two", self.two);
-        push_count(text, "bad", self.bad);
-        push_count(text, "equal", self.equal);
+        push_number(text, "one", self.one);
+        push_number(text, "two", self.two);
+        push_number(text, "bad", self.bad);
+        push_number(text, "equal", self.equal);
     }
 }
 
-// A name and a count.
+// The line of a name and a number.
 #[tactic(auto, unfolding(crate::specs::TrialLines::trial_count_line))]
-fn push_count(text: &mut Lines, name: &str, count: u64)
+fn push_number(text: &mut Lines, name: &str, count: u64)
     requires name { length name.now ≤ 8 }
     requires room { length text.old.bytes ≤ 300 }
     ensures text { text.new.bytes ≡ text.old.bytes ++ trial_count_line name.now count }

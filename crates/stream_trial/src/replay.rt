@@ -1,12 +1,18 @@
 // A stream that is played again, word by word.
-ghost use Rattle.std.specs.Prelude.{◌≡◌, ◌<◌, ◌+◌, ℕ, List, IfOk};
+ghost use Rattle.std.specs.Prelude.{◌≡◌, ◌<◌, ◌≤◌, ◌+◌, ◌-◌, ◌*◌, ◌/◌, ℕ, List, IfOk, length};
 ghost use Rattle.rw_code.specs.Codeword.{Reads};
-ghost use Rattle.cdg_screen.specs.Picture.{blank};
+ghost use Rattle.raw_subcode.specs.Sizes.{block_bytes, slots_a_block};
+ghost use Rattle.rw_interleave.specs.Interleave.{whole_packs};
+ghost use Rattle.cdg_screen.specs.Standing.{blank};
+ghost use Rattle.picture_script.specs.Script.{Drawing};
+ghost use Rattle.stream_trial.specs.Course.{HasTaken, words_with_stream_block};
 ghost use Rattle.stream_trial.specs.Replay.{IsBelow, TakesWord, TakesBad, one_where};
 
+use arrayvec::ArrayVec;
 use cdg_instructions::read;
-use cdg_screen::Screen;
+use cdg_screen::{Screen, instructions_in_turn};
 use rw_code::{Word, correct, only_one_codeword_is_near};
+use rw_interleave::gather_gives_words;
 use std::alloc::{AllocError, Global};
 
 /// Words are corrected, and what their packs say is carried out.
@@ -35,8 +41,24 @@ impl Replay {
         })
     }
 
-    /// Corrects a word, and does what its pack says.
-    pub(crate) fn take_word(&mut self, word: &Word)
+    /// Takes the words that come with a block, at most four.
+    pub(crate) fn take_words(&mut self, words: &ArrayVec<Word, 4>)
+        requires { IsBelow 3999999996 self.old }
+        ensures more { (most : ℕ) → IsBelow most self.old → IsBelow (most + length words.now.items) self.new }
+        ensures taken { (script : List Drawing) (bytes : List ℕ) (b : ℕ)
+            → block_bytes * b + block_bytes ≤ length bytes → words.now.items ≡ words_with_stream_block bytes b
+            → HasTaken script bytes (whole_packs b) self.old
+            → HasTaken script bytes (whole_packs (b + 1)) self.new }
+    {
+        gather_gives_words();
+        instructions_in_turn();
+        for j in 0..words.len() {
+            self.take_word(&words[j]);
+        }
+    }
+
+    // Corrects a word, and does what its pack says.
+    fn take_word(&mut self, word: &Word)
         requires { IsBelow 4000000000 self.old }
         ensures near { (codeword : List ℕ) → Reads word.now codeword
             → TakesWord word.now codeword self.old self.new }

@@ -4,9 +4,7 @@ ghost use Rattle.cdg_workload.specs.Script.{most_generated};
 ghost use Rattle.stream_trial.specs.Trial.{trial_audio, trial_blocks};
 
 use cdg_workload::{BLOCKS_A_PICTURE, BLOCKS_HELD};
-
-// The blocks before the audio.
-const PAUSE_BLOCKS: u32 = 150;
+use disc_time::PAUSE_BLOCKS;
 
 /// How many blocks the audio has.
 pub(crate) fn count_audio(pictures: u32) -> u32
@@ -16,10 +14,10 @@ pub(crate) fn count_audio(pictures: u32) -> u32
     BLOCKS_A_PICTURE * pictures + BLOCKS_HELD
 }
 
-/// How many blocks the program has.
+/// How many blocks the program has: a pause comes before the audio.
 pub(crate) fn count_blocks(pictures: u32) -> u32
     requires { pictures ≤ most_generated }
     ensures { result ≡ trial_blocks pictures }
 {
-    count_audio(pictures) + PAUSE_BLOCKS
+    PAUSE_BLOCKS + count_audio(pictures)
 }

@@ -1,79 +1,75 @@
-// The stream of a trial, and the same with scratches.
-ghost use Rattle.std.specs.Prelude.{◌≡◌, ◌≤◌, ◌*◌, ◌%◌, ℕ, List, length, [], OnOk, IfOk, IfErr};
+// The stream of a trial, played as it is written.
+ghost use Rattle.std.specs.Prelude.{◌≡◌, ◌≤◌, ℕ, List, [], OnOk, IfOk, IfErr};
 ghost use Rattle.cdg_workload.specs.Script.{most_generated};
 ghost use Rattle.cdg_workload.specs.Scratches.{scratched};
 ghost use Rattle.cdg_workload.specs.Generated.{generated_drawings};
-ghost use Rattle.raw_subcode.specs.Sizes.{block_bytes, most_units};
+ghost use Rattle.raw_subcode.specs.Channels.{program_symbols};
+ghost use Rattle.raw_subcode.specs.declared.form.Form.TheVariants.{Raw};
 ghost use Rattle.stream_trial.specs.TrialSheet.{trial_sheet};
 ghost use Rattle.subcode_author.specs.Authored.{IsWrittenStream, disc_of};
-ghost use Rattle.stream_trial.specs.Trial.{trial_audio};
+ghost use Rattle.stream_trial.specs.Replay.{IsPlayedOut};
+ghost use Rattle.stream_trial.specs.Trial.{trial_audio, trial_blocks};
 ghost use Rattle.stream_trial.specs.declared.stops.TrialStop.TheVariants.{NoMemory};
 
+use crate::found::Found;
 use crate::generating::parse_sheet;
-use crate::sizes::{count_audio, count_blocks};
+use crate::run::TrialRun;
+use crate::sizes::count_audio;
 use crate::stops::TrialStop;
 use crate::trial_sheet_is_read;
-use cdg_io::{MemSink, PumpStop, SteadySource};
-use cdg_workload::scratch;
+use cdg_workload::{scratches_are_bursts, scratches_are_damage};
 use picture_script::Script;
-use raw_subcode::BLOCK_BYTES;
 use std::alloc::Global;
 use subcode_author::{AuthorStop, author_stream};
 
-/// The stream of the sheet with one track and of a generated script of so many pictures, with no lead-in.
-pub(crate) fn make_stream(
+/// Writes the stream of the script of a seed, and plays each of its blocks, with scratches of the same seed, as soon as
+/// it is written.
+pub(crate) fn play_stream(
     alloc: Global,
     script: &Script,
+    seed: u64,
     pictures: u32,
-) -> Result<MemSink, TrialStop>
+) -> Result<Found, TrialStop>
     requires few { pictures ≤ most_generated }
-    requires script { (seed : ℕ) × (script.now ≡ generated_drawings seed pictures) }
-    ensures stream { IfOk result (λ stream. (packs : List (List ℕ))
-        × IsWrittenStream (disc_of trial_sheet script.now 0 (trial_audio pictures)) stream.held packs) }
+    requires script { script.now ≡ generated_drawings seed pictures }
+    ensures played { IfOk result (λ found. (bytes : List ℕ) × (packs : List (List ℕ))
+        × IsWrittenStream (disc_of trial_sheet script.now 0 (trial_audio pictures)) bytes packs
+        × IsPlayedOut script.now (trial_blocks pictures) (program_symbols Raw bytes 0)
+        (program_symbols Raw (scratched 0 seed bytes) 0) found) }
     ensures err { IfErr result (λ stop. stop ≡ NoMemory) }
 {
-    let room = BLOCK_BYTES * count_blocks(pictures) as usize;
-    let mut stream = MemSink::new(alloc, room, Vec::new(alloc), Vec::new(alloc))?;
-    write_stream(alloc, script, pictures, &mut stream)?;
-    Ok(stream)
+    scratches_are_bursts();
+    scratches_are_damage();
+    trial_sheet_is_read();
+    let mut run = TrialRun::start(alloc, script, seed, pictures)?;
+    write_stream(alloc, script, pictures, &mut run)?;
+    Ok(run.found())
 }
 
-// Writes the stream to an empty sink.
+// Writes the stream of the sheet with one track and of a generated script, with no lead-in, to a run that has begun.
 fn write_stream(
     alloc: Global,
     script: &Script,
     pictures: u32,
-    out: &mut MemSink,
+    run: &mut TrialRun<'_>,
 ) -> Result<(), TrialStop>
     requires few { pictures ≤ most_generated }
     requires script { (seed : ℕ) × (script.now ≡ generated_drawings seed pictures) }
-    requires empty { out.old.held ≡ [] }
+    requires begun { run.old.history.bytes ≡ [] }
     ensures stream { OnOk result ((packs : List (List ℕ))
-        × IsWrittenStream (disc_of trial_sheet script.now 0 (trial_audio pictures)) out.new.held packs) }
+        × IsWrittenStream (disc_of trial_sheet script.now 0 (trial_audio pictures)) run.new.history.bytes
+        packs) }
+    ensures of { OnOk result ((run.new.seed ≡ run.old.seed) × (run.new.pictures ≡ run.old.pictures)) }
     ensures err { IfErr result (λ stop. stop ≡ NoMemory) }
 {
     trial_sheet_is_read();
     let sheet = parse_sheet(alloc)?;
-    let written = author_stream(alloc, &sheet, script, 0, count_audio(pictures), out);
+    let written = author_stream(alloc, &sheet, script, 0, count_audio(pictures), run);
     drop(sheet);
     match written {
         Ok(()) => Ok(()),
+        // A run takes more blocks than the stream has.
         Err(AuthorStop::NoMemory | AuthorStop::WriteFault) => Err(TrialStop::NoMemory),
-        Err(_) => unreachable!(),
-    }
-}
-
-/// A stream of whole blocks with the scratches of a seed.
-pub(crate) fn scratch_stream(alloc: Global, seed: u64, bytes: &[u8]) -> Result<MemSink, TrialStop>
-    requires whole { length bytes.now % block_bytes ≡ 0 }
-    requires few { length bytes.now ≤ most_units * block_bytes }
-    ensures stream { IfOk result (λ stream. stream.held ≡ scratched 0 seed bytes.now) }
-    ensures err { IfErr result (λ stop. stop ≡ NoMemory) }
-{
-    let mut stream = MemSink::new(alloc, bytes.len(), Vec::new(alloc), Vec::new(alloc))?;
-    match scratch(0, seed, &mut SteadySource::new(bytes), &mut stream) {
-        Ok(_) => Ok(stream),
-        Err(PumpStop::WriteFault) => Err(TrialStop::NoMemory),
         Err(_) => unreachable!(),
     }
 }

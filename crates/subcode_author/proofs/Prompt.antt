@@ -21,5 +21,5 @@ pub are_prompt : PlannedIsChange → (script : List Drawing) → AreColoursInRan
 are_prompt is_change script ranges pixels ready k lt =
     let (need, is, prompt) = ready k lt in
     let planned : IsNeed script k (length (planned_change script k)) =
-        (planned_change script k, is_change script k ranges pixels, refl) in
+    (planned_change script k, is_change script k ranges pixels, refl) in
     subst (IsInTime script k) (one_need script k need (length (planned_change script k)) is planned) prompt

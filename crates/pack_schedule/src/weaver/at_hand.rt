@@ -65,6 +65,7 @@ impl ChangeAtHand {
         ensures survey { self.new.survey ≡ self.old.survey }
         ensures k { self.new.k ≡ self.old.k }
     {
+        // For the proof alone: the change begins with a start that may be.
         planned_changes_are_changes();
         self.now.draw_until(script, self.k);
         self.start = self.survey.start(self.k);
@@ -88,7 +89,7 @@ impl ChangeAtHand {
         ensures next { self.new.k ≡ self.old.k + 1 }
     {
         let pictures = script.pictures();
-        self.before.draw_until(script, self.k);
+        self.before.draw_like(script, self.k, &self.now);
         self.k += 1;
         self.start = u32::MAX;
         if self.k < pictures {
@@ -124,6 +125,7 @@ impl ChangeAtHand {
             → given < start_of script.now self.now.k + length (planned_change script.now self.now.k) }
         ensures { IsPackAt script.now given (unwrap_or result idle_pack) }
     {
+        // For the proof alone: each instruction can be written.
         planned_changes_are_changes();
         changes_can_be_written();
         let pictures = script.pictures();

@@ -1,5 +1,5 @@
 use Rattle.std.proofs.Common.{◌≡◌, ◌<◌, ◌∙◌, get_or, subst, sym, arith}
-use Rattle.cdg_screen.specs.Picture.{screen_pixel}
+use Rattle.cdg_screen.specs.Standing.{screen_pixel}
 use Rattle.live_player.proofs.Pictures.{three_written}
 use Rattle.live_player.proofs.looking.bytes.Goals as goal
 

@@ -2,7 +2,7 @@ use Rattle.std.proofs.Common.{◌≡◌, [], ◌∷◌, List, ℕ, map, ◌%◌,
 use Rattle.cdg_instructions.specs.Instruction.{Means}
 use Rattle.cdg_instructions.specs.declared.instr.Instr.{Instr}
 use Rattle.cdg_instructions.proofs.Meaning.{only_meaning}
-use Rattle.cdg_screen.specs.Picture.{standing_after}
+use Rattle.cdg_screen.specs.Standing.{standing_after}
 use Rattle.live_player.specs.Lives.{instruction_of}
 use Rattle.live_player.proofs.looking.draw.Goals as goal
 

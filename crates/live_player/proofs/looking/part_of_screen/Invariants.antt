@@ -1,6 +1,6 @@
 use Rattle.std.proofs.Common.{◌≡◌, ◌<◌, ◌+◌, ◌*◌, ℕ, length}
 use Rattle.std.specs.Prelude.{slice_index}
-use Rattle.cdg_screen.specs.Picture.{screen_pixel}
+use Rattle.cdg_screen.specs.Standing.{screen_pixel}
 use Rattle.live_player.proofs.looking.part_of_screen.Given as goal
 
 abbrev pub invariant-loop-j : goal.invariant-loop-j

@@ -1,6 +1,6 @@
 use Rattle.std.proofs.Common.{◌≡◌, ◌<◌, ◌*◌, ◌/◌, ◌%◌, ℕ}
 use Rattle.std.specs.Prelude.{slice_index}
-use Rattle.cdg_screen.specs.Picture.{screen_pixel}
+use Rattle.cdg_screen.specs.Standing.{screen_pixel}
 use Rattle.live_player.proofs.looking.pixels.Given as goal
 
 abbrev pub invariant-loop-y : goal.invariant-loop-y

@@ -3,7 +3,7 @@ use Rattle.std.proofs.lemmas.Result.{err_from_is_err_and}
 use Rattle.picture_script.specs.Script.{pictures}
 use Rattle.pack_schedule.specs.Weights.{AreWeights}
 use Rattle.pack_schedule.specs.Survey.{ArePlanned, IsStop}
-use Rattle.pack_schedule.proofs.SurveyLaws.{NeedsAreFewest, is_late, is_within, none_planned, one_planned, stands_before, stands_next}
+use Rattle.pack_schedule.proofs.SurveyLaws.{NeedsAreFewest, is_late, is_within, none_planned, one_planned, stands_before, stands_next, stands_now}
 use Rattle.pack_schedule.proofs.surveys.survey_on.Goals as goal
 
 pub loop-k-preserved : goal.loop-k-preserved
@@ -12,7 +12,7 @@ loop-k-preserved c =
     let k = c.loop-k.k in
     let change = c.in_ok-change.ensures in (
       one_planned script k c.loop-k.planned.items c.push.new.self.items c.in_ok-change.change c.loop-k.invariant.0 change.planned c.in_ok-push.ensures.items,
-      stands_next script k c.draw_until.new.self c.draw_until.ensures.at c.draw_until.ensures.picture,
+      stands_next script k c.draw_like.new.self c.draw_like.ensures.at c.draw_like.ensures.picture,
       change.now,
       (λ pos. let here : k ≡ k + 1 - 1 = omega arith in subst (λ n. AreWeights script n c.plan_in_time.new.weights) here change.weights),
     )
@@ -45,8 +45,14 @@ plan_in_time-requires-clause-before c = c.loop-k.invariant.1.drawn
 pub plan_in_time-requires-clause-weights : goal.plan_in_time-requires-clause-weights
 plan_in_time-requires-clause-weights c = c.loop-k.invariant.3
 
-pub draw_until-requires-clause-before : goal.draw_until-requires-clause-before
-draw_until-requires-clause-before c = stands_before c.args.script.now c.loop-k.k c.loop-k.before c.loop-k.invariant.1
+pub draw_like-requires-clause-there : goal.draw_like-requires-clause-there
+draw_like-requires-clause-there c = (stands_now c.args.script.now c.loop-k.k _ c.in_ok-change.ensures.now).0
+
+pub draw_like-requires-clause-there_at : goal.draw_like-requires-clause-there_at
+draw_like-requires-clause-there_at c = (stands_now c.args.script.now c.loop-k.k _ c.in_ok-change.ensures.now).1
+
+pub draw_like-requires-clause-before : goal.draw_like-requires-clause-before
+draw_like-requires-clause-before c = stands_before c.args.script.now c.loop-k.k c.loop-k.before c.loop-k.invariant.1
 
 pub returns-in_err-push-clause-err : goal.returns-in_err-push-clause-err
 returns-in_err-push-clause-err c =

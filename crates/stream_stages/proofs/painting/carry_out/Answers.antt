@@ -1,6 +1,6 @@
 use Rattle.std.proofs.Common.{[], ◌∷◌, ap, ◌∙◌}
 use Rattle.cdg_instructions.proofs.Meaning.{only_meaning}
-use Rattle.cdg_screen.specs.Picture.{standing_after}
+use Rattle.cdg_screen.specs.Standing.{standing_after}
 use Rattle.cdg_instructions.specs.declared.instr.Instr.{Instr}
 use Rattle.stream_stages.proofs.painting.carry_out.Goals as goal
 

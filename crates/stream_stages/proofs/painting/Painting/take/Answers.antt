@@ -1,6 +1,6 @@
 use Rattle.std.proofs.Common.{List, [], ◌∷◌, ℕ, sym, ap, ◌∙◌}
 use Rattle.cdg_instructions.specs.Meaning.{meaning}
-use Rattle.cdg_screen.specs.Picture.{standing_after}
+use Rattle.cdg_screen.specs.Standing.{standing_after}
 use Rattle.stream_stages.specs.Drawn.{entry_drawn}
 use Rattle.stream_stages.proofs.Recovers.{found_itself, bad_some}
 use Rattle.stream_stages.proofs.painting.Painting.take.Goals as goal

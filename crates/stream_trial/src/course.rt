@@ -1,0 +1,72 @@
+// What a trial does with each block of a stream.
+ghost use Rattle.std.specs.Prelude.{◌≡◌, ◌<◌, ◌≤◌, ◌+◌, ◌*◌, ℕ, List, length, IfOk};
+ghost use Rattle.raw_subcode.specs.Sizes.{block_bytes, most_units};
+ghost use Rattle.picture_script.specs.Script.{Drawing};
+ghost use Rattle.stream_trial.specs.Course.{stream_block, HasGoneOver, IsSteady};
+
+use crate::gallery::Gallery;
+use crate::replay::Replay;
+use cdg_workload::{Scratches, scratches_are_bursts, scratches_go_block_by_block};
+use picture_changes::scheduled_pictures_are_shown;
+use picture_script::Script;
+use raw_subcode::BLOCK_BYTES;
+use rw_interleave::{Gather, gather_gives_words};
+use std::alloc::{AllocError, Global};
+
+/// Goes over a stream with no lead-in block by block: each block is scratched, its words are corrected and played, and
+/// the screen is compared with the next picture of a script when that is ready. It holds a window of slots, a screen and
+/// a canvas.
+#[derive(Drop)]
+pub(crate) struct Course {
+    pub(crate) scratches: Scratches,
+    pub(crate) gather: Gather,
+    pub(crate) replay: Replay,
+    pub(crate) gallery: Gallery,
+    /// How many blocks it has gone over.
+    pub(crate) blocks: u32,
+}
+
+impl Course {
+    /// Before the first block, with the scratches of a seed.
+    pub(crate) fn start(alloc: Global, seed: u64) -> Result<Course, AllocError>
+        ensures blocks { IfOk result (λ course. course.blocks ≡ 0) }
+        ensures steady { IfOk result (λ course. (script : List Drawing) → IsSteady script course) }
+        ensures gone_over { IfOk result (λ course. (script : List Drawing) (bytes : List ℕ)
+            → HasGoneOver script seed bytes course) }
+    {
+        scratches_go_block_by_block();
+        Ok(Course {
+            scratches: Scratches::start(0, seed),
+            gather: Gather::new(),
+            replay: Replay::start(alloc)?,
+            gallery: Gallery::start(alloc)?,
+            blocks: 0,
+        })
+    }
+
+    /// Goes over the next block.
+    pub(crate) fn go_over(&mut self, script: &Script, block: &[u8; BLOCK_BYTES])
+        requires few { self.old.blocks < most_units }
+        requires steady { IsSteady script.now self.old }
+        ensures blocks { self.new.blocks ≡ self.old.blocks + 1 }
+        ensures steady { IsSteady script.now self.new }
+        ensures gone_over { (seed : ℕ) (bytes : List ℕ)
+            → block_bytes * self.old.blocks + block_bytes ≤ length bytes
+            → block.now ≡ stream_block bytes self.old.blocks
+            → HasGoneOver script.now seed bytes self.old → HasGoneOver script.now seed bytes self.new }
+    {
+        scratches_go_block_by_block();
+        scratches_are_bursts();
+        gather_gives_words();
+        scheduled_pictures_are_shown();
+        // What holds of every script: its pictures are in order.
+        let _times = script.pictures();
+        let mut scratched = *block;
+        self.scratches.scratch(&mut scratched);
+        let words = self.gather.push_block(&scratched);
+        self.replay.take_words(&words);
+        self.blocks += 1;
+        self.gallery
+            .look(script, &self.replay.screen, 4 * self.blocks);
+    }
+}

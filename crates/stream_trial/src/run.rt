@@ -1,0 +1,115 @@
+// A sink that is a trial: what is put to it is played at once, and is not kept.
+ghost use Rattle.std.specs.Prelude.{◌≡◌, ◌<◌, ◌≤◌, ◌+◌, ◌*◌, ◌/◌, ◌++◌, ℕ, List, [], ◌∷◌, Some, length, take, IfOk};
+ghost use Rattle.raw_subcode.specs.Channels.{symbols_of};
+ghost use Rattle.raw_subcode.specs.Sizes.{block_bytes, most_units};
+ghost use Rattle.cdg_workload.specs.Generated.{generated_drawings};
+ghost use Rattle.cdg_workload.specs.Scratches.{scratched};
+ghost use Rattle.stream_trial.specs.Course.{Knows};
+ghost use Rattle.stream_trial.specs.Replay.{IsDamagedSchedule, IsPlayedOut};
+
+use crate::course::Course;
+use crate::found::Found;
+use crate::history::History;
+use cdg_io::{Failed, Sink};
+use cdg_workload::scratches_are_bursts;
+use picture_script::Script;
+use raw_subcode::{BLOCK_BYTES, MOST_UNITS};
+use std::alloc::{AllocError, Global};
+
+/// A trial of the generated script of a seed, which is under way. Each block that is put is gone over at once, and only
+/// the one that has begun is kept.
+#[derive(Drop)]
+pub(crate) struct TrialRun<'a> {
+    script: &'a Script,
+    pub(crate) seed: u64,
+    pub(crate) pictures: u32,
+    course: Course,
+    /// The block that has begun, and how many of its bytes were put.
+    block: [u8; BLOCK_BYTES],
+    filled: usize,
+    faults: u64,
+    pub(crate) history: History,
+    ghost few: { course.blocks ≤ most_units },
+    ghost begun: { filled < block_bytes },
+    ghost known: { ∥ Knows script.now seed pictures course block filled history.bytes ∥₁ },
+}
+
+impl<'a> TrialRun<'a> {
+    /// Before the first byte.
+    pub(crate) fn start(
+        alloc: Global,
+        script: &'a Script,
+        seed: u64,
+        pictures: u32,
+    ) -> Result<TrialRun<'a>, AllocError>
+        requires { script.now ≡ generated_drawings seed pictures }
+        ensures of { IfOk result (λ run. (run.seed ≡ seed) × (run.pictures ≡ pictures)) }
+        ensures nothing { IfOk result (λ run. run.history.bytes ≡ []) }
+    {
+        Ok(TrialRun {
+            script,
+            seed,
+            pictures,
+            course: Course::start(alloc, seed)?,
+            block: [0; BLOCK_BYTES],
+            filled: 0,
+            faults: 0,
+            history: History::nothing(),
+        })
+    }
+
+    /// What was found of the whole blocks that were put: of a damaged schedule of the script all of it.
+    pub(crate) fn found(&self) -> Found
+        ensures { let others = scratched 0 self.now.seed self.now.history.bytes in
+            let script = generated_drawings self.now.seed self.now.pictures in
+            (symbols : List ℕ) (packs : List (List ℕ))
+            → IsDamagedSchedule script (length others / block_bytes) symbols packs (symbols_of others)
+            → IsPlayedOut script (length others / block_bytes) symbols (symbols_of others) result }
+    {
+        scratches_are_bursts();
+        // What holds of every script: its pictures are in order.
+        let _times = self.script.pictures();
+        Found {
+            one: self.course.replay.one,
+            two: self.course.replay.two,
+            bad: self.course.replay.bad,
+            equal: self.course.gallery.equal,
+        }
+    }
+
+    // Takes bytes of the block that has begun, and goes over it where they end it.
+    fn take(&mut self, part: &[u8])
+        requires few { self.old.course.blocks < most_units }
+        requires fits { self.old.filled + length part.now ≤ block_bytes }
+        ensures of { (self.new.seed ≡ self.old.seed) × (self.new.pictures ≡ self.old.pictures) }
+        ensures history { self.new.history.bytes ≡ self.old.history.bytes ++ part.now }
+        ensures faults { self.new.faults ≡ self.old.faults }
+    {
+        let end = self.filled + part.len();
+        self.block[self.filled..end].copy_from_slice(part);
+        self.history.note(part);
+        if end < BLOCK_BYTES {
+            self.filled = end;
+        } else {
+            self.course.go_over(self.script, &self.block);
+            self.filled = 0;
+        }
+    }
+}
+
+impl<'a> Sink for TrialRun<'a> {
+    // The seed and the count of pictures, which stay, and then what was put.
+    ghost held = { λ s. Some (s.seed ∷ s.pictures ∷ s.history.bytes) };
+
+    ghost faults = { λ s. s.faults };
+
+    fn put(&mut self, piece: &[u8]) -> Result<usize, Failed> {
+        if self.course.blocks == MOST_UNITS {
+            self.faults = self.faults.saturating_add(1);
+            return Err(Failed);
+        }
+        let count = piece.len().min(BLOCK_BYTES - self.filled);
+        self.take(&piece[..count]);
+        Ok(count)
+    }
+}
