@@ -12,7 +12,7 @@ use Rattle.cdg_io.specs.Change.{Bytes, Input, change}
 use Rattle.cdg_cmd.specs.Authors.{ReadsSheet}
 use Rattle.cdg_cmd.specs.Ends.{ScriptEnds, SheetEnds}
 use Rattle.cdg_cmd.specs.Faults.{IsTold, TellsFaults}
-use Rattle.cdg_cmd.specs.Presses.{IsFileStop, IsPressedFor, PutsPressedPart}
+use Rattle.cdg_cmd.specs.Presses.{IsFileStop, IsPressedFor, PutsPressedPrefix}
 use Rattle.cdg_cmd.specs.Stops.{press_status}
 use Rattle.cdg_cmd.specs.declared.status.Which.TheVariants.{First, Second}
 use Rattle.cdg_cmd.specs.declared.status.Status.{Status}
@@ -149,7 +149,7 @@ nothing_at held x y (Err why) same = λ other. unchanged held x y (same other)
 pub pressed_for : {K : Type 0} (held : K → Bytes) (x y : K) (sheet : CueSheet) (file : List ℕ) (lead_in audio : ℕ) (answer : Result (Unit {0}) PressStop)
     → OnOk answer ((bytes : List ℕ) × (packs : List (List ℕ)) × IsPressed (press_of sheet file lead_in audio) bytes packs × Appends (held x) (held y) bytes)
     → OnOk answer (IsPressable sheet file lead_in audio) → IfErr answer (IsPressStop sheet file lead_in audio)
-    → IfErr answer (λ why. why ≢ stop.WriteFault → y ≡ x) → (answer ≡ Err stop.WriteFault → PutsPressedPart (press_of sheet file lead_in audio) (change held x y))
+    → IfErr answer (λ why. why ≢ stop.WriteFault → y ≡ x) → (answer ≡ Err stop.WriteFault → PutsPressedPrefix (press_of sheet file lead_in audio) (change held x y))
     → IsPressedFor (press_of sheet file lead_in audio) (change held x y) answer
 pressed_for held x y sheet file lead_in audio answer pressed accepted why same part = record {
   done = both_ok answer _ _ accepted pressed;

@@ -3,10 +3,8 @@ use Rattle.std.specs.Prelude.{◌≡◌, ◌≢◌, ℕ, ◌<◌, ◌≤◌, ⊤
 use Rattle.std.specs.Io.KnownBytes.{Appends, IsAtEnd}
 use Rattle.text_lines.specs.Text.{most_text_bytes}
 use Rattle.cue_sheet.specs.CueSheet.{CueSheet}
-use Rattle.toc_model.specs.Places.{layout_of}
-use Rattle.stream_writer.specs.Given.{PutsStreamPart, framing_of}
-use Rattle.stream_writer.specs.Needs.{text_packs}
-use Rattle.cdg_press.specs.Pressed.{IsPackAfter, IsPressed, Press, file_begin, press_of}
+use Rattle.cdg_io.specs.Moves.{AppendsPrefix}
+use Rattle.cdg_press.specs.Pressed.{IsPressed, Press, press_of}
 use Rattle.cdg_press.specs.Refusals.{IsPressable, IsPressStop}
 use Rattle.cdg_press.specs.declared.stops.PressStop.{PressStop}
 use Rattle.cdg_press.specs.declared.stops.PressStop.TheVariants as stop
@@ -38,12 +36,11 @@ PutsPressed press out =
     (bytes : List ℕ) × (packs : List (List ℕ)) × IsPressed press bytes packs
     × Appends out.before out.after bytes
 
--- the lead-in and blocks of the program were put, the last of these maybe in part
-abbrev pub PutsPressedPart : Press → Change Bytes → Type 0
-PutsPressedPart press out =
-    (n : ℕ) × (packs : List (List ℕ))
-    × PutsStreamPart (framing_of (layout_of press.sheet press.audio) (text_packs press.sheet) press.lead_in)
-    (IsPackAfter file_begin press.file) out n packs
+-- a prefix of a pressed stream was put
+abbrev pub PutsPressedPrefix : Press → Change Bytes → Type 0
+PutsPressedPrefix press out =
+    (bytes : List ℕ) × (packs : List (List ℕ)) × IsPressed press bytes packs
+    × AppendsPrefix out.before out.after bytes
 
 -- what is put for a sheet and a file, and why it is this answer
 pub record IsPressedFor (press : Press) (out : Change Bytes)
@@ -51,8 +48,8 @@ pub record IsPressedFor (press : Press) (out : Change Bytes)
   pub done : OnOk answer
       (IsPressable press.sheet press.file press.lead_in press.audio × PutsPressed press out)
   pub why : IfErr answer (IsPressStop press.sheet press.file press.lead_in press.audio)
-  -- a part where a write failed, and else nothing
-  pub cut : answer ≡ Err stop.WriteFault → PutsPressedPart press out
+  -- a prefix where a write failed, and else nothing
+  pub cut : answer ≡ Err stop.WriteFault → PutsPressedPrefix press out
   pub nothing : IfErr answer (λ why. why ≢ stop.WriteFault → Appends out.before out.after [])
 
 -- `press` ended with this status: at the sheet, at the file, or with the answer to both.

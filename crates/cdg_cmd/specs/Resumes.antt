@@ -76,5 +76,6 @@ pub record ResumesFrom (file : List ℕ) (at : ℕ) (rest : List ℕ) (out : Cha
   pub goes_on : IsCheckpointFile file → (checkpoint_in file).program ≤ at → GoesOnFrom file at rest out status
   -- where `save` wrote it of the first part of a stream, not later than the time, `screen` does the same with the
   -- whole stream
-  pub whole : (lead_in : ℕ) (part : List ℕ) → IsSaveOf lead_in part file → length part / block_bytes - lead_in ≤ at
+  pub whole : (lead_in : ℕ) (part : List ℕ) → IsSaveOf lead_in part file
+      → length part / block_bytes - lead_in ≤ at
       → IsAsScreen lead_in at (part ++ rest) out status

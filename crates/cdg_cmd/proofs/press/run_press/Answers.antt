@@ -15,7 +15,7 @@ returns-clause-does g c =
     let reads = subst (ReadsFile (change g.T.Source.left c.args.second.now c.read_file.new.second)) (sym c.deref.ensures.value) c.in-Ok-read_file.ensures.ok in
     Presses c.in-Ok.sheet c.deref.result.now c.press_stream.result c.in-Ok.ensures.ok reads c.press_status.ensures
     (pressed_for g.K.Sink.held c.args.out.now c.press_stream.new.out c.in-Ok.sheet c.deref.result.now c.args.lead_in c.args.length c.press_stream.result
-    c.press_stream.ensures.pressed c.press_stream.ensures.accepted c.press_stream.ensures.stop c.press_stream.ensures.untouched c.press_stream.ensures.part)
+    c.press_stream.ensures.pressed c.press_stream.ensures.accepted c.press_stream.ensures.stop c.press_stream.ensures.untouched c.press_stream.ensures.prefix)
 
 pub returns-clause-faults : goal.returns-clause-faults
 returns-clause-faults g c =
