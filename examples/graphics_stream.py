@@ -6,23 +6,16 @@ be compared with it. With the word `cdg` the packs are written as a .cdg file in
 `state` the lines of `ribjasper state` at its end. With `without CODE` the packs of one instruction are idle.
 """
 import sys
+from pathlib import Path
 
-POWERS = [1]
-while len(POWERS) < 63:
-    doubled = POWERS[-1] << 1
-    POWERS.append(doubled ^ 0x43 if doubled & 0x40 else doubled)
-LOGARITHMS = {power: exponent for exponent, power in enumerate(POWERS)}
-
-
-def times(a, b):
-    return POWERS[(LOGARITHMS[a] + LOGARITHMS[b]) % 63] if a and b else 0
-
+sys.path.insert(0, str(Path(__file__).resolve().parent.parent / "tools"))
+from field64 import power, times  # noqa: E402
 
 def generator(roots):
     """The polynomial with the roots alpha^0 .. alpha^(roots - 1), the highest coefficient first."""
     coefficients = [1]
     for exponent in range(roots):
-        root = POWERS[exponent]
+        root = power(exponent)
         coefficients = [a ^ times(root, b) for a, b in zip(coefficients + [0], [0] + coefficients)]
     return coefficients
 

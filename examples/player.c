@@ -18,7 +18,7 @@
 #define BLOCKS_A_SECOND 75
 #define PACK 24
 
-static int write_screen(ribjasper_player *player, long number)
+static int write_screen(const ribjasper_player *player, long number)
 {
     static uint8_t picture[RIBJASPER_PICTURE];
     char name[64];

@@ -1,10 +1,11 @@
 /* The proved player of CD subcode graphics, for programs in C and C++.
 
    Link with -lribjasper. No state is global: players stand side by side. Any thread may call, one call at a time for each
-   player; no call is for a signal handler. Where a pointer stands, so many bytes or structs must stand as its type says,
-   or as its line says; none may be null, for the library cannot tell a null pointer and reads it. What two arguments
-   point to may not overlap; what is only read (const) must not change during the call. Numbers may be any: one out of its
-   range is refused. Memory is asked of malloc when a player is opened that is closed, 65,112 bytes in two requests, and
+   player; no call is for a signal handler. A call that takes a const player leaves it as it is, whatever it answers, but
+   it has to be the only call of that player too: while it looks, it takes the player out of what you hold. Where a
+   pointer stands, so many bytes or structs must stand as its type says, or as its line says; none may be null, for the
+   library cannot tell a null pointer and reads it. What two arguments point to may not overlap; what is only read (const)
+   must not change during the call. Numbers may be any: one out of its range is refused. Memory is asked of malloc when a player is opened that is closed, 65,112 bytes in two requests, and
    within a call whose lines say so, which frees it before it returns. */
 #ifndef RIBJASPER_H
 #define RIBJASPER_H
@@ -18,7 +19,7 @@ extern "C" {
 #endif
 
 #define RIBJASPER_VERSION_MAJOR 1
-#define RIBJASPER_VERSION_MINOR 0
+#define RIBJASPER_VERSION_MINOR 1
 #define RIBJASPER_VERSION_PATCH 0
 
 /* The version of this header as one number. */
@@ -89,35 +90,35 @@ int32_t ribjasper_player_take(ribjasper_player *player, const uint8_t block[RIBJ
 int32_t ribjasper_player_draw(ribjasper_player *player, const uint8_t pack[24]);
 
 /* Writes the number of the colour, 0 to 15, of the pixel `x` from the left (0 to 299), `y` from the top (0 to 215). */
-int32_t ribjasper_player_pixel(ribjasper_player *player, uint32_t x, uint32_t y, uint8_t *pixel);
+int32_t ribjasper_player_pixel(const ribjasper_player *player, uint32_t x, uint32_t y, uint8_t *pixel);
 
 /* Writes the numbers of the colours, 0 to 15, of all pixels of the screen; pixel (x, y) is number 300 y + x. */
-int32_t ribjasper_player_screen(ribjasper_player *player, uint8_t pixels[RIBJASPER_PIXELS]);
+int32_t ribjasper_player_screen(const ribjasper_player *player, uint8_t pixels[RIBJASPER_PIXELS]);
 
 /* Writes the numbers of the colours of the `width` pixels from `x` and the `height` rows from `y` of the screen into the
    `room` bytes at `pixels`: row j begins `stride` times j bytes from the front, and what is between the rows is left as it
    was. Refused where x + width is above 300, y + height above 216, `stride` below `width`, or where the last row ends
    past the room. */
-int32_t ribjasper_player_rect(ribjasper_player *player, uint32_t x, uint32_t y, uint32_t width, uint32_t height,
+int32_t ribjasper_player_rect(const ribjasper_player *player, uint32_t x, uint32_t y, uint32_t width, uint32_t height,
                               uint8_t *pixels, size_t room, uint32_t stride);
 
 /* Writes red, green and blue of all pixels of the screen; those of pixel (x, y) begin at byte 3 (300 y + x). */
-int32_t ribjasper_player_picture(ribjasper_player *player, uint8_t bytes[RIBJASPER_PICTURE]);
+int32_t ribjasper_player_picture(const ribjasper_player *player, uint8_t bytes[RIBJASPER_PICTURE]);
 
 /* Writes colour `k` of the table, 0 to 15, as 0xRGB: four bits each of red, green and blue. */
-int32_t ribjasper_player_colour(ribjasper_player *player, uint8_t k, uint16_t *colour);
+int32_t ribjasper_player_colour(const ribjasper_player *player, uint8_t k, uint16_t *colour);
 
 /* Writes all colours of the table in this form. */
-int32_t ribjasper_player_colours(ribjasper_player *player, uint16_t colours[RIBJASPER_COLOURS]);
+int32_t ribjasper_player_colours(const ribjasper_player *player, uint16_t colours[RIBJASPER_COLOURS]);
 
 /* Writes the levels of the colours, 0 to 63. */
-int32_t ribjasper_player_levels(ribjasper_player *player, uint8_t levels[RIBJASPER_COLOURS]);
+int32_t ribjasper_player_levels(const ribjasper_player *player, uint8_t levels[RIBJASPER_COLOURS]);
 
 /* Writes the number of the border's colour, 0 to 15. */
-int32_t ribjasper_player_border(ribjasper_player *player, uint8_t *border);
+int32_t ribjasper_player_border(const ribjasper_player *player, uint8_t *border);
 
 /* Writes how many pixels further right (0 to 5) and further down (0 to 11) in the memory the screen begins. */
-int32_t ribjasper_player_offsets(ribjasper_player *player, uint8_t *across, uint8_t *down);
+int32_t ribjasper_player_offsets(const ribjasper_player *player, uint8_t *across, uint8_t *down);
 
 /* Going back and copying. The file of a checkpoint is that of the program's commands `save` and `resume`. */
 #define RIBJASPER_CHECKPOINT 65045 /* bytes of the file */
@@ -127,7 +128,7 @@ int32_t ribjasper_player_offsets(ribjasper_player *player, uint8_t *across, uint
    what stands. Refused where the form is RIBJASPER_PACKS, or more than 1,000,000 blocks came since it began; packs that
    were drawn are not counted. It asks malloc for 65,046 bytes, and answers RIBJASPER_NO_MEMORY where it is refused
    them; it frees them before it returns. Where it is not done nothing is written. */
-int32_t ribjasper_player_save(ribjasper_player *player, uint8_t file[RIBJASPER_CHECKPOINT]);
+int32_t ribjasper_player_save(const ribjasper_player *player, uint8_t file[RIBJASPER_CHECKPOINT]);
 
 /* Brings an open player to where a file was saved, in a stream of the form RIBJASPER_RAW: blocks that come from now on
    go on from there, and show what they would show after the player that was saved. Where the bytes are no checkpoint's
@@ -136,8 +137,8 @@ int32_t ribjasper_player_save(ribjasper_player *player, uint8_t file[RIBJASPER_C
 int32_t ribjasper_player_load(ribjasper_player *player, const uint8_t file[RIBJASPER_CHECKPOINT], uint32_t *byte);
 
 /* Makes an open player show and gather from now on what another open player does, in any form and after any number of
-   blocks. The other stays as it is. It asks for no memory, and uses 65,000 bytes of the stack. */
-int32_t ribjasper_player_copy(ribjasper_player *from, ribjasper_player *to);
+   blocks. The other stays as it is. It asks for no memory. */
+int32_t ribjasper_player_copy(const ribjasper_player *from, ribjasper_player *to);
 
 /* What the instruction of a pack of 24 bytes touches, whatever stands: 50 times the row and the column of a tile of the
    memory, 0 to 899, or one of the numbers below. No pixel of the memory outside of a tile that is told changes, nor

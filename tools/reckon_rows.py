@@ -9,29 +9,7 @@ import hashlib
 import pathlib
 import sys
 
-# The field of 64 elements: polynomials over bits modulo x^6 + x + 1.
-
-
-def times(a, b):
-    product = 0
-    for bit in range(6):
-        if b >> bit & 1:
-            product ^= a << bit
-    for bit in range(10, 5, -1):
-        if product >> bit & 1:
-            product ^= 0b1000011 << (bit - 6)
-    return product
-
-
-def power(k):
-    result = 1
-    for _ in range(k):
-        result = times(result, 2)
-    return result
-
-
-def inverse(a):
-    return next(b for b in range(64) if times(a, b) == 1)
+from field64 import inverse, power, times
 
 
 def solve(rows):

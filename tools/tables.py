@@ -9,41 +9,19 @@ import pathlib
 import re
 import sys
 
+from field64 import LOGARITHMS, POWERS, times
+
 ROOT = pathlib.Path(__file__).resolve().parent.parent
-
-
-def product(a, b):
-    """The product in the field of 64 elements: polynomials over two elements, less x^6 + x + 1."""
-    result = 0
-    for k in range(6):
-        if b >> k & 1:
-            result ^= a << k
-    for k in range(10, 5, -1):
-        if result >> k & 1:
-            result ^= 0b1000011 << (k - 6)
-    return result
-
-
-def powers():
-    """The powers of alpha, which is x, from 0 to 62."""
-    found = [1]
-    while len(found) < 63:
-        found.append(product(found[-1], 2))
-    return found
-
-
-ALPHA = powers()
-LOG = {element: k for k, element in enumerate(ALPHA)}
 
 
 def sums(position, symbol):
     """The six sums of the word with one symbol: four over all symbols, two over the first four, six bits each."""
     lanes = 0
     for j in range(4):
-        lanes |= product(ALPHA[j * (23 - position) % 63], symbol) << 6 * j
+        lanes |= times(POWERS[j * (23 - position) % 63], symbol) << 6 * j
     if position < 4:
         for j in range(2):
-            lanes |= product(ALPHA[j * (3 - position) % 63], symbol) << 6 * (4 + j)
+            lanes |= times(POWERS[j * (3 - position) % 63], symbol) << 6 * (4 + j)
     return lanes
 
 
@@ -51,7 +29,7 @@ def pairs():
     """By the logarithm of (x + y)^-2 * xy for x = alpha^d, y = 1: d from 1 to 23, and the logarithm of x + y."""
     differences, logs = [0] * 63, [0] * 63
     for d in range(1, 24):
-        log = LOG[ALPHA[d] ^ 1]
+        log = LOGARITHMS[POWERS[d] ^ 1]
         at = (d - 2 * log) % 63
         differences[at], logs[at] = d, log
     return differences, logs

@@ -1,5 +1,5 @@
-/* How the structs of include/ribjasper.h lie in memory, as other languages that call the library take it, and that the
-   header can be used as it is in each standard of C and C++. */
+/* How the structs of include/ribjasper.h lie in memory, as other languages that call the library take it, that the header
+   can be used as it is in each standard of C and C++, and that the calls which only look take a const player. */
 #include "ribjasper.h"
 
 #include <stddef.h>
@@ -58,21 +58,6 @@ LIES(ribjasper_planned, why, 12);
 LIES(ribjasper_planned, line, 16);
 LIES(ribjasper_planned, number, 20);
 
-HOLDS(plan_row, sizeof(ribjasper_plan_row) == 28);
-LIES(ribjasper_plan_row, ready, 4);
-LIES(ribjasper_plan_row, hold, 8);
-LIES(ribjasper_plan_row, need, 12);
-LIES(ribjasper_plan_row, free, 16);
-LIES(ribjasper_plan_row, first, 20);
-LIES(ribjasper_plan_row, late, 24);
-
-HOLDS(planned, sizeof(ribjasper_planned) == 24);
-LIES(ribjasper_planned, blocks, 4);
-LIES(ribjasper_planned, late, 8);
-LIES(ribjasper_planned, why, 12);
-LIES(ribjasper_planned, line, 16);
-LIES(ribjasper_planned, number, 20);
-
 HOLDS(row, sizeof(ribjasper_row) == 12);
 LIES(ribjasper_row, clean, 4);
 LIES(ribjasper_row, one, 5);
@@ -90,14 +75,41 @@ HOLDS(listed, sizeof(ribjasper_listed) == 16);
 LIES(ribjasper_listed, seq, 8);
 LIES(ribjasper_listed, byte, 12);
 
+/* How many of the calls that only look answer this of a player. */
+static int answers(const ribjasper_player *player, ribjasper_player *other, int32_t answer)
+{
+    static uint8_t pixels[RIBJASPER_PIXELS], picture[RIBJASPER_PICTURE], file[RIBJASPER_CHECKPOINT];
+    uint16_t colours[RIBJASPER_COLOURS];
+    uint8_t levels[RIBJASPER_COLOURS], number, across;
+    int told = 0;
+    told += ribjasper_player_pixel(player, 0, 0, &number) == answer;
+    told += ribjasper_player_screen(player, pixels) == answer;
+    told += ribjasper_player_rect(player, 0, 0, 1, 1, pixels, sizeof pixels, 1) == answer;
+    told += ribjasper_player_picture(player, picture) == answer;
+    told += ribjasper_player_colour(player, 0, colours) == answer;
+    told += ribjasper_player_colours(player, colours) == answer;
+    told += ribjasper_player_levels(player, levels) == answer;
+    told += ribjasper_player_border(player, &number) == answer;
+    told += ribjasper_player_offsets(player, &across, &number) == answer;
+    told += ribjasper_player_save(player, file) == answer;
+    told += ribjasper_player_copy(player, other) == answer;
+    return told;
+}
+
+#define LOOKING 11
+
 int main(void)
 {
     static ribjasper_player zeros;
-    ribjasper_player player = RIBJASPER_CLOSED;
+    static const ribjasper_player closed = RIBJASPER_CLOSED; /* where no write is allowed */
+    ribjasper_player player = RIBJASPER_CLOSED, other = RIBJASPER_CLOSED;
     ribjasper_player_close(&zeros);
-    if (ribjasper_player_open(&player) != RIBJASPER_DONE)
+    if (ribjasper_player_open(&player) != RIBJASPER_DONE || ribjasper_player_open(&other) != RIBJASPER_DONE)
+        return 1;
+    if (answers(&player, &other, RIBJASPER_DONE) != LOOKING || answers(&closed, &other, RIBJASPER_REFUSED) != LOOKING)
         return 1;
     ribjasper_player_close(&player);
+    ribjasper_player_close(&other);
     if (ribjasper_version() != RIBJASPER_VERSION)
         return 1;
     printf("%d.%d.%d\n", RIBJASPER_VERSION_MAJOR, RIBJASPER_VERSION_MINOR, RIBJASPER_VERSION_PATCH);

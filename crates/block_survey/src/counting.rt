@@ -6,6 +6,7 @@ ghost use Rattle.rw_code.specs.Packs.{idle_pack};
 ghost use Rattle.block_survey.specs.Steps.{marked_found, marks_of};
 
 use rw_code::{Fixed, Pack, Word, correct};
+use stream_stages::BlockOfWords;
 
 /// How many words have no, one or two wrong symbols, and how many have no codeword near.
 #[derive(Clone, Copy)]
@@ -29,8 +30,8 @@ impl WordMarks {
         }
     }
 
-    /// Four idle packs, with nothing wrong.
-    pub(crate) fn four_idle() -> WordMarks
+    // Four idle packs, with nothing wrong.
+    fn four_idle() -> WordMarks
         ensures { result ≡ marks_of (replicate 4 idle_pack) }
     {
         Pack::idle().word();
@@ -41,7 +42,19 @@ impl WordMarks {
     }
 
     /// The words that end with a block.
-    pub(crate) fn of(words: &[Word]) -> WordMarks
+    #[inline]
+    pub(crate) fn of_block(words: &BlockOfWords) -> WordMarks
+        ensures { result ≡ marks_of words.now.items }
+    {
+        match words.unless_idle() {
+            // Most blocks of a disc are idle.
+            None => WordMarks::four_idle(),
+            Some(words) => WordMarks::of(words.as_slice()),
+        }
+    }
+
+    // Some words, at most as many as end with a block.
+    fn of(words: &[Word]) -> WordMarks
         requires { length words.now ≤ 4 }
         ensures { result ≡ marks_of words.now }
     {

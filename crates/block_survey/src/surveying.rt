@@ -55,12 +55,8 @@ fn marks_with(words: &mut BlockWords, block: &[u8; BLOCK_BYTES]) -> WordMarks
     ensures next { words.new ≡ words_next words.old block.now }
     ensures marks { result ≡ marks_of (words_with_block (words_give words.old block.now)) }
 {
-    // Most blocks of a disc are idle.
-    if words.is_idle(block) {
-        return WordMarks::four_idle();
-    }
     match words.feed(block) {
-        Some(ended) => WordMarks::of(ended.into_words().as_slice()),
+        Some(ended) => WordMarks::of_block(&ended),
         None => WordMarks::none(),
     }
 }

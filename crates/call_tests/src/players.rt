@@ -6,7 +6,7 @@ use rw_interleave::Gather;
 use std::test::Fail;
 use stream_calls::{Checker, Converter, TextLister, Viewer};
 use stream_stages::{
-    BlockWords, Correction, Counting, Drawing, FrameCounts, Picture, SectorBlocks, WordCounts,
+    BlockWords, Correction, Counting, FrameCounts, Painting, SectorBlocks, WordCounts,
 };
 use subcode_player::{Form, Player};
 
@@ -90,20 +90,19 @@ fn see_all_stages(stages: &SectorBlocks<Then<BlockWords, Correction>>) {
     see_stages(blocks);
 }
 
-fn see_all_views(views: &SectorBlocks<Then<BlockWords, Drawing>>) {
+fn see_all_views(views: &SectorBlocks<Then<BlockWords, Painting>>) {
     let SectorBlocks { blocks } = views;
     see_views(blocks);
 }
 
-fn see_views(views: &Then<BlockWords, Drawing>) {
+fn see_views(views: &Then<BlockWords, Painting>) {
     let Then { first, second } = views;
     see_words(first);
-    see_drawing(second);
+    see_painting(second);
 }
 
-fn see_drawing(drawing: &Drawing) {
-    let Drawing { picture, left, bad } = drawing;
-    let Picture { screen } = picture;
+fn see_painting(painting: &Painting) {
+    let Painting { screen, left, bad } = painting;
     let _screen: &Screen = screen;
     let _left: &u32 = left;
     let _bad: &u32 = bad;

@@ -18,7 +18,7 @@ use Rattle.cdg_io.proofs.Frames.{passing}
 use Rattle.cdg_io.proofs.Streaming.{IsWhole}
 use Rattle.cdg_io.specs.declared.pumping.Pumped.{Pumped}
 use Rattle.cdg_instructions.specs.declared.instr.Instr.{Instr}
-use Rattle.cdg_screen.specs.Picture.{Standing, blank, standing_after}
+use Rattle.cdg_screen.specs.Standing.{Standing, blank, standing_after}
 use Rattle.cdg_screen.specs.Texts.{pixmap}
 use Rattle.checkpoint_files.specs.Checkpoint.{Checkpoint, checkpoint_in}
 use Rattle.checkpoint_files.specs.Table.{IsCheckpointFile, empty_symbols}

@@ -21,7 +21,7 @@ use Rattle.rw_interleave.specs.Gathering.{gather_next, gather_gives}
 use Rattle.rw_interleave.proofs.Gathers.{gathers}
 use Rattle.raw_subcode.specs.Channels.{symbols_of, program_symbols}
 use Rattle.raw_subcode.specs.declared.form.Form.TheVariants.{Raw}
-use Rattle.cdg_screen.specs.Picture.{IsWholeStanding, Standing, standing_after}
+use Rattle.cdg_screen.specs.Standing.{IsWholeStanding, Standing, standing_after}
 use Rattle.checkpoint_files.specs.Checkpoint.{Checkpoint}
 use Rattle.checkpoint_files.specs.Table.{empty_symbols}
 use Rattle.stream_stages.specs.Steps.{slots_of, window_next, window_gives, words_next, words_give}
@@ -32,7 +32,7 @@ use Rattle.stream_stages.proofs.Slots.{Sized, sized_append, sized_drop, all_slot
 use Rattle.stream_stages.proofs.StageRuns.{all_items, words_run}
 use Rattle.stream_stages.proofs.Conversion.{units_sized, length-units_of}
 use Rattle.stream_stages.proofs.Playing.{units_in}
-use Rattle.stream_stages.proofs.Draws.{AreDrawn, instrs_of, are_meant, are_drawn, drawing_runs}
+use Rattle.stream_stages.proofs.Draws.{AreDrawn, instrs_of, are_meant, are_drawn, painting_runs}
 use Rattle.stream_stages.proofs.Views.{whole_taken}
 use Rattle.cdg_checkpoint.specs.Tracked.{words_drawn}
 use Rattle.cdg_checkpoint.specs.Resumed.{IsGoneOn, blocks_after, packs_until, resumed_symbols, saved_slots}
@@ -118,7 +118,7 @@ pub record IsBroughtBack (c : Checkpoint) (time : ℕ) (s : Then BlockWords Pain
   pub words : s.first ≡ record { form = Raw; lead_in = c.to_come; gather = run_state gather_next [] (saved_slots c) }
   pub left : s.second.left ≡ packs_until c time
   pub bad : s.second.bad ≡ c.bad
-  pub stands : s.second.picture ≡ c.standing
+  pub stands : s.second.screen ≡ c.standing
 
 -- the ranges that matter
 pub record IsSound (c : Checkpoint) : Type 0 where
@@ -182,18 +182,18 @@ module _ (c : Checkpoint) (time n : ℕ) (bytes : List ℕ) (s s' : Then BlockWo
       let blocks : length bytes / 96 ≡ n = units_in Raw n bytes whole in
       omega (arith, saved_count, slots_count) ∙ ap (λ k. packs_until c (c.program + (k - c.to_come))) (sym blocks)
 
-  drawn : AreDrawn s.second.picture (packs_until c time) c.bad words s'.second
+  drawn : AreDrawn s.second.screen (packs_until c time) c.bad words s'.second
   drawn =
-      let start : s.second ≡ record { picture = s.second.picture; left = packs_until c time; bad = c.bad } = ap₂ (λ l b. record { picture = s.second.picture; left = l; bad = b }) back.left back.bad in
+      let start : s.second ≡ record { screen = s.second.screen; left = packs_until c time; bad = c.bad } = ap₂ (λ l b. record { screen = s.second.screen; left = l; bad = b }) back.left back.bad in
       let given : all_items (run_gives words_next words_give s.first (units_of 96 n bytes)) ≡ words =
       ap (λ (w : BlockWords). all_items (run_gives words_next words_give w (units_of 96 n bytes))) back.words ∙ words_run Raw c.to_come (run_state gather_next [] (saved_slots c)) (units_of 96 n bytes)
       ∙ raw_words (run_state gather_next [] (saved_slots c)) (flat_map slots_of program) in
-      let end : s'.second ≡ draw_after (record { picture = s.second.picture; left = packs_until c time; bad = c.bad }) words =
-      ap (λ (t : Then BlockWords Painting). t.second) run ∙ then_next_second words_next words_give painting_next s (units_of 96 n bytes) ∙ drawing_runs s.second (run_gives words_next words_give s.first (units_of 96 n bytes))
+      let end : s'.second ≡ draw_after (record { screen = s.second.screen; left = packs_until c time; bad = c.bad }) words =
+      ap (λ (t : Then BlockWords Painting). t.second) run ∙ then_next_second words_next words_give painting_next s (units_of 96 n bytes) ∙ painting_runs s.second (run_gives words_next words_give s.first (units_of 96 n bytes))
       ∙ ap₂ draw_after start given in
-      subst (AreDrawn s.second.picture (packs_until c time) c.bad words) (sym end) (are_drawn s.second.picture (packs_until c time) c.bad words (subst IsWholeStanding (sym back.stands) sound.standing) (omega (arith, sound.few_bad, words_count, saved_count, slots_count, few)))
+      subst (AreDrawn s.second.screen (packs_until c time) c.bad words) (sym end) (are_drawn s.second.screen (packs_until c time) c.bad words (subst IsWholeStanding (sym back.stands) sound.standing) (omega (arith, sound.few_bad, words_count, saved_count, slots_count, few)))
 
-  pub gone_on : IsGoneOn c time bytes s'.second.picture s'.second.bad
+  pub gone_on : IsGoneOn c time bytes s'.second.screen s'.second.bad
   gone_on = record {
     found = map finding words;
     count = length-map words finding ∙ words_count ∙ packs_count;

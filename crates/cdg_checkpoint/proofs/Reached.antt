@@ -55,7 +55,7 @@ abbrev begun_at : Checkpoint → ℕ → BlockWords
 begun_at c to_come = record { form = Raw; lead_in = to_come; gather = run_state gather_next [] (saved_slots c) }
 
 pub brought_back : (c : Checkpoint) (time to_come bad : ℕ) (s : Then BlockWords Painting) → s.first ≡ begun_at c to_come → to_come ≡ c.to_come → s.second.left ≡ packs_until c time → s.second.bad ≡ bad → bad ≡ c.bad
-    → s.second.picture ≡ c.standing → IsBroughtBack c time s
+    → s.second.screen ≡ c.standing → IsBroughtBack c time s
 brought_back c time to_come bad s words t left b e stands = record { words = words ∙ ap (begun_at c) t; left = left; bad = b ∙ e; stands = stands }
 
 module _ (c : Checkpoint) (time limit : ℕ) (left left' : Option (List ℕ)) (taken : List ℕ) (s s' : Then BlockWords Painting) (pumped : Pumped) (sound : IsSound c) (back : IsBroughtBack c time s) (fits : limit ≡ blocks_left c)
@@ -64,7 +64,7 @@ module _ (c : Checkpoint) (time limit : ℕ) (left left' : Option (List ℕ)) (t
   blocks_are = ap (λ n. c.program + (n - c.to_come)) (sym (units_in Raw pumped.units taken (whole_taken Raw pumped.units taken w.done.1)))
 
   goes_by : (past : Bool) → nat_lt (c.program + (pumped.units - c.to_come)) time ≡ past
-      → GoesOn (time_after c time) (from_to left left') s'.second.picture (if past then Err (PastEnd (c.program + (pumped.units - c.to_come))) else Ok (record { blocks = c.program + (pumped.units - c.to_come); bad = s'.second.bad })) taken
+      → GoesOn (time_after c time) (from_to left left') s'.second.screen (if past then Err (PastEnd (c.program + (pumped.units - c.to_come))) else Ok (record { blocks = c.program + (pumped.units - c.to_come); bad = s'.second.bad })) taken
   goes_by true past = record {
     taken_from = w.taken_from;
     within = subst (λ n. length taken ≤ n * 96 + 1) fits w.within;
@@ -80,10 +80,10 @@ module _ (c : Checkpoint) (time limit : ℕ) (left left' : Option (List ℕ)) (t
     past_end = λ blocks e. (cc);
   }
 
-  pub goes_on : (result : Result Resumed ResumeStop) (to_come program : ℕ) → to_come ≡ c.to_come → program ≡ c.program → result ≡ reached (program + (pumped.units - to_come)) time s'.second.bad → GoesOn (time_after c time) (from_to left left') s'.second.picture result taken
+  pub goes_on : (result : Result Resumed ResumeStop) (to_come program : ℕ) → to_come ≡ c.to_come → program ≡ c.program → result ≡ reached (program + (pumped.units - to_come)) time s'.second.bad → GoesOn (time_after c time) (from_to left left') s'.second.screen result taken
   goes_on result to_come program t p e =
       let blocks : program + (pumped.units - to_come) ≡ c.program + (pumped.units - c.to_come) = ap₂ (λ a b. a + (pumped.units - b)) p t in
-      subst (λ (r : Result Resumed ResumeStop). GoesOn (time_after c time) (from_to left left') s'.second.picture r taken) (sym (e ∙ ap (λ n. reached n time s'.second.bad) blocks))
+      subst (λ (r : Result Resumed ResumeStop). GoesOn (time_after c time) (from_to left left') s'.second.screen r taken) (sym (e ∙ ap (λ n. reached n time s'.second.bad) blocks))
       (goes_by (nat_lt (c.program + (pumped.units - c.to_come)) time) refl)
 
 -- ---- by the length of the input

@@ -1,5 +1,5 @@
 -- The checkpoint of a whole stream.
-use Rattle.std.proofs.Common.{◌≡◌, ℕ, ◌-◌, ◌*◌, ◌/◌, ◌≤◌, List, length, take, drop, replicate, refl, sym, ap, ap₂, ◌∙◌, subst, arith, length-drop, Ok, Err}
+use Rattle.std.proofs.Common.{◌≡◌, ℕ, ◌-◌, ◌*◌, ◌/◌, ◌≤◌, List, length, take, drop, refl, sym, ap, ◌∙◌, subst, arith, length-drop, Ok, Err}
 use Rattle.std.specs.Prelude.{Option, min}
 use Rattle.std.specs.List.{flat_map}
 use Rattle.std.specs.Io.KnownBytes.{Appends}
@@ -26,7 +26,7 @@ use Rattle.stream_stages.proofs.Slots.{sized_drop, length-all_symbols}
 use Rattle.stream_stages.proofs.PumpedBlocks.{plain_blocks}
 use Rattle.stream_stages.proofs.Conversion.{units_sized, length-units_of}
 use Rattle.stream_stages.proofs.Playing.{units_in}
-use Rattle.stream_stages.proofs.Views.{IsReady, drawings_next, viewed_bytes, whole_taken}
+use Rattle.stream_stages.proofs.Views.{IsReady, paintings_next, viewed_bytes, whole_taken}
 use Rattle.cdg_checkpoint.specs.Tracked.{TracksBlocks, words_drawn}
 use Rattle.cdg_checkpoint.specs.Saved.{IsSaved, Saves, last_symbols}
 use Rattle.cdg_checkpoint.specs.Keeping.{IsKept}
@@ -56,11 +56,11 @@ module _ (lead_in n : ℕ) (bytes file : List ℕ) (s s' : Then BlockWords Paint
   units : List (List ℕ)
   units = units_of 96 n bytes
 
-  viewed : IsViewed (moment Raw lead_in 1000000) bytes s'.second.picture s'.second.bad
+  viewed : IsViewed (moment Raw lead_in 1000000) bytes s'.second.screen s'.second.bad
   viewed =
       viewed_bytes Raw lead_in 1000000 s bytes n s'.second ready few whole
       (ap (λ (t : Then BlockWords Painting). t.second) run
-      ∙ ap (λ (us : List (List ℕ)). (run_state drawings_next s us).second) (sym (plain_blocks Raw refl (units_of 96 n bytes))))
+      ∙ ap (λ (us : List (List ℕ)). (run_state paintings_next s us).second) (sym (plain_blocks Raw refl (units_of 96 n bytes))))
 
   all_found : take (whole_packs 1000000) viewed.found ≡ viewed.found
   all_found = take_all (whole_packs 1000000) viewed.found (omega (arith, viewed.recovered.count, symbols_count lead_in n bytes whole, few))

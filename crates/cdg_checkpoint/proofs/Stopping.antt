@@ -57,7 +57,7 @@ all_resumed_by (Some all) stop c time h = resumed_by stop c time (length all) h
 -- the rest was taken as far as the stop says
 pub gone_on_to_stop : (c : Checkpoint) (time limit : ℕ) (left left' : Option (List ℕ)) (taken : List ℕ) (s s' : Then BlockWords Painting) (stop : PumpStop) (other : ResumeStop) → limit ≡ blocks_left c
     → TracksBlocks limit words_drawn (feeding (from_to left left') (from_to s s')) (Err stop) taken → ((block : ℕ) → other ≡ Torn block → IsAtEnd left') → ((blocks : ℕ) → other ≢ PastEnd blocks)
-    → GoesOn (time_after c time) (from_to left left') s'.second.picture (Err other) taken
+    → GoesOn (time_after c time) (from_to left left') s'.second.screen (Err other) taken
 gone_on_to_stop c time limit left left' taken s s' stop other fits w torn not_past = record {
   taken_from = w.taken_from;
   within = subst (λ n. length taken ≤ n * 96 + 1) fits w.within;

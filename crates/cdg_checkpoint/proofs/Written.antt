@@ -6,7 +6,7 @@ use Rattle.std.proofs.KnownBytes.{Appends-nil}
 use Rattle.cdg_io.specs.Change.{from_to}
 use Rattle.cdg_io.specs.Moves.{AppendsPrefix}
 use Rattle.cdg_io.proofs.Frames.{passing}
-use Rattle.cdg_screen.specs.Picture.{Standing}
+use Rattle.cdg_screen.specs.Standing.{Standing}
 use Rattle.cdg_screen.specs.Texts.{pixmap}
 use Rattle.checkpoint_files.specs.Checkpoint.{checkpoint_in}
 use Rattle.cdg_checkpoint.specs.Resumed.{GoesOn, IsResumed, Resumes, time_after}

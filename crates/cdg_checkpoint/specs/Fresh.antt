@@ -1,6 +1,6 @@
 -- The state before any stream.
 use Rattle.std.specs.Prelude.{◌≡◌, []}
-use Rattle.cdg_screen.specs.Picture.{blank}
+use Rattle.cdg_screen.specs.Standing.{blank}
 use Rattle.raw_subcode.specs.declared.form.Form.TheVariants.{Raw}
 use Rattle.stream_stages.specs.Steps.{fresh_words}
 use Rattle.stream_stages.specs.Stages.{painting_of, words_of}
@@ -10,5 +10,5 @@ use Rattle.cdg_checkpoint.specs.declared.checkpointer.Checkpointer.{Checkpointer
 pub record HasReadNothing (c : Checkpointer) : Type 0 where
   pub words : words_of c.words ≡ fresh_words Raw 0
   pub bad : (painting_of c.words).bad ≡ 0
-  pub stands : (painting_of c.words).picture ≡ blank
+  pub stands : (painting_of c.words).screen ≡ blank
   pub file : c.file ≡ []

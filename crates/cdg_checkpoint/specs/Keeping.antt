@@ -15,5 +15,5 @@ pub record IsKept (blocks lead_in : ℕ) (s : Then BlockWords Painting) (file : 
   pub program_is : checkpoint.program ≡ blocks - lead_in
   pub bad_is : checkpoint.bad ≡ (painting_of s).bad
   pub slots_are : checkpoint.slots ≡ kept_symbols (words_of s).gather
-  pub stands : checkpoint.standing ≡ (painting_of s).picture
+  pub stands : checkpoint.standing ≡ (painting_of s).screen
   pub file_is : file ≡ file_of checkpoint

@@ -11,7 +11,7 @@ use Rattle.raw_subcode.specs.Channels.{symbols_of, program_symbols}
 use Rattle.raw_subcode.specs.declared.form.Form.TheVariants.{Raw}
 use Rattle.rw_interleave.specs.Stream.{bad_count}
 use Rattle.cdg_instructions.specs.declared.instr.Instr.{Instr}
-use Rattle.cdg_screen.specs.Picture.{Standing, standing_after}
+use Rattle.cdg_screen.specs.Standing.{Standing, standing_after}
 use Rattle.cdg_screen.specs.Texts.{pixmap}
 use Rattle.checkpoint_files.specs.Table.{IsBadAt, IsCheckpointFile, empty_symbols, file_size}
 use Rattle.checkpoint_files.specs.Checkpoint.{Checkpoint, checkpoint_in}

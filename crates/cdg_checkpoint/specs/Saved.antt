@@ -11,8 +11,9 @@ use Rattle.raw_subcode.specs.Sizes.{block_bytes, most_units}
 use Rattle.raw_subcode.specs.declared.form.Form.TheVariants.{Raw}
 use Rattle.rw_interleave.specs.Stream.{IsRecovered, bad_count}
 use Rattle.cdg_instructions.specs.declared.instr.Instr.{Instr}
-use Rattle.cdg_screen.specs.Picture.{blank, standing_after}
+use Rattle.cdg_screen.specs.Standing.{blank, standing_after}
 use Rattle.checkpoint_files.specs.Checkpoint.{Checkpoint, file_of}
+use Rattle.checkpoint_files.specs.Table.{slots_bytes}
 use Rattle.stream_stages.specs.Screen.{AreMeant}
 
 -- the last of so many symbols, with zeros before the first
@@ -29,7 +30,7 @@ pub record IsCheckpointOf (bytes : List ℕ) (lead_in : ℕ) (c : Checkpoint) : 
   pub lead_in_is : c.lead_in ≡ min (length bytes / 96) lead_in
   pub program_is : c.program ≡ length bytes / 96 - lead_in
   pub bad_is : c.bad ≡ bad_count found
-  pub slots_are : c.slots ≡ last_symbols 168 (program_symbols Raw bytes lead_in)
+  pub slots_are : c.slots ≡ last_symbols slots_bytes (program_symbols Raw bytes lead_in)
   pub stands : c.standing ≡ standing_after blank instrs
 
 -- the answer to whole blocks, and the file of their checkpoint

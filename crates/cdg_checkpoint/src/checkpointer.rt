@@ -3,9 +3,10 @@ ghost use Rattle.std.specs.Prelude.{IfOk};
 ghost use Rattle.cdg_checkpoint.specs.Fresh.{HasReadNothing};
 
 use cdg_io::Then;
+use cdg_screen::Screen;
 use checkpoint_files::CheckpointFile;
 use std::alloc::{AllocError, Global};
-use stream_stages::{BlockWords, Painting, Picture};
+use stream_stages::{BlockWords, Painting};
 
 /// Saves checkpoints of streams and resumes from them, one at a time. All its memory is taken at the start;
 /// each call begins anew, whatever stopped the one before.
@@ -27,7 +28,7 @@ impl Checkpointer {
         ensures { IfOk result HasReadNothing }
     {
         let painting = Painting {
-            picture: Picture::start(alloc)?,
+            screen: Screen::start(alloc)?,
             left: 0,
             bad: 0,
         };

@@ -1,7 +1,7 @@
 // A stream that goes on from a checkpoint.
 ghost use Rattle.std.specs.Prelude.{◌≡◌, ◌≢◌, ◌≤◌, ◌-◌, ◌/◌, ◌%◌, ◌++◌, List, ℕ, length, Some, Result, Err};
 ghost use Rattle.cdg_io.specs.Change.{Bytes, Change, from_to};
-ghost use Rattle.cdg_screen.specs.Picture.{Standing};
+ghost use Rattle.cdg_screen.specs.Standing.{Standing};
 ghost use Rattle.cdg_screen.specs.Texts.{pixmap};
 ghost use Rattle.checkpoint_files.specs.Checkpoint.{Checkpoint, checkpoint_in};
 ghost use Rattle.checkpoint_files.specs.Table.{IsCheckpointFile};

@@ -4,24 +4,19 @@ ghost use Rattle.disc_time.specs.Counts.{last_block};
 ghost use Rattle.cdg_io.specs.Causes.{TellsFault};
 ghost use Rattle.cdg_io.specs.Change.{change, input, passed};
 ghost use Rattle.cdg_io.specs.Run.{run_state};
-ghost use Rattle.raw_subcode.specs.Sizes.{most_units};
-ghost use Rattle.rw_interleave.specs.Interleave.{whole_packs};
 ghost use Rattle.rw_interleave.specs.Gathering.{gather_next};
 ghost use Rattle.checkpoint_files.specs.Table.{IsCheckpointFile};
 ghost use Rattle.checkpoint_files.specs.Checkpoint.{checkpoint_in, standing_in};
 ghost use Rattle.stream_stages.specs.Stages.{painting_of, words_of};
 ghost use Rattle.cdg_checkpoint.specs.Resumed.{GoesOn, IsAcceptedBy, IsGoneOnBy, IsResumedBy, ReadsSaved, Resumes, acceptance, EndsAsResumed, packs_until, reached, saved_slots, time_after};
 
-use crate::pictures::bring_back;
+use crate::gathering::gathered_slots;
 use crate::watch::watch_some;
 use crate::{Checkpointer, ResumeStop, Resumed};
 use cdg_io::{Failed, PumpStop, Pumped, Sink, Source};
-use checkpoint_files::Counts;
+use checkpoint_files::StreamCounts;
 use raw_subcode::{Form, MOST_UNITS};
-use rw_interleave::Slot;
-
-// The slots that a checkpoint keeps.
-const SLOTS: u32 = 7;
+use rw_interleave::whole_packs;
 
 impl Checkpointer {
     /// Writes the picture at a moment of a stream of raw blocks, from a checkpoint and the rest of the
@@ -98,7 +93,7 @@ impl Checkpointer {
         match self.go_on(at, rest) {
             Ok(resumed) => {
                 let painting = &self.words.second;
-                match painting.picture.write_ppm(out) {
+                match painting.screen.write_ppm(out) {
                     Ok(()) => Ok(resumed),
                     Err(Failed) => Err(ResumeStop::WriteFault),
                 }
@@ -151,7 +146,7 @@ impl Checkpointer {
         requires not_later { (checkpoint_in self.old.file).program ≤ at }
         ensures goes_on { (taken : List ℕ)
             × GoesOn (time_after (checkpoint_in self.old.file) at) (change S.left rest.old rest.new)
-            (painting_of self.new.words).picture result taken }
+            (painting_of self.new.words).screen result taken }
         ensures answer { IfSome (S.left rest.old)
             (λ all. IsGoneOnBy result (checkpoint_in self.old.file) at (length all)) }
         ensures file { self.new.file ≡ self.old.file }
@@ -176,7 +171,7 @@ impl Checkpointer {
     }
 
     // What was played, where the program reaches the moment.
-    fn resumed(&self, counts: &Counts, pumped: Pumped, at: u32) -> Result<Resumed, ResumeStop>
+    fn resumed(&self, counts: &StreamCounts, pumped: Pumped, at: u32) -> Result<Resumed, ResumeStop>
         requires { counts.now.program + pumped.units < 2 ^ 32 }
         ensures accepted { IsOk (acceptance result) }
         ensures answer { result ≡ reached (counts.now.program + (pumped.units - counts.now.to_come)) at
@@ -194,7 +189,7 @@ impl Checkpointer {
     }
 
     // Brings back the state of a checkpoint.
-    fn begin_again(&mut self, counts: &Counts, at: u32)
+    fn begin_again(&mut self, counts: &StreamCounts, at: u32)
         requires at { at ≤ last_block }
         requires file { IsCheckpointFile self.old.file }
         requires to_come { counts.now.to_come ≡ (checkpoint_in self.old.file).to_come }
@@ -207,42 +202,16 @@ impl Checkpointer {
         } }
         ensures left { (painting_of self.new.words).left ≡ packs_until (checkpoint_in self.old.file) at }
         ensures bad { (painting_of self.new.words).bad ≡ counts.now.bad }
-        ensures stands { (painting_of self.new.words).picture ≡ standing_in self.old.file }
+        ensures stands { (painting_of self.new.words).screen ≡ standing_in self.old.file }
         ensures file { self.new.file ≡ self.old.file }
     {
-        self.gather_slots(counts);
         let words = &mut self.words.first;
+        words.gather = gathered_slots(&self.file);
         words.form = Form::Raw;
         words.lead_in = counts.to_come;
         let painting = &mut self.words.second;
         painting.left = whole_packs(at) - whole_packs(counts.program);
         painting.bad = counts.bad;
-        bring_back(&self.file, &mut painting.picture);
+        self.file.bring_back(&mut painting.screen);
     }
-
-    // Gathers the saved slots, the oldest first.
-    fn gather_slots(&mut self, counts: &Counts)
-        requires file { IsCheckpointFile self.old.file }
-        requires program { counts.now.program ≡ (checkpoint_in self.old.file).program }
-        ensures gather { (words_of self.new.words).gather
-            ≡ run_state gather_next [] (saved_slots (checkpoint_in self.old.file)) }
-        ensures file { self.new.file ≡ self.old.file }
-    {
-        let words = &mut self.words.first;
-        let gather = &mut words.gather;
-        gather.reset();
-        let kept = SLOTS.min(4 * counts.program.min(2));
-        for k in 0..kept {
-            let slot = self.file.slot((SLOTS - kept + k) as usize);
-            gather.push(&Slot::new(&slot));
-        }
-    }
-}
-
-// The packs that are whole after so many blocks of the program.
-fn whole_packs(blocks: u32) -> u32
-    requires { blocks ≤ most_units }
-    ensures { result ≡ whole_packs blocks }
-{
-    (4 * blocks).saturating_sub(7)
 }

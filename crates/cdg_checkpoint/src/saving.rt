@@ -6,21 +6,18 @@ ghost use Rattle.cdg_io.specs.Change.{passed};
 ghost use Rattle.cdg_io.specs.Pump.{IsUnlessFault, answer_of};
 ghost use Rattle.raw_subcode.specs.Sizes.{block_bytes, most_units};
 ghost use Rattle.rw_interleave.specs.Interleave.{whole_packs};
-ghost use Rattle.cdg_screen.specs.Picture.{blank};
+ghost use Rattle.cdg_screen.specs.Standing.{blank};
 ghost use Rattle.stream_stages.specs.Steps.{fresh_words};
 ghost use Rattle.stream_stages.specs.Stages.{painting_of, words_of};
 ghost use Rattle.cdg_checkpoint.specs.Saved.{EndsAsSaved, Saves};
 ghost use Rattle.cdg_checkpoint.specs.Keeping.{IsKept};
 
 use crate::Checkpointer;
-use crate::pictures::compose;
 use crate::watch::watch;
 use cdg_io::{Failed, PumpStop, Pumped, Sink, Source, put_all};
-use checkpoint_files::{Counts, SLOTS_BYTES};
+use checkpoint_files::{SLOTS_BYTES, StreamCounts};
 use raw_subcode::{Form, MOST_UNITS};
-
-// The packs of the longest stream.
-const MOST_PACKS: u32 = 4 * MOST_UNITS - 7;
+use rw_interleave::whole_packs;
 
 impl Checkpointer {
     /// Writes the checkpoint after a stream of raw blocks, once it was read to its end. `lead_in` is at most
@@ -67,13 +64,13 @@ impl Checkpointer {
         ensures words { words_of self.new.words ≡ fresh_words Form.Raw lead_in }
         ensures left { (painting_of self.new.words).left ≡ whole_packs most_units }
         ensures bad { (painting_of self.new.words).bad ≡ 0 }
-        ensures blank { (painting_of self.new.words).picture ≡ blank }
+        ensures blank { (painting_of self.new.words).screen ≡ blank }
     {
         self.words.first.begin(lead_in, Form::Raw);
         let painting = &mut self.words.second;
-        painting.left = MOST_PACKS;
+        painting.left = whole_packs(MOST_UNITS);
         painting.bad = 0;
-        painting.picture.reset();
+        painting.screen.reset();
     }
 
     // Composes the file of what was read of a stream.
@@ -82,13 +79,13 @@ impl Checkpointer {
     {
         let read = pumped.units.min(lead_in);
         let painting = &self.words.second;
-        let counts = Counts {
+        let counts = StreamCounts {
             to_come: lead_in - read,
             lead_in: read,
             program: pumped.units - read,
             bad: painting.bad,
         };
         let slots = self.words.first.gather.symbols();
-        compose(&mut self.file, &counts, &slots, &painting.picture);
+        self.file.compose(&counts, &slots, &painting.screen);
     }
 }

@@ -143,6 +143,5 @@ module _ (sheet : CueSheet) (script : List Drawing) (lead_in audio : ℕ) (strea
         stream = damaged_stream all damaged;
         schedule = authored.schedule;
         order = order;
-        ranges = ranges;
       } in
       pictures script k scheduled held

@@ -1,4 +1,5 @@
 pub mod Instruction
+pub mod Effect
 pub mod Drawing
 pub mod Meaning
 pub mod MadeGood

@@ -2,12 +2,14 @@
 #![tactic(auto)]
 
 mod codes;
+mod effect;
 mod instr;
 mod reading;
 mod sizes;
 mod tile;
 mod writing;
 
+pub use effect::{DrawnTile, Effect, Scrolling};
 pub use instr::Instr;
 pub use reading::{each_pack_has_a_meaning, only_one_meaning, read, read_word};
 pub use sizes::{

@@ -4,3 +4,5 @@ pub mod Presses
 pub mod Gaps
 pub mod Stages
 pub mod Some
+pub mod Packs
+pub mod Existing

@@ -3,14 +3,15 @@ use Rattle.std.proofs.Common.{◌≡◌, ℕ, ◌+◌, ◌*◌, ◌/◌, ◌<◌
 use Rattle.std.specs.declared.option.Option.{Option}
 use Rattle.std.specs.Io.KnownBytes.{Appends}
 use Rattle.rw_interleave.specs.Interleave.{whole_packs}
-use Rattle.cue_sheet.specs.CueSheet.{CueSheet}
+use Rattle.cue_sheet.specs.CueSheet.{CueSheet, IsSheet}
 use Rattle.toc_model.specs.Places.{DiscLayout, layout_of, program_blocks}
-use Rattle.cdg_io.specs.Change.{from_to}
+use Rattle.cdg_io.specs.Change.{Bytes, Change, from_to}
+use Rattle.cdg_io.specs.Moves.{AppendsPrefix}
 use Rattle.stream_writer.specs.Given.{AreGiven, CarriesComing, PutsStreamPart, framing_of}
 use Rattle.stream_writer.specs.Needs.{text_packs, HasRoom}
 use Rattle.stream_writer.proofs.Whole.{framing_with, part_with}
 use Rattle.cdg_press.specs.Pressed.{file_begin, IsPackAfter, IsPressed, press_of}
-use Rattle.cdg_press.specs.Refusals.{IsWhole}
+use Rattle.cdg_press.specs.Refusals.{IsPressable, IsWhole}
 
 -- the program has room for the packs of the audio
 has_packs : (sheet : CueSheet) (audio : ℕ) → file_begin + 4 * audio ≤ whole_packs (program_blocks sheet audio)
@@ -56,3 +57,24 @@ part_pressed sheet file layout texts lead_in audio a b disc texts_are w = (
   part_with (layout_of sheet audio) (IsPackAfter file_begin file) texts (text_packs sheet) lead_in a b w.0 w.1 texts_are
       (subst (λ (l : DiscLayout). PutsStreamPart (framing_of l texts lead_in) (IsPackAfter file_begin file) (from_to a b) w.0 w.1) disc w.2),
 )
+
+-- what two laws on presses say
+abbrev pub HaveStreams : Type 0
+HaveStreams = (sheet : CueSheet) (file : List ℕ) (lead_in audio : ℕ) → IsSheet sheet → lead_in ≤ 450000
+    → IsPressable sheet file lead_in audio
+    → (bytes : List ℕ) × (packs : List (List ℕ)) × IsPressed (press_of sheet file lead_in audio) bytes packs
+
+abbrev pub ArePrefixes : Type 0
+ArePrefixes = (sheet : CueSheet) (file : List ℕ) (lead_in audio n : ℕ) (bytes : List ℕ) (packs given : List (List ℕ))
+    (held : Change Bytes) → IsPressed (press_of sheet file lead_in audio) bytes packs
+    → PutsStreamPart (framing_of (layout_of sheet audio) (text_packs sheet) lead_in) (IsPackAfter file_begin file) held n given
+    → AppendsPrefix held.before held.after bytes
+
+-- what was put is a prefix of a pressed stream
+pub prefix_pressed : HaveStreams → ArePrefixes → (sheet : CueSheet) (file : List ℕ) (lead_in audio : ℕ) (a b : Option (List ℕ))
+    → IsSheet sheet → lead_in ≤ 450000 → IsPressable sheet file lead_in audio
+    → (n : ℕ) × (packs : List (List ℕ)) × PutsStreamPart (framing_of (layout_of sheet audio) (text_packs sheet) lead_in) (IsPackAfter file_begin file) (from_to a b) n packs
+    → (bytes : List ℕ) × (packs : List (List ℕ)) × IsPressed (press_of sheet file lead_in audio) bytes packs × AppendsPrefix a b bytes
+prefix_pressed streams prefixes sheet file lead_in audio a b is_sheet few pressable (n, given, part) =
+    let (bytes, packs, whole) = streams sheet file lead_in audio is_sheet few pressable in
+    (bytes, packs, whole, prefixes sheet file lead_in audio n bytes packs given (from_to a b) whole part)

@@ -1,6 +1,7 @@
 -- The stream that is written for a cue sheet and a file of packs.
 use Rattle.std.specs.Prelude.{◌≡◌, ℕ, ◌+◌, ◌/◌, ◌%◌, ◌<◌, ◌≤◌, ◌⊎◌, List, [], length, map, slice_index_or}
 use Rattle.bit_lists.specs.Counting.{whole_parts}
+use Rattle.disc_time.specs.Counts.{pause_blocks}
 use Rattle.rw_interleave.specs.Interleave.{whole_packs, Carries}
 use Rattle.raw_subcode.specs.Channels.{program_symbols, symbols_of}
 use Rattle.raw_subcode.specs.declared.form.Form.TheVariants.{Raw}
@@ -21,7 +22,7 @@ file_pack file n = slice_index_or (file_packs file) n []
 
 -- the pack of the stream that is the file's first: its last symbol comes with the first slot of the audio
 abbrev pub file_begin : ℕ
-file_begin = 593
+file_begin = whole_packs pause_blocks
 
 -- what a disc is pressed from: a cue sheet and a file of packs, and so many blocks of lead-in and of audio
 pub record Press : Type 0 where

@@ -43,7 +43,8 @@ pub record IsPressable (sheet : CueSheet) (file : List ℕ) (lead_in audio : ℕ
   pub in_time : RunsInTime sheet file audio
   pub room : HasRoom sheet lead_in
 
--- why a stream is not pressed: each refusal comes only where those before it do not hold
+-- why a stream is not pressed: each refusal comes only where those before it do not hold, and a failed write and want of
+-- memory only where nothing is refused
 abbrev pub IsPressStop : CueSheet → List ℕ → ℕ → ℕ → PressStop → Type 0
 IsPressStop sheet file lead_in audio (PackTorn pack) = (length file % 24 ≢ 0) × (pack ≡ length file / 24)
 IsPressStop sheet file lead_in audio (LengthShort need) = IsWhole file × (need ≡ audio_need sheet)
@@ -58,7 +59,7 @@ IsPressStop sheet file lead_in audio (TextTooLong packs) = RunsInTime sheet file
 IsPressStop sheet file lead_in audio (LeadInShort need) = RunsInTime sheet file audio
     × IsLeadInShort sheet lead_in need
 IsPressStop sheet file lead_in audio WriteFault = IsPressable sheet file lead_in audio
-IsPressStop sheet file lead_in audio NoMemory = HasDisc sheet file audio
+IsPressStop sheet file lead_in audio NoMemory = IsPressable sheet file lead_in audio
 
 -- the number of the packs of a file, or where it is torn
 abbrev pub IsCounted : List ℕ → Result ℕ PressStop → Type 0

@@ -2,7 +2,7 @@
 use Rattle.toc_model.specs.declared.layout.LayoutStop.{LayoutStop}
 use Rattle.toc_model.specs.declared.layout.LayoutStop.TheVariants.{LengthShort as layout_short, DiscTooLong as layout_long, NoMemory as layout_memory}
 use Rattle.stream_writer.specs.declared.stops.LeadInStop.{LeadInStop}
-use Rattle.stream_writer.specs.declared.stops.LeadInStop.TheVariants.{TextTooLong as text_long, LeadInShort as lead_in_short, NoMemory as text_memory}
+use Rattle.stream_writer.specs.declared.stops.LeadInStop.TheVariants.{TextTooLong as text_long, LeadInShort as lead_in_short}
 use Rattle.cdg_press.specs.declared.stops.PressStop.{PressStop}
 use Rattle.cdg_press.specs.declared.stops.PressStop.TheVariants.{LengthShort, DiscTooLong, TextTooLong, LeadInShort, NoMemory}
 
@@ -16,4 +16,3 @@ press_stop_of_layout layout_memory = NoMemory
 abbrev pub press_stop_of_lead_in : LeadInStop → PressStop
 press_stop_of_lead_in (text_long packs) = TextTooLong packs
 press_stop_of_lead_in (lead_in_short need) = LeadInShort need
-press_stop_of_lead_in text_memory = NoMemory

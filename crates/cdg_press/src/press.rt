@@ -4,25 +4,29 @@ ghost use Rattle.disc_time.specs.Counts.{most_lead_in, most_program};
 ghost use Rattle.std.specs.Io.KnownBytes.{Appends};
 ghost use Rattle.cdg_io.specs.Causes.{TellsFault};
 ghost use Rattle.cdg_io.specs.Change.{change};
+ghost use Rattle.cdg_io.specs.Moves.{AppendsPrefix};
 ghost use Rattle.toc_model.specs.Places.{layout_of};
 ghost use Rattle.stream_writer.specs.Given.{PutsStreamPart, framing_of};
-ghost use Rattle.stream_writer.specs.Needs.{text_packs};
+ghost use Rattle.stream_writer.specs.Needs.{text_packs, HasLayout, HasRoom};
 ghost use Rattle.cdg_press.specs.Pressed.{file_begin, IsPackAfter, IsPressed, press_of};
 ghost use Rattle.cdg_press.specs.Refusals.{IsPressable, IsPressStop, IsShort};
 
 use crate::checks::{first_gap, whole_packs_of};
 use crate::file::FileSource;
+use crate::laws::pressable_files_have_streams;
 use crate::stops::PressStop;
 use cdg_io::Sink;
 use cdtext_packs::TextPack;
 use cue_sheet::Sheet;
-use rw_interleave::Spread;
-use std::alloc::Global;
-use stream_writer::{pack_texts, write_stream};
-use toc_model::Layout;
+use disc_time::PAUSE_BLOCKS;
+use raw_subcode::SLOTS_A_BLOCK;
+use rw_interleave::{PACKS_KEPT_BACK, Spread};
+use std::alloc::{AllocError, Global};
+use stream_writer::{judge_lead_in, pack_texts, write_stream};
+use toc_model::{Layout, count_blocks};
 
 // The pack of the stream that is the file's first: its last symbol comes with the first slot of file time 00:00:00.
-const FILE_BEGIN: u32 = 593;
+const FILE_BEGIN: u32 = SLOTS_A_BLOCK as u32 * PAUSE_BLOCKS - PACKS_KEPT_BACK as u32;
 
 /// Writes the subcode of a disc with a lead-in of so many blocks and an audio of so many blocks: the lead-in with the
 /// table of contents and the texts, and the program with the frames of the sheet and the packs of a `.cdg` file, 24
@@ -34,8 +38,9 @@ const FILE_BEGIN: u32 = 593;
 /// In this order: `PackTorn` where the file is not whole packs; `LengthShort` and `DiscTooLong` where the sheet has
 /// no layout with this audio; `Gap` where a track has a gap; `CdgTooLong` where the file has more than four packs for
 /// each block of audio; where there is a lead-in, `TextTooLong` where its texts need more than 256 packs, and
-/// `LeadInShort` where it has no room for them or for the table of contents. Nothing is written before all of these
-/// are passed and all memory is taken. After `WriteFault` a prefix of the stream was written.
+/// `LeadInShort` where it has no room for them or for the table of contents. All of these are judged before memory is
+/// asked, so `NoMemory` comes only where nothing is refused. Nothing is written before all memory is taken. After
+/// `WriteFault` a prefix of the stream was written.
 pub fn press_stream<K: Sink>(
     alloc: Global,
     sheet: &Sheet,
@@ -63,17 +68,46 @@ pub fn press_stream<K: Sink>(
     ensures part { result ≡ Err PressStop.WriteFault → (n : ℕ) × (packs : List (List ℕ))
         × PutsStreamPart (framing_of (layout_of sheet.now length) (text_packs sheet.now) lead_in)
         (IsPackAfter file_begin cdg.now) (change K.held out.old out.new) n packs }
+    // What stands then is a prefix of a pressed stream.
+    ensures prefix { result ≡ Err PressStop.WriteFault → (bytes : List ℕ) × (packs : List (List ℕ))
+        × IsPressed (press_of sheet.now cdg.now lead_in length) bytes packs
+        × AppendsPrefix (K.held out.old) (K.held out.new) bytes }
 {
+    // Laws: what is not refused has a stream, since the tracks of every sheet are in order.
+    pressable_files_have_streams();
+    sheet.tracks_are_in_order();
+    judge(sheet, cdg, lead_in, length)?;
     let Ready {
         layout,
         texts,
         mut spread,
-    } = prepared(alloc, sheet, cdg, lead_in, length)?;
+    } = Ready::of(alloc, sheet, lead_in, length)?;
     let mut source = FileSource {
         wait: FILE_BEGIN,
         rest: cdg,
     };
     write_stream(&layout, &texts, lead_in, &mut source, &mut spread, out)?;
+    Ok(())
+}
+
+// What is refused. This is told without memory, so that want of memory is told only where nothing is refused.
+fn judge(sheet: &Sheet, cdg: &[u8], lead_in: u32, length: u32) -> Result<(), PressStop>
+    requires audio { length ≤ most_program }
+    requires file { IsShort cdg.now }
+    ensures accepted { OnOk result (IsPressable sheet.now cdg.now lead_in length) }
+    ensures stop { IfErr result (IsPressStop sheet.now cdg.now lead_in length) }
+    ensures no_write { result ≢ Err PressStop.WriteFault }
+{
+    let packs = whole_packs_of(cdg)?;
+    count_blocks(sheet, length)?;
+    if let Some(track) = first_gap(sheet) {
+        return Err(PressStop::Gap { track });
+    }
+    let room = SLOTS_A_BLOCK as u32 * length;
+    if packs > room {
+        return Err(PressStop::CdgTooLong { packs, room });
+    }
+    judge_lead_in(sheet, lead_in)?;
     Ok(())
 }
 
@@ -85,37 +119,19 @@ struct Ready {
     spread: Spread,
 }
 
-// What the stream is written from, once nothing is refused.
-fn prepared(
-    alloc: Global,
-    sheet: &Sheet,
-    cdg: &[u8],
-    lead_in: u32,
-    length: u32,
-) -> Result<Ready, PressStop>
-    requires audio { length ≤ most_program }
-    requires file { IsShort cdg.now }
-    ensures layout { IfOk result (λ ready. ready.layout ≡ layout_of sheet.now length) }
-    ensures texts { IfOk result (λ ready. 0 < lead_in → ready.texts.items ≡ text_packs sheet.now) }
-    ensures spread { IfOk result (λ ready. ready.spread ≡ []) }
-    ensures accepted { OnOk result (IsPressable sheet.now cdg.now lead_in length) }
-    ensures stop { IfErr result (IsPressStop sheet.now cdg.now lead_in length) }
-    ensures no_write { result ≢ Err PressStop.WriteFault }
-{
-    let packs = whole_packs_of(cdg)?;
-    let layout = Layout::from_cue(alloc, sheet, length)?;
-    if let Some(track) = first_gap(sheet) {
-        return Err(PressStop::Gap { track });
+impl Ready {
+    // What the stream is written from, once nothing is refused.
+    fn of(alloc: Global, sheet: &Sheet, lead_in: u32, length: u32) -> Result<Ready, AllocError>
+        requires layout { HasLayout sheet.now length }
+        requires room { HasRoom sheet.now lead_in }
+        ensures layout { IfOk result (λ ready. ready.layout ≡ layout_of sheet.now length) }
+        ensures texts { IfOk result (λ ready. 0 < lead_in → ready.texts.items ≡ text_packs sheet.now) }
+        ensures spread { IfOk result (λ ready. ready.spread ≡ []) }
+    {
+        Ok(Ready {
+            layout: Layout::of_sheet(alloc, sheet, length)?,
+            texts: pack_texts(alloc, sheet, lead_in)?,
+            spread: Spread::start(alloc)?,
+        })
     }
-    let room = 4 * length;
-    if packs > room {
-        return Err(PressStop::CdgTooLong { packs, room });
-    }
-    let texts = pack_texts(alloc, sheet, &layout, lead_in)?;
-    let spread = Spread::start(alloc)?;
-    Ok(Ready {
-        layout,
-        texts,
-        spread,
-    })
 }

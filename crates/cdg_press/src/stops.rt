@@ -52,7 +52,6 @@ impl From<LeadInStop> for PressStop {
         match stop {
             LeadInStop::TextTooLong { packs } => PressStop::TextTooLong { packs },
             LeadInStop::LeadInShort { need } => PressStop::LeadInShort { need },
-            LeadInStop::NoMemory => PressStop::NoMemory,
         }
     }
 }

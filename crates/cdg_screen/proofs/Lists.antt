@@ -4,7 +4,7 @@ use Rattle.std.specs.Prelude.{slice_index}
 use Rattle.std.proofs.lemmas.List.{ext_get_or}
 use Rattle.std.proofs.lemmas.List.FromFn.{length-map-range_with_len, get_or-map-range_with_len, fill_by_all}
 use Rattle.bit_lists.specs.Counting.{below}
-use Rattle.cdg_screen.specs.Picture.{IsWholeStanding, Standing, pixel_at, rows_of, sixteen, standing_after}
+use Rattle.cdg_screen.specs.Standing.{IsWholeStanding, Standing, pixel_at, rows_of, sixteen, standing_after}
 
 -- the same pixels stand in both, at each place of the memory
 abbrev pub AreSamePixels : (ℕ → ℕ → ℕ) → (ℕ → ℕ → ℕ) → Type 0
@@ -44,6 +44,14 @@ rows_are rows pixel count widths same =
     ext_get_or 0 (get_or rows y []) (get_or (rows_of pixel) y []) (widths y y_lt ∙ sym (length-row pixel y y_lt)) (λ x lt.
     let x_lt : x < 300 = omega (arith, widths y y_lt) in
     same x y x_lt y_lt ∙ sym (pixel_of_rows pixel x y x_lt y_lt)))
+
+-- and one row of them
+pub row_is : (row : List ℕ) (pixel : ℕ → ℕ → ℕ) (y : ℕ) → y < 216 → length row ≡ 300
+    → ((x : ℕ) → x < 300 → get_or row x 0 ≡ pixel x y) → row ≡ get_or (rows_of pixel) y []
+unfolding pixel_at
+row_is row pixel y lt width same = ext_get_or 0 row (get_or (rows_of pixel) y []) (width ∙ sym (length-row pixel y lt)) (λ x x_in.
+    let x_lt : x < 300 = omega (arith, width, x_in) in
+    same x x_lt ∙ sym (pixel_of_rows pixel x y x_lt lt))
 
 -- and of sixteen numbers
 pub sixteen_are : (numbers : List ℕ) (number : ℕ → ℕ) → length numbers ≡ 16 → ((k : ℕ) → k < 16 → slice_index numbers k ≡ number k) → numbers ≡ sixteen number

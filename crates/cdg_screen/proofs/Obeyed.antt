@@ -1,14 +1,16 @@
 -- An instruction on what a screen keeps, and what is seen of it.
-use Rattle.std.proofs.Common.{◌≡◌, ◌⊎◌, inl, inr, true, ℕ, ◌+◌, ◌-◌, ◌<◌, List, [], ◌∷◌, length, replicate, refl, sym, ap, ◌∙◌, arith}
-use Rattle.std.specs.Prelude.{◌↔◌, IsTrue, nat_lt, if◌then◌else◌, slice_index}
+use Rattle.std.proofs.Common.{◌&&◌, ◌≤◌, subst, ◌≡◌, inl, inr, ℕ, ◌+◌, ◌-◌, ◌<◌, List, [], ◌∷◌, length, replicate, refl, sym, ap, ◌∙◌, arith}
+use Rattle.std.specs.Prelude.{◌↔◌, nat_le, nat_lt, if◌then◌else◌, slice_index}
 use Rattle.std.proofs.lemmas.Bool.{cases_lt}
 use Rattle.std.proofs.lemmas.Bool.Decides.{nat_tests}
 use Rattle.cdg_instructions.specs.declared.instr.Instr.{Instr}
-use Rattle.cdg_instructions.specs.declared.instr.Instr.TheVariants.{Idle, Foreign, Unknown}
-use Rattle.cdg_screen.specs.Picture.{IsWholeStanding, Standing, blank, pixel_at, rows_of, sixteen, memory_from, border_from, colour_from, level_from, offsets_from, standing_after}
+use Rattle.cdg_instructions.specs.Effect.{effect_of}
+use Rattle.cdg_instructions.specs.declared.effect.Effect.{Effect}
+use Rattle.cdg_screen.specs.Standing.{IsWholeStanding, Standing, blank, pixel_at, rows_of, sixteen, memory_from, border_from, colour_from, level_from, offsets_from, standing_after}
 use Rattle.cdg_screen.specs.Memory.{Grid, at, Becomes}
 use Rattle.cdg_screen.proofs.Lists.{AreSamePixels, rows_same, pixel_of_rows, sixteen_are, number_of_sixteen}
 use Rattle.cdg_screen.proofs.Turns.{same_memory}
+use Rattle.cdg_screen.proofs.Effects.{memory_by, border_by, colour_by, level_by, offsets_by, memory_is, border_is, colour_is, level_is, offsets_are}
 
 -- what a screen keeps, its memory with a moving origin
 pub record Kept : Type 0 where
@@ -73,52 +75,72 @@ all_zero grid pixels =
     let memory = rows_same _ _ pixels in
     λ i. record { memory = memory i; border = 0; colours = replicate 16 0; levels = replicate 16 0; h = 0; v = 0 }
 
--- of a screen that is seen as `now`
-pub obeyed_as : (now : Standing) (given instr : Instr) (old new : Kept) → seen old ≡ now → given ≡ instr → length new.colours ≡ 16 → length new.levels ≡ 16 → Obeys instr old new → seen new ≡ standing_after now (given ∷ [])
-obeyed_as now given instr old new view same sixteen_colours sixteen_levels obeys = rw (← view, same) (obeyed instr old new sixteen_colours sixteen_levels obeys)
+-- an effect makes one of the other, place by place
+pub record ObeysBy (effect : Effect) (old new : Kept) : Type 0 where
+  pub memory : Becomes new.memory (memory_by effect (at old.memory))
+  pub border : new.border ≡ border_by effect old.border
+  pub colours : (k : ℕ) → k < 16 → slice_index new.colours k ≡ colour_by effect (slice_index old.colours) k
+  pub levels : (k : ℕ) → k < 16 → slice_index new.levels k ≡ level_by effect (slice_index old.levels) k
+  pub h : new.h ≡ (offsets_by effect (old.h, old.v)).0
+  pub v : new.v ≡ (offsets_by effect (old.h, old.v)).1
 
-pub stays_as : (A : Type 0) (now : Standing) (given instr : Instr) (kept : Kept) → seen kept ≡ now → given ≡ instr → length kept.colours ≡ 16 → length kept.levels ≡ 16 → A ↔ Obeys instr kept kept → A ↔ standing_after now (given ∷ []) ≡ now
-stays_as A now given instr kept view same sixteen_colours sixteen_levels as_is = rw (← view, same) (stays A instr kept sixteen_colours sixteen_levels as_is)
+obeys_by : (instr : Instr) (old new : Kept) → ObeysBy (effect_of instr) old new → Obeys instr old new
+obeys_by instr old new by = record {
+  memory = λ x y x_lt y_lt. by.memory x y x_lt y_lt ∙ memory_is instr (at old.memory) x y;
+  border = by.border ∙ border_is instr old.border;
+  colours = λ k lt. by.colours k lt ∙ colour_is instr (slice_index old.colours) k lt;
+  levels = λ k lt. by.levels k lt ∙ level_is instr (slice_index old.levels) k;
+  h = by.h ∙ ap (λ (o : ℕ × ℕ). o.0) (offsets_are instr (old.h, old.v));
+  v = by.v ∙ ap (λ (o : ℕ × ℕ). o.1) (offsets_are instr (old.h, old.v));
+}
 
--- an instruction that draws nothing
-abbrev IsIdle : Instr → Type 0
-IsIdle given = given ≡ Idle ⊎ (given ≡ Foreign ⊎ given ≡ Unknown)
+by_obeys : (instr : Instr) (old new : Kept) → Obeys instr old new → ObeysBy (effect_of instr) old new
+by_obeys instr old new obeys = record {
+  memory = λ x y x_lt y_lt. obeys.memory x y x_lt y_lt ∙ sym (memory_is instr (at old.memory) x y);
+  border = obeys.border ∙ sym (border_is instr old.border);
+  colours = λ k lt. obeys.colours k lt ∙ sym (colour_is instr (slice_index old.colours) k lt);
+  levels = λ k lt. obeys.levels k lt ∙ sym (level_is instr (slice_index old.levels) k);
+  h = obeys.h ∙ sym (ap (λ (o : ℕ × ℕ). o.0) (offsets_are instr (old.h, old.v)));
+  v = obeys.v ∙ sym (ap (λ (o : ℕ × ℕ). o.1) (offsets_are instr (old.h, old.v)));
+}
 
-idle_obeys : (given : Instr) (kept : Kept) → IsIdle given → Obeys given kept kept
-idle_obeys given kept (inl same) = rw same (record { memory = λ x y _ _. refl; border = refl; colours = λ k _. refl; levels = λ k _. refl; h = refl; v = refl })
-idle_obeys given kept (inr (inl same)) = rw same (record { memory = λ x y _ _. refl; border = refl; colours = λ k _. refl; levels = λ k _. refl; h = refl; v = refl })
-idle_obeys given kept (inr (inr same)) = rw same (record { memory = λ x y _ _. refl; border = refl; colours = λ k _. refl; levels = λ k _. refl; h = refl; v = refl })
+-- of a screen that is seen as `now`, after an instruction that does this
+pub obeyed_by : (now : Standing) (given : Instr) (effect : Effect) (old new : Kept)
+    → seen old ≡ now → effect_of given ≡ effect → length new.colours ≡ 16 → length new.levels ≡ 16
+    → ObeysBy effect old new → seen new ≡ standing_after now (given ∷ [])
+obeyed_by now given effect old new view is sixteen_colours sixteen_levels by =
+    rw (← view) (obeyed given old new sixteen_colours sixteen_levels (obeys_by given old new (subst (λ e. ObeysBy e old new) (sym is) by)))
 
-pub idle_obeyed : (now : Standing) (given : Instr) (kept : Kept) → seen kept ≡ now → length kept.colours ≡ 16 → length kept.levels ≡ 16 → IsIdle given → seen kept ≡ standing_after now (given ∷ [])
-idle_obeyed now given kept view sixteen_colours sixteen_levels idle = obeyed_as now given given kept kept view refl sixteen_colours sixteen_levels (idle_obeys given kept idle)
+pub stays_by : (A : Type 0) (now : Standing) (given : Instr) (effect : Effect) (kept : Kept)
+    → seen kept ≡ now → effect_of given ≡ effect → length kept.colours ≡ 16 → length kept.levels ≡ 16
+    → A ↔ ObeysBy effect kept kept → A ↔ standing_after now (given ∷ []) ≡ now
+stays_by A now given effect kept view is sixteen_colours sixteen_levels as_is =
+    rw (← view) (stays A given kept sixteen_colours sixteen_levels (
+      (λ holds. obeys_by given kept kept (subst (λ e. ObeysBy e kept kept) (sym is) (as_is.0 holds))),
+      λ obeys. as_is.1 (subst (λ e. ObeysBy e kept kept) is (by_obeys given kept kept obeys)),
+    ))
 
-pub idle_stays : (now : Standing) (given : Instr) (kept : Kept) → seen kept ≡ now → length kept.colours ≡ 16 → length kept.levels ≡ 16 → IsIdle given → IsTrue true ↔ standing_after now (given ∷ []) ≡ now
-idle_stays now given kept view sixteen_colours sixteen_levels idle =
-    stays_as (IsTrue true) now given given kept view refl sixteen_colours sixteen_levels ((λ _. idle_obeys given kept idle), λ _. refl)
+-- eight colours from a place on that a table has already
 
--- eight colours that a table has already
-
-pub low_kept : (given table : List ℕ) → ((k : ℕ) → k < 8 → slice_index given k ≡ slice_index table (0 + k)) → (k : ℕ) → k < 16 → slice_index table k ≡ (if nat_lt k 8 then slice_index given k else slice_index table k)
-low_kept given table same k lt = elim (cases_lt k 8) [
-  | inl low ↦ let e = same k low in let is : 0 + k ≡ k = omega arith in let here = e ∙ ap (slice_index table) is in grind (arith, nat_tests)
-  | inr high ↦ grind (arith, nat_tests)
+pub colours_kept : (first : ℕ) (given table : List ℕ) → ((k : ℕ) → k < 8 → slice_index given k ≡ slice_index table (first + k))
+    → (k : ℕ) → k < 16 → slice_index table k ≡ (if nat_le first k && nat_lt k (first + 8) then slice_index given (k - first) else slice_index table k)
+colours_kept first given table same k lt = elim (cases_lt k first) [
+  | inl below ↦ grind (arith, nat_tests)
+  | inr from ↦ elim (cases_lt k (first + 8)) [
+    | inr past ↦ grind (arith, nat_tests)
+    | inl within ↦
+        let e = same (k - first) (omega (arith, from, within)) in
+        let is : first + (k - first) ≡ k = omega (arith, from) in
+        let here = e ∙ ap (slice_index table) is in
+        grind (arith, nat_tests)
+  ]
 ]
 
-pub low_back : (given table : List ℕ) → ((k : ℕ) → k < 16 → slice_index table k ≡ (if nat_lt k 8 then slice_index given k else slice_index table k)) → (k : ℕ) → k < 8 → slice_index given k ≡ slice_index table (0 + k)
-low_back given table kept k low =
-    let e = kept k (omega arith) in
-    let is : 0 + k ≡ k = omega arith in
-    sym (ap (slice_index table) is ∙ grind (arith, nat_tests))
-
-pub high_kept : (given table : List ℕ) → ((k : ℕ) → k < 8 → slice_index given k ≡ slice_index table (8 + k)) → (k : ℕ) → k < 16 → slice_index table k ≡ (if nat_lt k 8 then slice_index table k else slice_index given (k - 8))
-high_kept given table same k lt = elim (cases_lt k 8) [
-  | inl low ↦ grind (arith, nat_tests)
-  | inr high ↦ let e = same (k - 8) (omega arith) in let is : 8 + (k - 8) ≡ k = omega arith in let here = e ∙ ap (slice_index table) is in grind (arith, nat_tests)
-]
-
-pub high_back : (given table : List ℕ) → ((k : ℕ) → k < 16 → slice_index table k ≡ (if nat_lt k 8 then slice_index table k else slice_index given (k - 8))) → (k : ℕ) → k < 8 → slice_index given k ≡ slice_index table (8 + k)
-high_back given table kept k low =
-    let e = kept (8 + k) (omega arith) in
-    let is : 8 + k - 8 ≡ k = omega arith in
+pub colours_back : (first : ℕ) (given table : List ℕ) → first ≤ 8
+    → ((k : ℕ) → k < 16 → slice_index table k ≡ (if nat_le first k && nat_lt k (first + 8) then slice_index given (k - first) else slice_index table k))
+    → (k : ℕ) → k < 8 → slice_index given k ≡ slice_index table (first + k)
+colours_back first given table most kept k lt =
+    let e = kept (first + k) (omega (arith, most, lt)) in
+    let is : first + k - first ≡ k = omega arith in
     let back = ap (slice_index given) is in
     grind (arith, nat_tests)

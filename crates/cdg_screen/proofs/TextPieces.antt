@@ -4,7 +4,7 @@ use Rattle.std.specs.declared.option.Option.{Option}
 use Rattle.std.specs.Io.KnownBytes.{Appends}
 use Rattle.cdg_io.specs.Moves.{AppendsPrefix}
 use Rattle.bit_lists.specs.Counting.{below}
-use Rattle.cdg_screen.specs.Picture.{Standing}
+use Rattle.cdg_screen.specs.Standing.{Standing}
 use Rattle.cdg_screen.specs.Texts.{pixmap, pixmap_header, pixmap_row, state_text, state_head, state_row}
 use Rattle.cdg_screen.proofs.Pieces.{prefix_first, prefix_of_pieces}
 

@@ -4,7 +4,7 @@ use Rattle.std.specs.Prelude.{nat_le, nat_lt, slice_index}
 use Rattle.std.proofs.lemmas.Bool.{cases_Bool, cases_eq}
 use Rattle.std.proofs.lemmas.Bool.Decides.{nat_tests}
 use Rattle.cdg_instructions.specs.Drawing.{tile_colour}
-use Rattle.cdg_screen.specs.Picture.{covers}
+use Rattle.cdg_screen.specs.Standing.{covers}
 use Rattle.cdg_screen.specs.Memory.{Grid, at, Becomes, drawn_over, line_colour}
 
 in_line : (row column j x y : ℕ) → j < 12 → row ≤ 17 → column ≤ 49 → (y == 12 * row + j && nat_le (6 * column) x && nat_lt x (6 * column + 6)) ≡ true

@@ -1,14 +1,13 @@
 -- What an instruction leaves as it was.
-use Rattle.std.proofs.Common.{◌≡◌, ◌/◌, ◌%◌, ◌<◌, ◌≤◌, ◌==◌, ◌&&◌, ℕ, Bool, true, false, if◌then◌else◌, List, [], ◌∷◌, refl, sym, ap, ◌∙◌, inl, inr, arith}
+use Rattle.std.proofs.Common.{◌≡◌, ◌/◌, ◌%◌, ◌==◌, ◌&&◌, ℕ, Bool, true, false, if◌then◌else◌, List, [], ◌∷◌, refl, ap, ◌∙◌, inl, inr, arith}
 use Rattle.std.specs.Prelude.{bit_xor, nat_le}
 use Rattle.std.proofs.lemmas.Bool.{cases_Bool}
 use Rattle.std.proofs.lemmas.Bool.Decides.{nat_tests}
 use Rattle.cdg_instructions.specs.Drawing.{tile_colour}
 use Rattle.cdg_instructions.specs.declared.instr.Instr.{Instr}
 use Rattle.cdg_instructions.specs.declared.instr.Instr.TheVariants.{Idle, Foreign, Unknown, MemoryPreset, BorderPreset, SetTile, XorTile, ScrollPreset, ScrollCopy, Transparency, ColoursLow, ColoursHigh}
-use Rattle.cdg_screen.specs.Picture.{IsWholeStanding, Standing, covers, memory_from, pixel_at, rows_of, standing_after}
-use Rattle.cdg_screen.specs.Touched.{IsSameBeside, KeepsTheRest, tile_touched, touched_by}
-use Rattle.cdg_screen.specs.declared.touching.Touched.{Touched}
+use Rattle.cdg_screen.specs.Standing.{IsWholeStanding, Standing, covers, pixel_at, rows_of, standing_after}
+use Rattle.cdg_screen.specs.Touched.{IsSameBeside, KeepsTheRest, touched_by}
 use Rattle.cdg_screen.specs.declared.touching.Touched.TheVariants.{Nothing, Tile}
 use Rattle.cdg_screen.proofs.Lists.{pixel_of_rows, rows_same}
 

@@ -2,13 +2,16 @@
 use Rattle.std.proofs.Common.{◌≡◌, ◌⊎◌, ap₂, ℕ, ◌+◌, ◌-◌, ◌%◌, ◌<◌, ◌≤◌, ◌&&◌, if◌then◌else◌, List, length, get_or, take, drop, ◌∙◌, ap, sym, inl, inr, arith, length-drop}
 use Rattle.std.specs.Prelude.{nat_le, nat_lt}
 use Rattle.std.proofs.lemmas.Bool.{cases_lt}
-use Rattle.cdg_screen.specs.Memory.{at}
-use Rattle.cdg_screen.specs.Picture.{pixel_at, screen_pixel}
+use Rattle.bit_lists.proofs.Groups.{all_below_bound}
+use Rattle.std.specs.Prelude.{All}
+use Rattle.cdg_screen.specs.Memory.{Grid, IsGrid, at}
+use Rattle.cdg_screen.proofs.Grids.{at-below}
+use Rattle.cdg_screen.specs.Standing.{pixel_at, screen_pixel}
 use Rattle.cdg_screen.proofs.Lists.{pixel_of_rows}
 use Rattle.cdg_screen.proofs.Obeyed.{Kept, seen}
 use Rattle.cdg_screen.proofs.Window.{window_pixel}
 use Rattle.std.proofs.lemmas.Bool.Decides.{nat_tests}
-use Rattle.std.proofs.lemmas.List.{get_or-drop, get_or-take, length-take-le}
+use Rattle.std.proofs.lemmas.List.{get_or_past, get_or-drop, get_or-take, length-take-le}
 
 pub else_before : (place end x a b : ℕ) → x < place → (if nat_le place x && nat_lt x end then a else b) ≡ b
 else_before place end x a b lt = grind (arith, nat_tests)
@@ -65,6 +68,37 @@ window_of_row row old p q one two h left count x are left_lt h_le x_lt fits most
           second ∙ then_within (6 + count) (6 + count + length q) x _ _ late (omega (arith, lt, q_size, most)) ∙ are.two_is (x - (6 + count)) (omega (arith, late, lt)) ∙ ap (λ k. get_or row k 0) (omega (arith, late, lt, full))
     ])
     (λ past. out_second (inr past) ∙ out_first (inr (omega (arith, past, most))))
+
+-- A row that begins at a moving place: what stands from there on, and then what stands at its front.
+pub turned_row : (row p q one two start : List ℕ) (left x : ℕ) → left < 300 → x < 300 → length row ≡ 300
+    → p ≡ take (300 - left) (drop left row) → q ≡ take left row
+    → get_or one x 0 ≡ (if nat_le 0 x && nat_lt x (0 + length p) then get_or p (x - 0) 0 else get_or start x 0)
+    → get_or two x 0 ≡ (if nat_le (300 - left) x && nat_lt x (300 - left + length q) then get_or q (x - (300 - left)) 0 else get_or one x 0)
+    → get_or two x 0 ≡ get_or row ((x + left) % 300) 0
+turned_row row p q one two start left x left_lt x_lt size p_is q_is first second =
+    let p_size : length p ≡ 300 - left = ap length p_is ∙ length-take-le (300 - left) (drop left row) (omega (arith, length-drop left row, size)) in
+    let q_size : length q ≡ left = ap length q_is ∙ length-take-le left row (omega (arith, size, left_lt)) in
+    elim (cases_lt x (300 - left)) [
+      | inl early ↦
+          second ∙ else_before (300 - left) (300 - left + length q) x _ _ early
+          ∙ first ∙ then_within 0 (0 + length p) x _ _ (omega arith) (omega (arith, early, p_size))
+          ∙ ap (λ (l : List ℕ). get_or l (x - 0) 0) p_is
+          ∙ get_or-take (300 - left) (drop left row) (x - 0) 0 (omega (arith, early)) ∙ get_or-drop left row (x - 0) 0
+          ∙ ap (λ k. get_or row k 0) (omega (arith, early))
+      | inr late ↦
+          second ∙ then_within (300 - left) (300 - left + length q) x _ _ late (omega (arith, q_size, x_lt))
+          ∙ ap (λ (l : List ℕ). get_or l (x - (300 - left)) 0) q_is
+          ∙ get_or-take left row (x - (300 - left)) 0 (omega (arith, late, x_lt))
+          ∙ ap (λ k. get_or row k 0) (omega (arith, late, x_lt, left_lt))
+    ]
+
+-- its numbers are small
+pub small_row : (row : List ℕ) (grid : Grid) (y : ℕ) → IsGrid grid → length row ≡ 300
+    → ((x : ℕ) → x < 300 → get_or row x 0 ≡ at grid x y) → All (λ pixel. pixel < 16) row
+small_row row grid y g width same = all_below_bound 16 row (λ x. elim (cases_lt x 300) [
+  | inl lt ↦ omega (arith, same x lt, at-below grid.rows grid.left grid.top x y g)
+  | inr past ↦ omega (arith, get_or_past row x 0 (omega (arith, width, past)))
+])
 
 -- numbers that are small where they come from are small
 pub small_between : (v a b place end x : ℕ) → v ≡ (if nat_le place x && nat_lt x end then a else b) → a < 16 → b < 16 → v < 16

@@ -2,7 +2,7 @@
 use Rattle.std.proofs.Common.{◌≡◌, ℕ, ◌+◌, ◌≤◌, true, is_le, nat_cmp, arith}
 use Rattle.std.proofs.lemmas.Grind.{common_steps}
 use Rattle.std.proofs.lemmas.Bool.Decides.{nat_tests}
-use Rattle.cdg_screen.specs.Picture.{Standing, pixel_at, screen_pixel}
+use Rattle.cdg_screen.specs.Standing.{Standing, pixel_at, screen_pixel}
 
 -- in the window the memory shows
 pub window_pixel : (now : Standing) (x y pixel : ℕ) → 6 ≤ x → x ≤ 293 → 12 ≤ y → y ≤ 203 → pixel ≡ pixel_at now.memory (x + now.h) (y + now.v) → pixel ≡ screen_pixel now x y

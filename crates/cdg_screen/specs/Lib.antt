@@ -1,4 +1,4 @@
-pub mod Picture
+pub mod Standing
 pub mod Memory
 pub mod Texts
 pub mod Touched

@@ -1,6 +1,11 @@
 -- How the memory is kept and changed.
-use Rattle.std.specs.Prelude.{◌≡◌, ℕ, ◌+◌, ◌-◌, ◌%◌, ◌<◌, ◌≤◌, if◌then◌else◌, Bool, List, length, slice_index, slice_index_or, [], All, bit_xor}
+use Rattle.std.specs.Prelude.{Option, Some, None, ◌&&◌, ◌≡◌, ℕ, ◌+◌, ◌-◌, ◌%◌, ◌<◌, ◌≤◌, if◌then◌else◌, Bool, List, length, slice_index, slice_index_or, [], All, bit_xor}
 use Rattle.bit_lists.specs.Bits.{has_bit}
+use Rattle.cdg_instructions.specs.Drawing.{tile_colour}
+use Rattle.cdg_instructions.specs.declared.effect.DrawnTile.{DrawnTile}
+use Rattle.cdg_instructions.specs.declared.effect.Scrolling.{Scrolling}
+use Rattle.cdg_instructions.specs.Sizes.{screen_height, screen_width}
+use Rattle.cdg_screen.specs.Standing.{covers, is_inside, source_x, source_y}
 
 -- The memory as rows that begin at a moving origin: pixel (0, 0) is element `left` of row `top`, and what is past an
 -- end goes on at the other.
@@ -11,21 +16,23 @@ pub record Grid : Type 0 where
 
 -- pixel (x, y) of it
 unfoldable pub at : Grid → ℕ → ℕ → ℕ
-at grid x y = slice_index (slice_index_or grid.rows ((y + grid.top) % 216) []) ((x + grid.left) % 300)
+at grid x y =
+    let row = slice_index_or grid.rows ((y + grid.top) % screen_height) [] in
+    slice_index row ((x + grid.left) % screen_width)
 
 -- rows of 300 numbers below 16, and an origin among them at whole tiles, so that no tile goes on at the other end
 pub record IsGrid (grid : Grid) : Type 0 where
-  pub count : length grid.rows ≡ 216
-  pub widths : (y : ℕ) → y < 216 → length (slice_index_or grid.rows y []) ≡ 300
-  pub left_below : grid.left < 300
-  pub top_below : grid.top < 216
+  pub count : length grid.rows ≡ screen_height
+  pub widths : (y : ℕ) → y < screen_height → length (slice_index_or grid.rows y []) ≡ screen_width
+  pub left_below : grid.left < screen_width
+  pub top_below : grid.top < screen_height
   pub left_whole : grid.left % 6 ≡ 0
   pub top_whole : grid.top % 12 ≡ 0
   pub colours : (y x : ℕ) → slice_index (slice_index_or grid.rows y []) x < 16
 
 -- the pixels of the memory become those of a function of the place
 abbrev pub Becomes : Grid → (ℕ → ℕ → ℕ) → Type 0
-Becomes grid f = (x y : ℕ) → x < 300 → y < 216 → at grid x y ≡ f x y
+Becomes grid f = (x y : ℕ) → x < screen_width → y < screen_height → at grid x y ≡ f x y
 
 -- a colour that is drawn over another
 abbrev pub drawn_over : Bool → ℕ → ℕ → ℕ
@@ -34,6 +41,26 @@ drawn_over exclusive colour old = if exclusive then bit_xor colour old else colo
 -- colour 0 or 1 of pixel i of a line, by its bit
 abbrev pub line_colour : ℕ → ℕ → ℕ → ℕ → ℕ
 line_colour colour0 colour1 line i = if has_bit (5 - i) line then colour1 else colour0
+
+-- pixel (x, y) after a tile is drawn over others, where it is on the memory
+abbrev pub with_tile : DrawnTile → (ℕ → ℕ → ℕ) → ℕ → ℕ → ℕ
+with_tile tile old x y =
+    if covers tile.row tile.column x y
+    then drawn_over tile.exclusive
+    (tile_colour (slice_index tile.colours 0) (slice_index tile.colours 1) tile.lines (x % 6) (y % 12))
+    (old x y)
+    else old x y
+
+-- pixel (x, y) after all have moved, and another came in or this colour
+abbrev pub moved_in : Option ℕ → ℕ → ℕ → (ℕ → ℕ → ℕ) → ℕ → ℕ → ℕ
+moved_in (Some colour) across down old x y =
+    if is_inside screen_width (source_x across x) && is_inside screen_height (source_y down y)
+    then old (source_x across x - screen_width) (source_y down y - screen_height) else colour
+moved_in None across down old x y = old (source_x across x % screen_width) (source_y down y % screen_height)
+
+-- pixel (x, y) after a scroll
+abbrev pub scrolled : Scrolling → (ℕ → ℕ → ℕ) → ℕ → ℕ → ℕ
+scrolled scroll old x y = moved_in scroll.incoming scroll.across scroll.down old x y
 
 -- the ranges of what stands beside the memory
 pub record IsInRange (border : ℕ) (colours levels : List ℕ) (h v : ℕ) : Type 0 where

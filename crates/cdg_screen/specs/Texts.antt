@@ -2,7 +2,8 @@
 use Rattle.std.specs.Prelude.{ℕ, ◌*◌, ◌/◌, ◌%◌, List, [], ◌∷◌, ◌++◌, flat_map, slice_index, codes}
 use Rattle.bit_lists.specs.Counting.{below}
 use Rattle.bit_lists.specs.Digits.{digits, hex_digits, line_feed}
-use Rattle.cdg_screen.specs.Picture.{Standing, screen_pixel}
+use Rattle.cdg_instructions.specs.Sizes.{screen_height, screen_width}
+use Rattle.cdg_screen.specs.Standing.{Standing, screen_pixel}
 
 -- the header of a pixmap: its kind, its size and the greatest value of a channel
 abbrev pub pixmap_header : List ℕ
@@ -14,11 +15,12 @@ colour_bytes colour = (17 * (colour / 256)) ∷ (17 * (colour / 16 % 16)) ∷ (1
 
 -- row y of a pixmap
 unfoldable pub pixmap_row : Standing → ℕ → List ℕ
-pixmap_row now y = flat_map (λ x. colour_bytes (slice_index now.colours (screen_pixel now x y))) (below 300)
+pixmap_row now y =
+    flat_map (λ x. colour_bytes (slice_index now.colours (screen_pixel now x y))) (below screen_width)
 
 -- the pixmap of a screen: a header, and red, green and blue of each pixel, row by row
 unfoldable pub pixmap : Standing → List ℕ
-pixmap now = pixmap_header ++ flat_map (pixmap_row now) (below 216)
+pixmap now = pixmap_header ++ flat_map (pixmap_row now) (below screen_height)
 
 -- the line of colour and level k
 unfoldable pub state_row : Standing → ℕ → List ℕ

@@ -2,7 +2,8 @@
 use Rattle.std.specs.Prelude.{◌≡◌, ◌/◌, ◌<◌, ℕ, ◌&&◌, nat_le, if◌then◌else◌}
 use Rattle.cdg_instructions.specs.declared.instr.Instr.{Instr}
 use Rattle.cdg_instructions.specs.declared.instr.Instr.TheVariants.{MemoryPreset, BorderPreset, SetTile, XorTile, ScrollPreset, ScrollCopy, Transparency, ColoursLow, ColoursHigh}
-use Rattle.cdg_screen.specs.Picture.{Standing, pixel_at}
+use Rattle.cdg_instructions.specs.Sizes.{screen_height, screen_width}
+use Rattle.cdg_screen.specs.Standing.{Standing, pixel_at}
 use Rattle.cdg_screen.specs.declared.touching.Touched.{Touched}
 use Rattle.cdg_screen.specs.declared.touching.Touched.TheVariants.{Nothing, Tile, All, Border, Colours, Levels}
 
@@ -37,7 +38,7 @@ IsSamePlace old new = (new.h ≡ old.h) × (new.v ≡ old.v)
 abbrev pub KeepsTheRest : Touched → Standing → Standing → Type 0
 KeepsTheRest Nothing old new = new ≡ old
 KeepsTheRest (Tile row column) old new =
-    ((x y : ℕ) → x < 300 → y < 216 → ¬ ((x / 6 ≡ column) × (y / 12 ≡ row))
+    ((x y : ℕ) → x < screen_width → y < screen_height → ¬ ((x / 6 ≡ column) × (y / 12 ≡ row))
     → pixel_at new.memory x y ≡ pixel_at old.memory x y)
     × IsSameBeside old new × IsSamePlace old new
 KeepsTheRest All old new = IsSameBeside old new

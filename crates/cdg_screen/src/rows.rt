@@ -1,7 +1,8 @@
 // Whole rows of the screen.
-ghost use Rattle.std.specs.Prelude.{◌≡◌, ◌<◌, ◌≤◌, ◌+◌, ◌-◌, ◌&&◌, nat_le, nat_lt, if◌then◌else◌, ℕ, length, slice_index};
+ghost use Rattle.std.specs.Prelude.{◌≡◌, ◌<◌, ◌≤◌, ◌+◌, ◌-◌, ◌&&◌, nat_le, nat_lt, if◌then◌else◌, ℕ, [], All, length, slice_index, slice_index_or};
+ghost use Rattle.cdg_instructions.specs.Sizes.{screen_height, screen_width};
 ghost use Rattle.cdg_screen.specs.Memory.{at};
-ghost use Rattle.cdg_screen.specs.Picture.{screen_pixel};
+ghost use Rattle.cdg_screen.specs.Standing.{screen_pixel};
 
 use crate::Screen;
 use crate::memory::Memory;
@@ -10,8 +11,8 @@ use cdg_instructions::{SCREEN_HEIGHT, SCREEN_WIDTH, TILE_HEIGHT, TILE_WIDTH, WIN
 impl Screen {
     /// Writes the numbers of the colours of a row of the screen's pixels. `y` is below 216.
     pub fn write_row(&self, y: usize, row: &mut [u8; SCREEN_WIDTH])
-        requires { y < 216 }
-        ensures pixels { (x : ℕ) → x < 300 → slice_index row.new x ≡ screen_pixel self.now x y }
+        requires { y < screen_height }
+        ensures pixels { (x : ℕ) → x < screen_width → slice_index row.new x ≡ screen_pixel self.now x y }
         ensures range { (x : ℕ) → slice_index row.new x < 16 }
     {
         fill_row(row, self.border);
@@ -20,15 +21,40 @@ impl Screen {
                 .write_window(usize::from(self.h), y + usize::from(self.v), row);
         }
     }
+
+    /// Row `y` of the memory, 300 numbers of colours. `y` is below 216.
+    pub fn memory_row(&self, y: usize) -> [u8; SCREEN_WIDTH]
+        requires { y < screen_height }
+        ensures row { result ≡ slice_index_or self.now.memory y [] }
+        ensures size { length result ≡ screen_width }
+        ensures range { All (λ pixel. pixel < 16) result }
+    {
+        self.memory.row(y)
+    }
 }
 
 impl Memory {
+    // Row y of the pixels.
+    fn row(&self, y: usize) -> [u8; SCREEN_WIDTH]
+        requires { y < screen_height }
+        ensures size { length result ≡ screen_width }
+        ensures pixels { (x : ℕ) → x < screen_width → slice_index result x ≡ at self.now x y }
+        ensures range { All (λ pixel. pixel < 16) result }
+    {
+        let from = &self.rows[(y + self.top) % SCREEN_HEIGHT];
+        let mut row = [0; SCREEN_WIDTH];
+        // What is past the end of the row goes on at its front.
+        write_at(&mut row, 0, &from[self.left..]);
+        write_at(&mut row, SCREEN_WIDTH - self.left, &from[..self.left]);
+        row
+    }
+
     // Writes the part of a row that the window shows where it is moved by `h`.
     fn write_window(&self, h: usize, y: usize, row: &mut [u8; SCREEN_WIDTH])
         requires moved { h ≤ 5 }
-        requires height { y < 216 }
+        requires height { y < screen_height }
         requires range { (x : ℕ) → slice_index row.old x < 16 }
-        ensures pixels { (x : ℕ) → x < 300 → slice_index row.new x
+        ensures pixels { (x : ℕ) → x < screen_width → slice_index row.new x
             ≡ (if nat_le 6 x && nat_lt x 294 then at self.now (x + h) y else slice_index row.old x) }
         ensures range { (x : ℕ) → slice_index row.new x < 16 }
     {
@@ -44,7 +70,7 @@ impl Memory {
 // Makes all pixels of a row one colour.
 fn fill_row(row: &mut [u8; SCREEN_WIDTH], colour: u8)
     requires { colour < 16 }
-    ensures pixels { (x : ℕ) → x < 300 → slice_index row.new x ≡ colour }
+    ensures pixels { (x : ℕ) → x < screen_width → slice_index row.new x ≡ colour }
     ensures range { (x : ℕ) → slice_index row.new x < 16 }
 {
     *row = [colour; SCREEN_WIDTH];
@@ -52,8 +78,8 @@ fn fill_row(row: &mut [u8; SCREEN_WIDTH], colour: u8)
 
 // Writes some pixels from a place of a row on.
 fn write_at(row: &mut [u8; SCREEN_WIDTH], place: usize, pixels: &[u8])
-    requires { place + length pixels.now ≤ 300 }
-    ensures { (x : ℕ) → x < 300 → slice_index row.new x
+    requires { place + length pixels.now ≤ screen_width }
+    ensures { (x : ℕ) → x < screen_width → slice_index row.new x
         ≡ (if nat_le place x && nat_lt x (place + length pixels.now) then slice_index pixels.now (x - place)
         else slice_index row.old x) }
 {

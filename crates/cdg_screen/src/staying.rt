@@ -1,11 +1,15 @@
 // Whether a change of the memory would leave it as it is.
 ghost use Rattle.std.specs.Prelude.{◌≡◌, ◌<◌, ◌≤◌, ◌+◌, ◌-◌, ◌*◌, ◌%◌, ◌↔◌, ◌==◌, ◌&&◌, nat_le, nat_lt, if◌then◌else◌, ℕ, All, IsTrue, slice_index};
 ghost use Rattle.cdg_instructions.specs.Drawing.{tile_colour};
-ghost use Rattle.cdg_screen.specs.Picture.{covers, is_inside, source, source_x, source_y};
-ghost use Rattle.cdg_screen.specs.Memory.{at, Becomes, drawn_over, line_colour};
+ghost use Rattle.cdg_instructions.specs.Sizes.{screen_height, screen_width};
+ghost use Rattle.cdg_screen.specs.Standing.{covers, is_inside, source, source_x, source_y};
+ghost use Rattle.cdg_instructions.specs.Effect.{IsScrollInRange};
+ghost use Rattle.cdg_screen.specs.Memory.{at, Becomes, drawn_over, line_colour, scrolled, with_tile};
 
-use crate::memory::{Memory, colour_of, over};
-use cdg_instructions::{SCREEN_HEIGHT, SCREEN_WIDTH, TILE_HEIGHT, TILE_WIDTH};
+use crate::memory::{Memory, colour_of, is_on_memory, over};
+use cdg_instructions::{
+    DrawnTile, SCREEN_HEIGHT, SCREEN_WIDTH, Scrolling, TILE_HEIGHT, TILE_WIDTH,
+};
 
 impl Memory {
     /// Whether all pixels have a colour.
@@ -20,30 +24,18 @@ impl Memory {
         true
     }
 
-    /// Whether a tile that is drawn, if it is on the memory, leaves each pixel as it is.
-    pub(crate) fn keeps_tile(
-        &self,
-        row: u8,
-        column: u8,
-        colours: [u8; 2],
-        lines: &[u8; 12],
-        exclusive: bool,
-    ) -> bool
-        requires { All (λ colour. colour < 16) colours }
-        ensures { IsTrue result ↔ Becomes self.now (λ x y.
-            if covers row column x y
-            then drawn_over exclusive
-            (tile_colour (slice_index colours 0) (slice_index colours 1) lines.now (x % 6) (y % 12))
-            (at self.now x y)
-            else at self.now x y) }
+    /// Whether a tile that is drawn, where it is on the memory, leaves each pixel as it is.
+    pub(crate) fn keeps_tile(&self, tile: &DrawnTile) -> bool
+        requires { All (λ colour. colour < 16) tile.now.colours }
+        ensures { IsTrue result ↔ Becomes self.now (with_tile tile.now (at self.now)) }
     {
-        if row > 17 || column > 49 {
+        if !is_on_memory(tile) {
             return true;
         }
-        let x = TILE_WIDTH * usize::from(column);
-        let y = TILE_HEIGHT * usize::from(row);
+        let x = TILE_WIDTH * usize::from(tile.column);
+        let y = TILE_HEIGHT * usize::from(tile.row);
         for j in 0..TILE_HEIGHT {
-            if !self.keeps_line(x, y + j, colours, lines[j], exclusive) {
+            if !self.keeps_line(x, y + j, tile.colours, tile.lines[j], tile.exclusive) {
                 return false;
             }
         }
@@ -52,8 +44,8 @@ impl Memory {
 
     // Whether a line of a tile that is drawn leaves its pixels as they are.
     fn keeps_line(&self, x: usize, y: usize, colours: [u8; 2], line: u8, exclusive: bool) -> bool
-        requires width { x + 6 ≤ 300 }
-        requires height { y < 216 }
+        requires width { x + 6 ≤ screen_width }
+        requires height { y < screen_height }
         requires range { All (λ colour. colour < 16) colours }
         ensures { IsTrue result ↔ Becomes self.now (λ x' y'.
             if y' == y && nat_le x x' && nat_lt x' (x + 6)
@@ -70,12 +62,24 @@ impl Memory {
         true
     }
 
-    /// Whether a scroll by which what leaves at an end comes in at the other leaves each pixel as it is.
-    pub(crate) fn keeps_scrolled_round(&self, across: u8, down: u8) -> bool
+    /// Whether a scroll leaves each pixel as it is.
+    pub(crate) fn keeps_scrolled(&self, scroll: &Scrolling) -> bool
+        requires { IsScrollInRange scroll.now }
+        ensures { IsTrue result ↔ Becomes self.now (scrolled scroll.now (at self.now)) }
+    {
+        match scroll.incoming {
+            Some(colour) => self.keeps_scrolled_in(scroll.across, scroll.down, colour),
+            None => self.keeps_scrolled_round(scroll.across, scroll.down),
+        }
+    }
+
+    // Whether a scroll by which what leaves at an end comes in at the other leaves each pixel as it is.
+    fn keeps_scrolled_round(&self, across: u8, down: u8) -> bool
         requires across { across ≤ 2 }
         requires down { down ≤ 2 }
         ensures { IsTrue result
-            ↔ Becomes self.now (λ x y. at self.now (source_x across x % 300) (source_y down y % 216)) }
+            ↔ Becomes self.now (λ x y.
+            at self.now (source_x across x % screen_width) (source_y down y % screen_height)) }
     {
         if across == 0 && down == 0 {
             return true;
@@ -92,10 +96,11 @@ impl Memory {
     // Whether a row is another one moved round.
     fn keeps_row_round(&self, across: u8, y: usize, from: usize) -> bool
         requires across { across ≤ 2 }
-        requires height { y < 216 }
-        requires from { from < 216 }
+        requires height { y < screen_height }
+        requires from { from < screen_height }
         ensures { IsTrue result
-            ↔ ((x : ℕ) → x < 300 → at self.now x y ≡ at self.now (source_x across x % 300) from) }
+            ↔ ((x : ℕ) → x < screen_width
+            → at self.now x y ≡ at self.now (source_x across x % screen_width) from) }
     {
         for x in 0..SCREEN_WIDTH {
             if self.get(x, y)
@@ -110,13 +115,13 @@ impl Memory {
         true
     }
 
-    /// Whether a scroll by which a colour comes in leaves each pixel as it is.
-    pub(crate) fn keeps_scrolled_in(&self, across: u8, down: u8, colour: u8) -> bool
+    // Whether a scroll by which a colour comes in leaves each pixel as it is.
+    fn keeps_scrolled_in(&self, across: u8, down: u8, colour: u8) -> bool
         requires across { across ≤ 2 }
         requires down { down ≤ 2 }
         ensures { IsTrue result ↔ Becomes self.now (λ x y.
-            if is_inside 300 (source_x across x) && is_inside 216 (source_y down y)
-            then at self.now (source_x across x - 300) (source_y down y - 216)
+            if is_inside screen_width (source_x across x) && is_inside screen_height (source_y down y)
+            then at self.now (source_x across x - screen_width) (source_y down y - screen_height)
             else colour) }
     {
         if across == 0 && down == 0 {
@@ -134,10 +139,10 @@ impl Memory {
     fn keeps_row_in(&self, across: u8, down: u8, colour: u8, y: usize) -> bool
         requires across { across ≤ 2 }
         requires down { down ≤ 2 }
-        requires height { y < 216 }
-        ensures { IsTrue result ↔ ((x : ℕ) → x < 300 → at self.now x y
-            ≡ (if is_inside 300 (source_x across x) && is_inside 216 (source_y down y)
-            then at self.now (source_x across x - 300) (source_y down y - 216)
+        requires height { y < screen_height }
+        ensures { IsTrue result ↔ ((x : ℕ) → x < screen_width → at self.now x y
+            ≡ (if is_inside screen_width (source_x across x) && is_inside screen_height (source_y down y)
+            then at self.now (source_x across x - screen_width) (source_y down y - screen_height)
             else colour)) }
     {
         for x in 0..SCREEN_WIDTH {
@@ -152,10 +157,11 @@ impl Memory {
     fn scrolled_in(&self, across: u8, down: u8, colour: u8, x: usize, y: usize) -> u8
         requires across { across ≤ 2 }
         requires down { down ≤ 2 }
-        requires width { x < 300 }
-        requires height { y < 216 }
-        ensures { result ≡ (if is_inside 300 (source_x across x) && is_inside 216 (source_y down y)
-            then at self.now (source_x across x - 300) (source_y down y - 216)
+        requires width { x < screen_width }
+        requires height { y < screen_height }
+        ensures { result
+            ≡ (if is_inside screen_width (source_x across x) && is_inside screen_height (source_y down y)
+            then at self.now (source_x across x - screen_width) (source_y down y - screen_height)
             else colour) }
     {
         let from_x = source(SCREEN_WIDTH, TILE_WIDTH, across, x);
@@ -172,7 +178,7 @@ impl Memory {
 
 // Whether all pixels of a row have a colour. It looks at all of them, so that many can be compared at once.
 fn is_row_filled(row: &[u8; SCREEN_WIDTH], colour: u8) -> bool
-    ensures { IsTrue result ↔ ((k : ℕ) → k < 300 → slice_index row.now k ≡ colour) }
+    ensures { IsTrue result ↔ ((k : ℕ) → k < screen_width → slice_index row.now k ≡ colour) }
 {
     let mut filled = true;
     for pixel in row {
@@ -183,7 +189,7 @@ fn is_row_filled(row: &[u8; SCREEN_WIDTH], colour: u8) -> bool
 
 // Where a pixel comes from in a scroll, plus the size in that direction.
 fn source(size: usize, step: usize, direction: u8, x: usize) -> usize
-    requires size { size ≤ 300 }
+    requires size { size ≤ screen_width }
     requires step { step ≤ size }
     requires within { x < size }
     ensures { result ≡ source size step direction x }

@@ -1,10 +1,11 @@
 // What an instruction can change, whatever stands.
 ghost use Rattle.std.specs.Prelude.{◌≡◌, ◌∷◌, []};
 ghost use Rattle.cdg_instructions.specs.declared.instr.Instr.{Instr};
-ghost use Rattle.cdg_screen.specs.Picture.{IsWholeStanding, Standing, standing_after};
+ghost use Rattle.cdg_screen.specs.Standing.{IsWholeStanding, Standing, standing_after};
 ghost use Rattle.cdg_screen.specs.Touched.{KeepsTheRest, tile_touched, touched_by};
 
-use cdg_instructions::{Instr, SCREEN_COLUMNS, SCREEN_ROWS};
+use crate::memory::is_on_memory;
+use cdg_instructions::{DrawnTile, Effect, Instr};
 
 /// What an instruction can change.
 #[derive(Clone, Copy, Debug, PartialEq, Eq)]
@@ -23,25 +24,25 @@ pub enum Touched {
 pub fn touches(instr: &Instr) -> Touched
     ensures { result ≡ touched_by instr.now }
 {
-    match *instr {
-        Instr::Idle | Instr::Foreign | Instr::Unknown => Touched::Nothing,
-        Instr::MemoryPreset { .. } | Instr::ScrollPreset { .. } | Instr::ScrollCopy { .. } =>
-            Touched::All,
-        Instr::BorderPreset { .. } => Touched::Border,
-        Instr::SetTile { row, column, .. } | Instr::XorTile { row, column, .. } => tile(
-            row, column,
-        ),
-        Instr::Transparency { .. } => Touched::Levels,
-        Instr::ColoursLow { .. } | Instr::ColoursHigh { .. } => Touched::Colours,
+    match instr.effect() {
+        Effect::Nothing => Touched::Nothing,
+        Effect::Clear { .. } | Effect::Scroll { .. } => Touched::All,
+        Effect::Border { .. } => Touched::Border,
+        Effect::Draw { tile } => touched_tile(&tile),
+        Effect::Levels { .. } => Touched::Levels,
+        Effect::Colours { .. } => Touched::Colours,
     }
 }
 
-// A tile, or nothing where it is outside of the memory.
-fn tile(row: u8, column: u8) -> Touched
-    ensures { result ≡ tile_touched row column }
+// A tile that is drawn, or nothing where it is not on the memory.
+fn touched_tile(tile: &DrawnTile) -> Touched
+    ensures { result ≡ tile_touched tile.now.row tile.now.column }
 {
-    if usize::from(row) < SCREEN_ROWS && usize::from(column) < SCREEN_COLUMNS {
-        Touched::Tile { row, column }
+    if is_on_memory(tile) {
+        Touched::Tile {
+            row: tile.row,
+            column: tile.column,
+        }
     } else {
         Touched::Nothing
     }

@@ -9,7 +9,7 @@ use Rattle.cdg_io.proofs.Streaming.{IsTold, bytes_of, IsWhole, streams_done, str
 use Rattle.cdg_io.specs.declared.pumping.Pumped.{Pumped}
 use Rattle.cdg_io.specs.declared.pumping.PumpStop.{PumpStop}
 use Rattle.cdg_io.specs.declared.pumping.PumpStop.TheVariants.{WriteFault, Torn}
-use Rattle.cdg_screen.specs.Picture.{Standing, blank}
+use Rattle.cdg_screen.specs.Standing.{Standing, blank}
 use Rattle.std.specs.Io.KnownBytes.{Consumes, IsAtEnd}
 use Rattle.cdg_thin.specs.Calls.{IsThinnedBy, Thins, ThinsAll, thinning}
 use Rattle.cdg_thin.specs.Thin.{IsThinText}

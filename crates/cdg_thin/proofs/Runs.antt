@@ -7,7 +7,7 @@ use Rattle.cdg_io.specs.Run.{run_gives}
 use Rattle.cdg_io.specs.Pump.{given, units_of}
 use Rattle.cdg_io.proofs.Frames.{machine_of}
 use Rattle.cdg_io.proofs.Streaming.{IsWhole, whole_units}
-use Rattle.cdg_screen.specs.Picture.{Standing, blank, standing_after}
+use Rattle.cdg_screen.specs.Standing.{Standing, blank, standing_after}
 use Rattle.cdg_screen.proofs.Turns.{blank_is_whole, in_turn}
 use Rattle.cdg_instructions.specs.declared.instr.Instr.{Instr}
 use Rattle.rw_code.specs.Packs.{idle_pack}

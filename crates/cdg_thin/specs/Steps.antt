@@ -2,7 +2,7 @@
 use Rattle.std.specs.Prelude.{ℕ, nat_eq, ◌==◌, ◌&&◌, Bool, if◌then◌else◌, List, [], ◌∷◌, Option, Some}
 use Rattle.std.specs.Cmp.Lexicographic.{pointwise}
 use Rattle.cdg_instructions.specs.Meaning.{meaning}
-use Rattle.cdg_screen.specs.Picture.{Standing, standing_after}
+use Rattle.cdg_screen.specs.Standing.{Standing, standing_after}
 use Rattle.rw_code.specs.Packs.{idle_pack}
 use Rattle.raw_subcode.specs.Channels.{symbols_of}
 use Rattle.cdg_thin.specs.Thin.{is_graphic}

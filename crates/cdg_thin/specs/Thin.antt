@@ -6,7 +6,8 @@ use Rattle.cdg_instructions.specs.Instruction.{Means}
 use Rattle.cdg_instructions.specs.MadeGood.{IsMadeGood}
 use Rattle.rw_code.specs.Packs.{idle_pack}
 use Rattle.raw_subcode.specs.Channels.{symbols_of}
-use Rattle.cdg_screen.specs.Picture.{blank, standing_after}
+use Rattle.raw_subcode.specs.Sizes.{symbols_a_slot}
+use Rattle.cdg_screen.specs.Standing.{blank, standing_after}
 use Rattle.cdg_instructions.specs.declared.instr.Instr.{Instr}
 use Rattle.cdg_instructions.specs.declared.instr.Instr.TheVariants.{Idle, Foreign, Unknown}
 
@@ -50,7 +51,7 @@ pub record IsThinForm (packs thins : List (List ℕ)) : Type 0 where
 -- the thin form of the whole packs of some bytes, as bytes
 pub record IsThinText (bytes text : List ℕ) : Type 0 where
   pub thins : List (List ℕ)
-  pub form : IsThinForm (whole_parts 24 bytes) thins
+  pub form : IsThinForm (whole_parts symbols_a_slot bytes) thins
   pub text_is : text ≡ concat thins
 
 -- the same stands after the first m packs of both

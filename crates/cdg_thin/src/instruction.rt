@@ -6,23 +6,20 @@ ghost use Rattle.cdg_thin.specs.Steps.{pack_instruction};
 ghost use Rattle.cdg_thin.specs.Thin.{is_graphic};
 
 use cdg_instructions::{Instr, read_word};
+use raw_subcode::SYMBOLS_A_SLOT;
 use rw_code::Word;
 
-/// The instruction of 24 bytes. The codeword that they make, whose parity is made good, has the same. Most packs are
-/// idle, which one byte tells.
-pub(crate) fn instruction(bytes: &[u8; 24]) -> Instr
+/// The instruction of 24 bytes. The codeword that they make, whose parity is made good, has the same.
+pub(crate) fn instruction(bytes: &[u8; SYMBOLS_A_SLOT]) -> Instr
     ensures meaning { result ≡ pack_instruction bytes.now }
     ensures range { InRange result }
 {
-    if is_idle(bytes) {
-        return Instr::Idle;
-    }
     read_word(&Word::new(bytes))
 }
 
-// Whether 24 bytes are seen to say nothing, by the first of them.
+/// Whether 24 bytes are seen to say nothing, by the first of them.
 #[inline]
-fn is_idle(bytes: &[u8; 24]) -> bool
+pub(crate) fn is_idle(bytes: &[u8; SYMBOLS_A_SLOT]) -> bool
     ensures { IsTrue result → pack_instruction bytes.now ≡ Idle }
 {
     bytes[0] % 64 == 0

@@ -4,11 +4,12 @@ ghost use Rattle.cdg_instructions.specs.Instruction.{InRange};
 ghost use Rattle.cdg_io.specs.Causes.{TellsFault};
 ghost use Rattle.cdg_io.specs.Change.{change, passed};
 ghost use Rattle.cdg_io.specs.Pump.{FillsUnits, IsUnlessFault, TellsEndOf, answer_of};
-ghost use Rattle.cdg_screen.specs.Picture.{blank, standing_after};
+ghost use Rattle.cdg_screen.specs.Standing.{blank, standing_after};
+ghost use Rattle.raw_subcode.specs.Sizes.{symbols_a_slot};
 ghost use Rattle.cdg_thin.specs.Calls.{Thins, ThinsAll, most_file_packs};
 ghost use Rattle.cdg_thin.specs.Steps.{pack_instruction, is_needless, thin_next, thin_gives};
 
-use crate::instruction::{instruction, is_graphic};
+use crate::instruction::{instruction, is_graphic, is_idle};
 use crate::laws::thin_forms_stand_alike;
 use cdg_instructions::Instr;
 use cdg_io::{Piece, PumpStop, Pumped, Sink, Source, Stage, pump};
@@ -27,7 +28,7 @@ pub struct Thinner {
 }
 
 impl Model for Thinner {
-    ghost use Rattle.cdg_screen.specs.Picture.{Standing};
+    ghost use Rattle.cdg_screen.specs.Standing.{Standing};
 
     ghost Value = { Standing };
 
@@ -68,7 +69,7 @@ impl Thinner {
             (λ all. ThinsAll all (change K.held out.old out.new) result) }
         // Where nothing failed, the answer is that of the whole input's length.
         ensures answer { IfSome (S.left source.old)
-            (λ all. IsUnlessFault result (answer_of 24 most_file_packs (length all))) }
+            (λ all. IsUnlessFault result (answer_of symbols_a_slot most_file_packs (length all))) }
         ensures read_fault { TellsFault PumpStop.ReadFault
             (S.faults source.old) (S.faults source.new) result }
         ensures ended { TellsEndOf result (S.ends source.old) (S.ends source.new) }
@@ -89,6 +90,7 @@ impl Thinner {
     }
 
     // Carries out an instruction, and tells whether it was needless.
+    #[inline]
     fn passes_over(&mut self, instr: &Instr) -> bool
         requires { InRange instr.now }
         ensures next { self.new ≡ standing_after self.old (instr.now ∷ []) }
@@ -101,9 +103,23 @@ impl Thinner {
         is_graphic(instr)
     }
 
-    // The same of the instruction of a pack.
+    // The same of the instruction of a pack. Most packs are idle.
     #[inline]
-    fn is_needless(&mut self, pack: &[u8; 24]) -> bool
+    fn is_needless(&mut self, pack: &[u8; SYMBOLS_A_SLOT]) -> bool
+        ensures next { self.new ≡ thin_next self.old pack.now }
+        ensures needless { result ≡ is_needless self.old (pack_instruction pack.now) }
+    {
+        if is_idle(pack) {
+            // A law: what stands is as after no instructions, and so after an idle pack.
+            self.screen.what_stands_is_whole();
+            return false;
+        }
+        self.is_needless_drawing(pack)
+    }
+
+    // The same where the pack is seen to say something. It stands apart, so that idle packs do not pay for it.
+    #[inline(never)]
+    fn is_needless_drawing(&mut self, pack: &[u8; SYMBOLS_A_SLOT]) -> bool
         ensures next { self.new ≡ thin_next self.old pack.now }
         ensures needless { result ≡ is_needless self.old (pack_instruction pack.now) }
     {
@@ -112,7 +128,7 @@ impl Thinner {
 
     // Makes a piece of a pack, or of an idle one where it is needless.
     #[tactic(auto, unfolding(crate::specs::Steps::thin_gives))]
-    fn pass(&mut self, pack: &[u8; 24], piece: &mut Piece)
+    fn pass(&mut self, pack: &[u8; SYMBOLS_A_SLOT], piece: &mut Piece)
         ensures next { self.new ≡ thin_next self.old pack.now }
         ensures gives { Some piece.new ≡ thin_gives self.old pack.now }
     {
@@ -125,7 +141,7 @@ impl Thinner {
 }
 
 impl Stage for Thinner {
-    type Item = [u8; 24];
+    type Item = [u8; SYMBOLS_A_SLOT];
 
     type Out = Piece;
 
@@ -133,13 +149,16 @@ impl Stage for Thinner {
 
     ghost gives = { thin_gives };
 
-    fn feed(&mut self, pack: &[u8; 24]) -> Option<Piece> {
+    // It stands apart, so that a piece that is written over does not pay for one that is made.
+    #[cold]
+    #[inline(never)]
+    fn feed(&mut self, pack: &[u8; SYMBOLS_A_SLOT]) -> Option<Piece> {
         let mut piece = Piece::new();
         self.pass(pack, &mut piece);
         Some(piece)
     }
 
-    fn emit(&mut self, pack: &[u8; 24], out: &mut Option<Piece>) {
+    fn emit(&mut self, pack: &[u8; SYMBOLS_A_SLOT], out: &mut Option<Piece>) {
         match out {
             Some(piece) => self.pass(pack, piece),
             None => *out = self.feed(pack),

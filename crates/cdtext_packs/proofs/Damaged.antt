@@ -7,7 +7,7 @@ use Rattle.bit_lists.specs.Bits.{bits_of, bits_of_bytes}
 use Rattle.bit_lists.specs.Check.{check_bits, check_of, IsChecked}
 use Rattle.bit_lists.proofs.BitsLemmas.{bits_of-split, bits_of-above, bits_of_bytes-append, length-bits_of_bytes}
 use Rattle.bit_lists.proofs.Checks.{bits_of-check_of}
-use Rattle.bit_lists.proofs.Bursts.{burst_law}
+use Rattle.bit_lists.proofs.Bursts.{bursts_fail_the_check}
 use Rattle.cdtext_packs.specs.Packs.{check_matches}
 use Rattle.cdtext_packs.specs.Kept.{offer_of}
 use Rattle.cdtext_packs.specs.declared.kinds.Offer.TheVariants.{BadCrc}
@@ -55,6 +55,6 @@ pub noticed : (kept : List (Option (List ℕ))) (pack changed : List ℕ) (befor
     → bits_of_bytes pack ≡ before ++ one ++ after → bits_of_bytes changed ≡ before ++ other ++ after
     → length one ≤ 16 → length other ≡ length one → one ≢ other → offer_of kept changed ≡ BadCrc
 noticed kept pack changed before one other after is was matches spelled spelled' small same differ = elim (cases_Bool (check_matches changed)) [
-  | inl still ↦ absurd (differ (burst_law before one other after small same (subst IsChecked spelled (checked pack is matches)) (subst IsChecked spelled' (checked changed was still))))
+  | inl still ↦ absurd (differ (bursts_fail_the_check before one other after small same (subst IsChecked spelled (checked pack is matches)) (subst IsChecked spelled' (checked changed was still))))
   | inr broken ↦ bad_offer kept changed broken
 ]

@@ -2,7 +2,7 @@
 use Rattle.std.specs.Prelude.{◌≡◌, ◌≢◌, ◌≤◌, ◌⊎◌, ℕ, ◌+◌, ◌-◌, Bool, List, [], ◌∷◌, length, replicate, slice_index_or, All, ◌==◌, nat_lt, if◌then◌else◌}
 use Rattle.std.specs.List.{list_all}
 use Rattle.disc_time.specs.Counts.{most_tracks}
-use Rattle.text_lines.specs.Text.{most_text_bytes}
+use Rattle.disc_time.specs.Counts.{most_text_bytes}
 use Rattle.cdtext_packs.specs.declared.kinds.TextKind.{TextKind}
 use Rattle.cdtext_packs.specs.declared.kinds.TextKind.TheVariants.{Title, Performer, Songwriter, Composer, Arranger, Message, Code}
 

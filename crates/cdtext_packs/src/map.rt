@@ -176,6 +176,7 @@ impl TextMap {
         }
     }
 
+    /// The strings of a kind.
     pub(crate) fn strings(&self, kind: TextKind) -> &Strings
         ensures strings { result.now ≡ strings_of kind self.now }
     {

@@ -44,12 +44,14 @@ impl TextPack {
         self.bytes[0]
     }
 
+    /// Its second byte: the track of its first string, or of a size pack which of the three it is.
     pub(crate) fn track(&self) -> u8
         ensures { result ≡ pack_track self.now }
     {
         self.bytes[1]
     }
 
+    /// Its third byte: its number among all packs.
     pub(crate) fn number(&self) -> u8
         ensures { result ≡ pack_number self.now }
     {
@@ -89,6 +91,7 @@ impl TextPack {
         TextPack::sealed(&content)
     }
 
+    // The pack of sixteen bytes and their check.
     fn sealed(content: &[u8; 16]) -> TextPack
         ensures { result ≡ sealed content.now }
     {

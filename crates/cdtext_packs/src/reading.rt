@@ -2,7 +2,7 @@
 ghost use Rattle.std.specs.Prelude.{◌≡◌, ◌≤◌, ◌*◌, false, [], length, replicate, Some, None, IfOk, All, if◌then◌else◌};
 ghost use Rattle.std.specs.List.{position_or_len};
 ghost use Rattle.std.specs.Option.{option_map};
-ghost use Rattle.text_lines.specs.Text.{most_text_bytes};
+ghost use Rattle.disc_time.specs.Counts.{most_text_bytes};
 ghost use Rattle.cdtext_packs.specs.Packs.{most_text_packs};
 ghost use Rattle.cdtext_packs.specs.Texts.{IsString};
 ghost use Rattle.cdtext_packs.specs.Reading.{keeps_nothing, is_size_pack, size_pack, first_missing, first_short, kind_packs, last_number, is_short, is_zero, ends_in, kind_texts, kind_bytes, strings_in, resolved};
@@ -33,6 +33,7 @@ pub(crate) fn size_pack(kept: &[Option<TextPack>], d: u8) -> Option<TextPack>
     None
 }
 
+// Whether it is size pack `d`, of 0 to 2.
 fn is_size_pack(pack: &TextPack, d: u8) -> bool
     ensures { result ≡ is_size_pack d pack.now }
 {

@@ -38,6 +38,7 @@ impl Strings {
         Ok(())
     }
 
+    /// How many strings there are.
     pub(crate) fn len(&self) -> usize
         ensures { result ≡ length self.now }
     {
@@ -65,6 +66,7 @@ impl Strings {
         }
     }
 
+    /// Whether each string is empty.
     pub(crate) fn are_empty(&self) -> bool
         ensures { result ≡ are_empty self.now }
     {

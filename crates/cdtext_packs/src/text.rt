@@ -114,6 +114,7 @@ fn line_head(kind: TextKind, track: u8) -> Piece
     piece
 }
 
+// The word with which the lines of a kind begin.
 fn kind_name(kind: TextKind) -> &'static [u8]
     ensures name { result.now ≡ kind_name kind }
     ensures bound { length result.now ≤ 10 }

@@ -9,7 +9,7 @@ use Rattle.bit_lists.specs.Check.{check_of, check_bits}
 use Rattle.bit_lists.proofs.BitsLemmas.{number_of-lt}
 use Rattle.bit_lists.proofs.Checks.{length-check_bits}
 use Rattle.std.specs.Prelude.{slice_index}
-use Rattle.cdg_screen.specs.Picture.{pixel_at, standing_after}
+use Rattle.cdg_screen.specs.Standing.{pixel_at, standing_after}
 use Rattle.cdg_screen.proofs.Lists.{rows_same, sixteen_same}
 use Rattle.checkpoint_files.specs.Table.{Part, Mark, ToCome, LeadIn, Program, Bad, Slots, Memory, Border, Across, Down, Colours, Levels, Check, row, all_parts, number, number_at, mark, IsPartInRange, IsCheckpointFile}
 use Rattle.checkpoint_files.specs.Checkpoint.{Checkpoint, written_value, bytes_of, part_bytes, body, file_of, checkpoint_in, standing_in}

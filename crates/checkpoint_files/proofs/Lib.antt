@@ -1,4 +1,5 @@
 pub mod Writing
+pub mod MemoryRows
 pub mod SlotRanges
 pub mod Restored
 pub mod ReadBack

@@ -6,7 +6,7 @@ use Rattle.std.proofs.lemmas.Bool.Decides.{eqb_tells}
 use Rattle.std.proofs.lemmas.List.{drop-take, drop-drop, get_or-drop, get_or-take, get_or_past, length-take-le, take-take}
 use Rattle.bit_lists.proofs.Groups.{all_below_bound}
 use Rattle.cdg_instructions.specs.Sizes.{screen_width}
-use Rattle.cdg_screen.specs.Picture.{IsWholeStanding, rows_in}
+use Rattle.cdg_screen.specs.Standing.{IsWholeStanding, rows_in}
 use Rattle.cdg_screen.proofs.Lists.{built_is_whole, rows_same}
 use Rattle.checkpoint_files.specs.Checkpoint.{standing_in}
 use Rattle.checkpoint_files.specs.Table.{number, number_at, Memory, Border, Across, Down, Colours, Levels}

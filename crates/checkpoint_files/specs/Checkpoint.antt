@@ -3,9 +3,9 @@ use Rattle.std.specs.Prelude.{ℕ, zero, suc, ◌+◌, ◌*◌, ◌/◌, ◌%◌
 use Rattle.bit_lists.specs.Counting.{below}
 use Rattle.bit_lists.specs.Check.{check_of}
 use Rattle.cdg_instructions.specs.Sizes.{screen_width}
-use Rattle.cdg_screen.specs.Picture.{Standing, pixel_at, rows_of, sixteen}
-use Rattle.checkpoint_files.specs.declared.counts.Counts.{Counts}
-use Rattle.checkpoint_files.specs.Table.{Part, Mark, ToCome, LeadIn, Program, Bad, Slots, Memory, Border, Across, Down, Colours, Levels, Check, row, body_parts, mark, number}
+use Rattle.cdg_screen.specs.Standing.{Standing, pixel_at, rows_of, sixteen}
+use Rattle.checkpoint_files.specs.declared.counts.StreamCounts.{StreamCounts}
+use Rattle.checkpoint_files.specs.Table.{Part, Mark, ToCome, LeadIn, Program, Bad, Slots, Memory, Border, Across, Down, Colours, Levels, Check, row, body_parts, mark, number, slots_bytes}
 
 -- what a checkpoint keeps: the lead-in blocks still to come and those read, the program blocks read, the bad words so
 -- far, the symbols of the last seven slots with zeros before the first, and what stands
@@ -18,7 +18,7 @@ pub record Checkpoint : Type 0 where
   pub standing : Standing
 
 -- the checkpoint of these counts and slots, and of what stands
-abbrev pub kept : Counts → List ℕ → Standing → Checkpoint
+abbrev pub kept : StreamCounts → List ℕ → Standing → Checkpoint
 kept counts slots now = record {
   to_come = counts.to_come;
   lead_in = counts.lead_in;
@@ -88,6 +88,6 @@ checkpoint_in file = record {
   lead_in = number file LeadIn 0;
   program = number file Program 0;
   bad = number file Bad 0;
-  slots = take 168 (drop 24 file);
+  slots = take slots_bytes (drop (row Slots).first file);
   standing = standing_in file;
 }

@@ -4,8 +4,8 @@ use Rattle.disc_time.specs.Counts.{most_lead_in}
 use Rattle.raw_subcode.specs.Sizes.{most_units}
 use Rattle.rw_interleave.specs.Interleave.{whole_packs}
 use Rattle.cdg_instructions.specs.Sizes.{screen_height, screen_width}
-use Rattle.cdg_screen.specs.Picture.{IsWholeStanding, Standing, pixel_at}
-use Rattle.checkpoint_files.specs.Table.{empty_symbols}
+use Rattle.cdg_screen.specs.Standing.{IsWholeStanding, Standing, pixel_at}
+use Rattle.checkpoint_files.specs.Table.{empty_symbols, slots_bytes}
 use Rattle.checkpoint_files.specs.Checkpoint.{Checkpoint}
 
 -- what stands is a whole screen of colours, levels and offsets in their ranges
@@ -24,7 +24,7 @@ pub record IsSoundCheckpoint (c : Checkpoint) : Type 0 where
   pub blocks : c.lead_in + c.program ≤ most_units
   pub none_yet : 0 < c.to_come → c.program ≡ 0
   pub bad : c.bad ≤ whole_packs c.program
-  pub slots_size : length c.slots ≡ 168
-  pub slots_below : (k : ℕ) → k < 168 → slice_index c.slots k < 64
+  pub slots_size : length c.slots ≡ slots_bytes
+  pub slots_below : (k : ℕ) → k < slots_bytes → slice_index c.slots k < 64
   pub slots_empty : (k : ℕ) → k < empty_symbols c.program → slice_index c.slots k ≡ 0
   pub standing : IsSoundStanding c.standing

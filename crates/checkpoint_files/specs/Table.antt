@@ -23,6 +23,18 @@ pub data Part : Type 0 where
   Levels : Part
   Check : Part
 
+-- the symbols of the last seven slots
+abbrev pub slots_bytes : ℕ
+slots_bytes = 168
+
+-- the bytes that the check is of, all but its own two
+abbrev pub body_size : ℕ
+body_size = 65043
+
+-- how many bytes the file has
+abbrev pub file_size : ℕ
+file_size = 65045
+
 -- where a part begins, how many fields it has, and how many bytes each of them has
 pub record Row : Type 0 where
   pub first : ℕ
@@ -36,14 +48,14 @@ row ToCome = record { first = 8; count = 1; size = 4 }
 row LeadIn = record { first = 12; count = 1; size = 4 }
 row Program = record { first = 16; count = 1; size = 4 }
 row Bad = record { first = 20; count = 1; size = 4 }
-row Slots = record { first = 24; count = 168; size = 1 }
+row Slots = record { first = 24; count = slots_bytes; size = 1 }
 row Memory = record { first = 192; count = screen_pixels; size = 1 }
 row Border = record { first = 64992; count = 1; size = 1 }
 row Across = record { first = 64993; count = 1; size = 1 }
 row Down = record { first = 64994; count = 1; size = 1 }
 row Colours = record { first = 64995; count = 16; size = 2 }
 row Levels = record { first = 65027; count = 16; size = 1 }
-row Check = record { first = 65043; count = 1; size = 2 }
+row Check = record { first = body_size; count = 1; size = 2 }
 
 -- the parts that the check is of, in the order of their bytes
 abbrev pub body_parts : List Part
@@ -91,7 +103,7 @@ IsFieldInRange file Across k = number file Across k ≤ 5
 IsFieldInRange file Down k = number file Down k ≤ 11
 IsFieldInRange file Colours k = number file Colours k < 4096
 IsFieldInRange file Levels k = number file Levels k < 64
-IsFieldInRange file Check k = number file Check 0 ≡ check_of (take 65043 file)
+IsFieldInRange file Check k = number file Check 0 ≡ check_of (take body_size file)
 
 -- all fields of a part are in their ranges
 abbrev pub IsPartInRange : List ℕ → Part → Type 0
@@ -113,10 +125,6 @@ pub record IsFirstOut (file : List ℕ) (byte : ℕ) : Type 0 where
   pub order : all_parts ≡ early ++ part ∷ late
   pub earlier : AllByRecursion (IsPartInRange file) early
   pub here : IsOutOfPart file part byte
-
--- how many bytes the file has
-abbrev pub file_size : ℕ
-file_size = 65045
 
 -- the bytes are a checkpoint's file
 pub record IsCheckpointFile (file : List ℕ) : Type 0 where

@@ -2,27 +2,27 @@
 ghost use Rattle.std.specs.Prelude.{◌≡◌, ◌≤◌, ◌+◌, ◌<◌, ℕ, length, MatchResult, slice_index, take};
 ghost use Rattle.bit_lists.specs.Check.{check_of};
 ghost use Rattle.std.specs.List.{AllByRecursion};
-ghost use Rattle.checkpoint_files.specs.Table.{Across, Bad, Border, Check, Colours, Down, IsBadAt, IsCheckpointFile, IsFirstOut, IsOutOfPart, IsPartInRange, LeadIn, Levels, Mark, Memory, Program, Slots, ToCome, empty_symbols, all_parts};
+ghost use Rattle.checkpoint_files.specs.Table.{Across, Bad, Border, Check, Colours, Down, IsBadAt, IsCheckpointFile, IsFirstOut, IsOutOfPart, IsPartInRange, LeadIn, Levels, Mark, Memory, Program, Slots, ToCome, empty_symbols, all_parts, body_size, file_size, slots_bytes};
 ghost use Rattle.checkpoint_files.specs.Scan.{IsFirstAbove};
 
-use crate::composing::PIXELS;
+use crate::composing::MARK;
 use crate::fields::{
     ACROSS, BAD, BORDER, CHECK, COLOURS, DOWN, LEAD_IN, LEVELS, MEMORY, PROGRAM, SLOTS, TO_COME,
 };
 use crate::file::{CheckpointFile, FILE_BYTES, SLOTS_BYTES};
+use cdg_instructions::SCREEN_PIXELS;
 use disc_time::MOST_LEAD_IN;
-use raw_subcode::MOST_UNITS;
+use raw_subcode::{MOST_UNITS, SLOTS_A_BLOCK, SYMBOLS_A_SLOT};
+use rw_interleave::PACKS_KEPT_BACK;
 use subcode_crc::crc16;
-
-// The eight bytes at the front, `CDGSAVE1`, as one number.
-const MARK: u64 = 0x4344_4753_4156_4531;
 
 // How many bytes of the slots stand for no slot, after so many blocks of the program.
 fn empty_symbols(program: u32) -> usize
     ensures value { result ≡ empty_symbols program }
-    ensures most { result ≤ 168 }
+    ensures most { result ≤ slots_bytes }
 {
-    24 * (7 - 7.min(4 * program.min(2)) as usize)
+    let slots = SLOTS_A_BLOCK * program as usize;
+    SYMBOLS_A_SLOT * (PACKS_KEPT_BACK - PACKS_KEPT_BACK.min(slots))
 }
 
 impl CheckpointFile {
@@ -43,7 +43,7 @@ impl CheckpointFile {
 
     // Are all fields in their ranges? If not, the first byte of the first one.
     fn check_fields(&self) -> Result<(), u32>
-        requires { length self.now ≡ 65045 }
+        requires { length self.now ≡ file_size }
         ensures { MatchResult result (λ _. AllByRecursion (IsPartInRange self.now) all_parts)
             (IsFirstOut self.now) }
     {
@@ -65,17 +65,17 @@ impl CheckpointFile {
     // Are all fields of a part in their ranges? If not, the first byte of the first one of the part.
 
     fn check_mark(&self) -> Result<(), u32>
-        requires { length self.now ≡ 65045 }
+        requires { length self.now ≡ file_size }
         ensures { MatchResult result (λ _. IsPartInRange self.now Mark) (IsOutOfPart self.now Mark) }
     {
-        if self.front() != MARK {
+        if self.front() != u64::from_be_bytes(*MARK) {
             return Err(0);
         }
         Ok(())
     }
 
     fn check_to_come(&self) -> Result<(), u32>
-        requires { length self.now ≡ 65045 }
+        requires { length self.now ≡ file_size }
         ensures { MatchResult result (λ _. IsPartInRange self.now ToCome) (IsOutOfPart self.now ToCome) }
     {
         if self.counts().to_come > MOST_LEAD_IN {
@@ -85,7 +85,7 @@ impl CheckpointFile {
     }
 
     fn check_lead_in(&self) -> Result<(), u32>
-        requires { length self.now ≡ 65045 }
+        requires { length self.now ≡ file_size }
         ensures { MatchResult result (λ _. IsPartInRange self.now LeadIn) (IsOutOfPart self.now LeadIn) }
     {
         let counts = self.counts();
@@ -96,7 +96,7 @@ impl CheckpointFile {
     }
 
     fn check_program(&self) -> Result<(), u32>
-        requires { length self.now ≡ 65045 }
+        requires { length self.now ≡ file_size }
         ensures { MatchResult result (λ _. IsPartInRange self.now Program) (IsOutOfPart self.now Program) }
     {
         let counts = self.counts();
@@ -108,18 +108,19 @@ impl CheckpointFile {
     }
 
     fn check_bad(&self) -> Result<(), u32>
-        requires { length self.now ≡ 65045 }
+        requires { length self.now ≡ file_size }
         ensures { MatchResult result (λ _. IsPartInRange self.now Bad) (IsOutOfPart self.now Bad) }
     {
         let counts = self.counts();
-        if u64::from(counts.bad) > (4 * u64::from(counts.program)).saturating_sub(7) {
+        let packs = SLOTS_A_BLOCK as u64 * u64::from(counts.program);
+        if u64::from(counts.bad) > packs.saturating_sub(PACKS_KEPT_BACK as u64) {
             return Err(BAD as u32);
         }
         Ok(())
     }
 
     fn check_slots(&self) -> Result<(), u32>
-        requires { length self.now ≡ 65045 }
+        requires { length self.now ≡ file_size }
         ensures { MatchResult result (λ _. IsPartInRange self.now Slots) (IsOutOfPart self.now Slots) }
     {
         let empty = empty_symbols(self.counts().program);
@@ -128,35 +129,35 @@ impl CheckpointFile {
     }
 
     fn check_memory(&self) -> Result<(), u32>
-        requires { length self.now ≡ 65045 }
+        requires { length self.now ≡ file_size }
         ensures { MatchResult result (λ _. IsPartInRange self.now Memory) (IsOutOfPart self.now Memory) }
     {
-        self.check_bytes(MEMORY, PIXELS as usize, 16)
+        self.check_bytes(MEMORY, SCREEN_PIXELS, 16)
     }
 
     fn check_border(&self) -> Result<(), u32>
-        requires { length self.now ≡ 65045 }
+        requires { length self.now ≡ file_size }
         ensures { MatchResult result (λ _. IsPartInRange self.now Border) (IsOutOfPart self.now Border) }
     {
         self.check_bytes(BORDER, 1, 16)
     }
 
     fn check_across(&self) -> Result<(), u32>
-        requires { length self.now ≡ 65045 }
+        requires { length self.now ≡ file_size }
         ensures { MatchResult result (λ _. IsPartInRange self.now Across) (IsOutOfPart self.now Across) }
     {
         self.check_bytes(ACROSS, 1, 6)
     }
 
     fn check_down(&self) -> Result<(), u32>
-        requires { length self.now ≡ 65045 }
+        requires { length self.now ≡ file_size }
         ensures { MatchResult result (λ _. IsPartInRange self.now Down) (IsOutOfPart self.now Down) }
     {
         self.check_bytes(DOWN, 1, 12)
     }
 
     fn check_colours(&self) -> Result<(), u32>
-        requires { length self.now ≡ 65045 }
+        requires { length self.now ≡ file_size }
         ensures { MatchResult result (λ _. IsPartInRange self.now Colours) (IsOutOfPart self.now Colours) }
     {
         for k in 0..16usize {
@@ -169,14 +170,14 @@ impl CheckpointFile {
     }
 
     fn check_levels(&self) -> Result<(), u32>
-        requires { length self.now ≡ 65045 }
+        requires { length self.now ≡ file_size }
         ensures { MatchResult result (λ _. IsPartInRange self.now Levels) (IsOutOfPart self.now Levels) }
     {
         self.check_bytes(LEVELS, 16, 64)
     }
 
     fn check_check(&self) -> Result<(), u32>
-        requires { length self.now ≡ 65045 }
+        requires { length self.now ≡ file_size }
         ensures { MatchResult result (λ _. IsPartInRange self.now Check) (IsOutOfPart self.now Check) }
     {
         if self.short_number(CHECK) != self.check_of_body() {
@@ -187,8 +188,8 @@ impl CheckpointFile {
 
     // The check of all bytes before it.
     fn check_of_body(&self) -> u16
-        requires { length self.now ≡ 65045 }
-        ensures { result ≡ check_of (take 65043 self.now) }
+        requires { length self.now ≡ file_size }
+        ensures { result ≡ check_of (take body_size self.now) }
     {
         crc16(&self.bytes()[..CHECK])
     }

@@ -1,31 +1,25 @@
 // The file of a checkpoint, written.
 ghost use Rattle.std.specs.Prelude.{◌≡◌, ◌≤◌, ◌+◌, ◌++◌, [], ◌∷◌, List, ℕ, length};
-ghost use Rattle.cdg_screen.specs.Picture.{Standing};
-ghost use Rattle.checkpoint_files.specs.Table.{Mark, ToCome, LeadIn, Program, Bad, Memory, Border, Across, Down, Colours, Levels};
+ghost use Rattle.cdg_screen.specs.Standing.{Standing};
+ghost use Rattle.checkpoint_files.specs.Table.{Mark, ToCome, LeadIn, Program, Bad, Memory, Border, Across, Down, Colours, Levels, body_size};
 ghost use Rattle.checkpoint_files.specs.Checkpoint.{bytes_of, file_of, kept, part_bytes, with_parts};
 
-use crate::Counts;
+use crate::StreamCounts;
 use crate::file::{CheckpointFile, SLOTS_BYTES};
-use cdg_instructions::{SCREEN_PIXELS, SCREEN_WIDTH};
+use cdg_instructions::SCREEN_HEIGHT;
 use cdg_screen::Screen;
 use subcode_crc::crc16;
 
 /// The bytes at the front of the file.
 pub(crate) const MARK: &[u8; 8] = b"CDGSAVE1";
 
-/// The pixels of the memory across.
-pub(crate) const WIDTH: u32 = SCREEN_WIDTH as u32;
-
-/// All pixels of the memory.
-pub(crate) const PIXELS: u32 = SCREEN_PIXELS as u32;
-
-/// The colours of the table.
-pub(crate) const COLOURS: u8 = 16;
+// How many colours the table has, and how many levels.
+const COLOUR_COUNT: u8 = 16;
 
 impl CheckpointFile {
     /// Becomes the file of these counts, of the symbols of the last seven slots, zeros before the first, and
     /// of what stands on the screen.
-    pub fn compose(&mut self, counts: &Counts, slots: &[u8; SLOTS_BYTES], screen: &Screen)
+    pub fn compose(&mut self, counts: &StreamCounts, slots: &[u8; SLOTS_BYTES], screen: &Screen)
         ensures { self.new ≡ file_of (kept counts.now slots.now screen.now) }
     {
         self.clear();
@@ -40,7 +34,7 @@ impl CheckpointFile {
     }
 
     // Appends the mark and the counts.
-    fn put_counts(&mut self, counts: &Counts)
+    fn put_counts(&mut self, counts: &StreamCounts)
         requires { length self.old ≡ 0 }
         ensures parts { (slots : List ℕ) (now : Standing)
             → self.new ≡ with_parts self.old (kept counts.now slots now)
@@ -66,19 +60,19 @@ impl CheckpointFile {
     // Appends the memory of the screen, row by row.
     fn put_memory(&mut self, screen: &Screen)
         requires { length self.old ≡ 192 }
-        ensures part { (counts : Counts) (slots : List ℕ)
+        ensures part { (counts : StreamCounts) (slots : List ℕ)
             → self.new ≡ self.old ++ part_bytes (kept counts slots screen.now) Memory }
         ensures size { length self.new ≡ 64992 }
     {
-        for k in 0..PIXELS {
-            self.put(&[screen.memory(k % WIDTH, k / WIDTH)]);
+        for y in 0..SCREEN_HEIGHT {
+            self.put(&screen.memory_row(y));
         }
     }
 
     // Appends the border and both offsets.
     fn put_places(&mut self, screen: &Screen)
         requires { length self.old ≡ 64992 }
-        ensures parts { (counts : Counts) (slots : List ℕ)
+        ensures parts { (counts : StreamCounts) (slots : List ℕ)
             → self.new ≡ with_parts self.old (kept counts slots screen.now)
             (Border ∷ Across ∷ Down ∷ []) }
         ensures size { length self.new ≡ 64995 }
@@ -91,11 +85,11 @@ impl CheckpointFile {
     // Appends the sixteen colours.
     fn put_colours(&mut self, screen: &Screen)
         requires { length self.old ≡ 64995 }
-        ensures part { (counts : Counts) (slots : List ℕ)
+        ensures part { (counts : StreamCounts) (slots : List ℕ)
             → self.new ≡ self.old ++ part_bytes (kept counts slots screen.now) Colours }
         ensures size { length self.new ≡ 65027 }
     {
-        for k in 0..COLOURS {
+        for k in 0..COLOUR_COUNT {
             self.put(&screen.colour(k).to_be_bytes());
         }
     }
@@ -103,11 +97,11 @@ impl CheckpointFile {
     // Appends the sixteen levels.
     fn put_levels(&mut self, screen: &Screen)
         requires { length self.old ≡ 65027 }
-        ensures part { (counts : Counts) (slots : List ℕ)
+        ensures part { (counts : StreamCounts) (slots : List ℕ)
             → self.new ≡ self.old ++ part_bytes (kept counts slots screen.now) Levels }
-        ensures size { length self.new ≡ 65043 }
+        ensures size { length self.new ≡ body_size }
     {
-        for k in 0..COLOURS {
+        for k in 0..COLOUR_COUNT {
             self.put(&[screen.level(k)]);
         }
     }

@@ -2,7 +2,7 @@
 
 /// How far a stream was read.
 #[derive(Clone, Copy, Debug, PartialEq, Eq)]
-pub struct Counts {
+pub struct StreamCounts {
     /// The blocks of the lead-in that are still to come, at most 450,000.
     pub to_come: u32,
     /// The blocks of the lead-in that were read; with those still to come at most 450,000.

@@ -1,8 +1,8 @@
 // The numbers in the fields of a file.
 ghost use Rattle.std.specs.Prelude.{◌≡◌, ◌≤◌, ◌+◌, ◌<◌, length, slice_index};
-ghost use Rattle.checkpoint_files.specs.Table.{Bad, LeadIn, Program, ToCome, number, number_at};
+ghost use Rattle.checkpoint_files.specs.Table.{Bad, LeadIn, Program, ToCome, file_size, number, number_at};
 
-use crate::Counts;
+use crate::StreamCounts;
 use crate::file::CheckpointFile;
 
 // The byte at which each part of the file begins.
@@ -33,14 +33,14 @@ pub(crate) const CHECK: usize = 65_043;
 
 impl CheckpointFile {
     /// The counts in a file of its full length.
-    pub fn counts(&self) -> Counts
-        requires { length self.now ≡ 65045 }
+    pub fn counts(&self) -> StreamCounts
+        requires { length self.now ≡ file_size }
         ensures to_come { result.to_come ≡ number self.now ToCome 0 }
         ensures lead_in { result.lead_in ≡ number self.now LeadIn 0 }
         ensures program { result.program ≡ number self.now Program 0 }
         ensures bad { result.bad ≡ number self.now Bad 0 }
     {
-        Counts {
+        StreamCounts {
             to_come: self.number(TO_COME),
             lead_in: self.number(LEAD_IN),
             program: self.number(PROGRAM),

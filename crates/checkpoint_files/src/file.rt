@@ -3,8 +3,11 @@ ghost use Rattle.std.specs.Prelude.{◌≡◌, ◌<◌, ◌≤◌, ◌+◌, [], 
 ghost use Rattle.std.specs.Io.KnownBytes.{Consumes, IsAtEnd};
 ghost use Rattle.cdg_io.specs.Causes.{HasCause, RoseOnce};
 ghost use Rattle.cdg_io.specs.Moves.{ConsumesBelow};
+ghost use Rattle.checkpoint_files.specs.Table.{file_size};
 
 use cdg_io::{Failed, Source};
+use raw_subcode::SYMBOLS_A_SLOT;
+use rw_interleave::PACKS_KEPT_BACK;
 use std::alloc::{AllocError, Global};
 use std::marker::Model;
 
@@ -12,7 +15,7 @@ use std::marker::Model;
 pub const FILE_BYTES: usize = 65_045;
 
 /// The bytes of the last seven slots in it.
-pub const SLOTS_BYTES: usize = 168;
+pub const SLOTS_BYTES: usize = PACKS_KEPT_BACK * SYMBOLS_A_SLOT;
 
 /// The file, and the byte that shows that an input has more.
 pub(crate) const ROOM: usize = FILE_BYTES + 1;
@@ -26,13 +29,14 @@ pub struct CheckpointFile {
 }
 
 impl Model for CheckpointFile {
-    ghost use Rattle.std.specs.Prelude.{◌≤◌, List, ℕ, vec_len, vec_capacity};
+    ghost use Rattle.std.specs.Prelude.{◌≤◌, ◌+◌, List, ℕ, vec_len, vec_capacity};
+    ghost use Rattle.checkpoint_files.specs.Table.{file_size};
 
     ghost Value = { List ℕ };
 
     ghost view = { λ f. f.bytes.items };
 
-    ghost invariant = { λ f. (vec_len f.bytes ≤ 65046) × (65046 ≤ vec_capacity f.bytes) };
+    ghost invariant = { λ f. (vec_len f.bytes ≤ file_size + 1) × (file_size + 1 ≤ vec_capacity f.bytes) };
 }
 
 impl CheckpointFile {
@@ -48,7 +52,7 @@ impl CheckpointFile {
     /// The bytes.
     pub fn bytes(&self) -> &[u8]
         ensures same { result.now ≡ self.now }
-        ensures most { length result.now ≤ 65046 }
+        ensures most { length result.now ≤ file_size + 1 }
     {
         &self.bytes
     }
@@ -62,7 +66,7 @@ impl CheckpointFile {
 
     /// Appends bytes.
     pub(crate) fn put(&mut self, bytes: &[u8])
-        requires { length self.old + length bytes.now ≤ 65046 }
+        requires { length self.old + length bytes.now ≤ file_size + 1 }
         ensures { self.new ≡ self.old ++ bytes.now }
     {
         // There is memory for them.
@@ -75,14 +79,14 @@ impl CheckpointFile {
     /// `Failed` where a read failed.
     pub fn read<S: Source>(&mut self, source: &mut S) -> Result<(), Failed>
         ensures taken { OnOk result (Consumes (S.left source.old) (S.left source.new) self.new) }
-        ensures most { length self.new ≤ 65046 }
-        ensures end { OnOk result (length self.new ≤ 65045 → IsAtEnd (S.left source.new)) }
-        ensures part { OnErr result (ConsumesBelow (S.left source.old) (S.left source.new) 65046) }
+        ensures most { length self.new ≤ file_size + 1 }
+        ensures end { OnOk result (length self.new ≤ file_size → IsAtEnd (S.left source.new)) }
+        ensures part { OnErr result (ConsumesBelow (S.left source.old) (S.left source.new) (file_size + 1)) }
         ensures cause { HasCause (S.faults source.old) (S.faults source.new) result }
         // The end is told once, and only where the input has no more bytes than a file.
-        ensures told { OnOk result (length self.new ≤ 65045
+        ensures told { OnOk result (length self.new ≤ file_size
             → RoseOnce (S.ends source.old) (S.ends source.new)) }
-        ensures goes_on { OnOk result (65045 < length self.new → S.ends source.new ≡ S.ends source.old) }
+        ensures goes_on { OnOk result (file_size < length self.new → S.ends source.new ≡ S.ends source.old) }
         ensures not_told { OnErr result (S.ends source.new ≡ S.ends source.old) }
     {
         let mut chunk = [0; CHUNK];

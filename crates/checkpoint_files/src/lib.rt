@@ -9,6 +9,6 @@ mod file;
 mod laws;
 mod restoring;
 
-pub use counts::Counts;
+pub use counts::StreamCounts;
 pub use file::{CheckpointFile, FILE_BYTES, SLOTS_BYTES};
 pub use laws::{files_are_read_back, sound_checkpoints_are_accepted};

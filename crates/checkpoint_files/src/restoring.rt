@@ -1,9 +1,11 @@
 // What stood, brought back.
 ghost use Rattle.std.specs.Prelude.{◌≡◌, ◌*◌, ◌<◌, All, length, drop, take};
 ghost use Rattle.cdg_instructions.specs.Sizes.{screen_pixels};
-ghost use Rattle.cdg_screen.specs.Picture.{rows_in};
+ghost use Rattle.cdg_screen.specs.Standing.{rows_in};
+ghost use Rattle.raw_subcode.specs.Sizes.{symbols_a_slot};
+ghost use Rattle.rw_interleave.specs.Interleave.{packs_kept_back};
 ghost use Rattle.checkpoint_files.specs.Checkpoint.{checkpoint_in, standing_in};
-ghost use Rattle.checkpoint_files.specs.Table.{IsCheckpointFile};
+ghost use Rattle.checkpoint_files.specs.Table.{IsCheckpointFile, file_size};
 
 use crate::fields::{ACROSS, BORDER, COLOURS, DOWN, LEVELS, MEMORY, SLOTS};
 use crate::file::CheckpointFile;
@@ -13,9 +15,9 @@ use raw_subcode::SYMBOLS_A_SLOT;
 impl CheckpointFile {
     /// Slot k of the last seven of a checkpoint's file, the oldest first.
     pub fn slot(&self, k: usize) -> [u8; SYMBOLS_A_SLOT]
-        requires file { length self.now ≡ 65045 }
-        requires k { k < 7 }
-        ensures { result ≡ take 24 (drop (24 * k) (checkpoint_in self.now).slots) }
+        requires file { length self.now ≡ file_size }
+        requires k { k < packs_kept_back }
+        ensures { result ≡ take symbols_a_slot (drop (symbols_a_slot * k) (checkpoint_in self.now).slots) }
     {
         let mut slot = [0; SYMBOLS_A_SLOT];
         let first = SLOTS + SYMBOLS_A_SLOT * k;

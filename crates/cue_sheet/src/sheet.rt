@@ -59,6 +59,13 @@ impl Sheet {
         self.tracks.len()
     }
 
+    /// A law: the tracks of every sheet are in order, and what is said of each is in range.
+    pub fn tracks_are_in_order(&self)
+        ensures { IsSheet self.now }
+    {
+        let _album = &self.album;
+    }
+
     // Track k, counted from 0.
     fn track(&self, k: usize) -> &Track
         requires { k < length self.now.tracks }

@@ -8,7 +8,7 @@ use Rattle.std.proofs.lemmas.List.{drop-set-lt, get_or-set_other, get_or-set_sam
 use Rattle.std.proofs.lemmas.List.Sums.{count_by_more_no, count_by_more_yes}
 use Rattle.picture_script.specs.Script.{Drawing, pictures}
 use Rattle.pack_schedule.specs.Plans.{IsPlanRow}
-use Rattle.pack_schedule.specs.declared.planned.PlanRow.{PlanRow}
+use Rattle.pack_schedule.specs.declared.planner.PlanRow.{PlanRow}
 use Rattle.disc_plan.specs.Rows.{is_late, no_disc_row, told_row, AreToldRows, IsToldRow}
 use Rattle.disc_plan.specs.declared.rows.PlannedRow.{PlannedRow}
 

@@ -1,5 +1,5 @@
 -- The plan of a disc, and why it has none.
-use Rattle.std.specs.Prelude.{◌≡◌, ◌≢◌, ℕ, ◌<◌, ◌≤◌, ⊤, List, Ok, Err, count_by, length, take}
+use Rattle.std.specs.Prelude.{◌≡◌, ℕ, ◌<◌, ◌≤◌, List, Ok, Err, count_by, length, take}
 use Rattle.text_lines.specs.Text.{most_text_bytes}
 use Rattle.cue_sheet.specs.CueSheet.{CueSheet}
 use Rattle.cue_sheet.specs.Grammar.{read_cue}
@@ -8,7 +8,6 @@ use Rattle.picture_script.specs.Script.{Drawing, pictures}
 use Rattle.picture_script.specs.ScriptGrammar.{read_script}
 use Rattle.picture_script.specs.ShowLines.{show_lines}
 use Rattle.subcode_author.specs.AuthorAnswer.{HasRoom, HoldsPictures, IsDiscRefusal}
-use Rattle.subcode_author.specs.declared.stops.AuthorStop.TheVariants.{NoMemory as author_memory}
 use Rattle.disc_plan.specs.Rows.{is_late, AreToldRows}
 use Rattle.disc_plan.specs.declared.disc.PlannedDisc.{PlannedDisc}
 use Rattle.disc_plan.specs.declared.rows.PlannedRow.{PlannedRow}
@@ -40,7 +39,7 @@ HasPlan disc sheet script = IsReadAs disc sheet script × HoldsPictures sheet sc
 abbrev pub IsPlanSheetStop : List ℕ → PlanStop → Type 0
 IsPlanSheetStop text SheetTooLong = most_text_bytes < length text
 IsPlanSheetStop text (Sheet line why) = (length text ≤ most_text_bytes) × (read_cue text ≡ Err (line, why))
-IsPlanSheetStop text NoMemory = ⊤
+IsPlanSheetStop text NoMemory = length text ≤ most_text_bytes
 IsPlanSheetStop text _ = ⊥
 
 -- why a text is no script
@@ -48,13 +47,14 @@ abbrev pub IsPlanScriptStop : List ℕ → PlanStop → Type 0
 IsPlanScriptStop text ScriptTooLong = most_text_bytes < length text
 IsPlanScriptStop text (Script line why) =
     (length text ≤ most_text_bytes) × (read_script text ≡ Err (line, why))
-IsPlanScriptStop text NoMemory = ⊤
+IsPlanScriptStop text NoMemory = length text ≤ most_text_bytes
 IsPlanScriptStop text _ = ⊥
 
--- why a disc has no plan in so many rows: each reason comes only where those before it do not hold
+-- why a disc has no plan in so many rows: each reason comes only where those before it do not hold, and want of memory
+-- where the sheet is not too long
 abbrev pub IsPlanStop : DiscTexts → ℕ → PlanStop → Type 0
 IsPlanStop disc room (Disc stop) = (sheet : CueSheet) × (script : List Drawing) × IsReadAs disc sheet script
-    × IsDiscRefusal sheet script disc.lead_in disc.audio stop × (stop ≢ author_memory)
+    × IsDiscRefusal sheet script disc.lead_in disc.audio stop
 IsPlanStop disc room (NoRoom count blocks) = (sheet : CueSheet) × (script : List Drawing)
     × HasPlan disc sheet script
     × (count ≡ pictures script) × (blocks ≡ program_blocks sheet disc.audio) × (room < count)

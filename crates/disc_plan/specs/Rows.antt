@@ -2,7 +2,7 @@
 use Rattle.std.specs.Prelude.{◌≡◌, ◌==◌, ℕ, ◌<◌, Bool, List, slice_index, slice_index_or, if◌then◌else◌}
 use Rattle.picture_script.specs.Script.{Drawing}
 use Rattle.pack_schedule.specs.Plans.{IsPlanRow}
-use Rattle.pack_schedule.specs.declared.planned.PlanRow.{PlanRow}
+use Rattle.pack_schedule.specs.declared.planner.PlanRow.{PlanRow}
 use Rattle.disc_plan.specs.declared.rows.PlannedRow.{PlannedRow}
 
 abbrev pub no_disc_row : PlannedRow

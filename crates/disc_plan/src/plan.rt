@@ -8,15 +8,16 @@ use crate::reading::{read_script, read_sheet};
 use crate::rows::{PlannedRow, write_rows};
 use crate::stops::PlanStop;
 use std::alloc::Global;
-use subcode_author::{AuthorStop, accept_disc};
+use subcode_author::accept_disc;
 
 /// Plans the pictures of a disc with a lead-in and an audio of so many blocks: writes a row for each picture, in time or
 /// not, to the front of some rows, from the texts of its cue sheet and its picture script.
 ///
 /// # Errors
 ///
-/// The reasons of `PlanStop` in their order, which is that in which the program refuses to write the disc; `NoMemory`
-/// may come at any of them. Then no row is written.
+/// The reasons of `PlanStop` in their order, which is that in which the program refuses to write the disc. A sheet that
+/// is too long is told without memory. Each text is read into memory, so the reasons of its lines, and those that come
+/// after them, are told only where memory was found for it: `NoMemory` may come in their place. Then no row is written.
 pub fn plan_disc(
     alloc: Global,
     sheet: &[u8],
@@ -34,9 +35,8 @@ pub fn plan_disc(
 {
     let cues = read_sheet(alloc, sheet)?;
     let drawings = read_script(alloc, script)?;
-    let blocks = match accept_disc(alloc, &cues, &drawings, lead_in, audio) {
+    let blocks = match accept_disc(&cues, &drawings, lead_in, audio) {
         Ok(blocks) => blocks,
-        Err(AuthorStop::NoMemory) => return Err(PlanStop::NoMemory),
         Err(stop) => return Err(PlanStop::Disc { stop }),
     };
     let pictures = drawings.pictures();

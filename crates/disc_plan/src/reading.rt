@@ -14,6 +14,7 @@ use text_lines::MOST_TEXT_BYTES;
 /// What the text of a cue sheet says, or why it is refused.
 pub(crate) fn read_sheet(alloc: Global, text: &[u8]) -> Result<Sheet, PlanStop>
     ensures read { IfOk result (λ sheet. read_cue text.now ≡ Ok sheet) }
+    ensures few { IfOk result (λ _. length text.now ≤ most_text_bytes) }
     ensures stop { IfErr result (IsPlanSheetStop text.now) }
 {
     if text.len() > MOST_TEXT_BYTES {

@@ -1,5 +1,5 @@
--- How many blocks there are in a second, a minute, a lead-in and a program, and how many tracks on a disc. Code calls
--- them by the names of src/counts.rt.
+-- How many blocks there are in a second, a minute, a lead-in and a program, how many tracks on a disc, and how many bytes
+-- in a text. Code calls them by the names of src/counts.rt.
 use Rattle.std.specs.Prelude.{ℕ}
 
 -- blocks a second: a block is as long as a sector, 588 of 44,100 samples (IEC 60908)
@@ -33,3 +33,8 @@ most_program = last_block
 -- the most tracks of a disc: their numbers are two decimal digits, from 01 on
 abbrev pub most_tracks : ℕ
 most_tracks = 99
+
+-- the most bytes of a text, 2^26: a sheet and a script of a thousand pictures of the whole window are shorter, and an
+-- input that does not end is refused before it takes all memory
+abbrev pub most_text_bytes : ℕ
+most_text_bytes = 67108864

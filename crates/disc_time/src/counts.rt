@@ -1,5 +1,5 @@
-// How many blocks there are in a second, a minute, a lead-in and a program, and how many tracks on a disc. Clauses call
-// them by the names of specs/Counts.antt.
+// How many blocks there are in a second, a minute, a lead-in and a program, how many tracks on a disc, and how many bytes
+// in a text. Clauses call them by the names of specs/Counts.antt.
 
 /// Blocks a second: a block is as long as a sector, 588 of 44,100 samples (IEC 60908).
 pub const BLOCKS_A_SECOND: u32 = 75;
@@ -25,3 +25,7 @@ pub const MOST_PROGRAM: u32 = LAST_BLOCK;
 
 /// How many tracks a disc has at most: their numbers are two decimal digits, from 01 on.
 pub const MOST_TRACKS: u8 = 99;
+
+/// How many bytes a text has at most: 2^26. A sheet and a script of a thousand pictures of the whole window are
+/// shorter, and an input that does not end is refused before it takes all memory.
+pub const MOST_TEXT_BYTES: usize = 67_108_864;

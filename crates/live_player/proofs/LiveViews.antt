@@ -1,10 +1,10 @@
 -- What stands after what a player was given.
-use Rattle.std.proofs.Common.{◌≡◌, ℕ, ◌+◌, ◌-◌, ◌*◌, ◌/◌, ◌^◌, ◌<◌, ◌≤◌, ◌==◌, Bool, true, false, cond, List, [], ◌∷◌, ◌++◌, length, map, take, drop, refl, ap, ap₂, ◌∙◌, subst, sym, arith, None, Some, length-append, length-drop}
+use Rattle.std.proofs.Common.{◌≡◌, ℕ, ◌+◌, ◌-◌, ◌*◌, ◌^◌, ◌≤◌, ◌==◌, Bool, true, false, cond, List, [], ◌∷◌, ◌++◌, length, map, take, drop, refl, ap, ap₂, ◌∙◌, subst, sym, arith, None, Some, length-append, length-drop}
 use Rattle.std.specs.declared.option.Option.{Option}
 use Rattle.std.specs.List.{flat_map}
 use Rattle.std.proofs.lemmas.List.{take_all, length-map, map-append}
 use Rattle.arrayvec.specs.ArrayVec.{ArrayVec}
-use Rattle.cdg_io.specs.Run.{give, run_state, run_gives}
+use Rattle.cdg_io.specs.Run.{give, run_gives}
 use Rattle.cdg_io.proofs.Runs.{run_state-append}
 use Rattle.rw_code.specs.Finding.{finding}
 use Rattle.std.specs.Prelude.{min}
@@ -14,9 +14,8 @@ use Rattle.rw_interleave.specs.Stream.{bad_count}
 use Rattle.raw_subcode.specs.Channels.{symbols_of}
 use Rattle.raw_subcode.specs.declared.form.Form.{Form}
 use Rattle.raw_subcode.specs.declared.form.Form.TheVariants.{Raw}
-use Rattle.cdg_instructions.specs.declared.instr.Instr.{Instr}
 use Rattle.cdg_instructions.specs.Meaning.{meaning}
-use Rattle.cdg_screen.specs.Picture.{IsWholeStanding, Standing, blank, standing_after}
+use Rattle.cdg_screen.specs.Standing.{IsWholeStanding, Standing, blank, standing_after}
 use Rattle.cdg_screen.proofs.Turns.{blank_is_whole, in_turn}
 use Rattle.stream_stages.specs.Drawn.{painting_next}
 use Rattle.stream_stages.specs.Screen.{AreMeant}
@@ -65,18 +64,18 @@ few_given s block words gave =
 
 -- all words that come with a block are drawn
 pub words_drawn : (now : Standing) (new : Painting) (s : BlockWords) (block : List ℕ) (words : ArrayVec (List ℕ)) → IsWholeStanding now → Some words ≡ words_give s block
-    → new ≡ painting_next (record { picture = now; left = 4; bad = 0 }) words → new.picture ≡ standing_after now (drawn_for (words_give s block))
+    → new ≡ painting_next (record { screen = now; left = 4; bad = 0 }) words → new.screen ≡ standing_after now (drawn_for (words_give s block))
 unfolding painting_next
 words_drawn now new s block words whole gave is =
     let few : length words.items ≤ 4 = few_given s block words gave in
     let drawn = are_drawn now 4 0 words.items whole (omega (arith, few)) in
     let all : take 4 (map finding words.items) ≡ map finding words.items = take_all 4 (map finding words.items) (omega (arith, few, length-map words.items finding)) in
-    ap (λ (d : Painting). d.picture) is ∙ drawn.stands ∙ ap (λ found. standing_after now (instrs_of found)) all ∙ ap (standing_after now) (sym (meant_same (map finding words.items)))
+    ap (λ (d : Painting). d.screen) is ∙ drawn.stands ∙ ap (λ found. standing_after now (instrs_of found)) all ∙ ap (standing_after now) (sym (meant_same (map finding words.items)))
     ∙ ap (λ o. standing_after now (drawn_for o)) gave
 
 -- and those with no codeword near are counted
 pub words_counted : (now : Standing) (new : Painting) (s : BlockWords) (block : List ℕ) (words : ArrayVec (List ℕ)) → IsWholeStanding now → Some words ≡ words_give s block
-    → new ≡ painting_next (record { picture = now; left = 4; bad = 0 }) words → new.bad ≡ bad_count (map finding words.items)
+    → new ≡ painting_next (record { screen = now; left = 4; bad = 0 }) words → new.bad ≡ bad_count (map finding words.items)
 unfolding painting_next
 words_counted now new s block words whole gave is =
     let few : length words.items ≤ 4 = few_given s block words gave in

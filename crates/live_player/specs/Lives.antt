@@ -10,7 +10,8 @@ use Rattle.rw_code.specs.Finding.{finding}
 use Rattle.rw_interleave.specs.Stream.{IsRecovered, bad_count, form_word, word_count}
 use Rattle.cdg_instructions.specs.declared.instr.Instr.{Instr}
 use Rattle.cdg_instructions.specs.Meaning.{meaning}
-use Rattle.cdg_screen.specs.Picture.{Standing, blank, screen_pixel, standing_after}
+use Rattle.cdg_instructions.specs.Sizes.{screen_width}
+use Rattle.cdg_screen.specs.Standing.{Standing, blank, screen_pixel, standing_after}
 use Rattle.cdg_screen.specs.Texts.{colour_bytes}
 use Rattle.stream_stages.specs.Screen.{AreMeant, AreShown}
 use Rattle.stream_stages.specs.Steps.{fresh_words, words_next}
@@ -18,7 +19,7 @@ use Rattle.live_player.specs.declared.live.LivePlayer.{LivePlayer}
 
 -- what stands on a player's picture
 abbrev pub standing_on : LivePlayer → Standing
-standing_on player = player.painting.picture
+standing_on player = player.painting.screen
 
 -- the words of a stream, each in the order of its last symbol
 unfoldable pub stream_words : Form → ℕ → List (List ℕ) → List (List ℕ)
@@ -115,8 +116,12 @@ abbrev pub bad_counted : ℕ → Option (ArrayVec (List ℕ)) → ℕ
 bad_counted bad None = bad
 bad_counted bad (Some words) = min (bad + bad_count (map finding words.items)) (2 ^ 32 - 1)
 
+-- how many bytes a picture has: red, green and blue of each pixel
+abbrev pub picture_bytes : ℕ
+picture_bytes = 194400
+
 -- byte n of the picture: red, green or blue of the colour of pixel n / 3, of the pixels row by row
 unfoldable pub picture_byte : Standing → ℕ → ℕ
 picture_byte now n =
-    slice_index (colour_bytes (slice_index now.colours (screen_pixel now (n / 3 % 300) (n / 3 / 300))))
-    (n % 3)
+    let pixel = screen_pixel now (n / 3 % screen_width) (n / 3 / screen_width) in
+    slice_index (colour_bytes (slice_index now.colours pixel)) (n % 3)

@@ -1,11 +1,12 @@
 -- Parts of the screen.
 use Rattle.std.specs.Prelude.{◌≡◌, ◌+◌, ◌*◌, ◌<◌, ◌≤◌, ℕ, List, slice_index}
-use Rattle.cdg_screen.specs.Picture.{Standing, screen_pixel}
+use Rattle.cdg_instructions.specs.Sizes.{screen_height, screen_width}
+use Rattle.cdg_screen.specs.Standing.{Standing, screen_pixel}
 use Rattle.live_player.specs.declared.part.Part.{Part}
 
 -- all of a part is on the screen
 abbrev pub IsOnScreen : Part → Type 0
-IsOnScreen part = (part.left + part.width ≤ 300) × (part.top + part.height ≤ 216)
+IsOnScreen part = (part.left + part.width ≤ screen_width) × (part.top + part.height ≤ screen_height)
 
 -- so many bytes have room for the rows of a part, each `stride` bytes after the one before
 abbrev pub HasRoomFor : Part → ℕ → ℕ → Type 0

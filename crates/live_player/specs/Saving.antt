@@ -1,5 +1,5 @@
 -- A player and a checkpoint.
-use Rattle.std.specs.Prelude.{◌≡◌, ◌+◌, ◌-◌, ℕ, [], min}
+use Rattle.std.specs.Prelude.{◌≡◌, ◌+◌, ◌-◌, [], min}
 use Rattle.cdg_checkpoint.specs.Resumed.{saved_slots}
 use Rattle.cdg_io.specs.Run.{run_state}
 use Rattle.checkpoint_files.specs.Checkpoint.{Checkpoint}

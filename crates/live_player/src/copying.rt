@@ -1,13 +1,8 @@
 // A player that goes on as another does.
-ghost use Rattle.std.specs.Prelude.{◌≡◌, ◌<◌, ◌/◌, ◌%◌, ℕ, slice_index};
-ghost use Rattle.cdg_screen.specs.Picture.{pixel_at};
+ghost use Rattle.std.specs.Prelude.{◌≡◌};
 
-use crate::{LivePlayer, looking};
-use cdg_instructions::{SCREEN_PIXELS, SCREEN_WIDTH};
+use crate::LivePlayer;
 use rw_interleave::Gather;
-use stream_stages::Picture;
-
-const WIDTH: u32 = SCREEN_WIDTH as u32;
 
 impl LivePlayer {
     /// Shows, gathers and counts from here on what another player does.
@@ -24,7 +19,7 @@ impl LivePlayer {
         let painting = &mut self.painting;
         painting.left = other.painting.left;
         painting.bad = other.painting.bad;
-        copy_picture(&other.painting.picture, &mut painting.picture);
+        painting.screen.copy_from(&other.painting.screen);
     }
 }
 
@@ -37,33 +32,5 @@ fn copy_of(gather: &Gather) -> Gather
         late: gather.late,
         count: gather.count,
         quiet: gather.quiet,
-    }
-}
-
-// What stands on one picture stands on the other too.
-fn copy_picture(from: &Picture, to: &mut Picture)
-    ensures { to.new ≡ from.now }
-{
-    from.screen.is_whole();
-    let mut pixels = [0; SCREEN_PIXELS];
-    let mut colours = [0; 16];
-    let mut levels = [0; 16];
-    write_memory(from, &mut pixels);
-    looking::colours(from, &mut colours);
-    looking::levels(from, &mut levels);
-    let border = looking::border(from);
-    let offsets = looking::offsets(from);
-    to.screen
-        .restore(&pixels, border, &colours, &levels, offsets);
-}
-
-// The pixels of the memory, row by row.
-fn write_memory(picture: &Picture, pixels: &mut [u8; SCREEN_PIXELS])
-    ensures pixels { (n : ℕ) → n < 64800
-        → slice_index pixels.new n ≡ pixel_at picture.now.memory (n % 300) (n / 300) }
-    ensures range { (n : ℕ) → n < 64800 → slice_index pixels.new n < 16 }
-{
-    for n in 0..SCREEN_PIXELS {
-        pixels[n] = picture.screen.memory(n as u32 % WIDTH, n as u32 / WIDTH);
     }
 }

@@ -8,5 +8,6 @@ mod part;
 mod saving;
 
 pub use live::LivePlayer;
+pub use looking::PICTURE_BYTES;
 pub use part::Part;
 pub use saving::a_saved_player_goes_on;

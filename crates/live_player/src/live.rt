@@ -1,21 +1,24 @@
 // A player that is fed blocks as they come.
 ghost use Rattle.std.specs.Prelude.{◌≡◌, ◌<◌, ◌≤◌, ◌+◌, ◌-◌, ◌^◌, ◌/◌, ◌%◌, ◌++◌, ◌∷◌, [], List, ℕ, length, map, min, slice_index, IfOk};
-ghost use Rattle.cdg_screen.specs.Picture.{blank, screen_pixel, standing_after};
+ghost use Rattle.cdg_instructions.specs.Sizes.{screen_height, screen_pixels, screen_width};
+ghost use Rattle.cdg_screen.specs.Standing.{blank, screen_pixel, standing_after};
 ghost use Rattle.raw_subcode.specs.declared.form.Form.{Form};
 ghost use Rattle.stream_stages.specs.Steps.{words_next, words_give};
-ghost use Rattle.live_player.specs.Lives.{Given, bad_counted, blocks_in, drawn_for, instruction_of, packs_given, picture_byte, standing_on, stream_words, HasPlayed, IsLiveView, IsLiveViewAt};
+ghost use Rattle.live_player.specs.Lives.{Given, bad_counted, blocks_in, drawn_for, instruction_of, packs_given, picture_byte, picture_bytes, standing_on, stream_words, HasPlayed, IsLiveView, IsLiveViewAt};
 ghost use Rattle.live_player.specs.Lives.Given.{Drawn, Fed};
 ghost use Rattle.live_player.specs.Parts.{HasRoomFor, IsOnScreen, ShowsPart};
 
-use crate::looking;
+use crate::looking::{self, PICTURE_BYTES};
 use crate::part::Part;
 use arrayvec::ArrayVec;
+use cdg_instructions::SCREEN_PIXELS;
 use cdg_io::Stage;
+use cdg_screen::Screen;
 use raw_subcode::{BLOCK_BYTES, Form, SLOTS_A_BLOCK};
 use rw_code::{SYMBOLS, Word};
 use rw_interleave::Gather;
 use std::alloc::{AllocError, Global};
-use stream_stages::{BlockOfWords, BlockWords, Painting, Picture};
+use stream_stages::{BlockOfWords, BlockWords, Painting};
 
 /// Plays a stream as its blocks come, for as long as they come. All its memory is taken at the start.
 #[derive(Drop)]
@@ -38,7 +41,7 @@ impl LivePlayer {
         ensures { IfOk result (HasPlayed Form.Raw 0 []) }
     {
         let painting = Painting {
-            picture: Picture::start(alloc)?,
+            screen: Screen::start(alloc)?,
             left: 0,
             bad: 0,
         };
@@ -64,7 +67,7 @@ impl LivePlayer {
         words.form = form;
         words.lead_in = lead_in;
         words.gather.reset();
-        self.painting.picture.reset();
+        self.painting.screen.reset();
         self.lead_in = lead_in;
         self.blocks = 0;
         self.bad = 0;
@@ -108,7 +111,8 @@ impl LivePlayer {
         let words = self.words.feed(block);
         self.blocks = self.blocks.saturating_add(1);
         let painting = &mut self.painting;
-        painting.picture.screen.is_whole();
+        // A law: instructions are carried out on what stands.
+        painting.screen.what_stands_is_whole();
         match &words {
             Some(words) => {
                 // All words of a block are drawn, however many blocks came before.
@@ -130,7 +134,7 @@ impl LivePlayer {
             → HasPlayed form lead_in (Drawn pack.now ∷ given) self.new }
     {
         let painting = &mut self.painting;
-        looking::draw(&mut painting.picture, pack);
+        looking::draw(&mut painting.screen, pack);
     }
 
     /// A law: where no packs were drawn in between, what stands is what the blocks since the start show.
@@ -151,21 +155,14 @@ impl LivePlayer {
             → standing_on self.now ≡ standing_after blank (map instruction_of (packs_given given)) }
     {}
 
-    // The picture that is drawn.
-    fn picture(&self) -> &Picture
-        ensures { result.now ≡ standing_on self.now }
-    {
-        &self.painting.picture
-    }
-
     /// The pixel of the screen at a place: `x` below 300 from the left, `y` below 216 from the top.
     pub fn pixel(&self, x: u32, y: u32) -> u8
-        requires width { x < 300 }
-        requires height { y < 216 }
+        requires width { x < screen_width }
+        requires height { y < screen_height }
         ensures pixel { result ≡ screen_pixel (standing_on self.now) x y }
         ensures range { result < 16 }
     {
-        looking::pixel(self.picture(), x, y)
+        self.painting.screen.pixel(x, y)
     }
 
     /// Colour `k` of the table, as 0xRGB. `k` is below 16.
@@ -174,16 +171,17 @@ impl LivePlayer {
         ensures colour { result ≡ slice_index (standing_on self.now).colours k }
         ensures range { result < 4096 }
     {
-        looking::colour(self.picture(), k)
+        self.painting.screen.colour(k)
     }
 
     /// Writes the numbers of the colours of the screen's pixels, row by row: that at (x, y) is number
     /// 300 y + x.
-    pub fn screen(&self, pixels: &mut [u8; 64_800])
-        ensures { (n : ℕ) → n < 64800
-            → slice_index pixels.new n ≡ screen_pixel (standing_on self.now) (n % 300) (n / 300) }
+    pub fn screen(&self, pixels: &mut [u8; SCREEN_PIXELS])
+        ensures { (n : ℕ) → n < screen_pixels
+            → slice_index pixels.new n
+            ≡ screen_pixel (standing_on self.now) (n % screen_width) (n / screen_width) }
     {
-        looking::screen(self.picture(), pixels);
+        looking::pixels(&self.painting.screen, pixels);
     }
 
     /// Writes the numbers of the colours of a part of the screen, row by row: row j of it begins `stride` times
@@ -194,30 +192,30 @@ impl LivePlayer {
         requires room { HasRoomFor part.now stride (length pixels.old) }
         ensures { ShowsPart (standing_on self.now) part.now stride pixels.old pixels.new }
     {
-        looking::part_of_screen(self.picture(), part, pixels, stride);
+        looking::part_of_screen(&self.painting.screen, part, pixels, stride);
     }
 
     /// Writes the colours of the table, each as 0xRGB.
     pub fn colours(&self, table: &mut [u16; 16])
         ensures { (k : ℕ) → k < 16 → slice_index table.new k ≡ slice_index (standing_on self.now).colours k }
     {
-        looking::colours(self.picture(), table);
+        looking::colours(&self.painting.screen, table);
     }
 
     /// Writes the levels of the colours.
     pub fn levels(&self, levels: &mut [u8; 16])
         ensures { (k : ℕ) → k < 16 → slice_index levels.new k ≡ slice_index (standing_on self.now).levels k }
     {
-        looking::levels(self.picture(), levels);
+        looking::levels(&self.painting.screen, levels);
     }
 
     /// Writes red, green and blue of the screen's pixels, row by row: those of (x, y) begin at
     /// byte 3 (300 y + x).
-    pub fn bytes(&self, bytes: &mut [u8; 194_400])
-        ensures { (n : ℕ) → n < 194400
+    pub fn bytes(&self, bytes: &mut [u8; PICTURE_BYTES])
+        ensures { (n : ℕ) → n < picture_bytes
             → slice_index bytes.new n ≡ picture_byte (standing_on self.now) n }
     {
-        looking::bytes(self.picture(), bytes);
+        looking::bytes(&self.painting.screen, bytes);
     }
 
     /// The number of the border's colour.
@@ -225,7 +223,7 @@ impl LivePlayer {
         ensures border { result ≡ (standing_on self.now).border }
         ensures range { result < 16 }
     {
-        looking::border(self.picture())
+        self.painting.screen.border()
     }
 
     /// How many pixels further right and further down in the memory the screen begins.
@@ -234,6 +232,6 @@ impl LivePlayer {
         ensures down { result.1 ≡ (standing_on self.now).v }
         ensures ranges { (result.0 ≤ 5) × (result.1 ≤ 11) }
     {
-        looking::offsets(self.picture())
+        looking::offsets(&self.painting.screen)
     }
 }

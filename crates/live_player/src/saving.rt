@@ -5,20 +5,14 @@ ghost use Rattle.raw_subcode.specs.Sizes.{most_units};
 ghost use Rattle.raw_subcode.specs.declared.form.Form.{Form};
 ghost use Rattle.live_player.specs.Lives.{Given, HasPlayed, blocks_in};
 ghost use Rattle.live_player.specs.declared.live.LivePlayer.{LivePlayer};
-ghost use Rattle.cdg_checkpoint.specs.Resumed.{saved_slots};
-ghost use Rattle.cdg_io.specs.Run.{run_state};
 ghost use Rattle.checkpoint_files.specs.Checkpoint.{checkpoint_in, file_of};
 ghost use Rattle.checkpoint_files.specs.Table.{IsCheckpointFile};
 ghost use Rattle.live_player.specs.Saving.{checkpoint_of, IsAt};
-ghost use Rattle.rw_interleave.specs.Gathering.{gather_next};
 
 use crate::LivePlayer;
-use checkpoint_files::{CheckpointFile, Counts};
+use cdg_checkpoint::gathered_slots;
+use checkpoint_files::{CheckpointFile, StreamCounts};
 use raw_subcode::Form;
-use rw_interleave::{Gather, Slot};
-
-// The slots that a checkpoint keeps.
-const SLOTS: u32 = 7;
 
 impl LivePlayer {
     /// Writes the file of the checkpoint at which the player is. It is accepted only where the stream is raw and no
@@ -27,14 +21,14 @@ impl LivePlayer {
         ensures { file.new ≡ file_of (checkpoint_of self.now) }
     {
         let read = self.blocks.min(self.lead_in);
-        let counts = Counts {
+        let counts = StreamCounts {
             to_come: self.lead_in - read,
             lead_in: read,
             program: self.blocks - read,
             bad: self.bad,
         };
         let slots = self.words.gather.symbols();
-        file.compose(&counts, &slots, &self.painting.picture.screen);
+        file.compose(&counts, &slots, &self.painting.screen);
     }
 
     /// Goes to the checkpoint of a file, in a raw stream.
@@ -51,24 +45,9 @@ impl LivePlayer {
         let words = &mut self.words;
         words.form = Form::Raw;
         words.lead_in = counts.to_come;
-        words.gather = gathered_slots(file, counts.program);
-        file.bring_back(&mut self.painting.picture.screen);
+        words.gather = gathered_slots(file);
+        file.bring_back(&mut self.painting.screen);
     }
-}
-
-// Gathers the saved slots, the oldest first.
-fn gathered_slots(file: &CheckpointFile, program: u32) -> Gather
-    requires file { IsCheckpointFile file.now }
-    requires program { program ≡ (checkpoint_in file.now).program }
-    ensures { result ≡ run_state gather_next [] (saved_slots (checkpoint_in file.now)) }
-{
-    let mut gather = Gather::new();
-    let kept = SLOTS.min(4 * program.min(2));
-    for k in 0..kept {
-        let slot = file.slot((SLOTS - kept + k) as usize);
-        gather.push(&Slot::new(&slot));
-    }
-    gather
 }
 
 /// A law: where a raw stream has no more blocks than a checkpoint counts, the file of a player is a checkpoint's, and a

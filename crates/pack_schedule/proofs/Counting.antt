@@ -17,7 +17,7 @@ use Rattle.picture_changes.specs.Change.{tiles_before}
 use Rattle.picture_changes.specs.PlannedChange.{tile_steps}
 use Rattle.picture_changes.proofs.Places.{place_of, places_in_order, colour_is_tile}
 use Rattle.pack_schedule.specs.Weights.{IsWeighed, IsWeighedAt, AreWeights, not_weighed}
-use Rattle.pack_schedule.specs.declared.weights.Weighed.{Weighed}
+use Rattle.pack_schedule.specs.declared.change.weights.Weighed.{Weighed}
 use Rattle.picture_changes.proofs.PlannedLaws.{PlansAreShortest, least-unique}
 
 -- tiles counted one after another

@@ -2,7 +2,7 @@ pub mod Counting
 pub mod SameTileLaws
 pub mod SettingLaws
 pub mod Choices
-pub mod Surveys
+pub mod SurveyLaws
 pub mod PlanLists
 pub mod Weaves
 pub mod Schedules

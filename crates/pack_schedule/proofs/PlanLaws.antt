@@ -3,31 +3,29 @@ use Rattle.std.proofs.Common.{◌≡◌, ℕ, ◌+◌, ◌-◌, ◌<◌, false, 
 use Rattle.picture_script.specs.Script.{Drawing, pictures}
 use Rattle.picture_script.specs.Board.{Board, IsPicture}
 use Rattle.std.specs.Prelude.{Some}
-use Rattle.picture_changes.specs.Brings.{IsNeed}
-use Rattle.picture_changes.specs.Schedule.{IsInTime, IsLate}
+use Rattle.picture_changes.specs.Schedule.{CanBeReady, IsLate}
 use Rattle.pack_schedule.specs.Plans.{ArePlanRows, IsFirstLate, IsPlanRow, no_row}
 use Rattle.pack_schedule.specs.PlannerParts.{IsBeforePicture}
 use Rattle.pack_schedule.specs.Weights.{AreWeights}
-use Rattle.pack_schedule.specs.declared.planned.PlanRow.{PlanRow}
-use Rattle.pack_schedule.specs.declared.weights.Weighed.{Weighed}
-use Rattle.pack_schedule.proofs.Surveys.{stands_next}
+use Rattle.pack_schedule.specs.declared.planner.PlanRow.{PlanRow}
+use Rattle.pack_schedule.specs.declared.change.weights.Weighed.{Weighed}
+use Rattle.pack_schedule.proofs.SurveyLaws.{stands_next}
 
--- what a picture needs is one number
-abbrev pub NeedsAreOne : Type 0
-NeedsAreOne = (script : List Drawing) (k need other : ℕ) → IsNeed script k need → IsNeed script k other → need ≡ other
+-- the picture of a row that is not late can be ready
+pub row_is_ready : (script : List Drawing) (k : ℕ) (row : PlanRow) → IsPlanRow script k row → row.late ≡ false
+    → CanBeReady script k
+row_is_ready script k row is prompt = (row.need, is.need, is.in_time prompt)
 
--- a row that is not late speaks of each number that the picture may need
-pub row_in_time : NeedsAreOne → (script : List Drawing) (k need : ℕ) (row : PlanRow) → IsPlanRow script k row → row.late ≡ false → IsNeed script k need → IsInTime script k need
-row_in_time one script k need row is prompt h = subst (IsInTime script k) (one script k row.need need is.need h) (is.in_time prompt)
-
-pub first_is_late : NeedsAreOne → (script : List Drawing) (rows : List PlanRow) (k : ℕ) → ArePlanRows script rows → k < pictures script → IsFirstLate rows k
+pub first_is_late : (script : List Drawing) (rows : List PlanRow) (k : ℕ) → ArePlanRows script rows
+    → k < pictures script → IsFirstLate rows k
     → IsLate script k (get_or rows k no_row).need (get_or rows k no_row).free
-first_is_late one script rows k are lt first = record {
+first_is_late script rows k are lt first = record {
   picture = lt;
   need_is = (are.each k lt).need;
   free_is = (are.each k lt).free;
   late = (are.each k lt).late first.0;
-  before = λ j n j_lt h. row_in_time one script j n (get_or rows j no_row) (are.each j (omega (arith, j_lt, lt))) (first.1 j j_lt) h;
+  before = λ j j_lt.
+      row_is_ready script j (get_or rows j no_row) (are.each j (omega (arith, j_lt, lt))) (first.1 j j_lt);
 }
 
 -- once picture k is drawn on both canvases, the next one comes

@@ -6,33 +6,30 @@ use Rattle.rw_interleave.specs.Interleave.{whole_packs}
 use Rattle.cdg_instructions.specs.Instruction.{IsWritten}
 use Rattle.cdg_instructions.specs.declared.instr.Instr.{Instr}
 use Rattle.cdg_instructions.specs.declared.instr.Instr.TheVariants.{Idle}
-use Rattle.picture_script.specs.Script.{Drawing, pictures, ready_time, hold_time, picture_pixel}
-use Rattle.picture_changes.specs.Brings.{IsChange}
-use Rattle.picture_changes.specs.Schedule.{start_of, IsInTime, IsSchedule}
+use Rattle.picture_script.specs.Script.{Drawing, pictures, ready_time, hold_time}
+use Rattle.picture_changes.specs.Schedule.{start_of, IsInTime, IsScheduleOf}
 use Rattle.picture_changes.specs.PlannedChange.{planned_change}
-use Rattle.picture_changes.specs.Shown.{AreColoursInRange}
 use Rattle.pack_schedule.specs.Survey.{IsSurvey, IsWithin}
 use Rattle.pack_schedule.specs.Woven.{ArePacks}
-use Rattle.pack_schedule.specs.declared.planned.Planned.{Planned}
+use Rattle.pack_schedule.specs.declared.surveys.told.PlannedChange.{PlannedChange}
 
 the_same : (n : ℕ) → 0 + n ≡ n
 the_same n = omega arith
 
--- the planned change is a change
-abbrev pub PlannedIsChange : Type 0
-PlannedIsChange = (script : List Drawing) (k : ℕ) → AreColoursInRange script → ((k x y : ℕ) → picture_pixel script k x y < 16) → IsChange script k (planned_change script k)
-
-pub is_schedule : PlannedIsChange → (script : List Drawing) (blocks : ℕ) (survey : List Planned) (packs : List (List ℕ))
-    → AreColoursInRange script → ((k x y : ℕ) → picture_pixel script k x y < 16) → ((k : ℕ) → k < pictures script → ready_time script k ≤ hold_time script k)
-    → IsWithin script blocks → IsSurvey script survey → length packs ≡ whole_packs blocks → ArePacks script packs → IsSchedule script blocks packs
-is_schedule is_change script blocks survey packs ranges small held within surveyed count are =
+-- they are a schedule of each kind of which the planned changes are
+pub is_schedule : (IsOne : List Drawing → ℕ → List Instr → Type 0) (script : List Drawing) (blocks : ℕ)
+    (survey : List PlannedChange) (packs : List (List ℕ)) → ((k : ℕ) → IsOne script k (planned_change script k))
+    → ((k : ℕ) → k < pictures script → ready_time script k ≤ hold_time script k)
+    → IsWithin script blocks → IsSurvey script survey → length packs ≡ whole_packs blocks → ArePacks script packs
+    → IsScheduleOf IsOne script blocks packs
+is_schedule IsOne script blocks survey packs is_one held within surveyed count are =
     let changes : List (List Instr) = map (planned_change script) (below (pictures script)) in
     let at = λ (k : ℕ) (lt : k < pictures script). get_or-map-range_with_len (planned_change script) 0 (pictures script) k k [] lt (the_same k) in
     record {
       count = count;
       held = within;
       changes = changes;
-      change = λ k lt. subst (IsChange script k) (sym (at k lt)) (is_change script k ranges small);
+      change = λ k lt. subst (IsOne script k) (sym (at k lt)) (is_one k);
       fits = λ k lt. subst (λ (c : List Instr). IsInTime script k (length c)) (sym (at k lt)) (subst (IsInTime script k) (surveyed.each k lt).need_is (surveyed.each k lt).in_time);
       written = λ k j lt j_lt.
           let size : length (get_or changes k []) ≡ length (planned_change script k) = ap length (at k lt) in

@@ -14,39 +14,39 @@ use Rattle.picture_changes.specs.PlannedChange.{chosen_start, planned_from, plan
 use Rattle.pack_schedule.specs.Survey.{nothing_planned, IsSurvey}
 use Rattle.pack_schedule.specs.Woven.{IsPackAt}
 use Rattle.pack_schedule.specs.Weaving.{Stands, IsWeaving}
-use Rattle.pack_schedule.specs.declared.loom.Loom.{Loom}
-use Rattle.pack_schedule.specs.declared.planned.Planned.{Planned}
+use Rattle.pack_schedule.specs.declared.weaver.at_hand.ChangeAtHand.{ChangeAtHand}
+use Rattle.pack_schedule.specs.declared.surveys.told.PlannedChange.{PlannedChange}
 use Rattle.picture_changes.proofs.Times.{hold_order}
 
 -- what a survey says of a picture
 abbrev pub ChosenIsStart : Type 0
 ChosenIsStart = (script : List Drawing) (k : ℕ) → IsStart k (chosen_start script k)
 
-pub start_allowed : ChosenIsStart → (script : List Drawing) (survey : List Planned) (k : ℕ) (preset : Option ℕ) → IsSurvey script survey → k < pictures script → preset ≡ (get_or survey k nothing_planned).preset → IsStart k preset
+pub start_allowed : ChosenIsStart → (script : List Drawing) (survey : List PlannedChange) (k : ℕ) (preset : Option ℕ) → IsSurvey script survey → k < pictures script → preset ≡ (get_or survey k nothing_planned).preset → IsStart k preset
 start_allowed chosen script survey k preset h lt is = subst (IsStart k) (sym (is ∙ (h.each k lt).preset_is)) (chosen script k)
 
-pub change_planned : (script : List Drawing) (survey : List Planned) (k : ℕ) (preset : Option ℕ) (change : List Instr) → IsSurvey script survey → k < pictures script → preset ≡ (get_or survey k nothing_planned).preset
+pub change_planned : (script : List Drawing) (survey : List PlannedChange) (k : ℕ) (preset : Option ℕ) (change : List Instr) → IsSurvey script survey → k < pictures script → preset ≡ (get_or survey k nothing_planned).preset
     → change ≡ planned_from script k preset → change ≡ planned_change script k
 unfolding planned_change
 change_planned script survey k preset change h lt is made = made ∙ ap (planned_from script k) (is ∙ (h.each k lt).preset_is)
 
 -- the change of the first picture is at hand, if there is one
-pub first_weaves : (script : List Drawing) (loom : Loom) → IsSurvey script loom.survey → loom.k ≡ 0 → Stands script 0 loom.before
-    → (0 < pictures script → (loom.change ≡ planned_change script 0) × (loom.start ≡ start_of script 0) × Stands script 1 loom.now) → IsWeaving script loom 0
-first_weaves script loom surveyed k before planned =
-    let none : 0 ≡ loom.k = sym k in
+pub first_weaves : (script : List Drawing) (at_hand : ChangeAtHand) → IsSurvey script at_hand.survey → at_hand.k ≡ 0 → Stands script 0 at_hand.before
+    → (0 < pictures script → (at_hand.change ≡ planned_change script 0) × (at_hand.start ≡ start_of script 0) × Stands script 1 at_hand.now) → IsWeaving script at_hand 0
+first_weaves script at_hand surveyed k before planned =
+    let none : 0 ≡ at_hand.k = sym k in
     record {
       surveyed = surveyed;
       k_most = omega (arith, k);
-      change_is = λ lt. subst (λ (n : ℕ). loom.change ≡ planned_change script n) none (planned (omega (arith, lt))).0;
-      start_is = λ lt. subst (λ (n : ℕ). loom.start ≡ start_of script n) none (planned (omega (arith, lt))).1;
-      before_stands = subst (λ (n : ℕ). Stands script n loom.before) none before;
-      now_stands = λ lt. subst (λ (n : ℕ). Stands script (n + 1) loom.now) none (planned (omega (arith, lt))).2;
+      change_is = λ lt. subst (λ (n : ℕ). at_hand.change ≡ planned_change script n) none (planned (omega (arith, lt))).0;
+      start_is = λ lt. subst (λ (n : ℕ). at_hand.start ≡ start_of script n) none (planned (omega (arith, lt))).1;
+      before_stands = subst (λ (n : ℕ). Stands script n at_hand.before) none before;
+      now_stands = λ lt. subst (λ (n : ℕ). Stands script (n + 1) at_hand.now) none (planned (omega (arith, lt))).2;
       sent = λ j lt. absurd (omega (arith, k, lt));
     }
 
 -- the change of the next picture is at hand, if there is one
-pub next_weaves : (script : List Drawing) (old new : Loom) (given : ℕ) → IsWeaving script old given → old.k < pictures script → start_of script old.k + length (planned_change script old.k) ≤ given
+pub next_weaves : (script : List Drawing) (old new : ChangeAtHand) (given : ℕ) → IsWeaving script old given → old.k < pictures script → start_of script old.k + length (planned_change script old.k) ≤ given
     → new.survey ≡ old.survey → new.k ≡ old.k + 1 → Stands script (old.k + 1) new.before
     → (old.k + 1 < pictures script → (new.change ≡ planned_change script (old.k + 1)) × (new.start ≡ start_of script (old.k + 1)) × Stands script (old.k + 1 + 1) new.now) → IsWeaving script new given
 next_weaves script old new given w inside done survey k before planned =
@@ -67,7 +67,7 @@ next_weaves script old new given w inside done survey k before planned =
     }
 
 -- changes do not overlap
-starts_apart : (script : List Drawing) (survey : List Planned) → IsSurvey script survey
+starts_apart : (script : List Drawing) (survey : List PlannedChange) → IsSurvey script survey
     → ((k : ℕ) → k < pictures script → ready_time script k ≤ hold_time script k) → ((k : ℕ) → k + 1 < pictures script → hold_time script k < ready_time script (k + 1))
     → (k n : ℕ) → k + suc n < pictures script → start_of script k + length (planned_change script k) ≤ start_of script (k + suc n)
 starts_apart script survey h held later k n lt =
@@ -78,16 +78,16 @@ starts_apart script survey h held later k n lt =
     let start : start_of script (k + suc n) ≡ 4 * hold_time script (k + n) - 7 = ap (start_of script) next in
     omega (arith, in_time, planned.need_is, rise, start, held k (omega arith))
 
-only_here : (script : List Drawing) (loom : Loom) (given : ℕ) → IsWeaving script loom given
+only_here : (script : List Drawing) (at_hand : ChangeAtHand) (given : ℕ) → IsWeaving script at_hand given
     → ((k : ℕ) → k < pictures script → ready_time script k ≤ hold_time script k) → ((k : ℕ) → k + 1 < pictures script → hold_time script k < ready_time script (k + 1))
-    → (loom.k < pictures script → given < start_of script loom.k + length (planned_change script loom.k))
-    → (j : ℕ) → j < pictures script → start_of script j ≤ given → given < start_of script j + length (planned_change script j) → j ≡ loom.k
-only_here script loom given h held later current j lt from to = elim (cases_lt j loom.k) [
+    → (at_hand.k < pictures script → given < start_of script at_hand.k + length (planned_change script at_hand.k))
+    → (j : ℕ) → j < pictures script → start_of script j ≤ given → given < start_of script j + length (planned_change script j) → j ≡ at_hand.k
+only_here script at_hand given h held later current j lt from to = elim (cases_lt j at_hand.k) [
   | inl before ↦ absurd (omega (arith, h.sent j before, to))
-  | inr not_before ↦ elim (cases_lt loom.k j) [
+  | inr not_before ↦ elim (cases_lt at_hand.k j) [
     | inl after ↦
-        let apart : loom.k + suc (j - loom.k - 1) ≡ j = omega arith in
-        let far = starts_apart script loom.survey h.surveyed held later loom.k (j - loom.k - 1) (omega arith) in
+        let apart : at_hand.k + suc (j - at_hand.k - 1) ≡ j = omega arith in
+        let far = starts_apart script at_hand.survey h.surveyed held later at_hand.k (j - at_hand.k - 1) (omega arith) in
         let same = ap (start_of script) apart in
         absurd (omega (arith, far, same, current (omega arith), from))
     | inr not_after ↦ omega arith
@@ -95,28 +95,28 @@ only_here script loom given h held later current j lt from to = elim (cases_lt j
 ]
 
 -- a pack of the change at hand
-pub change_pack : (script : List Drawing) (loom : Loom) (given : ℕ) (pack : List ℕ) → IsWeaving script loom given
+pub change_pack : (script : List Drawing) (at_hand : ChangeAtHand) (given : ℕ) (pack : List ℕ) → IsWeaving script at_hand given
     → ((k : ℕ) → k < pictures script → ready_time script k ≤ hold_time script k) → ((k : ℕ) → k + 1 < pictures script → hold_time script k < ready_time script (k + 1))
-    → (loom.k < pictures script → given < start_of script loom.k + length (planned_change script loom.k))
-    → loom.k < pictures script → start_of script loom.k ≤ given → IsWritten (get_or (planned_change script loom.k) (given - start_of script loom.k) Idle) pack → IsPackAt script given pack
-change_pack script loom given pack h held later current lt from written = record {
+    → (at_hand.k < pictures script → given < start_of script at_hand.k + length (planned_change script at_hand.k))
+    → at_hand.k < pictures script → start_of script at_hand.k ≤ given → IsWritten (get_or (planned_change script at_hand.k) (given - start_of script at_hand.k) Idle) pack → IsPackAt script given pack
+change_pack script at_hand given pack h held later current lt from written = record {
   changed = λ j j_lt j_from j_to.
-      let here = only_here script loom given h held later current j j_lt j_from j_to in
+      let here = only_here script at_hand given h held later current j j_lt j_from j_to in
       subst (λ k. IsWritten (get_or (planned_change script k) (given - start_of script k) Idle) pack) (sym here) written;
-  idle = λ all. elim (all loom.k lt) [
+  idle = λ all. elim (all at_hand.k lt) [
     | inl early ↦ absurd (omega (arith, early, from))
     | inr late ↦ absurd (omega (arith, late, current lt))
   ];
 }
 
 -- an idle pack
-pub no_pack : (script : List Drawing) (loom : Loom) (given : ℕ) (pack : List ℕ) → IsWeaving script loom given
+pub no_pack : (script : List Drawing) (at_hand : ChangeAtHand) (given : ℕ) (pack : List ℕ) → IsWeaving script at_hand given
     → ((k : ℕ) → k < pictures script → ready_time script k ≤ hold_time script k) → ((k : ℕ) → k + 1 < pictures script → hold_time script k < ready_time script (k + 1))
-    → (loom.k < pictures script → given < start_of script loom.k + length (planned_change script loom.k))
-    → (loom.k < pictures script → given < start_of script loom.k) → pack ≡ idle_pack → IsPackAt script given pack
-no_pack script loom given pack h held later current early idle = record {
+    → (at_hand.k < pictures script → given < start_of script at_hand.k + length (planned_change script at_hand.k))
+    → (at_hand.k < pictures script → given < start_of script at_hand.k) → pack ≡ idle_pack → IsPackAt script given pack
+no_pack script at_hand given pack h held later current early idle = record {
   changed = λ j j_lt j_from j_to.
-      let here = only_here script loom given h held later current j j_lt j_from j_to in
+      let here = only_here script at_hand given h held later current j j_lt j_from j_to in
       let starts = ap (start_of script) here in
       absurd (omega (arith, early (omega (arith, here, j_lt)), starts, j_from));
   idle = λ all. idle;
@@ -130,11 +130,11 @@ pub fine_at : (script : List Drawing) (change : List Instr) (k i : ℕ) → All 
 fine_at script change k i fine is lt = All-get_or IsFine change i Idle lt (subst (All IsFine) (sym is) fine)
 
 -- the place of a pack in the change at hand
-pub at_hand : (script : List Drawing) (loom : Loom) (given : ℕ) → IsWeaving script loom given → loom.k < pictures script
-    → (loom.k < pictures script → given < start_of script loom.k + length (planned_change script loom.k)) → loom.start ≤ given
-    → given - loom.start < length loom.change
-at_hand script loom given h lt current le =
+pub place_at_hand : (script : List Drawing) (at_hand : ChangeAtHand) (given : ℕ) → IsWeaving script at_hand given → at_hand.k < pictures script
+    → (at_hand.k < pictures script → given < start_of script at_hand.k + length (planned_change script at_hand.k)) → at_hand.start ≤ given
+    → given - at_hand.start < length at_hand.change
+place_at_hand script at_hand given h lt current le =
     let starts = h.start_is lt in
-    let size : length loom.change ≡ length (planned_change script loom.k) = ap length (h.change_is lt) in
+    let size : length at_hand.change ≡ length (planned_change script at_hand.k) = ap length (h.change_is lt) in
     let end = current lt in
     omega (arith, starts, size, end, le)

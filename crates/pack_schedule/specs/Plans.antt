@@ -3,7 +3,7 @@ use Rattle.std.specs.Prelude.{◌≡◌, ℕ, ◌<◌, true, false, List, length
 use Rattle.picture_script.specs.Script.{Drawing, pictures, ready_time, hold_time}
 use Rattle.picture_changes.specs.Brings.{IsNeed}
 use Rattle.picture_changes.specs.Schedule.{start_of, free_packs, IsInTime}
-use Rattle.pack_schedule.specs.declared.planned.PlanRow.{PlanRow}
+use Rattle.pack_schedule.specs.declared.planner.PlanRow.{PlanRow}
 
 abbrev pub no_row : PlanRow
 no_row = record { ready = 0; hold = 0; need = 0; free = 0; first = 0; late = false }

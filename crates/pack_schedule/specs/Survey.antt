@@ -3,27 +3,27 @@ use Rattle.std.specs.Prelude.{◌≡◌, ℕ, ◌-◌, ◌<◌, ◌≤◌, ⊤, 
 use Rattle.picture_script.specs.Script.{Drawing, pictures, hold_time}
 use Rattle.picture_changes.specs.Schedule.{start_of, IsInTime, IsLate}
 use Rattle.picture_changes.specs.PlannedChange.{chosen_start, planned_change}
-use Rattle.pack_schedule.specs.declared.planned.Planned.{Planned}
-use Rattle.pack_schedule.specs.declared.planned.Stop.{Stop}
-use Rattle.pack_schedule.specs.declared.planned.Stop.TheVariants.{PastEnd, Late, NoMemory}
+use Rattle.pack_schedule.specs.declared.surveys.told.PlannedChange.{PlannedChange}
+use Rattle.pack_schedule.specs.declared.stops.Stop.{Stop}
+use Rattle.pack_schedule.specs.declared.stops.Stop.TheVariants.{PastEnd, Late, NoMemory}
 
-abbrev pub nothing_planned : Planned
+abbrev pub nothing_planned : PlannedChange
 nothing_planned = record { start = 0; need = 0; preset = None }
 
 -- where the planned change of picture k is sent, and that it is in time
-pub record IsPlanned (script : List Drawing) (k : ℕ) (planned : Planned) : Type 0 where
+pub record IsPlanned (script : List Drawing) (k : ℕ) (planned : PlannedChange) : Type 0 where
   pub start_is : planned.start ≡ start_of script k
   pub preset_is : planned.preset ≡ chosen_start script k
   pub need_is : planned.need ≡ length (planned_change script k)
   pub in_time : IsInTime script k planned.need
 
 -- the planned changes of the first pictures
-pub record ArePlanned (script : List Drawing) (count : ℕ) (planned : List Planned) : Type 0 where
+pub record ArePlanned (script : List Drawing) (count : ℕ) (planned : List PlannedChange) : Type 0 where
   pub count_is : length planned ≡ count
   pub each : (k : ℕ) → k < count → IsPlanned script k (slice_index_or planned k nothing_planned)
 
 -- the planned changes of a script
-abbrev pub IsSurvey : List Drawing → List Planned → Type 0
+abbrev pub IsSurvey : List Drawing → List PlannedChange → Type 0
 IsSurvey script planned = ArePlanned script (pictures script) planned
 
 -- every picture is held until so many blocks at most

@@ -5,7 +5,7 @@ use Rattle.picture_script.specs.Board.{Board, IsBlank, IsPicture}
 use Rattle.picture_changes.specs.Schedule.{start_of}
 use Rattle.picture_changes.specs.PlannedChange.{planned_change}
 use Rattle.pack_schedule.specs.Survey.{IsSurvey}
-use Rattle.pack_schedule.specs.declared.loom.Loom.{Loom}
+use Rattle.pack_schedule.specs.declared.weaver.at_hand.ChangeAtHand.{ChangeAtHand}
 
 -- the picture before picture k stands on a canvas, or nothing before the first
 pub record Stands (script : List Drawing) (k : ℕ) (board : Board) : Type 0 where
@@ -15,11 +15,11 @@ pub record Stands (script : List Drawing) (k : ℕ) (board : Board) : Type 0 whe
   pub drawn : 0 < k → IsPicture script (k - 1) board
 
 -- all changes before that of picture k are in the packs that were given, and its own is at hand
-pub record IsWeaving (script : List Drawing) (loom : Loom) (given : ℕ) : Type 0 where
-  pub surveyed : IsSurvey script loom.survey
-  pub k_most : loom.k ≤ pictures script
-  pub change_is : loom.k < pictures script → loom.change ≡ planned_change script loom.k
-  pub start_is : loom.k < pictures script → loom.start ≡ start_of script loom.k
-  pub before_stands : Stands script loom.k loom.before
-  pub now_stands : loom.k < pictures script → Stands script (loom.k + 1) loom.now
-  pub sent : (j : ℕ) → j < loom.k → start_of script j + length (planned_change script j) ≤ given
+pub record IsWeaving (script : List Drawing) (at_hand : ChangeAtHand) (given : ℕ) : Type 0 where
+  pub surveyed : IsSurvey script at_hand.survey
+  pub k_most : at_hand.k ≤ pictures script
+  pub change_is : at_hand.k < pictures script → at_hand.change ≡ planned_change script at_hand.k
+  pub start_is : at_hand.k < pictures script → at_hand.start ≡ start_of script at_hand.k
+  pub before_stands : Stands script at_hand.k at_hand.before
+  pub now_stands : at_hand.k < pictures script → Stands script (at_hand.k + 1) at_hand.now
+  pub sent : (j : ℕ) → j < at_hand.k → start_of script j + length (planned_change script j) ≤ given

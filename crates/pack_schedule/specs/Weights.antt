@@ -1,8 +1,9 @@
 -- What is kept of tiles from picture to picture.
 use Rattle.std.specs.Prelude.{◌≡◌, ℕ, ◌+◌, ◌/◌, ◌%◌, ◌<◌, ◌≤◌, List, replicate, slice_index_or, Some, None, IfSome}
+use Rattle.cdg_instructions.specs.Sizes.{tile_pixels}
 use Rattle.tile_author.specs.Plan.{steps}
 use Rattle.picture_script.specs.Script.{Drawing, picture_tile}
-use Rattle.pack_schedule.specs.declared.weights.Weighed.{Weighed}
+use Rattle.pack_schedule.specs.declared.change.weights.Weighed.{Weighed}
 
 abbrev pub not_weighed : Weighed
 not_weighed = record { weight = 0; single = None }
@@ -11,8 +12,9 @@ not_weighed = record { weight = 0; single = None }
 pub record IsWeighed (tile : List ℕ) (kept : Weighed) : Type 0 where
   pub few : kept.weight ≤ 4
   pub colour : IfSome kept.single (λ c. c < 16)
-  pub from_own : (c : ℕ) → c < 16 → kept.single ≡ Some c → steps (replicate 72 c) tile ≡ 0
-  pub from_other : (c : ℕ) → c < 16 → ¬ (kept.single ≡ Some c) → steps (replicate 72 c) tile ≡ kept.weight
+  pub from_own : (c : ℕ) → c < 16 → kept.single ≡ Some c → steps (replicate tile_pixels c) tile ≡ 0
+  pub from_other : (c : ℕ) → c < 16 → ¬ (kept.single ≡ Some c)
+      → steps (replicate tile_pixels c) tile ≡ kept.weight
 
 -- what is kept of tile i of picture k
 abbrev pub IsWeighedAt : List Drawing → ℕ → ℕ → List Weighed → Type 0

@@ -1,59 +1,53 @@
-// The instructions of a change, in memory that is taken once.
+// The change of a picture: the instruction that sets all memory, where it begins with one, then its settings, then its
+// tiles. It is counted before it is written.
+ghost use Rattle.std.specs.Prelude.{◌≡◌, ◌<◌, ◌≤◌, ◌-◌, [], length};
+ghost use Rattle.picture_script.specs.Board.{IsPicture};
+ghost use Rattle.picture_changes.specs.Change.{preset_of, IsStart};
+ghost use Rattle.picture_changes.specs.PlannedChange.{planned_from};
+
+mod list;
+mod same_tiles;
+mod settings;
+mod start;
+mod tiles;
+mod weights;
+
 use cdg_instructions::Instr;
-use std::alloc::{AllocError, Global};
-use std::marker::Model;
+pub(crate) use list::ChangeList;
+use picture_script::{Canvas, Script};
+pub(crate) use start::choose_start;
+pub(crate) use weights::{NOT_WEIGHED, Weighed};
 
-// The most instructions that a change has: a preset, three settings and four for each tile.
-const MOST: usize = 3076;
-
-/// A list of at most 3,076 instructions.
-#[derive(Drop)]
-pub(crate) struct Change {
-    instrs: Vec<Instr>,
-    len: usize,
-}
-
-impl Model for Change {
-    ghost use Rattle.std.specs.Prelude.{◌≡◌, ◌≤◌, List, length, take};
-    ghost use Rattle.cdg_instructions.specs.declared.instr.Instr.{Instr};
-
-    ghost Value = { List Instr };
-
-    ghost view = { λ c. take c.len c.instrs.items };
-
-    ghost invariant = { λ c. (length c.instrs.items ≡ 3076) × (c.len ≤ 3076) };
-}
-
-impl Change {
-    ghost use Rattle.std.specs.Prelude.{◌≡◌, ◌<◌, ◌≤◌, ◌++◌, [], ◌∷◌, length, IfOk, slice_index_or};
-    ghost use Rattle.cdg_instructions.specs.declared.instr.Instr.TheVariants.{Idle};
-
-    /// An empty list.
-    pub(crate) fn start(alloc: Global) -> Result<Change, AllocError>
-        ensures { IfOk result (λ c. c ≡ []) }
+impl ChangeList {
+    /// Makes the list the planned change of picture `k`, which stands on `now`, while the picture before it stands on
+    /// `before`.
+    pub(crate) fn plan(
+        &mut self,
+        script: &Script,
+        k: u32,
+        preset: Option<u8>,
+        before: &Canvas,
+        now: &Canvas,
+    )
+        requires now { IsPicture script.now k now.now }
+        requires before { 0 < k → IsPicture script.now (k - 1) before.now }
+        requires start { IsStart k preset }
+        ensures { self.new ≡ planned_from script.now k preset }
     {
-        let instrs = vec![in alloc; Instr::Idle; MOST]?;
-        Ok(Change { instrs, len: 0 })
+        self.clear();
+        self.push_preset(preset);
+        self.push_settings(script, k, before, now);
+        self.push_tiles(script, k, preset, before, now);
     }
 
-    pub(crate) fn get(&self, i: usize) -> Instr
-        requires { i < length self.now }
-        ensures { result ≡ slice_index_or self.now i Idle }
+    // Adds the instruction that sets all memory first, if there is one.
+    fn push_preset(&mut self, preset: Option<u8>)
+        requires { self.old ≡ [] }
+        ensures whole { self.new ≡ preset_of preset }
+        ensures few { length self.new ≤ 1 }
     {
-        self.instrs[i]
-    }
-
-    pub(crate) fn clear(&mut self)
-        ensures { self.new ≡ [] }
-    {
-        self.len = 0;
-    }
-
-    pub(crate) fn push(&mut self, instr: Instr)
-        requires { length self.old < 3076 }
-        ensures { self.new ≡ self.old ++ instr ∷ [] }
-    {
-        self.instrs[self.len] = instr;
-        self.len += 1;
+        if let Some(colour) = preset {
+            self.push(Instr::MemoryPreset { colour, repeat: 0 });
+        }
     }
 }

@@ -2,27 +2,36 @@
 ghost use Rattle.std.specs.Prelude.{◌≡◌, ◌<◌, ◌≤◌, ℕ, false, List, length, slice_index_or};
 ghost use Rattle.rw_interleave.specs.Interleave.{whole_packs};
 ghost use Rattle.picture_script.specs.Script.{Drawing, pictures, ready_time, hold_time, picture_pixel};
-ghost use Rattle.picture_changes.specs.Schedule.{IsInTime, IsLate, IsSchedule};
-ghost use Rattle.picture_changes.specs.Brings.{IsNeed};
+ghost use Rattle.picture_changes.specs.Schedule.{CanBeReady, IsLate, IsOrderedSchedule, IsSchedule};
 ghost use Rattle.picture_changes.specs.Shown.{AreColoursInRange};
 ghost use Rattle.pack_schedule.specs.Survey.{IsSurvey, IsWithin};
 ghost use Rattle.pack_schedule.specs.Woven.{ArePacks};
 ghost use Rattle.pack_schedule.specs.Plans.{ArePlanRows, IsFirstLate, no_row};
-ghost use Rattle.pack_schedule.specs.declared.planned.Planned.{Planned};
-ghost use Rattle.pack_schedule.specs.declared.planned.PlanRow.{PlanRow};
+ghost use Rattle.pack_schedule.specs.declared.surveys.told.PlannedChange.{PlannedChange};
+ghost use Rattle.pack_schedule.specs.declared.planner.PlanRow.{PlanRow};
 
-use picture_changes::needs_are_fewest;
+use picture_changes::{needs_are_fewest, planned_changes_are_changes};
 
-/// A law: the packs that a weaver gives, as many as are whole in a program of so many blocks, are a schedule.
+/// A law: the packs that a weaver gives, as many as are whole in a program of so many blocks, are a schedule, and one
+/// of changes in their fixed order.
 pub fn packs_are_a_schedule()
-    ensures { (script : List Drawing) (blocks : ℕ) (survey : List Planned) (packs : List (List ℕ))
+    ensures schedule { (script : List Drawing) (blocks : ℕ) (survey : List PlannedChange)
+        (packs : List (List ℕ))
         → AreColoursInRange script → ((k x y : ℕ) → picture_pixel script k x y < 16)
         → ((k : ℕ) → k < pictures script → ready_time script k ≤ hold_time script k)
         → IsWithin script blocks → IsSurvey script survey → length packs ≡ whole_packs blocks
         → ArePacks script packs
         → IsSchedule script blocks packs }
+    ensures ordered { (script : List Drawing) (blocks : ℕ) (survey : List PlannedChange)
+        (packs : List (List ℕ))
+        → ((k x y : ℕ) → picture_pixel script k x y < 16)
+        → ((k : ℕ) → k < pictures script → ready_time script k ≤ hold_time script k)
+        → IsWithin script blocks → IsSurvey script survey → length packs ≡ whole_packs blocks
+        → ArePacks script packs
+        → IsOrderedSchedule script blocks packs }
 {
     needs_are_fewest();
+    planned_changes_are_changes();
 }
 
 /// A law: the first late row of a plan is what `survey` tells, and where no row is late every picture is in time, so
@@ -33,7 +42,5 @@ pub fn plans_tell_what_a_survey_tells()
         → IsLate script k (slice_index_or rows k no_row).need (slice_index_or rows k no_row).free }
     ensures none { (script : List Drawing) (rows : List PlanRow) → ArePlanRows script rows
         → ((k : ℕ) → k < pictures script → (slice_index_or rows k no_row).late ≡ false)
-        → (k need : ℕ) → k < pictures script → IsNeed script k need → IsInTime script k need }
-{
-    needs_are_fewest();
-}
+        → (k : ℕ) → k < pictures script → CanBeReady script k }
+{}

@@ -2,23 +2,15 @@
 #![tactic(auto)]
 
 mod change;
-mod choice;
-mod counts;
 mod laws;
-mod loom;
-mod planned;
 mod planner;
-mod same_tiles;
-mod settings;
-mod surveyed;
-mod surveying;
+mod stops;
+mod surveys;
+mod times;
 mod weaver;
-mod weights;
-mod writing;
 
 pub use laws::{packs_are_a_schedule, plans_tell_what_a_survey_tells};
-pub use planned::{PlanRow, Planned, Stop};
-pub use planner::Planner;
-pub use surveyed::Survey;
-pub use surveying::{is_past_end, survey};
+pub use planner::{PlanRow, Planner};
+pub use stops::Stop;
+pub use surveys::{PlannedChange, Survey, is_past_end, survey};
 pub use weaver::Weaver;

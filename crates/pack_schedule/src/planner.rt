@@ -2,17 +2,35 @@
 ghost use Rattle.std.specs.Prelude.{◌≡◌, ◌<◌, ◌≤◌, ◌-◌};
 ghost use Rattle.picture_script.specs.Script.{pictures};
 ghost use Rattle.picture_script.specs.Board.{IsPicture};
+ghost use Rattle.picture_changes.specs.Change.{most_change};
 ghost use Rattle.pack_schedule.specs.Plans.{IsPlanRow};
 ghost use Rattle.pack_schedule.specs.Weights.{AreWeights};
 
-use crate::planned::PlanRow;
-use crate::surveying::{free_packs, is_in_time, plan_picture};
-use crate::weights::{NOT_WEIGHED, Weighed};
+use crate::change::{NOT_WEIGHED, Weighed};
+use crate::surveys::plan_picture;
+use crate::times::{free_packs, is_in_time};
 use cdg_instructions::WINDOW_TILES;
 use picture_changes::needs_are_fewest;
 use picture_script::{Canvas, Script};
 use std::alloc::{AllocError, Global};
 use std::marker::Model;
+
+/// What is planned for a picture, whether it is in time or not. Times are blocks of the program.
+#[derive(Clone, Copy, PartialEq, Eq, Debug)]
+pub struct PlanRow {
+    /// When it is ready.
+    pub ready: u32,
+    /// Until when it is held.
+    pub hold: u32,
+    /// How many packs its change needs, at most 3,076.
+    pub need: u32,
+    /// How many packs are free for it.
+    pub free: u32,
+    /// The number of the first of them, from 0.
+    pub first: u32,
+    /// Whether the packs of its change are not whole by its ready time.
+    pub late: bool,
+}
 
 /// The plan of a script, one row for each picture after another, whether it is in time or not.
 ///
@@ -59,7 +77,7 @@ impl<'a> Planner<'a> {
     /// The row of the next picture, or none after the last one.
     pub fn next_row(&mut self) -> Option<PlanRow>
         ensures row { IfSome result (IsPlanRow self.old.script self.old.given) }
-        ensures few { IfSome result (λ row. row.need ≤ 3076) }
+        ensures few { IfSome result (λ row. row.need ≤ most_change) }
         ensures some { IsSome result ↔ (self.old.given < pictures self.old.script) }
         ensures script { self.new.script ≡ self.old.script }
         ensures given { self.new.given
@@ -72,7 +90,7 @@ impl<'a> Planner<'a> {
         let k = self.given;
         self.now.draw_until(self.script, k);
         let row = plan_row(self.script, k, &self.before, &self.now, &mut self.weights);
-        self.before.draw_until(self.script, k);
+        self.before.draw_like(self.script, k, &self.now);
         self.given += 1;
         Some(row)
     }
@@ -91,11 +109,12 @@ fn plan_row(
     requires before { 0 < k → IsPicture script.now (k - 1) before.now }
     requires weights { 0 < k → AreWeights script.now (k - 1) weights.old }
     ensures row { IsPlanRow script.now k result }
-    ensures few { result.need ≤ 3076 }
+    ensures few { result.need ≤ most_change }
     ensures weights { AreWeights script.now k weights.new }
 {
+    // For the proof alone: what is counted is what the picture needs.
     needs_are_fewest();
-    let _ranges = script.pictures();
+    script.times_rise_and_colours_are_in_range();
     let change = plan_picture(script, k, before, now, weights);
     PlanRow {
         ready: script.ready(k),

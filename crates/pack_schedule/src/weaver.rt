@@ -1,18 +1,20 @@
-// The packs of a script in turn.
-use crate::loom::Loom;
-use crate::surveyed::Survey;
+// The packs of a script, one after another.
+mod at_hand;
+
+use crate::surveys::Survey;
+use at_hand::ChangeAtHand;
 use picture_script::Script;
 use rw_code::Pack;
 use std::alloc::{AllocError, Global};
 use std::marker::Model;
 
-/// The packs of a script, one after another.
+/// What gives the packs of a script in turn.
 ///
 /// A contract sees the script, and how many packs were given.
 #[derive(Drop)]
 pub struct Weaver<'a> {
     script: &'a Script,
-    loom: Loom,
+    at_hand: ChangeAtHand,
     given: u32,
 }
 
@@ -24,7 +26,7 @@ impl<'a> Model for Weaver<'a> {
 
     ghost view = { λ w. record { script = w.script.now; given = w.given } };
 
-    ghost invariant = { λ w. IsWeaving w.script.now w.loom w.given };
+    ghost invariant = { λ w. IsWeaving w.script.now w.at_hand w.given };
 }
 
 impl<'a> Weaver<'a> {
@@ -43,10 +45,10 @@ impl<'a> Weaver<'a> {
         ensures script { IfOk result (λ w. w.script ≡ script.now) }
         ensures given { IfOk result (λ w. w.given ≡ 0) }
     {
-        let loom = Loom::start(alloc, script, survey)?;
+        let at_hand = ChangeAtHand::start(alloc, script, survey)?;
         Ok(Weaver {
             script,
-            loom,
+            at_hand,
             given: 0,
         })
     }
@@ -70,8 +72,8 @@ impl<'a> Weaver<'a> {
         ensures script { self.new.script ≡ self.old.script }
         ensures given { self.new.given ≡ min (self.old.given + 1) 4294967295 }
     {
-        self.loom.skip_sent(self.script, self.given);
-        let pack = self.loom.pack(self.script, self.given);
+        self.at_hand.skip_sent(self.script, self.given);
+        let pack = self.at_hand.pack(self.script, self.given);
         self.given = self.given.saturating_add(1);
         pack
     }

@@ -9,7 +9,7 @@ use Rattle.cdg_instructions.specs.Instruction.{InRange, IsKnown}
 use Rattle.cdg_instructions.specs.declared.instr.Instr.{Instr}
 use Rattle.cdg_instructions.specs.declared.instr.Instr.TheVariants.{MemoryPreset, BorderPreset, ColoursLow, ColoursHigh, SetTile, XorTile, ScrollPreset, ScrollCopy}
 use Rattle.cdg_instructions.specs.Drawing.{IsOfPlace}
-use Rattle.cdg_screen.specs.Picture.{Standing, standing_after, pixel_at}
+use Rattle.cdg_screen.specs.Standing.{Standing, standing_after, pixel_at}
 use Rattle.picture_script.specs.Script.{Drawing, low_colours, high_colours, picture_border, picture_pixel, picture_tile}
 use Rattle.tile_author.specs.Plan.{are_equal}
 use Rattle.picture_changes.specs.Change.{settings, preset_of, tiles_before, AreTileChanges, window_places, IsChangeFrom, IsOrderedChange}

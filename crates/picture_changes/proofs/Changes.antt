@@ -5,7 +5,7 @@ use Rattle.std.proofs.lemmas.List.{get_or-replicate}
 use Rattle.picture_script.specs.Script.{Drawing, picture_border, picture_colour, picture_tile}
 use Rattle.cdg_instructions.specs.declared.instr.Instr.{Instr}
 use Rattle.std.specs.Prelude.{slice_index}
-use Rattle.cdg_screen.specs.Picture.{Standing, standing_after, pixel_at}
+use Rattle.cdg_screen.specs.Standing.{Standing, standing_after, pixel_at}
 use Rattle.cdg_screen.proofs.Lists.{pixel_of_rows, number_of_sixteen}
 use Rattle.picture_changes.specs.Change.{settings, preset_of, tiles_before, IsStart, IsChangeFrom}
 use Rattle.picture_changes.proofs.Tiles.{InTurn, HoldsAt, Changed, place_row, place_column, tile_x, tile_y, window_changes}

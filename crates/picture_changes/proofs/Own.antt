@@ -7,7 +7,7 @@ use Rattle.std.proofs.lemmas.List.FromFn.{length-map-range_with_len, get_or-map-
 use Rattle.cdg_instructions.specs.Drawing.{IsOfPlace, drawn_pixel, tile_colour, tile_from}
 use Rattle.cdg_instructions.specs.declared.instr.Instr.{Instr}
 use Rattle.cdg_instructions.specs.declared.instr.Instr.TheVariants.{MemoryPreset, SetTile, XorTile, ScrollPreset, ScrollCopy}
-use Rattle.cdg_screen.specs.Picture.{covers, memory_from}
+use Rattle.cdg_screen.specs.Standing.{covers, memory_from}
 use Rattle.picture_changes.proofs.Tiles.{tile_x, tile_y, HoldsTile}
 use Rattle.picture_changes.specs.Brings.{IsStill}
 use Rattle.picture_changes.proofs.Tests.{by_test, and_both, eq_of, are_eq, covers_here, covers_only}

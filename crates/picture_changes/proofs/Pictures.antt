@@ -4,7 +4,7 @@ use Rattle.std.proofs.lemmas.List.{take_all, length-take-le}
 use Rattle.rw_interleave.specs.Interleave.{whole_packs}
 use Rattle.picture_script.specs.Script.{Drawing, pictures, ready_time, hold_time}
 use Rattle.cdg_instructions.specs.declared.instr.Instr.{Instr}
-use Rattle.cdg_screen.specs.Picture.{blank, standing_after}
+use Rattle.cdg_screen.specs.Standing.{blank, standing_after}
 use Rattle.picture_changes.specs.Schedule.{IsSchedule}
 use Rattle.picture_changes.specs.Shown.{AreTimesInOrder, ShowsPicture}
 use Rattle.picture_changes.specs.Meanings.{AreMeantBy}

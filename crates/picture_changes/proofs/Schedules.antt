@@ -12,7 +12,7 @@ use Rattle.rw_code.specs.Codeword.{IsCodeword}
 use Rattle.cdg_instructions.specs.Instruction.{Means, InRange, IsKnown, IsWritten, content_of, message_of, written_symbols}
 use Rattle.cdg_instructions.specs.declared.instr.Instr.{Instr}
 use Rattle.cdg_instructions.specs.declared.instr.Instr.TheVariants.{Idle, ScrollPreset, ScrollCopy}
-use Rattle.cdg_screen.specs.Picture.{Standing, blank, offsets_from, standing_after}
+use Rattle.cdg_screen.specs.Standing.{Standing, blank, offsets_from, standing_after}
 use Rattle.cdg_screen.proofs.Turns.{idle_changes_nothing, whole_after}
 use Rattle.rw_code.specs.Packs.{idle_pack}
 use Rattle.picture_changes.specs.Schedule.{start_of, IsSchedule}

@@ -9,7 +9,7 @@ use Rattle.picture_script.specs.Script.{Drawing, picture_border, picture_colour,
 use Rattle.cdg_instructions.specs.declared.instr.Instr.{Instr}
 use Rattle.cdg_instructions.specs.declared.instr.Instr.TheVariants.{BorderPreset, ColoursLow, ColoursHigh}
 use Rattle.std.specs.Prelude.{slice_index}
-use Rattle.cdg_screen.specs.Picture.{Standing, standing_after, pixel_at, sixteen, colour_from}
+use Rattle.cdg_screen.specs.Standing.{Standing, standing_after, pixel_at, sixteen, colour_from}
 use Rattle.cdg_screen.proofs.Lists.{pixel_of_rows, number_of_sixteen}
 use Rattle.picture_changes.specs.Change.{settings}
 use Rattle.picture_changes.proofs.Tiles.{InTurn}

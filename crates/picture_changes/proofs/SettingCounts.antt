@@ -11,7 +11,7 @@ use Rattle.tile_author.specs.Plan.{are_equal, delta}
 use Rattle.cdg_instructions.specs.declared.instr.Instr.{Instr}
 use Rattle.cdg_instructions.specs.declared.instr.Instr.TheVariants.{BorderPreset, ColoursLow, ColoursHigh}
 use Rattle.std.specs.Prelude.{slice_index}
-use Rattle.cdg_screen.specs.Picture.{Standing, border_from, colour_from}
+use Rattle.cdg_screen.specs.Standing.{Standing, border_from, colour_from}
 use Rattle.cdg_screen.proofs.Lists.{number_of_sixteen}
 use Rattle.picture_script.specs.Script.{Drawing, picture_border, picture_colour, low_colours, high_colours}
 use Rattle.picture_changes.specs.Change.{settings}

@@ -10,7 +10,7 @@ use Rattle.bit_lists.specs.Counting.{below}
 use Rattle.cdg_instructions.specs.Instruction.{IsTilePixels}
 use Rattle.cdg_instructions.specs.Drawing.{IsOfPlace, tile_from}
 use Rattle.cdg_instructions.specs.declared.instr.Instr.{Instr}
-use Rattle.cdg_screen.specs.Picture.{Standing, memory_from, standing_after, pixel_at}
+use Rattle.cdg_screen.specs.Standing.{Standing, memory_from, standing_after, pixel_at}
 use Rattle.cdg_screen.proofs.Lists.{pixel_of_rows}
 use Rattle.tile_author.specs.Plan.{steps}
 use Rattle.picture_script.specs.Script.{Drawing, picture_pixel, picture_tile}

@@ -4,8 +4,10 @@ use Rattle.std.proofs.lemmas.Bool.{cases_lt}
 use Rattle.std.specs.Prelude.{count_by, reverse}
 use Rattle.std.specs.declared.option.Option.{Option}
 use Rattle.std.proofs.lemmas.List.{length-reverse}
+use Rattle.raw_subcode.specs.Sizes.{slots_a_block}
+use Rattle.rw_interleave.specs.Interleave.{packs_kept_back, whole_packs}
 use Rattle.cdg_instructions.specs.declared.instr.Instr.{Instr}
-use Rattle.cdg_screen.specs.Picture.{Standing, blank, pixel_at, rows_of, sixteen}
+use Rattle.cdg_screen.specs.Standing.{Standing, blank, pixel_at, rows_of, sixteen}
 use Rattle.cdg_screen.proofs.Lists.{pixel_of_rows, number_of_sixteen}
 use Rattle.picture_script.specs.Script.{Drawing, pictures, ready_time, hold_time, picture_border, picture_colour, picture_pixel}
 use Rattle.picture_changes.specs.Change.{IsChangeFrom, IsOrderedChange, IsStart}
@@ -86,14 +88,16 @@ one_need script k need other (instrs, change, count) (instrs', change', count') 
     omega (arith, count, count', change.shortest now instrs' before (change'.brings now before), change'.shortest now instrs before (change.brings now before))
 
 -- more than the packs that are free are needed for a picture that is late
-free_few : (start ready need : ℕ) → (start + need + 7 ≤ 4 * ready → ⊥) → start + 7 ≤ 4 * ready → 4 * ready - 7 - start < need
-free_few start ready need late room = elim (cases_lt (4 * ready) (start + need + 7)) [
+free_few : (start ready need : ℕ) → (start + need + packs_kept_back ≤ slots_a_block * ready → ⊥)
+    → start + packs_kept_back ≤ slots_a_block * ready → whole_packs ready - start < need
+free_few start ready need late room = elim (cases_lt (slots_a_block * ready) (start + need + packs_kept_back)) [
   | inl less ↦ omega (arith, less, room)
   | inr in_time ↦ absurd (late in_time)
 ]
 
-first_few : (ready need : ℕ) → (0 + need + 7 ≤ 4 * ready → ⊥) → 0 < need → 4 * ready - 7 - 0 < need
-first_few ready need late some = elim (cases_lt (4 * ready) (0 + need + 7)) [
+first_few : (ready need : ℕ) → (0 + need + packs_kept_back ≤ slots_a_block * ready → ⊥) → 0 < need
+    → whole_packs ready - 0 < need
+first_few ready need late some = elim (cases_lt (slots_a_block * ready) (0 + need + packs_kept_back)) [
   | inl less ↦ omega (arith, less, some)
   | inr in_time ↦ absurd (late in_time)
 ]
@@ -108,14 +112,17 @@ first_needs script need (instrs, change, count) =
     let (now, before) = may_stand script 0 in
     omega (arith, some_set sets_memory instrs ((change.brings now before).sets refl).memory, count)
 
-pub late_needs_more : (script : List Drawing) (k need free : ℕ) → ((j : ℕ) → j < k → (n : ℕ) × IsNeed script j n) → AreTimesInOrder script → IsLate script k need free → free < need
-late_needs_more script zero need free needs order late =
+pub late_needs_more : (script : List Drawing) (k need free : ℕ) → AreTimesInOrder script
+    → IsLate script k need free → free < need
+late_needs_more script zero need free order late =
     omega (arith, late.free_is, first_few (ready_time script 0) need late.late (first_needs script need late.need_is))
-late_needs_more script (suc k) need free needs order late =
-    let (n, is) = needs k (omega arith) in
-    let earlier = late.before k n (omega arith) is in
+late_needs_more script (suc k) need free order late =
+    let (n, is, earlier) = late.before k (omega arith) in
     let held = order.held k (omega (arith, late.picture)) in
     let next : suc k ≡ k + 1 = omega arith in
-    let later : hold_time script k < ready_time script (suc k) = subst (λ n. hold_time script k < ready_time script n) (sym next) (order.later k (subst (λ n. n < pictures script) next late.picture)) in
-    let room : start_of script (suc k) + 7 ≤ 4 * ready_time script (suc k) = omega (arith, earlier, held, later) in
+    let later : hold_time script k < ready_time script (suc k) =
+    subst (λ n. hold_time script k < ready_time script n) (sym next)
+    (order.later k (subst (λ n. n < pictures script) next late.picture)) in
+    let room : start_of script (suc k) + packs_kept_back ≤ slots_a_block * ready_time script (suc k) =
+    omega (arith, earlier, held, later) in
     omega (arith, late.free_is, free_few (start_of script (suc k)) (ready_time script (suc k)) need late.late room)

@@ -1,7 +1,7 @@
 -- Tests, and what they tell.
 use Rattle.std.proofs.Common.{◌≡◌, ℕ, suc, ◌+◌, ◌/◌, ◌<◌, ◌≤◌, ◌==◌, nat_le, nat_lt, ◌&&◌, inl, inr, Bool, true, false, refl, ap₂, arith}
 use Rattle.std.proofs.lemmas.Bool.Decides.{eqb_tells, leb_tells}
-use Rattle.cdg_screen.specs.Picture.{covers}
+use Rattle.cdg_screen.specs.Standing.{covers}
 use Rattle.picture_changes.proofs.Tiles.{and_four, is_le, tile_x, tile_y}
 
 pub by_test : {P : Type 0} (a : Bool) → (a ≡ true → P) → (a ≡ false → P) → P

@@ -11,7 +11,7 @@ use Rattle.cdg_instructions.specs.Drawing.{IsOfPlace, drawn_pixel, tile_colour, 
 use Rattle.cdg_instructions.specs.declared.instr.Instr.{Instr}
 use Rattle.cdg_instructions.specs.declared.instr.Instr.TheVariants.{SetTile, XorTile}
 use Rattle.std.specs.Prelude.{slice_index}
-use Rattle.cdg_screen.specs.Picture.{Standing, covers, memory_from, border_from, colour_from, offsets_from, standing_after, pixel_at}
+use Rattle.cdg_screen.specs.Standing.{Standing, covers, memory_from, border_from, colour_from, offsets_from, standing_after, pixel_at}
 use Rattle.cdg_screen.proofs.Lists.{pixel_of_rows, number_of_sixteen}
 use Rattle.picture_changes.specs.Change.{AreTileChanges, window_places}
 

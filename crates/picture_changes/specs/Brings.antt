@@ -4,7 +4,7 @@ use Rattle.std.specs.Prelude.{◌≡◌, ℕ, zero, suc, ◌<◌, ◌≤◌, Boo
 use Rattle.cdg_instructions.specs.Instruction.{InRange}
 use Rattle.cdg_instructions.specs.declared.instr.Instr.{Instr}
 use Rattle.cdg_instructions.specs.declared.instr.Instr.TheVariants.{MemoryPreset, BorderPreset, ScrollPreset, ScrollCopy, ColoursLow, ColoursHigh}
-use Rattle.cdg_screen.specs.Picture.{Standing, standing_after}
+use Rattle.cdg_screen.specs.Standing.{Standing, standing_after}
 use Rattle.picture_script.specs.Script.{Drawing}
 use Rattle.picture_changes.specs.Shown.{ShowsPicture}
 

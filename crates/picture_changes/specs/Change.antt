@@ -3,6 +3,7 @@ use Rattle.std.specs.Prelude.{◌≡◌, ℕ, zero, suc, ◌+◌, ◌-◌, ◌<�
 use Rattle.bit_lists.specs.Counting.{below}
 use Rattle.tile_author.specs.Plan.{are_equal}
 use Rattle.picture_script.specs.Script.{Drawing, picture_border, picture_tile, low_colours, high_colours}
+use Rattle.cdg_instructions.specs.Sizes.{tile_pixels}
 use Rattle.cdg_instructions.specs.Drawing.{Turns, IsLeast}
 use Rattle.cdg_instructions.specs.declared.instr.Instr.{Instr}
 use Rattle.cdg_instructions.specs.declared.instr.Instr.TheVariants.{MemoryPreset, BorderPreset, ColoursLow, ColoursHigh}
@@ -35,6 +36,10 @@ AreTileChanges old new (place ∷ rest) instrs =
     × IsLeast row column (old row column) (new row column) (length first)
     × AreTileChanges old new rest others
 
+-- the most instructions of a change: one that sets all memory, three settings, and four for each of 768 tiles
+abbrev pub most_change : ℕ
+most_change = 3076
+
 -- A start is a colour of which all memory is set first, or none. Picture 0 has a colour.
 abbrev pub IsStart : ℕ → Option ℕ → Type 0
 IsStart k (Some colour) = colour < 16
@@ -48,7 +53,7 @@ preset_of None = []
 
 -- the tiles that stand before picture k: those of the picture before, or of one colour
 abbrev pub tiles_before : List Drawing → ℕ → Option ℕ → ℕ → ℕ → List ℕ
-tiles_before script k (Some colour) row column = replicate 72 colour
+tiles_before script k (Some colour) row column = replicate tile_pixels colour
 tiles_before script k None row column = picture_tile script (k - 1) row column
 
 -- a change for picture k with this start

@@ -6,6 +6,7 @@ use Rattle.rw_code.specs.Packs.{idle_pack}
 use Rattle.cdg_instructions.specs.Instruction.{IsWritten}
 use Rattle.picture_script.specs.Script.{Drawing, pictures, ready_time, hold_time}
 use Rattle.picture_changes.specs.Brings.{IsChange, IsNeed}
+use Rattle.picture_changes.specs.Change.{IsOrderedChange}
 use Rattle.cdg_instructions.specs.declared.instr.Instr.{Instr}
 use Rattle.cdg_instructions.specs.declared.instr.Instr.TheVariants.{Idle}
 
@@ -22,12 +23,18 @@ IsInTime script k need = start_of script k + need + packs_kept_back ≤ slots_a_
 abbrev pub free_packs : List Drawing → ℕ → ℕ
 free_packs script k = whole_packs (ready_time script k) - start_of script k
 
--- the packs of so many blocks hold the change of each picture from its start on, in time, and else are idle
-pub record IsSchedule (script : List Drawing) (blocks : ℕ) (packs : List (List ℕ)) : Type 0 where
+-- picture k can be ready: there is a number of packs that it needs, and so many are whole by its ready time
+abbrev pub CanBeReady : List Drawing → ℕ → Type 0
+CanBeReady script k = (need : ℕ) × IsNeed script k need × IsInTime script k need
+
+-- the packs of so many blocks hold a list of instructions of this kind for each picture, from its start on, in time,
+-- and else are idle
+pub record IsScheduleOf (IsOne : List Drawing → ℕ → List Instr → Type 0) (script : List Drawing) (blocks : ℕ)
+    (packs : List (List ℕ)) : Type 0 where
   pub count : length packs ≡ whole_packs blocks
   pub held : (k : ℕ) → k < pictures script → hold_time script k ≤ blocks
   pub changes : List (List Instr)
-  pub change : (k : ℕ) → k < pictures script → IsChange script k (slice_index_or changes k [])
+  pub change : (k : ℕ) → k < pictures script → IsOne script k (slice_index_or changes k [])
   pub fits : (k : ℕ) → k < pictures script → IsInTime script k (length (slice_index_or changes k []))
   pub written : (k j : ℕ) → k < pictures script → j < length (slice_index_or changes k []) →
       IsWritten (slice_index_or (slice_index_or changes k []) j Idle)
@@ -37,10 +44,18 @@ pub record IsSchedule (script : List Drawing) (blocks : ℕ) (packs : List (List
       → (n < start_of script k) ⊎ (start_of script k + length (slice_index_or changes k []) ≤ n)) →
       slice_index_or packs n [] ≡ idle_pack
 
+-- a schedule holds a change of each picture: no list that brings it is shorter
+abbrev pub IsSchedule : List Drawing → ℕ → List (List ℕ) → Type 0
+IsSchedule script blocks packs = IsScheduleOf IsChange script blocks packs
+
+-- one whose changes have the fixed order in which they are written
+abbrev pub IsOrderedSchedule : List Drawing → ℕ → List (List ℕ) → Type 0
+IsOrderedSchedule script blocks packs = IsScheduleOf IsOrderedChange script blocks packs
+
 -- picture k is the first that does not fit
 pub record IsLate (script : List Drawing) (k need free : ℕ) : Type 0 where
   pub picture : k < pictures script
   pub need_is : IsNeed script k need
   pub free_is : free ≡ free_packs script k
   pub late : ¬ IsInTime script k need
-  pub before : (j n : ℕ) → j < k → IsNeed script j n → IsInTime script j n
+  pub before : (j : ℕ) → j < k → CanBeReady script j

@@ -1,6 +1,6 @@
 -- What it is that a picture of a script stands on the screen, and what the scripts that are accepted keep.
 use Rattle.std.specs.Prelude.{◌≡◌, ℕ, ◌+◌, ◌<◌, ◌≤◌, List, slice_index}
-use Rattle.cdg_screen.specs.Picture.{Standing, screen_pixel}
+use Rattle.cdg_screen.specs.Standing.{Standing, screen_pixel}
 use Rattle.picture_script.specs.Script.{Drawing, pictures, ready_time, hold_time, picture_pixel, picture_border, picture_colour}
 
 -- picture k of the script stands on the screen: its pixels in the window, its border and its colours

@@ -3,7 +3,7 @@ ghost use Rattle.std.specs.Prelude.{◌≡◌, ◌<◌, ◌≤◌, All, List, Op
 ghost use Rattle.cdg_instructions.specs.Instruction.{InRange, IsKnown};
 ghost use Rattle.cdg_instructions.specs.declared.instr.Instr.{Instr};
 ghost use Rattle.picture_script.specs.Script.{Drawing, picture_pixel};
-ghost use Rattle.picture_changes.specs.Change.{IsChangeFrom, IsOrderedChange, IsStart};
+ghost use Rattle.picture_changes.specs.Change.{most_change, IsChangeFrom, IsOrderedChange, IsStart};
 ghost use Rattle.picture_changes.specs.PlannedChange.{chosen_start, planned_change, planned_from, planned_length};
 ghost use Rattle.picture_changes.specs.Shown.{AreColoursInRange};
 
@@ -23,12 +23,12 @@ pub fn changes_have_planned_lengths()
 
 /// A law: the change that is written for a picture is a change in order for it, of at most 3,076 instructions: four
 /// that set all memory, the border and the colours, and four for each of 768 tiles. That it is a shortest one of any
-/// form is a law of the crate `shortest_changes`.
+/// form says `ordered_changes_are_shortest`.
 pub fn planned_changes_are_changes()
     ensures change { (script : List Drawing) (k : ℕ) → ((k x y : ℕ) → picture_pixel script k x y < 16)
         → IsOrderedChange script k (planned_change script k) }
     ensures few { (script : List Drawing) (k : ℕ) → ((k x y : ℕ) → picture_pixel script k x y < 16)
-        → length (planned_change script k) ≤ 3076 }
+        → length (planned_change script k) ≤ most_change }
     // It begins with the chosen start, which is one.
     ensures start { (script : List Drawing) (k : ℕ) → IsStart k (chosen_start script k) }
     ensures planned { (script : List Drawing) (k : ℕ) → ((k x y : ℕ) → picture_pixel script k x y < 16)

@@ -5,7 +5,7 @@ ghost use Rattle.picture_script.specs.Script.{Drawing, picture_pixel};
 ghost use Rattle.picture_changes.specs.Brings.{CannotBeReady, IsChange, IsNeed};
 ghost use Rattle.picture_changes.specs.Change.{IsOrderedChange};
 ghost use Rattle.picture_changes.specs.PlannedChange.{planned_change};
-ghost use Rattle.picture_changes.specs.Schedule.{IsLate};
+ghost use Rattle.picture_changes.specs.Schedule.{IsLate, IsOrderedSchedule, IsSchedule};
 ghost use Rattle.picture_changes.specs.Shown.{AreColoursInRange, AreTimesInOrder};
 
 use crate::{changes_can_be_written, changes_have_planned_lengths, planned_changes_are_changes};
@@ -24,6 +24,15 @@ pub fn ordered_changes_are_shortest()
     changes_can_be_written();
     plans_are_shortest();
     changes_have_planned_lengths();
+}
+
+/// A law: a schedule of changes in order, as they are written, is a schedule.
+pub fn schedules_of_ordered_changes_are_schedules()
+    ensures { (script : List Drawing) (blocks : ℕ) (packs : List (List ℕ)) → AreColoursInRange script
+        → ((k x y : ℕ) → picture_pixel script k x y < 16) → IsOrderedSchedule script blocks packs
+        → IsSchedule script blocks packs }
+{
+    ordered_changes_are_shortest();
 }
 
 /// A law: the change that is written for a picture is a change for it, and what the picture needs is its length, one

@@ -8,5 +8,7 @@ mod screen_laws;
 pub use change_laws::{
     changes_can_be_written, changes_have_planned_lengths, planned_changes_are_changes,
 };
-pub use length_laws::{needs_are_fewest, ordered_changes_are_shortest};
+pub use length_laws::{
+    needs_are_fewest, ordered_changes_are_shortest, schedules_of_ordered_changes_are_schedules,
+};
 pub use screen_laws::scheduled_pictures_are_shown;

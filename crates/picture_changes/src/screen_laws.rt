@@ -2,7 +2,7 @@
 ghost use Rattle.std.specs.Prelude.{◌≤◌, ◌<◌, List, ℕ, take};
 ghost use Rattle.rw_interleave.specs.Interleave.{whole_packs};
 ghost use Rattle.cdg_instructions.specs.declared.instr.Instr.{Instr};
-ghost use Rattle.cdg_screen.specs.Picture.{blank, standing_after};
+ghost use Rattle.cdg_screen.specs.Standing.{blank, standing_after};
 ghost use Rattle.picture_script.specs.Script.{Drawing, hold_time, pictures, ready_time};
 ghost use Rattle.picture_changes.specs.Schedule.{IsSchedule};
 ghost use Rattle.picture_changes.specs.Shown.{AreTimesInOrder, ShowsPicture};

@@ -6,6 +6,9 @@ use cdg_instructions::{PIXELS, Tile, WINDOW_WIDTH};
 use std::alloc::{AllocError, Global};
 use std::marker::Model;
 
+// So many lines are drawn again rather than all pixels copied, which takes about as long.
+const FEW_LINES: usize = 1_000;
+
 /// A window of 288 by 192 pixels, a border and a table of sixteen colours, as lines of a script set them.
 #[derive(Drop)]
 pub struct Canvas {
@@ -87,9 +90,10 @@ impl Canvas {
                 colour,
             ),
             ScriptLine::PixelRow { x, y, first, count } => {
-                let end = first + usize::from(count);
+                let start = first as usize;
+                let end = start + usize::from(count);
                 self.window
-                    .draw_row(usize::from(x), usize::from(y), &pixels[first..end]);
+                    .draw_row(usize::from(x), usize::from(y), &pixels[start..end]);
             }
             ScriptLine::ShowLine { .. } => {}
         }
@@ -158,6 +162,34 @@ impl Canvas {
             None => self.draw_lines(script, from, to),
         }
         self.at = Some(k);
+    }
+
+    // Makes all as on another canvas.
+    fn copy(&mut self, other: &Canvas)
+        ensures { self.new ≡ other.now }
+    {
+        self.window.copy(&other.window);
+        self.border = other.border;
+        self.colours = other.colours;
+        self.at = other.at;
+    }
+
+    /// Draws picture `k` of a script as `draw_until` does, where it already stands on another canvas: if many lines draw
+    /// it, it is copied from there.
+    pub fn draw_like(&mut self, script: &Script, k: u32, other: &Canvas)
+        requires picture { k < pictures script.now }
+        requires before { StandsBefore script.now k self.old }
+        requires there { IsPicture script.now k other.now }
+        requires there_at { other.now.at ≡ Some k }
+        ensures picture { IsPicture script.now k self.new }
+        ensures at { self.new.at ≡ Some k }
+    {
+        let before = if k == 0 { 0 } else { script.place(k - 1) };
+        if script.place(k).saturating_sub(before) <= FEW_LINES {
+            self.draw_until(script, k);
+        } else {
+            self.copy(other);
+        }
     }
 
     /// Whether the tiles of a row from 1 to 16 are those of another canvas.

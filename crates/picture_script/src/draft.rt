@@ -76,7 +76,10 @@ impl ScriptDraft {
         ensures ok { OnOk result (Adds self.old self.new (Row x y (map digit_value digits.now))) }
         ensures err { IfErr result (λ stop. stop ≡ LineStop.NoRoom) }
     {
-        let first = self.pixels.len();
+        // The pixels of a text of at most 64 MiB are fewer than such a number counts.
+        let Ok(first) = u32::try_from(self.pixels.len()) else {
+            return Err(LineStop::NoRoom);
+        };
         push_pixels(&mut self.pixels, digits)?;
         self.push_line(ScriptLine::PixelRow {
             x,

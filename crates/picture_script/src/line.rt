@@ -23,7 +23,7 @@ pub(crate) enum ScriptLine {
     PixelRow {
         x: u16,
         y: u8,
-        first: usize,
+        first: u32,
         count: u16,
     },
     ShowLine {

@@ -50,6 +50,19 @@ impl Script {
         self.shown.len() as u32
     }
 
+    /// A law: the times of the pictures rise, and all colours are in range. It does nothing when it runs.
+    pub fn times_rise_and_colours_are_in_range(&self)
+        ensures held { (k : ℕ) → k < pictures self.now → ready_time self.now k ≤ hold_time self.now k }
+        ensures later { (k : ℕ) → k + 1 < pictures self.now
+            → hold_time self.now k < ready_time self.now (k + 1) }
+        ensures ends { (k : ℕ) → k < pictures self.now → hold_time self.now k < time_count }
+        ensures pixels { (k x y : ℕ) → picture_pixel self.now k x y < 16 }
+        ensures borders { (k : ℕ) → picture_border self.now k < 16 }
+        ensures colours { (k n : ℕ) → picture_colour self.now k n < 4096 }
+    {
+        let _ = self.pictures();
+    }
+
     /// The block number at which picture `k` is ready, counted from the absolute time 00:00:00. The pictures are
     /// counted from 0.
     pub fn ready(&self, k: u32) -> u32
@@ -86,12 +99,11 @@ impl Script {
         ensures fill { IfSome result (λ found. slice_index_or self.now found.0 (Fill 0) ≡ Fill found.1) }
         ensures colour { IfSome result (λ found. found.1 < 16) }
     {
-        let mut last = None;
-        for i in from..to {
+        for i in (from..to).rev() {
             if let ScriptLine::Filled { colour } = self.lines[i] {
-                last = Some((i, colour));
+                return Some((i, colour));
             }
         }
-        last
+        None
     }
 }

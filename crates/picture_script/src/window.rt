@@ -75,6 +75,13 @@ impl Window {
         out.copy_from_slice(&self.pixels[start..start + 6]);
     }
 
+    /// Sets all pixels to those of another window.
+    pub(crate) fn copy(&mut self, other: &Window)
+        ensures { self.new ≡ other.now }
+    {
+        self.pixels.copy_from_slice(&other.pixels);
+    }
+
     /// Sets all pixels.
     pub(crate) fn clear(&mut self, colour: u8)
         requires { colour < 16 }

@@ -3,7 +3,7 @@ ghost use Rattle.std.specs.Prelude.{◌≡◌, ◌≤◌, ◌-◌, ◌++◌, Som
 ghost use Rattle.plain_frames.specs.Plain.{frame_of_plain, plain_kind, plain_of};
 ghost use Rattle.q_channel.specs.declared.frame.QFrame.TheVariants.{Toc};
 
-use crate::PlainFrame;
+use crate::{PlainFrame, kinds};
 use q_channel::{QFrame, TocPoint};
 
 /// A frame as a plain one. The fields that its kind does not name are zero.
@@ -23,7 +23,7 @@ pub fn plain_of(frame: &QFrame) -> PlainFrame
             index: *index,
             time: time.block(),
             absolute: absolute.block(),
-            ..of_kind(0, *control)
+            ..of_kind(kinds::PROGRAM, *control)
         },
         QFrame::Toc {
             control,
@@ -40,7 +40,7 @@ pub fn plain_of(frame: &QFrame) -> PlainFrame
         } => PlainFrame {
             text: *digits,
             frame: *frame,
-            ..of_kind(5, *control)
+            ..of_kind(kinds::CATALOGUE, *control)
         },
         QFrame::Isrc {
             control,
@@ -49,12 +49,12 @@ pub fn plain_of(frame: &QFrame) -> PlainFrame
         } => PlainFrame {
             text: text(code),
             frame: *frame,
-            ..of_kind(6, *control)
+            ..of_kind(kinds::CODE, *control)
         },
         QFrame::Other { control, adr, rest } => PlainFrame {
             mode: *adr,
             text: text(rest),
-            ..of_kind(7, *control)
+            ..of_kind(kinds::OTHER, *control)
         },
     }
 }
@@ -67,20 +67,20 @@ fn entry(control: u8, point: &TocPoint) -> PlainFrame
         TocPoint::Track { number, start } => PlainFrame {
             track: *number,
             absolute: start.block(),
-            ..of_kind(1, control)
+            ..of_kind(kinds::TRACK, control)
         },
         TocPoint::First { track, kind } => PlainFrame {
             track: *track,
             disc: *kind,
-            ..of_kind(2, control)
+            ..of_kind(kinds::FIRST, control)
         },
         TocPoint::Last { track } => PlainFrame {
             track: *track,
-            ..of_kind(3, control)
+            ..of_kind(kinds::LAST, control)
         },
         TocPoint::LeadOut { start } => PlainFrame {
             absolute: start.block(),
-            ..of_kind(4, control)
+            ..of_kind(kinds::LEAD_OUT, control)
         },
     }
 }

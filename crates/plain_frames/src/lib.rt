@@ -3,6 +3,7 @@
 
 mod checks;
 mod from_frame;
+mod kinds;
 mod plain;
 mod to_frame;
 

@@ -5,8 +5,8 @@ ghost use Rattle.q_channel.specs.QFrame.{IsValidPoint};
 ghost use Rattle.q_channel.specs.declared.frame.QFrame.TheVariants.{Program, Toc, Catalogue, Isrc, Other};
 ghost use Rattle.q_channel.specs.declared.frame.TocPoint.TheVariants.{Track, First, Last, LeadOut};
 
-use crate::PlainFrame;
 use crate::checks::{are_capitals, are_capitals_or_digits, are_digits, is_other, is_track, time};
+use crate::{PlainFrame, kinds};
 use q_channel::{QFrame, TocPoint};
 
 /// The frame that a plain one stands for, where its kind is one and its fields have values that they may
@@ -15,14 +15,14 @@ pub fn frame_of(plain: &PlainFrame) -> Option<QFrame>
     ensures { IsValidOf result plain.now }
 {
     match plain.kind {
-        0 => program(plain),
-        1 => track(plain),
-        2 => first(plain),
-        3 => last(plain),
-        4 => lead_out(plain),
-        5 => catalogue(plain),
-        6 => code(plain),
-        7 => other(plain),
+        kinds::PROGRAM => program(plain),
+        kinds::TRACK => track(plain),
+        kinds::FIRST => first(plain),
+        kinds::LAST => last(plain),
+        kinds::LEAD_OUT => lead_out(plain),
+        kinds::CATALOGUE => catalogue(plain),
+        kinds::CODE => code(plain),
+        kinds::OTHER => other(plain),
         _ => None,
     }
 }

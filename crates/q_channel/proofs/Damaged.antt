@@ -2,7 +2,7 @@
 use Rattle.std.proofs.Common.{◌≡◌, ◌+◌, ◌-◌, ◌≤◌, Bool, List, ◌++◌, length, take, drop, refl, ◌∙◌, arith, length-append, subst}
 use Rattle.std.specs.Prelude.{◌≢◌, Ok, Err, Result}
 use Rattle.bit_lists.specs.Check.{check_bits, IsChecked}
-use Rattle.bit_lists.proofs.Bursts.{burst_law}
+use Rattle.bit_lists.proofs.Bursts.{bursts_fail_the_check}
 use Rattle.q_channel.specs.QFrame.{IsFrame}
 use Rattle.q_channel.specs.declared.frame.QFrame.{QFrame}
 use Rattle.q_channel.specs.declared.frame.QFault.{QFault}
@@ -23,7 +23,7 @@ no_check frame before one other after small same differ is check =
     length-append (before ++ one) after ∙ omega (arith, length-append before one) in
     let other_size : length (before ++ other ++ after) ≡ length before + length other + length after =
     length-append (before ++ other) after ∙ omega (arith, length-append before other) in
-    differ (burst_law before one other after small same (is_checked (before ++ one ++ after) was.0 was.1)
+    differ (bursts_fail_the_check before one other after small same (is_checked (before ++ one ++ after) was.0 was.1)
     (is_checked (before ++ other ++ after) (omega (arith, was.0)) check))
 
 pub burst_is_noticed : (frame : QFrame) (before one other after : List Bool) (what : Result QFrame QFault)

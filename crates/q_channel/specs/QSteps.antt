@@ -1,6 +1,6 @@
 -- The steps of the stage that gives the lines of the Q channel.
 use Rattle.bit_lists.specs.Counting.{counted}
-use Rattle.std.specs.Prelude.{ℕ, ◌+◌, ◌-◌, ◌^◌, min, if◌then◌else◌, List, Option, Some, is_err}
+use Rattle.std.specs.Prelude.{ℕ, ◌-◌, min, if◌then◌else◌, List, Option, Some, is_err}
 use Rattle.raw_subcode.specs.Channels.{q_bits}
 use Rattle.raw_subcode.specs.Sizes.{most_units}
 use Rattle.q_channel.specs.QLine.{q_line}

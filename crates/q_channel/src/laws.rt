@@ -9,7 +9,7 @@ ghost use Rattle.q_channel.specs.ReadingOf.{reading_of};
 ghost use Rattle.q_channel.specs.Sizes.{frame_bits};
 
 /// Bits that are a frame, as those of a frame that is written, are read as this frame and as nothing else.
-pub fn one_reading()
+pub fn bits_have_one_reading()
     ensures { (frame : QFrame) (message : List Bool) (what : Result QFrame QFault)
         → IsFrame frame message → IsReading message what → what ≡ Ok frame }
 {}

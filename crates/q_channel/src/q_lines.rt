@@ -1,7 +1,13 @@
 // The lines of the Q channel.
-ghost use Rattle.std.specs.Prelude.{◌≡◌, Some};
+ghost use Rattle.std.specs.Prelude.{◌≡◌, ◌<◌, Some, if◌then◌else◌, is_err};
+ghost use Rattle.bit_lists.specs.Bits.{bits_of_bytes};
+ghost use Rattle.bit_lists.specs.Counting.{counted};
+ghost use Rattle.raw_subcode.specs.Sizes.{most_units};
+ghost use Rattle.q_channel.specs.QLine.{q_line};
+ghost use Rattle.q_channel.specs.ReadingOf.{reading_of};
 ghost use Rattle.q_channel.specs.QSteps.{q_next, q_give};
 
+use crate::program::{is_program_frame, program_line};
 use crate::{decode, line};
 use cdg_io::{Piece, Stage};
 use raw_subcode::{BLOCK_BYTES, Block, MOST_UNITS};
@@ -19,19 +25,38 @@ pub struct QLines {
 }
 
 impl QLines {
-    // The line of the next block.
+    // Puts the line of the next block in the place of a piece.
     #[tactic(auto, unfolding(crate::specs::QSteps::q_next, crate::specs::QSteps::q_give))]
-    fn next_line(&mut self, block: &[u8; BLOCK_BYTES]) -> Piece
+    fn put_line(&mut self, block: &[u8; BLOCK_BYTES], piece: &mut Piece)
         ensures next { self.new ≡ q_next self.old block.now }
-        ensures gives { Some result ≡ q_give self.old block.now }
+        ensures gives { Some piece.new ≡ q_give self.old block.now }
     {
-        let reading = decode(&Block::from_bytes(block).q_frame());
-        let piece = line(self.block.min(LAST), &reading);
+        let frame = Block::from_bytes(block).q_frame();
+        let number = self.block.min(LAST);
         self.block = self.block.saturating_add(1);
+        // Most blocks carry a frame of the program.
+        if is_program_frame(&frame) {
+            piece.set(&program_line(number, &frame));
+        } else {
+            self.put_reading(number, &frame, piece);
+        }
+    }
+
+    // Puts the line of any frame, with the number of its block. It is a function of its own so that frames of the
+    // program do not pay for its variables.
+    #[inline(never)]
+    fn put_reading(&mut self, number: u32, frame: &[u8; 12], piece: &mut Piece)
+        requires { number < most_units }
+        ensures block { self.new.block ≡ self.old.block }
+        ensures bad { self.new.bad
+            ≡ (if is_err (reading_of (bits_of_bytes frame.now)) then counted self.old.bad else self.old.bad) }
+        ensures gives { piece.new ≡ q_line number (reading_of (bits_of_bytes frame.now)) }
+    {
+        let reading = decode(frame);
         if reading.is_err() {
             self.bad = self.bad.saturating_add(1);
         }
-        piece
+        *piece = line(number, &reading);
     }
 }
 
@@ -45,12 +70,14 @@ impl Stage for QLines {
     ghost gives = { q_give };
 
     fn feed(&mut self, block: &[u8; BLOCK_BYTES]) -> Option<Piece> {
-        Some(self.next_line(block))
+        let mut piece = Piece::new();
+        self.put_line(block, &mut piece);
+        Some(piece)
     }
 
     fn emit(&mut self, block: &[u8; BLOCK_BYTES], out: &mut Option<Piece>) {
         match out {
-            Some(piece) => *piece = self.next_line(block),
+            Some(piece) => self.put_line(block, piece),
             None => *out = self.feed(block),
         }
     }

@@ -1,17 +1,20 @@
 // The output of the program, which is never held back while an input is waited for.
+ghost use Rattle.std.specs.Prelude.{None};
+
 use crate::input::Input;
+use cdg_io::{BufferedSink, Failed, Sink};
 use std::cell::RefCell;
 use std::io;
-use std::io::{BufWriter, ErrorKind, Read, Stdout, Write};
+use std::io::{Read, Stdout};
 
 /// Standard output, with what is still to be written to it.
-pub type Waiting = RefCell<BufWriter<Stdout>>;
+pub type Waiting = RefCell<BufferedSink<Stdout>>;
 
 /// Writes what waits.
-pub(crate) fn flush(waiting: &Waiting) -> io::Result<()> {
+pub(crate) fn flush(waiting: &Waiting) -> Result<(), Failed> {
     match waiting.try_borrow_mut() {
-        Ok(mut writer) => writer.flush(),
-        Err(_) => Err(io::Error::from(ErrorKind::Other)),
+        Ok(mut sink) => sink.flush(),
+        Err(_) => Err(Failed),
     }
 }
 
@@ -32,19 +35,32 @@ impl Read for LiveInput<'_> {
     }
 }
 
-/// The writer that the inputs know of.
+/// The output that the inputs know of. It tells no bytes, since no clause can say what a cell holds.
 #[derive(Drop)]
-pub struct LiveOutput<'a>(pub &'a Waiting);
+pub struct LiveOutput<'a> {
+    waiting: &'a Waiting,
+    faults: u64,
+}
 
-impl Write for LiveOutput<'_> {
-    fn write(&mut self, buf: &[u8]) -> io::Result<usize> {
-        match self.0.try_borrow_mut() {
-            Ok(mut writer) => writer.write(buf),
-            Err(_) => Err(io::Error::from(ErrorKind::Other)),
-        }
+impl<'a> LiveOutput<'a> {
+    pub fn new(waiting: &'a Waiting) -> LiveOutput<'a> {
+        LiveOutput { waiting, faults: 0 }
     }
+}
 
-    fn flush(&mut self) -> io::Result<()> {
-        flush(self.0)
+impl Sink for LiveOutput<'_> {
+    ghost held = { λ _. None };
+
+    ghost faults = { λ s. s.faults };
+
+    #[inline]
+    fn put(&mut self, piece: &[u8]) -> Result<usize, Failed> {
+        if let Ok(mut sink) = self.waiting.try_borrow_mut() {
+            if let Ok(count) = sink.put(piece) {
+                return Ok(count);
+            }
+        }
+        self.faults = self.faults.saturating_add(1);
+        Err(Failed)
     }
 }

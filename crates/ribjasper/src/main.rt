@@ -5,12 +5,12 @@ mod input;
 mod live;
 
 use cdg_cmd::{Status, run, split, tell};
-use cdg_io::{BufferedSource, SteadySink, WriteSink};
+use cdg_io::{BufferedSink, BufferedSource, Failed, SteadySink, WriteSink};
 use input::Input;
 use live::{LiveInput, LiveOutput, Waiting, flush};
 use std::alloc::Global;
 use std::cell::RefCell;
-use std::io::{BufReader, BufWriter, ErrorKind};
+use std::io::{BufReader, ErrorKind};
 use std::process::ExitCode;
 use std::{env, io};
 
@@ -66,7 +66,7 @@ fn run_words(rt: &HostRuntime, line: &[String], waiting: &Waiting) -> io::Result
         &line[..split.words],
         &mut first,
         &mut second,
-        &mut WriteSink::new(LiveOutput(waiting)),
+        &mut LiveOutput::new(waiting),
         &mut SteadySink::new(),
     ))
 }
@@ -74,11 +74,11 @@ fn run_words(rt: &HostRuntime, line: &[String], waiting: &Waiting) -> io::Result
 // Runs the words of the program on the inputs and standard output.
 fn run_on_streams(rt: &HostRuntime) -> io::Result<Status> {
     let line = words(rt)?;
-    let waiting = RefCell::new(BufWriter::with_capacity(rt.alloc(), BUFFER, rt.stdout())?);
+    let waiting = RefCell::new(BufferedSink::new(rt.alloc(), BUFFER, rt.stdout())?);
     let status = run_words(rt, &line, &waiting)?;
     match flush(&waiting) {
         Ok(()) => Ok(status),
-        Err(_) => Ok(Status::WriteFault),
+        Err(Failed) => Ok(Status::WriteFault),
     }
 }
 

@@ -11,13 +11,16 @@ use Rattle.raw_subcode.specs.declared.form.Form.{Form}
 use Rattle.raw_subcode.specs.declared.form.Form.TheVariants.{Raw, Cooked}
 use Rattle.live_player.specs.contracts.live.LivePlayer.{the_row}
 use Rattle.live_player.specs.declared.live.LivePlayer.{LivePlayer}
-use Rattle.cdg_screen.specs.Picture.{Standing, blank, screen_pixel, standing_after}
-use Rattle.live_player.specs.Lives.{Given, blocks_in, instruction_of, instructions_in, packs_given, picture_byte, standing_on, HasPlayed, IsLiveView, IsLiveViewAt}
+use Rattle.cdg_instructions.specs.Sizes.{screen_pixels, screen_width}
+use Rattle.cdg_screen.specs.Standing.{Standing, blank, screen_pixel, standing_after}
+use Rattle.live_player.specs.Lives.{Given, blocks_in, instruction_of, instructions_in, packs_given, picture_byte, picture_bytes, standing_on, HasPlayed, IsLiveView, IsLiveViewAt}
 
+-- what a handle owns of the heap: the block of its player, where it has one
 abbrev pub handle_owns : Global → Ptr → List LivePlayer → Fml
 handle_owns alloc at [] = ftrue
 handle_owns alloc at (player ∷ rest) = box_owns (ghosts.dealloc_token alloc) the_row at player
 
+-- how lists of players are told apart from other values
 abbrev pub players_coded : Coded (List LivePlayer)
 players_coded = coded_list (the_row.coded)
 
@@ -49,7 +52,8 @@ PlayersShow players tells = (player : LivePlayer) → players ≡ player ∷ []
 
 -- the numbers of the colours of the screen's pixels, row by row
 abbrev pub IsScreen : List ℕ → Standing → Type 0
-IsScreen pixels now = (n : ℕ) → n < 64800 → slice_index pixels n ≡ screen_pixel now (n % 300) (n / 300)
+IsScreen pixels now = (n : ℕ) → n < screen_pixels
+    → slice_index pixels n ≡ screen_pixel now (n % screen_width) (n / screen_width)
 
 -- the colours of the table
 abbrev pub IsTable : List ℕ → Standing → Type 0
@@ -61,7 +65,7 @@ AreLevels levels now = (k : ℕ) → k < 16 → slice_index levels k ≡ slice_i
 
 -- red, green and blue of the screen's pixels, row by row
 abbrev pub ArePictureBytes : List ℕ → Standing → Type 0
-ArePictureBytes bytes now = (n : ℕ) → n < 194400 → slice_index bytes n ≡ picture_byte now n
+ArePictureBytes bytes now = (n : ℕ) → n < picture_bytes → slice_index bytes n ≡ picture_byte now n
 
 -- the form that a number means: 0 a raw stream, 1 one of packs
 abbrev pub form_of : ℕ → Form

@@ -3,6 +3,7 @@ use Rattle.std.specs.Prelude.{◌≡◌, ℕ, ◌<◌, List, [], drop, length, p
 use Rattle.ribjasper_c.specs.Answers.{IsCorrected}
 use Rattle.ribjasper_c.specs.declared.taking.ReadPack.{ReadPack}
 
+-- in place of a pack that is not there
 abbrev pub no_pack : ReadPack
 no_pack = record { symbols = []; wrong = pos 0 }
 

@@ -37,6 +37,7 @@ pub extern "C" fn ribjasper_text_pack_matches(pack: &[u8; 18]) -> i32
     if matches(pack) { 1 } else { 0 }
 }
 
+// Whether the last two bytes are the check of the others.
 fn matches(pack: &[u8; 18]) -> bool
     ensures { result ≡ check_matches pack.now }
 {

@@ -100,6 +100,7 @@ fn units_in(form: Form, stream: &[u8]) -> Option<u32>
     Some(units as u32)
 }
 
+// How many bytes a unit has.
 fn size_of_unit(form: Form) -> usize
     ensures { result ≡ unit_size form }
 {
@@ -178,6 +179,7 @@ fn put(piece: &Option<Piece>, packs: &mut [u8], at: usize) -> usize
     }
 }
 
+// Writes bytes from a place on, and says how many.
 fn copy_to(bytes: &[u8], packs: &mut [u8], at: usize) -> usize
     requires { at + length bytes.now ≤ length packs.old }
     ensures count { result ≡ length bytes.now }
@@ -188,6 +190,7 @@ fn copy_to(bytes: &[u8], packs: &mut [u8], at: usize) -> usize
     bytes.len()
 }
 
+/// The form of a whole stream that a number means.
 pub(crate) fn stream_form(form: u32) -> Form
     ensures { result ≡ stream_form form }
 {
@@ -198,6 +201,7 @@ pub(crate) fn stream_form(form: u32) -> Form
     }
 }
 
+/// Writes bytes to the front of a room.
 pub(crate) fn copy_front(text: &[u8], packs: &mut [u8])
     requires { length text.now ≤ length packs.old }
     ensures { packs.new ≡ text.now ++ drop (length text.now) packs.old }

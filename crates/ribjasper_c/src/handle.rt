@@ -68,6 +68,7 @@ impl Handle {
         alloc
     }
 
+    // A handle of the player that a box with its fields in sight holds.
     fn of_parts(parts: Parts<LivePlayer, Global>) -> Handle
         ensures { result.players ≡ parts.value ∷ [] }
     {
@@ -78,6 +79,7 @@ impl Handle {
         }
     }
 
+    // The box of its player, with its fields in sight.
     fn into_parts(self) -> Parts<LivePlayer, Global>
         requires { length self.players ≡ 1 }
         ensures { self.players ≡ result.value ∷ [] }

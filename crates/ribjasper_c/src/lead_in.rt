@@ -155,6 +155,7 @@ fn refuse(fault: TextFault, told: &mut Listed) -> i32
     }
 }
 
+// Tells which pack and which of its bytes, and that nothing is written.
 fn tell(told: &mut Listed, seq: u8, byte: u8)
     ensures { told.new ≡ record { bytes = 0; seq = seq; byte = byte } }
 {

@@ -7,7 +7,7 @@ use disc_time::MOST_LEAD_IN;
 use raw_subcode::{BLOCK_BYTES, MOST_UNITS, SLOTS_A_BLOCK};
 use rw_code::SYMBOLS;
 use rw_interleave::PACKS_KEPT_BACK;
-use rw_mend::{Counts, mend_streams};
+use rw_mend::{MendCounts, mend_streams};
 
 // The exit numbers of the program.
 const DONE: i32 = 0;
@@ -29,7 +29,7 @@ pub struct MendedStream {
     /// The blocks of the program.
     pub blocks: u32,
     /// Its words by the way in which each is mended.
-    pub words: Counts,
+    pub words: MendCounts,
 }
 
 /// Mends two readings of a stream of raw blocks into the front of a buffer, and answers by an exit number of the program.

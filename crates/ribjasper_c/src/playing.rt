@@ -40,6 +40,7 @@ impl Drop for Playing {
 }
 
 impl Playing {
+    /// One that holds no player.
     pub(crate) fn closed(alloc: Global) -> Playing
         ensures closed { result.is_open ≡ false }
         ensures none { result.handle.players ≡ [] }
@@ -51,6 +52,7 @@ impl Playing {
         }
     }
 
+    /// One that holds this player.
     pub(crate) fn of(alloc: Global, player: Box<LivePlayer>) -> Playing
         ensures opened { result.is_open ≡ true }
         ensures held { result.handle.players ≡ player.value ∷ [] }
@@ -62,6 +64,7 @@ impl Playing {
         }
     }
 
+    // The player that is held.
     fn into_box(self) -> Box<LivePlayer>
         requires { self.is_open ≡ true }
         ensures { self.handle.players ≡ result.value ∷ [] }
@@ -197,6 +200,7 @@ pub extern "C" fn ribjasper_player_begin(player: &mut Playing, form: u32, lead_i
     0
 }
 
+/// The form of the blocks of a player that a number means.
 pub(crate) fn form_of(form: u32) -> Form
     ensures { result ≡ form_of form }
 {

@@ -69,12 +69,14 @@ fn has_room(part: &Part, stride: u32, room: usize) -> bool
     part.width <= stride && (part.height == 0 || stride * (part.height - 1) + part.width <= room)
 }
 
+// The pixels of a part of the screen, of what the player was given since it began.
 fn shown_part(live: &LivePlayer, part: &Part, pixels: &mut [u8], stride: usize)
     requires part { IsOnScreen part.now }
     requires apart { part.now.width ≤ stride }
     requires room { HasRoomFor part.now stride (length pixels.old) }
     ensures { PlayersShow (live.now ∷ []) (λ now. ShowsPart now part.now stride pixels.old pixels.new) }
 {
+    // Two laws, for the clause.
     live.shows_its_blocks();
     live.shows_its_packs();
     live.part(part, pixels, stride);

@@ -1,10 +1,16 @@
 // What a player shows, as C asks for it.
 ghost use Rattle.std.specs.Prelude.{◌≡◌, ◌<◌, ◌&&◌, nat_lt, slice_index, if◌then◌else◌, ◌∷◌, [], pos, negsuc};
-ghost use Rattle.cdg_screen.specs.Picture.{screen_pixel};
+ghost use Rattle.cdg_instructions.specs.Sizes.{screen_height, screen_width};
+ghost use Rattle.cdg_screen.specs.Standing.{screen_pixel};
 ghost use Rattle.ribjasper_c.specs.Handles.{ArePictureBytes, AreLevels, IsScreen, IsTable, PlayersShow};
 
 use crate::Playing;
-use live_player::LivePlayer;
+use cdg_instructions::{SCREEN_HEIGHT, SCREEN_PIXELS, SCREEN_WIDTH};
+use live_player::{LivePlayer, PICTURE_BYTES};
+
+const WIDTH: u32 = SCREEN_WIDTH as u32;
+
+const HEIGHT: u32 = SCREEN_HEIGHT as u32;
 
 /// Writes the number of the colour that the screen shows at a place. 0, or -1 where the player is closed or
 /// the place is not on the screen.
@@ -17,13 +23,13 @@ pub extern "C" fn ribjasper_player_pixel(
 ) -> i32
     ensures shows { result ≡ pos 0
         → PlayersShow player.old.handle.players (λ now. pixel.new ≡ screen_pixel now x y) }
-    ensures answer { result ≡ (if player.old.is_open && nat_lt x 300 && nat_lt y 216
+    ensures answer { result ≡ (if player.old.is_open && nat_lt x screen_width && nat_lt y screen_height
         then pos 0 else negsuc 0) }
     ensures stays { player.new.is_open ≡ player.old.is_open }
     ensures same { player.new.handle.players ≡ player.old.handle.players }
     ensures refused { result ≡ negsuc 0 → pixel.new ≡ pixel.old }
 {
-    if !player.is_open || x >= 300 || y >= 216 {
+    if !player.is_open || x >= WIDTH || y >= HEIGHT {
         return -1;
     }
     let live = player.take_out();
@@ -32,11 +38,13 @@ pub extern "C" fn ribjasper_player_pixel(
     0
 }
 
+// The pixel of the screen at a place, of what the player was given since it began.
 fn shown_pixel(live: &LivePlayer, x: u32, y: u32) -> u8
-    requires width { x < 300 }
-    requires height { y < 216 }
+    requires width { x < screen_width }
+    requires height { y < screen_height }
     ensures { PlayersShow (live.now ∷ []) (λ now. result ≡ screen_pixel now x y) }
 {
+    // Two laws, for the clause.
     live.shows_its_blocks();
     live.shows_its_packs();
     live.pixel(x, y)
@@ -44,7 +52,10 @@ fn shown_pixel(live: &LivePlayer, x: u32, y: u32) -> u8
 
 /// Writes the numbers of the colours of all pixels, row by row. 0, or -1 where the player is closed.
 #[unsafe(no_mangle)]
-pub extern "C" fn ribjasper_player_screen(player: &mut Playing, pixels: &mut [u8; 64_800]) -> i32
+pub extern "C" fn ribjasper_player_screen(
+    player: &mut Playing,
+    pixels: &mut [u8; SCREEN_PIXELS],
+) -> i32
     ensures shows { result ≡ pos 0 → PlayersShow player.old.handle.players (λ now. IsScreen pixels.new now) }
     ensures answer { result ≡ (if player.old.is_open then pos 0 else negsuc 0) }
     ensures stays { player.new.is_open ≡ player.old.is_open }
@@ -60,9 +71,11 @@ pub extern "C" fn ribjasper_player_screen(player: &mut Playing, pixels: &mut [u8
     0
 }
 
-fn shown_screen(live: &LivePlayer, pixels: &mut [u8; 64_800])
+// The pixels of the screen, of what the player was given since it began.
+fn shown_screen(live: &LivePlayer, pixels: &mut [u8; SCREEN_PIXELS])
     ensures { PlayersShow (live.now ∷ []) (λ now. IsScreen pixels.new now) }
 {
+    // Two laws, for the clause.
     live.shows_its_blocks();
     live.shows_its_packs();
     live.screen(pixels);
@@ -87,10 +100,12 @@ pub extern "C" fn ribjasper_player_colour(player: &mut Playing, k: u8, colour: &
     0
 }
 
+// Colour k of the table, of what the player was given since it began.
 fn shown_colour(live: &LivePlayer, k: u8) -> u16
     requires { k < 16 }
     ensures { PlayersShow (live.now ∷ []) (λ now. result ≡ slice_index now.colours k) }
 {
+    // Two laws, for the clause.
     live.shows_its_blocks();
     live.shows_its_packs();
     live.colour(k)
@@ -114,9 +129,11 @@ pub extern "C" fn ribjasper_player_colours(player: &mut Playing, table: &mut [u1
     0
 }
 
+// The colours of the table, of what the player was given since it began.
 fn shown_colours(live: &LivePlayer, table: &mut [u16; 16])
     ensures { PlayersShow (live.now ∷ []) (λ now. IsTable table.new now) }
 {
+    // Two laws, for the clause.
     live.shows_its_blocks();
     live.shows_its_packs();
     live.colours(table);
@@ -140,9 +157,11 @@ pub extern "C" fn ribjasper_player_levels(player: &mut Playing, levels: &mut [u8
     0
 }
 
+// The levels of the colours, of what the player was given since it began.
 fn shown_levels(live: &LivePlayer, levels: &mut [u8; 16])
     ensures { PlayersShow (live.now ∷ []) (λ now. AreLevels levels.new now) }
 {
+    // Two laws, for the clause.
     live.shows_its_blocks();
     live.shows_its_packs();
     live.levels(levels);
@@ -150,7 +169,10 @@ fn shown_levels(live: &LivePlayer, levels: &mut [u8; 16])
 
 /// Writes red, green and blue of all pixels, row by row. 0, or -1 where the player is closed.
 #[unsafe(no_mangle)]
-pub extern "C" fn ribjasper_player_picture(player: &mut Playing, bytes: &mut [u8; 194_400]) -> i32
+pub extern "C" fn ribjasper_player_picture(
+    player: &mut Playing,
+    bytes: &mut [u8; PICTURE_BYTES],
+) -> i32
     ensures shows { result ≡ pos 0
         → PlayersShow player.old.handle.players (λ now. ArePictureBytes bytes.new now) }
     ensures answer { result ≡ (if player.old.is_open then pos 0 else negsuc 0) }
@@ -167,9 +189,11 @@ pub extern "C" fn ribjasper_player_picture(player: &mut Playing, bytes: &mut [u8
     0
 }
 
-fn shown_picture(live: &LivePlayer, bytes: &mut [u8; 194_400])
+// Red, green and blue of the pixels of the screen, of what the player was given since it began.
+fn shown_picture(live: &LivePlayer, bytes: &mut [u8; PICTURE_BYTES])
     ensures { PlayersShow (live.now ∷ []) (λ now. ArePictureBytes bytes.new now) }
 {
+    // Two laws, for the clause.
     live.shows_its_blocks();
     live.shows_its_packs();
     live.bytes(bytes);
@@ -193,9 +217,11 @@ pub extern "C" fn ribjasper_player_border(player: &mut Playing, border: &mut u8)
     0
 }
 
+// The number of the border's colour, of what the player was given since it began.
 fn shown_border(live: &LivePlayer) -> u8
     ensures { PlayersShow (live.now ∷ []) (λ now. result ≡ now.border) }
 {
+    // Two laws, for the clause.
     live.shows_its_blocks();
     live.shows_its_packs();
     live.border()
@@ -225,9 +251,11 @@ pub extern "C" fn ribjasper_player_offsets(
     0
 }
 
+// Where in the memory the screen begins, of what the player was given since it began.
 fn shown_offsets(live: &LivePlayer) -> (u8, u8)
     ensures { PlayersShow (live.now ∷ []) (λ now. (result.0 ≡ now.h) × (result.1 ≡ now.v)) }
 {
+    // Two laws, for the clause.
     live.shows_its_blocks();
     live.shows_its_packs();
     live.offsets()

@@ -50,6 +50,7 @@ pub extern "C" fn ribjasper_player_take(
     read_all(words.as_slice(), packs)
 }
 
+// Reads words as packs, and says how many they are.
 fn read_all(words: &[Word], packs: &mut [ReadPack; 4]) -> i32
     requires { length words.now ≤ 4 }
     ensures count { result ≡ pos (length words.now) }
@@ -61,6 +62,7 @@ fn read_all(words: &[Word], packs: &mut [ReadPack; 4]) -> i32
     words.len() as i32
 }
 
+// A word as the codeword near it, or as it is.
 fn read(word: &Word) -> ReadPack
     ensures { IsCorrected word.now word.now result.symbols result.wrong }
 {

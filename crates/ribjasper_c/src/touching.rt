@@ -1,13 +1,16 @@
 // What a pack can change.
 ghost use Rattle.std.specs.Prelude.{◌≡◌, ◌∷◌, [], pos};
-ghost use Rattle.cdg_screen.specs.Picture.{IsWholeStanding, Standing, standing_after};
+ghost use Rattle.cdg_screen.specs.Standing.{IsWholeStanding, Standing, standing_after};
 ghost use Rattle.cdg_screen.specs.Touched.{KeepsTheRest, touched_by};
 ghost use Rattle.live_player.specs.Lives.{instruction_of};
 ghost use Rattle.ribjasper_c.specs.Touches.{touched_number};
 
-use cdg_instructions::read_word;
+use cdg_instructions::{SCREEN_COLUMNS, read_word};
 use cdg_screen::{Touched, touches, untouched_stays};
 use rw_code::{SYMBOLS, Word};
+
+// Tiles are numbered row by row.
+const COLUMNS: i32 = SCREEN_COLUMNS as i32;
 
 // The numbers of what is no tile.
 const NOTHING: i32 = 900;
@@ -33,18 +36,20 @@ pub extern "C" fn ribjasper_pack_touches(pack: &[u8; SYMBOLS]) -> i32
     number(touched(pack))
 }
 
+// What the instruction of a pack touches.
 fn touched(pack: &[u8; SYMBOLS]) -> Touched
     ensures { result ≡ touched_by (instruction_of pack.now) }
 {
     touches(&read_word(&Word::new(pack)))
 }
 
+// What is touched, as a number.
 fn number(touched: Touched) -> i32
     ensures { result ≡ pos (touched_number touched) }
 {
     match touched {
         Touched::Nothing => NOTHING,
-        Touched::Tile { row, column } => 50 * i32::from(row) + i32::from(column),
+        Touched::Tile { row, column } => COLUMNS * i32::from(row) + i32::from(column),
         Touched::All => ALL,
         Touched::Border => BORDER,
         Touched::Colours => COLOURS,

@@ -9,6 +9,4 @@ pub mod Answering
 pub mod Meanings
 pub mod Standings
 pub mod Shown
-pub mod Packs
-pub mod Existing
 pub mod Pictured

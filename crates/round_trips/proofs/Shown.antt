@@ -16,7 +16,7 @@ use Rattle.cdg_instructions.specs.Meaning.{meaning}
 use Rattle.cdg_instructions.specs.declared.instr.Instr.{Instr}
 use Rattle.cdg_instructions.specs.declared.instr.Instr.TheVariants.{Idle}
 use Rattle.cdg_screen.specs.Texts.{pixmap}
-use Rattle.cdg_screen.specs.Picture.{blank, standing_after}
+use Rattle.cdg_screen.specs.Standing.{blank, standing_after}
 use Rattle.stream_stages.specs.Convert.{IsDamagedStream}
 use Rattle.stream_stages.specs.Screen.{AreMeant, IsScreenAt, moment}
 use Rattle.stream_stages.proofs.Restoring.{Recovers, program_small}

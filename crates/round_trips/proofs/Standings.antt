@@ -3,7 +3,7 @@ use Rattle.std.proofs.Common.{◌≡◌, ℕ, zero, suc, List, ◌++◌, replica
 use Rattle.std.specs.List.{AllByRecursion}
 use Rattle.cdg_instructions.specs.declared.instr.Instr.{Instr}
 use Rattle.cdg_instructions.specs.declared.instr.Instr.TheVariants.{Idle}
-use Rattle.cdg_screen.specs.Picture.{Standing, blank, standing_after}
+use Rattle.cdg_screen.specs.Standing.{Standing, blank, standing_after}
 use Rattle.cdg_screen.proofs.Turns.{blank_is_whole, idle_changes_nothing, whole_after}
 
 -- what the law of the screen says

@@ -6,7 +6,7 @@ use Rattle.raw_subcode.specs.declared.form.Form.TheVariants.{Raw}
 use Rattle.cue_sheet.specs.CueSheet.{CueSheet}
 use Rattle.rw_interleave.specs.Stream.{IsDamaged}
 use Rattle.cdg_instructions.specs.Meaning.{meaning}
-use Rattle.cdg_screen.specs.Picture.{Standing, blank, standing_after}
+use Rattle.cdg_screen.specs.Standing.{Standing, blank, standing_after}
 use Rattle.cdg_screen.specs.Texts.{pixmap}
 use Rattle.raw_subcode.specs.Sizes.{most_units}
 use Rattle.cdg_press.specs.Pressed.{file_packs, IsPressed, press_of}

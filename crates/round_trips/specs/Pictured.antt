@@ -1,11 +1,11 @@
 -- The pictures of a script in a stream.
 use Rattle.std.specs.Prelude.{◌≡◌, ℕ, ◌<◌, ◌≤◌, ⊤, List, Option, Result, Ok, Err}
 use Rattle.std.specs.Io.KnownBytes.{Appends}
-use Rattle.cdg_screen.specs.Picture.{Standing}
+use Rattle.cdg_screen.specs.Standing.{Standing}
 use Rattle.cdg_screen.specs.Texts.{pixmap}
 use Rattle.picture_script.specs.Script.{Drawing, pictures, ready_time, hold_time}
 use Rattle.picture_changes.specs.Schedule.{IsSchedule}
-use Rattle.picture_changes.specs.Shown.{ShowsPicture, AreTimesInOrder, AreColoursInRange}
+use Rattle.picture_changes.specs.Shown.{ShowsPicture, AreTimesInOrder}
 use Rattle.stream_stages.specs.Convert.{IsDamagedStream}
 use Rattle.raw_subcode.specs.declared.form.Form.{Form}
 use Rattle.stream_stages.specs.declared.played.Played.{Played}
@@ -20,7 +20,6 @@ pub record IsScheduledStream (form : Form) (lead_in : ℕ) (script : List Drawin
   pub stream : IsDamagedStream form lead_in blocks packs bytes
   pub schedule : IsSchedule script blocks packs
   pub order : AreTimesInOrder script
-  pub ranges : AreColoursInRange script
 
 -- the time is one at which picture k stands: from its ready time to its hold time
 pub record IsHeldAt (script : List Drawing) (k time : ℕ) : Type 0 where

@@ -8,7 +8,7 @@ ghost use Rattle.toc_model.specs.Places.{layout_of};
 ghost use Rattle.subcode_author.specs.Authored.{IsAuthored, disc_of};
 ghost use Rattle.round_trips.specs.FrameLines.{frame_lines};
 
-use q_channel::one_reading;
+use q_channel::bits_have_one_reading;
 
 /// A law: of an authored stream the frame of each block is listed, and none is refused.
 pub fn authored_frames_are_listed()
@@ -17,5 +17,5 @@ pub fn authored_frames_are_listed()
         → IsAuthored (disc_of sheet script lead_in audio) bytes packs → IsQListed Raw bytes text bad
         → (text ≡ frame_lines (layout_of sheet audio) lead_in) × (bad ≡ 0) }
 {
-    one_reading();
+    bits_have_one_reading();
 }

@@ -1,4 +1,5 @@
-//! Laws of authored streams: what is listed of their Q channel, and of the texts in their lead-in.
+//! Laws of authored and of pressed streams: what is listed of their Q channel and of the texts in their lead-in, and
+//! which packs and screens come back of them.
 #![tactic(auto)]
 
 mod answers;
@@ -12,10 +13,7 @@ pub use answers::{
     text_lists_are_answered,
 };
 pub use frames::authored_frames_are_listed;
-pub use pressed::{
-    pressable_files_have_streams, pressed_files_are_shown, pressed_packs_come_back,
-    pressed_streams_are_one,
-};
+pub use pressed::{pressed_files_are_shown, pressed_packs_come_back};
 pub use scheduled_screens::{screens_show_pictures, shown_moments_give_pictures};
 pub use texts::{
     accepted_sheets_have_text_packs, authored_lead_ins_hold_the_packs, authored_texts_are_listed,

@@ -6,7 +6,7 @@ ghost use Rattle.rw_interleave.specs.Stream.{all_packs};
 ghost use Rattle.cue_sheet.specs.CueSheet.{CueSheet};
 ghost use Rattle.toc_model.specs.Places.{program_blocks};
 ghost use Rattle.picture_script.specs.Script.{Drawing};
-ghost use Rattle.picture_changes.specs.Shown.{AreColoursInRange, AreTimesInOrder};
+ghost use Rattle.picture_changes.specs.Shown.{AreTimesInOrder};
 ghost use Rattle.cdg_workload.specs.Scratches.{scratched};
 ghost use Rattle.subcode_author.specs.Authored.{IsAuthored, disc_of};
 ghost use Rattle.stream_stages.specs.Convert.{IsDamagedStream};
@@ -31,7 +31,6 @@ pub fn scratched_streams_are_damaged()
     ensures scheduled { (sheet : CueSheet) (script : List Drawing) (lead_in audio seed : ℕ) (bytes : List ℕ)
         (packs : List (List ℕ))
         → lead_in ≤ most_lead_in → program_blocks sheet audio ≤ most_program → AreTimesInOrder script
-        → AreColoursInRange script
         → IsAuthored (disc_of sheet script lead_in audio) bytes packs
         → IsScheduledStream Form.Raw lead_in script (scratched lead_in seed bytes) }
 {

@@ -4,6 +4,7 @@ ghost use Rattle.rw_code.specs.Codeword.{IsCodeword, IsWord, differences, Reads}
 ghost use Rattle.rw_code.specs.Syndromes.{AreSyndromes, IsOneWrong, AreErrors};
 
 use crate::syndromes::Syndromes;
+use crate::word::words_have_24_symbols;
 use crate::wrong_symbols::{SymbolError, TwoErrors, one_error, two_errors};
 use crate::{Pack, Word};
 
@@ -23,7 +24,8 @@ pub fn correct(received: &Word) -> Option<Fixed>
         (λ fixed. Reads received.now fixed.pack × (fixed.wrong ≡ differences received.now fixed.pack)) }
     ensures word { IsWord received.now }
 {
-    received.is_word();
+    // For the clause `word`.
+    words_have_24_symbols(received);
     let wrong = received.weight();
     if wrong <= 2 {
         return Some(Fixed {
@@ -46,7 +48,8 @@ fn correct_by(received: &Word, syndromes: Syndromes) -> Option<Fixed>
         ((w : List ℕ) → ¬ Reads received.now w)
         (λ fixed. Reads received.now fixed.pack × (fixed.wrong ≡ differences received.now fixed.pack)) }
 {
-    received.is_word();
+    // What is found for a word, or not, is known of words alone.
+    words_have_24_symbols(received);
     if let Some(error) = one_error(syndromes) {
         return Some(without_one(received, syndromes, error));
     }
@@ -64,9 +67,10 @@ fn without_one(received: &Word, syndromes: Syndromes, error: SymbolError) -> Fix
     ensures reads { Reads received.now result.pack }
     ensures wrong { result.wrong ≡ differences received.now result.pack }
 {
-    received.is_word();
     let right = received.plus(error.position, error.value);
-    right.is_word();
+    // Both are words: the sums of the one are known from those of the other.
+    words_have_24_symbols(received);
+    words_have_24_symbols(&right);
     Fixed {
         pack: Pack::of(right),
         wrong: 1,
@@ -81,11 +85,12 @@ fn without_two(received: &Word, syndromes: Syndromes, errors: TwoErrors) -> Fixe
     ensures reads { Reads received.now result.pack }
     ensures wrong { result.wrong ≡ differences received.now result.pack }
 {
-    received.is_word();
     let TwoErrors { first, second } = errors;
     let half = received.plus(first.position, first.value);
     let right = half.plus(second.position, second.value);
-    right.is_word();
+    // Both are words: the sums of the one are known from those of the other.
+    words_have_24_symbols(received);
+    words_have_24_symbols(&right);
     Fixed {
         pack: Pack::of(right),
         wrong: 2,

@@ -7,6 +7,7 @@ ghost use Rattle.rw_code.specs.Packs.{idle_pack};
 use crate::Word;
 use crate::sealing::{with_body, with_head, with_whole_parity};
 use crate::syndromes::Syndromes;
+use crate::word::words_have_24_symbols;
 use gf64::Sym;
 use std::marker::Model;
 
@@ -63,9 +64,10 @@ impl Pack {
         ensures only { (w : List ℕ) → IsCodeword w → HasSymbols w head body → w ≡ result }
     {
         let headed = with_head(head);
-        headed.is_word();
         let word = with_whole_parity(&with_body(headed, &body));
-        word.is_word();
+        // Both are words: their places are compared one by one.
+        words_have_24_symbols(&headed);
+        words_have_24_symbols(&word);
         Pack { word }
     }
 

@@ -6,6 +6,7 @@ ghost use Rattle.rw_code.specs.Syndromes.{ContinuesTo, lane, value_at};
 
 use crate::Word;
 use crate::syndromes::Syndromes;
+use crate::word::words_have_24_symbols;
 use gf64::Sym;
 
 // The two parity symbols after some symbols, by which their sums at 0 and 1 are 0.
@@ -128,7 +129,8 @@ pub(crate) fn with_whole_parity(word: &Word) -> Word
     ensures kept { (k : ℕ) → k < 20 → slice_index result k ≡ slice_index word.now k }
     ensures whole { (j : ℕ) → j < 4 → weighted_sum j result ≡ 0 }
 {
-    word.is_word();
+    // Four of its 24 symbols are the last ones.
+    words_have_24_symbols(word);
     let last = LastFour::of(Syndromes::of(word));
     word.plus(20, last.cubic)
         .plus(21, last.square)

@@ -4,6 +4,7 @@ ghost use Rattle.rw_code.specs.Codeword.{IsCodeword};
 ghost use Rattle.rw_code.specs.Syndromes.{AreLanes, AreSyndromes, IsEntry, lane};
 
 use crate::syndrome_table::SYNDROMES;
+use crate::word::words_have_24_symbols;
 use crate::{SYMBOLS, Word};
 use gf64::Sym;
 
@@ -42,7 +43,8 @@ impl Syndromes {
         requires { AreSyndromes word.now self.lanes }
         ensures { IsTrue result ↔ IsCodeword word.now }
     {
-        word.is_word();
+        // A codeword is a word.
+        words_have_24_symbols(word);
         self.lanes == 0
     }
 

@@ -83,7 +83,8 @@ impl Word {
         ensures near { IsTrue result ↔ IsNear self.now idle_pack }
         ensures word { IsWord self.now }
     {
-        self.is_word();
+        // A proof knows the invariant where a field is named.
+        let _ = &self.bytes;
         self.weight() <= 2
     }
 
@@ -96,14 +97,6 @@ impl Word {
         let middle = ones(&self.bytes[8..16]);
         let high = ones(&self.bytes[16..24]);
         low.strict_add(middle).strict_add(high).strict_reduce_sum()
-    }
-
-    /// A law: each word has 24 symbols below 64.
-    pub(crate) fn is_word(&self)
-        ensures { IsWord self.now }
-    {
-        // A proof knows the invariant where a field is named.
-        let _ = &self.bytes;
     }
 
     /// The word with another symbol at a position.
@@ -125,6 +118,14 @@ impl Word {
         bytes[i] = self.get(i).add(error).value();
         Word { bytes }
     }
+}
+
+/// A law: each word has 24 symbols below 64.
+pub(crate) fn words_have_24_symbols(word: &Word)
+    ensures { IsWord word.now }
+{
+    // A proof knows the invariant where a field is named.
+    let _ = &word.bytes;
 }
 
 // Eight bytes, brought together in one number before they are written: bytes that are written one by one are slow to be

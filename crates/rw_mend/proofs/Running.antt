@@ -9,11 +9,11 @@ use Rattle.rw_mend.specs.Mending.{IsMending}
 use Rattle.rw_mend.specs.Streams.{AreCounts, mended_bytes, mended_text, reading_at}
 use Rattle.rw_mend.specs.Trails.{IsTrail}
 use Rattle.rw_mend.specs.declared.cover.Trail.{Trail}
-use Rattle.rw_mend.specs.declared.streams.Counts.{Counts}
+use Rattle.rw_mend.specs.declared.streams.MendCounts.{MendCounts}
 use Rattle.rw_mend.specs.declared.words.Mended.{Mended}
 
 -- The first n words are mended, and what is known of the blocks under the last of them.
-pub record IsMendedTo (n : ℕ) (first second before packs : List ℕ) (counts : Counts) (one other : Trail) : Type 0 where
+pub record IsMendedTo (n : ℕ) (first second before packs : List ℕ) (counts : MendCounts) (one other : Trail) : Type 0 where
   pub found : List (Option Mended)
   pub count : length found ≡ n
   pub each : (k : ℕ) → k < n → IsMending (reading_at first k) (reading_at second k) (get_or found k None)
@@ -27,7 +27,7 @@ text_more : (found : List (Option Mended)) (f : Option Mended) → mended_text (
 text_more found f = flat_map-append mended_bytes found (f ∷ []) ∙ ap (λ l. mended_text found ++ l) (append-nil (mended_bytes f))
 
 -- one word more
-pub mended_next : (n : ℕ) (first second before packs new : List ℕ) (counts more : Counts) (one other one' other' : Trail) (f : Option Mended)
+pub mended_next : (n : ℕ) (first second before packs new : List ℕ) (counts more : MendCounts) (one other one' other' : Trail) (f : Option Mended)
     → IsMendedTo n first second before packs counts one other
     → IsMending (reading_at first n) (reading_at second n) f → length (mended_bytes f) ≡ 24
     → new ≡ take (24 * n) packs ++ mended_bytes f ++ drop (24 * n + 24) packs

@@ -11,7 +11,7 @@ use Rattle.rw_mend.specs.declared.words.Reading.{Reading}
 use Rattle.rw_mend.specs.declared.words.Way.{Way}
 use Rattle.rw_mend.specs.declared.words.Way.TheVariants.{Both, First, Second, Agreed}
 use Rattle.rw_mend.specs.declared.words.Mended.{Mended}
-use Rattle.rw_mend.specs.declared.streams.Counts.{Counts}
+use Rattle.rw_mend.specs.declared.streams.MendCounts.{MendCounts}
 
 -- the bytes of the program blocks of a raw stream
 abbrev pub program_of : ℕ → List ℕ → List ℕ
@@ -71,7 +71,7 @@ is_mended_by way (Some mended) = is_way way mended.way
 is_mended_by way None = false
 
 -- how many words are mended in each way, and how many are not
-pub record AreCounts (found : List (Option Mended)) (counts : Counts) : Type 0 where
+pub record AreCounts (found : List (Option Mended)) (counts : MendCounts) : Type 0 where
   pub both : counts.both ≡ count_by (is_mended_by Both) found
   pub of_first : counts.of_first ≡ count_by (is_mended_by First) found
   pub of_second : counts.of_second ≡ count_by (is_mended_by Second) found
@@ -79,7 +79,7 @@ pub record AreCounts (found : List (Option Mended)) (counts : Counts) : Type 0 w
   pub none : counts.none ≡ count_by is_none found
 
 -- The words of both readings are mended, and their text stands at the front of a buffer; what is behind it stays.
-pub record IsMendedInto (lead_in : ℕ) (first second old new : List ℕ) (counts : Counts) : Type 0 where
+pub record IsMendedInto (lead_in : ℕ) (first second old new : List ℕ) (counts : MendCounts) : Type 0 where
   pub found : List (Option Mended)
   pub mended : AreMended (length first / 96 - lead_in) (program_of lead_in first)
       (program_of lead_in second) found

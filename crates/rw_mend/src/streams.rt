@@ -17,7 +17,7 @@ use rw_interleave::{PACKS_KEPT_BACK, place};
 /// How many words are mended in each way.
 #[repr(C)]
 #[derive(Clone, Copy, Debug, PartialEq, Eq)]
-pub struct Counts {
+pub struct MendCounts {
     /// Words of which both readings are near the same codeword.
     pub both: u32,
     /// Words whose codeword is that of the first reading alone.
@@ -32,7 +32,7 @@ pub struct Counts {
 
 /// Mends two readings of a raw stream, word by word: writes 24 bytes for each word of the program, which are the blocks
 /// after the lead-in, to the front of a buffer: the symbols of its codeword, or zeros where there is none.
-pub fn mend_streams(first: &[u8], second: &[u8], lead_in: u32, packs: &mut [u8]) -> Counts
+pub fn mend_streams(first: &[u8], second: &[u8], lead_in: u32, packs: &mut [u8]) -> MendCounts
     requires equal { length first.now ≡ length second.now }
     requires whole { length first.now % 96 ≡ 0 }
     requires few { length first.now ≤ 96 * most_units }
@@ -44,7 +44,7 @@ pub fn mend_streams(first: &[u8], second: &[u8], lead_in: u32, packs: &mut [u8])
 }
 
 // The same of the blocks of the program alone.
-fn mend_programs(first: &[u8], second: &[u8], packs: &mut [u8]) -> Counts
+fn mend_programs(first: &[u8], second: &[u8], packs: &mut [u8]) -> MendCounts
     requires equal { length first.now ≡ length second.now }
     requires whole { length first.now % 96 ≡ 0 }
     requires few { length first.now ≤ 96 * most_units }
@@ -54,7 +54,7 @@ fn mend_programs(first: &[u8], second: &[u8], packs: &mut [u8]) -> Counts
         × (packs.new ≡ mended_text found ++ drop (length (mended_text found)) packs.old) }
 {
     let words = (first.len() / SYMBOLS).saturating_sub(PACKS_KEPT_BACK);
-    let mut counts = Counts::zero();
+    let mut counts = MendCounts::zero();
     let mut one = Trail::new();
     let mut other = Trail::new();
     for n in 0..words {
@@ -67,12 +67,12 @@ fn mend_programs(first: &[u8], second: &[u8], packs: &mut [u8]) -> Counts
     counts
 }
 
-impl Counts {
+impl MendCounts {
     // Of no words.
-    fn zero() -> Counts
+    fn zero() -> MendCounts
         ensures { AreCounts [] result }
     {
-        Counts {
+        MendCounts {
             both: 0,
             of_first: 0,
             of_second: 0,

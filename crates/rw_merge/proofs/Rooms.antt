@@ -1,7 +1,7 @@
 -- How often a read filled the room that it was given.
-use Rattle.std.proofs.Common.{◌≡◌, ◌⊎◌, ℕ, ◌+◌, ◌<◌, ◌≤◌, inl, inr, refl, sym, subst, ◌∙◌, arith}
-use Rattle.std.specs.Prelude.{Result, Ok, Err, IfOk}
-use Rattle.cdg_io.specs.Causes.{Count, FillsRoom, RoseOnce}
+use Rattle.std.proofs.Common.{◌≡◌, ℕ, ◌+◌, ◌<◌, ◌≤◌, inl, inr, sym, subst, arith}
+use Rattle.std.specs.Prelude.{Ok, Err}
+use Rattle.cdg_io.specs.Causes.{Count, FillsRoom}
 use Rattle.cdg_io.specs.Pump.{RoseBy}
 use Rattle.cdg_io.proofs.PumpSteps.{no_more, one_more}
 use Rattle.raw_subcode.specs.Sizes.{most_units}

@@ -16,7 +16,7 @@ use crate::packs::Packs;
 use crate::pairs::{next_pair, nothing_follows};
 use cdg_io::{Failed, Sink, Source, put_all};
 use raw_subcode::{BLOCK_BYTES, MOST_UNITS};
-use rw_interleave::{Gather, text_of_packs};
+use rw_interleave::{Gather, found_packs_are_the_text};
 use std::alloc::{AllocError, Global};
 use std::marker::Model;
 
@@ -57,7 +57,7 @@ pub fn two_readings_give_packs()
     ensures damage { (lead_in blocks : ℕ) (packs : List (List ℕ)) (first second : List ℕ)
         → IsDamagedTwice lead_in blocks packs first second → IsReadTwice lead_in blocks packs first second }
 {
-    text_of_packs();
+    found_packs_are_the_text();
 }
 
 /// Merges two readings of one stream, one pair of streams at a time. All its memory is taken at the start; each
@@ -168,6 +168,7 @@ impl Merger {
     {
         let mut one = [0; BLOCK_BYTES];
         let mut other = [0; BLOCK_BYTES];
+        let mut packs = Packs::new();
         let mut bad = 0;
         for block in 0..MOST_UNITS {
             match next_pair(first, second, &mut one, &mut other, block) {
@@ -181,7 +182,7 @@ impl Merger {
                 Err(stop) => return Err(stop),
             }
             if block >= lead_in {
-                let packs = self.merge(&one, &other);
+                self.merge(&one, &other, &mut packs);
                 bad += packs.bad;
                 match put_all(out, packs.bytes.bytes()) {
                     Ok(()) => {}
@@ -199,7 +200,7 @@ impl Merger {
     }
 
     // The packs that come with a pair of program blocks.
-    fn merge(&mut self, first: &[u8; BLOCK_BYTES], second: &[u8; BLOCK_BYTES]) -> Packs
+    fn merge(&mut self, first: &[u8; BLOCK_BYTES], second: &[u8; BLOCK_BYTES], packs: &mut Packs)
         requires { length self.old.first ≡ length self.old.second }
         ensures first { self.new.first ≡ window_after self.old.first (leading_slots 4 first.now) }
         ensures second { self.new.second ≡ window_after self.old.second (leading_slots 4 second.now) }
@@ -207,12 +208,13 @@ impl Merger {
         ensures packs { (found : List (Option (List ℕ)))
             × AreAgreements (words_after self.old.first (leading_slots 4 first.now))
             (words_after self.old.second (leading_slots 4 second.now)) found
-            × (result.bytes ≡ cdg_bytes found) × (result.bad ≡ bad_count found) × (length found ≤ 4) }
+            × (packs.new.bytes ≡ cdg_bytes found) × (packs.new.bad ≡ bad_count found) × (length found ≤ 4) }
     {
         if self.stay_idle(first, second) {
-            return Packs::idle();
+            packs.set_idle();
+            return;
         }
-        self.merge_words(first, second)
+        self.merge_words(first, second, packs);
     }
 
     // Whether four words of zeros come with each block of a pair, and the windows stay as they are.
@@ -231,7 +233,12 @@ impl Merger {
 
     // The same as `merge`, where there may be something to gather.
     #[inline(never)]
-    fn merge_words(&mut self, first: &[u8; BLOCK_BYTES], second: &[u8; BLOCK_BYTES]) -> Packs
+    fn merge_words(
+        &mut self,
+        first: &[u8; BLOCK_BYTES],
+        second: &[u8; BLOCK_BYTES],
+        packs: &mut Packs,
+    )
         requires { length self.old.first ≡ length self.old.second }
         ensures first { self.new.first ≡ window_after self.old.first (leading_slots 4 first.now) }
         ensures second { self.new.second ≡ window_after self.old.second (leading_slots 4 second.now) }
@@ -239,10 +246,10 @@ impl Merger {
         ensures packs { (found : List (Option (List ℕ)))
             × AreAgreements (words_after self.old.first (leading_slots 4 first.now))
             (words_after self.old.second (leading_slots 4 second.now)) found
-            × (result.bytes ≡ cdg_bytes found) × (result.bad ≡ bad_count found) × (length found ≤ 4) }
+            × (packs.new.bytes ≡ cdg_bytes found) × (packs.new.bad ≡ bad_count found) × (length found ≤ 4) }
     {
         let one = self.first.push_block(first);
         let other = self.second.push_block(second);
-        Packs::agreed(one.as_slice(), other.as_slice())
+        packs.set_agreed(one.as_slice(), other.as_slice());
     }
 }

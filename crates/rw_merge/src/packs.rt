@@ -18,33 +18,37 @@ pub(crate) struct Packs {
 }
 
 impl Packs {
-    /// What is found for the words that come with a pair of blocks, at most four of each.
-    pub(crate) fn agreed(first: &[Word], second: &[Word]) -> Packs
+    /// No packs.
+    pub(crate) fn new() -> Packs {
+        Packs {
+            bytes: Piece::new(),
+            bad: 0,
+        }
+    }
+
+    /// Becomes what is found for the words that come with a pair of blocks, at most four of each.
+    pub(crate) fn set_agreed(&mut self, first: &[Word], second: &[Word])
         requires same { length first.now ≡ length second.now }
         requires few { length first.now ≤ 4 }
         ensures { (found : List (Option (List ℕ))) × AreAgreements first.now second.now found
-            × (result.bytes ≡ cdg_bytes found) × (result.bad ≡ bad_count found) × (length found ≤ 4) }
+            × (self.new.bytes ≡ cdg_bytes found) × (self.new.bad ≡ bad_count found) × (length found ≤ 4) }
     {
-        let mut packs = Packs {
-            bytes: Piece::new(),
-            bad: 0,
-        };
+        self.bytes = Piece::new();
+        self.bad = 0;
         for i in 0..first.len() {
-            packs.add(agree(&first[i], &second[i]));
+            self.add(agree(&first[i], &second[i]));
         }
-        packs
     }
 
-    /// What is found for four pairs of words of zeros.
+    /// Becomes what is found for four pairs of words of zeros.
     #[inline]
-    pub(crate) fn idle() -> Packs
+    pub(crate) fn set_idle(&mut self)
         ensures { (found : List (Option (List ℕ)))
             × AreAgreements (replicate 4 (replicate 24 0)) (replicate 4 (replicate 24 0)) found
-            × (result.bytes ≡ cdg_bytes found) × (result.bad ≡ bad_count found) × (length found ≤ 4) }
+            × (self.new.bytes ≡ cdg_bytes found) × (self.new.bad ≡ bad_count found) × (length found ≤ 4) }
     {
-        let mut bytes = Piece::new();
-        bytes.set_zeros(BLOCK_BYTES);
-        Packs { bytes, bad: 0 }
+        self.bytes.set_zeros(BLOCK_BYTES);
+        self.bad = 0;
     }
 
     // Adds what is agreed for a word: zeros where nothing is.

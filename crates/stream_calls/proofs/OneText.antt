@@ -17,7 +17,7 @@ use Rattle.rw_interleave.specs.Texts.{cdg_bytes}
 use Rattle.rw_interleave.proofs.Recovery.{form_words}
 use Rattle.cdg_instructions.specs.Instruction.{Means}
 use Rattle.cdg_instructions.specs.declared.instr.Instr.{Instr}
-use Rattle.cdg_screen.specs.Picture.{Standing, blank, standing_after}
+use Rattle.cdg_screen.specs.Standing.{Standing, blank, standing_after}
 use Rattle.q_channel.specs.declared.frame.QFrame.{QFrame}
 use Rattle.q_channel.specs.declared.frame.QFault.{QFault}
 use Rattle.q_channel.specs.QReading.{IsReading}

@@ -5,7 +5,7 @@ ghost use Rattle.cdg_io.specs.Causes.{TellsFault};
 ghost use Rattle.cdg_io.specs.Change.{change, passed};
 ghost use Rattle.raw_subcode.specs.Channels.{unit_size};
 ghost use Rattle.rw_interleave.specs.Interleave.{whole_packs};
-ghost use Rattle.cdg_screen.specs.Picture.{blank};
+ghost use Rattle.cdg_screen.specs.Standing.{blank};
 ghost use Rattle.cdg_screen.specs.Texts.{pixmap, state_text};
 ghost use Rattle.stream_stages.specs.Faults.{TellsStops};
 ghost use Rattle.stream_stages.specs.Calls.{EndFirst, IsMomentStop};
@@ -15,11 +15,11 @@ ghost use Rattle.stream_stages.specs.Screen.{IsShownBy, Shows, moment};
 ghost use Rattle.stream_stages.specs.Watch.{Views, viewed};
 
 use cdg_io::{Failed, Pumped, Sink, Source, Then};
+use cdg_screen::Screen;
 use raw_subcode::Form;
+use rw_interleave::whole_packs;
 use std::alloc::{AllocError, Global};
-use stream_stages::{
-    BlockWords, Painting, Picture, PlayStop, Played, SectorBlocks, play_stop, watch,
-};
+use stream_stages::{BlockWords, Painting, PlayStop, Played, SectorBlocks, play_stop, watch};
 
 /// Shows moments of streams, one at a time: each call begins anew, whatever stopped the one before. It holds one
 /// screen.
@@ -35,7 +35,7 @@ impl Viewer {
         ensures { IfOk result (λ viewer. words_of viewer.views.blocks ≡ fresh_words Form.Raw 0) }
     {
         let painting = Painting {
-            picture: Picture::start(alloc)?,
+            screen: Screen::start(alloc)?,
             left: 0,
             bad: 0,
         };
@@ -82,7 +82,7 @@ impl Viewer {
         match self.view(lead_in, form, at, source) {
             Ok(played) => {
                 let painting = &self.views.blocks.second;
-                match painting.picture.write_ppm(out) {
+                match painting.screen.write_ppm(out) {
                     Ok(()) => Ok(played),
                     Err(Failed) => Err(PlayStop::WriteFault),
                 }
@@ -119,7 +119,7 @@ impl Viewer {
         match self.view(lead_in, form, at, source) {
             Ok(played) => {
                 let painting = &self.views.blocks.second;
-                match painting.picture.write_state(out) {
+                match painting.screen.write_state(out) {
                     Ok(()) => Ok(played),
                     Err(Failed) => Err(PlayStop::WriteFault),
                 }
@@ -141,7 +141,7 @@ impl Viewer {
         requires at { at ≤ last_block }
         ensures views { (taken : List ℕ)
             × Views (moment form lead_in at) (change S.left source.old source.new)
-            (painting_of self.new.views.blocks).picture result taken }
+            (painting_of self.new.views.blocks).screen result taken }
         ensures stops { IfErr result IsMomentStop }
         ensures answer { IfSome (S.left source.old) (λ all.
             IsShownBy result lead_in at (unit_size form) (length all)) }
@@ -177,12 +177,12 @@ impl Viewer {
         ensures words { words_of self.new.views.blocks ≡ fresh_words form lead_in }
         ensures left { (painting_of self.new.views.blocks).left ≡ whole_packs at }
         ensures bad { (painting_of self.new.views.blocks).bad ≡ 0 }
-        ensures blank { (painting_of self.new.views.blocks).picture ≡ blank }
+        ensures blank { (painting_of self.new.views.blocks).screen ≡ blank }
     {
         self.views.blocks.first.begin(lead_in, form);
         let painting = &mut self.views.blocks.second;
-        painting.left = (4 * at).saturating_sub(7);
+        painting.left = whole_packs(at);
         painting.bad = 0;
-        painting.picture.reset();
+        painting.screen.reset();
     }
 }

@@ -2,7 +2,7 @@
 use Rattle.std.proofs.Common.{◌≡◌, [], ◌∷◌, sym}
 use Rattle.std.specs.Prelude.{replicate}
 use Rattle.cdg_instructions.specs.Meaning.{meaning}
-use Rattle.cdg_screen.specs.Picture.{IsWholeStanding, Standing, standing_after}
+use Rattle.cdg_screen.specs.Standing.{IsWholeStanding, Standing, standing_after}
 
 -- it stays
 pub kept : (now : Standing) → IsWholeStanding now → now ≡ standing_after now (meaning (replicate 24 0) ∷ [])

@@ -24,7 +24,7 @@ use Rattle.rw_interleave.specs.Interleave.{whole_packs}
 use Rattle.raw_subcode.specs.Channels.{unit_size, block_of, symbols_of, program_symbols}
 use Rattle.raw_subcode.specs.declared.form.Form.{Form}
 use Rattle.rw_interleave.specs.Stream.{IsRecovered, bad_count}
-use Rattle.cdg_screen.specs.Picture.{IsWholeStanding, Standing, blank, standing_after}
+use Rattle.cdg_screen.specs.Standing.{IsWholeStanding, Standing, blank, standing_after}
 use Rattle.cdg_screen.proofs.Turns.{blank_is_whole}
 use Rattle.raw_subcode.specs.Sizes.{most_units}
 use Rattle.stream_stages.specs.Calls.{IsEarly}
@@ -55,7 +55,7 @@ pub record IsReady (form : Form) (lead_in time : ℕ) (s : Paintings) : Type 0 w
   pub words : s.first ≡ fresh_words form lead_in
   pub left : s.second.left ≡ whole_packs time
   pub bad : s.second.bad ≡ 0
-  pub blank : s.second.picture ≡ blank
+  pub blank : s.second.screen ≡ blank
 
 pub few_words : (form : Form) (lead_in : ℕ) (blocks : List (List ℕ)) → length blocks ≤ 1000000 → 0 + length (words_from form (flat_map slots_of (drop lead_in blocks))) < 2 ^ 32
 few_words form lead_in blocks few =
@@ -63,16 +63,16 @@ few_words form lead_in blocks few =
 
 -- what stands after the blocks, and what is bad
 pub record IsDrawn (form : Form) (lead_in time : ℕ) (blocks : List (List ℕ)) (end : Painting) : Type 0 where
-  pub stands : end.picture ≡ standing_after blank (instrs_of (take (whole_packs time) (found_in form (drop lead_in blocks))))
+  pub stands : end.screen ≡ standing_after blank (instrs_of (take (whole_packs time) (found_in form (drop lead_in blocks))))
   pub counted : end.bad ≡ bad_count (take (whole_packs time) (found_in form (drop lead_in blocks)))
 
 pub drawn_blocks : (form : Form) (lead_in time : ℕ) (s : Paintings) (blocks : List (List ℕ)) → IsReady form lead_in time s → length blocks ≤ 1000000 → IsDrawn form lead_in time blocks (run_state paintings_next s blocks).second
 drawn_blocks form lead_in time s blocks ready few =
     let words : List (List ℕ) = words_from form (flat_map slots_of (drop lead_in blocks)) in
-    let start : s.second ≡ record { picture = s.second.picture; left = whole_packs time; bad = 0 } = ap₂ (λ l b. record { picture = s.second.picture; left = l; bad = b }) ready.left ready.bad in
-    let run : (run_state paintings_next s blocks).second ≡ draw_after (record { picture = s.second.picture; left = whole_packs time; bad = 0 }) words =
+    let start : s.second ≡ record { screen = s.second.screen; left = whole_packs time; bad = 0 } = ap₂ (λ l b. record { screen = s.second.screen; left = l; bad = b }) ready.left ready.bad in
+    let run : (run_state paintings_next s blocks).second ≡ draw_after (record { screen = s.second.screen; left = whole_packs time; bad = 0 }) words =
     then_next_second words_next words_give painting_next s blocks ∙ painting_runs s.second (run_gives words_next words_give s.first blocks) ∙ ap₂ draw_after start (block_words form lead_in s.first blocks ready.words) in
-    let drawn = are_drawn s.second.picture (whole_packs time) 0 words (subst IsWholeStanding (sym ready.blank) blank_is_whole) (few_words form lead_in blocks few) in
+    let drawn = are_drawn s.second.screen (whole_packs time) 0 words (subst IsWholeStanding (sym ready.blank) blank_is_whole) (few_words form lead_in blocks few) in
     subst (IsDrawn form lead_in time blocks) (sym run) (record {
       stands = drawn.stands ∙ ap (λ (now : Standing). standing_after now (instrs_of (take (whole_packs time) (map finding words)))) ready.blank;
       counted = drawn.counted ∙ omega arith;
@@ -86,7 +86,7 @@ recovered_units form lead_in bytes units same sized =
 
 -- the same by the bytes
 pub viewed_bytes : (form : Form) (lead_in time : ℕ) (s : Paintings) (bytes : List ℕ) (n : ℕ) (end : Painting) → IsReady form lead_in time s → n ≤ most_units → IsWhole (unit_size form) n bytes
-    → end ≡ (run_state paintings_next s (map (block_of form) (units_of (unit_size form) n bytes))).second → IsViewed (moment form lead_in time) bytes end.picture end.bad
+    → end ≡ (run_state paintings_next s (map (block_of form) (units_of (unit_size form) n bytes))).second → IsViewed (moment form lead_in time) bytes end.screen end.bad
 viewed_bytes form lead_in time s bytes n end ready few whole_units e =
     let size : ℕ = unit_size form in
     let units : List (List ℕ) = units_of size n bytes in
@@ -108,7 +108,7 @@ whole_taken form n bytes e = record { fits = omega (arith, e); rest = omega (ari
 
 module _ (form : Form) (lead_in time : ℕ) (left left' : Option (List ℕ)) (taken : List ℕ) where
   views_by : (s s' : Paintings) (pumped : Pumped) (past : Bool) → IsReady form lead_in time s → Watches form paintings_next (feeding (from_to left left') (from_to s s')) (Ok pumped) taken → nat_lt (pumped.units - lead_in) time ≡ past
-      → Views (moment form lead_in time) (from_to left left') s'.second.picture (if past then Err (PastEnd (pumped.units - lead_in)) else Ok (record { blocks = pumped.units - lead_in; bad = s'.second.bad })) taken
+      → Views (moment form lead_in time) (from_to left left') s'.second.screen (if past then Err (PastEnd (pumped.units - lead_in)) else Ok (record { blocks = pumped.units - lead_in; bad = s'.second.bad })) taken
   views_by s s' pumped true ready w past =
       let units : length taken / unit_size form ≡ pumped.units = units_in form pumped.units taken (whole_taken form pumped.units taken w.done.1) in
       let rest : length taken % unit_size form ≡ 0 = ap (λ n. n % unit_size form) w.done.1 ∙ mul-mod_left pumped.units (unit_size form) in
@@ -134,7 +134,7 @@ module _ (form : Form) (lead_in time : ℕ) (left left' : Option (List ℕ)) (ta
       }
 
   views_done : (s s' : Paintings) (pumped : Pumped) → IsReady form lead_in time s → Watches form paintings_next (feeding (from_to left left') (from_to s s')) (Ok pumped) taken
-      → Views (moment form lead_in time) (from_to left left') s'.second.picture (viewed (pumped.units - lead_in) time s'.second.bad) taken
+      → Views (moment form lead_in time) (from_to left left') s'.second.screen (viewed (pumped.units - lead_in) time s'.second.bad) taken
   views_done s s' pumped ready w = views_by s s' pumped (nat_lt (pumped.units - lead_in) time) ready w refl
 
   views_stop : (s s' : Paintings) (now : Standing) (stop : PumpStop) → Watches form paintings_next (feeding (from_to left left') (from_to s s')) (Err stop) taken → Views (moment form lead_in time) (from_to left left') now (Err (play_stop stop)) taken
@@ -165,8 +165,8 @@ module _ (form : Form) (lead_in time : ℕ) (left left' : Option (List ℕ)) (ta
   }
 
   pub view_done : (s s' : Paintings) (pumped : Pumped) (answer : Result Played PlayStop) → IsReady form lead_in time s → Watches form paintings_next (feeding (from_to left left') (from_to s s')) (Ok pumped) taken → answer ≡ viewed (pumped.units - lead_in) time s'.second.bad
-      → Views (moment form lead_in time) (from_to left left') s'.second.picture answer taken
-  view_done s s' pumped answer ready w e = subst (λ (r : Result Played PlayStop). Views (moment form lead_in time) (from_to left left') s'.second.picture r taken) (sym e) (views_done s s' pumped ready w)
+      → Views (moment form lead_in time) (from_to left left') s'.second.screen answer taken
+  view_done s s' pumped answer ready w e = subst (λ (r : Result Played PlayStop). Views (moment form lead_in time) (from_to left left') s'.second.screen r taken) (sym e) (views_done s s' pumped ready w)
 
   pub view_stop : (s s' : Paintings) (now : Standing) (stop : PumpStop) (answer : PlayStop) → Watches form paintings_next (feeding (from_to left left') (from_to s s')) (Err stop) taken → answer ≡ play_stop stop → Views (moment form lead_in time) (from_to left left') now (Err answer) taken
   view_stop s s' now stop answer w e = subst (λ (a : PlayStop). Views (moment form lead_in time) (from_to left left') now (Err a) taken) (sym e) (views_stop s s' now stop w)

@@ -3,19 +3,19 @@ use Rattle.std.specs.Prelude.{ℕ, ◌-◌, ◌==◌, if◌then◌else◌, List,
 use Rattle.arrayvec.specs.ArrayVec.{ArrayVec}
 use Rattle.rw_code.specs.Finding.{finding}
 use Rattle.cdg_instructions.specs.Meaning.{meaning}
-use Rattle.cdg_screen.specs.Picture.{Standing, standing_after}
+use Rattle.cdg_screen.specs.Standing.{Standing, standing_after}
 use Rattle.stream_stages.specs.Steps.{bad_next}
 use Rattle.stream_stages.specs.declared.painting.Painting.{Painting}
 
 -- after what is found for a word, if anything
 abbrev pub entry_drawn : Standing → Option (List ℕ) → Standing
-entry_drawn picture (Some codeword) = standing_after picture (meaning codeword ∷ [])
-entry_drawn picture None = picture
+entry_drawn standing (Some codeword) = standing_after standing (meaning codeword ∷ [])
+entry_drawn standing None = standing
 
 -- after a word: only the packs that are left are drawn
 unfoldable pub draw_next : Painting → List ℕ → Painting
 draw_next s word = if s.left == 0 then s else record {
-  picture = entry_drawn s.picture (finding word);
+  screen = entry_drawn s.screen (finding word);
   left = s.left - 1;
   bad = bad_next s.bad word;
 }

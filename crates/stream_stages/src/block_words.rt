@@ -1,5 +1,5 @@
 // From blocks to words.
-ghost use Rattle.std.specs.Prelude.{◌≡◌, ◌<◌, List, ℕ, MatchOption, replicate};
+ghost use Rattle.std.specs.Prelude.{◌≡◌, ◌<◌, true, List, ℕ, MatchOption, replicate};
 ghost use Rattle.arrayvec.specs.ArrayVec.{ArrayVec};
 ghost use Rattle.rw_code.specs.Packs.{idle_pack};
 ghost use Rattle.stream_stages.specs.Steps.{IdlesOn, fresh_words, words_or_idle, slot_of, slots_of, words_next, words_give};
@@ -41,7 +41,7 @@ impl BlockOfWords {
 
     /// The words. None says that they are four idle packs.
     #[inline]
-    pub(crate) fn unless_idle(&self) -> Option<&ArrayVec<Word, SLOTS_A_BLOCK>>
+    pub fn unless_idle(&self) -> Option<&ArrayVec<Word, SLOTS_A_BLOCK>>
         ensures { MatchOption result (self.now.items ≡ replicate 4 idle_pack)
             (λ words. words.now ≡ self.now) }
     {
@@ -90,6 +90,20 @@ impl BlockWords {
         self.lead_in = lead_in;
         self.gather.reset();
     }
+
+    // Whether a block is quickly seen to change nothing, so that four idle words come with it.
+    #[inline]
+    fn stays_idle(&self, block: &[u8; BLOCK_BYTES]) -> bool
+        ensures { result ≡ true → IdlesOn self.now block.now }
+    {
+        if self.lead_in > 0 {
+            return false;
+        }
+        match self.form {
+            Form::Raw | Form::Sector => self.gather.stays_idle(block),
+            Form::Cooked => false,
+        }
+    }
 }
 
 impl Stage for BlockWords {
@@ -101,13 +115,11 @@ impl Stage for BlockWords {
 
     ghost gives = { words_give };
 
-    ghost idles = { IdlesOn };
-
     #[inline]
     #[tactic(auto, unfolding(crate::specs::Steps::words_next, crate::specs::Steps::words_give))]
     fn feed(&mut self, block: &[u8; BLOCK_BYTES]) -> Option<BlockOfWords> {
-        if self.is_idle(block) {
-            return self.feed_idle(block);
+        if self.stays_idle(block) {
+            return Some(BlockOfWords::idle());
         }
         if self.lead_in > 0 {
             self.lead_in -= 1;
@@ -120,19 +132,12 @@ impl Stage for BlockWords {
     }
 
     #[inline]
-    fn is_idle(&self, block: &[u8; BLOCK_BYTES]) -> bool {
-        if self.lead_in > 0 {
+    fn feed_idle(&mut self, block: &[u8; BLOCK_BYTES], out: &mut Option<BlockOfWords>) -> bool {
+        if !self.stays_idle(block) {
             return false;
         }
-        match self.form {
-            Form::Raw | Form::Sector => self.gather.stays_idle(block),
-            Form::Cooked => false,
-        }
-    }
-
-    #[inline]
-    fn feed_idle(&mut self, _: &[u8; BLOCK_BYTES]) -> Option<BlockOfWords> {
-        Some(BlockOfWords::idle())
+        *out = Some(BlockOfWords::idle());
+        true
     }
 }
 

@@ -1,22 +1,25 @@
 // From words to what stands on a screen.
-ghost use Rattle.std.specs.Prelude.{◌≡◌, replicate};
+ghost use Rattle.std.specs.Prelude.{◌≡◌, ◌∷◌, [], replicate};
+ghost use Rattle.cdg_instructions.specs.Meaning.{meaning};
+ghost use Rattle.cdg_screen.specs.Standing.{standing_after};
 ghost use Rattle.rw_code.specs.Codeword.{IsCodeword};
 ghost use Rattle.rw_code.specs.Finding.{finding};
 ghost use Rattle.rw_code.specs.Packs.{idle_pack};
 ghost use Rattle.stream_stages.specs.Steps.{bad_next};
 ghost use Rattle.stream_stages.specs.Drawn.{entry_drawn, draw_next, draw_after, painting_next, painting_gives};
 
-use crate::Picture;
 use crate::block_words::BlockOfWords;
 use crate::idle_words::{idle_is_codeword, is_idle};
 use arrayvec::ArrayVec;
+use cdg_instructions::read;
 use cdg_io::{Piece, Stage};
-use rw_code::{Word, correct};
+use cdg_screen::Screen;
+use rw_code::{Pack, Word, correct};
 
 /// Draws the corrected packs up to a number of them, and counts the words with no codeword near among these.
 #[derive(Drop)]
 pub struct Painting {
-    pub picture: Picture,
+    pub screen: Screen,
     /// The packs that are still to be drawn.
     pub left: u32,
     pub bad: u32,
@@ -46,13 +49,14 @@ impl Painting {
         }
     }
 
-    // Draws four idle words: the picture stays.
+    // Draws four idle words: the screen stays.
     fn draw_four_idle(&mut self)
         requires { IsCodeword idle_pack }
         ensures { self.new ≡ draw_after self.old (replicate 4 idle_pack) }
     {
         self.left = self.left.saturating_sub(4);
-        self.picture.stays_at_idle();
+        // A law: they draw nothing.
+        idle_packs_draw_nothing(&self.screen);
     }
 
     // Draws what is found for a word, if a pack is left to be drawn.
@@ -68,13 +72,13 @@ impl Painting {
 
     // Draws the codeword near a word, or counts the word.
     fn take(&mut self, word: &Word)
-        ensures picture { self.new.picture ≡ entry_drawn self.old.picture (finding word.now) }
+        ensures screen { self.new.screen ≡ entry_drawn self.old.screen (finding word.now) }
         ensures bad { self.new.bad ≡ bad_next self.old.bad word.now }
         ensures left { self.new.left ≡ self.old.left }
     {
         // Most words of a disc are idle, and draw nothing. Few others begin with 0.
         if word.get(0).value() == 0 && is_idle(word) {
-            self.picture.stays_at_idle();
+            idle_packs_draw_nothing(&self.screen);
         } else {
             self.take_corrected(word);
         }
@@ -82,15 +86,29 @@ impl Painting {
 
     // Draws what the correction of a word finds, or counts the word.
     fn take_corrected(&mut self, word: &Word)
-        ensures picture { self.new.picture ≡ entry_drawn self.old.picture (finding word.now) }
+        ensures screen { self.new.screen ≡ entry_drawn self.old.screen (finding word.now) }
         ensures bad { self.new.bad ≡ bad_next self.old.bad word.now }
         ensures left { self.new.left ≡ self.old.left }
     {
         match correct(word) {
-            Some(fixed) => self.picture.obey(&fixed.pack),
+            Some(fixed) => carry_out(&fixed.pack, &mut self.screen),
             None => self.bad = self.bad.saturating_add(1),
         }
     }
+}
+
+// Carries out the instruction of a pack.
+fn carry_out(pack: &Pack, screen: &mut Screen)
+    ensures { screen.new ≡ standing_after screen.old (meaning pack.now ∷ []) }
+{
+    screen.obey(&read(pack));
+}
+
+// A law: an idle pack leaves a screen as it is.
+fn idle_packs_draw_nothing(screen: &Screen)
+    ensures { screen.now ≡ standing_after screen.now (meaning idle_pack ∷ []) }
+{
+    screen.what_stands_is_whole();
 }
 
 impl Stage for Painting {

@@ -15,7 +15,7 @@ use Rattle.rw_interleave.proofs.Recovery.{differences-turned, form_words}
 use Rattle.cdg_instructions.specs.Instruction.{Means}
 use Rattle.cdg_instructions.specs.declared.instr.Instr.{Instr}
 use Rattle.cdg_screen.proofs.Turns.{blank_is_whole}
-use Rattle.cdg_screen.specs.Picture.{Standing, blank, standing_after}
+use Rattle.cdg_screen.specs.Standing.{Standing, blank, standing_after}
 use Rattle.picture_script.specs.Script.{Drawing, pictures, ready_time, hold_time}
 use Rattle.picture_changes.specs.Schedule.{IsSchedule}
 use Rattle.picture_changes.specs.Shown.{ShowsPicture, AreTimesInOrder, AreColoursInRange}

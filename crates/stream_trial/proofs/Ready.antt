@@ -4,13 +4,14 @@ use Rattle.cue_sheet.specs.CueSheet.{CueSheet}
 use Rattle.toc_model.specs.Places.{program_blocks}
 use Rattle.picture_script.specs.Script.{Drawing, pictures, ready_time, hold_time, picture_pixel}
 use Rattle.picture_changes.specs.Schedule.{IsInTime, free_packs, IsLate}
-use Rattle.picture_changes.specs.Brings.{IsNeed}
 use Rattle.picture_changes.specs.Shown.{AreColoursInRange}
 use Rattle.picture_changes.specs.PlannedChange.{planned_change}
 use Rattle.pack_schedule.specs.Survey.{IsPastEnd, IsStop}
-use Rattle.pack_schedule.specs.declared.planned.Stop.{Stop}
-use Rattle.pack_schedule.specs.declared.planned.Stop.TheVariants.{PastEnd as past_end, Late as late, NoMemory as no_memory}
+use Rattle.pack_schedule.specs.declared.stops.Stop.{Stop}
+use Rattle.pack_schedule.specs.declared.stops.Stop.TheVariants.{PastEnd as past_end, Late as late, NoMemory as no_memory}
 use Rattle.subcode_author.specs.AuthorAnswer.{AreReady, HasLayout, HasRoom, IsAccepted, IsAuthorStop}
+use Rattle.subcode_author.proofs.Late.{ready_not_late}
+use Rattle.subcode_author.proofs.Prompt.{PlannedIsChange}
 use Rattle.subcode_author.specs.declared.stops.AuthorStop.{AuthorStop}
 use Rattle.subcode_author.specs.declared.stops.AuthorStop.TheVariants.{LengthShort, DiscTooLong, PastEnd, TextTooLong, LeadInShort, Late, WriteFault, NoMemory}
 use Rattle.cdg_workload.specs.Generated.{generated_drawings}
@@ -20,12 +21,6 @@ pub record TimesAreKnown : Type 0 where
   pub count : (seed count : ℕ) → pictures (generated_drawings seed count) ≡ count
   pub ready : (seed count k : ℕ) → k < count → ready_time (generated_drawings seed count) k ≡ 800 * (k + 1)
   pub hold : (seed count k : ℕ) → k < count → hold_time (generated_drawings seed count) k ≡ 800 * (k + 1) + 20
-
--- each need of a picture is the length of its planned change
-abbrev pub NeedsArePlanned : Type 0
-NeedsArePlanned = (script : List Drawing) (k need : ℕ) → AreColoursInRange script
-    → ((k x y : ℕ) → picture_pixel script k x y < 16) → IsNeed script k need
-    → need ≡ length (planned_change script k)
 
 -- a change of so many instructions fits between two pictures
 in_time : TimesAreKnown → (seed count k need : ℕ) → k < count → need ≤ 3076
@@ -40,18 +35,22 @@ enough_free times seed count zero lt = omega (arith, times.ready seed count 0 lt
 enough_free times seed count (suc k) lt =
     omega (arith, times.ready seed count (suc k) lt, times.hold seed count k (omega arith))
 
-pub all_ready : TimesAreKnown → NeedsArePlanned → (seed count : ℕ)
+pub all_ready : TimesAreKnown → PlannedIsChange → (seed count : ℕ)
     → AreColoursInRange (generated_drawings seed count)
     → ((k x y : ℕ) → picture_pixel (generated_drawings seed count) k x y < 16)
     → ((k : ℕ) → length (planned_change (generated_drawings seed count) k) ≤ 3076)
     → AreReady (generated_drawings seed count)
-all_ready times needs seed count ranges small few k need lt is =
-    in_time times seed count k need (omega (arith, lt, times.count seed count))
-    (omega (arith, few k, needs (generated_drawings seed count) k need ranges small is))
+all_ready times is_change seed count ranges small few k lt =
+    let script = generated_drawings seed count in
+    let need : ℕ = length (planned_change script k) in (
+      need,
+      (planned_change script k, is_change script k ranges small, refl),
+      in_time times seed count k need (omega (arith, lt, times.count seed count)) (few k),
+    )
 
 -- where all are ready none is late
 not_late : (script : List Drawing) (k need free : ℕ) → AreReady script → IsLate script k need free → ⊥
-not_late script k need free ready is = is.late (ready k need is.picture is.need_is)
+not_late script k need free ready is = ready_not_late script k need free (ready k is.picture) is
 
 -- no picture is held past the last hold time
 pub not_past_end : TimesAreKnown → (seed count blocks : ℕ) → 800 * count + 20 ≤ blocks

@@ -8,7 +8,7 @@ use Rattle.rw_interleave.specs.Gathering.{gather_gives, gather_next}
 use Rattle.rw_interleave.specs.Interleave.{whole_of_slots}
 use Rattle.rw_interleave.specs.Windows.{slots_in}
 use Rattle.cdg_instructions.specs.declared.instr.Instr.{Instr}
-use Rattle.cdg_screen.specs.Picture.{blank, standing_after}
+use Rattle.cdg_screen.specs.Standing.{blank, standing_after}
 use Rattle.picture_script.specs.Script.{Drawing, pictures, ready_time}
 use Rattle.picture_script.specs.Board.{StandsBefore}
 use Rattle.picture_changes.specs.Meanings.{AreMeantBy}

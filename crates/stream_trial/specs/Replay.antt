@@ -7,7 +7,7 @@ use Rattle.rw_interleave.specs.Stream.{IsDamaged}
 use Rattle.cdg_instructions.specs.Instruction.{Means}
 use Rattle.cdg_instructions.specs.Sizes.{screen_height, screen_width}
 use Rattle.cdg_instructions.specs.declared.instr.Instr.{Instr}
-use Rattle.cdg_screen.specs.Picture.{Standing, standing_after, screen_pixel}
+use Rattle.cdg_screen.specs.Standing.{Standing, standing_after, screen_pixel}
 use Rattle.picture_script.specs.Script.{Drawing, pictures}
 use Rattle.picture_script.specs.Board.{Board, pixel_of}
 use Rattle.picture_changes.specs.Schedule.{IsSchedule}

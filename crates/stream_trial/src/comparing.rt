@@ -1,7 +1,7 @@
 // A screen beside a canvas.
 ghost use Rattle.std.specs.Prelude.{◌≡◌, ◌<◌, ◌≤◌, ◌↔◌, ℕ, slice_index, IsTrue};
 ghost use Rattle.cdg_instructions.specs.Sizes.{screen_height, screen_width};
-ghost use Rattle.cdg_screen.specs.Picture.{screen_pixel};
+ghost use Rattle.cdg_screen.specs.Standing.{screen_pixel};
 ghost use Rattle.stream_trial.specs.Replay.{Agrees, wanted_pixel};
 
 use cdg_instructions::{SCREEN_HEIGHT, SCREEN_WIDTH, TILE_HEIGHT, TILE_WIDTH};

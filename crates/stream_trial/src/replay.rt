@@ -3,7 +3,7 @@ ghost use Rattle.std.specs.Prelude.{◌≡◌, ◌<◌, ◌≤◌, ◌+◌, ◌-
 ghost use Rattle.rw_code.specs.Codeword.{Reads};
 ghost use Rattle.raw_subcode.specs.Sizes.{block_bytes, slots_a_block};
 ghost use Rattle.rw_interleave.specs.Interleave.{whole_packs};
-ghost use Rattle.cdg_screen.specs.Picture.{blank};
+ghost use Rattle.cdg_screen.specs.Standing.{blank};
 ghost use Rattle.picture_script.specs.Script.{Drawing};
 ghost use Rattle.stream_trial.specs.Course.{HasTaken, words_with_stream_block};
 ghost use Rattle.stream_trial.specs.Replay.{IsBelow, TakesWord, TakesBad, one_where};

@@ -5,7 +5,7 @@ ghost use Rattle.toc_model.specs.Places.{program_blocks};
 ghost use Rattle.picture_script.specs.Script.{picture_pixel};
 ghost use Rattle.picture_changes.specs.Schedule.{free_packs};
 ghost use Rattle.pack_schedule.specs.Survey.{IsPastEnd, IsStop};
-ghost use Rattle.pack_schedule.specs.declared.planned.Stop.{Stop};
+ghost use Rattle.pack_schedule.specs.declared.stops.Stop.{Stop};
 ghost use Rattle.subcode_author.specs.AuthorAnswer.{AreReady, HasLayout, HasRoom, IsAccepted, IsAuthorStop};
 ghost use Rattle.subcode_author.specs.declared.stops.AuthorStop.{AuthorStop};
 ghost use Rattle.cdg_workload.specs.Generated.{generated_drawings};

@@ -5,6 +5,15 @@ pub mod Programs
 pub mod Framed
 pub mod Streams
 pub mod SheetStrings
-pub mod Room
+pub mod TextRoom
 pub mod Whole
 pub mod Quiet
+pub mod FrameBits
+pub mod Frames
+pub mod LeadIns
+pub mod BuiltBlocks
+pub mod Cuts
+pub mod Symbols
+pub mod Carrying
+pub mod SameBytes
+pub mod Prefixes

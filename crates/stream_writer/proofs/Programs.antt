@@ -14,11 +14,11 @@ use Rattle.rw_interleave.specs.Spreading.{spread_next}
 use Rattle.toc_model.specs.Places.{DiscLayout}
 use Rattle.toc_model.specs.Layout.{p_bit, program_frame}
 use Rattle.stream_writer.specs.Blocks.{carrying_block, program_block, symbols_at, IsBuilt}
-use Rattle.stream_writer.specs.Given.{symbols_from, AreGiven, ComesLater, TakesPacks, PutsPart, PutsProgram}
+use Rattle.stream_writer.specs.Given.{symbols_from, AreGiven, ComesAfterBlocks, ComesLater, TakesPacks, PutsPart, PutsProgram}
 use Rattle.stream_writer.proofs.Pieces.{pieces_more, prefix_on}
-use Rattle.stream_writer.proofs.Slots.{none_given, given_later, given_more, length-symbols_from, symbols_from-append, run_state-append, earlier_block, last_block}
+use Rattle.stream_writer.proofs.Slots.{none_given, later_more, given_later, given_more, length-symbols_from, symbols_from-append, run_state-append, earlier_block, last_block}
 
-same_in_range : (f g : ℕ → List ℕ) (a n : ℕ) → ((i : ℕ) → i < a + n → f i ≡ g i) → flat_map f (range_with_len a n) ≡ flat_map g (range_with_len a n)
+pub same_in_range : (f g : ℕ → List ℕ) (a n : ℕ) → ((i : ℕ) → i < a + n → f i ≡ g i) → flat_map f (range_with_len a n) ≡ flat_map g (range_with_len a n)
 same_in_range f g a zero same = refl
 same_in_range f g a (suc n) same = ap₂ (λ xs ys. xs ++ ys) (same a (omega arith)) (same_in_range f g (a + 1) n (λ i lt. same i (omega arith)))
 
@@ -98,9 +98,9 @@ block_more layout Comes Later n held held' held'' before after symbols block don
 -- a prefix of one block more
 pub part_more : (layout : DiscLayout) (Comes Later : ℕ → List ℕ → Type 0) (n : ℕ) (held held' held'' : Option (List ℕ)) (before after : List (List ℕ)) (symbols block : List ℕ)
     → AreDone layout Comes n held held' before → n < layout.blocks → ComesLater Comes (4 * n) Later → (four : List (List ℕ)) × TakesPacks Later 4 (from_to before after) symbols four
-    → block ≡ carrying_block layout n symbols → AppendsPrefix held' held'' block
-    → (m : ℕ) × (packs : List (List ℕ)) × PutsPart layout Comes (from_to held held'') m packs
-part_more layout Comes Later n held held' held'' before after symbols block done lt later (four, taken) bytes part =
+    → block ≡ carrying_block layout n symbols → AppendsPrefix held' held'' block → (Latest : ℕ → List ℕ → Type 0) → ComesLater Later 4 Latest
+    → (m : ℕ) × (packs : List (List ℕ)) × PutsPart layout Comes (from_to held held'') m packs × ComesAfterBlocks Comes m Latest
+part_more layout Comes Later n held held' held'' before after symbols block done lt later (four, taken) bytes part Latest next_later =
     let packs = done.packs in
     let puts = done.puts in
     let next = next_block layout Comes Later n before after packs four symbols puts.given_are done.spread_is later taken in
@@ -114,6 +114,7 @@ part_more layout Comes Later n held held' held'' before after symbols block done
         given_are = next.given_are;
         put = prefix_on held held' held'' first block [] _ puts.put part whole;
       },
+      later_more Comes Later Latest (4 * n) 4 (4 * (n + 1)) later next_later (omega arith),
     )
 
 -- all blocks

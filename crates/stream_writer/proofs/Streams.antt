@@ -11,9 +11,9 @@ use Rattle.toc_model.specs.Places.{DiscLayout}
 use Rattle.toc_model.specs.Layout.{toc_frame}
 use Rattle.cdtext_packs.specs.LeadIn.{lead_in_symbols}
 use Rattle.stream_writer.specs.Blocks.{lead_in_block, program_block, stream_bytes, IsBuilt}
-use Rattle.stream_writer.specs.Given.{PutsPart, PutsProgram, PutsStream, PutsStreamPart, framing_of, symbols_from}
+use Rattle.stream_writer.specs.Given.{ComesAfterBlocks, PutsPart, PutsProgram, PutsStream, PutsStreamPart, framing_of, symbols_from}
 use Rattle.stream_writer.proofs.Pieces.{prefix_first, prefix_on}
-use Rattle.stream_writer.proofs.Slots.{none_given, length-symbols_from}
+use Rattle.stream_writer.proofs.Slots.{none_given, none_later, length-symbols_from}
 use Rattle.stream_writer.proofs.Framed.{AreBuilt, framing, program_is}
 
 -- the lead-in that is put
@@ -41,7 +41,7 @@ stream_put layout Comes texts lead_in a b c put contents (packs, puts) =
 
 pub part_of_lead_in : (layout : DiscLayout) (Comes : ℕ → List ℕ → Type 0) (texts : List (List ℕ)) (lead_in : ℕ) (a b : Option (List ℕ))
     → AppendsPrefix a b (flat_map (lead_in_block layout texts lead_in) (below lead_in))
-    → (n : ℕ) × (packs : List (List ℕ)) × PutsStreamPart (framing_of layout texts lead_in) Comes (from_to a b) n packs
+    → (n : ℕ) × (packs : List (List ℕ)) × PutsStreamPart (framing_of layout texts lead_in) Comes (from_to a b) n packs × ComesAfterBlocks Comes n Comes
 unfolding stream_bytes
 part_of_lead_in layout Comes texts lead_in a b part = (
   0,
@@ -51,14 +51,15 @@ part_of_lead_in layout Comes texts lead_in a b part = (
     given_are = none_given Comes 0;
     put = prefix_first a b (lead_in_bytes layout texts lead_in) [] _ part refl;
   },
+  none_later Comes,
 )
 
-pub part_of_program : (layout : DiscLayout) (Comes : ℕ → List ℕ → Type 0) (texts : List (List ℕ)) (lead_in : ℕ) (a b c : Option (List ℕ))
+pub part_of_program : (layout : DiscLayout) (Comes Later : ℕ → List ℕ → Type 0) (texts : List (List ℕ)) (lead_in : ℕ) (a b c : Option (List ℕ))
     → Appends a b (flat_map (lead_in_block layout texts lead_in) (below lead_in))
-    → (n : ℕ) × (packs : List (List ℕ)) × PutsPart layout Comes (from_to b c) n packs
-    → (n : ℕ) × (packs : List (List ℕ)) × PutsStreamPart (framing_of layout texts lead_in) Comes (from_to a c) n packs
+    → (n : ℕ) × (packs : List (List ℕ)) × PutsPart layout Comes (from_to b c) n packs × ComesAfterBlocks Comes n Later
+    → (n : ℕ) × (packs : List (List ℕ)) × PutsStreamPart (framing_of layout texts lead_in) Comes (from_to a c) n packs × ComesAfterBlocks Comes n Later
 unfolding stream_bytes
-part_of_program layout Comes texts lead_in a b c put (n, packs, puts) =
+part_of_program layout Comes Later texts lead_in a b c put (n, packs, puts, later) =
     let first : List ℕ = lead_in_bytes layout texts lead_in in
     let second : List ℕ = flat_map (program_block layout (symbols_from [] packs)) (below n) in (
       n,
@@ -68,4 +69,5 @@ part_of_program layout Comes texts lead_in a b c put (n, packs, puts) =
         given_are = puts.given_are;
         put = prefix_on a b c first second [] _ put puts.put (ap (λ xs. first ++ xs) (sym (append-nil second)));
       },
+      later,
     )

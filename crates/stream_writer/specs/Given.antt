@@ -26,6 +26,10 @@ symbols_from before packs = concat (run_gives spread_next spread_gives before pa
 abbrev pub ComesLater : (ℕ → List ℕ → Type 0) → ℕ → (ℕ → List ℕ → Type 0) → Type 0
 ComesLater Comes many Later = (n : ℕ) (pack : List ℕ) → Later n pack → Comes (many + n) pack
 
+-- the packs of so many blocks have come, and no more
+abbrev pub ComesAfterBlocks : (ℕ → List ℕ → Type 0) → ℕ → (ℕ → List ℕ → Type 0) → Type 0
+ComesAfterBlocks Comes blocks Later = ComesLater Comes (slots_a_block * blocks) Later
+
 -- so many packs as they come, from the one with this number on
 pub record AreGiven (Comes : ℕ → List ℕ → Type 0) (first many : ℕ) (packs : List (List ℕ)) : Type 0 where
   pub count : length packs ≡ many

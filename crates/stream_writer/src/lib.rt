@@ -4,12 +4,14 @@
 
 mod blocks;
 mod program;
+mod room;
 mod sheet_texts;
 mod source;
 mod stops;
 mod stream;
 mod texts;
 
+pub use room::judge_lead_in;
 pub use sheet_texts::texts_of_sheet;
 pub use source::{PackSource, unless_idle};
 pub use stops::LeadInStop;

@@ -47,8 +47,8 @@ fn sheet_codes(alloc: Global, sheet: &Sheet) -> Result<Strings, AllocError>
     Ok(strings)
 }
 
-// The code of the album or a track.
-fn code_at(sheet: &Sheet, place: usize) -> &[u8]
+/// The code of the album or a track, empty where there is none.
+pub(crate) fn code_at(sheet: &Sheet, place: usize) -> &[u8]
     requires { place ≤ length sheet.now.tracks }
     ensures { result.now ≡ code_at sheet.now place }
 {

@@ -6,12 +6,13 @@ ghost use Rattle.disc_time.specs.Counts.{most_lead_in};
 ghost use Rattle.cdg_io.specs.Causes.{HasCause};
 ghost use Rattle.cdg_io.specs.Change.{change};
 ghost use Rattle.cdg_io.specs.Moves.{AppendsPrefix};
+ghost use Rattle.raw_subcode.specs.Sizes.{slots_a_block};
 ghost use Rattle.rw_interleave.specs.Interleave.{whole_packs};
 ghost use Rattle.toc_model.specs.Layout.{toc_frame};
 ghost use Rattle.cdtext_packs.specs.LeadIn.{lead_in_symbols};
 ghost use Rattle.stream_writer.specs.Blocks.{lead_in_block, IsBuilt};
 ghost use Rattle.rw_code.specs.Packs.{idle_pack};
-ghost use Rattle.stream_writer.specs.Given.{CarriesComing, PutsPart, PutsProgram, PutsStream, PutsStreamPart, framing_of};
+ghost use Rattle.stream_writer.specs.Given.{CarriesComing, ComesAfterBlocks, PutsPart, PutsProgram, PutsStream, PutsStreamPart, framing_of};
 
 use crate::blocks::{lead_in_block, program_block};
 use crate::program::next_symbols;
@@ -57,8 +58,11 @@ fn put_program<P: PackSource, K: Sink>(
     ensures ok { OnOk result ((packs : List (List ℕ))
         × PutsProgram layout.now (P.comes source.old) layout.now.blocks (change K.held out.old out.new)
         packs) }
+    ensures taken { OnOk result (ComesAfterBlocks (P.comes source.old) layout.now.blocks
+        (P.comes source.new)) }
     ensures part { OnErr result ((n : ℕ) × (packs : List (List ℕ))
-        × PutsPart layout.now (P.comes source.old) (change K.held out.old out.new) n packs) }
+        × PutsPart layout.now (P.comes source.old) (change K.held out.old out.new) n packs
+        × ComesAfterBlocks (P.comes source.old) n (P.comes source.new)) }
     ensures cause { HasCause (K.faults out.old) (K.faults out.new) result }
 {
     let blocks = layout.blocks();
@@ -86,9 +90,12 @@ fn put_stream<P: PackSource, K: Sink>(
     ensures ok { OnOk result ((packs : List (List ℕ))
         × PutsStream (framing_of layout.now texts.now lead_in) (P.comes source.old)
         (change K.held out.old out.new) packs) }
+    ensures taken { OnOk result (ComesAfterBlocks (P.comes source.old) layout.now.blocks
+        (P.comes source.new)) }
     ensures part { OnErr result ((n : ℕ) × (packs : List (List ℕ))
         × PutsStreamPart (framing_of layout.now texts.now lead_in) (P.comes source.old)
-        (change K.held out.old out.new) n packs) }
+        (change K.held out.old out.new) n packs
+        × ComesAfterBlocks (P.comes source.old) n (P.comes source.new)) }
     ensures cause { HasCause (K.faults out.old) (K.faults out.new) result }
 {
     put_lead_in(layout, texts, lead_in, out)?;
@@ -102,7 +109,8 @@ fn put_stream<P: PackSource, K: Sink>(
 ///
 /// # Errors
 ///
-/// `Failed` where a write failed. Then the lead-in and some program blocks were written, or a prefix of them.
+/// `Failed` where a write failed. Then the lead-in and some program blocks were written, or a prefix of them, and the
+/// packs of these blocks were taken of the source, and no more.
 pub fn write_stream<P: PackSource, K: Sink>(
     layout: &Layout,
     texts: &[TextPack],
@@ -113,14 +121,18 @@ pub fn write_stream<P: PackSource, K: Sink>(
 ) -> Result<(), Failed>
     requires lead_in { lead_in ≤ most_lead_in }
     requires start { spread.old ≡ [] }
-    requires cut { (n : ℕ) (pack : List ℕ) → whole_packs layout.now.blocks ≤ n → n < 4 * layout.now.blocks
-        → P.comes source.old n pack → pack ≡ idle_pack }
+    requires cut { (n : ℕ) (pack : List ℕ) → whole_packs layout.now.blocks ≤ n
+        → n < slots_a_block * layout.now.blocks → P.comes source.old n pack → pack ≡ idle_pack }
     ensures ok { OnOk result ((bytes : List ℕ) × (packs : List (List ℕ))
         × CarriesComing (framing_of layout.now texts.now lead_in) (P.comes source.old) bytes packs
         × Appends (K.held out.old) (K.held out.new) bytes) }
+    // Four packs a block were taken, and no more.
+    ensures taken { OnOk result (ComesAfterBlocks (P.comes source.old) layout.now.blocks
+        (P.comes source.new)) }
     ensures part { OnErr result ((n : ℕ) × (packs : List (List ℕ))
         × PutsStreamPart (framing_of layout.now texts.now lead_in) (P.comes source.old)
-        (change K.held out.old out.new) n packs) }
+        (change K.held out.old out.new) n packs
+        × ComesAfterBlocks (P.comes source.old) n (P.comes source.new)) }
     ensures cause { HasCause (K.faults out.old) (K.faults out.new) result }
 {
     spread_carries();

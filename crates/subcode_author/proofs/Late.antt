@@ -1,12 +1,13 @@
 -- The first picture that is late.
-use Rattle.std.proofs.Common.{◌≡◌, ℕ, zero, suc, ◌+◌, ◌*◌, ◌<◌, ◌⊎◌, List, length, refl, inl, inr, sym, subst, arith}
+use Rattle.std.proofs.Common.{◌≡◌, ℕ, zero, suc, ◌+◌, ◌*◌, ◌<◌, ◌⊎◌, List, length, refl, inl, inr, subst, arith}
 use Rattle.std.proofs.lemmas.Bool.{cases_lt}
 use Rattle.picture_script.specs.Script.{Drawing, pictures, ready_time, picture_pixel}
 use Rattle.picture_changes.specs.Brings.{IsChange, IsNeed}
 use Rattle.picture_changes.specs.Shown.{AreColoursInRange}
 use Rattle.subcode_author.specs.AuthorAnswer.{AreReady}
-use Rattle.picture_changes.specs.Schedule.{start_of, IsInTime, free_packs, IsLate}
+use Rattle.picture_changes.specs.Schedule.{start_of, IsInTime, CanBeReady, free_packs, IsLate}
 use Rattle.picture_changes.specs.PlannedChange.{planned_change}
+use Rattle.picture_changes.proofs.Shortest.{one_need}
 
 -- picture k is in time with its planned change
 abbrev pub IsPrompt : List Drawing → ℕ → Type 0
@@ -41,24 +42,35 @@ pub record NeedsAreKnown : Type 0 where
   pub one : (script : List Drawing) (k need other : ℕ) → IsNeed script k need → IsNeed script k other → need ≡ other
 
 module _ (needs : NeedsAreKnown) (script : List Drawing) (ranges : AreColoursInRange script) (small : (k x y : ℕ) → picture_pixel script k x y < 16) where
+  -- a picture that is in time with its planned change can be ready
+  prompt_is_ready : (k : ℕ) → IsPrompt script k → CanBeReady script k
+  prompt_is_ready k prompt =
+      (length (planned_change script k), (planned_change script k, needs.change script k ranges small, refl), prompt)
+
   pub is_late : (k : ℕ) → k < pictures script → ¬ IsPrompt script k → ((j : ℕ) → j < k → IsPrompt script j) → IsLate script k (length (planned_change script k)) (free_packs script k)
   is_late k lt late before = record {
     picture = lt;
     need_is = (planned_change script k, needs.change script k ranges small, refl);
     free_is = refl;
     late = late;
-    before = λ j n j_lt h. subst (λ m. IsInTime script j m) (sym (needs.planned script j n ranges small h)) (before j j_lt);
+    before = λ j j_lt. prompt_is_ready j (before j j_lt);
   }
 
   pub all_ready : ((j : ℕ) → j < pictures script → IsPrompt script j) → AreReady script
-  all_ready prompt k need lt is = subst (λ m. IsInTime script k m) (sym (needs.planned script k need ranges small is)) (prompt k lt)
+  all_ready prompt k lt = prompt_is_ready k (prompt k lt)
+
+-- a picture that can be ready is not late
+pub ready_not_late : (script : List Drawing) (k need free : ℕ) → CanBeReady script k → IsLate script k need free → ⊥
+ready_not_late script k need free (n, one, prompt) is =
+    is.late (subst (IsInTime script k) (one_need script k n need one is.need_is) prompt)
 
 -- the first late picture is one picture
-pub one_is_late : (script : List Drawing) (k need free k' need' free' : ℕ) → IsLate script k need free → IsLate script k' need' free' → k ≡ k'
+pub one_is_late : (script : List Drawing) (k need free k' need' free' : ℕ) → IsLate script k need free
+    → IsLate script k' need' free' → k ≡ k'
 one_is_late script k need free k' need' free' is is' = elim (cases_lt k k') [
-  | inl less ↦ absurd (is.late (is'.before k need less is.need_is))
+  | inl less ↦ absurd (ready_not_late script k need free (is'.before k less) is)
   | inr from ↦ elim (cases_lt k' k) [
-    | inl less ↦ absurd (is'.late (is.before k' need' less is'.need_is))
+    | inl less ↦ absurd (ready_not_late script k' need' free' (is.before k' less) is')
     | inr other ↦ omega (arith, from, other)
   ]
 ]

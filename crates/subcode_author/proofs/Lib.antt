@@ -7,17 +7,10 @@ pub mod Ranges
 pub mod Times
 pub mod Accepted
 pub mod Packs
-pub mod Symbols
-pub mod Cuts
 pub mod Streams
 pub mod Prompt
 pub mod Ends
 pub mod StreamParts
-pub mod Codewords
 pub mod Messages
-pub mod Frames
-pub mod LeadIns
-pub mod FrameBits
 pub mod Written
-pub mod Blocks
 pub mod Existing

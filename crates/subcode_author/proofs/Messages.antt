@@ -5,7 +5,7 @@ use Rattle.std.proofs.lemmas.List.Elements.{recursion_from_All}
 use Rattle.cdg_instructions.specs.Instruction.{InRange, IsKnown, IsWritten, written_symbols, colour_symbols}
 use Rattle.cdg_instructions.specs.declared.instr.Instr.{Instr}
 use Rattle.cdg_instructions.specs.declared.instr.Instr.TheVariants.{Idle, Foreign, Unknown, MemoryPreset, BorderPreset, SetTile, XorTile, ScrollPreset, ScrollCopy, Transparency, ColoursLow, ColoursHigh}
-use Rattle.subcode_author.proofs.Codewords.{AreSymbols, has_codeword}
+use Rattle.cdg_instructions.proofs.Codewords.{AreSymbols, has_codeword}
 
 zeros : (n : ℕ) → AreSymbols (replicate n 0)
 zeros zero = tt

@@ -1,5 +1,5 @@
 -- The packs that were given are a schedule.
-use Rattle.std.proofs.Common.{◌≡◌, ℕ, ◌+◌, ◌*◌, ◌<◌, ◌≤◌, List, [], length, get_or, inr, sym, subst, arith}
+use Rattle.std.proofs.Common.{◌≡◌, ℕ, ◌+◌, ◌*◌, ◌<◌, ◌≤◌, List, [], length, get_or, refl, inr, subst, arith}
 use Rattle.std.specs.declared.option.Option.{Option}
 use Rattle.std.specs.Io.KnownBytes.{Appends}
 use Rattle.rw_interleave.specs.Interleave.{whole_packs}
@@ -8,11 +8,10 @@ use Rattle.toc_model.specs.Places.{DiscLayout, layout_of, program_blocks}
 use Rattle.picture_script.specs.Script.{Drawing, pictures, ready_time, hold_time, picture_pixel}
 use Rattle.picture_changes.specs.Schedule.{start_of, IsInTime, IsSchedule}
 use Rattle.picture_changes.specs.PlannedChange.{planned_change}
-use Rattle.picture_changes.specs.Brings.{IsNeed}
 use Rattle.picture_changes.specs.Shown.{AreColoursInRange}
 use Rattle.pack_schedule.specs.Survey.{IsSurvey, IsWithin}
 use Rattle.pack_schedule.specs.Woven.{Woven, IsPackAt, ArePacks}
-use Rattle.pack_schedule.specs.declared.planned.Planned.{Planned}
+use Rattle.pack_schedule.specs.declared.surveys.told.PlannedChange.{PlannedChange}
 use Rattle.rw_code.specs.Packs.{idle_pack}
 use Rattle.cdg_io.specs.Change.{from_to}
 use Rattle.stream_writer.specs.Given.{AreGiven, CarriesComing, PutsStreamPart, framing_of}
@@ -20,29 +19,32 @@ use Rattle.stream_writer.specs.Needs.{text_packs, HasRoom}
 use Rattle.stream_writer.proofs.Whole.{framing_with, part_with}
 use Rattle.subcode_author.specs.Authored.{IsWrittenStream, disc_of}
 use Rattle.subcode_author.specs.AuthorAnswer.{AreReady, HoldsPictures, IsAccepted}
+use Rattle.subcode_author.proofs.Prompt.{PlannedIsChange}
 
 -- what is known of a script that has a schedule
 pub record IsPlannedScript (script : List Drawing) (blocks : ℕ) : Type 0 where
   pub within : IsWithin script blocks
-  pub survey : List Planned
+  pub survey : List PlannedChange
   pub surveyed : IsSurvey script survey
   pub held : (k : ℕ) → k < pictures script → ready_time script k ≤ hold_time script k
   pub ranges : AreColoursInRange script
   pub pixels : (k x y : ℕ) → picture_pixel script k x y < 16
 
-in_time : (script : List Drawing) (survey : List Planned) → IsSurvey script survey → (k : ℕ) → k < pictures script → IsInTime script k (length (planned_change script k))
+in_time : (script : List Drawing) (survey : List PlannedChange) → IsSurvey script survey → (k : ℕ) → k < pictures script → IsInTime script k (length (planned_change script k))
 in_time script survey surveyed k lt = subst (IsInTime script k) (surveyed.each k lt).need_is (surveyed.each k lt).in_time
 
--- each need of a picture is the length of its planned change
-abbrev pub NeedsArePlanned : Type 0
-NeedsArePlanned = (script : List Drawing) (k need : ℕ) → AreColoursInRange script → ((k x y : ℕ) → picture_pixel script k x y < 16) → IsNeed script k need → need ≡ length (planned_change script k)
+are_ready : PlannedIsChange → (script : List Drawing) (survey : List PlannedChange) → AreColoursInRange script
+    → ((k x y : ℕ) → picture_pixel script k x y < 16) → IsSurvey script survey → AreReady script
+are_ready is_change script survey ranges pixels surveyed k lt = (
+  length (planned_change script k),
+  (planned_change script k, is_change script k ranges pixels, refl),
+  in_time script survey surveyed k lt,
+)
 
-are_ready : NeedsArePlanned → (script : List Drawing) (survey : List Planned) → AreColoursInRange script → ((k x y : ℕ) → picture_pixel script k x y < 16) → IsSurvey script survey → AreReady script
-are_ready needs script survey ranges pixels surveyed k need lt is =
-    subst (IsInTime script k) (sym (needs script k need ranges pixels is)) (in_time script survey surveyed k lt)
-
-pub is_accepted : NeedsArePlanned → (sheet : CueSheet) (script : List Drawing) (lead_in audio : ℕ) → HoldsPictures sheet script audio → HasRoom sheet lead_in
-    → AreColoursInRange script → ((k x y : ℕ) → picture_pixel script k x y < 16) → ((survey : List Planned) × IsSurvey script survey) → IsAccepted sheet script lead_in audio
+pub is_accepted : PlannedIsChange → (sheet : CueSheet) (script : List Drawing) (lead_in audio : ℕ)
+    → HoldsPictures sheet script audio → HasRoom sheet lead_in
+    → AreColoursInRange script → ((k x y : ℕ) → picture_pixel script k x y < 16)
+    → ((survey : List PlannedChange) × IsSurvey script survey) → IsAccepted sheet script lead_in audio
 is_accepted needs sheet script lead_in audio disc room ranges pixels planned = record {
   disc = disc;
   room = room;
@@ -82,7 +84,7 @@ cut_idle script woven blocks few first known n pack past lt comes =
 
 -- what the law of the layer below says
 abbrev pub PacksAreSchedule : Type 0
-PacksAreSchedule = (script : List Drawing) (blocks : ℕ) (survey : List Planned) (packs : List (List ℕ))
+PacksAreSchedule = (script : List Drawing) (blocks : ℕ) (survey : List PlannedChange) (packs : List (List ℕ))
     → AreColoursInRange script → ((k x y : ℕ) → picture_pixel script k x y < 16) → ((k : ℕ) → k < pictures script → ready_time script k ≤ hold_time script k)
     → IsWithin script blocks → IsSurvey script survey → length packs ≡ whole_packs blocks → ArePacks script packs → IsSchedule script blocks packs
 

@@ -11,7 +11,7 @@ use Rattle.subcode_author.specs.Authored.{text_packs, lead_in_need}
 use Rattle.subcode_author.specs.AuthorAnswer.{HoldsPictures, HasRoom, AreReady, IsAccepted, IsAuthorStop}
 use Rattle.subcode_author.specs.declared.stops.AuthorStop.{AuthorStop}
 use Rattle.subcode_author.specs.declared.stops.AuthorStop.TheVariants.{LengthShort, DiscTooLong, PastEnd, TextTooLong, LeadInShort, Late, WriteFault, NoMemory}
-use Rattle.subcode_author.proofs.Late.{NeedsAreKnown, one_is_late}
+use Rattle.subcode_author.proofs.Late.{NeedsAreKnown, one_is_late, ready_not_late}
 
 module _ (needs : NeedsAreKnown) (sheet : CueSheet) (script : List Drawing) (lead_in audio : ℕ) where
   -- what is good at each stage; nothing is behind the last one
@@ -76,7 +76,7 @@ module _ (needs : NeedsAreKnown) (sheet : CueSheet) (script : List Drawing) (lea
   fails (PastEnd blocks) h told = λ good. good (subst (IsPastEnd script) h.1 h.2)
   fails (TextTooLong packs) h told = λ good. omega (arith, h.1.1, h.1.2, good h.1.0)
   fails (LeadInShort need) h told = λ good. omega (arith, h.1.2, h.1.3, good h.1.0)
-  fails (Late picture need free) h told = λ good. h.2.late (good picture need h.2.picture h.2.need_is)
+  fails (Late picture need free) h told = λ good. ready_not_late script picture need free (good picture h.2.picture) h.2
   fails WriteFault h told = λ good. good
   fails NoMemory h told = absurd (told refl)
 

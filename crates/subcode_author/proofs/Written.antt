@@ -16,7 +16,7 @@ use Rattle.picture_changes.specs.Change.{IsChangeFrom}
 use Rattle.picture_changes.specs.PlannedChange.{chosen_start, planned_change}
 use Rattle.pack_schedule.specs.Survey.{nothing_planned, IsPlanned, IsSurvey}
 use Rattle.pack_schedule.specs.Woven.{IsPackAt, ArePacks}
-use Rattle.pack_schedule.specs.declared.planned.Planned.{Planned}
+use Rattle.pack_schedule.specs.declared.surveys.told.PlannedChange.{PlannedChange}
 use Rattle.picture_changes.proofs.Times.{hold_order}
 use Rattle.picture_changes.specs.Shown.{AreTimesInOrder, AreColoursInRange}
 use Rattle.subcode_author.proofs.Prompt.{ArePrompt}
@@ -100,9 +100,9 @@ module _ (script : List Drawing) (order : AreTimesInOrder script) (ready : ArePr
           )
 
   -- where each planned change is sent
-  pub survey_exists : (survey : List Planned) × IsSurvey script survey
+  pub survey_exists : (survey : List PlannedChange) × IsSurvey script survey
   survey_exists =
-      let f : ℕ → Planned = λ k. record { start = start_of script k; need = length (planned_change script k); preset = chosen_start script k } in (
+      let f : ℕ → PlannedChange = λ k. record { start = start_of script k; need = length (planned_change script k); preset = chosen_start script k } in (
         map f (below (pictures script)),
         record {
           count_is = length-map-range_with_len f 0 (pictures script);

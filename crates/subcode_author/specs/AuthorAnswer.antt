@@ -4,8 +4,7 @@ use Rattle.disc_time.specs.Counts.{most_program}
 use Rattle.cue_sheet.specs.CueSheet.{CueSheet}
 use Rattle.toc_model.specs.Places.{audio_need, program_blocks}
 use Rattle.picture_script.specs.Script.{Drawing, pictures}
-use Rattle.picture_changes.specs.Schedule.{IsInTime, IsLate}
-use Rattle.picture_changes.specs.Brings.{IsNeed}
+use Rattle.picture_changes.specs.Schedule.{CanBeReady, IsLate}
 use Rattle.pack_schedule.specs.Survey.{IsPastEnd}
 pub use Rattle.stream_writer.specs.Needs.{HasLayout, HasRoom, IsLeadInShort, IsTextTooLong}
 use Rattle.subcode_author.specs.declared.stops.AuthorStop.{AuthorStop}
@@ -15,19 +14,17 @@ use Rattle.subcode_author.specs.declared.stops.AuthorStop.TheVariants.{LengthSho
 abbrev pub HoldsPictures : CueSheet → List Drawing → ℕ → Type 0
 HoldsPictures sheet script audio = HasLayout sheet audio × ¬ IsPastEnd script (program_blocks sheet audio)
 
--- every picture is ready in time: what it needs fits
+-- every picture can be ready in time
 abbrev pub AreReady : List Drawing → Type 0
-AreReady script = (k need : ℕ) → k < pictures script → IsNeed script k need → IsInTime script k need
+AreReady script = (k : ℕ) → k < pictures script → CanBeReady script k
 
--- why a sheet, with its audio and the last picture, has no place on a disc; want of memory comes only where it has a
--- layout
+-- why a sheet, with its audio and the last picture, has no place on a disc
 abbrev pub IsDiscStop : CueSheet → List Drawing → ℕ → AuthorStop → Type 0
 IsDiscStop sheet script audio (LengthShort need) = (need ≡ audio_need sheet) × (audio < audio_need sheet)
 IsDiscStop sheet script audio (DiscTooLong blocks) = (audio_need sheet ≤ audio)
     × (blocks ≡ program_blocks sheet audio) × (most_program < blocks)
 IsDiscStop sheet script audio (PastEnd blocks) = HasLayout sheet audio × (blocks ≡ program_blocks sheet audio)
     × IsPastEnd script blocks
-IsDiscStop sheet script audio NoMemory = HasLayout sheet audio
 IsDiscStop sheet script audio _ = ⊥
 
 -- why the pictures cannot be sent in time
@@ -42,7 +39,8 @@ pub record IsAccepted (sheet : CueSheet) (script : List Drawing) (lead_in audio 
   pub room : HasRoom sheet lead_in
   pub ready : AreReady script
 
--- why a stream is not written: each refusal comes only where those before it do not hold
+-- why a stream is not written: each refusal comes only where those before it do not hold. Pictures are planned in
+-- memory, so want of memory comes where none but `Late` holds.
 abbrev pub IsAuthorStop : CueSheet → List Drawing → ℕ → ℕ → AuthorStop → Type 0
 IsAuthorStop sheet script lead_in audio (TextTooLong packs) = HoldsPictures sheet script audio
     × IsTextTooLong sheet lead_in packs
@@ -51,12 +49,14 @@ IsAuthorStop sheet script lead_in audio (LeadInShort need) = HoldsPictures sheet
 IsAuthorStop sheet script lead_in audio (Late picture need free) = HoldsPictures sheet script audio
     × HasRoom sheet lead_in × IsLate script picture need free
 IsAuthorStop sheet script lead_in audio WriteFault = IsAccepted sheet script lead_in audio
+IsAuthorStop sheet script lead_in audio NoMemory = HoldsPictures sheet script audio × HasRoom sheet lead_in
 IsAuthorStop sheet script lead_in audio stop = IsDiscStop sheet script audio stop
 
--- a refusal that comes before any picture is planned
+-- a refusal that comes before any picture is planned, and before memory is asked
 abbrev pub ComesBeforePlans : AuthorStop → Type 0
 ComesBeforePlans (Late picture need free) = ⊥
 ComesBeforePlans WriteFault = ⊥
+ComesBeforePlans NoMemory = ⊥
 ComesBeforePlans stop = ⊤
 
 -- why a disc has no plan: one of the refusals that come before any picture is planned

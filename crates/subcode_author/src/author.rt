@@ -10,7 +10,8 @@ ghost use Rattle.subcode_author.specs.Authored.{IsWrittenStream, disc_of};
 ghost use Rattle.subcode_author.specs.AuthorAnswer.{IsAccepted, IsAuthorStop};
 ghost use Rattle.subcode_author.specs.Given.{PutsScriptPart};
 
-use crate::parts::{lay_out, start_weaver};
+use crate::parts::start_weaver;
+use crate::plans::accept_disc;
 use crate::scheduled::Scheduled;
 use crate::stops::AuthorStop;
 use cdg_io::Sink;
@@ -21,6 +22,7 @@ use picture_script::Script;
 use rw_interleave::Spread;
 use std::alloc::Global;
 use stream_writer::{pack_texts, write_stream};
+use toc_model::Layout;
 
 /// Writes the subcode of a disc with a lead-in of so many blocks and an audio of so many blocks: the lead-in with the
 /// table of contents and the texts, and the program with the frames of the sheet and the pictures of the script.
@@ -30,9 +32,10 @@ use stream_writer::{pack_texts, write_stream};
 /// In this order: `LengthShort` and `DiscTooLong` where the sheet has no layout with this audio; `PastEnd` where the last
 /// picture is held past the end; where there is a lead-in, `TextTooLong` where its texts need more than 256 packs, and
 /// `LeadInShort` where it has no room for them or for the table of contents; `Late` at the first picture that cannot be
-/// ready. Nothing is written before all of these are passed and all memory is taken. After `WriteFault` a prefix of the
-/// stream was written: that it is a prefix of the one stream with the planned changes is a law of the crate
-/// `authored_streams`.
+/// ready. All but `Late` are judged before memory is asked, so `NoMemory` comes only where none of them holds; `Late`
+/// needs memory, in which the pictures are drawn and planned. Nothing is written before all of these are passed and all
+/// memory is taken. After `WriteFault` a prefix of the stream was written: that it is a prefix of the one stream with
+/// the planned changes is the law `accepted_scripts_have_streams`.
 pub fn author_stream<K: Sink>(
     alloc: Global,
     sheet: &Sheet,
@@ -71,10 +74,11 @@ pub fn author_stream<K: Sink>(
     needs_are_fewest();
     // What holds of every script: its pictures are in order, and have sixteen colours.
     let _times = script.pictures();
-    let layout = lay_out(alloc, sheet, script, length)?;
-    let texts = pack_texts(alloc, sheet, &layout, lead_in)?;
+    let blocks = accept_disc(sheet, script, lead_in, length)?;
+    let layout = Layout::of_sheet(alloc, sheet, length)?;
+    let texts = pack_texts(alloc, sheet, lead_in)?;
     let mut spread = Spread::start(alloc)?;
-    let weaver = start_weaver(alloc, script, layout.blocks())?;
+    let weaver = start_weaver(alloc, script, blocks)?;
     let mut source = Scheduled { weaver };
     write_stream(&layout, &texts, lead_in, &mut source, &mut spread, out)?;
     Ok(())

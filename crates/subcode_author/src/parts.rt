@@ -1,9 +1,9 @@
-// The parts of a stream, which are all at hand before anything is written.
-ghost use Rattle.std.specs.Prelude.{◌≡◌, ◌<◌, List, IfOk, IfErr, OnOk};
-ghost use Rattle.disc_time.specs.Counts.{time_count};
-ghost use Rattle.toc_model.specs.Places.{layout_of};
+// What is judged before memory is asked, and the weaver, which plans in memory.
+ghost use Rattle.std.specs.Prelude.{◌≡◌, ◌<◌, ◌≤◌, List, IfOk, IfErr, OnOk};
+ghost use Rattle.disc_time.specs.Counts.{most_program, time_count};
+ghost use Rattle.toc_model.specs.Places.{program_blocks};
 ghost use Rattle.pack_schedule.specs.Survey.{IsPastEnd, IsSurvey, IsWithin};
-ghost use Rattle.pack_schedule.specs.declared.planned.Planned.{Planned};
+ghost use Rattle.pack_schedule.specs.declared.surveys.told.PlannedChange.{PlannedChange};
 ghost use Rattle.subcode_author.specs.AuthorAnswer.{HoldsPictures, IsDiscStop, IsPictureStop};
 
 use crate::stops::AuthorStop;
@@ -11,26 +11,20 @@ use cue_sheet::Sheet;
 use pack_schedule::{Weaver, is_past_end, survey};
 use picture_script::Script;
 use std::alloc::Global;
-use toc_model::Layout;
+use toc_model::count_blocks;
 
-/// The layout of a sheet, in which no picture is held past the end.
-pub(crate) fn lay_out(
-    alloc: Global,
-    sheet: &Sheet,
-    script: &Script,
-    length: u32,
-) -> Result<Layout, AuthorStop>
-    requires { length < time_count }
-    ensures layout { IfOk result (λ layout. layout ≡ layout_of sheet.now length) }
+/// The number of program blocks of a sheet, in which no picture is held past the end.
+pub(crate) fn held_blocks(sheet: &Sheet, script: &Script, length: u32) -> Result<u32, AuthorStop>
+    requires { length ≤ most_program }
+    ensures blocks { IfOk result (λ blocks. blocks ≡ program_blocks sheet.now length) }
     ensures good { OnOk result (HoldsPictures sheet.now script.now length) }
     ensures err { IfErr result (IsDiscStop sheet.now script.now length) }
 {
-    let layout = Layout::from_cue(alloc, sheet, length)?;
-    let blocks = layout.blocks();
+    let blocks = count_blocks(sheet, length)?;
     if is_past_end(script, blocks) {
         return Err(AuthorStop::PastEnd { blocks });
     }
-    Ok(layout)
+    Ok(blocks)
 }
 
 /// The weaver of a script whose pictures are all ready in time.
@@ -44,7 +38,7 @@ pub(crate) fn start_weaver<'a>(
     ensures script { IfOk result (λ w. w.script ≡ script.now) }
     ensures given { IfOk result (λ w. w.given ≡ 0) }
     ensures within { OnOk result (IsWithin script.now blocks) }
-    ensures planned { OnOk result ((planned : List Planned) × IsSurvey script.now planned) }
+    ensures planned { OnOk result ((planned : List PlannedChange) × IsSurvey script.now planned) }
     ensures err { IfErr result (IsPictureStop script.now) }
 {
     let planned = survey(alloc, script, blocks)?;

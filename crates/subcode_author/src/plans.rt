@@ -5,24 +5,22 @@ ghost use Rattle.cue_sheet.specs.CueSheet.{CueSheet};
 ghost use Rattle.toc_model.specs.Places.{program_blocks};
 ghost use Rattle.picture_script.specs.Script.{Drawing, pictures};
 ghost use Rattle.pack_schedule.specs.Plans.{ArePlanRows, IsFirstLate, no_row};
-ghost use Rattle.pack_schedule.specs.declared.planned.PlanRow.{PlanRow};
+ghost use Rattle.pack_schedule.specs.declared.planner.PlanRow.{PlanRow};
 ghost use Rattle.subcode_author.specs.AuthorAnswer.{HasRoom, HoldsPictures, IsAccepted, IsAuthorStop, IsDiscRefusal};
 
-use crate::parts::lay_out;
+use crate::parts::held_blocks;
 use crate::stops::AuthorStop;
 use cue_sheet::Sheet;
 use pack_schedule::plans_tell_what_a_survey_tells;
 use picture_script::Script;
-use std::alloc::Global;
-use stream_writer::pack_texts;
+use stream_writer::judge_lead_in;
 
 /// The number of program blocks of a disc that `author_stream` writes, where all its pictures are in time.
 ///
 /// # Errors
 ///
-/// Those of `author_stream`, in their order, but `Late` and `WriteFault`.
+/// Those of `author_stream`, in their order, but `Late` and `WriteFault`. They are judged without memory.
 pub fn accept_disc(
-    alloc: Global,
     sheet: &Sheet,
     script: &Script,
     lead_in: u32,
@@ -34,10 +32,9 @@ pub fn accept_disc(
     ensures room { OnOk result (HasRoom sheet.now lead_in) }
     ensures stop { IfErr result (IsDiscRefusal sheet.now script.now lead_in length) }
 {
-    let layout = lay_out(alloc, sheet, script, length)?;
-    let texts = pack_texts(alloc, sheet, &layout, lead_in)?;
-    drop(texts);
-    Ok(layout.blocks())
+    let blocks = held_blocks(sheet, script, length)?;
+    judge_lead_in(sheet, lead_in)?;
+    Ok(blocks)
 }
 
 /// A law: where a disc has a place for its last picture and room in its lead-in, the rows of a plan say what

@@ -51,7 +51,6 @@ impl From<LeadInStop> for AuthorStop {
         match stop {
             LeadInStop::TextTooLong { packs } => AuthorStop::TextTooLong { packs },
             LeadInStop::LeadInShort { need } => AuthorStop::LeadInShort { need },
-            LeadInStop::NoMemory => AuthorStop::NoMemory,
         }
     }
 }

@@ -3,5 +3,5 @@
 
 mod check;
 
-pub use bit_lists::burst_law;
+pub use bit_lists::bursts_fail_the_check;
 pub use check::crc16;

@@ -5,11 +5,7 @@ use Rattle.std.specs.Str.Lines.{lines}
 use Rattle.std.specs.Str.Parse.{digits_value}
 use Rattle.std.specs.Char.{is_ascii_digit}
 use Rattle.disc_time.specs.Counts.{blocks_a_minute, blocks_a_second}
-
--- the most bytes of a text, 2^26: a sheet and a script of a thousand pictures of the whole window are shorter, and an
--- input that does not end is refused before it takes all memory
-abbrev pub most_text_bytes : ℕ
-most_text_bytes = 67108864
+pub use Rattle.disc_time.specs.Counts.{most_text_bytes}
 
 -- a list that is not empty
 abbrev pub is_some_bytes : List ℕ → Bool

@@ -3,10 +3,9 @@
 
 mod lines;
 mod numbers;
-mod size;
 mod words;
 
+pub use disc_time::MOST_TEXT_BYTES;
 pub use lines::{next_line, without_mark};
 pub use numbers::{number, time, two_digits};
-pub use size::MOST_TEXT_BYTES;
 pub use words::{is_blank, next_word, split_command, trim, trim_start};

@@ -46,6 +46,7 @@ fn line_end(text: &[u8]) -> usize
         .unwrap_or(text.len())
 }
 
+// A line without the carriage return that may end it.
 fn without_return(line: &[u8]) -> &[u8]
     ensures line { result.now ≡ strip_carriage_return line.now }
     ensures length { length result.now ≤ length line.now }

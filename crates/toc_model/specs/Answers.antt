@@ -1,5 +1,5 @@
 -- What the layout of a sheet is, or why there is none.
-use Rattle.std.specs.Prelude.{◌≡◌, ◌≤◌, ◌<◌, ℕ, Result, Ok, Err}
+use Rattle.std.specs.Prelude.{◌≡◌, ◌≢◌, ◌≤◌, ◌<◌, ℕ, Result, Ok, Err}
 use Rattle.disc_time.specs.Counts.{most_program}
 use Rattle.cue_sheet.specs.CueSheet.{CueSheet}
 use Rattle.toc_model.specs.Places.{DiscLayout, layout_of, audio_need, program_blocks}
@@ -13,6 +13,12 @@ IsLayoutRefusal sheet audio (DiscTooLong blocks) = (audio_need sheet ≤ audio)
     × (blocks ≡ program_blocks sheet audio) × (most_program < blocks)
 IsLayoutRefusal sheet audio NoMemory = (audio_need sheet ≤ audio)
     × (program_blocks sheet audio ≤ most_program)
+
+-- the number of program blocks of a sheet and an audio, or why they have no layout, for which no memory is asked
+abbrev pub IsBlockCount : CueSheet → ℕ → Result ℕ LayoutStop → Type 0
+IsBlockCount sheet audio (Ok blocks) = (audio_need sheet ≤ audio)
+    × (program_blocks sheet audio ≤ most_program) × (blocks ≡ program_blocks sheet audio)
+IsBlockCount sheet audio (Err stop) = IsLayoutRefusal sheet audio stop × (stop ≢ NoMemory)
 
 -- the layout of a sheet and an audio of so many blocks, or why there is none
 abbrev pub IsLayoutAnswer : CueSheet → ℕ → Result DiscLayout LayoutStop → Type 0

@@ -3,7 +3,7 @@ use Rattle.std.specs.Prelude.{◌≡◌, ◌≤◌, ◌<◌, IsTrue, reverse, �
 use Rattle.std.specs.List.{list_any}
 use Rattle.std.specs.List.Sorted.{IsNonDecreasingBy}
 use Rattle.std.specs.Option.{ForSome}
-use Rattle.disc_time.specs.Counts.{most_program, most_tracks, time_count}
+use Rattle.disc_time.specs.Counts.{most_program, most_tracks, pause_blocks, time_count}
 use Rattle.disc_time.specs.Time.{frame_of}
 use Rattle.cue_sheet.specs.CueSheet.{AreIndices, is_catalogue_number, is_capital_code}
 use Rattle.toc_model.specs.Places.{TrackPlace, DiscLayout, no_place}
@@ -35,7 +35,8 @@ time_in_track place block = if nat_lt block (music_begin place) then music_begin
 
 -- whether a block lies in the two seconds before index 01 of a track, or in its pause where that is longer
 abbrev pub is_paused_for : ℕ → TrackPlace → Bool
-is_paused_for block place = nat_le (music_begin place - max 150 (music_begin place - place.begin)) block
+is_paused_for block place =
+    nat_le (music_begin place - max pause_blocks (music_begin place - place.begin)) block
     && nat_lt block (music_begin place)
 
 -- whether the P bit of a block is set: the block lies in the pause of some track
@@ -94,7 +95,7 @@ pub record IsPlace (place : TrackPlace) : Type 0 where
   pub isrc : ForSome place.isrc (λ code. IsTrue (is_capital_code code))
   pub lines : AreIndices place.lines
   pub begins : place.begin ≤ music_begin place
-  pub late : 150 ≤ music_begin place
+  pub late : pause_blocks ≤ music_begin place
 
 -- a layout: 1 to 99 tracks in order, the first from block 0, each with its music inside the disc
 pub record IsLayout (layout : DiscLayout) : Type 0 where

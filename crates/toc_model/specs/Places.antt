@@ -1,6 +1,7 @@
 -- Where the tracks of a sheet lie on the disc.
 use Rattle.std.specs.Prelude.{ℕ, ◌+◌, List, [], length, ◌∷◌, map, take, sum_by, Option, None, max, ◌==◌, if◌then◌else◌}
 use Rattle.bit_lists.specs.Counting.{below}
+use Rattle.disc_time.specs.Counts.{pause_blocks}
 use Rattle.cue_sheet.specs.CueSheet.{CueTrack, CueSheet, track_of, index_line_of}
 
 -- a track on the disc: its number, its control bits, its code, the block at which it begins, and its index lines by
@@ -33,7 +34,7 @@ postgaps_to sheet count = sum_by (λ (t : CueTrack). t.postgap) (take count shee
 -- the block at which file time 0 would lie, seen from track k, counted from 0: two seconds, the gaps of the tracks
 -- before, and the track's own pregap come first
 abbrev pub blocks_before : CueSheet → ℕ → ℕ
-blocks_before sheet k = 150 + pregaps_to sheet (k + 1) + postgaps_to sheet k
+blocks_before sheet k = pause_blocks + pregaps_to sheet (k + 1) + postgaps_to sheet k
 
 -- the file time of the first index line of a track
 abbrev pub first_index_time : CueTrack → ℕ
@@ -42,7 +43,7 @@ first_index_time track = (index_line_of track 0).1
 -- the block at which track k begins: the first at the beginning, each other with its pregap
 abbrev pub track_begin : CueSheet → ℕ → ℕ
 track_begin sheet k = if k == 0 then 0
-    else 150 + pregaps_to sheet k + postgaps_to sheet k + first_index_time (track_of sheet k)
+    else pause_blocks + pregaps_to sheet k + postgaps_to sheet k + first_index_time (track_of sheet k)
 
 -- the place of track k, counted from 0
 abbrev pub place_of : CueSheet → ℕ → TrackPlace
@@ -59,7 +60,7 @@ place_of sheet k =
 -- the number of program blocks: two seconds, the audio and all gaps
 abbrev pub program_blocks : CueSheet → ℕ → ℕ
 program_blocks sheet audio =
-    150 + audio + (pregaps_to sheet (length sheet.tracks) + postgaps_to sheet (length sheet.tracks))
+    pause_blocks + audio + (pregaps_to sheet (length sheet.tracks) + postgaps_to sheet (length sheet.tracks))
 
 -- the greatest of some numbers, or 0
 unfoldable pub greatest : List ℕ → ℕ

@@ -1,15 +1,16 @@
 // The layout of a disc.
-ghost use Rattle.std.specs.Prelude.{◌≡◌, ◌<◌, ◌≤◌, ◌+◌, ◌*◌, length, slice_index_or};
-ghost use Rattle.disc_time.specs.Counts.{most_lead_in, most_program};
+ghost use Rattle.std.specs.Prelude.{◌≡◌, ◌<◌, ◌≤◌, ◌+◌, ◌*◌, length, slice_index_or, IfOk};
+ghost use Rattle.disc_time.specs.Counts.{most_lead_in, most_program, most_tracks};
 ghost use Rattle.q_channel.specs.QFrame.{IsValid, IsValidPoint};
-ghost use Rattle.toc_model.specs.Places.{DiscLayout};
+ghost use Rattle.toc_model.specs.Places.{DiscLayout, audio_need, layout_of, program_blocks};
 ghost use Rattle.toc_model.specs.Layout.{IsLayout, p_bit, program_frame, toc_entries, toc_frame, track_at};
 ghost use Rattle.q_channel.specs.declared.frame.TocPoint.TheVariants.{First};
+ghost use Rattle.toc_model.specs.Answers.{IsBlockCount};
 
 use crate::place::Place;
 use crate::places::{catalogue, gaps, need, places};
 use cue_sheet::Sheet;
-use disc_time::{MOST_PROGRAM, Msf, TIME_COUNT};
+use disc_time::{MOST_PROGRAM, Msf, PAUSE_BLOCKS, TIME_COUNT};
 use q_channel::{QFrame, TocPoint};
 use std::alloc::{AllocError, Global};
 use std::marker::Model;
@@ -33,6 +34,44 @@ impl From<AllocError> for LayoutStop {
     fn from(_error: AllocError) -> LayoutStop {
         LayoutStop::NoMemory
     }
+}
+
+/// The number of program blocks of a sheet whose audio file has so many blocks, or why it has no layout. This is told
+/// without memory.
+///
+/// # Errors
+///
+/// Those of `Layout::from_cue`, in their order, but `NoMemory`.
+pub fn count_blocks(sheet: &Sheet, length: u32) -> Result<u32, LayoutStop>
+    requires { length ≤ most_program }
+    ensures { IsBlockCount sheet.now length result }
+{
+    let need = need(sheet);
+    if need > length {
+        return Err(LayoutStop::LengthShort { need });
+    }
+    let blocks = PAUSE_BLOCKS + length + gaps(sheet);
+    if blocks > MOST_PROGRAM {
+        return Err(LayoutStop::DiscTooLong { blocks });
+    }
+    Ok(blocks)
+}
+
+/// The number of lead-in blocks in which each entry of the table of contents of a sheet stands three times.
+pub fn toc_need(sheet: &Sheet) -> u32
+    ensures { result ≡ 3 * (length sheet.now.tracks + 3) }
+{
+    // A law, since there are at most 99 tracks.
+    sheet.tracks_are_in_order();
+    entries_thrice(sheet.tracks())
+}
+
+// Three times the entries of so many tracks: one for each, for the first, for the last and for the lead-out.
+fn entries_thrice(tracks: usize) -> u32
+    requires { tracks ≤ most_tracks }
+    ensures { result ≡ 3 * (tracks + 3) }
+{
+    3 * (tracks as u32 + 3)
 }
 
 /// Where the tracks of a sheet lie on a disc.
@@ -68,18 +107,22 @@ impl Layout {
         requires { length ≤ most_program }
         ensures { IsLayoutAnswer sheet.now length result }
     {
-        let need = need(sheet);
-        if need > length {
-            return Err(LayoutStop::LengthShort { need });
-        }
-        let blocks = 150 + length + gaps(sheet);
-        if blocks > MOST_PROGRAM {
-            return Err(LayoutStop::DiscTooLong { blocks });
-        }
+        count_blocks(sheet, length)?;
+        Ok(Layout::of_sheet(alloc, sheet, length)?)
+    }
+
+    /// The layout of a sheet and an audio of so many blocks, which have one.
+    pub fn of_sheet(alloc: Global, sheet: &Sheet, length: u32) -> Result<Layout, AllocError>
+        requires need { audio_need sheet.now ≤ length }
+        requires fits { program_blocks sheet.now length ≤ most_program }
+        ensures { IfOk result (λ layout. layout ≡ layout_of sheet.now length) }
+    {
+        // A law, since a layout is in order where its sheet is.
+        sheet.tracks_are_in_order();
         Ok(Layout {
             catalogue: catalogue(sheet),
             tracks: places(alloc, sheet)?,
-            blocks,
+            blocks: PAUSE_BLOCKS + length + gaps(sheet),
         })
     }
 
@@ -127,11 +170,12 @@ impl Layout {
         }
     }
 
-    /// The number of lead-in blocks in which each entry of the table of contents stands three times.
+    /// The number of lead-in blocks in which each entry of the table of contents stands three times. It is for callers
+    /// of the library; `toc_need` tells it of a sheet, without a layout.
     pub fn toc_blocks(&self) -> u32
         ensures { result ≡ 3 * (length self.now.tracks + 3) }
     {
-        3 * (self.tracks.len() as u32 + 3)
+        entries_thrice(self.tracks.len())
     }
 
     /// The frame of lead-in block `l` of `n`. The lead-in ends at 00:00:00.

@@ -5,4 +5,4 @@ mod layout;
 mod place;
 mod places;
 
-pub use layout::{Layout, LayoutStop};
+pub use layout::{Layout, LayoutStop, count_blocks, toc_need};

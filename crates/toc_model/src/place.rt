@@ -8,7 +8,7 @@ ghost use Rattle.cue_sheet.specs.CueSheet.{is_catalogue_number};
 ghost use Rattle.q_channel.specs.declared.frame.TocPoint.TheVariants.{Track};
 ghost use Rattle.q_channel.specs.QFrame.{IsValid, IsValidPoint};
 
-use disc_time::Msf;
+use disc_time::{Msf, PAUSE_BLOCKS};
 use q_channel::{QFrame, TocPoint};
 use std::marker::Model;
 
@@ -93,7 +93,7 @@ impl Place {
         ensures { result ≡ is_paused_for block self.now }
     {
         let music = self.music_begin();
-        let pause = (music - self.begin).max(150);
+        let pause = (music - self.begin).max(PAUSE_BLOCKS);
         music - pause <= block && block < music
     }
 

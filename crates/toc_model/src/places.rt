@@ -7,6 +7,7 @@ ghost use Rattle.toc_model.specs.Places.{audio_need, pregaps_to, postgaps_to, pl
 
 use crate::place::Place;
 use cue_sheet::Sheet;
+use disc_time::PAUSE_BLOCKS;
 use std::alloc::{AllocError, Global};
 
 /// The length of the audio that the index lines need, in blocks.
@@ -79,9 +80,9 @@ fn begin(sheet: &Sheet, k: usize, gaps: u32) -> u32
     if k == 0 {
         return 0;
     }
-    // What holds of every sheet: a track has an index line.
-    let _tracks = sheet.tracks();
-    150 + gaps + sheet.index(k, 0).1
+    // A law, since a track has an index line.
+    sheet.tracks_are_in_order();
+    PAUSE_BLOCKS + gaps + sheet.index(k, 0).1
 }
 
 // The place of track k, before which there are so many blocks of gaps.
@@ -92,14 +93,14 @@ fn place(alloc: Global, sheet: &Sheet, k: usize, gaps: u32) -> Result<Place, All
     requires small { gaps ≤ most_program }
     ensures { IfOk result (λ p. p ≡ place_of sheet.now k) }
 {
-    // What holds of every sheet: its tracks are in order, and their numbers at most 99.
-    let _tracks = sheet.tracks();
+    // A law, since the numbers of tracks follow one another and are at most 99.
+    sheet.tracks_are_in_order();
     Ok(Place {
         number: sheet.first() + k as u8,
         control: sheet.control(k),
         isrc: isrc(sheet, k),
         begin: begin(sheet, k, gaps),
-        lines: lines(alloc, sheet, k, 150 + gaps + sheet.pregap(k))?,
+        lines: lines(alloc, sheet, k, PAUSE_BLOCKS + gaps + sheet.pregap(k))?,
     })
 }
 

@@ -1,4 +1,4 @@
-use Rattle.std.proofs.Common.{ℕ, arith}
+use Rattle.std.proofs.Common.{ℕ}
 use Rattle.std.proofs.lemmas.List.{get_or-replicate}
 use Rattle.cdg_screen.proofs.Grids.{colour-below}
 use Rattle.cdg_screen.proofs.rows.fill_row.Goals as goal

@@ -5,6 +5,6 @@ use Rattle.live_player.proofs.looking.colours.Given as goal
 abbrev pub invariant-loop-k : goal.invariant-loop-k
 invariant-loop-k l = record {
   size : length l.table ≡ 16;
-  shown : (n : ℕ) → n < l.k → slice_index l.table n ≡ slice_index l.picture.colours n;
+  shown : (n : ℕ) → n < l.k → slice_index l.table n ≡ slice_index l.screen.colours n;
   range : (n : ℕ) → n < l.k → slice_index l.table n < 4096;
 }

@@ -2,7 +2,7 @@ use Rattle.std.proofs.Common.{◌≡◌, [], ◌∷◌, List, ℕ, map, ◌%◌,
 use Rattle.cdg_instructions.specs.Instruction.{Means}
 use Rattle.cdg_instructions.specs.declared.instr.Instr.{Instr}
 use Rattle.cdg_instructions.proofs.Meaning.{only_meaning}
-use Rattle.cdg_screen.specs.Picture.{standing_after}
+use Rattle.cdg_screen.specs.Standing.{standing_after}
 use Rattle.live_player.specs.Lives.{instruction_of}
 use Rattle.live_player.proofs.looking.draw.Goals as goal
 
@@ -11,4 +11,4 @@ unfolding instruction_of
 returns c =
     let read : c.read_word.result ≡ instruction_of c.args.pack.now =
     only_meaning (map (λ byte. byte % 64) c.args.pack.now) c.read_word.result (subst (λ (word : List ℕ). Means word c.read_word.result) c.new.ensures c.read_word.ensures.meaning) in
-    rw (← c.picture.view_is) (c.obey.ensures ∙ ap (λ (i : Instr). standing_after c.picture.inside.screen (i ∷ [])) read)
+    c.obey.ensures ∙ ap (λ (i : Instr). standing_after c.args.screen.now (i ∷ [])) read

@@ -5,6 +5,6 @@ use Rattle.live_player.proofs.looking.levels.Given as goal
 abbrev pub invariant-loop-k : goal.invariant-loop-k
 invariant-loop-k l = record {
   size : length l.levels ≡ 16;
-  shown : (n : ℕ) → n < l.k → slice_index l.levels n ≡ slice_index l.picture.levels n;
+  shown : (n : ℕ) → n < l.k → slice_index l.levels n ≡ slice_index l.screen.levels n;
   range : (n : ℕ) → n < l.k → slice_index l.levels n < 64;
 }

@@ -1,11 +1,11 @@
 use Rattle.std.proofs.Common.{get_or}
 use Rattle.pack_schedule.specs.Plans.{no_row}
-use Rattle.pack_schedule.proofs.PlanLaws.{first_is_late, row_in_time}
+use Rattle.pack_schedule.proofs.PlanLaws.{first_is_late, row_is_ready}
 use Rattle.pack_schedule.proofs.laws.plans_tell_what_a_survey_tells.Goals as goal
 
 pub returns-clause-first : goal.returns-clause-first
-returns-clause-first c script rows k are lt first = first_is_late c.needs_are_fewest.ensures.one script rows k are lt first
+returns-clause-first c script rows k are lt first = first_is_late script rows k are lt first
 
 pub returns-clause-none : goal.returns-clause-none
-returns-clause-none c script rows are prompt k need lt h =
-    row_in_time c.needs_are_fewest.ensures.one script k need (get_or rows k no_row) (are.each k lt) (prompt k lt) h
+returns-clause-none c script rows are prompt k lt =
+    row_is_ready script k (get_or rows k no_row) (are.each k lt) (prompt k lt)

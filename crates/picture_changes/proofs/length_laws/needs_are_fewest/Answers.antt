@@ -17,5 +17,5 @@ returns-clause-one c = one_need
 pub returns-clause-late : goal.returns-clause-late
 returns-clause-late c script k need free order ranges small late = record {
   fewest = late.need_is;
-  more = late_needs_more script k need free (λ j lt. (length (planned_change script j), (planned_change script j, returns-clause-change c script j ranges small, refl))) order late;
+  more = late_needs_more script k need free order late;
 }

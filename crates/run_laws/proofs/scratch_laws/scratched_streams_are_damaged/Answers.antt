@@ -12,7 +12,7 @@ pub returns-clause-packs : goal.returns-clause-packs
 returns-clause-packs c = all_are
 
 pub returns-clause-scheduled : goal.returns-clause-scheduled
-returns-clause-scheduled c sheet script lead_in audio seed bytes packs lead_in_few blocks_few order ranges is =
+returns-clause-scheduled c sheet script lead_in audio seed bytes packs lead_in_few blocks_few order is =
     let s = c.scratched_streams_are_recovered.ensures in
     let known : ScratchesAreKnown lead_in seed bytes = record { size = s.size lead_in seed bytes; damaged = s.damaged sheet script lead_in audio seed bytes packs is } in
     record {
@@ -21,5 +21,4 @@ returns-clause-scheduled c sheet script lead_in audio seed bytes packs lead_in_f
       stream = is_damaged sheet script lead_in audio seed bytes packs known lead_in_few blocks_few is;
       schedule = is.schedule;
       order = order;
-      ranges = ranges;
     }

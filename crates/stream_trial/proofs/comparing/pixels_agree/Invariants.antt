@@ -1,5 +1,5 @@
 use Rattle.std.proofs.Common.{◌≡◌, ◌<◌, ◌≤◌, ℕ}
-use Rattle.cdg_screen.specs.Picture.{screen_pixel}
+use Rattle.cdg_screen.specs.Standing.{screen_pixel}
 use Rattle.stream_trial.specs.Replay.{wanted_pixel}
 use Rattle.stream_trial.proofs.comparing.pixels_agree.Given as goal
 

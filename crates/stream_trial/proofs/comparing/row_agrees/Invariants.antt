@@ -1,6 +1,6 @@
 use Rattle.std.proofs.Common.{◌≡◌, ◌<◌, ◌≤◌, ◌↔◌, ℕ}
 use Rattle.std.specs.Prelude.{IsTrue}
-use Rattle.cdg_screen.specs.Picture.{screen_pixel}
+use Rattle.cdg_screen.specs.Standing.{screen_pixel}
 use Rattle.stream_trial.specs.Replay.{wanted_pixel}
 use Rattle.stream_trial.proofs.comparing.row_agrees.Given as goal
 

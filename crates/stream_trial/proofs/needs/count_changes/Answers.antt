@@ -5,13 +5,13 @@ use Rattle.bit_lists.specs.Counting.{below}
 use Rattle.picture_script.specs.Script.{Drawing, pictures}
 use Rattle.picture_changes.specs.PlannedChange.{planned_change}
 use Rattle.pack_schedule.specs.Survey.{IsSurvey, nothing_planned}
-use Rattle.pack_schedule.specs.declared.planned.Planned.{Planned}
+use Rattle.pack_schedule.specs.declared.surveys.told.PlannedChange.{PlannedChange}
 use Rattle.stream_trial.specs.Trial.{all_changes}
 use Rattle.stream_trial.proofs.Plays.{below_more}
 use Rattle.stream_trial.proofs.needs.count_changes.Goals as goal
 
 -- the change of one picture more
-one_need : (script : List Drawing) (planned : List Planned) (k sum need : ℕ) → IsSurvey script planned
+one_need : (script : List Drawing) (planned : List PlannedChange) (k sum need : ℕ) → IsSurvey script planned
     → k < pictures script → sum ≡ sum_by (λ k. length (planned_change script k)) (below k)
     → need ≡ (slice_index_or planned k nothing_planned).need
     → sum + need ≡ sum_by (λ k. length (planned_change script k)) (below (k + 1))

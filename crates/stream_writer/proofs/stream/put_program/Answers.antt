@@ -1,4 +1,5 @@
-use Rattle.std.proofs.Common.{◌*◌, ◌+◌, refl, ◌∙◌, arith}
+use Rattle.std.proofs.Common.{◌≡◌, ◌*◌, ◌+◌, refl, subst, ◌∙◌, arith}
+use Rattle.stream_writer.specs.Given.{ComesLater}
 use Rattle.stream_writer.proofs.Pieces.{on_err}
 use Rattle.stream_writer.proofs.Slots.{none_later, later_more}
 use Rattle.stream_writer.proofs.Quiet.{start_quiet}
@@ -21,7 +22,8 @@ returns-in_err-put_all-clause-part g c =
     (part_more layout (g.P.PackSource.comes c.args.source.now) (g.P.PackSource.comes c.loop-b.source) c.loop-b.b (g.K.Sink.held c.args.out.now) (g.K.Sink.held c.loop-b.out) _
     c.loop-b.spread c.next_symbols.new.spread c.next_symbols.new.symbols c.program_block-block.result so_far.done (omega (arith, c.blocks-blocks.ensures.blocks)) so_far.later
     c.next_symbols.ensures.symbols
-    c.program_block-block.ensures.bytes c.in_err-put_all.ensures.part)
+    c.program_block-block.ensures.bytes c.in_err-put_all.ensures.part
+    (g.P.PackSource.comes c.next_symbols.new.source) c.next_symbols.ensures.later)
 
 pub loop-b-preserved : goal.loop-b-preserved
 loop-b-preserved g c =
@@ -40,3 +42,9 @@ loop-b-preserved g c =
 
 pub returns-clause-ok : goal.returns-clause-ok
 returns-clause-ok g c = all_done _ _ c.loop-b.b _ _ _ _ c.loop-b.invariant.done (omega (arith, c.blocks-blocks.ensures.blocks))
+
+pub returns-clause-taken : goal.returns-clause-taken
+returns-clause-taken g c =
+    let all : 4 * c.loop-b.b ≡ 4 * c.args.layout.now.blocks = omega (arith, c.blocks-blocks.ensures.blocks) in
+    subst (λ n. ComesLater (g.P.PackSource.comes c.args.source.now) n (g.P.PackSource.comes c.loop-b.source)) all
+    c.loop-b.invariant.later

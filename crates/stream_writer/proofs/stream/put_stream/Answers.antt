@@ -8,7 +8,7 @@ returns-in_err-put_lead_in-clause-part g c = on_err c.from_residual.result _ (pa
 pub returns-in_err-put_program-clause-part : goal.returns-in_err-put_program-clause-part
 returns-in_err-put_program-clause-part g c =
     on_err c.from_residual-in_err-put_program.result _
-    (part_of_program _ _ _ _ _ _ _ c.in_ok-put_lead_in.ensures.ok c.in_err-put_program.ensures.part)
+    (part_of_program _ _ _ _ _ _ _ _ c.in_ok-put_lead_in.ensures.ok c.in_err-put_program.ensures.part)
 
 pub returns-clause-ok : goal.returns-clause-ok
 returns-clause-ok g c = stream_put _ _ _ _ _ _ _ c.in_ok-put_lead_in.ensures.ok c.in_ok-put_lead_in.ensures.built c.in_ok-put_program.ensures.ok

@@ -14,7 +14,7 @@ same : (c : In_ok-lines)
 same c =
     let sheet = c.args.sheet.now in
     let k = c.args.k in
-    let number : c.first.result + c.args.k ≡ (track_of c.args.sheet.now c.args.k).number = omega (arith, c.first.ensures.number, c.tracks-tracks.ensures.sheet.next k c.requires.track) in
+    let number : c.first.result + c.args.k ≡ (track_of c.args.sheet.now c.args.k).number = omega (arith, c.first.ensures.number, c.tracks_are_in_order.ensures.next k c.requires.track) in
     let before : 150 + c.args.gaps + c.pregap.result ≡ blocks_before c.args.sheet.now c.args.k = omega (arith, pregaps_to-more sheet k c.requires.track, c.requires.gaps, c.pregap.ensures.gap) in
     same_place sheet k _ c.control.result c.isrc.result c.begin.result c.in_ok-lines.field-0.items
     number c.control.ensures.control c.isrc.ensures c.begin.ensures
@@ -24,4 +24,4 @@ pub returns : goal.returns
 returns c = same c
 
 pub invariant_of-result : goal.invariant_of-result
-invariant_of-result c = subst IsPlace (sym (same c)) (IsPlace-of c.args.sheet.now c.args.k c.tracks-tracks.ensures.sheet c.requires.track c.requires.fits)
+invariant_of-result c = subst IsPlace (sym (same c)) (IsPlace-of c.args.sheet.now c.args.k c.tracks_are_in_order.ensures c.requires.track c.requires.fits)

@@ -1,5 +1,5 @@
 use Rattle.std.specs.Prelude.{◌≡◌, ◌<◌, ◌-◌, ◌&&◌, if◌then◌else◌, ℕ}
-use Rattle.cdg_screen.specs.Picture.{is_inside, source_x, source_y}
+use Rattle.cdg_screen.specs.Standing.{is_inside, source_x, source_y}
 use Rattle.cdg_screen.specs.Memory.{at}
 use Rattle.cdg_screen.proofs.memory.Memory.keeps_row_in.Given as goal
 

@@ -1,5 +1,5 @@
 use Rattle.std.specs.Prelude.{◌≡◌, ◌<◌, ◌%◌, ℕ}
-use Rattle.cdg_screen.specs.Picture.{source_x}
+use Rattle.cdg_screen.specs.Standing.{source_x}
 use Rattle.cdg_screen.specs.Memory.{at}
 use Rattle.cdg_screen.proofs.memory.Memory.keeps_row_round.Given as goal
 

@@ -1,5 +1,5 @@
 use Rattle.std.proofs.Common.{sym, ◌∙◌, ap}
-use Rattle.cdg_screen.specs.Picture.{Standing, pixel_at}
+use Rattle.cdg_screen.specs.Standing.{Standing, pixel_at}
 use Rattle.cdg_screen.specs.Memory.{at}
 use Rattle.cdg_screen.proofs.Lists.{pixel_of_rows}
 use Rattle.cdg_screen.proofs.screen.Screen.memory.Goals as goal

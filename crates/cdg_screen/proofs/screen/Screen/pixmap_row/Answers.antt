@@ -1,6 +1,6 @@
 use Rattle.std.proofs.Common.{◌≡◌, ℕ, arith, sym, ap, slice_index, ◌∙◌, flat_map}
 use Rattle.bit_lists.specs.Counting.{below}
-use Rattle.cdg_screen.specs.Picture.{screen_pixel}
+use Rattle.cdg_screen.specs.Standing.{screen_pixel}
 use Rattle.cdg_screen.specs.Texts.{pixmap_row, colour_bytes}
 use Rattle.cdg_screen.proofs.Pieces.{three_more}
 use Rattle.cdg_screen.proofs.screen.Screen.pixmap_row.Goals as goal

@@ -1,7 +1,7 @@
 use Rattle.std.specs.Prelude.{◌≡◌, ◌*◌, flat_map, slice_index}
 use Rattle.arrayvec.specs.ArrayVec.{array_vec_len}
 use Rattle.bit_lists.specs.Counting.{below}
-use Rattle.cdg_screen.specs.Picture.{screen_pixel}
+use Rattle.cdg_screen.specs.Standing.{screen_pixel}
 use Rattle.cdg_screen.specs.Texts.{colour_bytes}
 use Rattle.cdg_screen.proofs.screen.Screen.pixmap_row.Given as goal
 

@@ -1,75 +1,62 @@
-use Rattle.std.proofs.Common.{◌≡◌, ℕ, List, refl, sym, ap, ◌∙◌, arith}
+use Rattle.std.proofs.Common.{◌≡◌, ℕ, List, true, refl, sym, ap, ◌∙◌, arith}
 use Rattle.std.specs.Prelude.{IsTrue, slice_index, ◌==◌}
 use Rattle.std.proofs.lemmas.Bool.Decides.{nat_tests}
-use Rattle.cdg_instructions.specs.declared.instr.Instr.TheVariants.{MemoryPreset, BorderPreset, SetTile, XorTile, ScrollPreset, ScrollCopy, Transparency, ColoursLow, ColoursHigh}
-use Rattle.cdg_screen.specs.Picture.{Standing}
-use Rattle.cdg_screen.proofs.Obeyed.{Kept, idle_stays, stays_as, low_kept, low_back, high_kept, high_back}
+use Rattle.cdg_instructions.specs.declared.effect.Effect.TheVariants.{Nothing, Clear, Border, Draw, Scroll, Levels, Colours}
+use Rattle.cdg_screen.specs.Standing.{Standing}
+use Rattle.cdg_screen.proofs.Effects.{first_most}
+use Rattle.cdg_screen.proofs.Obeyed.{Kept, stays_by, colours_kept, colours_back}
 use Rattle.cdg_screen.proofs.screen.Screen.stays_at.Goals as goal
 
-pub returns-in-Idle : goal.returns-in-Idle
-returns-in-Idle c =
+pub returns-in-Nothing : goal.returns-in-Nothing
+returns-in-Nothing c =
     let kept : Kept = record { memory = c.self.inside.memory; border = c.self.inside.border; colours = c.self.inside.colours; levels = c.self.inside.levels; h = c.self.inside.h; v = c.self.inside.v } in
-    idle_stays c.args.self.now c.args.instr.now kept c.self.view_is c.self.invariant.colours_count c.self.invariant.levels_count c.in-Idle.is
+    stays_by (IsTrue true) c.args.self.now c.args.instr.now (Nothing) kept c.self.view_is (sym c.effect.ensures.effect ∙ c.in-Nothing.is)
+    c.self.invariant.colours_count c.self.invariant.levels_count
+    ((λ holds. record { memory = λ x y _ _. refl; border = refl; colours = λ k _. refl; levels = λ k _. refl; h = refl; v = refl }), λ obeys. refl)
 
-pub returns-in-MemoryPreset : goal.returns-in-MemoryPreset
-returns-in-MemoryPreset c =
+pub returns-in-Clear : goal.returns-in-Clear
+returns-in-Clear c =
     let kept : Kept = record { memory = c.self.inside.memory; border = c.self.inside.border; colours = c.self.inside.colours; levels = c.self.inside.levels; h = c.self.inside.h; v = c.self.inside.v } in
-    stays_as (IsTrue c.is_filled.result) c.args.self.now c.args.instr.now (MemoryPreset c.in-MemoryPreset.colour c.in-MemoryPreset.repeat) kept c.self.view_is c.in-MemoryPreset.is c.self.invariant.colours_count c.self.invariant.levels_count
+    stays_by (IsTrue c.is_filled.result) c.args.self.now c.args.instr.now (Clear c.in-Clear.colour) kept c.self.view_is (sym c.effect.ensures.effect ∙ c.in-Clear.is)
+    c.self.invariant.colours_count c.self.invariant.levels_count
     ((λ holds. record { memory = c.is_filled.ensures.0 holds; border = refl; colours = λ k _. refl; levels = λ k _. refl; h = refl; v = refl }), λ obeys. c.is_filled.ensures.1 obeys.memory)
 
-pub returns-in-BorderPreset : goal.returns-in-BorderPreset
-returns-in-BorderPreset c =
+pub returns-in-Border : goal.returns-in-Border
+returns-in-Border c =
     let kept : Kept = record { memory = c.self.inside.memory; border = c.self.inside.border; colours = c.self.inside.colours; levels = c.self.inside.levels; h = c.self.inside.h; v = c.self.inside.v } in
-    stays_as (IsTrue (c.self.inside.border == c.in-BorderPreset.colour)) c.args.self.now c.args.instr.now (BorderPreset c.in-BorderPreset.colour) kept c.self.view_is c.in-BorderPreset.is c.self.invariant.colours_count c.self.invariant.levels_count
+    stays_by (IsTrue (c.self.inside.border == c.in-Border.colour)) c.args.self.now c.args.instr.now (Border c.in-Border.colour) kept c.self.view_is (sym c.effect.ensures.effect ∙ c.in-Border.is)
+    c.self.invariant.colours_count c.self.invariant.levels_count
     ((λ holds. record { memory = λ x y _ _. refl; border = grind (arith, nat_tests); colours = λ k _. refl; levels = λ k _. refl; h = refl; v = refl }), λ obeys. let e = obeys.border in grind (arith, nat_tests))
 
-pub returns-in-SetTile : goal.returns-in-SetTile
-returns-in-SetTile c =
+pub returns-in-Draw : goal.returns-in-Draw
+returns-in-Draw c =
     let kept : Kept = record { memory = c.self.inside.memory; border = c.self.inside.border; colours = c.self.inside.colours; levels = c.self.inside.levels; h = c.self.inside.h; v = c.self.inside.v } in
-    stays_as (IsTrue c.keeps_tile.result) c.args.self.now c.args.instr.now (SetTile c.in-SetTile.colour0 c.in-SetTile.colour1 c.in-SetTile.row c.in-SetTile.column c.in-SetTile.lines) kept c.self.view_is c.in-SetTile.is c.self.invariant.colours_count c.self.invariant.levels_count
+    stays_by (IsTrue c.keeps_tile.result) c.args.self.now c.args.instr.now (Draw c.in-Draw.tile) kept c.self.view_is (sym c.effect.ensures.effect ∙ c.in-Draw.is)
+    c.self.invariant.colours_count c.self.invariant.levels_count
     ((λ holds. record { memory = c.keeps_tile.ensures.0 holds; border = refl; colours = λ k _. refl; levels = λ k _. refl; h = refl; v = refl }), λ obeys. c.keeps_tile.ensures.1 obeys.memory)
-
-pub returns-in-XorTile : goal.returns-in-XorTile
-returns-in-XorTile c =
-    let kept : Kept = record { memory = c.self.inside.memory; border = c.self.inside.border; colours = c.self.inside.colours; levels = c.self.inside.levels; h = c.self.inside.h; v = c.self.inside.v } in
-    stays_as (IsTrue c.keeps_tile-in-XorTile.result) c.args.self.now c.args.instr.now (XorTile c.in-XorTile.colour0 c.in-XorTile.colour1 c.in-XorTile.row c.in-XorTile.column c.in-XorTile.lines) kept c.self.view_is c.in-XorTile.is c.self.invariant.colours_count c.self.invariant.levels_count
-    ((λ holds. record { memory = c.keeps_tile-in-XorTile.ensures.0 holds; border = refl; colours = λ k _. refl; levels = λ k _. refl; h = refl; v = refl }), λ obeys. c.keeps_tile-in-XorTile.ensures.1 obeys.memory)
 
 pub returns-then-has_offsets : goal.returns-then-has_offsets
 returns-then-has_offsets c =
     let kept : Kept = record { memory = c.self.inside.memory; border = c.self.inside.border; colours = c.self.inside.colours; levels = c.self.inside.levels; h = c.self.inside.h; v = c.self.inside.v } in
     let same = c.has_offsets.ensures.0 c.if-has_offsets.true in
-    let h : c.self.inside.h ≡ c.in-ScrollPreset.h = ap (λ (now : Standing). now.h) c.self.view_is ∙ same.0 in
-    let v : c.self.inside.v ≡ c.in-ScrollPreset.v = ap (λ (now : Standing). now.v) c.self.view_is ∙ same.1 in
-    stays_as (IsTrue c.keeps_scrolled_in.result) c.args.self.now c.args.instr.now (ScrollPreset c.in-ScrollPreset.colour c.in-ScrollPreset.across c.in-ScrollPreset.h c.in-ScrollPreset.down c.in-ScrollPreset.v) kept c.self.view_is c.in-ScrollPreset.is c.self.invariant.colours_count c.self.invariant.levels_count
-    ((λ holds. record { memory = c.keeps_scrolled_in.ensures.0 holds; border = refl; colours = λ k _. refl; levels = λ k _. refl; h = h; v = v }), λ obeys. c.keeps_scrolled_in.ensures.1 obeys.memory)
+    let h : c.self.inside.h ≡ c.in-Scroll.scroll.h = ap (λ (now : Standing). now.h) c.self.view_is ∙ same.0 in
+    let v : c.self.inside.v ≡ c.in-Scroll.scroll.v = ap (λ (now : Standing). now.v) c.self.view_is ∙ same.1 in
+    stays_by (IsTrue c.keeps_scrolled.result) c.args.self.now c.args.instr.now (Scroll c.in-Scroll.scroll) kept c.self.view_is (sym c.effect.ensures.effect ∙ c.in-Scroll.is)
+    c.self.invariant.colours_count c.self.invariant.levels_count
+    ((λ holds. record { memory = c.keeps_scrolled.ensures.0 holds; border = refl; colours = λ k _. refl; levels = λ k _. refl; h = h; v = v }), λ obeys. c.keeps_scrolled.ensures.1 obeys.memory)
 
-pub returns-then-has_offsets-2 : goal.returns-then-has_offsets-2
-returns-then-has_offsets-2 c =
-    let kept : Kept = record { memory = c.self.inside.memory; border = c.self.inside.border; colours = c.self.inside.colours; levels = c.self.inside.levels; h = c.self.inside.h; v = c.self.inside.v } in
-    let same = c.has_offsets-in-ScrollCopy.ensures.0 c.if-has_offsets-2.true in
-    let h : c.self.inside.h ≡ c.in-ScrollCopy.h = ap (λ (now : Standing). now.h) c.self.view_is ∙ same.0 in
-    let v : c.self.inside.v ≡ c.in-ScrollCopy.v = ap (λ (now : Standing). now.v) c.self.view_is ∙ same.1 in
-    stays_as (IsTrue c.keeps_scrolled_round.result) c.args.self.now c.args.instr.now (ScrollCopy c.in-ScrollCopy.colour c.in-ScrollCopy.across c.in-ScrollCopy.h c.in-ScrollCopy.down c.in-ScrollCopy.v) kept c.self.view_is c.in-ScrollCopy.is c.self.invariant.colours_count c.self.invariant.levels_count
-    ((λ holds. record { memory = c.keeps_scrolled_round.ensures.0 holds; border = refl; colours = λ k _. refl; levels = λ k _. refl; h = h; v = v }), λ obeys. c.keeps_scrolled_round.ensures.1 obeys.memory)
-
-pub returns-in-Transparency : goal.returns-in-Transparency
-returns-in-Transparency c =
+pub returns-in-Levels : goal.returns-in-Levels
+returns-in-Levels c =
     let kept : Kept = record { memory = c.self.inside.memory; border = c.self.inside.border; colours = c.self.inside.colours; levels = c.self.inside.levels; h = c.self.inside.h; v = c.self.inside.v } in
     let view : c.self.inside.levels ≡ c.args.self.now.levels = ap (λ (now : Standing). now.levels) c.self.view_is in
-    stays_as (IsTrue c.has_levels.result) c.args.self.now c.args.instr.now (Transparency c.in-Transparency.levels) kept c.self.view_is c.in-Transparency.is c.self.invariant.colours_count c.self.invariant.levels_count
+    stays_by (IsTrue c.has_levels.result) c.args.self.now c.args.instr.now (Levels c.in-Levels.levels) kept c.self.view_is (sym c.effect.ensures.effect ∙ c.in-Levels.is)
+    c.self.invariant.colours_count c.self.invariant.levels_count
     ((λ holds. record { memory = λ x y _ _. refl; border = refl; colours = λ k _. refl; levels = λ k lt. ap (λ (levels : List ℕ). slice_index levels k) view ∙ sym (c.has_levels.ensures.0 holds k lt); h = refl; v = refl }), λ obeys. c.has_levels.ensures.1 (λ k lt. sym (obeys.levels k lt) ∙ ap (λ (levels : List ℕ). slice_index levels k) view))
 
-pub returns-in-ColoursLow : goal.returns-in-ColoursLow
-returns-in-ColoursLow c =
+pub returns-in-Colours : goal.returns-in-Colours
+returns-in-Colours c =
     let kept : Kept = record { memory = c.self.inside.memory; border = c.self.inside.border; colours = c.self.inside.colours; levels = c.self.inside.levels; h = c.self.inside.h; v = c.self.inside.v } in
     let view : c.self.inside.colours ≡ c.args.self.now.colours = ap (λ (now : Standing). now.colours) c.self.view_is in
-    stays_as (IsTrue c.has_colours.result) c.args.self.now c.args.instr.now (ColoursLow c.in-ColoursLow.colours) kept c.self.view_is c.in-ColoursLow.is c.self.invariant.colours_count c.self.invariant.levels_count
-    ((λ holds. record { memory = λ x y _ _. refl; border = refl; colours = low_kept c.in-ColoursLow.colours c.self.inside.colours (rw view (c.has_colours.ensures.0 holds)); levels = λ k _. refl; h = refl; v = refl }), λ obeys. c.has_colours.ensures.1 (rw (← view) (low_back c.in-ColoursLow.colours c.self.inside.colours obeys.colours)))
-
-pub returns-in-ColoursHigh : goal.returns-in-ColoursHigh
-returns-in-ColoursHigh c =
-    let kept : Kept = record { memory = c.self.inside.memory; border = c.self.inside.border; colours = c.self.inside.colours; levels = c.self.inside.levels; h = c.self.inside.h; v = c.self.inside.v } in
-    let view : c.self.inside.colours ≡ c.args.self.now.colours = ap (λ (now : Standing). now.colours) c.self.view_is in
-    stays_as (IsTrue c.has_colours-in-ColoursHigh.result) c.args.self.now c.args.instr.now (ColoursHigh c.in-ColoursHigh.colours) kept c.self.view_is c.in-ColoursHigh.is c.self.invariant.colours_count c.self.invariant.levels_count
-    ((λ holds. record { memory = λ x y _ _. refl; border = refl; colours = high_kept c.in-ColoursHigh.colours c.self.inside.colours (rw view (c.has_colours-in-ColoursHigh.ensures.0 holds)); levels = λ k _. refl; h = refl; v = refl }), λ obeys. c.has_colours-in-ColoursHigh.ensures.1 (rw (← view) (high_back c.in-ColoursHigh.colours c.self.inside.colours obeys.colours)))
+    stays_by (IsTrue c.has_colours.result) c.args.self.now c.args.instr.now (Colours c.in-Colours.first c.in-Colours.colours) kept c.self.view_is (sym c.effect.ensures.effect ∙ c.in-Colours.is)
+    c.self.invariant.colours_count c.self.invariant.levels_count
+    ((λ holds. record { memory = λ x y _ _. refl; border = refl; colours = colours_kept c.in-Colours.first c.in-Colours.colours c.self.inside.colours (rw view (c.has_colours.ensures.0 holds)); levels = λ k _. refl; h = refl; v = refl }), λ obeys. c.has_colours.ensures.1 (rw (← view) (colours_back c.in-Colours.first c.in-Colours.colours c.self.inside.colours (first_most c.effect.result c.in-Colours.first c.in-Colours.colours (c.effect.ensures.range c.requires) c.in-Colours.is) obeys.colours)))

@@ -1,6 +1,4 @@
-use Rattle.std.proofs.Common.{◌≡◌, ◌+◌, ◌<◌, ◌≤◌, ℕ, ◌∙◌, sym, ap, arith}
-use Rattle.cdg_screen.specs.Memory.{at}
-use Rattle.cdg_screen.proofs.Obeyed.{Kept, seen}
+use Rattle.cdg_screen.proofs.Obeyed.{Kept}
 use Rattle.cdg_screen.proofs.WholeRows.{window_row}
 use Rattle.cdg_screen.proofs.screen.Screen.write_row.Goals as goal
 

@@ -1,5 +1,5 @@
 use Rattle.std.proofs.Common.{◌≡◌, [], ◌∷◌, List, ℕ, refl, sym, ap, ap₂, ◌∙◌, ◌++◌}
-use Rattle.cdg_screen.specs.Picture.{Standing}
+use Rattle.cdg_screen.specs.Standing.{Standing}
 use Rattle.bit_lists.specs.Check.{check_of}
 use Rattle.checkpoint_files.specs.Table.{Border, Across, Down, Slots, Memory, Colours, Levels, Mark, ToCome, LeadIn, Program, Bad, body_parts}
 use Rattle.checkpoint_files.specs.Checkpoint.{Checkpoint, kept, part_bytes, with_parts}

@@ -1,6 +1,6 @@
 use Rattle.std.proofs.Common.{List, ℕ, drop, length, sym, subst, take, ap, ◌<◌, ◌∙◌}
 use Rattle.std.specs.Prelude.{All}
-use Rattle.cdg_screen.specs.Picture.{rows_in}
+use Rattle.cdg_screen.specs.Standing.{rows_in}
 use Rattle.checkpoint_files.proofs.Restored.{memory_count, memory_range, memory_rows}
 use Rattle.checkpoint_files.proofs.file.CheckpointFile.pixels.Goals as goal
 

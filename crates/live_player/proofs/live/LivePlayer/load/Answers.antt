@@ -1,4 +1,4 @@
-use Rattle.std.proofs.Common.{◌+◌, arith}
+use Rattle.std.proofs.Common.{arith}
 use Rattle.live_player.proofs.live.LivePlayer.load.Goals as goal
 
 pub overflow_add-lead_in : goal.overflow_add-lead_in

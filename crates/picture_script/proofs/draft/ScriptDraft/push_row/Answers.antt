@@ -7,5 +7,5 @@ push_line-requires-clause-sound c = more-sound c.args.self.now c.push_pixels.new
 
 pub returns-clause-ok : goal.returns-clause-ok
 returns-clause-ok c =
-    let start : c.len-first.result ≡ length c.args.self.now.pixels.items = omega (arith, c.len-first.ensures) in
-    row-added c.args.self.now _ c.push_line.new.self c.args.x c.args.y c.len-first.result _ c.args.digits.now c.requires.sound refl c.in_ok-push_pixels.ensures.ok start refl c.in_ok-push_line.ensures.ok
+    let start : c.in-Ok.first ≡ length c.args.self.now.pixels.items = omega (arith, c.len.ensures) in
+    row-added c.args.self.now _ c.push_line.new.self c.args.x c.args.y c.in-Ok.first _ c.args.digits.now c.requires.sound refl c.in_ok-push_pixels.ensures.ok start refl c.in_ok-push_line.ensures.ok

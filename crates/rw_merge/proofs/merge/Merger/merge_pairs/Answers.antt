@@ -79,8 +79,8 @@ returns-in-Err-put_all-clause-merges g c =
     let (xs, ys, works) = c.loop-block.invariant.works in
     let (us, vs, first, second, read, whole) = rw c.in-Ok-true.field-0-test at c.in-Ok-true.ensures.pair in
     let (u_is, v_is) = whole refl in
-    let pair = pair_found c.loop-block.self.first c.loop-block.self.second c.next_pair.new.one c.next_pair.new.other us vs _ _ c.merge-packs.new.self.first c.merge-packs.new.self.second c.merge-packs.result.bytes c.bytes.result.now c.merge-packs.result.bad u_is v_is refl refl c.bytes.ensures.bytes
-    c.merge-packs.ensures.first c.merge-packs.ensures.second c.merge-packs.ensures.packs in
+    let pair = pair_found c.loop-block.self.first c.loop-block.self.second c.next_pair.new.one c.next_pair.new.other us vs _ _ c.merge.new.self.first c.merge.new.self.second c.merge.new.packs.bytes c.bytes.result.now c.merge.new.packs.bad u_is v_is refl refl c.bytes.ensures.bytes
+    c.merge.ensures.first c.merge.ensures.second c.merge.ensures.packs in
     write_stops c.args.lead_in c.loop-block.block _ _ _ _ _ _ _ _ _ _ _ _ _ _ _ xs ys us vs _ works first second read.0 read.1 c.if-block-lead_in.true c.loop-block-test.true pair c.in-Err-put_all.ensures.part
 
 pub loop-block-preserved : goal.loop-block-preserved
@@ -95,12 +95,12 @@ loop-block-preserved g c =
       | then-block-lead_in+in-Ok w ↦
           let first_is = ap (λ s. s.first) w.self-is in
           let second_is = ap (λ s. s.second) w.self-is in
-          let pair = pair_found c.loop-block.self.first c.loop-block.self.second c.next_pair.new.one c.next_pair.new.other us vs _ _ c.if-block-lead_in.self.first c.if-block-lead_in.self.second w.merge-packs.result.bytes w.bytes.result.now w.merge-packs.result.bad u_is v_is first_is second_is w.bytes.ensures.bytes
-          w.merge-packs.ensures.first w.merge-packs.ensures.second w.merge-packs.ensures.packs in
+          let pair = pair_found c.loop-block.self.first c.loop-block.self.second c.next_pair.new.one c.next_pair.new.other us vs _ _ c.if-block-lead_in.self.first c.if-block-lead_in.self.second w.merge.new.packs.bytes w.bytes.result.now w.merge.new.packs.bad u_is v_is first_is second_is w.bytes.ensures.bytes
+          w.merge.ensures.first w.merge.ensures.second w.merge.ensures.packs in
           let held = ap g.K.Sink.held w.out-is in
           let put = subst (λ h. Appends (g.K.Sink.held c.loop-block.out) h w.bytes.result.now) (sym held) w.in-Ok.ensures.ok in
           record {
-            same = ap length first_is ∙ w.merge-packs.ensures.same ∙ sym (ap length second_is);
+            same = ap length first_is ∙ w.merge.ensures.same ∙ sym (ap length second_is);
             works = (xs ++ us, ys ++ vs, works_more c.args.lead_in c.loop-block.block _ _ _ _ _ _ _ _ _ _ _ _ _ _ _ xs ys us vs _ works first second read.0 read.1 w.if-block-lead_in.true pair put c.if-block-lead_in.bad w.bad-is);
             no_first_fault = c.in-Ok-true.ensures.faults.0 ∙ before.no_first_fault;
             no_second_fault = c.in-Ok-true.ensures.faults.1 ∙ before.no_second_fault;
@@ -204,8 +204,8 @@ returns-in-Err-put_all-clause-ends g c =
 pub returns-in-Err-put_all-clause-answer : goal.returns-in-Err-put_all-clause-answer
 returns-in-Err-put_all-clause-answer g c = write_answer c.args.lead_in _ _
 
-pub merge-packs-requires : goal.merge-packs-requires
-merge-packs-requires g c = c.loop-block.invariant.same
+pub merge-requires : goal.merge-requires
+merge-requires g c = c.loop-block.invariant.same
 
 pub returns-in-Ok-false-clause-rooms : goal.returns-in-Ok-false-clause-rooms
 returns-in-Ok-false-clause-rooms g c =

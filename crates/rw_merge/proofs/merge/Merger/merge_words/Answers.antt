@@ -4,8 +4,8 @@ use Rattle.rw_merge.proofs.Slots.{length-slots}
 use Rattle.rw_merge.proofs.Words.{length-window, length-words, window_is, words_is}
 use Rattle.rw_merge.proofs.merge.Merger.merge_words.Goals as goal
 
-pub agreed-requires-clause-same : goal.agreed-requires-clause-same
-agreed-requires-clause-same c =
+pub set_agreed-requires-clause-same : goal.set_agreed-requires-clause-same
+set_agreed-requires-clause-same c =
     let w = c.args.self.now.first in
     let v = c.args.self.now.second in
     let first = words_is c.self.inside.first w _ c.args.first.now c.told-first (ap (λ m. m.first) c.self.view_is) c.push_block-one.ensures.gives in
@@ -36,7 +36,7 @@ returns-clause-packs c =
     let v = c.args.self.now.second in
     let first = words_is c.self.inside.first w _ c.args.first.now c.told-first (ap (λ m. m.first) c.self.view_is) c.push_block-one.ensures.gives in
     let second = words_is c.self.inside.second v _ c.args.second.now c.told-second (ap (λ m. m.second) c.self.view_is) c.push_block-other.ensures.gives in
-    let (found, all, text_is, bad_is, few) = c.agreed.ensures in (
+    let (found, all, text_is, bad_is, few) = c.set_agreed.ensures in (
       found,
       subst₂ (λ (xs ys : List (List ℕ)). AreAgreements xs ys found) (c.as_slice.ensures.value ∙ first) (c.as_slice-2.ensures.value ∙ second) all,
       text_is,

@@ -8,17 +8,17 @@ use Rattle.stream_calls.proofs.screen.Viewer.screen_at.Goals as goal
 pub returns-in-Ok-write_ppm-clause-shows : goal.returns-in-Ok-write_ppm-clause-shows
 returns-in-Ok-write_ppm-clause-shows g c =
     let (taken, v) = c.in-Ok.ensures.views in
-    (taken, shows_done c.args.form c.args.lead_in c.args.at _ _ taken pixmap (painting_of c.view.new.self.views.blocks).picture _ _ _ v c.in-Ok-write_ppm.ensures.ok)
+    (taken, shows_done c.args.form c.args.lead_in c.args.at _ _ taken pixmap (painting_of c.view.new.self.views.blocks).screen _ _ _ v c.in-Ok-write_ppm.ensures.ok)
 
 pub returns-in-Err-write_ppm-clause-shows : goal.returns-in-Err-write_ppm-clause-shows
 returns-in-Err-write_ppm-clause-shows g c =
     let (taken, v) = c.in-Ok.ensures.views in
-    (taken, shows_cut c.args.form c.args.lead_in c.args.at _ _ taken pixmap (painting_of c.view.new.self.views.blocks).picture _ _ _ v c.in-Err-write_ppm.ensures.part)
+    (taken, shows_cut c.args.form c.args.lead_in c.args.at _ _ taken pixmap (painting_of c.view.new.self.views.blocks).screen _ _ _ v c.in-Err-write_ppm.ensures.part)
 
 pub returns-in-Err-clause-shows : goal.returns-in-Err-clause-shows
 returns-in-Err-clause-shows g c =
     let (taken, v) = c.in-Err.ensures.views in
-    (taken, shows_stop c.args.form c.args.lead_in c.args.at _ _ taken pixmap (painting_of c.view.new.self.views.blocks).picture _ _ _ v refl)
+    (taken, shows_stop c.args.form c.args.lead_in c.args.at _ _ taken pixmap (painting_of c.view.new.self.views.blocks).screen _ _ _ v refl)
 
 pub returns-in-Ok-write_ppm-clause-faults : goal.returns-in-Ok-write_ppm-clause-faults
 returns-in-Ok-write_ppm-clause-faults g c =

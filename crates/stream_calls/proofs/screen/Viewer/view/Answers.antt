@@ -17,7 +17,7 @@ returns-in-Ok-clause-answer g c = shown_done c.args.lead_in c.args.at (unit_size
 pub returns-in-Err-clause-views : goal.returns-in-Err-clause-views
 returns-in-Err-clause-views g c =
     let (taken, w) = c.in-Err.ensures.watches in
-    (taken, view_stop c.args.form c.args.lead_in c.args.at _ _ taken c.begin_view.new.self.views.blocks c.watch.new.stages.blocks (painting_of c.watch.new.stages.blocks).picture _ _ w c.play_stop.ensures)
+    (taken, view_stop c.args.form c.args.lead_in c.args.at _ _ taken c.begin_view.new.self.views.blocks c.watch.new.stages.blocks (painting_of c.watch.new.stages.blocks).screen _ _ w c.play_stop.ensures)
 
 pub returns-in-Err-clause-answer : goal.returns-in-Err-clause-answer
 returns-in-Err-clause-answer g c = shown_stop c.args.lead_in c.args.at (unit_size c.args.form) _ _ _ c.play_stop.ensures c.in-Err.ensures.answer

@@ -1,7 +1,7 @@
 use Rattle.std.proofs.Common.{◌≡◌, ℕ, ◌+◌, List, [], ◌∷◌, ap, ◌∙◌, subst}
 use Rattle.rw_code.specs.Codeword.{differences}
 use Rattle.cdg_instructions.specs.Instruction.{Means}
-use Rattle.cdg_screen.specs.Picture.{standing_after}
+use Rattle.cdg_screen.specs.Standing.{standing_after}
 use Rattle.stream_trial.specs.Replay.{one_where}
 use Rattle.stream_trial.proofs.replay.Replay.take_word.Goals as goal
 

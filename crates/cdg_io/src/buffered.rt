@@ -1,0 +1,158 @@
+// A writer with a buffer before it, as a sink.
+ghost use Rattle.std.specs.Prelude.{◌≡◌, ◌<◌, ◌≤◌, ◌+◌, [], length, take, slice_range, IfOk, IsOk, OnOk, vec_len};
+ghost use Rattle.std.specs.Io.KnownBytes.{Appends, Keeps, WriteAppends};
+ghost use Rattle.cdg_io.specs.Causes.{HasCause, counted_after};
+ghost use Rattle.cdg_io.specs.Moves.{TakesSome};
+ghost use Rattle.cdg_io.specs.Waiting.{Buffered, bytes_with_waiting};
+
+use crate::copying::copy_front;
+use crate::{Failed, Sink};
+use std::alloc::{AllocError, Global};
+use std::io::{ErrorKind, Write};
+use std::marker::Model;
+
+/// A writer as a sink. What is put waits until there is no room for more, or until it is asked for. The sink tells the
+/// bytes that the writer tells, and then those that wait. An error of the writer is a failure, and so is a write of
+/// nothing; what was not written still waits.
+#[derive(Drop)]
+pub struct BufferedSink<W: Write> {
+    writer: W,
+    buffer: Vec<u8>,
+    /// What waits stands in the buffer from here on.
+    start: usize,
+    end: usize,
+    faults: u64,
+}
+
+impl<W: Write> Model for BufferedSink<W> {
+    ghost Value = { Buffered W };
+
+    ghost view = { λ s. record {
+      inner = s.writer;
+      waiting = slice_range s.buffer.items s.start s.end;
+      faults = s.faults;
+    } };
+
+    ghost invariant = { λ s. (0 < vec_len s.buffer) × (s.start ≤ s.end) × (s.end ≤ vec_len s.buffer) };
+}
+
+impl<W: Write + Drop> BufferedSink<W> {
+    /// A sink with memory for `room` bytes that wait.
+    pub fn new(alloc: Global, room: usize, writer: W) -> Result<BufferedSink<W>, AllocError>
+        requires { 0 < room }
+        ensures { IfOk result (λ s. s ≡ record { inner = writer; waiting = []; faults = 0 }) }
+    {
+        let buffer = vec![in alloc; 0; room]?;
+        Ok(BufferedSink {
+            writer,
+            buffer,
+            start: 0,
+            end: 0,
+            faults: 0,
+        })
+    }
+}
+
+impl<W: Write> BufferedSink<W> {
+    /// Writes what waits.
+    ///
+    /// # Errors
+    /// `Failed` where a write failed. The count of faults stays: the next piece for which there is no room says so.
+    pub fn flush(&mut self) -> Result<(), Failed>
+        ensures empty { OnOk result (self.new.waiting ≡ []) }
+        // Where nothing waits there is nothing to fail.
+        ensures nothing { self.old.waiting ≡ [] → IsOk result }
+        ensures bytes { Keeps (bytes_with_waiting W.contents self.old)
+            (bytes_with_waiting W.contents self.new) }
+        ensures faults { self.new.faults ≡ self.old.faults }
+    {
+        let written = write_front(&mut self.writer, &self.buffer[self.start..self.end]);
+        self.start += written;
+        if self.start < self.end {
+            return Err(Failed);
+        }
+        self.start = 0;
+        self.end = 0;
+        Ok(())
+    }
+
+    // Puts a piece for which there is no room before what waits is written. It stands apart, so that pieces for which
+    // there is room do not pay for it.
+    #[cold]
+    #[inline(never)]
+    fn put_full(&mut self, piece: &[u8]) -> Result<usize, Failed>
+        requires { 0 < length piece.now }
+        ensures bound { TakesSome result piece.now }
+        ensures bytes { WriteAppends (bytes_with_waiting W.contents self.old)
+            (bytes_with_waiting W.contents self.new) result piece.now }
+        ensures counted { self.new.faults ≡ counted_after result self.old.faults }
+    {
+        match self.flush() {
+            Ok(()) => {
+                let count = piece.len().min(self.buffer.len());
+                copy_front(&mut self.buffer, &piece[..count]);
+                // All else was written.
+                self.start = 0;
+                self.end = count;
+                Ok(count)
+            }
+            Err(Failed) => {
+                self.faults = self.faults.saturating_add(1);
+                Err(Failed)
+            }
+        }
+    }
+}
+
+impl<W: Write> Sink for BufferedSink<W> {
+    ghost held = { bytes_with_waiting W.contents };
+
+    ghost faults = { λ s. s.faults };
+
+    #[inline]
+    fn put(&mut self, piece: &[u8]) -> Result<usize, Failed>
+        requires { 0 < length piece.now }
+        ensures bound { TakesSome result piece.now }
+        ensures bytes { WriteAppends (bytes_with_waiting W.contents self.old)
+            (bytes_with_waiting W.contents self.new) result piece.now }
+        ensures cause { HasCause self.old.faults self.new.faults result }
+        ensures counted { self.new.faults ≡ counted_after result self.old.faults }
+    {
+        if piece.len() > self.buffer.len() - self.end {
+            return self.put_full(piece);
+        }
+        copy_front(&mut self.buffer[self.end..], piece);
+        self.end += piece.len();
+        Ok(piece.len())
+    }
+}
+
+// Writes bytes until all are written or a write fails, and answers how many were written.
+fn write_front<W: Write>(writer: &mut W, bytes: &[u8]) -> usize
+    ensures within { result ≤ length bytes.now }
+    ensures bytes { Appends (W.contents writer.old) (W.contents writer.new) (take result bytes.now) }
+{
+    let mut written = 0;
+    for _ in 0..u64::MAX {
+        if written == bytes.len() {
+            return written;
+        }
+        match write_some(writer, &bytes[written..]) {
+            Ok(count) => written += count,
+            Err(Failed) => return written,
+        }
+    }
+    written
+}
+
+// Writes bytes of the front, and answers how many: none where the write was interrupted and can be made again.
+fn write_some<W: Write>(writer: &mut W, bytes: &[u8]) -> Result<usize, Failed>
+    ensures within { IfOk result (λ n. n ≤ length bytes.now) }
+    ensures bytes { WriteAppends (W.contents writer.old) (W.contents writer.new) result bytes.now }
+{
+    match writer.write(bytes) {
+        Ok(count) if count > 0 => Ok(count),
+        Err(error) if error.kind() == ErrorKind::Interrupted => Ok(0),
+        _ => Err(Failed),
+    }
+}

@@ -1,0 +1,139 @@
+-- What stands in the memory and on the screen after a list of instructions.
+use Rattle.std.specs.Prelude.{◌≡◌, ℕ, ◌+◌, ◌-◌, ◌*◌, ◌/◌, ◌%◌, Bool, List, [], ◌∷◌, map, reverse, slice_index, slice_index_or, ◌==◌, nat_le, nat_lt, ◌&&◌, if◌then◌else◌, bit_xor}
+use Rattle.bit_lists.specs.Counting.{below}
+use Rattle.cdg_instructions.specs.Drawing.{tile_colour}
+use Rattle.cdg_instructions.specs.declared.instr.Instr.{Instr}
+use Rattle.cdg_instructions.specs.declared.instr.Instr.TheVariants.{MemoryPreset, BorderPreset, SetTile, XorTile, ScrollPreset, ScrollCopy, Transparency, ColoursLow, ColoursHigh}
+use Rattle.cdg_instructions.specs.Sizes.{screen_height, screen_width}
+
+-- what stands at a moment: the memory as 216 rows of 300 pixels from the top left, the border, sixteen colours and levels,
+-- and the offsets of the screen
+pub record Standing : Type 0 where
+  pub memory : List (List ℕ)
+  pub border : ℕ
+  pub colours : List ℕ
+  pub levels : List ℕ
+  pub h : ℕ
+  pub v : ℕ
+
+-- pixel (x, y) of rows
+unfoldable pub pixel_at : List (List ℕ) → ℕ → ℕ → ℕ
+pixel_at rows x y = slice_index (slice_index_or rows y []) x
+
+-- the rows of the memory, by what pixel (x, y) is
+unfoldable pub rows_of : (ℕ → ℕ → ℕ) → List (List ℕ)
+rows_of pixel = map (λ y. map (λ x. pixel x y) (below screen_width)) (below screen_height)
+
+-- the rows of the memory, of its pixels in one list, row by row from the left
+abbrev pub rows_in : List ℕ → List (List ℕ)
+rows_in pixels = rows_of (λ x y. slice_index pixels (screen_width * y + x))
+
+-- sixteen numbers, by what number k is
+unfoldable pub sixteen : (ℕ → ℕ) → List ℕ
+sixteen number = map number (below 16)
+
+-- all zero, as at the start
+abbrev pub blank : Standing
+blank = record {
+  memory = rows_of (λ x y. 0);
+  border = 0;
+  colours = sixteen (λ k. 0);
+  levels = sixteen (λ k. 0);
+  h = 0;
+  v = 0;
+}
+
+-- whether the tile of a row and column is on the memory and holds the pixel
+abbrev pub covers : ℕ → ℕ → ℕ → ℕ → Bool
+covers row column x y = nat_le row 17 && nat_le column 49 && x / 6 == column && y / 12 == row
+
+-- Where a pixel comes from in a scroll, plus the size in that direction, so that it is no negative number:
+-- a move of 1 goes right or down, one of 2 left or up, by one tile.
+abbrev pub source : ℕ → ℕ → ℕ → ℕ → ℕ
+source size step direction x =
+    if direction == 1 then x + size - step else (if direction == 2 then x + size + step else x + size)
+
+-- where a pixel comes from across, plus the width of the memory
+abbrev pub source_x : ℕ → ℕ → ℕ
+source_x across x = source screen_width 6 across x
+
+-- where a pixel comes from down, plus the height of the memory
+abbrev pub source_y : ℕ → ℕ → ℕ
+source_y down y = source screen_height 12 down y
+
+-- whether it comes from the memory and not from outside
+abbrev pub is_inside : ℕ → ℕ → Bool
+is_inside size from = nat_le size from && nat_lt from (2 * size)
+
+-- In the next five definitions the instructions are given the last one first, and `start` is what stood before all of
+-- them.
+
+-- pixel (x, y) of the memory
+abbrev pub memory_from : (ℕ → ℕ → ℕ) → List Instr → ℕ → ℕ → ℕ
+memory_from start [] x y = start x y
+memory_from start (MemoryPreset colour repeat ∷ before) x y = colour
+memory_from start (SetTile colour0 colour1 row column lines ∷ before) x y =
+    let old = memory_from start before x y in
+    if covers row column x y then tile_colour colour0 colour1 lines (x % 6) (y % 12) else old
+memory_from start (XorTile colour0 colour1 row column lines ∷ before) x y =
+    let old = memory_from start before x y in
+    if covers row column x y then bit_xor (tile_colour colour0 colour1 lines (x % 6) (y % 12)) old else old
+memory_from start (ScrollPreset colour across h down v ∷ before) x y =
+    let old = memory_from start before (source_x across x - screen_width) (source_y down y - screen_height) in
+    if is_inside screen_width (source_x across x) && is_inside screen_height (source_y down y)
+    then old else colour
+memory_from start (ScrollCopy colour across h down v ∷ before) x y =
+    memory_from start before (source_x across x % screen_width) (source_y down y % screen_height)
+memory_from start (_ ∷ before) x y = memory_from start before x y
+
+-- the border: the last colour that it was set to
+abbrev pub border_from : ℕ → List Instr → ℕ
+border_from start [] = start
+border_from start (BorderPreset colour ∷ before) = colour
+border_from start (_ ∷ before) = border_from start before
+
+-- colour k of the table: the last value that it was set to
+abbrev pub colour_from : (ℕ → ℕ) → List Instr → ℕ → ℕ
+colour_from start [] k = start k
+colour_from start (ColoursLow colours ∷ before) k =
+    let old = colour_from start before k in if nat_lt k 8 then slice_index colours k else old
+colour_from start (ColoursHigh colours ∷ before) k =
+    let old = colour_from start before k in if nat_lt k 8 then old else slice_index colours (k - 8)
+colour_from start (_ ∷ before) k = colour_from start before k
+
+-- level k: the last value that it was set to
+abbrev pub level_from : (ℕ → ℕ) → List Instr → ℕ → ℕ
+level_from start [] k = start k
+level_from start (Transparency levels ∷ before) k = slice_index levels k
+level_from start (_ ∷ before) k = level_from start before k
+
+-- both offsets, across and down
+abbrev pub offsets_from : ℕ × ℕ → List Instr → ℕ × ℕ
+offsets_from start [] = start
+offsets_from start (ScrollPreset colour across h down v ∷ before) = (h, v)
+offsets_from start (ScrollCopy colour across h down v ∷ before) = (h, v)
+offsets_from start (_ ∷ before) = offsets_from start before
+
+-- what stands after the instructions, given in order, where this stood before
+abbrev pub standing_after : Standing → List Instr → Standing
+standing_after start instrs =
+    let before = reverse instrs in
+    let offsets = offsets_from (start.h, start.v) before in
+    record {
+      memory = rows_of (memory_from (pixel_at start.memory) before);
+      border = border_from start.border before;
+      colours = sixteen (colour_from (slice_index start.colours) before);
+      levels = sixteen (level_from (slice_index start.levels) before);
+      h = offsets.0;
+      v = offsets.1;
+    }
+
+-- it has the rows and the numbers that a screen has, and no more: it is as after no instructions
+abbrev pub IsWholeStanding : Standing → Type 0
+IsWholeStanding now = standing_after now [] ≡ now
+
+-- pixel (x, y) of the screen: in the window the memory, moved by the offsets, and elsewhere the border
+abbrev pub screen_pixel : Standing → ℕ → ℕ → ℕ
+screen_pixel now x y =
+    if nat_le 6 x && nat_le x 293 && nat_le 12 y && nat_le y 203
+    then pixel_at now.memory (x + now.h) (y + now.v) else now.border

@@ -1,0 +1,123 @@
+// The start from which the change of a picture is shortest.
+ghost use Rattle.std.specs.Prelude.{◌≡◌, ◌<◌, ◌≤◌, ◌+◌, ◌-◌, ℕ, length, slice_index, Some, None, nat_lt, if◌then◌else◌};
+ghost use Rattle.picture_script.specs.Board.{IsPicture};
+ghost use Rattle.pack_schedule.specs.Weights.{AreWeights};
+ghost use Rattle.picture_changes.specs.Change.{most_change, settings};
+ghost use Rattle.picture_changes.specs.PlannedChange.{tile_steps, planned_length, preferred, chosen_start};
+
+use crate::change::same_tiles::{is_same_picture, same_rows};
+use crate::change::settings::count_settings;
+use crate::change::tiles::{TileCounts, count_tiles};
+use crate::change::weights::Weighed;
+use cdg_instructions::WINDOW_TILES;
+use picture_script::{Canvas, Script};
+
+/// The colour of which all memory is set first, if one is, and how many instructions the change then has.
+#[derive(Clone, Copy)]
+pub(crate) struct Choice {
+    pub(crate) preset: Option<u8>,
+    pub(crate) need: u32,
+}
+
+impl Choice {
+    // The shorter one of two, and this one of two that are equal.
+    fn or_colour(self, colour: u8, need: u32) -> Choice
+        ensures preset { result.preset ≡ (if nat_lt need self.need then Some colour else self.preset) }
+        ensures need { result.need ≡ (if nat_lt need self.need then need else self.need) }
+    {
+        if need < self.need {
+            Choice {
+                preset: Some(colour),
+                need,
+            }
+        } else {
+            self
+        }
+    }
+}
+
+// The length of a change that begins with a colour.
+fn colour_length(script: &Script, k: u32, beside: u32, counts: &TileCounts, colour: u8) -> u32
+    requires beside { beside ≡ length (settings script.now k) }
+    requires few_beside { beside ≤ 3 }
+    requires colours { counts.now.whole
+        ≡ slice_index counts.now.single colour + tile_steps script.now k (Some colour) }
+    requires few { counts.now.whole ≤ 3072 }
+    requires colour { colour < 16 }
+    ensures value { result ≡ planned_length script.now k (Some colour) }
+    ensures few { result ≤ most_change }
+{
+    1 + beside + (counts.whole - counts.single[usize::from(colour)])
+}
+
+// The start that is preferred to all others.
+fn first_choice(script: &Script, k: u32, beside: u32, counts: &TileCounts) -> Choice
+    requires beside { beside ≡ length (settings script.now k) }
+    requires few_beside { beside ≤ 3 }
+    requires stands { 0 < k → counts.now.stands ≡ tile_steps script.now k None }
+    requires colours { (c : ℕ) → c < 16
+        → counts.now.whole ≡ slice_index counts.now.single c + tile_steps script.now k (Some c) }
+    requires few { (counts.now.stands ≤ 3072) × (counts.now.whole ≤ 3072) }
+    ensures preset { result.preset ≡ preferred k }
+    ensures need { result.need ≡ planned_length script.now k result.preset }
+    ensures few { result.need ≤ most_change }
+{
+    if k == 0 {
+        Choice {
+            preset: Some(0),
+            need: colour_length(script, k, beside, counts, 0),
+        }
+    } else {
+        Choice {
+            preset: None,
+            need: beside + counts.stands,
+        }
+    }
+}
+
+// The first of the shortest starts.
+fn choose(script: &Script, k: u32, beside: u32, counts: &TileCounts) -> Choice
+    requires beside { beside ≡ length (settings script.now k) }
+    requires few_beside { beside ≤ 3 }
+    requires stands { 0 < k → counts.now.stands ≡ tile_steps script.now k None }
+    requires colours { (c : ℕ) → c < 16
+        → counts.now.whole ≡ slice_index counts.now.single c + tile_steps script.now k (Some c) }
+    requires few { (counts.now.stands ≤ 3072) × (counts.now.whole ≤ 3072) }
+    ensures preset { result.preset ≡ chosen_start script.now k }
+    ensures need { result.need ≡ planned_length script.now k result.preset }
+    ensures few { result.need ≤ most_change }
+{
+    let mut choice = first_choice(script, k, beside, counts);
+    for colour in 0..16u8 {
+        choice = choice.or_colour(colour, colour_length(script, k, beside, counts, colour));
+    }
+    choice
+}
+
+/// The start of the change of picture `k`, which stands on `now`, while the picture before it stands on `before`.
+pub(crate) fn choose_start(
+    script: &Script,
+    k: u32,
+    before: &Canvas,
+    now: &Canvas,
+    weights: &mut [Weighed; WINDOW_TILES],
+) -> Choice
+    requires now { IsPicture script.now k now.now }
+    requires before { 0 < k → IsPicture script.now (k - 1) before.now }
+    requires weights { 0 < k → AreWeights script.now (k - 1) weights.old }
+    ensures weights { AreWeights script.now k weights.new }
+    ensures preset { result.preset ≡ chosen_start script.now k }
+    ensures need { result.need ≡ planned_length script.now k result.preset }
+    ensures few { result.need ≤ most_change }
+{
+    let beside = count_settings(script, k, before, now);
+    let same = same_rows(script, k, before, now);
+    if k > 0 && is_same_picture(&same, before, now) {
+        return Choice {
+            preset: None,
+            need: beside,
+        };
+    }
+    let counts = count_tiles(script, k, before, now, &same, weights);
+    choose(script, k, beside, &counts)
+}

@@ -1,0 +1,148 @@
+// The tiles of a picture: how many instructions bring them, from each start at once, and which from one.
+ghost use Rattle.std.specs.Prelude.{◌≡◌, ◌<◌, ◌≤◌, ◌+◌, ◌-◌, ◌++◌, ℕ, List, length, slice_index, replicate, Some, None};
+ghost use Rattle.cdg_instructions.specs.Sizes.{tile_pixels};
+ghost use Rattle.tile_author.specs.Plan.{steps};
+ghost use Rattle.picture_script.specs.Board.{IsPicture};
+ghost use Rattle.picture_changes.specs.Change.{tiles_before, IsStart};
+ghost use Rattle.picture_changes.specs.PlannedChange.{planned_tiles, tile_steps};
+ghost use Rattle.pack_schedule.specs.SameTiles.{AreSameRows};
+ghost use Rattle.pack_schedule.specs.Weights.{AreWeights, IsWeighed};
+
+use crate::change::list::ChangeList;
+use crate::change::same_tiles::{is_same_tile, same_rows};
+use crate::change::weights::{Weighed, weigh_tile};
+use arrayvec::ArrayVec;
+use cdg_instructions::{Instr, PIXELS, Tile, WINDOW_COLUMNS, WINDOW_ROWS, WINDOW_TILES};
+use picture_script::{Canvas, Script};
+use tile_author::plan;
+
+/// The sums over tiles of what they take: from what stands there, and from a colour; and of the tiles that are all
+/// one colour.
+#[derive(Clone, Copy)]
+pub(crate) struct TileCounts {
+    pub(crate) stands: u32,
+    pub(crate) whole: u32,
+    pub(crate) single: [u32; 16],
+}
+
+impl TileCounts {
+    // Counts a tile that takes so many instructions from what stands there, and these from a colour.
+    fn add(&mut self, taken: u32, kept: Weighed)
+        requires taken { taken ≤ 4 }
+        requires kept { (tile : List ℕ) × IsWeighed tile kept }
+        requires stands { self.old.stands ≤ 4000 }
+        requires whole { self.old.whole ≤ 4000 }
+        requires single { (c : ℕ) → slice_index self.old.single c ≤ 4000 }
+        ensures stands { self.new.stands ≡ self.old.stands + taken }
+        ensures colours { (tile : List ℕ) → IsWeighed tile kept → (c : ℕ) → c < 16
+            → self.new.whole + slice_index self.old.single c
+            ≡ self.old.whole + slice_index self.new.single c + steps (replicate tile_pixels c) tile }
+        ensures few_stands { self.new.stands ≤ self.old.stands + 4 }
+        ensures few_whole { self.new.whole ≤ self.old.whole + 4 }
+        ensures few_single { (c : ℕ) → slice_index self.new.single c ≤ slice_index self.old.single c + 4 }
+    {
+        let weight = u32::from(kept.weight);
+        self.stands += taken;
+        self.whole += weight;
+        if let Some(colour) = kept.single {
+            self.single[usize::from(colour)] += weight;
+        }
+    }
+}
+
+/// Counts the tiles of picture `k`, which stands on `now`, while the picture before it stands on `before`.
+pub(crate) fn count_tiles(
+    script: &Script,
+    k: u32,
+    before: &Canvas,
+    now: &Canvas,
+    same: &[bool; WINDOW_ROWS],
+    weights: &mut [Weighed; WINDOW_TILES],
+) -> TileCounts
+    requires same { AreSameRows before.now.pixels now.now.pixels same.now }
+    requires now { IsPicture script.now k now.now }
+    requires before { 0 < k → IsPicture script.now (k - 1) before.now }
+    requires weights { 0 < k → AreWeights script.now (k - 1) weights.old }
+    ensures weights { AreWeights script.now k weights.new }
+    ensures stands { 0 < k → result.stands ≡ tile_steps script.now k None }
+    ensures colours { (c : ℕ) → c < 16
+        → result.whole ≡ slice_index result.single c + tile_steps script.now k (Some c) }
+    ensures few { (result.stands ≤ 3072) × (result.whole ≤ 3072) }
+{
+    let mut counts = TileCounts {
+        stands: 0,
+        whole: 0,
+        single: [0; 16],
+    };
+    for i in 0..WINDOW_TILES {
+        let taken = weigh_tile(weights, script, k, i, before, now, same);
+        counts.add(taken, weights[i]);
+    }
+    counts
+}
+
+impl ChangeList {
+    /// Adds the plans of all tiles.
+    pub(crate) fn push_tiles(
+        &mut self,
+        script: &Script,
+        k: u32,
+        preset: Option<u8>,
+        before: &Canvas,
+        now: &Canvas,
+    )
+        requires few { length self.old ≤ 4 }
+        requires now { IsPicture script.now k now.now }
+        requires before { 0 < k → IsPicture script.now (k - 1) before.now }
+        requires start { IsStart k preset }
+        ensures { self.new ≡ self.old ++ planned_tiles script.now k preset }
+    {
+        let same = same_rows(script, k, before, now);
+        for i in 0..WINDOW_TILES {
+            let row = (i / WINDOW_COLUMNS) as u8 + 1;
+            let column = (i % WINDOW_COLUMNS) as u8 + 1;
+            if preset.is_none() && is_same_tile(&same, before, now, row, column) {
+                continue;
+            }
+            let old = old_tile(script, k, preset, before, row, column);
+            self.push_all(&plan(&old, &now.tile(row, column), row, column));
+        }
+    }
+
+    // Adds the instructions of a tile.
+    fn push_all(&mut self, instrs: &ArrayVec<Instr, 4>)
+        requires { length self.old ≤ 3072 }
+        ensures whole { self.new ≡ self.old ++ instrs.now.items }
+        ensures few { length self.new ≤ length self.old + 4 }
+    {
+        for i in 0..instrs.len() {
+            self.push(instrs[i]);
+        }
+    }
+}
+
+// The tile that stands before picture `k`.
+fn old_tile(
+    script: &Script,
+    k: u32,
+    preset: Option<u8>,
+    before: &Canvas,
+    row: u8,
+    column: u8,
+) -> Tile
+    requires before { 0 < k → IsPicture script.now (k - 1) before.now }
+    requires start { IsStart k preset }
+    requires row_first { 1 ≤ row }
+    requires row_last { row ≤ 16 }
+    requires column_first { 1 ≤ column }
+    requires column_last { column ≤ 48 }
+    ensures { result ≡ tiles_before script.now k preset row column }
+{
+    match preset {
+        Some(colour) => match Tile::new(&[colour; PIXELS]) {
+            Some(tile) => tile,
+            None => unreachable!(),
+        },
+        None => before.tile(row, column),
+    }
+}

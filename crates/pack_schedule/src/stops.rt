@@ -1,0 +1,35 @@
+// Why a script has no schedule.
+use std::alloc::{AllocError, AllocFailed};
+
+/// Why a script has no schedule.
+#[derive(Clone, Copy, PartialEq, Eq, Debug)]
+pub enum Stop {
+    /// The last picture is held for longer than these program blocks.
+    PastEnd { blocks: u32 },
+    /// The first picture that cannot be ready: it needs so many packs, and so many are free for it.
+    Late { picture: u32, need: u32, free: u32 },
+    /// There was no memory.
+    NoMemory,
+}
+
+impl From<AllocError> for Stop {
+    ghost use Rattle.std.specs.Prelude.{◌≡◌};
+    ghost use Rattle.pack_schedule.specs.declared.stops.Stop.TheVariants.{NoMemory};
+
+    ghost from_gives = { λ _ e. e ≡ NoMemory };
+
+    fn from(_error: AllocError) -> Stop {
+        Stop::NoMemory
+    }
+}
+
+impl<T: Drop> From<AllocFailed<T>> for Stop {
+    ghost use Rattle.std.specs.Prelude.{◌≡◌};
+    ghost use Rattle.pack_schedule.specs.declared.stops.Stop.TheVariants.{NoMemory};
+
+    ghost from_gives = { λ _ e. e ≡ NoMemory };
+
+    fn from(_error: AllocFailed<T>) -> Stop {
+        Stop::NoMemory
+    }
+}

@@ -1,0 +1,37 @@
+"""The field of 64 elements, as those tools and examples reckon with it that use no line of the program: polynomials over
+two elements modulo x^6 + x + 1. An element is a number below 64, and its bit k is the coefficient of x^k; x is also
+called alpha."""
+
+
+def times(a: int, b: int) -> int:
+    """The product."""
+    product = 0
+    for bit in range(6):
+        if b >> bit & 1:
+            product ^= a << bit
+    for bit in range(10, 5, -1):
+        if product >> bit & 1:
+            product ^= 0b1000011 << (bit - 6)
+    return product
+
+
+def powers() -> list[int]:
+    """The powers of x from 0 to 62: all elements but 0."""
+    found = [1]
+    while len(found) < 63:
+        found.append(times(found[-1], 2))
+    return found
+
+
+POWERS = powers()
+LOGARITHMS = {element: exponent for exponent, element in enumerate(POWERS)}
+
+
+def power(exponent: int) -> int:
+    """A power of x."""
+    return POWERS[exponent % 63]
+
+
+def inverse(a: int) -> int:
+    """The element with which the product is 1; 0 has none."""
+    return POWERS[-LOGARITHMS[a] % 63]
