@@ -68,22 +68,10 @@ impl Scratches {
         } else if self.needle.skip_block() {
             piece.set(block);
         } else {
-            self.pass_burst(block, piece);
+            let mut scratched = *block;
+            self.needle.scratch(&mut scratched);
+            piece.set(&scratched);
         }
-    }
-
-    // Makes a piece of a block of the program that a burst meets. It is a function of its own so that other blocks do
-    // not pay for its variables.
-    #[inline(never)]
-    #[tactic(auto, unfolding(crate::specs::Steps::block_next, crate::specs::Steps::block_gives))]
-    fn pass_burst(&mut self, block: &[u8; BLOCK_BYTES], piece: &mut Piece)
-        requires { self.old.lead_in ≡ 0 }
-        ensures next { self.new ≡ block_next self.old block.now }
-        ensures gives { Some piece.new ≡ block_gives self.old block.now }
-    {
-        let mut scratched = *block;
-        self.needle.scratch(&mut scratched);
-        piece.set(&scratched);
     }
 }
 
