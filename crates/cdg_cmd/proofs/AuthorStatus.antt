@@ -7,7 +7,8 @@ use Rattle.subcode_author.specs.Authored.{IsWrittenStream, disc_of}
 use Rattle.subcode_author.specs.AuthorAnswer.{IsAccepted, IsAuthorStop}
 use Rattle.subcode_author.specs.declared.stops.AuthorStop.{AuthorStop}
 use Rattle.subcode_author.specs.declared.stops.AuthorStop.TheVariants as stop
-use Rattle.cdg_cmd.specs.Authors.{author_status, IsPutFor, PutsPrefix}
+use Rattle.cdg_cmd.specs.Authors.{IsPutFor, PutsPrefix}
+use Rattle.cdg_cmd.specs.Stops.{author_status}
 use Rattle.cdg_cmd.specs.declared.status.Status.TheVariants.{Done, Usage, WriteFault}
 use Rattle.cdg_io.specs.Change.{Bytes, change}
 use Rattle.std.proofs.KnownBytes.{Appends-nil}

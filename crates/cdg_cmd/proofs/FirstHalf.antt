@@ -9,9 +9,10 @@ use Rattle.subcode_author.specs.Authored.{disc_of}
 use Rattle.subcode_author.specs.AuthorAnswer.{HasRoom, HoldsPictures}
 use Rattle.subcode_author.specs.declared.stops.AuthorStop.{AuthorStop}
 use Rattle.subcode_author.specs.declared.stops.AuthorStop.TheVariants as stop
-use Rattle.cdg_cmd.specs.Authors.{author_status, AuthorsWith, IsPutFor, IsScriptText, IsSheetText, IsStopped, StopsAtSheet, StopsAtScript, Answers}
+use Rattle.cdg_cmd.specs.Authors.{AuthorsWith, IsPutFor, IsScriptText, IsSheetText, IsStopped, StopsAtSheet, StopsAtScript, Answers}
 use Rattle.cdg_io.specs.Change.{Bytes, Change}
 use Rattle.cdg_cmd.specs.Headline.{HavePlace, WritesOrIsLate}
+use Rattle.cdg_cmd.specs.Stops.{author_status}
 use Rattle.cdg_cmd.specs.declared.status.Status.{Status}
 use Rattle.cdg_cmd.specs.declared.status.Status.TheVariants.{Done, Damaged, Usage, Refused, Late, ReadFault, WriteFault, NoMemory}
 use Rattle.cdg_cmd.proofs.TextStops.{script_stopped, sheet_stopped}

@@ -10,7 +10,8 @@ use Rattle.subcode_author.specs.declared.stops.AuthorStop.{AuthorStop}
 use Rattle.subcode_author.specs.declared.stops.AuthorStop.TheVariants as stop
 use Rattle.cdg_io.specs.Change.{Bytes, Change}
 use Rattle.cdg_cmd.proofs.WholeInputs.{both}
-use Rattle.cdg_cmd.specs.Authors.{author_status, AuthorsWith, IsPutFor, IsScriptStop, IsScriptText, IsSheetStop, StopsAtSheet, StopsAtScript, Answers}
+use Rattle.cdg_cmd.specs.Authors.{AuthorsWith, IsPutFor, IsScriptStop, IsScriptText, IsSheetStop, StopsAtSheet, StopsAtScript, Answers}
+use Rattle.cdg_cmd.specs.Stops.{author_status}
 use Rattle.cdg_cmd.specs.declared.status.Status.{Status}
 use Rattle.cdg_cmd.specs.declared.status.Status.TheVariants.{Done, Damaged, Usage, Refused, Late, ReadFault, WriteFault, NoMemory}
 

@@ -21,12 +21,13 @@ use Rattle.stream_stages.specs.TextListing.{IsListedBy, IsWholeInput, ListsTexts
 use Rattle.stream_stages.specs.declared.played.Played.{Played}
 use Rattle.stream_stages.specs.declared.played.PlayStop.{PlayStop}
 use Rattle.stream_stages.specs.declared.played.PlayStop.TheVariants as play
-use Rattle.cdg_cmd.specs.Answer.{Does, GivesBack, GivesIfFound, play_status}
+use Rattle.cdg_cmd.specs.Answer.{Does, GivesBack, GivesIfFound}
 use Rattle.cdg_io.specs.Change.{Bytes, Change, from_to}
 use Rattle.cdg_io.specs.Streams.{Streams}
 use Rattle.cdg_io.proofs.Frames.{passing}
 use Rattle.cdg_cmd.specs.LeadInTexts.{AreLinesOf}
 use Rattle.cdg_cmd.specs.Spelling.{IsAllowed, Spells}
+use Rattle.cdg_cmd.specs.Stops.{play_status}
 use Rattle.cdg_cmd.specs.declared.command.Command.{Command}
 use Rattle.cdg_cmd.specs.declared.command.Command.TheVariants.{Q, Text}
 use Rattle.cdg_cmd.specs.declared.status.Status.{Status}

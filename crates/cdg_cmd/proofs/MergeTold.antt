@@ -1,13 +1,14 @@
 -- From the answer of a merger to the status of a command.
 use Rattle.std.proofs.Common.{◌≡◌, ◌≢◌, ◌≤◌, ◌==◌, ℕ, Bool, true, false, Result, Ok, Err, IsErrOf, refl, sym, subst, ◌∙◌, if◌then◌else◌, arith}
-use Rattle.cdg_io.specs.Causes.{Count, Rose, RoseOnce, TellsFault}
-use Rattle.rw_merge.specs.Merging.{TellsFirst, TellsSecond}
+use Rattle.cdg_io.specs.Causes.{Rose, TellsFault}
+use Rattle.cdg_io.specs.Change.{Input}
+use Rattle.rw_merge.specs.Merging.{EndIsTold, EndsBoth}
 use Rattle.rw_merge.specs.declared.merge.Merged.{Merged}
 use Rattle.rw_merge.specs.declared.merge.MergeStop.{MergeStop}
 use Rattle.rw_merge.specs.declared.merge.MergeStop.TheVariants as merge
-use Rattle.cdg_cmd.specs.Ends.{OtherEnds, ReadingEnds}
+use Rattle.cdg_cmd.specs.Ends.{ReadingsEnd}
 use Rattle.cdg_cmd.specs.Faults.{TellsFaults}
-use Rattle.cdg_cmd.specs.Merges.{merge_status}
+use Rattle.cdg_cmd.specs.Stops.{merge_status}
 use Rattle.cdg_cmd.specs.declared.status.Which.TheVariants.{First, Second}
 use Rattle.cdg_cmd.specs.declared.status.Status.{Status}
 use Rattle.cdg_cmd.specs.declared.status.Status.TheVariants.{Done, Damaged, Usage, ReadFault, WriteFault, NoMemory}
@@ -67,39 +68,26 @@ told_none f t k = none f f t t k k (omega arith) (omega arith) (omega arith) NoM
 
 -- Ends
 
-whole_first : (n n' : Count) (good : Bool) (bad : ℕ) → RoseOnce n n' → ReadingEnds (count n n') (if good then Done else Damaged bad)
-whole_first n n' true bad rose = rose
-whole_first n n' false bad rose = rose
+whole_ends : (one other : Input) (good : Bool) (bad : ℕ) → EndIsTold one × EndIsTold other
+    → ReadingsEnd one other (if good then Done else Damaged bad)
+whole_ends one other true bad told = told
+whole_ends one other false bad told = told
 
-first_end : (answer : Result Merged MergeStop) (n n' : Count) → TellsFirst answer n n' → ReadingEnds (count n n') (merge_status answer)
-first_end (Ok merged) n n' tells = whole_first n n' (merged.bad == 0) merged.bad tells
-first_end (Err merge.FirstFault) n n' tells = tells
-first_end (Err merge.SecondFault) n n' tells = tells
-first_end (Err merge.WriteFault) n n' tells = tells
-first_end (Err merge.TooLong) n n' tells = tells
-first_end (Err (merge.Torn block)) n n' tells = tells
-first_end (Err (merge.SecondTorn block)) n n' tells = tells
-first_end (Err (merge.Unequal blocks)) n n' tells = tells
+ends : (answer : Result Merged MergeStop) (one other : Input) → EndsBoth answer one other
+    → ReadingsEnd one other (merge_status answer)
+ends (Ok merged) one other tells = whole_ends one other (merged.bad == 0) merged.bad tells
+ends (Err merge.FirstFault) one other tells = tells
+ends (Err merge.SecondFault) one other tells = tells
+ends (Err merge.WriteFault) one other tells = tells
+ends (Err merge.TooLong) one other tells = tells
+ends (Err (merge.Torn block)) one other tells = tells
+ends (Err (merge.SecondTorn block)) one other tells = tells
+ends (Err (merge.Unequal blocks)) one other tells = tells
 
-whole_second : (n n' : Count) (good : Bool) (bad : ℕ) → RoseOnce n n' → OtherEnds (count n n') (if good then Done else Damaged bad)
-whole_second n n' true bad rose = rose
-whole_second n n' false bad rose = rose
-
-second_end : (answer : Result Merged MergeStop) (n n' : Count) → TellsSecond answer n n' → OtherEnds (count n n') (merge_status answer)
-second_end (Ok merged) n n' tells = whole_second n n' (merged.bad == 0) merged.bad tells
-second_end (Err merge.FirstFault) n n' tells = tells
-second_end (Err merge.SecondFault) n n' tells = tells
-second_end (Err merge.WriteFault) n n' tells = tells
-second_end (Err merge.TooLong) n n' tells = tells
-second_end (Err (merge.Torn block)) n n' tells = tells
-second_end (Err (merge.SecondTorn block)) n n' tells = tells
-second_end (Err (merge.Unequal blocks)) n n' tells = tells
-
-pub first_ended : (answer : Result Merged MergeStop) (status : Status) (n n' : Count) → status ≡ merge_status answer → TellsFirst answer n n' → ReadingEnds (count n n') status
-first_ended answer status n n' is tells = subst (λ (s : Status). ReadingEnds (count n n') s) (sym is) (first_end answer n n' tells)
-
-pub second_ended : (answer : Result Merged MergeStop) (status : Status) (n n' : Count) → status ≡ merge_status answer → TellsSecond answer n n' → OtherEnds (count n n') status
-second_ended answer status n n' is tells = subst (λ (s : Status). OtherEnds (count n n') s) (sym is) (second_end answer n n' tells)
+pub ended : (answer : Result Merged MergeStop) (status : Status) (one other : Input) → status ≡ merge_status answer
+    → EndsBoth answer one other → ReadingsEnd one other status
+ended answer status one other is tells =
+    subst (λ (s : Status). ReadingsEnd one other s) (sym is) (ends answer one other tells)
 
 -- A merger never lacks memory, and its words were a form
 

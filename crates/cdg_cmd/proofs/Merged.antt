@@ -8,7 +8,8 @@ use Rattle.rw_merge.specs.declared.merge.MergeStop.TheVariants as merge
 use Rattle.rw_merge.proofs.Restoring.{GivesPacks, restored}
 use Rattle.cdg_cmd.specs.Answer.{GivesIfFound}
 use Rattle.cdg_io.specs.Change.{Bytes, Change}
-use Rattle.cdg_cmd.specs.Merges.{MergesWith, merge_status}
+use Rattle.cdg_cmd.specs.Merges.{MergesWith}
+use Rattle.cdg_cmd.specs.Stops.{merge_status}
 use Rattle.cdg_cmd.specs.declared.status.Status.{Status}
 use Rattle.cdg_cmd.specs.declared.status.Status.TheVariants.{Done, Damaged, NoMemory}
 use Rattle.cdg_cmd.proofs.WholeInputs.{both, unless_memory}

@@ -1,19 +1,24 @@
 -- From the answer of a player to the status of a command.
-use Rattle.std.proofs.Common.{inr, ◌≡◌, ◌≢◌, ◌≤◌, ◌==◌, ℕ, Bool, true, false, Result, Ok, Err, IfErr, IsErrOf, refl, sym, subst, ◌∙◌, if◌then◌else◌, arith}
-use Rattle.cdg_io.specs.Causes.{Count, Rose, RoseOnce}
+use Rattle.std.specs.Io.KnownBytes.{IsAtEnd}
+use Rattle.raw_subcode.specs.declared.form.Form.{Form}
+use Rattle.stream_stages.specs.TextListing.{IsListedBy, IsWholeInput}
+use Rattle.std.proofs.Common.{inr, Some, None, IfSome, ◌≡◌, ◌≢◌, ◌≤◌, ◌==◌, ℕ, Bool, true, false, Result, Ok, Err, IfErr, IsErrOf, refl, sym, subst, ◌∙◌, if◌then◌else◌, arith}
+use Rattle.cdg_io.specs.Causes.{Rose}
+use Rattle.cdg_io.specs.Change.{Bytes, Input}
+use Rattle.rw_merge.specs.Merging.{EndIsTold, EndIsUntold}
 use Rattle.cdtext_packs.specs.declared.kinds.TextFault.{TextFault}
 use Rattle.cdtext_packs.specs.declared.kinds.TextFault.TheVariants as fault
-use Rattle.stream_stages.specs.Calls.{EndFirst, EndInTurn, IsMomentStop, IsStreamStop}
+use Rattle.stream_stages.specs.Calls.{EndFirst, EndInTurn, IsEarly, IsMomentStop, IsStreamStop}
 use Rattle.stream_stages.specs.Faults.{TellsStops}
 use Rattle.stream_stages.specs.declared.played.Played.{Played}
 use Rattle.stream_stages.specs.declared.played.PlayStop.{PlayStop}
 use Rattle.stream_stages.specs.declared.played.PlayStop.TheVariants as play
-use Rattle.cdg_cmd.specs.Answer.{play_status, text_fault_status}
 use Rattle.cdg_cmd.specs.Ends.{EndsAsListed, EndsFirst, EndsInTurn, StreamEnds}
 use Rattle.cdg_cmd.specs.Keeps.{MayWrite}
 use Rattle.cdg_cmd.proofs.Quiet.{count}
 use Rattle.cdg_cmd.proofs.Quiet as quiet
 use Rattle.cdg_cmd.specs.Faults.{TellsOne}
+use Rattle.cdg_cmd.specs.Stops.{play_status, text_fault_status}
 use Rattle.cdg_cmd.specs.declared.status.Status.{Status}
 use Rattle.cdg_cmd.specs.declared.status.Status.TheVariants.{Done, Damaged, NoMemory}
 
@@ -49,9 +54,9 @@ told_none f k = quiet.none f f k k (omega arith) (omega arith) NoMemory (λ e. c
 
 -- Ends
 
-whole_end : (cut : Type 0) (n n' : Count) (good : Bool) (bad : ℕ) → RoseOnce n n' → StreamEnds cut (count n n') (if good then Done else Damaged bad)
-whole_end cut n n' true bad told = told
-whole_end cut n n' false bad told = told
+whole_end : (cut : Type 0) (input : Input) (good : Bool) (bad : ℕ) → EndIsTold input → StreamEnds cut input (if good then Done else Damaged bad)
+whole_end cut input true bad told = told
+whole_end cut input false bad told = told
 
 moment_stop : (answer : Result Played PlayStop) → IfErr answer IsStreamStop → IfErr answer IsMomentStop
 moment_stop (Ok played) stops = tt
@@ -62,55 +67,61 @@ moment_stop (Err play.TooLong) stops = tt
 moment_stop (Err (play.PastEnd blocks)) stops = tt
 moment_stop (Err (play.Text why)) stops = absurd stops
 
-in_turn : (answer : Result Played PlayStop) (n n' : Count) → IfErr answer IsStreamStop → EndInTurn answer n n' → EndsInTurn (count n n') (play_status answer)
-in_turn (Ok played) n n' stops told = whole_end (n' ≡ n) n n' (played.bad == 0) played.bad told
-in_turn (Err play.ReadFault) n n' stops told = told
-in_turn (Err play.WriteFault) n n' stops told = told
-in_turn (Err (play.Torn block)) n n' stops told = told
-in_turn (Err play.TooLong) n n' stops told = told
-in_turn (Err (play.PastEnd blocks)) n n' stops told = absurd stops
-in_turn (Err (play.Text why)) n n' stops told = absurd stops
+in_turn : (answer : Result Played PlayStop) (input : Input) → IfErr answer IsStreamStop → EndInTurn answer input.ends.before input.ends.after → EndsInTurn input (play_status answer)
+in_turn (Ok played) input stops told = whole_end (EndIsUntold input) input (played.bad == 0) played.bad told
+in_turn (Err play.ReadFault) input stops told = told
+in_turn (Err play.WriteFault) input stops told = told
+in_turn (Err (play.Torn block)) input stops told = told
+in_turn (Err play.TooLong) input stops told = told
+in_turn (Err (play.PastEnd blocks)) input stops told = absurd stops
+in_turn (Err (play.Text why)) input stops told = absurd stops
 
-first : (answer : Result Played PlayStop) (n n' : Count) → IfErr answer IsMomentStop → EndFirst answer n n' → EndsFirst (count n n') (play_status answer)
-first (Ok played) n n' stops told = whole_end (RoseOnce n n') n n' (played.bad == 0) played.bad told
-first (Err play.ReadFault) n n' stops told = told
-first (Err play.WriteFault) n n' stops told = told
-first (Err (play.Torn block)) n n' stops told = told
-first (Err play.TooLong) n n' stops told = told
-first (Err (play.PastEnd blocks)) n n' stops told = told
-first (Err (play.Text why)) n n' stops told = absurd stops
+first : (answer : Result Played PlayStop) (input : Input) → IfErr answer IsMomentStop → EndFirst answer input.ends.before input.ends.after → EndsFirst input (play_status answer)
+first (Ok played) input stops told = whole_end (EndIsTold input) input (played.bad == 0) played.bad told
+first (Err play.ReadFault) input stops told = told
+first (Err play.WriteFault) input stops told = told
+first (Err (play.Torn block)) input stops told = told
+first (Err play.TooLong) input stops told = told
+first (Err (play.PastEnd blocks)) input stops told = told
+first (Err (play.Text why)) input stops told = absurd stops
 
-whole_list : (n n' : Count) (good : Bool) (bad : ℕ) → RoseOnce n n' → EndsAsListed (count n n') (if good then Done else Damaged bad)
-whole_list n n' true bad told = told
-whole_list n n' false bad told = told
+whole_list : (input : Input) (good : Bool) (bad : ℕ) → EndIsTold input → EndsAsListed input (if good then Done else Damaged bad)
+whole_list input true bad told = told
+whole_list input false bad told = told
 
-listed : (answer : Result Played PlayStop) (n n' : Count) → EndFirst answer n n' → EndsAsListed (count n n') (play_status answer)
-listed (Ok played) n n' told = whole_list n n' (played.bad == 0) played.bad told
-listed (Err play.ReadFault) n n' told = told
-listed (Err play.WriteFault) n n' told = told
-listed (Err (play.Torn block)) n n' told = told
-listed (Err play.TooLong) n n' told = told
-listed (Err (play.PastEnd blocks)) n n' told = told
-listed (Err (play.Text (fault.Missing seq))) n n' told = told
-listed (Err (play.Text fault.NoSize)) n n' told = told
-listed (Err (play.Text (fault.Malformed seq byte))) n n' told = told
-listed (Err (play.Text fault.NoMemory)) n n' told = inr told
+listed : (answer : Result Played PlayStop) (input : Input) → EndFirst answer input.ends.before input.ends.after
+    → ((stop : PlayStop) → answer ≡ Err stop → ¬ (IsEarly stop) → IsAtEnd input.left.after)
+    → EndsAsListed input (play_status answer)
+listed (Ok played) input told ended = whole_list input (played.bad == 0) played.bad told
+listed (Err play.ReadFault) input told ended = told
+listed (Err play.WriteFault) input told ended = told
+listed (Err (play.Torn block)) input told ended = told
+listed (Err play.TooLong) input told ended = told
+listed (Err (play.PastEnd blocks)) input told ended = told
+listed (Err (play.Text (fault.Missing seq))) input told ended = told
+listed (Err (play.Text fault.NoSize)) input told ended = told
+listed (Err (play.Text (fault.Malformed seq byte))) input told ended = told
+listed (Err (play.Text fault.NoMemory)) input told ended = inr (ended (play.Text fault.NoMemory) refl (λ early. early), told)
 
 -- of a call that writes as it reads,
-pub ended_in_turn : (answer : Result Played PlayStop) (status : Status) (n n' : Count) → status ≡ play_status answer → IfErr answer IsStreamStop → EndInTurn answer n n' → EndsInTurn (count n n') status
-ended_in_turn answer status n n' is stops told = subst (λ (s : Status). EndsInTurn (count n n') s) (sym is) (in_turn answer n n' stops told)
+pub ended_in_turn : (answer : Result Played PlayStop) (status : Status) (input : Input) → status ≡ play_status answer → IfErr answer IsStreamStop → EndInTurn answer input.ends.before input.ends.after → EndsInTurn input status
+ended_in_turn answer status input is stops told = subst (λ (s : Status). EndsInTurn input s) (sym is) (in_turn answer input stops told)
 
 -- that shows a moment,
-pub ended_first : (answer : Result Played PlayStop) (status : Status) (n n' : Count) → status ≡ play_status answer → IfErr answer IsMomentStop → EndFirst answer n n' → EndsFirst (count n n') status
-ended_first answer status n n' is stops told = subst (λ (s : Status). EndsFirst (count n n') s) (sym is) (first answer n n' stops told)
+pub ended_first : (answer : Result Played PlayStop) (status : Status) (input : Input) → status ≡ play_status answer → IfErr answer IsMomentStop → EndFirst answer input.ends.before input.ends.after → EndsFirst input status
+ended_first answer status input is stops told = subst (λ (s : Status). EndsFirst input s) (sym is) (first answer input stops told)
 
 -- that writes after the whole of a stream,
-pub ended_whole : (answer : Result Played PlayStop) (status : Status) (n n' : Count) → status ≡ play_status answer → IfErr answer IsStreamStop → EndFirst answer n n' → EndsFirst (count n n') status
-ended_whole answer status n n' is stops told = ended_first answer status n n' is (moment_stop answer stops) told
+pub ended_whole : (answer : Result Played PlayStop) (status : Status) (input : Input) → status ≡ play_status answer → IfErr answer IsStreamStop → EndFirst answer input.ends.before input.ends.after → EndsFirst input status
+ended_whole answer status input is stops told = ended_first answer status input is (moment_stop answer stops) told
 
 -- and that lists texts
-pub ended_listed : (answer : Result Played PlayStop) (status : Status) (n n' : Count) → status ≡ play_status answer → EndFirst answer n n' → EndsAsListed (count n n') status
-ended_listed answer status n n' is told = subst (λ (s : Status). EndsAsListed (count n n') s) (sym is) (listed answer n n' told)
+pub ended_listed : (answer : Result Played PlayStop) (status : Status) (input : Input) → status ≡ play_status answer
+    → EndFirst answer input.ends.before input.ends.after
+    → ((stop : PlayStop) → answer ≡ Err stop → ¬ (IsEarly stop) → IsAtEnd input.left.after)
+    → EndsAsListed input status
+ended_listed answer status input is told ended =
+    subst (λ (s : Status). EndsAsListed input s) (sym is) (listed answer input told ended)
 
 -- Where the output may not be written
 
@@ -151,3 +162,36 @@ shown_never_memory answer status is stops e = never_memory_at answer stops (sym 
 
 pub never_memory : (answer : Result Played PlayStop) (status : Status) → status ≡ play_status answer → IfErr answer IsStreamStop → status ≢ NoMemory
 never_memory answer status is stops = shown_never_memory answer status is (moment_stop answer stops)
+
+-- Where memory is lacking for texts, all of a whole input was read
+
+whole_if_known : (form : Form) (lead_in : ℕ) (left : Bytes)
+    → IfSome left (λ all. IsListedBy (Err (play.Text fault.NoMemory)) form lead_in all)
+    → IfSome left (IsWholeInput form)
+whole_if_known form lead_in None listed = tt
+whole_if_known form lead_in (Some all) listed = listed.0
+
+lacking : (answer : Result Played PlayStop) (form : Form) (lead_in : ℕ) (left left' : Bytes)
+    → ((stop : PlayStop) → answer ≡ Err stop → ¬ (IsEarly stop) → IsAtEnd left')
+    → IfSome left (λ all. IsListedBy answer form lead_in all) → play_status answer ≡ NoMemory
+    → IsAtEnd left' × IfSome left (IsWholeInput form)
+lacking (Ok played) form lead_in left left' ended listed none =
+    absurd (whole_never (played.bad == 0) played.bad none)
+lacking (Err play.ReadFault) form lead_in left left' ended listed none = absurd (cc)
+lacking (Err play.WriteFault) form lead_in left left' ended listed none = absurd (cc)
+lacking (Err (play.Torn block)) form lead_in left left' ended listed none = absurd (cc)
+lacking (Err play.TooLong) form lead_in left left' ended listed none = absurd (cc)
+lacking (Err (play.PastEnd blocks)) form lead_in left left' ended listed none = absurd (cc)
+lacking (Err (play.Text (fault.Missing seq))) form lead_in left left' ended listed none = absurd (cc)
+lacking (Err (play.Text fault.NoSize)) form lead_in left left' ended listed none = absurd (cc)
+lacking (Err (play.Text (fault.Malformed seq byte))) form lead_in left left' ended listed none = absurd (cc)
+lacking (Err (play.Text fault.NoMemory)) form lead_in left left' ended listed none =
+    (ended (play.Text fault.NoMemory) refl (λ early. early), whole_if_known form lead_in left listed)
+
+pub lacks_memory : (answer : Result Played PlayStop) (status : Status) (form : Form) (lead_in : ℕ)
+    (left left' : Bytes) → status ≡ play_status answer
+    → ((stop : PlayStop) → answer ≡ Err stop → ¬ (IsEarly stop) → IsAtEnd left')
+    → IfSome left (λ all. IsListedBy answer form lead_in all) → status ≡ NoMemory
+    → IsAtEnd left' × IfSome left (IsWholeInput form)
+lacks_memory answer status form lead_in left left' is ended listed none =
+    lacking answer form lead_in left left' ended listed (sym is ∙ none)

@@ -1,7 +1,8 @@
 -- From the answers of the parts of `press` to its status.
 use Rattle.std.proofs.Common.{◌≡◌, ◌≢◌, ◌≤◌, ℕ, List, [], Result, Ok, Err, OnOk, IfErr, refl, sym, ap, subst, inr}
-use Rattle.std.specs.Io.KnownBytes.{Appends}
-use Rattle.cdg_io.specs.Causes.{Count, Rose, RoseOnce, TellsFault}
+use Rattle.std.specs.Io.KnownBytes.{Appends, IsAtEnd}
+use Rattle.cdg_io.specs.Causes.{Rose, RoseOnce, TellsFault}
+use Rattle.rw_merge.specs.Merging.{EndIsTold}
 use Rattle.cue_sheet.specs.CueSheet.{CueSheet}
 use Rattle.cdg_press.specs.Pressed.{IsPressed, press_of}
 use Rattle.cdg_press.specs.Refusals.{IsPressable, IsPressStop}
@@ -11,7 +12,8 @@ use Rattle.cdg_io.specs.Change.{Bytes, Input, change}
 use Rattle.cdg_cmd.specs.Authors.{ReadsSheet}
 use Rattle.cdg_cmd.specs.Ends.{ScriptEnds, SheetEnds}
 use Rattle.cdg_cmd.specs.Faults.{IsTold, TellsFaults}
-use Rattle.cdg_cmd.specs.Presses.{IsFileStop, IsPressedFor, PutsPressedPart, press_status}
+use Rattle.cdg_cmd.specs.Presses.{IsFileStop, IsPressedFor, PutsPressedPrefix}
+use Rattle.cdg_cmd.specs.Stops.{press_status}
 use Rattle.cdg_cmd.specs.declared.status.Which.TheVariants.{First, Second}
 use Rattle.cdg_cmd.specs.declared.status.Status.{Status}
 use Rattle.cdg_cmd.specs.declared.status.Status.TheVariants.{Done, Damaged, Usage, Refused, Late, ReadFault, WriteFault, NoMemory}
@@ -86,20 +88,21 @@ of_sheet (Err (stop.Gap track)) first told = told
 of_sheet (Err (stop.CdgTooLong packs room)) first told = told
 of_sheet (Err (stop.TextTooLong packs)) first told = told
 of_sheet (Err (stop.LeadInShort need)) first told = told
-of_sheet (Err stop.NoMemory) first told = inr told
+of_sheet (Err stop.NoMemory) first told = told
 of_sheet (Err stop.WriteFault) first told = told
 
-of_file : (answer : Result (Unit {0}) PressStop) (n n' : Count) → RoseOnce n n' → ScriptEnds (count n n') (press_status answer)
-of_file (Ok done) n n' told = told
-of_file (Err (stop.PackTorn pack)) n n' told = told
-of_file (Err (stop.LengthShort need)) n n' told = told
-of_file (Err (stop.DiscTooLong blocks)) n n' told = told
-of_file (Err (stop.Gap track)) n n' told = told
-of_file (Err (stop.CdgTooLong packs room)) n n' told = told
-of_file (Err (stop.TextTooLong packs)) n n' told = told
-of_file (Err (stop.LeadInShort need)) n n' told = told
-of_file (Err stop.NoMemory) n n' told = inr told
-of_file (Err stop.WriteFault) n n' told = told
+of_file : (answer : Result (Unit {0}) PressStop) (file : Input) → IsAtEnd file.left.after → EndIsTold file
+    → ScriptEnds file (press_status answer)
+of_file (Ok done) file end told = told
+of_file (Err (stop.PackTorn pack)) file end told = told
+of_file (Err (stop.LengthShort need)) file end told = told
+of_file (Err (stop.DiscTooLong blocks)) file end told = told
+of_file (Err (stop.Gap track)) file end told = told
+of_file (Err (stop.CdgTooLong packs room)) file end told = told
+of_file (Err (stop.TextTooLong packs)) file end told = told
+of_file (Err (stop.LeadInShort need)) file end told = told
+of_file (Err stop.NoMemory) file end told = inr (end, told)
+of_file (Err stop.WriteFault) file end told = told
 
 -- the sheet was read, and the file is refused
 pub file_stopped : (first : Input) (sheet : CueSheet) (left : Bytes) (status : Status) → IsFileStop left status → ReadsSheet first.left sheet → RoseOnce first.ends.before first.ends.after → SheetEnds first status
@@ -108,8 +111,10 @@ file_stopped first sheet left status why reads told = second_stopped first sheet
 pub sheet_read : (answer : Result (Unit {0}) PressStop) (status : Status) (first : Input) → status ≡ press_status answer → RoseOnce first.ends.before first.ends.after → SheetEnds first status
 sheet_read answer status first is told = subst (λ (s : Status). SheetEnds first s) (sym is) (of_sheet answer first told)
 
-pub file_read : (answer : Result (Unit {0}) PressStop) (status : Status) (n n' : Count) → status ≡ press_status answer → RoseOnce n n' → ScriptEnds (count n n') status
-file_read answer status n n' is told = subst (λ (s : Status). ScriptEnds (count n n') s) (sym is) (of_file answer n n' told)
+pub file_read : (answer : Result (Unit {0}) PressStop) (status : Status) (file : Input)
+    → status ≡ press_status answer → IsAtEnd file.left.after → EndIsTold file → ScriptEnds file status
+file_read answer status file is end told =
+    subst (λ (s : Status). ScriptEnds file s) (sym is) (of_file answer file end told)
 
 -- What is put
 
@@ -144,7 +149,7 @@ nothing_at held x y (Err why) same = λ other. unchanged held x y (same other)
 pub pressed_for : {K : Type 0} (held : K → Bytes) (x y : K) (sheet : CueSheet) (file : List ℕ) (lead_in audio : ℕ) (answer : Result (Unit {0}) PressStop)
     → OnOk answer ((bytes : List ℕ) × (packs : List (List ℕ)) × IsPressed (press_of sheet file lead_in audio) bytes packs × Appends (held x) (held y) bytes)
     → OnOk answer (IsPressable sheet file lead_in audio) → IfErr answer (IsPressStop sheet file lead_in audio)
-    → IfErr answer (λ why. why ≢ stop.WriteFault → y ≡ x) → (answer ≡ Err stop.WriteFault → PutsPressedPart (press_of sheet file lead_in audio) (change held x y))
+    → IfErr answer (λ why. why ≢ stop.WriteFault → y ≡ x) → (answer ≡ Err stop.WriteFault → PutsPressedPrefix (press_of sheet file lead_in audio) (change held x y))
     → IsPressedFor (press_of sheet file lead_in audio) (change held x y) answer
 pressed_for held x y sheet file lead_in audio answer pressed accepted why same part = record {
   done = both_ok answer _ _ accepted pressed;

@@ -13,10 +13,11 @@ use Rattle.stream_stages.specs.declared.played.PlayStop.TheVariants as play
 use Rattle.stream_stages.proofs.Slots.{length-all_symbols, sized_drop}
 use Rattle.stream_stages.proofs.Conversion.{length-units_of, units_sized, blocks_sized}
 use Rattle.stream_stages.proofs.Restoring.{taken_all}
-use Rattle.cdg_cmd.specs.Answer.{Does, play_status}
+use Rattle.cdg_cmd.specs.Answer.{Does}
 use Rattle.cdg_io.specs.Change.{Bytes, Change, from_to}
 use Rattle.cdg_io.proofs.Frames.{passing}
 use Rattle.cdg_screen.specs.Texts.{pixmap}
+use Rattle.cdg_cmd.specs.Stops.{play_status}
 use Rattle.cdg_cmd.specs.declared.command.Command.TheVariants.{Screen}
 use Rattle.cdg_cmd.specs.declared.status.Status.{Status}
 use Rattle.cdg_cmd.specs.declared.status.Status.TheVariants.{Done, Damaged, NoMemory}

@@ -1,15 +1,16 @@
 -- From the answer of a pump to the status of a command.
 use Rattle.std.proofs.Common.{◌≡◌, ◌≢◌, ◌≤◌, ℕ, Result, Ok, Err, IsErrOf, refl, sym, subst, ◌∙◌}
-use Rattle.cdg_io.specs.Causes.{Count, Rose, TellsFault}
+use Rattle.cdg_io.specs.Causes.{Rose, TellsFault}
+use Rattle.cdg_io.specs.Change.{Input}
 use Rattle.cdg_io.specs.Pump.{TellsEndOf}
 use Rattle.cdg_io.specs.declared.pumping.Pumped.{Pumped}
 use Rattle.cdg_io.specs.declared.pumping.PumpStop.{PumpStop}
 use Rattle.cdg_io.specs.declared.pumping.PumpStop.TheVariants as pump
 use Rattle.cdg_cmd.specs.Ends.{EndsInTurn}
-use Rattle.cdg_cmd.specs.Turns.{pump_status}
 use Rattle.cdg_cmd.proofs.Quiet.{count}
 use Rattle.cdg_cmd.proofs.Quiet as quiet
 use Rattle.cdg_cmd.specs.Faults.{TellsOne}
+use Rattle.cdg_cmd.specs.Stops.{pump_status}
 use Rattle.cdg_cmd.specs.declared.status.Status.{Status}
 use Rattle.cdg_cmd.specs.declared.status.Status.TheVariants.{NoMemory}
 
@@ -26,15 +27,15 @@ pub told_one : (answer : Result Pumped PumpStop) (status : Status) (f f' k k' : 
 told_one answer status f f' k k' is read write =
     subst (λ (s : Status). TellsOne (count f f') (count k k') s) (sym is) (faults answer f f' k k' read.later write.later read.rose read.same write.rose write.same)
 
-pumped : (answer : Result Pumped PumpStop) (n n' : Count) → TellsEndOf answer n n' → EndsInTurn (count n n') (pump_status answer)
-pumped (Ok done) n n' told = told
-pumped (Err pump.ReadFault) n n' told = told
-pumped (Err pump.WriteFault) n n' told = told
-pumped (Err (pump.Torn unit)) n n' told = told
-pumped (Err pump.TooLong) n n' told = told
+pumped : (answer : Result Pumped PumpStop) (input : Input) → TellsEndOf answer input.ends.before input.ends.after → EndsInTurn input (pump_status answer)
+pumped (Ok done) input told = told
+pumped (Err pump.ReadFault) input told = told
+pumped (Err pump.WriteFault) input told = told
+pumped (Err (pump.Torn unit)) input told = told
+pumped (Err pump.TooLong) input told = told
 
-pub ended_in_turn : (answer : Result Pumped PumpStop) (status : Status) (n n' : Count) → status ≡ pump_status answer → TellsEndOf answer n n' → EndsInTurn (count n n') status
-ended_in_turn answer status n n' is told = subst (λ (s : Status). EndsInTurn (count n n') s) (sym is) (pumped answer n n' told)
+pub ended_in_turn : (answer : Result Pumped PumpStop) (status : Status) (input : Input) → status ≡ pump_status answer → TellsEndOf answer input.ends.before input.ends.after → EndsInTurn input status
+ended_in_turn answer status input is told = subst (λ (s : Status). EndsInTurn input s) (sym is) (pumped answer input told)
 
 never_memory_at : (answer : Result Pumped PumpStop) → pump_status answer ≢ NoMemory
 never_memory_at (Ok done) e = absurd (cc)

@@ -4,17 +4,19 @@ use Rattle.std.specs.Prelude.{IsErr, IsOk}
 use Rattle.std.specs.Io.KnownBytes.{Consumes, IsAtEnd}
 use Rattle.std.proofs.Math.Nat.{eq-or-lt_of_le}
 use Rattle.std.proofs.lemmas.Bool.{cases_lt}
-use Rattle.cdg_io.specs.Causes.{Count, Rose, RoseOnce, TellsFault}
+use Rattle.cdg_io.specs.Causes.{Rose, RoseOnce, TellsFault}
+use Rattle.rw_merge.specs.Merging.{EndIsTold, EndIsUntold}
 use Rattle.checkpoint_files.specs.Table.{Across, Bad, Border, Check, Colours, Down, IsBadAt, IsCheckpointFile, LeadIn, Levels, Mark, Memory, Part, Program, Slots, ToCome, byte_of, file_size, row}
 use Rattle.cdg_checkpoint.specs.Resumed.{IsAcceptedBy, acceptance, EndsAsResumed as TellsRest}
 use Rattle.cdg_checkpoint.specs.declared.stops.Resumed.{Resumed}
 use Rattle.cdg_checkpoint.specs.declared.stops.ResumeStop.{ResumeStop}
 use Rattle.cdg_checkpoint.specs.declared.stops.ResumeStop.TheVariants as resume
 use Rattle.cdg_io.specs.Change.{Input}
-use Rattle.cdg_cmd.specs.Checkpoints.{ReadsCheckpoint, resume_status}
+use Rattle.cdg_cmd.specs.Checkpoints.{ReadsCheckpoint}
 use Rattle.cdg_cmd.specs.Ends.{CheckpointEnds, RestEnds}
 use Rattle.cdg_cmd.specs.Faults.{TellsFaults}
 use Rattle.cdg_cmd.specs.Keeps.{MayWrite}
+use Rattle.cdg_cmd.specs.Stops.{resume_status}
 use Rattle.cdg_cmd.specs.declared.status.Which.TheVariants.{First, Second}
 use Rattle.cdg_cmd.specs.declared.status.Status.{Status}
 use Rattle.cdg_cmd.specs.declared.status.Status.TheVariants.{Done, Damaged, Usage, ReadFault, WriteFault, NoMemory}
@@ -83,25 +85,25 @@ bad_within file byte bad le =
       | inr short ↦ omega (arith, bad.short short, short)
     ]
 
-whole_first : (n n' : Count) (good : Bool) (bad : ℕ) → RoseOnce n n' → CheckpointEnds (count n n') (if good then Done else Damaged bad)
-whole_first n n' true bad rose = rose
-whole_first n n' false bad rose = rose
+whole_first : (input : Input) (good : Bool) (bad : ℕ) → EndIsTold input → CheckpointEnds input (if good then Done else Damaged bad)
+whole_first input true bad rose = rose
+whole_first input false bad rose = rose
 
-module _ (at : ℕ) (n n' : Count) (file : List ℕ) where
+module _ (at : ℕ) (input : Input) (file : List ℕ) where
   -- a byte that tells that the file is too long is past its last, and any other is not
-  bad_end : (byte : ℕ) → IsBadAt file byte → (length file ≤ file_size → RoseOnce n n') → (file_size < length file → n' ≡ n) → (byte < file_size → RoseOnce n n') × (file_size ≤ byte → n' ≡ n)
+  bad_end : (byte : ℕ) → IsBadAt file byte → (length file ≤ file_size → EndIsTold input) → (file_size < length file → EndIsUntold input) → (byte < file_size → EndIsTold input) × (file_size ≤ byte → EndIsUntold input)
   bad_end byte bad rises stays =
       elim (cases_lt file_size (length file)) [
         | inl lt ↦ (λ below. absurd (omega (arith, bad.long lt, below)), λ past. stays lt)
         | inr le ↦ (λ below. rises le, λ past. absurd (omega (arith, bad_within file byte bad le, past)))
       ]
 
-  of_file : IsCheckpointFile file → (length file ≤ file_size → RoseOnce n n') → RoseOnce n n'
+  of_file : IsCheckpointFile file → (length file ≤ file_size → EndIsTold input) → EndIsTold input
   of_file is rises = rises (omega (arith, is.size))
 
-  first_end : (answer : Result Resumed ResumeStop) → IsAcceptedBy (acceptance answer) at file → (answer ≢ Err resume.FirstFault → length file ≤ file_size → RoseOnce n n')
-      → (answer ≢ Err resume.FirstFault → file_size < length file → n' ≡ n) → (answer ≡ Err resume.FirstFault → n' ≡ n) → CheckpointEnds (count n n') (resume_status answer)
-  first_end (Ok resumed) accepted rises stays failed = whole_first n n' (resumed.bad == 0) resumed.bad (of_file accepted.0 (rises (λ e. cc)))
+  first_end : (answer : Result Resumed ResumeStop) → IsAcceptedBy (acceptance answer) at file → (answer ≢ Err resume.FirstFault → length file ≤ file_size → EndIsTold input)
+      → (answer ≢ Err resume.FirstFault → file_size < length file → EndIsUntold input) → (answer ≡ Err resume.FirstFault → EndIsUntold input) → CheckpointEnds input (resume_status answer)
+  first_end (Ok resumed) accepted rises stays failed = whole_first input (resumed.bad == 0) resumed.bad (of_file accepted.0 (rises (λ e. cc)))
   first_end (Err resume.FirstFault) accepted rises stays failed = failed refl
   first_end (Err resume.SecondFault) accepted rises stays failed = of_file accepted.0 (rises (λ e. cc))
   first_end (Err resume.WriteFault) accepted rises stays failed = of_file accepted.0 (rises (λ e. cc))
@@ -112,28 +114,28 @@ module _ (at : ℕ) (n n' : Count) (file : List ℕ) where
   first_end (Err (resume.PastEnd blocks)) accepted rises stays failed = of_file accepted.0 (rises (λ e. cc))
 
   pub first_ended : (answer : Result Resumed ResumeStop) (status : Status) → status ≡ resume_status answer → IsAcceptedBy (acceptance answer) at file
-      → (answer ≢ Err resume.FirstFault → length file ≤ file_size → RoseOnce n n')
-      → (answer ≢ Err resume.FirstFault → file_size < length file → n' ≡ n) → (answer ≡ Err resume.FirstFault → n' ≡ n) → CheckpointEnds (count n n') status
-  first_ended answer status is accepted rises stays failed = subst (λ (s : Status). CheckpointEnds (count n n') s) (sym is) (first_end answer accepted rises stays failed)
+      → (answer ≢ Err resume.FirstFault → length file ≤ file_size → EndIsTold input)
+      → (answer ≢ Err resume.FirstFault → file_size < length file → EndIsUntold input) → (answer ≡ Err resume.FirstFault → EndIsUntold input) → CheckpointEnds input status
+  first_ended answer status is accepted rises stays failed = subst (λ (s : Status). CheckpointEnds input s) (sym is) (first_end answer accepted rises stays failed)
 
-whole_second : (n n' : Count) (good : Bool) (bad : ℕ) → RoseOnce n n' → RestEnds (count n n') (if good then Done else Damaged bad)
-whole_second n n' true bad rose = rose
-whole_second n n' false bad rose = rose
+whole_second : (input : Input) (good : Bool) (bad : ℕ) → EndIsTold input → RestEnds input (if good then Done else Damaged bad)
+whole_second input true bad rose = rose
+whole_second input false bad rose = rose
 
-second_end : (answer : Result Resumed ResumeStop) (n n' : Count) → (IsErr (acceptance answer) → n' ≡ n) → (IsOk (acceptance answer) → TellsRest answer n n') → RestEnds (count n n') (resume_status answer)
-second_end (Ok resumed) n n' same tells = whole_second n n' (resumed.bad == 0) resumed.bad (tells refl)
-second_end (Err resume.FirstFault) n n' same tells = same refl
-second_end (Err resume.SecondFault) n n' same tells = tells refl
-second_end (Err resume.WriteFault) n n' same tells = tells refl
-second_end (Err (resume.BadSave byte)) n n' same tells = same refl
-second_end (Err (resume.BeforeSave blocks)) n n' same tells = same refl
-second_end (Err (resume.Torn block)) n n' same tells = tells refl
-second_end (Err resume.TooLong) n n' same tells = tells refl
-second_end (Err (resume.PastEnd blocks)) n n' same tells = tells refl
+second_end : (answer : Result Resumed ResumeStop) (input : Input) → (IsErr (acceptance answer) → EndIsUntold input) → (IsOk (acceptance answer) → TellsRest answer input.ends.before input.ends.after) → RestEnds input (resume_status answer)
+second_end (Ok resumed) input same tells = whole_second input (resumed.bad == 0) resumed.bad (tells refl)
+second_end (Err resume.FirstFault) input same tells = same refl
+second_end (Err resume.SecondFault) input same tells = tells refl
+second_end (Err resume.WriteFault) input same tells = tells refl
+second_end (Err (resume.BadSave byte)) input same tells = same refl
+second_end (Err (resume.BeforeSave blocks)) input same tells = same refl
+second_end (Err (resume.Torn block)) input same tells = tells refl
+second_end (Err resume.TooLong) input same tells = tells refl
+second_end (Err (resume.PastEnd blocks)) input same tells = tells refl
 
-pub second_ended : (answer : Result Resumed ResumeStop) (status : Status) (n n' : Count) → status ≡ resume_status answer → (IsErr (acceptance answer) → n' ≡ n)
-    → (IsOk (acceptance answer) → TellsRest answer n n') → RestEnds (count n n') status
-second_ended answer status n n' is same tells = subst (λ (s : Status). RestEnds (count n n') s) (sym is) (second_end answer n n' same tells)
+pub second_ended : (answer : Result Resumed ResumeStop) (status : Status) (input : Input) → status ≡ resume_status answer → (IsErr (acceptance answer) → EndIsUntold input)
+    → (IsOk (acceptance answer) → TellsRest answer input.ends.before input.ends.after) → RestEnds input status
+second_ended answer status input is same tells = subst (λ (s : Status). RestEnds input s) (sym is) (second_end answer input same tells)
 
 -- The rest is read only after a checkpoint
 module _ {T : Type 0} (x y : T) (at : ℕ) (first : Input) (file : List ℕ) where

@@ -23,14 +23,14 @@ use Rattle.cdg_checkpoint.specs.Resumed.{IsAcceptedBy, IsResumed, IsResumedBy, R
 use Rattle.cdg_checkpoint.specs.declared.stops.Resumed.{Resumed}
 use Rattle.cdg_checkpoint.specs.declared.stops.ResumeStop.{ResumeStop}
 use Rattle.cdg_checkpoint.specs.declared.stops.ResumeStop.TheVariants as resume
-use Rattle.cdg_cmd.specs.Answer.{Does, play_status}
+use Rattle.cdg_cmd.specs.Answer.{Does}
 use Rattle.cdg_io.specs.Change.{Bytes, Change, from_to}
 use Rattle.cdg_io.proofs.Frames.{passing}
 use Rattle.cdg_screen.specs.Texts.{pixmap}
-use Rattle.cdg_cmd.specs.Checkpoints.{ResumesWith, resume_status}
+use Rattle.cdg_cmd.specs.Checkpoints.{ResumesWith}
 use Rattle.cdg_cmd.specs.Faults.{IsAnswered}
 use Rattle.cdg_cmd.specs.Resumes.{GoesOnFrom, IsAsScreen, IsSaveOf, PutSame, PutsMoment, ResumesFrom, reading}
-use Rattle.cdg_cmd.specs.Turns.{pump_status}
+use Rattle.cdg_cmd.specs.Stops.{play_status, pump_status, resume_status}
 use Rattle.cdg_cmd.specs.declared.command.Command.TheVariants.{Screen}
 use Rattle.cdg_cmd.specs.declared.status.Status.{Status}
 use Rattle.cdg_cmd.specs.declared.status.Status.TheVariants.{Done, Damaged}

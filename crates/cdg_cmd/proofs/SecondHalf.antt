@@ -19,12 +19,13 @@ use Rattle.stream_stages.specs.declared.played.Played.{Played}
 use Rattle.stream_stages.specs.declared.played.PlayStop.{PlayStop}
 use Rattle.stream_stages.specs.declared.played.PlayStop.TheVariants as play
 use Rattle.stream_stages.proofs.Restoring.{Recovers, found_packs, restores}
-use Rattle.cdg_cmd.specs.Answer.{Does, GivesBack, play_status}
+use Rattle.cdg_cmd.specs.Answer.{Does, GivesBack}
 use Rattle.cdg_io.specs.Change.{Bytes, Change, from_to}
 use Rattle.cdg_io.proofs.Frames.{passing}
 use Rattle.cdg_screen.specs.Texts.{pixmap}
 use Rattle.stream_stages.specs.Screen.{IsShownBy, Shows, moment}
 use Rattle.cdg_cmd.specs.Headline.{IsDamagedCopy, PutsPicture, written_packs}
+use Rattle.cdg_cmd.specs.Stops.{play_status}
 use Rattle.cdg_cmd.specs.declared.command.Command.TheVariants.{Convert, Screen}
 use Rattle.cdg_cmd.specs.declared.status.Status.{Status}
 use Rattle.cdg_cmd.specs.declared.status.Status.TheVariants.{Done, Damaged, NoMemory}

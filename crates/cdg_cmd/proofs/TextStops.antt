@@ -1,8 +1,10 @@
 -- Why a text is refused: one reason, and none where its grammar reads it.
-use Rattle.std.proofs.Common.{◌≡◌, ◌⊎◌, ◌<◌, ◌≤◌, ℕ, List, length, Result, Ok, Err, Some, refl, sym, ap, ◌∙◌, inl, inr, arith}
+use Rattle.std.proofs.Common.{◌≡◌, ◌⊎◌, ◌<◌, ◌≤◌, ℕ, List, length, Result, Ok, Err, None, Some, IfSome, refl, sym, ap, ◌∙◌, inl, inr, arith, length-append}
+use Rattle.std.specs.Io.KnownBytes.{Consumes, IsAtEnd}
 use Rattle.std.proofs.KnownBytes.{Consumes-kept}
 use Rattle.cdg_io.specs.Moves.{ConsumesBelow}
-use Rattle.cdg_io.specs.Whole.{StopsAtFault}
+use Rattle.cdg_io.specs.Causes.{Count}
+use Rattle.cdg_io.specs.Whole.{ReadsWithin, StopsAtFault}
 use Rattle.cue_sheet.specs.CueSheet.{CueSheet}
 use Rattle.cue_sheet.specs.Grammar.{read_cue}
 use Rattle.picture_script.specs.Script.{Drawing}
@@ -20,6 +22,25 @@ pub taken_at_fault : {S : Type 0} (left : S → Bytes) (faults : S → ℕ) (mos
     → StopsAtFault left faults most before after → ConsumesBelow (left before) (left after) n
 taken_at_fault left faults most n before after below stop =
     (stop.taken, omega (arith, stop.within, below), Consumes-kept _ _ _ _ stop.took stop.nothing)
+
+within : (left left' : Bytes) (taken : List ℕ) (most : ℕ) → Consumes left left' taken → IsAtEnd left'
+    → length taken ≤ most → IfSome left (λ text. length text ≤ most)
+within None left' taken most took end few = tt
+within (Some text) None taken most took end few = absurd took
+within (Some text) (Some rest) taken most took end few =
+    omega (arith, few, ap length took, length-append taken rest, ap length end)
+
+-- an input whose end came within the limit is not too long
+pub known_within : {S : Type 0} (left : S → Bytes) (ends : S → Count) (most : ℕ) (before after : S)
+    → ReadsWithin left ends most before after → IfSome (left before) (λ text. length text ≤ most)
+known_within left ends most before after read =
+    within (left before) (left after) read.taken most read.took read.end read.within
+
+-- nor is one that was kept
+pub kept_within : (left : Bytes) (bytes : List ℕ) (most : ℕ) → IfSome left (λ all. bytes ≡ all)
+    → length bytes ≤ most → IfSome left (λ text. length text ≤ most)
+kept_within None bytes most same few = tt
+kept_within (Some text) bytes most same few = omega (arith, few, ap length same)
 
 both_answers : {A E : Type 0} (r : Result A E) (a : A) (e : E) → r ≡ Ok a → r ≡ Err e → ⊥
 both_answers r a e ok err = (cc)

@@ -7,7 +7,8 @@ use Rattle.cdg_io.specs.declared.pumping.PumpStop.TheVariants as pump
 use Rattle.cdg_thin.specs.Calls.{ShowsAll, ThinsAll}
 use Rattle.cdg_thin.proofs.Calls.{whole}
 use Rattle.cdg_io.specs.Change.{Bytes, Change}
-use Rattle.cdg_cmd.specs.Thinned.{ThinsWith, thin_status}
+use Rattle.cdg_cmd.specs.Thinned.{ThinsWith}
+use Rattle.cdg_cmd.specs.Stops.{thin_status}
 use Rattle.cdg_cmd.specs.declared.status.Status.{Status}
 use Rattle.cdg_cmd.specs.declared.status.Status.TheVariants.{Done, NoMemory}
 use Rattle.cdg_cmd.proofs.WholeInputs.{both}

@@ -1,6 +1,6 @@
 -- What a command answers and writes.
-use Rattle.std.specs.Prelude.{IfErr, IfSome, ℕ, ◌==◌, ⊤, List, length, Result, Ok, Err, if◌then◌else◌}
-use Rattle.std.specs.Io.KnownBytes.{Appends}
+use Rattle.std.specs.Prelude.{IfErr, IfSome, ℕ, ◌≡◌, ◌⊎◌, ◌==◌, ⊤, List, length, Result, Ok, Err, if◌then◌else◌}
+use Rattle.std.specs.Io.KnownBytes.{Appends, IsAtEnd}
 use Rattle.cdg_io.specs.Moves.{AppendsPrefix}
 use Rattle.cdg_io.specs.Streams.{Streams, WritesAtEnd}
 use Rattle.cdg_screen.specs.Standing.{Standing}
@@ -11,7 +11,7 @@ use Rattle.stream_stages.specs.Calls.{IsAnsweredBy, IsListStop, IsMomentStop, Is
 use Rattle.stream_stages.specs.Convert.{IsConverted}
 use Rattle.stream_stages.specs.Check.{IsCheckListed}
 use Rattle.stream_stages.specs.Screen.{IsShownBy, Moment, Shows, moment}
-use Rattle.stream_stages.specs.TextListing.{IsListedBy, ListsTexts}
+use Rattle.stream_stages.specs.TextListing.{IsListedBy, IsWholeInput, ListsTexts}
 use Rattle.cdtext_packs.specs.declared.kinds.TextFault.{TextFault}
 use Rattle.cdtext_packs.specs.declared.kinds.TextFault.TheVariants as fault
 use Rattle.stream_stages.specs.declared.played.Played.{Played}
@@ -31,29 +31,13 @@ use Rattle.cdg_cmd.specs.Turns.{IsTurned, TurnsWith}
 use Rattle.cdg_workload.specs.Scratches.{IsScratched}
 use Rattle.cdg_workload.specs.Script.{generated_script}
 use Rattle.stream_trial.specs.Trial.{IsTrial}
+use Rattle.cdg_cmd.specs.Stops.{play_status}
 use Rattle.cdg_cmd.specs.declared.command.Command.{Command}
 use Rattle.cdg_cmd.specs.declared.command.Command.TheVariants.{Convert, Screen, State, Check, Q, Text, Author, Planar, Raw, Scratch, Gen, Trial, Merge, Thin, Press, Save, Resume}
 use Rattle.cdg_cmd.specs.declared.status.Which.TheVariants.{First}
 use Rattle.cdg_cmd.specs.declared.status.Refusal.TheVariants.{Torn, TooLong, PastEnd, TextMissing, TextNoSize, TextMalformed}
 use Rattle.cdg_cmd.specs.declared.status.Status.{Status}
 use Rattle.cdg_cmd.specs.declared.status.Status.TheVariants.{Done, Damaged, Refused, ReadFault, WriteFault, NoMemory}
-
--- the status where the text packs of a lead-in give no texts
-abbrev pub text_fault_status : TextFault → Status
-text_fault_status (fault.Missing seq) = Refused (TextMissing seq)
-text_fault_status fault.NoSize = Refused TextNoSize
-text_fault_status (fault.Malformed seq byte) = Refused (TextMalformed seq byte)
-text_fault_status fault.NoMemory = NoMemory
-
--- the status of what a player answers
-abbrev pub play_status : Result Played PlayStop → Status
-play_status (Ok played) = if played.bad == 0 then Done else Damaged played.bad
-play_status (Err play.ReadFault) = ReadFault First
-play_status (Err play.WriteFault) = WriteFault
-play_status (Err (play.Torn block)) = Refused (Torn block)
-play_status (Err play.TooLong) = Refused TooLong
-play_status (Err (play.PastEnd blocks)) = Refused (PastEnd blocks)
-play_status (Err (play.Text why)) = text_fault_status why
 
 -- whatever the input, a stream that is played is never told to be past its end, nor to have faulty texts; where the
 -- input tells its bytes, the answer is the exact one, unless a fault is told
@@ -124,6 +108,15 @@ Does Thin call status = ThinsWith call status
 Does (Press lead_in length) call status = PressesWith lead_in length call status
 Does (Save lead_in) call status = SavesWith lead_in call status
 Does (Resume at) call status = ResumesWith at call status
+
+-- What is known where no memory was found. `author` and `press` are said like any other end of theirs, and `text` has
+-- read nothing, or all of an input of whole blocks, not too many; the others take their memory before they read.
+abbrev pub LacksMemory : Command → Call Bytes → Type 0
+LacksMemory (Text lead_in form) call = (call.first.after ≡ call.first.before)
+    ⊎ (IsAtEnd call.first.after × IfSome call.first.before (IsWholeInput form))
+LacksMemory (Author lead_in length) call = AuthorsWith lead_in length call NoMemory
+LacksMemory (Press lead_in length) call = PressesWith lead_in length call NoMemory
+LacksMemory command call = ⊤
 
 -- the status is that the work is done and nothing is bad, and this holds; or it is a failed read, a failed write or want
 -- of memory, of which nothing is said

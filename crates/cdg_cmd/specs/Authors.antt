@@ -14,6 +14,7 @@ use Rattle.subcode_author.specs.declared.stops.AuthorStop.{AuthorStop}
 use Rattle.subcode_author.specs.declared.stops.AuthorStop.TheVariants as stop
 use Rattle.cdg_io.specs.Change.{Bytes, Change}
 use Rattle.cdg_cmd.specs.Call.{Call}
+use Rattle.cdg_cmd.specs.Stops.{author_status}
 use Rattle.cdg_cmd.specs.declared.status.Which.TheVariants.{First, Second}
 use Rattle.cdg_cmd.specs.declared.status.Refusal.TheVariants.{TooLong, PastEnd, Cue, Script, LengthShort, DiscTooLong, LeadInShort, TextTooLong}
 use Rattle.cdg_cmd.specs.declared.status.Status.{Status}
@@ -37,31 +38,31 @@ ReadsSheet input sheet = IsAtEnd input.after × IfSome input.before (λ text. Is
 abbrev pub ReadsScript : Change Bytes → List Drawing → Type 0
 ReadsScript input script = IsAtEnd input.after × IfSome input.before (λ text. IsScriptText text script)
 
--- why the first input gives no sheet
+-- why the first input gives no sheet: memory is lacking only for one that is not too long
 abbrev pub IsSheetStop : Bytes → Status → Type 0
 IsSheetStop left (ReadFault First) = ⊤
 IsSheetStop left (Refused TooLong) = IfSome left (λ text. most_text_bytes < length text)
 IsSheetStop left (Refused (Cue line why)) =
     IfSome left (λ text. (length text ≤ most_text_bytes) × (read_cue text ≡ Err (line, why)))
-IsSheetStop left NoMemory = ⊤
+IsSheetStop left NoMemory = IfSome left (λ text. length text ≤ most_text_bytes)
 IsSheetStop left status = ⊥
 
--- why the second input gives no script
+-- why the second input gives no script, likewise
 abbrev pub IsScriptStop : Bytes → Status → Type 0
 IsScriptStop left (ReadFault Second) = ⊤
 IsScriptStop left (Refused TooLong) = IfSome left (λ text. most_text_bytes < length text)
 IsScriptStop left (Refused (Script line why)) =
     IfSome left (λ text. (length text ≤ most_text_bytes) × (read_script text ≡ Err (line, why)))
-IsScriptStop left NoMemory = ⊤
+IsScriptStop left NoMemory = IfSome left (λ text. length text ≤ most_text_bytes)
 IsScriptStop left status = ⊥
 
 -- What was taken of an input whose text was not accepted: the most that a text has and one byte where it is too
--- long, no more than the most where a read failed, and all of it where its grammar refuses it.
+-- long, no more than the most where a read failed, and all of it where its grammar refuses it or memory is lacking.
 abbrev pub TakesAtStop : Change Bytes → Status → Type 0
 TakesAtStop input (ReadFault which) = ConsumesBelow input.before input.after (most_text_bytes + 1)
 TakesAtStop input (Refused TooLong) = ConsumesExactly input.before input.after (most_text_bytes + 1)
 TakesAtStop input (Refused why) = IsAtEnd input.after
-TakesAtStop input NoMemory = ConsumesBelow input.before input.after (most_text_bytes + 2)
+TakesAtStop input NoMemory = IsAtEnd input.after
 TakesAtStop input status = ⊥
 
 -- a read failed or no memory was found
@@ -69,18 +70,6 @@ abbrev pub IsStopped : Status → Type 0
 IsStopped (ReadFault which) = ⊤
 IsStopped NoMemory = ⊤
 IsStopped status = ⊥
-
--- the status of the answer to a sheet and a script
-abbrev pub author_status : Result (Unit {0}) AuthorStop → Status
-author_status (Ok done) = Done
-author_status (Err (stop.LengthShort need)) = Refused (LengthShort need)
-author_status (Err (stop.DiscTooLong blocks)) = Refused (DiscTooLong blocks)
-author_status (Err (stop.PastEnd blocks)) = Refused (PastEnd blocks)
-author_status (Err (stop.TextTooLong packs)) = Refused (TextTooLong packs)
-author_status (Err (stop.LeadInShort need)) = Refused (LeadInShort need)
-author_status (Err (stop.Late picture need free)) = Late picture need free
-author_status (Err stop.WriteFault) = WriteFault
-author_status (Err stop.NoMemory) = NoMemory
 
 -- the authored stream with the planned changes was put
 abbrev pub PutsAuthored : Disc → Change Bytes → Type 0

@@ -14,7 +14,7 @@ use Rattle.cdg_checkpoint.specs.declared.stops.ResumeStop.TheVariants as resume
 use Rattle.cdg_io.specs.Change.{Bytes, Change}
 use Rattle.cdg_cmd.specs.Call.{Call, through}
 use Rattle.cdg_cmd.specs.Endings.{EndsWith}
-use Rattle.cdg_cmd.specs.Turns.{pump_status}
+use Rattle.cdg_cmd.specs.Stops.{pump_status, resume_status}
 use Rattle.cdg_cmd.specs.declared.status.Which.TheVariants.{First, Second}
 use Rattle.cdg_cmd.specs.declared.status.Refusal.TheVariants.{Torn, TooLong, PastEnd, BadSave, BeforeSave}
 use Rattle.cdg_cmd.specs.declared.status.Status.{Status}
@@ -34,18 +34,6 @@ pub record ReadsCheckpoint (at : ℕ) (input : Change Bytes) (file : List ℕ) :
   pub not_later : (checkpoint_in file).program ≤ at
   pub taken : Consumes input.before input.after file
   pub end : IsAtEnd input.after
-
--- the status of what a resumed call answers
-abbrev pub resume_status : Result Resumed ResumeStop → Status
-resume_status (Ok resumed) = if resumed.bad == 0 then Done else Damaged resumed.bad
-resume_status (Err resume.FirstFault) = ReadFault First
-resume_status (Err resume.SecondFault) = ReadFault Second
-resume_status (Err resume.WriteFault) = WriteFault
-resume_status (Err (resume.BadSave byte)) = Refused (BadSave byte)
-resume_status (Err (resume.BeforeSave blocks)) = Refused (BeforeSave blocks)
-resume_status (Err (resume.Torn block)) = Refused (Torn block)
-resume_status (Err resume.TooLong) = Refused TooLong
-resume_status (Err (resume.PastEnd blocks)) = Refused (PastEnd blocks)
 
 -- A stream was resumed: the answer, the file that was read, what was put after it, and the exact answer where no
 -- fault is told.

@@ -1,47 +1,49 @@
 -- What a command leaves as it is.
-use Rattle.std.specs.Prelude.{◌≡◌, ◌≢◌, ◌⊎◌, ℕ, List, ⊤}
-use Rattle.cue_sheet.specs.CueSheet.{CueSheet}
-use Rattle.cdg_cmd.specs.Authors.{ReadsSheet}
+use Rattle.std.specs.Prelude.{◌≡◌, ◌≢◌, ◌⊎◌, ⊤}
 use Rattle.cdg_io.specs.Causes.{RoseOnce}
 use Rattle.cdg_io.specs.Change.{Bytes, Change, Input}
-use Rattle.cdg_cmd.specs.Checkpoints.{ReadsCheckpoint}
+use Rattle.cdg_cmd.specs.Profile.{AsItGoes, AtTheEnd, InTurn, MemoryUse, NoInput, OneInput, ReadingOrder, SecondAfter, TakesLater, TakesNothing, WritingTime, profile}
 use Rattle.cdg_cmd.specs.declared.command.Command.{Command}
-use Rattle.cdg_cmd.specs.declared.command.Command.TheVariants.{Convert, Screen, State, Check, Q, Text, Author, Planar, Raw, Scratch, Gen, Trial, Merge, Press, Save, Resume}
 use Rattle.cdg_cmd.specs.declared.status.Status.{Status}
 use Rattle.cdg_cmd.specs.declared.status.Status.TheVariants.{Done, Damaged, WriteFault, NoMemory}
 
+-- no input is read in this order
+abbrev pub IsUnread : ReadingOrder → Type 0
+IsUnread NoInput = ⊤
+IsUnread order = ⊥
+
+-- the second input is read in this order, where the first was read so
+abbrev pub ReachesSecond : ReadingOrder → Change Bytes → Type 0
+ReachesSecond InTurn first = ⊤
+ReachesSecond (SecondAfter holds) first = holds first
+ReachesSecond order first = ⊥
+
+-- it may be read: in turn with the first, or only after the end of the first was told
+abbrev pub MayReachSecond : ReadingOrder → Input → Type 0
+MayReachSecond InTurn first = ⊤
+MayReachSecond (SecondAfter holds) first = RoseOnce first.ends.before first.ends.after × holds first.left
+MayReachSecond order first = ⊥
+
 -- it reads no input
 abbrev pub ReadsNone : Command → Type 0
-ReadsNone (Gen seed pictures) = ⊤
-ReadsNone (Trial seed pictures) = ⊤
-ReadsNone command = ⊥
+ReadsNone command = IsUnread (profile command).reads
 
--- it reads its second input: `author` and `press` only after the first was read to its end, and its grammar accepted it;
--- `resume` only after the first is the file of a checkpoint that is not later
+-- it reads its second input
 abbrev pub ReadsSecond : Command → Change Bytes → Type 0
-ReadsSecond (Author lead_in length) first = (sheet : CueSheet) × ReadsSheet first sheet
-ReadsSecond (Press lead_in length) first = (sheet : CueSheet) × ReadsSheet first sheet
-ReadsSecond (Merge lead_in) first = ⊤
-ReadsSecond (Resume at) first = (file : List ℕ) × ReadsCheckpoint at first file
-ReadsSecond command first = ⊥
+ReadsSecond command first = ReachesSecond (profile command).reads first
 
--- it may read its second input so: `merge` in turn with the first, every other only after the end of the first was told
+-- it may read its second input
 abbrev pub MayReadSecond : Command → Input → Type 0
-MayReadSecond (Merge lead_in) first = ⊤
-MayReadSecond command first = RoseOnce first.ends.before first.ends.after × ReadsSecond command first.left
+MayReadSecond command first = MayReachSecond (profile command).reads first
+
+-- nothing is written but where the work is whole or a write fails
+abbrev pub WaitsForEnd : WritingTime → Type 0
+WaitsForEnd AtTheEnd = ⊤
+WaitsForEnd AsItGoes = ⊥
 
 -- it writes nothing but where its work is whole or a write fails
 abbrev pub WritesLast : Command → Type 0
-WritesLast (Screen lead_in form at) = ⊤
-WritesLast (State lead_in form at) = ⊤
-WritesLast (Check lead_in form) = ⊤
-WritesLast (Text lead_in form) = ⊤
-WritesLast (Author lead_in length) = ⊤
-WritesLast (Trial seed pictures) = ⊤
-WritesLast (Press lead_in length) = ⊤
-WritesLast (Save lead_in) = ⊤
-WritesLast (Resume at) = ⊤
-WritesLast command = ⊥
+WritesLast command = WaitsForEnd (profile command).writes
 
 -- the work is whole, or a write failed
 abbrev pub MayWrite : Status → Type 0
@@ -50,23 +52,23 @@ MayWrite (Damaged n) = ⊤
 MayWrite WriteFault = ⊤
 MayWrite status = ⊥
 
+-- no memory is taken
+abbrev pub IsWithoutMemory : MemoryUse → Type 0
+IsWithoutMemory TakesNothing = ⊤
+IsWithoutMemory memory = ⊥
+
+-- no memory is taken once the inputs are read
+abbrev pub IsMemoryFirst : MemoryUse → Type 0
+IsMemoryFirst TakesLater = ⊥
+IsMemoryFirst memory = ⊤
+
 -- it takes no memory
 abbrev pub TakesNone : Command → Type 0
-TakesNone (Convert lead_in form) = ⊤
-TakesNone (Check lead_in form) = ⊤
-TakesNone (Q lead_in form) = ⊤
-TakesNone Planar = ⊤
-TakesNone Raw = ⊤
-TakesNone (Scratch lead_in seed) = ⊤
-TakesNone (Gen seed pictures) = ⊤
-TakesNone command = ⊥
+TakesNone command = IsWithoutMemory (profile command).memory
 
 -- it takes all memory before it reads
 abbrev pub TakesFirst : Command → Type 0
-TakesFirst (Text lead_in form) = ⊥
-TakesFirst (Author lead_in length) = ⊥
-TakesFirst (Press lead_in length) = ⊥
-TakesFirst command = ⊤
+TakesFirst command = IsMemoryFirst (profile command).memory
 
 -- Of the two inputs and the output, in this order: what is not read and what is not written is as it was.
 pub record Keeps {S T K : Type 0} (command : Command) (read : Input) (before after : S × T × K)

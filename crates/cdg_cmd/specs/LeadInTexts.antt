@@ -1,5 +1,6 @@
 -- Streams in whose lead-in the text packs of an authored stream stand, and what is listed of them.
 use Rattle.std.specs.Prelude.{◌≡◌, ◌⊎◌, ℕ, ◌*◌, Bool, true, List}
+use Rattle.raw_subcode.specs.Sizes.{slots_a_block}
 use Rattle.raw_subcode.specs.declared.form.Form.{Form}
 use Rattle.raw_subcode.specs.declared.form.Form.TheVariants.{Raw}
 use Rattle.stream_writer.specs.SheetTexts.{sheet_texts}
@@ -30,7 +31,7 @@ pub record HasStrings (disc : Disc) (form : Form) (stream bytes lines : List ℕ
 pub record HasNoStrings (disc : Disc) (form : Form) (stream bytes lines : List ℕ) : Type 0 where
   pub none : has_no_text (sheet_texts disc.sheet) ≡ true
   pub copy : HasTextsOf form disc.lead_in stream bytes
-  pub lines_are : lines ≡ offers_line 0 (4 * disc.lead_in) 0
+  pub lines_are : lines ≡ offers_line 0 (slots_a_block * disc.lead_in) 0
 
 -- the lines that stand for the texts of a disc in a stream
 abbrev pub AreLinesOf : Disc → Form → List ℕ → List ℕ → List ℕ → Type 0

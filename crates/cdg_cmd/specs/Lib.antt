@@ -11,10 +11,12 @@ pub mod LeadInTexts
 pub mod Line
 pub mod Merges
 pub mod Presses
+pub mod Profile
 pub mod Resumes
 pub mod Spelling
 pub mod Splitting
 pub mod Thinned
+pub mod Stops
 pub mod Told
 pub mod Turns
 pub mod Unpresses

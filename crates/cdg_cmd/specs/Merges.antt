@@ -7,21 +7,11 @@ use Rattle.rw_merge.specs.declared.merge.MergeStop.{MergeStop}
 use Rattle.rw_merge.specs.declared.merge.MergeStop.TheVariants as merge
 use Rattle.cdg_io.specs.Change.{Bytes}
 use Rattle.cdg_cmd.specs.Call.{Call}
+use Rattle.cdg_cmd.specs.Stops.{merge_status}
 use Rattle.cdg_cmd.specs.declared.status.Which.TheVariants.{First, Second}
 use Rattle.cdg_cmd.specs.declared.status.Refusal.TheVariants.{Torn, TooLong, SecondTorn, Unequal}
 use Rattle.cdg_cmd.specs.declared.status.Status.{Status}
 use Rattle.cdg_cmd.specs.declared.status.Status.TheVariants.{Done, Damaged, Refused, ReadFault, WriteFault}
-
--- the status of what a merger answers
-abbrev pub merge_status : Result Merged MergeStop → Status
-merge_status (Ok merged) = if merged.bad == 0 then Done else Damaged merged.bad
-merge_status (Err merge.FirstFault) = ReadFault First
-merge_status (Err merge.SecondFault) = ReadFault Second
-merge_status (Err merge.WriteFault) = WriteFault
-merge_status (Err merge.TooLong) = Refused TooLong
-merge_status (Err (merge.Torn block)) = Refused (Torn block)
-merge_status (Err (merge.SecondTorn block)) = Refused (SecondTorn block)
-merge_status (Err (merge.Unequal blocks)) = Refused (Unequal blocks)
 
 -- Two readings were merged: the answer, the bytes that were taken of each, what was put for them, and the exact
 -- answer where no fault is told.

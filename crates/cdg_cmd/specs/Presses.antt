@@ -3,16 +3,15 @@ use Rattle.std.specs.Prelude.{◌≡◌, ◌≢◌, ℕ, ◌<◌, ◌≤◌, ⊤
 use Rattle.std.specs.Io.KnownBytes.{Appends, IsAtEnd}
 use Rattle.text_lines.specs.Text.{most_text_bytes}
 use Rattle.cue_sheet.specs.CueSheet.{CueSheet}
-use Rattle.toc_model.specs.Places.{layout_of}
-use Rattle.stream_writer.specs.Given.{PutsStreamPart, framing_of}
-use Rattle.stream_writer.specs.Needs.{text_packs}
-use Rattle.cdg_press.specs.Pressed.{IsPackAfter, IsPressed, Press, file_begin, press_of}
+use Rattle.cdg_io.specs.Moves.{AppendsPrefix}
+use Rattle.cdg_press.specs.Pressed.{IsPressed, Press, press_of}
 use Rattle.cdg_press.specs.Refusals.{IsPressable, IsPressStop}
 use Rattle.cdg_press.specs.declared.stops.PressStop.{PressStop}
 use Rattle.cdg_press.specs.declared.stops.PressStop.TheVariants as stop
 use Rattle.cdg_cmd.specs.Authors.{IsSheetStop, ReadsSheet, TakesAtStop}
 use Rattle.cdg_io.specs.Change.{Bytes, Change}
 use Rattle.cdg_cmd.specs.Call.{Call}
+use Rattle.cdg_cmd.specs.Stops.{press_status}
 use Rattle.cdg_cmd.specs.declared.status.Which.TheVariants.{Second}
 use Rattle.cdg_cmd.specs.declared.status.Refusal.TheVariants.{TooLong, LengthShort, DiscTooLong, LeadInShort, TextTooLong, PackTorn, Gap, CdgTooLong}
 use Rattle.cdg_cmd.specs.declared.status.Status.{Status}
@@ -24,25 +23,12 @@ pub record ReadsFile (input : Change Bytes) (file : List ℕ) : Type 0 where
   pub within : length file ≤ most_text_bytes
   pub held : IfSome input.before (λ bytes. file ≡ bytes)
 
--- why the second input gives no file
+-- why the second input gives no file: memory is lacking only for one that is not too long
 abbrev pub IsFileStop : Bytes → Status → Type 0
 IsFileStop left (ReadFault Second) = ⊤
 IsFileStop left (Refused TooLong) = IfSome left (λ file. most_text_bytes < length file)
-IsFileStop left NoMemory = ⊤
+IsFileStop left NoMemory = IfSome left (λ file. length file ≤ most_text_bytes)
 IsFileStop left status = ⊥
-
--- the status of the answer to a sheet and a file
-abbrev pub press_status : Result (Unit {0}) PressStop → Status
-press_status (Ok done) = Done
-press_status (Err (stop.PackTorn pack)) = Refused (PackTorn pack)
-press_status (Err (stop.LengthShort need)) = Refused (LengthShort need)
-press_status (Err (stop.DiscTooLong blocks)) = Refused (DiscTooLong blocks)
-press_status (Err (stop.Gap track)) = Refused (Gap track)
-press_status (Err (stop.CdgTooLong packs room)) = Refused (CdgTooLong packs room)
-press_status (Err (stop.TextTooLong packs)) = Refused (TextTooLong packs)
-press_status (Err (stop.LeadInShort need)) = Refused (LeadInShort need)
-press_status (Err stop.WriteFault) = WriteFault
-press_status (Err stop.NoMemory) = NoMemory
 
 -- a pressed stream was put
 abbrev pub PutsPressed : Press → Change Bytes → Type 0
@@ -50,12 +36,11 @@ PutsPressed press out =
     (bytes : List ℕ) × (packs : List (List ℕ)) × IsPressed press bytes packs
     × Appends out.before out.after bytes
 
--- the lead-in and blocks of the program were put, the last of these maybe in part
-abbrev pub PutsPressedPart : Press → Change Bytes → Type 0
-PutsPressedPart press out =
-    (n : ℕ) × (packs : List (List ℕ))
-    × PutsStreamPart (framing_of (layout_of press.sheet press.audio) (text_packs press.sheet) press.lead_in)
-    (IsPackAfter file_begin press.file) out n packs
+-- a prefix of a pressed stream was put
+abbrev pub PutsPressedPrefix : Press → Change Bytes → Type 0
+PutsPressedPrefix press out =
+    (bytes : List ℕ) × (packs : List (List ℕ)) × IsPressed press bytes packs
+    × AppendsPrefix out.before out.after bytes
 
 -- what is put for a sheet and a file, and why it is this answer
 pub record IsPressedFor (press : Press) (out : Change Bytes)
@@ -63,8 +48,8 @@ pub record IsPressedFor (press : Press) (out : Change Bytes)
   pub done : OnOk answer
       (IsPressable press.sheet press.file press.lead_in press.audio × PutsPressed press out)
   pub why : IfErr answer (IsPressStop press.sheet press.file press.lead_in press.audio)
-  -- a part where a write failed, and else nothing
-  pub cut : answer ≡ Err stop.WriteFault → PutsPressedPart press out
+  -- a prefix where a write failed, and else nothing
+  pub cut : answer ≡ Err stop.WriteFault → PutsPressedPrefix press out
   pub nothing : IfErr answer (λ why. why ≢ stop.WriteFault → Appends out.before out.after [])
 
 -- `press` ended with this status: at the sheet, at the file, or with the answer to both.

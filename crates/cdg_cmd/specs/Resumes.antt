@@ -7,12 +7,13 @@ use Rattle.checkpoint_files.specs.Table.{IsCheckpointFile}
 use Rattle.cdg_checkpoint.specs.Resumed.{IsResumed, IsResumedBy}
 use Rattle.cdg_checkpoint.specs.declared.stops.Resumed.{Resumed}
 use Rattle.cdg_checkpoint.specs.declared.stops.ResumeStop.{ResumeStop}
+use Rattle.raw_subcode.specs.Sizes.{block_bytes}
 use Rattle.cdg_cmd.specs.Answer.{Does}
 use Rattle.cdg_io.specs.Change.{Bytes, Change}
 use Rattle.cdg_cmd.specs.Call.{Call}
-use Rattle.cdg_cmd.specs.Checkpoints.{resume_status}
 use Rattle.cdg_cmd.specs.Faults.{IsAnswered}
 use Rattle.cdg_cmd.specs.Spelling.{IsAllowed}
+use Rattle.cdg_cmd.specs.Stops.{resume_status}
 use Rattle.cdg_cmd.specs.declared.command.Command.TheVariants.{Save, Screen}
 use Rattle.cdg_cmd.specs.declared.status.Status.{Status}
 use Rattle.cdg_cmd.specs.declared.status.Status.TheVariants.{Done}
@@ -75,5 +76,6 @@ pub record ResumesFrom (file : List ℕ) (at : ℕ) (rest : List ℕ) (out : Cha
   pub goes_on : IsCheckpointFile file → (checkpoint_in file).program ≤ at → GoesOnFrom file at rest out status
   -- where `save` wrote it of the first part of a stream, not later than the time, `screen` does the same with the
   -- whole stream
-  pub whole : (lead_in : ℕ) (part : List ℕ) → IsSaveOf lead_in part file → length part / 96 - lead_in ≤ at
+  pub whole : (lead_in : ℕ) (part : List ℕ) → IsSaveOf lead_in part file
+      → length part / block_bytes - lead_in ≤ at
       → IsAsScreen lead_in at (part ++ rest) out status

@@ -1,5 +1,6 @@
 -- What `thin` answers to a file of packs, and what it writes.
 use Rattle.std.specs.Prelude.{length, Result, Ok, Err, IfSome}
+use Rattle.raw_subcode.specs.Sizes.{symbols_a_slot}
 use Rattle.cdg_io.specs.Pump.{IsUnlessFault, answer_of}
 use Rattle.cdg_io.specs.declared.pumping.Pumped.{Pumped}
 use Rattle.cdg_io.specs.declared.pumping.PumpStop.{PumpStop}
@@ -8,23 +9,16 @@ use Rattle.cdg_thin.specs.Calls.{Thins, most_file_packs}
 use Rattle.cdg_io.specs.Change.{Bytes}
 use Rattle.cdg_cmd.specs.Call.{Call, through}
 use Rattle.cdg_cmd.specs.Endings.{EndsWith}
+use Rattle.cdg_cmd.specs.Stops.{thin_status}
 use Rattle.cdg_cmd.specs.declared.status.Which.TheVariants.{First}
 use Rattle.cdg_cmd.specs.declared.status.Refusal.TheVariants.{PackTorn, TooLong}
 use Rattle.cdg_cmd.specs.declared.status.Status.{Status}
 use Rattle.cdg_cmd.specs.declared.status.Status.TheVariants.{Done, Refused, ReadFault, WriteFault}
-
--- the status of what a thinner answers
-abbrev pub thin_status : Result Pumped PumpStop → Status
-thin_status (Ok pumped) = Done
-thin_status (Err pump.ReadFault) = ReadFault First
-thin_status (Err pump.WriteFault) = WriteFault
-thin_status (Err (pump.Torn unit)) = Refused (PackTorn unit)
-thin_status (Err pump.TooLong) = Refused TooLong
 
 -- the thin form of a file was written as its packs were read
 abbrev pub ThinsWith : Call Bytes → Status → Type 0
 ThinsWith call status =
     EndsWith thin_status (Thins (through call))
     (λ answer. IfSome call.first.before
-    (λ all. IsUnlessFault answer (answer_of 24 most_file_packs (length all))))
+    (λ all. IsUnlessFault answer (answer_of symbols_a_slot most_file_packs (length all))))
     status

@@ -9,18 +9,11 @@ use Rattle.cdg_io.specs.declared.pumping.PumpStop.TheVariants as pump
 use Rattle.cdg_io.specs.Change.{Bytes, Passed}
 use Rattle.cdg_cmd.specs.Call.{Call, through}
 use Rattle.cdg_cmd.specs.Endings.{EndsWith}
+use Rattle.cdg_cmd.specs.Stops.{pump_status}
 use Rattle.cdg_cmd.specs.declared.status.Which.TheVariants.{First}
 use Rattle.cdg_cmd.specs.declared.status.Refusal.TheVariants.{Torn, TooLong}
 use Rattle.cdg_cmd.specs.declared.status.Status.{Status}
 use Rattle.cdg_cmd.specs.declared.status.Status.TheVariants.{Done, Refused, ReadFault, WriteFault}
-
--- the status of what a pump answers
-abbrev pub pump_status : Result Pumped PumpStop → Status
-pump_status (Ok pumped) = Done
-pump_status (Err pump.ReadFault) = ReadFault First
-pump_status (Err pump.WriteFault) = WriteFault
-pump_status (Err (pump.Torn unit)) = Refused (Torn unit)
-pump_status (Err pump.TooLong) = Refused TooLong
 
 -- the number of blocks, and the text that is written for them
 pub record IsTurned (turned : List ℕ → List ℕ → Type 0) (bytes : List ℕ) (pumped : Pumped)

@@ -2,19 +2,20 @@
 ghost use Rattle.std.specs.Prelude.{◌≡◌, ◌≢◌, ◌≤◌, ◌<◌, ◌⊎◌, IfOk, IfErr, OnOk, Err};
 ghost use Rattle.disc_time.specs.Counts.{most_lead_in, time_count};
 ghost use Rattle.cdg_io.specs.Causes.{RoseOnce, TellsFault};
-ghost use Rattle.cdg_cmd.specs.Authors.{author_status, AuthorsWith, IsScriptStop, IsSheetStop, ReadsScript, ReadsSheet, TakesAtStop};
+ghost use Rattle.cdg_cmd.specs.Authors.{AuthorsWith, IsScriptStop, IsSheetStop, ReadsScript, ReadsSheet, TakesAtStop};
 ghost use Rattle.cdg_io.specs.Change.{change, input};
 ghost use Rattle.cdg_cmd.specs.Call.{call};
 ghost use Rattle.cdg_cmd.specs.Ends.{ScriptEnds, SheetEnds};
 ghost use Rattle.cdg_cmd.specs.Faults.{TellsFaults};
 ghost use Rattle.cdg_cmd.specs.Keeps.{MayReadSecond};
 
+use crate::stops::author_status;
 use crate::{Command, Refusal, Status, Which};
 use cdg_io::{ReadStop, Sink, Source, read_whole};
 use cue_sheet::{CueStop, Sheet};
 use picture_script::{Script, ScriptStop};
 use std::alloc::Global;
-use subcode_author::{AuthorStop, accepted_scripts_have_streams, author_stream};
+use subcode_author::{accepted_scripts_have_streams, author_stream};
 use text_lines::MOST_TEXT_BYTES;
 
 /// The cue sheet of the first input, or the status that says why there is none.
@@ -48,7 +49,7 @@ fn read_script<S: Source>(alloc: Global, second: &mut S) -> Result<Script, Statu
     ensures fault { TellsFault (Status.ReadFault Which.Second)
         (S.faults second.old) (S.faults second.new) result }
     ensures told { OnOk result (RoseOnce (S.ends second.old) (S.ends second.new)) }
-    ensures once { IfErr result (ScriptEnds (change S.ends second.old second.new)) }
+    ensures once { IfErr result (ScriptEnds (input S.left S.ends second.old second.new)) }
 {
     let text = match read_whole(alloc, second, MOST_TEXT_BYTES) {
         Ok(text) => text,
@@ -62,35 +63,6 @@ fn read_script<S: Source>(alloc: Global, second: &mut S) -> Result<Script, Statu
             Err(Status::Refused(Refusal::Script { line, why }))
         }
         Err(ScriptStop::NoMemory) => Err(Status::NoMemory),
-    }
-}
-
-// The status of the answer to a sheet and a script.
-fn author_status(answer: Result<(), AuthorStop>) -> Status
-    ensures { result ≡ author_status answer }
-{
-    match answer {
-        Ok(()) => Status::Done,
-        Err(AuthorStop::LengthShort { need }) => Status::Refused(Refusal::LengthShort { need }),
-        Err(AuthorStop::DiscTooLong { blocks }) => {
-            Status::Refused(Refusal::DiscTooLong { blocks })
-        }
-        Err(AuthorStop::PastEnd { blocks }) => Status::Refused(Refusal::PastEnd { blocks }),
-        Err(AuthorStop::TextTooLong { packs }) => Status::Refused(Refusal::TextTooLong { packs }),
-        Err(AuthorStop::LeadInShort { need }) => Status::Refused(Refusal::LeadInShort { need }),
-        Err(
-            AuthorStop::Late {
-                picture,
-                need,
-                free,
-            },
-        ) => Status::Late {
-            picture,
-            need,
-            free,
-        },
-        Err(AuthorStop::WriteFault) => Status::WriteFault,
-        Err(AuthorStop::NoMemory) => Status::NoMemory,
     }
 }
 
@@ -114,7 +86,7 @@ pub(crate) fn run_author<S: Source, T: Source, K: Sink>(
     ensures faults { TellsFaults (call S.faults T.faults K.faults (first.old, second.old, out.old)
         (first.new, second.new, out.new)) result }
     ensures first_ended { SheetEnds (input S.left S.ends first.old first.new) result }
-    ensures second_ended { ScriptEnds (change T.ends second.old second.new) result }
+    ensures second_ended { ScriptEnds (input T.left T.ends second.old second.new) result }
 {
     let sheet = match read_sheet(alloc, first) {
         Ok(sheet) => sheet,

@@ -2,12 +2,12 @@
 ghost use Rattle.std.specs.Prelude.{◌≢◌, ◌≤◌};
 ghost use Rattle.disc_time.specs.Counts.{most_lead_in};
 ghost use Rattle.cdg_cmd.specs.Answer.{Does};
-ghost use Rattle.cdg_io.specs.Change.{change};
+ghost use Rattle.cdg_io.specs.Change.{change, input};
 ghost use Rattle.cdg_cmd.specs.Call.{one_input};
 ghost use Rattle.cdg_cmd.specs.Ends.{EndsInTurn};
 ghost use Rattle.cdg_cmd.specs.Faults.{TellsOne};
 
-use crate::play::play_status;
+use crate::stops::play_status;
 use crate::{Command, Status};
 use cdg_io::{Sink, Source};
 use raw_subcode::Form;
@@ -27,7 +27,7 @@ pub(crate) fn run_convert<S: Source, K: Sink>(
     ensures memory { result ≢ Status.NoMemory }
     ensures faults { TellsOne (change S.faults source.old source.new)
         (change K.faults out.old out.new) result }
-    ensures ended { EndsInTurn (change S.ends source.old source.new) result }
+    ensures ended { EndsInTurn (input S.left S.ends source.old source.new) result }
 {
     play_status(Converter::new().convert(lead_in, form, source, out))
 }

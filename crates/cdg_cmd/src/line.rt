@@ -11,10 +11,11 @@ use arrayvec::ArrayString;
 use cdg_io::{Failed, Sink, put_all};
 use itoa::Buffer;
 
-type Line = ArrayString<128>;
+// The line of a status, which is never longer.
+type ErrorLine = ArrayString<128>;
 
 // A blank and a number.
-fn push_number(text: &mut Line, number: u32)
+fn push_number(text: &mut ErrorLine, number: u32)
     requires { length text.old.bytes ≤ 80 }
     ensures text { text.new.bytes ≡ words_and_count text.old.bytes number }
     ensures short { length text.new.bytes ≤ length text.old.bytes + 11 }
@@ -25,7 +26,7 @@ fn push_number(text: &mut Line, number: u32)
 }
 
 // Words and a number.
-fn push_counted(text: &mut Line, words: &str, number: u32)
+fn push_counted(text: &mut ErrorLine, words: &str, number: u32)
     requires { length text.old.bytes + length words.now ≤ 80 }
     ensures text { text.new.bytes ≡ text.old.bytes ++ words_and_count words.now number }
     ensures short { length text.new.bytes ≤ length text.old.bytes + length words.now + 11 }
@@ -35,7 +36,7 @@ fn push_counted(text: &mut Line, words: &str, number: u32)
 }
 
 // The name of an input, the number of a line of it, and why it is refused.
-fn push_line(text: &mut Line, name: &str, line: u32, why: &str)
+fn push_line(text: &mut ErrorLine, name: &str, line: u32, why: &str)
     requires room { length text.old.bytes + length name.now ≤ 40 }
     requires why { length why.now ≤ 20 }
     ensures text { text.new.bytes ≡ text.old.bytes ++ line_words name.now line why.now }
@@ -47,7 +48,7 @@ fn push_line(text: &mut Line, name: &str, line: u32, why: &str)
 }
 
 // The words of a refusal.
-fn push_refusal(text: &mut Line, refusal: Refusal)
+fn push_refusal(text: &mut ErrorLine, refusal: Refusal)
     requires { length text.old.bytes ≤ 20 }
     ensures text { text.new.bytes ≡ text.old.bytes ++ refusal_words refusal }
     ensures short { length text.new.bytes ≤ 100 }
@@ -82,7 +83,7 @@ fn push_refusal(text: &mut Line, refusal: Refusal)
 }
 
 // The words of a picture that is late.
-fn push_late(text: &mut Line, picture: u32, need: u32, free: u32)
+fn push_late(text: &mut ErrorLine, picture: u32, need: u32, free: u32)
     requires { text.old.bytes ≡ [] }
     ensures text { text.new.bytes ≡ late_words picture need free }
     ensures short { length text.new.bytes ≤ 100 }
@@ -96,10 +97,10 @@ fn push_late(text: &mut Line, picture: u32, need: u32, free: u32)
 }
 
 // The line of a status, with its line feed.
-fn line(status: Status) -> Line
+fn error_line(status: Status) -> ErrorLine
     ensures { result.bytes ≡ error_line status }
 {
-    let mut text = Line::new();
+    let mut text = ErrorLine::new();
     match status {
         Status::Done => return text,
         Status::Damaged(count) => {
@@ -133,5 +134,5 @@ pub fn tell<E: Sink>(err: &mut E, status: Status) -> Result<(), Failed>
     ensures cause { HasCause (E.faults err.old) (E.faults err.new) result }
     ensures done { status ≡ Status.Done → err.new ≡ err.old }
 {
-    put_all(err, line(status).as_str().as_bytes())
+    put_all(err, error_line(status).as_str().as_bytes())
 }

@@ -2,33 +2,16 @@
 ghost use Rattle.std.specs.Prelude.{◌≡◌, ◌≢◌, ◌≤◌};
 ghost use Rattle.disc_time.specs.Counts.{most_lead_in};
 ghost use Rattle.cdg_cmd.specs.Answer.{Does};
-ghost use Rattle.cdg_io.specs.Change.{change};
+ghost use Rattle.cdg_io.specs.Change.{input};
 ghost use Rattle.cdg_cmd.specs.Call.{call};
-ghost use Rattle.cdg_cmd.specs.Ends.{OtherEnds, ReadingEnds};
+ghost use Rattle.cdg_cmd.specs.Ends.{ReadingsEnd};
 ghost use Rattle.cdg_cmd.specs.Faults.{TellsFaults};
-ghost use Rattle.cdg_cmd.specs.Merges.{merge_status};
 
-use crate::{Command, Refusal, Status, Which};
+use crate::stops::merge_status;
+use crate::{Command, Status};
 use cdg_io::{Sink, Source};
-use rw_merge::{MergeStop, Merged, Merger};
+use rw_merge::Merger;
 use std::alloc::Global;
-
-// The status of what a merger answers.
-fn merge_status(answer: Result<Merged, MergeStop>) -> Status
-    ensures { result ≡ merge_status answer }
-{
-    match answer {
-        Ok(merged) if merged.bad == 0 => Status::Done,
-        Ok(merged) => Status::Damaged(merged.bad),
-        Err(MergeStop::FirstFault) => Status::ReadFault(Which::First),
-        Err(MergeStop::SecondFault) => Status::ReadFault(Which::Second),
-        Err(MergeStop::WriteFault) => Status::WriteFault,
-        Err(MergeStop::TooLong) => Status::Refused(Refusal::TooLong),
-        Err(MergeStop::Torn { block }) => Status::Refused(Refusal::Torn { block }),
-        Err(MergeStop::SecondTorn { block }) => Status::Refused(Refusal::SecondTorn { block }),
-        Err(MergeStop::Unequal { blocks }) => Status::Refused(Refusal::Unequal { blocks }),
-    }
-}
 
 /// Writes the packs on which two readings of a stream agree, as their blocks are read.
 #[tactic(auto, using(crate::proofs::MergeTold::told_none))]
@@ -47,8 +30,8 @@ pub(crate) fn run_merge<S: Source, T: Source, K: Sink>(
     ensures never { result ≢ Status.Usage }
     ensures faults { TellsFaults (call S.faults T.faults K.faults (first.old, second.old, out.old)
         (first.new, second.new, out.new)) result }
-    ensures first_ended { ReadingEnds (change S.ends first.old first.new) result }
-    ensures second_ended { OtherEnds (change T.ends second.old second.new) result }
+    ensures ended { ReadingsEnd (input S.left S.ends first.old first.new)
+        (input T.left T.ends second.old second.new) result }
 {
     match Merger::start(alloc) {
         Ok(mut merger) => merge_status(merger.run(lead_in, first, second, out)),

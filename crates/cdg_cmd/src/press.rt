@@ -8,12 +8,13 @@ ghost use Rattle.cdg_cmd.specs.Call.{call};
 ghost use Rattle.cdg_cmd.specs.Ends.{ScriptEnds, SheetEnds};
 ghost use Rattle.cdg_cmd.specs.Faults.{TellsFaults};
 ghost use Rattle.cdg_cmd.specs.Keeps.{MayReadSecond};
-ghost use Rattle.cdg_cmd.specs.Presses.{IsFileStop, PressesWith, ReadsFile, press_status};
+ghost use Rattle.cdg_cmd.specs.Presses.{IsFileStop, PressesWith, ReadsFile};
 
 use crate::author::read_sheet;
+use crate::stops::press_status;
 use crate::{Command, Refusal, Status, Which};
 use cdg_io::{ReadStop, Sink, Source, read_whole};
-use cdg_press::{PressStop, press_stream};
+use cdg_press::press_stream;
 use std::alloc::Global;
 use text_lines::MOST_TEXT_BYTES;
 
@@ -25,33 +26,13 @@ fn read_file<S: Source>(alloc: Global, second: &mut S) -> Result<Vec<u8>, Status
     ensures fault { TellsFault (Status.ReadFault Which.Second)
         (S.faults second.old) (S.faults second.new) result }
     ensures told { OnOk result (RoseOnce (S.ends second.old) (S.ends second.new)) }
-    ensures once { IfErr result (ScriptEnds (change S.ends second.old second.new)) }
+    ensures once { IfErr result (ScriptEnds (input S.left S.ends second.old second.new)) }
 {
     match read_whole(alloc, second, MOST_TEXT_BYTES) {
         Ok(file) => Ok(file),
         Err(ReadStop::Failed) => Err(Status::ReadFault(Which::Second)),
         Err(ReadStop::TooLong) => Err(Status::Refused(Refusal::TooLong)),
         Err(ReadStop::NoMemory) => Err(Status::NoMemory),
-    }
-}
-
-// The status of the answer to a sheet and a file.
-fn press_status(answer: Result<(), PressStop>) -> Status
-    ensures { result ≡ press_status answer }
-{
-    match answer {
-        Ok(()) => Status::Done,
-        Err(PressStop::PackTorn { pack }) => Status::Refused(Refusal::PackTorn { pack }),
-        Err(PressStop::LengthShort { need }) => Status::Refused(Refusal::LengthShort { need }),
-        Err(PressStop::DiscTooLong { blocks }) => Status::Refused(Refusal::DiscTooLong { blocks }),
-        Err(PressStop::Gap { track }) => Status::Refused(Refusal::Gap { track }),
-        Err(PressStop::CdgTooLong { packs, room }) => {
-            Status::Refused(Refusal::CdgTooLong { packs, room })
-        }
-        Err(PressStop::TextTooLong { packs }) => Status::Refused(Refusal::TextTooLong { packs }),
-        Err(PressStop::LeadInShort { need }) => Status::Refused(Refusal::LeadInShort { need }),
-        Err(PressStop::WriteFault) => Status::WriteFault,
-        Err(PressStop::NoMemory) => Status::NoMemory,
     }
 }
 
@@ -75,7 +56,7 @@ pub(crate) fn run_press<S: Source, T: Source, K: Sink>(
     ensures faults { TellsFaults (call S.faults T.faults K.faults (first.old, second.old, out.old)
         (first.new, second.new, out.new)) result }
     ensures first_ended { SheetEnds (input S.left S.ends first.old first.new) result }
-    ensures second_ended { ScriptEnds (change T.ends second.old second.new) result }
+    ensures second_ended { ScriptEnds (input T.left T.ends second.old second.new) result }
 {
     let sheet = match read_sheet(alloc, first) {
         Ok(sheet) => sheet,

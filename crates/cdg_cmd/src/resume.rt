@@ -2,35 +2,17 @@
 ghost use Rattle.std.specs.Prelude.{◌≡◌, ◌≢◌, ◌<◌, ◌⊎◌};
 ghost use Rattle.disc_time.specs.Counts.{time_count};
 ghost use Rattle.cdg_cmd.specs.Answer.{Does};
-ghost use Rattle.cdg_io.specs.Change.{change, input};
+ghost use Rattle.cdg_io.specs.Change.{input};
 ghost use Rattle.cdg_cmd.specs.Call.{call};
-ghost use Rattle.cdg_cmd.specs.Checkpoints.{resume_status};
 ghost use Rattle.cdg_cmd.specs.Ends.{CheckpointEnds, RestEnds};
 ghost use Rattle.cdg_cmd.specs.Faults.{TellsFaults};
 ghost use Rattle.cdg_cmd.specs.Keeps.{MayReadSecond, MayWrite};
 
-use crate::{Command, Refusal, Status, Which};
-use cdg_checkpoint::{Checkpointer, ResumeStop, Resumed};
+use crate::stops::resume_status;
+use crate::{Command, Status};
+use cdg_checkpoint::Checkpointer;
 use cdg_io::{Sink, Source};
 use std::alloc::Global;
-
-// The status of what a resumed call answers.
-fn resume_status(answer: Result<Resumed, ResumeStop>) -> Status
-    ensures { result ≡ resume_status answer }
-{
-    match answer {
-        Ok(resumed) if resumed.bad == 0 => Status::Done,
-        Ok(resumed) => Status::Damaged(resumed.bad),
-        Err(ResumeStop::FirstFault) => Status::ReadFault(Which::First),
-        Err(ResumeStop::SecondFault) => Status::ReadFault(Which::Second),
-        Err(ResumeStop::WriteFault) => Status::WriteFault,
-        Err(ResumeStop::BadSave { byte }) => Status::Refused(Refusal::BadSave { byte }),
-        Err(ResumeStop::BeforeSave { blocks }) => Status::Refused(Refusal::BeforeSave { blocks }),
-        Err(ResumeStop::Torn { block }) => Status::Refused(Refusal::Torn { block }),
-        Err(ResumeStop::TooLong) => Status::Refused(Refusal::TooLong),
-        Err(ResumeStop::PastEnd { blocks }) => Status::Refused(Refusal::PastEnd { blocks }),
-    }
-}
 
 /// Writes the picture at a moment of a stream of which a checkpoint, which is the first input, and the rest are given.
 #[tactic(auto, using(crate::proofs::MergeTold::told_none, crate::proofs::ResumeTold::never_memory, crate::proofs::ResumeTold::never_usage))]
@@ -52,8 +34,8 @@ pub(crate) fn run_resume<S: Source, T: Source, K: Sink>(
         ⊎ MayReadSecond (Command.Resume at) (input S.left S.ends first.old first.new) }
     ensures faults { TellsFaults (call S.faults T.faults K.faults (first.old, second.old, out.old)
         (first.new, second.new, out.new)) result }
-    ensures first_ended { CheckpointEnds (change S.ends first.old first.new) result }
-    ensures second_ended { RestEnds (change T.ends second.old second.new) result }
+    ensures first_ended { CheckpointEnds (input S.left S.ends first.old first.new) result }
+    ensures second_ended { RestEnds (input T.left T.ends second.old second.new) result }
 {
     match Checkpointer::start(alloc) {
         Ok(mut checkpointer) => resume_status(checkpointer.resume(at, first, second, out)),

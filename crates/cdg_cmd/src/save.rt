@@ -2,13 +2,13 @@
 ghost use Rattle.std.specs.Prelude.{◌≡◌, ◌≢◌, ◌≤◌};
 ghost use Rattle.disc_time.specs.Counts.{most_lead_in};
 ghost use Rattle.cdg_cmd.specs.Answer.{Does};
-ghost use Rattle.cdg_io.specs.Change.{change};
+ghost use Rattle.cdg_io.specs.Change.{change, input};
 ghost use Rattle.cdg_cmd.specs.Call.{one_input};
 ghost use Rattle.cdg_cmd.specs.Ends.{EndsFirst};
 ghost use Rattle.cdg_cmd.specs.Faults.{TellsOne};
 ghost use Rattle.cdg_cmd.specs.Keeps.{MayWrite};
 
-use crate::turn::pump_status;
+use crate::stops::pump_status;
 use crate::{Command, Status};
 use cdg_checkpoint::Checkpointer;
 use cdg_io::{Sink, Source};
@@ -29,7 +29,7 @@ pub(crate) fn run_save<S: Source, K: Sink>(
     ensures untouched { ¬ (MayWrite result) → out.new ≡ out.old }
     ensures faults { TellsOne (change S.faults source.old source.new)
         (change K.faults out.old out.new) result }
-    ensures ended { EndsFirst (change S.ends source.old source.new) result }
+    ensures ended { EndsFirst (input S.left S.ends source.old source.new) result }
 {
     match Checkpointer::start(alloc) {
         Ok(mut checkpointer) => pump_status(checkpointer.save(lead_in, source, out)),

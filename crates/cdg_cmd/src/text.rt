@@ -1,14 +1,14 @@
 // The command that lists the texts of a lead-in.
 ghost use Rattle.std.specs.Prelude.{◌≡◌, ◌≢◌, ◌≤◌};
 ghost use Rattle.disc_time.specs.Counts.{most_lead_in};
-ghost use Rattle.cdg_cmd.specs.Answer.{Does};
-ghost use Rattle.cdg_io.specs.Change.{change};
+ghost use Rattle.cdg_cmd.specs.Answer.{Does, LacksMemory};
+ghost use Rattle.cdg_io.specs.Change.{change, input};
 ghost use Rattle.cdg_cmd.specs.Call.{one_input};
 ghost use Rattle.cdg_cmd.specs.Ends.{EndsAsListed};
 ghost use Rattle.cdg_cmd.specs.Faults.{TellsOne};
 ghost use Rattle.cdg_cmd.specs.Keeps.{MayWrite};
 
-use crate::play::play_status;
+use crate::stops::play_status;
 use crate::{Command, Status};
 use cdg_io::{Sink, Source};
 use raw_subcode::Form;
@@ -28,10 +28,13 @@ pub(crate) fn run_text<S: Source, K: Sink>(
     requires form { form ≢ Form.Cooked }
     ensures does { result ≢ Status.NoMemory → Does (Command.Text lead_in form)
         (one_input S.left K.held (source.old, out.old) (source.new, out.new)) result }
+    // Where there is no memory nothing was read, or all of a whole input.
+    ensures lacks { result ≡ Status.NoMemory → LacksMemory (Command.Text lead_in form)
+        (one_input S.left K.held (source.old, out.old) (source.new, out.new)) }
     ensures untouched { ¬ (MayWrite result) → out.new ≡ out.old }
     ensures faults { TellsOne (change S.faults source.old source.new)
         (change K.faults out.old out.new) result }
-    ensures ended { EndsAsListed (change S.ends source.old source.new) result }
+    ensures ended { EndsAsListed (input S.left S.ends source.old source.new) result }
 {
     match TextLister::start(alloc) {
         Ok(mut lister) => play_status(lister.text_list(alloc, lead_in, form, source, out)),

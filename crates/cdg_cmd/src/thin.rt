@@ -1,29 +1,16 @@
 // The command that writes the thin form of a file of packs.
 ghost use Rattle.std.specs.Prelude.{◌≡◌, ◌≢◌};
 ghost use Rattle.cdg_cmd.specs.Answer.{Does};
-ghost use Rattle.cdg_io.specs.Change.{change};
+ghost use Rattle.cdg_io.specs.Change.{change, input};
 ghost use Rattle.cdg_cmd.specs.Call.{one_input};
 ghost use Rattle.cdg_cmd.specs.Ends.{EndsInTurn};
 ghost use Rattle.cdg_cmd.specs.Faults.{TellsOne};
-ghost use Rattle.cdg_cmd.specs.Thinned.{thin_status};
 
-use crate::{Command, Refusal, Status, Which};
-use cdg_io::{PumpStop, Pumped, Sink, Source};
+use crate::stops::thin_status;
+use crate::{Command, Status};
+use cdg_io::{Sink, Source};
 use cdg_thin::Thinner;
 use std::alloc::Global;
-
-// The status of what a thinner answers.
-fn thin_status(answer: Result<Pumped, PumpStop>) -> Status
-    ensures { result ≡ thin_status answer }
-{
-    match answer {
-        Ok(_) => Status::Done,
-        Err(PumpStop::ReadFault) => Status::ReadFault(Which::First),
-        Err(PumpStop::WriteFault) => Status::WriteFault,
-        Err(PumpStop::Torn { unit }) => Status::Refused(Refusal::PackTorn { pack: unit }),
-        Err(PumpStop::TooLong) => Status::Refused(Refusal::TooLong),
-    }
-}
 
 /// Writes the thin form of a file of packs as they are read.
 #[tactic(auto, using(crate::proofs::ThinTold::told_one, crate::proofs::Played::told_none, crate::proofs::ThinTold::never_memory, crate::proofs::ThinTold::ended_in_turn))]
@@ -33,7 +20,7 @@ pub(crate) fn run_thin<S: Source, K: Sink>(alloc: Global, source: &mut S, out: &
     ensures no_memory { result ≡ Status.NoMemory → (source.new ≡ source.old) × (out.new ≡ out.old) }
     ensures faults { TellsOne (change S.faults source.old source.new)
         (change K.faults out.old out.new) result }
-    ensures ended { EndsInTurn (change S.ends source.old source.new) result }
+    ensures ended { EndsInTurn (input S.left S.ends source.old source.new) result }
 {
     match Thinner::start(alloc) {
         Ok(mut thinner) => thin_status(thinner.run(source, out)),

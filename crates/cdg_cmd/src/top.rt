@@ -17,9 +17,9 @@ ghost use Rattle.cdg_cmd.specs.Spelling.{IsAllowed, Spells};
 ghost use Rattle.cdg_io.specs.Change.{Bytes, change, input};
 ghost use Rattle.cdg_cmd.specs.Call.{call, dry_call};
 ghost use Rattle.cdg_cmd.specs.Keeps.{Keeps, MayReadSecond, MayWrite, ReadsNone, TakesFirst, TakesNone, WantsMemory, WritesLast};
-ghost use Rattle.cdg_cmd.specs.Answer.{Does, GivesBack, GivesIfFound};
+ghost use Rattle.cdg_cmd.specs.Answer.{Does, GivesBack, GivesIfFound, LacksMemory};
 ghost use Rattle.cdg_cmd.specs.Faults.{IsAnswered, NoneRose, TellsFaults};
-ghost use Rattle.cdg_cmd.specs.Ends.{TellsEnds};
+ghost use Rattle.cdg_cmd.specs.Profile.{TellsEnds};
 ghost use Rattle.cdg_cmd.specs.Told.{Tells};
 ghost use Rattle.cdg_cmd.specs.Authors.{IsScriptText, IsSheetText};
 ghost use Rattle.cdg_cmd.specs.Headline.{HavePlace, IsDamagedCopy, PutsPicture, WritesOrIsLate, written_packs};
@@ -94,6 +94,10 @@ pub fn run<S: Source, T: Source, K: Sink, E: Sink>(
     ensures does { (command : Command) → Spells command (texts words.now) → result ≢ Status.NoMemory
         → Does command
         (call S.left T.left K.held (first.old, second.old, out.old) (first.new, second.new, out.new)) result }
+    // What is known of the inputs where no memory was found.
+    ensures lacks { (command : Command) → Spells command (texts words.now) → result ≡ Status.NoMemory
+        → LacksMemory command
+        (call S.left T.left K.held (first.old, second.old, out.old) (first.new, second.new, out.new)) }
 
     // A fault is told only where that count of faults rose, and no other count rises.
     ensures faults { TellsFaults (call S.faults T.faults K.faults (first.old, second.old, out.old)
@@ -104,7 +108,7 @@ pub fn run<S: Source, T: Source, K: Sink, E: Sink>(
         (first.old, second.old, out.old) (first.new, second.new, out.new)) → IsAnswered result }
     // The end of an input is told once where it was read to its end, and else not.
     ensures ends { (command : Command) → Spells command (texts words.now) → TellsEnds command
-        (input S.left S.ends first.old first.new) (change T.ends second.old second.new) result }
+        (input S.left S.ends first.old first.new) (input T.left T.ends second.old second.new) result }
     // The error output took the line of the status, or a prefix of it where its count rose.
     ensures told { Tells E.held E.faults err.old err.new result }
 
@@ -204,10 +208,13 @@ fn answer<S: Source, T: Source, K: Sink>(
     ensures does { (command : Command) → Spells command (texts words.now) → result ≢ Status.NoMemory
         → Does command
         (call S.left T.left K.held (first.old, second.old, out.old) (first.new, second.new, out.new)) result }
+    ensures lacks { (command : Command) → Spells command (texts words.now) → result ≡ Status.NoMemory
+        → LacksMemory command
+        (call S.left T.left K.held (first.old, second.old, out.old) (first.new, second.new, out.new)) }
     ensures faults { TellsFaults (call S.faults T.faults K.faults (first.old, second.old, out.old)
         (first.new, second.new, out.new)) result }
     ensures ends { (command : Command) → Spells command (texts words.now) → TellsEnds command
-        (input S.left S.ends first.old first.new) (change T.ends second.old second.new) result }
+        (input S.left S.ends first.old first.new) (input T.left T.ends second.old second.new) result }
 {
     match read_words(words) {
         Some(command) => perform(alloc, command, first, second, out),
@@ -235,10 +242,12 @@ fn perform<S: Source, T: Source, K: Sink>(
     ensures takes_none { TakesNone command → result ≢ Status.NoMemory }
     ensures does { result ≢ Status.NoMemory → Does command
         (call S.left T.left K.held (first.old, second.old, out.old) (first.new, second.new, out.new)) result }
+    ensures lacks { result ≡ Status.NoMemory → LacksMemory command
+        (call S.left T.left K.held (first.old, second.old, out.old) (first.new, second.new, out.new)) }
     ensures faults { TellsFaults (call S.faults T.faults K.faults (first.old, second.old, out.old)
         (first.new, second.new, out.new)) result }
     ensures ends { TellsEnds command (input S.left S.ends first.old first.new)
-        (change T.ends second.old second.new) result }
+        (input T.left T.ends second.old second.new) result }
 {
     match command {
         Command::Convert { lead_in, form } => run_convert(lead_in, form, first, out),

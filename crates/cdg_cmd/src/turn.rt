@@ -6,30 +6,18 @@ ghost use Rattle.cdg_io.specs.Causes.{TellsFault};
 ghost use Rattle.cdg_io.specs.Pump.{IsUnlessFault, TellsEndOf, answer_of};
 ghost use Rattle.q_channel.specs.PlanarStream.{IsBlockStream, IsPlanarStream};
 ghost use Rattle.cdg_cmd.specs.Answer.{Does};
-ghost use Rattle.cdg_io.specs.Change.{change, passed};
+ghost use Rattle.cdg_io.specs.Change.{change, input, passed};
 ghost use Rattle.cdg_cmd.specs.Call.{one_input};
 ghost use Rattle.cdg_cmd.specs.Ends.{EndsInTurn};
 ghost use Rattle.cdg_cmd.specs.Faults.{TellsOne};
-ghost use Rattle.cdg_cmd.specs.Turns.{IsTurned, ChangesBlocks, pump_status};
+ghost use Rattle.cdg_cmd.specs.Turns.{IsTurned, ChangesBlocks};
 
-use crate::{Command, Refusal, Status, Which};
+use crate::stops::pump_status;
+use crate::{Command, Status};
 use cdg_io::{PumpStop, Pumped, Sink, Source, pump};
 use cdg_workload::scratch;
 use q_channel::{BlockForms, PlanarForms};
 use raw_subcode::MOST_UNITS;
-
-/// The status of what a pump answers.
-pub(crate) fn pump_status(answer: Result<Pumped, PumpStop>) -> Status
-    ensures { result ≡ pump_status answer }
-{
-    match answer {
-        Ok(_) => Status::Done,
-        Err(PumpStop::ReadFault) => Status::ReadFault(Which::First),
-        Err(PumpStop::WriteFault) => Status::WriteFault,
-        Err(PumpStop::Torn { unit }) => Status::Refused(Refusal::Torn { block: unit }),
-        Err(PumpStop::TooLong) => Status::Refused(Refusal::TooLong),
-    }
-}
 
 // Writes the planar form of each block as the blocks are read.
 fn planar_stream<S: Source, K: Sink>(source: &mut S, out: &mut K) -> Result<Pumped, PumpStop>
@@ -75,7 +63,7 @@ pub(crate) fn run_scratch<S: Source, K: Sink>(
     ensures memory { result ≢ Status.NoMemory }
     ensures faults { TellsOne (change S.faults source.old source.new)
         (change K.faults out.old out.new) result }
-    ensures ended { EndsInTurn (change S.ends source.old source.new) result }
+    ensures ended { EndsInTurn (input S.left S.ends source.old source.new) result }
 {
     pump_status(scratch(lead_in, seed, source, out))
 }
@@ -88,7 +76,7 @@ pub(crate) fn run_planar<S: Source, K: Sink>(source: &mut S, out: &mut K) -> Sta
     ensures memory { result ≢ Status.NoMemory }
     ensures faults { TellsOne (change S.faults source.old source.new)
         (change K.faults out.old out.new) result }
-    ensures ended { EndsInTurn (change S.ends source.old source.new) result }
+    ensures ended { EndsInTurn (input S.left S.ends source.old source.new) result }
 {
     pump_status(planar_stream(source, out))
 }
@@ -101,7 +89,7 @@ pub(crate) fn run_raw<S: Source, K: Sink>(source: &mut S, out: &mut K) -> Status
     ensures memory { result ≢ Status.NoMemory }
     ensures faults { TellsOne (change S.faults source.old source.new)
         (change K.faults out.old out.new) result }
-    ensures ended { EndsInTurn (change S.ends source.old source.new) result }
+    ensures ended { EndsInTurn (input S.left S.ends source.old source.new) result }
 {
     pump_status(raw_stream(source, out))
 }

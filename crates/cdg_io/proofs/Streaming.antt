@@ -89,7 +89,7 @@ module _ {S T E : Type 0} (reading : Reading T E) (machine : Machine S) (moved :
     taken_from = p.taken_from;
     within = p.within;
     done = tt;
-    torn = λ unit e. let same : told ≡ reading.torn_at unit = cc in (p.torn unit (ap pump_error (tells.torn_only unit same))).0;
+    torn = λ unit e. let same : told ≡ reading.torn_at unit = cc in p.torn unit (ap pump_error (tells.torn_only unit same));
     put = λ h. put_all (Err stop) some all p (λ e. let same : stop ≡ WriteFault = cc in h (ap (error T) (tells.fault_kept same)));
     in_turn = λ e.
         let same : told ≡ reading.write_fault = cc in

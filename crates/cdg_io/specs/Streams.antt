@@ -35,7 +35,10 @@ pub record Streams {T E : Type 0} (reading : Reading T E) (passed : Passed) (res
   pub within : length taken ≤ reading.cut.limit * reading.cut.size + 1
   pub done : IfOk result (λ answer. IsAtEnd passed.left.after × ((text : List ℕ)
       × reading.gives taken answer text × Appends passed.held.before passed.held.after text))
+  -- the input ended within the unit of this number: all of it was taken, and some of this unit
   pub torn : (unit : ℕ) → result ≡ Err (reading.torn_at unit) → IsAtEnd passed.left.after
+      × (unit < reading.cut.limit) × (unit * reading.cut.size < length taken)
+      × (length taken < unit * reading.cut.size + reading.cut.size)
   -- where no write failed, all is put that the whole units give
   pub put : result ≢ Err reading.write_fault → (text : List ℕ) × GivesText reading.gives taken text
       × Appends passed.held.before passed.held.after text

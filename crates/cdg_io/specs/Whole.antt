@@ -1,6 +1,7 @@
 -- What the reading of a whole input took of it where it stopped.
 use Rattle.std.specs.Prelude.{◌≡◌, ℕ, ◌≤◌, List, length}
-use Rattle.std.specs.Io.KnownBytes.{Consumes, Keeps}
+use Rattle.cdg_io.specs.Causes.{Count, RoseOnce}
+use Rattle.std.specs.Io.KnownBytes.{Consumes, IsAtEnd, Keeps}
 use Rattle.std.specs.declared.option.Option.{Option}
 
 -- known bytes begin with exactly n bytes, and lose them
@@ -18,3 +19,12 @@ pub record StopsAtFault {S : Type 0} (left : S → Option (List ℕ)) (faults : 
   pub took : Consumes (left before) (left last) taken
   pub quiet : faults last ≡ faults before
   pub nothing : Keeps (left last) (left after)
+
+-- The input was read to its end, which came within so many bytes and was told once.
+pub record ReadsWithin {S : Type 0} (left : S → Option (List ℕ)) (ends : S → Count) (most : ℕ)
+    (before after : S) : Type 0 where
+  pub taken : List ℕ
+  pub within : length taken ≤ most
+  pub took : Consumes (left before) (left after) taken
+  pub end : IsAtEnd (left after)
+  pub told : RoseOnce (ends before) (ends after)

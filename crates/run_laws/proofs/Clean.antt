@@ -17,10 +17,11 @@ use Rattle.stream_stages.specs.TextListing.{IsWholeInput}
 use Rattle.stream_stages.specs.declared.played.Played.{Played}
 use Rattle.stream_stages.specs.declared.played.PlayStop.{PlayStop}
 use Rattle.stream_stages.specs.declared.played.PlayStop.TheVariants as play
-use Rattle.cdg_cmd.specs.Answer.{Does, GivesBack, play_status}
+use Rattle.cdg_cmd.specs.Answer.{Does, GivesBack}
 use Rattle.cdg_io.specs.Change.{Bytes, Change, from_to}
 use Rattle.cdg_io.specs.Streams.{Streams}
 use Rattle.cdg_io.proofs.Frames.{passing}
+use Rattle.cdg_cmd.specs.Stops.{play_status}
 use Rattle.cdg_cmd.specs.declared.command.Command.TheVariants.{Convert}
 use Rattle.cdg_cmd.proofs.WholeInputs.{both, unless_memory}
 use Rattle.run_laws.specs.Undamaged.{IsCleanStream, form_words}

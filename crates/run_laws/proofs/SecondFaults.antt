@@ -15,15 +15,14 @@ use Rattle.cdg_press.specs.declared.stops.PressStop.TheVariants as press
 use Rattle.stream_stages.specs.declared.played.Played.{Played}
 use Rattle.stream_stages.specs.declared.played.PlayStop.{PlayStop}
 use Rattle.stream_stages.specs.declared.played.PlayStop.TheVariants as play
-use Rattle.cdg_cmd.specs.Answer.{Does, play_status}
-use Rattle.cdg_cmd.specs.Authors.{Answers, AuthorsWith, StopsAtScript, StopsAtSheet, author_status}
+use Rattle.cdg_cmd.specs.Answer.{Does}
+use Rattle.cdg_cmd.specs.Authors.{Answers, AuthorsWith, StopsAtScript, StopsAtSheet}
 use Rattle.cdg_io.specs.Change.{Bytes}
 use Rattle.cdg_cmd.specs.Call.{Call}
-use Rattle.cdg_cmd.specs.Checkpoints.{ResumesWith, resume_status}
+use Rattle.cdg_cmd.specs.Checkpoints.{ResumesWith}
 use Rattle.cdg_cmd.specs.Keeps.{ReadsSecond}
-use Rattle.cdg_cmd.specs.Presses.{Presses, PressesWith, RefusesFile, RefusesSheet, press_status}
-use Rattle.cdg_cmd.specs.Thinned.{thin_status}
-use Rattle.cdg_cmd.specs.Turns.{pump_status}
+use Rattle.cdg_cmd.specs.Presses.{Presses, PressesWith, RefusesFile, RefusesSheet}
+use Rattle.cdg_cmd.specs.Stops.{author_status, play_status, press_status, pump_status, resume_status, thin_status}
 use Rattle.cdg_cmd.specs.declared.command.Command.{Command}
 use Rattle.cdg_cmd.specs.declared.command.Command.TheVariants.{Convert, Screen, State, Check, Q, Text, Author, Planar, Raw, Scratch, Gen, Trial, Merge, Thin, Press, Save, Resume}
 use Rattle.cdg_cmd.specs.declared.status.Status.TheVariants.{Done, Damaged, ReadFault}

@@ -5,6 +5,7 @@ pub mod Wrong
 pub mod Slots
 pub mod Words
 pub mod PairReads
+pub mod Ends
 pub mod Faults
 pub mod Stops
 pub mod Working

@@ -4,9 +4,7 @@ use Rattle.std.specs.Prelude.{Option, Result, Ok, Err}
 use Rattle.std.specs.Io.KnownBytes.{Consumes, IsAtEnd}
 use Rattle.std.proofs.KnownBytes.{Consumes-nil}
 use Rattle.std.proofs.lemmas.List.{length-take}
-use Rattle.cdg_io.specs.Causes.{Count, TellsEnd}
 use Rattle.cdg_io.specs.Moves.{ConsumesBelow}
-use Rattle.rw_merge.specs.Merging.{RoseAtMost}
 use Rattle.rw_merge.specs.Steps.{IsEndRead, IsHalfRead, IsPairRead, taken_of}
 use Rattle.rw_merge.specs.declared.merge.MergeStop.{MergeStop}
 use Rattle.rw_merge.specs.declared.merge.MergeStop.TheVariants.{FirstFault, SecondFault, TooLong, Torn, SecondTorn, Unequal}
@@ -37,10 +35,6 @@ IsPair block result left left' other other' one two = (xs ys : List ℕ) × Cons
 -- a whole block was taken, or nothing at the end
 abbrev pub IsWholeOrNone : ℕ → Type 0
 IsWholeOrNone n = (n ≡ 0) ⊎ (96 ≤ n)
-
-pub told_at_most : {E : Type 0} (room : ℕ) (before now : Count) (n : ℕ) → room ≡ 96 → IsWholeOrNone n → TellsEnd {E = E} room before now (Ok n) → RoseAtMost before now
-told_at_most room before now n is (inl none) told = inr (told.ended (omega (arith, none, is)))
-told_at_most room before now n is (inr whole) told = inl (told.goes_on (omega (arith, whole, is)))
 
 stops_no_pair : (stop : MergeStop) (A : Type 0) → ◌≡◌ {A = Result Bool MergeStop} (Err stop) (Ok true) → A
 stops_no_pair stop A same = absurd (cc)

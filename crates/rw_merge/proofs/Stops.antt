@@ -2,10 +2,9 @@
 use Rattle.std.proofs.Common.{◌≡◌, ℕ, ◌+◌, ◌*◌, ◌/◌, ◌%◌, ◌<◌, ◌≤◌, List, length, ap, ◌∙◌, inl, inr, arith, length-append}
 use Rattle.std.specs.Prelude.{Option, Some, None, Err, IfSome}
 use Rattle.std.specs.Io.KnownBytes.{Consumes, IsAtEnd}
-use Rattle.cdg_io.specs.Causes.{Count}
 use Rattle.raw_subcode.specs.Sizes.{most_units}
-use Rattle.rw_merge.specs.Merging.{FirstIsAtEnd, EndsSecond, IsAnswer, TellsFirst, TellsSecond}
-use Rattle.rw_merge.specs.Steps.{IsEndRead, IsHalfRead, IsPairRead, Taken, TellsFirstAfter, TellsFirstOfPair, TellsSecondAfter, TellsSecondOfPair, taken_of}
+use Rattle.rw_merge.specs.Merging.{FirstIsAtEnd, EndsSecond, IsAnswer}
+use Rattle.rw_merge.specs.Steps.{IsEndRead, IsHalfRead, IsPairRead, Taken, taken_of}
 use Rattle.rw_merge.specs.declared.merge.MergeStop.{MergeStop}
 use Rattle.rw_merge.specs.declared.merge.MergeStop.TheVariants.{FirstFault, SecondFault, WriteFault, TooLong, Torn, SecondTorn, Unequal}
 
@@ -103,24 +102,6 @@ second_at_end blocks first other (Torn n) vs read = tt
 second_at_end blocks first other (SecondTorn n) vs (same, half, some, part, end) = end
 second_at_end blocks first other (Unequal n) vs read = tt
 
-pub first_told : (blocks : ℕ) (before now : Count) (first second : Taken) (stop : MergeStop) → IsPairRead blocks (Err stop) first second → TellsFirstOfPair (Err stop) before now → TellsFirst (Err stop) before now
-first_told blocks before now first second FirstFault read told = told
-first_told blocks before now first second SecondFault read told = told
-first_told blocks before now first second WriteFault read told = absurd read
-first_told blocks before now first second TooLong read told = told
-first_told blocks before now first second (Torn n) read told = told
-first_told blocks before now first second (SecondTorn n) read told = told
-first_told blocks before now first second (Unequal n) read told = told
-
-pub second_told : (before now : Count) (stop : MergeStop) → TellsSecondOfPair (Err stop) before now → TellsSecond (Err stop) before now
-second_told before now FirstFault told = told
-second_told before now SecondFault told = told
-second_told before now WriteFault told = told
-second_told before now TooLong told = told
-second_told before now (Torn n) told = told
-second_told before now (SecondTorn n) told = told
-second_told before now (Unequal n) told = told
-
 -- ---- The same where nothing more may follow.
 
 pub first_at_end_after : (left : Option (List ℕ)) (first second : Taken) (stop : MergeStop) → IsEndRead (Err stop) first second → FirstIsAtEnd (Err stop) left
@@ -140,24 +121,6 @@ second_at_end_after other first second TooLong read = tt
 second_at_end_after other first second (Torn n) read = tt
 second_at_end_after other first second (SecondTorn n) read = absurd read
 second_at_end_after other first second (Unequal n) read = tt
-
-pub first_told_after : (before now : Count) (first second : Taken) (stop : MergeStop) → IsEndRead (Err stop) first second → TellsFirstAfter (Err stop) before now → TellsFirst (Err stop) before now
-first_told_after before now first second FirstFault read told = told
-first_told_after before now first second SecondFault read told = told
-first_told_after before now first second WriteFault read told = absurd read
-first_told_after before now first second TooLong read told = told
-first_told_after before now first second (Torn n) read told = absurd read
-first_told_after before now first second (SecondTorn n) read told = told
-first_told_after before now first second (Unequal n) read told = told
-
-pub second_told_after : (before now : Count) (first second : Taken) (stop : MergeStop) → IsEndRead (Err stop) first second → TellsSecondAfter (Err stop) before now → TellsSecond (Err stop) before now
-second_told_after before now first second FirstFault read told = told
-second_told_after before now first second SecondFault read told = told
-second_told_after before now first second WriteFault read told = told
-second_told_after before now first second TooLong read told = told
-second_told_after before now first second (Torn n) read told = told
-second_told_after before now first second (SecondTorn n) read told = absurd read
-second_told_after before now first second (Unequal n) read told = absurd read
 
 -- ---- A write that failed says nothing of the lengths.
 

@@ -1,8 +1,8 @@
 -- What a merge of two readings of a stream takes, writes and answers.
 use Rattle.std.specs.Prelude.{◌≡◌, ◌≢◌, ◌⊎◌, ℕ, ◌+◌, ◌-◌, ◌*◌, ◌/◌, ◌%◌, ◌<◌, ◌≤◌, ⊤, min, List, length, take, slice_index_or, Option, None, Result, Ok, Err, IfOk}
-use Rattle.std.specs.Io.KnownBytes.{Appends, IsAtEnd}
+use Rattle.std.specs.Io.KnownBytes.{Appends, Consumes, IsAtEnd}
 use Rattle.cdg_io.specs.Causes.{Count, RoseOnce}
-use Rattle.cdg_io.specs.Change.{Bytes, Change}
+use Rattle.cdg_io.specs.Change.{Bytes, Change, Input}
 use Rattle.cdg_io.specs.Moves.{AppendsBetween}
 use Rattle.cdg_io.specs.Pump.{RoseBy}
 use Rattle.raw_subcode.specs.Channels.{program_symbols}
@@ -91,20 +91,48 @@ EndsSecond (Ok merged) left = IsAtEnd left
 EndsSecond (Err (SecondTorn block)) left = IsAtEnd left
 EndsSecond (Err stop) left = ⊤
 
--- How often the end of the first input was told: it is asked for first, and never again once its end is told.
-abbrev pub TellsFirst : Result Merged MergeStop → Count → Count → Type 0
-TellsFirst (Ok merged) before now = RoseOnce before now
-TellsFirst (Err (Torn block)) before now = RoseOnce before now
-TellsFirst (Err FirstFault) before now = now ≡ before
-TellsFirst (Err WriteFault) before now = now ≡ before
-TellsFirst (Err stop) before now = RoseAtMost before now
+-- The end of an input was told once,
+abbrev pub EndIsTold : Input → Type 0
+EndIsTold input = RoseOnce input.ends.before input.ends.after
 
--- And that of the second.
-abbrev pub TellsSecond : Result Merged MergeStop → Count → Count → Type 0
-TellsSecond (Ok merged) before now = RoseOnce before now
-TellsSecond (Err (SecondTorn block)) before now = RoseOnce before now
-TellsSecond (Err (Unequal blocks)) before now = RoseAtMost before now
-TellsSecond (Err stop) before now = now ≡ before
+-- or was not told.
+abbrev pub EndIsUntold : Input → Type 0
+EndIsUntold input = input.ends.after ≡ input.ends.before
+
+-- Of two inputs that are read in turn: the end of this one was told once where no more bytes of it were taken than of
+-- the other, and else not.
+pub record EndsUnlessAhead (input other : Input) : Type 0 where
+  pub taken : List ℕ
+  pub other_taken : List ℕ
+  pub took : Consumes input.left.before input.left.after taken
+  pub other_took : Consumes other.left.before other.left.after other_taken
+  pub ended : length taken ≤ length other_taken → EndIsTold input
+  pub ahead : length other_taken < length taken → EndIsUntold input
+
+-- Of the two, the end of that one was told once of which fewer bytes were taken, and that of the other not.
+pub record EndsShorter (first second : Input) : Type 0 where
+  pub taken : List ℕ
+  pub other_taken : List ℕ
+  pub took : Consumes first.left.before first.left.after taken
+  pub other_took : Consumes second.left.before second.left.after other_taken
+  pub one : ((length taken < length other_taken) × EndIsTold first × EndIsUntold second)
+      ⊎ ((length other_taken < length taken) × EndIsUntold first × EndIsTold second)
+
+-- How often the ends of two readings were told where a merge stopped. A block of the first is asked for and then one
+-- of the second, and of neither once its end is told.
+abbrev pub EndsAtStop : MergeStop → Input → Input → Type 0
+EndsAtStop (Torn block) first second = EndIsTold first × EndIsUntold second
+EndsAtStop (SecondTorn block) first second = EndsUnlessAhead first second × EndIsTold second
+EndsAtStop (Unequal blocks) first second = EndsShorter first second
+EndsAtStop TooLong first second = EndsUnlessAhead first second × EndIsUntold second
+EndsAtStop SecondFault first second = EndsUnlessAhead first second × EndIsUntold second
+EndsAtStop FirstFault first second = EndIsUntold first × EndIsUntold second
+EndsAtStop WriteFault first second = EndIsUntold first × EndIsUntold second
+
+-- And where it is done both ends were told.
+abbrev pub EndsBoth : Result Merged MergeStop → Input → Input → Type 0
+EndsBoth (Ok merged) first second = EndIsTold first × EndIsTold second
+EndsBoth (Err stop) first second = EndsAtStop stop first second
 
 -- A count rose by so many or by one more.
 abbrev pub RoseByAbout : ℕ → Count → Count → Type 0

@@ -7,8 +7,8 @@ use Rattle.rw_interleave.specs.Gathering.{gather_next, gather_gives}
 use Rattle.cdg_io.specs.Run.{run_state, run_gives}
 use Rattle.rw_merge.specs.Agreement.{IsAgreement}
 use Rattle.cdg_io.specs.Causes.{Count, Rose, RoseOnce}
-use Rattle.cdg_io.specs.Change.{Change}
-use Rattle.rw_merge.specs.Merging.{RoseAtMost}
+use Rattle.cdg_io.specs.Change.{Change, Input}
+use Rattle.rw_merge.specs.Merging.{EndsAtStop, EndIsTold, EndIsUntold, RoseAtMost}
 use Rattle.rw_merge.specs.declared.merge.Merged.{Merged}
 use Rattle.rw_merge.specs.declared.merge.MergeStop.{MergeStop}
 use Rattle.rw_merge.specs.declared.merge.MergeStop.TheVariants.{FirstFault, SecondFault, WriteFault, TooLong, Torn, SecondTorn, Unequal}
@@ -72,32 +72,16 @@ IsEndRead (Err FirstFault) first second = (first.bytes ≡ []) × (second.bytes 
 IsEndRead (Err SecondFault) first second = (first.bytes ≡ []) × (second.bytes ≡ [])
 IsEndRead (Err stop) first second = ⊥
 
--- How often the end of the first input was told by then,
-abbrev pub TellsFirstOfPair : Result Bool MergeStop → Count → Count → Type 0
-TellsFirstOfPair (Ok true) before now = now ≡ before
-TellsFirstOfPair (Ok false) before now = RoseOnce before now
-TellsFirstOfPair (Err (Torn n)) before now = RoseOnce before now
-TellsFirstOfPair (Err FirstFault) before now = now ≡ before
-TellsFirstOfPair (Err stop) before now = RoseAtMost before now
+-- How often the ends of both inputs were told by then,
+abbrev pub EndsOfPair : Result Bool MergeStop → Input → Input → Type 0
+EndsOfPair (Ok true) first second = EndIsUntold first × EndIsUntold second
+EndsOfPair (Ok false) first second = EndIsTold first × EndIsTold second
+EndsOfPair (Err stop) first second = EndsAtStop stop first second
 
--- and that of the second
-abbrev pub TellsSecondOfPair : Result Bool MergeStop → Count → Count → Type 0
-TellsSecondOfPair (Ok true) before now = now ≡ before
-TellsSecondOfPair (Ok false) before now = RoseOnce before now
-TellsSecondOfPair (Err (SecondTorn n)) before now = RoseOnce before now
-TellsSecondOfPair (Err (Unequal n)) before now = RoseAtMost before now
-TellsSecondOfPair (Err stop) before now = now ≡ before
-
--- The same where nothing more may follow: of the first input,
-abbrev pub TellsFirstAfter : Result (Unit {0}) MergeStop → Count → Count → Type 0
-TellsFirstAfter (Ok done) before now = RoseOnce before now
-TellsFirstAfter (Err FirstFault) before now = now ≡ before
-TellsFirstAfter (Err stop) before now = RoseAtMost before now
-
--- and of the second
-abbrev pub TellsSecondAfter : Result (Unit {0}) MergeStop → Count → Count → Type 0
-TellsSecondAfter (Ok done) before now = RoseOnce before now
-TellsSecondAfter (Err stop) before now = now ≡ before
+-- and where nothing more may follow
+abbrev pub EndsAfter : Result (Unit {0}) MergeStop → Input → Input → Type 0
+EndsAfter (Ok done) first second = EndIsTold first × EndIsTold second
+EndsAfter (Err stop) first second = EndsAtStop stop first second
 
 -- A count of faults rose,
 abbrev pub Rises : Change ℕ → Type 0

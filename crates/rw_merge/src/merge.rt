@@ -5,10 +5,10 @@ ghost use Rattle.std.specs.Io.KnownBytes.{Consumes};
 ghost use Rattle.std.specs.declared.option.Option.{Option};
 ghost use Rattle.disc_time.specs.Counts.{most_lead_in};
 ghost use Rattle.cdg_io.specs.Causes.{TellsFault};
-ghost use Rattle.cdg_io.specs.Change.{change};
+ghost use Rattle.cdg_io.specs.Change.{change, input};
 ghost use Rattle.rw_interleave.specs.Stream.{bad_count};
 ghost use Rattle.rw_interleave.specs.Texts.{cdg_bytes};
-ghost use Rattle.rw_merge.specs.Merging.{FillsFirst, FillsSecond, FirstIsAtEnd, EndsSecond, IsAnswer, IsMergedText, Merges, TellsFirst, TellsSecond};
+ghost use Rattle.rw_merge.specs.Merging.{EndsBoth, EndsSecond, FillsFirst, FillsSecond, FirstIsAtEnd, IsAnswer, IsMergedText, Merges};
 ghost use Rattle.rw_merge.specs.Readings.{IsDamagedTwice, IsReadTwice, MergeRestores};
 ghost use Rattle.rw_merge.specs.Steps.{AreAgreements, CountsFaults, leading_slots, window_after, words_after};
 
@@ -125,8 +125,8 @@ impl Merger {
             IsAnswer lead_in result (length xs) (length ys))) }
         ensures first_end { FirstIsAtEnd result (S.left first.new) }
         ensures second_end { EndsSecond result (T.left second.new) }
-        ensures first_told { TellsFirst result (S.ends first.old) (S.ends first.new) }
-        ensures second_told { TellsSecond result (T.ends second.old) (T.ends second.new) }
+        ensures told { EndsBoth result (input S.left S.ends first.old first.new)
+            (input T.left T.ends second.old second.new) }
         ensures first_rooms { FillsFirst lead_in result (S.fills first.old) (S.fills first.new) }
         ensures second_rooms { FillsSecond lead_in result (T.fills second.old) (T.fills second.new) }
         ensures first_fault { TellsFault MergeStop.FirstFault
@@ -159,8 +159,8 @@ impl Merger {
         ensures answer { IfSome (S.left first.old) (λ xs. IfSome (T.left second.old) (λ ys.
             IsAnswer lead_in result (length xs) (length ys))) }
         ensures ends { FirstIsAtEnd result (S.left first.new) × EndsSecond result (T.left second.new)
-            × TellsFirst result (S.ends first.old) (S.ends first.new)
-            × TellsSecond result (T.ends second.old) (T.ends second.new) }
+            × EndsBoth result (input S.left S.ends first.old first.new)
+            (input T.left T.ends second.old second.new) }
         ensures rooms { FillsFirst lead_in result (S.fills first.old) (S.fills first.new)
             × FillsSecond lead_in result (T.fills second.old) (T.fills second.new) }
         ensures faults { CountsFaults result (change S.faults first.old first.new)

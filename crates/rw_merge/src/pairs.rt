@@ -1,8 +1,8 @@
 // Pairs of blocks, one of each input, in turn.
 ghost use Rattle.std.specs.Prelude.{◌≡◌, List, ℕ, Ok, true};
 ghost use Rattle.std.specs.Io.KnownBytes.{Consumes};
-ghost use Rattle.cdg_io.specs.Change.{change};
-ghost use Rattle.rw_merge.specs.Steps.{CountsReadFaults, FillsAfter, FillsFirstOfPair, FillsSecondOfPair, IsEndRead, IsPairRead, TellsFirstAfter, TellsFirstOfPair, TellsSecondAfter, TellsSecondOfPair, taken_of};
+ghost use Rattle.cdg_io.specs.Change.{change, input};
+ghost use Rattle.rw_merge.specs.Steps.{CountsReadFaults, EndsAfter, EndsOfPair, FillsAfter, FillsFirstOfPair, FillsSecondOfPair, IsEndRead, IsPairRead, taken_of};
 
 use crate::blocks::next_block;
 use crate::merge::MergeStop;
@@ -26,8 +26,8 @@ pub(crate) fn next_pair<S: Source, T: Source>(
         × (result ≡ Ok true → (xs ≡ one.new) × (ys ≡ other.new)) }
     ensures faults { CountsReadFaults result (change S.faults first.old first.new)
         (change T.faults second.old second.new) }
-    ensures told { TellsFirstOfPair result (S.ends first.old) (S.ends first.new)
-        × TellsSecondOfPair result (T.ends second.old) (T.ends second.new) }
+    ensures told { EndsOfPair result (input S.left S.ends first.old first.new)
+        (input T.left T.ends second.old second.new) }
     ensures rooms { FillsFirstOfPair result (S.fills first.old) (S.fills first.new)
         × FillsSecondOfPair result (T.fills second.old) (T.fills second.new) }
 {
@@ -67,8 +67,8 @@ pub(crate) fn nothing_follows<S: Source, T: Source>(
         × IsEndRead result (taken_of xs (S.left first.new)) (taken_of ys (T.left second.new)) }
     ensures faults { CountsReadFaults result (change S.faults first.old first.new)
         (change T.faults second.old second.new) }
-    ensures told { TellsFirstAfter result (S.ends first.old) (S.ends first.new)
-        × TellsSecondAfter result (T.ends second.old) (T.ends second.new) }
+    ensures told { EndsAfter result (input S.left S.ends first.old first.new)
+        (input T.left T.ends second.old second.new) }
     ensures rooms { FillsAfter result (S.fills first.old) (S.fills first.new)
         × FillsAfter result (T.fills second.old) (T.fills second.new) }
 {

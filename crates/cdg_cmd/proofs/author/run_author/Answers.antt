@@ -1,3 +1,4 @@
+use Rattle.std.proofs.Common.{refl}
 use Rattle.std.proofs.KnownBytes.{Appends-nil}
 use Rattle.cdg_io.specs.Change.{input}
 use Rattle.cdg_cmd.specs.Authors.{StopsAtScript, Answers}
@@ -27,7 +28,9 @@ pub returns-in-Err-clause-faults : goal.returns-in-Err-clause-faults
 returns-in-Err-clause-faults g c = told_at_sheet _ _ _ _ _ _ c.in-Err.ensures.err c.in-Err.ensures.fault
 
 pub returns-in-Err-clause-second_ended : goal.returns-in-Err-clause-second_ended
-returns-in-Err-clause-second_ended g c = sheet_stopped _ _ _ c.in-Err.ensures.err
+returns-in-Err-clause-second_ended g c =
+    sheet_stopped _ _ (input g.T.Source.left g.T.Source.ends c.args.second.now c.args.second.now)
+    refl refl c.in-Err.ensures.err
 
 pub returns-in-Err-read_script-clause-faults : goal.returns-in-Err-read_script-clause-faults
 returns-in-Err-read_script-clause-faults g c =
@@ -40,4 +43,6 @@ pub returns-clause-first_ended : goal.returns-clause-first_ended
 returns-clause-first_ended g c = sheet_read c.author_stream.result _ (input g.S.Source.left g.S.Source.ends c.args.first.now c.read_sheet.new.first) c.author_status.ensures c.in-Ok.ensures.told
 
 pub returns-clause-second_ended : goal.returns-clause-second_ended
-returns-clause-second_ended g c = script_read c.author_stream.result _ _ _ c.author_status.ensures c.in-Ok-read_script.ensures.told
+returns-clause-second_ended g c =
+    script_read c.author_stream.result _ (input g.T.Source.left g.T.Source.ends c.args.second.now c.read_script.new.second)
+    c.author_status.ensures c.in-Ok-read_script.ensures.ok.0 c.in-Ok-read_script.ensures.told

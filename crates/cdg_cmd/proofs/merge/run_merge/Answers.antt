@@ -1,4 +1,5 @@
-use Rattle.cdg_cmd.proofs.MergeTold.{first_ended, never_memory, never_usage, second_ended, told}
+use Rattle.cdg_io.specs.Change.{input}
+use Rattle.cdg_cmd.proofs.MergeTold.{ended, never_memory, never_usage, told}
 use Rattle.cdg_cmd.proofs.merge.run_merge.Goals as goal
 
 pub returns-in-Ok-clause-does : goal.returns-in-Ok-clause-does
@@ -29,8 +30,7 @@ returns-in-Ok-clause-faults g c =
     let done = c.run.ensures in
     told c.run.result _ _ _ _ _ _ _ c.merge_status.ensures done.first_fault done.second_fault done.write_fault
 
-pub returns-in-Ok-clause-first_ended : goal.returns-in-Ok-clause-first_ended
-returns-in-Ok-clause-first_ended g c = first_ended c.run.result _ _ _ c.merge_status.ensures c.run.ensures.first_told
-
-pub returns-in-Ok-clause-second_ended : goal.returns-in-Ok-clause-second_ended
-returns-in-Ok-clause-second_ended g c = second_ended c.run.result _ _ _ c.merge_status.ensures c.run.ensures.second_told
+pub returns-in-Ok-clause-ended : goal.returns-in-Ok-clause-ended
+returns-in-Ok-clause-ended g c =
+    ended c.run.result _ (input g.S.Source.left g.S.Source.ends c.args.first.now c.run.new.first)
+    (input g.T.Source.left g.T.Source.ends c.args.second.now c.run.new.second) c.merge_status.ensures c.run.ensures.told

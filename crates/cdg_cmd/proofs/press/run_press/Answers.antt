@@ -1,4 +1,4 @@
-use Rattle.std.proofs.Common.{sym, subst}
+use Rattle.std.proofs.Common.{refl, sym, subst}
 use Rattle.std.proofs.KnownBytes.{Appends-nil}
 use Rattle.cdg_io.specs.Change.{change, input}
 use Rattle.cdg_cmd.specs.Presses.{Presses, ReadsFile, RefusesFile}
@@ -15,7 +15,7 @@ returns-clause-does g c =
     let reads = subst (ReadsFile (change g.T.Source.left c.args.second.now c.read_file.new.second)) (sym c.deref.ensures.value) c.in-Ok-read_file.ensures.ok in
     Presses c.in-Ok.sheet c.deref.result.now c.press_stream.result c.in-Ok.ensures.ok reads c.press_status.ensures
     (pressed_for g.K.Sink.held c.args.out.now c.press_stream.new.out c.in-Ok.sheet c.deref.result.now c.args.lead_in c.args.length c.press_stream.result
-    c.press_stream.ensures.pressed c.press_stream.ensures.accepted c.press_stream.ensures.stop c.press_stream.ensures.untouched c.press_stream.ensures.part)
+    c.press_stream.ensures.pressed c.press_stream.ensures.accepted c.press_stream.ensures.stop c.press_stream.ensures.untouched c.press_stream.ensures.prefix)
 
 pub returns-clause-faults : goal.returns-clause-faults
 returns-clause-faults g c =
@@ -25,7 +25,9 @@ pub returns-in-Err-clause-faults : goal.returns-in-Err-clause-faults
 returns-in-Err-clause-faults g c = told_at_sheet _ _ _ _ _ _ c.in-Err.ensures.err c.in-Err.ensures.fault
 
 pub returns-in-Err-clause-second_ended : goal.returns-in-Err-clause-second_ended
-returns-in-Err-clause-second_ended g c = sheet_stopped _ _ _ c.in-Err.ensures.err
+returns-in-Err-clause-second_ended g c =
+    sheet_stopped _ _ (input g.T.Source.left g.T.Source.ends c.args.second.now c.args.second.now)
+    refl refl c.in-Err.ensures.err
 
 pub returns-in-Err-read_file-clause-faults : goal.returns-in-Err-read_file-clause-faults
 returns-in-Err-read_file-clause-faults g c =
@@ -38,4 +40,6 @@ pub returns-clause-first_ended : goal.returns-clause-first_ended
 returns-clause-first_ended g c = sheet_read c.press_stream.result _ (input g.S.Source.left g.S.Source.ends c.args.first.now c.read_sheet.new.first) c.press_status.ensures c.in-Ok.ensures.told
 
 pub returns-clause-second_ended : goal.returns-clause-second_ended
-returns-clause-second_ended g c = file_read c.press_stream.result _ _ _ c.press_status.ensures c.in-Ok-read_file.ensures.told
+returns-clause-second_ended g c =
+    file_read c.press_stream.result _ (input g.T.Source.left g.T.Source.ends c.args.second.now c.read_file.new.second)
+    c.press_status.ensures c.in-Ok-read_file.ensures.ok.end c.in-Ok-read_file.ensures.told

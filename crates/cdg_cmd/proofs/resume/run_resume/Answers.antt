@@ -31,12 +31,12 @@ returns-in-Ok-clause-second g c =
 pub returns-in-Ok-clause-first_ended : goal.returns-in-Ok-clause-first_ended
 returns-in-Ok-clause-first_ended g c =
     let done = c.resume.ensures in
-    first_ended c.args.at _ _ c.resume.new.self.file c.resume.result _ c.resume_status.ensures done.accepted done.reads.told done.reads.goes_on done.reads.not_told
+    first_ended c.args.at (input g.S.Source.left g.S.Source.ends c.args.first.now c.resume.new.saved) c.resume.new.self.file c.resume.result _ c.resume_status.ensures done.accepted done.reads.told done.reads.goes_on done.reads.not_told
 
 pub returns-in-Ok-clause-second_ended : goal.returns-in-Ok-clause-second_ended
 returns-in-Ok-clause-second_ended g c =
     let done = c.resume.ensures in
-    second_ended c.resume.result _ _ _ c.resume_status.ensures (λ refused. ap g.T.Source.ends (done.rest_untouched refused)) done.rest_told
+    second_ended c.resume.result _ (input g.T.Source.left g.T.Source.ends c.args.second.now c.resume.new.rest) c.resume_status.ensures (λ refused. ap g.T.Source.ends (done.rest_untouched refused)) done.rest_told
 
 pub returns-in-Ok-clause-faults : goal.returns-in-Ok-clause-faults
 returns-in-Ok-clause-faults g c =

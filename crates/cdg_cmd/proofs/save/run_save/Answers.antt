@@ -1,3 +1,4 @@
+use Rattle.cdg_io.specs.Change.{input}
 use Rattle.cdg_cmd.proofs.Pumped.{never_memory, told_one}
 use Rattle.cdg_cmd.proofs.SaveTold.{ended_first, untouched}
 use Rattle.cdg_cmd.proofs.save.run_save.Goals as goal
@@ -25,4 +26,6 @@ returns-in-Ok-clause-faults g c =
     told_one c.save.result _ _ _ _ _ c.pump_status.ensures saved.read_fault saved.write_fault
 
 pub returns-in-Ok-clause-ended : goal.returns-in-Ok-clause-ended
-returns-in-Ok-clause-ended g c = ended_first c.save.result _ _ _ c.pump_status.ensures c.save.ensures.ended
+returns-in-Ok-clause-ended g c =
+    ended_first c.save.result _ (input g.S.Source.left g.S.Source.ends c.args.source.now c.save.new.source)
+    c.pump_status.ensures c.save.ensures.ended

@@ -1,4 +1,6 @@
-use Rattle.cdg_cmd.proofs.Played.{ended_listed, told_one, untouched}
+use Rattle.std.proofs.Common.{inr}
+use Rattle.cdg_io.specs.Change.{input}
+use Rattle.cdg_cmd.proofs.Played.{ended_listed, lacks_memory, told_one, untouched}
 use Rattle.cdg_cmd.proofs.text.run_text.Goals as goal
 
 pub returns-in-Ok-clause-does : goal.returns-in-Ok-clause-does
@@ -19,4 +21,13 @@ pub returns-in-Ok-clause-faults : goal.returns-in-Ok-clause-faults
 returns-in-Ok-clause-faults g c = told_one c.text_list.result _ _ _ _ _ c.play_status.ensures c.text_list.ensures.faults
 
 pub returns-in-Ok-clause-ended : goal.returns-in-Ok-clause-ended
-returns-in-Ok-clause-ended g c = ended_listed c.text_list.result _ _ _ c.play_status.ensures c.text_list.ensures.ended
+returns-in-Ok-clause-ended g c =
+    let played = c.text_list.ensures in
+    ended_listed c.text_list.result _ (input g.S.Source.left g.S.Source.ends c.args.source.now c.text_list.new.source)
+    c.play_status.ensures played.ended played.lists.1.plays.ended
+
+pub returns-in-Ok-clause-lacks : goal.returns-in-Ok-clause-lacks
+returns-in-Ok-clause-lacks g c = λ none.
+    let played = c.text_list.ensures in
+    inr (lacks_memory c.text_list.result _ c.args.form c.args.lead_in _ _ c.play_status.ensures
+    played.lists.1.plays.ended played.answer none)

@@ -1,8 +1,8 @@
 use Rattle.std.proofs.Common.{refl, subst}
-use Rattle.cdg_cmd.specs.Answer.{Does}
-use Rattle.cdg_io.specs.Change.{change, input}
+use Rattle.cdg_cmd.specs.Answer.{Does, LacksMemory}
+use Rattle.cdg_io.specs.Change.{input}
 use Rattle.cdg_cmd.specs.Call.{call}
-use Rattle.cdg_cmd.specs.Ends.{TellsEnds}
+use Rattle.cdg_cmd.specs.Profile.{TellsEnds}
 use Rattle.cdg_cmd.specs.Keeps.{Keeps, WantsMemory}
 use Rattle.cdg_cmd.specs.declared.command.Command.{Command}
 use Rattle.cdg_cmd.proofs.Told.{unchanged}
@@ -37,7 +37,7 @@ returns-in-Some-clause-does g c = λ command spelled found.
 
 pub returns-in-Some-clause-ends : goal.returns-in-Some-clause-ends
 returns-in-Some-clause-ends g c = λ command spelled.
-    subst (λ (k : Command). TellsEnds k (input g.S.Source.left g.S.Source.ends c.args.first.now c.perform.new.first) (change g.T.Source.ends c.args.second.now c.perform.new.second) c.perform.result)
+    subst (λ (k : Command). TellsEnds k (input g.S.Source.left g.S.Source.ends c.args.first.now c.perform.new.first) (input g.T.Source.left g.T.Source.ends c.args.second.now c.perform.new.second) c.perform.result)
     (same_command _ _ (c.in-Some.ensures.all command spelled)) c.perform.ensures.ends
 
 pub returns-in-None-clause-keeps : goal.returns-in-None-clause-keeps
@@ -54,3 +54,13 @@ returns-in-None-clause-ends g c = λ command spelled. absurd (no_command command
 
 pub returns-in-None-clause-faults : goal.returns-in-None-clause-faults
 returns-in-None-clause-faults g c = unchanged _ _ _
+
+pub returns-in-Some-clause-lacks : goal.returns-in-Some-clause-lacks
+returns-in-Some-clause-lacks g c = λ command spelled none.
+    subst (λ (k : Command). LacksMemory k (call g.S.Source.left g.T.Source.left g.K.Sink.held
+    (c.args.first.now, c.args.second.now, c.args.out.now) (c.perform.new.first, c.perform.new.second, c.perform.new.out)))
+    (same_command _ _ (c.in-Some.ensures.all command spelled)) (c.perform.ensures.lacks none)
+
+pub returns-in-None-clause-lacks : goal.returns-in-None-clause-lacks
+returns-in-None-clause-lacks g c = λ command spelled none.
+    absurd (no_command command (c.in-None.ensures.all command spelled))

@@ -1,6 +1,8 @@
-use Rattle.std.proofs.Common.{◌≡◌, ◌≤◌, ◌∙◌, length, refl, inl, inr, arith}
+use Rattle.std.proofs.Common.{◌≡◌, ◌≤◌, ◌<◌, ◌∙◌, length, take, refl, inl, inr, arith}
 use Rattle.cdg_io.proofs.PumpSteps.{Consumes-filled}
-use Rattle.rw_merge.proofs.PairReads.{IsWholeOrNone, both_at_end, first_failed, first_torn, is_none, one_has_more, second_failed, second_torn, told_at_most}
+use Rattle.std.proofs.lemmas.List.{length-take}
+use Rattle.rw_merge.proofs.Ends.{half_told, shorter_told}
+use Rattle.rw_merge.proofs.PairReads.{IsFilled, IsWholeOrNone, both_at_end, first_failed, first_torn, is_none, one_has_more, second_failed, second_torn}
 use Rattle.rw_merge.proofs.Rooms.{filled_at_most}
 use Rattle.rw_merge.proofs.pairs.next_pair.Goals as goal
 use Rattle.rw_merge.proofs.pairs.next_pair.Goals.{else-from_first-gt0-via-then-from_first-gt0+else-from_first-lt-BLOCK_BYTES, else-from_first-gt0-via-else-from_first-gt0}
@@ -87,7 +89,18 @@ returns-in-Err-next_block-clause-told g c =
       | else-from_first-gt0-via-then-from_first-gt0+else-from_first-lt-BLOCK_BYTES w ↦ inr w.if-from_first-lt-BLOCK_BYTES.false
       | else-from_first-gt0-via-else-from_first-gt0 w ↦ inl (is_none _ w.if-from_first-gt0.false)
     ] in
-    (told_at_most _ _ _ _ c.told-one first c.in-Ok.ensures.told, c.in-Err-next_block.ensures.told.failed)
+    let (taken, below, consumed) = c.in-Err-next_block.ensures.part in
+    let short : length taken < 96 = omega (arith, below, c.next_block-2.ensures.size, c.told-other) in
+    let filled : IsFilled 96 _ _ c.in-Ok.count c.next_block.new.block = record {
+      size_is = c.next_block.ensures.size ∙ c.told-one;
+      within = c.in-Ok.ensures.within;
+      taken = c.in-Ok.ensures.ok;
+      end = c.in-Ok.ensures.end;
+    } in (
+      half_told _ _ _ _ _ _ _ _ _ c.in-Ok.count c.next_block.new.block taken filled first consumed short c.told-one
+          c.in-Ok.ensures.told,
+      c.in-Err-next_block.ensures.told.failed,
+    )
 
 pub returns-then-from_second-lt-BLOCK_BYTES-clause-faults : goal.returns-then-from_second-lt-BLOCK_BYTES-clause-faults
 returns-then-from_second-lt-BLOCK_BYTES-clause-faults g c = (c.in-Ok.ensures.cause.same, c.in-Ok-next_block.ensures.cause.same)
@@ -99,7 +112,20 @@ returns-then-from_second-lt-BLOCK_BYTES-clause-told g c =
       | else-from_first-gt0-via-then-from_first-gt0+else-from_first-lt-BLOCK_BYTES w ↦ inr w.if-from_first-lt-BLOCK_BYTES.false
       | else-from_first-gt0-via-else-from_first-gt0 w ↦ inl (is_none _ w.if-from_first-gt0.false)
     ] in
-    (told_at_most _ _ _ _ c.told-one first c.in-Ok.ensures.told, c.in-Ok-next_block.ensures.told.ended (omega (arith, c.told-other, c.if-from_second-lt-BLOCK_BYTES.true)))
+    let taken = take c.in-Ok-next_block.count c.next_block-2.new.block in
+    let size = length-take c.in-Ok-next_block.count c.next_block-2.new.block in
+    let short : length taken < 96 = omega (arith, size, c.if-from_second-lt-BLOCK_BYTES.true) in
+    let filled : IsFilled 96 _ _ c.in-Ok.count c.next_block.new.block = record {
+      size_is = c.next_block.ensures.size ∙ c.told-one;
+      within = c.in-Ok.ensures.within;
+      taken = c.in-Ok.ensures.ok;
+      end = c.in-Ok.ensures.end;
+    } in (
+      half_told _ _ _ _ _ _ _ _ _ c.in-Ok.count c.next_block.new.block taken filled first
+          c.in-Ok-next_block.ensures.ok short c.told-one c.in-Ok.ensures.told,
+      c.in-Ok-next_block.ensures.told.ended
+          (omega (arith, c.told-other, c.if-from_second-lt-BLOCK_BYTES.true)),
+    )
 
 pub returns-then-from_first-from_second-clause-faults : goal.returns-then-from_first-from_second-clause-faults
 returns-then-from_first-from_second-clause-faults g c = (c.in-Ok.ensures.cause.same, c.in-Ok-next_block.ensures.cause.same)
@@ -116,7 +142,21 @@ returns-then-from_first-from_second-clause-told g c =
       | else-from_second-gt0-via-then-from_second-gt0+else-from_second-lt-BLOCK_BYTES w ↦ inr w.if-from_second-lt-BLOCK_BYTES.false
       | else-from_second-gt0-via-else-from_second-gt0 w ↦ inl (is_none _ w.if-from_second-gt0.false)
     ] in
-    (told_at_most _ _ _ _ c.told-one first c.in-Ok.ensures.told, told_at_most _ _ _ _ c.told-other second c.in-Ok-next_block.ensures.told)
+    let filled : IsFilled 96 _ _ c.in-Ok.count c.next_block.new.block = record {
+      size_is = c.next_block.ensures.size ∙ c.told-one;
+      within = c.in-Ok.ensures.within;
+      taken = c.in-Ok.ensures.ok;
+      end = c.in-Ok.ensures.end;
+    } in
+    let filled' : IsFilled 96 _ _ c.in-Ok-next_block.count c.next_block-2.new.block = record {
+      size_is = c.next_block-2.ensures.size ∙ c.told-other;
+      within = c.in-Ok-next_block.ensures.within;
+      taken = c.in-Ok-next_block.ensures.ok;
+      end = c.in-Ok-next_block.ensures.end;
+    } in
+    shorter_told _ _ _ _ _ _ _ _ _ c.in-Ok.count c.in-Ok-next_block.count _ c.next_block.new.block
+    c.next_block-2.new.block filled first filled' second c.if-from_first-from_second.true c.told-one c.told-other
+    c.in-Ok.ensures.told c.in-Ok-next_block.ensures.told
 
 pub returns-then-from_first-eq0-clause-faults : goal.returns-then-from_first-eq0-clause-faults
 returns-then-from_first-eq0-clause-faults g c = (c.in-Ok.ensures.cause.same, c.in-Ok-next_block.ensures.cause.same)

@@ -1,4 +1,6 @@
-use Rattle.std.proofs.Common.{refl, inl, inr, arith}
+use Rattle.std.proofs.Common.{◌≡◌, ◌<◌, length, take, refl, inl, inr, arith}
+use Rattle.std.proofs.lemmas.List.{length-take}
+use Rattle.rw_merge.proofs.Ends.{ended_told, more_told}
 use Rattle.rw_merge.proofs.PairReads.{end_of_first_failed, end_of_second_failed, first_goes_on, no_byte_follows, second_goes_on}
 use Rattle.rw_merge.proofs.pairs.nothing_follows.Goals as goal
 
@@ -21,7 +23,14 @@ pub returns-in-Ok-clause-faults : goal.returns-in-Ok-clause-faults
 returns-in-Ok-clause-faults g c = (c.in-Ok.ensures.cause.same, refl)
 
 pub returns-in-Ok-clause-told : goal.returns-in-Ok-clause-told
-returns-in-Ok-clause-told g c = (inl (c.in-Ok.ensures.told.goes_on (omega (arith, c.in-Ok.field-0-test.1))), refl)
+returns-in-Ok-clause-told g c =
+    let taken = take c.in-Ok.field-0 c.fill.new.buf in
+    let some : 0 < length taken =
+    omega (arith, length-take c.in-Ok.field-0 c.fill.new.buf, c.in-Ok.field-0-test.1, c.fill.auto.buf) in (
+      more_told _ _ _ _ _ _ taken c.in-Ok.ensures.ok some
+          (c.in-Ok.ensures.told.goes_on (omega (arith, c.in-Ok.field-0-test.1))),
+      refl,
+    )
 
 pub returns-in-Err-clause-faults : goal.returns-in-Err-clause-faults
 returns-in-Err-clause-faults g c = ((c.in-Err.ensures.cause.later, c.in-Err.ensures.cause.failed), refl)
@@ -39,13 +48,30 @@ pub returns-in-Ok-fill-clause-faults : goal.returns-in-Ok-fill-clause-faults
 returns-in-Ok-fill-clause-faults g c = (c.in-Ok-eq0.ensures.cause.same, c.in-Ok-fill.ensures.cause.same)
 
 pub returns-in-Ok-fill-clause-told : goal.returns-in-Ok-fill-clause-told
-returns-in-Ok-fill-clause-told g c = (inr (c.in-Ok-eq0.ensures.told.ended (omega (arith, c.in-Ok-eq0.field-0-test))), c.in-Ok-fill.ensures.told.goes_on (omega (arith, c.in-Ok-fill.field-0-test.1)))
+returns-in-Ok-fill-clause-told g c =
+    let taken = take c.in-Ok-eq0.field-0 c.fill.new.buf in
+    let none : length taken ≡ 0 =
+    omega (arith, length-take c.in-Ok-eq0.field-0 c.fill.new.buf, c.in-Ok-eq0.field-0-test) in (
+      ended_told _ _ _ _ _ _ _ _ taken _ c.in-Ok-eq0.ensures.ok none
+          (c.in-Ok-eq0.ensures.told.ended (omega (arith, c.in-Ok-eq0.field-0-test)))
+          c.in-Ok-fill.ensures.ok,
+      c.in-Ok-fill.ensures.told.goes_on (omega (arith, c.in-Ok-fill.field-0-test.1)),
+    )
 
 pub returns-in-Err-fill-clause-faults : goal.returns-in-Err-fill-clause-faults
 returns-in-Err-fill-clause-faults g c = (c.in-Ok-eq0.ensures.cause.same, (c.in-Err-fill.ensures.cause.later, c.in-Err-fill.ensures.cause.failed))
 
 pub returns-in-Err-fill-clause-told : goal.returns-in-Err-fill-clause-told
-returns-in-Err-fill-clause-told g c = (inr (c.in-Ok-eq0.ensures.told.ended (omega (arith, c.in-Ok-eq0.field-0-test))), c.in-Err-fill.ensures.told.failed)
+returns-in-Err-fill-clause-told g c =
+    let taken = take c.in-Ok-eq0.field-0 c.fill.new.buf in
+    let none : length taken ≡ 0 =
+    omega (arith, length-take c.in-Ok-eq0.field-0 c.fill.new.buf, c.in-Ok-eq0.field-0-test) in
+    let (other_taken, below, consumed) = c.in-Err-fill.ensures.part in (
+      ended_told _ _ _ _ _ _ _ _ taken other_taken c.in-Ok-eq0.ensures.ok none
+          (c.in-Ok-eq0.ensures.told.ended (omega (arith, c.in-Ok-eq0.field-0-test)))
+          consumed,
+      c.in-Err-fill.ensures.told.failed,
+    )
 
 pub returns-in-Ok-clause-rooms : goal.returns-in-Ok-clause-rooms
 returns-in-Ok-clause-rooms g c =

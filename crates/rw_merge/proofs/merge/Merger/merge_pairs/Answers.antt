@@ -4,11 +4,11 @@ use Rattle.std.specs.Io.KnownBytes.{Appends}
 use Rattle.cdg_io.specs.Pump.{RoseBy}
 use Rattle.cdg_io.proofs.PumpSteps.{no_more, one_more}
 use Rattle.raw_subcode.specs.Sizes.{most_units}
-use Rattle.rw_merge.specs.Merging.{TellsFirst, TellsSecond}
 use Rattle.rw_merge.proofs.Rooms.{first_filled, first_filled_after, second_filled, second_filled_after}
 use Rattle.cdg_io.proofs.Stops.{later_since, rose_once_since, rose_since}
 use Rattle.rw_merge.proofs.Faults.{counted_last}
-use Rattle.rw_merge.proofs.Stops.{first_at_end, first_at_end_after, first_told, first_told_after, second_at_end, second_at_end_after, second_told, second_told_after, write_answer}
+use Rattle.rw_merge.proofs.Ends.{stop_since}
+use Rattle.rw_merge.proofs.Stops.{first_at_end, first_at_end_after, second_at_end, second_at_end_after, write_answer}
 use Rattle.rw_merge.proofs.Working.{both_end, both_of_whole, end_of_whole, end_stops, pair_found, pair_of_whole, pair_stops, skipped_as, works_more, works_none, write_stops}
 use Rattle.rw_merge.proofs.merge.Merger.merge_pairs.Goals as goal
 use Rattle.rw_merge.proofs.merge.Merger.merge_pairs.Goals.{then-block-lead_in+in-Ok, else-block-lead_in}
@@ -140,8 +140,10 @@ returns-in-Ok-false-clause-ends g c =
     let told = rw c.in-Ok-false.field-0-test at c.in-Ok-false.ensures.told in (
       read.2,
       read.3,
-      rose_once_since c.loop-block.invariant.first_told told.0,
-      rose_once_since c.loop-block.invariant.second_told told.1,
+      (
+        rose_once_since c.loop-block.invariant.first_told told.0,
+        rose_once_since c.loop-block.invariant.second_told told.1,
+      ),
     )
 
 pub returns-in-Err-clause-faults : goal.returns-in-Err-clause-faults
@@ -149,13 +151,14 @@ returns-in-Err-clause-faults g c = counted_last Bool _ _ _ _ _ _ _ _ c.in-Err.st
 
 pub returns-in-Err-clause-ends : goal.returns-in-Err-clause-ends
 returns-in-Err-clause-ends g c =
+    let before = c.loop-block.invariant in
+    let (xs, ys, works) = before.works in
     let (us, vs, first, second, read, whole) = c.in-Err.ensures.pair in (
       first_at_end c.loop-block.block _ _ c.in-Err.stop us read,
       second_at_end c.loop-block.block _ _ c.in-Err.stop vs read,
-      subst (λ before. TellsFirst (Err c.in-Err.stop) before (g.S.Source.ends c.next_pair.new.first)) c.loop-block.invariant.first_told
-          (first_told c.loop-block.block _ _ _ _ c.in-Err.stop read c.in-Err.ensures.told.0),
-      subst (λ before. TellsSecond (Err c.in-Err.stop) before (g.T.Source.ends c.next_pair.new.second)) c.loop-block.invariant.second_told
-          (second_told _ _ c.in-Err.stop c.in-Err.ensures.told.1),
+      stop_since _ _ _ _ _ _ _ _ _ _ _ _ xs ys works.first_taken works.second_taken
+          (works.is_found.first_size ∙ sym works.is_found.second_size) before.first_told before.second_told
+          c.in-Err.stop c.in-Err.ensures.told,
     )
 
 pub returns-in-Ok-nothing_follows-clause-faults : goal.returns-in-Ok-nothing_follows-clause-faults
@@ -169,8 +172,10 @@ returns-in-Ok-nothing_follows-clause-ends g c =
     let told = c.in-Ok-nothing_follows.ensures.told in (
       read.2,
       read.3,
-      rose_once_since c.loop-block.invariant.first_told told.0,
-      rose_once_since c.loop-block.invariant.second_told told.1,
+      (
+        rose_once_since c.loop-block.invariant.first_told told.0,
+        rose_once_since c.loop-block.invariant.second_told told.1,
+      ),
     )
 
 pub returns-in-Err-nothing_follows-clause-faults : goal.returns-in-Err-nothing_follows-clause-faults
@@ -178,13 +183,14 @@ returns-in-Err-nothing_follows-clause-faults g c = counted_last (Unit {0}) _ _ _
 
 pub returns-in-Err-nothing_follows-clause-ends : goal.returns-in-Err-nothing_follows-clause-ends
 returns-in-Err-nothing_follows-clause-ends g c =
+    let before = c.loop-block.invariant in
+    let (xs, ys, works) = before.works in
     let (us, vs, first, second, read) = c.in-Err-nothing_follows.ensures.end in (
       first_at_end_after _ _ _ c.in-Err-nothing_follows.stop read,
       second_at_end_after _ _ _ c.in-Err-nothing_follows.stop read,
-      subst (λ before. TellsFirst (Err c.in-Err-nothing_follows.stop) before (g.S.Source.ends c.nothing_follows.new.first)) c.loop-block.invariant.first_told
-          (first_told_after _ _ _ _ c.in-Err-nothing_follows.stop read c.in-Err-nothing_follows.ensures.told.0),
-      subst (λ before. TellsSecond (Err c.in-Err-nothing_follows.stop) before (g.T.Source.ends c.nothing_follows.new.second)) c.loop-block.invariant.second_told
-          (second_told_after _ _ _ _ c.in-Err-nothing_follows.stop read c.in-Err-nothing_follows.ensures.told.1),
+      stop_since _ _ _ _ _ _ _ _ _ _ _ _ xs ys works.first_taken works.second_taken
+          (works.is_found.first_size ∙ sym works.is_found.second_size) before.first_told before.second_told
+          c.in-Err-nothing_follows.stop c.in-Err-nothing_follows.ensures.told,
     )
 
 pub returns-in-Err-put_all-clause-faults : goal.returns-in-Err-put_all-clause-faults
@@ -199,7 +205,7 @@ returns-in-Err-put_all-clause-faults g c =
 pub returns-in-Err-put_all-clause-ends : goal.returns-in-Err-put_all-clause-ends
 returns-in-Err-put_all-clause-ends g c =
     let told = rw c.in-Ok-true.field-0-test at c.in-Ok-true.ensures.told in
-    (tt, tt, told.0 ∙ c.loop-block.invariant.first_told, told.1 ∙ c.loop-block.invariant.second_told)
+    (tt, tt, (told.0 ∙ c.loop-block.invariant.first_told, told.1 ∙ c.loop-block.invariant.second_told))
 
 pub returns-in-Err-put_all-clause-answer : goal.returns-in-Err-put_all-clause-answer
 returns-in-Err-put_all-clause-answer g c = write_answer c.args.lead_in _ _

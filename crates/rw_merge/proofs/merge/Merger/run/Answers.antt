@@ -21,11 +21,8 @@ returns-clause-first_end g c = c.merge_pairs.ensures.ends.0
 pub returns-clause-second_end : goal.returns-clause-second_end
 returns-clause-second_end g c = c.merge_pairs.ensures.ends.1
 
-pub returns-clause-first_told : goal.returns-clause-first_told
-returns-clause-first_told g c = c.merge_pairs.ensures.ends.2
-
-pub returns-clause-second_told : goal.returns-clause-second_told
-returns-clause-second_told g c = c.merge_pairs.ensures.ends.3
+pub returns-clause-told : goal.returns-clause-told
+returns-clause-told g c = c.merge_pairs.ensures.ends.2
 
 pub returns-clause-first_rooms : goal.returns-clause-first_rooms
 returns-clause-first_rooms g c = c.merge_pairs.ensures.rooms.0

@@ -1,0 +1,130 @@
+-- A row for each command: its name and its words, what it reads, when it takes memory, when it writes, and how the
+-- ends of its inputs are told. What it does stands in `Does`.
+use Rattle.std.specs.Prelude.{◌≡◌, ◌≢◌, ◌≤◌, ◌<◌, ◌^◌, ℕ, List, [], codes, ⊤}
+use Rattle.cdg_io.specs.Change.{Bytes, Change, Input}
+use Rattle.cdg_workload.specs.Script.{most_generated}
+use Rattle.cue_sheet.specs.CueSheet.{CueSheet}
+use Rattle.disc_time.specs.Counts.{most_lead_in, time_count}
+use Rattle.raw_subcode.specs.declared.form.Form.TheVariants.{Cooked}
+use Rattle.cdg_cmd.specs.Authors.{ReadsSheet}
+use Rattle.cdg_cmd.specs.Checkpoints.{ReadsCheckpoint}
+use Rattle.cdg_cmd.specs.Ends.{BothEnd, CheckpointEnds, EndsAsListed, EndsFirst, EndsInTurn, FirstEnds, NeverEnds, ReadingsEnd, RestEnds, ScriptEnds, SheetEnds}
+use Rattle.cdg_cmd.specs.Words.{IsLeadInOption, IsLengths, IsMoment, IsScratchOptions, IsSeedOptions, IsStreamOptions, IsTimedOptions}
+use Rattle.cdg_cmd.specs.declared.command.Command.{Command}
+use Rattle.cdg_cmd.specs.declared.command.Command.TheVariants.{Convert, Screen, State, Check, Q, Text, Author, Planar, Raw, Scratch, Gen, Trial, Merge, Thin, Press, Save, Resume}
+use Rattle.cdg_cmd.specs.declared.status.Status.{Status}
+
+-- Which inputs a command reads: none, the first, both in turn, or the second too once the first was read to its end
+-- and this holds of it.
+pub data ReadingOrder : Type 1 where
+  NoInput : ReadingOrder
+  OneInput : ReadingOrder
+  InTurn : ReadingOrder
+  SecondAfter : (Change Bytes → Type 0) → ReadingOrder
+
+-- when it takes memory: never, before it reads, or also later
+pub data MemoryUse : Type 0 where
+  TakesNothing : MemoryUse
+  TakesBefore : MemoryUse
+  TakesLater : MemoryUse
+
+-- when it writes: as it goes, or nothing but where its work is whole or a write fails
+pub data WritingTime : Type 0 where
+  AsItGoes : WritingTime
+  AtTheEnd : WritingTime
+
+-- what is said of a command
+pub record Profile : Type 1 where
+  pub name : List ℕ
+  -- which numbers and forms it may have
+  pub allowed : Type 0
+  -- the words after its name
+  pub options : List (List ℕ) → Type 0
+  pub reads : ReadingOrder
+  pub memory : MemoryUse
+  pub writes : WritingTime
+  -- how the ends of both inputs are told
+  pub ends : Input → Input → Status → Type 0
+
+-- a row of the table below: name, what is allowed, options, what is read, memory, when it writes, ends
+abbrev pub profile_row : List ℕ → Type 0 → (List (List ℕ) → Type 0) → ReadingOrder → MemoryUse → WritingTime
+    → (Input → Input → Status → Type 0) → Profile
+profile_row name allowed options reads memory writes ends = record {
+  name = name;
+  allowed = allowed;
+  options = options;
+  reads = reads;
+  memory = memory;
+  writes = writes;
+  ends = ends;
+}
+
+-- the cue sheet was read to its end, and its grammar accepted it
+abbrev pub AfterSheet : ReadingOrder
+AfterSheet = SecondAfter (λ first. (sheet : CueSheet) × ReadsSheet first sheet)
+
+-- the first input is the file of a checkpoint that is not later than a time
+abbrev pub AfterCheckpoint : ℕ → ReadingOrder
+AfterCheckpoint at = SecondAfter (λ first. (file : List ℕ) × ReadsCheckpoint at first file)
+
+-- it has no words after its name
+abbrev pub HasNoOptions : List (List ℕ) → Type 0
+HasNoOptions options = options ≡ []
+
+-- The rows. Cooked blocks have no Q channel and no text packs; a number is in decimal without a leading zero.
+abbrev pub profile : Command → Profile
+profile (Convert lead_in form) = profile_row (codes "convert")
+    (lead_in ≤ most_lead_in) (IsStreamOptions lead_in form)
+    OneInput TakesNothing AsItGoes (FirstEnds EndsInTurn)
+profile (Screen lead_in form at) = profile_row (codes "screen")
+    ((lead_in ≤ most_lead_in) × (at < time_count)) (IsTimedOptions lead_in form at)
+    OneInput TakesBefore AtTheEnd (FirstEnds EndsFirst)
+profile (State lead_in form at) = profile_row (codes "state")
+    ((lead_in ≤ most_lead_in) × (at < time_count)) (IsTimedOptions lead_in form at)
+    OneInput TakesBefore AtTheEnd (FirstEnds EndsFirst)
+profile (Check lead_in form) = profile_row (codes "check")
+    (lead_in ≤ most_lead_in) (IsStreamOptions lead_in form)
+    OneInput TakesNothing AtTheEnd (FirstEnds EndsFirst)
+profile (Q lead_in form) = profile_row (codes "q")
+    ((lead_in ≤ most_lead_in) × (form ≢ Cooked)) (IsStreamOptions lead_in form)
+    OneInput TakesNothing AsItGoes (FirstEnds EndsInTurn)
+profile (Text lead_in form) = profile_row (codes "text")
+    ((lead_in ≤ most_lead_in) × (form ≢ Cooked)) (IsStreamOptions lead_in form)
+    OneInput TakesLater AtTheEnd (FirstEnds EndsAsListed)
+profile (Author lead_in length) = profile_row (codes "author")
+    ((lead_in ≤ most_lead_in) × (length < time_count)) (IsLengths lead_in length)
+    AfterSheet TakesLater AtTheEnd (BothEnd SheetEnds ScriptEnds)
+profile Planar = profile_row (codes "planar")
+    ⊤ HasNoOptions
+    OneInput TakesNothing AsItGoes (FirstEnds EndsInTurn)
+profile Raw = profile_row (codes "raw")
+    ⊤ HasNoOptions
+    OneInput TakesNothing AsItGoes (FirstEnds EndsInTurn)
+profile (Scratch lead_in seed) = profile_row (codes "scratch")
+    ((lead_in ≤ most_lead_in) × (seed < 2 ^ 64)) (IsScratchOptions lead_in seed)
+    OneInput TakesNothing AsItGoes (FirstEnds EndsInTurn)
+profile (Gen seed pictures) = profile_row (codes "gen")
+    ((seed < 2 ^ 64) × (1 ≤ pictures) × (pictures ≤ most_generated)) (IsSeedOptions seed pictures)
+    NoInput TakesNothing AsItGoes (FirstEnds NeverEnds)
+profile (Trial seed pictures) = profile_row (codes "trial")
+    ((seed < 2 ^ 64) × (1 ≤ pictures) × (pictures ≤ most_generated)) (IsSeedOptions seed pictures)
+    NoInput TakesBefore AtTheEnd (FirstEnds NeverEnds)
+profile (Merge lead_in) = profile_row (codes "merge")
+    (lead_in ≤ most_lead_in) (IsLeadInOption lead_in)
+    InTurn TakesBefore AsItGoes ReadingsEnd
+profile Thin = profile_row (codes "thin")
+    ⊤ HasNoOptions
+    OneInput TakesBefore AsItGoes (FirstEnds EndsInTurn)
+profile (Press lead_in length) = profile_row (codes "press")
+    ((lead_in ≤ most_lead_in) × (length < time_count)) (IsLengths lead_in length)
+    AfterSheet TakesLater AtTheEnd (BothEnd SheetEnds ScriptEnds)
+profile (Save lead_in) = profile_row (codes "save")
+    (lead_in ≤ most_lead_in) (IsLeadInOption lead_in)
+    OneInput TakesBefore AtTheEnd (FirstEnds EndsFirst)
+profile (Resume at) = profile_row (codes "resume")
+    (at < time_count) (IsMoment at)
+    (AfterCheckpoint at) TakesBefore AtTheEnd (BothEnd CheckpointEnds RestEnds)
+
+-- Of both inputs: the end is told once where the input was read to its end, and else not at all.
+abbrev pub TellsEnds : Command → Input → Input → Status → Type 0
+TellsEnds command = (profile command).ends

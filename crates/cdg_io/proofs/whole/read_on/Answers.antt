@@ -1,0 +1,47 @@
+use Rattle.std.proofs.Common.{◌≡◌, ◌≤◌, ◌+◌, ◌∙◌, ◌++◌, drop, length, take, arith, length-append}
+use Rattle.std.proofs.lemmas.List.{length-drop, length-take}
+use Rattle.std.proofs.KnownBytes.{Consumes-trans}
+use Rattle.cdg_io.proofs.whole.read_on.Goals as goal
+
+pub returns-in-Ok-clause-too_long : goal.returns-in-Ok-clause-too_long
+returns-in-Ok-clause-too_long g c = λ _.
+    let (xs, count, taken) = c.loop-count.invariant.taken in
+    let more = take c.in-Ok.count c.take.new.buf in
+    let bound : c.in-Ok.count ≤ length c.take.new.buf = c.in-Ok.ensures.bound.0 in
+    let size : length more ≡ c.in-Ok.count = omega (arith, length-take c.in-Ok.count c.take.new.buf, bound) in
+    let room : length c.take.new.buf ≤ c.loop-count.room + 1 = omega (
+      arith,
+      c.take.auto.buf,
+      length-take (c.min-offered.result + 1) c.loop-count.chunk,
+      c.min-offered.ensures,
+    ) in (
+      xs ++ more,
+      omega (arith, length-append xs more, size, count, room, bound, c.if-count-room.true),
+      Consumes-trans _ _ _ _ _ taken c.in-Ok.ensures.bytes.0,
+    )
+
+pub loop-count-preserved : goal.loop-count-preserved
+loop-count-preserved g c =
+    let before = c.loop-count.invariant in
+    let (xs, count, taken) = before.taken in
+    let more = take c.in-Ok.count c.take.new.buf in
+    let bound : c.in-Ok.count ≤ length c.take.new.buf = c.in-Ok.ensures.bound.0 in
+    let size : length more ≡ c.in-Ok.count = omega (arith, length-take c.in-Ok.count c.take.new.buf, bound) in
+    record {
+      size = omega (
+        arith,
+        length-append c.take.new.buf (drop (c.min-offered.result + 1) c.loop-count.chunk),
+        length-drop (c.min-offered.result + 1) c.loop-count.chunk,
+        length-take (c.min-offered.result + 1) c.loop-count.chunk,
+        c.take.auto.buf,
+        before.size,
+        c.min-offered.ensures,
+      );
+      taken = (
+        xs ++ more,
+        omega (arith, length-append xs more, size, count, c.if-count-room.false),
+        Consumes-trans _ _ _ _ _ taken c.in-Ok.ensures.bytes.0,
+      );
+      told = c.in-Ok.ensures.end.goes_on (omega (arith, c.in-Ok.count-test.1)) ∙ before.told;
+      same = c.in-Ok.ensures.cause.same ∙ before.same;
+    }
