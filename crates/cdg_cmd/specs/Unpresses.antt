@@ -2,6 +2,7 @@
 use Rattle.std.specs.Prelude.{◌≡◌, ℕ, ◌+◌, ◌*◌, ◌≤◌, ⊤, List}
 use Rattle.std.specs.List.{concat}
 use Rattle.std.specs.Io.KnownBytes.{Appends}
+use Rattle.disc_time.specs.Counts.{pause_blocks}
 use Rattle.round_trips.specs.Damaged.{DamagedPress, IsFileText}
 use Rattle.cdg_cmd.specs.Answer.{GivesBack, OnDone}
 use Rattle.cdg_io.specs.Change.{Bytes, Change}
@@ -22,6 +23,6 @@ abbrev pub Unpresses : Command → List ℕ → Change Bytes → Status → Type
 Unpresses (Convert lead_in form) bytes out status =
     (press : DamagedPress form lead_in bytes) → GivesBack (concat (written_packs form press.packs)) out status
 Unpresses (Screen lead_in form at) bytes out status =
-    (press : DamagedPress form lead_in bytes) (time : ℕ) → at ≡ 150 + time → time ≤ press.audio
+    (press : DamagedPress form lead_in bytes) (time : ℕ) → at ≡ pause_blocks + time → time ≤ press.audio
     → PutsFilePicture press.file (4 * time) out status
 Unpresses command bytes out status = ⊤
