@@ -1,5 +1,5 @@
 -- The checkpoint of a whole stream.
-use Rattle.std.proofs.Common.{◌≡◌, ℕ, ◌-◌, ◌*◌, ◌/◌, ◌≤◌, List, length, take, drop, replicate, refl, sym, ap, ap₂, ◌∙◌, subst, arith, length-drop, Ok, Err}
+use Rattle.std.proofs.Common.{◌≡◌, ℕ, ◌-◌, ◌*◌, ◌/◌, ◌≤◌, List, length, take, drop, refl, sym, ap, ◌∙◌, subst, arith, length-drop, Ok, Err}
 use Rattle.std.specs.Prelude.{Option, min}
 use Rattle.std.specs.List.{flat_map}
 use Rattle.std.specs.Io.KnownBytes.{Appends}

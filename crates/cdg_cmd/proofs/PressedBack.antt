@@ -35,7 +35,7 @@ module _ (laws : PressesComeBack) (all : List ℕ) (left' more more' : Bytes) (o
       subst (λ (ps : List (List ℕ)). GivesBack (concat ps) out status) words
       (converted_back form lead_in left' more more' out status laws.packs laws.none_bad (Some all) does blocks press.packs (laws.stream form lead_in all press))
 
-  picture_back : (lead_in : ℕ) (form : Form) (at time : ℕ) → at ≡ 150 + time → (status ≢ NoMemory → Does (Screen lead_in form at) (both (Some all) left' more more' out) status)
+  picture_back : (lead_in : ℕ) (form : Form) (at time : ℕ) → at ≡ pause_blocks + time → (status ≢ NoMemory → Does (Screen lead_in form at) (both (Some all) left' more more' out) status)
       → (press : DamagedPress form lead_in all) → time ≤ press.audio → PutsFilePicture press.file (4 * time) out status
   picture_back lead_in form at time is does press in_audio =
       file_shown laws.shown form lead_in time all press in_audio left' more more' out status

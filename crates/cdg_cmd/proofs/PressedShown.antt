@@ -5,6 +5,7 @@ use Rattle.std.proofs.lemmas.List.{length-map}
 use Rattle.cdg_io.specs.Pump.{units_of}
 use Rattle.raw_subcode.specs.Channels.{unit_size, block_of, blocks_of, program_symbols}
 use Rattle.raw_subcode.specs.declared.form.Form.{Form}
+use Rattle.disc_time.specs.Counts.{pause_blocks}
 use Rattle.round_trips.specs.Damaged.{DamagedPress, IsFileText}
 use Rattle.stream_stages.specs.Screen.{IsScreenAt, IsShownBy, Shows, moment}
 use Rattle.stream_stages.specs.declared.played.Played.{Played}
@@ -35,22 +36,22 @@ program_length form bytes lead_in =
 -- what the law of the layer below says
 pub record FilesAreShown : Type 0 where
   pub text : (form : Form) (lead_in time : ℕ) (others : List ℕ) (press : DamagedPress form lead_in others) (text : List ℕ) (bad : ℕ) → time ≤ press.audio
-      → IsScreenAt (moment form lead_in (150 + time)) others text bad → IsFileText press.file (4 * time) text
+      → IsScreenAt (moment form lead_in (pause_blocks + time)) others text bad → IsFileText press.file (4 * time) text
   pub bad : (form : Form) (lead_in time : ℕ) (others : List ℕ) (press : DamagedPress form lead_in others) (text : List ℕ) (bad : ℕ) → time ≤ press.audio
-      → IsScreenAt (moment form lead_in (150 + time)) others text bad → bad ≡ 0
+      → IsScreenAt (moment form lead_in (pause_blocks + time)) others text bad → bad ≡ 0
 
 module _ (law : FilesAreShown) (form : Form) (lead_in time : ℕ) (all : List ℕ) (press : DamagedPress form lead_in all) (in_audio : time ≤ press.audio) where
   -- the program is longer than that time
-  long_enough : 150 + time ≤ length all / unit_size form - lead_in
+  long_enough : pause_blocks + time ≤ length all / unit_size form - lead_in
   long_enough = omega (arith, program_length form all lead_in, press.damaged.size, press.pressed.carries.size, in_audio)
 
   file_put : (taken : List ℕ) (left' : Bytes) (out : Change Bytes) (answer : Result Played PlayStop)
-      → Shows pixmap (moment form lead_in (150 + time)) (passing (from_to (Some all) left') out) answer taken
-      → IsShownBy answer lead_in (150 + time) (unit_size form) (length all) → PutsFilePicture press.file (4 * time) out (play_status answer)
+      → Shows pixmap (moment form lead_in (pause_blocks + time)) (passing (from_to (Some all) left') out) answer taken
+      → IsShownBy answer lead_in (pause_blocks + time) (unit_size form) (length all) → PutsFilePicture press.file (4 * time) out (play_status answer)
   file_put taken left' out (Ok played) shows answer =
       let (end, (text, is_played, put)) = shows.plays.done in
       let same : taken ≡ all = taken_all all left' taken shows.plays.taken_from end in
-      let screen : IsScreenAt (moment form lead_in (150 + time)) all text played.bad = subst (λ (bytes : List ℕ). IsScreenAt (moment form lead_in (150 + time)) bytes text played.bad) same is_played.written in
+      let screen : IsScreenAt (moment form lead_in (pause_blocks + time)) all text played.bad = subst (λ (bytes : List ℕ). IsScreenAt (moment form lead_in (pause_blocks + time)) bytes text played.bad) same is_played.written in
       subst (λ (n : ℕ). PutsFilePicture press.file (4 * time) out (if n == 0 then Done else Damaged n)) (sym (law.bad form lead_in time all press text played.bad in_audio screen))
       (text, law.text form lead_in time all press text played.bad in_audio screen, put)
   file_put taken left' out (Err play.ReadFault) shows answer = tt
@@ -60,7 +61,7 @@ module _ (law : FilesAreShown) (form : Form) (lead_in time : ℕ) (all : List �
   file_put taken left' out (Err (play.PastEnd blocks)) shows answer = absurd (omega (arith, answer.2, answer.3, long_enough))
   file_put taken left' out (Err (play.Text why)) shows answer = absurd answer
 
-  pub file_shown : (left' more more' : Bytes) (out : Change Bytes) (status : Status) → (status ≢ NoMemory → Does (Screen lead_in form (150 + time)) (both (Some all) left' more more' out) status)
+  pub file_shown : (left' more more' : Bytes) (out : Change Bytes) (status : Status) → (status ≢ NoMemory → Does (Screen lead_in form (pause_blocks + time)) (both (Some all) left' more more' out) status)
       → PutsFilePicture press.file (4 * time) out status
   file_shown left' more more' out status does =
       unless_memory _ status (λ found.

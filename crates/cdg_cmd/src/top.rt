@@ -51,7 +51,7 @@ use round_trips::{
     copied_text_lists_are_answered, damaged_text_lists_are_answered, frame_lists_are_answered,
     pressed_files_are_shown, pressed_packs_come_back, shown_moments_give_pictures,
 };
-use rw_interleave::{packs_are_recovered, text_of_packs};
+use rw_interleave::{found_packs_are_the_text, packs_are_recovered};
 use rw_merge::two_readings_give_packs;
 use std::alloc::Global;
 use subcode_author::accepted_scripts_are_in_order;
@@ -172,7 +172,7 @@ pub fn run<S: Source, T: Source, K: Sink, E: Sink>(
         × Appends (K.held out.old) (K.held out.new) text) }
 {
     packs_are_recovered();
-    text_of_packs();
+    found_packs_are_the_text();
     shown_moments_give_pictures();
     frame_lists_are_answered();
     copied_text_lists_are_answered();

@@ -29,7 +29,8 @@ unfolding scratched
 scratched_is_run seed bytes =
     let w = generator seed in
     let count : ℕ = length bytes / 192 + 1 in
-    sym (scratches_all bytes count w (omega arith) ∙ changed_is (bursts count 0 w) 0 bytes (change_at-lt count 0 w))
+    sym (scratches_all bytes count w (omega arith)
+    ∙ changed_is (bursts count 0 w) 0 bytes (change_at-lt count 0 w))
 
 -- some bytes of a run, after those before them
 part_of_run : (h : Needle) (bytes : List ℕ) (k m : ℕ) → k + m ≤ length bytes
@@ -55,7 +56,8 @@ part_of_run h bytes k m fits =
     ∙ take-append_seam (run after part) (run (state after part) rest)
 
 pub next_block : (seed b : ℕ) (bytes : List ℕ) → 96 * b + 96 ≤ length bytes
-    → scratches_after seed bytes (b + 1) ≡ block_next (scratches_after seed bytes b) (take 96 (drop (96 * b) bytes))
+    → scratches_after seed bytes (b + 1) ≡ block_next (scratches_after seed bytes b)
+    (take 96 (drop (96 * b) bytes))
 unfolding block_next
 next_block seed b bytes fits =
     let more : 96 * (b + 1) ≡ 96 * b + 96 = omega arith in

@@ -29,13 +29,15 @@ use Rattle.cdg_workload.proofs.Needles.{at, run, changed_from, scratches_all, ne
 abbrev state : Needle → List ℕ → Needle
 state needle xs = run_state byte_next needle xs
 
-pub byte_more : (s t t' : Needle) (block old new : List ℕ) (i y : ℕ) → i < length block → i < length old → t ≡ state s (take i block) → take i old ≡ run s (take i block)
+pub byte_more : (s t t' : Needle) (block old new : List ℕ) (i y : ℕ) → i < length block → i < length old
+    → t ≡ state s (take i block) → take i old ≡ run s (take i block)
     → t' ≡ byte_next t (get_or block i 0) → Some y ≡ byte_gives t (get_or block i 0) → new ≡ set old i y
     → (t' ≡ state s (take (i + 1) block)) × (take (i + 1) new ≡ run s (take (i + 1) block))
 byte_more s t t' block old new i y lt fits now done next gives write =
     let x = get_or block i 0 in
     let more = take_more block i 0 lt in (
-      next ∙ ap (λ u. byte_next u x) now ∙ sym (ap (state s) more ∙ run_state-append byte_next s (take i block) (x ∷ [])),
+      next ∙ ap (λ u. byte_next u x) now
+          ∙ sym (ap (state s) more ∙ run_state-append byte_next s (take i block) (x ∷ [])),
       ap (take (i + 1)) write ∙ take_more_set old i y fits
           ∙ ap₂ (λ (l m : List ℕ). l ++ m) done (ap (λ o. give o []) (gives ∙ ap (λ u. byte_gives u x) now))
           ∙ sym (ap (run s) more ∙ run_gives-append byte_next byte_gives s (take i block) (x ∷ [])),
@@ -49,20 +51,25 @@ stage l needle = record { lead_in = l; needle = needle }
 abbrev texts : Scratches → List (List ℕ) → List (List ℕ)
 texts s blocks = run_gives block_next block_gives s blocks
 
-program_blocks : (h : Needle) (blocks : List (List ℕ)) → concat (texts (stage 0 h) blocks) ≡ run h (concat blocks)
+program_blocks : (h : Needle) (blocks : List (List ℕ))
+    → concat (texts (stage 0 h) blocks) ≡ run h (concat blocks)
 unfolding block_next block_gives
 program_blocks h [] = refl
-program_blocks h (b ∷ bs) = ap (λ l. run h b ++ l) (program_blocks (state h b) bs) ∙ sym (run_gives-append byte_next byte_gives h b (concat bs))
+program_blocks h (b ∷ bs) = ap (λ l. run h b ++ l) (program_blocks (state h b) bs)
+    ∙ sym (run_gives-append byte_next byte_gives h b (concat bs))
 
-lead_in_block : (l : ℕ) (h : Needle) (b : List ℕ) (bs : List (List ℕ)) → texts (stage (suc l) h) (b ∷ bs) ≡ b ∷ texts (stage l h) bs
+lead_in_block : (l : ℕ) (h : Needle) (b : List ℕ) (bs : List (List ℕ))
+    → texts (stage (suc l) h) (b ∷ bs) ≡ b ∷ texts (stage l h) bs
 unfolding block_next block_gives
 lead_in_block l h b bs =
     let more : (suc l == 0) ≡ false = ne_eqb (suc l) 0 (λ e. omega arith) in
     let less : suc l - 1 ≡ l = omega arith in
-    ap₂ (λ (t u : Bool). give (cond t (Some (run h b)) (Some b)) (texts (cond u (stage (suc l) (state h b)) (stage (suc l - 1) h)) bs)) more more
+    ap₂ (λ (t u : Bool). give (cond t (Some (run h b)) (Some b))
+    (texts (cond u (stage (suc l) (state h b)) (stage (suc l - 1) h)) bs)) more more
     ∙ ap (λ n. b ∷ texts (stage n h) bs) less
 
-stream_blocks : (l k : ℕ) (h : Needle) (blocks : List (List ℕ)) → k ≡ 96 * l → AllByRecursion (λ (b : List ℕ). length b ≡ 96) blocks
+stream_blocks : (l k : ℕ) (h : Needle) (blocks : List (List ℕ)) → k ≡ 96 * l
+    → AllByRecursion (λ (b : List ℕ). length b ≡ 96) blocks
     → concat (texts (stage l h) blocks) ≡ take k (concat blocks) ++ run h (drop k (concat blocks))
 stream_blocks zero k h blocks at all =
     let none : 0 ≡ k = omega arith in
@@ -73,18 +80,25 @@ stream_blocks (suc l) k h (b ∷ bs) at all =
     ap concat (lead_in_block l h b bs)
     ∙ ap (λ t. b ++ t) (stream_blocks l (96 * l) h bs refl all.1)
     ∙ sym (append_assoc b (take (96 * l) (concat bs)) (run h (drop (96 * l) (concat bs))))
-    ∙ ap₂ (λ (a c : List ℕ). a ++ run h c) (sym (take-append-add b (concat bs) (96 * l))) (sym (drop-append-add b (concat bs) (96 * l)))
+    ∙ ap₂ (λ (a c : List ℕ). a ++ run h c) (sym (take-append-add b (concat bs) (96 * l)))
+    (sym (drop-append-add b (concat bs) (96 * l)))
     ∙ ap (λ n. take n (b ++ concat bs) ++ run h (drop n (b ++ concat bs))) size
 
 units_joined : (n k : ℕ) (bytes : List ℕ) → k ≡ n * 96 → concat (units_of 96 n bytes) ≡ take k bytes
 units_joined zero k bytes at = let none : 0 ≡ k = omega arith in ap (λ m. take m bytes) none
 units_joined (suc n) k bytes at =
     let more : 96 + n * 96 ≡ k = omega arith in
-    ap (λ t. take 96 bytes ++ t) (units_joined n (n * 96) (drop 96 bytes) refl) ∙ sym (take-add 96 (n * 96) bytes) ∙ ap (λ m. take m bytes) more
+    ap (λ t. take 96 bytes ++ t) (units_joined n (n * 96) (drop 96 bytes) refl)
+    ∙ sym (take-add 96 (n * 96) bytes) ∙ ap (λ m. take m bytes) more
 
-units_sized : (n : ℕ) (bytes : List ℕ) → n * 96 ≤ length bytes → AllByRecursion (λ (b : List ℕ). length b ≡ 96) (units_of 96 n bytes)
+units_sized : (n : ℕ) (bytes : List ℕ) → n * 96 ≤ length bytes
+    → AllByRecursion (λ (b : List ℕ). length b ≡ 96) (units_of 96 n bytes)
 units_sized zero bytes fits = tt
-units_sized (suc n) bytes fits = (length-take 96 bytes ∙ omega arith, units_sized n (drop 96 bytes) (omega (arith, length-drop 96 bytes)))
+units_sized (suc n) bytes fits = (
+  length-take 96 bytes
+      ∙ omega arith,
+  units_sized n (drop 96 bytes) (omega (arith, length-drop 96 bytes)),
+)
 
 -- ---- Changes keep the P and Q bits.
 
@@ -98,7 +112,8 @@ change_at-lt zero e w q = lit< tt
 change_at-lt (suc n) e w q =
     let word = (pcg32 w).0 in
     let first = e + gap_of word in
-    let rest : change_at (bursts n (first + size_of word) (pcg32 w).1) q < 64 = change_at-lt n (first + size_of word) (pcg32 w).1 q in
+    let rest : change_at (bursts n (first + size_of word) (pcg32 w).1) q < 64 =
+    change_at-lt n (first + size_of word) (pcg32 w).1 q in
     one_of _ (change_of word) _ (omega arith) rest
 
 -- one byte
@@ -108,16 +123,22 @@ changed_byte x c lt =
     let split : x ≡ x / 64 * 2 ^ 6 + x % 64 = omega arith in
     let none : c ≡ 0 * 2 ^ 6 + c = omega arith in
     let turned : x / 64 * 2 ^ 6 + bit_xor (x % 64) c ≡ 64 * (x / 64) + bit_xor (x % 64) c = omega arith in
-    ap₂ bit_xor split none ∙ xor_block 6 (x / 64) 0 (x % 64) c low lt ∙ ap (λ h. h * 2 ^ 6 + bit_xor (x % 64) c) (xor_zero_r (x / 64)) ∙ turned
+    ap₂ bit_xor split none ∙ xor_block 6 (x / 64) 0 (x % 64) c low lt
+    ∙ ap (λ h. h * 2 ^ 6 + bit_xor (x % 64) c) (xor_zero_r (x / 64)) ∙ turned
 
-pub changed_is : (those : List Burst) (p : ℕ) (xs : List ℕ) → ((q : ℕ) → change_at those q < 64) → changed_from those p xs ≡ map (scratched_byte those) (enumerate_from p xs)
+pub changed_is : (those : List Burst) (p : ℕ) (xs : List ℕ) → ((q : ℕ) → change_at those q < 64)
+    → changed_from those p xs ≡ map (scratched_byte those) (enumerate_from p xs)
 unfolding changed_from
 changed_is those p [] lt = refl
-changed_is those p (x ∷ xs) lt = ap₂ (λ (a : ℕ) (l : List ℕ). a ∷ l) (changed_byte x (change_at those p) (lt p)) (changed_is those (p + 1) xs lt)
+changed_is those p (x ∷ xs) lt =
+    ap₂ (λ (a : ℕ) (l : List ℕ). a ∷ l) (changed_byte x (change_at those p) (lt p))
+    (changed_is those (p + 1) xs lt)
 
 -- ---- The text.
 
-pub blocks_text : (lead_in seed n : ℕ) (bytes : List ℕ) → n * 96 ≤ length bytes → given 96 (machine_of block_next block_gives) (fresh_scratches lead_in seed) bytes n ≡ scratched lead_in seed (take (n * 96) bytes)
+pub blocks_text : (lead_in seed n : ℕ) (bytes : List ℕ) → n * 96 ≤ length bytes
+    → given 96 (machine_of block_next block_gives) (fresh_scratches lead_in seed) bytes n
+    ≡ scratched lead_in seed (take (n * 96) bytes)
 unfolding scratched
 blocks_text lead_in seed n bytes fits =
     let all : List ℕ = take (n * 96) bytes in
@@ -125,38 +146,60 @@ blocks_text lead_in seed n bytes fits =
     let w = generator seed in
     let count : ℕ = length program / 192 + 1 in
     stream_blocks lead_in (96 * lead_in) (at 0 0 0 w) (units_of 96 n bytes) refl (units_sized n bytes fits)
-    ∙ ap (λ (l : List ℕ). take (96 * lead_in) l ++ run (at 0 0 0 w) (drop (96 * lead_in) l)) (units_joined n (n * 96) bytes refl)
+    ∙ ap (λ (l : List ℕ). take (96 * lead_in) l ++ run (at 0 0 0 w) (drop (96 * lead_in) l))
+    (units_joined n (n * 96) bytes refl)
     ∙ ap (λ l. take (96 * lead_in) all ++ l)
-    (scratches_all program count w (omega arith) ∙ changed_is (bursts count 0 w) 0 program (change_at-lt count 0 w))
+    (scratches_all program count w (omega arith)
+    ∙ changed_is (bursts count 0 w) 0 program (change_at-lt count 0 w))
 
-text_of : (lead_in seed n : ℕ) (bytes : List ℕ) → IsWhole 96 n bytes → IsScratched lead_in seed bytes (record { units = n }) (given 96 (machine_of block_next block_gives) (fresh_scratches lead_in seed) bytes n)
+text_of : (lead_in seed n : ℕ) (bytes : List ℕ) → IsWhole 96 n bytes
+    → IsScratched lead_in seed bytes (record { units = n })
+    (given 96 (machine_of block_next block_gives) (fresh_scratches lead_in seed) bytes n)
 text_of lead_in seed n bytes whole =
     let count : n ≡ length bytes / 96 = omega (arith, whole.fits, whole.rest) in
-    record { blocks = count; text_is = blocks_text lead_in seed n bytes whole.fits ∙ ap (λ k. scratched lead_in seed (take (k * 96) bytes)) count }
+    record {
+      blocks = count;
+      text_is = blocks_text lead_in seed n bytes whole.fits
+          ∙ ap (λ k. scratched lead_in seed (take (k * 96) bytes)) count;
+    }
 
-text_from : (lead_in seed : ℕ) (s : Scratches) (n : ℕ) (bytes : List ℕ) → s ≡ fresh_scratches lead_in seed → IsWhole 96 n bytes
-    → IsScratched lead_in seed bytes (record { units = n }) (given 96 (machine_of block_next block_gives) s bytes n)
+text_from : (lead_in seed : ℕ) (s : Scratches) (n : ℕ) (bytes : List ℕ) → s ≡ fresh_scratches lead_in seed
+    → IsWhole 96 n bytes
+    → IsScratched lead_in seed bytes (record { units = n })
+    (given 96 (machine_of block_next block_gives) s bytes n)
 text_from lead_in seed s n bytes begins whole =
-    subst (λ (t : Scratches). IsScratched lead_in seed bytes (record { units = n }) (given 96 (machine_of block_next block_gives) t bytes n)) (sym begins) (text_of lead_in seed n bytes whole)
+    subst (λ (t : Scratches). IsScratched lead_in seed bytes (record { units = n })
+    (given 96 (machine_of block_next block_gives) t bytes n)) (sym begins)
+    (text_of lead_in seed n bytes whole)
 
-streams_from : (lead_in seed : ℕ) (moved : Moved Scratches) (result : Result Pumped PumpStop) (taken : List ℕ) → moved.state.before ≡ fresh_scratches lead_in seed
-    → Pumps (scratching lead_in seed).cut (machine_of block_next block_gives) moved result taken → Streams (scratching lead_in seed) (bytes_of moved) result taken
+streams_from : (lead_in seed : ℕ) (moved : Moved Scratches) (result : Result Pumped PumpStop) (taken : List ℕ)
+    → moved.state.before ≡ fresh_scratches lead_in seed
+    → Pumps (scratching lead_in seed).cut (machine_of block_next block_gives) moved result taken
+    → Streams (scratching lead_in seed) (bytes_of moved) result taken
 streams_from lead_in seed moved (Ok pumped) taken begins pumps =
-    streams_done (scratching lead_in seed) (machine_of block_next block_gives) moved taken pumped pumped (lit< tt)
-    (λ bytes n few whole. (record { units = n }, text_from lead_in seed moved.state.before n bytes begins whole)) pumps (λ whole. text_from lead_in seed moved.state.before pumped.units taken begins whole)
+    streams_done (scratching lead_in seed) (machine_of block_next block_gives) moved taken pumped pumped
+    (lit< tt)
+    (λ bytes n few whole.
+    (record { units = n }, text_from lead_in seed moved.state.before n bytes begins whole)) pumps
+    (λ whole. text_from lead_in seed moved.state.before pumped.units taken begins whole)
 streams_from lead_in seed moved (Err stop) taken begins pumps =
     streams_stop (scratching lead_in seed) (machine_of block_next block_gives) moved taken stop stop (lit< tt)
     (record { fault_kept = λ e. e; fault_only = λ e. e; torn_only = λ unit e. e })
-    (λ bytes n few whole. (record { units = n }, text_from lead_in seed moved.state.before n bytes begins whole)) pumps
+    (λ bytes n few whole.
+    (record { units = n }, text_from lead_in seed moved.state.before n bytes begins whole)) pumps
 
 -- what a pump of the stage does is what the call promises
-pub streams : (lead_in seed : ℕ) (moved : Moved Scratches) (result : Result Pumped PumpStop) (taken : List ℕ) → moved.state.before ≡ fresh_scratches lead_in seed
-    → Pumps (scratching lead_in seed).cut (machine_of block_next block_gives) moved result taken → Streams (scratching lead_in seed) (bytes_of moved) result taken
-streams lead_in seed moved result taken begins pumps = streams_from lead_in seed moved result taken begins pumps
+pub streams : (lead_in seed : ℕ) (moved : Moved Scratches) (result : Result Pumped PumpStop) (taken : List ℕ)
+    → moved.state.before ≡ fresh_scratches lead_in seed
+    → Pumps (scratching lead_in seed).cut (machine_of block_next block_gives) moved result taken
+    → Streams (scratching lead_in seed) (bytes_of moved) result taken
+streams lead_in seed moved result taken begins pumps =
+    streams_from lead_in seed moved result taken begins pumps
 
 -- ---- Runs of symbols that stay.
 
-pass_run : (ys : List ℕ) (g l c : ℕ) (w : Lcg) → length ys ≤ g → (at (g - length ys) l c w ≡ state (at g l c w) ys) × (ys ≡ run (at g l c w) ys)
+pass_run : (ys : List ℕ) (g l c : ℕ) (w : Lcg) → length ys ≤ g
+    → (at (g - length ys) l c w ≡ state (at g l c w) ys) × (ys ≡ run (at g l c w) ys)
 pass_run [] g l c w fits = let none : g - 0 ≡ g = omega arith in (ap (λ n. at n l c w) none, refl)
 pass_run (y ∷ ys) zero l c w fits = absurd (omega arith)
 pass_run (y ∷ ys) (suc g) l c w fits =
@@ -164,38 +207,48 @@ pass_run (y ∷ ys) (suc g) l c w fits =
     let less : suc g - length (y ∷ ys) ≡ g - length ys = omega arith in (
       ap (λ n. at n l c w) less ∙ after ∙ ap (λ u. state u ys) (sym (next_before g l c w y)),
       ap₂ (λ m (zs : List ℕ). m ∷ zs) (sym (xor_zero_r y)) given
-          ∙ ap (λ h. bit_xor y 0 ∷ run h ys) (sym (next_before g l c w y)) ∙ ap (λ o. give o (run (byte_next (at (suc g) l c w) y) ys)) (sym (gives_before g l c w y)),
+          ∙ ap (λ h. bit_xor y 0 ∷ run h ys) (sym (next_before g l c w y))
+          ∙ ap (λ o. give o (run (byte_next (at (suc g) l c w) y) ys)) (sym (gives_before g l c w y)),
     )
 
 -- a block before the next burst stays
-pub skipped : (s t : Needle) (block : List ℕ) → length block ≡ 96 → 96 ≤ s.gap → t ≡ record s { gap = s.gap - 96 } → (t ≡ state s block) × (block ≡ run s block)
+pub skipped : (s t : Needle) (block : List ℕ) → length block ≡ 96 → 96 ≤ s.gap
+    → t ≡ record s { gap = s.gap - 96 } → (t ≡ state s block) × (block ≡ run s block)
 skipped s t block size before is =
     let (after, given) = pass_run block s.gap s.left s.change s.words (omega (arith, size, before)) in
     (is ∙ ap (λ n. at (s.gap - n) s.left s.change s.words) (sym size) ∙ after, given)
 
 -- so does what is given for it
-pub block_skipped : (s : Scratches) (t : Needle) (block : List ℕ) → s.lead_in ≡ 0 → length block ≡ 96 → 96 ≤ s.needle.gap → t ≡ record s.needle { gap = s.needle.gap - 96 }
+pub block_skipped : (s : Scratches) (t : Needle) (block : List ℕ) → s.lead_in ≡ 0 → length block ≡ 96
+    → 96 ≤ s.needle.gap → t ≡ record s.needle { gap = s.needle.gap - 96 }
     → (stage s.lead_in t ≡ block_next s block) × (Some block ≡ block_gives s block)
 unfolding block_next block_gives
 block_skipped s t block none size before is =
     let (after, given) = skipped s.needle t block size before is in
     let program : (s.lead_in == 0) ≡ true = ap (λ n. n == 0) none in (
-      ap (stage s.lead_in) after ∙ sym (ap (λ u. cond u (stage s.lead_in (state s.needle block)) (stage (s.lead_in - 1) s.needle)) program),
-      ap (λ (l : List ℕ). Some l) given ∙ sym (ap (λ u. cond u (Some (run s.needle block)) (Some block)) program),
+      ap (stage s.lead_in) after
+          ∙ sym (ap (λ u. cond u (stage s.lead_in (state s.needle block)) (stage (s.lead_in - 1) s.needle))
+          program),
+      ap (λ (l : List ℕ). Some l) given
+          ∙ sym (ap (λ u. cond u (Some (run s.needle block)) (Some block)) program),
     )
 
 -- some symbols more that stay
-pub pass_more : (s t t' : Needle) (block old : List ℕ) (i m k : ℕ) → i + m ≡ k → k ≤ length block → m ≤ t.gap → t' ≡ record t { gap = t.gap - m }
+pub pass_more : (s t t' : Needle) (block old : List ℕ) (i m k : ℕ) → i + m ≡ k → k ≤ length block → m ≤ t.gap
+    → t' ≡ record t { gap = t.gap - m }
     → t ≡ state s (take i block) → take i old ≡ run s (take i block) → drop i old ≡ drop i block
     → (t' ≡ state s (take k block)) × (take k old ≡ run s (take k block)) × (drop k old ≡ drop k block)
 pass_more s t t' block old i m k sum fits few is now done rest =
     let ys = take m (drop i block) in
     let size : length ys ≡ m = length-take m (drop i block) ∙ omega (arith, length-drop i block) in
-    let more : (xs : List ℕ) → take k xs ≡ take i xs ++ take m (drop i xs) = λ xs. ap (λ n. take n xs) (sym sum) ∙ take-add i m xs in
-    let later : (xs : List ℕ) → drop k xs ≡ drop m (drop i xs) = λ xs. ap (λ n. drop n xs) (sym sum) ∙ sym (drop-drop m i xs) in
+    let more : (xs : List ℕ)
+    → take k xs ≡ take i xs ++ take m (drop i xs) = λ xs. ap (λ n. take n xs) (sym sum) ∙ take-add i m xs in
+    let later : (xs : List ℕ) → drop k xs ≡ drop m (drop i xs) = λ xs. ap (λ n. drop n xs) (sym sum)
+    ∙ sym (drop-drop m i xs) in
     let (after, given) = pass_run ys t.gap t.left t.change t.words (omega (arith, size, few)) in
     let gap : t.gap - m ≡ t.gap - length ys = ap (λ n. t.gap - n) (sym size) in (
-      is ∙ ap (λ n. at n t.left t.change t.words) gap ∙ after ∙ ap (λ u. state u ys) now ∙ sym (ap (state s) (more block) ∙ run_state-append byte_next s (take i block) ys),
+      is ∙ ap (λ n. at n t.left t.change t.words) gap ∙ after ∙ ap (λ u. state u ys) now
+          ∙ sym (ap (state s) (more block) ∙ run_state-append byte_next s (take i block) ys),
       more old ∙ ap₂ (λ (l r : List ℕ). l ++ r) done (ap (take m) rest ∙ given ∙ ap (λ u. run u ys) now)
           ∙ sym (ap (run s) (more block) ∙ run_gives-append byte_next byte_gives s (take i block) ys),
       later old ∙ ap (drop m) rest ∙ sym (later block),
@@ -207,17 +260,22 @@ pass_more s t t' block old i m k sum fits few is now done rest =
 pub first_same : (i : ℕ) (now old : List ℕ) → drop i now ≡ drop i old → get_or now i 0 ≡ get_or old i 0
 first_same i now old rest =
     let place : i ≡ i + 0 = omega arith in
-    ap (λ k. get_or now k 0) place ∙ sym (get_or-drop i now 0 0) ∙ ap (λ (l : List ℕ). get_or l 0 0) rest ∙ get_or-drop i old 0 0 ∙ ap (λ k. get_or old k 0) (sym place)
+    ap (λ k. get_or now k 0) place ∙ sym (get_or-drop i now 0 0) ∙ ap (λ (l : List ℕ). get_or l 0 0) rest
+    ∙ get_or-drop i old 0 0 ∙ ap (λ k. get_or old k 0) (sym place)
 
 -- no symbol is changed yet
-pub combined_none : (old : List ℕ) (from n c : ℕ) → n ≡ 0 → take from old ≡ take from old ++ map (λ byte. bit_xor byte c) (take n (drop from old))
+pub combined_none : (old : List ℕ) (from n c : ℕ) → n ≡ 0
+    → take from old ≡ take from old ++ map (λ byte. bit_xor byte c) (take n (drop from old))
 combined_none old from n c none =
-    sym (ap (λ k. take from old ++ map (λ byte. bit_xor byte c) (take k (drop from old))) none ∙ append-nil (take from old))
+    sym (ap (λ k. take from old ++ map (λ byte. bit_xor byte c) (take k (drop from old))) none
+    ∙ append-nil (take from old))
 
 -- one symbol more is changed
 pub combined_more : (old now : List ℕ) (from i c : ℕ) → length old ≡ 96 → length now ≡ 96 → from ≤ i → i < 96
-    → take i now ≡ take from old ++ map (λ byte. bit_xor byte c) (take (i - from) (drop from old)) → drop i now ≡ drop i old
-    → (take (i + 1) (set now i (bit_xor (get_or now i 0) c)) ≡ take from old ++ map (λ byte. bit_xor byte c) (take (i + 1 - from) (drop from old)))
+    → take i now ≡ take from old ++ map (λ byte. bit_xor byte c) (take (i - from) (drop from old))
+    → drop i now ≡ drop i old
+    → (take (i + 1) (set now i (bit_xor (get_or now i 0) c)) ≡ take from old ++ map (λ byte. bit_xor byte c)
+    (take (i + 1 - from) (drop from old)))
     × (drop (i + 1) (set now i (bit_xor (get_or now i 0) c)) ≡ drop (i + 1) old)
 combined_more old now from i c size size' begun lt changed rest =
     let f : ℕ → ℕ = λ byte. bit_xor byte c in
@@ -225,16 +283,23 @@ combined_more old now from i c size size' begun lt changed rest =
     let ys : List ℕ = drop from old in
     let n : ℕ = i - from in
     let place : i ≡ from + n = omega (arith, begun) in
-    let same : x ≡ get_or ys n 0 = first_same i now old rest ∙ ap (λ k. get_or old k 0) place ∙ sym (get_or-drop from old n 0) in
-    let more : take (n + 1) ys ≡ take n ys ++ get_or ys n 0 ∷ [] = take_more ys n 0 (omega (arith, length-drop from old, size, place, lt)) in
+    let same : x ≡ get_or ys n 0 = first_same i now old rest ∙ ap (λ k. get_or old k 0) place
+    ∙ sym (get_or-drop from old n 0) in
+    let more : take (n + 1) ys ≡ take n ys ++ get_or ys n 0 ∷ [] =
+    take_more ys n 0 (omega (arith, length-drop from old, size, place, lt)) in
     let count : n + 1 ≡ i + 1 - from = omega (arith, begun) in (
-      take_more_set now i (f x) (omega (arith, size', lt)) ∙ ap (λ (l : List ℕ). l ++ f x ∷ []) changed ∙ append_assoc (take from old) (map f (take n ys)) (f x ∷ [])
+      take_more_set now i (f x) (omega (arith, size', lt)) ∙ ap (λ (l : List ℕ). l ++ f x ∷ []) changed
+          ∙ append_assoc (take from old) (map f (take n ys)) (f x ∷ [])
           ∙ ap (λ (l : List ℕ). take from old ++ l)
-          (ap (λ y. map f (take n ys) ++ f y ∷ []) same ∙ sym (map-append f (take n ys) (get_or ys n 0 ∷ [])) ∙ ap (map f) (sym more) ∙ ap (λ k. map f (take k ys)) count),
-      drop-set-lt (i + 1) now i (f x) (omega arith) ∙ sym (drop-drop 1 i now) ∙ ap (drop 1) rest ∙ drop-drop 1 i old,
+          (ap (λ y. map f (take n ys) ++ f y ∷ []) same ∙ sym (map-append f (take n ys) (get_or ys n 0 ∷ []))
+          ∙ ap (map f) (sym more) ∙ ap (λ k. map f (take k ys)) count),
+      drop-set-lt (i + 1) now i (f x) (omega arith) ∙ sym (drop-drop 1 i now) ∙ ap (drop 1) rest
+          ∙ drop-drop 1 i old,
     )
 
-within_run : (ys : List ℕ) (l c : ℕ) (w : Lcg) → length ys ≤ l → (at 0 (l - length ys) c w ≡ state (at 0 l c w) ys) × (map (λ byte. bit_xor byte c) ys ≡ run (at 0 l c w) ys)
+within_run : (ys : List ℕ) (l c : ℕ) (w : Lcg) → length ys ≤ l
+    → (at 0 (l - length ys) c w ≡ state (at 0 l c w) ys)
+    × (map (λ byte. bit_xor byte c) ys ≡ run (at 0 l c w) ys)
 within_run [] l c w fits = let none : l - 0 ≡ l = omega arith in (ap (λ n. at 0 n c w) none, refl)
 within_run (y ∷ ys) zero c w fits = absurd (omega arith)
 within_run (y ∷ ys) (suc l) c w fits =
@@ -242,31 +307,39 @@ within_run (y ∷ ys) (suc l) c w fits =
     let less : suc l - length (y ∷ ys) ≡ l - length ys = omega arith in (
       ap (λ n. at 0 n c w) less ∙ after ∙ ap (λ u. state u ys) (sym (next_within l c w y)),
       ap (λ (zs : List ℕ). bit_xor y c ∷ zs) given
-          ∙ ap (λ h. bit_xor y c ∷ run h ys) (sym (next_within l c w y)) ∙ ap (λ o. give o (run (byte_next (at 0 (suc l) c w) y) ys)) (sym (gives_within l c w y)),
+          ∙ ap (λ h. bit_xor y c ∷ run h ys) (sym (next_within l c w y))
+          ∙ ap (λ o. give o (run (byte_next (at 0 (suc l) c w) y) ys)) (sym (gives_within l c w y)),
     )
 
 struck_run : (ys : List ℕ) (g l c : ℕ) (w : Lcg) → length ys ≤ l → (0 < length ys → g ≡ 0)
-    → (at g (l - length ys) c w ≡ state (at g l c w) ys) × (map (λ byte. bit_xor byte c) ys ≡ run (at g l c w) ys)
+    → (at g (l - length ys) c w ≡ state (at g l c w) ys)
+    × (map (λ byte. bit_xor byte c) ys ≡ run (at g l c w) ys)
 struck_run [] g l c w fits begun = let none : l - 0 ≡ l = omega arith in (ap (λ n. at g n c w) none, refl)
 struck_run (y ∷ ys) zero l c w fits begun = within_run (y ∷ ys) l c w fits
 struck_run (y ∷ ys) (suc g) l c w fits begun = absurd (omega (arith, begun (omega arith)))
 
 -- some symbols more that a burst changes
-pub strike_more : (s t t' : Needle) (block old new : List ℕ) (i m : ℕ) → i + m ≤ length block → m ≤ t.left → (0 < m → t.gap ≡ 0) → t' ≡ record t { left = t.left - m }
+pub strike_more : (s t t' : Needle) (block old new : List ℕ) (i m : ℕ) → i + m ≤ length block → m ≤ t.left
+    → (0 < m → t.gap ≡ 0) → t' ≡ record t { left = t.left - m }
     → t ≡ state s (take i block) → take i old ≡ run s (take i block) → drop i old ≡ drop i block
-    → take (i + m) new ≡ take i old ++ map (λ byte. bit_xor byte t.change) (take (i + m - i) (drop i old)) → drop (i + m) new ≡ drop (i + m) old
-    → (t' ≡ state s (take (i + m) block)) × (take (i + m) new ≡ run s (take (i + m) block)) × (drop (i + m) new ≡ drop (i + m) block)
+    → take (i + m) new ≡ take i old ++ map (λ byte. bit_xor byte t.change) (take (i + m - i) (drop i old))
+    → drop (i + m) new ≡ drop (i + m) old
+    → (t' ≡ state s (take (i + m) block)) × (take (i + m) new ≡ run s (take (i + m) block))
+    × (drop (i + m) new ≡ drop (i + m) block)
 strike_more s t t' block old new i m fits few begun is now done rest changed kept =
     let f : ℕ → ℕ = λ byte. bit_xor byte t.change in
     let ys = take m (drop i block) in
     let size : length ys ≡ m = length-take m (drop i block) ∙ omega (arith, length-drop i block) in
     let more : take (i + m) block ≡ take i block ++ ys = take-add i m block in
     let later : (xs : List ℕ) → drop (i + m) xs ≡ drop m (drop i xs) = λ xs. sym (drop-drop m i xs) in
-    let (after, given) = struck_run ys t.gap t.left t.change t.words (omega (arith, size, few)) (λ some. begun (omega (arith, size, some))) in
+    let (after, given) = struck_run ys t.gap t.left t.change t.words (omega (arith, size, few))
+    (λ some. begun (omega (arith, size, some))) in
     let left : t.left - m ≡ t.left - length ys = ap (λ n. t.left - n) (sym size) in
     let count : i + m - i ≡ m = omega arith in (
-      is ∙ ap (λ n. at t.gap n t.change t.words) left ∙ after ∙ ap (λ u. state u ys) now ∙ sym (ap (state s) more ∙ run_state-append byte_next s (take i block) ys),
-      changed ∙ ap₂ (λ (l r : List ℕ). l ++ r) done (ap (λ n. map f (take n (drop i old))) count ∙ ap (λ (l : List ℕ). map f (take m l)) rest ∙ given ∙ ap (λ u. run u ys) now)
+      is ∙ ap (λ n. at t.gap n t.change t.words) left ∙ after ∙ ap (λ u. state u ys) now
+          ∙ sym (ap (state s) more ∙ run_state-append byte_next s (take i block) ys),
+      changed ∙ ap₂ (λ (l r : List ℕ). l ++ r) done (ap (λ n. map f (take n (drop i old))) count
+          ∙ ap (λ (l : List ℕ). map f (take m l)) rest ∙ given ∙ ap (λ u. run u ys) now)
           ∙ sym (ap (run s) more ∙ run_gives-append byte_next byte_gives s (take i block) ys),
       kept ∙ later old ∙ ap (drop m) rest ∙ sym (later block),
     )

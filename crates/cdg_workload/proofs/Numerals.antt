@@ -10,7 +10,8 @@ use Rattle.text_lines.specs.Text.{number_in}
 use Rattle.cdg_workload.proofs.Splitting.{all_from}
 
 digit_is : (n : ℕ) → n < 10 → is_ascii_digit (48 + n) ≡ true
-digit_is n lt = and_from (nat_le 48 (48 + n)) (nat_le (48 + n) 57) (le-leb 48 (48 + n) (omega arith)) (le-leb (48 + n) 57 (omega arith))
+digit_is n lt = and_from (nat_le 48 (48 + n)) (nat_le (48 + n) 57) (le-leb 48 (48 + n) (omega arith))
+    (le-leb (48 + n) 57 (omega arith))
 
 digits_are : (n : ℕ) → n < 2 ^ 64 → list_all is_ascii_digit (decimal n) ≡ true
 digits_are n lt =
@@ -18,7 +19,8 @@ digits_are n lt =
     (λ n one. and_from (is_ascii_digit (48 + n)) true (digit_is n one) refl)
     (λ n ds from so_far.
     list_all-append is_ascii_digit ds ((48 + n % 10) ∷ [])
-    ∙ and_from (list_all is_ascii_digit ds) (list_all is_ascii_digit ((48 + n % 10) ∷ [])) so_far (and_from (is_ascii_digit (48 + n % 10)) true (digit_is (n % 10) (omega arith)) refl))
+    ∙ and_from (list_all is_ascii_digit ds) (list_all is_ascii_digit ((48 + n % 10) ∷ [])) so_far
+    (and_from (is_ascii_digit (48 + n % 10)) true (digit_is (n % 10) (omega arith)) refl))
     n lt
 
 graphic_digits : (ds : List ℕ) → list_all is_ascii_digit ds ≡ true → all_from 33 ds ≡ true
@@ -51,8 +53,12 @@ unfolding number_in
 number_of_decimal n lt =
     let fits = small n lt in
     let value : digits_value 10 (decimal n) ≡ n = (decimal_is_IsNumeral n fits).1 in
-    let test : (nat_le 1 (length (decimal n)) && nat_le (length (decimal n)) 3 && list_all is_ascii_digit (decimal n)) ≡ true =
-    and_from (nat_le 1 (length (decimal n)) && nat_le (length (decimal n)) 3) (list_all is_ascii_digit (decimal n))
-    (and_from (nat_le 1 (length (decimal n))) (nat_le (length (decimal n)) 3) (le-leb 1 (length (decimal n)) (decimal_some n lt)) (le-leb (length (decimal n)) 3 (length-decimal-le 3 n (lit< tt) lt fits)))
+    let test : (nat_le 1 (length (decimal n)) && nat_le (length (decimal n)) 3 && list_all is_ascii_digit
+    (decimal n)) ≡ true =
+    and_from (nat_le 1 (length (decimal n)) && nat_le (length (decimal n)) 3)
+    (list_all is_ascii_digit (decimal n))
+    (and_from (nat_le 1 (length (decimal n))) (nat_le (length (decimal n)) 3)
+    (le-leb 1 (length (decimal n)) (decimal_some n lt))
+    (le-leb (length (decimal n)) 3 (length-decimal-le 3 n (lit< tt) lt fits)))
     (digits_are n fits) in
     ap (λ t. cond t (Some (digits_value 10 (decimal n))) None) test ∙ ap (λ v. Some v) value

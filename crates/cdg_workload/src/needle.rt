@@ -102,19 +102,20 @@ impl Needle {
         struck as usize
     }
 
-    /// Changes the symbols of a block. Those that stay, and those of a burst, are gone over at once.
+    /// Changes the symbols of a block. Those before a burst, those of it and those after it are gone over at once.
     pub(crate) fn scratch(&mut self, block: &mut [u8; BLOCK_BYTES])
         ensures next { self.new ≡ run_state byte_next self.old block.old }
         ensures gives { block.new ≡ run_gives byte_next byte_gives self.old block.old }
     {
         let mut at = self.pass(BLOCK_BYTES);
+        let struck = self.strike(BLOCK_BYTES - at);
+        combine(block, at, at + struck, self.change);
+        at += struck;
+        // The next burst comes after the block.
         while at < BLOCK_BYTES {
             block[at] = self.push(block[at]);
             at += 1;
             at += self.pass(BLOCK_BYTES - at);
-            let struck = self.strike(BLOCK_BYTES - at);
-            combine(block, at, at + struck, self.change);
-            at += struck;
         }
     }
 }

@@ -84,6 +84,9 @@ impl Stage for Scratches {
 
     ghost gives = { block_gives };
 
+    // It is called for the first block alone.
+    #[cold]
+    #[inline(never)]
     fn feed(&mut self, block: &[u8; BLOCK_BYTES]) -> Option<Piece> {
         let mut piece = Piece::new();
         self.pass(block, &mut piece);

@@ -3,7 +3,8 @@ use Rattle.std.proofs.Common.{◌≡◌, ℕ, zero, suc, ◌+◌, ◌*◌, ◌/�
 use Rattle.std.specs.Prelude.{Option, Some}
 use Rattle.std.proofs.Math.Seq.{take-add}
 use Rattle.std.proofs.lemmas.List.{get_or-take, get_or-drop, length-take-le, length-drop, length-map, map-append, take-map, take-append-le, take_all}
-use Rattle.bit_lists.specs.Counting.{parts}
+use Rattle.bit_lists.specs.Counting.{parts, whole_parts}
+use Rattle.disc_time.specs.Counts.{pause_blocks}
 use Rattle.raw_subcode.specs.Channels.{program_symbols, symbols_of}
 use Rattle.raw_subcode.specs.declared.form.Form.{Form}
 use Rattle.rw_interleave.specs.Interleave.{whole_packs}
@@ -16,13 +17,17 @@ use Rattle.cdg_instructions.specs.Meaning.{meaning}
 use Rattle.cdg_instructions.specs.declared.instr.Instr.{Instr}
 use Rattle.cdg_instructions.specs.declared.instr.Instr.TheVariants.{Idle}
 use Rattle.cdg_screen.specs.Texts.{pixmap}
-use Rattle.cdg_screen.specs.Standing.{blank, standing_after}
+use Rattle.cdg_screen.specs.Standing.{Standing, blank, standing_after}
 use Rattle.stream_stages.specs.Convert.{IsDamagedStream}
 use Rattle.stream_stages.specs.Screen.{AreMeant, IsScreenAt, moment}
 use Rattle.stream_stages.proofs.Restoring.{Recovers, program_small}
 use Rattle.rw_code.specs.Packs.{idle_pack}
 use Rattle.cdg_press.specs.Pressed.{file_begin, file_pack, file_packs, IsPressed, press_of}
-use Rattle.round_trips.specs.Damaged.{file_standing, DamagedPress, IsFileText}
+use Rattle.cdg_thin.specs.Thin.{AreInstructionsOf}
+use Rattle.cdg_thin.specs.Steps.{pack_instruction}
+use Rattle.cdg_thin.proofs.Meanings.{has_instruction}
+use Rattle.cdg_thin.proofs.Forms.{first_read, instructions_of, read_each}
+use Rattle.round_trips.specs.Damaged.{DamagedPress, IsFileText}
 use Rattle.round_trips.proofs.Meanings.{same_meaning}
 use Rattle.round_trips.proofs.Standings.{idle_around, InTurn}
 
@@ -56,6 +61,37 @@ length-parts (suc count) bytes = ap suc (length-parts count (drop 24 bytes))
 
 count_of_file : (file : List ℕ) → length (file_packs file) ≡ length file / 24
 count_of_file file = length-map (parts (length file / 24) 24 file) symbols_of ∙ length-parts (length file / 24) file
+
+-- what stands after the first packs of a file, so many or all of them, as a function
+abbrev file_standing : List ℕ → ℕ → Standing
+file_standing file many = standing_after blank (map meaning (take many (file_packs file)))
+
+-- the instructions of packs are what their symbols mean
+meanings_are : (many : ℕ) (packs : List (List ℕ))
+    → map meaning (take many (map symbols_of packs)) ≡ instructions_of (take many packs)
+unfolding pack_instruction
+meanings_are zero packs = refl
+meanings_are (suc many) [] = refl
+meanings_are (suc many) (pack ∷ packs) = ap (λ is. meaning (symbols_of pack) ∷ is) (meanings_are many packs)
+
+part_size : (count : ℕ) (bytes : List ℕ) (k : ℕ) → k < count → 24 * count ≤ length bytes
+    → length (get_or (parts count 24 bytes) k []) ≡ 24
+part_size zero bytes k lt fits = absurd (omega (arith, lt))
+part_size (suc count) bytes zero lt fits = length-take-le 24 bytes (omega (arith, fits))
+part_size (suc count) bytes (suc k) lt fits =
+    part_size count (drop 24 bytes) k (omega (arith, lt)) (omega (arith, fits, length-drop 24 bytes))
+
+-- the first packs of a file have these instructions
+file_read : (file : List ℕ) (many : ℕ)
+    → AreInstructionsOf (take many (whole_parts 24 file)) (map meaning (take many (file_packs file)))
+file_read file many =
+    let packs : List (List ℕ) = whole_parts 24 file in
+    let all : AreInstructionsOf packs (instructions_of packs) =
+    read_each packs (λ n lt.
+    let in_file : n < length file / 24 = omega (arith, lt, length-parts (length file / 24) file) in
+    has_instruction (get_or packs n []) (part_size (length file / 24) file n in_file (omega arith))) in
+    subst (AreInstructionsOf (take many packs)) (take-map pack_instruction many packs ∙ sym (meanings_are many packs))
+    (first_read many packs (instructions_of packs) all)
 
 -- packs that are those of a file made good, and idle ones after them
 record AreOfFile (files packs : List (List ℕ)) : Type 0 where
@@ -108,12 +144,12 @@ module _ (sheet : CueSheet) (file : List ℕ) (lead_in audio : ℕ) (bytes : Lis
         ∙ pressed.others (file_begin + k) (omega (arith, in_packs, within_count, many, pressed.carries.count)) (inr (omega (arith, past, count_of_file file)));
   }
 
-  first_packs : take (whole_packs (150 + time)) packs ≡ before ++ within
+  first_packs : take (whole_packs (pause_blocks + time)) packs ≡ before ++ within
   first_packs =
-      let sum : whole_packs (150 + time) ≡ file_begin + 4 * time = omega arith in
+      let sum : whole_packs (pause_blocks + time) ≡ file_begin + 4 * time = omega arith in
       ap (λ n. take n packs) sum ∙ take-add file_begin (4 * time) packs
 
-  first_mean : map meaning (take (whole_packs (150 + time)) packs)
+  first_mean : map meaning (take (whole_packs (pause_blocks + time)) packs)
       ≡ replicate (length before) Idle ++ (map meaning (take (4 * time) (file_packs file)) ++ replicate (of_file_means (file_packs file) within within_of_file).0 Idle)
   first_mean =
       ap (map meaning) first_packs ∙ map-append meaning before within
@@ -122,7 +158,7 @@ module _ (sheet : CueSheet) (file : List ℕ) (lead_in audio : ℕ) (bytes : Lis
       ∙ ap (λ n. map meaning (take n (file_packs file)) ++ replicate (of_file_means (file_packs file) within within_of_file).0 Idle) within_count)
 
   -- what stands is what stands after the packs of the file
-  pub same_standing : InTurn → (instrs : List Instr) → instrs ≡ map meaning (take (whole_packs (150 + time)) packs) → standing_after blank instrs ≡ file_standing file (4 * time)
+  pub same_standing : InTurn → (instrs : List Instr) → instrs ≡ map meaning (take (whole_packs (pause_blocks + time)) packs) → standing_after blank instrs ≡ file_standing file (4 * time)
   same_standing laws instrs are =
       subst (λ (is : List Instr). standing_after blank is ≡ file_standing file (4 * time)) (sym (are ∙ first_mean))
       (idle_around laws (length before) (of_file_means (file_packs file) within within_of_file).0 (map meaning (take (4 * time) (file_packs file))))
@@ -145,19 +181,24 @@ module _ (form : Form) (lead_in : ℕ) (others : List ℕ) (press : DamagedPress
   found_is recovers found recovered =
       recovers form (program_blocks press.sheet press.audio) _ (program_symbols form others lead_in) press.packs found press.pressed.carries (program_small form others lead_in) press.damaged recovered
 
-  module _ (recovers : Recovers) (time : ℕ) (text : List ℕ) (bad : ℕ) (in_audio : time ≤ press.audio) (screen : IsScreenAt (moment form lead_in (150 + time)) others text bad) where
-    first_found : take (whole_packs (150 + time)) screen.found ≡ map (λ pack. Some pack) (take (whole_packs (150 + time)) press.packs)
+  module _ (recovers : Recovers) (time : ℕ) (text : List ℕ) (bad : ℕ) (in_audio : time ≤ press.audio) (screen : IsScreenAt (moment form lead_in (pause_blocks + time)) others text bad) where
+    first_found : take (whole_packs (pause_blocks + time)) screen.found ≡ map (λ pack. Some pack) (take (whole_packs (pause_blocks + time)) press.packs)
     first_found =
-        let within : whole_packs (150 + time) ≤ length press.packs = omega (arith, many press.sheet press.file lead_in press.audio press.bytes press.packs press.pressed time in_audio) in
-        ap (take (whole_packs (150 + time))) (found_is recovers screen.found screen.recovered)
-        ∙ take-map (λ pack. Some pack) (whole_packs (150 + time)) (all_packs form blocks press.packs)
-        ∙ ap (map (λ pack. Some pack)) (take-append-le (whole_packs (150 + time)) press.packs (replicate (word_count form blocks - length press.packs) (replicate 24 0)) within)
+        let within : whole_packs (pause_blocks + time) ≤ length press.packs = omega (arith, many press.sheet press.file lead_in press.audio press.bytes press.packs press.pressed time in_audio) in
+        ap (take (whole_packs (pause_blocks + time))) (found_is recovers screen.found screen.recovered)
+        ∙ take-map (λ pack. Some pack) (whole_packs (pause_blocks + time)) (all_packs form blocks press.packs)
+        ∙ ap (map (λ pack. Some pack)) (take-append-le (whole_packs (pause_blocks + time)) press.packs (replicate (word_count form blocks - length press.packs) (replicate 24 0)) within)
 
     pub file_text : OneMeaning → InTurn → IsFileText press.file (4 * time) text
     file_text one laws =
-        let are : screen.instrs ≡ map meaning (take (whole_packs (150 + time)) press.packs) =
-        meant_is one (take (whole_packs (150 + time)) press.packs) screen.instrs (subst (λ (l : List (Option (List ℕ))). AreMeant l screen.instrs) first_found screen.shown) in
-        screen.text_is ∙ ap pixmap (same_standing press.sheet press.file lead_in press.audio press.bytes press.packs press.pressed time in_audio laws screen.instrs are)
+        let are : screen.instrs ≡ map meaning (take (whole_packs (pause_blocks + time)) press.packs) =
+        meant_is one (take (whole_packs (pause_blocks + time)) press.packs) screen.instrs (subst (λ (l : List (Option (List ℕ))). AreMeant l screen.instrs) first_found screen.shown) in
+        record {
+          instrs = map meaning (take (4 * time) (file_packs press.file));
+          read = file_read press.file (4 * time);
+          text_is = screen.text_is
+              ∙ ap pixmap (same_standing press.sheet press.file lead_in press.audio press.bytes press.packs press.pressed time in_audio laws screen.instrs are);
+        }
 
     pub none_bad : NoneBad → bad ≡ 0
-    none_bad none = screen.bad_is ∙ ap bad_count first_found ∙ none (take (whole_packs (150 + time)) press.packs)
+    none_bad none = screen.bad_is ∙ ap bad_count first_found ∙ none (take (whole_packs (pause_blocks + time)) press.packs)

@@ -1,15 +1,17 @@
 -- What may be left of a pressed stream, and what is shown of it.
-use Rattle.std.specs.Prelude.{◌≡◌, ℕ, ◌*◌, ◌%◌, ◌≤◌, List, length, map, take}
+use Rattle.std.specs.Prelude.{◌≡◌, ℕ, ◌*◌, ◌%◌, ◌≤◌, List, length, take}
+use Rattle.bit_lists.specs.Counting.{whole_parts}
 use Rattle.raw_subcode.specs.Channels.{unit_size, program_symbols}
 use Rattle.raw_subcode.specs.declared.form.Form.{Form}
 use Rattle.raw_subcode.specs.declared.form.Form.TheVariants.{Raw}
 use Rattle.cue_sheet.specs.CueSheet.{CueSheet}
 use Rattle.rw_interleave.specs.Stream.{IsDamaged}
-use Rattle.cdg_instructions.specs.Meaning.{meaning}
-use Rattle.cdg_screen.specs.Standing.{Standing, blank, standing_after}
+use Rattle.cdg_instructions.specs.declared.instr.Instr.{Instr}
+use Rattle.cdg_screen.specs.Standing.{blank, standing_after}
 use Rattle.cdg_screen.specs.Texts.{pixmap}
-use Rattle.raw_subcode.specs.Sizes.{most_units}
-use Rattle.cdg_press.specs.Pressed.{file_packs, IsPressed, press_of}
+use Rattle.raw_subcode.specs.Sizes.{most_units, symbols_a_slot}
+use Rattle.cdg_thin.specs.Thin.{AreInstructionsOf}
+use Rattle.cdg_press.specs.Pressed.{IsPressed, press_of}
 
 -- What was pressed, where these are whole units of a form whose program differs from that of a pressed stream in at
 -- most two symbols of each word.
@@ -24,10 +26,9 @@ pub record DamagedPress (form : Form) (lead_in : ℕ) (others : List ℕ) : Type
   pub whole : length others % unit_size form ≡ 0
   pub damaged : IsDamaged (program_symbols Raw bytes lead_in) form (program_symbols form others lead_in)
 
--- what stands after the first packs of a file, so many or all of them
-abbrev pub file_standing : List ℕ → ℕ → Standing
-file_standing file many = standing_after blank (map meaning (take many (file_packs file)))
-
--- the text is the pixmap of what stands then
-abbrev pub IsFileText : List ℕ → ℕ → List ℕ → Type 0
-IsFileText file many text = text ≡ pixmap (file_standing file many)
+-- The text is the pixmap of what stands after the instructions of the first packs of a file, so many or all of
+-- them.
+pub record IsFileText (file : List ℕ) (many : ℕ) (text : List ℕ) : Type 0 where
+  pub instrs : List Instr
+  pub read : AreInstructionsOf (take many (whole_parts symbols_a_slot file)) instrs
+  pub text_is : text ≡ pixmap (standing_after blank instrs)

@@ -1,5 +1,6 @@
 // Laws on pressed streams: what comes back of them, and what is shown.
 ghost use Rattle.std.specs.Prelude.{◌≡◌, ◌≤◌, ◌+◌, ◌*◌, List, Option, Some, ℕ, map};
+ghost use Rattle.disc_time.specs.Counts.{pause_blocks};
 ghost use Rattle.raw_subcode.specs.Channels.{program_symbols};
 ghost use Rattle.raw_subcode.specs.declared.form.Form.{Form};
 ghost use Rattle.toc_model.specs.Places.{program_blocks};
@@ -10,7 +11,7 @@ ghost use Rattle.round_trips.specs.Damaged.{DamagedPress, IsFileText};
 
 use cdg_instructions::each_pack_has_a_meaning;
 use cdg_screen::instructions_in_turn;
-use rw_interleave::{packs_are_recovered, text_of_packs};
+use rw_interleave::{found_packs_are_the_text, packs_are_recovered};
 
 /// A law: whole units, of any form, that differ from a pressed stream in at most two symbols of a word are damaged
 /// from its packs, and these are recovered.
@@ -32,15 +33,15 @@ pub fn pressed_files_are_shown()
     ensures text { (form : Form) (lead_in time : ℕ) (others : List ℕ)
         (press : DamagedPress form lead_in others)
         (text : List ℕ) (bad : ℕ) → time ≤ press.audio
-        → IsScreenAt (moment form lead_in (150 + time)) others text bad
+        → IsScreenAt (moment form lead_in (pause_blocks + time)) others text bad
         → IsFileText press.file (4 * time) text }
     ensures bad { (form : Form) (lead_in time : ℕ) (others : List ℕ)
         (press : DamagedPress form lead_in others)
         (text : List ℕ) (bad : ℕ) → time ≤ press.audio
-        → IsScreenAt (moment form lead_in (150 + time)) others text bad → bad ≡ 0 }
+        → IsScreenAt (moment form lead_in (pause_blocks + time)) others text bad → bad ≡ 0 }
 {
     packs_are_recovered();
-    text_of_packs();
+    found_packs_are_the_text();
     each_pack_has_a_meaning();
     instructions_in_turn();
 }

@@ -11,7 +11,7 @@ ghost use Rattle.stream_stages.specs.declared.played.PlayStop.{PlayStop};
 ghost use Rattle.round_trips.specs.Pictured.{GivesPicture, IsHeldAt, IsPictureText, IsScheduledStream};
 
 use picture_changes::scheduled_pictures_are_shown;
-use rw_interleave::{packs_are_recovered, text_of_packs};
+use rw_interleave::{found_packs_are_the_text, packs_are_recovered};
 
 /// A law: the screen of a stream that damage keeps within two symbols a word is, from the ready time of a picture to
 /// its hold time, that picture.
@@ -28,7 +28,7 @@ pub fn screens_show_pictures()
         → bad ≡ 0 }
 {
     packs_are_recovered();
-    text_of_packs();
+    found_packs_are_the_text();
     scheduled_pictures_are_shown();
 }
 

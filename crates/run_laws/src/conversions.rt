@@ -24,7 +24,7 @@ ghost use Rattle.run_laws.specs.Undamaged.{IsCleanStream, form_words};
 
 use crate::scratched_streams_are_damaged;
 use round_trips::shown_moments_give_pictures;
-use rw_interleave::{clean_words_are_found, packs_are_recovered, text_of_packs};
+use rw_interleave::{clean_words_are_found, found_packs_are_the_text, packs_are_recovered};
 
 /// A law: from damage of at most two symbols a word a conversion gives back every pack of a stream, wherever it comes
 /// from.
@@ -36,7 +36,7 @@ pub fn damaged_streams_give_their_packs()
         → GivesBack (concat (all_packs form blocks packs)) call.out status) }
 {
     packs_are_recovered();
-    text_of_packs();
+    found_packs_are_the_text();
 }
 
 /// A law: from its ready time to its hold time each picture of a script is shown, of any stream whose packs are a
@@ -59,7 +59,7 @@ pub fn clean_streams_give_their_words()
         → GivesBack (concat (form_words form (program_symbols form all lead_in))) call.out status) }
 {
     clean_words_are_found();
-    text_of_packs();
+    found_packs_are_the_text();
 }
 
 /// A law: of a scratched authored stream a conversion gives back every scheduled pack.
@@ -73,6 +73,6 @@ pub fn scratched_streams_give_their_packs()
         → GivesBack (concat packs) call.out status) }
 {
     packs_are_recovered();
-    text_of_packs();
+    found_packs_are_the_text();
     scratched_streams_are_damaged();
 }

@@ -46,7 +46,7 @@ pub fn clean_words_are_found()
 }
 
 /// A law: where every pack was found, the text is the packs, and none is bad.
-pub fn text_of_packs()
+pub fn found_packs_are_the_text()
     ensures text { (packs : List (List ℕ)) → cdg_bytes (map (λ pack. Some pack) packs) ≡ concat packs }
     ensures bad { (packs : List (List ℕ)) → bad_count (map (λ pack. Some pack) packs) ≡ 0 }
 {}

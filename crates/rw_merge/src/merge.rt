@@ -16,7 +16,7 @@ use crate::packs::Packs;
 use crate::pairs::{next_pair, nothing_follows};
 use cdg_io::{Failed, Sink, Source, put_all};
 use raw_subcode::{BLOCK_BYTES, MOST_UNITS};
-use rw_interleave::{Gather, text_of_packs};
+use rw_interleave::{Gather, found_packs_are_the_text};
 use std::alloc::{AllocError, Global};
 use std::marker::Model;
 
@@ -57,7 +57,7 @@ pub fn two_readings_give_packs()
     ensures damage { (lead_in blocks : ℕ) (packs : List (List ℕ)) (first second : List ℕ)
         → IsDamagedTwice lead_in blocks packs first second → IsReadTwice lead_in blocks packs first second }
 {
-    text_of_packs();
+    found_packs_are_the_text();
 }
 
 /// Merges two readings of one stream, one pair of streams at a time. All its memory is taken at the start; each

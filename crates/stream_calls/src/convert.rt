@@ -14,7 +14,7 @@ ghost use Rattle.stream_stages.specs.Convert.{Converts, IsConverted, IsDamagedSt
 
 use cdg_io::{Pumped, Sink, Source, Then};
 use raw_subcode::Form;
-use rw_interleave::{packs_are_recovered, text_of_packs};
+use rw_interleave::{found_packs_are_the_text, packs_are_recovered};
 use stream_stages::{
     BlockWords, Correction, PlayStop, Played, SectorBlocks, play_stop, pump_blocks,
 };
@@ -29,7 +29,7 @@ pub fn damaged_streams_give_packs()
         → bad ≡ 0 }
 {
     packs_are_recovered();
-    text_of_packs();
+    found_packs_are_the_text();
 }
 
 /// Converts streams, one at a time: each call begins anew, whatever stopped the one before. It takes no memory.

@@ -11,7 +11,10 @@ pub struct SectorBlocks<G> {
     pub blocks: G,
 }
 
-impl<G: Stage<Item = [u8; BLOCK_BYTES]>> Stage for SectorBlocks<G> {
+impl<G: Stage<Item = [u8; BLOCK_BYTES]>> Stage for SectorBlocks<G>
+where
+    G::Out: Drop,
+{
     type Item = [u8; SECTOR_BYTES];
 
     type Out = G::Out;

@@ -34,7 +34,8 @@ ScratchesGoOn = (seed b : ℕ) (bytes : List ℕ) → 96 * b + 96 ≤ length byt
 
 abbrev pub ScratchesGive : Type 0
 ScratchesGive = (seed b : ℕ) (bytes : List ℕ) → 96 * b + 96 ≤ length bytes
-    → Some (stream_block (scratched 0 seed bytes) b) ≡ block_gives (scratches_after seed bytes b) (stream_block bytes b)
+    → Some (stream_block (scratched 0 seed bytes) b) ≡ block_gives (scratches_after seed bytes b)
+    (stream_block bytes b)
 
 some_inside : (xs ys : List ℕ) → Some xs ≡ Some ys → xs ≡ ys
 some_inside xs ys same = ap (λ (o : Option (List ℕ)). unwrap_or o []) same
@@ -48,15 +49,18 @@ pub gone_over : GathersWords → ShowsScheduled → ChannelsStay → ScratchesGo
     → new.gather ≡ run_state gather_next old.gather (slots_in changed 0 4)
     → words ≡ run_gives gather_next gather_gives old.gather (slots_in changed 0 4)
     → ((bytes : List ℕ) (b : ℕ) → 96 * b + 96 ≤ length bytes → words ≡ words_with_stream_block bytes b
-    → HasTaken script bytes (whole_packs b) old.replay → HasTaken script bytes (whole_packs (b + 1)) new.replay)
+    → HasTaken script bytes (whole_packs b) old.replay
+    → HasTaken script bytes (whole_packs (b + 1)) new.replay)
     → ((old.gallery.next < pictures script → 4 * (old.blocks + 1) ≢ 4 * ready_time script old.gallery.next)
     → (new.gallery.next ≡ old.gallery.next) × (new.gallery.equal ≡ old.gallery.equal))
     → (old.gallery.next < pictures script → 4 * (old.blocks + 1) ≡ 4 * ready_time script old.gallery.next
     → (new.gallery.next ≡ old.gallery.next + 1)
     × (ShowsPicture script old.gallery.next new.replay.screen → new.gallery.equal ≡ old.gallery.equal + 1))
-    → (seed : ℕ) (bytes : List ℕ) → 96 * old.blocks + 96 ≤ length bytes → block ≡ stream_block bytes old.blocks
+    → (seed : ℕ) (bytes : List ℕ) → 96 * old.blocks + 96 ≤ length bytes
+    → block ≡ stream_block bytes old.blocks
     → HasGoneOver script seed bytes old → HasGoneOver script seed bytes new
-gone_over law shows stay next gives script order ranges old new block changed words more scratches change gather come taken waits looks seed bytes fits block_is before =
+gone_over law shows stay next gives script order ranges old new block changed words more scratches change
+    gather come taken waits looks seed bytes fits block_is before =
     let b = old.blocks in
     let others = scratched 0 seed bytes in
     let size : length others ≡ length bytes = same_size 0 seed bytes (stay 0 seed bytes) in
@@ -72,8 +76,10 @@ gone_over law shows stay next gives script order ranges old new block changed wo
       gather = gather ∙ ap₂ (λ w l. run_state gather_next w (slots_in l 0 4)) before.gather changed_is
           ∙ sym (gathered_more others b within) ∙ ap (gathered_before others) (sym more);
       shown = subst (λ n. HasShown script others n new.replay new.gallery) (sym more)
-          (goes_on shows script order ranges others b (4 * (b + 1) - 7) old.replay new.replay old.gallery new.gallery refl before.shown
-          (taken others b within words_are (λ symbols packs damaged. (before.shown symbols packs damaged).taken))
+          (goes_on shows script order ranges others b
+          (4 * (b + 1) - 7) old.replay new.replay old.gallery new.gallery refl before.shown
+          (taken others b within words_are
+          (λ symbols packs damaged. (before.shown symbols packs damaged).taken))
           waits looks);
     }
 
@@ -110,13 +116,17 @@ knows_start script seed count course block bytes script_is steady none nothing l
 }
 
 -- some bytes more of the block that has begun
-pub knows_more : (script : List Drawing) (seed count : ℕ) (course : Course) (block bytes part part' bytes' : List ℕ)
-    (filled k : ℕ) → filled + length part ≤ length block → part' ≡ part → bytes' ≡ bytes ++ part → k ≡ length part
+pub knows_more : (script : List Drawing) (seed count : ℕ) (course : Course)
+    (block bytes part part' bytes' : List ℕ)
+    (filled k : ℕ) → filled + length part ≤ length block → part' ≡ part → bytes' ≡ bytes ++ part
+    → k ≡ length part
     → Knows script seed count course block filled bytes
-    → Knows script seed count course (take filled block ++ (part' ++ post_of filled k block)) (filled + length part) bytes'
+    → Knows script seed count course (take filled block ++ (part' ++ post_of filled k block))
+    (filled + length part) bytes'
 knows_more script seed count course block bytes part part' bytes' filled k fits copied told many known =
     let b = course.blocks in
-    let size : length bytes' ≡ length bytes + length part = ap (λ (l : List ℕ). length l) told ∙ length-append bytes part in
+    let size : length bytes' ≡ length bytes + length part = ap (λ (l : List ℕ). length l) told
+    ∙ length-append bytes part in
     let within : 96 * b ≤ length bytes = omega (arith, known.size) in
     let written : take filled block ++ (part' ++ post_of filled k block)
     ≡ take filled block ++ (part ++ post_of filled k block) =
@@ -127,18 +137,21 @@ knows_more script seed count course block bytes part part' bytes' filled k fits 
       steady = known.steady;
       long = ap (λ (l : List ℕ). length l) written ∙ same_long block part filled k fits many ∙ known.long;
       size = omega (arith, size, known.size);
-      begun = ap (take (filled + length part)) written ∙ at_hand block part (post_of filled k block) filled inside
+      begun = ap (take (filled + length part)) written
+          ∙ at_hand block part (post_of filled k block) filled inside
           ∙ ap (λ (l : List ℕ). l ++ part) known.begun ∙ sym (drop-append-le (96 * b) bytes part within)
           ∙ ap (drop (96 * b)) (sym told);
       gone_over = λ more.
           subst (λ (l : List ℕ). HasGoneOver script seed l course)
-          (sym (append_assoc bytes part more) ∙ ap (λ (l : List ℕ). l ++ more) (sym told)) (known.gone_over (part ++ more));
+          (sym (append_assoc bytes part more) ∙ ap (λ (l : List ℕ). l ++ more) (sym told))
+          (known.gone_over (part ++ more));
     }
 
 -- a block that is whole: the course goes over it, and no byte of the next one is at hand
 knows_next : (script : List Drawing) (seed count : ℕ) (course course' : Course) (whole bytes : List ℕ)
     → course'.blocks ≡ course.blocks + 1 → IsSteady script course'
-    → ((seed : ℕ) (bytes : List ℕ) → 96 * course.blocks + 96 ≤ length bytes → whole ≡ stream_block bytes course.blocks
+    → ((seed : ℕ) (bytes : List ℕ) → 96 * course.blocks + 96 ≤ length bytes
+    → whole ≡ stream_block bytes course.blocks
     → HasGoneOver script seed bytes course → HasGoneOver script seed bytes course')
     → Knows script seed count course whole 96 bytes → Knows script seed count course' whole 0 bytes
 knows_next script seed count course course' whole bytes next steady goes known =
@@ -159,41 +172,62 @@ knows_next script seed count course course' whole bytes next steady goes known =
       size = omega (arith, known.size, next);
       begun = sym (drop_all (96 * course'.blocks) bytes (omega (arith, all)));
       gone_over = λ more.
-          let room : 96 * b + 96 ≤ length (bytes ++ more) = omega (arith, known.size, length-append bytes more) in
+          let room : 96 * b + 96 ≤ length (bytes ++ more) =
+          omega (arith, known.size, length-append bytes more) in
           goes seed (bytes ++ more) room (block_is more) (known.gone_over more);
     }
 
 -- the last bytes of a block: the course goes over it
-pub knows_whole : (script : List Drawing) (seed count : ℕ) (course course' : Course) (block bytes part part' bytes' : List ℕ)
-    (filled k : ℕ) → filled + length part ≤ length block → part' ≡ part → bytes' ≡ bytes ++ part → k ≡ length part
+pub knows_whole : (script : List Drawing) (seed count : ℕ) (course course' : Course)
+    (block bytes part part' bytes' : List ℕ)
+    (filled k : ℕ) → filled + length part ≤ length block → part' ≡ part → bytes' ≡ bytes ++ part
+    → k ≡ length part
     → filled + length part ≡ 96 → course'.blocks ≡ course.blocks + 1 → IsSteady script course'
     → ((seed : ℕ) (all : List ℕ) → 96 * course.blocks + 96 ≤ length all
     → take filled block ++ (part' ++ post_of filled k block) ≡ stream_block all course.blocks
     → HasGoneOver script seed all course → HasGoneOver script seed all course')
     → Knows script seed count course block filled bytes
     → Knows script seed count course' (take filled block ++ (part' ++ post_of filled k block)) 0 bytes'
-knows_whole script seed count course course' block bytes part part' bytes' filled k fits copied told many end next steady goes known =
+knows_whole script seed count course course' block bytes part part' bytes' filled k fits copied told many end
+    next steady goes known =
     let whole = take filled block ++ (part' ++ post_of filled k block) in
     knows_next script seed count course course' whole bytes' next steady goes
     (subst (λ n. Knows script seed count course whole n bytes') end
     (knows_more script seed count course block bytes part part' bytes' filled k fits copied told many known))
 
 -- what is found of the whole blocks
-pub knows_found : ChannelsStay → (script : List Drawing) → AreTimesInOrder script → (seed count : ℕ) (course : Course)
+pub knows_found : ChannelsStay → (script : List Drawing) → AreTimesInOrder script
+    → (seed count : ℕ) (course : Course)
     (block bytes : List ℕ) (filled : ℕ) → filled < 96 → Knows script seed count course block filled bytes
     → (symbols : List ℕ) (packs : List (List ℕ))
     → IsDamagedSchedule (generated_drawings seed count) (length (scratched 0 seed bytes) / 96) symbols packs
     (symbols_of (scratched 0 seed bytes))
     → IsPlayedOut (generated_drawings seed count) (length (scratched 0 seed bytes) / 96) symbols
     (symbols_of (scratched 0 seed bytes))
-    (record { one = course.replay.one; two = course.replay.two; bad = course.replay.bad; equal = course.gallery.equal })
+    (record {
+      one = course.replay.one;
+      two = course.replay.two;
+      bad = course.replay.bad;
+      equal =
+          course.gallery.equal;
+    })
 knows_found stay script order seed count course block bytes filled few known symbols packs damaged =
     let others = scratched 0 seed bytes in
-    let found : Found = record { one = course.replay.one; two = course.replay.two; bad = course.replay.bad; equal = course.gallery.equal } in
+    let found : Found =
+    record {
+      one = course.replay.one;
+      two = course.replay.two;
+      bad = course.replay.bad;
+      equal =
+          course.gallery.equal;
+    } in
     let size : length others ≡ length bytes = same_size 0 seed bytes (stay 0 seed bytes) in
     let blocks : course.blocks ≡ length others / 96 = omega (arith, size, known.size, few) in
     let gone : HasGoneOver script seed bytes course =
     subst (λ (l : List ℕ). HasGoneOver script seed l course) (append-nil bytes) (known.gone_over []) in
-    subst (λ (s : List Drawing). IsPlayedOut s (length others / 96) symbols (symbols_of others) found) known.script_is
-    (ends script order others course.blocks course.replay course.gallery found blocks gone.shown known.steady.next refl symbols packs
-    (subst (λ (s : List Drawing). IsDamagedSchedule s (length others / 96) symbols packs (symbols_of others)) (sym known.script_is) damaged))
+    subst (λ (s : List Drawing). IsPlayedOut s (length others / 96) symbols (symbols_of others) found)
+    known.script_is
+    (ends script order others course.blocks course.replay course.gallery found blocks gone.shown
+    known.steady.next refl symbols packs
+    (subst (λ (s : List Drawing). IsDamagedSchedule s (length others / 96) symbols packs (symbols_of others))
+    (sym known.script_is) damaged))

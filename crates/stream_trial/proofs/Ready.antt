@@ -23,14 +23,17 @@ pub record TimesAreKnown : Type 0 where
   pub hold : (seed count k : ℕ) → k < count → hold_time (generated_drawings seed count) k ≡ 800 * (k + 1) + 20
 
 -- a change of so many instructions fits between two pictures
-in_time : TimesAreKnown → (seed count k need : ℕ) → k < count → need ≤ 3076 → IsInTime (generated_drawings seed count) k need
+in_time : TimesAreKnown → (seed count k need : ℕ) → k < count → need ≤ 3076
+    → IsInTime (generated_drawings seed count) k need
 in_time times seed count zero need lt few = omega (arith, few, times.ready seed count 0 lt)
 in_time times seed count (suc k) need lt few =
     omega (arith, few, times.ready seed count (suc k) lt, times.hold seed count k (omega arith))
 
-pub enough_free : TimesAreKnown → (seed count k : ℕ) → k < count → 3120 ≤ free_packs (generated_drawings seed count) k
+pub enough_free : TimesAreKnown → (seed count k : ℕ) → k < count
+    → 3120 ≤ free_packs (generated_drawings seed count) k
 enough_free times seed count zero lt = omega (arith, times.ready seed count 0 lt)
-enough_free times seed count (suc k) lt = omega (arith, times.ready seed count (suc k) lt, times.hold seed count k (omega arith))
+enough_free times seed count (suc k) lt =
+    omega (arith, times.ready seed count (suc k) lt, times.hold seed count k (omega arith))
 
 pub all_ready : TimesAreKnown → PlannedIsChange → (seed count : ℕ)
     → AreColoursInRange (generated_drawings seed count)
@@ -50,21 +53,27 @@ not_late : (script : List Drawing) (k need free : ℕ) → AreReady script → I
 not_late script k need free ready is = ready_not_late script k need free (ready k is.picture) is
 
 -- no picture is held past the last hold time
-pub not_past_end : TimesAreKnown → (seed count blocks : ℕ) → 800 * count + 20 ≤ blocks → ¬ IsPastEnd (generated_drawings seed count) blocks
+pub not_past_end : TimesAreKnown → (seed count blocks : ℕ) → 800 * count + 20 ≤ blocks
+    → ¬ IsPastEnd (generated_drawings seed count) blocks
 not_past_end times seed count blocks enough (some, past) =
     let number = times.count seed count in
     let last : ℕ = pictures (generated_drawings seed count) - 1 in
     let held = times.hold seed count last (omega (arith, some, number)) in
     omega (arith, enough, some, past, number, held)
 
-pub survey_stop : TimesAreKnown → (seed count blocks : ℕ) (stop : Stop) → AreReady (generated_drawings seed count)
+pub survey_stop : TimesAreKnown → (seed count blocks : ℕ) (stop : Stop)
+    → AreReady (generated_drawings seed count)
     → 800 * count + 20 ≤ blocks → IsStop (generated_drawings seed count) blocks stop → stop ≡ no_memory
-survey_stop times seed count blocks (past_end program) ready enough h = absurd (not_past_end times seed count blocks enough h.1)
-survey_stop times seed count blocks (late picture need free) ready enough h = absurd (not_late (generated_drawings seed count) picture need free ready h.1)
+survey_stop times seed count blocks (past_end program) ready enough h =
+    absurd (not_past_end times seed count blocks enough h.1)
+survey_stop times seed count blocks (late picture need free) ready enough h =
+    absurd (not_late (generated_drawings seed count) picture need free ready h.1)
 survey_stop times seed count blocks no_memory ready enough h = refl
 
-pub accepted : TimesAreKnown → (sheet : CueSheet) (seed count lead_in audio : ℕ) → AreReady (generated_drawings seed count) → HasLayout sheet audio
-    → 800 * count + 20 ≤ program_blocks sheet audio → HasRoom sheet lead_in → IsAccepted sheet (generated_drawings seed count) lead_in audio
+pub accepted : TimesAreKnown → (sheet : CueSheet) (seed count lead_in audio : ℕ)
+    → AreReady (generated_drawings seed count) → HasLayout sheet audio
+    → 800 * count + 20 ≤ program_blocks sheet audio → HasRoom sheet lead_in
+    → IsAccepted sheet (generated_drawings seed count) lead_in audio
 accepted times sheet seed count lead_in audio ready layout enough room = record {
   disc = (layout, not_past_end times seed count (program_blocks sheet audio) enough);
   room = room;
@@ -73,12 +82,18 @@ accepted times sheet seed count lead_in audio ready layout enough room = record 
 
 -- what is refused of a stream that is accepted
 pub author_stop : (sheet : CueSheet) (script : List Drawing) (lead_in audio : ℕ) (stop : AuthorStop)
-    → IsAccepted sheet script lead_in audio → IsAuthorStop sheet script lead_in audio stop → (stop ≡ NoMemory) ⊎ (stop ≡ WriteFault)
+    → IsAccepted sheet script lead_in audio → IsAuthorStop sheet script lead_in audio stop
+    → (stop ≡ NoMemory) ⊎ (stop ≡ WriteFault)
 author_stop sheet script lead_in audio (LengthShort need) is h = absurd (omega (arith, h.1, is.disc.0.0))
-author_stop sheet script lead_in audio (DiscTooLong blocks) is h = absurd (omega (arith, h.1, h.2, is.disc.0.1))
-author_stop sheet script lead_in audio (PastEnd blocks) is h = absurd (is.disc.1 (subst (IsPastEnd script) h.1 h.2))
-author_stop sheet script lead_in audio (TextTooLong packs) is h = absurd (omega (arith, h.1.1, h.1.2, (is.room h.1.0).0))
-author_stop sheet script lead_in audio (LeadInShort need) is h = absurd (omega (arith, h.1.2, h.1.3, (is.room h.1.0).1))
-author_stop sheet script lead_in audio (Late picture need free) is h = absurd (not_late script picture need free is.ready h.2)
+author_stop sheet script lead_in audio (DiscTooLong blocks) is h =
+    absurd (omega (arith, h.1, h.2, is.disc.0.1))
+author_stop sheet script lead_in audio (PastEnd blocks) is h =
+    absurd (is.disc.1 (subst (IsPastEnd script) h.1 h.2))
+author_stop sheet script lead_in audio (TextTooLong packs) is h =
+    absurd (omega (arith, h.1.1, h.1.2, (is.room h.1.0).0))
+author_stop sheet script lead_in audio (LeadInShort need) is h =
+    absurd (omega (arith, h.1.2, h.1.3, (is.room h.1.0).1))
+author_stop sheet script lead_in audio (Late picture need free) is h =
+    absurd (not_late script picture need free is.ready h.2)
 author_stop sheet script lead_in audio WriteFault is h = inr refl
 author_stop sheet script lead_in audio NoMemory is h = inl refl

@@ -10,7 +10,8 @@ use Rattle.subcode_author.specs.AuthorAnswer.{HasLayout, HasRoom}
 use Rattle.stream_trial.specs.TrialSheet.{trial_text, trial_sheet}
 
 pub is_read : read_cue trial_text ≡ Ok trial_sheet
-unfolding read_on lines_in without_mark trimmed without_blanks command_named first_word is_file argument_of quoted words_in taken number_in parsed_time
+unfolding read_on lines_in without_mark trimmed without_blanks command_named first_word is_file argument_of
+    quoted words_in taken number_in parsed_time
 is_read = refl
 
 pub need_is : audio_need trial_sheet ≡ 1
@@ -31,5 +32,6 @@ pub no_lead_in : HasRoom trial_sheet 0
 no_lead_in some = absurd (omega (arith, some))
 
 -- a sheet that is read from a text is the one that the text says
-pub read_so : (sheet : CueSheet) (text : List ℕ) → read_cue text ≡ Ok trial_sheet → read_cue text ≡ Ok sheet → sheet ≡ trial_sheet
+pub read_so : (sheet : CueSheet) (text : List ℕ) → read_cue text ≡ Ok trial_sheet → read_cue text ≡ Ok sheet
+    → sheet ≡ trial_sheet
 read_so sheet text read is = cc

@@ -1,4 +1,5 @@
--- What a trial knows while it is under way is one fact or none: a sink keeps it truncated, and gives it where it is asked.
+-- What a trial knows while it is under way is one fact or none: a sink keeps it truncated, and gives it where
+-- it is asked.
 use Rattle.std.proofs.Common.{◌≡◌, ℕ, ◌*◌, ◌<◌, ◌≤◌, List, Some, None}
 use Rattle.std.specs.Prelude.{slice_index}
 use Rattle.std.specs.declared.option.Option.{Option}
@@ -28,7 +29,8 @@ IsBlank-prop board x y =
 
 IsPicture-prop : (script : List Drawing) (k : ℕ) (board : Board) → IsProp (IsPicture script k board)
 IsPicture-prop script k board x y =
-    let pixels_prop : IsProp ((x y : ℕ) → x < 288 → y < 192 → pixel_of board.pixels x y ≡ picture_pixel script k x y) =
+    let pixels_prop : IsProp ((x y : ℕ) → x < 288 → y < 192
+    → pixel_of board.pixels x y ≡ picture_pixel script k x y) =
     hlevel props in
     let border_prop : IsProp (board.border ≡ picture_border script k) = hlevel props in
     let colours_prop : IsProp ((n : ℕ) → n < 16 → slice_index board.colours n ≡ picture_colour script k n) =

@@ -4,9 +4,18 @@ ghost use Rattle.cdg_instructions.specs.Sizes.{screen_height, screen_width};
 ghost use Rattle.cdg_screen.specs.Standing.{screen_pixel};
 ghost use Rattle.stream_trial.specs.Replay.{Agrees, wanted_pixel};
 
-use cdg_instructions::SCREEN_WIDTH;
+use cdg_instructions::{SCREEN_HEIGHT, SCREEN_WIDTH, TILE_HEIGHT, TILE_WIDTH};
 use cdg_screen::Screen;
 use picture_script::Canvas;
+
+// The first column and row of the window, and the first past it.
+const LEFT: u32 = TILE_WIDTH as u32;
+
+const RIGHT: u32 = SCREEN_WIDTH as u32 - LEFT;
+
+const TOP: u32 = TILE_HEIGHT as u32;
+
+const BOTTOM: u32 = SCREEN_HEIGHT as u32 - TOP;
 
 /// Whether the screen shows what stands on the canvas: each pixel, the colours and the border.
 pub(crate) fn agrees(screen: &Screen, canvas: &Canvas) -> bool
@@ -36,7 +45,7 @@ fn pixels_agree(screen: &Screen, canvas: &Canvas) -> bool
     ensures { IsTrue result ↔ ((x y : ℕ) → x < screen_width → y < screen_height
         → screen_pixel screen.now x y ≡ wanted_pixel canvas.now x y) }
 {
-    for y in 12..204 {
+    for y in TOP..BOTTOM {
         if !row_agrees(screen, canvas, y) {
             return false;
         }
@@ -53,7 +62,7 @@ fn row_agrees(screen: &Screen, canvas: &Canvas, y: u32) -> bool
     let mut row = [0; SCREEN_WIDTH];
     screen.write_row(y as usize, &mut row);
     let mut same = true;
-    for x in 6..294 {
+    for x in LEFT..RIGHT {
         same &= row[x as usize] == wanted(canvas, x, y);
     }
     same
@@ -65,8 +74,8 @@ fn wanted(canvas: &Canvas, x: u32, y: u32) -> u8
     requires y { y < screen_height }
     ensures { result ≡ wanted_pixel canvas.now x y }
 {
-    if 6 <= x && x <= 293 && 12 <= y && y <= 203 {
-        canvas.pixel(x - 6, y - 12)
+    if LEFT <= x && x < RIGHT && TOP <= y && y < BOTTOM {
+        canvas.pixel(x - LEFT, y - TOP)
     } else {
         canvas.border()
     }

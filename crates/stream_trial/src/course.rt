@@ -9,7 +9,7 @@ use crate::replay::Replay;
 use cdg_workload::{Scratches, scratches_are_bursts, scratches_go_block_by_block};
 use picture_changes::scheduled_pictures_are_shown;
 use picture_script::Script;
-use raw_subcode::BLOCK_BYTES;
+use raw_subcode::{BLOCK_BYTES, SLOTS_A_BLOCK};
 use rw_interleave::{Gather, gather_gives_words};
 use std::alloc::{AllocError, Global};
 
@@ -34,6 +34,7 @@ impl Course {
         ensures gone_over { IfOk result (λ course. (script : List Drawing) (bytes : List ℕ)
             → HasGoneOver script seed bytes course) }
     {
+        // For the scratches: before the first block.
         scratches_go_block_by_block();
         Ok(Course {
             scratches: Scratches::start(0, seed),
@@ -55,6 +56,7 @@ impl Course {
             → block.now ≡ stream_block bytes self.old.blocks
             → HasGoneOver script.now seed bytes self.old → HasGoneOver script.now seed bytes self.new }
     {
+        // For the block with scratches, the words that come with it, and the picture that is shown when it is ready.
         scratches_go_block_by_block();
         scratches_are_bursts();
         gather_gives_words();
@@ -66,7 +68,10 @@ impl Course {
         let words = self.gather.push_block(&scratched);
         self.replay.take_words(&words);
         self.blocks += 1;
-        self.gallery
-            .look(script, &self.replay.screen, 4 * self.blocks);
+        self.gallery.look(
+            script,
+            &self.replay.screen,
+            SLOTS_A_BLOCK as u32 * self.blocks,
+        );
     }
 }

@@ -7,6 +7,7 @@ ghost use Rattle.picture_changes.specs.Shown.{ShowsPicture};
 use crate::comparing::agrees;
 use cdg_screen::Screen;
 use picture_script::{Canvas, Script};
+use raw_subcode::SLOTS_A_BLOCK;
 use std::alloc::{AllocError, Global};
 
 /// The pictures that are still to be shown, and how many were shown when they were ready.
@@ -50,7 +51,7 @@ impl Gallery {
             → ¬ ShowsPicture script.now self.old.next screen.now → self.new.equal ≡ self.old.equal }
     {
         let pictures = script.pictures();
-        if self.next < pictures && slots == 4 * script.ready(self.next) {
+        if self.next < pictures && slots == SLOTS_A_BLOCK as u32 * script.ready(self.next) {
             self.canvas.draw_until(script, self.next);
             if agrees(screen, &self.canvas) {
                 self.equal += 1;

@@ -31,6 +31,7 @@ pub(crate) fn parse_script(alloc: Global, seed: u64, pictures: u32) -> Result<Sc
     ensures script { IfOk result (λ script. script ≡ generated_drawings seed pictures) }
     ensures err { IfErr result (λ stop. stop ≡ NoMemory) }
 {
+    // For the grammar, which refuses no generated script, and for the room of its text.
     generated_scripts_are_read();
     generated_scripts_are_short();
     let room = COLOURS_BYTES + PICTURE_BYTES * pictures as usize;
@@ -50,6 +51,7 @@ pub(crate) fn parse_sheet(alloc: Global) -> Result<Sheet, TrialStop>
     ensures sheet { IfOk result (λ sheet. sheet ≡ trial_sheet) }
     ensures err { IfErr result (λ stop. stop ≡ NoMemory) }
 {
+    // For the grammar, which does not refuse the sheet.
     trial_sheet_is_read();
     match Sheet::parse(alloc, SHEET) {
         Ok(sheet) => Ok(sheet),

@@ -19,6 +19,7 @@ pub(crate) fn count_changes(alloc: Global, script: &Script, blocks: u32) -> Resu
     ensures sum { IfOk result (λ sum. sum ≡ all_changes script.now) }
     ensures err { IfErr result (λ stop. stop ≡ NoMemory) }
 {
+    // For the survey, which refuses no generated script.
     generated_scripts_are_ready();
     let planned = match survey(alloc, script, blocks) {
         Ok(planned) => planned,

@@ -66,6 +66,7 @@ impl<'a> TrialRun<'a> {
             → IsDamagedSchedule script (length others / block_bytes) symbols packs (symbols_of others)
             → IsPlayedOut script (length others / block_bytes) symbols (symbols_of others) result }
     {
+        // For the size of the stream with scratches.
         scratches_are_bursts();
         // What holds of every script: its pictures are in order.
         let _times = self.script.pictures();

@@ -38,6 +38,7 @@ pub(crate) fn play_stream(
         (program_symbols Raw (scratched 0 seed bytes) 0) found) }
     ensures err { IfErr result (λ stop. stop ≡ NoMemory) }
 {
+    // For what scratches leave of the stream, and the sheet that it is written with.
     scratches_are_bursts();
     scratches_are_damage();
     trial_sheet_is_read();
@@ -62,6 +63,7 @@ fn write_stream(
     ensures of { OnOk result ((run.new.seed ≡ run.old.seed) × (run.new.pictures ≡ run.old.pictures)) }
     ensures err { IfErr result (λ stop. stop ≡ NoMemory) }
 {
+    // For the author, which refuses neither the sheet nor the script.
     trial_sheet_is_read();
     let sheet = parse_sheet(alloc)?;
     let written = author_stream(alloc, &sheet, script, 0, count_audio(pictures), run);

@@ -60,6 +60,7 @@ fn make_report(alloc: Global, seed: u64, pictures: u32) -> Result<Report, TrialS
     ensures report { IfOk result (λ report. IsTrial seed pictures (told report)) }
     ensures err { IfErr result (λ stop. stop ≡ NoMemory) }
 {
+    // For what the text of the script and of the sheet says.
     generated_scripts_are_read();
     generated_scripts_have_times();
     trial_sheet_is_read();

@@ -11,7 +11,9 @@ use q_channel::{QFrame, encode};
 use raw_subcode::{BLOCK_BYTES, Block};
 use toc_model::Layout;
 
-// The bytes of a block with a P bit, a frame and symbols.
+// The bytes of a block with a P bit, a frame and symbols. It becomes a part of its callers, so that a block is put
+// where it is needed and not copied.
+#[inline(always)]
 fn built(p: bool, frame: &QFrame, symbols: &[u8; BLOCK_BYTES]) -> [u8; BLOCK_BYTES]
     requires frame { IsValid frame.now }
     requires symbols { All (λ s. s < 64) symbols.now }

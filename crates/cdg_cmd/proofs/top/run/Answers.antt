@@ -38,7 +38,7 @@ pub returns-clause-gives_back : goal.returns-clause-gives_back
 returns-clause-gives_back g c = λ form disc stream packs spelled authored.
     let out : Change Bytes = change g.K.Sink.held c.args.out.now c.answer-status.new.out in
     packs_back disc.sheet disc.script disc.lead_in disc.audio stream packs form authored _ out c.answer-status.result
-    (converted_back form disc.lead_in _ None None out c.answer-status.result (gives_packs c.packs_are_recovered.ensures c.text_of_packs.ensures.text c.text_of_packs.ensures.bad) (gives_none_bad c.packs_are_recovered.ensures c.text_of_packs.ensures.text c.text_of_packs.ensures.bad) _ (c.answer-status.ensures.does (Convert disc.lead_in form) spelled ((c.answer-status.ensures.memory (Convert disc.lead_in form) spelled).never tt)))
+    (converted_back form disc.lead_in _ None None out c.answer-status.result (gives_packs c.packs_are_recovered.ensures c.found_packs_are_the_text.ensures.text c.found_packs_are_the_text.ensures.bad) (gives_none_bad c.packs_are_recovered.ensures c.found_packs_are_the_text.ensures.text c.found_packs_are_the_text.ensures.bad) _ (c.answer-status.ensures.does (Convert disc.lead_in form) spelled ((c.answer-status.ensures.memory (Convert disc.lead_in form) spelled).never tt)))
 
 pub returns-clause-shows : goal.returns-clause-shows
 returns-clause-shows g c = λ form disc stream text packs k at spelled accepted held authored.
@@ -71,8 +71,8 @@ returns-clause-unpresses g c = λ command spelled.
     let laws : PressesComeBack = record {
       stream = c.pressed_packs_come_back.ensures.stream;
       shown = record { text = c.pressed_files_are_shown.ensures.text; bad = c.pressed_files_are_shown.ensures.bad };
-      packs = gives_packs c.packs_are_recovered.ensures c.text_of_packs.ensures.text c.text_of_packs.ensures.bad;
-      none_bad = gives_none_bad c.packs_are_recovered.ensures c.text_of_packs.ensures.text c.text_of_packs.ensures.bad;
+      packs = gives_packs c.packs_are_recovered.ensures c.found_packs_are_the_text.ensures.text c.found_packs_are_the_text.ensures.bad;
+      none_bad = gives_none_bad c.packs_are_recovered.ensures c.found_packs_are_the_text.ensures.text c.found_packs_are_the_text.ensures.bad;
     } in
     pressed_back laws command _ _ _ _ _ c.answer-status.result (c.answer-status.ensures.does command spelled) (c.answer-status.ensures.memory command spelled).never
 

@@ -7,4 +7,4 @@ returns-clause-text c form lead_in time script k bytes text bad scheduled held s
 
 pub returns-clause-bad : goal.returns-clause-bad
 returns-clause-bad c form lead_in time script k bytes text bad scheduled held screen =
-    picture_bad c.packs_are_recovered.ensures form lead_in time script k bytes text bad scheduled held screen c.text_of_packs.ensures.bad
+    picture_bad c.packs_are_recovered.ensures form lead_in time script k bytes text bad scheduled held screen c.found_packs_are_the_text.ensures.bad

@@ -16,7 +16,10 @@ pub returns-clause-ready : goal.returns-clause-ready
 returns-clause-ready c seed count =
     let t = c.generated_scripts_have_times.ensures in
     let times : TimesAreKnown = record { count = t.pictures; ready = t.ready; hold = t.hold } in
-    all_ready times c.needs_are_fewest.ensures.change seed count (colours_small seed count) (pixels_small seed count) (λ k. c.planned_changes_are_changes.ensures.few (generated_drawings seed count) k (pixels_small seed count))
+    all_ready times c.needs_are_fewest.ensures.change seed count (colours_small seed count)
+    (pixels_small seed count)
+    (λ k. c.planned_changes_are_changes.ensures.few (generated_drawings seed count) k
+    (pixels_small seed count))
 
 pub returns-clause-end : goal.returns-clause-end
 returns-clause-end c =
@@ -28,5 +31,8 @@ pub returns-clause-survey : goal.returns-clause-survey
 returns-clause-survey c seed count blocks stop enough is =
     let t = c.generated_scripts_have_times.ensures in
     let times : TimesAreKnown = record { count = t.pictures; ready = t.ready; hold = t.hold } in
-    let ready = all_ready times c.needs_are_fewest.ensures.change seed count (colours_small seed count) (pixels_small seed count) (λ k. c.planned_changes_are_changes.ensures.few (generated_drawings seed count) k (pixels_small seed count)) in
+    let ready = all_ready times c.needs_are_fewest.ensures.change seed count (colours_small seed count)
+    (pixels_small seed count)
+    (λ k. c.planned_changes_are_changes.ensures.few (generated_drawings seed count) k
+    (pixels_small seed count)) in
     survey_stop times seed count blocks stop ready enough is

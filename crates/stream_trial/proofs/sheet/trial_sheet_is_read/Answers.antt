@@ -14,8 +14,10 @@ returns-clause-blocks c = blocks_are
 
 pub returns-clause-accepted : goal.returns-clause-accepted
 returns-clause-accepted c seed count few =
-    c.generated_scripts_are_authored.ensures.accepted trial_sheet seed count 0 (800 * count + 20) (has_layout count few) (room_enough count) no_lead_in
+    c.generated_scripts_are_authored.ensures.accepted trial_sheet seed count 0 (800 * count + 20)
+    (has_layout count few) (room_enough count) no_lead_in
 
 pub returns-clause-stop : goal.returns-clause-stop
 returns-clause-stop c seed count stop few is =
-    c.generated_scripts_are_authored.ensures.stop trial_sheet seed count 0 (800 * count + 20) stop (has_layout count few) (room_enough count) no_lead_in is
+    c.generated_scripts_are_authored.ensures.stop trial_sheet seed count 0 (800 * count + 20) stop
+    (has_layout count few) (room_enough count) no_lead_in is

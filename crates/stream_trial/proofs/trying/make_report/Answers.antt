@@ -11,7 +11,10 @@ play_stream-requires-clause-script c = c.in_ok-script.ensures.script
 pub returns-clause-report : goal.returns-clause-report
 returns-clause-report c =
     let (bytes, packs, authored, played) = c.in_ok-found.ensures.played in
-    is_trial c.trial_sheet_is_read.ensures.read c.generated_scripts_are_read.ensures c.generated_scripts_have_times.ensures.pictures
+    is_trial c.trial_sheet_is_read.ensures.read c.generated_scripts_are_read.ensures
+    c.generated_scripts_have_times.ensures.pictures
     c.args.seed c.args.pictures c.in_ok-script.script bytes packs c.in_ok-found.found _
     c.requires.1 c.in_ok-script.ensures.script authored played
-    refl c.from.ensures (c.from-2.ensures ∙ c.count_blocks-blocks.ensures) (omega (arith, c.from-3.ensures, c.count_blocks-blocks.ensures)) c.in_ok-changes.ensures.sum c.from-4.ensures c.from-5.ensures c.from-6.ensures c.from-7.ensures
+    refl c.from.ensures (c.from-2.ensures
+    ∙ c.count_blocks-blocks.ensures) (omega (arith, c.from-3.ensures, c.count_blocks-blocks.ensures))
+    c.in_ok-changes.ensures.sum c.from-4.ensures c.from-5.ensures c.from-6.ensures c.from-7.ensures

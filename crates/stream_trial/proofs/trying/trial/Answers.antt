@@ -4,7 +4,9 @@ use Rattle.stream_trial.specs.declared.stops.TrialStop.TheVariants.{NoMemory, Wr
 use Rattle.stream_trial.proofs.trying.trial.Goals as goal
 
 pub returns-in-Ok-clause-lines : goal.returns-in-Ok-clause-lines
-returns-in-Ok-clause-lines g c = put_text c.args.seed c.args.pictures _ c.in_ok-report.report _ _ (c.as_bytes.ensures.value ∙ c.as_str.ensures.value ∙ c.lines-lines.ensures) c.in_ok-report.ensures.report c.in-Ok.ensures.ok
+returns-in-Ok-clause-lines g c = put_text c.args.seed c.args.pictures _ c.in_ok-report.report _ _
+    (c.as_bytes.ensures.value ∙ c.as_str.ensures.value
+    ∙ c.lines-lines.ensures) c.in_ok-report.ensures.report c.in-Ok.ensures.ok
 
 pub returns-in-Ok-clause-write_fault : goal.returns-in-Ok-clause-write_fault
 returns-in-Ok-clause-write_fault g c = record {
@@ -30,7 +32,9 @@ returns-in-Err-clause-write_fault g c = record {
 }
 
 pub returns-in-Err-clause-part : goal.returns-in-Err-clause-part
-returns-in-Err-clause-part g c = λ e. put_part c.args.seed c.args.pictures _ c.in_ok-report.report _ _ (c.as_bytes.ensures.value ∙ c.as_str.ensures.value ∙ c.lines-lines.ensures) c.in_ok-report.ensures.report c.in-Err.ensures.part
+returns-in-Err-clause-part g c = λ e. put_part c.args.seed c.args.pictures _ c.in_ok-report.report _ _
+    (c.as_bytes.ensures.value ∙ c.as_str.ensures.value
+    ∙ c.lines-lines.ensures) c.in_ok-report.ensures.report c.in-Err.ensures.part
 
 pub returns-in-Err-clause-untouched : goal.returns-in-Err-clause-untouched
 returns-in-Err-clause-untouched g c = λ e. absurd (write_no_memory e)

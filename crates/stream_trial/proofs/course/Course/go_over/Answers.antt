@@ -15,8 +15,12 @@ returns-clause-gone_over c =
       gallery = c.look.new.self;
       blocks = c.args.self.now.blocks + 1;
     } in
-    gone_over c.gather_gives_words.ensures c.scheduled_pictures_are_shown.ensures c.scratches_are_bursts.ensures.channels
+    gone_over c.gather_gives_words.ensures c.scheduled_pictures_are_shown.ensures
+    c.scratches_are_bursts.ensures.channels
     scratches.next scratches.gives script (record { held = times.held; later = times.later })
-    (record { border = times.borders; colour = times.colours }) c.args.self.now new c.args.block.now c.scratch.new.block
-    c.push_block-words.result.items refl c.scratch.ensures.next c.scratch.ensures.gives c.push_block-words.ensures.next
-    c.push_block-words.ensures.gives (c.take_words.ensures.taken script) c.look.ensures.waits c.look.ensures.looks
+    (record { border = times.borders; colour = times.colours }) c.args.self.now new c.args.block.now
+    c.scratch.new.block
+    c.push_block-words.result.items refl c.scratch.ensures.next c.scratch.ensures.gives
+    c.push_block-words.ensures.next
+    c.push_block-words.ensures.gives (c.take_words.ensures.taken script) c.look.ensures.waits
+    c.look.ensures.looks

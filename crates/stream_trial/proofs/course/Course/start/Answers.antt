@@ -10,6 +10,7 @@ returns-clause-gone_over c = λ script bytes.
     record {
       scratches = c.start.ensures ∙ sym (c.scratches_go_block_by_block.ensures.start c.args.seed bytes);
       gather = c.new.ensures;
-      shown = begins script (scratched 0 c.args.seed bytes) replay.field-0 gallery.field-0 replay.ensures.screen
+      shown = begins script (scratched 0 c.args.seed bytes) replay.field-0 gallery.field-0
+          replay.ensures.screen
           replay.ensures.counts gallery.ensures.counts;
     }

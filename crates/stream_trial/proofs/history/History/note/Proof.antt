@@ -39,7 +39,10 @@ abbrev Arg : Type 0
 Arg = MutBor History × (Bor (List ℕ) × Unit {0})
 
 abbrev stayed : Stays (it.ended).signature.params (it.ended).kept
-stayed = (stay_ref (0 ∷ []) tt (plain (λ _. T.the_row)), (stay_none_slice (1 ∷ []) tt (plain (λ _. u8)) yes, tt))
+stayed = (
+  stay_ref (0 ∷ []) tt (plain (λ _. T.the_row)),
+  (stay_none_slice (1 ∷ []) tt (plain (λ _. u8)) yes, tt),
+)
 
 module _ {M : Type 1} {𝓤 : Ura M} (𝓛 : Logic 𝓤) (at_mem : Memory → SProp 𝓤) (run : Routine → Fun 𝓤)
     (κ κ' : Lft) (q q' : Share) (b o : ℕ) (γ : GName) (h : History) (s : Bor (List ℕ)) where
@@ -58,7 +61,8 @@ module _ {M : Type 1} {𝓤 : Ura M} (𝓛 : Logic 𝓤) (at_mem : Memory → SP
   rest = owns (ShrSlice (named 1) κ' u8 ∷ []) x.1 at.1
 
   abbrev Post : Val → SProp 𝓤
-  Post = (walk_of 𝓛 it.ended stayed (it.clauses 𝓛 at_mem run)).post (((κ, (κ', tt)), (q, (q', tt)), tt, x, at), tt)
+  Post = (walk_of 𝓛 it.ended stayed (it.clauses 𝓛 at_mem run)).post
+      (((κ, (κ', tt)), (q, (q', tt)), tt, x, at), tt)
 
   exits : ent 𝓤 (sep 𝓤 (A.obs γ ((T.the_row).coded.code h')) (sep 𝓤 (A.bor κ (Body (mem T.the_row) b o γ))
       (sep 𝓤 (A.lft κ q) (sep 𝓤 (sem 𝓛 rest) (sep 𝓤 (A.lft κ' q') (emp 𝓤)))))) (Post vunit)
@@ -101,7 +105,10 @@ module _ {M : Type 1} {𝓤 : Ura M} (𝓛 : Logic 𝓤) (at_mem : Memory → SP
       are.1.0.0.1.0))
 
   goes : AllGo 𝓛 2 (it.signature).params (it.ended).kept stayed
-  goes = (Goes-ref 𝓛 2 0 tt (plain (λ _. T.the_row)), (Goes-none_slice 𝓛 2 (1 ∷ []) tt (plain (λ _. u8)) yes, tt))
+  goes = (
+    Goes-ref 𝓛 2 0 tt (plain (λ _. T.the_row)),
+    (Goes-none_slice 𝓛 2 (1 ∷ []) tt (plain (λ _. u8)) yes, tt),
+  )
 
 meets : {M : Type 1} {𝓤 : Ura M} (𝓛 : Logic 𝓤)
     → (at_mem : Memory → SProp 𝓤) (run : Routine → Fun 𝓤) (𝓣 : Tables 𝓤 𝓛.H)

@@ -8,5 +8,7 @@ returns c = λ symbols packs damaged.
     let run = c.args.self.now in
     let times = c.pictures-times.ensures in
     ∥∥₁_elim run.known (IsPlayedOut-prop _ _ symbols _ _) (λ known.
-    knows_found c.scratches_are_bursts.ensures.channels run.script.now (record { held = times.held; later = times.later })
-    run.seed run.pictures run.course run.block run.history.bytes run.filled run.begun known symbols packs damaged)
+    knows_found c.scratches_are_bursts.ensures.channels run.script.now
+    (record { held = times.held; later = times.later })
+    run.seed run.pictures run.course run.block run.history.bytes run.filled run.begun known symbols packs
+    damaged)

@@ -1,5 +1,5 @@
 use Rattle.rw_interleave.proofs.Recovery.{packs_text, none_bad}
-use Rattle.rw_interleave.proofs.laws.text_of_packs.Goals as goal
+use Rattle.rw_interleave.proofs.laws.found_packs_are_the_text.Goals as goal
 
 pub returns-clause-text : goal.returns-clause-text
 returns-clause-text c packs = packs_text packs
