@@ -21,6 +21,7 @@ mod SaveTold
 pub mod SecondHalf
 mod Statuses
 mod StreamWords
+pub mod TextReads
 pub mod TextStops
 mod ThinTold
 mod Thinning

@@ -36,12 +36,6 @@ pub known_within : {S : Type 0} (left : S → Bytes) (ends : S → Count) (most 
 known_within left ends most before after read =
     within (left before) (left after) read.taken most read.took read.end read.within
 
--- nor is one that was kept
-pub kept_within : (left : Bytes) (bytes : List ℕ) (most : ℕ) → IfSome left (λ all. bytes ≡ all)
-    → length bytes ≤ most → IfSome left (λ text. length text ≤ most)
-kept_within None bytes most same few = tt
-kept_within (Some text) bytes most same few = omega (arith, few, ap length same)
-
 both_answers : {A E : Type 0} (r : Result A E) (a : A) (e : E) → r ≡ Ok a → r ≡ Err e → ⊥
 both_answers r a e ok err = (cc)
 

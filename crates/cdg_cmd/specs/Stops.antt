@@ -1,5 +1,11 @@
 -- What is told of each stop: the one place where the stops of all calls become statuses.
 use Rattle.std.specs.Prelude.{◌==◌, Result, Ok, Err, if◌then◌else◌}
+use Rattle.cdg_io.specs.declared.whole.ReadStop.{ReadStop}
+use Rattle.cdg_io.specs.declared.whole.ReadStop.TheVariants as read
+use Rattle.cue_sheet.specs.declared.fault.CueStop.{CueStop}
+use Rattle.cue_sheet.specs.declared.fault.CueStop.TheVariants as sheet
+use Rattle.picture_script.specs.declared.reasons.ScriptStop.{ScriptStop}
+use Rattle.picture_script.specs.declared.reasons.ScriptStop.TheVariants as script
 use Rattle.cdg_io.specs.declared.pumping.Pumped.{Pumped}
 use Rattle.cdg_io.specs.declared.pumping.PumpStop.{PumpStop}
 use Rattle.cdg_io.specs.declared.pumping.PumpStop.TheVariants as pump
@@ -18,10 +24,27 @@ use Rattle.subcode_author.specs.declared.stops.AuthorStop.{AuthorStop}
 use Rattle.subcode_author.specs.declared.stops.AuthorStop.TheVariants as author
 use Rattle.cdg_press.specs.declared.stops.PressStop.{PressStop}
 use Rattle.cdg_press.specs.declared.stops.PressStop.TheVariants as press
+use Rattle.cdg_cmd.specs.declared.status.Which.{Which}
 use Rattle.cdg_cmd.specs.declared.status.Which.TheVariants.{First, Second}
-use Rattle.cdg_cmd.specs.declared.status.Refusal.TheVariants.{Torn, TooLong, PastEnd, LengthShort, DiscTooLong, LeadInShort, TextTooLong, TextMissing, TextNoSize, TextMalformed, SecondTorn, Unequal, PackTorn, Gap, CdgTooLong, BadSave, BeforeSave}
+use Rattle.cdg_cmd.specs.declared.status.Refusal.TheVariants.{Torn, TooLong, PastEnd, Cue, Script, LengthShort, DiscTooLong, LeadInShort, TextTooLong, TextMissing, TextNoSize, TextMalformed, SecondTorn, Unequal, PackTorn, Gap, CdgTooLong, BadSave, BeforeSave}
 use Rattle.cdg_cmd.specs.declared.status.Status.{Status}
 use Rattle.cdg_cmd.specs.declared.status.Status.TheVariants.{Done, Damaged, Refused, Late, ReadFault, WriteFault, NoMemory}
+
+-- the status of an input that is not read whole
+abbrev pub read_status : Which → ReadStop → Status
+read_status which read.Failed = ReadFault which
+read_status which read.TooLong = Refused TooLong
+read_status which read.NoMemory = NoMemory
+
+-- the status of a cue sheet that is not accepted
+abbrev pub sheet_status : CueStop → Status
+sheet_status (sheet.Fault line why) = Refused (Cue line why)
+sheet_status sheet.NoMemory = NoMemory
+
+-- the status of a picture script that is not accepted
+abbrev pub script_status : ScriptStop → Status
+script_status (script.Fault line why) = Refused (Script line why)
+script_status script.NoMemory = NoMemory
 
 -- the status where the text packs of a lead-in give no texts
 abbrev pub text_fault_status : TextFault → Status

@@ -9,11 +9,11 @@ ghost use Rattle.cdg_cmd.specs.Ends.{ScriptEnds, SheetEnds};
 ghost use Rattle.cdg_cmd.specs.Faults.{TellsFaults};
 ghost use Rattle.cdg_cmd.specs.Keeps.{MayReadSecond};
 
-use crate::stops::author_status;
-use crate::{Command, Refusal, Status, Which};
-use cdg_io::{ReadStop, Sink, Source, read_whole};
-use cue_sheet::{CueStop, Sheet};
-use picture_script::{Script, ScriptStop};
+use crate::stops::{author_status, read_status, script_status, sheet_status};
+use crate::{Command, Status, Which};
+use cdg_io::{Sink, Source, read_whole};
+use cue_sheet::Sheet;
+use picture_script::Script;
 use std::alloc::Global;
 use subcode_author::{accepted_scripts_have_streams, author_stream};
 use text_lines::MOST_TEXT_BYTES;
@@ -30,14 +30,11 @@ pub(crate) fn read_sheet<S: Source>(alloc: Global, first: &mut S) -> Result<Shee
 {
     let text = match read_whole(alloc, first, MOST_TEXT_BYTES) {
         Ok(text) => text,
-        Err(ReadStop::Failed) => return Err(Status::ReadFault(Which::First)),
-        Err(ReadStop::TooLong) => return Err(Status::Refused(Refusal::TooLong)),
-        Err(ReadStop::NoMemory) => return Err(Status::NoMemory),
+        Err(stop) => return Err(read_status(Which::First, stop)),
     };
     match Sheet::parse(alloc, &text) {
         Ok(sheet) => Ok(sheet),
-        Err(CueStop::Fault { line, why }) => Err(Status::Refused(Refusal::Cue { line, why })),
-        Err(CueStop::NoMemory) => Err(Status::NoMemory),
+        Err(stop) => Err(sheet_status(stop)),
     }
 }
 
@@ -53,16 +50,11 @@ fn read_script<S: Source>(alloc: Global, second: &mut S) -> Result<Script, Statu
 {
     let text = match read_whole(alloc, second, MOST_TEXT_BYTES) {
         Ok(text) => text,
-        Err(ReadStop::Failed) => return Err(Status::ReadFault(Which::Second)),
-        Err(ReadStop::TooLong) => return Err(Status::Refused(Refusal::TooLong)),
-        Err(ReadStop::NoMemory) => return Err(Status::NoMemory),
+        Err(stop) => return Err(read_status(Which::Second, stop)),
     };
     match Script::parse(alloc, &text) {
         Ok(script) => Ok(script),
-        Err(ScriptStop::Fault { line, why }) => {
-            Err(Status::Refused(Refusal::Script { line, why }))
-        }
-        Err(ScriptStop::NoMemory) => Err(Status::NoMemory),
+        Err(stop) => Err(script_status(stop)),
     }
 }
 
@@ -96,9 +88,9 @@ pub(crate) fn run_author<S: Source, T: Source, K: Sink>(
         Ok(script) => script,
         Err(status) => return status,
     };
-    // What holds of every sheet and script, and the law that they have a stream.
-    let _tracks = sheet.tracks();
-    let _pictures = script.pictures();
+    // What holds of every sheet and script, and so a stream of both there is.
+    sheet.tracks_are_in_order();
+    script.times_rise_and_colours_are_in_range();
     accepted_scripts_have_streams();
     author_status(author_stream(alloc, &sheet, &script, lead_in, length, out))
 }

@@ -11,9 +11,9 @@ ghost use Rattle.cdg_cmd.specs.Keeps.{MayReadSecond};
 ghost use Rattle.cdg_cmd.specs.Presses.{IsFileStop, PressesWith, ReadsFile};
 
 use crate::author::read_sheet;
-use crate::stops::press_status;
-use crate::{Command, Refusal, Status, Which};
-use cdg_io::{ReadStop, Sink, Source, read_whole};
+use crate::stops::{press_status, read_status};
+use crate::{Command, Status, Which};
+use cdg_io::{Sink, Source, read_whole};
 use cdg_press::press_stream;
 use std::alloc::Global;
 use text_lines::MOST_TEXT_BYTES;
@@ -30,9 +30,7 @@ fn read_file<S: Source>(alloc: Global, second: &mut S) -> Result<Vec<u8>, Status
 {
     match read_whole(alloc, second, MOST_TEXT_BYTES) {
         Ok(file) => Ok(file),
-        Err(ReadStop::Failed) => Err(Status::ReadFault(Which::Second)),
-        Err(ReadStop::TooLong) => Err(Status::Refused(Refusal::TooLong)),
-        Err(ReadStop::NoMemory) => Err(Status::NoMemory),
+        Err(stop) => Err(read_status(Which::Second, stop)),
     }
 }
 

@@ -1,15 +1,48 @@
 // The status of each stop: the one place where what other crates answer becomes what the program tells.
 ghost use Rattle.std.specs.Prelude.{◌≡◌};
-ghost use Rattle.cdg_cmd.specs.Stops.{author_status, merge_status, play_status, press_status, pump_status, resume_status, text_fault_status, thin_status};
+ghost use Rattle.cdg_cmd.specs.Stops.{author_status, merge_status, play_status, press_status, pump_status, read_status, resume_status, script_status, sheet_status, text_fault_status, thin_status};
 
 use crate::{Refusal, Status, Which};
 use cdg_checkpoint::{ResumeStop, Resumed};
-use cdg_io::{PumpStop, Pumped};
+use cdg_io::{PumpStop, Pumped, ReadStop};
 use cdg_press::PressStop;
 use cdtext_packs::TextFault;
+use cue_sheet::CueStop;
+use picture_script::ScriptStop;
 use rw_merge::{MergeStop, Merged};
 use stream_stages::{PlayStop, Played};
 use subcode_author::AuthorStop;
+
+/// The status of an input that is not read whole.
+pub(crate) fn read_status(which: Which, stop: ReadStop) -> Status
+    ensures { result ≡ read_status which stop }
+{
+    match stop {
+        ReadStop::Failed => Status::ReadFault(which),
+        ReadStop::TooLong => Status::Refused(Refusal::TooLong),
+        ReadStop::NoMemory => Status::NoMemory,
+    }
+}
+
+/// The status of a cue sheet that is not accepted.
+pub(crate) fn sheet_status(stop: CueStop) -> Status
+    ensures { result ≡ sheet_status stop }
+{
+    match stop {
+        CueStop::Fault { line, why } => Status::Refused(Refusal::Cue { line, why }),
+        CueStop::NoMemory => Status::NoMemory,
+    }
+}
+
+/// The status of a picture script that is not accepted.
+pub(crate) fn script_status(stop: ScriptStop) -> Status
+    ensures { result ≡ script_status stop }
+{
+    match stop {
+        ScriptStop::Fault { line, why } => Status::Refused(Refusal::Script { line, why }),
+        ScriptStop::NoMemory => Status::NoMemory,
+    }
+}
 
 /// The status of what a player answers.
 pub(crate) fn play_status(answer: Result<Played, PlayStop>) -> Status

@@ -16,9 +16,9 @@ returns-clause-does g c =
     (put_for g.K.Sink.held c.args.out.now c.author_stream.new.out c.in-Ok.sheet c.in-Ok-read_script.script c.args.lead_in c.args.length c.author_stream.result
     c.author_stream.ensures.authored c.author_stream.ensures.accepted c.author_stream.ensures.stop c.author_stream.ensures.untouched
     (λ fault accepted. let (n, packs, put) = c.author_stream.ensures.part fault in
-    c.accepted_scripts_have_streams.ensures.part c.in-Ok.sheet c.in-Ok-read_script.script c.args.lead_in c.args.length n packs _ _ c.tracks-tracks.ensures.sheet
-    (record { held = c.pictures-pictures.ensures.held; later = c.pictures-pictures.ensures.later }) (record { border = c.pictures-pictures.ensures.borders; colour = c.pictures-pictures.ensures.colours })
-    c.pictures-pictures.ensures.pixels c.requires.lead_in accepted put))
+    c.accepted_scripts_have_streams.ensures.part c.in-Ok.sheet c.in-Ok-read_script.script c.args.lead_in c.args.length n packs _ _ c.tracks_are_in_order.ensures
+    (record { held = c.times_rise_and_colours_are_in_range.ensures.held; later = c.times_rise_and_colours_are_in_range.ensures.later }) (record { border = c.times_rise_and_colours_are_in_range.ensures.borders; colour = c.times_rise_and_colours_are_in_range.ensures.colours })
+    c.times_rise_and_colours_are_in_range.ensures.pixels c.requires.lead_in accepted put))
 
 pub returns-clause-faults : goal.returns-clause-faults
 returns-clause-faults g c =
