@@ -1,6 +1,7 @@
 -- What is pressed comes back.
 use Rattle.std.proofs.Common.{◌≡◌, ◌≢◌, ℕ, ◌+◌, ◌*◌, ◌≤◌, List, Some, None, IfSome, subst, arith}
 use Rattle.std.specs.List.{concat}
+use Rattle.disc_time.specs.Counts.{pause_blocks}
 use Rattle.raw_subcode.specs.declared.form.Form.{Form}
 use Rattle.rw_interleave.specs.Stream.{all_packs}
 use Rattle.toc_model.specs.Places.{program_blocks}
