@@ -1,5 +1,5 @@
 // The output of the program, which is never held back while an input is waited for.
-ghost use Rattle.std.specs.Prelude.{None};
+ghost use Rattle.std.specs.Prelude.{◌≡◌, None};
 
 use crate::input::Input;
 use cdg_io::{BufferedSink, Failed, Sink};
@@ -43,7 +43,10 @@ pub struct LiveOutput<'a> {
 }
 
 impl<'a> LiveOutput<'a> {
-    pub fn new(waiting: &'a Waiting) -> LiveOutput<'a> {
+    // No write has failed yet.
+    pub(crate) fn new(waiting: &'a Waiting) -> LiveOutput<'a>
+        ensures { result.faults ≡ 0 }
+    {
         LiveOutput { waiting, faults: 0 }
     }
 }
