@@ -42,6 +42,9 @@ done
 tools/check_names.py || complain "names or lines are not in order"
 tools/check_surface.py || complain "a promised name is gone or changed"
 
+# What `make` proves is all of each crate.
+told=$(tools/test_proving.py 2>&1) || complain "tools/test_proving.py fails: $(echo "$told" | tail -n 6)"
+
 # The tables of numbers are those that are reckoned.
 tools/tables.py || complain "a table of numbers is not what tools/tables.py reckons"
 

@@ -98,10 +98,17 @@ def room_of(name, below):
     lines = (ROOT / "crates.txt").read_text().splitlines(keepends=True)
     (room / "crates.txt").write_text("".join(it for it in lines if it.split(":")[0].split(" ")[0] in inside))
     for it in inside:
-        skipped = shutil.ignore_patterns("room") if it == name else None
-        how = dict(ignore=skipped, copy_function=link_or_copy)
-        shutil.copytree(ROOT / "crates" / it, room / "crates" / it, **how)
+        copy_crate(ROOT / "crates" / it, room / "crates" / it)
     return room
+
+
+def copy_crate(crate, place):
+    """Copies a crate by links, all of it but the room that is made in its `out`: the name may stand elsewhere too."""
+
+    def skipped(folder, names):
+        return {"room"}.intersection(names) if pathlib.Path(folder) == crate / "out" else set()
+
+    shutil.copytree(crate, place, ignore=skipped, copy_function=link_or_copy)
 
 
 def link_or_copy(old, new):
@@ -208,4 +215,5 @@ def main():
         return 130
 
 
-sys.exit(main())
+if __name__ == "__main__":
+    sys.exit(main())

@@ -1,0 +1,49 @@
+#!/usr/bin/env python3
+"""Tests of prove_crates.py: a crate is proved in a copy of it and of what it stands on, which has to be whole."""
+import pathlib
+import tempfile
+import unittest
+
+import prove_crates
+
+
+def files_below(folder):
+    """The files below a folder by their places in it, but for what is made in `out`."""
+    found = (it.relative_to(folder) for it in folder.rglob("*") if it.is_file())
+    return {it: (folder / it).read_bytes() for it in found if it.parts[0] != "out"}
+
+
+class CopiesTest(unittest.TestCase):
+    def test_each_crate_is_copied_whole(self):
+        for name in prove_crates.graph():
+            with self.subTest(crate=name), tempfile.TemporaryDirectory(dir=prove_crates.ROOT) as room:
+                crate, copy = prove_crates.ROOT / "crates" / name, pathlib.Path(room) / name
+                prove_crates.copy_crate(crate, copy)
+                self.assertEqual(files_below(copy), files_below(crate))
+
+    def test_the_room_in_out_is_left_out(self):
+        with tempfile.TemporaryDirectory() as folder:
+            crate, copy = pathlib.Path(folder) / "crate", pathlib.Path(folder) / "copy"
+            for place in ("out/room/crates", "out/rlib", "proofs/room"):
+                (crate / place).mkdir(parents=True)
+                (crate / place / "file").write_text(place)
+            prove_crates.copy_crate(crate, copy)
+            self.assertFalse((copy / "out/room").exists())
+            self.assertTrue((copy / "out/rlib/file").exists())
+            self.assertTrue((copy / "proofs/room/file").exists())
+
+
+class OrderTest(unittest.TestCase):
+    def test_each_library_comes_after_what_it_stands_on(self):
+        below = prove_crates.graph()
+        order = prove_crates.libraries(below, ["ribjasper", "ribjasper_c"])
+        for place, name in enumerate(order):
+            self.assertTrue(set(below[name]) <= set(order[:place]), name)
+
+    def test_all_that_a_crate_stands_on_is_below_it(self):
+        below = {"low": [], "high": ["low"]}
+        self.assertEqual(prove_crates.all_below("high", below), {"low", "high"})
+
+
+if __name__ == "__main__":
+    unittest.main()
