@@ -84,14 +84,58 @@ static double seconds_since(clock_t start)
     return (double)(clock() - start) / CLOCKS_PER_SEC;
 }
 
+/* A picture as a plain loop makes it: three bytes for each pixel, from a table of sixteen colours. */
+static void plain_picture(const uint8_t *pixels, const uint16_t *colours, uint8_t *picture)
+{
+    uint8_t table[RIBJASPER_COLOURS][3];
+    long i;
+    for (i = 0; i < RIBJASPER_COLOURS; i++) {
+        table[i][0] = (uint8_t)(17 * (colours[i] / 256));
+        table[i][1] = (uint8_t)(17 * (colours[i] / 16 % 16));
+        table[i][2] = (uint8_t)(17 * (colours[i] % 16));
+    }
+    for (i = 0; i < RIBJASPER_PIXELS; i++)
+        memcpy(picture + 3 * i, table[pixels[i]], 3);
+}
+
+/* Looks at the screen LOOKS times, as a picture, as the numbers of its pixels, and as the plain loop does of these. */
+static int measure_looks(const ribjasper_player *player)
+{
+    static uint8_t picture[RIBJASPER_PICTURE], plain[RIBJASPER_PICTURE], pixels[RIBJASPER_PIXELS];
+    uint16_t colours[RIBJASPER_COLOURS];
+    double pictures = 0, screens = 0, loops = 0;
+    long looks;
+    if (ribjasper_player_colours(player, colours) != RIBJASPER_DONE)
+        return 1;
+    for (looks = 0; looks < LOOKS; looks++) {
+        clock_t start = clock();
+        if (ribjasper_player_picture(player, picture) != RIBJASPER_DONE)
+            return 1;
+        pictures += seconds_since(start);
+        start = clock();
+        if (ribjasper_player_screen(player, pixels) != RIBJASPER_DONE)
+            return 1;
+        screens += seconds_since(start);
+        start = clock();
+        plain_picture(pixels, colours, plain);
+        loops += seconds_since(start);
+        if (memcmp(picture, plain, sizeof picture) != 0) {
+            fprintf(stderr, "player: the picture is not that of the plain loop\n");
+            return 1;
+        }
+    }
+    printf("a picture in %.1f microseconds (a plain loop takes %.1f), a screen in %.1f\n", 1e6 * pictures / LOOKS,
+           1e6 * loops / LOOKS, 1e6 * screens / LOOKS);
+    return 0;
+}
+
 static int measure(ribjasper_player *player)
 {
     static uint8_t stream[4096][RIBJASPER_BLOCK];
-    static uint8_t picture[RIBJASPER_PICTURE], pixels[RIBJASPER_PIXELS];
     size_t blocks = fread(stream, RIBJASPER_BLOCK, 4096, stdin);
     clock_t start;
-    double seconds, looking, screens;
-    long fed, looks;
+    double seconds;
+    long fed;
     if (blocks == 0) {
         fprintf(stderr, "player: there is no block\n");
         return 1;
@@ -103,20 +147,9 @@ static int measure(ribjasper_player *player)
         if (ribjasper_player_feed(player, stream[(size_t)fed % blocks]) != RIBJASPER_DONE)
             return 1;
     seconds = seconds_since(start);
-    start = clock();
-    for (looks = 0; looks < LOOKS; looks++)
-        if (ribjasper_player_picture(player, picture) != RIBJASPER_DONE)
-            return 1;
-    looking = seconds_since(start);
-    start = clock();
-    for (looks = 0; looks < LOOKS; looks++)
-        if (ribjasper_player_screen(player, pixels) != RIBJASPER_DONE)
-            return 1;
-    screens = seconds_since(start);
     printf("%ld blocks in %.2f seconds: %.0f times real time\n", MEASURED, seconds,
            (double)MEASURED / BLOCKS_A_SECOND / seconds);
-    printf("a picture in %.1f microseconds, a screen in %.1f\n", 1e6 * looking / LOOKS, 1e6 * screens / LOOKS);
-    return 0;
+    return measure_looks(player);
 }
 
 int main(int argc, char **argv)
