@@ -1,8 +1,8 @@
 -- The run of the stage over the blocks of a stream.
 use Rattle.std.proofs.Common.{◌≡◌, ℕ, zero, suc, ◌+◌, ◌-◌, ◌*◌, ◌/◌, ◌%◌, ◌^◌, ◌<◌, ◌≤◌, ◌==◌, cond, Bool, true, false, List, [], ◌∷◌, ◌++◌, length, get_or, set, take, drop, map, bit_xor, Some, Result, Ok, Err, refl, sym, ap, ap₂, ◌∙◌, subst, length-drop, drop-drop, drop-set-lt, append_assoc, lit<, arith}
-use Rattle.std.proofs.Math.Seq.{take-nil, drop-nil, take-add, take-append-add, drop-append-add}
+use Rattle.std.proofs.Math.Seq.{take-nil, drop-nil, take-add, take-append-add, drop-append-add, take-append_seam, drop-append_seam, take-length}
 use Rattle.std.proofs.lemmas.Bool.{ne_eqb}
-use Rattle.std.proofs.lemmas.List.{append-nil, get_or-drop, map-append, take_more, take_more_set, length-take}
+use Rattle.std.proofs.lemmas.List.{append-nil, get_or-drop, map-append, take_more, take_more_set, length-take, take-append-drop, take-map, take-take}
 use Rattle.std.proofs.lemmas.Nat.{xor_block}
 use Rattle.std.specs.Int.Bits.{xor_zero_r}
 use Rattle.std.specs.List.{concat, enumerate_from, AllByRecursion}
@@ -19,29 +19,15 @@ use Rattle.cdg_io.proofs.Runs.{run_state-append, run_gives-append}
 use Rattle.cdg_io.proofs.Streaming.{IsWhole, bytes_of, streams_done, streams_stop}
 use Rattle.cdg_workload.specs.Generator.{generator}
 use Rattle.cdg_workload.specs.Scratches.{Burst, bursts, change_at, scratched_byte, scratched, scratching, IsScratched, gap_of, size_of, change_of}
-use Rattle.cdg_workload.specs.Steps.{byte_next, byte_gives, block_next, block_gives, fresh_scratches}
+use Rattle.cdg_workload.specs.Steps.{ready, change_now, past_byte, byte_next, byte_gives, block_next, block_gives, fresh_scratches}
 use Rattle.cdg_workload.specs.declared.needle.Needle.{Needle}
 use Rattle.cdg_workload.specs.declared.scratching.Scratches.{Scratches}
-use Rattle.cdg_workload.proofs.Needles.{at, run, changed_from, scratches_all, next_before, gives_before, next_within, gives_within}
+use Rattle.cdg_workload.proofs.Needles.{at, ready_stays, run, changed_from, scratches_all, next_before, gives_before, next_within, gives_within}
 
 -- ---- One block, byte by byte.
 
 abbrev state : Needle → List ℕ → Needle
 state needle xs = run_state byte_next needle xs
-
-pub byte_more : (s t t' : Needle) (block old new : List ℕ) (i y : ℕ) → i < length block → i < length old
-    → t ≡ state s (take i block) → take i old ≡ run s (take i block)
-    → t' ≡ byte_next t (get_or block i 0) → Some y ≡ byte_gives t (get_or block i 0) → new ≡ set old i y
-    → (t' ≡ state s (take (i + 1) block)) × (take (i + 1) new ≡ run s (take (i + 1) block))
-byte_more s t t' block old new i y lt fits now done next gives write =
-    let x = get_or block i 0 in
-    let more = take_more block i 0 lt in (
-      next ∙ ap (λ u. byte_next u x) now
-          ∙ sym (ap (state s) more ∙ run_state-append byte_next s (take i block) (x ∷ [])),
-      ap (take (i + 1)) write ∙ take_more_set old i y fits
-          ∙ ap₂ (λ (l m : List ℕ). l ++ m) done (ap (λ o. give o []) (gives ∙ ap (λ u. byte_gives u x) now))
-          ∙ sym (ap (run s) more ∙ run_gives-append byte_next byte_gives s (take i block) (x ∷ [])),
-    )
 
 -- ---- All blocks.
 
@@ -254,10 +240,88 @@ pass_more s t t' block old i m k sum fits few is now done rest =
       later old ∙ ap (drop m) rest ∙ sym (later block),
     )
 
+-- a needle that has left its burst goes on as one that is ready for the next
+ready_run : (t : Needle) (ys : List ℕ) → 0 < length ys → 0 < (ready t).gap
+    → (state (ready t) ys ≡ state t ys) × (run (ready t) ys ≡ run t ys)
+unfolding byte_next byte_gives
+ready_run t [] some gap = absurd (omega (arith, some))
+ready_run t (y ∷ ys) some gap =
+    let same : ready (ready t) ≡ ready t =
+    ready_stays (ready t).gap (ready t).left (ready t).change (ready t).words gap in (
+      ap (λ n. state (past_byte n) ys) same,
+      ap (λ n. give (Some (bit_xor y (change_now n))) (run (past_byte n) ys)) same,
+    )
+
+-- the symbols behind a burst stay, up to the end of the block
+pub leave_more : (s t t' : Needle) (block old : List ℕ) (i m : ℕ) → i + m ≡ length block → 0 < m
+    → m ≤ (ready t).gap → t' ≡ record (ready t) { gap = (ready t).gap - m }
+    → t ≡ state s (take i block) → take i old ≡ run s (take i block) → drop i old ≡ drop i block
+    → (t' ≡ state s block) × (old ≡ run s block)
+leave_more s t t' block old i m sum some few is now done rest =
+    let r = ready t in
+    let ys : List ℕ = drop i block in
+    let size : length ys ≡ m = length-drop i block ∙ omega (arith, sum) in
+    let whole : block ≡ take i block ++ ys = sym (take-append-drop i block) in
+    let (after, given) = pass_run ys r.gap r.left r.change r.words (omega (arith, size, few)) in
+    let (same, alike) = ready_run t ys (omega (arith, size, some)) (omega (arith, some, few)) in (
+      is ∙ ap (λ n. at (r.gap - n) r.left r.change r.words) (sym size) ∙ after ∙ same
+          ∙ ap (λ u. state u ys) now
+          ∙ sym (ap (state s) whole ∙ run_state-append byte_next s (take i block) ys),
+      sym (take-append-drop i old)
+          ∙ ap₂ (λ (l r : List ℕ). l ++ r) done (rest ∙ given ∙ alike ∙ ap (λ u. run u ys) now)
+          ∙ sym (ap (run s) whole ∙ run_gives-append byte_next byte_gives s (take i block) ys),
+    )
+
+-- so does a block that ends with the burst, or before it
+pub ends_there : (s t : Needle) (block old : List ℕ) (i : ℕ) → length block ≡ i → length old ≡ i
+    → t ≡ state s (take i block) → take i old ≡ run s (take i block)
+    → (t ≡ state s block) × (old ≡ run s block)
+ends_there s t block old i size size' now done =
+    let all : take i block ≡ block = ap (λ n. take n block) (sym size) ∙ take-length block in
+    let all' : take i old ≡ old = ap (λ n. take n old) (sym size') ∙ take-length old in
+    (now ∙ ap (state s) all, sym all' ∙ done ∙ ap (run s) all)
+
 -- ---- Runs of symbols that a burst changes.
 
+-- sixteen symbols are changed, and those of them put back that stay
+pub combined_few : (old mid kept : List ℕ) (from to n c : ℕ) → length old ≡ 96 → length mid ≡ 96 → n ≡ 16
+    → from ≤ to → to ≤ from + 16 → to + 16 ≤ 96
+    → take (from + 16) mid ≡ take from old
+    ++ map (λ byte. bit_xor byte c) (take (from + 16 - from) (drop from old))
+    → drop (from + 16) mid ≡ drop (from + 16) old
+    → kept ≡ take 16 (drop to old)
+    → (take to (take to mid ++ (kept ++ drop n (drop to mid)))
+    ≡ take from old ++ map (λ byte. bit_xor byte c) (take (to - from) (drop from old)))
+    × (drop to (take to mid ++ (kept ++ drop n (drop to mid))) ≡ drop to old)
+combined_few old mid kept from to n c size size' sixteen order few within changed rest kept_is =
+    let f : ℕ → ℕ = λ byte. bit_xor byte c in
+    let front : List ℕ = take from old in
+    let m : ℕ = to - from in
+    let struck : List ℕ = map f (take (from + 16 - from) (drop from old)) in
+    let count : length (take to mid) ≡ to = length-take to mid ∙ omega (arith, size', within) in
+    let place : to ≡ length front + m = omega (arith, length-take from old, size, order, within) in
+    let shorter : take m (take (from + 16 - from) (drop from old)) ≡ take m (drop from old) =
+    take-take m (from + 16 - from) (drop from old) (omega (arith, few, order)) in
+    let before : take to mid ≡ front ++ map f (take m (drop from old)) =
+    sym (take-take to (from + 16) mid few) ∙ ap (take to) changed
+    ∙ ap (λ k. take k (front ++ struck)) place ∙ take-append-add front struck m
+    ∙ ap (λ (l : List ℕ). front ++ l) (take-map f m (take (from + 16 - from) (drop from old))
+    ∙ ap (map f) shorter) in
+    let step : to + 16 ≡ from + 16 + m = omega (arith, order) in
+    let behind : drop n (drop to mid) ≡ drop 16 (drop to old) =
+    ap (λ k. drop k (drop to mid)) sixteen ∙ drop-drop 16 to mid ∙ ap (λ k. drop k mid) step
+    ∙ sym (drop-drop m (from + 16) mid) ∙ ap (drop m) rest
+    ∙ drop-drop m (from + 16) old ∙ ap (λ k. drop k old) (sym step) ∙ sym (drop-drop 16 to old) in
+    let after : List ℕ = kept ++ drop n (drop to mid) in (
+      ap (λ k. take k (take to mid ++ after)) (sym count)
+          ∙ take-append_seam (take to mid) after ∙ before,
+      ap (λ k. drop k (take to mid ++ after)) (sym count)
+          ∙ drop-append_seam (take to mid) after
+          ∙ ap₂ (λ (l r : List ℕ). l ++ r) kept_is behind ∙ take-append-drop 16 (drop to old),
+    )
+
 -- the bytes from a place on begin with the same
-pub first_same : (i : ℕ) (now old : List ℕ) → drop i now ≡ drop i old → get_or now i 0 ≡ get_or old i 0
+first_same : (i : ℕ) (now old : List ℕ) → drop i now ≡ drop i old → get_or now i 0 ≡ get_or old i 0
 first_same i now old rest =
     let place : i ≡ i + 0 = omega arith in
     ap (λ k. get_or now k 0) place ∙ sym (get_or-drop i now 0 0) ∙ ap (λ (l : List ℕ). get_or l 0 0) rest

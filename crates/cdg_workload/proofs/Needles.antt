@@ -24,6 +24,10 @@ ready_before : (g l c : ℕ) (w : Lcg) → ready (at (suc g) l c w) ≡ at (suc 
 unfolding ready
 ready_before g l c w = ap (λ t. cond (t && (l == 0)) (next_needle w) (at (suc g) l c w)) (not_zero g)
 
+pub ready_stays : (g l c : ℕ) (w : Lcg) → 0 < g → ready (at g l c w) ≡ at g l c w
+ready_stays zero l c w some = absurd (omega (arith, some))
+ready_stays (suc g) l c w some = ready_before g l c w
+
 ready_within : (l c : ℕ) (w : Lcg) → ready (at 0 (suc l) c w) ≡ at 0 (suc l) c w
 unfolding ready
 ready_within l c w = ap (λ t. cond t (next_needle w) (at 0 (suc l) c w)) (not_zero l)
@@ -59,6 +63,15 @@ unfolding next_needle
 drawn_is w =
     let e : 192 + (pcg32 w).0 % 64 ≡ suc (191 + (pcg32 w).0 % 64) = omega arith in
     ap (λ n. at n (size_of (pcg32 w).0) (change_of (pcg32 w).0) (pcg32 w).1) e
+
+-- behind a burst at least 192 symbols stay
+pub ready_gap : (t : Needle) → t.gap ≡ 0 → t.left ≡ 0 → 192 ≤ (ready t).gap
+unfolding ready next_needle
+ready_gap t none ended =
+    let drawn : ready t ≡ next_needle t.words =
+    ap₂ (λ (g l : ℕ). cond ((g == 0) && (l == 0)) (next_needle t.words) t) none ended in
+    let gap : (ready t).gap ≡ gap_of (pcg32 t.words).0 = ap (λ (n : Needle). n.gap) drawn in
+    omega (arith, gap)
 
 ready_drawn : (c : ℕ) (w : Lcg)
     → ready (at 0 0 c w) ≡ ready

@@ -1,12 +1,15 @@
 // The changes of neighbouring symbols, by the words of a generator.
-ghost use Rattle.std.specs.Prelude.{◌≡◌, ◌<◌, ◌≤◌, ◌-◌, ◌^◌, ◌++◌, Some, bit_xor, drop, false, map, take, true};
+ghost use Rattle.std.specs.Prelude.{◌≡◌, ◌<◌, ◌≤◌, ◌+◌, ◌-◌, ◌^◌, ◌++◌, bit_xor, drop, false, map, take, true};
 ghost use Rattle.raw_subcode.specs.Sizes.{block_bytes};
 ghost use Rattle.cdg_io.specs.Run.{run_state, run_gives};
-ghost use Rattle.cdg_workload.specs.Steps.{next_needle, ready, change_now, past_byte, byte_next, byte_gives};
+ghost use Rattle.cdg_workload.specs.Steps.{next_needle, ready, byte_next, byte_gives};
 
 use rand_core::utils::NextWord;
 use rand_pcg::Pcg32;
 use raw_subcode::BLOCK_BYTES;
+
+// The most symbols that a burst has.
+const MOST_STRUCK: usize = 16;
 
 /// Goes over symbols, and changes them in bursts.
 #[derive(Drop)]
@@ -21,16 +24,6 @@ pub struct Needle {
 }
 
 impl Needle {
-    // The byte with its symbol changed, if it is the turn of one.
-    #[tactic(auto, unfolding(crate::specs::Steps::byte_next, crate::specs::Steps::byte_gives))]
-    fn push(&mut self, byte: u8) -> u8
-        ensures next { self.new ≡ byte_next self.old byte }
-        ensures gives { Some result ≡ byte_gives self.old byte }
-    {
-        self.make_ready();
-        byte ^ self.step()
-    }
-
     // Where a burst has ended, takes a word for the next one.
     #[tactic(auto, unfolding(crate::specs::Steps::ready, crate::specs::Steps::next_needle))]
     fn make_ready(&mut self)
@@ -44,18 +37,17 @@ impl Needle {
         }
     }
 
-    // One symbol on: what it is combined with.
-    #[tactic(auto, unfolding(crate::specs::Steps::past_byte, crate::specs::Steps::change_now))]
-    fn step(&mut self) -> u8
-        ensures next { self.new ≡ past_byte self.old }
-        ensures change { result ≡ change_now self.old }
+    // After a burst, goes over symbols before the next one.
+    #[inline]
+    #[tactic(auto, using(crate::proofs::Needles::ready_gap))]
+    fn leave(&mut self, count: usize)
+        requires ended { (self.old.gap ≡ 0) × (self.old.left ≡ 0) }
+        requires before { count ≤ 192 }
+        ensures next { self.new ≡ record (ready self.old) { gap = (ready self.old).gap - count } }
+        ensures gap { count ≤ (ready self.old).gap }
     {
-        if self.gap > 0 {
-            self.gap -= 1;
-            return 0;
-        }
-        self.left = self.left.saturating_sub(1);
-        self.change
+        self.make_ready();
+        self.gap -= count as u32;
     }
 
     // Goes over the symbols before the next one that is changed, at most so many: how many they are.
@@ -65,6 +57,7 @@ impl Needle {
         ensures next { self.new ≡ record self.old { gap = self.old.gap - result } }
         ensures gap { result ≤ self.old.gap }
         ensures most { result ≤ most }
+        ensures all { result < most → self.new.gap ≡ 0 }
     {
         let passed = self.gap.min(most as u32);
         self.gap -= passed;
@@ -93,6 +86,7 @@ impl Needle {
         ensures left { result ≤ self.old.left }
         ensures begun { 0 < result → self.old.gap ≡ 0 }
         ensures most { result ≤ most }
+        ensures all { self.old.gap ≡ 0 → result < most → self.new.left ≡ 0 }
     {
         if self.gap > 0 {
             return 0;
@@ -111,11 +105,9 @@ impl Needle {
         let struck = self.strike(BLOCK_BYTES - at);
         combine(block, at, at + struck, self.change);
         at += struck;
-        // The next burst comes after the block.
-        while at < BLOCK_BYTES {
-            block[at] = self.push(block[at]);
-            at += 1;
-            at += self.pass(BLOCK_BYTES - at);
+        if at < BLOCK_BYTES {
+            // The next burst comes after the block.
+            self.leave(BLOCK_BYTES - at);
         }
     }
 }
@@ -123,6 +115,39 @@ impl Needle {
 // Combines the bytes of a block between two places with a change.
 #[inline]
 fn combine(block: &mut [u8; BLOCK_BYTES], from: usize, to: usize, change: u8)
+    requires order { from ≤ to }
+    requires within { to ≤ block_bytes }
+    ensures changed { take to block.new
+        ≡ take from block.old ++ map (λ byte. bit_xor byte change) (take (to - from) (drop from block.old)) }
+    ensures rest { drop to block.new ≡ drop to block.old }
+{
+    if to - from <= MOST_STRUCK && to <= BLOCK_BYTES - MOST_STRUCK {
+        combine_few(block, from, to, change);
+    } else {
+        combine_each(block, from, to, change);
+    }
+}
+
+// The same for at most sixteen bytes. It takes the same steps however many they are: it changes sixteen, and puts those
+// back that stay.
+#[inline]
+fn combine_few(block: &mut [u8; BLOCK_BYTES], from: usize, to: usize, change: u8)
+    requires order { from ≤ to }
+    requires few { to ≤ from + 16 }
+    requires within { to + 16 ≤ block_bytes }
+    ensures changed { take to block.new
+        ≡ take from block.old ++ map (λ byte. bit_xor byte change) (take (to - from) (drop from block.old)) }
+    ensures rest { drop to block.new ≡ drop to block.old }
+{
+    let mut kept = [0; MOST_STRUCK];
+    kept.copy_from_slice(&block[to..to + MOST_STRUCK]);
+    combine_each(block, from, from + MOST_STRUCK, change);
+    block[to..to + MOST_STRUCK].copy_from_slice(&kept);
+}
+
+// The same for any number of bytes.
+#[inline]
+fn combine_each(block: &mut [u8; BLOCK_BYTES], from: usize, to: usize, change: u8)
     requires order { from ≤ to }
     requires within { to ≤ block_bytes }
     ensures changed { take to block.new

@@ -57,6 +57,7 @@ impl Scratches {
 
     // Makes a piece of a block, scratched where it is one of the program. Most blocks are before the next burst, and
     // stay whole.
+    #[inline]
     #[tactic(auto, unfolding(crate::specs::Steps::block_next, crate::specs::Steps::block_gives))]
     fn pass(&mut self, block: &[u8; BLOCK_BYTES], piece: &mut Piece)
         ensures next { self.new ≡ block_next self.old block.now }
@@ -68,10 +69,22 @@ impl Scratches {
         } else if self.needle.skip_block() {
             piece.set(block);
         } else {
-            let mut scratched = *block;
-            self.needle.scratch(&mut scratched);
-            piece.set(&scratched);
+            self.pass_scratched(block, piece);
         }
+    }
+
+    // The same for a block of the program that may hold a burst. It stands apart, so that other blocks do not pay for
+    // its variables.
+    #[inline(never)]
+    #[tactic(auto, unfolding(crate::specs::Steps::block_next, crate::specs::Steps::block_gives))]
+    fn pass_scratched(&mut self, block: &[u8; BLOCK_BYTES], piece: &mut Piece)
+        requires { self.old.lead_in ≡ 0 }
+        ensures next { self.new ≡ block_next self.old block.now }
+        ensures gives { Some piece.new ≡ block_gives self.old block.now }
+    {
+        let mut scratched = *block;
+        self.needle.scratch(&mut scratched);
+        piece.set(&scratched);
     }
 }
 
@@ -93,6 +106,7 @@ impl Stage for Scratches {
         Some(piece)
     }
 
+    #[inline]
     fn emit(&mut self, block: &[u8; BLOCK_BYTES], out: &mut Option<Piece>) {
         match out {
             Some(piece) => self.pass(block, piece),

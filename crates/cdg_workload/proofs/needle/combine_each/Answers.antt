@@ -1,6 +1,6 @@
 use Rattle.std.proofs.Common.{◌-◌, ◌∙◌, refl, length-set, arith}
 use Rattle.cdg_workload.proofs.BlockRuns.{combined_none, combined_more}
-use Rattle.cdg_workload.proofs.needle.combine.Goals as goal
+use Rattle.cdg_workload.proofs.needle.combine_each.Goals as goal
 
 pub loop-i-init : goal.loop-i-init
 loop-i-init c = record {

@@ -1,5 +1,5 @@
 use Rattle.std.proofs.Common.{◌≡◌, ◌≤◌, ◌-◌, ◌++◌, length, take, drop, map, bit_xor}
-use Rattle.cdg_workload.proofs.needle.combine.Given as goal
+use Rattle.cdg_workload.proofs.needle.combine_each.Given as goal
 
 abbrev pub invariant-loop-i : goal.invariant-loop-i
 invariant-loop-i l = record {
