@@ -41,10 +41,10 @@ none-said pixels lines h = ap (map (said pixels)) h
 
 -- More pixels of rows change nothing.
 
-row_fits : (x y first count size : ℕ) → is_kept size (PixelRow x y first count) ≡ true → (x + count ≤ 288) × (y < 192) × (first + count ≤ size)
+row_fits : (x y first count size : ℕ) → is_kept size (PixelRow y x first count) ≡ true → (x + count ≤ 288) × (y < 192) × (first + count ≤ size)
 row_fits x y first count size h = (grind (arith, nat_tests), grind (arith, nat_tests), grind (arith, nat_tests))
 
-pub fits_row : (x y first count size : ℕ) → x + count ≤ 288 → y < 192 → first + count ≤ size → is_kept size (PixelRow x y first count) ≡ true
+pub fits_row : (x y first count size : ℕ) → x + count ≤ 288 → y < 192 → first + count ≤ size → is_kept size (PixelRow y x first count) ≡ true
 fits_row x y first count size a b c = grind (arith, nat_tests)
 
 kept_more : (size more : ℕ) (line : ScriptLine) → size ≤ more → is_kept size line ≡ true → is_kept more line ≡ true
@@ -52,7 +52,7 @@ kept_more size more (TableColour number value) le h = h
 kept_more size more (BorderColour colour) le h = h
 kept_more size more (Filled colour) le h = h
 kept_more size more (Rectangle x y width height colour) le h = h
-kept_more size more (PixelRow x y first count) le h = let fits = row_fits x y first count size h in fits_row x y first count more fits.0 fits.1 (omega arith)
+kept_more size more (PixelRow y x first count) le h = let fits = row_fits x y first count size h in fits_row x y first count more fits.0 fits.1 (omega arith)
 kept_more size more (ShowLine ready hold) le h = h
 
 said_more : (pixels more : List ℕ) (line : ScriptLine) → is_kept (length pixels) line ≡ true → said (pixels ++ more) line ≡ said pixels line
@@ -60,7 +60,7 @@ said_more pixels more (TableColour number value) h = refl
 said_more pixels more (BorderColour colour) h = refl
 said_more pixels more (Filled colour) h = refl
 said_more pixels more (Rectangle x y width height colour) h = refl
-said_more pixels more (PixelRow x y first count) h =
+said_more pixels more (PixelRow y x first count) h =
     let fits = row_fits x y first count (length pixels) h in
     let size = length-drop first pixels in
     ap (Row x y) (ap (take count) (drop-append-le first pixels more (omega arith)) ∙ take-append-le count (drop first pixels) more (omega arith))
@@ -124,7 +124,7 @@ drawing_shows pixels (TableColour number value) h = refl
 drawing_shows pixels (BorderColour colour) h = refl
 drawing_shows pixels (Filled colour) h = refl
 drawing_shows pixels (Rectangle x y width height colour) h = refl
-drawing_shows pixels (PixelRow x y first count) h = refl
+drawing_shows pixels (PixelRow y x first count) h = refl
 drawing_shows pixels (ShowLine ready hold) h = absurd (cc)
 
 shows-drawing : (script : List Drawing) (pixels : List ℕ) (line : ScriptLine) → is_drawing line ≡ true → shows (script ++ said pixels line ∷ []) ≡ shows script
@@ -154,7 +154,7 @@ drawing-indexed pixels lines shown line h kept draws =
 after_front : (xs ys : List ℕ) → drop (length xs) (xs ++ ys) ≡ ys
 after_front xs ys = drop-append-le (length xs) xs ys (omega arith) ∙ ap (λ zs. zs ++ ys) (drop_all (length xs) xs (omega arith))
 
-pub row_said : (old digits pixels : List ℕ) (x y count : ℕ) → pixels ≡ old ++ map digit_value digits → count ≡ length digits → said pixels (PixelRow x y (length old) count) ≡ Row x y (map digit_value digits)
+pub row_said : (old digits pixels : List ℕ) (x y count : ℕ) → pixels ≡ old ++ map digit_value digits → count ≡ length digits → said pixels (PixelRow y x (length old) count) ≡ Row x y (map digit_value digits)
 row_said old digits pixels x y count grown size =
     let values = length-map digits digit_value in
     ap (λ ps. Row x y (take count (drop (length old) ps))) grown
@@ -241,11 +241,11 @@ show-added old new ready hold sound order ending after room lines pixels shown =
 }
 
 pub row-added : (old mid new : ScriptDraft) (x y first count : ℕ) (digits : List ℕ) → IsSound old → mid.lines.items ≡ old.lines.items → mid.pixels.items ≡ old.pixels.items ++ map digit_value digits
-    → first ≡ length old.pixels.items → count ≡ length digits → Adds mid new (said mid.pixels.items (PixelRow x y first count)) → Adds old new (Row x y (map digit_value digits))
+    → first ≡ length old.pixels.items → count ≡ length digits → Adds mid new (said mid.pixels.items (PixelRow y x first count)) → Adds old new (Row x y (map digit_value digits))
 row-added old mid new x y first count digits sound lines pixels start size h =
     let same : said_in mid ≡ said_in old = rw (lines, pixels) (all_said_more old.pixels.items (map digit_value digits) old.lines.items sound.kept) in
-    let line : said mid.pixels.items (PixelRow x y first count) ≡ Row x y (map digit_value digits) =
-    ap (λ n. said mid.pixels.items (PixelRow x y n count)) start ∙ row_said old.pixels.items digits mid.pixels.items x y count pixels size in
+    let line : said mid.pixels.items (PixelRow y x first count) ≡ Row x y (map digit_value digits) =
+    ap (λ n. said mid.pixels.items (PixelRow y x n count)) start ∙ row_said old.pixels.items digits mid.pixels.items x y count pixels size in
     record { sound = h.sound; lines_are = h.lines_are ∙ ap₂ (λ before line. before ++ line ∷ []) same line }
 
 pub more-sound : (old : ScriptDraft) (pixels digits : List ℕ) → IsSound old → list_all is_ascii_hexdigit digits ≡ true → pixels ≡ old.pixels.items ++ map digit_value digits → IsIndexed pixels old.lines.items old.shown.items

@@ -65,7 +65,7 @@ said_small pixels (TableColour number value) all h = grind (arith, nat_tests)
 said_small pixels (BorderColour colour) all h = grind (arith, nat_tests)
 said_small pixels (Filled colour) all h = grind (arith, nat_tests)
 said_small pixels (Rectangle x y width height colour) all h = grind (arith, nat_tests)
-said_small pixels (PixelRow x y first count) all h = part_small pixels first count all
+said_small pixels (PixelRow y x first count) all h = part_small pixels first count all
 said_small pixels (ShowLine ready hold) all h = tt
 
 all_small : (pixels : List ℕ) (lines : List ScriptLine) → AreColours pixels → All (λ line. is_kept (length pixels) line ≡ true) lines → All InColours (all_said pixels lines)

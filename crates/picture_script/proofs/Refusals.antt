@@ -1,8 +1,10 @@
 -- Why a line is refused, and what a draft is once it takes one.
-use Rattle.std.proofs.Common.{◌≡◌, ℕ, ◌+◌, ◌<◌, ◌≤◌, Bool, true, false, List, [], ◌∷◌, length, refl, ap, sym, subst, ◌∙◌, arith}
+use Rattle.std.proofs.Common.{◌≡◌, inl, inr, get_or, ℕ, ◌+◌, ◌<◌, ◌≤◌, Bool, true, false, List, [], ◌∷◌, length, refl, ap, sym, subst, ◌∙◌, arith}
 use Rattle.std.specs.Prelude.{Option, Some, None, Result, Ok, Err, OnOk, IfErr, if◌then◌else◌, not, ◌||◌, nat_le, nat_lt, slice_index, codes}
 use Rattle.std.specs.Str.{bytes_eq}
+use Rattle.std.proofs.lemmas.Bool.{cases_Bool}
 use Rattle.std.proofs.lemmas.Bool.Decides.{nat_tests}
+use Rattle.std.proofs.lemmas.Slice.Eq.{bytes_eq-Decides}
 use Rattle.text_lines.specs.Text.{words_in, lines_in, without_mark}
 use Rattle.text_lines.proofs.ReadOn.{read_on-taken, read_on-refused, read_on-end}
 use Rattle.picture_script.specs.Script.{Drawing, Colour, Border, Fill, Rect, Row, Show, pictures}
@@ -164,9 +166,44 @@ command_is before command words colour border fill rect row show c b f r w s =
     else (if show then checked_line before (show_line words)
     else Err UnknownCommand))))))) c (rw (← b, ← f, ← r, ← w, ← s) refl)
 
--- what the comparison of a word with a text tells
-pub test_is : (command text slice : List ℕ) (found b : Bool) → slice ≡ text → found ≡ bytes_eq command slice → found ≡ b → bytes_eq command text ≡ b
-test_is command text slice found b same test h = ap (bytes_eq command) (sym same) ∙ sym test ∙ h
+-- what the words of a line say by the command that they begin with
+pub said_colour : (before : List Drawing) (all words : List (List ℕ)) → all ≡ codes "colour" ∷ words → checked_words before all ≡ checked_line before (colour_line words)
+unfolding checked_words checked_command
+said_colour before all words h = ap (checked_words before) h
+
+pub said_border : (before : List Drawing) (all words : List (List ℕ)) → all ≡ codes "border" ∷ words → checked_words before all ≡ checked_line before (border_line words)
+unfolding checked_words checked_command
+said_border before all words h = ap (checked_words before) h
+
+pub said_fill : (before : List Drawing) (all words : List (List ℕ)) → all ≡ codes "fill" ∷ words → checked_words before all ≡ checked_line before (fill_line words)
+unfolding checked_words checked_command
+said_fill before all words h = ap (checked_words before) h
+
+pub said_rect : (before : List Drawing) (all words : List (List ℕ)) → all ≡ codes "rect" ∷ words → checked_words before all ≡ checked_line before (rect_line words)
+unfolding checked_words checked_command
+said_rect before all words h = ap (checked_words before) h
+
+pub said_row : (before : List Drawing) (all words : List (List ℕ)) → all ≡ codes "row" ∷ words → checked_words before all ≡ checked_line before (row_line words)
+unfolding checked_words checked_command
+said_row before all words h = ap (checked_words before) h
+
+pub said_show : (before : List Drawing) (all words : List (List ℕ)) → all ≡ codes "show" ∷ words → checked_words before all ≡ checked_line before (show_line words)
+unfolding checked_words checked_command
+said_show before all words h = ap (checked_words before) h
+
+other_word : (command text : List ℕ) → (command ≡ text → ⊥) → bytes_eq command text ≡ false
+other_word command text other = elim (cases_Bool (bytes_eq command text)) [ inl same ↦ absurd (other ((bytes_eq-Decides command text).0 same)) | inr differ ↦ differ ]
+
+-- words that begin with none of the commands
+pub said_nothing : (before : List Drawing) (all : List (List ℕ))
+    → (get_or all 0 [] ≡ codes "colour" → ⊥) → (get_or all 0 [] ≡ codes "border" → ⊥) → (get_or all 0 [] ≡ codes "fill" → ⊥)
+    → (get_or all 0 [] ≡ codes "rect" → ⊥) → (get_or all 0 [] ≡ codes "row" → ⊥) → (get_or all 0 [] ≡ codes "show" → ⊥)
+    → checked_words before all ≡ Err UnknownCommand
+unfolding checked_words
+said_nothing before [] c b f r w s = refl
+said_nothing before (command ∷ words) c b f r w s =
+    command_is before command words false false false false false false (other_word command (codes "colour") c) (other_word command (codes "border") b)
+    (other_word command (codes "fill") f) (other_word command (codes "rect") r) (other_word command (codes "row") w) (other_word command (codes "show") s)
 
 -- The lines in turn.
 
@@ -205,14 +242,6 @@ pub taken-refused : (old new : ScriptDraft) (line : List ℕ) (result : Result (
 taken-refused old new line (Ok u) h takes = tt
 taken-refused old new line (Err (Refused why)) h takes = λ number rest. refused number (said_in old) line rest why h takes
 taken-refused old new line (Err NoRoom) h takes = tt
-
-pub words_command : (before : List Drawing) (all words : List (List ℕ)) (command : List ℕ) → all ≡ command ∷ words → checked_words before all ≡ checked_command before command words
-unfolding checked_words
-words_command before all words command h = ap (checked_words before) h
-
-pub words_none : (before : List Drawing) (all : List (List ℕ)) → all ≡ [] → checked_words before all ≡ Err UnknownCommand
-unfolding checked_words
-words_none before all h = ap (checked_words before) h
 
 -- The whole text.
 

@@ -19,7 +19,7 @@ said pixels (TableColour number value) = Colour number value
 said pixels (BorderColour colour) = Border colour
 said pixels (Filled colour) = Fill colour
 said pixels (Rectangle x y width height colour) = Rect x y width height colour
-said pixels (PixelRow x y first count) = Row x y (take count (drop first pixels))
+said pixels (PixelRow y x first count) = Row x y (take count (drop first pixels))
 said pixels (ShowLine ready hold) = Show ready hold
 
 unfoldable pub all_said : List ℕ → List ScriptLine → List Drawing
@@ -32,7 +32,7 @@ is_kept size (BorderColour colour) = nat_lt colour 16
 is_kept size (Filled colour) = nat_lt colour 16
 is_kept size (Rectangle x y width height colour) = nat_le (x + width) 288 && nat_le (y + height) 192
     && nat_lt colour 16
-is_kept size (PixelRow x y first count) = nat_le (x + count) 288 && nat_lt y 192
+is_kept size (PixelRow y x first count) = nat_le (x + count) 288 && nat_lt y 192
     && nat_le (first + count) size
 is_kept size (ShowLine ready hold) = true
 

@@ -89,7 +89,7 @@ impl Canvas {
                 usize::from(height),
                 colour,
             ),
-            ScriptLine::PixelRow { x, y, first, count } => {
+            ScriptLine::PixelRow { y, x, first, count } => {
                 let start = first as usize;
                 let end = start + usize::from(count);
                 self.window

@@ -82,8 +82,8 @@ impl ScriptDraft {
         };
         push_pixels(&mut self.pixels, digits)?;
         self.push_line(ScriptLine::PixelRow {
-            x,
             y,
+            x,
             first,
             count: digits.len() as u16,
         })?;

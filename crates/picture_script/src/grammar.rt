@@ -1,8 +1,8 @@
 // The grammar of scripts: the lines in turn, or the first that is refused.
 ghost use Rattle.std.specs.Prelude.{◌≡◌, ◌<◌, ◌+◌, ◌∷◌, ◌&&◌, [], List, Some, IfOk, IfErr, nat_le};
 ghost use Rattle.picture_script.specs.Script.{Drawing, Rect};
-ghost use Rattle.text_lines.specs.Text.{words_in};
-ghost use Rattle.picture_script.specs.ScriptGrammar.{is_in_range, numbers_in, checked_line, checked_command, colour_line, border_line, fill_line, rect_line, row_line, show_line};
+ghost use Rattle.text_lines.specs.Text.{words_in, without_blanks};
+ghost use Rattle.picture_script.specs.ScriptGrammar.{is_in_range, numbers_in, checked_line, checked_words, colour_line, border_line, fill_line, rect_line, row_line, show_line};
 ghost use Rattle.picture_script.specs.Lines.{said_in, IsSound, Stops, Takes};
 
 use crate::draft::{LineStop, ScriptDraft};
@@ -10,6 +10,7 @@ use crate::line::ScriptLine;
 use crate::reasons::ScriptWhy;
 use crate::sizes::MOST_PICTURES;
 use crate::words::{colour_words, numbers, row_words, show_words};
+use text_lines::after_word;
 
 impl ScriptDraft {
     // Takes the words after `colour`.
@@ -108,23 +109,23 @@ impl ScriptDraft {
         self.push_show(ready, hold)
     }
 
-    /// Takes a command with the words after it.
-    pub(crate) fn take_command(&mut self, command: &[u8], words: &[u8]) -> Result<(), LineStop>
-        requires { IsSound self.old }
-        ensures { Takes (checked_command (said_in self.old) command.now (words_in words.now)) self.old
-            self.new result }
+    /// Takes a trimmed line by its command and the words after it.
+    pub(crate) fn take_line(&mut self, line: &[u8]) -> Result<(), LineStop>
+        requires sound { IsSound self.old }
+        requires trimmed { without_blanks line.now ≡ line.now }
+        ensures { Takes (checked_words (said_in self.old) (words_in line.now)) self.old self.new result }
     {
-        if command == b"colour".as_slice() {
+        if let Some(words) = after_word(line, b"colour") {
             self.take_colour(words)
-        } else if command == b"border".as_slice() {
+        } else if let Some(words) = after_word(line, b"border") {
             self.take_border(words)
-        } else if command == b"fill".as_slice() {
+        } else if let Some(words) = after_word(line, b"fill") {
             self.take_fill(words)
-        } else if command == b"rect".as_slice() {
+        } else if let Some(words) = after_word(line, b"rect") {
             self.take_rect(words)
-        } else if command == b"row".as_slice() {
+        } else if let Some(words) = after_word(line, b"row") {
             self.take_row(words)
-        } else if command == b"show".as_slice() {
+        } else if let Some(words) = after_word(line, b"show") {
             self.take_show(words)
         } else {
             Err(LineStop::Refused(ScriptWhy::UnknownCommand))

@@ -1,6 +1,7 @@
 // The lines of a script as they are kept.
 
 /// A line that says something. The colours of a row are those from a place on among the colours of all rows.
+/// The numbers stand in an order that leaves no gap between them, since a script may have millions of lines.
 #[derive(Clone, Copy)]
 pub(crate) enum ScriptLine {
     TableColour {
@@ -21,8 +22,8 @@ pub(crate) enum ScriptLine {
         colour: u8,
     },
     PixelRow {
-        x: u16,
         y: u8,
+        x: u16,
         first: u32,
         count: u16,
     },

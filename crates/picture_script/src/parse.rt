@@ -1,32 +1,20 @@
 // Reading a script from its text.
 ghost use Rattle.std.specs.Prelude.{◌≡◌, ◌∷◌, ℕ, List};
+ghost use Rattle.text_lines.specs.Text.{without_blanks};
 ghost use Rattle.picture_script.specs.Script.{Drawing};
 ghost use Rattle.picture_script.specs.ScriptGrammar.{checked_lines, is_passed_over};
 ghost use Rattle.picture_script.specs.Stops.{IsRefused, StopsAt};
 
 use crate::draft::{LineStop, ScriptDraft};
-use crate::reasons::{ScriptStop, ScriptWhy};
+use crate::reasons::ScriptStop;
 use crate::script::Script;
 use std::alloc::Global;
-use text_lines::{next_line, next_word, trim_start, without_mark};
+use text_lines::{next_line, trim_start, without_mark};
 
 impl ScriptDraft {
     ghost use Rattle.std.specs.Prelude.{OnOk, IfErr};
     ghost use Rattle.picture_script.specs.Stops.{IsRead};
-    ghost use Rattle.text_lines.specs.Text.{words_in};
-    ghost use Rattle.picture_script.specs.ScriptGrammar.{checked_words};
-    ghost use Rattle.picture_script.specs.Lines.{said_in, IsSound, Takes};
-
-    // Takes a line that is not passed over.
-    fn take_line(&mut self, line: &[u8]) -> Result<(), LineStop>
-        requires { IsSound self.old }
-        ensures { Takes (checked_words (said_in self.old) (words_in line.now)) self.old self.new result }
-    {
-        match next_word(line) {
-            Some((command, words)) => self.take_command(command, words),
-            None => Err(LineStop::Refused(ScriptWhy::UnknownCommand)),
-        }
-    }
+    ghost use Rattle.picture_script.specs.Lines.{said_in, IsSound};
 
     // Reads a line.
     fn read_line(&mut self, line: &[u8]) -> Result<(), LineStop>
@@ -34,10 +22,11 @@ impl ScriptDraft {
         ensures ok { OnOk result (IsRead self.old self.new line.now) }
         ensures err { IfErr result (IsRefused (said_in self.old) line.now) }
     {
-        if is_passed_over(line) {
+        let rest = trim_start(line);
+        if is_nothing(rest) {
             return Ok(());
         }
-        self.take_line(line)
+        self.take_line(rest)
     }
 }
 
@@ -103,6 +92,12 @@ fn stop_at(number: u32, stop: LineStop) -> ScriptStop
 pub(crate) fn is_passed_over(line: &[u8]) -> bool
     ensures { result ≡ is_passed_over line.now }
 {
-    let rest = trim_start(line);
+    is_nothing(trim_start(line))
+}
+
+// Whether what follows the blanks at the front of a line is nothing, or a remark.
+fn is_nothing(rest: &[u8]) -> bool
+    ensures { (line : List ℕ) → rest.now ≡ without_blanks line → result ≡ is_passed_over line }
+{
     rest.is_empty() || rest[0] == b'#'
 }

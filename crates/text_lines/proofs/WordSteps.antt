@@ -1,10 +1,11 @@
 -- The first word of a line, and the words after it.
 use Rattle.std.proofs.Common.{subst, inl, inr, suc, length-take, length-drop, ◌≡◌, ℕ, ◌+◌, ◌<◌, ◌≤◌, true, false, List, [], ◌∷◌, length, take, drop, get_or, arith, refl, ap, sym, ◌∙◌}
 use Rattle.std.specs.Prelude.{not, filter, reverse}
-use Rattle.std.specs.List.{position_or_len, slice_split, after_first}
+use Rattle.std.specs.List.{position_or_len, slice_split, after_first, list_all}
 use Rattle.std.proofs.lemmas.List.Splits.{slice_split_first, slice_split_none, slice_split-cons_yes}
-use Rattle.std.proofs.lemmas.List.Sums.{fails_before_first, passes_at_first, prefix_len-le-length}
-use Rattle.std.proofs.lemmas.List.{take_all, reverse-reverse}
+use Rattle.std.proofs.lemmas.List.Sums.{fails_before_first, passes_at_first, prefix_len-le-length, position_or_len_is, AllPass-from_list_all}
+use Rattle.std.proofs.lemmas.List.Elements.{All-get_or}
+use Rattle.std.proofs.lemmas.List.{take_all, reverse-reverse, get_or-take, get_or-drop}
 use Rattle.std.proofs.Math.Seq.{take-suc}
 use Rattle.std.proofs.lemmas.Bool.{cases_Bool, cases_lt}
 use Rattle.std.proofs.lemmas.Grind.{common_steps}
@@ -93,6 +94,73 @@ pub more_words : (line s word : List ℕ) → s ≡ without_blanks line → 0 < 
 more_words line s word is some first =
     let here : 0 < length word = word_is_some line s word is some first in
     words-of_blanks line ∙ (ap words_in (sym is) ∙ first_of_words s word first here)
+
+-- a line without its front blanks has none, and the same words
+pub without_blanks-twice : (line : List ℕ) → without_blanks (without_blanks line) ≡ without_blanks line
+without_blanks-twice [] = ap without_blanks without_blanks-nil
+without_blanks-twice (b ∷ line) =
+    elim (cases_Bool (is_blank b)) [
+      | inl blank ↦ rw (without_blanks-yes b line blank) (without_blanks-twice line)
+      | inr other ↦ rw (without_blanks-no b line other) (without_blanks-no b line other)
+    ]
+
+pub words-trimmed : (line s : List ℕ) → s ≡ without_blanks line → words_in s ≡ words_in line
+words-trimmed line s is = ap words_in is ∙ sym (words-of_blanks line)
+
+-- a word at the front of a line
+letter_at : (word : List ℕ) (k : ℕ) → list_all (λ b. not (is_blank b)) word ≡ true → k < length word → is_blank (get_or word k 0) ≡ false
+letter_at word k whole lt =
+    let h : not (is_blank (get_or word k 0)) ≡ true = All-get_or (λ b. not (is_blank b) ≡ true) word k 0 lt (AllPass-from_list_all (λ b. not (is_blank b)) word whole) in
+    grind (arith, common_steps)
+
+word_at : (word line : List ℕ) (k : ℕ) → take (length word) line ≡ word → k < length word → get_or line k 0 ≡ get_or word k 0
+word_at word line k same lt = sym (get_or-take (length word) line k 0 lt) ∙ ap (λ s. get_or s k 0) same
+
+front_place : (word line : List ℕ) → take (length word) line ≡ word → list_all (λ b. not (is_blank b)) word ≡ true
+    → (length word < length line → is_blank (get_or line (length word) 0) ≡ true) → position_or_len is_blank line ≡ length word
+front_place word line same whole over =
+    position_or_len_is is_blank line (length word) 0 (omega (arith, ap length same, length-take (length word) line))
+    (λ k lt. ap is_blank (word_at word line k same lt) ∙ letter_at word k whole lt) over
+
+pub front_word : (word line rest : List ℕ) → take (length word) line ≡ word → 0 < length word → list_all (λ b. not (is_blank b)) word ≡ true
+    → (length word < length line → is_blank (get_or line (length word) 0) ≡ true) → rest ≡ drop (length word) line → words_in line ≡ word ∷ words_in rest
+unfolding first_word
+front_word word line rest same some whole over is =
+    let first : word ≡ first_word line = sym (ap (λ n. take n line) (front_place word line same whole over) ∙ same) in
+    first_of_words line word first some ∙ ap (λ s. word ∷ words_in s) (sym is)
+
+pub rest_begins : (line rest : List ℕ) (n : ℕ) → rest ≡ drop n line → get_or rest 0 0 ≡ get_or line n 0
+rest_begins line rest n is =
+    let same : n + 0 ≡ n = omega arith in
+    ap (λ s. get_or s 0 0) is ∙ (get_or-drop n line 0 0 ∙ ap (λ m. get_or line m 0) same)
+
+-- the first word of a trimmed line stands at its front, and a blank after it, or nothing
+first_is : (word line : List ℕ) → without_blanks line ≡ line → 0 < length word → get_or (words_in line) 0 [] ≡ word → word ≡ first_word line
+first_is word line trimmed some at =
+    elim (cases_lt 0 (length line)) [
+      | inl lt ↦ sym (sym (ap (λ ws. get_or ws 0 []) (more_words line line (first_word line) (sym trimmed) lt refl)) ∙ at)
+      | inr ge ↦
+          let none : words_in line ≡ [] = no_words line line (sym trimmed) (omega arith) in
+          let short : 0 ≡ length word = ap (λ ws. length (get_or ws 0 [])) (sym none) ∙ ap length at in
+          absurd (omega arith)
+    ]
+
+pub first_stands : (word line : List ℕ) → without_blanks line ≡ line → 0 < length word → get_or (words_in line) 0 [] ≡ word → take (length word) line ≡ word
+unfolding first_word
+first_stands word line trimmed some at =
+    let is : word ≡ take (position_or_len is_blank line) line = first_is word line trimmed some at in
+    let le : position_or_len is_blank line ≤ length line = prefix_len-le-length (λ x. not (is_blank x)) line in
+    let size : length word ≡ position_or_len is_blank line = omega (arith, ap length is, length-take (position_or_len is_blank line) line) in
+    ap (λ n. take n line) size ∙ sym is
+
+pub first_over : (word line : List ℕ) → without_blanks line ≡ line → 0 < length word → get_or (words_in line) 0 [] ≡ word → length word < length line
+    → is_blank (get_or line (length word) 0) ≡ true
+unfolding first_word
+first_over word line trimmed some at lt =
+    let is : word ≡ take (position_or_len is_blank line) line = first_is word line trimmed some at in
+    let le : position_or_len is_blank line ≤ length line = prefix_len-le-length (λ x. not (is_blank x)) line in
+    let size : length word ≡ position_or_len is_blank line = omega (arith, ap length is, length-take (position_or_len is_blank line) line) in
+    ap (λ n. is_blank (get_or line n 0)) size ∙ passes_at_first is_blank line 0 (omega arith)
 
 reverse-front : (line : List ℕ) (n end : ℕ) → end ≡ n + 1 → end ≤ length line → reverse (take end line) ≡ get_or line n 0 ∷ reverse (take n line)
 reverse-front line n end is le =

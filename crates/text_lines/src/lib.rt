@@ -8,4 +8,4 @@ mod words;
 pub use disc_time::MOST_TEXT_BYTES;
 pub use lines::{next_line, without_mark};
 pub use numbers::{number, time, two_digits};
-pub use words::{is_blank, next_word, split_command, trim, trim_start};
+pub use words::{after_word, is_blank, next_word, split_command, trim, trim_start};

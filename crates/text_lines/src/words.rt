@@ -1,6 +1,6 @@
 // The words of a line.
-ghost use Rattle.std.specs.Prelude.{◌≡◌, ◌<◌, ◌≤◌, ◌+◌, ◌∷◌, [], length, take, drop, reverse, not, MatchOption};
-ghost use Rattle.std.specs.List.{position_or_len};
+ghost use Rattle.std.specs.Prelude.{◌≡◌, ◌≢◌, ◌↔◌, ◌<◌, ◌≤◌, ◌+◌, ◌∷◌, [], length, take, drop, reverse, not, true, slice_index_or, MatchOption, IfSome, IsNone, IsTrue};
+ghost use Rattle.std.specs.List.{position_or_len, list_all};
 ghost use Rattle.text_lines.specs.Text.{is_blank, without_blanks, trimmed, words_in, first_word, argument_of};
 
 /// Whether a byte is a space or a tab.
@@ -13,6 +13,8 @@ pub fn is_blank(byte: u8) -> bool
 /// A line without the blanks at its front.
 pub fn trim_start(line: &[u8]) -> &[u8]
     ensures rest { result.now ≡ without_blanks line.now }
+    ensures trimmed { without_blanks result.now ≡ result.now }
+    ensures words { words_in result.now ≡ words_in line.now }
     ensures length { length result.now ≤ length line.now }
 {
     &line[text_start(line)..]
@@ -50,6 +52,41 @@ pub fn next_word(line: &[u8]) -> Option<(&[u8], &[u8])>
         return None;
     }
     Some(split_word(line))
+}
+
+/// What follows a word at the front of a trimmed line, if that word is the line's first.
+#[inline]
+pub fn after_word<'a>(line: &'a [u8], word: &[u8]) -> Option<&'a [u8]>
+    requires trimmed { without_blanks line.now ≡ line.now }
+    requires some { 0 < length word.now }
+    requires whole { list_all (λ b. not (is_blank b)) word.now ≡ true }
+    ensures words { IfSome result (λ rest. words_in line.now ≡ word.now ∷ words_in rest.now) }
+    ensures none { IsNone result → slice_index_or (words_in line.now) 0 [] ≢ word.now }
+{
+    if !begins_with(line, word) {
+        return None;
+    }
+    let (_, rest) = line.split_at(word.len());
+    if !rest.is_empty() && !is_blank(rest[0]) {
+        return None;
+    }
+    Some(rest)
+}
+
+// Whether a line begins with the bytes of a word. Words are short, so their bytes are looked at without a call.
+#[inline]
+fn begins_with(line: &[u8], word: &[u8]) -> bool
+    ensures { IsTrue result ↔ (take (length word.now) line.now ≡ word.now) }
+{
+    if line.len() < word.len() {
+        return false;
+    }
+    for i in 0..word.len() {
+        if line[i] != word[i] {
+            return false;
+        }
+    }
+    true
 }
 
 // What stands before the first blank, and the rest from that blank on.
