@@ -425,7 +425,7 @@ class Maker:
         """A checkpoint and a rest of some stream, mostly whole."""
         saves = self.pools["saves"]
         save = self.rng.choice(saves)
-        how = self.rng.choice("wwwwmmmftl")
+        how = self.rng.choice("wwwwwwwmmmftl")
         if how == "m":
             save = combined(save, *self.rng.choices(saves, k=2))
         elif how == "f":
@@ -435,8 +435,9 @@ class Maker:
         elif how == "l":
             save += self.noise(self.rng.choice((1, 1, 96, 3000)))
         rest = self.raw().data
-        before = int.from_bytes(save[16:20])
-        return Inputs(save, rest, 0, self.moment(before % 10_000 + len(rest) // BLOCK))
+        before, blocks = int.from_bytes(save[16:20]) % 10_000, len(rest) // BLOCK
+        at = before + self.moment(blocks) if self.chance(0.8) else self.moment(before + blocks)
+        return Inputs(save, rest, 0, at)
 
     def planar(self) -> Inputs:
         data = self.rng.choice(self.pools["planar"])[: self.size() * BLOCK]
