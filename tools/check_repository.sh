@@ -42,6 +42,9 @@ done
 tools/check_names.py || complain "names or lines are not in order"
 tools/check_surface.py || complain "a promised name is gone or changed"
 
+# Each edit's old text stands exactly once in the file that it names.
+tools/check_edits.py || complain "an edit does not turn what it was written for"
+
 # The tables of numbers are those that are reckoned.
 tools/tables.py || complain "a table of numbers is not what tools/tables.py reckons"
 
