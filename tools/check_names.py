@@ -1,9 +1,10 @@
 #!/usr/bin/env python3
 """Looks at the names and lines of the code: check_names.py [TOP]
 
-Complains of a definition whose name stands in the public specs of two crates, of a line of code, clause or definition over
-110 columns (proof hints and imports are laid out by `rt fmt`, and are passed over), and of a public item or a definition
-that nothing names: neither another place in the code nor tools/surface.txt, the list of names that callers were promised.
+Complains of a definition whose name stands in the public specs of two crates, of a type (a struct, an enum, a trait, or
+a record of definitions) whose name stands in two crates, of a line of code, clause or definition over 110 columns (proof
+hints and imports are laid out by `rt fmt`, and are passed over), and of a public item or a definition that nothing names:
+neither another place in the code nor tools/surface.txt, the list of names that callers were promised.
 """
 import re
 import sys
@@ -15,8 +16,12 @@ TOP = TOP if sys.argv[1:] else TOP.parent.parent
 LIMIT = 110
 DEFINITION = re.compile(r"(?:abbrev pub|unfoldable pub|pub record|pub data) ([^\s:(]+)")
 ITEM = re.compile(r"\s*pub (?:extern \"C\" )?(?:const )?(?:fn|struct|enum|trait|static) (\w+)|\s*pub const (\w+)")
+TYPE = re.compile(r"(?:pub(?:\(\w+\))? )?(?:struct|enum|trait|union) (\w+)")
+RECORD = re.compile(r"(?:pub )?(?:record|data) ([^\s:({]+)")
 WORD = re.compile(r"[A-Za-z_][A-Za-z0-9_'?!]*")
 PASSED_OVER = re.compile(r"\s*(?:ghost )?(?:pub )?use |\s*#\[tactic|\s*//|\s*--")
+# The types that may be called alike in two crates, at most five, each with the reason.
+ALIKE = {}
 # What may stand although nothing names it, with the reason.
 ALLOWED = {
     "main": "the program's entry",
@@ -39,6 +44,18 @@ def definitions():
             named = DEFINITION.match(line)
             if named:
                 found[named[1]].append((path, number))
+    return found
+
+
+def types():
+    """Each type of the code and each record of definitions, with the places at which it stands."""
+    found = defaultdict(list)
+    for pattern, declared in (("crates/*/src/**/*.rt", TYPE), ("crates/*/specs/**/*.antt", RECORD)):
+        for path in files(pattern):
+            for number, line in enumerate(path.read_text().splitlines(), 1):
+                named = declared.match(line)
+                if named and named[1] not in ALIKE:
+                    found[named[1]].append((path, number))
     return found
 
 
@@ -104,7 +121,9 @@ def unused(found):
 
 def main():
     found = definitions()
-    wrong = [*doubled(found), *long_lines(), *unused(found)]
+    wrong = sorted({*doubled(found), *doubled(types())}) + [*long_lines(), *unused(found)]
+    if len(ALIKE) > 5:
+        wrong.append(f"{len(ALIKE)} types may be called alike in two crates, and at most five should be")
     for line in wrong:
         print(f"check_names: {line}", file=sys.stderr)
     return 1 if wrong else 0

@@ -45,6 +45,9 @@ tools/check_surface.py || complain "a promised name is gone or changed"
 # What `make` proves is all of each crate.
 told=$(tools/test_proving.py 2>&1) || complain "tools/test_proving.py fails: $(echo "$told" | tail -n 6)"
 
+# Each edit's old text stands exactly once in the file that it names.
+tools/check_edits.py || complain "an edit does not turn what it was written for"
+
 # The tables of numbers are those that are reckoned.
 tools/tables.py || complain "a table of numbers is not what tools/tables.py reckons"
 

@@ -124,14 +124,17 @@ words_there form lead_in bytes b lt =
     let sized : Sized 96 blocks = blocks_sized form (whole_parts size bytes) (units_sized size (length bytes / size) bytes (omega arith)) in
     let words : List (List ℕ) = words_with_block (words_give (after form lead_in before) block) in
     let so_far : length before ≡ b = length-take-le b blocks (omega (arith, lt, many)) in
-    let old : length (words_with form lead_in before) ≡ word_count form (b - lead_in) = length-words_with form lead_in before (sized_take 96 b blocks sized) ∙ ap (λ n. word_count form (n - lead_in)) so_far in
+    let old : length (words_with form lead_in before) ≡ word_count form (b - lead_in) = length-words_with form lead_in before
+    (sized_take 96 b blocks sized) ∙ ap (λ n. word_count form (n - lead_in)) so_far in
     let next : take (b + 1) blocks ≡ before ++ block ∷ [] = take_more blocks b [] (omega (arith, lt, many)) in
     let new : length (words_with form lead_in (before ++ block ∷ [])) ≡ word_count form (suc b - lead_in) =
     ap (λ (l : List (List ℕ)). length (words_with form lead_in l)) (sym next) ∙ length-words_with form lead_in (take (b + 1) blocks) (sized_take 96 (b + 1) blocks sized)
     ∙ ap (λ n. word_count form (n - lead_in)) (length-take-le (b + 1) blocks (omega (arith, lt, many)) ∙ omega arith) in
     let grown : length (words_with form lead_in (before ++ block ∷ [])) ≡ length (words_with form lead_in before) + length words =
-    ap length (words_with-append form lead_in before block []) ∙ length-append (words_with form lead_in before) (words ++ []) ∙ ap (λ (l : List (List ℕ)). length (words_with form lead_in before) + length l) (append-nil words) in
-    let all = sym (words_with_are form lead_in blocks sized) ∙ ap (words_with form lead_in) (around blocks b (omega (arith, lt, many))) ∙ words_with-append form lead_in before block (drop (b + 1) blocks) in
+    ap length (words_with-append form lead_in before block []) ∙ length-append (words_with form lead_in before) (words ++ [])
+    ∙ ap (λ (l : List (List ℕ)). length (words_with form lead_in before) + length l) (append-nil words) in
+    let all = sym (words_with_are form lead_in blocks sized) ∙ ap (words_with form lead_in) (around blocks b (omega (arith, lt, many)))
+    ∙ words_with-append form lead_in before block (drop (b + 1) blocks) in
     let size_is : length words ≡ word_count form (suc b - lead_in) - word_count form (b - lead_in) = omega (arith, old, new, grown) in
     middle (form_word form (program_symbols form bytes lead_in)) (word_count form (length blocks - lead_in)) (words_with form lead_in before) words _ [] all
     ∙ ap₂ (λ m k. map (form_word form (program_symbols form bytes lead_in)) (range_with_len m k)) old size_is

@@ -33,7 +33,8 @@ use Rattle.block_survey.proofs.EndedWords.{length-blocks}
 -- ---- lists made of numbers
 
 -- tests that agree at each number count the same
-same_tests : {A B : Type 0} (p : A → Bool) (q : B → Bool) (g : ℕ → A) (h : ℕ → B) → ((b : ℕ) → p (g b) ≡ q (h b)) → (a n : ℕ) → count_by p (map g (range_with_len a n)) ≡ count_by q (map h (range_with_len a n))
+same_tests : {A B : Type 0} (p : A → Bool) (q : B → Bool) (g : ℕ → A) (h : ℕ → B) → ((b : ℕ) → p (g b) ≡ q (h b)) → (a n : ℕ)
+    → count_by p (map g (range_with_len a n)) ≡ count_by q (map h (range_with_len a n))
 same_tests p q g h same a zero = refl
 same_tests {A = A} {B = B} p q g h same a (suc n) =
     sum_by-cons (λ (x : A). if p x then 1 else 0) (g a) (map g (range_with_len (a + 1) n))
@@ -155,7 +156,8 @@ readings_are : (blocks : List (List ℕ)) → Sized 96 blocks → (readings : Li
 readings_are [] all readings are = are
 readings_are (block ∷ rest) all [] are = absurd are
 readings_are (block ∷ rest) all (reading ∷ readings) are =
-    ap₂ (λ (r : Result QFrame QFault) (l : List (Result QFrame QFault)). r ∷ l) (only_reading (q_bits block) reading (length-map block (channel_bit 1) ∙ all.0) are.0) (readings_are rest all.1 readings are.1)
+    ap₂ (λ (r : Result QFrame QFault) (l : List (Result QFrame QFault)). r ∷ l)
+    (only_reading (q_bits block) reading (length-map block (channel_bit 1) ∙ all.0) are.0) (readings_are rest all.1 readings are.1)
 
 -- the readings of blocks by their numbers
 readings_by_number : (blocks : List (List ℕ)) → map reading_at blocks ≡ map (λ b. reading_at (get_or blocks b [])) (below (length blocks))
@@ -167,18 +169,21 @@ abbrev CountsFrames : (BlockRow → Bool) → (Result QFrame QFault → Bool) �
 CountsFrames told test form lead_in bytes readings = count_by test readings ≡ count_by told (map (row_of_block form lead_in bytes) (below (length (blocks_of form bytes))))
 
 by_blocks : (told : BlockRow → Bool) (test : Result QFrame QFault → Bool) (form : Form) (lead_in : ℕ) (bytes : List ℕ) (readings : List (Result QFrame QFault))
-    → ((b : ℕ) → told (row_of_block form lead_in bytes b) ≡ test (reading_at (get_or (blocks_of form bytes) b []))) → AreQReadings (blocks_of form bytes) readings → CountsFrames told test form lead_in bytes readings
+    → ((b : ℕ) → told (row_of_block form lead_in bytes b) ≡ test (reading_at (get_or (blocks_of form bytes) b [])))
+    → AreQReadings (blocks_of form bytes) readings → CountsFrames told test form lead_in bytes readings
 by_blocks told test form lead_in bytes readings same are =
     let blocks : List (List ℕ) = blocks_of form bytes in
     ap (count_by test) (readings_are blocks (sized form lead_in bytes) readings are ∙ readings_by_number blocks)
     ∙ sym (same_tests told test (row_of_block form lead_in bytes) (λ b. reading_at (get_or blocks b [])) same 0 (length blocks))
 
-frames_told : (form : Form) (lead_in : ℕ) (bytes : List ℕ) (readings : List (Result QFrame QFault)) → AreQReadings (q_blocks form bytes) readings → CountsFrames tells_frame is_ok form lead_in bytes readings
+frames_told : (form : Form) (lead_in : ℕ) (bytes : List ℕ) (readings : List (Result QFrame QFault)) → AreQReadings (q_blocks form bytes) readings
+    → CountsFrames tells_frame is_ok form lead_in bytes readings
 frames_told Raw lead_in bytes readings are = by_blocks tells_frame is_ok Raw lead_in bytes readings (λ b. frame_kinds (reading_at (get_or (blocks_of Raw bytes) b []))) are
 frames_told Sector lead_in bytes readings are = by_blocks tells_frame is_ok Sector lead_in bytes readings (λ b. frame_kinds (reading_at (get_or (blocks_of Sector bytes) b []))) are
 frames_told Cooked lead_in bytes readings are = ap (count_by is_ok) are ∙ sym (no_tests tells_frame (row_of_block Cooked lead_in bytes) (λ b. refl) 0 (length (blocks_of Cooked bytes)))
 
-refusals_told : (form : Form) (lead_in : ℕ) (bytes : List ℕ) (readings : List (Result QFrame QFault)) → AreQReadings (q_blocks form bytes) readings → CountsFrames tells_refusal is_err form lead_in bytes readings
+refusals_told : (form : Form) (lead_in : ℕ) (bytes : List ℕ) (readings : List (Result QFrame QFault)) → AreQReadings (q_blocks form bytes) readings
+    → CountsFrames tells_refusal is_err form lead_in bytes readings
 refusals_told Raw lead_in bytes readings are = by_blocks tells_refusal is_err Raw lead_in bytes readings (λ b. refusal_kinds (reading_at (get_or (blocks_of Raw bytes) b []))) are
 refusals_told Sector lead_in bytes readings are = by_blocks tells_refusal is_err Sector lead_in bytes readings (λ b. refusal_kinds (reading_at (get_or (blocks_of Sector bytes) b []))) are
 refusals_told Cooked lead_in bytes readings are = ap (count_by is_err) are ∙ sym (no_tests tells_refusal (row_of_block Cooked lead_in bytes) (λ b. refl) 0 (length (blocks_of Cooked bytes)))
@@ -208,7 +213,8 @@ add_up form lead_in bytes text bad listed =
     let none : bad_count listed.found ≡ sum_by (λ row. row.bad) (survey_rows form lead_in bytes) =
     bad_words ∙ sym (sums form lead_in bytes (λ row. row.bad) (λ w. is_none (finding w)) (λ b. refl) n) ∙ ap (sum_by (λ (row : BlockRow). row.bad)) rows in
     let good : count_by is_ok listed.readings ≡ count_by tells_frame (survey_rows form lead_in bytes) = frames_told form lead_in bytes listed.readings listed.read ∙ ap (count_by tells_frame) rows in
-    let refused : count_by is_err listed.readings ≡ count_by tells_refusal (survey_rows form lead_in bytes) = refusals_told form lead_in bytes listed.readings listed.read ∙ ap (count_by tells_refusal) rows in
+    let refused : count_by is_err listed.readings ≡ count_by tells_refusal
+    (survey_rows form lead_in bytes) = refusals_told form lead_in bytes listed.readings listed.read ∙ ap (count_by tells_refusal) rows in
     record {
       before = stream_lines (min lead_in n) (n - lead_in) (length words);
       between = pack_count_lines (count_by (found_passes is_idle) listed.found) (count_by (found_passes is_graphics) listed.found)

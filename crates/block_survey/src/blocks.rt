@@ -1,6 +1,7 @@
 // The blocks of a stream in memory.
 ghost use Rattle.std.specs.Prelude.{◌≡◌, ◌<◌, ◌≤◌, ◌+◌, ◌/◌, [], length, take, drop, slice_index_or};
 ghost use Rattle.raw_subcode.specs.Channels.{blocks_of, unit_size};
+ghost use Rattle.raw_subcode.specs.Sizes.{block_bytes};
 
 use raw_subcode::{BLOCK_BYTES, Form, SECTOR_BYTES};
 
@@ -28,8 +29,8 @@ pub fn block_at(form: Form, stream: &[u8], b: usize) -> [u8; BLOCK_BYTES]
 // As many bytes as a block has, from one on.
 #[inline]
 fn bytes_at(stream: &[u8], at: usize) -> [u8; BLOCK_BYTES]
-    requires { at + 96 ≤ length stream.now }
-    ensures { result ≡ take 96 (drop at stream.now) }
+    requires { at + block_bytes ≤ length stream.now }
+    ensures { result ≡ take block_bytes (drop at stream.now) }
 {
     let mut block = [0; BLOCK_BYTES];
     block.copy_from_slice(&stream[at..at + BLOCK_BYTES]);

@@ -17,7 +17,7 @@ fn sink(alloc: Global, room: usize) -> Result<MemSink, AllocError> {
 }
 
 #[derive(Clone, Copy)]
-enum Call {
+enum StoppedCall {
     Convert,
     Screen,
     State,
@@ -26,25 +26,25 @@ enum Call {
     TextList,
 }
 
-const CALLS: [Call; 6] = [
-    Call::Convert,
-    Call::Screen,
-    Call::State,
-    Call::Check,
-    Call::QList,
-    Call::TextList,
+const CALLS: [StoppedCall; 6] = [
+    StoppedCall::Convert,
+    StoppedCall::Screen,
+    StoppedCall::State,
+    StoppedCall::Check,
+    StoppedCall::QList,
+    StoppedCall::TextList,
 ];
 
 // Whether the fault stops the call.
-fn stops(alloc: Global, call: Call, player: &mut Player) -> Result<bool, AllocError> {
+fn stops(alloc: Global, call: StoppedCall, player: &mut Player) -> Result<bool, AllocError> {
     let (source, sink) = (&mut failing(alloc)?, &mut sink(alloc, 4096)?);
     let answer = match call {
-        Call::Convert => player.convert(0, Form::Raw, source, sink),
-        Call::Screen => player.screen_at(0, Form::Raw, 2, source, sink),
-        Call::State => player.state_at(0, Form::Raw, 2, source, sink),
-        Call::Check => player.check(0, Form::Raw, source, sink),
-        Call::QList => player.q_list(0, Form::Raw, source, sink),
-        Call::TextList => player.text_list(alloc, 2, Form::Raw, source, sink),
+        StoppedCall::Convert => player.convert(0, Form::Raw, source, sink),
+        StoppedCall::Screen => player.screen_at(0, Form::Raw, 2, source, sink),
+        StoppedCall::State => player.state_at(0, Form::Raw, 2, source, sink),
+        StoppedCall::Check => player.check(0, Form::Raw, source, sink),
+        StoppedCall::QList => player.q_list(0, Form::Raw, source, sink),
+        StoppedCall::TextList => player.text_list(alloc, 2, Form::Raw, source, sink),
     };
     Ok(answer == FAULT)
 }

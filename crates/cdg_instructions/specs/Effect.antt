@@ -5,6 +5,7 @@ use Rattle.cdg_instructions.specs.declared.instr.Instr.TheVariants.{MemoryPreset
 use Rattle.cdg_instructions.specs.declared.effect.Scrolling.{Scrolling}
 use Rattle.cdg_instructions.specs.declared.effect.Effect.{Effect}
 use Rattle.cdg_instructions.specs.declared.effect.Effect.TheVariants.{Nothing, Clear, Border, Draw, Scroll, Levels, Colours}
+use Rattle.cdg_instructions.specs.Sizes.{colour_values}
 
 -- a tile as it is drawn
 abbrev pub drawn_tile : Bool → ℕ → ℕ → ℕ → ℕ → List ℕ → Effect
@@ -54,5 +55,6 @@ IsEffectInRange (Border colour) = colour < 16
 IsEffectInRange (Draw tile) = All (λ colour. colour < 16) tile.colours
 IsEffectInRange (Scroll scroll) = IsScrollInRange scroll
 IsEffectInRange (Levels levels) = All (λ level. level < 64) levels
-IsEffectInRange (Colours first colours) = ((first ≡ 0) ⊎ (first ≡ 8)) × All (λ colour. colour < 4096) colours
+IsEffectInRange (Colours first colours) = ((first ≡ 0) ⊎ (first ≡ 8))
+    × All (λ colour. colour < colour_values) colours
 IsEffectInRange _ = ⊤

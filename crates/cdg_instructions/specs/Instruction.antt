@@ -4,7 +4,7 @@ use Rattle.bit_lists.specs.Counting.{below}
 use Rattle.rw_code.specs.Codeword.{IsCodeword}
 use Rattle.cdg_instructions.specs.declared.instr.Instr.{Instr}
 use Rattle.cdg_instructions.specs.declared.instr.Instr.TheVariants.{Idle, Foreign, Unknown, MemoryPreset, BorderPreset, SetTile, XorTile, ScrollPreset, ScrollCopy, Transparency, ColoursLow, ColoursHigh}
-use Rattle.cdg_instructions.specs.Sizes.{tile_pixels}
+use Rattle.cdg_instructions.specs.Sizes.{colour_values, tile_height, tile_pixels}
 
 -- the content of a word: symbols 4 to 19
 abbrev pub content_of : List ℕ → List ℕ
@@ -117,7 +117,7 @@ pub record InTileRange (colour0 colour1 row column : ℕ) (lines : List ℕ) : T
   pub colour1_below : colour1 < 16
   pub row_below : row < 32
   pub column_below : column < 64
-  pub lines_count : length lines ≡ 12
+  pub lines_count : length lines ≡ tile_height
   pub lines_below : All (λ line. line < 64) lines
 
 -- the ranges of the fields of a scroll
@@ -136,8 +136,8 @@ InRange (SetTile colour0 colour1 row column lines) = InTileRange colour0 colour1
 InRange (ScrollPreset colour across h down v) = InScrollRange colour across h down v
 InRange (ScrollCopy colour across h down v) = InScrollRange colour across h down v
 InRange (Transparency levels) = (length levels ≡ 16) × All (λ level. level < 64) levels
-InRange (ColoursLow colours) = (length colours ≡ 8) × All (λ colour. colour < 4096) colours
-InRange (ColoursHigh colours) = (length colours ≡ 8) × All (λ colour. colour < 4096) colours
+InRange (ColoursLow colours) = (length colours ≡ 8) × All (λ colour. colour < colour_values) colours
+InRange (ColoursHigh colours) = (length colours ≡ 8) × All (λ colour. colour < colour_values) colours
 InRange (XorTile colour0 colour1 row column lines) = InTileRange colour0 colour1 row column lines
 InRange _ = ⊤
 

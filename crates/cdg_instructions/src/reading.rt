@@ -5,10 +5,12 @@ ghost use Rattle.cdg_instructions.specs.Instruction.{Means, InRange, content_of,
 ghost use Rattle.cdg_instructions.specs.Meaning.{meaning};
 ghost use Rattle.bit_lists.specs.Counting.{below};
 ghost use Rattle.cdg_instructions.specs.declared.instr.Instr.{Instr};
+ghost use Rattle.cdg_instructions.specs.Sizes.{colour_values, tile_height};
 
 use crate::Instr;
 use crate::codes::{self, CONTENT};
-use rw_code::{Pack, Word};
+use crate::sizes::TILE_HEIGHT;
+use rw_code::{Pack, SYMBOLS, Word};
 
 /// The instruction that a pack holds.
 ///
@@ -35,7 +37,7 @@ pub fn read_word(word: &Word) -> Instr
 }
 
 // The instruction that the symbols of a graphics pack say.
-fn graphics(symbols: &[u8; 24]) -> Instr
+fn graphics(symbols: &[u8; SYMBOLS]) -> Instr
     requires symbols { IsWord symbols.now }
     requires mode { slice_index symbols.now 0 ≡ 9 }
     ensures meaning { Means symbols.now result }
@@ -65,7 +67,7 @@ fn graphics(symbols: &[u8; 24]) -> Instr
 }
 
 // The instruction of a pack that sets or combines a tile.
-fn tile(symbols: &[u8; 24]) -> Instr
+fn tile(symbols: &[u8; SYMBOLS]) -> Instr
     requires symbols { IsWord symbols.now }
     requires mode { slice_index symbols.now 0 ≡ 9 }
     requires code { (slice_index symbols.now 1 ≡ 6) ⊎ (slice_index symbols.now 1 ≡ 38) }
@@ -97,7 +99,7 @@ fn tile(symbols: &[u8; 24]) -> Instr
 }
 
 // The instruction of a pack that scrolls.
-fn scroll(symbols: &[u8; 24]) -> Instr
+fn scroll(symbols: &[u8; SYMBOLS]) -> Instr
     requires symbols { IsWord symbols.now }
     requires mode { slice_index symbols.now 0 ≡ 9 }
     requires code { (slice_index symbols.now 1 ≡ 20) ⊎ (slice_index symbols.now 1 ≡ 24) }
@@ -138,19 +140,19 @@ fn moved(symbol: u8) -> u8
 }
 
 // The lines of a tile.
-fn lines(symbols: &[u8; 24]) -> [u8; 12]
+fn lines(symbols: &[u8; SYMBOLS]) -> [u8; TILE_HEIGHT]
     requires { IsWord symbols.now }
     ensures lines { result ≡ drop 4 (content_of symbols.now) }
-    ensures count { length result ≡ 12 }
+    ensures count { length result ≡ tile_height }
     ensures range { All (λ line. line < 64) result }
 {
-    let mut lines = [0; 12];
+    let mut lines = [0; TILE_HEIGHT];
     lines.copy_from_slice(&symbols[CONTENT + 4..CONTENT + 16]);
     lines
 }
 
 // Sixteen levels.
-fn levels(symbols: &[u8; 24]) -> [u8; 16]
+fn levels(symbols: &[u8; SYMBOLS]) -> [u8; 16]
     requires { IsWord symbols.now }
     ensures levels { result ≡ content_of symbols.now }
     ensures count { length result ≡ 16 }
@@ -162,11 +164,11 @@ fn levels(symbols: &[u8; 24]) -> [u8; 16]
 }
 
 // Eight colours of a table.
-fn colours(symbols: &[u8; 24]) -> [u16; 8]
+fn colours(symbols: &[u8; SYMBOLS]) -> [u16; 8]
     requires { IsWord symbols.now }
     ensures colours { result ≡ map (table_colour symbols.now) (below 8) }
     ensures count { length result ≡ 8 }
-    ensures range { All (λ colour. colour < 4096) result }
+    ensures range { All (λ colour. colour < colour_values) result }
 {
     let mut colours = [0; 8];
     for k in 0..8 {
@@ -176,11 +178,11 @@ fn colours(symbols: &[u8; 24]) -> [u16; 8]
 }
 
 // Colour k of a table.
-fn colour(symbols: &[u8; 24], k: usize) -> u16
+fn colour(symbols: &[u8; SYMBOLS], k: usize) -> u16
     requires place { k < 8 }
     requires symbols { IsWord symbols.now }
     ensures colour { result ≡ table_colour symbols.now k }
-    ensures range { result < 4096 }
+    ensures range { result < colour_values }
 {
     64 * u16::from(symbols[CONTENT + 2 * k]) + u16::from(symbols[CONTENT + 2 * k + 1])
 }

@@ -38,3 +38,9 @@ pub const WINDOW_WIDTH: usize = WINDOW_COLUMNS * TILE_WIDTH;
 
 /// How many pixels the window is high.
 pub const WINDOW_HEIGHT: usize = WINDOW_ROWS * TILE_HEIGHT;
+
+/// The last pixel of the window from the left of the screen.
+pub const WINDOW_RIGHT: usize = TILE_WIDTH + WINDOW_WIDTH - 1;
+
+/// The last pixel of the window from the top of the screen.
+pub const WINDOW_BOTTOM: usize = TILE_HEIGHT + WINDOW_HEIGHT - 1;

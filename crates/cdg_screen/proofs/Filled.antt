@@ -1,7 +1,7 @@
 -- Rows of one colour.
 use Rattle.std.proofs.Common.{◌≡◌, ℕ, ◌+◌, ◌-◌, ◌%◌, ◌<◌, List, sym, ap₂, ◌∙◌, arith}
 use Rattle.cdg_screen.specs.Memory.{Becomes}
-use Rattle.cdg_screen.proofs.Grids.{at_is, element}
+use Rattle.cdg_screen.proofs.MemoryRows.{at_is, element}
 
 -- all pixels have the colour of all rows
 pub filled_by_rows : (rows : List (List ℕ)) (left top colour : ℕ) → ((r : ℕ) → r < 216 → (k : ℕ) → k < 300 → element rows r k ≡ colour)

@@ -7,14 +7,14 @@ use Rattle.cdg_instructions.specs.declared.instr.Instr.{Instr}
 use Rattle.cdg_instructions.specs.Effect.{effect_of}
 use Rattle.cdg_instructions.specs.declared.effect.Effect.{Effect}
 use Rattle.cdg_screen.specs.Standing.{IsWholeStanding, Standing, blank, pixel_at, rows_of, sixteen, memory_from, border_from, colour_from, level_from, offsets_from, standing_after}
-use Rattle.cdg_screen.specs.Memory.{Grid, at, Becomes}
+use Rattle.cdg_screen.specs.Memory.{MemoryRows, at, Becomes}
 use Rattle.cdg_screen.proofs.Lists.{AreSamePixels, rows_same, pixel_of_rows, sixteen_are, number_of_sixteen}
 use Rattle.cdg_screen.proofs.Turns.{same_memory}
 use Rattle.cdg_screen.proofs.Effects.{memory_by, border_by, colour_by, level_by, offsets_by, memory_is, border_is, colour_is, level_is, offsets_are}
 
 -- what a screen keeps, its memory with a moving origin
 pub record Kept : Type 0 where
-  pub memory : Grid
+  pub memory : MemoryRows
   pub border : ℕ
   pub colours : List ℕ
   pub levels : List ℕ
@@ -41,8 +41,8 @@ pub record Obeys (instr : Instr) (old new : Kept) : Type 0 where
   pub h : new.h ≡ (offsets_from (old.h, old.v) (instr ∷ [])).0
   pub v : new.v ≡ (offsets_from (old.h, old.v) (instr ∷ [])).1
 
-seen_before : (grid : Grid) (instrs : List Instr) → AreSamePixels (memory_from (at grid) instrs) (memory_from (pixel_at (rows_of (at grid))) instrs)
-seen_before grid instrs = same_memory (at grid) (pixel_at (rows_of (at grid))) (λ x y x_lt y_lt. sym (pixel_of_rows (at grid) x y x_lt y_lt)) instrs
+seen_before : (memory : MemoryRows) (instrs : List Instr) → AreSamePixels (memory_from (at memory) instrs) (memory_from (pixel_at (rows_of (at memory))) instrs)
+seen_before memory instrs = same_memory (at memory) (pixel_at (rows_of (at memory))) (λ x y x_lt y_lt. sym (pixel_of_rows (at memory) x y x_lt y_lt)) instrs
 
 pub obeyed : (instr : Instr) (old new : Kept) → length new.colours ≡ 16 → length new.levels ≡ 16 → Obeys instr old new → seen new ≡ standing_after (seen old) (instr ∷ [])
 obeyed instr old new sixteen_colours sixteen_levels obeys =
@@ -69,9 +69,9 @@ stays A instr now sixteen_colours sixteen_levels as_is =
     ((λ holds. sym (obeyed instr now now sixteen_colours sixteen_levels (as_is.0 holds))), λ same. as_is.1 (obeys_back instr now now (sym same)))
 
 -- all is zero
-pub all_zero : (grid : Grid) → Becomes grid (λ x y. 0) → seen (record { memory = grid; border = 0; colours = replicate 16 0; levels = replicate 16 0; h = 0; v = 0 }) ≡ blank
+pub all_zero : (memory : MemoryRows) → Becomes memory (λ x y. 0) → seen (record { memory = memory; border = 0; colours = replicate 16 0; levels = replicate 16 0; h = 0; v = 0 }) ≡ blank
 unfolding sixteen
-all_zero grid pixels =
+all_zero memory pixels =
     let memory = rows_same _ _ pixels in
     λ i. record { memory = memory i; border = 0; colours = replicate 16 0; levels = replicate 16 0; h = 0; v = 0 }
 

@@ -6,8 +6,8 @@ use Rattle.std.proofs.lemmas.Bool.Decides.{nat_tests}
 use Rattle.std.proofs.lemmas.List.{get_or-set_same, get_or-set_other, get_or_append_left, get_or_default, get_or-append_right, get_or-take, get_or-drop, length-take, length-drop}
 use Rattle.std.proofs.lemmas.List.Elements.{All-get_or}
 use borrow.Rule.Slice.PartMut.{put_mid}
-use Rattle.cdg_screen.specs.Memory.{at, IsGrid}
-use Rattle.cdg_screen.proofs.Grids.{element, at_is}
+use Rattle.cdg_screen.specs.Memory.{at, IsMemory}
+use Rattle.cdg_screen.proofs.MemoryRows.{element, at_is}
 
 -- the elements of a row once six of them are written anew
 written-at : (old piece : List ℕ) (start count i : ℕ) → start + count ≤ length old → length piece ≡ count
@@ -56,7 +56,7 @@ written-small old piece start i within size small olds =
     ]
 
 -- the pixels of a row are colours
-pub row-below : (rows : List (List ℕ)) (row : List ℕ) (left top r : ℕ) → IsGrid (record { rows = rows; left = left; top = top }) → row ≡ get_or rows r [] → All (λ p. p < 16) row
+pub row-below : (rows : List (List ℕ)) (row : List ℕ) (left top r : ℕ) → IsMemory (record { rows = rows; left = left; top = top }) → row ≡ get_or rows r [] → All (λ p. p < 16) row
 row-below rows row left top r g is k d k_lt = omega (arith, get_or_default row k d 0 k_lt, ap (λ xs. get_or xs k 0) is, g.colours r k)
 
 -- the tile of a column begins so far into a row, and goes on at no other end
@@ -70,9 +70,9 @@ tile_apart left column x whole left_lt column_le x_lt from to = omega arith
 pub tile_fits : (left column : ℕ) → left % 6 ≡ 0 → left < 300 → column ≤ 49 → (6 * column + left) % 300 + 6 ≤ 300
 tile_fits left column whole left_lt column_le = omega arith
 
-pub line-is_grid : (rows : List (List ℕ)) (row piece : List ℕ) (left top r start : ℕ) → IsGrid (record { rows = rows; left = left; top = top }) → r < 216 → start + 6 ≤ 300 → row ≡ get_or rows r [] → length piece ≡ 6
-    → All (λ p. p < 16) piece → IsGrid (record { rows = set rows r (put_mid start (start + 6 - start) row piece); left = left; top = top })
-line-is_grid rows row piece left top r start g r_lt fits is size small =
+pub line-is_memory : (rows : List (List ℕ)) (row piece : List ℕ) (left top r start : ℕ) → IsMemory (record { rows = rows; left = left; top = top }) → r < 216 → start + 6 ≤ 300 → row ≡ get_or rows r [] → length piece ≡ 6
+    → All (λ p. p < 16) piece → IsMemory (record { rows = set rows r (put_mid start (start + 6 - start) row piece); left = left; top = top })
+line-is_memory rows row piece left top r start g r_lt fits is size small =
     let six : start + 6 - start ≡ 6 = omega arith in
     let r_in : r < length rows = omega (arith, g.count) in
     let width : length (get_or rows r []) ≡ 300 = g.widths r r_lt in
@@ -92,7 +92,7 @@ line-is_grid rows row piece left top r start g r_lt fits is size small =
       ];
     })
 
-pub line-becomes : (rows : List (List ℕ)) (row piece : List ℕ) (left top column y start r : ℕ) (drawn : ℕ → ℕ → ℕ) → IsGrid (record { rows = rows; left = left; top = top }) → column ≤ 49 → y < 216 → start ≡ (6 * column + left) % 300 → r ≡ (y + top) % 216
+pub line-becomes : (rows : List (List ℕ)) (row piece : List ℕ) (left top column y start r : ℕ) (drawn : ℕ → ℕ → ℕ) → IsMemory (record { rows = rows; left = left; top = top }) → column ≤ 49 → y < 216 → start ≡ (6 * column + left) % 300 → r ≡ (y + top) % 216
     → row ≡ get_or rows r [] → length piece ≡ 6
     → ((i : ℕ) → i < 6 → get_or piece i 0 ≡ drawn i (get_or (take (start + 6 - start) (drop start row)) i 0))
     → (x' y' : ℕ) → x' < 300 → y' < 216

@@ -5,7 +5,7 @@ use Rattle.std.proofs.lemmas.Bool.{cases_Bool, cases_eq}
 use Rattle.std.proofs.lemmas.Bool.Decides.{nat_tests}
 use Rattle.cdg_instructions.specs.Drawing.{tile_colour}
 use Rattle.cdg_screen.specs.Standing.{covers}
-use Rattle.cdg_screen.specs.Memory.{Grid, at, Becomes, drawn_over, line_colour}
+use Rattle.cdg_screen.specs.Memory.{MemoryRows, at, Becomes, drawn_over, line_colour}
 
 in_line : (row column j x y : ℕ) → j < 12 → row ≤ 17 → column ≤ 49 → (y == 12 * row + j && nat_le (6 * column) x && nat_lt x (6 * column + 6)) ≡ true
     → (y ≡ 12 * row + j) × (6 * column ≤ x) × (x < 6 * column + 6)
@@ -18,24 +18,24 @@ covers_line row column j x y j_lt row_le column_le y_is low high =
     grind (arith, nat_tests)
 
 -- a tile that stays as it is drawn has lines that do
-pub line_of_tile : (grid : Grid) (row column colour0 colour1 : ℕ) (lines : List ℕ) (exclusive : Bool) (j : ℕ) → j < 12 → row ≤ 17 → column ≤ 49
-    → Becomes grid (λ x y. if covers row column x y then drawn_over exclusive (tile_colour colour0 colour1 lines (x % 6) (y % 12)) (at grid x y) else at grid x y)
-    → Becomes grid (λ x y. if y == 12 * row + j && nat_le (6 * column) x && nat_lt x (6 * column + 6)
-    then drawn_over exclusive (line_colour colour0 colour1 (slice_index lines j) (x - 6 * column)) (at grid x y) else at grid x y)
-line_of_tile grid row column colour0 colour1 lines exclusive j j_lt row_le column_le whole x y x_lt y_lt =
+pub line_of_tile : (memory : MemoryRows) (row column colour0 colour1 : ℕ) (lines : List ℕ) (exclusive : Bool) (j : ℕ) → j < 12 → row ≤ 17 → column ≤ 49
+    → Becomes memory (λ x y. if covers row column x y then drawn_over exclusive (tile_colour colour0 colour1 lines (x % 6) (y % 12)) (at memory x y) else at memory x y)
+    → Becomes memory (λ x y. if y == 12 * row + j && nat_le (6 * column) x && nat_lt x (6 * column + 6)
+    then drawn_over exclusive (line_colour colour0 colour1 (slice_index lines j) (x - 6 * column)) (at memory x y) else at memory x y)
+line_of_tile memory row column colour0 colour1 lines exclusive j j_lt row_le column_le whole x y x_lt y_lt =
     elim (cases_Bool (y == 12 * row + j && nat_le (6 * column) x && nat_lt x (6 * column + 6))) [
       | inl inside ↦
           let (y_is, low, high) = in_line row column j x y j_lt row_le column_le inside in
           let covered = covers_line row column j x y j_lt row_le column_le y_is low high in
           let across : x % 6 ≡ x - 6 * column = omega arith in
           let down : y % 12 ≡ j = omega arith in
-          let here : at grid x y ≡ drawn_over exclusive (tile_colour colour0 colour1 lines (x % 6) (y % 12)) (at grid x y) = rw covered at (whole x y x_lt y_lt) in
-          rw inside (here ∙ ap₂ (λ i k. drawn_over exclusive (tile_colour colour0 colour1 lines i k) (at grid x y)) across down)
+          let here : at memory x y ≡ drawn_over exclusive (tile_colour colour0 colour1 lines (x % 6) (y % 12)) (at memory x y) = rw covered at (whole x y x_lt y_lt) in
+          rw inside (here ∙ ap₂ (λ i k. drawn_over exclusive (tile_colour colour0 colour1 lines i k) (at memory x y)) across down)
       | inr outside ↦ rw outside refl
     ]
 
 -- a tile is drawn as far as one line more
-pub line_more : (old now new : Grid) (row column colour0 colour1 j : ℕ) (lines pixels : List ℕ) (exclusive : Bool) → j < 12 → row ≤ 17 → column ≤ 49
+pub line_more : (old now new : MemoryRows) (row column colour0 colour1 j : ℕ) (lines pixels : List ℕ) (exclusive : Bool) → j < 12 → row ≤ 17 → column ≤ 49
     → ((i : ℕ) → i < 6 → slice_index pixels i ≡ line_colour colour0 colour1 (slice_index lines j) i)
     → Becomes now (λ x y. if covers row column x y && nat_lt (y % 12) j then drawn_over exclusive (tile_colour colour0 colour1 lines (x % 6) (y % 12)) (at old x y) else at old x y)
     → Becomes new (λ x y. if y == 12 * row + j && x / 6 == column then drawn_over exclusive (slice_index pixels (x % 6)) (at now x y) else at now x y)
@@ -65,9 +65,9 @@ line_more old now new row column colour0 colour1 j lines pixels exclusive j_lt r
 -- ---- A tile that is drawn leaves each pixel as it is.
 
 -- none of its lines
-pub kept_at_first : (grid : Grid) (row column colour0 colour1 : ℕ) (lines : List ℕ) (exclusive : Bool)
-    → Becomes grid (λ x y. if covers row column x y && nat_lt (y % 12) 0 then drawn_over exclusive (tile_colour colour0 colour1 lines (x % 6) (y % 12)) (at grid x y) else at grid x y)
-kept_at_first grid row column colour0 colour1 lines exclusive x y x_lt y_lt = grind (arith, nat_tests)
+pub kept_at_first : (memory : MemoryRows) (row column colour0 colour1 : ℕ) (lines : List ℕ) (exclusive : Bool)
+    → Becomes memory (λ x y. if covers row column x y && nat_lt (y % 12) 0 then drawn_over exclusive (tile_colour colour0 colour1 lines (x % 6) (y % 12)) (at memory x y) else at memory x y)
+kept_at_first memory row column colour0 colour1 lines exclusive x y x_lt y_lt = grind (arith, nat_tests)
 
 drawn_place : (row column j x y : ℕ) → (covers row column x y && nat_lt (y % 12) (j + 1)) ≡ true → (x / 6 ≡ column) × (y / 12 ≡ row) × (y % 12 < j + 1)
 drawn_place row column j x y drawn = (grind (arith, nat_tests), grind (arith, nat_tests), grind (arith, nat_tests))
@@ -79,12 +79,12 @@ line_holds : (left top j x y : ℕ) → y ≡ top + j → left ≤ x → x < lef
 line_holds left top j x y y_is low high = grind (arith, nat_tests)
 
 -- one of its lines more
-pub kept_line : (grid : Grid) (row column colour0 colour1 left top j : ℕ) (lines : List ℕ) (exclusive : Bool) → left ≡ 6 * column → top ≡ 12 * row
-    → Becomes grid (λ x y. if covers row column x y && nat_lt (y % 12) j then drawn_over exclusive (tile_colour colour0 colour1 lines (x % 6) (y % 12)) (at grid x y) else at grid x y)
-    → Becomes grid (λ x y. if y == top + j && nat_le left x && nat_lt x (left + 6)
-    then drawn_over exclusive (line_colour colour0 colour1 (slice_index lines j) (x - left)) (at grid x y) else at grid x y)
-    → Becomes grid (λ x y. if covers row column x y && nat_lt (y % 12) (j + 1) then drawn_over exclusive (tile_colour colour0 colour1 lines (x % 6) (y % 12)) (at grid x y) else at grid x y)
-kept_line grid row column colour0 colour1 left top j lines exclusive left_is top_is before line x y x_lt y_lt =
+pub kept_line : (memory : MemoryRows) (row column colour0 colour1 left top j : ℕ) (lines : List ℕ) (exclusive : Bool) → left ≡ 6 * column → top ≡ 12 * row
+    → Becomes memory (λ x y. if covers row column x y && nat_lt (y % 12) j then drawn_over exclusive (tile_colour colour0 colour1 lines (x % 6) (y % 12)) (at memory x y) else at memory x y)
+    → Becomes memory (λ x y. if y == top + j && nat_le left x && nat_lt x (left + 6)
+    then drawn_over exclusive (line_colour colour0 colour1 (slice_index lines j) (x - left)) (at memory x y) else at memory x y)
+    → Becomes memory (λ x y. if covers row column x y && nat_lt (y % 12) (j + 1) then drawn_over exclusive (tile_colour colour0 colour1 lines (x % 6) (y % 12)) (at memory x y) else at memory x y)
+kept_line memory row column colour0 colour1 left top j lines exclusive left_is top_is before line x y x_lt y_lt =
     elim (cases_Bool (covers row column x y && nat_lt (y % 12) (j + 1))) [
       | inr not_drawn ↦ rw not_drawn refl
       | inl drawn ↦
@@ -93,20 +93,20 @@ kept_line grid row column colour0 colour1 left top j lines exclusive left_is top
             | inl last ↦
                 let inside = line_holds left top j x y (omega arith) (omega arith) (omega arith) in
                 let column_of : x - left ≡ x % 6 = omega arith in
-                let here : at grid x y ≡ drawn_over exclusive (line_colour colour0 colour1 (slice_index lines j) (x - left)) (at grid x y) = rw inside at (line x y x_lt y_lt) in
-                rw drawn (here ∙ ap₂ (λ i k. drawn_over exclusive (tile_colour colour0 colour1 lines i k) (at grid x y)) column_of (sym last))
+                let here : at memory x y ≡ drawn_over exclusive (line_colour colour0 colour1 (slice_index lines j) (x - left)) (at memory x y) = rw inside at (line x y x_lt y_lt) in
+                rw drawn (here ∙ ap₂ (λ i k. drawn_over exclusive (tile_colour colour0 colour1 lines i k) (at memory x y)) column_of (sym last))
             | inr earlier ↦
                 let so_far = drawn_before row column j x y drawn (omega arith) in
-                let here : at grid x y ≡ drawn_over exclusive (tile_colour colour0 colour1 lines (x % 6) (y % 12)) (at grid x y) = rw so_far at (before x y x_lt y_lt) in
+                let here : at memory x y ≡ drawn_over exclusive (tile_colour colour0 colour1 lines (x % 6) (y % 12)) (at memory x y) = rw so_far at (before x y x_lt y_lt) in
                 rw drawn here
           ]
     ]
 
 -- all of them
-pub kept_whole : (grid : Grid) (row column colour0 colour1 j : ℕ) (lines : List ℕ) (exclusive : Bool) → 12 ≤ j
-    → Becomes grid (λ x y. if covers row column x y && nat_lt (y % 12) j then drawn_over exclusive (tile_colour colour0 colour1 lines (x % 6) (y % 12)) (at grid x y) else at grid x y)
-    → Becomes grid (λ x y. if covers row column x y then drawn_over exclusive (tile_colour colour0 colour1 lines (x % 6) (y % 12)) (at grid x y) else at grid x y)
-kept_whole grid row column colour0 colour1 j lines exclusive all kept x y x_lt y_lt =
+pub kept_whole : (memory : MemoryRows) (row column colour0 colour1 j : ℕ) (lines : List ℕ) (exclusive : Bool) → 12 ≤ j
+    → Becomes memory (λ x y. if covers row column x y && nat_lt (y % 12) j then drawn_over exclusive (tile_colour colour0 colour1 lines (x % 6) (y % 12)) (at memory x y) else at memory x y)
+    → Becomes memory (λ x y. if covers row column x y then drawn_over exclusive (tile_colour colour0 colour1 lines (x % 6) (y % 12)) (at memory x y) else at memory x y)
+kept_whole memory row column colour0 colour1 j lines exclusive all kept x y x_lt y_lt =
     elim (cases_Bool (covers row column x y)) [
       | inr apart ↦ rw apart refl
       | inl covered ↦

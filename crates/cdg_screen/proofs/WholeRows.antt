@@ -4,8 +4,8 @@ use Rattle.std.specs.Prelude.{nat_le, nat_lt}
 use Rattle.std.proofs.lemmas.Bool.{cases_lt}
 use Rattle.bit_lists.proofs.Groups.{all_below_bound}
 use Rattle.std.specs.Prelude.{All}
-use Rattle.cdg_screen.specs.Memory.{Grid, IsGrid, at}
-use Rattle.cdg_screen.proofs.Grids.{at-below}
+use Rattle.cdg_screen.specs.Memory.{MemoryRows, IsMemory, at}
+use Rattle.cdg_screen.proofs.MemoryRows.{at-below}
 use Rattle.cdg_screen.specs.Standing.{pixel_at, screen_pixel}
 use Rattle.cdg_screen.proofs.Lists.{pixel_of_rows}
 use Rattle.cdg_screen.proofs.Obeyed.{Kept, seen}
@@ -93,10 +93,10 @@ turned_row row p q one two start left x left_lt x_lt size p_is q_is first second
     ]
 
 -- its numbers are small
-pub small_row : (row : List ℕ) (grid : Grid) (y : ℕ) → IsGrid grid → length row ≡ 300
-    → ((x : ℕ) → x < 300 → get_or row x 0 ≡ at grid x y) → All (λ pixel. pixel < 16) row
-small_row row grid y g width same = all_below_bound 16 row (λ x. elim (cases_lt x 300) [
-  | inl lt ↦ omega (arith, same x lt, at-below grid.rows grid.left grid.top x y g)
+pub small_row : (row : List ℕ) (memory : MemoryRows) (y : ℕ) → IsMemory memory → length row ≡ 300
+    → ((x : ℕ) → x < 300 → get_or row x 0 ≡ at memory x y) → All (λ pixel. pixel < 16) row
+small_row row memory y g width same = all_below_bound 16 row (λ x. elim (cases_lt x 300) [
+  | inl lt ↦ omega (arith, same x lt, at-below memory.rows memory.left memory.top x y g)
   | inr past ↦ omega (arith, get_or_past row x 0 (omega (arith, width, past)))
 ])
 

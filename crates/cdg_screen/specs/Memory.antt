@@ -4,35 +4,35 @@ use Rattle.bit_lists.specs.Bits.{has_bit}
 use Rattle.cdg_instructions.specs.Drawing.{tile_colour}
 use Rattle.cdg_instructions.specs.declared.effect.DrawnTile.{DrawnTile}
 use Rattle.cdg_instructions.specs.declared.effect.Scrolling.{Scrolling}
-use Rattle.cdg_instructions.specs.Sizes.{screen_height, screen_width}
+use Rattle.cdg_instructions.specs.Sizes.{colour_values, screen_height, screen_width, tile_height, tile_width}
 use Rattle.cdg_screen.specs.Standing.{covers, is_inside, source_x, source_y}
 
 -- The memory as rows that begin at a moving origin: pixel (0, 0) is element `left` of row `top`, and what is past an
 -- end goes on at the other.
-pub record Grid : Type 0 where
+pub record MemoryRows : Type 0 where
   pub rows : List (List ℕ)
   pub left : ℕ
   pub top : ℕ
 
 -- pixel (x, y) of it
-unfoldable pub at : Grid → ℕ → ℕ → ℕ
-at grid x y =
-    let row = slice_index_or grid.rows ((y + grid.top) % screen_height) [] in
-    slice_index row ((x + grid.left) % screen_width)
+unfoldable pub at : MemoryRows → ℕ → ℕ → ℕ
+at memory x y =
+    let row = slice_index_or memory.rows ((y + memory.top) % screen_height) [] in
+    slice_index row ((x + memory.left) % screen_width)
 
 -- rows of 300 numbers below 16, and an origin among them at whole tiles, so that no tile goes on at the other end
-pub record IsGrid (grid : Grid) : Type 0 where
-  pub count : length grid.rows ≡ screen_height
-  pub widths : (y : ℕ) → y < screen_height → length (slice_index_or grid.rows y []) ≡ screen_width
-  pub left_below : grid.left < screen_width
-  pub top_below : grid.top < screen_height
-  pub left_whole : grid.left % 6 ≡ 0
-  pub top_whole : grid.top % 12 ≡ 0
-  pub colours : (y x : ℕ) → slice_index (slice_index_or grid.rows y []) x < 16
+pub record IsMemory (memory : MemoryRows) : Type 0 where
+  pub count : length memory.rows ≡ screen_height
+  pub widths : (y : ℕ) → y < screen_height → length (slice_index_or memory.rows y []) ≡ screen_width
+  pub left_below : memory.left < screen_width
+  pub top_below : memory.top < screen_height
+  pub left_whole : memory.left % tile_width ≡ 0
+  pub top_whole : memory.top % tile_height ≡ 0
+  pub colours : (y x : ℕ) → slice_index (slice_index_or memory.rows y []) x < 16
 
 -- the pixels of the memory become those of a function of the place
-abbrev pub Becomes : Grid → (ℕ → ℕ → ℕ) → Type 0
-Becomes grid f = (x y : ℕ) → x < screen_width → y < screen_height → at grid x y ≡ f x y
+abbrev pub Becomes : MemoryRows → (ℕ → ℕ → ℕ) → Type 0
+Becomes memory f = (x y : ℕ) → x < screen_width → y < screen_height → at memory x y ≡ f x y
 
 -- a colour that is drawn over another
 abbrev pub drawn_over : Bool → ℕ → ℕ → ℕ
@@ -47,7 +47,8 @@ abbrev pub with_tile : DrawnTile → (ℕ → ℕ → ℕ) → ℕ → ℕ → �
 with_tile tile old x y =
     if covers tile.row tile.column x y
     then drawn_over tile.exclusive
-    (tile_colour (slice_index tile.colours 0) (slice_index tile.colours 1) tile.lines (x % 6) (y % 12))
+    (tile_colour (slice_index tile.colours 0) (slice_index tile.colours 1) tile.lines (x % tile_width)
+    (y % tile_height))
     (old x y)
     else old x y
 
@@ -66,7 +67,7 @@ scrolled scroll old x y = moved_in scroll.incoming scroll.across scroll.down old
 pub record IsInRange (border : ℕ) (colours levels : List ℕ) (h v : ℕ) : Type 0 where
   pub border_below : border < 16
   pub colours_count : length colours ≡ 16
-  pub colours_below : All (λ colour. colour < 4096) colours
+  pub colours_below : All (λ colour. colour < colour_values) colours
   pub levels_count : length levels ≡ 16
   pub levels_below : All (λ level. level < 64) levels
   pub h_most : h ≤ 5

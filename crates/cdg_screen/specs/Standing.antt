@@ -4,7 +4,7 @@ use Rattle.bit_lists.specs.Counting.{below}
 use Rattle.cdg_instructions.specs.Drawing.{tile_colour}
 use Rattle.cdg_instructions.specs.declared.instr.Instr.{Instr}
 use Rattle.cdg_instructions.specs.declared.instr.Instr.TheVariants.{MemoryPreset, BorderPreset, SetTile, XorTile, ScrollPreset, ScrollCopy, Transparency, ColoursLow, ColoursHigh}
-use Rattle.cdg_instructions.specs.Sizes.{screen_height, screen_width}
+use Rattle.cdg_instructions.specs.Sizes.{last_column, last_row, screen_height, screen_width, tile_height, tile_width, window_bottom, window_right}
 
 -- what stands at a moment: the memory as 216 rows of 300 pixels from the top left, the border, sixteen colours and levels,
 -- and the offsets of the screen
@@ -45,7 +45,8 @@ blank = record {
 
 -- whether the tile of a row and column is on the memory and holds the pixel
 abbrev pub covers : ℕ → ℕ → ℕ → ℕ → Bool
-covers row column x y = nat_le row 17 && nat_le column 49 && x / 6 == column && y / 12 == row
+covers row column x y =
+    nat_le row last_row && nat_le column last_column && x / tile_width == column && y / tile_height == row
 
 -- Where a pixel comes from in a scroll, plus the size in that direction, so that it is no negative number:
 -- a move of 1 goes right or down, one of 2 left or up, by one tile.
@@ -55,11 +56,11 @@ source size step direction x =
 
 -- where a pixel comes from across, plus the width of the memory
 abbrev pub source_x : ℕ → ℕ → ℕ
-source_x across x = source screen_width 6 across x
+source_x across x = source screen_width tile_width across x
 
 -- where a pixel comes from down, plus the height of the memory
 abbrev pub source_y : ℕ → ℕ → ℕ
-source_y down y = source screen_height 12 down y
+source_y down y = source screen_height tile_height down y
 
 -- whether it comes from the memory and not from outside
 abbrev pub is_inside : ℕ → ℕ → Bool
@@ -74,10 +75,12 @@ memory_from start [] x y = start x y
 memory_from start (MemoryPreset colour repeat ∷ before) x y = colour
 memory_from start (SetTile colour0 colour1 row column lines ∷ before) x y =
     let old = memory_from start before x y in
-    if covers row column x y then tile_colour colour0 colour1 lines (x % 6) (y % 12) else old
+    if covers row column x y
+    then tile_colour colour0 colour1 lines (x % tile_width) (y % tile_height) else old
 memory_from start (XorTile colour0 colour1 row column lines ∷ before) x y =
     let old = memory_from start before x y in
-    if covers row column x y then bit_xor (tile_colour colour0 colour1 lines (x % 6) (y % 12)) old else old
+    if covers row column x y
+    then bit_xor (tile_colour colour0 colour1 lines (x % tile_width) (y % tile_height)) old else old
 memory_from start (ScrollPreset colour across h down v ∷ before) x y =
     let old = memory_from start before (source_x across x - screen_width) (source_y down y - screen_height) in
     if is_inside screen_width (source_x across x) && is_inside screen_height (source_y down y)
@@ -135,5 +138,5 @@ IsWholeStanding now = standing_after now [] ≡ now
 -- pixel (x, y) of the screen: in the window the memory, moved by the offsets, and elsewhere the border
 abbrev pub screen_pixel : Standing → ℕ → ℕ → ℕ
 screen_pixel now x y =
-    if nat_le 6 x && nat_le x 293 && nat_le 12 y && nat_le y 203
+    if nat_le tile_width x && nat_le x window_right && nat_le tile_height y && nat_le y window_bottom
     then pixel_at now.memory (x + now.h) (y + now.v) else now.border

@@ -2,14 +2,15 @@
 use Rattle.std.specs.Prelude.{◌≡◌, ◌/◌, ◌<◌, ℕ, ◌&&◌, nat_le, if◌then◌else◌}
 use Rattle.cdg_instructions.specs.declared.instr.Instr.{Instr}
 use Rattle.cdg_instructions.specs.declared.instr.Instr.TheVariants.{MemoryPreset, BorderPreset, SetTile, XorTile, ScrollPreset, ScrollCopy, Transparency, ColoursLow, ColoursHigh}
-use Rattle.cdg_instructions.specs.Sizes.{screen_height, screen_width}
+use Rattle.cdg_instructions.specs.Sizes.{last_column, last_row, screen_height, screen_width, tile_height, tile_width}
 use Rattle.cdg_screen.specs.Standing.{Standing, pixel_at}
 use Rattle.cdg_screen.specs.declared.touching.Touched.{Touched}
 use Rattle.cdg_screen.specs.declared.touching.Touched.TheVariants.{Nothing, Tile, All, Border, Colours, Levels}
 
 -- a tile of the memory, or nothing where it is outside
 abbrev pub tile_touched : ℕ → ℕ → Touched
-tile_touched row column = if nat_le row 17 && nat_le column 49 then Tile row column else Nothing
+tile_touched row column =
+    if nat_le row last_row && nat_le column last_column then Tile row column else Nothing
 
 -- what an instruction touches: an instruction of a tile touches it whatever it draws
 abbrev pub touched_by : Instr → Touched
@@ -38,7 +39,8 @@ IsSamePlace old new = (new.h ≡ old.h) × (new.v ≡ old.v)
 abbrev pub KeepsTheRest : Touched → Standing → Standing → Type 0
 KeepsTheRest Nothing old new = new ≡ old
 KeepsTheRest (Tile row column) old new =
-    ((x y : ℕ) → x < screen_width → y < screen_height → ¬ ((x / 6 ≡ column) × (y / 12 ≡ row))
+    ((x y : ℕ) → x < screen_width → y < screen_height
+    → ¬ ((x / tile_width ≡ column) × (y / tile_height ≡ row))
     → pixel_at new.memory x y ≡ pixel_at old.memory x y)
     × IsSameBeside old new × IsSamePlace old new
 KeepsTheRest All old new = IsSameBeside old new

@@ -1,6 +1,6 @@
 // Whole rows of the screen.
 ghost use Rattle.std.specs.Prelude.{◌≡◌, ◌<◌, ◌≤◌, ◌+◌, ◌-◌, ◌&&◌, nat_le, nat_lt, if◌then◌else◌, ℕ, [], All, length, slice_index, slice_index_or};
-ghost use Rattle.cdg_instructions.specs.Sizes.{screen_height, screen_width};
+ghost use Rattle.cdg_instructions.specs.Sizes.{screen_height, screen_width, tile_width, window_width};
 ghost use Rattle.cdg_screen.specs.Memory.{at};
 ghost use Rattle.cdg_screen.specs.Standing.{screen_pixel};
 
@@ -55,7 +55,8 @@ impl Memory {
         requires height { y < screen_height }
         requires range { (x : ℕ) → slice_index row.old x < 16 }
         ensures pixels { (x : ℕ) → x < screen_width → slice_index row.new x
-            ≡ (if nat_le 6 x && nat_lt x 294 then at self.now (x + h) y else slice_index row.old x) }
+            ≡ (if nat_le tile_width x && nat_lt x (tile_width + window_width)
+            then at self.now (x + h) y else slice_index row.old x) }
         ensures range { (x : ℕ) → slice_index row.new x < 16 }
     {
         let from = &self.rows[(y + self.top) % SCREEN_HEIGHT];

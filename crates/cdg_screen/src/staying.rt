@@ -1,7 +1,7 @@
 // Whether a change of the memory would leave it as it is.
 ghost use Rattle.std.specs.Prelude.{◌≡◌, ◌<◌, ◌≤◌, ◌+◌, ◌-◌, ◌*◌, ◌%◌, ◌↔◌, ◌==◌, ◌&&◌, nat_le, nat_lt, if◌then◌else◌, ℕ, All, IsTrue, slice_index};
 ghost use Rattle.cdg_instructions.specs.Drawing.{tile_colour};
-ghost use Rattle.cdg_instructions.specs.Sizes.{screen_height, screen_width};
+ghost use Rattle.cdg_instructions.specs.Sizes.{screen_height, screen_width, tile_width};
 ghost use Rattle.cdg_screen.specs.Standing.{covers, is_inside, source, source_x, source_y};
 ghost use Rattle.cdg_instructions.specs.Effect.{IsScrollInRange};
 ghost use Rattle.cdg_screen.specs.Memory.{at, Becomes, drawn_over, line_colour, scrolled, with_tile};
@@ -44,11 +44,11 @@ impl Memory {
 
     // Whether a line of a tile that is drawn leaves its pixels as they are.
     fn keeps_line(&self, x: usize, y: usize, colours: [u8; 2], line: u8, exclusive: bool) -> bool
-        requires width { x + 6 ≤ screen_width }
+        requires width { x + tile_width ≤ screen_width }
         requires height { y < screen_height }
         requires range { All (λ colour. colour < 16) colours }
         ensures { IsTrue result ↔ Becomes self.now (λ x' y'.
-            if y' == y && nat_le x x' && nat_lt x' (x + 6)
+            if y' == y && nat_le x x' && nat_lt x' (x + tile_width)
             then drawn_over exclusive
             (line_colour (slice_index colours 0) (slice_index colours 1) line (x' - x)) (at self.now x' y')
             else at self.now x' y') }

@@ -37,14 +37,17 @@ mark_read c =
 -- ---- single bytes and pairs of them
 
 -- a part of single bytes that are below 256
-byte_is : (c : Checkpoint) (part : Part) (late : List Part) (k first count : ℕ) → (row part).size ≡ 1 → BeginsAt c (file_of c) (row part).first (part ∷ late) → first ≡ (row part).first → count ≡ (row part).count → k < count → written_value c part k < 256
+byte_is : (c : Checkpoint) (part : Part) (late : List Part) (k first count : ℕ) → (row part).size ≡ 1
+    → BeginsAt c (file_of c) (row part).first (part ∷ late) → first ≡ (row part).first → count ≡ (row part).count → k < count
+    → written_value c part k < 256
     → number_at (file_of c) 1 (first + 1 * k) ≡ written_value c part k
 byte_is c part late k first count one b f e lt small = omega (arith, byte_read c part late k first count one b f e lt, small)
 
 colour_read : (c : Checkpoint) (k : ℕ) → k < 16 → slice_index c.standing.colours k < 65536 → number (file_of c) Colours k ≡ slice_index c.standing.colours k
 colour_read c k lt small =
     let high : get_or (file_of c) (64995 + 2 * k) 0 ≡ slice_index c.standing.colours k / 256 % 256 = byte_in c Colours _ k 0 16 (64995 + 2 * k) (at_colours c) refl lt (omega arith) (omega arith) in
-    let low : get_or (file_of c) (64995 + 2 * k + 1) 0 ≡ slice_index c.standing.colours k / 1 % 256 = byte_in c Colours _ k 1 16 (64995 + 2 * k + 1) (at_colours c) refl lt (omega arith) (omega arith) in
+    let low : get_or (file_of c) (64995 + 2 * k + 1) 0 ≡ slice_index c.standing.colours k / 1 % 256 = byte_in c Colours _ k 1 16 (64995 + 2 * k + 1)
+    (at_colours c) refl lt (omega arith) (omega arith) in
     omega (arith, high, low, small)
 
 -- ---- the check
@@ -178,7 +181,9 @@ module _ (c : Checkpoint) (sound : IsSoundCheckpoint c) where
   slots_read =
       let is : part_bytes c Slots ≡ c.slots = slots_written c 168 refl sound.slots_size byte_small in
       let late : List ℕ = from_on c (Memory ∷ Border ∷ Across ∷ Down ∷ Colours ∷ Levels ∷ []) in
-      let at : drop 24 file ≡ part_bytes c Slots ++ late = (at_slots c).is ∙ append_assoc (part_bytes c Slots) (flat_map (part_bytes c) (Memory ∷ Border ∷ Across ∷ Down ∷ Colours ∷ Levels ∷ [])) (bytes_of 2 (check_of (body c))) in
+      let at : drop 24 file ≡ part_bytes c Slots ++ late = (at_slots c).is
+      ∙ append_assoc (part_bytes c Slots) (flat_map (part_bytes c) (Memory ∷ Border ∷ Across ∷ Down ∷ Colours ∷ Levels ∷ []))
+      (bytes_of 2 (check_of (body c))) in
       ap (take 168) at ∙ take_at (part_bytes c Slots) late 168 (ap length is ∙ sound.slots_size) ∙ is
 
   pixel_read : (x y : ℕ) → x < 300 → y < 216 → number file Memory (300 * y + x) ≡ pixel_at c.standing.memory x y

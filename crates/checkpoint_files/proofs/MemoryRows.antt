@@ -25,7 +25,9 @@ row_taken c row y (suc n) most is size small =
     let lt : n < 300 = omega (arith, most) in
     let more : suc n ≡ n + 1 = omega arith in
     ap (first_fields c Memory) next
-    ∙ fields_more c Memory (300 * y + n) (get_or row n 0 ∷ []) (written_byte _ _ (pixel_of_row c.standing.memory row y n lt is) (omega (arith, All-get_or (λ pixel. pixel < 16) row n 0 (omega (arith, lt, size)) small)))
+    ∙ fields_more c Memory (300 * y + n) (get_or row n 0 ∷ [])
+    (written_byte _ _ (pixel_of_row c.standing.memory row y n lt is)
+    (omega (arith, All-get_or (λ pixel. pixel < 16) row n 0 (omega (arith, lt, size)) small)))
     ∙ ap (λ l. l ++ get_or row n 0 ∷ []) (row_taken c row y n (omega (arith, most)) is size small)
     ∙ append_assoc (first_fields c Memory (300 * y)) (take n row) (get_or row n 0 ∷ [])
     ∙ ap (λ l. first_fields c Memory (300 * y) ++ l) (sym (take_more row n 0 (omega (arith, lt, size))) ∙ ap (λ k. take k row) (sym more))

@@ -26,7 +26,8 @@ field_at size f zero a k i lt within = absurd (omega (arith, lt))
 field_at size f (suc n) a zero i lt within =
     let place : size * 0 + i ≡ i = omega arith in
     let here : a ≡ a + 0 = omega arith in
-    ap (λ p. get_or (fields size f a (suc n)) p 0) place ∙ get_or_append_left (bytes_of size (f a)) (fields size f (a + 1) n) 0 i (omega (arith, within, length-bytes_of size (f a))) ∙ ap (λ j. get_or (bytes_of size (f j)) i 0) here
+    ap (λ p. get_or (fields size f a (suc n)) p 0) place ∙ get_or_append_left (bytes_of size (f a)) (fields size f (a + 1) n) 0 i
+    (omega (arith, within, length-bytes_of size (f a))) ∙ ap (λ j. get_or (bytes_of size (f j)) i 0) here
 field_at size f (suc n) a (suc k) i lt within =
     let place : size * suc k + i - size ≡ size * k + i = grind arith in
     let past : size ≤ size * suc k + i = grind arith in
@@ -38,7 +39,8 @@ field_at size f (suc n) a (suc k) i lt within =
 pub step : (file part rest : List ℕ) (a n b : ℕ) → drop a file ≡ part ++ rest → length part ≡ n → a + n ≡ b → drop b file ≡ rest
 step file part rest a n b at size e = ap (λ k. drop k file) (sym e) ∙ sym (drop-drop n a file) ∙ ap (drop n) at ∙ drop_at part rest n size
 
-pub part_byte : (c : Checkpoint) (part : Part) (file rest : List ℕ) (k i count : ℕ) → count ≡ (row part).count → drop (row part).first file ≡ part_bytes c part ++ rest → k < count → i < (row part).size
+pub part_byte : (c : Checkpoint) (part : Part) (file rest : List ℕ) (k i count : ℕ) → count ≡ (row part).count
+    → drop (row part).first file ≡ part_bytes c part ++ rest → k < count → i < (row part).size
     → get_or file ((row part).first + ((row part).size * k + i)) 0 ≡ get_or (bytes_of (row part).size (written_value c part k)) i 0
 unfolding part_bytes fields
 part_byte c part file rest k i count e at lt within =
@@ -63,12 +65,15 @@ from_on c rest = flat_map (part_bytes c) rest ++ bytes_of 2 (check_of (body c))
 pub record BeginsAt (c : Checkpoint) (file : List ℕ) (first : ℕ) (late : List Part) : Type 0 where
   pub is : drop first file ≡ from_on c late
 
-pub next_part : (c : Checkpoint) (file : List ℕ) (first n after : ℕ) (part : Part) (late : List Part) → BeginsAt c file first (part ∷ late) → n ≡ (row part).size * (row part).count → first + n ≡ after → BeginsAt c file after late
+pub next_part : (c : Checkpoint) (file : List ℕ) (first n after : ℕ) (part : Part) (late : List Part) → BeginsAt c file first (part ∷ late)
+    → n ≡ (row part).size * (row part).count → first + n ≡ after → BeginsAt c file after late
 next_part c file first n after part late at size e = record {
-  is = step file (part_bytes c part) (from_on c late) first n after (at.is ∙ append_assoc (part_bytes c part) (flat_map (part_bytes c) late) (bytes_of 2 (check_of (body c)))) (part_length c part n size) e;
+  is = step file (part_bytes c part) (from_on c late) first n after
+      (at.is ∙ append_assoc (part_bytes c part) (flat_map (part_bytes c) late) (bytes_of 2 (check_of (body c)))) (part_length c part n size) e;
 }
 
-pub length-parts : (c : Checkpoint) (parts : List Part) (n : ℕ) → length (flat_map (part_bytes c) parts) ≡ n → (part : Part) (m : ℕ) → m ≡ (row part).size * (row part).count → length (flat_map (part_bytes c) (part ∷ parts)) ≡ m + n
+pub length-parts : (c : Checkpoint) (parts : List Part) (n : ℕ) → length (flat_map (part_bytes c) parts) ≡ n → (part : Part) (m : ℕ)
+    → m ≡ (row part).size * (row part).count → length (flat_map (part_bytes c) (part ∷ parts)) ≡ m + n
 length-parts c parts n size part m e = length-append (part_bytes c part) (flat_map (part_bytes c) parts) ∙ ap₂ (λ a b. a + b) (part_length c part m e) size
 
 pub length-file : (c : Checkpoint) → length (file_of c) ≡ 65045
@@ -127,14 +132,16 @@ at_colours c = next_part c (file_of c) 64994 1 64995 Down _ (at_down c) refl ref
 pub at_levels : (c : Checkpoint) → BeginsAt c (file_of c) 65027 (Levels ∷ [])
 at_levels c = next_part c (file_of c) 64995 32 65027 Colours _ (at_colours c) refl refl
 
-pub byte_in : (c : Checkpoint) (part : Part) (late : List Part) (k i count at : ℕ) → BeginsAt c (file_of c) (row part).first (part ∷ late) → count ≡ (row part).count → k < count → i < (row part).size → (row part).first + ((row part).size * k + i) ≡ at
+pub byte_in : (c : Checkpoint) (part : Part) (late : List Part) (k i count at : ℕ) → BeginsAt c (file_of c) (row part).first (part ∷ late)
+    → count ≡ (row part).count → k < count → i < (row part).size → (row part).first + ((row part).size * k + i) ≡ at
     → get_or (file_of c) at 0 ≡ get_or (bytes_of (row part).size (written_value c part k)) i 0
 byte_in c part late k i count at b e lt within place =
     ap (λ p. get_or (file_of c) p 0) (sym place)
     ∙ part_byte c part (file_of c) (from_on c late) k i count e (b.is ∙ append_assoc (part_bytes c part) (flat_map (part_bytes c) late) (bytes_of 2 (check_of (body c)))) lt within
 
 -- a part of single bytes
-pub byte_read : (c : Checkpoint) (part : Part) (late : List Part) (k first count : ℕ) → (row part).size ≡ 1 → BeginsAt c (file_of c) (row part).first (part ∷ late) → first ≡ (row part).first → count ≡ (row part).count → k < count
+pub byte_read : (c : Checkpoint) (part : Part) (late : List Part) (k first count : ℕ) → (row part).size ≡ 1
+    → BeginsAt c (file_of c) (row part).first (part ∷ late) → first ≡ (row part).first → count ≡ (row part).count → k < count
     → number_at (file_of c) 1 (first + 1 * k) ≡ written_value c part k % 256
 byte_read c part late k first count one b f e lt =
     let there = byte_in c part late k 0 count (first + 1 * k) b e lt (omega (arith, one)) (ap₂ (λ x s. x + (s * k + 0)) (sym f) one ∙ omega arith) in
@@ -142,11 +149,13 @@ byte_read c part late k first count one b f e lt =
     omega (arith, there, byte)
 
 -- a number of four bytes
-pub four_read : (c : Checkpoint) (part : Part) (late : List Part) (first : ℕ) → (row part).size ≡ 4 → (row part).count ≡ 1 → BeginsAt c (file_of c) (row part).first (part ∷ late) → first ≡ (row part).first → written_value c part 0 < 2 ^ 32
+pub four_read : (c : Checkpoint) (part : Part) (late : List Part) (first : ℕ) → (row part).size ≡ 4 → (row part).count ≡ 1
+    → BeginsAt c (file_of c) (row part).first (part ∷ late) → first ≡ (row part).first → written_value c part 0 < 2 ^ 32
     → number_at (file_of c) 4 first ≡ written_value c part 0
 four_read c part late first four one b f lt =
     let spot : (i at : ℕ) → i < 4 → first + i ≡ at → get_or (file_of c) at 0 ≡ get_or (bytes_of 4 (written_value c part 0)) i 0 =
-    λ i at within place. byte_in c part late 0 i 1 at b (sym one) (omega arith) (omega (arith, four, within)) (ap₂ (λ x s. x + (s * 0 + i)) (sym f) four ∙ omega (arith, place)) ∙ ap (λ s. get_or (bytes_of s (written_value c part 0)) i 0) four in
+    λ i at within place. byte_in c part late 0 i 1 at b (sym one) (omega arith) (omega (arith, four, within))
+    (ap₂ (λ x s. x + (s * 0 + i)) (sym f) four ∙ omega (arith, place)) ∙ ap (λ s. get_or (bytes_of s (written_value c part 0)) i 0) four in
     let a0 = spot 0 first (omega arith) (omega arith) in
     let a1 = spot 1 (first + 1) (omega arith) refl in
     let a2 = spot 2 (first + 1 + 1) (omega arith) (omega arith) in

@@ -27,7 +27,8 @@ module _ (file : List ℕ) (empty : ℕ) (e : empty ≡ empty_symbols (number fi
     | inr before ↦ empty_slot k (omega (arith, before.1))
   ]
 
-  pub slots_checked : (r : Result (Unit {0}) ℕ) → MatchResult r (λ _. (k : ℕ) → k < 168 - empty → get_or file (24 + empty + k) 0 < 64) (IsFirstAbove file (24 + empty) (168 - empty) 64) → MatchResult r (λ _. IsPartInRange file Slots) (IsOutOfPart file Slots)
+  pub slots_checked : (r : Result (Unit {0}) ℕ) → MatchResult r (λ _. (k : ℕ) → k < 168 - empty → get_or file (24 + empty + k) 0 < 64)
+      (IsFirstAbove file (24 + empty) (168 - empty) 64) → MatchResult r (λ _. IsPartInRange file Slots) (IsOutOfPart file Slots)
   slots_checked (Ok done) all = λ k lt. any_slot k (λ j e'. all j (omega (arith, e', lt, most)))
   slots_checked (Err byte) out = record {
     k = empty + out.k;
@@ -45,11 +46,13 @@ all_checked file (Ok done) (a, (b, (d, (e, (f, (g, (h, (i, (j, (k, (l, (m, n))))
 all_checked file (Err byte) before out = record { early = body_parts; part = Check; late = []; order = refl; earlier = before; here = out }
 
 -- a file of its full length
-pub file_checked : (file : List ℕ) (r : Result (Unit {0}) ℕ) → length file ≡ 65045 → MatchResult r (λ _. AllByRecursion (IsPartInRange file) all_parts) (IsFirstOut file) → MatchResult r (λ _. IsCheckpointFile file) (IsBadAt file)
+pub file_checked : (file : List ℕ) (r : Result (Unit {0}) ℕ) → length file ≡ 65045
+    → MatchResult r (λ _. AllByRecursion (IsPartInRange file) all_parts) (IsFirstOut file) → MatchResult r (λ _. IsCheckpointFile file) (IsBadAt file)
 file_checked file (Ok done) size all = record { size = size; ranges = all }
 file_checked file (Err byte) size out = record { short = λ lt. absurd (omega (arith, size, lt)); long = λ lt. absurd (omega (arith, size, lt)); field = λ e. out }
 
 -- a part is out of its range: that is the answer
-pub exits : (file : List ℕ) (r : Result (Unit {0}) ℕ) (byte : ℕ) → IsErrAnd r (λ e. e ≡ byte) → IsFirstOut file byte → MatchResult r (λ _. AllByRecursion (IsPartInRange file) all_parts) (IsFirstOut file)
+pub exits : (file : List ℕ) (r : Result (Unit {0}) ℕ) (byte : ℕ) → IsErrAnd r (λ e. e ≡ byte) → IsFirstOut file byte
+    → MatchResult r (λ _. AllByRecursion (IsPartInRange file) all_parts) (IsFirstOut file)
 exits file (Ok done) byte h out = absurd h
 exits file (Err e) byte h out = subst (IsFirstOut file) (sym h) out

@@ -45,7 +45,8 @@ one_field c part bytes one e =
     sym (all_fields c part 1 (sym one)) ∙ fields_more c part 0 bytes e ∙ ap (λ l. l ++ bytes) (no_fields c part)
 
 -- bytes after those of a file, as a part of it
-pub then_part : (file new old bytes : List ℕ) (c : Checkpoint) (part : Part) → new ≡ old ++ bytes → old ≡ file → (row part).count ≡ 1 → bytes_of (row part).size (written_value c part 0) ≡ bytes → new ≡ file ++ part_bytes c part
+pub then_part : (file new old bytes : List ℕ) (c : Checkpoint) (part : Part) → new ≡ old ++ bytes → old ≡ file → (row part).count ≡ 1
+    → bytes_of (row part).size (written_value c part 0) ≡ bytes → new ≡ file ++ part_bytes c part
 then_part file new old bytes c part put before one e = put ∙ ap₂ (λ (a b : List ℕ). a ++ b) before (sym (one_field c part bytes one e))
 
 -- a number below 256 as one byte
@@ -57,7 +58,8 @@ pub two_bytes : (n m : ℕ) → n ≡ m → bytes_of 2 n ≡ to_be_bytes w16 m
 two_bytes n m e = ap (bytes_of 2) e ∙ ap (λ b. (m / 256 % 256) ∷ b ∷ []) (omega arith)
 
 -- one field more was put
-pub field_put : (file new old bytes : List ℕ) (c : Checkpoint) (part : Part) (n : ℕ) → new ≡ old ++ bytes → old ≡ file ++ first_fields c part n → bytes_of (row part).size (written_value c part n) ≡ bytes → new ≡ file ++ first_fields c part (n + 1)
+pub field_put : (file new old bytes : List ℕ) (c : Checkpoint) (part : Part) (n : ℕ) → new ≡ old ++ bytes → old ≡ file ++ first_fields c part n
+    → bytes_of (row part).size (written_value c part n) ≡ bytes → new ≡ file ++ first_fields c part (n + 1)
 field_put file new old bytes c part n put before e =
     put ∙ ap (λ o. o ++ bytes) before ∙ append_assoc file (first_fields c part n) bytes ∙ ap (λ l. file ++ l) (sym (fields_more c part n bytes e))
 
@@ -73,7 +75,8 @@ slots_taken : (c : Checkpoint) (n : ℕ) → n ≤ length c.slots → ((i : ℕ)
 slots_taken c zero le small = no_fields c Slots
 slots_taken c (suc n) le small =
     let next : suc n ≡ n + 1 = omega arith in
-    ap (first_fields c Slots) next ∙ fields_more c Slots n (get_or c.slots n 0 ∷ []) (one_byte (get_or c.slots n 0) (small n)) ∙ ap (λ l. l ++ get_or c.slots n 0 ∷ []) (slots_taken c n (omega (arith, le)) small)
+    ap (first_fields c Slots) next ∙ fields_more c Slots n (get_or c.slots n 0 ∷ []) (one_byte (get_or c.slots n 0) (small n))
+    ∙ ap (λ l. l ++ get_or c.slots n 0 ∷ []) (slots_taken c n (omega (arith, le)) small)
     ∙ sym (take_more c.slots n 0 (omega (arith, le))) ∙ ap (λ k. take k c.slots) (sym next)
 
 pub slots_written : (c : Checkpoint) (n : ℕ) → n ≡ 168 → length c.slots ≡ n → ((i : ℕ) → get_or c.slots i 0 < 256) → part_bytes c Slots ≡ c.slots

@@ -3,7 +3,7 @@ use Rattle.std.specs.Prelude.{◌≡◌, ℕ, ◌+◌, ◌<◌, ◌≤◌, lengt
 use Rattle.disc_time.specs.Counts.{most_lead_in}
 use Rattle.raw_subcode.specs.Sizes.{most_units}
 use Rattle.rw_interleave.specs.Interleave.{whole_packs}
-use Rattle.cdg_instructions.specs.Sizes.{screen_height, screen_width}
+use Rattle.cdg_instructions.specs.Sizes.{colour_values, screen_height, screen_width}
 use Rattle.cdg_screen.specs.Standing.{IsWholeStanding, Standing, pixel_at}
 use Rattle.checkpoint_files.specs.Table.{empty_symbols, slots_bytes}
 use Rattle.checkpoint_files.specs.Checkpoint.{Checkpoint}
@@ -13,7 +13,7 @@ pub record IsSoundStanding (now : Standing) : Type 0 where
   pub whole : IsWholeStanding now
   pub memory : (x y : ℕ) → x < screen_width → y < screen_height → pixel_at now.memory x y < 16
   pub border : now.border < 16
-  pub colour : (k : ℕ) → k < 16 → slice_index now.colours k < 4096
+  pub colour : (k : ℕ) → k < 16 → slice_index now.colours k < colour_values
   pub level : (k : ℕ) → k < 16 → slice_index now.levels k < 64
   pub h : now.h ≤ 5
   pub v : now.v ≤ 11

@@ -5,7 +5,7 @@ use Rattle.bit_lists.specs.Check.{check_of}
 use Rattle.disc_time.specs.Counts.{most_lead_in}
 use Rattle.raw_subcode.specs.Sizes.{most_units, slots_a_block, symbols_a_slot}
 use Rattle.rw_interleave.specs.Interleave.{packs_kept_back, whole_packs}
-use Rattle.cdg_instructions.specs.Sizes.{screen_pixels}
+use Rattle.cdg_instructions.specs.Sizes.{colour_values, screen_pixels}
 
 -- the parts of the file, each of fields of the same size
 pub data Part : Type 0 where
@@ -36,13 +36,13 @@ abbrev pub file_size : ℕ
 file_size = 65045
 
 -- where a part begins, how many fields it has, and how many bytes each of them has
-pub record Row : Type 0 where
+pub record TableRow : Type 0 where
   pub first : ℕ
   pub count : ℕ
   pub size : ℕ
 
 -- the row of a part in the table of the file
-abbrev pub row : Part → Row
+abbrev pub row : Part → TableRow
 row Mark = record { first = 0; count = 1; size = 8 }
 row ToCome = record { first = 8; count = 1; size = 4 }
 row LeadIn = record { first = 12; count = 1; size = 4 }
@@ -101,7 +101,7 @@ IsFieldInRange file Memory k = number file Memory k < 16
 IsFieldInRange file Border k = number file Border k < 16
 IsFieldInRange file Across k = number file Across k ≤ 5
 IsFieldInRange file Down k = number file Down k ≤ 11
-IsFieldInRange file Colours k = number file Colours k < 4096
+IsFieldInRange file Colours k = number file Colours k < colour_values
 IsFieldInRange file Levels k = number file Levels k < 64
 IsFieldInRange file Check k = number file Check 0 ≡ check_of (take body_size file)
 

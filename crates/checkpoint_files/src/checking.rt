@@ -10,7 +10,7 @@ use crate::fields::{
     ACROSS, BAD, BORDER, CHECK, COLOURS, DOWN, LEAD_IN, LEVELS, MEMORY, PROGRAM, SLOTS, TO_COME,
 };
 use crate::file::{CheckpointFile, FILE_BYTES, SLOTS_BYTES};
-use cdg_instructions::SCREEN_PIXELS;
+use cdg_instructions::{SCREEN_PIXELS, TILE_HEIGHT, TILE_WIDTH};
 use disc_time::MOST_LEAD_IN;
 use raw_subcode::{MOST_UNITS, SLOTS_A_BLOCK, SYMBOLS_A_SLOT};
 use rw_interleave::PACKS_KEPT_BACK;
@@ -146,14 +146,14 @@ impl CheckpointFile {
         requires { length self.now ≡ file_size }
         ensures { MatchResult result (λ _. IsPartInRange self.now Across) (IsOutOfPart self.now Across) }
     {
-        self.check_bytes(ACROSS, 1, 6)
+        self.check_bytes(ACROSS, 1, TILE_WIDTH as u8)
     }
 
     fn check_down(&self) -> Result<(), u32>
         requires { length self.now ≡ file_size }
         ensures { MatchResult result (λ _. IsPartInRange self.now Down) (IsOutOfPart self.now Down) }
     {
-        self.check_bytes(DOWN, 1, 12)
+        self.check_bytes(DOWN, 1, TILE_HEIGHT as u8)
     }
 
     fn check_colours(&self) -> Result<(), u32>

@@ -1,7 +1,7 @@
 // The file of a checkpoint, written.
 ghost use Rattle.std.specs.Prelude.{◌≡◌, ◌≤◌, ◌+◌, ◌++◌, [], ◌∷◌, List, ℕ, length};
 ghost use Rattle.cdg_screen.specs.Standing.{Standing};
-ghost use Rattle.checkpoint_files.specs.Table.{Mark, ToCome, LeadIn, Program, Bad, Memory, Border, Across, Down, Colours, Levels, body_size};
+ghost use Rattle.checkpoint_files.specs.Table.{Mark, ToCome, LeadIn, Program, Bad, Slots, Memory, Border, Across, Down, Colours, Levels, body_size, row};
 ghost use Rattle.checkpoint_files.specs.Checkpoint.{bytes_of, file_of, kept, part_bytes, with_parts};
 
 use crate::StreamCounts;
@@ -39,7 +39,7 @@ impl CheckpointFile {
         ensures parts { (slots : List ℕ) (now : Standing)
             → self.new ≡ with_parts self.old (kept counts.now slots now)
             (Mark ∷ ToCome ∷ LeadIn ∷ Program ∷ Bad ∷ []) }
-        ensures size { length self.new ≡ 24 }
+        ensures size { length self.new ≡ (row Slots).first }
     {
         self.put(MARK);
         self.put_number(counts.to_come);
@@ -59,10 +59,10 @@ impl CheckpointFile {
 
     // Appends the memory of the screen, row by row.
     fn put_memory(&mut self, screen: &Screen)
-        requires { length self.old ≡ 192 }
+        requires { length self.old ≡ (row Memory).first }
         ensures part { (counts : StreamCounts) (slots : List ℕ)
             → self.new ≡ self.old ++ part_bytes (kept counts slots screen.now) Memory }
-        ensures size { length self.new ≡ 64992 }
+        ensures size { length self.new ≡ (row Border).first }
     {
         for y in 0..SCREEN_HEIGHT {
             self.put(&screen.memory_row(y));
@@ -71,11 +71,11 @@ impl CheckpointFile {
 
     // Appends the border and both offsets.
     fn put_places(&mut self, screen: &Screen)
-        requires { length self.old ≡ 64992 }
+        requires { length self.old ≡ (row Border).first }
         ensures parts { (counts : StreamCounts) (slots : List ℕ)
             → self.new ≡ with_parts self.old (kept counts slots screen.now)
             (Border ∷ Across ∷ Down ∷ []) }
-        ensures size { length self.new ≡ 64995 }
+        ensures size { length self.new ≡ (row Colours).first }
     {
         self.put(&[screen.border()]);
         self.put(&[screen.offset_h()]);
@@ -84,10 +84,10 @@ impl CheckpointFile {
 
     // Appends the sixteen colours.
     fn put_colours(&mut self, screen: &Screen)
-        requires { length self.old ≡ 64995 }
+        requires { length self.old ≡ (row Colours).first }
         ensures part { (counts : StreamCounts) (slots : List ℕ)
             → self.new ≡ self.old ++ part_bytes (kept counts slots screen.now) Colours }
-        ensures size { length self.new ≡ 65027 }
+        ensures size { length self.new ≡ (row Levels).first }
     {
         for k in 0..COLOUR_COUNT {
             self.put(&screen.colour(k).to_be_bytes());
@@ -96,7 +96,7 @@ impl CheckpointFile {
 
     // Appends the sixteen levels.
     fn put_levels(&mut self, screen: &Screen)
-        requires { length self.old ≡ 65027 }
+        requires { length self.old ≡ (row Levels).first }
         ensures part { (counts : StreamCounts) (slots : List ℕ)
             → self.new ≡ self.old ++ part_bytes (kept counts slots screen.now) Levels }
         ensures size { length self.new ≡ body_size }

@@ -1,6 +1,6 @@
 // What stood, brought back.
 ghost use Rattle.std.specs.Prelude.{◌≡◌, ◌*◌, ◌<◌, All, length, drop, take};
-ghost use Rattle.cdg_instructions.specs.Sizes.{screen_pixels};
+ghost use Rattle.cdg_instructions.specs.Sizes.{colour_values, screen_pixels};
 ghost use Rattle.cdg_screen.specs.Standing.{rows_in};
 ghost use Rattle.raw_subcode.specs.Sizes.{symbols_a_slot};
 ghost use Rattle.rw_interleave.specs.Interleave.{packs_kept_back};
@@ -53,7 +53,7 @@ impl CheckpointFile {
     fn colours(&self) -> [u16; 16]
         requires { IsCheckpointFile self.now }
         ensures colours { result ≡ (standing_in self.now).colours }
-        ensures range { All (λ colour. colour < 4096) result }
+        ensures range { All (λ colour. colour < colour_values) result }
     {
         let mut colours = [0; 16];
         for k in 0..16 {

@@ -174,6 +174,7 @@ fn code(argument: &[u8]) -> Option<[u8; 12]>
     Some(code)
 }
 
+// Whether it is two letters, three letters or digits, and seven digits, the letters all capital.
 fn is_code(code: &[u8; 12]) -> bool
     ensures { result ≡ is_capital_code code.now }
 {

@@ -99,6 +99,7 @@ impl SheetDraft {
         }
     }
 
+    // Why a track may not begin here.
     #[tactic(auto, unfolding(crate::specs::Steps::later_sheet_reason))]
     fn track_reason(&self, number: u8, audio: bool) -> Option<CueWhy>
         ensures { result ≡ later_sheet_reason self.now (SaysTrack number audio) }
@@ -115,6 +116,7 @@ impl SheetDraft {
         }
     }
 
+    // Why an index may not stand here.
     #[tactic(auto, unfolding(crate::specs::Steps::later_sheet_reason))]
     fn index_reason(&self, number: u8, time: u32) -> Option<CueWhy>
         ensures { result ≡ later_sheet_reason self.now (SaysIndex number time) }
@@ -235,6 +237,7 @@ impl SheetDraft {
         Ok(Sheet::new(self.album, with_last(tracks, number, section)?))
     }
 
+    // Ends the section before, of the album or of a track, and begins that of a track.
     fn begin_track(&mut self, alloc: Global, number: u8) -> Result<(), AllocError>
         ensures { IfOk result (λ _. self.new ≡ after self.old (SaysTrack number true)) }
     {
@@ -251,6 +254,7 @@ impl SheetDraft {
     }
 }
 
+// The tracks with the last one, whose section has not ended, if there is one.
 fn with_last(
     mut tracks: Vec<Track>,
     number: Option<u8>,

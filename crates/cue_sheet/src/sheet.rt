@@ -44,6 +44,7 @@ impl Sheet {
         Ok(draft.finish()?)
     }
 
+    /// The sheet of what holds of the whole disc and of its tracks.
     pub(crate) fn new(album: Section, tracks: Vec<Track>) -> Sheet
         requires { IsSheet (sheet_value album tracks.items) }
         ensures { result ≡ sheet_value album tracks.items }

@@ -55,7 +55,8 @@ module _ (script : List Drawing) (all : List ℕ) (before rows : List PlannedRow
         subst (λ n. IsToldRow script (get_or all n 0) n (get_or written n no_disc_row)) here told
   ]
 
-  late_counted : (late late' : ℕ) (b : Bool) → plan.late ≡ b → late ≡ count_by is_late (take k rows) → late' ≡ late + (if b then 1 else 0) → k < length rows → late' ≡ count_by is_late (take (k + 1) written)
+  late_counted : (late late' : ℕ) (b : Bool) → plan.late ≡ b → late ≡ count_by is_late (take k rows) → late' ≡ late + (if b then 1 else 0)
+      → k < length rows → late' ≡ count_by is_late (take (k + 1) written)
   late_counted late late' true is so_far more inside =
       let at : is_late (get_or written k no_disc_row) ≡ true = ap is_late (get_or-set_same rows k (told_row line plan) no_disc_row inside) ∙ late_told line plan true is in
       let one = count_by_more_yes is_late written k no_disc_row (omega (arith, inside, length-set rows k (told_row line plan))) at in
@@ -69,7 +70,8 @@ module _ (script : List Drawing) (all : List ℕ) (before rows : List PlannedRow
   if_most true = omega arith
   if_most false = omega arith
 
-  pub one_written : (late late' : ℕ) (b : Bool) → IsWriting script all before k (line ∷ lines) rows late → k < pictures script → pictures script ≤ length before → length all ≡ pictures script → IsPlanRow script k plan
+  pub one_written : (late late' : ℕ) (b : Bool) → IsWriting script all before k (line ∷ lines) rows late → k < pictures script
+      → pictures script ≤ length before → length all ≡ pictures script → IsPlanRow script k plan
       → plan.late ≡ b → late' ≡ late + (if b then 1 else 0) → IsWriting script all before (k + 1) lines written late'
   one_written late late' b h lt room count is late_is more =
       let inside : k < length rows = omega (arith, lt, room, h.size) in

@@ -9,10 +9,10 @@ use Rattle.subcode_author.specs.declared.stops.AuthorStop.TheVariants.{LengthSho
 use Rattle.disc_plan.specs.declared.disc.PlannedDisc.{PlannedDisc}
 use Rattle.disc_plan.specs.declared.stops.PlanStop.{PlanStop}
 use Rattle.disc_plan.specs.declared.stops.PlanStop.TheVariants.{SheetTooLong, Sheet, ScriptTooLong, Script, Disc, NoRoom, NoMemory}
-use Rattle.disc_plan.specs.declared.told.Planned.{Planned}
+use Rattle.disc_plan.specs.declared.told.ToldPlan.{ToldPlan}
 
 -- of a disc that has a plan
-abbrev pub told_plan : PlannedDisc → Planned
+abbrev pub told_plan : PlannedDisc → ToldPlan
 told_plan disc = record {
   pictures = disc.pictures;
   blocks = disc.blocks;
@@ -23,7 +23,7 @@ told_plan disc = record {
 }
 
 -- of a disc that has none: the reason, its line and its number
-abbrev pub refusal : ℕ → ℕ → ℕ → Planned
+abbrev pub refusal : ℕ → ℕ → ℕ → ToldPlan
 refusal why line number =
     record { pictures = 0; blocks = 0; late = 0; why = why; line = line; number = number }
 
@@ -51,7 +51,7 @@ script_number TimeOrder = 4
 script_number TooMany = 5
 
 -- of a sheet and a script that have no place on their disc
-abbrev pub disc_refusal : AuthorStop → Planned
+abbrev pub disc_refusal : AuthorStop → ToldPlan
 disc_refusal (LengthShort need) = refusal 4 0 need
 disc_refusal (DiscTooLong blocks) = refusal 5 0 blocks
 disc_refusal (PastEnd blocks) = refusal 6 0 blocks
@@ -60,7 +60,7 @@ disc_refusal (LeadInShort need) = refusal 8 0 need
 disc_refusal _ = refusal 0 0 0
 
 -- where there is no plan
-abbrev pub told_stop : PlanStop → Planned
+abbrev pub told_stop : PlanStop → ToldPlan
 told_stop SheetTooLong = refusal 1 0 0
 told_stop (Sheet line why) = refusal 2 line (cue_number why)
 told_stop ScriptTooLong = refusal 1 0 0

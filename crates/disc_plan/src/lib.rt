@@ -12,4 +12,4 @@ pub use disc::PlannedDisc;
 pub use plan::plan_disc;
 pub use rows::PlannedRow;
 pub use stops::PlanStop;
-pub use told::{Planned, told_plan, told_stop};
+pub use told::{ToldPlan, told_plan, told_stop};

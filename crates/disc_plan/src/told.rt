@@ -11,7 +11,7 @@ use subcode_author::AuthorStop;
 /// What is told of a plan.
 #[repr(C)]
 #[derive(Clone, Copy, PartialEq, Eq, Debug)]
-pub struct Planned {
+pub struct ToldPlan {
     /// How many pictures the script shows, where there is a plan or no room for it.
     pub pictures: u32,
     /// How many blocks the program has, where there is a plan or no room for it.
@@ -29,10 +29,10 @@ pub struct Planned {
 }
 
 /// What is told of a disc that has a plan.
-pub fn told_plan(disc: &PlannedDisc) -> Planned
+pub fn told_plan(disc: &PlannedDisc) -> ToldPlan
     ensures { result ≡ told_plan disc.now }
 {
-    Planned {
+    ToldPlan {
         pictures: disc.pictures,
         blocks: disc.blocks,
         late: disc.late,
@@ -43,7 +43,7 @@ pub fn told_plan(disc: &PlannedDisc) -> Planned
 }
 
 /// What is told where there is no plan.
-pub fn told_stop(stop: &PlanStop) -> Planned
+pub fn told_stop(stop: &PlanStop) -> ToldPlan
     ensures { result ≡ told_stop stop.now }
 {
     match *stop {
@@ -60,10 +60,11 @@ pub fn told_stop(stop: &PlanStop) -> Planned
     }
 }
 
-fn refusal(why: u32, line: u32, number: u32) -> Planned
+// What is told of a plan that is refused: why, at which line, and a number with it.
+fn refusal(why: u32, line: u32, number: u32) -> ToldPlan
     ensures { result ≡ refusal why line number }
 {
-    Planned {
+    ToldPlan {
         pictures: 0,
         blocks: 0,
         late: 0,
@@ -74,7 +75,7 @@ fn refusal(why: u32, line: u32, number: u32) -> Planned
 }
 
 // The reasons of a disc have no line.
-fn disc_refusal(stop: AuthorStop) -> Planned
+fn disc_refusal(stop: AuthorStop) -> ToldPlan
     ensures { result ≡ disc_refusal stop }
 {
     match stop {
@@ -87,6 +88,7 @@ fn disc_refusal(stop: AuthorStop) -> Planned
     }
 }
 
+// The number of a reason why a line of a sheet is refused.
 fn cue_number(why: CueWhy) -> u32
     ensures { result ≡ cue_number why }
 {
@@ -106,6 +108,7 @@ fn cue_number(why: CueWhy) -> u32
     }
 }
 
+// The number of a reason why a line of a script is refused.
 fn script_number(why: ScriptWhy) -> u32
     ensures { result ≡ script_number why }
 {

@@ -137,7 +137,8 @@ drawn_more form lead_in given pack old new same draws begun counted bad played =
   bad = bad ∙ played.bad;
 }
 
-pub begun : (form : Form) (lead_in : ℕ) (player : LivePlayer) → player.words ≡ fresh_words form lead_in → standing_on player ≡ blank → player.lead_in ≡ lead_in → player.blocks ≡ 0 → player.bad ≡ 0 → HasPlayed form lead_in [] player
+pub begun : (form : Form) (lead_in : ℕ) (player : LivePlayer) → player.words ≡ fresh_words form lead_in → standing_on player ≡ blank
+    → player.lead_in ≡ lead_in → player.blocks ≡ 0 → player.bad ≡ 0 → HasPlayed form lead_in [] player
 begun form lead_in player words zero lead_in_is none none_bad =
     let nothing : bad_words_in form lead_in [] ≡ 0 = ap (λ ws. bad_count (map finding ws)) (no_words_yet form lead_in) in
     record {
@@ -158,7 +159,8 @@ sized_before (y ∷ ys) x sized = let rest = sized_before ys x sized.1 in ((size
 not_none : {A : Type 0} (xs : List A) (x : A) → xs ++ x ∷ [] ≡ [] → ⊥
 not_none {A} xs x none = omega (arith, length-append xs (x ∷ []), ap (λ (l : List A). length l) none)
 
-all_drawn : (form : Form) (lead_in : ℕ) (given : List Given) → Sized 96 (blocks_in given) → packs_given given ≡ [] → instructions_in form lead_in given ≡ instructions_of (stream_words form lead_in (blocks_in given))
+all_drawn : (form : Form) (lead_in : ℕ) (given : List Given) → Sized 96 (blocks_in given) → packs_given given ≡ []
+    → instructions_in form lead_in given ≡ instructions_of (stream_words form lead_in (blocks_in given))
 all_drawn form lead_in [] sized none = ap instructions_of (sym (no_words_yet form lead_in))
 all_drawn form lead_in (Fed block ∷ before) sized none =
     let parts = sized_before (blocks_in before) block sized in
@@ -173,7 +175,8 @@ packs_drawn form lead_in (Fed block ∷ before) none = absurd (not_none (blocks_
 packs_drawn form lead_in (Drawn pack ∷ before) none =
     ap (λ l. l ++ instruction_of pack ∷ []) (packs_drawn form lead_in before none) ∙ sym (map-append instruction_of (packs_given before) (pack ∷ []))
 
-pub live_view : (form : Form) (lead_in : ℕ) (given : List Given) (player : LivePlayer) → HasPlayed form lead_in given player → packs_given given ≡ [] → IsLiveView form lead_in (blocks_in given) (standing_on player)
+pub live_view : (form : Form) (lead_in : ℕ) (given : List Given) (player : LivePlayer) → HasPlayed form lead_in given player
+    → packs_given given ≡ [] → IsLiveView form lead_in (blocks_in given) (standing_on player)
 live_view form lead_in given player played none =
     let blocks : List (List ℕ) = blocks_in given in
     let found : List (Option (List ℕ)) = found_in form (drop lead_in blocks) in
@@ -183,7 +186,8 @@ live_view form lead_in given player played none =
       recovered = recovered form (drop lead_in blocks) (sized_drop 96 lead_in blocks played.sized);
       instrs = instrs_of found;
       meant = are_meant found;
-      stands = played.stands ∙ ap (standing_after blank) (all_drawn form lead_in given played.sized none ∙ meant_same (map finding (stream_words form lead_in blocks)) ∙ ap (λ ws. instrs_of (map finding ws)) (sym words));
+      stands = played.stands ∙ ap (standing_after blank) (all_drawn form lead_in given played.sized none
+          ∙ meant_same (map finding (stream_words form lead_in blocks)) ∙ ap (λ ws. instrs_of (map finding ws)) (sym words));
     }
 
 -- of a raw stream, all packs that came are whole where the program is
@@ -205,5 +209,6 @@ live_view_now lead_in given player played none =
       stands = view.stands;
     }
 
-pub packs_view : (form : Form) (lead_in : ℕ) (given : List Given) (player : LivePlayer) → HasPlayed form lead_in given player → blocks_in given ≡ [] → standing_on player ≡ standing_after blank (map instruction_of (packs_given given))
+pub packs_view : (form : Form) (lead_in : ℕ) (given : List Given) (player : LivePlayer) → HasPlayed form lead_in given player → blocks_in given ≡ []
+    → standing_on player ≡ standing_after blank (map instruction_of (packs_given given))
 packs_view form lead_in given player played none = played.stands ∙ ap (standing_after blank) (packs_drawn form lead_in given none)

@@ -28,7 +28,8 @@ before_there : (at n a b : ℕ) → n < at → (if nat_le at n then a else b) �
 before_there at n a b lt = grind (arith, nat_tests)
 
 pub three_written : (now : Standing) (old new : List ℕ) (red green blue pixel x y : ℕ) → x < 300 → pixel ≡ screen_pixel now x y
-    → red ≡ slice_index (colour_bytes (slice_index now.colours pixel)) 0 → green ≡ slice_index (colour_bytes (slice_index now.colours pixel)) 1 → blue ≡ slice_index (colour_bytes (slice_index now.colours pixel)) 2
+    → red ≡ slice_index (colour_bytes (slice_index now.colours pixel)) 0 → green ≡ slice_index (colour_bytes (slice_index now.colours pixel)) 1
+    → blue ≡ slice_index (colour_bytes (slice_index now.colours pixel)) 2
     → ((n : ℕ) → n < 3 * (300 * y + x) → get_or old n 0 ≡ picture_byte now n)
     → ((n : ℕ) → n < 3 * (300 * y + x) + 3 → get_or new n 0 ≡ (if nat_le (3 * (300 * y + x)) n then get_or (red ∷ green ∷ blue ∷ []) (n - 3 * (300 * y + x)) 0 else get_or old n 0))
     → (n : ℕ) → n < 3 * (300 * y + (x + 1)) → get_or new n 0 ≡ picture_byte now n
@@ -63,7 +64,8 @@ module _ (now : Standing) (piece old new first : List ℕ) (left top width strid
   earlier : (i k : ℕ) → i < width → k < j → k * stride + i < stride * j
   earlier i k i_lt k_lt = let below : stride * suc k ≤ stride * j = mul-le-mul_left stride (omega (arith, k_lt)) in omega (arith, below, i_lt, apart)
 
-  pub part_pixels : ((i k : ℕ) → i < width → k < j → get_or old (k * stride + i) 0 ≡ screen_pixel now (left + i) (top + k)) → (i k : ℕ) → i < width → k < j + 1 → get_or new (k * stride + i) 0 ≡ screen_pixel now (left + i) (top + k)
+  pub part_pixels : ((i k : ℕ) → i < width → k < j → get_or old (k * stride + i) 0 ≡ screen_pixel now (left + i) (top + k)) → (i k : ℕ) → i < width
+      → k < j + 1 → get_or new (k * stride + i) 0 ≡ screen_pixel now (left + i) (top + k)
   part_pixels before i k i_lt k_lt = elim (cases_lt k j) [
     | inl early ↦ written (k * stride + i) ∙ else_before (stride * j) (stride * j + length piece) (k * stride + i) _ _ (earlier i k i_lt early) ∙ before i k i_lt early
     | inr late ↦
@@ -73,7 +75,8 @@ module _ (now : Standing) (piece old new first : List ℕ) (left top width strid
         ∙ ap (λ n. get_or piece n 0) (omega arith) ∙ shown i i_lt ∙ ap (λ m. screen_pixel now (left + i) (top + m)) (sym same)
   ]
 
-  pub part_others : ((n : ℕ) → ((i k : ℕ) → i < width → k < j → n ≢ k * stride + i) → get_or old n 0 ≡ get_or first n 0) → (n : ℕ) → ((i k : ℕ) → i < width → k < j + 1 → n ≢ k * stride + i) → get_or new n 0 ≡ get_or first n 0
+  pub part_others : ((n : ℕ) → ((i k : ℕ) → i < width → k < j → n ≢ k * stride + i) → get_or old n 0 ≡ get_or first n 0) → (n : ℕ)
+      → ((i k : ℕ) → i < width → k < j + 1 → n ≢ k * stride + i) → get_or new n 0 ≡ get_or first n 0
   part_others before n out =
       let kept : get_or old n 0 ≡ get_or first n 0 = before n (λ i k i_lt k_lt. out i k i_lt (omega (arith, k_lt))) in
       elim (cases_lt n (stride * j)) [

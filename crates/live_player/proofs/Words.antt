@@ -22,7 +22,8 @@ words_of_program : (form : Form) (blocks : List (List ℕ)) → Sized 96 blocks
     → words_from form (flat_map slots_of blocks) ≡ map (form_word form (flat_map symbols_of blocks)) (below (word_count form (length (flat_map symbols_of blocks) / 96)))
 words_of_program form blocks sized =
     let many : length (flat_map symbols_of blocks) / 96 ≡ length blocks = omega (arith, length-all_symbols blocks sized) in
-    words_are form (flat_map slots_of blocks) (length blocks) (all_slots_sized blocks sized) (length-all_slots blocks) ∙ ap₂ (λ (s : List ℕ) n. map (form_word form s) (below (word_count form n))) (all_slots_together blocks sized) (sym many)
+    words_are form (flat_map slots_of blocks) (length blocks) (all_slots_sized blocks sized) (length-all_slots blocks)
+    ∙ ap₂ (λ (s : List ℕ) n. map (form_word form s) (below (word_count form n))) (all_slots_together blocks sized) (sym many)
 
 pub words_of_stream : (form : Form) (lead_in : ℕ) (blocks : List (List ℕ)) → Sized 96 blocks → words_from form (flat_map slots_of (drop lead_in blocks)) ≡ stream_words form lead_in blocks
 unfolding stream_words
@@ -52,7 +53,8 @@ no_blocks (suc n) = refl
 pub no_words_yet : (form : Form) (lead_in : ℕ) → stream_words form lead_in [] ≡ []
 no_words_yet form lead_in = sym (words_of_stream form lead_in [] tt) ∙ ap (λ bs. words_from form (flat_map slots_of bs)) (no_blocks lead_in)
 
-pub more_words : (form : Form) (lead_in : ℕ) (blocks : List (List ℕ)) (block : List ℕ) (gather : BlockWords) → length block ≡ 96 → Sized 96 blocks → gather ≡ run_state words_next (fresh_words form lead_in) blocks
+pub more_words : (form : Form) (lead_in : ℕ) (blocks : List (List ℕ)) (block : List ℕ) (gather : BlockWords) → length block ≡ 96 → Sized 96 blocks
+    → gather ≡ run_state words_next (fresh_words form lead_in) blocks
     → stream_words form lead_in (blocks ++ block ∷ []) ≡ stream_words form lead_in blocks ++ all_items (give (words_give gather block) [])
 more_words form lead_in blocks block gather size sized now =
     let start : BlockWords = fresh_words form lead_in in
@@ -64,7 +66,8 @@ more_words form lead_in blocks block gather size sized now =
     ∙ ap (λ (l : List (List ℕ)). l ++ all_items (give (words_give gather block) [])) (block_words form lead_in start blocks refl ∙ words_of_stream form lead_in blocks sized)
 
 -- those that come with a block
-pub words_come : (form : Form) (lead_in : ℕ) (blocks : List (List ℕ)) (block : List ℕ) (gather : BlockWords) → length block ≡ 96 → Sized 96 blocks → gather ≡ run_state words_next (fresh_words form lead_in) blocks
+pub words_come : (form : Form) (lead_in : ℕ) (blocks : List (List ℕ)) (block : List ℕ) (gather : BlockWords) → length block ≡ 96 → Sized 96 blocks
+    → gather ≡ run_state words_next (fresh_words form lead_in) blocks
     → words_with form lead_in blocks block ≡ all_items (give (words_give gather block) [])
 words_come form lead_in blocks block gather size sized now =
     ap (drop (length (stream_words form lead_in blocks))) (more_words form lead_in blocks block gather size sized now)
@@ -79,13 +82,15 @@ words_go_on form lead_in blocks block size sized =
     ∙ ap (λ (l : List (List ℕ)). stream_words form lead_in blocks ++ l) (sym (words_come form lead_in blocks block gather size sized refl))
 
 -- what a block gives is more of the words, whatever came
-pub given_words : (form : Form) (lead_in : ℕ) (blocks : List (List ℕ)) (block : List ℕ) (gather : BlockWords) (words : ArrayVec (List ℕ)) → length block ≡ 96 → Sized 96 blocks → gather ≡ run_state words_next (fresh_words form lead_in) blocks
+pub given_words : (form : Form) (lead_in : ℕ) (blocks : List (List ℕ)) (block : List ℕ) (gather : BlockWords) (words : ArrayVec (List ℕ))
+    → length block ≡ 96 → Sized 96 blocks → gather ≡ run_state words_next (fresh_words form lead_in) blocks
     → Some words ≡ words_give gather block → stream_words form lead_in (blocks ++ block ∷ []) ≡ stream_words form lead_in blocks ++ words.items
 given_words form lead_in blocks block gather words size sized now gave =
     more_words form lead_in blocks block gather size sized now ∙ ap (λ (o : Option (ArrayVec (List ℕ))). stream_words form lead_in blocks ++ all_items (give o [])) (sym gave)
     ∙ ap (λ (l : List (List ℕ)). stream_words form lead_in blocks ++ l) (nothing_after words.items)
 
-pub no_words : (form : Form) (lead_in : ℕ) (blocks : List (List ℕ)) (block : List ℕ) (gather : BlockWords) → length block ≡ 96 → Sized 96 blocks → gather ≡ run_state words_next (fresh_words form lead_in) blocks
+pub no_words : (form : Form) (lead_in : ℕ) (blocks : List (List ℕ)) (block : List ℕ) (gather : BlockWords) → length block ≡ 96 → Sized 96 blocks
+    → gather ≡ run_state words_next (fresh_words form lead_in) blocks
     → None ≡ words_give gather block → stream_words form lead_in (blocks ++ block ∷ []) ≡ stream_words form lead_in blocks ++ []
 no_words form lead_in blocks block gather size sized now gave =
     more_words form lead_in blocks block gather size sized now ∙ ap (λ (o : Option (ArrayVec (List ℕ))). stream_words form lead_in blocks ++ all_items (give o [])) (sym gave)

@@ -16,6 +16,7 @@ use Rattle.cdg_screen.specs.Texts.{colour_bytes}
 use Rattle.stream_stages.specs.Screen.{AreMeant, AreShown}
 use Rattle.stream_stages.specs.Steps.{fresh_words, words_next}
 use Rattle.live_player.specs.declared.live.LivePlayer.{LivePlayer}
+use Rattle.raw_subcode.specs.Sizes.{block_bytes}
 
 -- what stands on a player's picture
 abbrev pub standing_on : LivePlayer → Standing
@@ -25,7 +26,7 @@ standing_on player = player.painting.screen
 unfoldable pub stream_words : Form → ℕ → List (List ℕ) → List (List ℕ)
 stream_words form lead_in blocks =
     let symbols = flat_map symbols_of (drop lead_in blocks) in
-    map (form_word form symbols) (below (word_count form (length symbols / 96)))
+    map (form_word form symbols) (below (word_count form (length symbols / block_bytes)))
 
 -- the words that come with a block after others: those that were not there before it
 abbrev pub words_with : Form → ℕ → List (List ℕ) → List ℕ → List (List ℕ)
@@ -81,7 +82,7 @@ bad_words_in form lead_in blocks = bad_count (map finding (stream_words form lea
 -- of it draws, in order, on a blank screen. The blocks and the words with no codeword near are counted; each count
 -- stays where it is at its last value.
 pub record HasPlayed (form : Form) (lead_in : ℕ) (given : List Given) (player : LivePlayer) : Type 0 where
-  pub sized : AllByRecursion (λ block. length block ≡ 96) (blocks_in given)
+  pub sized : AllByRecursion (λ block. length block ≡ block_bytes) (blocks_in given)
   pub gathers : player.words ≡ run_state words_next (fresh_words form lead_in) (blocks_in given)
   pub stands : standing_on player ≡ standing_after blank (instructions_in form lead_in given)
   pub begun : player.lead_in ≡ lead_in

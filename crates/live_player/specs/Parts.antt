@@ -2,19 +2,19 @@
 use Rattle.std.specs.Prelude.{◌≡◌, ◌+◌, ◌*◌, ◌<◌, ◌≤◌, ℕ, List, slice_index}
 use Rattle.cdg_instructions.specs.Sizes.{screen_height, screen_width}
 use Rattle.cdg_screen.specs.Standing.{Standing, screen_pixel}
-use Rattle.live_player.specs.declared.part.Part.{Part}
+use Rattle.live_player.specs.declared.part.ScreenPart.{ScreenPart}
 
 -- all of a part is on the screen
-abbrev pub IsOnScreen : Part → Type 0
+abbrev pub IsOnScreen : ScreenPart → Type 0
 IsOnScreen part = (part.left + part.width ≤ screen_width) × (part.top + part.height ≤ screen_height)
 
 -- so many bytes have room for the rows of a part, each `stride` bytes after the one before
-abbrev pub HasRoomFor : Part → ℕ → ℕ → Type 0
+abbrev pub HasRoomFor : ScreenPart → ℕ → ℕ → Type 0
 HasRoomFor part stride room = (j : ℕ) → j < part.height → j * stride + part.width ≤ room
 
 -- The numbers of the colours of a part are written, row by row, each row `stride` bytes after the one before. All other
 -- bytes are as they were.
-pub record ShowsPart (now : Standing) (part : Part) (stride : ℕ) (old new : List ℕ) : Type 0 where
+pub record ShowsPart (now : Standing) (part : ScreenPart) (stride : ℕ) (old new : List ℕ) : Type 0 where
   pub pixels : (i j : ℕ) → i < part.width → j < part.height
       → slice_index new (j * stride + i) ≡ screen_pixel now (part.left + i) (part.top + j)
   pub others : (n : ℕ) → ((i j : ℕ) → i < part.width → j < part.height → ¬ (n ≡ j * stride + i))

@@ -9,5 +9,5 @@ mod saving;
 
 pub use live::LivePlayer;
 pub use looking::PICTURE_BYTES;
-pub use part::Part;
+pub use part::ScreenPart;
 pub use saving::a_saved_player_goes_on;

@@ -1,6 +1,6 @@
 // A player that is fed blocks as they come.
 ghost use Rattle.std.specs.Prelude.{◌≡◌, ◌<◌, ◌≤◌, ◌+◌, ◌-◌, ◌^◌, ◌/◌, ◌%◌, ◌++◌, ◌∷◌, [], List, ℕ, length, map, min, slice_index, IfOk};
-ghost use Rattle.cdg_instructions.specs.Sizes.{screen_height, screen_pixels, screen_width};
+ghost use Rattle.cdg_instructions.specs.Sizes.{colour_values, screen_height, screen_pixels, screen_width};
 ghost use Rattle.cdg_screen.specs.Standing.{blank, screen_pixel, standing_after};
 ghost use Rattle.raw_subcode.specs.declared.form.Form.{Form};
 ghost use Rattle.stream_stages.specs.Steps.{words_next, words_give};
@@ -9,7 +9,7 @@ ghost use Rattle.live_player.specs.Lives.Given.{Drawn, Fed};
 ghost use Rattle.live_player.specs.Parts.{HasRoomFor, IsOnScreen, ShowsPart};
 
 use crate::looking::{self, PICTURE_BYTES};
-use crate::part::Part;
+use crate::part::ScreenPart;
 use arrayvec::ArrayVec;
 use cdg_instructions::SCREEN_PIXELS;
 use cdg_io::Stage;
@@ -169,7 +169,7 @@ impl LivePlayer {
     pub fn colour(&self, k: u8) -> u16
         requires { k < 16 }
         ensures colour { result ≡ slice_index (standing_on self.now).colours k }
-        ensures range { result < 4096 }
+        ensures range { result < colour_values }
     {
         self.painting.screen.colour(k)
     }
@@ -186,7 +186,7 @@ impl LivePlayer {
 
     /// Writes the numbers of the colours of a part of the screen, row by row: row j of it begins `stride` times
     /// j bytes from the front.
-    pub fn part(&self, part: &Part, pixels: &mut [u8], stride: usize)
+    pub fn part(&self, part: &ScreenPart, pixels: &mut [u8], stride: usize)
         requires part { IsOnScreen part.now }
         requires apart { part.now.width ≤ stride }
         requires room { HasRoomFor part.now stride (length pixels.old) }

@@ -1,12 +1,12 @@
 // What a screen shows, number by number.
 ghost use Rattle.std.specs.Prelude.{◌≡◌, ◌<◌, ◌≤◌, ◌+◌, ◌-◌, ◌/◌, ◌%◌, ◌&&◌, nat_le, nat_lt, if◌then◌else◌, ◌∷◌, [], ℕ, length, slice_index};
-ghost use Rattle.cdg_instructions.specs.Sizes.{screen_pixels, screen_width};
+ghost use Rattle.cdg_instructions.specs.Sizes.{colour_values, screen_pixels, screen_width};
 ghost use Rattle.cdg_screen.specs.Standing.{screen_pixel, standing_after};
 ghost use Rattle.cdg_screen.specs.Texts.{colour_bytes};
 ghost use Rattle.live_player.specs.Lives.{instruction_of, picture_byte, picture_bytes};
 ghost use Rattle.live_player.specs.Parts.{HasRoomFor, IsOnScreen, ShowsPart};
 
-use crate::part::Part;
+use crate::part::ScreenPart;
 use cdg_instructions::{SCREEN_HEIGHT, SCREEN_PIXELS, SCREEN_WIDTH, read_word};
 use cdg_screen::Screen;
 use rw_code::{SYMBOLS, Word};
@@ -27,7 +27,7 @@ pub(crate) fn pixels(screen: &Screen, pixels: &mut [u8; SCREEN_PIXELS])
 }
 
 /// The pixels of a part of the screen: row j of it stands `stride` times j bytes from the front.
-pub(crate) fn part_of_screen(screen: &Screen, part: &Part, pixels: &mut [u8], stride: usize)
+pub(crate) fn part_of_screen(screen: &Screen, part: &ScreenPart, pixels: &mut [u8], stride: usize)
     requires part { IsOnScreen part.now }
     requires apart { part.now.width ≤ stride }
     requires room { HasRoomFor part.now stride (length pixels.old) }
@@ -54,7 +54,7 @@ fn write_at(room: &mut [u8], place: usize, pixels: &[u8])
 pub(crate) fn colours(screen: &Screen, table: &mut [u16; 16])
     ensures size { length table.new ≡ 16 }
     ensures colours { (k : ℕ) → k < 16 → slice_index table.new k ≡ slice_index screen.now.colours k }
-    ensures range { (k : ℕ) → k < 16 → slice_index table.new k < 4096 }
+    ensures range { (k : ℕ) → k < 16 → slice_index table.new k < colour_values }
 {
     for k in 0..16 {
         table[k] = screen.colour(k as u8);
@@ -118,7 +118,7 @@ fn parts(screen: &Screen, which: u32) -> [u8; 16]
 // A part of a colour as a byte: 0 red, 1 green, 2 blue.
 fn part(colour: u16, part: u32) -> u8
     requires part { part < 3 }
-    requires colour { colour < 4096 }
+    requires colour { colour < colour_values }
     ensures { result ≡ slice_index (colour_bytes colour) part }
 {
     match part {

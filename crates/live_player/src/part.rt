@@ -2,7 +2,7 @@
 
 /// A rectangle of the screen, in pixels.
 #[derive(Clone, Copy, Debug, PartialEq, Eq)]
-pub struct Part {
+pub struct ScreenPart {
     /// How far from the left it begins.
     pub left: usize,
     /// How far from the top it begins.

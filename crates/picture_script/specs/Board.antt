@@ -2,6 +2,7 @@
 use Rattle.std.specs.Prelude.{◌≡◌, ℕ, ◌+◌, ◌-◌, ◌*◌, ◌/◌, ◌%◌, ◌<◌, ◌≤◌, List, length, map, slice_index, Option, MatchOption}
 use Rattle.bit_lists.specs.Counting.{below}
 use Rattle.picture_script.specs.Script.{Drawing, Picture, picture_pixel, picture_border, picture_colour}
+use Rattle.cdg_instructions.specs.Sizes.{colour_values, tile_height, tile_pixels, tile_width, window_height, window_width}
 
 -- 288 by 192 pixels, a border, sixteen colours, and the number of the picture that stands there, or none where
 -- nothing was drawn
@@ -13,21 +14,22 @@ pub record Board : Type 0 where
 
 -- the pixel at a place of the window
 unfoldable pub pixel_of : List ℕ → ℕ → ℕ → ℕ
-pixel_of pixels x y = slice_index pixels (288 * y + x)
+pixel_of pixels x y = slice_index pixels (window_width * y + x)
 
 -- the pixels become those of a function of the place
 abbrev pub ArePixelsOf : List ℕ → (ℕ → ℕ → ℕ) → Type 0
-ArePixelsOf pixels f = (x y : ℕ) → x < 288 → y < 192 → pixel_of pixels x y ≡ f x y
+ArePixelsOf pixels f = (x y : ℕ) → x < window_width → y < window_height → pixel_of pixels x y ≡ f x y
 
 -- nothing is drawn
 pub record IsBlank (board : Board) : Type 0 where
-  pub pixels_are : (x y : ℕ) → x < 288 → y < 192 → pixel_of board.pixels x y ≡ 0
+  pub pixels_are : (x y : ℕ) → x < window_width → y < window_height → pixel_of board.pixels x y ≡ 0
   pub border_is : board.border ≡ 0
   pub colours_are : (n : ℕ) → n < 16 → slice_index board.colours n ≡ 0
 
 -- picture k of the script stands there
 pub record IsPicture (script : List Drawing) (k : ℕ) (board : Board) : Type 0 where
-  pub pixels_are : (x y : ℕ) → x < 288 → y < 192 → pixel_of board.pixels x y ≡ picture_pixel script k x y
+  pub pixels_are : (x y : ℕ) → x < window_width → y < window_height
+      → pixel_of board.pixels x y ≡ picture_pixel script k x y
   pub border_is : board.border ≡ picture_border script k
   pub colours_are : (n : ℕ) → n < 16 → slice_index board.colours n ≡ picture_colour script k n
 
@@ -37,7 +39,8 @@ StandsBefore script k board = MatchOption board.at (IsBlank board) (λ j. (j ≤
 
 -- this picture stands there
 pub record IsDrawn (picture : Picture) (board : Board) : Type 0 where
-  pub pixels_are : (x y : ℕ) → x < 288 → y < 192 → pixel_of board.pixels x y ≡ picture.pixel x y
+  pub pixels_are : (x y : ℕ) → x < window_width → y < window_height
+      → pixel_of board.pixels x y ≡ picture.pixel x y
   pub border_is : board.border ≡ picture.border
   pub colours_are : (n : ℕ) → n < 16 → slice_index board.colours n ≡ picture.colour n
 
@@ -49,7 +52,8 @@ pub record IsSet (picture : Picture) (board : Board) : Type 0 where
 -- the 72 pixels of the tile at a row from 1 to 16 and a column from 1 to 48, line by line from the left
 unfoldable pub tile_of : List ℕ → ℕ → ℕ → List ℕ
 tile_of pixels row column =
-    map (λ p. pixel_of pixels (6 * (column - 1) + p % 6) (12 * (row - 1) + p / 6)) (below 72)
+    map (λ p. pixel_of pixels (tile_width * (column - 1) + p % tile_width)
+    (tile_height * (row - 1) + p / tile_width)) (below tile_pixels)
 
 -- numbers of colours
 abbrev pub AreColours : List ℕ → Type 0
@@ -64,4 +68,4 @@ pub record AreWindowPixels (pixels : List ℕ) : Type 0 where
 pub record IsCanvasInRange (border : ℕ) (colours : List ℕ) : Type 0 where
   pub border_below : border < 16
   pub colours_count : length colours ≡ 16
-  pub colours_below : (i : ℕ) → slice_index colours i < 4096
+  pub colours_below : (i : ℕ) → slice_index colours i < colour_values

@@ -1,6 +1,7 @@
 -- Picture scripts: lines that draw, and the pictures that stand at each line that shows.
 use Rattle.std.specs.Prelude.{ℕ, zero, suc, ◌+◌, ◌-◌, ◌*◌, Bool, List, [], ◌∷◌, length, fold, filter_map, slice_index, slice_index_or, ◌/◌, ◌%◌, Option, Some, None, ◌==◌, nat_le, nat_lt, ◌&&◌, if◌then◌else◌, map}
 use Rattle.bit_lists.specs.Counting.{below}
+use Rattle.cdg_instructions.specs.Sizes.{tile_height, tile_pixels, tile_width}
 
 -- the lines of a script that say something
 pub data Drawing : Type 0 where
@@ -86,7 +87,8 @@ picture_colour script k number = (drawn_by (lines_before script k)).colour numbe
 -- the 72 pixels of the tile at a row from 1 to 16 and a column from 1 to 48, line by line from the left
 unfoldable pub picture_tile : List Drawing → ℕ → ℕ → ℕ → List ℕ
 picture_tile script k row column =
-    map (λ p. picture_pixel script k (6 * (column - 1) + p % 6) (12 * (row - 1) + p / 6)) (below 72)
+    map (λ p. picture_pixel script k (tile_width * (column - 1) + p % tile_width)
+    (tile_height * (row - 1) + p / tile_width)) (below tile_pixels)
 
 -- colours 0 to 7 of picture k
 unfoldable pub low_colours : List Drawing → ℕ → List ℕ

@@ -27,6 +27,7 @@ pub fn frame_of(plain: &PlainFrame) -> Option<QFrame>
     }
 }
 
+// A frame of the program.
 fn program(plain: &PlainFrame) -> Option<QFrame>
     ensures { IsWhereValid result
         (Program plain.now.control plain.now.track plain.now.index plain.now.time plain.now.absolute) }
@@ -45,6 +46,7 @@ fn program(plain: &PlainFrame) -> Option<QFrame>
     })
 }
 
+// The entry of where a track begins.
 fn track(plain: &PlainFrame) -> Option<QFrame>
     ensures { IsWhereValid result
         (Toc plain.now.control (Track plain.now.track plain.now.absolute) plain.now.time) }
@@ -62,6 +64,7 @@ fn track(plain: &PlainFrame) -> Option<QFrame>
     )
 }
 
+// The entry of the first track and the kind of the disc.
 fn first(plain: &PlainFrame) -> Option<QFrame>
     ensures { IsWhereValid result
         (Toc plain.now.control (First plain.now.track plain.now.disc) plain.now.time) }
@@ -69,6 +72,7 @@ fn first(plain: &PlainFrame) -> Option<QFrame>
     first_entry(plain, plain.track, plain.disc)
 }
 
+// The same, of a track and a kind.
 fn first_entry(plain: &PlainFrame, track: u8, kind: u8) -> Option<QFrame>
     ensures { IsWhereValid result (Toc plain.now.control (First track kind) plain.now.time) }
 {
@@ -78,6 +82,7 @@ fn first_entry(plain: &PlainFrame, track: u8, kind: u8) -> Option<QFrame>
     entry(plain, TocPoint::First { track, kind })
 }
 
+// The entry of the last track.
 fn last(plain: &PlainFrame) -> Option<QFrame>
     ensures { IsWhereValid result (Toc plain.now.control (Last plain.now.track) plain.now.time) }
 {
@@ -87,6 +92,7 @@ fn last(plain: &PlainFrame) -> Option<QFrame>
     entry(plain, TocPoint::Last { track: plain.track })
 }
 
+// The entry of where the lead-out begins.
 fn lead_out(plain: &PlainFrame) -> Option<QFrame>
     ensures { IsWhereValid result (Toc plain.now.control (LeadOut plain.now.absolute) plain.now.time) }
 {
@@ -110,6 +116,7 @@ fn entry(plain: &PlainFrame, point: TocPoint) -> Option<QFrame>
     })
 }
 
+// A frame with the thirteen digits of the disc.
 fn catalogue(plain: &PlainFrame) -> Option<QFrame>
     ensures { IsWhereValid result (Catalogue plain.now.control plain.now.text plain.now.frame) }
 {
@@ -123,12 +130,14 @@ fn catalogue(plain: &PlainFrame) -> Option<QFrame>
     })
 }
 
+// A frame with the code of a track, which is the first twelve bytes of the text.
 fn code(plain: &PlainFrame) -> Option<QFrame>
     ensures { IsWhereValid result (Isrc plain.now.control (take 12 plain.now.text) plain.now.frame) }
 {
     recorded(plain, first_twelve(&plain.text))
 }
 
+// The same, of a code: two letters, three letters or digits, and seven digits.
 fn recorded(plain: &PlainFrame, code: [u8; 12]) -> Option<QFrame>
     ensures { IsWhereValid result (Isrc plain.now.control code plain.now.frame) }
 {
@@ -160,12 +169,14 @@ fn first_twelve(text: &[u8; 13]) -> [u8; 12]
     first
 }
 
+// A frame of another mode, whose nine bytes are the first of the text.
 fn other(plain: &PlainFrame) -> Option<QFrame>
     ensures { IsWhereValid result (Other plain.now.control plain.now.mode (take 9 plain.now.text)) }
 {
     bare(plain, &first_nine(&plain.text))
 }
 
+// The same, of these bytes.
 fn bare(plain: &PlainFrame, rest: &[u8; 9]) -> Option<QFrame>
     ensures { IsWhereValid result (Other plain.now.control plain.now.mode rest.now) }
 {

@@ -5,7 +5,7 @@ use std::io::{ErrorKind, Read, Stdin};
 
 /// Where an input comes from.
 #[derive(Drop)]
-pub enum Input<'a> {
+pub enum InputReader<'a> {
     Standard(Stdin),
     /// A file of this name, which is opened when it is first read.
     Unopened(&'a HostRuntime, &'a str),
@@ -15,26 +15,28 @@ pub enum Input<'a> {
     Empty,
 }
 
-impl Input<'_> {
+impl InputReader<'_> {
     // Opens a file that is not open yet.
     fn open(&mut self) {
-        if let Input::Unopened(rt, name) = self {
+        if let InputReader::Unopened(rt, name) = self {
             *self = match File::open(*rt, *name) {
-                Ok(file) => Input::Named(file),
-                Err(_) => Input::Missing,
+                Ok(file) => InputReader::Named(file),
+                Err(_) => InputReader::Missing,
             };
         }
     }
 }
 
-impl Read for Input<'_> {
+impl Read for InputReader<'_> {
     fn read(&mut self, buf: &mut [u8]) -> io::Result<usize> {
         self.open();
         match self {
-            Input::Standard(stdin) => stdin.read(buf),
-            Input::Named(file) => file.read(buf),
-            Input::Unopened(..) | Input::Missing => Err(io::Error::from(ErrorKind::NotFound)),
-            Input::Empty => Ok(0),
+            InputReader::Standard(stdin) => stdin.read(buf),
+            InputReader::Named(file) => file.read(buf),
+            InputReader::Unopened(..) | InputReader::Missing => Err(io::Error::from(
+                ErrorKind::NotFound,
+            )),
+            InputReader::Empty => Ok(0),
         }
     }
 }

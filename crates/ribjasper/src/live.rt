@@ -1,7 +1,7 @@
 // The output of the program, which is never held back while an input is waited for.
 ghost use Rattle.std.specs.Prelude.{◌≡◌, None};
 
-use crate::input::Input;
+use crate::input::InputReader;
 use cdg_io::{BufferedSink, Failed, Sink};
 use std::cell::RefCell;
 use std::io;
@@ -24,7 +24,7 @@ pub(crate) fn flush(waiting: &Waiting) -> Result<(), Failed> {
 /// written stays, and the next write says so.
 #[derive(Drop)]
 pub struct LiveInput<'a> {
-    pub input: Input<'a>,
+    pub input: InputReader<'a>,
     pub waiting: &'a Waiting,
 }
 

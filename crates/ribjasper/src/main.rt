@@ -6,7 +6,7 @@ mod live;
 
 use cdg_cmd::{Status, run, split, tell};
 use cdg_io::{BufferedSink, BufferedSource, Failed, SteadySink, WriteSink};
-use input::Input;
+use input::InputReader;
 use live::{LiveInput, LiveOutput, Waiting, flush};
 use std::alloc::Global;
 use std::cell::RefCell;
@@ -36,18 +36,21 @@ fn words(rt: &HostRuntime) -> io::Result<Vec<String>> {
 }
 
 // The two inputs: those that are named, or standard input.
-fn inputs<'a>(rt: &'a HostRuntime, names: &'a [String]) -> (Input<'a>, Input<'a>) {
+fn inputs<'a>(rt: &'a HostRuntime, names: &'a [String]) -> (InputReader<'a>, InputReader<'a>) {
     match names {
-        [first, second] => (Input::Unopened(rt, first), Input::Unopened(rt, second)),
-        [first] => (Input::Unopened(rt, first), Input::Empty),
-        _ => (Input::Standard(rt.stdin()), Input::Empty),
+        [first, second] => (
+            InputReader::Unopened(rt, first),
+            InputReader::Unopened(rt, second),
+        ),
+        [first] => (InputReader::Unopened(rt, first), InputReader::Empty),
+        _ => (InputReader::Standard(rt.stdin()), InputReader::Empty),
     }
 }
 
 // A source of an input, before whose reads all that waits is written.
 fn source<'a>(
     alloc: Global,
-    input: Input<'a>,
+    input: InputReader<'a>,
     waiting: &'a Waiting,
 ) -> io::Result<BufferedSource<LiveInput<'a>>> {
     let reader = BufReader::with_capacity(alloc, READ, LiveInput { input, waiting })?;

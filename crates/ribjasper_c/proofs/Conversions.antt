@@ -96,7 +96,8 @@ units_more size (suc n) bytes =
 units_at : (form : Form) (stream : List ℕ) (n : ℕ) → units_of (unit_size form) (n + 1) stream ≡ units_of (unit_size form) n stream ++ unit_at form stream n ∷ []
 units_at form stream n = let next : n + 1 ≡ suc n = omega arith in ap (λ k. units_of (unit_size form) k stream) next ∙ units_more (unit_size form) n stream
 
-pub stages_more : (form : Form) (lead_in : ℕ) (stream : List ℕ) (n : ℕ) (old new : Blocks) (block : List ℕ) → old ≡ stages_after form lead_in stream n → block ≡ block_of form (unit_at form stream n) → new ≡ blocks_next old block
+pub stages_more : (form : Form) (lead_in : ℕ) (stream : List ℕ) (n : ℕ) (old new : Blocks) (block : List ℕ)
+    → old ≡ stages_after form lead_in stream n → block ≡ block_of form (unit_at form stream n) → new ≡ blocks_next old block
     → new ≡ stages_after form lead_in stream (n + 1)
 stages_more form lead_in stream n old new block now is next =
     next ∙ ap₂ blocks_next now is ∙ sym (run_state-append (machine form).next (fresh form lead_in) (units_of (unit_size form) n stream) (unit_at form stream n ∷ []))
@@ -106,7 +107,8 @@ given_alone : (o : Option (List ℕ)) → concat (give o []) ≡ given_bytes o
 given_alone None = refl
 given_alone (Some bytes) = append-nil bytes
 
-pub text_more : (form : Form) (lead_in : ℕ) (stream : List ℕ) (n : ℕ) (old : Blocks) (block : List ℕ) (piece : Option (List ℕ)) → old ≡ stages_after form lead_in stream n → block ≡ block_of form (unit_at form stream n) → piece ≡ blocks_give old block
+pub text_more : (form : Form) (lead_in : ℕ) (stream : List ℕ) (n : ℕ) (old : Blocks) (block : List ℕ) (piece : Option (List ℕ))
+    → old ≡ stages_after form lead_in stream n → block ≡ block_of form (unit_at form stream n) → piece ≡ blocks_give old block
     → text_of form lead_in stream (n + 1) ≡ text_of form lead_in stream n ++ given_bytes piece
 text_more form lead_in stream n old block piece now is gave =
     let m : Machine Blocks = machine form in
@@ -129,16 +131,26 @@ put_more text piece room packs new at is fits now put =
     let front : take at packs ≡ text = ap₂ (λ (k : ℕ) (l : List ℕ). take k l) is now ∙ take-append_seam text (drop (length text) room) in
     let size : length (text ++ piece) ≡ length text + length piece = length-append text piece in
     let back : drop (at + length piece) packs ≡ drop (length (text ++ piece)) room =
-    ap₂ (λ (k : ℕ) (l : List ℕ). drop (k + length piece) l) is now ∙ drop-append-add text (drop (length text) room) (length piece) ∙ drop-drop (length piece) (length text) room ∙ ap (λ k. drop k room) (sym size) in
+    ap₂ (λ (k : ℕ) (l : List ℕ). drop (k + length piece) l) is now ∙ drop-append-add text (drop (length text) room) (length piece)
+    ∙ drop-drop (length piece) (length text) room ∙ ap (λ k. drop k room) (sym size) in
     put ∙ ap₂ (λ (a b : List ℕ). a ++ (piece ++ b)) front back ∙ sym (assoc text piece (drop (length (text ++ piece)) room))
 
 -- what is written for one unit more fits into the room for all
-pub piece_fits : (form : Form) (lead_in : ℕ) (stream : List ℕ) (n units room : ℕ) (old : Blocks) (block : List ℕ) (piece : Option (List ℕ)) → length stream ≡ units * unit_size form → n < units → 24 * word_count form (units - lead_in) ≤ room
-    → old ≡ stages_after form lead_in stream n → block ≡ block_of form (unit_at form stream n) → piece ≡ blocks_give old block → length (text_of form lead_in stream n) + length (given_bytes piece) ≤ room
+pub piece_fits : (form : Form) (lead_in : ℕ) (stream : List ℕ) (n units room : ℕ) (old : Blocks) (block : List ℕ) (piece : Option (List ℕ))
+    → length stream ≡ units * unit_size form → n < units → 24 * word_count form (units - lead_in) ≤ room
+    → old ≡ stages_after form lead_in stream n → block ≡ block_of form (unit_at form stream n) → piece ≡ blocks_give old block
+    → length (text_of form lead_in stream n) + length (given_bytes piece) ≤ room
 piece_fits form lead_in stream n units room old block piece whole lt fits now is gave =
     let within : (n + 1) * unit_size form ≤ length stream = omega (arith, whole, mul-le-mul_left (unit_size form) (less_suc n units lt)) in
     let more : length (text_of form lead_in stream (n + 1)) ≡ length (text_of form lead_in stream n ++ given_bytes piece) = ap length (text_more form lead_in stream n old block piece now is gave) in
-    omega (arith, more, length-append (text_of form lead_in stream n) (given_bytes piece), length-text_of form lead_in stream (n + 1) within, more_words form (n + 1 - lead_in) (units - lead_in) (omega (arith, lt)), fits)
+    omega (
+      arith,
+      more,
+      length-append (text_of form lead_in stream n) (given_bytes piece),
+      length-text_of form lead_in stream (n + 1) within,
+      more_words form (n + 1 - lead_in) (units - lead_in) (omega (arith, lt)),
+      fits,
+    )
 
 -- ---- all units
 
@@ -146,7 +158,8 @@ pub converts : (form : Form) (lead_in : ℕ) (stream : List ℕ) (n : ℕ) → n
     → IsConverted form lead_in stream (text_of form lead_in stream n) (stages_after form lead_in stream n).second.bad
 converts form lead_in stream n few whole = (plays_stream form lead_in (fresh form lead_in) refl refl).says stream n few (whole_taken form n stream whole)
 
-pub finished : (form : Form) (lead_in : ℕ) (stream : List ℕ) (units n : ℕ) (packs room : List ℕ) (stages : Blocks) → units ≤ most_units → length stream ≡ units * unit_size form → n ≡ units → stages ≡ stages_after form lead_in stream n
+pub finished : (form : Form) (lead_in : ℕ) (stream : List ℕ) (units n : ℕ) (packs room : List ℕ) (stages : Blocks) → units ≤ most_units
+    → length stream ≡ units * unit_size form → n ≡ units → stages ≡ stages_after form lead_in stream n
     → packs ≡ text_of form lead_in stream n ++ drop (length (text_of form lead_in stream n)) room
     → (text : List ℕ) × IsConverted form lead_in stream text stages.second.bad × (length text ≡ 24 * word_count form (units - lead_in)) × (packs ≡ text ++ drop (length text) room)
 finished form lead_in stream units n packs room stages few whole all now written =

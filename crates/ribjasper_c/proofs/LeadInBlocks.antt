@@ -25,7 +25,8 @@ stays at m xs ys le same =
 
 -- the state after one block more
 pub block_more : (form : Form) (lead_in : ℕ) (bytes : List ℕ) (b : ℕ) (block : List ℕ) (old new : LeadInTexts) → b < length bytes / unit_size form → block ≡ get_or (blocks_of form bytes) b []
-    → old ≡ run_state text_next (fresh_texts lead_in) (take b (blocks_of form bytes)) → new ≡ text_next old block → new ≡ run_state text_next (fresh_texts lead_in) (take (b + 1) (blocks_of form bytes))
+    → old ≡ run_state text_next (fresh_texts lead_in) (take b (blocks_of form bytes)) → new ≡ text_next old block
+    → new ≡ run_state text_next (fresh_texts lead_in) (take (b + 1) (blocks_of form bytes))
 block_more form lead_in bytes b block old new lt is before step =
     let blocks : List (List ℕ) = blocks_of form bytes in
     let more : take (b + 1) blocks ≡ take b blocks ++ get_or blocks b [] ∷ [] = take_more blocks b [] (omega (arith, lt, length-blocks form bytes)) in
@@ -33,7 +34,8 @@ block_more form lead_in bytes b block old new lt is before step =
     ∙ sym (ap (run_state text_next (fresh_texts lead_in)) more ∙ run_state-append text_next (fresh_texts lead_in) (take b blocks) (get_or blocks b [] ∷ []))
 
 -- the blocks of the lead-in, as many as there are
-pub lead_in_blocks : (form : Form) (lead_in : ℕ) (bytes : List ℕ) (n : ℕ) → n ≡ length bytes / unit_size form → take lead_in (take (min n lead_in) (blocks_of form bytes)) ≡ take lead_in (blocks_of form bytes)
+pub lead_in_blocks : (form : Form) (lead_in : ℕ) (bytes : List ℕ) (n : ℕ) → n ≡ length bytes / unit_size form
+    → take lead_in (take (min n lead_in) (blocks_of form bytes)) ≡ take lead_in (blocks_of form bytes)
 lead_in_blocks form lead_in bytes n many =
     let blocks : List (List ℕ) = blocks_of form bytes in
     let few : length (take (min n lead_in) blocks) ≤ lead_in = omega (arith, length-take (min n lead_in) blocks) in

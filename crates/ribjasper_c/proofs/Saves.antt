@@ -37,7 +37,8 @@ pub plays_on : (file bytes : List ℕ) (players : List LivePlayer) (live saved :
 plays_on file bytes players live saved lead_in given read there held is goes_on = (live, held, goes_on (subst (λ (it : List ℕ). IsAt (checkpoint_in it) live) (read ∙ is) there))
 
 pub can : (players : List LivePlayer) (live : LivePlayer) (lead_in : ℕ) (given : List Given) → players ≡ live ∷ [] → IsPlaying Raw lead_in given players
-    → ((saved : LivePlayer) → HasPlayed Raw lead_in given saved → saved.words.form ≡ Raw) → ((saved : LivePlayer) → HasPlayed Raw lead_in given saved → IsCheckpointFile (file_of (checkpoint_of saved)))
+    → ((saved : LivePlayer) → HasPlayed Raw lead_in given saved → saved.words.form ≡ Raw)
+    → ((saved : LivePlayer) → HasPlayed Raw lead_in given saved → IsCheckpointFile (file_of (checkpoint_of saved)))
     → CannotBeSaved live → ⊥
 can players live lead_in given held (player, is, played) raw file cannot_be =
     let same : player ≡ live = ap (λ (xs : List LivePlayer). get_or xs 0 player) (sym is ∙ held) in

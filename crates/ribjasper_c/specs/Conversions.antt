@@ -1,7 +1,7 @@
 -- A stream in memory and its packs.
 use Rattle.std.specs.Prelude.{◌≡◌, ◌≢◌, ◌⊎◌, ◌==◌, ◌<◌, ◌-◌, ◌*◌, ◌/◌, ◌%◌, if◌then◌else◌, ℕ, List, length}
 use Rattle.raw_subcode.specs.Channels.{unit_size}
-use Rattle.raw_subcode.specs.Sizes.{most_units}
+use Rattle.raw_subcode.specs.Sizes.{most_units, symbols_a_slot}
 use Rattle.raw_subcode.specs.declared.form.Form.{Form}
 use Rattle.raw_subcode.specs.declared.form.Form.TheVariants.{Sector}
 use Rattle.rw_interleave.specs.Stream.{word_count}
@@ -19,7 +19,7 @@ IsNoStream form stream = (length stream % unit_size form ≢ 0) ⊎ (most_units 
 
 -- how many bytes the packs of a stream are: 24 for each
 abbrev pub text_size : Form → ℕ → List ℕ → ℕ
-text_size form lead_in stream = 24 * word_count form (length stream / unit_size form - lead_in)
+text_size form lead_in stream = symbols_a_slot * word_count form (length stream / unit_size form - lead_in)
 
 -- the text of the packs of a stream, and what is told of it: its bytes, the blocks of the program, and the packs with
 -- no codeword near

@@ -1,7 +1,7 @@
 -- Two readings in memory that are mended, or why they are not.
 use Rattle.std.specs.Prelude.{◌≡◌, ◌==◌, ◌||◌, ◌*◌, ◌-◌, ◌/◌, ◌%◌, not, nat_lt, if◌then◌else◌, ℕ, List, length, Option, Some, None}
 use Rattle.disc_time.specs.Counts.{most_lead_in}
-use Rattle.raw_subcode.specs.Sizes.{block_bytes, most_units}
+use Rattle.raw_subcode.specs.Sizes.{block_bytes, most_units, symbols_a_slot}
 use Rattle.rw_interleave.specs.Interleave.{whole_packs}
 use Rattle.rw_mend.specs.Streams.{IsMendedInto}
 use Rattle.ribjasper_c.specs.declared.mending.MendedStream.{MendedStream}
@@ -13,11 +13,11 @@ refusal_of first second lead_in room =
     if nat_lt most_lead_in lead_in then Some 2
     else (if not (first == second) || not (first % block_bytes == 0)
     || nat_lt (block_bytes * most_units) first then Some 3
-    else (if nat_lt room (24 * whole_packs (first / block_bytes - lead_in)) then Some 6
+    else (if nat_lt room (symbols_a_slot * whole_packs (first / block_bytes - lead_in)) then Some 6
     else None))
 
 -- The packs of both readings stand at the front of the room, and what is told of them is true.
 pub record AreMendedInto (lead_in : ℕ) (first second old new : List ℕ) (told : MendedStream) : Type 0 where
   pub mended : IsMendedInto lead_in first second old new told.words
-  pub bytes : told.bytes ≡ 24 * whole_packs (length first / block_bytes - lead_in)
+  pub bytes : told.bytes ≡ symbols_a_slot * whole_packs (length first / block_bytes - lead_in)
   pub blocks : told.blocks ≡ length first / block_bytes - lead_in

@@ -1,6 +1,6 @@
 // A whole stream in memory.
 ghost use Rattle.std.specs.Prelude.{◌≡◌, ◌≢◌, ◌<◌, ◌≤◌, ◌+◌, ◌*◌, ◌-◌, ◌/◌, ◌++◌, ◌⊎◌, ◌↔◌, List, ℕ, MatchOption, drop, length, pos, take};
-ghost use Rattle.raw_subcode.specs.Sizes.{most_units};
+ghost use Rattle.raw_subcode.specs.Sizes.{most_units, symbols_a_slot};
 ghost use Rattle.disc_time.specs.Counts.{most_lead_in};
 ghost use Rattle.raw_subcode.specs.Channels.{block_of, unit_size};
 ghost use Rattle.cdg_io.specs.Pump.{given_bytes};
@@ -9,27 +9,14 @@ ghost use Rattle.rw_interleave.specs.Stream.{word_count};
 ghost use Rattle.stream_stages.specs.Convert.{IsConverted};
 ghost use Rattle.stream_stages.specs.Steps.{fresh_words};
 
+use crate::answers::{DAMAGED, DONE, REFUSED, USAGE, WRITE_FAULT};
 use crate::playing::form_of;
 use cdg_io::{Piece, Stage, Then};
 use disc_time::MOST_LEAD_IN;
 use raw_subcode::{BLOCK_BYTES, Form, MOST_UNITS, SECTOR_BYTES, SLOTS_A_BLOCK};
 use rw_code::SYMBOLS;
-use rw_interleave::Gather;
+use rw_interleave::{Gather, PACKS_KEPT_BACK};
 use stream_stages::{BlockWords, Correction};
-
-// The exit numbers of the program.
-const DONE: i32 = 0;
-
-const DAMAGED: i32 = 1;
-
-const USAGE: i32 = 2;
-
-const REFUSED: i32 = 3;
-
-const WRITE_FAULT: i32 = 6;
-
-// The slots that a raw stream keeps back: a pack ends seven slots after the one that it begins in.
-const KEPT_BACK: usize = 7;
 
 /// What is told of a stream that was converted.
 #[repr(C)]
@@ -113,11 +100,11 @@ fn size_of_unit(form: Form) -> usize
 // How many bytes the packs of so many units are.
 fn size_of_text(form: Form, lead_in: u32, units: u32) -> usize
     requires { units ≤ most_units }
-    ensures { result ≡ 24 * word_count form (units - lead_in) }
+    ensures { result ≡ symbols_a_slot * word_count form (units - lead_in) }
 {
     let slots = SLOTS_A_BLOCK * units.saturating_sub(lead_in) as usize;
     match form {
-        Form::Raw | Form::Sector => SYMBOLS * slots.saturating_sub(KEPT_BACK),
+        Form::Raw | Form::Sector => SYMBOLS * slots.saturating_sub(PACKS_KEPT_BACK),
         Form::Cooked => SYMBOLS * slots,
     }
 }
@@ -126,9 +113,9 @@ fn size_of_text(form: Form, lead_in: u32, units: u32) -> usize
 fn write_packs(form: Form, lead_in: u32, stream: &[u8], units: u32, packs: &mut [u8]) -> u32
     requires few { units ≤ most_units }
     requires whole { length stream.now ≡ units * unit_size form }
-    requires room { 24 * word_count form (units - lead_in) ≤ length packs.old }
+    requires room { symbols_a_slot * word_count form (units - lead_in) ≤ length packs.old }
     ensures { (text : List ℕ) × IsConverted form lead_in stream.now text result
-        × (length text ≡ 24 * word_count form (units - lead_in))
+        × (length text ≡ symbols_a_slot * word_count form (units - lead_in))
         × (packs.new ≡ text ++ drop (length text) packs.old) }
 {
     let mut stages = stages(form, lead_in);

@@ -10,6 +10,9 @@ ghost use Rattle.ribjasper_c.specs.Conversions.{stream_form};
 ghost use Rattle.ribjasper_c.specs.LeadIns.{fault_answer, fault_told, ArePacksOf, IsRefusedBy};
 ghost use Rattle.stream_stages.specs.TextListing.{packs_in, IsTextListed, IsTextFault, IsWholeInput, texts_of_lead_in};
 
+use crate::answers::{
+    DONE, NO_MEMORY, REFUSED, TEXT_MALFORMED, TEXT_MISSING, TEXT_NO_SIZE, USAGE, WRITE_FAULT,
+};
 use crate::converting::{copy_front, stream_form};
 use block_survey::{block_at, unit_bytes};
 use cdg_io::{Failed, MemSink, Stage};
@@ -17,23 +20,6 @@ use cdtext_packs::{LeadInTexts, TextFault, TextMap, lead_in_packs_are_read, writ
 use disc_time::MOST_LEAD_IN;
 use raw_subcode::{BLOCK_BYTES, Block, Form, MOST_UNITS};
 use std::alloc::Global;
-
-// The exit numbers of the program, and those of what it refuses of texts.
-const DONE: i32 = 0;
-
-const USAGE: i32 = 2;
-
-const REFUSED: i32 = 3;
-
-const WRITE_FAULT: i32 = 6;
-
-const NO_MEMORY: i32 = 7;
-
-const TEXT_MISSING: i32 = 8;
-
-const TEXT_NO_SIZE: i32 = 9;
-
-const TEXT_MALFORMED: i32 = 10;
 
 // The lines of a lead-in are shorter: its packs hold 3,072 characters, which are printed in three bytes each and, where
 // tracks have the string of the one before, up to a hundred times; and there are at most 700 lines.

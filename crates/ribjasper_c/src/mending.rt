@@ -3,22 +3,12 @@ ghost use Rattle.std.specs.Prelude.{◌≡◌, ◌==◌, ◌≤◌, if◌then◌
 ghost use Rattle.disc_time.specs.Counts.{most_lead_in};
 ghost use Rattle.ribjasper_c.specs.Mending.{refusal_of, AreMendedInto};
 
+use crate::answers::{DAMAGED, DONE, REFUSED, USAGE, WRITE_FAULT};
 use disc_time::MOST_LEAD_IN;
 use raw_subcode::{BLOCK_BYTES, MOST_UNITS, SLOTS_A_BLOCK};
 use rw_code::SYMBOLS;
 use rw_interleave::PACKS_KEPT_BACK;
 use rw_mend::{MendCounts, mend_streams};
-
-// The exit numbers of the program.
-const DONE: i32 = 0;
-
-const DAMAGED: i32 = 1;
-
-const USAGE: i32 = 2;
-
-const REFUSED: i32 = 3;
-
-const WRITE_FAULT: i32 = 6;
 
 /// What is told of two readings that were mended.
 #[repr(C)]

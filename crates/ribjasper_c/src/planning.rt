@@ -7,22 +7,10 @@ ghost use Rattle.disc_plan.specs.declared.disc.PlannedDisc.{PlannedDisc};
 ghost use Rattle.disc_plan.specs.declared.stops.PlanStop.{PlanStop};
 ghost use Rattle.ribjasper_c.specs.Planning.{stop_answer, told_at_stop};
 
-use disc_plan::{PlanStop, Planned, PlannedRow, plan_disc, told_plan, told_stop};
+use crate::answers::{DONE, LATE, NO_MEMORY, REFUSED, USAGE, WRITE_FAULT};
+use disc_plan::{PlanStop, PlannedRow, ToldPlan, plan_disc, told_plan, told_stop};
 use disc_time::{MOST_LEAD_IN, MOST_PROGRAM};
 use std::alloc::Global;
-
-// The exit numbers of the program.
-const DONE: i32 = 0;
-
-const USAGE: i32 = 2;
-
-const REFUSED: i32 = 3;
-
-const LATE: i32 = 4;
-
-const WRITE_FAULT: i32 = 6;
-
-const NO_MEMORY: i32 = 7;
 
 /// Plans the pictures of a disc with a lead-in and an audio of so many blocks: writes a row for each picture to the front
 /// of some rows, and answers by an exit number of the program: 0 where none is late, 4 where some are.
@@ -34,7 +22,7 @@ pub extern "C" fn ribjasper_plan(
     lead_in: u32,
     audio: u32,
     rows: &mut [PlannedRow],
-    told: &mut Planned,
+    told: &mut ToldPlan,
 ) -> i32
     ensures plan { (result ≡ pos 0) ⊎ (result ≡ pos 4) → (disc : PlannedDisc)
         × IsPlan (planned_disc sheet.now script.now lead_in audio) rows.new disc

@@ -7,6 +7,7 @@ ghost use Rattle.raw_subcode.specs.declared.form.Form.{Form};
 ghost use Rattle.ribjasper_c.specs.Handles.{form_of, IsPlaying};
 
 use crate::Handle;
+use crate::answers::{DONE, NOT_DONE};
 use disc_time::MOST_LEAD_IN;
 use live_player::LivePlayer;
 use raw_subcode::{BLOCK_BYTES, Form};
@@ -110,16 +111,16 @@ pub extern "C" fn ribjasper_player_open(alloc: Global, player: &mut Playing) -> 
         let mut live = player.take_out();
         live.begin(0, Form::Raw);
         player.put_back(live);
-        return 0;
+        return DONE;
     }
     match opened(alloc) {
         Some(live) => {
             player.put_back(live);
-            0
+            DONE
         }
         None => {
             *player = Playing::closed(alloc);
-            -1
+            NOT_DONE
         }
     }
 }
@@ -152,12 +153,12 @@ pub extern "C" fn ribjasper_player_feed(player: &mut Playing, block: &[u8; BLOCK
     ensures refused { result ≡ negsuc 0 → player.new.handle.players ≡ player.old.handle.players }
 {
     if !player.is_open {
-        return -1;
+        return NOT_DONE;
     }
     let mut live = player.take_out();
     live.feed(block);
     player.put_back(live);
-    0
+    DONE
 }
 
 /// Draws a pack of 24 bytes, whose parity has no part in it. The stream goes on as if the pack were not there. 0, or
@@ -172,12 +173,12 @@ pub extern "C" fn ribjasper_player_draw(player: &mut Playing, pack: &[u8; SYMBOL
     ensures refused { result ≡ negsuc 0 → player.new.handle.players ≡ player.old.handle.players }
 {
     if !player.is_open {
-        return -1;
+        return NOT_DONE;
     }
     let mut live = player.take_out();
     live.draw(pack);
     player.put_back(live);
-    0
+    DONE
 }
 
 /// Begins anew, with so many lead-in blocks, at most 450,000. The form is 0 for a raw stream, or 1 for one of packs,
@@ -192,12 +193,12 @@ pub extern "C" fn ribjasper_player_begin(player: &mut Playing, form: u32, lead_i
     ensures refused { result ≡ negsuc 0 → player.new.handle.players ≡ player.old.handle.players }
 {
     if !player.is_open || form >= 2 || lead_in > MOST_LEAD_IN {
-        return -1;
+        return NOT_DONE;
     }
     let mut live = player.take_out();
     live.begin(lead_in, form_of(form));
     player.put_back(live);
-    0
+    DONE
 }
 
 /// The form of the blocks of a player that a number means.

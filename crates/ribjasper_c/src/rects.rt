@@ -5,8 +5,9 @@ ghost use Rattle.ribjasper_c.specs.Handles.{PlayersShow};
 ghost use Rattle.ribjasper_c.specs.Rects.{shown_rect};
 
 use crate::Playing;
+use crate::answers::{DONE, NOT_DONE};
 use cdg_instructions::{SCREEN_HEIGHT, SCREEN_WIDTH};
-use live_player::{LivePlayer, Part};
+use live_player::{LivePlayer, ScreenPart};
 
 /// Writes the numbers of the colours of a part of the screen, row by row; row j of it begins `stride` times j bytes from
 /// the front, and what is between the rows is left as it was. 0, or -1 where the player is closed, the part is not all
@@ -31,23 +32,23 @@ pub extern "C" fn ribjasper_player_rect(
     ensures refused { result ≡ negsuc 0 → pixels.new ≡ pixels.old }
 {
     let Some(part) = part_of(x, y, width, height) else {
-        return -1;
+        return NOT_DONE;
     };
     if !player.is_open || !has_room(&part, stride, pixels.len()) {
-        return -1;
+        return NOT_DONE;
     }
     let live = player.take_out();
     shown_part(&live, &part, pixels, stride as usize);
     player.put_back(live);
-    0
+    DONE
 }
 
 // A part, where it is all on the screen.
-fn part_of(x: u32, y: u32, width: u32, height: u32) -> Option<Part>
+fn part_of(x: u32, y: u32, width: u32, height: u32) -> Option<ScreenPart>
     ensures { MatchOption result (¬ IsOnScreen (shown_rect x y width height))
         (λ part. (part ≡ shown_rect x y width height) × IsOnScreen (shown_rect x y width height)) }
 {
-    let part = Part {
+    let part = ScreenPart {
         left: x as usize,
         top: y as usize,
         width: width as usize,
@@ -61,7 +62,7 @@ fn part_of(x: u32, y: u32, width: u32, height: u32) -> Option<Part>
 }
 
 // Whether the rows of a part do not lie over each other and so many bytes have room for them.
-fn has_room(part: &Part, stride: u32, room: usize) -> bool
+fn has_room(part: &ScreenPart, stride: u32, room: usize) -> bool
     requires { IsOnScreen part.now }
     ensures { IsTrue result ↔ (part.now.width ≤ stride) × HasRoomFor part.now stride room }
 {
@@ -70,7 +71,7 @@ fn has_room(part: &Part, stride: u32, room: usize) -> bool
 }
 
 // The pixels of a part of the screen, of what the player was given since it began.
-fn shown_part(live: &LivePlayer, part: &Part, pixels: &mut [u8], stride: usize)
+fn shown_part(live: &LivePlayer, part: &ScreenPart, pixels: &mut [u8], stride: usize)
     requires part { IsOnScreen part.now }
     requires apart { part.now.width ≤ stride }
     requires room { HasRoomFor part.now stride (length pixels.old) }

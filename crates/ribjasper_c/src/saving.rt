@@ -10,19 +10,12 @@ ghost use Rattle.ribjasper_c.specs.Handles.{IsPlaying};
 ghost use Rattle.ribjasper_c.specs.Saving.{CannotBeSaved, IsSavedAs, AreAt};
 
 use crate::Playing;
+use crate::answers::{DONE, NO_MEMORY, NOT_DONE, REFUSED};
 use cdg_io::SteadySource;
 use checkpoint_files::{CheckpointFile, FILE_BYTES};
 use live_player::{LivePlayer, a_saved_player_goes_on};
 use raw_subcode::Form;
 use std::alloc::Global;
-
-const DONE: i32 = 0;
-
-const REFUSED: i32 = -1;
-
-const NO_CHECKPOINT: i32 = 3;
-
-const NO_MEMORY: i32 = 7;
 
 /// Writes the file of the checkpoint at which an open player is. 0, or -1 where the player is closed or cannot be
 /// saved, or 7 where no memory is left.
@@ -48,7 +41,7 @@ pub extern "C" fn ribjasper_player_save(
 {
     a_saved_player_goes_on();
     if !player.is_open {
-        return REFUSED;
+        return NOT_DONE;
     }
     let live = player.take_out();
     let answer = save(alloc, &live, file);
@@ -64,7 +57,7 @@ fn save(alloc: Global, live: &LivePlayer, file: &mut [u8; FILE_BYTES]) -> i32
     ensures untouched { result ≢ pos 0 → file.new ≡ file.old }
 {
     if !matches!(live.words.form, Form::Raw) {
-        return REFUSED;
+        return NOT_DONE;
     }
     let Ok(mut saved) = CheckpointFile::start(alloc) else {
         return NO_MEMORY;
@@ -75,7 +68,7 @@ fn save(alloc: Global, live: &LivePlayer, file: &mut [u8; FILE_BYTES]) -> i32
             file.copy_from_slice(saved.bytes());
             DONE
         }
-        Err(_) => REFUSED,
+        Err(_) => NOT_DONE,
     }
 }
 
@@ -103,7 +96,7 @@ pub extern "C" fn ribjasper_player_load(
 {
     a_saved_player_goes_on();
     if !player.is_open {
-        return REFUSED;
+        return NOT_DONE;
     }
     let Some(saved) = read_file(alloc, file) else {
         return NO_MEMORY;
@@ -117,7 +110,7 @@ pub extern "C" fn ribjasper_player_load(
         }
         Err(bad) => {
             *byte = bad;
-            NO_CHECKPOINT
+            REFUSED
         }
     }
 }
@@ -142,7 +135,7 @@ pub extern "C" fn ribjasper_player_copy(from: &mut Playing, to: &mut Playing) ->
     ensures refused { result ≡ negsuc 0 → to.new.handle.players ≡ to.old.handle.players }
 {
     if !from.is_open || !to.is_open {
-        return REFUSED;
+        return NOT_DONE;
     }
     let other = from.take_out();
     let mut live = to.take_out();

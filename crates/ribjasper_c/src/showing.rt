@@ -5,6 +5,7 @@ ghost use Rattle.cdg_screen.specs.Standing.{screen_pixel};
 ghost use Rattle.ribjasper_c.specs.Handles.{ArePictureBytes, AreLevels, IsScreen, IsTable, PlayersShow};
 
 use crate::Playing;
+use crate::answers::{DONE, NOT_DONE};
 use cdg_instructions::{SCREEN_HEIGHT, SCREEN_PIXELS, SCREEN_WIDTH};
 use live_player::{LivePlayer, PICTURE_BYTES};
 
@@ -30,12 +31,12 @@ pub extern "C" fn ribjasper_player_pixel(
     ensures refused { result ≡ negsuc 0 → pixel.new ≡ pixel.old }
 {
     if !player.is_open || x >= WIDTH || y >= HEIGHT {
-        return -1;
+        return NOT_DONE;
     }
     let live = player.take_out();
     *pixel = shown_pixel(&live, x, y);
     player.put_back(live);
-    0
+    DONE
 }
 
 // The pixel of the screen at a place, of what the player was given since it began.
@@ -63,12 +64,12 @@ pub extern "C" fn ribjasper_player_screen(
     ensures refused { result ≡ negsuc 0 → pixels.new ≡ pixels.old }
 {
     if !player.is_open {
-        return -1;
+        return NOT_DONE;
     }
     let live = player.take_out();
     shown_screen(&live, pixels);
     player.put_back(live);
-    0
+    DONE
 }
 
 // The pixels of the screen, of what the player was given since it began.
@@ -92,12 +93,12 @@ pub extern "C" fn ribjasper_player_colour(player: &mut Playing, k: u8, colour: &
     ensures refused { result ≡ negsuc 0 → colour.new ≡ colour.old }
 {
     if !player.is_open || k >= 16 {
-        return -1;
+        return NOT_DONE;
     }
     let live = player.take_out();
     *colour = shown_colour(&live, k);
     player.put_back(live);
-    0
+    DONE
 }
 
 // Colour k of the table, of what the player was given since it began.
@@ -121,12 +122,12 @@ pub extern "C" fn ribjasper_player_colours(player: &mut Playing, table: &mut [u1
     ensures refused { result ≡ negsuc 0 → table.new ≡ table.old }
 {
     if !player.is_open {
-        return -1;
+        return NOT_DONE;
     }
     let live = player.take_out();
     shown_colours(&live, table);
     player.put_back(live);
-    0
+    DONE
 }
 
 // The colours of the table, of what the player was given since it began.
@@ -149,12 +150,12 @@ pub extern "C" fn ribjasper_player_levels(player: &mut Playing, levels: &mut [u8
     ensures refused { result ≡ negsuc 0 → levels.new ≡ levels.old }
 {
     if !player.is_open {
-        return -1;
+        return NOT_DONE;
     }
     let live = player.take_out();
     shown_levels(&live, levels);
     player.put_back(live);
-    0
+    DONE
 }
 
 // The levels of the colours, of what the player was given since it began.
@@ -181,12 +182,12 @@ pub extern "C" fn ribjasper_player_picture(
     ensures refused { result ≡ negsuc 0 → bytes.new ≡ bytes.old }
 {
     if !player.is_open {
-        return -1;
+        return NOT_DONE;
     }
     let live = player.take_out();
     shown_picture(&live, bytes);
     player.put_back(live);
-    0
+    DONE
 }
 
 // Red, green and blue of the pixels of the screen, of what the player was given since it began.
@@ -209,12 +210,12 @@ pub extern "C" fn ribjasper_player_border(player: &mut Playing, border: &mut u8)
     ensures refused { result ≡ negsuc 0 → border.new ≡ border.old }
 {
     if !player.is_open {
-        return -1;
+        return NOT_DONE;
     }
     let live = player.take_out();
     *border = shown_border(&live);
     player.put_back(live);
-    0
+    DONE
 }
 
 // The number of the border's colour, of what the player was given since it began.
@@ -243,12 +244,12 @@ pub extern "C" fn ribjasper_player_offsets(
     ensures refused { result ≡ negsuc 0 → (across.new ≡ across.old) × (down.new ≡ down.old) }
 {
     if !player.is_open {
-        return -1;
+        return NOT_DONE;
     }
     let live = player.take_out();
     (*across, *down) = shown_offsets(&live);
     player.put_back(live);
-    0
+    DONE
 }
 
 // Where in the memory the screen begins, of what the player was given since it began.

@@ -4,19 +4,11 @@ ghost use Rattle.block_survey.specs.Rows.{survey_rows};
 ghost use Rattle.ribjasper_c.specs.Conversions.{stream_form};
 ghost use Rattle.ribjasper_c.specs.Surveys.{survey_answer, survey_told, whole_blocks};
 
+use crate::answers::{DONE, REFUSED, USAGE, WRITE_FAULT};
 use crate::converting::stream_form;
 use block_survey::{BlockRow, survey, unit_bytes};
 use disc_time::MOST_LEAD_IN;
 use raw_subcode::MOST_UNITS;
-
-// The exit numbers of the program.
-const DONE: i32 = 0;
-
-const USAGE: i32 = 2;
-
-const REFUSED: i32 = 3;
-
-const WRITE_FAULT: i32 = 6;
 
 /// What is told of a stream that was surveyed.
 #[repr(C)]

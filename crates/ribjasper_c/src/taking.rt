@@ -8,6 +8,7 @@ ghost use Rattle.ribjasper_c.specs.Handles.{IsPlaying};
 ghost use Rattle.ribjasper_c.specs.Packs.{AreReadAs};
 
 use crate::Playing;
+use crate::answers::NOT_DONE;
 use raw_subcode::BLOCK_BYTES;
 use rw_code::{SYMBOLS, Word, correct};
 
@@ -42,7 +43,7 @@ pub extern "C" fn ribjasper_player_take(
     ensures stays { player.new.is_open ≡ player.old.is_open }
 {
     if !player.is_open {
-        return -1;
+        return NOT_DONE;
     }
     let mut live = player.take_out();
     let words = live.take(block);

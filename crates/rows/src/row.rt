@@ -10,7 +10,7 @@ const ROOM: usize = 2_000_000;
 
 /// Bytes that stand at a place of the output.
 #[derive(Drop)]
-pub(crate) struct Part {
+pub(crate) struct PlacedBytes {
     pub(crate) place: usize,
     pub(crate) bytes: Vec<u8>,
 }
@@ -43,7 +43,7 @@ pub(crate) struct Row<'a> {
     pub(crate) length: Option<usize>,
     /// The SHA-256 of the output.
     pub(crate) digest: Option<&'a str>,
-    pub(crate) parts: Vec<Part>,
+    pub(crate) parts: Vec<PlacedBytes>,
     /// Lines of the output.
     pub(crate) lines: Vec<&'a str>,
     /// How many bytes of each input are not read.
@@ -114,7 +114,7 @@ impl<'a> Row<'a> {
         let (place, pieces) = value.split_once(' ').context("a place lacks its bytes")?;
         let place = place.parse::<usize>()?;
         let bytes = read_pieces(alloc, pieces, outputs)?;
-        Ok(self.parts.push(Part { place, bytes })?)
+        Ok(self.parts.push(PlacedBytes { place, bytes })?)
     }
 
     // Reads a line that says nothing of an input, nor of the bytes of an output.

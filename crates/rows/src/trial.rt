@@ -1,7 +1,7 @@
 // The trial of a row.
 ghost use Rattle.std.specs.Prelude.{◌≡◌, OnOk};
 
-use crate::row::{Extent, Part, Row};
+use crate::row::{Extent, PlacedBytes, Row};
 use anyhow::{Result, bail, ensure};
 use cdg_cmd::{run, split};
 use cdg_io::{MemSink, MemSource};
@@ -43,7 +43,7 @@ fn compare_count(what: &str, wanted: Option<usize>, got: usize) -> Result<()> {
 }
 
 // Fails where these bytes do not stand at their place.
-fn compare_part(alloc: Global, part: &Part, got: &[u8]) -> Result<()> {
+fn compare_part(alloc: Global, part: &PlacedBytes, got: &[u8]) -> Result<()> {
     let rest = got.get(part.place..).unwrap_or(&[]);
     let there = &rest[..rest.len().min(part.bytes.len())];
     compare(alloc, "part of out", &part.bytes, there)
@@ -111,19 +111,19 @@ fn compare_output(alloc: Global, row: &Row, got: &[u8]) -> Result<()> {
 
 // The inputs and outputs of a run.
 #[derive(Drop)]
-struct Streams {
+struct RunStreams {
     first: MemSource,
     second: MemSource,
     out: MemSink,
     err: MemSink,
 }
 
-impl Streams {
+impl RunStreams {
     // Those of a row, whose inputs they take.
-    fn of_row(alloc: Global, row: &mut Row) -> Result<Streams, AllocError> {
+    fn of_row(alloc: Global, row: &mut Row) -> Result<RunStreams, AllocError> {
         let out = row.out.sink(alloc, row.room)?;
         let err = row.err.sink(alloc, 256)?;
-        Ok(Streams {
+        Ok(RunStreams {
             first: row.first.source(alloc),
             second: row.second.source(alloc),
             out,
@@ -133,7 +133,7 @@ impl Streams {
 }
 
 // Runs the words of a row. It fails where they are split elsewhere, or the status is not the one that is wanted.
-fn run_words(alloc: Global, row: &Row, streams: &mut Streams) -> Result<()> {
+fn run_words(alloc: Global, row: &Row, streams: &mut RunStreams) -> Result<()> {
     let split = split(&row.words);
     compare_count("names", Some(row.names), split.names)?;
     let status = run(
@@ -150,7 +150,7 @@ fn run_words(alloc: Global, row: &Row, streams: &mut Streams) -> Result<()> {
 }
 
 // Fails where what was written, or what is left of the inputs, is not what a row wants.
-fn compare_streams(alloc: Global, row: &Row, streams: &Streams) -> Result<()> {
+fn compare_streams(alloc: Global, row: &Row, streams: &RunStreams) -> Result<()> {
     compare(alloc, "err", &row.err.bytes, streams.err.bytes())?;
     compare_output(alloc, row, streams.out.bytes())?;
     compare_count("left", row.first_left, streams.first.rest().len())?;
@@ -162,7 +162,7 @@ fn compare_streams(alloc: Global, row: &Row, streams: &Streams) -> Result<()> {
 }
 
 // Runs a row on its streams, and answers what it wrote.
-fn run_streams(alloc: Global, row: &Row, streams: &mut Streams) -> Result<Vec<u8>> {
+fn run_streams(alloc: Global, row: &Row, streams: &mut RunStreams) -> Result<Vec<u8>> {
     run_words(alloc, row, streams)?;
     compare_streams(alloc, row, streams)?;
     Ok(streams.out.bytes().to_vec(alloc)?)
@@ -173,6 +173,6 @@ pub(crate) fn run_row(alloc: Global, row: &mut Row) -> Result<Vec<u8>> {
     if row.is_given {
         return Ok(replace(&mut row.out.bytes, Vec::new(alloc)));
     }
-    let mut streams = Streams::of_row(alloc, row)?;
+    let mut streams = RunStreams::of_row(alloc, row)?;
     run_streams(alloc, row, &mut streams)
 }

@@ -27,7 +27,7 @@ use Rattle.rw_mend.specs.Streams.{AreMended, block_at, blocks_under, coverage_of
 use Rattle.rw_mend.specs.declared.words.Coverage.{Coverage}
 use Rattle.rw_mend.specs.declared.words.Coverage.TheVariants.{Whole, Partly, Unread}
 use Rattle.rw_mend.specs.declared.words.Mended.{Mended}
-use Rattle.rw_mend.specs.declared.words.Reading.{Reading}
+use Rattle.rw_mend.specs.declared.words.WordReading.{WordReading}
 use Rattle.rw_mend.specs.declared.words.Way.TheVariants.{Both, First, Second, Agreed}
 use Rattle.rw_mend.proofs.Mending.{kept, kept_second, one_mending}
 
@@ -147,7 +147,7 @@ unread_or_not Partly = inr (λ e. (cc))
 unread_or_not Unread = inl refl
 
 -- of a first reading that was not read the second's codeword is mended, or nothing
-unread_first : (first second : Reading) (codeword : List ℕ) (found : Option Mended) → first.coverage ≡ Unread → codeword ≡ replicate 24 0
+unread_first : (first second : WordReading) (codeword : List ℕ) (found : Option Mended) → first.coverage ≡ Unread → codeword ≡ replicate 24 0
     → ((another : List ℕ) → Reads second.word another → another ≡ codeword) → IsMending first second found → mended_bytes found ≡ codeword
 unread_first first second codeword None unread idle alone is = sym idle
 unread_first first second codeword (Some mended) unread idle alone is =
@@ -158,7 +158,7 @@ unread_first first second codeword (Some mended) unread idle alone is =
       | Agreed ↦ λ m. absurd (m.0 unread)
     ] is
 
-unread_second : (first second : Reading) (codeword : List ℕ) (found : Option Mended) → second.coverage ≡ Unread → codeword ≡ replicate 24 0
+unread_second : (first second : WordReading) (codeword : List ℕ) (found : Option Mended) → second.coverage ≡ Unread → codeword ≡ replicate 24 0
     → ((another : List ℕ) → Reads first.word another → another ≡ codeword) → IsMending first second found → mended_bytes found ≡ codeword
 unread_second first second codeword None unread idle alone is = sym idle
 unread_second first second codeword (Some mended) unread idle alone is =
@@ -220,7 +220,8 @@ packs_kept lead_in blocks packs first second found read mended =
     let word : word_of read.symbols n ≡ pack = carries.words n within in
     let reads : (program : List ℕ) → IsNear (word_of (symbols_of program) n) (word_of read.symbols n) → Reads ((reading_at program n).word) pack =
     λ program near. subst (λ w. Reads w pack) (sym (reading-word program n)) (record { is_codeword = codeword; is_near = subst (IsNear (word_of (symbols_of program) n)) word near }) in
-    let alone : (program : List ℕ) → ((another : List ℕ) → Reads (word_of (symbols_of program) n) another → another ≡ word_of read.symbols n) → (another : List ℕ) → Reads ((reading_at program n).word) another → another ≡ pack =
+    let alone : (program : List ℕ) → ((another : List ℕ) → Reads (word_of (symbols_of program) n) another → another ≡ word_of read.symbols n)
+    → (another : List ℕ) → Reads ((reading_at program n).word) another → another ≡ pack =
     λ program only another near. only another (subst (λ w. Reads w another) (reading-word program n) near) ∙ word in
     get_or-map mended_bytes found n None [] (omega (arith, within, mended.count))
     ∙ elim (read.enough n within) [

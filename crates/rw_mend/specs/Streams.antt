@@ -1,5 +1,5 @@
 -- Two readings of a stream, mended word by word.
-use Rattle.std.specs.Prelude.{◌≡◌, ◌==◌, ◌&&◌, ℕ, ◌+◌, ◌-◌, ◌*◌, ◌/◌, ◌<◌, Bool, true, false, not, if◌then◌else◌, List, ◌++◌, length, map, drop, replicate, flat_map, count_by, slice_range, slice_index_or, is_none, is_ok, Option, Some, None}
+use Rattle.std.specs.Prelude.{◌≡◌, ◌==◌, ◌&&◌, ℕ, ◌+◌, ◌-◌, ◌*◌, ◌/◌, ◌<◌, Bool, true, false, not, if◌then◌else◌, List, ◌++◌, length, map, drop, flat_map, count_by, slice_range, slice_index_or, is_none, is_ok, Option, Some, None}
 use Rattle.std.specs.List.{list_all, list_any, range_with_len}
 use Rattle.raw_subcode.specs.Channels.{q_bits, symbols_of}
 use Rattle.q_channel.specs.ReadingOf.{reading_of}
@@ -7,19 +7,21 @@ use Rattle.rw_interleave.specs.Interleave.{word_of, whole_packs}
 use Rattle.rw_mend.specs.Mending.{IsMending}
 use Rattle.rw_mend.specs.declared.words.Coverage.{Coverage}
 use Rattle.rw_mend.specs.declared.words.Coverage.TheVariants.{Whole, Partly, Unread}
-use Rattle.rw_mend.specs.declared.words.Reading.{Reading}
+use Rattle.rw_mend.specs.declared.words.WordReading.{WordReading}
 use Rattle.rw_mend.specs.declared.words.Way.{Way}
 use Rattle.rw_mend.specs.declared.words.Way.TheVariants.{Both, First, Second, Agreed}
 use Rattle.rw_mend.specs.declared.words.Mended.{Mended}
 use Rattle.rw_mend.specs.declared.streams.MendCounts.{MendCounts}
+use Rattle.raw_subcode.specs.Sizes.{block_bytes, symbols_a_slot}
+use Rattle.rw_code.specs.Packs.{idle_pack}
 
 -- the bytes of the program blocks of a raw stream
 abbrev pub program_of : ℕ → List ℕ → List ℕ
-program_of lead_in bytes = drop (96 * lead_in) bytes
+program_of lead_in bytes = drop (block_bytes * lead_in) bytes
 
 -- a block of the program
 abbrev pub block_at : List ℕ → ℕ → List ℕ
-block_at program b = slice_range program (96 * b) (96 * b + 96)
+block_at program b = slice_range program (block_bytes * b) (block_bytes * b + block_bytes)
 
 -- whether a block is empty: its symbols are 0, and its Q channel is no frame
 unfoldable pub is_empty_block : List ℕ → Bool
@@ -36,7 +38,7 @@ coverage_of blocks = if list_all is_empty_block blocks then Unread
     else (if list_any is_empty_block blocks then Partly else Whole)
 
 -- the reading of word n of a program
-unfoldable pub reading_at : List ℕ → ℕ → Reading
+unfoldable pub reading_at : List ℕ → ℕ → WordReading
 reading_at program n = record {
   word = word_of (symbols_of program) n;
   coverage = coverage_of (blocks_under program n);
@@ -51,7 +53,7 @@ pub record AreMended (blocks : ℕ) (first second : List ℕ) (found : List (Opt
 -- the symbols of a mended codeword, or zeros where there is none
 abbrev pub mended_bytes : Option Mended → List ℕ
 mended_bytes (Some mended) = mended.pack
-mended_bytes None = replicate 24 0
+mended_bytes None = idle_pack
 
 -- the text of what is found, 24 bytes for each word
 abbrev pub mended_text : List (Option Mended) → List ℕ
@@ -81,8 +83,8 @@ pub record AreCounts (found : List (Option Mended)) (counts : MendCounts) : Type
 -- The words of both readings are mended, and their text stands at the front of a buffer; what is behind it stays.
 pub record IsMendedInto (lead_in : ℕ) (first second old new : List ℕ) (counts : MendCounts) : Type 0 where
   pub found : List (Option Mended)
-  pub mended : AreMended (length first / 96 - lead_in) (program_of lead_in first)
+  pub mended : AreMended (length first / block_bytes - lead_in) (program_of lead_in first)
       (program_of lead_in second) found
   pub counts_are : AreCounts found counts
-  pub size : length (mended_text found) ≡ 24 * whole_packs (length first / 96 - lead_in)
+  pub size : length (mended_text found) ≡ symbols_a_slot * whole_packs (length first / block_bytes - lead_in)
   pub text : new ≡ mended_text found ++ drop (length (mended_text found)) old

@@ -3,6 +3,7 @@ ghost use Rattle.std.specs.Prelude.{◌≡◌, ◌==◌, ◌≤◌, ◌<◌, ◌
 ghost use Rattle.std.specs.List.{list_all};
 ghost use Rattle.rw_mend.specs.Streams.{block_at, blocks_under, coverage_of, is_empty_block};
 ghost use Rattle.rw_mend.specs.Trails.{IsTrail};
+ghost use Rattle.raw_subcode.specs.Sizes.{block_bytes};
 
 use crate::Coverage;
 use q_channel::is_frame;
@@ -29,7 +30,7 @@ impl Trail {
     /// Comes to word n of a program from the word before it.
     pub(crate) fn advance(&mut self, program: &[u8], n: usize)
         requires before { 0 < n → IsTrail program.now (n - 1) self.old }
-        requires within { 96 * ((n + 7) / 4) + 96 ≤ length program.now }
+        requires within { block_bytes * ((n + 7) / 4) + block_bytes ≤ length program.now }
         ensures { IsTrail program.now n self.new }
     {
         if n == 0 {
@@ -74,7 +75,7 @@ fn covered(all: bool, any: bool) -> Coverage
 
 // Whether a block of a program is empty.
 fn is_empty_at(program: &[u8], b: usize) -> bool
-    requires { 96 * b + 96 ≤ length program.now }
+    requires { block_bytes * b + block_bytes ≤ length program.now }
     ensures { result ≡ is_empty_block (block_at program.now b) }
 {
     let at = BLOCK_BYTES * b;
@@ -83,7 +84,7 @@ fn is_empty_at(program: &[u8], b: usize) -> bool
 
 // Whether a block is empty.
 fn is_empty(block: &[u8]) -> bool
-    requires { length block.now ≡ 96 }
+    requires { length block.now ≡ block_bytes }
     ensures { result ≡ is_empty_block block.now }
 {
     if !has_no_symbol(block) {

@@ -8,11 +8,11 @@ ghost use Rattle.rw_mend.specs.Mending.{Gives, GivesNoOther, IsMending};
 ghost use Rattle.rw_mend.specs.Streams.{AreMended, mended_text, program_of};
 ghost use Rattle.rw_mend.specs.Noise.{IsReadBesideNoise};
 ghost use Rattle.rw_mend.specs.declared.words.Mended.{Mended};
-ghost use Rattle.rw_mend.specs.declared.words.Reading.{Reading};
+ghost use Rattle.rw_mend.specs.declared.words.WordReading.{WordReading};
 
 /// A law: for two readings of a word one codeword at most is mended, in one way; so it is for each word of two streams.
 pub fn one_codeword_is_mended()
-    ensures word { (first second : Reading) (found other : Option Mended) → IsWord first.word
+    ensures word { (first second : WordReading) (found other : Option Mended) → IsWord first.word
         → IsWord second.word
         → IsMending first second found → IsMending first second other → found ≡ other }
     ensures stream { (blocks : ℕ) (first second : List ℕ) (found other : List (Option Mended))
@@ -21,10 +21,12 @@ pub fn one_codeword_is_mended()
 
 /// A law: what one reading of a word gives is mended where the other gives no other codeword.
 pub fn what_one_reading_gives_is_kept()
-    ensures first { (first second : Reading) (codeword : List ℕ) (found : Option Mended) → IsWord first.word
+    ensures first { (first second : WordReading) (codeword : List ℕ) (found : Option Mended)
+        → IsWord first.word
         → Gives first codeword → GivesNoOther second codeword → IsMending first second found
         → IsSomeAnd found (λ mended. mended.pack ≡ codeword) }
-    ensures second { (first second : Reading) (codeword : List ℕ) (found : Option Mended) → IsWord second.word
+    ensures second { (first second : WordReading) (codeword : List ℕ) (found : Option Mended)
+        → IsWord second.word
         → Gives second codeword → GivesNoOther first codeword → IsMending first second found
         → IsSomeAnd found (λ mended. mended.pack ≡ codeword) }
 {}

@@ -8,4 +8,4 @@ mod words;
 
 pub use laws::{one_codeword_is_mended, packs_come_back, what_one_reading_gives_is_kept};
 pub use streams::{MendCounts, mend_streams};
-pub use words::{Coverage, Mended, Reading, Way, mend};
+pub use words::{Coverage, Mended, Way, WordReading, mend};

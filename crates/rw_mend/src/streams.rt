@@ -2,14 +2,14 @@
 ghost use Rattle.std.specs.Prelude.{◌≡◌, ◌≤◌, ◌<◌, ◌+◌, ◌-◌, ◌*◌, ◌/◌, ◌%◌, ◌^◌, ◌++◌, [], ◌∷◌, List, ℕ, length, take, drop};
 ghost use Rattle.std.specs.declared.option.Option.{Option};
 ghost use Rattle.raw_subcode.specs.Channels.{symbols_of};
-ghost use Rattle.raw_subcode.specs.Sizes.{most_units};
+ghost use Rattle.raw_subcode.specs.Sizes.{block_bytes, most_units, symbols_a_slot};
 ghost use Rattle.rw_interleave.specs.Interleave.{word_of, whole_packs};
 ghost use Rattle.rw_mend.specs.declared.words.Mended.{Mended};
 ghost use Rattle.rw_mend.specs.Streams.{AreCounts, AreMended, mended_bytes, mended_text, reading_at, IsMendedInto};
 ghost use Rattle.rw_mend.specs.Trails.{IsTrail};
 
 use crate::cover::Trail;
-use crate::{Mended, Reading, Way, mend};
+use crate::{Mended, Way, WordReading, mend};
 use raw_subcode::BLOCK_BYTES;
 use rw_code::{SYMBOLS, Word};
 use rw_interleave::{PACKS_KEPT_BACK, place};
@@ -34,9 +34,10 @@ pub struct MendCounts {
 /// after the lead-in, to the front of a buffer: the symbols of its codeword, or zeros where there is none.
 pub fn mend_streams(first: &[u8], second: &[u8], lead_in: u32, packs: &mut [u8]) -> MendCounts
     requires equal { length first.now ≡ length second.now }
-    requires whole { length first.now % 96 ≡ 0 }
-    requires few { length first.now ≤ 96 * most_units }
-    requires room { 24 * whole_packs (length first.now / 96 - lead_in) ≤ length packs.old }
+    requires whole { length first.now % block_bytes ≡ 0 }
+    requires few { length first.now ≤ block_bytes * most_units }
+    requires room { symbols_a_slot * whole_packs
+        (length first.now / block_bytes - lead_in) ≤ length packs.old }
     ensures { IsMendedInto lead_in first.now second.now packs.old packs.new result }
 {
     let start = (BLOCK_BYTES * lead_in as usize).min(first.len());
@@ -46,11 +47,13 @@ pub fn mend_streams(first: &[u8], second: &[u8], lead_in: u32, packs: &mut [u8])
 // The same of the blocks of the program alone.
 fn mend_programs(first: &[u8], second: &[u8], packs: &mut [u8]) -> MendCounts
     requires equal { length first.now ≡ length second.now }
-    requires whole { length first.now % 96 ≡ 0 }
-    requires few { length first.now ≤ 96 * most_units }
-    requires room { 24 * whole_packs (length first.now / 96) ≤ length packs.old }
-    ensures { (found : List (Option Mended)) × AreMended (length first.now / 96) first.now second.now found
-        × AreCounts found result × (length (mended_text found) ≡ 24 * whole_packs (length first.now / 96))
+    requires whole { length first.now % block_bytes ≡ 0 }
+    requires few { length first.now ≤ block_bytes * most_units }
+    requires room { symbols_a_slot * whole_packs (length first.now / block_bytes) ≤ length packs.old }
+    ensures { (found : List (Option Mended))
+        × AreMended (length first.now / block_bytes) first.now second.now found
+        × AreCounts found result
+        × (length (mended_text found) ≡ symbols_a_slot * whole_packs (length first.now / block_bytes))
         × (packs.new ≡ mended_text found ++ drop (length (mended_text found)) packs.old) }
 {
     let words = (first.len() / SYMBOLS).saturating_sub(PACKS_KEPT_BACK);
@@ -104,12 +107,12 @@ impl MendCounts {
 }
 
 // The reading of word n.
-fn reading(program: &[u8], n: usize, trail: &Trail) -> Reading
-    requires size { 24 * (n + 8) ≤ length program.now }
+fn reading(program: &[u8], n: usize, trail: &Trail) -> WordReading
+    requires size { symbols_a_slot * (n + 8) ≤ length program.now }
     requires trail { IsTrail program.now n trail.now }
     ensures { result ≡ reading_at program.now n }
 {
-    Reading {
+    WordReading {
         word: word_at(program, n),
         coverage: trail.coverage(n),
     }
@@ -117,7 +120,7 @@ fn reading(program: &[u8], n: usize, trail: &Trail) -> Reading
 
 // The symbols of word n.
 fn word_at(program: &[u8], n: usize) -> Word
-    requires { 24 * (n + 8) ≤ length program.now }
+    requires { symbols_a_slot * (n + 8) ≤ length program.now }
     ensures { result ≡ word_of (symbols_of program.now) n }
 {
     let mut bytes = [0; SYMBOLS];
@@ -129,10 +132,10 @@ fn word_at(program: &[u8], n: usize) -> Word
 
 // Puts what is found for word n.
 fn put(packs: &mut [u8], n: usize, found: &Option<Mended>)
-    requires { 24 * n + 24 ≤ length packs.old }
-    ensures packs { packs.new ≡ take (24 * n) packs.old ++ mended_bytes found.now
-        ++ drop (24 * n + 24) packs.old }
-    ensures size { length (mended_bytes found.now) ≡ 24 }
+    requires { symbols_a_slot * n + symbols_a_slot ≤ length packs.old }
+    ensures packs { packs.new ≡ take (symbols_a_slot * n) packs.old ++ mended_bytes found.now
+        ++ drop (symbols_a_slot * n + symbols_a_slot) packs.old }
+    ensures size { length (mended_bytes found.now) ≡ symbols_a_slot }
 {
     let bytes = bytes_of(found);
     packs[SYMBOLS * n..SYMBOLS * n + SYMBOLS].copy_from_slice(&bytes);

@@ -19,7 +19,7 @@ pub enum Coverage {
 
 /// A reading of a word.
 #[derive(Clone, Copy)]
-pub struct Reading {
+pub struct WordReading {
     /// The symbols as they were read.
     pub word: Word,
     /// How much of it was read.
@@ -51,7 +51,7 @@ pub struct Mended {
 /// The codeword that two readings of a word give together: the one that both are near, or one alone; where each is near
 /// another and one of them has an empty block under the word, that of the other; else the one on which both agree.
 /// `None` exactly where there is none.
-pub fn mend(first: &Reading, second: &Reading) -> Option<Mended>
+pub fn mend(first: &WordReading, second: &WordReading) -> Option<Mended>
     ensures { IsMending first.now second.now result }
 {
     let one = given(first);
@@ -71,7 +71,7 @@ pub fn mend(first: &Reading, second: &Reading) -> Option<Mended>
 }
 
 // The same where both give a codeword.
-fn mend_given(first: &Reading, one: &Pack, second: &Reading, other: &Pack) -> Option<Mended>
+fn mend_given(first: &WordReading, one: &Pack, second: &WordReading, other: &Pack) -> Option<Mended>
     requires one { Gives first.now one.now }
     requires other { Gives second.now other.now }
     ensures { IsMending first.now second.now result }
@@ -96,7 +96,7 @@ fn mend_given(first: &Reading, one: &Pack, second: &Reading, other: &Pack) -> Op
 }
 
 // The codeword that a reading gives.
-fn given(reading: &Reading) -> Option<Pack>
+fn given(reading: &WordReading) -> Option<Pack>
     ensures { MatchOption result (GivesNone reading.now) (λ pack. Gives reading.now pack) }
 {
     if reading.coverage == Coverage::Unread {
@@ -107,7 +107,7 @@ fn given(reading: &Reading) -> Option<Pack>
 }
 
 // The codeword on which both readings agree, where neither is preferred.
-fn agreed(first: &Reading, second: &Reading) -> Option<Mended>
+fn agreed(first: &WordReading, second: &WordReading) -> Option<Mended>
     requires { IsOpen first.now second.now }
     ensures { IsMending first.now second.now result }
 {

@@ -1,14 +1,13 @@
 -- How often the ends of both inputs are told, exit by exit, and since the beginning.
-use Rattle.std.proofs.Common.{◌≡◌, ◌≢◌, ◌⊎◌, ℕ, ◌<◌, ◌≤◌, List, [], ◌++◌, length, take, ◌∙◌, inl, inr, arith, length-append}
-use Rattle.std.specs.Prelude.{Option, Result, Ok, Err}
+use Rattle.std.proofs.Common.{◌≡◌, ◌≢◌, ℕ, ◌<◌, List, [], ◌++◌, length, take, ◌∙◌, inl, inr, arith, length-append}
+use Rattle.std.specs.Prelude.{Option, Ok}
 use Rattle.std.specs.Io.KnownBytes.{Consumes}
 use Rattle.std.proofs.KnownBytes.{Consumes-nil, Consumes-trans}
 use Rattle.std.proofs.lemmas.List.{length-take}
 use Rattle.cdg_io.specs.Causes.{Count, RoseOnce, TellsEnd}
 use Rattle.cdg_io.specs.Change.{Input, from_to}
-use Rattle.cdg_io.specs.Moves.{ConsumesBelow}
 use Rattle.cdg_io.proofs.Stops.{rose_once_since}
-use Rattle.rw_merge.specs.Merging.{EndIsTold, EndIsUntold, EndsAtStop, EndsShorter, EndsUnlessAhead}
+use Rattle.rw_merge.specs.Merging.{EndsAtStop, EndsShorter, EndsUnlessAhead}
 use Rattle.rw_merge.specs.declared.merge.MergeStop.{MergeStop}
 use Rattle.rw_merge.specs.declared.merge.MergeStop.TheVariants.{FirstFault, SecondFault, WriteFault, TooLong, Torn, SecondTorn, Unequal}
 use Rattle.rw_merge.proofs.PairReads.{IsFilled, IsWholeOrNone}

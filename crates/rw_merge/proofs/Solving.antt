@@ -9,7 +9,7 @@ use Rattle.gf64.proofs.FieldLaws.{product-sum, sum_cancel, sum_swap, sum_twice}
 use Rattle.rw_code.specs.Codeword.{IsWord, IsCodeword, weighted_sum}
 use Rattle.rw_merge.specs.Elimination.{ArePlacedErrors, AreFirstSums}
 use Rattle.rw_merge.specs.Places.{AreEqualOutside}
-use Rattle.rw_merge.specs.declared.elimination.Sums.{Sums}
+use Rattle.rw_merge.specs.declared.elimination.WordSums.{WordSums}
 
 -- at each position the sum of both symbols
 unfoldable pub gaps : List ℕ → List ℕ → List ℕ
@@ -58,7 +58,7 @@ pub gap_at : (xs ws : List ℕ) (i : ℕ) → IsWord xs → IsWord ws → i < 24
 gap_at xs ws i x_word w_word lt = get_or-gaps xs ws i 0 (x_word.size ∙ sym w_word.size) (omega (arith, x_word.size))
 
 -- The errors of a word, where a codeword is equal to it outside of some positions.
-pub errors_of : (sums : Sums) (places xs ws : List ℕ) → IsWord xs → IsCodeword ws → AreFirstSums 4 xs sums → AreEqualOutside places xs ws → ArePlacedErrors sums places (gaps xs ws)
+pub errors_of : (sums : WordSums) (places xs ws : List ℕ) → IsWord xs → IsCodeword ws → AreFirstSums 4 xs sums → AreEqualOutside places xs ws → ArePlacedErrors sums places (gaps xs ws)
 errors_of sums places xs ws x_word is_codeword are equal =
     let w_word = is_codeword.is_word in
     let same : (j : ℕ) → j < 4 → weighted_sum j xs ≡ weighted_sum j (gaps xs ws) =
@@ -75,7 +75,7 @@ errors_of sums places xs ws x_word is_codeword are equal =
     }
 
 -- And back.
-pub equal_from_errors : (sums : Sums) (places xs ws : List ℕ) → IsWord xs → IsWord ws → ArePlacedErrors sums places (gaps xs ws) → AreEqualOutside places xs ws
+pub equal_from_errors : (sums : WordSums) (places xs ws : List ℕ) → IsWord xs → IsWord ws → ArePlacedErrors sums places (gaps xs ws) → AreEqualOutside places xs ws
 equal_from_errors sums places xs ws x_word w_word are i lt out =
     sum_cancel (get_or xs i 0) (get_or ws i 0) (sym (gap_at xs ws i x_word w_word lt) ∙ are.outside i lt out)
 

@@ -7,8 +7,8 @@ use Rattle.rw_code.specs.Codeword.{IsWord, differences, weighted_sum}
 use Rattle.rw_merge.specs.Agreement.{IsAgreed}
 use Rattle.rw_merge.specs.Elimination.{ArePlacedErrors, AreFirstSums, cleared}
 use Rattle.rw_merge.specs.Places.{AreApart, AreEqualFrom, AreEqualOutside, IsNextDifference, IsOutside, all_of}
-use Rattle.rw_merge.specs.declared.elimination.Sums.{Sums}
-use Rattle.rw_merge.specs.declared.places.Places.{Places}
+use Rattle.rw_merge.specs.declared.elimination.WordSums.{WordSums}
+use Rattle.rw_merge.specs.declared.places.WrongPlaces.{WrongPlaces}
 use Rattle.rw_merge.proofs.Readings.{right_where_equal, right_but_at_one}
 use Rattle.rw_merge.proofs.Solving.{gaps, errors_of, equal_from_errors}
 use Rattle.rw_merge.proofs.Sums.{further_sums, nothing_further, nothing_left}
@@ -68,7 +68,7 @@ new_or_not a b f =
     ]
 
 -- where nothing is left of the sums, there is no error at the further position
-pub no_further : (sums : Sums) (a b f t0 t1 : ℕ) (es : List ℕ) → a < 24 → b < 24 → ArePlacedErrors sums (a ∷ b ∷ f ∷ []) es → AreLeft es a b t0 t1 → t0 ≡ 0
+pub no_further : (sums : WordSums) (a b f t0 t1 : ℕ) (es : List ℕ) → a < 24 → b < 24 → ArePlacedErrors sums (a ∷ b ∷ f ∷ []) es → AreLeft es a b t0 t1 → t0 ≡ 0
     → (k : ℕ) → k < 24 → k ≢ a → k ≢ b → get_or es k 0 ≡ 0
 no_further sums a b f t0 t1 es a_lt b_lt are left none k lt not_a not_b =
     elim (cases_eq k f) [
@@ -83,7 +83,7 @@ no_further sums a b f t0 t1 es a_lt b_lt are left none k lt not_a not_b =
     ]
 
 -- else its power leads from the first sum that is left to the second
-pub some_further : (sums : Sums) (a b f t0 t1 : ℕ) (es : List ℕ) → a < 24 → ArePlacedErrors sums (a ∷ b ∷ f ∷ []) es → AreLeft es a b t0 t1 → t0 ≢ 0
+pub some_further : (sums : WordSums) (a b f t0 t1 : ℕ) (es : List ℕ) → a < 24 → ArePlacedErrors sums (a ∷ b ∷ f ∷ []) es → AreLeft es a b t0 t1 → t0 ≢ 0
     → (f < 24) × (f ≢ a) × (f ≢ b) × (product (alpha_power (23 - f)) t0 ≡ t1)
 some_further sums a b f t0 t1 es a_lt are left some =
     elim (new_or_not a b f) [
@@ -94,7 +94,7 @@ some_further sums a b f t0 t1 es a_lt are left some =
 
 -- ---- What is found at two positions or one.
 
-pub few_places : (sums : Sums) (p q : ℕ) (found : Option Places) (xs ys : List ℕ) → IsWord xs → IsWord ys → AreFirstSums 4 xs sums → 0 < differences xs ys
+pub few_places : (sums : WordSums) (p q : ℕ) (found : Option WrongPlaces) (xs ys : List ℕ) → IsWord xs → IsWord ys → AreFirstSums 4 xs sums → 0 < differences xs ys
     → ((i : ℕ) → i < 24 → i ≢ p → i ≢ q → get_or xs i 0 ≡ get_or ys i 0)
     → MatchOption found ((f : ℕ) (es : List ℕ) → ¬ ArePlacedErrors sums (p ∷ q ∷ f ∷ []) es) (λ places. AreApart places × ((f : ℕ) (es : List ℕ) → ArePlacedErrors sums (p ∷ q ∷ f ∷ []) es → ArePlacedErrors sums (all_of places) es))
     → MatchOption found ((w : List ℕ) → ¬ IsAgreed xs ys w) (λ places. AreApart places × ((w : List ℕ) → IsAgreed xs ys w → AreEqualOutside (all_of places) xs w))

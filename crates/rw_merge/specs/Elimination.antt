@@ -2,11 +2,12 @@
 use Rattle.std.specs.Prelude.{◌≡◌, ℕ, ◌<◌, List, [], ◌∷◌, length, slice_index, bit_xor}
 use Rattle.gf64.specs.Field.{product, alpha_power}
 use Rattle.rw_code.specs.Codeword.{IsWord, weighted_sum}
-use Rattle.rw_merge.specs.declared.elimination.Sums.{Sums}
+use Rattle.rw_merge.specs.declared.elimination.WordSums.{WordSums}
 use Rattle.rw_merge.specs.Places.{IsOutside}
+use Rattle.raw_subcode.specs.Sizes.{symbols_a_slot}
 
 -- the first n of these, at most four, are sums of the word over all its symbols
-pub record AreFirstSums (n : ℕ) (word : List ℕ) (sums : Sums) : Type 0 where
+pub record AreFirstSums (n : ℕ) (word : List ℕ) (sums : WordSums) : Type 0 where
   pub zeroth : 0 < n → sums.zeroth ≡ weighted_sum 0 word
   pub first : 1 < n → sums.first ≡ weighted_sum 1 word
   pub second : 2 < n → sums.second ≡ weighted_sum 2 word
@@ -20,7 +21,7 @@ cleared power (symbol ∷ rest) =
     product (bit_xor (alpha_power (length rest)) power) symbol ∷ cleared power rest
 
 -- a word with these four sums, whose symbols outside of these positions are 0
-pub record ArePlacedErrors (sums : Sums) (places errors : List ℕ) : Type 0 where
+pub record ArePlacedErrors (sums : WordSums) (places errors : List ℕ) : Type 0 where
   pub is_word : IsWord errors
   pub have_sums : AreFirstSums 4 errors sums
-  pub outside : (i : ℕ) → i < 24 → IsOutside i places → slice_index errors i ≡ 0
+  pub outside : (i : ℕ) → i < symbols_a_slot → IsOutside i places → slice_index errors i ≡ 0

@@ -6,7 +6,7 @@ use Rattle.cdg_io.specs.Change.{Bytes, Change, Input}
 use Rattle.cdg_io.specs.Moves.{AppendsBetween}
 use Rattle.cdg_io.specs.Pump.{RoseBy}
 use Rattle.raw_subcode.specs.Channels.{program_symbols}
-use Rattle.raw_subcode.specs.Sizes.{most_units}
+use Rattle.raw_subcode.specs.Sizes.{block_bytes, most_units}
 use Rattle.raw_subcode.specs.declared.form.Form.TheVariants.{Raw}
 use Rattle.rw_interleave.specs.Interleave.{word_of, whole_packs}
 use Rattle.rw_interleave.specs.Stream.{bad_count}
@@ -26,7 +26,7 @@ pub record IsMerged (blocks : ℕ) (first second : List ℕ) (found : List (Opti
 -- none is
 pub record IsMergedText (lead_in : ℕ) (first second text : List ℕ) (bad : ℕ) : Type 0 where
   pub found : List (Option (List ℕ))
-  pub merged : IsMerged (length first / 96 - lead_in) (program_symbols Raw first lead_in)
+  pub merged : IsMerged (length first / block_bytes - lead_in) (program_symbols Raw first lead_in)
       (program_symbols Raw second lead_in) found
   pub text_is : text ≡ cdg_bytes found
   pub bad_is : bad ≡ bad_count found
@@ -34,23 +34,27 @@ pub record IsMergedText (lead_in : ℕ) (first second text : List ℕ) (bad : �
 -- the first n blocks of each give this text
 abbrev pub GivesMergedText : ℕ → ℕ → List ℕ → List ℕ → List ℕ → Type 0
 GivesMergedText n lead_in first second text = (bad : ℕ)
-    × IsMergedText lead_in (take (n * 96) first) (take (n * 96) second) text bad
+    × IsMergedText lead_in (take (n * block_bytes) first) (take (n * block_bytes) second) text bad
 
 -- The answer to so many bytes of two inputs, where no read or write fails. The first block that not both have whole
 -- is looked at in this order: a rest of the first, a rest of the second, a block that one of them has.
 abbrev pub IsAnswer : ℕ → Result Merged MergeStop → ℕ → ℕ → Type 0
-IsAnswer lead_in (Ok merged) first second = (first ≤ most_units * 96) × (second ≡ first) × (first % 96 ≡ 0)
-    × (merged.blocks ≡ first / 96 - lead_in)
-IsAnswer lead_in (Err TooLong) first second = (most_units ≤ first / 96) × (most_units ≤ second / 96)
-    × ((most_units * 96 < first) ⊎ (most_units * 96 < second))
-IsAnswer lead_in (Err (Torn block)) first second = (block < most_units) × (block ≤ second / 96)
-    × (first / 96 ≡ block) × (first % 96 ≢ 0)
-IsAnswer lead_in (Err (SecondTorn block)) first second = (block < most_units) × (block ≤ first / 96)
-    × (first / 96 ≡ block → first % 96 ≡ 0)
-    × (second / 96 ≡ block) × (second % 96 ≢ 0)
+IsAnswer lead_in (Ok merged) first second = (first ≤ most_units * block_bytes) × (second ≡ first)
+    × (first % block_bytes ≡ 0)
+    × (merged.blocks ≡ first / block_bytes - lead_in)
+IsAnswer lead_in (Err TooLong) first second = (most_units ≤ first / block_bytes)
+    × (most_units ≤ second / block_bytes)
+    × ((most_units * block_bytes < first) ⊎ (most_units * block_bytes < second))
+IsAnswer lead_in (Err (Torn block)) first second = (block < most_units) × (block ≤ second / block_bytes)
+    × (first / block_bytes ≡ block) × (first % block_bytes ≢ 0)
+IsAnswer lead_in (Err (SecondTorn block)) first second = (block < most_units) × (block ≤ first / block_bytes)
+    × (first / block_bytes ≡ block → first % block_bytes ≡ 0)
+    × (second / block_bytes ≡ block) × (second % block_bytes ≢ 0)
 IsAnswer lead_in (Err (Unequal blocks)) first second = (blocks < most_units)
-    × (blocks ≡ min (first / 96) (second / 96)) × (first / 96 ≢ second / 96)
-    × (first / 96 ≡ blocks → first % 96 ≡ 0) × (second / 96 ≡ blocks → second % 96 ≡ 0)
+    × (blocks ≡ min (first / block_bytes) (second / block_bytes))
+    × (first / block_bytes ≢ second / block_bytes)
+    × (first / block_bytes ≡ blocks → first % block_bytes ≡ 0)
+    × (second / block_bytes ≡ blocks → second % block_bytes ≡ 0)
 IsAnswer lead_in (Err FirstFault) first second = ⊤
 IsAnswer lead_in (Err SecondFault) first second = ⊤
 IsAnswer lead_in (Err WriteFault) first second = ⊤
@@ -59,18 +63,20 @@ IsAnswer lead_in (Err WriteFault) first second = ⊤
 pub record Merges (lead_in : ℕ) (held : Change Bytes) (result : Result Merged MergeStop)
     (first second : List ℕ) : Type 0 where
   -- of neither is more taken than a block beyond the other
-  pub in_step : (length first ≤ length second + 96) × (length second ≤ length first + 96)
-  pub within : (length first ≤ most_units * 96 + 1) × (length second ≤ most_units * 96 + 1)
+  pub in_step : (length first ≤ length second + block_bytes) × (length second ≤ length first + block_bytes)
+  pub within : (length first ≤ most_units * block_bytes + 1) × (length second ≤ most_units * block_bytes + 1)
   pub answer : IsAnswer lead_in result (length first) (length second)
   pub done : IfOk result (λ merged. (text : List ℕ) × IsMergedText lead_in first second text merged.bad
       × Appends held.before held.after text)
   -- where no write failed, all is put that the whole pairs of blocks give
   pub put : result ≢ Err WriteFault
-      → (text : List ℕ) × GivesMergedText (min (length first / 96) (length second / 96)) lead_in first second
+      → (text : List ℕ) × GivesMergedText
+      (min (length first / block_bytes) (length second / block_bytes)) lead_in first second
       text × Appends held.before held.after text
   -- a write failed: nothing after the pair whose text was being put was taken, and the text of those before it is put
   pub in_turn : result ≡ Err WriteFault
-      → (n : ℕ) × (n < most_units) × (length first ≡ (n + 1) * 96) × (length second ≡ (n + 1) * 96)
+      → (n : ℕ) × (n < most_units) × (length first ≡ (n + 1) * block_bytes)
+      × (length second ≡ (n + 1) * block_bytes)
       × ((low high : List ℕ) × GivesMergedText n lead_in first second low
       × GivesMergedText (n + 1) lead_in first second high
       × AppendsBetween held.before held.after low high)

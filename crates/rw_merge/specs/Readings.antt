@@ -7,7 +7,7 @@ use Rattle.rw_code.specs.Codeword.{differences}
 use Rattle.rw_interleave.specs.Interleave.{Carries, word_of, whole_packs}
 use Rattle.rw_interleave.specs.Stream.{IsDamaged}
 use Rattle.rw_merge.specs.Agreement.{equally_wrong}
-use Rattle.raw_subcode.specs.Sizes.{most_units}
+use Rattle.raw_subcode.specs.Sizes.{block_bytes, most_units}
 use Rattle.rw_merge.specs.declared.merge.Merged.{Merged}
 use Rattle.rw_merge.specs.declared.merge.MergeStop.{MergeStop}
 use Rattle.rw_merge.specs.declared.merge.MergeStop.TheVariants.{FirstFault, SecondFault, WriteFault}
@@ -15,8 +15,8 @@ use Rattle.rw_merge.specs.declared.merge.MergeStop.TheVariants.{FirstFault, Seco
 -- the bytes of two readings of equally many blocks, of which so many belong to the lead-in and to the program
 pub record AreReadings (lead_in blocks : ℕ) (first second : List ℕ) : Type 0 where
   pub few : lead_in + blocks ≤ most_units
-  pub first_size : length first ≡ (lead_in + blocks) * 96
-  pub second_size : length second ≡ (lead_in + blocks) * 96
+  pub first_size : length first ≡ (lead_in + blocks) * block_bytes
+  pub second_size : length second ≡ (lead_in + blocks) * block_bytes
 
 -- Of program symbols that carry these packs there are two readings in which, for each word, twice the symbols that
 -- both have equally wrong and those in which they differ are at most four.

@@ -12,10 +12,11 @@ use Rattle.rw_merge.specs.Merging.{EndsAtStop, EndIsTold, EndIsUntold, RoseAtMos
 use Rattle.rw_merge.specs.declared.merge.Merged.{Merged}
 use Rattle.rw_merge.specs.declared.merge.MergeStop.{MergeStop}
 use Rattle.rw_merge.specs.declared.merge.MergeStop.TheVariants.{FirstFault, SecondFault, WriteFault, TooLong, Torn, SecondTorn, Unequal}
+use Rattle.raw_subcode.specs.Sizes.{block_bytes, symbols_a_slot}
 
 -- the first slots of some bytes, as many as are wanted
 abbrev pub leading_slots : ℕ → List ℕ → List (List ℕ)
-leading_slots count bytes = map symbols_of (parts count 24 bytes)
+leading_slots count bytes = map symbols_of (parts count symbols_a_slot bytes)
 
 -- the last slots after some more
 abbrev pub window_after : List (List ℕ) → List (List ℕ) → List (List ℕ)
@@ -33,7 +34,7 @@ AreAgreements xs ys fs = ⊥
 
 -- Of the first input a whole block was taken, or it was at its end.
 abbrev pub IsHalfRead : Option (List ℕ) → List ℕ → Type 0
-IsHalfRead left taken = (length taken ≡ 96) ⊎ ((taken ≡ []) × IsAtEnd left)
+IsHalfRead left taken = (length taken ≡ block_bytes) ⊎ ((taken ≡ []) × IsAtEnd left)
 
 -- what was taken of an input, and what is left of it
 pub record Taken : Type 0 where
@@ -46,20 +47,21 @@ taken_of bytes left = record { bytes = bytes; left = left }
 
 -- What was taken of both inputs where a pair of blocks was asked for after so many.
 abbrev pub IsPairRead : ℕ → Result Bool MergeStop → Taken → Taken → Type 0
-IsPairRead block (Ok true) first second = (length first.bytes ≡ 96) × (length second.bytes ≡ 96)
+IsPairRead block (Ok true) first second = (length first.bytes ≡ block_bytes)
+    × (length second.bytes ≡ block_bytes)
 IsPairRead block (Ok false) first second =
     (first.bytes ≡ []) × (second.bytes ≡ []) × IsAtEnd first.left × IsAtEnd second.left
-IsPairRead block (Err FirstFault) first second = (length first.bytes < 96) × (second.bytes ≡ [])
+IsPairRead block (Err FirstFault) first second = (length first.bytes < block_bytes) × (second.bytes ≡ [])
 IsPairRead block (Err (Torn n)) first second = (n ≡ block) × (0 < length first.bytes)
-    × (length first.bytes < 96)
+    × (length first.bytes < block_bytes)
     × (second.bytes ≡ []) × IsAtEnd first.left
 IsPairRead block (Err SecondFault) first second = IsHalfRead first.left first.bytes
-    × (length second.bytes < 96)
+    × (length second.bytes < block_bytes)
 IsPairRead block (Err (SecondTorn n)) first second = (n ≡ block) × IsHalfRead first.left first.bytes
-    × (0 < length second.bytes) × (length second.bytes < 96) × IsAtEnd second.left
+    × (0 < length second.bytes) × (length second.bytes < block_bytes) × IsAtEnd second.left
 IsPairRead block (Err (Unequal n)) first second = (n ≡ block)
-    × (((length first.bytes ≡ 96) × (second.bytes ≡ []) × IsAtEnd second.left)
-    ⊎ ((first.bytes ≡ []) × (length second.bytes ≡ 96) × IsAtEnd first.left))
+    × (((length first.bytes ≡ block_bytes) × (second.bytes ≡ []) × IsAtEnd second.left)
+    ⊎ ((first.bytes ≡ []) × (length second.bytes ≡ block_bytes) × IsAtEnd first.left))
 IsPairRead block (Err stop) first second = ⊥
 
 -- the same where nothing more may follow

@@ -4,7 +4,7 @@ ghost use Rattle.rw_code.specs.Codeword.{IsWord, differences};
 ghost use Rattle.rw_merge.specs.Agreement.{IsAgreed};
 
 use crate::counting::{differing, doubts};
-use crate::elimination::{Sums, solved};
+use crate::elimination::{WordSums, solved};
 use crate::places::wrong_places;
 use rw_code::{Pack, Word, correct};
 
@@ -46,7 +46,7 @@ fn agree_apart(a: &Word, b: &Word) -> Option<Pack>
     if let Some(pack) = likely(a, b) {
         return Some(pack);
     }
-    let sums = Sums::of(a);
+    let sums = WordSums::of(a);
     let Some(places) = wrong_places(a, b, &sums) else {
         return None;
     };

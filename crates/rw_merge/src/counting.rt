@@ -3,6 +3,7 @@ ghost use Rattle.std.specs.Prelude.{◌≡◌, ◌≢◌, ◌≤◌, ◌+◌, �
 ghost use Rattle.rw_code.specs.Codeword.{IsWord, differences};
 ghost use Rattle.rw_merge.specs.Agreement.{equally_wrong};
 ghost use Rattle.rw_merge.specs.Places.{AreEqualFrom, IsNextDifference};
+ghost use Rattle.raw_subcode.specs.Sizes.{symbols_a_slot};
 
 use rw_code::{SYMBOLS, Word};
 
@@ -12,7 +13,7 @@ pub(crate) fn next_difference(
     second: &[u8; SYMBOLS],
     from: usize,
 ) -> Option<usize>
-    requires { from ≤ 24 }
+    requires { from ≤ symbols_a_slot }
     ensures { MatchOption result
         (AreEqualFrom from first.now second.now)
         (λ i. IsNextDifference from first.now second.now i) }

@@ -4,27 +4,28 @@ ghost use Rattle.gf64.specs.Field.{alpha_power};
 ghost use Rattle.rw_code.specs.Codeword.{IsCodeword, IsWord, weighted_sum};
 ghost use Rattle.rw_merge.specs.Elimination.{ArePlacedErrors, AreFirstSums, cleared};
 ghost use Rattle.rw_merge.specs.Places.{AreApart, AreEqualOutside, all_of};
+ghost use Rattle.raw_subcode.specs.Sizes.{symbols_a_slot};
 
-use crate::places::Places;
+use crate::places::WrongPlaces;
 use gf64::Sym;
 use rw_code::{SYMBOLS, Word};
 
 /// Sums of a word over all its symbols: at j each symbol counts times the j-th power of its position's power.
 #[derive(Clone, Copy)]
-pub(crate) struct Sums {
+pub(crate) struct WordSums {
     pub(crate) zeroth: Sym,
     pub(crate) first: Sym,
     pub(crate) second: Sym,
     pub(crate) third: Sym,
 }
 
-impl Sums {
+impl WordSums {
     /// The four of a word.
-    pub(crate) fn of(word: &Word) -> Sums
+    pub(crate) fn of(word: &Word) -> WordSums
         requires { IsWord word.now }
         ensures { AreFirstSums 4 word.now result }
     {
-        Sums {
+        WordSums {
             zeroth: sum(word, 0),
             first: sum(word, 1),
             second: sum(word, 2),
@@ -33,13 +34,13 @@ impl Sums {
     }
 
     /// The sums in which a position has no part. One sum fewer is known than before.
-    pub(crate) fn without(&self, position: usize) -> Sums
-        requires { position < 24 }
+    pub(crate) fn without(&self, position: usize) -> WordSums
+        requires { position < symbols_a_slot }
         ensures { (n : ℕ) (word : List ℕ) → n < 4 → AreFirstSums (suc n) word self.now
             → AreFirstSums n (cleared (alpha_power (23 - position)) word) result }
     {
         let power = power_at(position);
-        Sums {
+        WordSums {
             zeroth: self.first.add(power.mul(self.zeroth)),
             first: self.second.add(power.mul(self.first)),
             second: self.third.add(power.mul(self.second)),
@@ -49,10 +50,10 @@ impl Sums {
 
     // The error at a position, where only symbols at it and at three others are wrong.
     fn error_at(&self, at: usize, one: usize, two: usize, three: usize) -> Sym
-        requires at { at < 24 }
-        requires one { (one < 24) × (one ≢ at) }
-        requires two { (two < 24) × (two ≢ at) }
-        requires three { (three < 24) × (three ≢ at) }
+        requires at { at < symbols_a_slot }
+        requires one { (one < symbols_a_slot) × (one ≢ at) }
+        requires two { (two < symbols_a_slot) × (two ≢ at) }
+        requires three { (three < symbols_a_slot) × (three ≢ at) }
         ensures { (errors : List ℕ) → ArePlacedErrors self.now (at ∷ one ∷ two ∷ three ∷ []) errors
             → result ≡ slice_index errors at }
     {
@@ -67,14 +68,14 @@ impl Sums {
 }
 
 /// The only codeword that is equal to a word outside of four positions, if there is one.
-pub(crate) fn solved(word: &Word, sums: &Sums, places: &Places) -> Word
+pub(crate) fn solved(word: &Word, sums: &WordSums, places: &WrongPlaces) -> Word
     requires word { IsWord word.now }
     requires sums { AreFirstSums 4 word.now sums.now }
     requires apart { AreApart places.now }
     ensures { (codeword : List ℕ) → IsCodeword codeword
         → AreEqualOutside (all_of places.now) word.now codeword → codeword ≡ result }
 {
-    let Places {
+    let WrongPlaces {
         first,
         second,
         third,
@@ -88,7 +89,7 @@ pub(crate) fn solved(word: &Word, sums: &Sums, places: &Places) -> Word
 
 // The word with an error added at a position.
 fn plus(word: &Word, i: usize, error: Sym) -> Word
-    requires { i < 24 }
+    requires { i < symbols_a_slot }
     ensures { result ≡ slice_set word.now i (bit_xor (slice_index word.now i) error) }
 {
     word.with(i, word.get(i).add(error))
@@ -109,7 +110,7 @@ fn sum(word: &Word, j: u32) -> Sym
 
 /// The power of alpha that the sum at 1 has at a position.
 pub(crate) fn power_at(position: usize) -> Sym
-    requires { position < 24 }
+    requires { position < symbols_a_slot }
     ensures { result ≡ alpha_power (23 - position) }
 {
     Sym::alpha((SYMBOLS - 1 - position) as u32)

@@ -11,6 +11,8 @@ ghost use Rattle.rw_interleave.specs.Texts.{cdg_bytes};
 ghost use Rattle.rw_merge.specs.Merging.{EndsBoth, EndsSecond, FillsFirst, FillsSecond, FirstIsAtEnd, IsAnswer, IsMergedText, Merges};
 ghost use Rattle.rw_merge.specs.Readings.{IsDamagedTwice, IsReadTwice, MergeRestores};
 ghost use Rattle.rw_merge.specs.Steps.{AreAgreements, CountsFaults, leading_slots, window_after, words_after};
+ghost use Rattle.raw_subcode.specs.Sizes.{slots_a_block};
+ghost use Rattle.rw_code.specs.Packs.{idle_pack};
 
 use crate::packs::Packs;
 use crate::pairs::{next_pair, nothing_follows};
@@ -202,12 +204,13 @@ impl Merger {
     // The packs that come with a pair of program blocks.
     fn merge(&mut self, first: &[u8; BLOCK_BYTES], second: &[u8; BLOCK_BYTES], packs: &mut Packs)
         requires { length self.old.first ≡ length self.old.second }
-        ensures first { self.new.first ≡ window_after self.old.first (leading_slots 4 first.now) }
-        ensures second { self.new.second ≡ window_after self.old.second (leading_slots 4 second.now) }
+        ensures first { self.new.first ≡ window_after self.old.first (leading_slots slots_a_block first.now) }
+        ensures second { self.new.second ≡ window_after self.old.second
+            (leading_slots slots_a_block second.now) }
         ensures same { length self.new.first ≡ length self.new.second }
         ensures packs { (found : List (Option (List ℕ)))
-            × AreAgreements (words_after self.old.first (leading_slots 4 first.now))
-            (words_after self.old.second (leading_slots 4 second.now)) found
+            × AreAgreements (words_after self.old.first (leading_slots slots_a_block first.now))
+            (words_after self.old.second (leading_slots slots_a_block second.now)) found
             × (packs.new.bytes ≡ cdg_bytes found) × (packs.new.bad ≡ bad_count found) × (length found ≤ 4) }
     {
         if self.stay_idle(first, second) {
@@ -220,13 +223,13 @@ impl Merger {
     // Whether four words of zeros come with each block of a pair, and the windows stay as they are.
     fn stay_idle(&self, first: &[u8; BLOCK_BYTES], second: &[u8; BLOCK_BYTES]) -> bool
         ensures first { result ≡ true
-            → self.now.first ≡ window_after self.now.first (leading_slots 4 first.now) }
+            → self.now.first ≡ window_after self.now.first (leading_slots slots_a_block first.now) }
         ensures second { result ≡ true
-            → self.now.second ≡ window_after self.now.second (leading_slots 4 second.now) }
-        ensures first_words { result ≡ true → replicate 4 (replicate 24 0)
-            ≡ words_after self.now.first (leading_slots 4 first.now) }
-        ensures second_words { result ≡ true → replicate 4 (replicate 24 0)
-            ≡ words_after self.now.second (leading_slots 4 second.now) }
+            → self.now.second ≡ window_after self.now.second (leading_slots slots_a_block second.now) }
+        ensures first_words { result ≡ true → replicate slots_a_block idle_pack
+            ≡ words_after self.now.first (leading_slots slots_a_block first.now) }
+        ensures second_words { result ≡ true → replicate slots_a_block idle_pack
+            ≡ words_after self.now.second (leading_slots slots_a_block second.now) }
     {
         self.first.stays_idle(first) && self.second.stays_idle(second)
     }
@@ -240,12 +243,13 @@ impl Merger {
         packs: &mut Packs,
     )
         requires { length self.old.first ≡ length self.old.second }
-        ensures first { self.new.first ≡ window_after self.old.first (leading_slots 4 first.now) }
-        ensures second { self.new.second ≡ window_after self.old.second (leading_slots 4 second.now) }
+        ensures first { self.new.first ≡ window_after self.old.first (leading_slots slots_a_block first.now) }
+        ensures second { self.new.second ≡ window_after self.old.second
+            (leading_slots slots_a_block second.now) }
         ensures same { length self.new.first ≡ length self.new.second }
         ensures packs { (found : List (Option (List ℕ)))
-            × AreAgreements (words_after self.old.first (leading_slots 4 first.now))
-            (words_after self.old.second (leading_slots 4 second.now)) found
+            × AreAgreements (words_after self.old.first (leading_slots slots_a_block first.now))
+            (words_after self.old.second (leading_slots slots_a_block second.now)) found
             × (packs.new.bytes ≡ cdg_bytes found) × (packs.new.bad ≡ bad_count found) × (length found ≤ 4) }
     {
         let one = self.first.push_block(first);

@@ -4,6 +4,8 @@ ghost use Rattle.std.specs.declared.option.Option.{Option};
 ghost use Rattle.rw_interleave.specs.Stream.{bad_count};
 ghost use Rattle.rw_interleave.specs.Texts.{cdg_bytes, entry_bytes};
 ghost use Rattle.rw_merge.specs.Steps.{AreAgreements};
+ghost use Rattle.raw_subcode.specs.Sizes.{slots_a_block, symbols_a_slot};
+ghost use Rattle.rw_code.specs.Packs.{idle_pack};
 
 use crate::agree;
 use cdg_io::Piece;
@@ -44,7 +46,7 @@ impl Packs {
     #[inline]
     pub(crate) fn set_idle(&mut self)
         ensures { (found : List (Option (List ℕ)))
-            × AreAgreements (replicate 4 (replicate 24 0)) (replicate 4 (replicate 24 0)) found
+            × AreAgreements (replicate slots_a_block idle_pack) (replicate slots_a_block idle_pack) found
             × (self.new.bytes ≡ cdg_bytes found) × (self.new.bad ≡ bad_count found) × (length found ≤ 4) }
     {
         self.bytes.set_zeros(BLOCK_BYTES);
@@ -56,7 +58,7 @@ impl Packs {
         requires bytes { length self.old.bytes ≤ 72 }
         requires bad { self.old.bad < 4 }
         ensures bytes { self.new.bytes ≡ self.old.bytes ++ entry_bytes pack }
-        ensures size { length self.new.bytes ≤ length self.old.bytes + 24 }
+        ensures size { length self.new.bytes ≤ length self.old.bytes + symbols_a_slot }
         ensures bad { self.new.bad ≡ self.old.bad + (if is_none pack then 1 else 0) }
     {
         match pack {

@@ -4,15 +4,16 @@ ghost use Rattle.gf64.specs.Field.{product, alpha_power};
 ghost use Rattle.rw_merge.specs.Agreement.{IsAgreed};
 ghost use Rattle.rw_merge.specs.Elimination.{ArePlacedErrors, AreFirstSums};
 ghost use Rattle.rw_merge.specs.Places.{AreApart, AreEqualOutside, all_of};
+ghost use Rattle.raw_subcode.specs.Sizes.{symbols_a_slot};
 
 use crate::counting::next_difference;
-use crate::elimination::{Sums, power_at};
+use crate::elimination::{WordSums, power_at};
 use gf64::Sym;
 use rw_code::{SYMBOLS, Word};
 
 /// Four positions of a word.
 #[derive(Clone, Copy)]
-pub(crate) struct Places {
+pub(crate) struct WrongPlaces {
     pub(crate) first: usize,
     pub(crate) second: usize,
     pub(crate) third: usize,
@@ -21,7 +22,7 @@ pub(crate) struct Places {
 
 /// Four positions outside of which every agreed codeword is equal to the first of two readings that differ. `sums`
 /// are those of the first. None only where no codeword is agreed.
-pub(crate) fn wrong_places(first: &Word, second: &Word, sums: &Sums) -> Option<Places>
+pub(crate) fn wrong_places(first: &Word, second: &Word, sums: &WordSums) -> Option<WrongPlaces>
     requires differ { first.now ≢ second.now }
     requires sums { AreFirstSums 4 first.now sums.now }
     ensures { MatchOption result
@@ -45,7 +46,7 @@ pub(crate) fn wrong_places(first: &Word, second: &Word, sums: &Sums) -> Option<P
     };
     match next_difference(&one, &other, fourth + 1) {
         Some(_) => None,
-        None => Some(Places {
+        None => Some(WrongPlaces {
             first,
             second,
             third,
@@ -55,9 +56,9 @@ pub(crate) fn wrong_places(first: &Word, second: &Word, sums: &Sums) -> Option<P
 }
 
 // Four positions at which all errors are, where these are at two positions and at most at one further.
-fn with_further(sums: &Sums, first: usize, second: usize) -> Option<Places>
-    requires first { first < 24 }
-    requires second { (second < 24) × (second ≢ first) }
+fn with_further(sums: &WordSums, first: usize, second: usize) -> Option<WrongPlaces>
+    requires first { first < symbols_a_slot }
+    requires second { (second < symbols_a_slot) × (second ≢ first) }
     ensures { MatchOption result
         ((further : ℕ) (errors : List ℕ) → ¬ ArePlacedErrors sums.now (first ∷ second ∷ further ∷ []) errors)
         (λ p. AreApart p × ((further : ℕ) (errors : List ℕ)
@@ -79,16 +80,16 @@ fn with_further(sums: &Sums, first: usize, second: usize) -> Option<Places>
 }
 
 // Three positions and one more.
-fn with_unused(first: usize, second: usize, third: usize) -> Places
-    requires first { first < 24 }
-    requires second { (second < 24) × (second ≢ first) }
-    requires third { (third < 24) × (third ≢ first) × (third ≢ second) }
+fn with_unused(first: usize, second: usize, third: usize) -> WrongPlaces
+    requires first { first < symbols_a_slot }
+    requires second { (second < symbols_a_slot) × (second ≢ first) }
+    requires third { (third < symbols_a_slot) × (third ≢ first) × (third ≢ second) }
     ensures apart { AreApart result }
     ensures first { result.first ≡ first }
     ensures second { result.second ≡ second }
     ensures third { result.third ≡ third }
 {
-    Places {
+    WrongPlaces {
         first,
         second,
         third,
@@ -97,11 +98,11 @@ fn with_unused(first: usize, second: usize, third: usize) -> Places
 }
 
 // The only position whose power leads from the zeroth of the sums to the first.
-fn further_position(sums: &Sums) -> Option<usize>
+fn further_position(sums: &WordSums) -> Option<usize>
     requires { sums.now.zeroth ≢ 0 }
     ensures { MatchOption result
-        ((k : ℕ) → k < 24 → product (alpha_power (23 - k)) sums.now.zeroth ≢ sums.now.first)
-        (λ j. (j < 24) × ((k : ℕ) → k < 24
+        ((k : ℕ) → k < symbols_a_slot → product (alpha_power (23 - k)) sums.now.zeroth ≢ sums.now.first)
+        (λ j. (j < symbols_a_slot) × ((k : ℕ) → k < symbols_a_slot
         → product (alpha_power (23 - k)) sums.now.zeroth ≡ sums.now.first → k ≡ j)) }
 {
     let ratio = sums.first.mul(sums.zeroth.inv());
@@ -115,7 +116,7 @@ fn further_position(sums: &Sums) -> Option<usize>
 
 // A position that is none of these.
 fn unused(one: usize, two: usize, three: usize) -> usize
-    ensures within { result < 24 }
+    ensures within { result < symbols_a_slot }
     ensures one { result ≢ one }
     ensures two { result ≢ two }
     ensures three { result ≢ three }

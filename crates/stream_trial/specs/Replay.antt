@@ -5,7 +5,7 @@ use Rattle.rw_code.specs.Codeword.{differences}
 use Rattle.rw_interleave.specs.Interleave.{whole_packs, Carries}
 use Rattle.rw_interleave.specs.Stream.{IsDamaged}
 use Rattle.cdg_instructions.specs.Instruction.{Means}
-use Rattle.cdg_instructions.specs.Sizes.{screen_height, screen_width}
+use Rattle.cdg_instructions.specs.Sizes.{screen_height, screen_width, tile_height, tile_width, window_bottom, window_right}
 use Rattle.cdg_instructions.specs.declared.instr.Instr.{Instr}
 use Rattle.cdg_screen.specs.Standing.{Standing, standing_after, screen_pixel}
 use Rattle.picture_script.specs.Script.{Drawing, pictures}
@@ -17,8 +17,8 @@ use Rattle.stream_trial.specs.declared.found.Found.{Found}
 
 -- the pixel that a screen is to show for a canvas: that of its window, and else the border
 abbrev pub wanted_pixel : Board → ℕ → ℕ → ℕ
-wanted_pixel board x y = if nat_le 6 x && nat_le x 293 && nat_le 12 y
-    && nat_le y 203 then pixel_of board.pixels (x - 6) (y - 12) else board.border
+wanted_pixel board x y = if nat_le tile_width x && nat_le x window_right && nat_le tile_height y
+    && nat_le y window_bottom then pixel_of board.pixels (x - tile_width) (y - tile_height) else board.border
 
 -- the screen shows what stands on the canvas
 pub record Agrees (now : Standing) (board : Board) : Type 0 where

@@ -62,7 +62,7 @@ impl Course {
         gather_gives_words();
         scheduled_pictures_are_shown();
         // What holds of every script: its pictures are in order.
-        let _times = script.pictures();
+        script.times_rise_and_colours_are_in_range();
         let mut scratched = *block;
         self.scratches.scratch(&mut scratched);
         let words = self.gather.push_block(&scratched);

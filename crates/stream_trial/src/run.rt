@@ -69,7 +69,7 @@ impl<'a> TrialRun<'a> {
         // For the size of the stream with scratches.
         scratches_are_bursts();
         // What holds of every script: its pictures are in order.
-        let _times = self.script.pictures();
+        self.script.times_rise_and_colours_are_in_range();
         Found {
             one: self.course.replay.one,
             two: self.course.replay.two,

@@ -44,6 +44,7 @@ pub(crate) fn catalogue(sheet: &Sheet) -> Option<[u8; 13]>
     Some(digits)
 }
 
+// The code of a track.
 fn isrc(sheet: &Sheet, k: usize) -> Option<[u8; 12]>
     requires { k < length sheet.now.tracks }
     ensures { result ≡ (track_of sheet.now k).isrc }

@@ -1,6 +1,6 @@
 use Rattle.std.proofs.Common.{ℕ}
 use Rattle.std.proofs.lemmas.List.{get_or-replicate}
-use Rattle.cdg_screen.proofs.Grids.{colour-below}
+use Rattle.cdg_screen.proofs.MemoryRows.{colour-below}
 use Rattle.cdg_screen.proofs.rows.fill_row.Goals as goal
 
 pub returns-clause-pixels : goal.returns-clause-pixels

@@ -29,7 +29,8 @@ loop-k-preserved c =
     let count = c.each_picture_has_a_line.ensures c.args.text.now script c.requires.read in
     let lt : k < pictures script = omega (arith, c.pictures-k-end.ensures.value, c.loop-k-test.true, c.loop-k.auto.k-end) in
     let here : IsPlanRow script k plan = subst (λ (s : List Drawing). IsPlanRow s k plan) same (subst (λ n. IsPlanRow c.loop-k.planner.script n plan) given c.in-Some.ensures.row) in
-    let found : IsWriting script all c.args.rows.now k (line ∷ lines) c.loop-k.rows c.loop-k.late = subst (λ (ls : List ℕ). IsWriting script all c.args.rows.now k ls c.loop-k.rows c.loop-k.late) c.in-Some-next_number.ensures so_far in
+    let found : IsWriting script all c.args.rows.now k (line ∷ lines) c.loop-k.rows c.loop-k.late = subst
+    (λ (ls : List ℕ). IsWriting script all c.args.rows.now k ls c.loop-k.rows c.loop-k.late) c.in-Some-next_number.ensures so_far in
     let told : IsWriting script all c.args.rows.now (k + 1) lines (slice_set c.loop-k.rows k c.told_row.result) c.if-plan.late =
     subst (λ (row : PlannedRow). IsWriting script all c.args.rows.now (k + 1) lines (slice_set c.loop-k.rows k row) c.if-plan.late) (sym c.told_row.ensures)
     (elim c.if-plan.branch [

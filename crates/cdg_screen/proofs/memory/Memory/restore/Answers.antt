@@ -1,6 +1,6 @@
 use Rattle.std.proofs.Common.{List, ℕ, [], ap, ap₂, arith, get_or, length, set, ◌∙◌}
 use Rattle.cdg_screen.specs.Memory.{at}
-use Rattle.cdg_screen.proofs.Grids.{all_below, row_in-below, row_in-width, row_set-is_grid, rows_in-become, rows_in_more}
+use Rattle.cdg_screen.proofs.MemoryRows.{all_below, row_in-below, row_in-width, row_set-is_memory, rows_in-become, rows_in_more}
 use Rattle.cdg_screen.proofs.memory.Memory.restore.Goals as goal
 
 pub loop-y-preserved : goal.loop-y-preserved
@@ -9,13 +9,13 @@ loop-y-preserved c =
     let pixels = c.args.pixels.now in
     let row = c.row_in.ensures in
     record {
-      grid = row_set-is_grid _ c.loop-y.y c.row_in.result before.grid (ap length row ∙ row_in-width c.args.pixels.now c.loop-y.y c.requires.count c.loop-y-test.true)
+      memory = row_set-is_memory _ c.loop-y.y c.row_in.result before.memory (ap length row ∙ row_in-width c.args.pixels.now c.loop-y.y c.requires.count c.loop-y-test.true)
           (λ x. omega (arith, ap (λ (r : List ℕ). get_or r x 0) row, row_in-below c.args.pixels.now c.loop-y.y x c.requires.count c.loop-y-test.true (all_below c.args.pixels.now c.requires.range))) c.loop-y-test.true;
       left = before.left;
       top = before.top;
       rows = λ y lt.
           ap (λ (r : List ℕ). get_or (set c.loop-y.self-inside.rows.items c.loop-y.y r) y []) row
-          ∙ rows_in_more c.loop-y.self-inside.rows.items c.loop-y.y c.args.pixels.now (omega (arith, before.grid.count, c.loop-y-test.true)) before.rows y lt;
+          ∙ rows_in_more c.loop-y.self-inside.rows.items c.loop-y.y c.args.pixels.now (omega (arith, before.memory.count, c.loop-y-test.true)) before.rows y lt;
     }
 
 pub returns : goal.returns

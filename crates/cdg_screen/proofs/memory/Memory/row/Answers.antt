@@ -1,6 +1,6 @@
 use Rattle.std.proofs.Common.{◌≡◌, replicate, [], ◌+◌, ◌%◌, ◌∙◌, ap, get_or, length, refl, arith}
 use Rattle.std.proofs.lemmas.List.{get_or_read}
-use Rattle.cdg_screen.proofs.Grids.{at_is}
+use Rattle.cdg_screen.proofs.MemoryRows.{at_is}
 use Rattle.cdg_screen.proofs.WholeRows.{small_row, turned_row}
 use Rattle.cdg_screen.proofs.memory.Memory.row.Goals as goal
 

@@ -1,7 +1,7 @@
 use Rattle.std.proofs.Common.{◌≡◌, ◌+◌, ◌-◌, ◌<◌, ◌≤◌, ◌%◌, ℕ, [], ◌∙◌, ap, get_or, length, subst, sym, inl, inr, arith}
 use Rattle.std.proofs.lemmas.Bool.{cases_lt}
 use Rattle.std.proofs.lemmas.List.{get_or_past, get_or_read}
-use Rattle.cdg_screen.proofs.Grids.{at_is}
+use Rattle.cdg_screen.proofs.MemoryRows.{at_is}
 use Rattle.cdg_screen.proofs.WholeRows.{pieces, small_between, window_of_row}
 use Rattle.cdg_screen.proofs.memory.Memory.write_window.Goals as goal
 

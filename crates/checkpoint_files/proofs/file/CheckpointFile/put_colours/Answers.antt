@@ -11,7 +11,8 @@ pub loop-k-preserved : goal.loop-k-preserved
 loop-k-preserved c = record {
   size = omega (arith, ap length c.put.ensures, length-append c.loop-k.self (c.to_be_bytes.result), c.loop-k.invariant.size);
   part = λ counts slots.
-      field_put c.args.self.now _ _ _ (kept counts slots c.args.screen.now) Colours c.loop-k.k c.put.ensures (c.loop-k.invariant.part counts slots) (two_bytes _ _ (sym c.colour.ensures.colour) ∙ sym c.to_be_bytes.ensures);
+      field_put c.args.self.now _ _ _ (kept counts slots c.args.screen.now) Colours c.loop-k.k c.put.ensures (c.loop-k.invariant.part counts slots)
+      (two_bytes _ _ (sym c.colour.ensures.colour) ∙ sym c.to_be_bytes.ensures);
 }
 
 pub returns-clause-part : goal.returns-clause-part

@@ -11,7 +11,8 @@ pub loop-k-preserved : goal.loop-k-preserved
 loop-k-preserved c = record {
   size = omega (arith, ap length c.put.ensures, length-append c.loop-k.self (c.level.result ∷ []), c.loop-k.invariant.size);
   part = λ counts slots.
-      field_put c.args.self.now _ _ _ (kept counts slots c.args.screen.now) Levels c.loop-k.k c.put.ensures (c.loop-k.invariant.part counts slots) (written_byte _ _ (sym c.level.ensures.level) (omega (arith, c.level.ensures.range)));
+      field_put c.args.self.now _ _ _ (kept counts slots c.args.screen.now) Levels c.loop-k.k c.put.ensures (c.loop-k.invariant.part counts slots)
+      (written_byte _ _ (sym c.level.ensures.level) (omega (arith, c.level.ensures.range)));
 }
 
 pub returns-clause-part : goal.returns-clause-part

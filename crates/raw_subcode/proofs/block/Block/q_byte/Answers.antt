@@ -12,6 +12,6 @@ returns c =
     let first = c.args.first in
     let begin : slice_index bytes first ≡ slice_index bytes (first + 0) = ap (slice_index bytes) (omega arith) in
     q_byte_is (λ j. slice_index bytes (first + j)) c.from_le_bytes-eight.result
-    (λ k lt. c.are_bytes.ensures (first + k) 0 (omega (arith, lt, c.self.told)))
+    (λ k lt. c.bytes_are_below_256.ensures (first + k) 0 (omega (arith, lt, c.self.told)))
     (omega (arith, c.from_le_bytes-eight.ensures, begin))
     ∙ ap (λ b. packed_at b 1 first) c.self.view_is

@@ -29,4 +29,5 @@ owned alloc at (player ∷ rest) = (lies Live.the_row live.the_send at player, t
 pub send : IsSend Handle.the_row
 send =
     let O = Handle.the_type in
-    owning_send O (pointer_send, (global.the_field_send, tt)) (λ d. owned d.alloc d.at d.players) (λ k. quiet (to O) (exits_of k (fields O)) ((struct_send (shape O) (pointer_send, (global.the_field_send, tt))).leaving k))
+    owning_send O (pointer_send, (global.the_field_send, tt)) (λ d. owned d.alloc d.at d.players)
+    (λ k. quiet (to O) (exits_of k (fields O)) ((struct_send (shape O) (pointer_send, (global.the_field_send, tt))).leaving k))

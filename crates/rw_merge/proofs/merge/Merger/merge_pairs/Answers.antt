@@ -1,5 +1,5 @@
 use Rattle.std.proofs.Common.{◌≡◌, ◌+◌, ℕ, ◌++◌, [], length, sym, ap, ◌∙◌, refl, subst, arith}
-use Rattle.std.specs.Prelude.{Bool, Err}
+use Rattle.std.specs.Prelude.{Bool}
 use Rattle.std.specs.Io.KnownBytes.{Appends}
 use Rattle.cdg_io.specs.Pump.{RoseBy}
 use Rattle.cdg_io.proofs.PumpSteps.{no_more, one_more}

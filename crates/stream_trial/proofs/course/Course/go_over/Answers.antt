@@ -6,7 +6,7 @@ use Rattle.stream_trial.proofs.course.Course.go_over.Goals as goal
 pub returns-clause-gone_over : goal.returns-clause-gone_over
 returns-clause-gone_over c =
     let script = c.args.script.now in
-    let times = c.pictures-times.ensures in
+    let times = c.times_rise_and_colours_are_in_range.ensures in
     let scratches = c.scratches_go_block_by_block.ensures in
     let new : Course = record {
       scratches = c.scratch.new.self;

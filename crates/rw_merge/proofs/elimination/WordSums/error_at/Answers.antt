@@ -4,7 +4,7 @@ use Rattle.gf64.specs.Field.{product, alpha_power}
 use Rattle.gf64.proofs.FieldLaws.{product-lt, product_cancel, alpha_power-lt}
 use Rattle.rw_code.proofs.Errors.{powers_apart}
 use Rattle.rw_merge.proofs.Sums.{error_found}
-use Rattle.rw_merge.proofs.elimination.Sums.error_at.Goals as goal
+use Rattle.rw_merge.proofs.elimination.WordSums.error_at.Goals as goal
 
 -- the sums of the powers of different positions are not 0, nor is their product
 scales : (i a b c : ℕ) → i < 24 → (a < 24) × (a ≢ i) → (b < 24) × (b ≢ i) → (c < 24) × (c ≢ i)

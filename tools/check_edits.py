@@ -1,0 +1,56 @@
+#!/usr/bin/env python3
+"""Looks at the wrong bodies that the checker has to refuse: check_edits.py [TOP]
+
+Each edit's old text has to stand exactly once in the file that it names, so that the edit still turns what it was
+written for. Where an edit has several texts, each is looked for in what those before it made.
+"""
+import sys
+from pathlib import Path
+
+TOP = Path(sys.argv[1] if sys.argv[1:] else __file__).resolve()
+TOP = TOP if sys.argv[1:] else TOP.parent.parent
+KEYS = ("file", "old", "new")
+
+
+def steps(edit):
+    """The file, old text and new text of each step of an edit, in order."""
+    step = {}
+    for line in edit.read_text().splitlines():
+        key, separator, text = line.partition(": ")
+        if not separator or key not in KEYS:
+            continue
+        step[key] = text
+        if key == "new":
+            yield step.get("file"), step.get("old"), text
+            step = {"file": step.get("file")}
+
+
+def complaints(edit):
+    """What is wrong with an edit."""
+    crate, texts, count = edit.parent.parent, {}, 0
+    for name, old, new in steps(edit):
+        count += 1
+        if name is None or not (crate / name).is_file():
+            yield f"names the file {name}, which is not there"
+            return
+        if not old:
+            yield f"has no text to turn in {name}"
+            return
+        text = texts.get(name) or (crate / name).read_text()
+        if text.count(old) != 1:
+            yield f"turns a text that stands {text.count(old)} times in {name}: {old}"
+        texts[name] = text.replace(old, new, 1)
+    if count == 0:
+        yield "turns nothing"
+
+
+def main():
+    edits = sorted(TOP.glob("crates/*/must-fail/*.edit"))
+    wrong = [f"{edit.relative_to(TOP)} {what}" for edit in edits for what in complaints(edit)]
+    for line in wrong:
+        print(f"check_edits: {line}", file=sys.stderr)
+    return 1 if wrong or not edits else 0
+
+
+if __name__ == "__main__":
+    sys.exit(main())
