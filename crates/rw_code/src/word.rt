@@ -88,10 +88,11 @@ impl Word {
         self.weight() <= 2
     }
 
-    /// How many symbols are not 0.
+    /// How many symbols are not 0: at how many positions the word differs from the idle pack.
     #[inline]
-    pub(crate) fn weight(&self) -> u8
-        ensures { result ≡ differences self.now (replicate 24 0) }
+    pub fn weight(&self) -> u8
+        ensures count { result ≡ differences self.now idle_pack }
+        ensures word { IsWord self.now }
     {
         let low = ones(&self.bytes[..8]);
         let middle = ones(&self.bytes[8..16]);

@@ -111,17 +111,16 @@ impl Gather {
         ensures next { self.new ≡ run_state gather_next self.old (slots_in block.now 0 4) }
         ensures gives { result.items ≡ run_gives gather_next gather_gives self.old (slots_in block.now 0 4) }
     {
-        let idle = are_idle(block);
-        if self.quiet && idle {
+        if self.stays_idle(block) {
             return idle_words();
         }
-        self.gather_block(block, idle)
+        self.gather_block(block)
     }
 
     // The same, where there may be something to gather. It is a function of its own so that idle blocks do not pay for
     // its variables.
     #[inline(never)]
-    fn gather_block(&mut self, block: &[u8; BLOCK_BYTES], idle: bool) -> ArrayVec<Word, 4>
+    fn gather_block(&mut self, block: &[u8; BLOCK_BYTES]) -> ArrayVec<Word, 4>
         ensures next { self.new ≡ run_state gather_next self.old (slots_in block.now 0 4) }
         ensures gives { result.items ≡ run_gives gather_next gather_gives self.old (slots_in block.now 0 4) }
     {
@@ -130,7 +129,7 @@ impl Gather {
         self.early = last_three(&self.late);
         self.late = symbols;
         self.count = (self.count + 4).min(PACKS_KEPT_BACK);
-        self.quiet = idle && are_quiet(&self.early, &self.late, self.count);
+        self.quiet = are_quiet(&self.early, &self.late, self.count);
         words
     }
 

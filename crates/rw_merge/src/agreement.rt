@@ -1,6 +1,7 @@
 // The codeword on which two readings of a word agree.
-ghost use Rattle.std.specs.Prelude.{◌≡◌, ◌≢◌, ◌≤◌, List, ℕ, IfSome, MatchOption};
+ghost use Rattle.std.specs.Prelude.{◌≡◌, ◌≢◌, ◌≤◌, true, List, ℕ, IfSome, MatchOption};
 ghost use Rattle.rw_code.specs.Codeword.{IsWord, differences};
+ghost use Rattle.rw_code.specs.Packs.{idle_pack};
 ghost use Rattle.rw_merge.specs.Agreement.{IsAgreed};
 
 use crate::counting::{differing, doubts};
@@ -21,6 +22,10 @@ pub fn agree(a: &Word, b: &Word) -> Option<Pack>
         → one ≡ other }
     ensures words { IsWord a.now × IsWord b.now }
 {
+    // Most words of a disc are idle.
+    if is_idle_agreed(a, b) {
+        return Some(Pack::idle());
+    }
     let apart = differing(a, b);
     if apart > MOST_DOUBTS {
         return None;
@@ -32,6 +37,19 @@ pub fn agree(a: &Word, b: &Word) -> Option<Pack>
         return None;
     };
     Some(fixed.pack)
+}
+
+// Whether the idle pack is agreed.
+#[inline]
+fn is_idle_agreed(a: &Word, b: &Word) -> bool
+    ensures agreed { result ≡ true → IsAgreed a.now b.now idle_pack }
+    ensures words { IsWord a.now × IsWord b.now }
+{
+    let idle = Pack::idle().word();
+    if doubts(a, b, &idle) > MOST_DOUBTS {
+        return false;
+    }
+    true
 }
 
 // The same for readings that differ in few symbols.

@@ -45,7 +45,10 @@ pub(crate) fn differing(first: &Word, second: &Word) -> u8
 
 /// Twice the symbols in which the readings are equal and not the word's, and those in which they differ.
 pub(crate) fn doubts(first: &Word, second: &Word, word: &Word) -> u8
-    ensures { result ≡ 2 * equally_wrong first.now second.now word.now + differences first.now second.now }
+    ensures count { result ≡ 2 * equally_wrong first.now second.now word.now
+        + differences first.now second.now }
+    ensures first { IsWord first.now }
+    ensures second { IsWord second.now }
 {
     let first = first.bytes();
     let second = second.bytes();

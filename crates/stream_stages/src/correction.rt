@@ -87,6 +87,9 @@ impl Stage for Correction {
 
     ghost gives = { correction_gives };
 
+    // A piece is made anew only where none stands to be written over: for the first block.
+    #[cold]
+    #[inline(never)]
     #[tactic(auto, unfolding(crate::specs::Steps::correction_gives))]
     fn feed(&mut self, words: &BlockOfWords) -> Option<Piece> {
         let mut piece = Piece::new();

@@ -9,12 +9,15 @@ ghost use Rattle.stream_stages.specs.CheckSteps.{tick, wrong_counted, kind_count
 
 use crate::BlockWords;
 use crate::block_words::BlockOfWords;
-use crate::idle_words::{idle_is_codeword, is_idle};
+use crate::idle_words::idle_is_codeword;
 use arrayvec::ArrayVec;
 use cdg_io::{Piece, Stage, Then};
 use q_channel::is_frame;
 use raw_subcode::{BLOCK_BYTES, Block, Form};
 use rw_code::{Fixed, Word, correct};
+
+// The most wrong symbols of a word that are corrected.
+const MOST_WRONG: u8 = 2;
 
 /// The words of a stream by their wrong symbols, and those that are not bad by their kind: each word counts in one of
 /// the first four, and each that is not bad in one of the last four. A count stays at its last value.
@@ -56,14 +59,13 @@ pub struct Counting {
     pub words: Then<BlockWords, WordCounts>,
 }
 
-// Counts one more, up to the last value.
+// Counts one more, up to the last value. It does not branch: which words of a scratched disc are hit is not foreseen.
+#[inline]
 #[tactic(auto, unfolding(crate::specs::CheckSteps::tick))]
 fn tick(count: &mut u32, hit: bool)
     ensures { count.new ≡ tick hit count.old }
 {
-    if hit {
-        *count = count.saturating_add(1);
-    }
+    *count = count.saturating_add(u32::from(hit));
 }
 
 // Leaves nothing where something was. It is a function of its own so that blocks do not pay for its variables.
@@ -85,6 +87,7 @@ impl WordCounts {
     // Counts the words of a block, one by one.
     #[inline(never)]
     fn count_each(&mut self, words: &ArrayVec<Word, 4>)
+        requires { IsCodeword idle_pack }
         ensures { self.new ≡ counts_next self.old words.now }
     {
         for word in words.as_slice() {
@@ -106,14 +109,25 @@ impl WordCounts {
     }
 
     // Counts a word by what is found for it.
+    #[inline]
     fn count(&mut self, word: &Word)
+        requires { IsCodeword idle_pack }
         ensures { self.new ≡ count_next self.old word.now }
     {
-        // Most words of a disc are idle.
-        if is_idle(word) {
-            self.count_idle();
+        // Most words of a disc are the idle pack or near it.
+        let wrong = word.weight();
+        if wrong <= MOST_WRONG {
+            self.count_wrong(wrong);
+            self.count_kind(0, 0);
             return;
         }
+        self.count_corrected(word);
+    }
+
+    // Counts a word by what its correction finds.
+    fn count_corrected(&mut self, word: &Word)
+        ensures { self.new ≡ count_next self.old word.now }
+    {
         match correct(word) {
             Some(fixed) => self.count_fixed(&fixed, word),
             None => self.count_bad(word),
@@ -153,6 +167,7 @@ impl WordCounts {
     }
 
     // Counts a word by the number of its wrong symbols.
+    #[inline]
     fn count_wrong(&mut self, wrong: u8)
         ensures { self.new ≡ wrong_counted self.old wrong }
     {
@@ -162,6 +177,7 @@ impl WordCounts {
     }
 
     // Counts a pack by its first two symbols.
+    #[inline]
     fn count_kind(&mut self, mode: u8, code: u8)
         ensures { self.new ≡ kind_counted self.old mode code }
     {

@@ -1,6 +1,7 @@
-use Rattle.std.proofs.Common.{◌≡◌, sym, ap, ◌∙◌, arith}
+use Rattle.std.proofs.Common.{◌≡◌, sym, subst, ap, ◌∙◌, arith}
 use Rattle.rw_code.specs.Codeword.{differences}
 use Rattle.rw_code.proofs.Differing.{differences_none, differences_self}
+use Rattle.rw_merge.specs.Agreement.{IsAgreed}
 use Rattle.rw_merge.proofs.Readings.{agreed_equal, only_one_agreed, reads_agreed}
 use Rattle.rw_merge.proofs.agreement.agree.Goals as goal
 
@@ -36,3 +37,10 @@ returns-in_default-clause-only c one other = only_one_agreed _ _ one other c.dif
 
 pub returns-clause-only : goal.returns-clause-only
 returns-clause-only c one other = only_one_agreed _ _ one other c.differing-apart.ensures.first c.differing-apart.ensures.second
+
+pub returns-then-is_idle_agreed-clause-agreed : goal.returns-then-is_idle_agreed-clause-agreed
+returns-then-is_idle_agreed-clause-agreed c =
+    subst (IsAgreed c.args.a.now c.args.b.now) (sym c.idle.ensures) (c.is_idle_agreed.ensures.agreed c.if-is_idle_agreed.true)
+
+pub returns-then-is_idle_agreed-clause-only : goal.returns-then-is_idle_agreed-clause-only
+returns-then-is_idle_agreed-clause-only c one other = only_one_agreed _ _ one other c.is_idle_agreed.ensures.words.0 c.is_idle_agreed.ensures.words.1

@@ -1,5 +1,6 @@
-use Rattle.std.proofs.Common.{◌≡◌, ◌<◌, ◌+◌, length, get_or, ap, sym, ◌∙◌, inl, inr, arith}
+use Rattle.std.proofs.Common.{◌≡◌, ◌<◌, ◌+◌, length, get_or, ap, subst, sym, ◌∙◌, inl, inr, arith}
 use Rattle.std.proofs.lemmas.Bool.Decides.{eqb_tells}
+use Rattle.rw_code.specs.Codeword.{IsWord}
 use Rattle.rw_merge.proofs.Readings.{no_doubts, doubts_differ, doubts_wrong, doubts_right}
 use Rattle.rw_merge.proofs.counting.doubts.Goals as goal
 
@@ -42,3 +43,9 @@ loop-i-preserved c =
                 record { count = ap (λ n. c.loop-i.doubts + n) none ∙ omega arith ∙ before.count ∙ sym step; few = omega (arith, none, before.few) }
           ]
     ]
+
+pub returns-clause-first : goal.returns-clause-first
+returns-clause-first c = subst IsWord c.bytes-first.ensures.same c.bytes-first.ensures.word
+
+pub returns-clause-second : goal.returns-clause-second
+returns-clause-second c = subst IsWord c.bytes-second.ensures.same c.bytes-second.ensures.word

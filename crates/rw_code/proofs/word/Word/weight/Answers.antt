@@ -13,7 +13,7 @@ overflow_add-result-2 c = more_fit _ _ _ _ (record { size = c.self.told; first =
 pub overflow_add-result-3 : goal.overflow_add-result-3
 overflow_add-result-3 c = all_fit _ _ _ _ (record { size = c.self.told; first = c.ones-low.ensures; second = c.ones-middle.ensures; third = c.ones-high.ensures })
 
-pub returns : goal.returns
-returns c =
+pub returns-clause-count : goal.returns-clause-count
+returns-clause-count c =
     weight_by_eights _ _ _ _ (record { size = c.self.told; first = c.ones-low.ensures; second = c.ones-middle.ensures; third = c.ones-high.ensures })
     ∙ ap (λ l. differences l (replicate 24 0)) c.self.view_is

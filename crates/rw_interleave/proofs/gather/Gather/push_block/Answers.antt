@@ -1,22 +1,8 @@
-use Rattle.std.proofs.Common.{◌++◌, ◌≡◌, ◌∙◌, ◌-◌, arith, sym, ap}
-use Rattle.cdg_io.specs.Run.{run_state, run_gives}
-use Rattle.rw_interleave.specs.Gathering.{gather_next, gather_gives}
-use Rattle.rw_interleave.specs.Windows.{slots_in}
-use Rattle.rw_interleave.proofs.Windows.{quiet_block}
+use Rattle.std.proofs.Common.{◌∙◌}
 use Rattle.rw_interleave.proofs.gather.Gather.push_block.Goals as goal
 
-pub returns-then-idle-clause-next : goal.returns-then-idle-clause-next
-returns-then-idle-clause-next c =
-    let window = c.self.invariant in
-    let full : c.self.inside.count ≡ 7 = window.full c.if-self.true in
-    let seven : slots_in (c.self.inside.early ++ c.self.inside.late) 0 7 ≡ c.args.self.now = sym (ap (λ n. slots_in (c.self.inside.early ++ c.self.inside.late) (7 - n) n) full) ∙ c.self.view_is in
-    let quiet = quiet_block (c.self.inside.early ++ c.self.inside.late) c.args.block.now (window.zeros c.if-self.true) (λ n lt. c.are_idle-idle.ensures c.if-idle.true n (omega arith)) in
-    sym seven ∙ quiet.0 ∙ ap (λ w. run_state gather_next w (slots_in c.args.block.now 0 4)) seven
+pub returns-then-stays_idle-clause-next : goal.returns-then-stays_idle-clause-next
+returns-then-stays_idle-clause-next c = c.stays_idle.ensures.next c.if-stays_idle.true
 
-pub returns-then-idle-clause-gives : goal.returns-then-idle-clause-gives
-returns-then-idle-clause-gives c =
-    let window = c.self.invariant in
-    let full : c.self.inside.count ≡ 7 = window.full c.if-self.true in
-    let seven : slots_in (c.self.inside.early ++ c.self.inside.late) 0 7 ≡ c.args.self.now = sym (ap (λ n. slots_in (c.self.inside.early ++ c.self.inside.late) (7 - n) n) full) ∙ c.self.view_is in
-    let quiet = quiet_block (c.self.inside.early ++ c.self.inside.late) c.args.block.now (window.zeros c.if-self.true) (λ n lt. c.are_idle-idle.ensures c.if-idle.true n (omega arith)) in
-    c.idle_words.ensures ∙ quiet.1 ∙ ap (λ w. run_gives gather_next gather_gives w (slots_in c.args.block.now 0 4)) seven
+pub returns-then-stays_idle-clause-gives : goal.returns-then-stays_idle-clause-gives
+returns-then-stays_idle-clause-gives c = c.idle_words.ensures ∙ c.stays_idle.ensures.gives c.if-stays_idle.true

@@ -1,17 +1,16 @@
-use Rattle.std.proofs.Common.{ap, ◌∙◌}
-use Rattle.stream_stages.specs.CheckSteps.{count_found}
-use Rattle.stream_stages.proofs.Recovers.{found_itself, found_some, found_none}
-use Rattle.stream_stages.proofs.Counted.{idle_counted}
+use Rattle.std.proofs.Common.{refl, ap, ◌∙◌, arith}
+use Rattle.rw_code.specs.Packs.{idle_pack}
+use Rattle.stream_stages.specs.CheckSteps.{count_found, kind_counted}
+use Rattle.stream_stages.specs.declared.counting.WordCounts.{WordCounts}
+use Rattle.stream_stages.proofs.Recovers.{found_some}
+use Rattle.stream_stages.proofs.Counted.{fixed_counted}
 use Rattle.stream_stages.proofs.counting.WordCounts.count.Goals as goal
 
-pub returns-then-is_idle : goal.returns-then-is_idle
-returns-then-is_idle c =
+pub returns-then-wrong-le-MOST_WRONG : goal.returns-then-wrong-le-MOST_WRONG
+returns-then-wrong-le-MOST_WRONG c =
     let word = c.args.word.now in
-    let (zeros, is_codeword) = c.is_idle.ensures c.if-is_idle.true in
-    c.count_idle.ensures ∙ idle_counted c.args.self.now word zeros ∙ ap (count_found c.args.self.now word) (found_itself word is_codeword)
-
-pub returns-in-Some : goal.returns-in-Some
-returns-in-Some c = c.count_fixed.ensures ∙ ap (count_found c.args.self.now c.args.word.now) (found_some c.args.word.now _ c.correct.ensures.word c.in-Some.ensures.reads.0)
-
-pub returns-in-None : goal.returns-in-None
-returns-in-None c = c.count_bad.ensures ∙ ap (count_found c.args.self.now c.args.word.now) (found_none c.args.word.now c.correct.ensures.word c.in-None.ensures.reads)
+    let s = c.args.self.now in
+    let found = found_some word idle_pack c.weight-wrong.ensures.word (record { is_codeword = c.requires; is_near = omega (arith, c.weight-wrong.ensures.count, c.if-wrong-le-MOST_WRONG.true) }) in
+    c.count_kind.ensures ∙ ap (λ (s : WordCounts). kind_counted s 0 0) c.count_wrong.ensures
+    ∙ fixed_counted s word idle_pack c.weight-wrong.result 0 0 c.weight-wrong.ensures.count refl refl
+    ∙ ap (count_found s word) found
