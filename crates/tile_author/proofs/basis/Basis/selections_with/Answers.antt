@@ -1,4 +1,4 @@
-use Rattle.std.proofs.Common.{rules, arith, ◌<◌, ◌++◌, [], ◌∷◌, length, ◌∙◌}
+use Rattle.std.proofs.Common.{rules, arith, ◌++◌, [], ◌∷◌, ◌∙◌}
 use Rattle.std.proofs.lemmas.List.{length-set}
 use Rattle.tile_author.specs.Table.{entry}
 use Rattle.tile_author.proofs.Growth.{one_more, first_selections}
