@@ -1,4 +1,4 @@
-use Rattle.std.proofs.Common.{◌≡◌, ◌*◌, length, refl, arith}
+use Rattle.std.proofs.Common.{◌≡◌, length, refl, arith}
 use Rattle.bit_lists.specs.Bits.{bits_of_bytes}
 use Rattle.bit_lists.proofs.BitsLemmas.{length-bits_of_bytes}
 use Rattle.q_channel.proofs.Bytes.{with_check_bits}
