@@ -1,5 +1,5 @@
 -- Tiles that are the same before and after.
-use Rattle.std.proofs.Common.{◌≡◌, ℕ, zero, suc, ◌+◌, ◌-◌, ◌*◌, ◌/◌, ◌%◌, ◌<◌, ◌≤◌, Bool, true, false, List, [], ◌∷◌, map, length, get_or, refl, ap, sym, subst, ◌∙◌, inl, inr, arith, bit_xor}
+use Rattle.std.proofs.Common.{◌≡◌, ◌≢◌, ℕ, zero, suc, ◌+◌, ◌-◌, ◌*◌, ◌/◌, ◌%◌, ◌<◌, ◌≤◌, Bool, true, false, List, [], ◌∷◌, map, length, get_or, refl, ap, ap₂, sym, subst, ◌∙◌, inl, inr, arith, bit_xor}
 use Rattle.std.specs.Prelude.{Option, Some, None, not, slice_index, slice_set, nat_lt, if◌then◌else◌}
 use Rattle.std.specs.Option.{is_some}
 use Rattle.std.specs.Int.Bits.{xor_self}
@@ -7,7 +7,8 @@ use Rattle.std.proofs.lemmas.Bool.{cases_lt}
 use Rattle.std.proofs.lemmas.Bool.Decides.{nat_tests}
 use Rattle.std.proofs.lemmas.List.{get_or-set_other, get_or-set_same}
 use Rattle.bit_lists.specs.Counting.{below}
-use Rattle.tile_author.specs.Plan.{are_equal, delta, steps, plan}
+use Rattle.cdg_instructions.specs.Sizes.{tile_pixels}
+use Rattle.tile_author.specs.Plan.{are_equal, delta, steps, plan, weight}
 use Rattle.picture_script.specs.Script.{Drawing, picture_pixel, picture_tile}
 use Rattle.picture_script.specs.Board.{Board, IsPicture, tile_of}
 use Rattle.picture_script.proofs.Drawn.{picture_tile_is}
@@ -47,6 +48,18 @@ pub same_picture_tile : (script : List Drawing) (k row column : ℕ) (before now
     → tile_of before.pixels row column ≡ tile_of now.pixels row column → picture_tile script (k - 1) row column ≡ picture_tile script k row column
 same_picture_tile script k row column before now row_ge row_le column_ge column_le was is same =
     sym (tile_picture script (k - 1) row column before row_ge row_le column_ge column_le was) ∙ same ∙ tile_picture script k row column now row_ge row_le column_ge column_le is
+
+-- a tile of weight 1 takes one instruction from one that it differs from
+abbrev LightTilesTakeOne : Type 0
+LightTilesTakeOne = (old new : List ℕ) → length old ≡ tile_pixels → length new ≡ tile_pixels → weight new ≡ 1 → old ≢ new → steps old new ≡ 1
+
+pub light_tile : LightTilesTakeOne → (script : List Drawing) (k row column : ℕ) (before now : Board) → 1 ≤ row → row ≤ 16 → 1 ≤ column → column ≤ 48 → IsPicture script (k - 1) before → IsPicture script k now
+    → tile_of before.pixels row column ≢ tile_of now.pixels row column → weight (tile_of now.pixels row column) ≡ 1
+    → 1 ≡ steps (picture_tile script (k - 1) row column) (picture_tile script k row column)
+light_tile take_one script k row column before now row_ge row_le column_ge column_le was is differ light =
+    let one : steps (tile_of before.pixels row column) (tile_of now.pixels row column) ≡ 1 =
+    take_one (tile_of before.pixels row column) (tile_of now.pixels row column) (tile_size before.pixels row column) (tile_size now.pixels row column) light differ in
+    sym one ∙ ap₂ steps (tile_picture script (k - 1) row column before row_ge row_le column_ge column_le was) (tile_picture script k row column now row_ge row_le column_ge column_le is)
 
 -- a row of tiles that is the same in picture k and in the picture before
 pub row_kept : (script : List Drawing) (k r : ℕ) (before now : Board) → r < 16 → IsPicture script (k - 1) before → IsPicture script k now

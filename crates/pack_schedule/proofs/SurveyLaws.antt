@@ -49,6 +49,22 @@ pub stands_before : (script : List Drawing) (k : ℕ) (board : Board) → Stands
 stands_before script zero board h = subst (λ (at : Option ℕ). MatchOption at (IsBlank board) (λ j. (j ≤ 0) × IsPicture script j board)) (sym (h.at_none refl)) (h.blank refl)
 stands_before script (suc k) board h = subst (λ (at : Option ℕ). MatchOption at (IsBlank board) (λ j. (j ≤ suc k) × IsPicture script j board)) (sym (h.at_some (omega arith))) (omega arith, h.drawn (omega arith))
 
+-- a picture that stands there
+pub stands_at : (script : List Drawing) (k most : ℕ) (board : Board) → board.at ≡ Some k → IsPicture script k board → k ≤ most → StandsBefore script most board
+stands_at script k most board at h le = subst (λ (at : Option ℕ). MatchOption at (IsBlank board) (λ j. (j ≤ most) × IsPicture script j board)) (sym at) (le, h)
+
+-- or none
+pub stands_blank : (script : List Drawing) (most : ℕ) (board : Board) → IsBlank board → board.at ≡ None → StandsBefore script most board
+stands_blank script most board blank at = subst (λ (at : Option ℕ). MatchOption at (IsBlank board) (λ j. (j ≤ most) × IsPicture script j board)) (sym at) blank
+
+later_at : (at : Option ℕ) (Blank : Type 0) (There : ℕ → Type 0) (few most : ℕ) → few ≤ most → MatchOption at Blank (λ j. (j ≤ few) × There j) → MatchOption at Blank (λ j. (j ≤ most) × There j)
+later_at None Blank There few most le h = h
+later_at (Some j) Blank There few most le h = (omega (arith, h.0, le), h.1)
+
+-- it stands there for later pictures too
+pub stands_later : (script : List Drawing) (few most : ℕ) (board : Board) → few ≤ most → StandsBefore script few board → StandsBefore script most board
+stands_later script few most board le h = later_at board.at (IsBlank board) (λ j. IsPicture script j board) few most le h
+
 pub none_planned : (script : List Drawing) (planned : List PlannedChange) → planned ≡ [] → ArePlanned script 0 planned
 none_planned script planned none = record { count_is = ap length none; each = λ j lt. absurd (omega (arith, lt)) }
 

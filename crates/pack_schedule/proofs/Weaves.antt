@@ -13,7 +13,8 @@ use Rattle.picture_changes.specs.Schedule.{start_of}
 use Rattle.picture_changes.specs.PlannedChange.{chosen_start, planned_from, planned_change}
 use Rattle.pack_schedule.specs.Survey.{nothing_planned, IsSurvey}
 use Rattle.pack_schedule.specs.Woven.{IsPackAt}
-use Rattle.pack_schedule.specs.Weaving.{Stands, IsWeaving}
+use Rattle.picture_script.specs.Board.{StandsBefore}
+use Rattle.pack_schedule.specs.Weaving.{IsWeaving}
 use Rattle.pack_schedule.specs.declared.weaver.at_hand.ChangeAtHand.{ChangeAtHand}
 use Rattle.pack_schedule.specs.declared.surveys.told.PlannedChange.{PlannedChange}
 use Rattle.picture_changes.proofs.Times.{hold_order}
@@ -31,33 +32,33 @@ unfolding planned_change
 change_planned script survey k preset change h lt is made = made ∙ ap (planned_from script k) (is ∙ (h.each k lt).preset_is)
 
 -- the change of the first picture is at hand, if there is one
-pub first_weaves : (script : List Drawing) (at_hand : ChangeAtHand) → IsSurvey script at_hand.survey → at_hand.k ≡ 0 → Stands script 0 at_hand.before
-    → (0 < pictures script → (at_hand.change ≡ planned_change script 0) × (at_hand.start ≡ start_of script 0) × Stands script 1 at_hand.now) → IsWeaving script at_hand 0
-first_weaves script at_hand surveyed k before planned =
+pub first_weaves : (script : List Drawing) (at_hand : ChangeAtHand) → IsSurvey script at_hand.survey → at_hand.k ≡ 0 → StandsBefore script 0 at_hand.before → StandsBefore script 0 at_hand.now
+    → (0 < pictures script → (at_hand.change ≡ planned_change script 0) × (at_hand.start ≡ start_of script 0)) → IsWeaving script at_hand 0
+first_weaves script at_hand surveyed k before now planned =
     let none : 0 ≡ at_hand.k = sym k in
     record {
       surveyed = surveyed;
       k_most = omega (arith, k);
       change_is = λ lt. subst (λ (n : ℕ). at_hand.change ≡ planned_change script n) none (planned (omega (arith, lt))).0;
       start_is = λ lt. subst (λ (n : ℕ). at_hand.start ≡ start_of script n) none (planned (omega (arith, lt))).1;
-      before_stands = subst (λ (n : ℕ). Stands script n at_hand.before) none before;
-      now_stands = λ lt. subst (λ (n : ℕ). Stands script (n + 1) at_hand.now) none (planned (omega (arith, lt))).2;
+      before_stands = subst (λ (n : ℕ). StandsBefore script n at_hand.before) none before;
+      now_stands = subst (λ (n : ℕ). StandsBefore script n at_hand.now) none now;
       sent = λ j lt. absurd (omega (arith, k, lt));
     }
 
 -- the change of the next picture is at hand, if there is one
 pub next_weaves : (script : List Drawing) (old new : ChangeAtHand) (given : ℕ) → IsWeaving script old given → old.k < pictures script → start_of script old.k + length (planned_change script old.k) ≤ given
-    → new.survey ≡ old.survey → new.k ≡ old.k + 1 → Stands script (old.k + 1) new.before
-    → (old.k + 1 < pictures script → (new.change ≡ planned_change script (old.k + 1)) × (new.start ≡ start_of script (old.k + 1)) × Stands script (old.k + 1 + 1) new.now) → IsWeaving script new given
-next_weaves script old new given w inside done survey k before planned =
+    → new.survey ≡ old.survey → new.k ≡ old.k + 1 → StandsBefore script (old.k + 1) new.before → StandsBefore script (old.k + 1) new.now
+    → (old.k + 1 < pictures script → (new.change ≡ planned_change script (old.k + 1)) × (new.start ≡ start_of script (old.k + 1))) → IsWeaving script new given
+next_weaves script old new given w inside done survey k before now planned =
     let next : old.k + 1 ≡ new.k = sym k in
     record {
       surveyed = subst (IsSurvey script) (sym survey) w.surveyed;
       k_most = omega (arith, k, inside);
       change_is = λ lt. subst (λ (n : ℕ). new.change ≡ planned_change script n) next (planned (omega (arith, lt))).0;
       start_is = λ lt. subst (λ (n : ℕ). new.start ≡ start_of script n) next (planned (omega (arith, lt))).1;
-      before_stands = subst (λ (n : ℕ). Stands script n new.before) next before;
-      now_stands = λ lt. subst (λ (n : ℕ). Stands script (n + 1) new.now) next (planned (omega (arith, lt))).2;
+      before_stands = subst (λ (n : ℕ). StandsBefore script n new.before) next before;
+      now_stands = subst (λ (n : ℕ). StandsBefore script n new.now) next now;
       sent = λ j lt. elim (cases_lt j old.k) [
         | inl earlier ↦ w.sent j earlier
         | inr past ↦

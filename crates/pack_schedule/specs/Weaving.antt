@@ -1,7 +1,7 @@
 -- What a weaver keeps.
 use Rattle.std.specs.Prelude.{◌≡◌, ℕ, ◌+◌, ◌-◌, ◌<◌, ◌≤◌, length, Some, None, List}
 use Rattle.picture_script.specs.Script.{Drawing, pictures}
-use Rattle.picture_script.specs.Board.{Board, IsBlank, IsPicture}
+use Rattle.picture_script.specs.Board.{Board, IsBlank, IsPicture, StandsBefore}
 use Rattle.picture_changes.specs.Schedule.{start_of}
 use Rattle.picture_changes.specs.PlannedChange.{planned_change}
 use Rattle.pack_schedule.specs.Survey.{IsSurvey}
@@ -14,12 +14,12 @@ pub record Stands (script : List Drawing) (k : ℕ) (board : Board) : Type 0 whe
   pub at_some : 0 < k → board.at ≡ Some (k - 1)
   pub drawn : 0 < k → IsPicture script (k - 1) board
 
--- all changes before that of picture k are in the packs that were given, and its own is at hand
+-- all changes before that of picture k are in the packs given, its own is at hand, and no later picture is drawn
 pub record IsWeaving (script : List Drawing) (at_hand : ChangeAtHand) (given : ℕ) : Type 0 where
   pub surveyed : IsSurvey script at_hand.survey
   pub k_most : at_hand.k ≤ pictures script
   pub change_is : at_hand.k < pictures script → at_hand.change ≡ planned_change script at_hand.k
   pub start_is : at_hand.k < pictures script → at_hand.start ≡ start_of script at_hand.k
-  pub before_stands : Stands script at_hand.k at_hand.before
-  pub now_stands : at_hand.k < pictures script → Stands script (at_hand.k + 1) at_hand.now
+  pub before_stands : StandsBefore script at_hand.k at_hand.before
+  pub now_stands : StandsBefore script at_hand.k at_hand.now
   pub sent : (j : ℕ) → j < at_hand.k → start_of script j + length (planned_change script j) ≤ given

@@ -1,5 +1,5 @@
 // A basis of the differences between pixels.
-ghost use Rattle.std.specs.Prelude.{◌≡◌, ◌==◌, ℕ, ◌+◌, ◌-◌, ◌*◌, ◌<◌, ◌≤◌, ◌++◌, map, max, true, [], ◌∷◌, List, length, slice_index, if◌then◌else◌, IsTrue, false};
+ghost use Rattle.std.specs.Prelude.{◌≡◌, ◌==◌, ℕ, ◌+◌, ◌-◌, ◌*◌, ◌<◌, ◌≤◌, ◌++◌, map, max, true, [], ◌∷◌, List, length, slice_index, slice_index_or, None, if◌then◌else◌, IsTrue, false};
 ghost use Rattle.cdg_instructions.specs.Instruction.{IsTilePixels};
 ghost use Rattle.bit_lists.specs.Bits.{has_bit};
 ghost use Rattle.bit_lists.specs.Counting.{below};
@@ -136,16 +136,33 @@ impl Basis {
         }
     }
 
+    // The selections once a further number is a member. The first one makes itself alone, beside 0.
+    fn selections_with(&self, member: u8) -> [Option<u8>; NUMBERS]
+        requires member { member < 16 }
+        requires room { length self.now < 4 }
+        requires independent { is_combination self.now member ≡ false }
+        ensures { (number : ℕ) → number < 16
+            → slice_index_or result number None ≡ entry (self.now ++ member ∷ []) number }
+    {
+        let mut selections = [None; NUMBERS];
+        if self.members.is_empty() {
+            selections[0] = Some(0);
+            selections[usize::from(member)] = Some(1);
+            return selections;
+        }
+        for i in 0..NUMBERS {
+            selections[i] = self.grown(member, i as u8);
+        }
+        selections
+    }
+
     // Takes a number as a member where it is no combination of those that it has.
     fn offer(&mut self, number: u8)
         requires { number < 16 }
         ensures { self.new ≡ (if is_combination self.old number then self.old else self.old ++ number ∷ []) }
     {
         if !self.makes(number) {
-            let mut selections = self.selections;
-            for i in 0..NUMBERS {
-                selections[i] = self.grown(number, i as u8);
-            }
+            let selections = self.selections_with(number);
             self.selections = selections;
             self.members.push(number);
         }
@@ -295,7 +312,12 @@ fn is_line_before(pixels: &[u8; PIXELS], line: usize) -> bool
         → slice_index pixels.now (6 * line + i) ≡ slice_index pixels.now (6 * (line - 1) + i) }
 {
     let start = 6 * line;
-    pixels[start - 6..start] == pixels[start..start + 6]
+    pixels[start - 6] == pixels[start]
+        && pixels[start - 5] == pixels[start + 1]
+        && pixels[start - 4] == pixels[start + 2]
+        && pixels[start - 3] == pixels[start + 3]
+        && pixels[start - 2] == pixels[start + 4]
+        && pixels[start - 1] == pixels[start + 5]
 }
 
 // Whether all pixels have the colour of the first. It looks at all of them, so that many can be compared at once.

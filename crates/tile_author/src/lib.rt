@@ -4,6 +4,7 @@
 ghost use Rattle.std.specs.Prelude.{◌≡◌, ◌≢◌, ◌==◌, ℕ, ◌<◌, ◌≤◌, List, length, replicate, slice_index, bit_xor, ◌^◌, true};
 ghost use Rattle.std.specs.List.{list_all};
 ghost use Rattle.cdg_instructions.specs.Instruction.{IsTilePixels};
+ghost use Rattle.cdg_instructions.specs.Sizes.{tile_pixels};
 ghost use Rattle.cdg_instructions.specs.Drawing.{Turns, IsLeast};
 ghost use Rattle.tile_author.specs.Plan.{basis, combination, delta, is_combination, plan, selection, steps, weight};
 ghost use Rattle.tile_author.specs.Table.{are_independent};
@@ -144,4 +145,10 @@ pub fn plans_are_shortest()
         → IsTilePixels new → length (plan row column old new) ≡ steps old new }
     ensures least { (row column : ℕ) (old new : List ℕ) → row < 32 → column < 64 → IsTilePixels old
         → IsTilePixels new → IsLeast row column old new (steps old new) }
+{}
+
+/// A law: a tile of weight 1 takes one instruction where a tile stands that differs from it.
+pub fn light_tiles_take_one()
+    ensures { (old new : List ℕ) → length old ≡ tile_pixels → length new ≡ tile_pixels → weight new ≡ 1
+        → old ≢ new → steps old new ≡ 1 }
 {}

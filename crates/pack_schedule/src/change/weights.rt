@@ -11,7 +11,7 @@ ghost use Rattle.pack_schedule.specs.Weights.{IsWeighed, IsWeighedAt, not_weighe
 use crate::change::same_tiles::is_same_tile;
 use cdg_instructions::{Tile, WINDOW_COLUMNS, WINDOW_ROWS, WINDOW_TILES};
 use picture_script::{Canvas, Script};
-use tile_author::{plans_are_shortest, steps_of_weight, weight};
+use tile_author::{light_tiles_take_one, plans_are_shortest, steps_of_weight, weight};
 
 /// What a tile takes from a colour: nothing from the one that it has alone, and its weight from each other one.
 #[derive(Clone, Copy)]
@@ -81,5 +81,10 @@ pub(crate) fn weigh_tile(
     let new = now.tile(row, column);
     let kept = weigh(&new);
     weights[i] = kept;
+    if kept.weight == 1 {
+        // For the proof alone: it takes one from whatever differs.
+        light_tiles_take_one();
+        return 1;
+    }
     u32::from(steps_of_weight(&before.tile(row, column), &new, kept.weight))
 }

@@ -1,4 +1,8 @@
 // The change of which the next pack is given, or the last of a script.
+ghost use Rattle.std.specs.Prelude.{◌<◌, ◌-◌};
+ghost use Rattle.picture_script.specs.Board.{IsPicture, StandsBefore};
+ghost use Rattle.picture_script.specs.Script.{pictures};
+
 use crate::change::ChangeList;
 use crate::surveys::Survey;
 use cdg_instructions::write;
@@ -7,7 +11,7 @@ use picture_script::{Canvas, Script};
 use rw_code::Pack;
 use std::alloc::{AllocError, Global};
 
-/// The change of picture `k`, that picture, and the picture before it.
+/// The change of picture `k`. That picture and the picture before it are drawn where there is a change to plan.
 #[derive(Drop)]
 pub(crate) struct ChangeAtHand {
     pub(crate) survey: Survey,
@@ -20,14 +24,15 @@ pub(crate) struct ChangeAtHand {
 }
 
 impl ChangeAtHand {
-    ghost use Rattle.std.specs.Prelude.{◌≡◌, ◌<◌, ◌≤◌, ◌+◌, length, unwrap_or, IfOk};
+    ghost use Rattle.std.specs.Prelude.{◌≡◌, ◌<◌, ◌≤◌, ◌+◌, ◌-◌, length, unwrap_or, IfOk};
+    ghost use Rattle.picture_script.specs.Board.{StandsBefore};
     ghost use Rattle.picture_script.specs.Script.{pictures};
     ghost use Rattle.rw_code.specs.Packs.{idle_pack};
     ghost use Rattle.picture_changes.specs.Schedule.{start_of};
     ghost use Rattle.picture_changes.specs.PlannedChange.{planned_change};
     ghost use Rattle.pack_schedule.specs.Survey.{IsSurvey};
     ghost use Rattle.pack_schedule.specs.Woven.{IsPackAt};
-    ghost use Rattle.pack_schedule.specs.Weaving.{Stands, IsWeaving};
+    ghost use Rattle.pack_schedule.specs.Weaving.{IsWeaving};
 
     /// The change of the first picture, if there is one.
     pub(crate) fn start(
@@ -52,27 +57,27 @@ impl ChangeAtHand {
         Ok(at_hand)
     }
 
-    // Draws picture `k` and plans its change.
+    // Plans the change of picture `k`. Where it has none, nothing is drawn.
     fn prepare(&mut self, script: &Script)
         requires surveyed { IsSurvey script.now self.old.survey }
         requires picture { self.old.k < pictures script.now }
-        requires before { Stands script.now self.old.k self.old.before }
-        requires now { Stands script.now self.old.k self.old.now }
+        requires before { StandsBefore script.now (self.old.k - 1) self.old.before }
+        requires now { StandsBefore script.now (self.old.k - 1) self.old.now }
         ensures change { self.new.change ≡ planned_change script.now self.old.k }
-        ensures now { Stands script.now (self.old.k + 1) self.new.now }
         ensures start { self.new.start ≡ start_of script.now self.old.k }
-        ensures before { self.new.before ≡ self.old.before }
+        ensures before { StandsBefore script.now self.old.k self.new.before }
+        ensures now { StandsBefore script.now self.old.k self.new.now }
         ensures survey { self.new.survey ≡ self.old.survey }
         ensures k { self.new.k ≡ self.old.k }
     {
         // For the proof alone: the change begins with a start that may be.
         planned_changes_are_changes();
-        self.now.draw_until(script, self.k);
         self.start = self.survey.start(self.k);
         if self.survey.need(self.k) == 0 {
             self.change.clear();
             return;
         }
+        draw(script, self.k, &mut self.before, &mut self.now);
         let preset = self.survey.preset(self.k);
         self.change
             .plan(script, self.k, preset, &self.before, &self.now);
@@ -89,7 +94,6 @@ impl ChangeAtHand {
         ensures next { self.new.k ≡ self.old.k + 1 }
     {
         let pictures = script.pictures();
-        self.before.draw_like(script, self.k, &self.now);
         self.k += 1;
         self.start = u32::MAX;
         if self.k < pictures {
@@ -134,4 +138,23 @@ impl ChangeAtHand {
         }
         Some(write(&self.change.get((given - self.start) as usize)))
     }
+}
+
+// Draws picture `k` on `now`, and the picture before it on `before`.
+fn draw(script: &Script, k: u32, before: &mut Canvas, now: &mut Canvas)
+    requires picture { k < pictures script.now }
+    requires before { StandsBefore script.now (k - 1) before.old }
+    requires now { StandsBefore script.now (k - 1) now.old }
+    ensures before { 0 < k → IsPicture script.now (k - 1) before.new }
+    ensures now { IsPicture script.now k now.new }
+    ensures before_stands { StandsBefore script.now k before.new }
+    ensures now_stands { StandsBefore script.now k now.new }
+{
+    if k == 0 {
+        now.draw_until(script, k);
+        return;
+    }
+    now.draw_until(script, k - 1);
+    before.draw_like(script, k - 1, now);
+    now.draw_until(script, k);
 }
