@@ -31,8 +31,8 @@ IsPlaying form lead_in given players = (player : LivePlayer) × (players ≡ pla
 
 -- this holds of the one player before a call and after it
 abbrev pub PlayersGo : List LivePlayer → List LivePlayer → (LivePlayer → LivePlayer → Type 0) → Type 0
-PlayersGo old new goes = (before : LivePlayer) × (after : LivePlayer) × (old ≡ before ∷ []) × (new ≡ after ∷ [])
-    × goes before after
+PlayersGo old new goes = (before : LivePlayer) × (after : LivePlayer)
+    × (old ≡ before ∷ []) × (new ≡ after ∷ []) × goes before after
 
 -- What these blocks show; of a raw stream it is also what stands at the moment that the program has come to.
 pub record IsSeen (form : Form) (lead_in : ℕ) (blocks : List (List ℕ)) (now : Standing) : Type 0 where
