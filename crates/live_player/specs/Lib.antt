@@ -1,3 +1,4 @@
 pub mod Lives
 pub mod Parts
 pub mod Saving
+pub mod Steps

@@ -7,6 +7,7 @@ ghost use Rattle.stream_stages.specs.Steps.{words_next, words_give};
 ghost use Rattle.live_player.specs.Lives.{Given, bad_counted, blocks_in, drawn_for, instruction_of, packs_given, picture_byte, picture_bytes, standing_on, stream_words, HasPlayed, IsLiveView, IsLiveViewAt};
 ghost use Rattle.live_player.specs.Lives.Given.{Drawn, Fed};
 ghost use Rattle.live_player.specs.Parts.{HasRoomFor, IsOnScreen, ShowsPart};
+ghost use Rattle.live_player.specs.Steps.{DrawsPack, TakesBlock, words_come};
 
 use crate::looking::{self, PICTURE_BYTES};
 use crate::part::ScreenPart;
@@ -75,7 +76,10 @@ impl LivePlayer {
 
     /// Takes the next block.
     pub fn feed(&mut self, block: &[u8; BLOCK_BYTES])
-        ensures { (form : Form) (lead_in : ℕ) (given : List Given)
+        // Whatever it was given before,
+        ensures takes { TakesBlock block.now self.old self.new }
+        // and where that is known.
+        ensures fed { (form : Form) (lead_in : ℕ) (given : List Given)
             → HasPlayed form lead_in given self.old
             → HasPlayed form lead_in (Fed block.now ∷ given) self.new }
     {
@@ -84,6 +88,8 @@ impl LivePlayer {
 
     /// Takes the next block, and gives the words that came with it, at most four.
     pub fn take(&mut self, block: &[u8; BLOCK_BYTES]) -> ArrayVec<Word, 4>
+        ensures takes { TakesBlock block.now self.old self.new }
+        ensures gives { result.items ≡ words_come (words_give self.old.words block.now) }
         ensures fed { (form : Form) (lead_in : ℕ) (given : List Given)
             → HasPlayed form lead_in given self.old
             → HasPlayed form lead_in (Fed block.now ∷ given) self.new }
@@ -129,7 +135,8 @@ impl LivePlayer {
     /// Draws a pack of 24 bytes, as a file of packs has them. The low six bits of each byte are its symbols,
     /// and the parity has no part in it. The stream goes on as if the pack were not there.
     pub fn draw(&mut self, pack: &[u8; SYMBOLS])
-        ensures { (form : Form) (lead_in : ℕ) (given : List Given)
+        ensures draws { DrawsPack pack.now self.old self.new }
+        ensures drawn { (form : Form) (lead_in : ℕ) (given : List Given)
             → HasPlayed form lead_in given self.old
             → HasPlayed form lead_in (Drawn pack.now ∷ given) self.new }
     {

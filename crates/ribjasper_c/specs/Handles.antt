@@ -29,6 +29,11 @@ abbrev pub IsPlaying : Form → ℕ → List Given → List LivePlayer → Type 
 IsPlaying form lead_in given players = (player : LivePlayer) × (players ≡ player ∷ [])
     × HasPlayed form lead_in given player
 
+-- this holds of the one player before a call and after it
+abbrev pub PlayersGo : List LivePlayer → List LivePlayer → (LivePlayer → LivePlayer → Type 0) → Type 0
+PlayersGo old new goes = (before : LivePlayer) × (after : LivePlayer)
+    × (old ≡ before ∷ []) × (new ≡ after ∷ []) × goes before after
+
 -- What these blocks show; of a raw stream it is also what stands at the moment that the program has come to.
 pub record IsSeen (form : Form) (lead_in : ℕ) (blocks : List (List ℕ)) (now : Standing) : Type 0 where
   pub last : IsLiveView form lead_in blocks now

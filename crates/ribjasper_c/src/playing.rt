@@ -3,8 +3,9 @@ ghost use Rattle.std.specs.Prelude.{◌≡◌, ◌≤◌, ◌⊎◌, ◌&&◌, n
 ghost use Rattle.disc_time.specs.Counts.{most_lead_in};
 ghost use Rattle.live_player.specs.Lives.{Given, HasPlayed};
 ghost use Rattle.live_player.specs.Lives.Given.{Drawn, Fed};
+ghost use Rattle.live_player.specs.Steps.{DrawsPack, TakesBlock};
 ghost use Rattle.raw_subcode.specs.declared.form.Form.{Form};
-ghost use Rattle.ribjasper_c.specs.Handles.{form_of, IsPlaying};
+ghost use Rattle.ribjasper_c.specs.Handles.{form_of, IsPlaying, PlayersGo};
 
 use crate::Handle;
 use crate::answers::{DONE, NOT_DONE};
@@ -148,6 +149,9 @@ pub extern "C" fn ribjasper_player_feed(player: &mut Playing, block: &[u8; BLOCK
     ensures fed { result ≡ pos 0 → (form : Form) (lead_in : ℕ) (given : List Given)
         → IsPlaying form lead_in given player.old.handle.players
         → IsPlaying form lead_in (Fed block.now ∷ given) player.new.handle.players }
+    // Whatever it was given before, also where it came to the checkpoint of a file.
+    ensures takes { result ≡ pos 0
+        → PlayersGo player.old.handle.players player.new.handle.players (TakesBlock block.now) }
     ensures answer { result ≡ (if player.old.is_open then pos 0 else negsuc 0) }
     ensures stays { player.new.is_open ≡ player.old.is_open }
     ensures refused { result ≡ negsuc 0 → player.new.handle.players ≡ player.old.handle.players }
@@ -168,6 +172,8 @@ pub extern "C" fn ribjasper_player_draw(player: &mut Playing, pack: &[u8; SYMBOL
     ensures drawn { result ≡ pos 0 → (form : Form) (lead_in : ℕ) (given : List Given)
         → IsPlaying form lead_in given player.old.handle.players
         → IsPlaying form lead_in (Drawn pack.now ∷ given) player.new.handle.players }
+    ensures draws { result ≡ pos 0
+        → PlayersGo player.old.handle.players player.new.handle.players (DrawsPack pack.now) }
     ensures answer { result ≡ (if player.old.is_open then pos 0 else negsuc 0) }
     ensures stays { player.new.is_open ≡ player.old.is_open }
     ensures refused { result ≡ negsuc 0 → player.new.handle.players ≡ player.old.handle.players }

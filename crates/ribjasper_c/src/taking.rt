@@ -2,10 +2,13 @@
 ghost use Rattle.std.specs.Prelude.{◌≡◌, ◌≤◌, ◌++◌, ◌∷◌, [], List, ℕ, pos, negsuc, length, true, false};
 ghost use Rattle.live_player.specs.Lives.{Given, blocks_in, stream_words};
 ghost use Rattle.live_player.specs.Lives.Given.{Fed};
+ghost use Rattle.live_player.specs.Steps.{TakesBlock, words_come};
+ghost use Rattle.live_player.specs.declared.live.LivePlayer.{LivePlayer};
 ghost use Rattle.raw_subcode.specs.declared.form.Form.{Form};
 ghost use Rattle.ribjasper_c.specs.Answers.{IsCorrected};
-ghost use Rattle.ribjasper_c.specs.Handles.{IsPlaying};
+ghost use Rattle.ribjasper_c.specs.Handles.{IsPlaying, PlayersGo};
 ghost use Rattle.ribjasper_c.specs.Packs.{AreReadAs};
+ghost use Rattle.stream_stages.specs.Steps.{words_give};
 
 use crate::Playing;
 use crate::answers::NOT_DONE;
@@ -37,6 +40,12 @@ pub extern "C" fn ribjasper_player_take(
         → IsPlaying form lead_in given player.old.handle.players
         → stream_words form lead_in (blocks_in given ++ block.now ∷ [])
         ≡ stream_words form lead_in (blocks_in given) ++ words) }
+    // Whatever it was given before, also where it came to the checkpoint of a file.
+    ensures takes { player.old.is_open ≡ true
+        → PlayersGo player.old.handle.players player.new.handle.players (TakesBlock block.now) }
+    ensures came { (live : LivePlayer) → player.old.is_open ≡ true → player.old.handle.players ≡ live ∷ []
+        → (result ≡ pos (length (words_come (words_give live.words block.now))))
+        × AreReadAs (words_come (words_give live.words block.now)) packs.old packs.new }
     ensures refused { player.old.is_open ≡ false → result ≡ negsuc 0 }
     ensures untouched { player.old.is_open ≡ false
         → (player.new.handle.players ≡ player.old.handle.players) × (packs.new ≡ packs.old) }

@@ -1,5 +1,5 @@
 // The counts of a stream.
-ghost use Rattle.std.specs.Prelude.{◌≡◌, ◌≢◌, ◌≤◌, ◌-◌, ◌+◌, ◌++◌, min, List, ℕ, length, IfSome, IfOk, IfErr};
+ghost use Rattle.std.specs.Prelude.{◌≡◌, ◌≢◌, ◌≤◌, ◌-◌, ◌+◌, ◌++◌, min, false, List, ℕ, length, IfSome, IfOk, IfErr};
 ghost use Rattle.std.specs.Io.KnownBytes.{Appends};
 ghost use Rattle.raw_subcode.specs.Sizes.{most_units};
 ghost use Rattle.disc_time.specs.Counts.{most_lead_in};
@@ -13,7 +13,7 @@ ghost use Rattle.stream_stages.specs.Faults.{TellsStops};
 ghost use Rattle.stream_stages.specs.Calls.{EndFirst, IsAnsweredBy, IsStreamStop, at_end};
 ghost use Rattle.stream_stages.specs.Check.{IsCheckListed, count_line, stream_lines, wrong_lines};
 ghost use Rattle.stream_stages.specs.Check.{frame_count_lines, pack_count_lines};
-ghost use Rattle.stream_stages.specs.CheckSteps.{IsFresh, lines_of_counts};
+ghost use Rattle.stream_stages.specs.CheckSteps.{IsFresh, lines_of_counts, nothing_counted};
 ghost use Rattle.stream_stages.specs.Stages.{counts_of, words_of};
 ghost use Rattle.stream_stages.specs.Steps.{fresh_words};
 
@@ -38,7 +38,9 @@ pub struct Checker {
 impl Checker {
     /// A checker that has read nothing.
     pub fn new() -> Checker
-        ensures { words_of result.checks.blocks.words ≡ fresh_words Form.Raw 0 }
+        ensures words { words_of result.checks.blocks.words ≡ fresh_words Form.Raw 0 }
+        ensures counts { counts_of result.checks.blocks.words ≡ nothing_counted }
+        ensures frames { result.checks.blocks.frames ≡ record { read = false; good = 0; bad = 0 } }
     {
         Checker {
             checks: SectorBlocks {

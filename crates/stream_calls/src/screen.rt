@@ -32,7 +32,9 @@ pub struct Viewer {
 impl Viewer {
     /// Takes the memory of the screen.
     pub fn start(alloc: Global) -> Result<Viewer, AllocError>
-        ensures { IfOk result (λ viewer. words_of viewer.views.blocks ≡ fresh_words Form.Raw 0) }
+        ensures words { IfOk result (λ viewer. words_of viewer.views.blocks ≡ fresh_words Form.Raw 0) }
+        ensures painting { IfOk result (λ viewer. ((painting_of viewer.views.blocks).screen ≡ blank)
+            × ((painting_of viewer.views.blocks).left ≡ 0) × ((painting_of viewer.views.blocks).bad ≡ 0)) }
     {
         let painting = Painting {
             screen: Screen::start(alloc)?,

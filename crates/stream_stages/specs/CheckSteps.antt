@@ -103,6 +103,19 @@ has_frames Raw = true
 has_frames Sector = true
 has_frames Cooked = false
 
+-- no word is counted yet
+abbrev pub nothing_counted : WordCounts
+nothing_counted = record {
+  clean = 0;
+  one = 0;
+  two = 0;
+  bad = 0;
+  idle = 0;
+  graphics = 0;
+  unknown = 0;
+  foreign = 0;
+}
+
 -- nothing is counted yet of a stream of this form, whose frames are read unless its packs are cooked
 pub record IsFresh (form : Form) (lead_in : ℕ) (s : Counting) : Type 0 where
   pub words : words_of s.words ≡ fresh_words form lead_in

@@ -1,11 +1,11 @@
 // Counts of words, packs and frames.
-ghost use Rattle.std.specs.Prelude.{◌≡◌, ◌==◌, replicate, true, Some, None};
+ghost use Rattle.std.specs.Prelude.{◌≡◌, ◌==◌, replicate, true, false, Some, None};
 ghost use Rattle.rw_code.specs.Codeword.{IsCodeword, differences};
 ghost use Rattle.rw_code.specs.Packs.{idle_pack};
 ghost use Rattle.stream_stages.specs.Steps.{fresh_words};
-ghost use Rattle.stream_stages.specs.Stages.{words_of};
+ghost use Rattle.stream_stages.specs.Stages.{counts_of, words_of};
 ghost use Rattle.stream_stages.specs.Check.{is_known};
-ghost use Rattle.stream_stages.specs.CheckSteps.{tick, wrong_counted, kind_counted, count_found, count_next, count_after, counts_next, counts_give, frames_next, counting_next, counting_gives};
+ghost use Rattle.stream_stages.specs.CheckSteps.{tick, wrong_counted, kind_counted, count_found, count_next, count_after, counts_next, counts_give, frames_next, counting_next, counting_gives, nothing_counted};
 
 use crate::BlockWords;
 use crate::block_words::BlockOfWords;
@@ -239,7 +239,9 @@ impl FrameCounts {
 impl Counting {
     /// Counts of no stream yet.
     pub fn new() -> Counting
-        ensures { words_of result.words ≡ fresh_words Form.Raw 0 }
+        ensures words { words_of result.words ≡ fresh_words Form.Raw 0 }
+        ensures counts { counts_of result.words ≡ nothing_counted }
+        ensures frames { result.frames ≡ record { read = false; good = 0; bad = 0 } }
     {
         Counting {
             frames: FrameCounts::default(),
