@@ -1,6 +1,7 @@
 // Lines, words and times of small texts.
 use text_lines::{
-    next_line, next_word, number, split_command, time, trim, trim_start, two_digits, without_mark,
+    after_word, next_line, next_word, number, split_command, time, trim, trim_start, two_digits,
+    without_mark,
 };
 
 #[test]
@@ -29,6 +30,25 @@ fn words_of_a_line(rt: HostRuntime) {
 fn next_words(rt: HostRuntime) {
     let words = [next_word(b" ab c"), next_word(b" \t")];
     assert_eq!(rt; words, [Some((b"ab".as_slice(), b" c".as_slice())), None]);
+}
+
+// A word is the line's first where a blank or the end of the line follows it.
+#[test]
+fn first_words(rt: HostRuntime) {
+    let line = trim_start(b" ab c");
+    let rests = [
+        after_word(line, b"ab"),
+        after_word(line, b"a"),
+        after_word(line, b"b"),
+    ];
+    assert_eq!(rt; rests, [Some(b" c".as_slice()), None, None]);
+    let (whole, blank) = (trim_start(b"ab"), trim_start(b" "));
+    let ends = [
+        after_word(whole, b"ab"),
+        after_word(whole, b"abc"),
+        after_word(blank, b"ab"),
+    ];
+    assert_eq!(rt; ends, [Some(b"".as_slice()), None, None]);
 }
 
 #[test]
