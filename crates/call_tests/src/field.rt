@@ -1,3 +1,4 @@
+// The powers of the element 2 of the field.
 ghost use Rattle.std.specs.Prelude.{◌<◌};
 
 use gf64::Sym;

@@ -1,3 +1,4 @@
+// A stream that is read from a file and converted to another.
 use cdg_io::{ReadSource, WriteSink};
 use std::fs::File;
 use std::test::Fail;

@@ -1,3 +1,4 @@
+// What a player is made of, field by field: windows and counts, and nothing that could hold a stream.
 use crate::stopped::is_as_new;
 use cdg_io::Then;
 use cdg_screen::Screen;

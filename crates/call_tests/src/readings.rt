@@ -1,3 +1,4 @@
+// Two readings of the idle pack.
 use rw_code::{Pack, Word};
 use rw_merge::agree;
 

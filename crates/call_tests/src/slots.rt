@@ -1,3 +1,4 @@
+// The places of the symbols of a pack, and the way of a pack over its eight slots and back.
 use gf64::Sym;
 use rw_code::Pack;
 use rw_interleave::{Gather, Slot, Spread, place};

@@ -1,3 +1,4 @@
+// Times, bytes of two decimal digits and a check, whose values are known.
 use disc_time::{Msf, from_bcd, parse_time, to_bcd, two_digits};
 use subcode_crc::crc16;
 
