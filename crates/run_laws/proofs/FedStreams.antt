@@ -1,5 +1,5 @@
 -- The checkpoint of a player that was fed a stream is that of the stream.
-use Rattle.std.proofs.Common.{◌≡◌, ℕ, ◌+◌, ◌-◌, ◌*◌, ◌^◌, ◌/◌, ◌≤◌, List, [], ◌∷◌, length, get_or, map, drop, refl, sym, ap, ap₂, ◌∙◌, subst, arith, None, Some, length-drop}
+use Rattle.std.proofs.Common.{◌≡◌, ℕ, ◌-◌, ◌*◌, ◌^◌, ◌/◌, ◌≤◌, List, [], ◌∷◌, length, get_or, map, drop, refl, sym, ap, ap₂, ◌∙◌, subst, arith, None, Some, length-drop}
 use Rattle.std.specs.Prelude.{Option, min, is_none}
 use Rattle.std.specs.List.{flat_map}
 use Rattle.std.proofs.lemmas.List.{ext_get_or}
@@ -14,11 +14,11 @@ use Rattle.rw_code.specs.Codeword.{IsWord}
 use Rattle.rw_code.specs.Finding.{finding}
 use Rattle.rw_code.proofs.Finding.{only_finding}
 use Rattle.rw_interleave.specs.Gathering.{kept_symbols}
-use Rattle.rw_interleave.specs.Interleave.{whole_packs, word_of}
+use Rattle.rw_interleave.specs.Interleave.{word_of}
 use Rattle.rw_interleave.specs.Stream.{IsRecovered, bad_count}
 use Rattle.cdg_instructions.specs.declared.instr.Instr.{Instr}
 use Rattle.cdg_instructions.proofs.Meaning.{only_meaning}
-use Rattle.cdg_screen.specs.Standing.{Standing, blank, standing_after}
+use Rattle.cdg_screen.specs.Standing.{blank, standing_after}
 use Rattle.checkpoint_files.specs.Checkpoint.{Checkpoint, checkpoint_in, file_of}
 use Rattle.stream_stages.specs.Screen.{AreMeant}
 use Rattle.stream_stages.specs.Steps.{fresh_words, words_next}
@@ -31,7 +31,7 @@ use Rattle.cdg_checkpoint.specs.Saved.{IsCheckpointOf, IsSaved, last_symbols}
 use Rattle.cdg_checkpoint.proofs.GoneOn.{gathered_word}
 use Rattle.cdg_checkpoint.proofs.SavedStreams.{blocks_are}
 use Rattle.cdg_checkpoint.proofs.Tails.{kept_after}
-use Rattle.live_player.specs.Lives.{Given, HasPlayed, IsLiveView, bad_words_in, blocks_in, instructions_in, packs_given, standing_on, stream_words}
+use Rattle.live_player.specs.Lives.{Given, HasPlayed, IsLiveView, bad_words_in, blocks_in, instructions_in, standing_on}
 use Rattle.live_player.specs.Saving.{IsAt, checkpoint_of}
 use Rattle.live_player.specs.declared.live.LivePlayer.{LivePlayer}
 use Rattle.live_player.proofs.LiveViews.{live_view}

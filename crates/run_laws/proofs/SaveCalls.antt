@@ -14,7 +14,6 @@ use Rattle.cdg_checkpoint.specs.Cut.{IsFirstPart}
 use Rattle.cdg_checkpoint.specs.Saved.{IsSaved, Saves}
 use Rattle.cdg_cmd.specs.Resumes.{IsSaveOf}
 use Rattle.cdg_cmd.specs.Stops.{pump_status}
-use Rattle.cdg_cmd.specs.declared.status.Status.{Status}
 use Rattle.cdg_cmd.specs.declared.status.Status.TheVariants.{Done}
 
 -- ---- from the call
