@@ -1,6 +1,8 @@
 mod Accepted
 mod Clean
+mod FedStreams
 mod Refusals
+mod SaveCalls
 mod Scratched
 mod SecondFaults
 pub mod Streams

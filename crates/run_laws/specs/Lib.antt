@@ -1,3 +1,4 @@
+pub mod Players
 pub mod Ran
 pub mod Refused
 pub mod Undamaged

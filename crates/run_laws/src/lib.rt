@@ -5,6 +5,7 @@ mod causes;
 mod conversions;
 mod discs;
 mod listings;
+mod players;
 mod readings;
 mod scratch_laws;
 
@@ -15,5 +16,6 @@ pub use conversions::{
 };
 pub use discs::{accepted_discs_are_written, refusals_are_told};
 pub use listings::{authored_texts_are_written, copied_texts_are_written};
+pub use players::{players_go_on_from_saved_streams, streams_go_on_from_saved_players};
 pub use readings::damaged_readings_give_their_packs;
 pub use scratch_laws::scratched_streams_are_damaged;
