@@ -12,23 +12,31 @@ use Rattle.block_survey.specs.Steps.{marks_of, marked_found}
 use Rattle.block_survey.specs.declared.counting.WordMarks.{WordMarks}
 
 -- a word more that passes a test, or does not
-more : (test : List ℕ → Bool) (words : List (List ℕ)) (i : ℕ) (word : List ℕ) → i < length words → word ≡ get_or words i word
+more : (test : List ℕ → Bool) (words : List (List ℕ)) (i : ℕ) (word : List ℕ) → i < length words
+    → word ≡ get_or words i word
     → count_by test (take (i + 1) words) ≡ count_by test (take i words) + (if test word then 1 else 0)
-more test words i word lt is = sum_by_more (λ (w : List ℕ). if test w then 1 else 0) words i word lt ∙ ap (λ (w : List ℕ). count_by test (take i words) + (if test w then 1 else 0)) (sym is)
+more test words i word lt is =
+    sum_by_more (λ (w : List ℕ). if test w then 1 else 0) words i word lt
+    ∙ ap (λ (w : List ℕ). count_by test (take i words) + (if test w then 1 else 0)) (sym is)
 
-pub one_more : (words : List (List ℕ)) (i : ℕ) (word : List ℕ) (old new : WordMarks) → i < length words → word ≡ get_or words i word → old ≡ marks_of (take i words)
+pub one_more : (words : List (List ℕ)) (i : ℕ) (word : List ℕ) (old new : WordMarks) → i < length words
+    → word ≡ get_or words i word → old ≡ marks_of (take i words)
     → new ≡ marked_found old word (finding word) → new ≡ marks_of (take (i + 1) words)
 one_more words i word old new lt is before step =
-    let wrong : (n : ℕ) → wrong_count n (take (i + 1) words) ≡ wrong_count n (take i words) + (if has_wrong n (word, finding word) then 1 else 0) =
+    let wrong : (n : ℕ)
+    → wrong_count n (take (i + 1) words)
+    ≡ wrong_count n (take i words) + (if has_wrong n (word, finding word) then 1 else 0) =
     λ n. more (λ (w : List ℕ). has_wrong n (w, finding w)) words i word lt is in
-    let bad : bad_words (take (i + 1) words) ≡ bad_words (take i words) + (if is_none (finding word) then 1 else 0) =
+    let bad : bad_words (take (i + 1) words)
+    ≡ bad_words (take i words) + (if is_none (finding word) then 1 else 0) =
     more (λ (w : List ℕ). is_none (finding w)) words i word lt is in
     let after : marks_of (take (i + 1) words) ≡ marked_found (marks_of (take i words)) word (finding word) =
     (λ t. record { clean = wrong 0 t; one = wrong 1 t; two = wrong 2 t; bad = bad t }) in
     step ∙ ap (λ (s : WordMarks). marked_found s word (finding word)) before ∙ sym after
 
 -- four idle packs are clean
-pub four_clean : IsCodeword (replicate 24 0) → record { clean = 4; one = 0; two = 0; bad = 0 } ≡ marks_of (replicate 4 (replicate 24 0))
+pub four_clean : IsCodeword (replicate 24 0)
+    → record { clean = 4; one = 0; two = 0; bad = 0 } ≡ marks_of (replicate 4 (replicate 24 0))
 unfolding differences
 four_clean is =
     let zeros : List ℕ = replicate 24 0 in

@@ -33,7 +33,8 @@ use Rattle.block_survey.proofs.EndedWords.{length-blocks}
 -- ---- lists made of numbers
 
 -- tests that agree at each number count the same
-same_tests : {A B : Type 0} (p : A → Bool) (q : B → Bool) (g : ℕ → A) (h : ℕ → B) → ((b : ℕ) → p (g b) ≡ q (h b)) → (a n : ℕ)
+same_tests : {A B : Type 0} (p : A → Bool) (q : B → Bool) (g : ℕ → A) (h : ℕ → B)
+    → ((b : ℕ) → p (g b) ≡ q (h b)) → (a n : ℕ)
     → count_by p (map g (range_with_len a n)) ≡ count_by q (map h (range_with_len a n))
 same_tests p q g h same a zero = refl
 same_tests {A = A} {B = B} p q g h same a (suc n) =
@@ -41,13 +42,17 @@ same_tests {A = A} {B = B} p q g h same a (suc n) =
     ∙ ap₂ (λ (t : Bool) k. (if t then 1 else 0) + k) (same a) (same_tests p q g h same (a + 1) n)
     ∙ sym (sum_by-cons (λ (x : B). if q x then 1 else 0) (h a) (map h (range_with_len (a + 1) n)))
 
-no_tests : {A : Type 0} (p : A → Bool) (g : ℕ → A) → ((b : ℕ) → p (g b) ≡ false) → (a n : ℕ) → count_by p (map g (range_with_len a n)) ≡ 0
+no_tests : {A : Type 0} (p : A → Bool) (g : ℕ → A) → ((b : ℕ) → p (g b) ≡ false) → (a n : ℕ)
+    → count_by p (map g (range_with_len a n)) ≡ 0
 no_tests p g none a zero = refl
 no_tests {A = A} p g none a (suc n) =
-    sum_by-cons (λ (x : A). if p x then 1 else 0) (g a) (map g (range_with_len (a + 1) n)) ∙ ap₂ (λ (t : Bool) k. (if t then 1 else 0) + k) (none a) (no_tests p g none (a + 1) n)
+    sum_by-cons (λ (x : A). if p x then 1 else 0) (g a) (map g (range_with_len (a + 1) n))
+    ∙ ap₂ (λ (t : Bool) k. (if t then 1 else 0) + k) (none a) (no_tests p g none (a + 1) n)
 
 -- a count in two parts
-two_parts : {A : Type 0} (p : A → Bool) (f : ℕ → A) (m k : ℕ) → count_by p (map f (below (m + k))) ≡ count_by p (map f (below m)) + count_by p (map f (range_with_len m k))
+two_parts : {A : Type 0} (p : A → Bool) (f : ℕ → A) (m k : ℕ)
+    → count_by p (map f (below (m + k)))
+    ≡ count_by p (map f (below m)) + count_by p (map f (range_with_len m k))
 two_parts p f m zero =
     let none : m + 0 ≡ m = omega arith in
     ap (λ n. count_by p (map f (below n))) none ∙ omega arith
@@ -55,10 +60,14 @@ two_parts {A = A} p f m (suc k) =
     let one : A → ℕ = λ (x : A). if p x then 1 else 0 in
     let next : m + suc k ≡ (m + k) + 1 = omega arith in
     let last : suc k ≡ k + 1 = omega arith in
-    let whole : count_by p (map f (below (m + suc k))) ≡ count_by p (map f (below (m + k))) + one (f (m + k)) =
-    ap (λ n. count_by p (map f (below n))) next ∙ sum_by-map-range_with_len_more one f 0 (m + k) (m + k) (omega arith) in
-    let part : count_by p (map f (range_with_len m (suc k))) ≡ count_by p (map f (range_with_len m k)) + one (f (m + k)) =
-    ap (λ n. count_by p (map f (range_with_len m n))) last ∙ sum_by-map-range_with_len_more one f m k (m + k) refl in
+    let whole : count_by p (map f (below (m + suc k)))
+    ≡ count_by p (map f (below (m + k))) + one (f (m + k)) =
+    ap (λ n. count_by p (map f (below n))) next
+    ∙ sum_by-map-range_with_len_more one f 0 (m + k) (m + k) (omega arith) in
+    let part : count_by p (map f (range_with_len m (suc k)))
+    ≡ count_by p (map f (range_with_len m k)) + one (f (m + k)) =
+    ap (λ n. count_by p (map f (range_with_len m n))) last
+    ∙ sum_by-map-range_with_len_more one f m k (m + k) refl in
     omega (arith, whole, part, two_parts p f m k)
 
 -- ---- words
@@ -77,10 +86,13 @@ zip_found : (words : List (List ℕ)) → map (λ w. (w, finding w)) words ≡ z
 zip_found [] = refl
 zip_found (w ∷ words) = ap (λ (l : List (List ℕ × Option (List ℕ))). (w, finding w) ∷ l) (zip_found words)
 
-count-map : {A B : Type 0} (p : B → Bool) (g : A → B) (xs : List A) → count_by p (map g xs) ≡ count_by (λ x. p (g x)) xs
+count-map : {A B : Type 0} (p : B → Bool) (g : A → B) (xs : List A)
+    → count_by p (map g xs) ≡ count_by (λ x. p (g x)) xs
 count-map p g [] = refl
 count-map {A = A} {B = B} p g (x ∷ xs) =
-    sum_by-cons (λ (y : B). if p y then 1 else 0) (g x) (map g xs) ∙ ap (λ k. (if p (g x) then 1 else 0) + k) (count-map p g xs) ∙ sym (sum_by-cons (λ (y : A). if p (g y) then 1 else 0) x xs)
+    sum_by-cons (λ (y : B). if p y then 1 else 0) (g x) (map g xs)
+    ∙ ap (λ k. (if p (g x) then 1 else 0) + k) (count-map p g xs)
+    ∙ sym (sum_by-cons (λ (y : A). if p (g y) then 1 else 0) x xs)
 
 module _ (form : Form) (lead_in : ℕ) (bytes : List ℕ) where
   abbrev word_at : ℕ → List ℕ
@@ -90,23 +102,38 @@ module _ (form : Form) (lead_in : ℕ) (bytes : List ℕ) where
   rows_of n = map (row_of_block form lead_in bytes) (below n)
 
   -- the sums of a field of the first rows
-  sums : (field : BlockRow → ℕ) (test : List ℕ → Bool) → ((b : ℕ) → field (row_of_block form lead_in bytes b) ≡ count_by test (ended_words form lead_in bytes b))
-      → (n : ℕ) → sum_by field (rows_of n) ≡ count_by test (map word_at (below (word_count form (n - lead_in))))
+  sums : (field : BlockRow → ℕ) (test : List ℕ → Bool)
+      → ((b : ℕ)
+      → field (row_of_block form lead_in bytes b) ≡ count_by test (ended_words form lead_in bytes b))
+      → (n : ℕ)
+      → sum_by field (rows_of n) ≡ count_by test (map word_at (below (word_count form (n - lead_in))))
   sums field test is zero = sym (ap (λ k. count_by test (map word_at (below k))) (none_before form lead_in))
   sums field test is (suc n) =
       let old : ℕ = word_count form (n - lead_in) in
       let new : ℕ = word_count form (suc n - lead_in) in
       let all : new ≡ old + (new - old) = omega (arith, grows form n lead_in) in
       let next : suc n ≡ n + 1 = omega arith in
-      let more : sum_by field (rows_of (suc n)) ≡ sum_by field (rows_of n) + field (row_of_block form lead_in bytes n) =
-      ap (λ k. sum_by field (rows_of k)) next ∙ sum_by-map-range_with_len_more field (row_of_block form lead_in bytes) 0 n n (omega arith) in
-      more ∙ ap₂ (λ a b. a + b) (sums field test is n) (is n) ∙ sym (two_parts test word_at old (new - old)) ∙ ap (λ k. count_by test (map word_at (below k))) (sym all)
+      let more : sum_by field (rows_of (suc n))
+      ≡ sum_by field (rows_of n) + field (row_of_block form lead_in bytes n) =
+      ap (λ k. sum_by field (rows_of k)) next
+      ∙ sum_by-map-range_with_len_more field (row_of_block form lead_in bytes) 0 n n (omega arith) in
+      more
+      ∙ ap₂ (λ a b. a + b) (sums field test is n) (is n)
+      ∙ sym (two_parts test word_at old (new - old))
+      ∙ ap (λ k. count_by test (map word_at (below k))) (sym all)
 
   sized : Sized 96 (blocks_of form bytes)
-  sized = blocks_sized form (whole_parts (unit_size form) bytes) (units_sized (unit_size form) (length bytes / unit_size form) bytes (omega arith))
+  sized =
+      blocks_sized form (whole_parts (unit_size form) bytes)
+      (units_sized (unit_size form) (length bytes / unit_size form) bytes (omega arith))
 
   program_size : length (program_symbols form bytes lead_in) / 96 ≡ length (blocks_of form bytes) - lead_in
-  program_size = omega (arith, length-all_symbols (drop lead_in (blocks_of form bytes)) (sized_drop 96 lead_in (blocks_of form bytes) sized), length-drop lead_in (blocks_of form bytes))
+  program_size = omega (
+    arith,
+    length-all_symbols (drop lead_in (blocks_of form bytes))
+        (sized_drop 96 lead_in (blocks_of form bytes) sized),
+    length-drop lead_in (blocks_of form bytes),
+  )
 
   -- what is found for all words
   found_is : (found : List (Option (List ℕ))) → IsRecovered form (program_symbols form bytes lead_in) found
@@ -119,8 +146,10 @@ module _ (form : Form) (lead_in : ℕ) (bytes : List ℕ) where
       let size : length found ≡ count = r.count ∙ ap (word_count form) program_size in
       ext_get_or None found (map finding words) (size ∙ sym (length-map words finding ∙ many)) (λ n lt.
       let within : n < word_count form (length symbols / 96) = omega (arith, lt, r.count) in
-      only_finding (word_at n) (form_words form symbols n (symbols_small (drop lead_in (blocks_of form bytes)))) _ (r.each n within)
-      ∙ ap finding (sym (get_or-map-range_with_len word_at 0 count n n [] (omega (arith, lt, size)) (omega arith)))
+      only_finding (word_at n)
+      (form_words form symbols n (symbols_small (drop lead_in (blocks_of form bytes)))) _ (r.each n within)
+      ∙ ap finding
+      (sym (get_or-map-range_with_len word_at 0 count n n [] (omega (arith, lt, size)) (omega arith)))
       ∙ sym (get_or-map finding words n [] None (omega (arith, lt, size, many))))
 
 -- ---- frames
@@ -152,72 +181,127 @@ refusal_kinds (Err BadCrc) = refl
 abbrev reading_at : List ℕ → Result QFrame QFault
 reading_at block = reading_of (q_bits block)
 
-readings_are : (blocks : List (List ℕ)) → Sized 96 blocks → (readings : List (Result QFrame QFault)) → AreQReadings blocks readings → readings ≡ map reading_at blocks
+readings_are : (blocks : List (List ℕ)) → Sized 96 blocks → (readings : List (Result QFrame QFault))
+    → AreQReadings blocks readings
+    → readings ≡ map reading_at blocks
 readings_are [] all readings are = are
 readings_are (block ∷ rest) all [] are = absurd are
 readings_are (block ∷ rest) all (reading ∷ readings) are =
     ap₂ (λ (r : Result QFrame QFault) (l : List (Result QFrame QFault)). r ∷ l)
-    (only_reading (q_bits block) reading (length-map block (channel_bit 1) ∙ all.0) are.0) (readings_are rest all.1 readings are.1)
+    (only_reading (q_bits block) reading (length-map block (channel_bit 1) ∙ all.0) are.0)
+    (readings_are rest all.1 readings are.1)
 
 -- the readings of blocks by their numbers
-readings_by_number : (blocks : List (List ℕ)) → map reading_at blocks ≡ map (λ b. reading_at (get_or blocks b [])) (below (length blocks))
+readings_by_number : (blocks : List (List ℕ))
+    → map reading_at blocks ≡ map (λ b. reading_at (get_or blocks b [])) (below (length blocks))
 readings_by_number blocks =
-    fill_by_all (λ b. reading_at (get_or blocks b [])) (map reading_at blocks) (length blocks) (Err BadCrc) (length-map blocks reading_at) (λ b lt. get_or-map reading_at blocks b [] (Err BadCrc) lt)
+    fill_by_all (λ b. reading_at (get_or blocks b [])) (map reading_at blocks) (length blocks) (Err BadCrc)
+    (length-map blocks reading_at) (λ b lt. get_or-map reading_at blocks b [] (Err BadCrc) lt)
 
 -- a count of rows with frames is that of readings
-abbrev CountsFrames : (BlockRow → Bool) → (Result QFrame QFault → Bool) → Form → ℕ → List ℕ → List (Result QFrame QFault) → Type 0
-CountsFrames told test form lead_in bytes readings = count_by test readings ≡ count_by told (map (row_of_block form lead_in bytes) (below (length (blocks_of form bytes))))
+abbrev CountsFrames : (BlockRow → Bool) → (Result QFrame QFault → Bool) → Form → ℕ → List ℕ
+    → List (Result QFrame QFault)
+    → Type 0
+CountsFrames told test form lead_in bytes readings =
+    count_by test readings
+    ≡ count_by told (map (row_of_block form lead_in bytes) (below (length (blocks_of form bytes))))
 
-by_blocks : (told : BlockRow → Bool) (test : Result QFrame QFault → Bool) (form : Form) (lead_in : ℕ) (bytes : List ℕ) (readings : List (Result QFrame QFault))
-    → ((b : ℕ) → told (row_of_block form lead_in bytes b) ≡ test (reading_at (get_or (blocks_of form bytes) b [])))
+by_blocks : (told : BlockRow → Bool) (test : Result QFrame QFault → Bool) (form : Form) (lead_in : ℕ)
+    (bytes : List ℕ) (readings : List (Result QFrame QFault))
+    → ((b : ℕ)
+    → told (row_of_block form lead_in bytes b) ≡ test (reading_at (get_or (blocks_of form bytes) b [])))
     → AreQReadings (blocks_of form bytes) readings → CountsFrames told test form lead_in bytes readings
 by_blocks told test form lead_in bytes readings same are =
     let blocks : List (List ℕ) = blocks_of form bytes in
-    ap (count_by test) (readings_are blocks (sized form lead_in bytes) readings are ∙ readings_by_number blocks)
-    ∙ sym (same_tests told test (row_of_block form lead_in bytes) (λ b. reading_at (get_or blocks b [])) same 0 (length blocks))
+    ap (count_by test)
+    (readings_are blocks (sized form lead_in bytes) readings are ∙ readings_by_number blocks)
+    ∙ sym (same_tests told test (row_of_block form lead_in bytes) (λ b. reading_at (get_or blocks b [])) same
+    0 (length blocks))
 
-frames_told : (form : Form) (lead_in : ℕ) (bytes : List ℕ) (readings : List (Result QFrame QFault)) → AreQReadings (q_blocks form bytes) readings
+frames_told : (form : Form) (lead_in : ℕ) (bytes : List ℕ) (readings : List (Result QFrame QFault))
+    → AreQReadings (q_blocks form bytes) readings
     → CountsFrames tells_frame is_ok form lead_in bytes readings
-frames_told Raw lead_in bytes readings are = by_blocks tells_frame is_ok Raw lead_in bytes readings (λ b. frame_kinds (reading_at (get_or (blocks_of Raw bytes) b []))) are
-frames_told Sector lead_in bytes readings are = by_blocks tells_frame is_ok Sector lead_in bytes readings (λ b. frame_kinds (reading_at (get_or (blocks_of Sector bytes) b []))) are
-frames_told Cooked lead_in bytes readings are = ap (count_by is_ok) are ∙ sym (no_tests tells_frame (row_of_block Cooked lead_in bytes) (λ b. refl) 0 (length (blocks_of Cooked bytes)))
+frames_told Raw lead_in bytes readings are =
+    by_blocks tells_frame is_ok Raw lead_in bytes readings
+    (λ b. frame_kinds (reading_at (get_or (blocks_of Raw bytes) b []))) are
+frames_told Sector lead_in bytes readings are =
+    by_blocks tells_frame is_ok Sector lead_in bytes readings
+    (λ b. frame_kinds (reading_at (get_or (blocks_of Sector bytes) b []))) are
+frames_told Cooked lead_in bytes readings are =
+    ap (count_by is_ok) are
+    ∙ sym
+    (no_tests tells_frame (row_of_block Cooked lead_in bytes) (λ b. refl) 0 (length (blocks_of Cooked bytes)))
 
-refusals_told : (form : Form) (lead_in : ℕ) (bytes : List ℕ) (readings : List (Result QFrame QFault)) → AreQReadings (q_blocks form bytes) readings
+refusals_told : (form : Form) (lead_in : ℕ) (bytes : List ℕ) (readings : List (Result QFrame QFault))
+    → AreQReadings (q_blocks form bytes) readings
     → CountsFrames tells_refusal is_err form lead_in bytes readings
-refusals_told Raw lead_in bytes readings are = by_blocks tells_refusal is_err Raw lead_in bytes readings (λ b. refusal_kinds (reading_at (get_or (blocks_of Raw bytes) b []))) are
-refusals_told Sector lead_in bytes readings are = by_blocks tells_refusal is_err Sector lead_in bytes readings (λ b. refusal_kinds (reading_at (get_or (blocks_of Sector bytes) b []))) are
-refusals_told Cooked lead_in bytes readings are = ap (count_by is_err) are ∙ sym (no_tests tells_refusal (row_of_block Cooked lead_in bytes) (λ b. refl) 0 (length (blocks_of Cooked bytes)))
+refusals_told Raw lead_in bytes readings are =
+    by_blocks tells_refusal is_err Raw lead_in bytes readings
+    (λ b. refusal_kinds (reading_at (get_or (blocks_of Raw bytes) b []))) are
+refusals_told Sector lead_in bytes readings are =
+    by_blocks tells_refusal is_err Sector lead_in bytes readings
+    (λ b. refusal_kinds (reading_at (get_or (blocks_of Sector bytes) b []))) are
+refusals_told Cooked lead_in bytes readings are =
+    ap (count_by is_err) are
+    ∙ sym (no_tests tells_refusal (row_of_block Cooked lead_in bytes) (λ b. refl) 0
+    (length (blocks_of Cooked bytes)))
 
 -- ---- the lines
 
-same_lines : (before between : List ℕ) (a b c d e f a' b' c' d' e' f' : ℕ) → a ≡ a' → b ≡ b' → c ≡ c' → d ≡ d' → e ≡ e' → f ≡ f'
-    → before ++ (wrong_lines a b c d ++ (between ++ frame_count_lines e f)) ≡ before ++ (wrong_lines a' b' c' d' ++ (between ++ frame_count_lines e' f'))
+same_lines : (before between : List ℕ) (a b c d e f a' b' c' d' e' f' : ℕ) → a ≡ a' → b ≡ b' → c ≡ c' → d ≡ d'
+    → e ≡ e' → f ≡ f'
+    → before ++ (wrong_lines a b c d ++ (between ++ frame_count_lines e f))
+    ≡ before ++ (wrong_lines a' b' c' d' ++ (between ++ frame_count_lines e' f'))
 same_lines before between a b c d e f a' b' c' d' e' f' p q r s t u = rw (p, q, r, s, t, u) refl
 
-pub add_up : (form : Form) (lead_in : ℕ) (bytes text : List ℕ) (bad : ℕ) → IsCheckListed form lead_in bytes text bad → AddUpTo (survey_rows form lead_in bytes) text bad
+pub add_up : (form : Form) (lead_in : ℕ) (bytes text : List ℕ) (bad : ℕ)
+    → IsCheckListed form lead_in bytes text bad
+    → AddUpTo (survey_rows form lead_in bytes) text bad
 unfolding check_text
 add_up form lead_in bytes text bad listed =
     let n : ℕ = length (blocks_of form bytes) in
     let words : List (List ℕ) = map (word_at form lead_in bytes) (below (word_count form (n - lead_in))) in
-    let found : listed.found ≡ map finding words = found_is form lead_in bytes listed.found listed.recovered in
-    let rows : map (row_of_block form lead_in bytes) (below n) ≡ survey_rows form lead_in bytes = ap (λ k. map (row_of_block form lead_in bytes) (below k)) (length-blocks form bytes) in
-    let wrong : (k : ℕ) → count_by (has_wrong k) (zip words listed.found) ≡ count_by (λ w. has_wrong k (w, finding w)) words = λ k.
-    ap (λ (l : List (Option (List ℕ))). count_by (has_wrong k) (zip words l)) found ∙ ap (count_by (has_wrong k)) (sym (zip_found words)) ∙ count-map (has_wrong k) (λ w. (w, finding w)) words in
-    let bad_words : bad_count listed.found ≡ count_by (λ w. is_none (finding w)) words = ap bad_count found ∙ count-map is_none finding words in
-    let clean : count_by (has_wrong 0) (zip words listed.found) ≡ sum_by (λ row. row.clean) (survey_rows form lead_in bytes) =
-    wrong 0 ∙ sym (sums form lead_in bytes (λ row. row.clean) (λ w. has_wrong 0 (w, finding w)) (λ b. refl) n) ∙ ap (sum_by (λ (row : BlockRow). row.clean)) rows in
-    let one : count_by (has_wrong 1) (zip words listed.found) ≡ sum_by (λ row. row.one) (survey_rows form lead_in bytes) =
-    wrong 1 ∙ sym (sums form lead_in bytes (λ row. row.one) (λ w. has_wrong 1 (w, finding w)) (λ b. refl) n) ∙ ap (sum_by (λ (row : BlockRow). row.one)) rows in
-    let two : count_by (has_wrong 2) (zip words listed.found) ≡ sum_by (λ row. row.two) (survey_rows form lead_in bytes) =
-    wrong 2 ∙ sym (sums form lead_in bytes (λ row. row.two) (λ w. has_wrong 2 (w, finding w)) (λ b. refl) n) ∙ ap (sum_by (λ (row : BlockRow). row.two)) rows in
+    let found : listed.found ≡ map finding words =
+    found_is form lead_in bytes listed.found listed.recovered in
+    let rows : map (row_of_block form lead_in bytes) (below n) ≡ survey_rows form lead_in bytes =
+    ap (λ k. map (row_of_block form lead_in bytes) (below k)) (length-blocks form bytes) in
+    let wrong : (k : ℕ)
+    → count_by (has_wrong k) (zip words listed.found) ≡ count_by (λ w. has_wrong k (w, finding w)) words =
+    λ k.
+    ap (λ (l : List (Option (List ℕ))). count_by (has_wrong k) (zip words l)) found
+    ∙ ap (count_by (has_wrong k)) (sym (zip_found words))
+    ∙ count-map (has_wrong k) (λ w. (w, finding w)) words in
+    let bad_words : bad_count listed.found ≡ count_by (λ w. is_none (finding w)) words =
+    ap bad_count found ∙ count-map is_none finding words in
+    let clean : count_by (has_wrong 0) (zip words listed.found)
+    ≡ sum_by (λ row. row.clean) (survey_rows form lead_in bytes) =
+    wrong 0
+    ∙ sym (sums form lead_in bytes (λ row. row.clean) (λ w. has_wrong 0 (w, finding w)) (λ b. refl) n)
+    ∙ ap (sum_by (λ (row : BlockRow). row.clean)) rows in
+    let one : count_by (has_wrong 1) (zip words listed.found)
+    ≡ sum_by (λ row. row.one) (survey_rows form lead_in bytes) =
+    wrong 1
+    ∙ sym (sums form lead_in bytes (λ row. row.one) (λ w. has_wrong 1 (w, finding w)) (λ b. refl) n)
+    ∙ ap (sum_by (λ (row : BlockRow). row.one)) rows in
+    let two : count_by (has_wrong 2) (zip words listed.found)
+    ≡ sum_by (λ row. row.two) (survey_rows form lead_in bytes) =
+    wrong 2
+    ∙ sym (sums form lead_in bytes (λ row. row.two) (λ w. has_wrong 2 (w, finding w)) (λ b. refl) n)
+    ∙ ap (sum_by (λ (row : BlockRow). row.two)) rows in
     let none : bad_count listed.found ≡ sum_by (λ row. row.bad) (survey_rows form lead_in bytes) =
-    bad_words ∙ sym (sums form lead_in bytes (λ row. row.bad) (λ w. is_none (finding w)) (λ b. refl) n) ∙ ap (sum_by (λ (row : BlockRow). row.bad)) rows in
-    let good : count_by is_ok listed.readings ≡ count_by tells_frame (survey_rows form lead_in bytes) = frames_told form lead_in bytes listed.readings listed.read ∙ ap (count_by tells_frame) rows in
+    bad_words
+    ∙ sym (sums form lead_in bytes (λ row. row.bad) (λ w. is_none (finding w)) (λ b. refl) n)
+    ∙ ap (sum_by (λ (row : BlockRow). row.bad)) rows in
+    let good : count_by is_ok listed.readings ≡ count_by tells_frame (survey_rows form lead_in bytes) =
+    frames_told form lead_in bytes listed.readings listed.read ∙ ap (count_by tells_frame) rows in
     let refused : count_by is_err listed.readings ≡ count_by tells_refusal
-    (survey_rows form lead_in bytes) = refusals_told form lead_in bytes listed.readings listed.read ∙ ap (count_by tells_refusal) rows in
+    (survey_rows form lead_in bytes) =
+    refusals_told form lead_in bytes listed.readings listed.read ∙ ap (count_by tells_refusal) rows in
     record {
       before = stream_lines (min lead_in n) (n - lead_in) (length words);
-      between = pack_count_lines (count_by (found_passes is_idle) listed.found) (count_by (found_passes is_graphics) listed.found)
+      between =
+          pack_count_lines (count_by (found_passes is_idle) listed.found)
+          (count_by (found_passes is_graphics) listed.found)
           (count_by (found_passes is_unknown) listed.found) (count_by (found_passes is_foreign) listed.found);
       text_is = listed.text_is ∙ same_lines _ _ _ _ _ _ _ _ _ _ _ _ _ _ clean one two none good refused;
       bad_is = listed.bad_is ∙ none;

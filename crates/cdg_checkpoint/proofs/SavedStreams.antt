@@ -39,17 +39,26 @@ use Rattle.stream_stages.specs.Drawn.{painting_next}
 -- ---- the blocks of whole bytes
 
 pub blocks_are : (n : ℕ) (bytes : List ℕ) → IsWhole 96 n bytes → blocks_of Raw bytes ≡ units_of 96 n bytes
-blocks_are n bytes whole = plain_blocks Raw refl _ ∙ ap (λ k. units_of 96 k bytes) (units_in Raw n bytes whole)
+blocks_are n bytes whole =
+    plain_blocks Raw refl _ ∙ ap (λ k. units_of 96 k bytes) (units_in Raw n bytes whole)
 
-pub symbols_are : (lead_in n : ℕ) (bytes : List ℕ) → IsWhole 96 n bytes → program_symbols Raw bytes lead_in ≡ flat_map symbols_of (drop lead_in (units_of 96 n bytes))
-symbols_are lead_in n bytes whole = ap (λ (bs : List (List ℕ)). flat_map symbols_of (drop lead_in bs)) (blocks_are n bytes whole)
+pub symbols_are : (lead_in n : ℕ) (bytes : List ℕ) → IsWhole 96 n bytes
+    → program_symbols Raw bytes lead_in ≡ flat_map symbols_of (drop lead_in (units_of 96 n bytes))
+symbols_are lead_in n bytes whole =
+    ap (λ (bs : List (List ℕ)). flat_map symbols_of (drop lead_in bs)) (blocks_are n bytes whole)
 
-pub symbols_count : (lead_in n : ℕ) (bytes : List ℕ) → IsWhole 96 n bytes → length (program_symbols Raw bytes lead_in) ≡ 96 * (n - lead_in)
+pub symbols_count : (lead_in n : ℕ) (bytes : List ℕ) → IsWhole 96 n bytes
+    → length (program_symbols Raw bytes lead_in) ≡ 96 * (n - lead_in)
 symbols_count lead_in n bytes whole =
-    ap length (symbols_are lead_in n bytes whole) ∙ length-all_symbols (drop lead_in (units_of 96 n bytes)) (sized_drop 96 lead_in _ (units_sized 96 n bytes whole.fits))
-    ∙ ap (λ k. 96 * k) (length-drop lead_in (units_of 96 n bytes) ∙ ap (λ k. k - lead_in) (length-units_of 96 n bytes))
+    ap length (symbols_are lead_in n bytes whole)
+    ∙ length-all_symbols (drop lead_in (units_of 96 n bytes))
+    (sized_drop 96 lead_in _ (units_sized 96 n bytes whole.fits))
+    ∙ ap (λ k. 96 * k)
+    (length-drop lead_in (units_of 96 n bytes) ∙ ap (λ k. k - lead_in) (length-units_of 96 n bytes))
 
-module _ (lead_in n : ℕ) (bytes file : List ℕ) (s s' : Then BlockWords Painting) (ready : IsReady Raw lead_in 1000000 s) (few : n ≤ 1000000) (size : length bytes ≡ n * 96) (run : s' ≡ run_state words_drawn s (units_of 96 n bytes)) (kept : IsKept n lead_in s' file) where
+module _ (lead_in n : ℕ) (bytes file : List ℕ) (s s' : Then BlockWords Painting)
+    (ready : IsReady Raw lead_in 1000000 s) (few : n ≤ 1000000) (size : length bytes ≡ n * 96)
+    (run : s' ≡ run_state words_drawn s (units_of 96 n bytes)) (kept : IsKept n lead_in s' file) where
   whole : IsWhole 96 n bytes
   whole = whole_taken Raw n bytes size
 
@@ -60,15 +69,19 @@ module _ (lead_in n : ℕ) (bytes file : List ℕ) (s s' : Then BlockWords Paint
   viewed =
       viewed_bytes Raw lead_in 1000000 s bytes n s'.second ready few whole
       (ap (λ (t : Then BlockWords Painting). t.second) run
-      ∙ ap (λ (us : List (List ℕ)). (run_state paintings_next s us).second) (sym (plain_blocks Raw refl (units_of 96 n bytes))))
+      ∙ ap (λ (us : List (List ℕ)). (run_state paintings_next s us).second)
+      (sym (plain_blocks Raw refl (units_of 96 n bytes))))
 
   all_found : take (whole_packs 1000000) viewed.found ≡ viewed.found
-  all_found = take_all (whole_packs 1000000) viewed.found (omega (arith, viewed.recovered.count, symbols_count lead_in n bytes whole, few))
+  all_found =
+      take_all (whole_packs 1000000) viewed.found
+      (omega (arith, viewed.recovered.count, symbols_count lead_in n bytes whole, few))
 
   slots : kept_symbols s'.first.gather ≡ last_symbols 168 (program_symbols Raw bytes lead_in)
   slots =
       ap (λ (t : Then BlockWords Painting). kept_symbols t.first.gather) run
-      ∙ ap (λ (w : BlockWords). kept_symbols w.gather) (then_next_first words_next words_give painting_next s (units_of 96 n bytes))
+      ∙ ap (λ (w : BlockWords). kept_symbols w.gather)
+      (then_next_first words_next words_give painting_next s (units_of 96 n bytes))
       ∙ kept_after lead_in s.first (units_of 96 n bytes) ready.words (units_sized 96 n bytes whole.fits)
       ∙ ap (last_symbols 168) (sym (symbols_are lead_in n bytes whole))
 
@@ -82,7 +95,8 @@ module _ (lead_in n : ℕ) (bytes file : List ℕ) (s s' : Then BlockWords Paint
           found = viewed.found;
           recovered = viewed.recovered;
           instrs = viewed.instrs;
-          meant = subst (λ (found : List (Option (List ℕ))). AreMeant found viewed.instrs) all_found viewed.shown;
+          meant =
+              subst (λ (found : List (Option (List ℕ))). AreMeant found viewed.instrs) all_found viewed.shown;
           to_come_is = kept.to_come_is ∙ ap (λ k. lead_in - k) (sym count);
           lead_in_is = kept.lead_in_is ∙ ap (λ k. min k lead_in) (sym count);
           program_is = kept.program_is ∙ ap (λ k. k - lead_in) (sym count);
@@ -95,11 +109,15 @@ module _ (lead_in n : ℕ) (bytes file : List ℕ) (s s' : Then BlockWords Paint
 
 -- ---- the answers
 
-module _ (lead_in : ℕ) (left left' held held' : Option (List ℕ)) (s s' : Then BlockWords Painting) (taken file : List ℕ) (pumped : Pumped) (ready : IsReady Raw lead_in 1000000 s) (w : TracksBlocks most_units words_drawn (feeding (from_to left left') (from_to s s')) (Ok pumped) taken) (kept : IsKept pumped.units lead_in s' file) where
+module _ (lead_in : ℕ) (left left' held held' : Option (List ℕ)) (s s' : Then BlockWords Painting)
+    (taken file : List ℕ) (pumped : Pumped) (ready : IsReady Raw lead_in 1000000 s)
+    (w : TracksBlocks most_units words_drawn (feeding (from_to left left') (from_to s s')) (Ok pumped) taken)
+    (kept : IsKept pumped.units lead_in s' file) where
   saved : IsSaved lead_in taken pumped file
   saved = is_saved lead_in pumped.units taken file s s' ready w.done.2 w.done.1 w.done.3 kept
 
-  pub saves_done : (text : List ℕ) → text ≡ file → Appends held held' text → Saves lead_in (passing (from_to left left') (from_to held held')) (Ok pumped) taken
+  pub saves_done : (text : List ℕ) → text ≡ file → Appends held held' text
+      → Saves lead_in (passing (from_to left left') (from_to held held')) (Ok pumped) taken
   saves_done text e put = record {
     taken_from = w.taken_from;
     within = w.within;
@@ -109,7 +127,8 @@ module _ (lead_in : ℕ) (left left' held held' : Option (List ℕ)) (s s' : The
     cut = λ e. (cc);
   }
 
-  pub saves_cut : (text : List ℕ) → text ≡ file → AppendsPrefix held held' text → Saves lead_in (passing (from_to left left') (from_to held held')) (Err WriteFault) taken
+  pub saves_cut : (text : List ℕ) → text ≡ file → AppendsPrefix held held' text
+      → Saves lead_in (passing (from_to left left') (from_to held held')) (Err WriteFault) taken
   saves_cut text e put = record {
     taken_from = w.taken_from;
     within = w.within;

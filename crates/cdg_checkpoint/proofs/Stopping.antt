@@ -18,7 +18,8 @@ use Rattle.cdg_checkpoint.specs.declared.stops.ResumeStop.TheVariants.{FirstFaul
 
 -- ---- A checkpoint that is not accepted.
 
-pub refused : (stop : ResumeStop) (time : ℕ) (file : List ℕ) → IsAcceptedBy (Err stop) time file → IsAcceptedBy (acceptance (Err stop)) time file
+pub refused : (stop : ResumeStop) (time : ℕ) (file : List ℕ) → IsAcceptedBy (Err stop) time file
+    → IsAcceptedBy (acceptance (Err stop)) time file
 refused FirstFault time file h = tt
 refused SecondFault time file h = absurd h
 refused WriteFault time file h = absurd h
@@ -28,7 +29,9 @@ refused (Torn block) time file h = absurd h
 refused TooLong time file h = absurd h
 refused (PastEnd blocks) time file h = absurd h
 
-pub refused_not_accepted : (stop : ResumeStop) (time : ℕ) (file : List ℕ) (A : Type 0) → IsAcceptedBy (Err stop) time file → IsOk (acceptance (Err stop)) → A
+pub refused_not_accepted : (stop : ResumeStop) (time : ℕ) (file : List ℕ) (A : Type 0)
+    → IsAcceptedBy (Err stop) time file → IsOk (acceptance (Err stop))
+    → A
 refused_not_accepted FirstFault time file A h ok = absurd (cc)
 refused_not_accepted SecondFault time file A h ok = absurd h
 refused_not_accepted WriteFault time file A h ok = absurd h
@@ -40,7 +43,8 @@ refused_not_accepted (PastEnd blocks) time file A h ok = absurd h
 
 -- ---- A stop while the rest is played.
 
-resumed_by : (stop : ResumeStop) (c : Checkpoint) (time size : ℕ) → IsGoneOnBy (Err stop) c time size → IsResumedBy (Err stop) c time size
+resumed_by : (stop : ResumeStop) (c : Checkpoint) (time size : ℕ) → IsGoneOnBy (Err stop) c time size
+    → IsResumedBy (Err stop) c time size
 resumed_by FirstFault c time size h = h
 resumed_by SecondFault c time size h = h
 resumed_by WriteFault c time size h = tt
@@ -50,13 +54,17 @@ resumed_by (Torn block) c time size h = h
 resumed_by TooLong c time size h = h
 resumed_by (PastEnd blocks) c time size h = h
 
-pub all_resumed_by : (left : Option (List ℕ)) (stop : ResumeStop) (c : Checkpoint) (time : ℕ) → IfSome left (λ all. IsGoneOnBy (Err stop) c time (length all)) → IfSome left (λ all. IsResumedBy (Err stop) c time (length all))
+pub all_resumed_by : (left : Option (List ℕ)) (stop : ResumeStop) (c : Checkpoint) (time : ℕ)
+    → IfSome left (λ all. IsGoneOnBy (Err stop) c time (length all))
+    → IfSome left (λ all. IsResumedBy (Err stop) c time (length all))
 all_resumed_by None stop c time h = tt
 all_resumed_by (Some all) stop c time h = resumed_by stop c time (length all) h
 
 -- the rest was taken as far as the stop says
-pub gone_on_to_stop : (c : Checkpoint) (time limit : ℕ) (left left' : Option (List ℕ)) (taken : List ℕ) (s s' : Then BlockWords Painting) (stop : PumpStop) (other : ResumeStop) → limit ≡ blocks_left c
-    → TracksBlocks limit words_drawn (feeding (from_to left left') (from_to s s')) (Err stop) taken → ((block : ℕ) → other ≡ Torn block → IsAtEnd left') → ((blocks : ℕ) → other ≢ PastEnd blocks)
+pub gone_on_to_stop : (c : Checkpoint) (time limit : ℕ) (left left' : Option (List ℕ)) (taken : List ℕ)
+    (s s' : Then BlockWords Painting) (stop : PumpStop) (other : ResumeStop) → limit ≡ blocks_left c
+    → TracksBlocks limit words_drawn (feeding (from_to left left') (from_to s s')) (Err stop) taken
+    → ((block : ℕ) → other ≡ Torn block → IsAtEnd left') → ((blocks : ℕ) → other ≢ PastEnd blocks)
     → GoesOn (time_after c time) (from_to left left') s'.second.screen (Err other) taken
 gone_on_to_stop c time limit left left' taken s s' stop other fits w torn not_past = record {
   taken_from = w.taken_from;
@@ -71,19 +79,29 @@ gone_on_to_stop c time limit left left' taken s s' stop other fits w torn not_pa
 abbrev answered : Bool → ℕ → ℕ → Result Resumed ResumeStop
 answered past blocks bad = if past then Err (PastEnd blocks) else Ok (record { blocks = blocks; bad = bad })
 
-ends_so : (past : Bool) (blocks bad : ℕ) (before now : Count) → RoseOnce before now → EndsAsResumed (answered past blocks bad) before now
+ends_so : (past : Bool) (blocks bad : ℕ) (before now : Count) → RoseOnce before now
+    → EndsAsResumed (answered past blocks bad) before now
 ends_so true blocks bad before now rose = rose
 ends_so false blocks bad before now rose = rose
 
-pub ends_as_reached : (result : Result Resumed ResumeStop) (blocks time bad : ℕ) (before now : Count) → result ≡ reached blocks time bad → RoseOnce before now → EndsAsResumed result before now
-ends_as_reached result blocks time bad before now is rose = subst (λ (r : Result Resumed ResumeStop). EndsAsResumed r before now) (sym is) (ends_so (nat_lt blocks time) blocks bad before now rose)
+pub ends_as_reached : (result : Result Resumed ResumeStop) (blocks time bad : ℕ) (before now : Count)
+    → result ≡ reached blocks time bad → RoseOnce before now
+    → EndsAsResumed result before now
+ends_as_reached result blocks time bad before now is rose =
+    subst (λ (r : Result Resumed ResumeStop). EndsAsResumed r before now) (sym is)
+    (ends_so (nat_lt blocks time) blocks bad before now rose)
 
-stops_so : (past : Bool) (blocks bad : ℕ) (stop : ResumeStop) → ((n : ℕ) → stop ≢ PastEnd n) → answered past blocks bad ≢ Err stop
+stops_so : (past : Bool) (blocks bad : ℕ) (stop : ResumeStop) → ((n : ℕ) → stop ≢ PastEnd n)
+    → answered past blocks bad ≢ Err stop
 stops_so true blocks bad stop other = λ e. other blocks (let same : stop ≡ PastEnd blocks = cc in same)
 stops_so false blocks bad stop other = λ e. absurd (cc)
 
-pub reached_is_not : (result : Result Resumed ResumeStop) (blocks time bad : ℕ) (stop : ResumeStop) → result ≡ reached blocks time bad → ((n : ℕ) → stop ≢ PastEnd n) → result ≢ Err stop
-reached_is_not result blocks time bad stop is other = subst (λ (r : Result Resumed ResumeStop). r ≢ Err stop) (sym is) (stops_so (nat_lt blocks time) blocks bad stop other)
+pub reached_is_not : (result : Result Resumed ResumeStop) (blocks time bad : ℕ) (stop : ResumeStop)
+    → result ≡ reached blocks time bad → ((n : ℕ) → stop ≢ PastEnd n)
+    → result ≢ Err stop
+reached_is_not result blocks time bad stop is other =
+    subst (λ (r : Result Resumed ResumeStop). r ≢ Err stop) (sym is)
+    (stops_so (nat_lt blocks time) blocks bad stop other)
 
 pub first_is_not_past : (n : ℕ) → FirstFault ≢ PastEnd n
 first_is_not_past n = λ e. (cc)

@@ -14,11 +14,18 @@ use Rattle.cdg_checkpoint.specs.declared.stops.Resumed.{Resumed}
 use Rattle.cdg_checkpoint.specs.declared.stops.ResumeStop.{ResumeStop}
 use Rattle.cdg_checkpoint.specs.declared.stops.ResumeStop.TheVariants.{WriteFault}
 
-module _ (file : List ℕ) (time : ℕ) (left left' held held' : Option (List ℕ)) (now : Standing) (taken : List ℕ) where
-  resumed_to : (resumed : Resumed) → GoesOn (time_after (checkpoint_in file) time) (from_to left left') now (Ok resumed) taken → IsResumed file time taken resumed (pixmap now)
-  resumed_to resumed g = let (at_end, blocks, reached, gone) = g.done in record { blocks = blocks; now = now; gone_on = gone; text_is = refl }
+module _ (file : List ℕ) (time : ℕ) (left left' held held' : Option (List ℕ)) (now : Standing)
+    (taken : List ℕ) where
+  resumed_to : (resumed : Resumed)
+      → GoesOn (time_after (checkpoint_in file) time) (from_to left left') now (Ok resumed) taken
+      → IsResumed file time taken resumed (pixmap now)
+  resumed_to resumed g = let (at_end, blocks, reached, gone) = g.done in
+      record { blocks = blocks; now = now; gone_on = gone; text_is = refl }
 
-  pub shows_done : (resumed : Resumed) → GoesOn (time_after (checkpoint_in file) time) (from_to left left') now (Ok resumed) taken → Appends held held' (pixmap now) → Resumes file time (passing (from_to left left') (from_to held held')) (Ok resumed) taken
+  pub shows_done : (resumed : Resumed)
+      → GoesOn (time_after (checkpoint_in file) time) (from_to left left') now (Ok resumed) taken
+      → Appends held held' (pixmap now)
+      → Resumes file time (passing (from_to left left') (from_to held held')) (Ok resumed) taken
   shows_done resumed g put = record {
     taken_from = g.taken_from;
     within = g.within;
@@ -29,7 +36,10 @@ module _ (file : List ℕ) (time : ℕ) (left left' held held' : Option (List �
     cut = λ e. (cc);
   }
 
-  pub shows_cut : (resumed : Resumed) → GoesOn (time_after (checkpoint_in file) time) (from_to left left') now (Ok resumed) taken → AppendsPrefix held held' (pixmap now) → Resumes file time (passing (from_to left left') (from_to held held')) (Err WriteFault) taken
+  pub shows_cut : (resumed : Resumed)
+      → GoesOn (time_after (checkpoint_in file) time) (from_to left left') now (Ok resumed) taken
+      → AppendsPrefix held held' (pixmap now)
+      → Resumes file time (passing (from_to left left') (from_to held held')) (Err WriteFault) taken
   shows_cut resumed g put = record {
     taken_from = g.taken_from;
     within = g.within;
@@ -43,7 +53,10 @@ module _ (file : List ℕ) (time : ℕ) (left left' held held' : Option (List �
   abbrev error : ResumeStop → Result Resumed ResumeStop
   error stop = Err stop
 
-  pub shows_stop : (stop : ResumeStop) → GoesOn (time_after (checkpoint_in file) time) (from_to left left') now (Err stop) taken → error stop ≢ Err WriteFault → held' ≡ held → Resumes file time (passing (from_to left left') (from_to held held')) (Err stop) taken
+  pub shows_stop : (stop : ResumeStop)
+      → GoesOn (time_after (checkpoint_in file) time) (from_to left left') now (Err stop) taken
+      → error stop ≢ Err WriteFault → held' ≡ held
+      → Resumes file time (passing (from_to left left') (from_to held held')) (Err stop) taken
   shows_stop stop g no_write same = record {
     taken_from = g.taken_from;
     within = g.within;

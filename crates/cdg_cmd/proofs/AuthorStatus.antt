@@ -27,31 +27,45 @@ never_usage (Err stop.NoMemory) e = absurd (cc)
 
 -- the same object holds the same
 pub unchanged : {K : Type 0} (held : K → Bytes) (x y : K) → y ≡ x → Appends (held x) (held y) []
-unchanged {K} held x y same = subst (λ (z : K). Appends (held x) (held z) []) (sym same) (Appends-nil (held x))
+unchanged {K} held x y same =
+    subst (λ (z : K). Appends (held x) (held z) []) (sym same) (Appends-nil (held x))
 
 -- at any other status than those of a whole stream and of a failed write nothing is touched
-pub untouched_at : {K : Type 0} (x y : K) (answer : Result (Unit {0}) AuthorStop) → IfErr answer (λ why. why ≢ stop.WriteFault → y ≡ x)
+pub untouched_at : {K : Type 0} (x y : K) (answer : Result (Unit {0}) AuthorStop)
+    → IfErr answer (λ why. why ≢ stop.WriteFault → y ≡ x)
     → author_status answer ≢ Done → author_status answer ≢ WriteFault → y ≡ x
 untouched_at x y (Ok done) same not_done no_fault = absurd (not_done refl)
-untouched_at x y (Err why) same not_done no_fault = same (λ e. no_fault (ap (λ (w : AuthorStop). author_status (Err w)) e))
+untouched_at x y (Err why) same not_done no_fault =
+    same (λ e. no_fault (ap (λ (w : AuthorStop). author_status (Err w)) e))
 
-both_ok : {E : Type 0} (answer : Result (Unit {0}) E) (P Q : Type 0) → OnOk answer P → OnOk answer Q → OnOk answer (P × Q)
+both_ok : {E : Type 0} (answer : Result (Unit {0}) E) (P Q : Type 0) → OnOk answer P → OnOk answer Q
+    → OnOk answer (P × Q)
 both_ok (Ok done) P Q p q = (p, q)
 both_ok (Err why) P Q p q = tt
 
-accepted_at : (sheet : CueSheet) (script : List Drawing) (lead_in audio : ℕ) (answer : Result (Unit {0}) AuthorStop) → IfErr answer (IsAuthorStop sheet script lead_in audio)
+accepted_at : (sheet : CueSheet) (script : List Drawing) (lead_in audio : ℕ)
+    (answer : Result (Unit {0}) AuthorStop) → IfErr answer (IsAuthorStop sheet script lead_in audio)
     → answer ≡ Err stop.WriteFault → IsAccepted sheet script lead_in audio
-accepted_at sheet script lead_in audio answer why fault = subst (λ (r : Result (Unit {0}) AuthorStop). IfErr r (IsAuthorStop sheet script lead_in audio)) fault why
+accepted_at sheet script lead_in audio answer why fault =
+    subst (λ (r : Result (Unit {0}) AuthorStop). IfErr r (IsAuthorStop sheet script lead_in audio)) fault why
 
-nothing_at : {K : Type 0} (held : K → Bytes) (x y : K) (answer : Result (Unit {0}) AuthorStop) → IfErr answer (λ why. why ≢ stop.WriteFault → y ≡ x)
+nothing_at : {K : Type 0} (held : K → Bytes) (x y : K) (answer : Result (Unit {0}) AuthorStop)
+    → IfErr answer (λ why. why ≢ stop.WriteFault → y ≡ x)
     → IfErr answer (λ why. why ≢ stop.WriteFault → Appends (held x) (held y) [])
 nothing_at held x y (Ok done) same = tt
 nothing_at held x y (Err why) same = λ other. unchanged held x y (same other)
 
-pub put_for : {K : Type 0} (held : K → Bytes) (x y : K) (sheet : CueSheet) (script : List Drawing) (lead_in audio : ℕ) (answer : Result (Unit {0}) AuthorStop)
-    → OnOk answer ((bytes : List ℕ) × (packs : List (List ℕ)) × IsWrittenStream (disc_of sheet script lead_in audio) bytes packs × Appends (held x) (held y) bytes)
-    → OnOk answer (IsAccepted sheet script lead_in audio) → IfErr answer (IsAuthorStop sheet script lead_in audio)
-    → IfErr answer (λ why. why ≢ stop.WriteFault → y ≡ x) → (answer ≡ Err stop.WriteFault → IsAccepted sheet script lead_in audio → PutsPrefix (disc_of sheet script lead_in audio) (change held x y))
+pub put_for : {K : Type 0} (held : K → Bytes) (x y : K) (sheet : CueSheet) (script : List Drawing)
+    (lead_in audio : ℕ) (answer : Result (Unit {0}) AuthorStop)
+    → OnOk answer ((bytes : List ℕ)
+    × (packs : List (List ℕ))
+    × IsWrittenStream (disc_of sheet script lead_in audio) bytes packs
+    × Appends (held x) (held y) bytes)
+    → OnOk answer (IsAccepted sheet script lead_in audio)
+    → IfErr answer (IsAuthorStop sheet script lead_in audio)
+    → IfErr answer (λ why. why ≢ stop.WriteFault → y ≡ x) → (answer ≡ Err stop.WriteFault
+    → IsAccepted sheet script lead_in audio
+    → PutsPrefix (disc_of sheet script lead_in audio) (change held x y))
     → IsPutFor (disc_of sheet script lead_in audio) (change held x y) answer
 put_for held x y sheet script lead_in audio answer authored accepted why same part = record {
   done = both_ok answer _ _ accepted authored;

@@ -23,7 +23,8 @@ pub still : (fault status : Status) (n : ℕ) → status ≢ fault → IsTold fa
 still fault status n other = silent fault status n n (omega arith) other refl
 
 -- the count of an input from the answer of the function that read it
-pub of_input : {A : Type 0} (fault status : Status) (n n' : ℕ) → TellsFault {T = A} fault n n' (Err status) → IsTold fault (count n n') status
+pub of_input : {A : Type 0} (fault status : Status) (n n' : ℕ) → TellsFault {T = A} fault n n' (Err status)
+    → IsTold fault (count n n') status
 of_input {A} fault status n n' read = record {
   later = read.later;
   rose = λ e. read.rose (ap (λ (s : Status). Err s) e);
@@ -43,7 +44,8 @@ script_not_cut : (left : Bytes) (status : Status) → IsScriptStop left status �
 script_not_cut left status why e = subst (IsScriptStop left) e why
 
 -- the cue sheet stopped it
-pub told_at_sheet : {A : Type 0} (status : Status) (left : Bytes) (f f' t k : ℕ) → IsSheetStop left status → TellsFault {T = A} (ReadFault First) f f' (Err status)
+pub told_at_sheet : {A : Type 0} (status : Status) (left : Bytes) (f f' t k : ℕ) → IsSheetStop left status
+    → TellsFault {T = A} (ReadFault First) f f' (Err status)
     → TellsFaults (record { first = count f f'; second = count t t; out = count k k }) status
 told_at_sheet status left f f' t k why read = record {
   first = of_input (ReadFault First) status f f' read;
@@ -52,39 +54,80 @@ told_at_sheet status left f f' t k why read = record {
 }
 
 -- the script stopped it
-pub told_at_script : {A B : Type 0} (sheet : B) (status : Status) (left : Bytes) (f f' t t' k : ℕ) → IsScriptStop left status → TellsFault {T = B} (ReadFault First) f f' (Ok sheet)
-    → TellsFault {T = A} (ReadFault Second) t t' (Err status) → TellsFaults (record { first = count f f'; second = count t t'; out = count k k }) status
+pub told_at_script : {A B : Type 0} (sheet : B) (status : Status) (left : Bytes) (f f' t t' k : ℕ)
+    → IsScriptStop left status → TellsFault {T = B} (ReadFault First) f f' (Ok sheet)
+    → TellsFault {T = A} (ReadFault Second) t t' (Err status)
+    → TellsFaults (record { first = count f f'; second = count t t'; out = count k k }) status
 told_at_script sheet status left f f' t t' k why first second = record {
   first = silent (ReadFault First) status f f' first.later (not_first left status why) (first.same (λ e. cc));
   second = of_input (ReadFault Second) status t t' second;
   out = still WriteFault status k (script_not_cut left status why);
 }
 
-written : (answer : Result (Unit {0}) AuthorStop) (k k' : ℕ) → k ≤ k' → (answer ≡ Err stop.WriteFault → Rose k k') → (answer ≢ Err stop.WriteFault → k' ≡ k)
+written : (answer : Result (Unit {0}) AuthorStop) (k k' : ℕ) → k ≤ k'
+    → (answer ≡ Err stop.WriteFault → Rose k k') → (answer ≢ Err stop.WriteFault → k' ≡ k)
     → IsTold WriteFault (count k k') (author_status answer)
 written (Err stop.WriteFault) k k' later cut same = told WriteFault k k' later (cut refl)
 written (Ok done) k k' later cut same = silent WriteFault _ k k' later (λ e. cc) (same (λ e. cc))
-written (Err (stop.LengthShort need)) k k' later cut same = silent WriteFault _ k k' later (λ e. cc) (same (λ e. cc))
-written (Err (stop.DiscTooLong blocks)) k k' later cut same = silent WriteFault _ k k' later (λ e. cc) (same (λ e. cc))
-written (Err (stop.PastEnd blocks)) k k' later cut same = silent WriteFault _ k k' later (λ e. cc) (same (λ e. cc))
-written (Err (stop.TextTooLong packs)) k k' later cut same = silent WriteFault _ k k' later (λ e. cc) (same (λ e. cc))
-written (Err (stop.LeadInShort need)) k k' later cut same = silent WriteFault _ k k' later (λ e. cc) (same (λ e. cc))
-written (Err (stop.Late picture need free)) k k' later cut same = silent WriteFault _ k k' later (λ e. cc) (same (λ e. cc))
+written (Err (stop.LengthShort need)) k k' later cut same =
+    silent WriteFault _ k k' later (λ e. cc) (same (λ e. cc))
+written (Err (stop.DiscTooLong blocks)) k k' later cut same =
+    silent WriteFault _ k k' later (λ e. cc) (same (λ e. cc))
+written (Err (stop.PastEnd blocks)) k k' later cut same =
+    silent WriteFault _ k k' later (λ e. cc) (same (λ e. cc))
+written (Err (stop.TextTooLong packs)) k k' later cut same =
+    silent WriteFault _ k k' later (λ e. cc) (same (λ e. cc))
+written (Err (stop.LeadInShort need)) k k' later cut same =
+    silent WriteFault _ k k' later (λ e. cc) (same (λ e. cc))
+written (Err (stop.Late picture need free)) k k' later cut same =
+    silent WriteFault _ k k' later (λ e. cc) (same (λ e. cc))
 written (Err stop.NoMemory) k k' later cut same = silent WriteFault _ k k' later (λ e. cc) (same (λ e. cc))
 
-read_by : (answer : Result (Unit {0}) AuthorStop) (n n' : ℕ) → n ≤ n' → n' ≡ n → IsTold (ReadFault First) (count n n') (author_status answer) × IsTold (ReadFault Second) (count n n') (author_status answer)
-read_by (Ok done) n n' later same = (silent (ReadFault First) _ n n' later (λ e. cc) same, silent (ReadFault Second) _ n n' later (λ e. cc) same)
-read_by (Err (stop.LengthShort need)) n n' later same = (silent (ReadFault First) _ n n' later (λ e. cc) same, silent (ReadFault Second) _ n n' later (λ e. cc) same)
-read_by (Err (stop.DiscTooLong blocks)) n n' later same = (silent (ReadFault First) _ n n' later (λ e. cc) same, silent (ReadFault Second) _ n n' later (λ e. cc) same)
-read_by (Err (stop.PastEnd blocks)) n n' later same = (silent (ReadFault First) _ n n' later (λ e. cc) same, silent (ReadFault Second) _ n n' later (λ e. cc) same)
-read_by (Err (stop.TextTooLong packs)) n n' later same = (silent (ReadFault First) _ n n' later (λ e. cc) same, silent (ReadFault Second) _ n n' later (λ e. cc) same)
-read_by (Err (stop.LeadInShort need)) n n' later same = (silent (ReadFault First) _ n n' later (λ e. cc) same, silent (ReadFault Second) _ n n' later (λ e. cc) same)
-read_by (Err (stop.Late picture need free)) n n' later same = (silent (ReadFault First) _ n n' later (λ e. cc) same, silent (ReadFault Second) _ n n' later (λ e. cc) same)
-read_by (Err stop.NoMemory) n n' later same = (silent (ReadFault First) _ n n' later (λ e. cc) same, silent (ReadFault Second) _ n n' later (λ e. cc) same)
-read_by (Err stop.WriteFault) n n' later same = (silent (ReadFault First) _ n n' later (λ e. cc) same, silent (ReadFault Second) _ n n' later (λ e. cc) same)
+read_by : (answer : Result (Unit {0}) AuthorStop) (n n' : ℕ) → n ≤ n' → n' ≡ n
+    → IsTold (ReadFault First) (count n n') (author_status answer)
+    × IsTold (ReadFault Second) (count n n') (author_status answer)
+read_by (Ok done) n n' later same = (
+  silent (ReadFault First) _ n n' later (λ e. cc) same,
+  silent (ReadFault Second) _ n n' later (λ e. cc) same,
+)
+read_by (Err (stop.LengthShort need)) n n' later same = (
+  silent (ReadFault First) _ n n' later (λ e. cc) same,
+  silent (ReadFault Second) _ n n' later (λ e. cc) same,
+)
+read_by (Err (stop.DiscTooLong blocks)) n n' later same = (
+  silent (ReadFault First) _ n n' later (λ e. cc) same,
+  silent (ReadFault Second) _ n n' later (λ e. cc) same,
+)
+read_by (Err (stop.PastEnd blocks)) n n' later same = (
+  silent (ReadFault First) _ n n' later (λ e. cc) same,
+  silent (ReadFault Second) _ n n' later (λ e. cc) same,
+)
+read_by (Err (stop.TextTooLong packs)) n n' later same = (
+  silent (ReadFault First) _ n n' later (λ e. cc) same,
+  silent (ReadFault Second) _ n n' later (λ e. cc) same,
+)
+read_by (Err (stop.LeadInShort need)) n n' later same = (
+  silent (ReadFault First) _ n n' later (λ e. cc) same,
+  silent (ReadFault Second) _ n n' later (λ e. cc) same,
+)
+read_by (Err (stop.Late picture need free)) n n' later same = (
+  silent (ReadFault First) _ n n' later (λ e. cc) same,
+  silent (ReadFault Second) _ n n' later (λ e. cc) same,
+)
+read_by (Err stop.NoMemory) n n' later same = (
+  silent (ReadFault First) _ n n' later (λ e. cc) same,
+  silent (ReadFault Second) _ n n' later (λ e. cc) same,
+)
+read_by (Err stop.WriteFault) n n' later same = (
+  silent (ReadFault First) _ n n' later (λ e. cc) same,
+  silent (ReadFault Second) _ n n' later (λ e. cc) same,
+)
 
-told_at_end : (answer : Result (Unit {0}) AuthorStop) (f f' t t' k k' : ℕ) → f ≤ f' → f' ≡ f → t ≤ t' → t' ≡ t → k ≤ k' → (answer ≡ Err stop.WriteFault → Rose k k')
-    → (answer ≢ Err stop.WriteFault → k' ≡ k) → TellsFaults (record { first = count f f'; second = count t t'; out = count k k' }) (author_status answer)
+told_at_end : (answer : Result (Unit {0}) AuthorStop) (f f' t t' k k' : ℕ) → f ≤ f' → f' ≡ f → t ≤ t' → t' ≡ t
+    → k ≤ k' → (answer ≡ Err stop.WriteFault → Rose k k')
+    → (answer ≢ Err stop.WriteFault → k' ≡ k)
+    → TellsFaults (record { first = count f f'; second = count t t'; out = count k k' })
+    (author_status answer)
 told_at_end answer f f' t t' k k' early first late second later cut same = record {
   first = (read_by answer f f' early first).0;
   second = (read_by answer t t' late second).1;
@@ -92,26 +135,37 @@ told_at_end answer f f' t t' k k' early first late second later cut same = recor
 }
 
 -- both texts were read
-pub told_of_both : {A B : Type 0} (sheet : A) (script : B) (answer : Result (Unit {0}) AuthorStop) (status : Status) (f f' t t' k k' : ℕ) → status ≡ author_status answer
-    → TellsFault {T = A} (ReadFault First) f f' (Ok sheet) → TellsFault {T = B} (ReadFault Second) t t' (Ok script) → TellsFault stop.WriteFault k k' answer
+pub told_of_both : {A B : Type 0} (sheet : A) (script : B) (answer : Result (Unit {0}) AuthorStop)
+    (status : Status) (f f' t t' k k' : ℕ) → status ≡ author_status answer
+    → TellsFault {T = A} (ReadFault First) f f' (Ok sheet)
+    → TellsFault {T = B} (ReadFault Second) t t' (Ok script) → TellsFault stop.WriteFault k k' answer
     → TellsFaults (record { first = count f f'; second = count t t'; out = count k k' }) status
 told_of_both sheet script answer status f f' t t' k k' is first second out =
-    subst (λ (s : Status). TellsFaults (record { first = count f f'; second = count t t'; out = count k k' }) s) (sym is)
-    (told_at_end answer f f' t t' k k' first.later (first.same (λ e. cc)) second.later (second.same (λ e. cc)) out.later out.rose out.same)
+    subst
+    (λ (s : Status). TellsFaults (record { first = count f f'; second = count t t'; out = count k k' }) s)
+    (sym is)
+    (told_at_end answer f f' t t' k k' first.later (first.same (λ e. cc)) second.later (second.same (λ e. cc))
+    out.later out.rose out.same)
 
 -- Ends
 
 -- a text that was read is not too long
-known : (left : Bytes) (text : CueSheet) (Told Untold : Type 0) → IfSome left (λ bytes. IsSheetText bytes text) → Told
-    → IfSome left (λ bytes. (length bytes ≤ most_text_bytes → Told) × (most_text_bytes < length bytes → Untold))
+known : (left : Bytes) (text : CueSheet) (Told Untold : Type 0)
+    → IfSome left (λ bytes. IsSheetText bytes text) → Told
+    → IfSome left
+    (λ bytes. (length bytes ≤ most_text_bytes → Told) × (most_text_bytes < length bytes → Untold))
 known None text Told Untold reads told = tt
-known (Some bytes) text Told Untold reads told = (λ within. told, λ long. absurd (omega (arith, reads.within, long)))
+known (Some bytes) text Told Untold reads told =
+    (λ within. told, λ long. absurd (omega (arith, reads.within, long)))
 
 read_within : (input : Input) (text : CueSheet) → IfSome input.left.before (λ bytes. IsSheetText bytes text)
     → EndIsTold input → EndsWithin input
-read_within input text reads told = (inr told, known input.left.before text (EndIsTold input) (EndIsUntold input) reads told)
+read_within input text reads told =
+    (inr told, known input.left.before text (EndIsTold input) (EndIsUntold input) reads told)
 
-of_sheet : (answer : Result (Unit {0}) AuthorStop) (first : Input) → RoseOnce first.ends.before first.ends.after → SheetEnds first (author_status answer)
+of_sheet : (answer : Result (Unit {0}) AuthorStop) (first : Input)
+    → RoseOnce first.ends.before first.ends.after
+    → SheetEnds first (author_status answer)
 of_sheet (Ok done) first told = told
 of_sheet (Err (stop.LengthShort need)) first told = told
 of_sheet (Err (stop.DiscTooLong blocks)) first told = told
@@ -122,7 +176,8 @@ of_sheet (Err (stop.Late picture need free)) first told = told
 of_sheet (Err stop.WriteFault) first told = told
 of_sheet (Err stop.NoMemory) first told = told
 
-of_script : (answer : Result (Unit {0}) AuthorStop) (script : Input) → IsAtEnd script.left.after → EndIsTold script
+of_script : (answer : Result (Unit {0}) AuthorStop) (script : Input) → IsAtEnd script.left.after
+    → EndIsTold script
     → ScriptEnds script (author_status answer)
 of_script (Ok done) script end told = told
 of_script (Err (stop.LengthShort need)) script end told = told
@@ -149,7 +204,9 @@ sheet_stopped left (ReadFault which) script same untold why = untold
 sheet_stopped left WriteFault script same untold why = absurd why
 
 -- the sheet was read, and the second input is not too long, or is
-pub second_stopped : (first : Input) (sheet : CueSheet) (status : Status) → ReadsSheet first.left sheet → RoseOnce first.ends.before first.ends.after → status ≢ ReadFault First → SheetEnds first status
+pub second_stopped : (first : Input) (sheet : CueSheet) (status : Status) → ReadsSheet first.left sheet
+    → RoseOnce first.ends.before first.ends.after → status ≢ ReadFault First
+    → SheetEnds first status
 second_stopped first sheet Done reads told other = told
 second_stopped first sheet (Damaged k) reads told other = told
 second_stopped first sheet (Refused TooLong) reads told other = read_within first sheet reads.1 told
@@ -161,11 +218,17 @@ second_stopped first sheet (ReadFault First) reads told other = absurd (other re
 second_stopped first sheet (ReadFault Second) reads told other = told
 second_stopped first sheet WriteFault reads told other = told
 
-pub script_stopped : (first : Input) (sheet : CueSheet) (left : Bytes) (status : Status) → IsScriptStop left status → ReadsSheet first.left sheet → RoseOnce first.ends.before first.ends.after → SheetEnds first status
-script_stopped first sheet left status why reads told = second_stopped first sheet status reads told (not_first left status why)
+pub script_stopped : (first : Input) (sheet : CueSheet) (left : Bytes) (status : Status)
+    → IsScriptStop left status → ReadsSheet first.left sheet → RoseOnce first.ends.before first.ends.after
+    → SheetEnds first status
+script_stopped first sheet left status why reads told =
+    second_stopped first sheet status reads told (not_first left status why)
 
-pub sheet_read : (answer : Result (Unit {0}) AuthorStop) (status : Status) (first : Input) → status ≡ author_status answer → RoseOnce first.ends.before first.ends.after → SheetEnds first status
-sheet_read answer status first is told = subst (λ (s : Status). SheetEnds first s) (sym is) (of_sheet answer first told)
+pub sheet_read : (answer : Result (Unit {0}) AuthorStop) (status : Status) (first : Input)
+    → status ≡ author_status answer → RoseOnce first.ends.before first.ends.after
+    → SheetEnds first status
+sheet_read answer status first is told =
+    subst (λ (s : Status). SheetEnds first s) (sym is) (of_sheet answer first told)
 
 pub script_read : (answer : Result (Unit {0}) AuthorStop) (status : Status) (script : Input)
     → status ≡ author_status answer → IsAtEnd script.left.after → EndIsTold script → ScriptEnds script status

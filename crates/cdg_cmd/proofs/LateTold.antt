@@ -15,15 +15,20 @@ use Rattle.cdg_cmd.specs.Stops.{author_status}
 use Rattle.cdg_cmd.specs.declared.status.Status.{Status}
 use Rattle.cdg_cmd.specs.declared.status.Status.TheVariants.{Done, Damaged, Usage, Refused, Late, ReadFault, WriteFault, NoMemory}
 
-same_script : (text : List ℕ) (one other : List Drawing) → read_script text ≡ Ok one → read_script text ≡ Ok other → one ≡ other
+same_script : (text : List ℕ) (one other : List Drawing) → read_script text ≡ Ok one
+    → read_script text ≡ Ok other
+    → one ≡ other
 same_script text one other first second = (cc)
 
-same_late : (script : List Drawing) (k n f picture need free : ℕ) → Late k n f ≡ Late picture need free → IsLate script k n f → IsLate script picture need free
+same_late : (script : List Drawing) (k n f picture need free : ℕ) → Late k n f ≡ Late picture need free
+    → IsLate script k n f
+    → IsLate script picture need free
 same_late script k n f picture need free same late =
     let first : k ≡ picture = (cc) in
     let second : n ≡ need = (cc) in
     let third : f ≡ free = (cc) in
-    subst (λ (m : ℕ). IsLate script picture need m) third (subst (λ (m : ℕ). IsLate script picture m f) second (subst (λ (m : ℕ). IsLate script m n f) first late))
+    subst (λ (m : ℕ). IsLate script picture need m) third
+    (subst (λ (m : ℕ). IsLate script picture m f) second (subst (λ (m : ℕ). IsLate script m n f) first late))
 
 -- no input that stops the author is told as a late picture
 no_sheet_late : (left : Bytes) (k n f : ℕ) → IsSheetStop left (Late k n f) → ⊥
@@ -34,9 +39,11 @@ no_script_late more k n f why = why
 
 module _ (lead_in audio : ℕ) (out : Change Bytes) where
   -- the answer tells the first late picture of the script
-  late_of : (sheet : CueSheet) (script : List Drawing) (picture need free : ℕ) (answer : Result (Unit {0}) AuthorStop) → IsPutFor (disc_of sheet script lead_in audio) out answer
+  late_of : (sheet : CueSheet) (script : List Drawing) (picture need free : ℕ)
+      (answer : Result (Unit {0}) AuthorStop) → IsPutFor (disc_of sheet script lead_in audio) out answer
       → author_status answer ≡ Late picture need free → IsLate script picture need free
-  late_of sheet script picture need free (Err (stop.Late k n f)) put told = same_late script k n f picture need free told put.why.2
+  late_of sheet script picture need free (Err (stop.Late k n f)) put told =
+      same_late script k n f picture need free told put.why.2
   late_of sheet script picture need free (Ok done) put told = absurd (cc)
   late_of sheet script picture need free (Err (stop.LengthShort m)) put told = absurd (cc)
   late_of sheet script picture need free (Err (stop.DiscTooLong m)) put told = absurd (cc)
@@ -47,17 +54,30 @@ module _ (lead_in audio : ℕ) (out : Change Bytes) where
   late_of sheet script picture need free (Err stop.NoMemory) put told = absurd (cc)
 
   module _ (script : List Drawing) where
-    same_text : (text : List ℕ) (lines : List Drawing) (k n f : ℕ) → IsScriptText text lines → IsScriptText text script → IsLate lines k n f → IsLate script k n f
-    same_text text lines k n f one other late = subst (λ (l : List Drawing). IsLate l k n f) (same_script text lines script one.reads other.reads) late
+    same_text : (text : List ℕ) (lines : List Drawing) (k n f : ℕ) → IsScriptText text lines
+        → IsScriptText text script → IsLate lines k n f
+        → IsLate script k n f
+    same_text text lines k n f one other late =
+        subst (λ (l : List Drawing). IsLate l k n f) (same_script text lines script one.reads other.reads)
+        late
 
-    of_late : (text : List ℕ) (left left' more' : Bytes) (k n f : ℕ) → AuthorsWith lead_in audio (both left left' (Some text) more' out) (Late k n f) → IsScriptText text script → IsLate script k n f
-    of_late text left left' more' k n f (StopsAtSheet why took nothing) is = absurd (no_sheet_late left k n f why)
-    of_late text left left' more' k n f (StopsAtScript sheet reads why took nothing) is = absurd (no_script_late (Some text) k n f why)
-    of_late text left left' more' k n f (Answers sheet lines answer reads_sheet reads_script same put) is = same_text text lines k n f reads_script.1 is (late_of sheet lines k n f answer put (sym same))
+    of_late : (text : List ℕ) (left left' more' : Bytes) (k n f : ℕ)
+        → AuthorsWith lead_in audio (both left left' (Some text) more' out) (Late k n f)
+        → IsScriptText text script
+        → IsLate script k n f
+    of_late text left left' more' k n f (StopsAtSheet why took nothing) is =
+        absurd (no_sheet_late left k n f why)
+    of_late text left left' more' k n f (StopsAtScript sheet reads why took nothing) is =
+        absurd (no_script_late (Some text) k n f why)
+    of_late text left left' more' k n f (Answers sheet lines answer reads_sheet reads_script same put) is =
+        same_text text lines k n f reads_script.1 is (late_of sheet lines k n f answer put (sym same))
 
-    of_status : (text : List ℕ) (left left' more' : Bytes) (picture need free : ℕ) (status : Status) → status ≡ Late picture need free → AuthorsWith lead_in audio (both left left' (Some text) more' out) status
+    of_status : (text : List ℕ) (left left' more' : Bytes) (picture need free : ℕ) (status : Status)
+        → status ≡ Late picture need free
+        → AuthorsWith lead_in audio (both left left' (Some text) more' out) status
         → IsScriptText text script → IsLate script picture need free
-    of_status text left left' more' picture need free (Late k n f) told authors is = same_late script k n f picture need free told (of_late text left left' more' k n f authors is)
+    of_status text left left' more' picture need free (Late k n f) told authors is =
+        same_late script k n f picture need free told (of_late text left left' more' k n f authors is)
     of_status text left left' more' picture need free Done told authors is = absurd (cc)
     of_status text left left' more' picture need free (Damaged n) told authors is = absurd (cc)
     of_status text left left' more' picture need free Usage told authors is = absurd (cc)
@@ -66,8 +86,11 @@ module _ (lead_in audio : ℕ) (out : Change Bytes) where
     of_status text left left' more' picture need free WriteFault told authors is = absurd (cc)
     of_status text left left' more' picture need free NoMemory told authors is = absurd (cc)
 
-    pub late_cannot : (picture need free : ℕ) → ((text : List ℕ) → read_script text ≡ Ok script → IsLate script picture need free → CannotBeReady script picture need free)
-        → (left left' more more' : Bytes) (status : Status) → status ≡ Late picture need free → AuthorsWith lead_in audio (both left left' more more' out) status
+    pub late_cannot : (picture need free : ℕ) → ((text : List ℕ) → read_script text ≡ Ok script
+        → IsLate script picture need free → CannotBeReady script picture need free)
+        → (left left' more more' : Bytes) (status : Status) → status ≡ Late picture need free
+        → AuthorsWith lead_in audio (both left left' more more' out) status
         → IfSome more (λ text. IsScriptText text script → CannotBeReady script picture need free)
     late_cannot picture need free law left left' None more' status told authors = tt
-    late_cannot picture need free law left left' (Some text) more' status told authors = λ is. law text is.reads (of_status text left left' more' picture need free status told authors is)
+    late_cannot picture need free law left left' (Some text) more' status told authors =
+        λ is. law text is.reads (of_status text left left' more' picture need free status told authors is)

@@ -40,55 +40,81 @@ spells_allowed command [] s = absurd s
 spells_allowed command (name ∷ options) s = s.1
 
 -- an authored stream of a disc has no more blocks than are read
-pub authored_size : (sheet : CueSheet) (script : List Drawing) (lead_in audio : ℕ) (bytes : List ℕ) (packs : List (List ℕ)) → lead_in ≤ 450000 → program_blocks sheet audio ≤ 449999
+pub authored_size : (sheet : CueSheet) (script : List Drawing) (lead_in audio : ℕ) (bytes : List ℕ)
+    (packs : List (List ℕ)) → lead_in ≤ 450000 → program_blocks sheet audio ≤ 449999
     → IsAuthored (disc_of sheet script lead_in audio) bytes packs → length bytes ≤ most_units * 96
-authored_size sheet script lead_in audio bytes packs short few authored = omega (arith, authored.framing.size, short, few)
+authored_size sheet script lead_in audio bytes packs short few authored =
+    omega (arith, authored.framing.size, short, few)
 
 -- a player that put texts, as a status
-texts_back : (answer : Result Played PlayStop) (out : Change Bytes) (t : List ℕ) → PutsTexts answer out.before out.after t → GivesIfFound t out (play_status answer)
-texts_back (Ok played) out t puts = subst (λ (n : ℕ). GivesIfFound t out (if n == 0 then Done else Damaged n)) (sym puts.0) puts.1
+texts_back : (answer : Result Played PlayStop) (out : Change Bytes) (t : List ℕ)
+    → PutsTexts answer out.before out.after t
+    → GivesIfFound t out (play_status answer)
+texts_back (Ok played) out t puts =
+    subst (λ (n : ℕ). GivesIfFound t out (if n == 0 then Done else Damaged n)) (sym puts.0) puts.1
 texts_back (Err play.ReadFault) out t puts = tt
 texts_back (Err play.WriteFault) out t puts = tt
 texts_back (Err (play.Torn block)) out t puts = absurd puts
 texts_back (Err play.TooLong) out t puts = absurd puts
 texts_back (Err (play.PastEnd blocks)) out t puts = absurd puts
-texts_back (Err (play.Text why)) out t puts = subst (λ (w : TextFault). GivesIfFound t out (play_status (Err (play.Text w)))) (sym puts) tt
+texts_back (Err (play.Text why)) out t puts =
+    subst (λ (w : TextFault). GivesIfFound t out (play_status (Err (play.Text w)))) (sym puts) tt
 
-module _ (lead_in : ℕ) (left' more more' : Bytes) (out : Change Bytes) (status : Status) (t : List ℕ) (A : List ℕ → Type 0) where
+module _ (lead_in : ℕ) (left' more more' : Bytes) (out : Change Bytes) (status : Status) (t : List ℕ)
+    (A : List ℕ → Type 0) where
   frames_of : (all : List ℕ) → Does (Q lead_in Raw) (both (Some all) left' more more' out) status
-      → ((answer : Result Played PlayStop) (taken : List ℕ) → Streams (in_turn (IsQListed Raw) Raw lead_in) (passing (from_to (Some all) left') out) answer taken
+      → ((answer : Result Played PlayStop) (taken : List ℕ)
+      → Streams (in_turn (IsQListed Raw) Raw lead_in) (passing (from_to (Some all) left') out) answer taken
       → IsAnsweredBy answer 96 (length all) → Restores answer out.before out.after t) → GivesBack t out status
   frames_of all l restores =
-      subst (λ (s : Status). GivesBack t out s) (sym l.status_is) (given_back l.answer out t (restores l.answer l.taken l.did l.exactly.1))
+      subst (λ (s : Status). GivesBack t out s) (sym l.status_is)
+      (given_back l.answer out t (restores l.answer l.taken l.did l.exactly.1))
 
   -- the frames of streams of some kind
   pub frames_given : (left : Bytes) → Does (Q lead_in Raw) (both left left' more more' out) status
-      → ((all : List ℕ) → A all → (answer : Result Played PlayStop) (taken : List ℕ) → Streams (in_turn (IsQListed Raw) Raw lead_in) (passing (from_to (Some all) left') out) answer taken
-      → IsAnsweredBy answer 96 (length all) → Restores answer out.before out.after t) → IfSome left (λ all. A all → GivesBack t out status)
+      → ((all : List ℕ) → A all → (answer : Result Played PlayStop) (taken : List ℕ)
+      → Streams (in_turn (IsQListed Raw) Raw lead_in) (passing (from_to (Some all) left') out) answer taken
+      → IsAnsweredBy answer 96 (length all) → Restores answer out.before out.after t)
+      → IfSome left (λ all. A all → GivesBack t out status)
   frames_given None lists restores = tt
   frames_given (Some all) lists restores = λ is. frames_of all lists (restores all is)
 
-  texts_of : (form : Form) (all : List ℕ) → Does (Text lead_in form) (both (Some all) left' more more' out) status
-      → ((answer : Result Played PlayStop) (taken : List ℕ) → ListsTexts form lead_in (passing (from_to (Some all) left') out) answer taken → IsListedBy answer form lead_in all
+  texts_of : (form : Form) (all : List ℕ)
+      → Does (Text lead_in form) (both (Some all) left' more more' out) status
+      → ((answer : Result Played PlayStop) (taken : List ℕ)
+      → ListsTexts form lead_in (passing (from_to (Some all) left') out) answer taken
+      → IsListedBy answer form lead_in all
       → PutsTexts answer out.before out.after t) → GivesIfFound t out status
   texts_of form all l puts =
-      subst (λ (s : Status). GivesIfFound t out s) (sym l.status_is) (texts_back l.answer out t (puts l.answer l.taken l.did l.exactly.1))
+      subst (λ (s : Status). GivesIfFound t out s) (sym l.status_is)
+      (texts_back l.answer out t (puts l.answer l.taken l.did l.exactly.1))
 
   -- the texts of streams of some kind
-  pub strings_given : (form : Form) (left : Bytes) → (status ≢ NoMemory → Does (Text lead_in form) (both left left' more more' out) status)
-      → ((all : List ℕ) → A all → (answer : Result Played PlayStop) (taken : List ℕ) → ListsTexts form lead_in (passing (from_to (Some all) left') out) answer taken → IsListedBy answer form lead_in all
+  pub strings_given : (form : Form) (left : Bytes)
+      → (status ≢ NoMemory → Does (Text lead_in form) (both left left' more more' out) status)
+      → ((all : List ℕ) → A all → (answer : Result Played PlayStop) (taken : List ℕ)
+      → ListsTexts form lead_in (passing (from_to (Some all) left') out) answer taken
+      → IsListedBy answer form lead_in all
       → PutsTexts answer out.before out.after t) → IfSome left (λ all. A all → GivesIfFound t out status)
   strings_given form None lists puts = tt
-  strings_given form (Some all) lists puts = λ is. unless_memory _ status (λ found. texts_of form all (lists found) (puts all is))
+  strings_given form (Some all) lists puts =
+      λ is. unless_memory _ status (λ found. texts_of form all (lists found) (puts all is))
 
 -- the lines of a sheet, whose strings are found or which has none
-pub lines_given : (sheet : CueSheet) (script : List Drawing) (form : Form) (lead_in audio : ℕ) (stream all lines : List ℕ) (answer : Result Played PlayStop) (out : Change Bytes)
-    → ((whole : List Bool) → HasTextPacks sheet → HasText sheet → HasHurtSlots (text_packs sheet) whole (packs_in Raw lead_in stream) (packs_in form lead_in all) → IsWholeInput form all
+pub lines_given : (sheet : CueSheet) (script : List Drawing) (form : Form) (lead_in audio : ℕ)
+    (stream all lines : List ℕ) (answer : Result Played PlayStop) (out : Change Bytes)
+    → ((whole : List Bool) → HasTextPacks sheet → HasText sheet
+    → HasHurtSlots (text_packs sheet) whole (packs_in Raw lead_in stream) (packs_in form lead_in all)
+    → IsWholeInput form all
     → PutsTexts answer out.before out.after (sheet_lines sheet (count_whole whole) (count_hurt whole)))
-    → (has_no_text (sheet_texts sheet) ≡ true → packs_in form lead_in all ≡ packs_in Raw lead_in stream → IsWholeInput form all
+    → (has_no_text (sheet_texts sheet) ≡ true → packs_in form lead_in all ≡ packs_in Raw lead_in stream
+    → IsWholeInput form all
     → PutsTexts answer out.before out.after (offers_line 0 (4 * lead_in) 0))
-    → AreLinesOf (disc_of sheet script lead_in audio) form stream all lines → PutsTexts answer out.before out.after lines
+    → AreLinesOf (disc_of sheet script lead_in audio) form stream all lines
+    → PutsTexts answer out.before out.after lines
 lines_given sheet script form lead_in audio stream all lines answer out strings none (inl has) =
-    subst (λ (t : List ℕ). PutsTexts answer out.before out.after t) (sym has.lines_are) (strings has.whole has.packs has.some has.slots has.input)
+    subst (λ (t : List ℕ). PutsTexts answer out.before out.after t) (sym has.lines_are)
+    (strings has.whole has.packs has.some has.slots has.input)
 lines_given sheet script form lead_in audio stream all lines answer out strings none (inr has) =
-    subst (λ (t : List ℕ). PutsTexts answer out.before out.after t) (sym has.lines_are) (none has.none has.copy.slots has.copy.input)
+    subst (λ (t : List ℕ). PutsTexts answer out.before out.after t) (sym has.lines_are)
+    (none has.none has.copy.slots has.copy.input)

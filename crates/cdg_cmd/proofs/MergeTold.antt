@@ -19,7 +19,8 @@ use Rattle.cdg_cmd.proofs.Quiet as quiet
 
 module _ (f f' t t' k k' : ℕ) (first_later : f ≤ f') (second_later : t ≤ t') (out_later : k ≤ k') where
   -- no fault is told
-  pub none : (status : Status) → status ≢ ReadFault First → status ≢ ReadFault Second → status ≢ WriteFault → f' ≡ f → t' ≡ t → k' ≡ k
+  pub none : (status : Status) → status ≢ ReadFault First → status ≢ ReadFault Second → status ≢ WriteFault
+      → f' ≡ f → t' ≡ t → k' ≡ k
       → TellsFaults (record { first = count f f'; second = count t t'; out = count k k' }) status
   none status first second write same_first same_second same_out = record {
     first = silent (ReadFault First) status f f' first_later first same_first;
@@ -27,15 +28,20 @@ module _ (f f' t t' k k' : ℕ) (first_later : f ≤ f') (second_later : t ≤ t
     out = silent WriteFault status k k' out_later write same_out;
   }
 
-  pub whole : (good : Bool) (n : ℕ) → f' ≡ f → t' ≡ t → k' ≡ k → TellsFaults (record { first = count f f'; second = count t t'; out = count k k' }) (if good then Done else Damaged n)
+  pub whole : (good : Bool) (n : ℕ) → f' ≡ f → t' ≡ t → k' ≡ k
+      → TellsFaults (record { first = count f f'; second = count t t'; out = count k k' })
+      (if good then Done else Damaged n)
   whole true n a b d = none Done (λ e. cc) (λ e. cc) (λ e. cc) a b d
   whole false n a b d = none (Damaged n) (λ e. cc) (λ e. cc) (λ e. cc) a b d
 
-  faults : (answer : Result Merged MergeStop) → (IsErrOf answer merge.FirstFault → Rose f f') → (answer ≢ Err merge.FirstFault → f' ≡ f)
+  faults : (answer : Result Merged MergeStop) → (IsErrOf answer merge.FirstFault → Rose f f')
+      → (answer ≢ Err merge.FirstFault → f' ≡ f)
       → (IsErrOf answer merge.SecondFault → Rose t t') → (answer ≢ Err merge.SecondFault → t' ≡ t)
       → (IsErrOf answer merge.WriteFault → Rose k k') → (answer ≢ Err merge.WriteFault → k' ≡ k)
-      → TellsFaults (record { first = count f f'; second = count t t'; out = count k k' }) (merge_status answer)
-  faults (Ok merged) rose same rises stays cut kept = whole (merged.bad == 0) merged.bad (same (λ e. cc)) (stays (λ e. cc)) (kept (λ e. cc))
+      → TellsFaults (record { first = count f f'; second = count t t'; out = count k k' })
+      (merge_status answer)
+  faults (Ok merged) rose same rises stays cut kept =
+      whole (merged.bad == 0) merged.bad (same (λ e. cc)) (stays (λ e. cc)) (kept (λ e. cc))
   faults (Err merge.FirstFault) rose same rises stays cut kept = record {
     first = quiet.told (ReadFault First) f f' first_later (rose refl);
     second = silent (ReadFault Second) (ReadFault First) t t' second_later (λ e. cc) (stays (λ e. cc));
@@ -51,20 +57,33 @@ module _ (f f' t t' k k' : ℕ) (first_later : f ≤ f') (second_later : t ≤ t
     second = silent (ReadFault Second) WriteFault t t' second_later (λ e. cc) (stays (λ e. cc));
     out = quiet.told WriteFault k k' out_later (cut refl);
   }
-  faults (Err merge.TooLong) rose same rises stays cut kept = none _ (λ e. cc) (λ e. cc) (λ e. cc) (same (λ e. cc)) (stays (λ e. cc)) (kept (λ e. cc))
-  faults (Err (merge.Torn block)) rose same rises stays cut kept = none _ (λ e. cc) (λ e. cc) (λ e. cc) (same (λ e. cc)) (stays (λ e. cc)) (kept (λ e. cc))
-  faults (Err (merge.SecondTorn block)) rose same rises stays cut kept = none _ (λ e. cc) (λ e. cc) (λ e. cc) (same (λ e. cc)) (stays (λ e. cc)) (kept (λ e. cc))
-  faults (Err (merge.Unequal blocks)) rose same rises stays cut kept = none _ (λ e. cc) (λ e. cc) (λ e. cc) (same (λ e. cc)) (stays (λ e. cc)) (kept (λ e. cc))
+  faults (Err merge.TooLong) rose same rises stays cut kept =
+      none _ (λ e. cc) (λ e. cc) (λ e. cc) (same (λ e. cc)) (stays (λ e. cc)) (kept (λ e. cc))
+  faults (Err (merge.Torn block)) rose same rises stays cut kept =
+      none _ (λ e. cc) (λ e. cc) (λ e. cc) (same (λ e. cc)) (stays (λ e. cc)) (kept (λ e. cc))
+  faults (Err (merge.SecondTorn block)) rose same rises stays cut kept =
+      none _ (λ e. cc) (λ e. cc) (λ e. cc) (same (λ e. cc)) (stays (λ e. cc)) (kept (λ e. cc))
+  faults (Err (merge.Unequal blocks)) rose same rises stays cut kept =
+      none _ (λ e. cc) (λ e. cc) (λ e. cc) (same (λ e. cc)) (stays (λ e. cc)) (kept (λ e. cc))
 
-pub told : (answer : Result Merged MergeStop) (status : Status) (f f' t t' k k' : ℕ) → status ≡ merge_status answer → TellsFault merge.FirstFault f f' answer → TellsFault merge.SecondFault t t' answer
-    → TellsFault merge.WriteFault k k' answer → TellsFaults (record { first = count f f'; second = count t t'; out = count k k' }) status
+pub told : (answer : Result Merged MergeStop) (status : Status) (f f' t t' k k' : ℕ)
+    → status ≡ merge_status answer → TellsFault merge.FirstFault f f' answer
+    → TellsFault merge.SecondFault t t' answer
+    → TellsFault merge.WriteFault k k' answer
+    → TellsFaults (record { first = count f f'; second = count t t'; out = count k k' }) status
 told answer status f f' t t' k k' is first second out =
-    subst (λ (s : Status). TellsFaults (record { first = count f f'; second = count t t'; out = count k k' }) s) (sym is)
-    (faults f f' t t' k k' first.later second.later out.later answer first.rose first.same second.rose second.same out.rose out.same)
+    subst
+    (λ (s : Status). TellsFaults (record { first = count f f'; second = count t t'; out = count k k' }) s)
+    (sym is)
+    (faults f f' t t' k k' first.later second.later out.later answer first.rose first.same second.rose
+    second.same out.rose out.same)
 
 -- no memory was found, and nothing was done
-pub told_none : (f t k : ℕ) → TellsFaults (record { first = count f f; second = count t t; out = count k k }) NoMemory
-told_none f t k = none f f t t k k (omega arith) (omega arith) (omega arith) NoMemory (λ e. cc) (λ e. cc) (λ e. cc) refl refl refl
+pub told_none : (f t k : ℕ)
+    → TellsFaults (record { first = count f f; second = count t t; out = count k k }) NoMemory
+told_none f t k =
+    none f f t t k k (omega arith) (omega arith) (omega arith) NoMemory (λ e. cc) (λ e. cc) (λ e. cc) refl
+    refl refl
 
 -- Ends
 
@@ -84,14 +103,16 @@ ends (Err (merge.Torn block)) one other tells = tells
 ends (Err (merge.SecondTorn block)) one other tells = tells
 ends (Err (merge.Unequal blocks)) one other tells = tells
 
-pub ended : (answer : Result Merged MergeStop) (status : Status) (one other : Input) → status ≡ merge_status answer
+pub ended : (answer : Result Merged MergeStop) (status : Status) (one other : Input)
+    → status ≡ merge_status answer
     → EndsBoth answer one other → ReadingsEnd one other status
 ended answer status one other is tells =
     subst (λ (s : Status). ReadingsEnd one other s) (sym is) (ends answer one other tells)
 
 -- A merger never lacks memory, and its words were a form
 
-whole_never : (good : Bool) (n : ℕ) → ((if good then Done else Damaged n) ≢ NoMemory) × ((if good then Done else Damaged n) ≢ Usage)
+whole_never : (good : Bool) (n : ℕ)
+    → ((if good then Done else Damaged n) ≢ NoMemory) × ((if good then Done else Damaged n) ≢ Usage)
 whole_never true n = (λ e. absurd (cc), λ e. absurd (cc))
 whole_never false n = (λ e. absurd (cc), λ e. absurd (cc))
 
@@ -105,8 +126,10 @@ never (Err (merge.Torn block)) = (λ e. absurd (cc), λ e. absurd (cc))
 never (Err (merge.SecondTorn block)) = (λ e. absurd (cc), λ e. absurd (cc))
 never (Err (merge.Unequal blocks)) = (λ e. absurd (cc), λ e. absurd (cc))
 
-pub never_memory : (answer : Result Merged MergeStop) (status : Status) → status ≡ merge_status answer → status ≢ NoMemory
+pub never_memory : (answer : Result Merged MergeStop) (status : Status) → status ≡ merge_status answer
+    → status ≢ NoMemory
 never_memory answer status is e = (never answer).0 (sym is ∙ e)
 
-pub never_usage : (answer : Result Merged MergeStop) (status : Status) → status ≡ merge_status answer → status ≢ Usage
+pub never_usage : (answer : Result Merged MergeStop) (status : Status) → status ≡ merge_status answer
+    → status ≢ Usage
 never_usage answer status is e = (never answer).1 (sym is ∙ e)

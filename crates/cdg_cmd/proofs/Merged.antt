@@ -15,8 +15,11 @@ use Rattle.cdg_cmd.specs.declared.status.Status.TheVariants.{Done, Damaged, NoMe
 use Rattle.cdg_cmd.proofs.WholeInputs.{both, unless_memory}
 
 -- a merger that gave all back, as a status
-given_back : (answer : Result Merged MergeStop) (out : Change Bytes) (blocks : ℕ) (text : List ℕ) → MergeRestores answer blocks out.before out.after text → GivesIfFound text out (merge_status answer)
-given_back (Ok merged) out blocks text r = subst (λ (n : ℕ). GivesIfFound text out (if n == 0 then Done else Damaged n)) (sym r.1) r.2
+given_back : (answer : Result Merged MergeStop) (out : Change Bytes) (blocks : ℕ) (text : List ℕ)
+    → MergeRestores answer blocks out.before out.after text
+    → GivesIfFound text out (merge_status answer)
+given_back (Ok merged) out blocks text r =
+    subst (λ (n : ℕ). GivesIfFound text out (if n == 0 then Done else Damaged n)) (sym r.1) r.2
 given_back (Err merge.FirstFault) out blocks text r = tt
 given_back (Err merge.SecondFault) out blocks text r = tt
 given_back (Err merge.WriteFault) out blocks text r = tt
@@ -26,24 +29,36 @@ given_back (Err (merge.SecondTorn block)) out blocks text r = absurd r
 given_back (Err (merge.Unequal many)) out blocks text r = absurd r
 
 module _ (law : GivesPacks) (lead_in : ℕ) (left' other' : Bytes) (out : Change Bytes) (status : Status) where
-  merged : (one two : List ℕ) (blocks : ℕ) (packs : List (List ℕ)) → MergesWith lead_in (both (Some one) left' (Some two) other' out) status → IsReadTwice lead_in blocks packs one two
+  merged : (one two : List ℕ) (blocks : ℕ) (packs : List (List ℕ))
+      → MergesWith lead_in (both (Some one) left' (Some two) other' out) status
+      → IsReadTwice lead_in blocks packs one two
       → GivesIfFound (concat packs) out status
   merged one two blocks packs d twice =
       subst (λ (s : Status). GivesIfFound (concat packs) out s) (sym d.status_is)
       (given_back d.answer out blocks (concat packs)
-      (restored law lead_in (Some one) left' (Some two) other' out.before out.after d.answer d.taken d.other_taken d.first d.second d.put d.first_end d.second_end d.exactly blocks packs twice))
+      (restored law lead_in (Some one) left' (Some two) other' out.before out.after d.answer d.taken
+      d.other_taken d.first d.second d.put d.first_end d.second_end d.exactly blocks packs twice))
 
-  pub merged_back : (left other : Bytes) → (status ≢ NoMemory → MergesWith lead_in (both left left' other other' out) status)
-      → IfSome left (λ one. IfSome other (λ two. (blocks : ℕ) (packs : List (List ℕ)) → IsReadTwice lead_in blocks packs one two → GivesIfFound (concat packs) out status))
+  pub merged_back : (left other : Bytes)
+      → (status ≢ NoMemory → MergesWith lead_in (both left left' other other' out) status)
+      → IfSome left (λ one. IfSome other (λ two. (blocks : ℕ) (packs : List (List ℕ))
+      → IsReadTwice lead_in blocks packs one two
+      → GivesIfFound (concat packs) out status))
   merged_back None other does = tt
   merged_back (Some one) None does = tt
-  merged_back (Some one) (Some two) does = λ blocks packs twice. unless_memory _ status (λ found. merged one two blocks packs (does found) twice)
+  merged_back (Some one) (Some two) does =
+      λ blocks packs twice. unless_memory _ status (λ found. merged one two blocks packs (does found) twice)
 
 -- also where each is damaged
-pub repaired_back : ((lead_in blocks : ℕ) (packs : List (List ℕ)) (first second : List ℕ) → IsDamagedTwice lead_in blocks packs first second → IsReadTwice lead_in blocks packs first second)
+pub repaired_back : ((lead_in blocks : ℕ) (packs : List (List ℕ)) (first second : List ℕ)
+    → IsDamagedTwice lead_in blocks packs first second → IsReadTwice lead_in blocks packs first second)
     → (lead_in : ℕ) (left other : Bytes) (out : Change Bytes) (status : Status)
-    → IfSome left (λ one. IfSome other (λ two. (blocks : ℕ) (packs : List (List ℕ)) → IsReadTwice lead_in blocks packs one two → GivesIfFound (concat packs) out status))
-    → IfSome left (λ one. IfSome other (λ two. (blocks : ℕ) (packs : List (List ℕ)) → IsDamagedTwice lead_in blocks packs one two → GivesIfFound (concat packs) out status))
+    → IfSome left (λ one. IfSome other (λ two. (blocks : ℕ) (packs : List (List ℕ))
+    → IsReadTwice lead_in blocks packs one two → GivesIfFound (concat packs) out status))
+    → IfSome left (λ one. IfSome other (λ two. (blocks : ℕ) (packs : List (List ℕ))
+    → IsDamagedTwice lead_in blocks packs one two
+    → GivesIfFound (concat packs) out status))
 repaired_back law lead_in None other out status gives = tt
 repaired_back law lead_in (Some one) None out status gives = tt
-repaired_back law lead_in (Some one) (Some two) out status gives = λ blocks packs damaged. gives blocks packs (law lead_in blocks packs one two damaged)
+repaired_back law lead_in (Some one) (Some two) out status gives =
+    λ blocks packs damaged. gives blocks packs (law lead_in blocks packs one two damaged)

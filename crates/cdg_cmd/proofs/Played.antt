@@ -24,37 +24,59 @@ use Rattle.cdg_cmd.specs.declared.status.Status.TheVariants.{Done, Damaged, NoMe
 
 -- Faults
 
-whole : (f f' k k' : ℕ) → f ≤ f' → k ≤ k' → (good : Bool) (n : ℕ) → f' ≡ f → k' ≡ k → TellsOne (count f f') (count k k') (if good then Done else Damaged n)
-whole f f' k k' r w true n same_read same_write = quiet.none f f' k k' r w Done (λ e. cc) (λ e. cc) (λ e. cc) (λ e. cc) same_read same_write
-whole f f' k k' r w false n same_read same_write = quiet.none f f' k k' r w (Damaged n) (λ e. cc) (λ e. cc) (λ e. cc) (λ e. cc) same_read same_write
+whole : (f f' k k' : ℕ) → f ≤ f' → k ≤ k' → (good : Bool) (n : ℕ) → f' ≡ f → k' ≡ k
+    → TellsOne (count f f') (count k k') (if good then Done else Damaged n)
+whole f f' k k' r w true n same_read same_write =
+    quiet.none f f' k k' r w Done (λ e. cc) (λ e. cc) (λ e. cc) (λ e. cc) same_read same_write
+whole f f' k k' r w false n same_read same_write =
+    quiet.none f f' k k' r w (Damaged n) (λ e. cc) (λ e. cc) (λ e. cc) (λ e. cc) same_read same_write
 
-no_texts : (f f' k k' : ℕ) → f ≤ f' → k ≤ k' → (why : TextFault) → f' ≡ f → k' ≡ k → TellsOne (count f f') (count k k') (text_fault_status why)
-no_texts f f' k k' r w (fault.Missing seq) same_read same_write = quiet.none f f' k k' r w _ (λ e. cc) (λ e. cc) (λ e. cc) (λ e. cc) same_read same_write
-no_texts f f' k k' r w fault.NoSize same_read same_write = quiet.none f f' k k' r w _ (λ e. cc) (λ e. cc) (λ e. cc) (λ e. cc) same_read same_write
-no_texts f f' k k' r w (fault.Malformed seq byte) same_read same_write = quiet.none f f' k k' r w _ (λ e. cc) (λ e. cc) (λ e. cc) (λ e. cc) same_read same_write
-no_texts f f' k k' r w fault.NoMemory same_read same_write = quiet.none f f' k k' r w _ (λ e. cc) (λ e. cc) (λ e. cc) (λ e. cc) same_read same_write
+no_texts : (f f' k k' : ℕ) → f ≤ f' → k ≤ k' → (why : TextFault) → f' ≡ f → k' ≡ k
+    → TellsOne (count f f') (count k k') (text_fault_status why)
+no_texts f f' k k' r w (fault.Missing seq) same_read same_write =
+    quiet.none f f' k k' r w _ (λ e. cc) (λ e. cc) (λ e. cc) (λ e. cc) same_read same_write
+no_texts f f' k k' r w fault.NoSize same_read same_write =
+    quiet.none f f' k k' r w _ (λ e. cc) (λ e. cc) (λ e. cc) (λ e. cc) same_read same_write
+no_texts f f' k k' r w (fault.Malformed seq byte) same_read same_write =
+    quiet.none f f' k k' r w _ (λ e. cc) (λ e. cc) (λ e. cc) (λ e. cc) same_read same_write
+no_texts f f' k k' r w fault.NoMemory same_read same_write =
+    quiet.none f f' k k' r w _ (λ e. cc) (λ e. cc) (λ e. cc) (λ e. cc) same_read same_write
 
-faults : (answer : Result Played PlayStop) (f f' k k' : ℕ) → f ≤ f' → k ≤ k' → (IsErrOf answer play.ReadFault → Rose f f') → (answer ≢ Err play.ReadFault → f' ≡ f)
-    → (IsErrOf answer play.WriteFault → Rose k k') → (answer ≢ Err play.WriteFault → k' ≡ k) → TellsOne (count f f') (count k k') (play_status answer)
-faults (Ok played) f f' k k' r w rose same cut kept = whole f f' k k' r w (played.bad == 0) played.bad (same (λ e. cc)) (kept (λ e. cc))
-faults (Err play.ReadFault) f f' k k' r w rose same cut kept = quiet.read f f' k k' r w (rose refl) (kept (λ e. cc))
-faults (Err play.WriteFault) f f' k k' r w rose same cut kept = quiet.write f f' k k' r w (same (λ e. cc)) (cut refl)
-faults (Err (play.Torn block)) f f' k k' r w rose same cut kept = quiet.none f f' k k' r w _ (λ e. cc) (λ e. cc) (λ e. cc) (λ e. cc) (same (λ e. cc)) (kept (λ e. cc))
-faults (Err play.TooLong) f f' k k' r w rose same cut kept = quiet.none f f' k k' r w _ (λ e. cc) (λ e. cc) (λ e. cc) (λ e. cc) (same (λ e. cc)) (kept (λ e. cc))
-faults (Err (play.PastEnd blocks)) f f' k k' r w rose same cut kept = quiet.none f f' k k' r w _ (λ e. cc) (λ e. cc) (λ e. cc) (λ e. cc) (same (λ e. cc)) (kept (λ e. cc))
-faults (Err (play.Text why)) f f' k k' r w rose same cut kept = no_texts f f' k k' r w why (same (λ e. cc)) (kept (λ e. cc))
+faults : (answer : Result Played PlayStop) (f f' k k' : ℕ) → f ≤ f' → k ≤ k'
+    → (IsErrOf answer play.ReadFault → Rose f f') → (answer ≢ Err play.ReadFault → f' ≡ f)
+    → (IsErrOf answer play.WriteFault → Rose k k') → (answer ≢ Err play.WriteFault → k' ≡ k)
+    → TellsOne (count f f') (count k k') (play_status answer)
+faults (Ok played) f f' k k' r w rose same cut kept =
+    whole f f' k k' r w (played.bad == 0) played.bad (same (λ e. cc)) (kept (λ e. cc))
+faults (Err play.ReadFault) f f' k k' r w rose same cut kept =
+    quiet.read f f' k k' r w (rose refl) (kept (λ e. cc))
+faults (Err play.WriteFault) f f' k k' r w rose same cut kept =
+    quiet.write f f' k k' r w (same (λ e. cc)) (cut refl)
+faults (Err (play.Torn block)) f f' k k' r w rose same cut kept =
+    quiet.none f f' k k' r w _ (λ e. cc) (λ e. cc) (λ e. cc) (λ e. cc) (same (λ e. cc)) (kept (λ e. cc))
+faults (Err play.TooLong) f f' k k' r w rose same cut kept =
+    quiet.none f f' k k' r w _ (λ e. cc) (λ e. cc) (λ e. cc) (λ e. cc) (same (λ e. cc)) (kept (λ e. cc))
+faults (Err (play.PastEnd blocks)) f f' k k' r w rose same cut kept =
+    quiet.none f f' k k' r w _ (λ e. cc) (λ e. cc) (λ e. cc) (λ e. cc) (same (λ e. cc)) (kept (λ e. cc))
+faults (Err (play.Text why)) f f' k k' r w rose same cut kept =
+    no_texts f f' k k' r w why (same (λ e. cc)) (kept (λ e. cc))
 
-pub told_one : (answer : Result Played PlayStop) (status : Status) (f f' k k' : ℕ) → status ≡ play_status answer → TellsStops f f' k k' answer → TellsOne (count f f') (count k k') status
+pub told_one : (answer : Result Played PlayStop) (status : Status) (f f' k k' : ℕ)
+    → status ≡ play_status answer → TellsStops f f' k k' answer
+    → TellsOne (count f f') (count k k') status
 told_one answer status f f' k k' is h =
-    subst (λ (s : Status). TellsOne (count f f') (count k k') s) (sym is) (faults answer f f' k k' h.read.later h.write.later h.read.rose h.read.same h.write.rose h.write.same)
+    subst (λ (s : Status). TellsOne (count f f') (count k k') s) (sym is)
+    (faults answer f f' k k' h.read.later h.write.later h.read.rose h.read.same h.write.rose h.write.same)
 
 -- no memory was found, and nothing was done
 pub told_none : (f k : ℕ) → TellsOne (count f f) (count k k) NoMemory
-told_none f k = quiet.none f f k k (omega arith) (omega arith) NoMemory (λ e. cc) (λ e. cc) (λ e. cc) (λ e. cc) refl refl
+told_none f k =
+    quiet.none f f k k (omega arith) (omega arith) NoMemory (λ e. cc) (λ e. cc) (λ e. cc) (λ e. cc) refl refl
 
 -- Ends
 
-whole_end : (cut : Type 0) (input : Input) (good : Bool) (bad : ℕ) → EndIsTold input → StreamEnds cut input (if good then Done else Damaged bad)
+whole_end : (cut : Type 0) (input : Input) (good : Bool) (bad : ℕ) → EndIsTold input
+    → StreamEnds cut input (if good then Done else Damaged bad)
 whole_end cut input true bad told = told
 whole_end cut input false bad told = told
 
@@ -67,7 +89,9 @@ moment_stop (Err play.TooLong) stops = tt
 moment_stop (Err (play.PastEnd blocks)) stops = tt
 moment_stop (Err (play.Text why)) stops = absurd stops
 
-in_turn : (answer : Result Played PlayStop) (input : Input) → IfErr answer IsStreamStop → EndInTurn answer input.ends.before input.ends.after → EndsInTurn input (play_status answer)
+in_turn : (answer : Result Played PlayStop) (input : Input) → IfErr answer IsStreamStop
+    → EndInTurn answer input.ends.before input.ends.after
+    → EndsInTurn input (play_status answer)
 in_turn (Ok played) input stops told = whole_end (EndIsUntold input) input (played.bad == 0) played.bad told
 in_turn (Err play.ReadFault) input stops told = told
 in_turn (Err play.WriteFault) input stops told = told
@@ -76,7 +100,9 @@ in_turn (Err play.TooLong) input stops told = told
 in_turn (Err (play.PastEnd blocks)) input stops told = absurd stops
 in_turn (Err (play.Text why)) input stops told = absurd stops
 
-first : (answer : Result Played PlayStop) (input : Input) → IfErr answer IsMomentStop → EndFirst answer input.ends.before input.ends.after → EndsFirst input (play_status answer)
+first : (answer : Result Played PlayStop) (input : Input) → IfErr answer IsMomentStop
+    → EndFirst answer input.ends.before input.ends.after
+    → EndsFirst input (play_status answer)
 first (Ok played) input stops told = whole_end (EndIsTold input) input (played.bad == 0) played.bad told
 first (Err play.ReadFault) input stops told = told
 first (Err play.WriteFault) input stops told = told
@@ -85,11 +111,13 @@ first (Err play.TooLong) input stops told = told
 first (Err (play.PastEnd blocks)) input stops told = told
 first (Err (play.Text why)) input stops told = absurd stops
 
-whole_list : (input : Input) (good : Bool) (bad : ℕ) → EndIsTold input → EndsAsListed input (if good then Done else Damaged bad)
+whole_list : (input : Input) (good : Bool) (bad : ℕ) → EndIsTold input
+    → EndsAsListed input (if good then Done else Damaged bad)
 whole_list input true bad told = told
 whole_list input false bad told = told
 
-listed : (answer : Result Played PlayStop) (input : Input) → EndFirst answer input.ends.before input.ends.after
+listed : (answer : Result Played PlayStop) (input : Input)
+    → EndFirst answer input.ends.before input.ends.after
     → ((stop : PlayStop) → answer ≡ Err stop → ¬ (IsEarly stop) → IsAtEnd input.left.after)
     → EndsAsListed input (play_status answer)
 listed (Ok played) input told ended = whole_list input (played.bad == 0) played.bad told
@@ -101,22 +129,36 @@ listed (Err (play.PastEnd blocks)) input told ended = told
 listed (Err (play.Text (fault.Missing seq))) input told ended = told
 listed (Err (play.Text fault.NoSize)) input told ended = told
 listed (Err (play.Text (fault.Malformed seq byte))) input told ended = told
-listed (Err (play.Text fault.NoMemory)) input told ended = inr (ended (play.Text fault.NoMemory) refl (λ early. early), told)
+listed (Err (play.Text fault.NoMemory)) input told ended =
+    inr (ended (play.Text fault.NoMemory) refl (λ early. early), told)
 
 -- of a call that writes as it reads,
-pub ended_in_turn : (answer : Result Played PlayStop) (status : Status) (input : Input) → status ≡ play_status answer → IfErr answer IsStreamStop → EndInTurn answer input.ends.before input.ends.after → EndsInTurn input status
-ended_in_turn answer status input is stops told = subst (λ (s : Status). EndsInTurn input s) (sym is) (in_turn answer input stops told)
+pub ended_in_turn : (answer : Result Played PlayStop) (status : Status) (input : Input)
+    → status ≡ play_status answer → IfErr answer IsStreamStop
+    → EndInTurn answer input.ends.before input.ends.after
+    → EndsInTurn input status
+ended_in_turn answer status input is stops told =
+    subst (λ (s : Status). EndsInTurn input s) (sym is) (in_turn answer input stops told)
 
 -- that shows a moment,
-pub ended_first : (answer : Result Played PlayStop) (status : Status) (input : Input) → status ≡ play_status answer → IfErr answer IsMomentStop → EndFirst answer input.ends.before input.ends.after → EndsFirst input status
-ended_first answer status input is stops told = subst (λ (s : Status). EndsFirst input s) (sym is) (first answer input stops told)
+pub ended_first : (answer : Result Played PlayStop) (status : Status) (input : Input)
+    → status ≡ play_status answer → IfErr answer IsMomentStop
+    → EndFirst answer input.ends.before input.ends.after
+    → EndsFirst input status
+ended_first answer status input is stops told =
+    subst (λ (s : Status). EndsFirst input s) (sym is) (first answer input stops told)
 
 -- that writes after the whole of a stream,
-pub ended_whole : (answer : Result Played PlayStop) (status : Status) (input : Input) → status ≡ play_status answer → IfErr answer IsStreamStop → EndFirst answer input.ends.before input.ends.after → EndsFirst input status
-ended_whole answer status input is stops told = ended_first answer status input is (moment_stop answer stops) told
+pub ended_whole : (answer : Result Played PlayStop) (status : Status) (input : Input)
+    → status ≡ play_status answer → IfErr answer IsStreamStop
+    → EndFirst answer input.ends.before input.ends.after
+    → EndsFirst input status
+ended_whole answer status input is stops told =
+    ended_first answer status input is (moment_stop answer stops) told
 
 -- and that lists texts
-pub ended_listed : (answer : Result Played PlayStop) (status : Status) (input : Input) → status ≡ play_status answer
+pub ended_listed : (answer : Result Played PlayStop) (status : Status) (input : Input)
+    → status ≡ play_status answer
     → EndFirst answer input.ends.before input.ends.after
     → ((stop : PlayStop) → answer ≡ Err stop → ¬ (IsEarly stop) → IsAtEnd input.left.after)
     → EndsAsListed input status
@@ -129,7 +171,9 @@ may_write : (good : Bool) (n : ℕ) → MayWrite (if good then Done else Damaged
 may_write true n = tt
 may_write false n = tt
 
-untouched_at : {K : Type 0} (answer : Result Played PlayStop) (old new : K) → IfErr answer (λ stop. stop ≢ play.WriteFault → new ≡ old) → ¬ (MayWrite (play_status answer)) → new ≡ old
+untouched_at : {K : Type 0} (answer : Result Played PlayStop) (old new : K)
+    → IfErr answer (λ stop. stop ≢ play.WriteFault → new ≡ old) → ¬ (MayWrite (play_status answer))
+    → new ≡ old
 untouched_at (Ok played) old new same none = absurd (none (may_write (played.bad == 0) played.bad))
 untouched_at (Err play.ReadFault) old new same none = same (λ e. cc)
 untouched_at (Err play.WriteFault) old new same none = absurd (none tt)
@@ -138,9 +182,11 @@ untouched_at (Err play.TooLong) old new same none = same (λ e. cc)
 untouched_at (Err (play.PastEnd blocks)) old new same none = same (λ e. cc)
 untouched_at (Err (play.Text why)) old new same none = same (λ e. cc)
 
-pub untouched : {K : Type 0} (answer : Result Played PlayStop) (status : Status) (old new : K) → status ≡ play_status answer
+pub untouched : {K : Type 0} (answer : Result Played PlayStop) (status : Status) (old new : K)
+    → status ≡ play_status answer
     → IfErr answer (λ stop. stop ≢ play.WriteFault → new ≡ old) → ¬ (MayWrite status) → new ≡ old
-untouched answer status old new is same none = untouched_at answer old new same (subst (λ (s : Status). ¬ (MayWrite s)) is none)
+untouched answer status old new is same none =
+    untouched_at answer old new same (subst (λ (s : Status). ¬ (MayWrite s)) is none)
 
 -- A player lacks no memory but for texts
 
@@ -148,7 +194,8 @@ whole_never : (good : Bool) (n : ℕ) → (if good then Done else Damaged n) ≢
 whole_never true n e = absurd (cc)
 whole_never false n e = absurd (cc)
 
-never_memory_at : (answer : Result Played PlayStop) → IfErr answer IsMomentStop → play_status answer ≢ NoMemory
+never_memory_at : (answer : Result Played PlayStop) → IfErr answer IsMomentStop
+    → play_status answer ≢ NoMemory
 never_memory_at (Ok played) stops e = whole_never (played.bad == 0) played.bad e
 never_memory_at (Err play.ReadFault) stops e = absurd (cc)
 never_memory_at (Err play.WriteFault) stops e = absurd (cc)
@@ -157,10 +204,14 @@ never_memory_at (Err play.TooLong) stops e = absurd (cc)
 never_memory_at (Err (play.PastEnd blocks)) stops e = absurd (cc)
 never_memory_at (Err (play.Text why)) stops e = absurd stops
 
-pub shown_never_memory : (answer : Result Played PlayStop) (status : Status) → status ≡ play_status answer → IfErr answer IsMomentStop → status ≢ NoMemory
+pub shown_never_memory : (answer : Result Played PlayStop) (status : Status) → status ≡ play_status answer
+    → IfErr answer IsMomentStop
+    → status ≢ NoMemory
 shown_never_memory answer status is stops e = never_memory_at answer stops (sym is ∙ e)
 
-pub never_memory : (answer : Result Played PlayStop) (status : Status) → status ≡ play_status answer → IfErr answer IsStreamStop → status ≢ NoMemory
+pub never_memory : (answer : Result Played PlayStop) (status : Status) → status ≡ play_status answer
+    → IfErr answer IsStreamStop
+    → status ≢ NoMemory
 never_memory answer status is stops = shown_never_memory answer status is (moment_stop answer stops)
 
 -- Where memory is lacking for texts, all of a whole input was read

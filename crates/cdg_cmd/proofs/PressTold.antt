@@ -28,41 +28,84 @@ not_cut : (left : Bytes) (status : Status) → IsFileStop left status → status
 not_cut left status why e = subst (IsFileStop left) e why
 
 -- the file stopped it
-pub told_at_file : {A B : Type 0} (sheet : B) (status : Status) (left : Bytes) (f f' t t' k : ℕ) → IsFileStop left status → TellsFault {T = B} (ReadFault First) f f' (Ok sheet)
-    → TellsFault {T = A} (ReadFault Second) t t' (Err status) → TellsFaults (record { first = count f f'; second = count t t'; out = count k k }) status
+pub told_at_file : {A B : Type 0} (sheet : B) (status : Status) (left : Bytes) (f f' t t' k : ℕ)
+    → IsFileStop left status → TellsFault {T = B} (ReadFault First) f f' (Ok sheet)
+    → TellsFault {T = A} (ReadFault Second) t t' (Err status)
+    → TellsFaults (record { first = count f f'; second = count t t'; out = count k k }) status
 told_at_file sheet status left f f' t t' k why first second = record {
   first = silent (ReadFault First) status f f' first.later (not_first left status why) (first.same (λ e. cc));
   second = of_input (ReadFault Second) status t t' second;
   out = still WriteFault status k (not_cut left status why);
 }
 
-written : (answer : Result (Unit {0}) PressStop) (k k' : ℕ) → k ≤ k' → (answer ≡ Err stop.WriteFault → Rose k k') → (answer ≢ Err stop.WriteFault → k' ≡ k)
+written : (answer : Result (Unit {0}) PressStop) (k k' : ℕ) → k ≤ k'
+    → (answer ≡ Err stop.WriteFault → Rose k k') → (answer ≢ Err stop.WriteFault → k' ≡ k)
     → IsTold WriteFault (count k k') (press_status answer)
 written (Err stop.WriteFault) k k' later cut same = told WriteFault k k' later (cut refl)
 written (Ok done) k k' later cut same = silent WriteFault _ k k' later (λ e. cc) (same (λ e. cc))
-written (Err (stop.PackTorn pack)) k k' later cut same = silent WriteFault _ k k' later (λ e. cc) (same (λ e. cc))
-written (Err (stop.LengthShort need)) k k' later cut same = silent WriteFault _ k k' later (λ e. cc) (same (λ e. cc))
-written (Err (stop.DiscTooLong blocks)) k k' later cut same = silent WriteFault _ k k' later (λ e. cc) (same (λ e. cc))
+written (Err (stop.PackTorn pack)) k k' later cut same =
+    silent WriteFault _ k k' later (λ e. cc) (same (λ e. cc))
+written (Err (stop.LengthShort need)) k k' later cut same =
+    silent WriteFault _ k k' later (λ e. cc) (same (λ e. cc))
+written (Err (stop.DiscTooLong blocks)) k k' later cut same =
+    silent WriteFault _ k k' later (λ e. cc) (same (λ e. cc))
 written (Err (stop.Gap track)) k k' later cut same = silent WriteFault _ k k' later (λ e. cc) (same (λ e. cc))
-written (Err (stop.CdgTooLong packs room)) k k' later cut same = silent WriteFault _ k k' later (λ e. cc) (same (λ e. cc))
-written (Err (stop.TextTooLong packs)) k k' later cut same = silent WriteFault _ k k' later (λ e. cc) (same (λ e. cc))
-written (Err (stop.LeadInShort need)) k k' later cut same = silent WriteFault _ k k' later (λ e. cc) (same (λ e. cc))
+written (Err (stop.CdgTooLong packs room)) k k' later cut same =
+    silent WriteFault _ k k' later (λ e. cc) (same (λ e. cc))
+written (Err (stop.TextTooLong packs)) k k' later cut same =
+    silent WriteFault _ k k' later (λ e. cc) (same (λ e. cc))
+written (Err (stop.LeadInShort need)) k k' later cut same =
+    silent WriteFault _ k k' later (λ e. cc) (same (λ e. cc))
 written (Err stop.NoMemory) k k' later cut same = silent WriteFault _ k k' later (λ e. cc) (same (λ e. cc))
 
-read_by : (answer : Result (Unit {0}) PressStop) (n n' : ℕ) → n ≤ n' → n' ≡ n → IsTold (ReadFault First) (count n n') (press_status answer) × IsTold (ReadFault Second) (count n n') (press_status answer)
-read_by (Ok done) n n' later same = (silent (ReadFault First) _ n n' later (λ e. cc) same, silent (ReadFault Second) _ n n' later (λ e. cc) same)
-read_by (Err (stop.PackTorn pack)) n n' later same = (silent (ReadFault First) _ n n' later (λ e. cc) same, silent (ReadFault Second) _ n n' later (λ e. cc) same)
-read_by (Err (stop.LengthShort need)) n n' later same = (silent (ReadFault First) _ n n' later (λ e. cc) same, silent (ReadFault Second) _ n n' later (λ e. cc) same)
-read_by (Err (stop.DiscTooLong blocks)) n n' later same = (silent (ReadFault First) _ n n' later (λ e. cc) same, silent (ReadFault Second) _ n n' later (λ e. cc) same)
-read_by (Err (stop.Gap track)) n n' later same = (silent (ReadFault First) _ n n' later (λ e. cc) same, silent (ReadFault Second) _ n n' later (λ e. cc) same)
-read_by (Err (stop.CdgTooLong packs room)) n n' later same = (silent (ReadFault First) _ n n' later (λ e. cc) same, silent (ReadFault Second) _ n n' later (λ e. cc) same)
-read_by (Err (stop.TextTooLong packs)) n n' later same = (silent (ReadFault First) _ n n' later (λ e. cc) same, silent (ReadFault Second) _ n n' later (λ e. cc) same)
-read_by (Err (stop.LeadInShort need)) n n' later same = (silent (ReadFault First) _ n n' later (λ e. cc) same, silent (ReadFault Second) _ n n' later (λ e. cc) same)
-read_by (Err stop.NoMemory) n n' later same = (silent (ReadFault First) _ n n' later (λ e. cc) same, silent (ReadFault Second) _ n n' later (λ e. cc) same)
-read_by (Err stop.WriteFault) n n' later same = (silent (ReadFault First) _ n n' later (λ e. cc) same, silent (ReadFault Second) _ n n' later (λ e. cc) same)
+read_by : (answer : Result (Unit {0}) PressStop) (n n' : ℕ) → n ≤ n' → n' ≡ n
+    → IsTold (ReadFault First) (count n n') (press_status answer)
+    × IsTold (ReadFault Second) (count n n') (press_status answer)
+read_by (Ok done) n n' later same = (
+  silent (ReadFault First) _ n n' later (λ e. cc) same,
+  silent (ReadFault Second) _ n n' later (λ e. cc) same,
+)
+read_by (Err (stop.PackTorn pack)) n n' later same = (
+  silent (ReadFault First) _ n n' later (λ e. cc) same,
+  silent (ReadFault Second) _ n n' later (λ e. cc) same,
+)
+read_by (Err (stop.LengthShort need)) n n' later same = (
+  silent (ReadFault First) _ n n' later (λ e. cc) same,
+  silent (ReadFault Second) _ n n' later (λ e. cc) same,
+)
+read_by (Err (stop.DiscTooLong blocks)) n n' later same = (
+  silent (ReadFault First) _ n n' later (λ e. cc) same,
+  silent (ReadFault Second) _ n n' later (λ e. cc) same,
+)
+read_by (Err (stop.Gap track)) n n' later same = (
+  silent (ReadFault First) _ n n' later (λ e. cc) same,
+  silent (ReadFault Second) _ n n' later (λ e. cc) same,
+)
+read_by (Err (stop.CdgTooLong packs room)) n n' later same = (
+  silent (ReadFault First) _ n n' later (λ e. cc) same,
+  silent (ReadFault Second) _ n n' later (λ e. cc) same,
+)
+read_by (Err (stop.TextTooLong packs)) n n' later same = (
+  silent (ReadFault First) _ n n' later (λ e. cc) same,
+  silent (ReadFault Second) _ n n' later (λ e. cc) same,
+)
+read_by (Err (stop.LeadInShort need)) n n' later same = (
+  silent (ReadFault First) _ n n' later (λ e. cc) same,
+  silent (ReadFault Second) _ n n' later (λ e. cc) same,
+)
+read_by (Err stop.NoMemory) n n' later same = (
+  silent (ReadFault First) _ n n' later (λ e. cc) same,
+  silent (ReadFault Second) _ n n' later (λ e. cc) same,
+)
+read_by (Err stop.WriteFault) n n' later same = (
+  silent (ReadFault First) _ n n' later (λ e. cc) same,
+  silent (ReadFault Second) _ n n' later (λ e. cc) same,
+)
 
-told_at_end : (answer : Result (Unit {0}) PressStop) (f f' t t' k k' : ℕ) → f ≤ f' → f' ≡ f → t ≤ t' → t' ≡ t → k ≤ k' → (answer ≡ Err stop.WriteFault → Rose k k')
-    → (answer ≢ Err stop.WriteFault → k' ≡ k) → TellsFaults (record { first = count f f'; second = count t t'; out = count k k' }) (press_status answer)
+told_at_end : (answer : Result (Unit {0}) PressStop) (f f' t t' k k' : ℕ) → f ≤ f' → f' ≡ f → t ≤ t' → t' ≡ t
+    → k ≤ k' → (answer ≡ Err stop.WriteFault → Rose k k')
+    → (answer ≢ Err stop.WriteFault → k' ≡ k)
+    → TellsFaults (record { first = count f f'; second = count t t'; out = count k k' }) (press_status answer)
 told_at_end answer f f' t t' k k' early first late second later cut same = record {
   first = (read_by answer f f' early first).0;
   second = (read_by answer t t' late second).1;
@@ -70,16 +113,23 @@ told_at_end answer f f' t t' k k' early first late second later cut same = recor
 }
 
 -- both inputs were read
-pub told_of_both : {A B : Type 0} (sheet : A) (file : B) (answer : Result (Unit {0}) PressStop) (status : Status) (f f' t t' k k' : ℕ) → status ≡ press_status answer
-    → TellsFault {T = A} (ReadFault First) f f' (Ok sheet) → TellsFault {T = B} (ReadFault Second) t t' (Ok file) → TellsFault stop.WriteFault k k' answer
+pub told_of_both : {A B : Type 0} (sheet : A) (file : B) (answer : Result (Unit {0}) PressStop)
+    (status : Status) (f f' t t' k k' : ℕ) → status ≡ press_status answer
+    → TellsFault {T = A} (ReadFault First) f f' (Ok sheet)
+    → TellsFault {T = B} (ReadFault Second) t t' (Ok file) → TellsFault stop.WriteFault k k' answer
     → TellsFaults (record { first = count f f'; second = count t t'; out = count k k' }) status
 told_of_both sheet file answer status f f' t t' k k' is first second out =
-    subst (λ (s : Status). TellsFaults (record { first = count f f'; second = count t t'; out = count k k' }) s) (sym is)
-    (told_at_end answer f f' t t' k k' first.later (first.same (λ e. cc)) second.later (second.same (λ e. cc)) out.later out.rose out.same)
+    subst
+    (λ (s : Status). TellsFaults (record { first = count f f'; second = count t t'; out = count k k' }) s)
+    (sym is)
+    (told_at_end answer f f' t t' k k' first.later (first.same (λ e. cc)) second.later (second.same (λ e. cc))
+    out.later out.rose out.same)
 
 -- Ends
 
-of_sheet : (answer : Result (Unit {0}) PressStop) (first : Input) → RoseOnce first.ends.before first.ends.after → SheetEnds first (press_status answer)
+of_sheet : (answer : Result (Unit {0}) PressStop) (first : Input)
+    → RoseOnce first.ends.before first.ends.after
+    → SheetEnds first (press_status answer)
 of_sheet (Ok done) first told = told
 of_sheet (Err (stop.PackTorn pack)) first told = told
 of_sheet (Err (stop.LengthShort need)) first told = told
@@ -105,11 +155,17 @@ of_file (Err stop.NoMemory) file end told = inr (end, told)
 of_file (Err stop.WriteFault) file end told = told
 
 -- the sheet was read, and the file is refused
-pub file_stopped : (first : Input) (sheet : CueSheet) (left : Bytes) (status : Status) → IsFileStop left status → ReadsSheet first.left sheet → RoseOnce first.ends.before first.ends.after → SheetEnds first status
-file_stopped first sheet left status why reads told = second_stopped first sheet status reads told (not_first left status why)
+pub file_stopped : (first : Input) (sheet : CueSheet) (left : Bytes) (status : Status)
+    → IsFileStop left status → ReadsSheet first.left sheet → RoseOnce first.ends.before first.ends.after
+    → SheetEnds first status
+file_stopped first sheet left status why reads told =
+    second_stopped first sheet status reads told (not_first left status why)
 
-pub sheet_read : (answer : Result (Unit {0}) PressStop) (status : Status) (first : Input) → status ≡ press_status answer → RoseOnce first.ends.before first.ends.after → SheetEnds first status
-sheet_read answer status first is told = subst (λ (s : Status). SheetEnds first s) (sym is) (of_sheet answer first told)
+pub sheet_read : (answer : Result (Unit {0}) PressStop) (status : Status) (first : Input)
+    → status ≡ press_status answer → RoseOnce first.ends.before first.ends.after
+    → SheetEnds first status
+sheet_read answer status first is told =
+    subst (λ (s : Status). SheetEnds first s) (sym is) (of_sheet answer first told)
 
 pub file_read : (answer : Result (Unit {0}) PressStop) (status : Status) (file : Input)
     → status ≡ press_status answer → IsAtEnd file.left.after → EndIsTold file → ScriptEnds file status
@@ -132,24 +188,33 @@ never_usage (Err stop.NoMemory) e = absurd (cc)
 never_usage (Err stop.WriteFault) e = absurd (cc)
 
 -- at any other status than those of a whole stream and of a failed write nothing is touched
-pub untouched_at : {K : Type 0} (x y : K) (answer : Result (Unit {0}) PressStop) → IfErr answer (λ why. why ≢ stop.WriteFault → y ≡ x)
+pub untouched_at : {K : Type 0} (x y : K) (answer : Result (Unit {0}) PressStop)
+    → IfErr answer (λ why. why ≢ stop.WriteFault → y ≡ x)
     → press_status answer ≢ Done → press_status answer ≢ WriteFault → y ≡ x
 untouched_at x y (Ok done) same not_done no_fault = absurd (not_done refl)
-untouched_at x y (Err why) same not_done no_fault = same (λ e. no_fault (ap (λ (w : PressStop). press_status (Err w)) e))
+untouched_at x y (Err why) same not_done no_fault =
+    same (λ e. no_fault (ap (λ (w : PressStop). press_status (Err w)) e))
 
-both_ok : {E : Type 0} (answer : Result (Unit {0}) E) (P Q : Type 0) → OnOk answer P → OnOk answer Q → OnOk answer (P × Q)
+both_ok : {E : Type 0} (answer : Result (Unit {0}) E) (P Q : Type 0) → OnOk answer P → OnOk answer Q
+    → OnOk answer (P × Q)
 both_ok (Ok done) P Q p q = (p, q)
 both_ok (Err why) P Q p q = tt
 
-nothing_at : {K : Type 0} (held : K → Bytes) (x y : K) (answer : Result (Unit {0}) PressStop) → IfErr answer (λ why. why ≢ stop.WriteFault → y ≡ x)
+nothing_at : {K : Type 0} (held : K → Bytes) (x y : K) (answer : Result (Unit {0}) PressStop)
+    → IfErr answer (λ why. why ≢ stop.WriteFault → y ≡ x)
     → IfErr answer (λ why. why ≢ stop.WriteFault → Appends (held x) (held y) [])
 nothing_at held x y (Ok done) same = tt
 nothing_at held x y (Err why) same = λ other. unchanged held x y (same other)
 
-pub pressed_for : {K : Type 0} (held : K → Bytes) (x y : K) (sheet : CueSheet) (file : List ℕ) (lead_in audio : ℕ) (answer : Result (Unit {0}) PressStop)
-    → OnOk answer ((bytes : List ℕ) × (packs : List (List ℕ)) × IsPressed (press_of sheet file lead_in audio) bytes packs × Appends (held x) (held y) bytes)
+pub pressed_for : {K : Type 0} (held : K → Bytes) (x y : K) (sheet : CueSheet) (file : List ℕ)
+    (lead_in audio : ℕ) (answer : Result (Unit {0}) PressStop)
+    → OnOk answer ((bytes : List ℕ)
+    × (packs : List (List ℕ))
+    × IsPressed (press_of sheet file lead_in audio) bytes packs
+    × Appends (held x) (held y) bytes)
     → OnOk answer (IsPressable sheet file lead_in audio) → IfErr answer (IsPressStop sheet file lead_in audio)
-    → IfErr answer (λ why. why ≢ stop.WriteFault → y ≡ x) → (answer ≡ Err stop.WriteFault → PutsPressedPrefix (press_of sheet file lead_in audio) (change held x y))
+    → IfErr answer (λ why. why ≢ stop.WriteFault → y ≡ x)
+    → (answer ≡ Err stop.WriteFault → PutsPressedPrefix (press_of sheet file lead_in audio) (change held x y))
     → IsPressedFor (press_of sheet file lead_in audio) (change held x y) answer
 pressed_for held x y sheet file lead_in audio answer pressed accepted why same part = record {
   done = both_ok answer _ _ accepted pressed;

@@ -22,29 +22,42 @@ use Rattle.cdg_cmd.proofs.WholeInputs.{both}
 
 -- what the laws of the layers below say
 pub record PressesComeBack : Type 0 where
-  pub stream : (form : Form) (lead_in : ℕ) (others : List ℕ) (press : DamagedPress form lead_in others) → IsDamagedStream form lead_in (program_blocks press.sheet press.audio) press.packs others
+  pub stream : (form : Form) (lead_in : ℕ) (others : List ℕ) (press : DamagedPress form lead_in others)
+      → IsDamagedStream form lead_in (program_blocks press.sheet press.audio) press.packs others
   pub shown : FilesAreShown
   pub packs : GivesPacks
   pub none_bad : GivesNoneBad
 
-module _ (laws : PressesComeBack) (all : List ℕ) (left' more more' : Bytes) (out : Change Bytes) (status : Status) where
-  packs_back : (lead_in : ℕ) (form : Form) → Does (Convert lead_in form) (both (Some all) left' more more' out) status
-      → (press : DamagedPress form lead_in all) → GivesBack (concat (written_packs form press.packs)) out status
+module _ (laws : PressesComeBack) (all : List ℕ) (left' more more' : Bytes) (out : Change Bytes)
+    (status : Status) where
+  packs_back : (lead_in : ℕ) (form : Form)
+      → Does (Convert lead_in form) (both (Some all) left' more more' out) status
+      → (press : DamagedPress form lead_in all)
+      → GivesBack (concat (written_packs form press.packs)) out status
   packs_back lead_in form does press =
       let blocks : ℕ = program_blocks press.sheet press.audio in
-      let words : all_packs form blocks press.packs ≡ written_packs form press.packs = packs_written form blocks press.packs press.pressed.carries.count (omega (arith)) in
+      let words : all_packs form blocks press.packs ≡ written_packs form press.packs =
+      packs_written form blocks press.packs press.pressed.carries.count (omega (arith)) in
       subst (λ (ps : List (List ℕ)). GivesBack (concat ps) out status) words
-      (converted_back form lead_in left' more more' out status laws.packs laws.none_bad (Some all) does blocks press.packs (laws.stream form lead_in all press))
+      (converted_back form lead_in left' more more' out status laws.packs laws.none_bad (Some all) does blocks
+      press.packs (laws.stream form lead_in all press))
 
-  picture_back : (lead_in : ℕ) (form : Form) (at time : ℕ) → at ≡ pause_blocks + time → (status ≢ NoMemory → Does (Screen lead_in form at) (both (Some all) left' more more' out) status)
-      → (press : DamagedPress form lead_in all) → time ≤ press.audio → PutsFilePicture press.file (4 * time) out status
+  picture_back : (lead_in : ℕ) (form : Form) (at time : ℕ) → at ≡ pause_blocks + time
+      → (status ≢ NoMemory → Does (Screen lead_in form at) (both (Some all) left' more more' out) status)
+      → (press : DamagedPress form lead_in all) → time ≤ press.audio
+      → PutsFilePicture press.file (4 * time) out status
   picture_back lead_in form at time is does press in_audio =
       file_shown laws.shown form lead_in time all press in_audio left' more more' out status
-      (subst (λ (t : ℕ). status ≢ NoMemory → Does (Screen lead_in form t) (both (Some all) left' more more' out) status) is does)
+      (subst (λ (t : ℕ).
+      status ≢ NoMemory → Does (Screen lead_in form t) (both (Some all) left' more more' out) status) is does)
 
-  unpressed : (command : Command) → (status ≢ NoMemory → Does command (both (Some all) left' more more' out) status) → (TakesNone command → status ≢ NoMemory) → Unpresses command all out status
+  unpressed : (command : Command)
+      → (status ≢ NoMemory → Does command (both (Some all) left' more more' out) status)
+      → (TakesNone command → status ≢ NoMemory)
+      → Unpresses command all out status
   unpressed (Convert lead_in form) does never = λ press. packs_back lead_in form (does (never tt)) press
-  unpressed (Screen lead_in form at) does never = λ press time is in_audio. picture_back lead_in form at time is does press in_audio
+  unpressed (Screen lead_in form at) does never =
+      λ press time is in_audio. picture_back lead_in form at time is does press in_audio
   unpressed (State lead_in form at) does never = tt
   unpressed (Check lead_in form) does never = tt
   unpressed (Q lead_in form) does never = tt
@@ -61,7 +74,11 @@ module _ (laws : PressesComeBack) (all : List ℕ) (left' more more' : Bytes) (o
   unpressed (Save lead_in) does never = tt
   unpressed (Resume at) does never = tt
 
-pub pressed_back : PressesComeBack → (command : Command) (left left' more more' : Bytes) (out : Change Bytes) (status : Status)
-    → (status ≢ NoMemory → Does command (both left left' more more' out) status) → (TakesNone command → status ≢ NoMemory) → IfSome left (λ all. Unpresses command all out status)
+pub pressed_back : PressesComeBack
+    → (command : Command) (left left' more more' : Bytes) (out : Change Bytes) (status : Status)
+    → (status ≢ NoMemory → Does command (both left left' more more' out) status)
+    → (TakesNone command → status ≢ NoMemory)
+    → IfSome left (λ all. Unpresses command all out status)
 pressed_back laws command None left' more more' out status does never = tt
-pressed_back laws command (Some all) left' more more' out status does never = unpressed laws all left' more more' out status command does never
+pressed_back laws command (Some all) left' more more' out status does never =
+    unpressed laws all left' more more' out status command does never

@@ -14,28 +14,43 @@ use Rattle.cdg_cmd.specs.Stops.{pump_status}
 use Rattle.cdg_cmd.specs.declared.status.Status.{Status}
 use Rattle.cdg_cmd.specs.declared.status.Status.TheVariants.{NoMemory}
 
-faults : (answer : Result Pumped PumpStop) (f f' k k' : ℕ) → f ≤ f' → k ≤ k' → (IsErrOf answer pump.ReadFault → Rose f f') → (answer ≢ Err pump.ReadFault → f' ≡ f)
-    → (IsErrOf answer pump.WriteFault → Rose k k') → (answer ≢ Err pump.WriteFault → k' ≡ k) → TellsOne (count f f') (count k k') (pump_status answer)
-faults (Ok pumped) f f' k k' r w rose same cut kept = quiet.none f f' k k' r w _ (λ e. cc) (λ e. cc) (λ e. cc) (λ e. cc) (same (λ e. cc)) (kept (λ e. cc))
-faults (Err pump.ReadFault) f f' k k' r w rose same cut kept = quiet.read f f' k k' r w (rose refl) (kept (λ e. cc))
-faults (Err pump.WriteFault) f f' k k' r w rose same cut kept = quiet.write f f' k k' r w (same (λ e. cc)) (cut refl)
-faults (Err (pump.Torn unit)) f f' k k' r w rose same cut kept = quiet.none f f' k k' r w _ (λ e. cc) (λ e. cc) (λ e. cc) (λ e. cc) (same (λ e. cc)) (kept (λ e. cc))
-faults (Err pump.TooLong) f f' k k' r w rose same cut kept = quiet.none f f' k k' r w _ (λ e. cc) (λ e. cc) (λ e. cc) (λ e. cc) (same (λ e. cc)) (kept (λ e. cc))
+faults : (answer : Result Pumped PumpStop) (f f' k k' : ℕ) → f ≤ f' → k ≤ k'
+    → (IsErrOf answer pump.ReadFault → Rose f f') → (answer ≢ Err pump.ReadFault → f' ≡ f)
+    → (IsErrOf answer pump.WriteFault → Rose k k') → (answer ≢ Err pump.WriteFault → k' ≡ k)
+    → TellsOne (count f f') (count k k') (pump_status answer)
+faults (Ok pumped) f f' k k' r w rose same cut kept =
+    quiet.none f f' k k' r w _ (λ e. cc) (λ e. cc) (λ e. cc) (λ e. cc) (same (λ e. cc)) (kept (λ e. cc))
+faults (Err pump.ReadFault) f f' k k' r w rose same cut kept =
+    quiet.read f f' k k' r w (rose refl) (kept (λ e. cc))
+faults (Err pump.WriteFault) f f' k k' r w rose same cut kept =
+    quiet.write f f' k k' r w (same (λ e. cc)) (cut refl)
+faults (Err (pump.Torn unit)) f f' k k' r w rose same cut kept =
+    quiet.none f f' k k' r w _ (λ e. cc) (λ e. cc) (λ e. cc) (λ e. cc) (same (λ e. cc)) (kept (λ e. cc))
+faults (Err pump.TooLong) f f' k k' r w rose same cut kept =
+    quiet.none f f' k k' r w _ (λ e. cc) (λ e. cc) (λ e. cc) (λ e. cc) (same (λ e. cc)) (kept (λ e. cc))
 
-pub told_one : (answer : Result Pumped PumpStop) (status : Status) (f f' k k' : ℕ) → status ≡ pump_status answer → TellsFault pump.ReadFault f f' answer → TellsFault pump.WriteFault k k' answer
+pub told_one : (answer : Result Pumped PumpStop) (status : Status) (f f' k k' : ℕ)
+    → status ≡ pump_status answer → TellsFault pump.ReadFault f f' answer
+    → TellsFault pump.WriteFault k k' answer
     → TellsOne (count f f') (count k k') status
 told_one answer status f f' k k' is read write =
-    subst (λ (s : Status). TellsOne (count f f') (count k k') s) (sym is) (faults answer f f' k k' read.later write.later read.rose read.same write.rose write.same)
+    subst (λ (s : Status). TellsOne (count f f') (count k k') s) (sym is)
+    (faults answer f f' k k' read.later write.later read.rose read.same write.rose write.same)
 
-pumped : (answer : Result Pumped PumpStop) (input : Input) → TellsEndOf answer input.ends.before input.ends.after → EndsInTurn input (pump_status answer)
+pumped : (answer : Result Pumped PumpStop) (input : Input)
+    → TellsEndOf answer input.ends.before input.ends.after
+    → EndsInTurn input (pump_status answer)
 pumped (Ok done) input told = told
 pumped (Err pump.ReadFault) input told = told
 pumped (Err pump.WriteFault) input told = told
 pumped (Err (pump.Torn unit)) input told = told
 pumped (Err pump.TooLong) input told = told
 
-pub ended_in_turn : (answer : Result Pumped PumpStop) (status : Status) (input : Input) → status ≡ pump_status answer → TellsEndOf answer input.ends.before input.ends.after → EndsInTurn input status
-ended_in_turn answer status input is told = subst (λ (s : Status). EndsInTurn input s) (sym is) (pumped answer input told)
+pub ended_in_turn : (answer : Result Pumped PumpStop) (status : Status) (input : Input)
+    → status ≡ pump_status answer → TellsEndOf answer input.ends.before input.ends.after
+    → EndsInTurn input status
+ended_in_turn answer status input is told =
+    subst (λ (s : Status). EndsInTurn input s) (sym is) (pumped answer input told)
 
 never_memory_at : (answer : Result Pumped PumpStop) → pump_status answer ≢ NoMemory
 never_memory_at (Ok done) e = absurd (cc)
@@ -44,5 +59,6 @@ never_memory_at (Err pump.WriteFault) e = absurd (cc)
 never_memory_at (Err (pump.Torn unit)) e = absurd (cc)
 never_memory_at (Err pump.TooLong) e = absurd (cc)
 
-pub never_memory : (answer : Result Pumped PumpStop) (status : Status) → status ≡ pump_status answer → status ≢ NoMemory
+pub never_memory : (answer : Result Pumped PumpStop) (status : Status) → status ≡ pump_status answer
+    → status ≢ NoMemory
 never_memory answer status is e = never_memory_at answer (sym is ∙ e)

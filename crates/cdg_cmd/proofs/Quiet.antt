@@ -15,12 +15,15 @@ pub told : (fault : Status) (n n' : ℕ) → n ≤ n' → Rose n n' → IsTold f
 told fault n n' later rose = record { later = later; rose = λ e. rose; same = λ other. absurd (other refl) }
 
 -- another status is told
-pub silent : (fault status : Status) (n n' : ℕ) → n ≤ n' → status ≢ fault → n' ≡ n → IsTold fault (count n n') status
-silent fault status n n' later other same = record { later = later; rose = λ e. absurd (other e); same = λ e. same }
+pub silent : (fault status : Status) (n n' : ℕ) → n ≤ n' → status ≢ fault → n' ≡ n
+    → IsTold fault (count n n') status
+silent fault status n n' later other same =
+    record { later = later; rose = λ e. absurd (other e); same = λ e. same }
 
 module _ (f f' k k' : ℕ) (read_later : f ≤ f') (write_later : k ≤ k') where
   -- no fault
-  pub none : (status : Status) → status ≢ ReadFault First → status ≢ WriteFault → status ≢ Usage → status ≢ ReadFault Second → f' ≡ f → k' ≡ k
+  pub none : (status : Status) → status ≢ ReadFault First → status ≢ WriteFault → status ≢ Usage
+      → status ≢ ReadFault Second → f' ≡ f → k' ≡ k
       → TellsOne (count f f') (count k k') status
   none status read write usage second same_read same_write = record {
     read = silent (ReadFault First) status f f' read_later read same_read;

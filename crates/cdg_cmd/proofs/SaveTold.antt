@@ -10,17 +10,24 @@ use Rattle.cdg_cmd.specs.Keeps.{MayWrite}
 use Rattle.cdg_cmd.specs.Stops.{pump_status}
 use Rattle.cdg_cmd.specs.declared.status.Status.{Status}
 
-ends : (answer : Result Pumped PumpStop) (input : Input) → EndsAsSaved answer input.ends.before input.ends.after → EndsFirst input (pump_status answer)
+ends : (answer : Result Pumped PumpStop) (input : Input)
+    → EndsAsSaved answer input.ends.before input.ends.after
+    → EndsFirst input (pump_status answer)
 ends (Ok pumped) input told = told
 ends (Err pump.ReadFault) input told = told
 ends (Err pump.WriteFault) input told = told
 ends (Err (pump.Torn unit)) input told = told
 ends (Err pump.TooLong) input told = told
 
-pub ended_first : (answer : Result Pumped PumpStop) (status : Status) (input : Input) → status ≡ pump_status answer → EndsAsSaved answer input.ends.before input.ends.after → EndsFirst input status
-ended_first answer status input is told = subst (λ (s : Status). EndsFirst input s) (sym is) (ends answer input told)
+pub ended_first : (answer : Result Pumped PumpStop) (status : Status) (input : Input)
+    → status ≡ pump_status answer → EndsAsSaved answer input.ends.before input.ends.after
+    → EndsFirst input status
+ended_first answer status input is told =
+    subst (λ (s : Status). EndsFirst input s) (sym is) (ends answer input told)
 
-untouched_at : {K : Type 0} (answer : Result Pumped PumpStop) (old new : K) → IfErr answer (λ stop. stop ≢ pump.WriteFault → new ≡ old) → ¬ (MayWrite (pump_status answer)) → new ≡ old
+untouched_at : {K : Type 0} (answer : Result Pumped PumpStop) (old new : K)
+    → IfErr answer (λ stop. stop ≢ pump.WriteFault → new ≡ old) → ¬ (MayWrite (pump_status answer))
+    → new ≡ old
 untouched_at (Ok pumped) old new same none = absurd (none tt)
 untouched_at (Err pump.ReadFault) old new same none = same (λ e. cc)
 untouched_at (Err pump.WriteFault) old new same none = absurd (none tt)
@@ -28,6 +35,8 @@ untouched_at (Err (pump.Torn unit)) old new same none = same (λ e. cc)
 untouched_at (Err pump.TooLong) old new same none = same (λ e. cc)
 
 -- where nothing may be written nothing was
-pub untouched : {K : Type 0} (answer : Result Pumped PumpStop) (status : Status) (old new : K) → status ≡ pump_status answer
+pub untouched : {K : Type 0} (answer : Result Pumped PumpStop) (status : Status) (old new : K)
+    → status ≡ pump_status answer
     → IfErr answer (λ stop. stop ≢ pump.WriteFault → new ≡ old) → ¬ (MayWrite status) → new ≡ old
-untouched answer status old new is same none = untouched_at answer old new same (subst (λ (s : Status). ¬ (MayWrite s)) is none)
+untouched answer status old new is same none =
+    untouched_at answer old new same (subst (λ (s : Status). ¬ (MayWrite s)) is none)

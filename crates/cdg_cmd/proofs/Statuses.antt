@@ -6,7 +6,9 @@ use Rattle.cdg_cmd.specs.declared.status.Which.TheVariants.{First, Second}
 use Rattle.cdg_cmd.specs.declared.status.Status.{Status}
 use Rattle.cdg_cmd.specs.declared.status.Status.TheVariants.{Done, Damaged, Usage, Refused, Late, ReadFault, WriteFault, NoMemory}
 
-pub answered : (status : Status) → status ≢ Usage → status ≢ ReadFault First → status ≢ ReadFault Second → status ≢ WriteFault → IsAnswered status
+pub answered : (status : Status) → status ≢ Usage → status ≢ ReadFault First → status ≢ ReadFault Second
+    → status ≢ WriteFault
+    → IsAnswered status
 answered Done usage first second write = tt
 answered (Damaged n) usage first second write = tt
 answered (Refused why) usage first second write = tt

@@ -28,9 +28,11 @@ pub record IsUnread {S : Type 0} (left : S → Bytes) (faults : S → ℕ) (ends
   pub untold : stop ≢ read.NoMemory → ends after ≡ ends before
 
 -- the same from the clauses of `read_whole`
-pub unread : {T S : Type 0} (left : S → Bytes) (faults : S → ℕ) (ends : S → Count) (before after : S) (stop : ReadStop)
+pub unread : {T S : Type 0} (left : S → Bytes) (faults : S → ℕ) (ends : S → Count) (before after : S)
+    (stop : ReadStop)
     → (IsErrOf {T = T} (Err stop) read.TooLong → IfSome (left before) (λ text. most_text_bytes < length text))
-    → (IsErrOf {T = T} (Err stop) read.TooLong → ConsumesExactly (left before) (left after) (most_text_bytes + 1))
+    → (IsErrOf {T = T} (Err stop) read.TooLong
+    → ConsumesExactly (left before) (left after) (most_text_bytes + 1))
     → (IsErrOf {T = T} (Err stop) read.NoMemory → ReadsWithin left ends most_text_bytes before after)
     → (IsErrOf {T = T} (Err stop) read.Failed → StopsAtFault left faults most_text_bytes before after)
     → (stop ≢ read.NoMemory → ends after ≡ ends before) → IsUnread left faults ends before after stop
@@ -42,10 +44,12 @@ unread left faults ends before after stop long one_more lacking cut untold = rec
   untold = untold;
 }
 
-long_untold : (left : Bytes) (Told Untold : Type 0) → IfSome left (λ text. most_text_bytes < length text) → Untold
+long_untold : (left : Bytes) (Told Untold : Type 0) → IfSome left (λ text. most_text_bytes < length text)
+    → Untold
     → IfSome left (λ text. (length text ≤ most_text_bytes → Told) × (most_text_bytes < length text → Untold))
 long_untold None Told Untold long untold = tt
-long_untold (Some text) Told Untold long untold = (λ within. absurd (omega (arith, within, long)), λ past. untold)
+long_untold (Some text) Told Untold long untold =
+    (λ within. absurd (omega (arith, within, long)), λ past. untold)
 
 module _ {S : Type 0} (left : S → Bytes) (faults : S → ℕ) (ends : S → Count) (before after : S) where
   abbrev Unread : ReadStop → Type 0
@@ -90,7 +94,8 @@ module _ {S : Type 0} (left : S → Bytes) (faults : S → ℕ) (ends : S → Co
   takes_unread which stop status is u =
       subst (TakesAtStop (change left before after)) (sym is) (takes which stop u)
 
-  sheet_ends_at : (stop : ReadStop) → Unread stop → SheetEnds (input left ends before after) (read_status First stop)
+  sheet_ends_at : (stop : ReadStop) → Unread stop
+      → SheetEnds (input left ends before after) (read_status First stop)
   sheet_ends_at read.Failed u = u.untold (λ e. cc)
   sheet_ends_at read.TooLong u =
       (inl (u.untold (λ e. cc)), long_untold (left before) _ _ (u.long refl) (u.untold (λ e. cc)))
@@ -98,7 +103,8 @@ module _ {S : Type 0} (left : S → Bytes) (faults : S → ℕ) (ends : S → Co
 
   pub sheet_ends : (stop : ReadStop) (status : Status) → status ≡ read_status First stop → Unread stop
       → SheetEnds (input left ends before after) status
-  sheet_ends stop status is u = subst (SheetEnds (input left ends before after)) (sym is) (sheet_ends_at stop u)
+  sheet_ends stop status is u =
+      subst (SheetEnds (input left ends before after)) (sym is) (sheet_ends_at stop u)
 
   second_ends_at : (stop : ReadStop) → Unread stop
       → ScriptEnds (input left ends before after) (read_status Second stop)
@@ -108,7 +114,8 @@ module _ {S : Type 0} (left : S → Bytes) (faults : S → ℕ) (ends : S → Co
 
   pub second_ends : (stop : ReadStop) (status : Status) → status ≡ read_status Second stop → Unread stop
       → ScriptEnds (input left ends before after) status
-  second_ends stop status is u = subst (ScriptEnds (input left ends before after)) (sym is) (second_ends_at stop u)
+  second_ends stop status is u =
+      subst (ScriptEnds (input left ends before after)) (sym is) (second_ends_at stop u)
 
 -- The fault of a read is told as that of its input.
 
@@ -126,4 +133,5 @@ pub unread_fault : {A B : Type 0} (which : Which) (stop : ReadStop) (status : St
     → status ≡ read_status which stop → TellsFault {T = A} read.Failed f f' (Err stop)
     → TellsFault {T = B} (ReadFault which) f f' (Err status)
 unread_fault {A} {B} which stop status f f' is told =
-    subst (λ (s : Status). TellsFault {T = B} (ReadFault which) f f' (Err s)) (sym is) (read_fault which stop f f' told)
+    subst (λ (s : Status). TellsFault {T = B} (ReadFault which) f f' (Err s)) (sym is)
+    (read_fault which stop f f' told)

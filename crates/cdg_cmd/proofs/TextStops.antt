@@ -18,7 +18,8 @@ use Rattle.cdg_cmd.specs.declared.status.Status.{Status}
 use Rattle.cdg_cmd.specs.declared.status.Status.TheVariants.{Done, Damaged, Usage, Refused, Late, ReadFault, WriteFault, NoMemory}
 
 -- what was taken before a read failed is all that was taken
-pub taken_at_fault : {S : Type 0} (left : S → Bytes) (faults : S → ℕ) (most n : ℕ) (before after : S) → most < n
+pub taken_at_fault : {S : Type 0} (left : S → Bytes) (faults : S → ℕ) (most n : ℕ) (before after : S)
+    → most < n
     → StopsAtFault left faults most before after → ConsumesBelow (left before) (left after) n
 taken_at_fault left faults most n before after below stop =
     (stop.taken, omega (arith, stop.within, below), Consumes-kept _ _ _ _ stop.took stop.nothing)
@@ -43,23 +44,39 @@ same_fault : {A E : Type 0} (r : Result A E) (a b : E) → r ≡ Err a → r ≡
 same_fault r a b first second = (cc)
 
 -- a text is too long, or a line of it is refused
-abbrev IsRefusal : {W S : Type 0} → (ℕ → W → Refusal) → (List ℕ → Result S (ℕ × W)) → List ℕ → Refusal → Type 0
+abbrev IsRefusal : {W S : Type 0} → (ℕ → W → Refusal) → (List ℕ → Result S (ℕ × W)) → List ℕ → Refusal
+    → Type 0
 IsRefusal {W} {S} named read text r =
-    ((r ≡ TooLong) × (most_text_bytes < length text)) ⊎ ((line : ℕ) × (why : W) × (r ≡ named line why) × (length text ≤ most_text_bytes) × (read text ≡ Err (line, why)))
+    ((r ≡ TooLong) × (most_text_bytes < length text))
+    ⊎ ((line : ℕ)
+    × (why : W)
+    × (r ≡ named line why)
+    × (length text ≤ most_text_bytes)
+    × (read text ≡ Err (line, why)))
 
-one_refusal : {W S : Type 0} (named : ℕ → W → Refusal) (read : List ℕ → Result S (ℕ × W)) (text : List ℕ) (r q : Refusal) → IsRefusal named read text r → IsRefusal named read text q → r ≡ q
+one_refusal : {W S : Type 0} (named : ℕ → W → Refusal) (read : List ℕ → Result S (ℕ × W)) (text : List ℕ)
+    (r q : Refusal) → IsRefusal named read text r → IsRefusal named read text q
+    → r ≡ q
 one_refusal named read text r q (inl a) (inl b) = a.0 ∙ sym b.0
-one_refusal named read text r q (inl a) (inr (line, why, is, short, refused)) = absurd (omega (arith, a.1, short))
-one_refusal named read text r q (inr (line, why, is, short, refused)) (inl b) = absurd (omega (arith, b.1, short))
-one_refusal {W} named read text r q (inr (line, why, is, short, refused)) (inr (line', why', is', short', refused')) =
-    is ∙ ap (λ (p : ℕ × W). named p.0 p.1) (same_fault (read text) (line, why) (line', why') refused refused') ∙ sym is'
+one_refusal named read text r q (inl a) (inr (line, why, is, short, refused)) =
+    absurd (omega (arith, a.1, short))
+one_refusal named read text r q (inr (line, why, is, short, refused)) (inl b) =
+    absurd (omega (arith, b.1, short))
+one_refusal {W} named read text r q (inr (line, why, is, short, refused))
+    (inr (line', why', is', short', refused')) =
+    is
+    ∙ ap (λ (p : ℕ × W). named p.0 p.1) (same_fault (read text) (line, why) (line', why') refused refused')
+    ∙ sym is'
 
-no_refusal : {W S : Type 0} (named : ℕ → W → Refusal) (read : List ℕ → Result S (ℕ × W)) (text : List ℕ) (r : Refusal) (s : S) → length text ≤ most_text_bytes → read text ≡ Ok s
+no_refusal : {W S : Type 0} (named : ℕ → W → Refusal) (read : List ℕ → Result S (ℕ × W)) (text : List ℕ)
+    (r : Refusal) (s : S) → length text ≤ most_text_bytes → read text ≡ Ok s
     → IsRefusal named read text r → ⊥
 no_refusal named read text r s within reads (inl a) = omega (arith, a.1, within)
-no_refusal named read text r s within reads (inr (line, why, is, short, refused)) = both_answers (read text) s (line, why) reads refused
+no_refusal named read text r s within reads (inr (line, why, is, short, refused)) =
+    both_answers (read text) s (line, why) reads refused
 
-sheet_refusal : (text : List ℕ) (r : Refusal) → IsSheetStop (Some text) (Refused r) → IsRefusal Cue read_cue text r
+sheet_refusal : (text : List ℕ) (r : Refusal) → IsSheetStop (Some text) (Refused r)
+    → IsRefusal Cue read_cue text r
 sheet_refusal text TooLong s = inl (refl, s)
 sheet_refusal text (Cue line why) s = inr (line, why, refl, s.0, s.1)
 sheet_refusal text (Torn block) s = absurd s
@@ -80,7 +97,8 @@ sheet_refusal text (CdgTooLong packs room) s = absurd s
 sheet_refusal text (BadSave byte) s = absurd s
 sheet_refusal text (BeforeSave blocks) s = absurd s
 
-script_refusal : (text : List ℕ) (r : Refusal) → IsScriptStop (Some text) (Refused r) → IsRefusal Script read_script text r
+script_refusal : (text : List ℕ) (r : Refusal) → IsScriptStop (Some text) (Refused r)
+    → IsRefusal Script read_script text r
 script_refusal text TooLong s = inl (refl, s)
 script_refusal text (Script line why) s = inr (line, why, refl, s.0, s.1)
 script_refusal text (Torn block) s = absurd s
@@ -101,20 +119,33 @@ script_refusal text (CdgTooLong packs room) s = absurd s
 script_refusal text (BadSave byte) s = absurd s
 script_refusal text (BeforeSave blocks) s = absurd s
 
-pub one_sheet_stop : (text : List ℕ) (r q : Refusal) → IsSheetStop (Some text) (Refused r) → IsSheetStop (Some text) (Refused q) → r ≡ q
-one_sheet_stop text r q a b = one_refusal Cue read_cue text r q (sheet_refusal text r a) (sheet_refusal text q b)
+pub one_sheet_stop : (text : List ℕ) (r q : Refusal) → IsSheetStop (Some text) (Refused r)
+    → IsSheetStop (Some text) (Refused q)
+    → r ≡ q
+one_sheet_stop text r q a b =
+    one_refusal Cue read_cue text r q (sheet_refusal text r a) (sheet_refusal text q b)
 
-pub one_script_stop : (text : List ℕ) (r q : Refusal) → IsScriptStop (Some text) (Refused r) → IsScriptStop (Some text) (Refused q) → r ≡ q
-one_script_stop text r q a b = one_refusal Script read_script text r q (script_refusal text r a) (script_refusal text q b)
+pub one_script_stop : (text : List ℕ) (r q : Refusal) → IsScriptStop (Some text) (Refused r)
+    → IsScriptStop (Some text) (Refused q)
+    → r ≡ q
+one_script_stop text r q a b =
+    one_refusal Script read_script text r q (script_refusal text r a) (script_refusal text q b)
 
-pub no_sheet_stop : (text : List ℕ) (r : Refusal) (sheet : CueSheet) → IsSheetText text sheet → IsSheetStop (Some text) (Refused r) → ⊥
-no_sheet_stop text r sheet is s = no_refusal Cue read_cue text r sheet is.within is.reads (sheet_refusal text r s)
+pub no_sheet_stop : (text : List ℕ) (r : Refusal) (sheet : CueSheet) → IsSheetText text sheet
+    → IsSheetStop (Some text) (Refused r)
+    → ⊥
+no_sheet_stop text r sheet is s =
+    no_refusal Cue read_cue text r sheet is.within is.reads (sheet_refusal text r s)
 
-pub no_script_stop : (text : List ℕ) (r : Refusal) (script : List Drawing) → IsScriptText text script → IsScriptStop (Some text) (Refused r) → ⊥
-no_script_stop text r script is s = no_refusal Script read_script text r script is.within is.reads (script_refusal text r s)
+pub no_script_stop : (text : List ℕ) (r : Refusal) (script : List Drawing) → IsScriptText text script
+    → IsScriptStop (Some text) (Refused r)
+    → ⊥
+no_script_stop text r script is s =
+    no_refusal Script read_script text r script is.within is.reads (script_refusal text r s)
 
 -- a status at a text: a read failed, no memory was found, or the text is refused
-pub sheet_status : (text : List ℕ) (status : Status) → IsSheetStop (Some text) status → IsStopped status ⊎ ((r : Refusal) × (status ≡ Refused r) × IsSheetStop (Some text) (Refused r))
+pub sheet_status : (text : List ℕ) (status : Status) → IsSheetStop (Some text) status
+    → IsStopped status ⊎ ((r : Refusal) × (status ≡ Refused r) × IsSheetStop (Some text) (Refused r))
 sheet_status text Done s = absurd s
 sheet_status text (Damaged n) s = absurd s
 sheet_status text Usage s = absurd s
@@ -124,7 +155,8 @@ sheet_status text (ReadFault which) s = inl tt
 sheet_status text WriteFault s = absurd s
 sheet_status text NoMemory s = inl tt
 
-pub script_status : (text : List ℕ) (status : Status) → IsScriptStop (Some text) status → IsStopped status ⊎ ((r : Refusal) × (status ≡ Refused r) × IsScriptStop (Some text) (Refused r))
+pub script_status : (text : List ℕ) (status : Status) → IsScriptStop (Some text) status
+    → IsStopped status ⊎ ((r : Refusal) × (status ≡ Refused r) × IsScriptStop (Some text) (Refused r))
 script_status text Done s = absurd s
 script_status text (Damaged n) s = absurd s
 script_status text Usage s = absurd s
@@ -135,13 +167,17 @@ script_status text WriteFault s = absurd s
 script_status text NoMemory s = inl tt
 
 -- at a text that its grammar reads
-pub sheet_stopped : (text : List ℕ) (sheet : CueSheet) (status : Status) → IsSheetText text sheet → IsSheetStop (Some text) status → IsStopped status
+pub sheet_stopped : (text : List ℕ) (sheet : CueSheet) (status : Status) → IsSheetText text sheet
+    → IsSheetStop (Some text) status
+    → IsStopped status
 sheet_stopped text sheet status is s = elim (sheet_status text status s) [
   | inl stopped ↦ stopped
   | inr (r, same, refused) ↦ absurd (no_sheet_stop text r sheet is refused)
 ]
 
-pub script_stopped : (text : List ℕ) (script : List Drawing) (status : Status) → IsScriptText text script → IsScriptStop (Some text) status → IsStopped status
+pub script_stopped : (text : List ℕ) (script : List Drawing) (status : Status) → IsScriptText text script
+    → IsScriptStop (Some text) status
+    → IsStopped status
 script_stopped text script status is s = elim (script_status text status s) [
   | inl stopped ↦ stopped
   | inr (r, same, refused) ↦ absurd (no_script_stop text r script is refused)

@@ -13,7 +13,8 @@ use Rattle.cdg_cmd.specs.declared.status.Status.{Status}
 use Rattle.cdg_cmd.specs.declared.status.Status.TheVariants.{Done, NoMemory}
 use Rattle.cdg_cmd.proofs.WholeInputs.{both}
 
-thinned : (answer : Result Pumped PumpStop) (all : List ℕ) (out : Change Bytes) → ThinsAll all out answer → thin_status answer ≡ Done
+thinned : (answer : Result Pumped PumpStop) (all : List ℕ) (out : Change Bytes) → ThinsAll all out answer
+    → thin_status answer ≡ Done
     → (text : List ℕ) × ShowsAll all text × Appends out.before out.after text
 thinned (Ok pumped) all out thins is = thins
 thinned (Err pump.ReadFault) all out thins is = absurd (cc)
@@ -21,7 +22,8 @@ thinned (Err pump.WriteFault) all out thins is = absurd (cc)
 thinned (Err (pump.Torn unit)) all out thins is = absurd (cc)
 thinned (Err pump.TooLong) all out thins is = absurd (cc)
 
-pub all_thinned : (left left' more more' : Bytes) (out : Change Bytes) (status : Status) → status ≡ Done → (status ≢ NoMemory → ThinsWith (both left left' more more' out) status)
+pub all_thinned : (left left' more more' : Bytes) (out : Change Bytes) (status : Status) → status ≡ Done
+    → (status ≢ NoMemory → ThinsWith (both left left' more more' out) status)
     → IfSome left (λ all. (text : List ℕ) × ShowsAll all text × Appends out.before out.after text)
 all_thinned None left' more more' out status is does = tt
 all_thinned (Some all) left' more more' out status is does =

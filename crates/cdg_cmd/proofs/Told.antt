@@ -16,7 +16,8 @@ still : (fault status : Status) (n : ℕ) → status ≢ fault → IsTold fault 
 still fault status n other = silent fault status n n (omega arith) other refl
 
 -- the words were no form
-pub unchanged : (f t k : ℕ) → TellsFaults (record { first = count f f; second = count t t; out = count k k }) Usage
+pub unchanged : (f t k : ℕ)
+    → TellsFaults (record { first = count f f; second = count t t; out = count k k }) Usage
 unchanged f t k = record {
   first = still (ReadFault First) Usage f (λ e. cc);
   second = still (ReadFault Second) Usage t (λ e. cc);
@@ -24,34 +25,50 @@ unchanged f t k = record {
 }
 
 -- one input was read
-pub of_one : (status : Status) (t : ℕ) (source out : Change ℕ) → TellsOne source out status → TellsFaults (record { first = source; second = count t t; out = out }) status
-of_one status t source out told = record { first = told.read; second = still (ReadFault Second) status t told.never.1; out = told.write }
+pub of_one : (status : Status) (t : ℕ) (source out : Change ℕ) → TellsOne source out status
+    → TellsFaults (record { first = source; second = count t t; out = out }) status
+of_one status t source out told =
+    record { first = told.read; second = still (ReadFault Second) status t told.never.1; out = told.write }
 
 -- no input was read
-pub of_none : (status : Status) (f t : ℕ) (out : Change ℕ) → status ≢ ReadFault First → status ≢ ReadFault Second → IsTold WriteFault out status
+pub of_none : (status : Status) (f t : ℕ) (out : Change ℕ) → status ≢ ReadFault First
+    → status ≢ ReadFault Second → IsTold WriteFault out status
     → TellsFaults (record { first = count f f; second = count t t; out = out }) status
-of_none status f t out first second told = record { first = still (ReadFault First) status f first; second = still (ReadFault Second) status t second; out = told }
+of_none status f t out first second told = record {
+  first = still (ReadFault First) status f first;
+  second = still (ReadFault Second) status t second;
+  out = told;
+}
 
-not_read : (status : Status) → (status ≡ Done) ⊎ (status ≡ WriteFault) → (status ≢ ReadFault First) × (status ≢ ReadFault Second)
+not_read : (status : Status) → (status ≡ Done) ⊎ (status ≡ WriteFault)
+    → (status ≢ ReadFault First) × (status ≢ ReadFault Second)
 not_read status (inl is) = (λ e. absurd (cc), λ e. absurd (cc))
 not_read status (inr is) = (λ e. absurd (cc), λ e. absurd (cc))
 
-pub of_gen : (status : Status) (f t : ℕ) (out : Change ℕ) → (status ≡ Done) ⊎ (status ≡ WriteFault) → IsTold WriteFault out status
+pub of_gen : (status : Status) (f t : ℕ) (out : Change ℕ) → (status ≡ Done) ⊎ (status ≡ WriteFault)
+    → IsTold WriteFault out status
     → TellsFaults (record { first = count f f; second = count t t; out = out }) status
 of_gen status f t out is told = of_none status f t out (not_read status is).0 (not_read status is).1 told
 
-tries_not_read : (status : Status) → (status ≡ Done) ⊎ (status ≡ WriteFault) ⊎ (status ≡ NoMemory) → (status ≢ ReadFault First) × (status ≢ ReadFault Second)
+tries_not_read : (status : Status) → (status ≡ Done) ⊎ (status ≡ WriteFault) ⊎ (status ≡ NoMemory)
+    → (status ≢ ReadFault First) × (status ≢ ReadFault Second)
 tries_not_read status (inl is) = (λ e. absurd (cc), λ e. absurd (cc))
 tries_not_read status (inr (inl is)) = (λ e. absurd (cc), λ e. absurd (cc))
 tries_not_read status (inr (inr is)) = (λ e. absurd (cc), λ e. absurd (cc))
 
-pub of_trial : (status : Status) (f t : ℕ) (out : Change ℕ) → (status ≡ Done) ⊎ (status ≡ WriteFault) ⊎ (status ≡ NoMemory) → IsTold WriteFault out status
+pub of_trial : (status : Status) (f t : ℕ) (out : Change ℕ)
+    → (status ≡ Done) ⊎ (status ≡ WriteFault) ⊎ (status ≡ NoMemory) → IsTold WriteFault out status
     → TellsFaults (record { first = count f f; second = count t t; out = out }) status
-of_trial status f t out is told = of_none status f t out (tries_not_read status is).0 (tries_not_read status is).1 told
+of_trial status f t out is told =
+    of_none status f t out (tries_not_read status is).0 (tries_not_read status is).1 told
 
 -- the line of a status was told
-pub tells : {E F : Type 0} (held : E → Bytes) (faults : E → ℕ) (before after : E) (status : Status) (result : Result (Unit {0}) F) → OnOk result (Appends (held before) (held after) (error_line status))
-    → OnErr result (AppendsPrefix (held before) (held after) (error_line status)) → HasCause (faults before) (faults after) result → (status ≡ Done → after ≡ before)
+pub tells : {E F : Type 0} (held : E → Bytes) (faults : E → ℕ) (before after : E) (status : Status)
+    (result : Result (Unit {0}) F) → OnOk result (Appends (held before) (held after) (error_line status))
+    → OnErr result (AppendsPrefix (held before) (held after) (error_line status))
+    → HasCause (faults before) (faults after) result → (status ≡ Done → after ≡ before)
     → Tells held faults before after status
-tells held faults before after status (Ok done) ok part cause silent = record { line = inl (cause.same, ok); silent = silent }
-tells held faults before after status (Err fault) ok part cause silent = record { line = inr (cause.failed, part); silent = silent }
+tells held faults before after status (Ok done) ok part cause silent =
+    record { line = inl (cause.same, ok); silent = silent }
+tells held faults before after status (Err fault) ok part cause silent =
+    record { line = inr (cause.failed, part); silent = silent }

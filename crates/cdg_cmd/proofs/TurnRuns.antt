@@ -25,7 +25,8 @@ abbrev turner : {S : Type 0} → (List ℕ → List ℕ) → Machine S
 turner f = record { next = λ t _. t; gives = λ _ x. Some (f x) }
 
 -- the run of a stage that maps each unit
-map_gives : {S : Type 0} (f : List ℕ → List ℕ) (s : S) (xs : List (List ℕ)) → concat (run_gives (λ t _. t) (λ _ x. Some (f x)) s xs) ≡ flat_map f xs
+map_gives : {S : Type 0} (f : List ℕ → List ℕ) (s : S) (xs : List (List ℕ))
+    → concat (run_gives (λ t _. t) (λ _ x. Some (f x)) s xs) ≡ flat_map f xs
 map_gives f s [] = refl
 map_gives f s (x ∷ xs) = ap (λ (l : List ℕ). f x ++ l) (map_gives f s xs)
 
@@ -42,7 +43,8 @@ module _ (turned : List ℕ → List ℕ → Type 0) (f : List ℕ → List ℕ)
   after u rest = subst (λ k. drop k (f u ++ rest) ≡ rest) (turn.size u) (drop-append_seam (f u) rest)
 
   -- the parts of the text are the turned units
-  text_parts : (n : ℕ) (bytes : List ℕ) → parts n 96 (flat_map f (units_of 96 n bytes)) ≡ map f (units_of 96 n bytes)
+  text_parts : (n : ℕ) (bytes : List ℕ)
+      → parts n 96 (flat_map f (units_of 96 n bytes)) ≡ map f (units_of 96 n bytes)
   text_parts zero bytes = refl
   text_parts (suc n) bytes =
       let u : List ℕ = take 96 bytes in
@@ -53,27 +55,34 @@ module _ (turned : List ℕ → List ℕ → Type 0) (f : List ℕ → List ℕ)
   text_size zero bytes = refl
   text_size (suc n) bytes =
       let rest : List ℕ = flat_map f (units_of 96 n (drop 96 bytes)) in
-      let sum : length (f (take 96 bytes) ++ rest) ≡ length (f (take 96 bytes)) + length rest = length-append (f (take 96 bytes)) rest in
+      let sum : length (f (take 96 bytes) ++ rest) ≡ length (f (take 96 bytes)) + length rest =
+      length-append (f (take 96 bytes)) rest in
       omega (arith, sum, turn.size (take 96 bytes), text_size n (drop 96 bytes))
 
   each_unit : (n : ℕ) (bytes : List ℕ) → n * 96 ≤ length bytes → (k : ℕ) → k < n
       → turned (slice_index_or (units_of 96 n bytes) k []) (slice_index_or (map f (units_of 96 n bytes)) k [])
   each_unit zero bytes fits k lt = absurd (omega (arith, lt))
-  each_unit (suc n) bytes fits zero lt = turn.each (take 96 bytes) (length-take-le 96 bytes (omega (arith, fits)))
-  each_unit (suc n) bytes fits (suc k) lt = each_unit n (drop 96 bytes) (omega (arith, fits, length-drop 96 bytes)) k (omega (arith, lt))
+  each_unit (suc n) bytes fits zero lt =
+      turn.each (take 96 bytes) (length-take-le 96 bytes (omega (arith, fits)))
+  each_unit (suc n) bytes fits (suc k) lt =
+      each_unit n (drop 96 bytes) (omega (arith, fits, length-drop 96 bytes)) k (omega (arith, lt))
 
-  turned_text : (bytes : List ℕ) (n : ℕ) → IsWhole 96 n bytes → TurnsBlocks turned bytes (flat_map f (units_of 96 n bytes))
+  turned_text : (bytes : List ℕ) (n : ℕ) → IsWhole 96 n bytes
+      → TurnsBlocks turned bytes (flat_map f (units_of 96 n bytes))
   turned_text bytes n whole =
       let count : length bytes / 96 ≡ n = omega (arith, whole.fits, whole.rest) in
       let text : List ℕ = flat_map f (units_of 96 n bytes) in
       let size : length text ≡ 96 * n = text_size n bytes in
       let texts : length text / 96 ≡ n = omega (arith, size) in
-      let same : whole_parts 96 text ≡ map f (units_of 96 n bytes) = ap (λ k. parts k 96 text) texts ∙ text_parts n bytes in
+      let same : whole_parts 96 text ≡ map f (units_of 96 n bytes) =
+      ap (λ k. parts k 96 text) texts ∙ text_parts n bytes in
       record {
         size = omega (arith, size, count);
         blocks = λ k lt.
-            subst (λ (ps : List (List ℕ)). turned (slice_index_or (whole_parts 96 bytes) k []) (slice_index_or ps k [])) (sym same)
-            (subst (λ c. turned (slice_index_or (parts c 96 bytes) k []) (slice_index_or (map f (units_of 96 n bytes)) k [])) (sym count)
+            subst (λ (ps : List (List ℕ)).
+            turned (slice_index_or (whole_parts 96 bytes) k []) (slice_index_or ps k [])) (sym same)
+            (subst (λ c. turned (slice_index_or (parts c 96 bytes) k [])
+            (slice_index_or (map f (units_of 96 n bytes)) k [])) (sym count)
             (each_unit n bytes whole.fits k (omega (arith, lt, count))));
       }
 
@@ -81,7 +90,9 @@ module _ (turned : List ℕ → List ℕ → Type 0) (f : List ℕ → List ℕ)
       → IsTurned (TurnsBlocks turned) bytes (record { units = n }) (given 96 (turner f) s bytes n)
   says s bytes n whole = record {
     units = omega (arith, whole.fits, whole.rest);
-    written = subst (TurnsBlocks turned bytes) (sym (map_gives f s (units_of 96 n bytes))) (turned_text bytes n whole);
+    written =
+        subst (TurnsBlocks turned bytes) (sym (map_gives f s (units_of 96 n bytes)))
+        (turned_text bytes n whole);
   }
 
   told : (stop : PumpStop) → IsTold pump.Torn pump.WriteFault stop stop
@@ -91,11 +102,15 @@ module _ (turned : List ℕ → List ℕ → Type 0) (f : List ℕ → List ℕ)
   turning = as_pumped (record { size = 96; limit = 1000000 }) (IsTurned (TurnsBlocks turned))
 
   pub turns : {S : Type 0} (moved : Moved S) (taken : List ℕ) (result : Result Pumped PumpStop)
-      → Pumps turning.cut (turner f) moved result taken → ChangesBlocks (IsTurned (TurnsBlocks turned)) (bytes_of moved) result taken
+      → Pumps turning.cut (turner f) moved result taken
+      → ChangesBlocks (IsTurned (TurnsBlocks turned)) (bytes_of moved) result taken
   turns moved taken (Ok pumped) p =
-      streams_done turning (turner f) moved taken pumped pumped (omega arith) (λ bytes n few whole. (record { units = n }, says moved.state.before bytes n whole)) p (λ whole. says moved.state.before taken pumped.units whole)
+      streams_done turning (turner f) moved taken pumped pumped (omega arith)
+      (λ bytes n few whole. (record { units = n }, says moved.state.before bytes n whole)) p
+      (λ whole. says moved.state.before taken pumped.units whole)
   turns moved taken (Err stop) p =
-      streams_stop turning (turner f) moved taken stop stop (omega arith) (told stop) (λ bytes n few whole. (record { units = n }, says moved.state.before bytes n whole)) p
+      streams_stop turning (turner f) moved taken stop stop (omega arith) (told stop)
+      (λ bytes n few whole. (record { units = n }, says moved.state.before bytes n whole)) p
 
 -- the two turns
 
@@ -105,7 +120,9 @@ at f n lt = get_or-map-range_with_len f 0 96 n n 0 lt (omega arith)
 pub planar_turn : IsTurn IsPlanarForm planar_form
 planar_turn = record {
   size = λ u. length-map-range_with_len (λ i. packed_at u (i / 12) (8 * (i % 12))) 0 96;
-  each = λ u size. to_planar_is u (planar_form u) (length-map-range_with_len (λ i. packed_at u (i / 12) (8 * (i % 12))) 0 96)
+  each =
+      λ u size. to_planar_is u (planar_form u)
+      (length-map-range_with_len (λ i. packed_at u (i / 12) (8 * (i % 12))) 0 96)
       (λ n lt. at (λ i. packed_at u (i / 12) (8 * (i % 12))) n lt);
 }
 

@@ -8,9 +8,14 @@ use Rattle.cdg_cmd.specs.declared.status.Status.TheVariants.{Done, Damaged, Usag
 
 -- a call on two inputs
 abbrev pub both : Bytes → Bytes → Bytes → Bytes → Change Bytes → Call Bytes
-both left left' more more' out = record { first = record { before = left; after = left' }; second = record { before = more; after = more' }; out = out }
+both left left' more more' out = record {
+  first = record { before = left; after = left' };
+  second = record { before = more; after = more' };
+  out = out;
+}
 
-pub unless_memory : (holds : Type 0) (status : Status) → (status ≢ NoMemory → OnDone holds status) → OnDone holds status
+pub unless_memory : (holds : Type 0) (status : Status) → (status ≢ NoMemory → OnDone holds status)
+    → OnDone holds status
 unless_memory holds Done gives = gives (λ e. cc)
 unless_memory holds (Damaged n) gives = gives (λ e. cc)
 unless_memory holds Usage gives = gives (λ e. cc)

@@ -31,7 +31,8 @@ write_is_no_read same = absurd (cc)
 pub torn_is_no_read : {T X : Type 0} (n : ℕ) → ◌≡◌ {A = Result T PumpStop} (Err (Torn n)) (Err ReadFault) → X
 torn_is_no_read n same = absurd (cc)
 
-pub torn_is_no_write : {T X : Type 0} (n : ℕ) → ◌≡◌ {A = Result T PumpStop} (Err (Torn n)) (Err WriteFault) → X
+pub torn_is_no_write : {T X : Type 0} (n : ℕ) → ◌≡◌ {A = Result T PumpStop} (Err (Torn n)) (Err WriteFault)
+    → X
 torn_is_no_write n same = absurd (cc)
 
 pub long_is_no_read : {T X : Type 0} → ◌≡◌ {A = Result T PumpStop} (Err TooLong) (Err ReadFault) → X
@@ -41,7 +42,8 @@ pub long_is_no_write : {T X : Type 0} → ◌≡◌ {A = Result T PumpStop} (Err
 long_is_no_write same = absurd (cc)
 
 -- whatever ended it, a call that read on took at most one byte more than it was to look for
-pub read_part : {S : Type 0} (stop : ReadStop) (left : S → Option (List ℕ)) (faults : S → ℕ) (ends : S → Count)
+pub read_part : {S : Type 0} (stop : ReadStop) (left : S → Option (List ℕ)) (faults : S → ℕ)
+    (ends : S → Count)
     (most : ℕ) {before after : S} → (stop ≡ NoMemory → ReadsWithin left ends most before after)
     → (stop ≡ TextTooLong → ConsumesExactly (left before) (left after) (most + 1))
     → (stop ≡ Failed → StopsAtFault left faults most before after)
@@ -53,5 +55,8 @@ read_part TextTooLong left faults ends most none long cut =
     let (taken, count, took) = long refl in
     (taken, omega (arith, count), took)
 read_part Failed left faults ends most {before} {after} none long cut =
-    let read = cut refl in
-    (read.taken, omega (arith, read.within), Consumes-kept (left before) (left read.last) (left after) read.taken read.took read.nothing)
+    let read = cut refl in (
+      read.taken,
+      omega (arith, read.within),
+      Consumes-kept (left before) (left read.last) (left after) read.taken read.took read.nothing,
+    )

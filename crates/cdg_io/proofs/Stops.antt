@@ -25,28 +25,35 @@ on_no_value X (Ok value) err = (cc)
 on_no_value X (Err fault) err = tt
 
 -- and a value no fault
-pub value_is_no_fault : {T E X : Type 0} (value : T) (fault : E) → ◌≡◌ {A = Result T E} (Ok value) (Err fault) → X
+pub value_is_no_fault : {T E X : Type 0} (value : T) (fault : E) → ◌≡◌ {A = Result T E} (Ok value) (Err fault)
+    → X
 value_is_no_fault value fault same = absurd (cc)
 
 -- the fault that is known
-pub known_fault : {T E : Type 0} (r : Result T E) (known : E) → IsErrAnd r (λ fault. fault ≡ known) → r ≡ Err known
+pub known_fault : {T E : Type 0} (r : Result T E) (known : E) → IsErrAnd r (λ fault. fault ≡ known)
+    → r ≡ Err known
 known_fault (Ok value) known is = absurd is
 known_fault (Err fault) known is = ap Err is
 
 -- of two faults that differ the answer is not both
-pub other_fault : {T E X : Type 0} (r : Result T E) (known other : E) → (known ≡ other → ⊥) → IsErrAnd r (λ fault. fault ≡ known) → r ≡ Err other → X
+pub other_fault : {T E X : Type 0} (r : Result T E) (known other : E) → (known ≡ other → ⊥)
+    → IsErrAnd r (λ fault. fault ≡ known) → r ≡ Err other
+    → X
 other_fault (Ok value) known other differ is same = absurd is
 other_fault (Err fault) known other differ is same = absurd (differ (cc))
 
-pub failed_cause : {T E : Type 0} (r : Result T E) (before now : ℕ) → IsErr r → before ≤ now → Rose before now → HasCause before now r
+pub failed_cause : {T E : Type 0} (r : Result T E) (before now : ℕ) → IsErr r → before ≤ now → Rose before now
+    → HasCause before now r
 failed_cause (Ok value) before now err later rose = (cc)
 failed_cause (Err fault) before now err later rose = record { later = later; failed = rose; same = tt }
 
-pub failed_end : {E : Type 0} (r : Result ℕ E) (room : ℕ) (before now : Count) → IsErr r → now ≡ before → TellsEnd room before now r
+pub failed_end : {E : Type 0} (r : Result ℕ E) (room : ℕ) (before now : Count) → IsErr r → now ≡ before
+    → TellsEnd room before now r
 failed_end (Ok count) room before now err same = (cc)
 failed_end (Err fault) room before now err same = record { ended = tt; goes_on = tt; failed = same }
 
-pub failed_room : {E : Type 0} (r : Result ℕ E) (room : ℕ) (before now : Count) → IsErr r → now ≡ before → FillsRoom room before now r
+pub failed_room : {E : Type 0} (r : Result ℕ E) (room : ℕ) (before now : Count) → IsErr r → now ≡ before
+    → FillsRoom room before now r
 failed_room (Ok count) room before now err same = (cc)
 failed_room (Err fault) room before now err same = record { full = tt; short = tt; failed = same }
 
@@ -72,27 +79,37 @@ later_if_same same = omega (arith, same)
 -- ---- bytes
 
 -- a read of nothing takes no more
-pub Consumes-still : (a b c : Option (List ℕ)) (bs buf : List ℕ) (n : ℕ) → n ≡ 0 → Consumes a b bs → Consumes b c (take n buf) → Consumes a c bs
-Consumes-still a b c bs buf n zero p q = subst (Consumes a c) (ap (λ (k : ℕ). bs ++ take k buf) zero ∙ append-nil bs) (Consumes-trans a b c _ _ p q)
+pub Consumes-still : (a b c : Option (List ℕ)) (bs buf : List ℕ) (n : ℕ) → n ≡ 0 → Consumes a b bs
+    → Consumes b c (take n buf)
+    → Consumes a c bs
+Consumes-still a b c bs buf n zero p q =
+    subst (Consumes a c) (ap (λ (k : ℕ). bs ++ take k buf) zero ∙ append-nil bs)
+    (Consumes-trans a b c _ _ p q)
 
-pub Consumes-still_in : (a b c : Option (List ℕ)) (at k n : ℕ) (xs ys : List ℕ) → at ≤ length xs → n ≡ 0 → Consumes a b (take at xs) → Consumes b c (take n ys) → Consumes a c (take at (put_mid at k xs ys))
+pub Consumes-still_in : (a b c : Option (List ℕ)) (at k n : ℕ) (xs ys : List ℕ) → at ≤ length xs → n ≡ 0
+    → Consumes a b (take at xs) → Consumes b c (take n ys)
+    → Consumes a c (take at (put_mid at k xs ys))
 Consumes-still_in a b c at k n xs ys within zero p q =
-    subst (Consumes a c) (sym (take-put_mid_below at k xs ys at (le_refl at) within)) (Consumes-still a b c (take at xs) ys n zero p q)
+    subst (Consumes a c) (sym (take-put_mid_below at k xs ys at (le_refl at) within))
+    (Consumes-still a b c (take at xs) ys n zero p q)
 
 -- what was taken is shorter than what is written at its end
 pub shorter : (at k : ℕ) (xs ys : List ℕ) → 0 < length ys → length (take at xs) < length (put_mid at k xs ys)
 shorter at k xs ys some =
-    let whole : length (put_mid at k xs ys) ≡ length (take at xs) + length (ys ++ post_of at k xs) = length-append (take at xs) (ys ++ post_of at k xs) in
+    let whole : length (put_mid at k xs ys) ≡ length (take at xs) + length (ys ++ post_of at k xs) =
+    length-append (take at xs) (ys ++ post_of at k xs) in
     omega (arith, whole, length-append ys (post_of at k xs), some)
 
 -- all was taken
-pub Consumes-all : (a b : Option (List ℕ)) (bs : List ℕ) → Consumes a b bs → IsAtEnd b → IfSome a (λ all. bs ≡ all)
+pub Consumes-all : (a b : Option (List ℕ)) (bs : List ℕ) → Consumes a b bs → IsAtEnd b
+    → IfSome a (λ all. bs ≡ all)
 Consumes-all None b bs p end = tt
 Consumes-all (Some xs) None bs p end = absurd p
 Consumes-all (Some xs) (Some ys) bs p end = sym (p ∙ ap (λ (l : List ℕ). bs ++ l) end ∙ append-nil bs)
 
 -- there was more
-pub Consumes-more : (a b : Option (List ℕ)) (bs : List ℕ) (n : ℕ) → Consumes a b bs → n < length bs → IfSome a (λ all. n < length all)
+pub Consumes-more : (a b : Option (List ℕ)) (bs : List ℕ) (n : ℕ) → Consumes a b bs → n < length bs
+    → IfSome a (λ all. n < length all)
 Consumes-more None b bs n p more = tt
 Consumes-more (Some xs) None bs n p more = absurd p
 Consumes-more (Some xs) (Some ys) bs n p more = omega (arith, more, ap length p, length-append bs ys)

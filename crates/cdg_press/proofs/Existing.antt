@@ -26,12 +26,14 @@ module _ (sheet : CueSheet) (file : List ℕ) (lead_in audio : ℕ) where
       let blocks : ℕ = program_blocks sheet audio in
       let room : file_begin + 4 * audio ≤ whole_packs blocks = omega arith in
       let (packs, count, come, codewords) = packs_exist file (whole_packs blocks) in
-      let (bytes, framed, carries) = carrying_stream spread sheet lead_in audio packs is_sheet pressable.in_time.0.1 few count codewords in (
+      let (bytes, framed, carries) =
+      carrying_stream spread sheet lead_in audio packs is_sheet pressable.in_time.0.1 few count codewords in (
         bytes,
         packs,
         record {
           whole = pressable.in_time.0.0;
-          of_file = λ n lt. (come (file_begin + n) (omega (arith, count, room, pressable.in_time.2, lt))).of_file n refl lt;
+          of_file = λ n lt. (come (file_begin + n)
+              (omega (arith, count, room, pressable.in_time.2, lt))).of_file n refl lt;
           others = λ n lt out. (come n (omega (arith, count, lt))).idle out;
           framing = framed;
           carries = carries;
@@ -39,12 +41,14 @@ module _ (sheet : CueSheet) (file : List ℕ) (lead_in audio : ℕ) where
         },
       )
 
-  module _ (bytes : List ℕ) (packs : List (List ℕ)) (pressed : IsPressed (press_of sheet file lead_in audio) bytes packs) where
+  module _ (bytes : List ℕ) (packs : List (List ℕ))
+      (pressed : IsPressed (press_of sheet file lead_in audio) bytes packs) where
     come : (n : ℕ) → n < length packs → IsPackAfter file_begin file n (get_or packs n [])
     come n lt = record {
       of_file = λ k at in_file.
           let here : file_begin + k ≡ n = sym at in
-          subst (λ (i : ℕ). IsMadeGood (file_pack file k) (get_or packs i [])) here (pressed.of_file k in_file);
+          subst (λ (i : ℕ). IsMadeGood (file_pack file k) (get_or packs i [])) here
+          (pressed.of_file k in_file);
       idle = λ out. pressed.others n (omega (arith, pressed.carries.count, lt)) out;
     }
 
@@ -57,22 +61,40 @@ module _ (sheet : CueSheet) (file : List ℕ) (lead_in audio : ℕ) where
           let begun : file_begin ≤ length packs = omega (arith, pressed.carries.count) in
           let past : length packs ≤ file_begin + last = omega (arith, begun) in
           let within : last < length file / 24 = omega (arith, more, begun) in
-          let size : length (get_or packs (file_begin + last) []) ≡ 24 = (pressed.of_file last within).codeword.is_word.size in
-          let none : length (get_or packs (file_begin + last) []) ≡ 0 = ap length (get_or_past packs (file_begin + last) [] past) in
+          let size : length (get_or packs (file_begin + last) []) ≡ 24 =
+          (pressed.of_file last within).codeword.is_word.size in
+          let none : length (get_or packs (file_begin + last) []) ≡ 0 =
+          ap length (get_or_past packs (file_begin + last) [] past) in
           absurd (omega (arith, none, size))
     ]
 
-    idle_past : (n : ℕ) (pack : List ℕ) → whole_packs (program_blocks sheet audio) ≤ n → IsPackAfter file_begin file n pack → pack ≡ idle_pack
+    idle_past : (n : ℕ) (pack : List ℕ) → whole_packs (program_blocks sheet audio) ≤ n
+        → IsPackAfter file_begin file n pack
+        → pack ≡ idle_pack
     idle_past n pack past comes = comes.idle (inr (omega (arith, past, fits, pressed.carries.count)))
 
     pub part_is_prefix : SpreadCarries → (n : ℕ) (given : List (List ℕ)) (held : Change Bytes)
-        → PutsStreamPart (framing_of (layout_of sheet audio) (text_packs sheet) lead_in) (IsPackAfter file_begin file) held n given → AppendsPrefix held.before held.after bytes
+        → PutsStreamPart (framing_of (layout_of sheet audio) (text_packs sheet) lead_in)
+        (IsPackAfter file_begin file) held n given
+        → AppendsPrefix held.before held.after bytes
     part_is_prefix spread n given held part =
-        prefix_of_stream spread (IsPackAfter file_begin file) (one_pack file) (layout_of sheet audio) (text_packs sheet) lead_in n bytes packs given held.before held.after pressed.framing pressed.carries come idle_past part
+        prefix_of_stream spread (IsPackAfter file_begin file) (one_pack file) (layout_of sheet audio)
+        (text_packs sheet) lead_in n bytes packs given held.before held.after pressed.framing pressed.carries
+        come idle_past part
 
-  pub same_pressed_packs : (bytes others : List ℕ) (packs more : List (List ℕ)) → IsPressed (press_of sheet file lead_in audio) bytes packs → IsPressed (press_of sheet file lead_in audio) others more → packs ≡ more
-  same_pressed_packs bytes others packs more one other = same_packs file packs more (one.carries.count ∙ sym other.carries.count) (come bytes packs one) (come others more other)
+  pub same_pressed_packs : (bytes others : List ℕ) (packs more : List (List ℕ))
+      → IsPressed (press_of sheet file lead_in audio) bytes packs
+      → IsPressed (press_of sheet file lead_in audio) others more
+      → packs ≡ more
+  same_pressed_packs bytes others packs more one other =
+      same_packs file packs more (one.carries.count ∙ sym other.carries.count) (come bytes packs one)
+      (come others more other)
 
-  pub same_pressed_bytes : (bytes others : List ℕ) (packs more : List (List ℕ)) → IsPressed (press_of sheet file lead_in audio) bytes packs → IsPressed (press_of sheet file lead_in audio) others more → bytes ≡ others
+  pub same_pressed_bytes : (bytes others : List ℕ) (packs more : List (List ℕ))
+      → IsPressed (press_of sheet file lead_in audio) bytes packs
+      → IsPressed (press_of sheet file lead_in audio) others more
+      → bytes ≡ others
   same_pressed_bytes bytes others packs more one other =
-      same_bytes (layout_of sheet audio) (text_packs sheet) lead_in bytes others packs more (same_pressed_packs bytes others packs more one other) one.framing other.framing one.carries other.carries
+      same_bytes (layout_of sheet audio) (text_packs sheet) lead_in bytes others packs more
+      (same_pressed_packs bytes others packs more one other) one.framing other.framing one.carries
+      other.carries

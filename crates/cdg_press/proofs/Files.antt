@@ -8,7 +8,8 @@ use Rattle.cdg_press.specs.Pressed.{file_pack, file_packs, IsPackAfter}
 use Rattle.stream_writer.specs.Given.{ComesLater}
 
 -- the first pack of a file, and the others
-packs_are : (file : List ℕ) → 24 ≤ length file → file_packs file ≡ symbols_of (take 24 file) ∷ file_packs (drop 24 file)
+packs_are : (file : List ℕ) → 24 ≤ length file
+    → file_packs file ≡ symbols_of (take 24 file) ∷ file_packs (drop 24 file)
 packs_are file long =
     let count : length file / 24 ≡ suc (length (drop 24 file) / 24) = omega (arith, length-drop 24 file) in
     ap (λ n. map symbols_of (parts n 24 file)) count
@@ -19,7 +20,8 @@ next_packs file n long =
     ap (λ k. file_pack file k) next ∙ ap (λ (xs : List (List ℕ)). get_or xs (suc n) []) (packs_are file long)
 
 -- after the first pack of the file the others come
-later_of_file : (file rest : List ℕ) → 24 ≤ length file → rest ≡ drop 24 file → ComesLater (IsPackAfter 0 file) 1 (IsPackAfter 0 rest)
+later_of_file : (file rest : List ℕ) → 24 ≤ length file → rest ≡ drop 24 file
+    → ComesLater (IsPackAfter 0 file) 1 (IsPackAfter 0 rest)
 later_of_file file rest long same n pack comes =
     let size : length rest ≡ length file - 24 = ap length same ∙ length-drop 24 file in
     record {
@@ -28,13 +30,16 @@ later_of_file file rest long same n pack comes =
           let inside : n < length rest / 24 = omega (arith, at, lt, size, long) in
           let place : n + 1 ≡ k = omega (arith, at) in
           subst (λ i. IsMadeGood (file_pack file i) pack) place
-          (subst (λ (s : List ℕ). IsMadeGood s pack) (ap (λ (r : List ℕ). file_pack r n) same ∙ sym (next_packs file n long)) (comes.of_file n here inside));
+          (subst (λ (s : List ℕ). IsMadeGood s pack)
+          (ap (λ (r : List ℕ). file_pack r n) same ∙ sym (next_packs file n long))
+          (comes.of_file n here inside));
       idle = λ out. comes.idle (elim out [
         | inl before ↦ absurd (omega (arith, before))
         | inr past ↦ inr (omega (arith, past, size, long))
       ]);
     }
 
-pub file_later : (wait : ℕ) (file rest : List ℕ) → wait ≤ 0 → 24 ≤ length file → rest ≡ drop 24 file → ComesLater (IsPackAfter wait file) 1 (IsPackAfter wait rest)
+pub file_later : (wait : ℕ) (file rest : List ℕ) → wait ≤ 0 → 24 ≤ length file → rest ≡ drop 24 file
+    → ComesLater (IsPackAfter wait file) 1 (IsPackAfter wait rest)
 file_later zero file rest none long same = later_of_file file rest long same
 file_later (suc wait) file rest none long same = absurd (omega (arith, none))

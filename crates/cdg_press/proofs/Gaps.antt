@@ -7,7 +7,8 @@ use Rattle.cdg_press.specs.Refusals.{gaps_of, HasNoGap, IsFirstGap}
 abbrev NoGapTo : CueSheet → ℕ → Type 0
 NoGapTo sheet n = (k : ℕ) → k < n → gaps_of (track_of sheet k) ≡ 0
 
-search_gap : (sheet : CueSheet) (n : ℕ) → n ≤ length sheet.tracks → NoGapTo sheet n ⊎ ((number : ℕ) × IsFirstGap sheet number)
+search_gap : (sheet : CueSheet) (n : ℕ) → n ≤ length sheet.tracks
+    → NoGapTo sheet n ⊎ ((number : ℕ) × IsFirstGap sheet number)
 search_gap sheet zero fits = inl (λ k lt. absurd (omega (arith, lt)))
 search_gap sheet (suc n) fits = elim (search_gap sheet n (omega (arith, fits))) [
   | inr found ↦ inr found
@@ -27,7 +28,8 @@ search_gap sheet (suc n) fits = elim (search_gap sheet n (omega (arith, fits))) 
 pub first_gap : (sheet : CueSheet) → HasNoGap sheet ⊎ ((number : ℕ) × IsFirstGap sheet number)
 first_gap sheet = search_gap sheet (length sheet.tracks) (omega arith)
 
-pub one_first_gap : (sheet : CueSheet) (number other : ℕ) → IsFirstGap sheet number → IsFirstGap sheet other → number ≡ other
+pub one_first_gap : (sheet : CueSheet) (number other : ℕ) → IsFirstGap sheet number → IsFirstGap sheet other
+    → number ≡ other
 one_first_gap sheet number other is is' = elim (cases_lt is.0 is'.0) [
   | inl less ↦ absurd (omega (arith, is.2, is'.4 is.0 less))
   | inr from ↦ elim (cases_lt is'.0 is.0) [

@@ -12,7 +12,12 @@ use Rattle.cdg_press.proofs.Gaps.{first_gap}
 module _ (sheet : CueSheet) (file : List ℕ) (lead_in audio : ℕ) where
   -- pressed, or refused for a reason
   abbrev Answer : Type 0
-  Answer = IsPressable sheet file lead_in audio ⊎ ((stop : PressStop) × (stop ≢ NoMemory) × (stop ≢ WriteFault) × IsPressStop sheet file lead_in audio stop)
+  Answer =
+      IsPressable sheet file lead_in audio
+      ⊎ ((stop : PressStop)
+      × (stop ≢ NoMemory)
+      × (stop ≢ WriteFault)
+      × IsPressStop sheet file lead_in audio stop)
 
   of_time : RunsInTime sheet file audio → Answer
   of_time runs = elim (cases_lt 0 lead_in) [
@@ -20,7 +25,8 @@ module _ (sheet : CueSheet) (file : List ℕ) (lead_in audio : ℕ) where
     | inl some ↦ elim (cases_lt 256 (length (text_packs sheet))) [
       | inl many ↦ inr (TextTooLong (length (text_packs sheet)), λ e. cc, λ e. cc, (runs, (some, many, refl)))
       | inr few ↦ elim (cases_lt lead_in (lead_in_need sheet)) [
-        | inl short ↦ inr (LeadInShort (lead_in_need sheet), λ e. cc, λ e. cc, (runs, (some, few, short, refl)))
+        | inl short ↦
+            inr (LeadInShort (lead_in_need sheet), λ e. cc, λ e. cc, (runs, (some, few, short, refl)))
         | inr enough ↦ inl (record { in_time = runs; room = λ there. (few, enough) })
       ]
     ]
@@ -30,7 +36,8 @@ module _ (sheet : CueSheet) (file : List ℕ) (lead_in audio : ℕ) where
   of_disc disc = elim (first_gap sheet) [
     | inr found ↦ inr (Gap found.0, λ e. cc, λ e. cc, (disc, found.1))
     | inl none ↦ elim (cases_lt (4 * audio) (length file / 24)) [
-      | inl many ↦ inr (CdgTooLong (length file / 24) (4 * audio), λ e. cc, λ e. cc, (disc, none, refl, refl, many))
+      | inl many ↦
+          inr (CdgTooLong (length file / 24) (4 * audio), λ e. cc, λ e. cc, (disc, none, refl, refl, many))
       | inr fits ↦ of_time (disc, none, fits)
     ]
   ]
@@ -39,7 +46,8 @@ module _ (sheet : CueSheet) (file : List ℕ) (lead_in audio : ℕ) where
   of_whole whole = elim (cases_lt audio (audio_need sheet)) [
     | inl short ↦ inr (LengthShort (audio_need sheet), λ e. cc, λ e. cc, (whole, refl, short))
     | inr enough ↦ elim (cases_lt 449999 (program_blocks sheet audio)) [
-      | inl long ↦ inr (DiscTooLong (program_blocks sheet audio), λ e. cc, λ e. cc, (whole, enough, refl, long))
+      | inl long ↦
+          inr (DiscTooLong (program_blocks sheet audio), λ e. cc, λ e. cc, (whole, enough, refl, long))
       | inr fits ↦ of_disc (whole, (enough, fits))
     ]
   ]

@@ -51,14 +51,18 @@ module _ (sheet : CueSheet) (file : List ℕ) (lead_in audio : ℕ) where
     | inr from ↦ (let last : 4 ≡ i = omega (arith, lt, from) in subst Passes last runs.2)
   ]
 
-  text_passes : RunsInTime sheet file audio → (0 < lead_in → length (text_packs sheet) ≤ 256) → (i : ℕ) → i < 6 → Passes i
+  text_passes : RunsInTime sheet file audio → (0 < lead_in → length (text_packs sheet) ≤ 256) → (i : ℕ)
+      → i < 6
+      → Passes i
   text_passes runs few i lt = elim (cases_lt i 5) [
     | inl less ↦ time_passes runs i less
     | inr from ↦ (let last : 5 ≡ i = omega (arith, lt, from) in subst Passes last few)
   ]
 
   -- where a reason comes, the stages before it are good,
-  earlier : (stop : PressStop) → IsPressStop sheet file lead_in audio stop → stop ≢ NoMemory → (i : ℕ) → i < stage stop → Passes i
+  earlier : (stop : PressStop) → IsPressStop sheet file lead_in audio stop → stop ≢ NoMemory → (i : ℕ)
+      → i < stage stop
+      → Passes i
   earlier (PackTorn pack) h told i lt = absurd (omega (arith, lt))
   earlier (LengthShort need) h told zero lt = h.0
   earlier (LengthShort need) h told (suc i) lt = absurd (omega (arith, lt))
@@ -76,7 +80,8 @@ module _ (sheet : CueSheet) (file : List ℕ) (lead_in audio : ℕ) where
   earlier NoMemory h told i lt = absurd (told refl)
 
   -- and its own is not
-  fails : (stop : PressStop) → IsPressStop sheet file lead_in audio stop → stop ≢ NoMemory → ¬ Passes (stage stop)
+  fails : (stop : PressStop) → IsPressStop sheet file lead_in audio stop → stop ≢ NoMemory
+      → ¬ Passes (stage stop)
   fails (PackTorn pack) h told = λ good. h.0 good
   fails (LengthShort need) h told = λ good. omega (arith, h.2, good)
   fails (DiscTooLong blocks) h told = λ good. omega (arith, h.2, h.3, good)
@@ -88,7 +93,9 @@ module _ (sheet : CueSheet) (file : List ℕ) (lead_in audio : ℕ) where
   fails NoMemory h told = absurd (told refl)
 
   -- at one stage comes one reason
-  same : (stop other : PressStop) → stage stop ≡ stage other → IsPressStop sheet file lead_in audio stop → IsPressStop sheet file lead_in audio other → stop ≡ other
+  same : (stop other : PressStop) → stage stop ≡ stage other → IsPressStop sheet file lead_in audio stop
+      → IsPressStop sheet file lead_in audio other
+      → stop ≡ other
   same (PackTorn pack) (PackTorn n) e h h' = ap PackTorn (h.1 ∙ sym h'.1)
   same (PackTorn pack) other e h h' = absurd (omega (arith, e))
   same (LengthShort need) (LengthShort n) e h h' = ap LengthShort (h.1 ∙ sym h'.1)
@@ -97,7 +104,8 @@ module _ (sheet : CueSheet) (file : List ℕ) (lead_in audio : ℕ) where
   same (DiscTooLong blocks) other e h h' = absurd (omega (arith, e))
   same (Gap track) (Gap n) e h h' = ap Gap (one_first_gap sheet track n h.1 h'.1)
   same (Gap track) other e h h' = absurd (omega (arith, e))
-  same (CdgTooLong packs room) (CdgTooLong n m) e h h' = ap (λ p. CdgTooLong p room) (h.2 ∙ sym h'.2) ∙ ap (CdgTooLong n) (h.3 ∙ sym h'.3)
+  same (CdgTooLong packs room) (CdgTooLong n m) e h h' =
+      ap (λ p. CdgTooLong p room) (h.2 ∙ sym h'.2) ∙ ap (CdgTooLong n) (h.3 ∙ sym h'.3)
   same (CdgTooLong packs room) other e h h' = absurd (omega (arith, e))
   same (TextTooLong packs) (TextTooLong n) e h h' = ap TextTooLong (h.1.2 ∙ sym h'.1.2)
   same (TextTooLong packs) other e h h' = absurd (omega (arith, e))
@@ -108,7 +116,9 @@ module _ (sheet : CueSheet) (file : List ℕ) (lead_in audio : ℕ) where
   same NoMemory NoMemory e h h' = refl
   same NoMemory other e h h' = absurd (omega (arith, e))
 
-  pub one_reason : (stop other : PressStop) → IsPressStop sheet file lead_in audio stop → IsPressStop sheet file lead_in audio other → stop ≢ NoMemory → other ≢ NoMemory → stop ≡ other
+  pub one_reason : (stop other : PressStop) → IsPressStop sheet file lead_in audio stop
+      → IsPressStop sheet file lead_in audio other → stop ≢ NoMemory → other ≢ NoMemory
+      → stop ≡ other
   one_reason stop other h h' told told' = elim (cases_lt (stage stop) (stage other)) [
     | inl less ↦ absurd (fails stop h told (earlier other h' told' (stage stop) less))
     | inr from ↦ elim (cases_lt (stage other) (stage stop)) [
@@ -118,7 +128,9 @@ module _ (sheet : CueSheet) (file : List ℕ) (lead_in audio : ℕ) where
   ]
 
   -- what is pressed is not refused
-  pub not_refused : (stop : PressStop) → IsPressable sheet file lead_in audio → IsPressStop sheet file lead_in audio stop → (stop ≡ NoMemory) ⊎ (stop ≡ WriteFault)
+  pub not_refused : (stop : PressStop) → IsPressable sheet file lead_in audio
+      → IsPressStop sheet file lead_in audio stop
+      → (stop ≡ NoMemory) ⊎ (stop ≡ WriteFault)
   not_refused NoMemory is h = inl refl
   not_refused WriteFault is h = inr refl
   not_refused stop is h = inr (one_reason stop WriteFault h is (λ e. cc) (λ e. cc))

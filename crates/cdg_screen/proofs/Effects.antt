@@ -22,7 +22,8 @@ border_by (Border colour) old = colour
 border_by _ old = old
 
 abbrev pub colour_by : Effect → (ℕ → ℕ) → ℕ → ℕ
-colour_by (Colours first colours) old k = if nat_le first k && nat_lt k (first + 8) then slice_index colours (k - first) else old k
+colour_by (Colours first colours) old k =
+    if nat_le first k && nat_lt k (first + 8) then slice_index colours (k - first) else old k
 colour_by _ old k = old k
 
 abbrev pub level_by : Effect → (ℕ → ℕ) → ℕ → ℕ
@@ -33,7 +34,8 @@ abbrev pub offsets_by : Effect → ℕ × ℕ → ℕ × ℕ
 offsets_by (Scroll scroll) old = (scroll.h, scroll.v)
 offsets_by _ old = old
 
-pub memory_is : (instr : Instr) (old : ℕ → ℕ → ℕ) (x y : ℕ) → memory_by (effect_of instr) old x y ≡ memory_from old (instr ∷ []) x y
+pub memory_is : (instr : Instr) (old : ℕ → ℕ → ℕ) (x y : ℕ)
+    → memory_by (effect_of instr) old x y ≡ memory_from old (instr ∷ []) x y
 memory_is Idle old x y = refl
 memory_is Foreign old x y = refl
 memory_is Unknown old x y = refl
@@ -61,7 +63,8 @@ border_is (Transparency levels) old = refl
 border_is (ColoursLow colours) old = refl
 border_is (ColoursHigh colours) old = refl
 
-pub colour_is : (instr : Instr) (old : ℕ → ℕ) (k : ℕ) → k < 16 → colour_by (effect_of instr) old k ≡ colour_from old (instr ∷ []) k
+pub colour_is : (instr : Instr) (old : ℕ → ℕ) (k : ℕ) → k < 16
+    → colour_by (effect_of instr) old k ≡ colour_from old (instr ∷ []) k
 colour_is Idle old k lt = refl
 colour_is Foreign old k lt = refl
 colour_is Unknown old k lt = refl
@@ -75,7 +78,8 @@ colour_is (Transparency levels) old k lt = refl
 colour_is (ColoursLow colours) old k lt = grind (arith, nat_tests)
 colour_is (ColoursHigh colours) old k lt = grind (arith, nat_tests)
 
-pub level_is : (instr : Instr) (old : ℕ → ℕ) (k : ℕ) → level_by (effect_of instr) old k ≡ level_from old (instr ∷ []) k
+pub level_is : (instr : Instr) (old : ℕ → ℕ) (k : ℕ)
+    → level_by (effect_of instr) old k ≡ level_from old (instr ∷ []) k
 level_is Idle old k = refl
 level_is Foreign old k = refl
 level_is Unknown old k = refl
@@ -89,7 +93,8 @@ level_is (Transparency levels) old k = refl
 level_is (ColoursLow colours) old k = refl
 level_is (ColoursHigh colours) old k = refl
 
-pub offsets_are : (instr : Instr) (old : ℕ × ℕ) → offsets_by (effect_of instr) old ≡ offsets_from old (instr ∷ [])
+pub offsets_are : (instr : Instr) (old : ℕ × ℕ)
+    → offsets_by (effect_of instr) old ≡ offsets_from old (instr ∷ [])
 offsets_are Idle old = refl
 offsets_are Foreign old = refl
 offsets_are Unknown old = refl
@@ -104,7 +109,9 @@ offsets_are (ColoursLow colours) old = refl
 offsets_are (ColoursHigh colours) old = refl
 
 -- the place of a table from which on colours are set
-pub first_most : (effect : Effect) (first : ℕ) (colours : List ℕ) → IsEffectInRange effect → effect ≡ Colours first colours → first ≤ 8
+pub first_most : (effect : Effect) (first : ℕ) (colours : List ℕ) → IsEffectInRange effect
+    → effect ≡ Colours first colours
+    → first ≤ 8
 first_most effect first colours range is =
     let place = (subst IsEffectInRange is range).0 in
     omega (arith, place)

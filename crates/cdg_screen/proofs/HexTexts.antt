@@ -22,7 +22,8 @@ lower_at : (k n : ℕ) → k ≡ n → k < 16 → slice_index lower_digits k ≡
 lower_at k n same lt = lower_is k lt ∙ ap digit_char same
 
 -- two bytes, the high one first
-pub two_bytes : (high low colour : ℕ) → high ≡ colour / 256 → low ≡ colour % 256 → colour < 65536 → encode_lower (high ∷ low ∷ []) ≡ hex_digits 4 colour
+pub two_bytes : (high low colour : ℕ) → high ≡ colour / 256 → low ≡ colour % 256 → colour < 65536
+    → encode_lower (high ∷ low ∷ []) ≡ hex_digits 4 colour
 unfolding encode_with
 two_bytes high low colour h l small =
     ap₂ (λ x xs. x ∷ xs) (lower_at (high / 16) (colour / 4096 % 16) (omega arith) (omega arith))

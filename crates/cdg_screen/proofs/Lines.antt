@@ -48,12 +48,24 @@ byte f zero small lt = omega (arith, small 0, small 1, small 2, small 3, small 4
 byte f (suc zero) small lt = omega (arith, small 0, small 1, small 2, small 3, small 4, small 5)
 byte f (suc (suc zero)) small lt = omega (arith, small 0, small 1, small 2, small 3, small 4, small 5)
 byte f (suc (suc (suc zero))) small lt = omega (arith, small 0, small 1, small 2, small 3, small 4, small 5)
-byte f (suc (suc (suc (suc zero)))) small lt = omega (arith, small 0, small 1, small 2, small 3, small 4, small 5)
-byte f (suc (suc (suc (suc (suc zero))))) small lt = omega (arith, small 0, small 1, small 2, small 3, small 4, small 5)
+byte f (suc (suc (suc (suc zero)))) small lt =
+    omega (arith, small 0, small 1, small 2, small 3, small 4, small 5)
+byte f (suc (suc (suc (suc (suc zero))))) small lt =
+    omega (arith, small 0, small 1, small 2, small 3, small 4, small 5)
 byte f (suc (suc (suc (suc (suc (suc i)))))) small lt = absurd (omega (arith, lt))
 
-bytes_are : (n : ℕ) (f : ℕ → ℕ) → n < 2 ^ 41 → ((i : ℕ) → i < 6 → n / 256 ^ i % 256 ≡ f i) → n ≡ side_by_side f
-bytes_are n f lt is = omega (arith, lt, is 0 (omega arith), is 1 (omega arith), is 2 (omega arith), is 3 (omega arith), is 4 (omega arith), is 5 (omega arith))
+bytes_are : (n : ℕ) (f : ℕ → ℕ) → n < 2 ^ 41 → ((i : ℕ) → i < 6 → n / 256 ^ i % 256 ≡ f i)
+    → n ≡ side_by_side f
+bytes_are n f lt is = omega (
+  arith,
+  lt,
+  is 0 (omega arith),
+  is 1 (omega arith),
+  is 2 (omega arith),
+  is 3 (omega arith),
+  is 4 (omega arith),
+  is 5 (omega arith),
+)
 
 times : (f : ℕ → ℕ) (d : ℕ) → side_by_side f * d ≡ side_by_side (λ i. f i * d)
 times f d = omega arith
@@ -61,7 +73,8 @@ times f d = omega arith
 xor_byte : (a b k : ℕ) → bit_xor a b / 2 ^ k % 2 ^ 8 ≡ bit_xor (a / 2 ^ k % 2 ^ 8) (b / 2 ^ k % 2 ^ 8)
 xor_byte a b k = ap (λ n. n % 2 ^ 8) (xor_shr a b k) ∙ xor_mod (a / 2 ^ k) (b / 2 ^ k) 8
 
-byte_of-xor : (a b i : ℕ) → i < 6 → bit_xor a b / 256 ^ i % 256 ≡ bit_xor (a / 256 ^ i % 256) (b / 256 ^ i % 256)
+byte_of-xor : (a b i : ℕ) → i < 6
+    → bit_xor a b / 256 ^ i % 256 ≡ bit_xor (a / 256 ^ i % 256) (b / 256 ^ i % 256)
 byte_of-xor a b zero lt = xor_byte a b 0
 byte_of-xor a b (suc zero) lt = xor_byte a b 8
 byte_of-xor a b (suc (suc zero)) lt = xor_byte a b 16
@@ -109,7 +122,8 @@ every_bit (suc (suc (suc (suc (suc zero))))) lt = refl
 every_bit (suc (suc (suc (suc (suc (suc i)))))) lt = absurd (omega (arith, lt))
 
 worth-le : (line i : ℕ) → worth line i ≤ 1
-worth-le line i = elim (cases_Bool (has_bit (5 - i) line)) [ inl set ↦ rw set (omega arith) | inr clear ↦ rw clear (omega arith) ]
+worth-le line i = elim (cases_Bool (has_bit (5 - i) line))
+    [ inl set ↦ rw set (omega arith) | inr clear ↦ rw clear (omega arith) ]
 
 worth_times : (b : Bool) (d : ℕ) → (if b then 1 else 0) * d ≡ (if b then d else 0)
 worth_times true d = omega arith
@@ -120,37 +134,57 @@ at_most true d = omega arith
 at_most false d = omega arith
 
 -- what the table has
-pub line_is : (line found : ℕ) → found ≡ get_or LINES (line % 64) 0 → ((i : ℕ) → i < 6 → found / 256 ^ i % 256 ≡ worth line i) × (found < 2 ^ 41)
+pub line_is : (line found : ℕ) → found ≡ get_or LINES (line % 64) 0
+    → ((i : ℕ) → i < 6 → found / 256 ^ i % 256 ≡ worth line i) × (found < 2 ^ 41)
 unfolding IsRight
 line_is line found is =
     let l : ℕ = line % 64 in
-    let sum : found ≡ side_by_side (worth l) = is ∙ eqb-true _ _ (all_below-at IsRight 64 l test_lines (omega arith)) in (
-      (λ i lt. ap (λ n. n / 256 ^ i % 256) sum ∙ byte (worth l) i (λ j. omega (arith, worth-le l j)) lt ∙ ap (λ (b : Bool). if b then 1 else 0) (same_bit line i lt)),
+    let sum : found ≡ side_by_side (worth l) =
+    is ∙ eqb-true _ _ (all_below-at IsRight 64 l test_lines (omega arith)) in (
+      (λ i lt. ap (λ n. n / 256 ^ i % 256) sum
+          ∙ byte (worth l) i (λ j. omega (arith, worth-le l j)) lt
+          ∙ ap (λ (b : Bool). if b then 1 else 0) (same_bit line i lt)),
       omega (arith, sum, worth-le l 0, worth-le l 1, worth-le l 2, worth-le l 3, worth-le l 4, worth-le l 5),
     )
 
 -- ---- The pixels.
 
-product_byte : (n line d i : ℕ) → n < 2 ^ 41 → ((i : ℕ) → i < 6 → n / 256 ^ i % 256 ≡ worth line i) → d < 16 → i < 6 → n * d / 256 ^ i % 256 ≡ (if has_bit (5 - i) line then d else 0)
+product_byte : (n line d i : ℕ) → n < 2 ^ 41 → ((i : ℕ) → i < 6 → n / 256 ^ i % 256 ≡ worth line i) → d < 16
+    → i < 6
+    → n * d / 256 ^ i % 256 ≡ (if has_bit (5 - i) line then d else 0)
 product_byte n line d i n_lt bits d_lt lt =
-    let small : (j : ℕ) → worth line j * d < 256 = λ j. omega (arith, worth_times (has_bit (5 - j) line) d, at_most (has_bit (5 - j) line) d) in
-    ap (λ m. m * d / 256 ^ i % 256) (bytes_are n (worth line) n_lt bits) ∙ ap (λ m. m / 256 ^ i % 256) (times (worth line) d)
+    let small : (j : ℕ) → worth line j * d < 256 =
+    λ j. omega (arith, worth_times (has_bit (5 - j) line) d, at_most (has_bit (5 - j) line) d) in
+    ap (λ m. m * d / 256 ^ i % 256) (bytes_are n (worth line) n_lt bits)
+    ∙ ap (λ m. m / 256 ^ i % 256) (times (worth line) d)
     ∙ byte (λ j. worth line j * d) i small lt ∙ worth_times (has_bit (5 - i) line) d
 
-turned : (colour0 colour1 : ℕ) (b : Bool) → bit_xor colour0 (if b then bit_xor colour0 colour1 else 0) ≡ (if b then colour1 else colour0)
-turned colour0 colour1 true = sym (xor_assoc colour0 colour0 colour1) ∙ ap (λ n. bit_xor n colour1) (xor_self colour0) ∙ xor_zero_l colour1
+turned : (colour0 colour1 : ℕ) (b : Bool)
+    → bit_xor colour0 (if b then bit_xor colour0 colour1 else 0) ≡ (if b then colour1 else colour0)
+turned colour0 colour1 true =
+    sym (xor_assoc colour0 colour0 colour1)
+    ∙ ap (λ n. bit_xor n colour1) (xor_self colour0)
+    ∙ xor_zero_l colour1
 turned colour0 colour1 false = xor_zero_r colour0
 
-pub pixels_are : (every set colour0 colour1 line : ℕ) (pixels : List ℕ) → every < 2 ^ 41 → ((i : ℕ) → i < 6 → every / 256 ^ i % 256 ≡ worth 63 i)
+pub pixels_are : (every set colour0 colour1 line : ℕ) (pixels : List ℕ) → every < 2 ^ 41
+    → ((i : ℕ) → i < 6 → every / 256 ^ i % 256 ≡ worth 63 i)
     → set < 2 ^ 41 → ((i : ℕ) → i < 6 → set / 256 ^ i % 256 ≡ worth line i) → colour0 < 16 → colour1 < 16
-    → pixels ≡ bytes_low_first 0 8 (bit_xor (every * colour0) (set * bit_xor colour0 colour1)) → (i : ℕ) → i < 6 → slice_index pixels i ≡ line_colour colour0 colour1 line i
+    → pixels ≡ bytes_low_first 0 8 (bit_xor (every * colour0) (set * bit_xor colour0 colour1)) → (i : ℕ)
+    → i < 6
+    → slice_index pixels i ≡ line_colour colour0 colour1 line i
 pixels_are every set colour0 colour1 line pixels every_lt every_bits set_lt set_bits small0 small1 is i lt =
-    let clear : every * colour0 / 256 ^ i % 256 ≡ colour0 = product_byte every 63 colour0 i every_lt every_bits small0 lt ∙ ap (λ (b : Bool). if b then colour0 else 0) (every_bit i lt) in
+    let clear : every * colour0 / 256 ^ i % 256 ≡ colour0 =
+    product_byte every 63 colour0 i every_lt every_bits small0 lt
+    ∙ ap (λ (b : Bool). if b then colour0 else 0) (every_bit i lt) in
     ap (λ (l : List ℕ). slice_index l i) is
     ∙ byte_at (bit_xor (every * colour0) (set * bit_xor colour0 colour1)) i lt
     ∙ byte_of-xor (every * colour0) (set * bit_xor colour0 colour1) i lt
-    ∙ ap₂ bit_xor clear (product_byte set line (bit_xor colour0 colour1) i set_lt set_bits (xor_lt 4 colour0 colour1 small0 small1) lt)
+    ∙ ap₂ bit_xor clear (product_byte set line (bit_xor colour0 colour1) i set_lt set_bits
+    (xor_lt 4 colour0 colour1 small0 small1) lt)
     ∙ turned colour0 colour1 (has_bit (5 - i) line)
 
-pub colour-lt : (colour0 colour1 line i : ℕ) → colour0 < 16 → colour1 < 16 → line_colour colour0 colour1 line i < 16
-colour-lt colour0 colour1 line i small0 small1 = elim (cases_Bool (has_bit (5 - i) line)) [ inl set ↦ rw set small1 | inr clear ↦ rw clear small0 ]
+pub colour-lt : (colour0 colour1 line i : ℕ) → colour0 < 16 → colour1 < 16
+    → line_colour colour0 colour1 line i < 16
+colour-lt colour0 colour1 line i small0 small1 =
+    elim (cases_Bool (has_bit (5 - i) line)) [ inl set ↦ rw set small1 | inr clear ↦ rw clear small0 ]

@@ -11,10 +11,12 @@ abbrev pub AreSamePixels : (ℕ → ℕ → ℕ) → (ℕ → ℕ → ℕ) → T
 AreSamePixels one other = (x y : ℕ) → x < 300 → y < 216 → one x y ≡ other x y
 
 -- pixel (x, y) of rows
-pub pixel_of_rows : (pixel : ℕ → ℕ → ℕ) (x y : ℕ) → x < 300 → y < 216 → pixel_at (rows_of pixel) x y ≡ pixel x y
+pub pixel_of_rows : (pixel : ℕ → ℕ → ℕ) (x y : ℕ) → x < 300 → y < 216
+    → pixel_at (rows_of pixel) x y ≡ pixel x y
 unfolding pixel_at rows_of
 pixel_of_rows pixel x y x_lt y_lt =
-    ap (λ (row : List ℕ). get_or row x 0) (get_or-map-range_with_len (λ y. map (λ x. pixel x y) (below 300)) 0 216 y y [] y_lt (omega arith))
+    ap (λ (row : List ℕ). get_or row x 0)
+    (get_or-map-range_with_len (λ y. map (λ x. pixel x y) (below 300)) 0 216 y y [] y_lt (omega arith))
     ∙ get_or-map-range_with_len (λ x. pixel x y) 0 300 x x 0 x_lt (omega arith)
 
 -- number k of sixteen
@@ -29,19 +31,24 @@ length-rows_of pixel = length-map-range_with_len (λ y. map (λ x. pixel x y) (b
 pub length-row : (pixel : ℕ → ℕ → ℕ) (y : ℕ) → y < 216 → length (get_or (rows_of pixel) y []) ≡ 300
 unfolding rows_of
 length-row pixel y lt =
-    ap length (get_or-map-range_with_len (λ y. map (λ x. pixel x y) (below 300)) 0 216 y y [] lt (omega arith)) ∙ length-map-range_with_len (λ x. pixel x y) 0 300
+    ap length
+    (get_or-map-range_with_len (λ y. map (λ x. pixel x y) (below 300)) 0 216 y y [] lt (omega arith))
+    ∙ length-map-range_with_len (λ x. pixel x y) 0 300
 
 pub length-sixteen : (number : ℕ → ℕ) → length (sixteen number) ≡ 16
 unfolding sixteen
 length-sixteen number = length-map-range_with_len number 0 16
 
 -- rows are those of a function of the place
-pub rows_are : (rows : List (List ℕ)) (pixel : ℕ → ℕ → ℕ) → length rows ≡ 216 → ((y : ℕ) → y < 216 → length (get_or rows y []) ≡ 300) → AreSamePixels (pixel_at rows) pixel → rows ≡ rows_of pixel
+pub rows_are : (rows : List (List ℕ)) (pixel : ℕ → ℕ → ℕ) → length rows ≡ 216
+    → ((y : ℕ) → y < 216 → length (get_or rows y []) ≡ 300) → AreSamePixels (pixel_at rows) pixel
+    → rows ≡ rows_of pixel
 unfolding pixel_at
 rows_are rows pixel count widths same =
     ext_get_or [] rows (rows_of pixel) (count ∙ sym (length-rows_of pixel)) (λ y lt.
     let y_lt : y < 216 = omega (arith, count) in
-    ext_get_or 0 (get_or rows y []) (get_or (rows_of pixel) y []) (widths y y_lt ∙ sym (length-row pixel y y_lt)) (λ x lt.
+    ext_get_or 0 (get_or rows y []) (get_or (rows_of pixel) y [])
+    (widths y y_lt ∙ sym (length-row pixel y y_lt)) (λ x lt.
     let x_lt : x < 300 = omega (arith, widths y y_lt) in
     same x y x_lt y_lt ∙ sym (pixel_of_rows pixel x y x_lt y_lt)))
 
@@ -49,20 +56,26 @@ rows_are rows pixel count widths same =
 pub row_is : (row : List ℕ) (pixel : ℕ → ℕ → ℕ) (y : ℕ) → y < 216 → length row ≡ 300
     → ((x : ℕ) → x < 300 → get_or row x 0 ≡ pixel x y) → row ≡ get_or (rows_of pixel) y []
 unfolding pixel_at
-row_is row pixel y lt width same = ext_get_or 0 row (get_or (rows_of pixel) y []) (width ∙ sym (length-row pixel y lt)) (λ x x_in.
+row_is row pixel y lt width same =
+    ext_get_or 0 row (get_or (rows_of pixel) y []) (width ∙ sym (length-row pixel y lt)) (λ x x_in.
     let x_lt : x < 300 = omega (arith, width, x_in) in
     same x x_lt ∙ sym (pixel_of_rows pixel x y x_lt lt))
 
 -- and of sixteen numbers
-pub sixteen_are : (numbers : List ℕ) (number : ℕ → ℕ) → length numbers ≡ 16 → ((k : ℕ) → k < 16 → slice_index numbers k ≡ number k) → numbers ≡ sixteen number
+pub sixteen_are : (numbers : List ℕ) (number : ℕ → ℕ) → length numbers ≡ 16
+    → ((k : ℕ) → k < 16 → slice_index numbers k ≡ number k)
+    → numbers ≡ sixteen number
 unfolding sixteen
 sixteen_are numbers number count same = fill_by_all number numbers 16 0 count same
 
 pub rows_same : (one other : ℕ → ℕ → ℕ) → AreSamePixels one other → rows_of one ≡ rows_of other
-rows_same one other same = rows_are (rows_of one) other (length-rows_of one) (length-row one) (λ x y x_lt y_lt. pixel_of_rows one x y x_lt y_lt ∙ same x y x_lt y_lt)
+rows_same one other same =
+    rows_are (rows_of one) other (length-rows_of one) (length-row one)
+    (λ x y x_lt y_lt. pixel_of_rows one x y x_lt y_lt ∙ same x y x_lt y_lt)
 
 pub sixteen_same : (one other : ℕ → ℕ) → ((k : ℕ) → k < 16 → one k ≡ other k) → sixteen one ≡ sixteen other
-sixteen_same one other same = sixteen_are (sixteen one) other (length-sixteen one) (λ k lt. number_of_sixteen one k lt ∙ same k lt)
+sixteen_same one other same =
+    sixteen_are (sixteen one) other (length-sixteen one) (λ k lt. number_of_sixteen one k lt ∙ same k lt)
 
 -- the same stands in both, place by place
 pub record IsAlike (one other : Standing) : Type 0 where
@@ -74,17 +87,33 @@ pub record IsAlike (one other : Standing) : Type 0 where
   pub v : one.v ≡ other.v
 
 -- then it is one value
-pub one_value : (one other : Standing) → IsWholeStanding one → IsWholeStanding other → IsAlike one other → one ≡ other
+pub one_value : (one other : Standing) → IsWholeStanding one → IsWholeStanding other → IsAlike one other
+    → one ≡ other
 one_value one other whole other_whole alike =
     let memory = rows_same _ _ alike.memory in
     let colours = sixteen_same _ _ alike.colours in
     let levels = sixteen_same _ _ alike.levels in
     let same : standing_after one [] ≡ standing_after other [] =
-    λ i. record { memory = memory i; border = alike.border i; colours = colours i; levels = levels i; h = alike.h i; v = alike.v i } in
+    λ i. record {
+      memory = memory i;
+      border = alike.border i;
+      colours = colours i;
+      levels = levels i;
+      h = alike.h i;
+      v = alike.v i;
+    } in
     sym whole ∙ same ∙ other_whole
 
 -- what is built of all rows and numbers is whole
-pub built_is_whole : (pixel : ℕ → ℕ → ℕ) (border : ℕ) (colour level : ℕ → ℕ) (h v : ℕ) → IsWholeStanding (record { memory = rows_of pixel; border = border; colours = sixteen colour; levels = sixteen level; h = h; v = v })
+pub built_is_whole : (pixel : ℕ → ℕ → ℕ) (border : ℕ) (colour level : ℕ → ℕ) (h v : ℕ)
+    → IsWholeStanding (record {
+      memory = rows_of pixel;
+      border = border;
+      colours = sixteen colour;
+      levels = sixteen level;
+      h = h;
+      v = v;
+    })
 built_is_whole pixel border colour level h v =
     let memory = rows_same (pixel_at (rows_of pixel)) pixel (pixel_of_rows pixel) in
     let colours = sixteen_same (slice_index (sixteen colour)) colour (number_of_sixteen colour) in

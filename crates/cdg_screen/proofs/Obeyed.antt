@@ -23,57 +23,113 @@ pub record Kept : Type 0 where
 
 -- what is seen of it
 abbrev pub seen : Kept → Standing
-seen kept = record { memory = rows_of (at kept.memory); border = kept.border; colours = kept.colours; levels = kept.levels; h = kept.h; v = kept.v }
+seen kept = record {
+  memory = rows_of (at kept.memory);
+  border = kept.border;
+  colours = kept.colours;
+  levels = kept.levels;
+  h = kept.h;
+  v = kept.v;
+}
 
-pub seen_is_whole : (kept : Kept) → length kept.colours ≡ 16 → length kept.levels ≡ 16 → IsWholeStanding (seen kept)
+pub seen_is_whole : (kept : Kept) → length kept.colours ≡ 16 → length kept.levels ≡ 16
+    → IsWholeStanding (seen kept)
 seen_is_whole kept sixteen_colours sixteen_levels =
-    let memory = rows_same (pixel_at (rows_of (at kept.memory))) (at kept.memory) (pixel_of_rows (at kept.memory)) in
+    let memory =
+    rows_same (pixel_at (rows_of (at kept.memory))) (at kept.memory) (pixel_of_rows (at kept.memory)) in
     let colours = sym (sixteen_are kept.colours (slice_index kept.colours) sixteen_colours (λ k _. refl)) in
     let levels = sym (sixteen_are kept.levels (slice_index kept.levels) sixteen_levels (λ k _. refl)) in
-    λ i. record { memory = memory i; border = kept.border; colours = colours i; levels = levels i; h = kept.h; v = kept.v }
+    λ i. record {
+      memory = memory i;
+      border = kept.border;
+      colours = colours i;
+      levels = levels i;
+      h = kept.h;
+      v = kept.v;
+    }
 
 -- an instruction makes one of the other, place by place
 pub record Obeys (instr : Instr) (old new : Kept) : Type 0 where
   pub memory : Becomes new.memory (memory_from (at old.memory) (instr ∷ []))
   pub border : new.border ≡ border_from old.border (instr ∷ [])
-  pub colours : (k : ℕ) → k < 16 → slice_index new.colours k ≡ colour_from (slice_index old.colours) (instr ∷ []) k
-  pub levels : (k : ℕ) → k < 16 → slice_index new.levels k ≡ level_from (slice_index old.levels) (instr ∷ []) k
+  pub colours : (k : ℕ) → k < 16
+      → slice_index new.colours k ≡ colour_from (slice_index old.colours) (instr ∷ []) k
+  pub levels : (k : ℕ) → k < 16
+      → slice_index new.levels k ≡ level_from (slice_index old.levels) (instr ∷ []) k
   pub h : new.h ≡ (offsets_from (old.h, old.v) (instr ∷ [])).0
   pub v : new.v ≡ (offsets_from (old.h, old.v) (instr ∷ [])).1
 
-seen_before : (memory : MemoryRows) (instrs : List Instr) → AreSamePixels (memory_from (at memory) instrs) (memory_from (pixel_at (rows_of (at memory))) instrs)
-seen_before memory instrs = same_memory (at memory) (pixel_at (rows_of (at memory))) (λ x y x_lt y_lt. sym (pixel_of_rows (at memory) x y x_lt y_lt)) instrs
+seen_before : (memory : MemoryRows) (instrs : List Instr)
+    → AreSamePixels (memory_from (at memory) instrs) (memory_from (pixel_at (rows_of (at memory))) instrs)
+seen_before memory instrs =
+    same_memory (at memory) (pixel_at (rows_of (at memory)))
+    (λ x y x_lt y_lt. sym (pixel_of_rows (at memory) x y x_lt y_lt)) instrs
 
-pub obeyed : (instr : Instr) (old new : Kept) → length new.colours ≡ 16 → length new.levels ≡ 16 → Obeys instr old new → seen new ≡ standing_after (seen old) (instr ∷ [])
+pub obeyed : (instr : Instr) (old new : Kept) → length new.colours ≡ 16 → length new.levels ≡ 16
+    → Obeys instr old new
+    → seen new ≡ standing_after (seen old) (instr ∷ [])
 obeyed instr old new sixteen_colours sixteen_levels obeys =
-    let memory = rows_same _ _ (λ x y x_lt y_lt. obeys.memory x y x_lt y_lt ∙ seen_before old.memory (instr ∷ []) x y x_lt y_lt) in
-    let colours = sixteen_are new.colours (colour_from (slice_index old.colours) (instr ∷ [])) sixteen_colours obeys.colours in
-    let levels = sixteen_are new.levels (level_from (slice_index old.levels) (instr ∷ [])) sixteen_levels obeys.levels in
-    λ i. record { memory = memory i; border = obeys.border i; colours = colours i; levels = levels i; h = obeys.h i; v = obeys.v i }
+    let memory =
+    rows_same _ _
+    (λ x y x_lt y_lt. obeys.memory x y x_lt y_lt ∙ seen_before old.memory (instr ∷ []) x y x_lt y_lt) in
+    let colours =
+    sixteen_are new.colours (colour_from (slice_index old.colours) (instr ∷ [])) sixteen_colours
+    obeys.colours in
+    let levels =
+    sixteen_are new.levels (level_from (slice_index old.levels) (instr ∷ [])) sixteen_levels obeys.levels in
+    λ i. record {
+      memory = memory i;
+      border = obeys.border i;
+      colours = colours i;
+      levels = levels i;
+      h = obeys.h i;
+      v = obeys.v i;
+    }
 
-pub obeys_back : (instr : Instr) (old new : Kept) → seen new ≡ standing_after (seen old) (instr ∷ []) → Obeys instr old new
+pub obeys_back : (instr : Instr) (old new : Kept) → seen new ≡ standing_after (seen old) (instr ∷ [])
+    → Obeys instr old new
 obeys_back instr old new same = record {
   memory = λ x y x_lt y_lt.
-      sym (pixel_of_rows (at new.memory) x y x_lt y_lt) ∙ ap (λ (now : Standing). pixel_at now.memory x y) same
-      ∙ pixel_of_rows (memory_from (pixel_at (rows_of (at old.memory))) (instr ∷ [])) x y x_lt y_lt ∙ sym (seen_before old.memory (instr ∷ []) x y x_lt y_lt);
+      sym (pixel_of_rows (at new.memory) x y x_lt y_lt)
+      ∙ ap (λ (now : Standing). pixel_at now.memory x y) same
+      ∙ pixel_of_rows (memory_from (pixel_at (rows_of (at old.memory))) (instr ∷ [])) x y x_lt y_lt
+      ∙ sym (seen_before old.memory (instr ∷ []) x y x_lt y_lt);
   border = ap (λ (now : Standing). now.border) same;
-  colours = λ k lt. ap (λ (now : Standing). slice_index now.colours k) same ∙ number_of_sixteen (colour_from (slice_index old.colours) (instr ∷ [])) k lt;
-  levels = λ k lt. ap (λ (now : Standing). slice_index now.levels k) same ∙ number_of_sixteen (level_from (slice_index old.levels) (instr ∷ [])) k lt;
+  colours =
+      λ k lt. ap (λ (now : Standing). slice_index now.colours k) same
+      ∙ number_of_sixteen (colour_from (slice_index old.colours) (instr ∷ [])) k lt;
+  levels =
+      λ k lt. ap (λ (now : Standing). slice_index now.levels k) same
+      ∙ number_of_sixteen (level_from (slice_index old.levels) (instr ∷ [])) k lt;
   h = ap (λ (now : Standing). now.h) same;
   v = ap (λ (now : Standing). now.v) same;
 }
 
 -- all stands as it is after an instruction
-pub stays : (A : Type 0) (instr : Instr) (now : Kept) → length now.colours ≡ 16 → length now.levels ≡ 16 → A ↔ Obeys instr now now → A ↔ standing_after (seen now) (instr ∷ []) ≡ seen now
-stays A instr now sixteen_colours sixteen_levels as_is =
-    ((λ holds. sym (obeyed instr now now sixteen_colours sixteen_levels (as_is.0 holds))), λ same. as_is.1 (obeys_back instr now now (sym same)))
+pub stays : (A : Type 0) (instr : Instr) (now : Kept) → length now.colours ≡ 16 → length now.levels ≡ 16
+    → A ↔ Obeys instr now now
+    → A ↔ standing_after (seen now) (instr ∷ []) ≡ seen now
+stays A instr now sixteen_colours sixteen_levels as_is = (
+  (λ holds. sym (obeyed instr now now sixteen_colours sixteen_levels (as_is.0 holds))),
+  λ same. as_is.1 (obeys_back instr now now (sym same)),
+)
 
 -- all is zero
-pub all_zero : (memory : MemoryRows) → Becomes memory (λ x y. 0) → seen (record { memory = memory; border = 0; colours = replicate 16 0; levels = replicate 16 0; h = 0; v = 0 }) ≡ blank
+pub all_zero : (memory : MemoryRows) → Becomes memory (λ x y. 0)
+    → seen
+    (record { memory = memory; border = 0; colours = replicate 16 0; levels = replicate 16 0; h = 0; v = 0 })
+    ≡ blank
 unfolding sixteen
 all_zero memory pixels =
     let memory = rows_same _ _ pixels in
-    λ i. record { memory = memory i; border = 0; colours = replicate 16 0; levels = replicate 16 0; h = 0; v = 0 }
+    λ i. record {
+      memory = memory i;
+      border = 0;
+      colours = replicate 16 0;
+      levels = replicate 16 0;
+      h = 0;
+      v = 0;
+    }
 
 -- an effect makes one of the other, place by place
 pub record ObeysBy (effect : Effect) (old new : Kept) : Type 0 where
@@ -109,7 +165,8 @@ pub obeyed_by : (now : Standing) (given : Instr) (effect : Effect) (old new : Ke
     → seen old ≡ now → effect_of given ≡ effect → length new.colours ≡ 16 → length new.levels ≡ 16
     → ObeysBy effect old new → seen new ≡ standing_after now (given ∷ [])
 obeyed_by now given effect old new view is sixteen_colours sixteen_levels by =
-    rw (← view) (obeyed given old new sixteen_colours sixteen_levels (obeys_by given old new (subst (λ e. ObeysBy e old new) (sym is) by)))
+    rw (← view) (obeyed given old new sixteen_colours sixteen_levels
+    (obeys_by given old new (subst (λ e. ObeysBy e old new) (sym is) by)))
 
 pub stays_by : (A : Type 0) (now : Standing) (given : Instr) (effect : Effect) (kept : Kept)
     → seen kept ≡ now → effect_of given ≡ effect → length kept.colours ≡ 16 → length kept.levels ≡ 16
@@ -122,8 +179,11 @@ stays_by A now given effect kept view is sixteen_colours sixteen_levels as_is =
 
 -- eight colours from a place on that a table has already
 
-pub colours_kept : (first : ℕ) (given table : List ℕ) → ((k : ℕ) → k < 8 → slice_index given k ≡ slice_index table (first + k))
-    → (k : ℕ) → k < 16 → slice_index table k ≡ (if nat_le first k && nat_lt k (first + 8) then slice_index given (k - first) else slice_index table k)
+pub colours_kept : (first : ℕ) (given table : List ℕ)
+    → ((k : ℕ) → k < 8 → slice_index given k ≡ slice_index table (first + k))
+    → (k : ℕ) → k < 16
+    → slice_index table k
+    ≡ (if nat_le first k && nat_lt k (first + 8) then slice_index given (k - first) else slice_index table k)
 colours_kept first given table same k lt = elim (cases_lt k first) [
   | inl below ↦ grind (arith, nat_tests)
   | inr from ↦ elim (cases_lt k (first + 8)) [
@@ -137,7 +197,8 @@ colours_kept first given table same k lt = elim (cases_lt k first) [
 ]
 
 pub colours_back : (first : ℕ) (given table : List ℕ) → first ≤ 8
-    → ((k : ℕ) → k < 16 → slice_index table k ≡ (if nat_le first k && nat_lt k (first + 8) then slice_index given (k - first) else slice_index table k))
+    → ((k : ℕ) → k < 16 → slice_index table k
+    ≡ (if nat_le first k && nat_lt k (first + 8) then slice_index given (k - first) else slice_index table k))
     → (k : ℕ) → k < 8 → slice_index given k ≡ slice_index table (first + k)
 colours_back first given table most kept k lt =
     let e = kept (first + k) (omega (arith, most, lt)) in

@@ -38,7 +38,14 @@ same_standing a b t =
     let levels = (numbers_decide a.levels b.levels).0 levels_same in
     let h = (Decides-eqb a.h b.h).0 h_same in
     let v = (Decides-eqb a.v b.v).0 v_same in
-    λ i. record { memory = memory i; border = border i; colours = colours i; levels = levels i; h = h i; v = v i }
+    λ i. record {
+      memory = memory i;
+      border = border i;
+      colours = colours i;
+      levels = levels i;
+      h = h i;
+      v = v i;
+    }
 
 pub tells_same : (a b : Standing) → a ≡ b → is_same a b ≡ true
 unfolding is_same
@@ -52,22 +59,27 @@ tells_same a b same =
     ((Decides-eqb a.v b.v).1 (ap (λ (now : Standing). now.v) same))
 
 -- what is needless, by what stands
-pub needless_if : (now : Standing) (instr : Instr) → is_graphic instr ≡ true → standing_after now (instr ∷ []) ≡ now → is_needless now instr ≡ true
+pub needless_if : (now : Standing) (instr : Instr) → is_graphic instr ≡ true
+    → standing_after now (instr ∷ []) ≡ now
+    → is_needless now instr ≡ true
 unfolding is_needless
 needless_if now instr graphic same = true_both _ _ graphic (tells_same _ _ same)
 
-pub if_needless : (now : Standing) (instr : Instr) → is_needless now instr ≡ true → (is_graphic instr ≡ true) × (standing_after now (instr ∷ []) ≡ now)
+pub if_needless : (now : Standing) (instr : Instr) → is_needless now instr ≡ true
+    → (is_graphic instr ≡ true) × (standing_after now (instr ∷ []) ≡ now)
 unfolding is_needless
 if_needless now instr t = let both = both_true _ _ t in (both.0, same_standing _ _ both.1)
 
-pub needless_as_graphic : (now : Standing) (instr : Instr) → standing_after now (instr ∷ []) ≡ now → is_needless now instr ≡ is_graphic instr
+pub needless_as_graphic : (now : Standing) (instr : Instr) → standing_after now (instr ∷ []) ≡ now
+    → is_needless now instr ≡ is_graphic instr
 unfolding is_needless
 needless_as_graphic now instr same = elim (cases_Bool (is_graphic instr)) [
   | inl holds ↦ needless_if now instr holds same ∙ sym holds
   | inr fails ↦ rw fails refl
 ]
 
-pub not_needless : (now : Standing) (instr : Instr) → ¬ (standing_after now (instr ∷ []) ≡ now) → is_needless now instr ≡ false
+pub not_needless : (now : Standing) (instr : Instr) → ¬ (standing_after now (instr ∷ []) ≡ now)
+    → is_needless now instr ≡ false
 not_needless now instr differs = elim (cases_Bool (is_needless now instr)) [
   | inl holds ↦ absurd (differs (if_needless now instr holds).1)
   | inr fails ↦ fails

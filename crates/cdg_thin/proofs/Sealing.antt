@@ -45,7 +45,9 @@ two_more xs symbol symbol_lt h =
       low = product (alpha_power 1) f;
       high_below = sum_below h.low (product (alpha_power 6) f) h.low_below (product-lt (alpha_power 6) f);
       low_below = product-lt (alpha_power 1) f;
-      sums = λ j lt. ap (weighted_sum j) (append_assoc xs (symbol ∷ []) _) ∙ first_continues h.high h.low symbol f refl f_lt j lt xs (h.sums j lt);
+      sums =
+          λ j lt. ap (weighted_sum j) (append_assoc xs (symbol ∷ []) _)
+          ∙ first_continues h.high h.low symbol f refl f_lt j lt xs (h.sums j lt);
     }
 
 four_more : (xs : List ℕ) (symbol : ℕ) → symbol < 64 → HasFour xs → HasFour (xs ++ symbol ∷ [])
@@ -57,40 +59,74 @@ four_more xs symbol symbol_lt h =
       second = bit_xor h.third (product (alpha_power 39) f);
       third = bit_xor h.fourth (product (alpha_power 21) f);
       fourth = product (alpha_power 6) f;
-      first_below = sum_below h.second (product (alpha_power 18) f) h.second_below (product-lt (alpha_power 18) f);
-      second_below = sum_below h.third (product (alpha_power 39) f) h.third_below (product-lt (alpha_power 39) f);
-      third_below = sum_below h.fourth (product (alpha_power 21) f) h.fourth_below (product-lt (alpha_power 21) f);
+      first_below =
+          sum_below h.second (product (alpha_power 18) f) h.second_below (product-lt (alpha_power 18) f);
+      second_below =
+          sum_below h.third (product (alpha_power 39) f) h.third_below (product-lt (alpha_power 39) f);
+      third_below =
+          sum_below h.fourth (product (alpha_power 21) f) h.fourth_below (product-lt (alpha_power 21) f);
       fourth_below = product-lt (alpha_power 6) f;
-      sums = λ j lt. ap (weighted_sum j) (append_assoc xs (symbol ∷ []) _) ∙ whole_continues h.first h.second h.third h.fourth symbol f refl f_lt j lt xs (h.sums j lt);
+      sums =
+          λ j lt. ap (weighted_sum j) (append_assoc xs (symbol ∷ []) _)
+          ∙ whole_continues h.first h.second h.third h.fourth symbol f refl f_lt j lt xs (h.sums j lt);
     }
 
 four_after : (xs rest : List ℕ) → All Symbol rest → HasFour xs → HasFour (xs ++ rest)
 four_after xs [] small h = subst HasFour (sym (append-nil xs)) h
 four_after xs (x ∷ rest) small h =
     subst HasFour (append_assoc xs (x ∷ []) rest)
-    (four_after (xs ++ x ∷ []) rest (λ k d lt. small (suc k) d (omega arith)) (four_more xs x (small 0 0 (omega arith)) h))
+    (four_after (xs ++ x ∷ []) rest (λ k d lt. small (suc k) d (omega arith))
+    (four_more xs x (small 0 0 (omega arith)) h))
 
 four_small : (a b c d : ℕ) → a < 64 → b < 64 → c < 64 → d < 64 → All Symbol (a ∷ b ∷ c ∷ d ∷ [])
 four_small a b c d a_lt b_lt c_lt d_lt =
-    All-cons Symbol a (b ∷ c ∷ d ∷ []) a_lt (All-cons Symbol b (c ∷ d ∷ []) b_lt (All-cons Symbol c (d ∷ []) c_lt (All-cons Symbol d [] d_lt (All-nil Symbol))))
+    All-cons Symbol a (b ∷ c ∷ d ∷ []) a_lt (All-cons Symbol b (c ∷ d ∷ []) b_lt
+    (All-cons Symbol c (d ∷ []) c_lt (All-cons Symbol d [] d_lt (All-nil Symbol))))
 
-message_is : (a b high low : ℕ) (body tail : List ℕ) → length body ≡ 16 → message_of ((a ∷ b ∷ high ∷ low ∷ []) ++ body ++ tail) ≡ a ∷ b ∷ body
-message_is a b high low body tail size = ap (λ (xs : List ℕ). a ∷ b ∷ xs) (ap (λ k. take k (body ++ tail)) (sym size) ∙ take-append_seam body tail)
+message_is : (a b high low : ℕ) (body tail : List ℕ) → length body ≡ 16
+    → message_of ((a ∷ b ∷ high ∷ low ∷ []) ++ body ++ tail) ≡ a ∷ b ∷ body
+message_is a b high low body tail size =
+    ap (λ (xs : List ℕ). a ∷ b ∷ xs) (ap (λ k. take k (body ++ tail)) (sym size) ∙ take-append_seam body tail)
 
 -- the codeword with these symbols at 0 and 1 and at 4 to 19
-pub sealed_word : (a b : ℕ) (body : List ℕ) → a < 64 → b < 64 → length body ≡ 16 → All Symbol body → (word : List ℕ) × IsCodeword word × (message_of word ≡ a ∷ b ∷ body)
+pub sealed_word : (a b : ℕ) (body : List ℕ) → a < 64 → b < 64 → length body ≡ 16 → All Symbol body
+    → (word : List ℕ) × IsCodeword word × (message_of word ≡ a ∷ b ∷ body)
 sealed_word a b body a_lt b_lt size small =
-    let two : HasTwo (a ∷ b ∷ []) = two_more (a ∷ []) b b_lt (two_more [] a a_lt record { high = 0; low = 0; high_below = omega arith; low_below = omega arith; sums = λ j lt. zero_sums j 2 }) in
+    let two : HasTwo (a ∷ b ∷ []) =
+    two_more (a ∷ []) b b_lt (two_more [] a a_lt record {
+      high = 0;
+      low = 0;
+      high_below = omega arith;
+      low_below = omega arith;
+      sums = λ j lt. zero_sums j 2;
+    }) in
     let front : List ℕ = a ∷ b ∷ two.high ∷ two.low ∷ [] in
-    let front_small : All Symbol front = four_small a b two.high two.low a_lt b_lt two.high_below two.low_below in
+    let front_small : All Symbol front =
+    four_small a b two.high two.low a_lt b_lt two.high_below two.low_below in
     let most : List ℕ = front ++ body in
     let most_small : All Symbol most = All-append Symbol front body front_small small in
-    let four : HasFour most = four_after [] most most_small record { first = 0; second = 0; third = 0; fourth = 0; first_below = omega arith; second_below = omega arith; third_below = omega arith; fourth_below = omega arith; sums = λ j lt. zero_sums j 4 } in
+    let four : HasFour most =
+    four_after [] most most_small record {
+      first = 0;
+      second = 0;
+      third = 0;
+      fourth = 0;
+      first_below = omega arith;
+      second_below = omega arith;
+      third_below = omega arith;
+      fourth_below = omega arith;
+      sums = λ j lt. zero_sums j 4;
+    } in
     let tail : List ℕ = four.first ∷ four.second ∷ four.third ∷ four.fourth ∷ [] in
-    let tail_small : All Symbol tail = four_small four.first four.second four.third four.fourth four.first_below four.second_below four.third_below four.fourth_below in (
+    let tail_small : All Symbol tail =
+    four_small four.first four.second four.third four.fourth four.first_below four.second_below
+    four.third_below four.fourth_below in (
       most ++ tail,
       record {
-        is_word = record { size = omega (arith, length-append most tail, length-append front body); symbols = All-append Symbol most tail most_small tail_small };
+        is_word = record {
+          size = omega (arith, length-append most tail, length-append front body);
+          symbols = All-append Symbol most tail most_small tail_small;
+        };
         whole = four.sums;
         first_four = two.sums;
       },

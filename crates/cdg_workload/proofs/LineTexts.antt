@@ -230,7 +230,8 @@ grey_accepted before k lt =
     ∙ ap (λ ws. decimal k ∷ ws) (last_word (grey_value k) graphic (lit< tt))) in
     record {
       printable = printable_more (codes "colour") (decimal k ++ 32 ∷ grey_value k) refl
-          (printable_more (decimal k) (grey_value k) (decimal_graphic k k_lt) (weaker (grey_value k) graphic));
+          (printable_more (decimal k) (grey_value k) (decimal_graphic k k_lt)
+          (weaker (grey_value k) graphic));
       heard = heard_line 99 _ refl refl;
       read = ap (checked_words before) words
           ∙ ap₂ (λ (n v : Option ℕ). checked_line before (colour_of n v)) (number_of_decimal k k_lt) value

@@ -24,14 +24,18 @@ pub record IsCut (bytes rest : List ℕ) (strings : List (List ℕ)) (n : ℕ) :
 
 pub cut_none : (bytes : List ℕ) → length bytes ≤ 67108864 → IsCut bytes bytes [] 0
 unfolding resolved
-cut_none bytes size = record { done = refl; left = refl; count = refl; each = λ k d less. absurd (omega arith); size = size }
+cut_none bytes size =
+    record { done = refl; left = refl; count = refl; each = λ k d less. absurd (omega arith); size = size }
 
 -- a place that is not within the list is its length
 pub place_from : (p : ℕ → Bool) (xs : List ℕ) (r : Option ℕ) (result : ℕ)
-    → r ≡ cond (nat_lt (position_or_len p xs) (length xs)) (Some (position_or_len p xs)) None → result ≡ unwrap_or r (length xs)
+    → r ≡ cond (nat_lt (position_or_len p xs) (length xs)) (Some (position_or_len p xs)) None
+    → result ≡ unwrap_or r (length xs)
     → result ≡ position_or_len p xs
 place_from p xs r result is gives =
-    gives ∙ ap (λ (o : Option ℕ). unwrap_or o (length xs)) is ∙ or_len (position_or_len p xs) (length xs) (prefix_len-le-length (λ x. not (p x)) xs)
+    gives
+    ∙ ap (λ (o : Option ℕ). unwrap_or o (length xs)) is
+    ∙ or_len (position_or_len p xs) (length xs) (prefix_len-le-length (λ x. not (p x)) xs)
   where
     or_len : (n size : ℕ) → n ≤ size → unwrap_or (cond (nat_lt n size) (Some n) None) size ≡ n
     or_len n size le = grind arith
@@ -40,10 +44,12 @@ position_below : (p : ℕ → Bool) (xs : List ℕ) → 1 ≤ count_by p xs → 
 position_below p [] some = absurd (omega arith)
 position_below p (x ∷ xs) some = elim (cases_Bool (p x)) [
   | inl passes ↦
-      let here : position_or_len p (x ∷ xs) ≡ 0 = ap (λ (b : Bool). if not b then 1 + position_or_len p xs else 0) passes in
+      let here : position_or_len p (x ∷ xs) ≡ 0 =
+      ap (λ (b : Bool). if not b then 1 + position_or_len p xs else 0) passes in
       omega arith
   | inr fails ↦
-      let here : position_or_len p (x ∷ xs) ≡ 1 + position_or_len p xs = ap (λ (b : Bool). if not b then 1 + position_or_len p xs else 0) fails in
+      let here : position_or_len p (x ∷ xs) ≡ 1 + position_or_len p xs =
+      ap (λ (b : Bool). if not b then 1 + position_or_len p xs else 0) fails in
       let f : ℕ → ℕ = λ y. if p y then 1 else 0 in
       let parts : count_by p (x ∷ xs) ≡ sum_by f (x ∷ []) + count_by p xs = sum_by-append f (x ∷ []) xs in
       let one : sum_by f (x ∷ []) ≡ 0 = ap (λ (b : Bool). 0 + (if b then 1 else 0)) fails in
@@ -51,7 +57,9 @@ position_below p (x ∷ xs) some = elim (cases_Bool (p x)) [
       omega arith
 ]
 
-pub cut_here : (bytes rest : List ℕ) (strings : List (List ℕ)) (n : ℕ) → IsCut bytes rest strings n → n < ends_in bytes → position_or_len is_zero rest < length rest
+pub cut_here : (bytes rest : List ℕ) (strings : List (List ℕ)) (n : ℕ) → IsCut bytes rest strings n
+    → n < ends_in bytes
+    → position_or_len is_zero rest < length rest
 cut_here bytes rest strings n cut some =
     let one = ap length cut.left ∙ length-drop n (pieces bytes) in
     let all = length-slice_split is_zero bytes in
@@ -61,9 +69,11 @@ cut_here bytes rest strings n cut some =
 empty_string : IsString []
 empty_string = record { size = omega arith; nonzero = λ k d less. absurd (omega arith) }
 
-pub meant-IsString : (before : List (List ℕ)) (s : List ℕ) → All IsString before → IsString s → IsString (meant before s)
+pub meant-IsString : (before : List (List ℕ)) (s : List ℕ) → All IsString before → IsString s
+    → IsString (meant before s)
 meant-IsString before s each this =
-    cond_both (length s == 1 && get_or s 0 0 == 9 && not (length before == 0)) (get_or before (length before - 1) []) s IsString
+    cond_both (length s == 1 && get_or s 0 0 == 9 && not (length before == 0))
+    (get_or before (length before - 1) []) s IsString
     (λ _. elim (cases_lt (length before - 1) (length before)) [
       | inl inside ↦ All-get_or IsString before (length before - 1) [] inside each
       | inr past ↦ subst IsString (sym (get_or_past before (length before - 1) [] past)) empty_string
@@ -78,20 +88,27 @@ first_string rest size =
       size = omega arith;
       nonzero = All-from_get_or (λ byte. byte ≢ 0) (take at rest) 0 (λ i inside.
           let below : i < at = omega arith in
-          λ e. eqb-false (get_or rest i 0) 0 (fails_before_first is_zero rest i 0 below) (sym (get_or-take at rest i 0 below) ∙ e));
+          λ e. eqb-false (get_or rest i 0) 0 (fails_before_first is_zero rest i 0 below)
+          (sym (get_or-take at rest i 0 below) ∙ e));
     }
 
-pub cut_more : (bytes rest after : List ℕ) (strings more : List (List ℕ)) (string : List ℕ) (n : ℕ) → IsCut bytes rest strings n → n < ends_in bytes
-    → string ≡ meant strings (before_first is_zero rest) → more ≡ strings ++ string ∷ [] → after ≡ after_first is_zero rest → IsCut bytes after more (n + 1)
+pub cut_more : (bytes rest after : List ℕ) (strings more : List (List ℕ)) (string : List ℕ) (n : ℕ)
+    → IsCut bytes rest strings n → n < ends_in bytes
+    → string ≡ meant strings (before_first is_zero rest) → more ≡ strings ++ string ∷ []
+    → after ≡ after_first is_zero rest
+    → IsCut bytes after more (n + 1)
 unfolding resolved
 cut_more bytes rest after strings more string n cut some is grown next =
     let here = cut_here bytes rest strings n cut some in
     let all = length-slice_split is_zero bytes in
     let inside : n < length (pieces bytes) = omega arith in
-    let same : before_first is_zero rest ∷ pieces (after_first is_zero rest) ≡ get_or (pieces bytes) n [] ∷ drop (n + 1) (pieces bytes)
+    let same : before_first is_zero rest ∷ pieces (after_first is_zero rest)
+    ≡ get_or (pieces bytes) n [] ∷ drop (n + 1) (pieces bytes)
     = sym (slice_split_first is_zero rest 0 here) ∙ cut.left ∙ drop_more (pieces bytes) n [] inside in
-    let head : before_first is_zero rest ≡ get_or (pieces bytes) n [] = ap (λ (xs : List (List ℕ)). get_or xs 0 []) same in
-    let tail : pieces (after_first is_zero rest) ≡ drop (n + 1) (pieces bytes) = ap (λ (xs : List (List ℕ)). drop 1 xs) same in
+    let head : before_first is_zero rest ≡ get_or (pieces bytes) n [] =
+    ap (λ (xs : List (List ℕ)). get_or xs 0 []) same in
+    let tail : pieces (after_first is_zero rest) ≡ drop (n + 1) (pieces bytes) =
+    ap (λ (xs : List (List ℕ)). drop 1 xs) same in
     let step : List (List ℕ) → List ℕ → List (List ℕ) = λ before s. before ++ meant before s ∷ [] in
     let size = cut.size in
     let counted = cut.count in
@@ -104,7 +121,9 @@ cut_more bytes rest after strings more string n cut some is grown next =
           ∙ sym (fold_more step [] (pieces bytes) n [] inside);
       left = ap pieces next ∙ tail;
       count = len ∙ pushed strings string n counted;
-      each = subst (All IsString) (sym grown) (All-push IsString strings string cut.each (subst IsString (sym is) (meant-IsString strings (before_first is_zero rest) cut.each (first_string rest size))));
+      each =
+          subst (All IsString) (sym grown) (All-push IsString strings string cut.each (subst IsString (sym is)
+          (meant-IsString strings (before_first is_zero rest) cut.each (first_string rest size))));
       size = omega arith;
     }
   where
@@ -112,19 +131,31 @@ cut_more bytes rest after strings more string n cut some is grown next =
     pushed xs x n e = length_push xs x ∙ ap (λ (k : ℕ). k + 1) e
 
 -- where no kind is short, one with bytes has as many strings as are wanted
-pub enough_ends : (kept : List (Option (List ℕ))) (count : ℕ) (kind : TextKind) → is_short kept count kind ≡ false → (length (kind_bytes kept kind) ≡ 0 → ⊥)
+pub enough_ends : (kept : List (Option (List ℕ))) (count : ℕ) (kind : TextKind)
+    → is_short kept count kind ≡ false → (length (kind_bytes kept kind) ≡ 0 → ⊥)
     → count ≤ ends_in (kind_bytes kept kind)
 unfolding is_short
 enough_ends kept count kind long some =
     let packs = kind_packs kept kind in
-    let any : length packs == 0 ≡ false = ne_eqb (length packs) 0 (λ none. some (ap (λ (xs : List (List ℕ)). length (flat_map pack_text xs)) (nil_from_length packs none))) in
-    let test : (not false && nat_lt (ends_in (kind_bytes kept kind)) count) ≡ false = sym (ap (λ (b : Bool). not b && nat_lt (ends_in (kind_bytes kept kind)) count) any) ∙ long in
+    let any : length packs == 0 ≡ false =
+    ne_eqb (length packs) 0 (λ none.
+    some (ap (λ (xs : List (List ℕ)). length (flat_map pack_text xs)) (nil_from_length packs none))) in
+    let test : (not false && nat_lt (ends_in (kind_bytes kept kind)) count) ≡ false =
+    sym (ap (λ (b : Bool). not b && nat_lt (ends_in (kind_bytes kept kind)) count) any) ∙ long in
     ltb-false (ends_in (kind_bytes kept kind)) count test
 
-pub texts_none : (kept : List (Option (List ℕ))) (count : ℕ) (kind : TextKind) → length (kind_bytes kept kind) ≡ 0 → kind_texts kept count kind ≡ replicate count []
+pub texts_none : (kept : List (Option (List ℕ))) (count : ℕ) (kind : TextKind)
+    → length (kind_bytes kept kind) ≡ 0
+    → kind_texts kept count kind ≡ replicate count []
 unfolding kind_texts
-texts_none kept count kind none = cond-true (length (kind_bytes kept kind) == 0) (replicate count []) (resolved (strings_in count (kind_bytes kept kind))) (eq-eqb (length (kind_bytes kept kind)) 0 none)
+texts_none kept count kind none =
+    cond-true (length (kind_bytes kept kind) == 0) (replicate count [])
+    (resolved (strings_in count (kind_bytes kept kind))) (eq-eqb (length (kind_bytes kept kind)) 0 none)
 
-pub texts_some : (kept : List (Option (List ℕ))) (count : ℕ) (kind : TextKind) → (length (kind_bytes kept kind) ≡ 0 → ⊥) → kind_texts kept count kind ≡ resolved (strings_in count (kind_bytes kept kind))
+pub texts_some : (kept : List (Option (List ℕ))) (count : ℕ) (kind : TextKind)
+    → (length (kind_bytes kept kind) ≡ 0 → ⊥)
+    → kind_texts kept count kind ≡ resolved (strings_in count (kind_bytes kept kind))
 unfolding kind_texts
-texts_some kept count kind some = cond-false (length (kind_bytes kept kind) == 0) (replicate count []) (resolved (strings_in count (kind_bytes kept kind))) (ne_eqb (length (kind_bytes kept kind)) 0 some)
+texts_some kept count kind some =
+    cond-false (length (kind_bytes kept kind) == 0) (replicate count [])
+    (resolved (strings_in count (kind_bytes kept kind))) (ne_eqb (length (kind_bytes kept kind)) 0 some)

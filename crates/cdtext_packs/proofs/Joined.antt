@@ -15,7 +15,8 @@ of_first first s rest offset within =
     ∙ get_or-map-range_with_len f 0 (length s + 1) offset offset (0, 0) (omega arith) (omega arith)
 
 of_later : (first : ℕ) (s : List ℕ) (rest : List (ℕ × ℕ)) (n : ℕ)
-    → get_or (map (λ o. (first, o)) (below (length s + 1)) ++ rest) (length s + 1 + n) (0, 0) ≡ get_or rest n (0, 0)
+    → get_or (map (λ o. (first, o)) (below (length s + 1)) ++ rest) (length s + 1 + n) (0, 0)
+    ≡ get_or rest n (0, 0)
 of_later first s rest n =
     let f : ℕ → ℕ × ℕ = λ o. (first, o) in
     let size = length-map-range_with_len f 0 (length s + 1) in
@@ -23,7 +24,9 @@ of_later first s rest n =
     ∙ get_or-append-add (map f (below (length s + 1))) rest n (0, 0)
 
 -- the next string after these
-pub joined_more : (xs : List (List ℕ)) (i : ℕ) (bytes more : List ℕ) → i < length xs → bytes ≡ joined (take i xs) → more ≡ (bytes ++ get_or xs i []) ++ 0 ∷ [] → more ≡ joined (take (i + 1) xs)
+pub joined_more : (xs : List (List ℕ)) (i : ℕ) (bytes more : List ℕ) → i < length xs
+    → bytes ≡ joined (take i xs) → more ≡ (bytes ++ get_or xs i []) ++ 0 ∷ []
+    → more ≡ joined (take (i + 1) xs)
 joined_more xs i bytes more inside are grown =
     let string = get_or xs i [] in
     grown ∙ append_assoc bytes string (0 ∷ []) ∙ ap (λ (l : List ℕ). l ++ (string ++ 0 ∷ [])) are
@@ -31,7 +34,8 @@ joined_more xs i bytes more inside are grown =
     ∙ ap (λ (l : List ℕ). joined (take i xs) ++ l) (append-nil (string ++ 0 ∷ [])))
 
 -- the byte after so many bytes of string i
-pub holders-at : (first : ℕ) (xs : List (List ℕ)) (i offset : ℕ) → i < length xs → offset ≤ length (get_or xs i [])
+pub holders-at : (first : ℕ) (xs : List (List ℕ)) (i offset : ℕ) → i < length xs
+    → offset ≤ length (get_or xs i [])
     → get_or (holders first xs) (length (joined (take i xs)) + offset) (0, 0) ≡ (first + i, offset)
 holders-at first [] i offset inside within = absurd (omega arith)
 holders-at first (s ∷ rest) zero offset inside within =
@@ -41,7 +45,9 @@ holders-at first (s ∷ rest) zero offset inside within =
 holders-at first (s ∷ rest) (suc i) offset inside within =
     let before = length-append (s ++ 0 ∷ []) (joined (take i rest)) in
     let one = length-append s (0 ∷ []) in
-    let place : length (joined (take (suc i) (s ∷ rest))) + offset ≡ length s + 1 + (length (joined (take i rest)) + offset) = omega arith in
+    let place : length (joined (take (suc i) (s ∷ rest))) + offset
+    ≡ length s + 1 + (length (joined (take i rest)) + offset) =
+    omega arith in
     ap (λ (k : ℕ). get_or (holders first (s ∷ rest)) k (0, 0)) place
     ∙ of_later first s (holders (first + 1) rest) (length (joined (take i rest)) + offset)
     ∙ holders-at (first + 1) rest i offset (omega arith) within

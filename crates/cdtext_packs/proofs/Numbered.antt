@@ -13,11 +13,13 @@ use Rattle.cdtext_packs.specs.Texts.{Texts, kinds, strings_of, are_empty, has_no
 use Rattle.cdtext_packs.specs.Writing.{Content, joined, numbered, content_bytes, kind_contents, pack_count, text_content, type_of, holders, twelve, size_contents, contents, packs_of}
 use Rattle.cdtext_packs.specs.declared.kinds.TextKind.{TextKind}
 
-pub numbered-append : (first : ℕ) (xs ys : List Content) → numbered first (xs ++ ys) ≡ numbered first xs ++ numbered (first + length xs) ys
+pub numbered-append : (first : ℕ) (xs ys : List Content)
+    → numbered first (xs ++ ys) ≡ numbered first xs ++ numbered (first + length xs) ys
 numbered-append first [] ys = ap (λ (n : ℕ). numbered n ys) (omega arith)
 numbered-append first (x ∷ xs) ys =
     ap (λ (rest : List (List ℕ)). sealed (content_bytes first x) ∷ rest)
-    (numbered-append (first + 1) xs ys ∙ ap (λ (n : ℕ). numbered (first + 1) xs ++ numbered n ys) (omega arith))
+    (numbered-append (first + 1) xs ys
+    ∙ ap (λ (n : ℕ). numbered (first + 1) xs ++ numbered n ys) (omega arith))
 
 from_none : (xs ys : List Content) → numbered 0 (xs ++ ys) ≡ numbered 0 xs ++ numbered (length xs) ys
 from_none xs ys = numbered-append 0 xs ys ∙ ap (λ (n : ℕ). numbered 0 xs ++ numbered n ys) (omega arith)
@@ -25,24 +27,30 @@ from_none xs ys = numbered-append 0 xs ys ∙ ap (λ (n : ℕ). numbered 0 xs ++
 pub length-numbered : (first : ℕ) (xs : List Content) → length (numbered first xs) ≡ length xs
 length-numbered first xs = length-map (enumerate_from first xs) _ ∙ length-enumerate_from first xs
 
-pub length-kind_contents : (texts : Texts) (kind : TextKind) → length (kind_contents texts kind) ≡ pack_count (strings_of kind texts)
+pub length-kind_contents : (texts : Texts) (kind : TextKind)
+    → length (kind_contents texts kind) ≡ pack_count (strings_of kind texts)
 unfolding kind_contents
-length-kind_contents texts kind = length-map-range_with_len (text_content texts.first (type_of kind) (strings_of kind texts)) 0 (pack_count (strings_of kind texts))
+length-kind_contents texts kind =
+    length-map-range_with_len (text_content texts.first (type_of kind) (strings_of kind texts)) 0
+    (pack_count (strings_of kind texts))
 
 pub pack_count-empty : (strings : List (List ℕ)) → are_empty strings ≡ true → pack_count strings ≡ 0
 pack_count-empty strings e = ap (λ (b : Bool). if b then 0 else (length (joined strings) + 11) / 12) e
 
-pub pack_count-full : (strings : List (List ℕ)) → are_empty strings ≡ false → pack_count strings ≡ (length (joined strings) + 11) / 12
+pub pack_count-full : (strings : List (List ℕ)) → are_empty strings ≡ false
+    → pack_count strings ≡ (length (joined strings) + 11) / 12
 pack_count-full strings e = ap (λ (b : Bool). if b then 0 else (length (joined strings) + 11) / 12) e
 
 -- a pack of the strings begins inside their bytes
-pub pack_begins : (strings : List (List ℕ)) (k : ℕ) → k < pack_count strings → 12 * k < length (joined strings)
+pub pack_begins : (strings : List (List ℕ)) (k : ℕ) → k < pack_count strings
+    → 12 * k < length (joined strings)
 pack_begins strings k below = elim (cases_Bool (are_empty strings)) [
   | inl e ↦ let none = pack_count-empty strings e in absurd (omega arith)
   | inr e ↦ let some = pack_count-full strings e in omega arith
 ]
 
-pub length-pushed : (old : List (List ℕ)) (f : ℕ → Content) (first k : ℕ) → length (old ++ numbered first (map f (below k))) ≡ length old + k
+pub length-pushed : (old : List (List ℕ)) (f : ℕ → Content) (first k : ℕ)
+    → length (old ++ numbered first (map f (below k))) ≡ length old + k
 length-pushed old f first k =
     let one = length-append old (numbered first (map f (below k))) in
     let two = length-numbered first (map f (below k)) in
@@ -51,7 +59,8 @@ length-pushed old f first k =
 
 -- one more pack
 pub pushed_more : (old : List (List ℕ)) (f : ℕ → Content) (first k number : ℕ) → number ≡ first + k
-    → (old ++ numbered first (map f (below k))) ++ sealed (content_bytes number (f k)) ∷ [] ≡ old ++ numbered first (map f (below (k + 1)))
+    → (old ++ numbered first (map f (below k))) ++ sealed (content_bytes number (f k)) ∷ []
+    ≡ old ++ numbered first (map f (below (k + 1)))
 pushed_more old f first k number is =
     let size : length (map f (below k)) ≡ k = length-map-range_with_len f 0 k in
     let more = map-range_with_len_more f 0 k k (omega arith) in
@@ -62,14 +71,17 @@ pushed_more old f first k number is =
     ∙ ap (λ (xs : List Content). old ++ numbered first xs) (sym more)
 
 -- a part of twelve bytes or fewer, filled with zeros
-pub filled_part : (rest : List ℕ) (n : ℕ) → n ≡ min (length rest) 12 → take n rest ++ drop n (replicate 12 0) ≡ take 12 (rest ++ replicate 12 0)
+pub filled_part : (rest : List ℕ) (n : ℕ) → n ≡ min (length rest) 12
+    → take n rest ++ drop n (replicate 12 0) ≡ take 12 (rest ++ replicate 12 0)
 filled_part rest n is = elim (cases_lt (length rest) 12) [
   | inl short ↦
       let all : n ≡ length rest = omega arith in
       let size : length rest + (12 - length rest) ≡ 12 = omega arith in
       ap (λ (k : ℕ). take k rest ++ drop k (replicate 12 0)) all
-      ∙ ap (λ (xs : List ℕ). xs ++ drop (length rest) (replicate 12 0)) (take_all (length rest) rest (omega arith))
-      ∙ ap (λ (xs : List ℕ). rest ++ xs) (drop-replicate (length rest) 12 0 ∙ sym (take-replicate (12 - length rest) 12 0 (omega arith)))
+      ∙ ap (λ (xs : List ℕ). xs ++ drop (length rest) (replicate 12 0))
+      (take_all (length rest) rest (omega arith))
+      ∙ ap (λ (xs : List ℕ). rest ++ xs)
+      (drop-replicate (length rest) 12 0 ∙ sym (take-replicate (12 - length rest) 12 0 (omega arith)))
       ∙ sym (take-append-add rest (replicate 12 0) (12 - length rest))
       ∙ ap (λ (k : ℕ). take k (rest ++ replicate 12 0)) size
   | inr long ↦
@@ -80,7 +92,8 @@ filled_part rest n is = elim (cases_lt (length rest) 12) [
 ]
 
 -- the track of a string by its place
-pub track_is : (first place track : ℕ) → ((place ≡ 0) × (track ≡ 0)) ⊎ ((place ≡ 0 → ⊥) × (track ≡ first + (place - 1)))
+pub track_is : (first place track : ℕ)
+    → ((place ≡ 0) × (track ≡ 0)) ⊎ ((place ≡ 0 → ⊥) × (track ≡ first + (place - 1)))
     → track ≡ (if place == 0 then 0 else first + place - 1)
 track_is first place track which = elim which [
   | inl at_first ↦ at_first.1 ∙ sym (cond-true (place == 0) 0 (first + place - 1) (eq-eqb place 0 at_first.0))
@@ -91,8 +104,10 @@ track_is first place track which = elim which [
 ]
 
 -- the bytes of a pack from its parts
-pub content_is : (first type number k track position : ℕ) (strings : List (List ℕ)) (text : List ℕ) (holder : ℕ × ℕ)
-    → slice_index_or (holders 0 strings) (12 * k) (0, 0) ≡ holder → track ≡ (if holder.0 == 0 then 0 else first + holder.0 - 1)
+pub content_is : (first type number k track position : ℕ) (strings : List (List ℕ)) (text : List ℕ)
+    (holder : ℕ × ℕ)
+    → slice_index_or (holders 0 strings) (12 * k) (0, 0) ≡ holder
+    → track ≡ (if holder.0 == 0 then 0 else first + holder.0 - 1)
     → position ≡ min holder.1 15 → text ≡ twelve (joined strings) k
     → type ∷ track ∷ number ∷ position ∷ text ≡ content_bytes number (text_content first type strings k)
 unfolding text_content
@@ -103,35 +118,55 @@ content_is first type number k track position strings text holder held track_is 
 pub flat_map-kinds_more : (f : TextKind → List Content) (i : ℕ) (d : TextKind) → i < 7
     → flat_map f (take (i + 1) kinds) ≡ flat_map f (take i kinds) ++ f (get_or kinds i d)
 flat_map-kinds_more f i d below =
-    ap (flat_map f) (take_more kinds i d below) ∙ flat_map-append f (take i kinds) (get_or kinds i d ∷ []) ∙ ap (λ (xs : List Content). flat_map f (take i kinds) ++ xs) (append-nil (f (get_or kinds i d)))
+    ap (flat_map f) (take_more kinds i d below)
+    ∙ flat_map-append f (take i kinds) (get_or kinds i d ∷ [])
+    ∙ ap (λ (xs : List Content). flat_map f (take i kinds) ++ xs) (append-nil (f (get_or kinds i d)))
 
 -- what packs hold that are not none
-pub contents_full : (texts : Texts) → 0 < length (contents texts) → contents texts ≡ flat_map (kind_contents texts) kinds ++ size_contents texts
+pub contents_full : (texts : Texts) → 0 < length (contents texts)
+    → contents texts ≡ flat_map (kind_contents texts) kinds ++ size_contents texts
 contents_full texts some = elim (cases_Bool (has_no_text texts)) [
-  | inl none ↦ let empty : contents texts ≡ [] = cond-true (has_no_text texts) [] (flat_map (kind_contents texts) kinds ++ size_contents texts) none in
+  | inl none ↦ let empty : contents texts ≡ [] =
+      cond-true (has_no_text texts) [] (flat_map (kind_contents texts) kinds ++ size_contents texts) none in
       let size = ap length empty in absurd (omega arith)
-  | inr any ↦ cond-false (has_no_text texts) [] (flat_map (kind_contents texts) kinds ++ size_contents texts) any
+  | inr any ↦
+      cond-false (has_no_text texts) [] (flat_map (kind_contents texts) kinds ++ size_contents texts) any
 ]
 
-pub length-contents : (texts : Texts) → 0 < length (contents texts) → length (contents texts) ≡ length (flat_map (kind_contents texts) kinds) + 3
-length-contents texts some = ap length (contents_full texts some) ∙ length-append (flat_map (kind_contents texts) kinds) (size_contents texts)
+pub length-contents : (texts : Texts) → 0 < length (contents texts)
+    → length (contents texts) ≡ length (flat_map (kind_contents texts) kinds) + 3
+length-contents texts some =
+    ap length (contents_full texts some)
+    ∙ length-append (flat_map (kind_contents texts) kinds) (size_contents texts)
 
 -- how many packs the first kinds need, with the three size packs
-pub count_more : (texts : Texts) (count n i : ℕ) (d : TextKind) → i < 7 → count ≡ 3 + length (flat_map (kind_contents texts) (take i kinds))
-    → n ≡ length (kind_contents texts (get_or kinds i d)) → count + n ≡ 3 + length (flat_map (kind_contents texts) (take (i + 1) kinds))
+pub count_more : (texts : Texts) (count n i : ℕ) (d : TextKind) → i < 7
+    → count ≡ 3 + length (flat_map (kind_contents texts) (take i kinds))
+    → n ≡ length (kind_contents texts (get_or kinds i d))
+    → count + n ≡ 3 + length (flat_map (kind_contents texts) (take (i + 1) kinds))
 count_more texts count n i d below is next =
-    let more = ap length (flat_map-kinds_more (kind_contents texts) i d below) ∙ length-append (flat_map (kind_contents texts) (take i kinds)) (kind_contents texts (get_or kinds i d)) in
+    let more =
+    ap length (flat_map-kinds_more (kind_contents texts) i d below)
+    ∙ length-append (flat_map (kind_contents texts) (take i kinds))
+    (kind_contents texts (get_or kinds i d)) in
     omega arith
 
-pub count_whole : (texts : Texts) (count i : ℕ) → has_no_text texts ≡ false → i ≡ 7 → count ≡ 3 + length (flat_map (kind_contents texts) (take i kinds)) → count ≡ length (contents texts)
+pub count_whole : (texts : Texts) (count i : ℕ) → has_no_text texts ≡ false → i ≡ 7
+    → count ≡ 3 + length (flat_map (kind_contents texts) (take i kinds))
+    → count ≡ length (contents texts)
 count_whole texts count i some end is =
     let all = ap (λ (k : ℕ). length (flat_map (kind_contents texts) (take k kinds))) end in
-    let whole = ap length (cond-false (has_no_text texts) [] (flat_map (kind_contents texts) kinds ++ size_contents texts) some) ∙ length-append (flat_map (kind_contents texts) kinds) (size_contents texts) in
+    let whole =
+    ap length
+    (cond-false (has_no_text texts) [] (flat_map (kind_contents texts) kinds ++ size_contents texts) some)
+    ∙ length-append (flat_map (kind_contents texts) kinds) (size_contents texts) in
     omega arith
 
 -- the packs of the first kinds leave room for those of the next kind
-pub kind_fits : (texts : Texts) (all : List (List ℕ)) (i : ℕ) (d : TextKind) → 0 < length (contents texts) → length (contents texts) ≤ 256 → i < 7
-    → all ≡ numbered 0 (flat_map (kind_contents texts) (take i kinds)) → length all + length (kind_contents texts (get_or kinds i d)) ≤ 256
+pub kind_fits : (texts : Texts) (all : List (List ℕ)) (i : ℕ) (d : TextKind) → 0 < length (contents texts)
+    → length (contents texts) ≤ 256 → i < 7
+    → all ≡ numbered 0 (flat_map (kind_contents texts) (take i kinds))
+    → length all + length (kind_contents texts (get_or kinds i d)) ≤ 256
 kind_fits texts all i d some few below is =
     let size = ap length is ∙ length-numbered 0 (flat_map (kind_contents texts) (take i kinds)) in
     let part = length-flat_map-take (kind_contents texts) kinds i d below in
@@ -139,31 +174,40 @@ kind_fits texts all i d some few below is =
     omega arith
 
 pub kinds_more : (texts : Texts) (all more : List (List ℕ)) (i : ℕ) (d : TextKind) → i < 7
-    → all ≡ numbered 0 (flat_map (kind_contents texts) (take i kinds)) → more ≡ all ++ numbered (length all) (kind_contents texts (get_or kinds i d))
+    → all ≡ numbered 0 (flat_map (kind_contents texts) (take i kinds))
+    → more ≡ all ++ numbered (length all) (kind_contents texts (get_or kinds i d))
     → more ≡ numbered 0 (flat_map (kind_contents texts) (take (i + 1) kinds))
 kinds_more texts all more i d below is next =
     let f = kind_contents texts in
     let size = ap length is ∙ length-numbered 0 (flat_map f (take i kinds)) in
     next ∙ ap (λ (n : ℕ). all ++ numbered n (f (get_or kinds i d))) size
-    ∙ ap (λ (xs : List (List ℕ)). xs ++ numbered (length (flat_map f (take i kinds))) (f (get_or kinds i d))) is
+    ∙ ap (λ (xs : List (List ℕ)). xs ++ numbered (length (flat_map f (take i kinds))) (f (get_or kinds i d)))
+    is
     ∙ sym (from_none (flat_map f (take i kinds)) (f (get_or kinds i d)))
     ∙ ap (numbered 0) (sym (flat_map-kinds_more f i d below))
 
-pub kinds_counted : (texts : Texts) (all : List (List ℕ)) (i : ℕ) → i ≡ 7 → all ≡ numbered 0 (flat_map (kind_contents texts) (take i kinds))
+pub kinds_counted : (texts : Texts) (all : List (List ℕ)) (i : ℕ) → i ≡ 7
+    → all ≡ numbered 0 (flat_map (kind_contents texts) (take i kinds))
     → length all ≡ length (flat_map (kind_contents texts) kinds)
 kinds_counted texts all i end is =
-    ap length is ∙ length-numbered 0 (flat_map (kind_contents texts) (take i kinds)) ∙ ap (λ (k : ℕ). length (flat_map (kind_contents texts) (take k kinds))) end
+    ap length is
+    ∙ length-numbered 0 (flat_map (kind_contents texts) (take i kinds))
+    ∙ ap (λ (k : ℕ). length (flat_map (kind_contents texts) (take k kinds))) end
 
 pub packs_done : (texts : Texts) (all packs : List (List ℕ)) (i : ℕ) → 0 < length (contents texts) → i ≡ 7
-    → all ≡ numbered 0 (flat_map (kind_contents texts) (take i kinds)) → packs ≡ all ++ numbered (length all) (size_contents texts) → packs ≡ packs_of texts
+    → all ≡ numbered 0 (flat_map (kind_contents texts) (take i kinds))
+    → packs ≡ all ++ numbered (length all) (size_contents texts)
+    → packs ≡ packs_of texts
 packs_done texts all packs i some end is last =
     let f = kind_contents texts in
-    let whole : all ≡ numbered 0 (flat_map f kinds) = is ∙ ap (λ (k : ℕ). numbered 0 (flat_map f (take k kinds))) end in
+    let whole : all ≡ numbered 0 (flat_map f kinds) =
+    is ∙ ap (λ (k : ℕ). numbered 0 (flat_map f (take k kinds))) end in
     let size = ap length whole ∙ length-numbered 0 (flat_map f kinds) in
     last ∙ ap (λ (n : ℕ). all ++ numbered n (size_contents texts)) size
     ∙ ap (λ (xs : List (List ℕ)). xs ++ numbered (length (flat_map f kinds)) (size_contents texts)) whole
     ∙ sym (from_none (flat_map f kinds) (size_contents texts))
     ∙ ap (numbered 0) (sym (contents_full texts some))
 
-pub packs_none : (texts : Texts) (packs : List (List ℕ)) → length (contents texts) ≤ 0 → packs ≡ [] → packs ≡ packs_of texts
+pub packs_none : (texts : Texts) (packs : List (List ℕ)) → length (contents texts) ≤ 0 → packs ≡ []
+    → packs ≡ packs_of texts
 packs_none texts packs none is = is ∙ sym (ap (numbered 0) (nil_from_length (contents texts) (omega arith)))

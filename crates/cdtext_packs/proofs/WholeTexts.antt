@@ -5,9 +5,14 @@ use Rattle.cdtext_packs.specs.Reading.{kind_texts, all_texts}
 use Rattle.cdtext_packs.specs.declared.kinds.TextKind.{TextKind}
 use Rattle.cdtext_packs.specs.declared.kinds.TextKind.TheVariants as kind
 
-pub has_tracks : (texts : Texts) (n : ℕ) → 1 ≤ n → 1 ≤ texts.first → texts.last ≡ texts.first + (n - 1) → texts.last ≤ 99
-    → length texts.title ≡ n + 1 → length texts.performer ≡ n + 1 → length texts.songwriter ≡ n + 1 → length texts.composer ≡ n + 1 → length texts.arranger ≡ n + 1 → length texts.message ≡ n + 1 → length texts.code ≡ n + 1
-    → All IsString texts.title → All IsString texts.performer → All IsString texts.songwriter → All IsString texts.composer → All IsString texts.arranger → All IsString texts.message → All IsString texts.code
+pub has_tracks : (texts : Texts) (n : ℕ) → 1 ≤ n → 1 ≤ texts.first → texts.last ≡ texts.first + (n - 1)
+    → texts.last ≤ 99
+    → length texts.title ≡ n + 1 → length texts.performer ≡ n + 1 → length texts.songwriter ≡ n + 1
+    → length texts.composer ≡ n + 1 → length texts.arranger ≡ n + 1 → length texts.message ≡ n + 1
+    → length texts.code ≡ n + 1
+    → All IsString texts.title → All IsString texts.performer → All IsString texts.songwriter
+    → All IsString texts.composer → All IsString texts.arranger → All IsString texts.message
+    → All IsString texts.code
     → AreTexts texts
 has_tracks texts n some first last limit c0 c1 c2 c3 c4 c5 c6 s0 s1 s2 s3 s4 s5 s6 = inr (record {
   first = first;
@@ -33,18 +38,45 @@ has_tracks texts n some first last limit c0 c1 c2 c3 c4 c5 c6 s0 s1 s2 s3 s4 s5 
   ];
 })
 
-same_strings : (first last : ℕ) {a b c d e f g a' b' c' d' e' f' g' : List (List ℕ)} → a ≡ a' → b ≡ b' → c ≡ c' → d ≡ d' → e ≡ e' → f ≡ f' → g ≡ g'
-    → ◌≡◌ {A = Texts} (record { first = first; last = last; title = a; performer = b; songwriter = c; composer = d; arranger = e; message = f; code = g })
-    (record { first = first; last = last; title = a'; performer = b'; songwriter = c'; composer = d'; arranger = e'; message = f'; code = g' })
+same_strings : (first last : ℕ) {a b c d e f g a' b' c' d' e' f' g' : List (List ℕ)} → a ≡ a' → b ≡ b'
+    → c ≡ c' → d ≡ d' → e ≡ e' → f ≡ f' → g ≡ g'
+    → ◌≡◌ {A = Texts} (record {
+      first = first;
+      last = last;
+      title = a;
+      performer = b;
+      songwriter = c;
+      composer = d;
+      arranger = e;
+      message = f;
+      code = g;
+    })
+    (record {
+      first = first;
+      last = last;
+      title = a';
+      performer = b';
+      songwriter = c';
+      composer = d';
+      arranger = e';
+      message = f';
+      code = g';
+    })
 same_strings first last a b c d e f g = cc
 
 -- the texts of kept packs, from the strings of each kind
 pub texts_of_kinds : (kept : List (Option (List ℕ))) (n : ℕ) (texts : Texts) → n ≡ texts.last - texts.first
-    → texts.title ≡ kind_texts kept (n + 2) kind.Title → texts.performer ≡ kind_texts kept (n + 2) kind.Performer → texts.songwriter ≡ kind_texts kept (n + 2) kind.Songwriter
-    → texts.composer ≡ kind_texts kept (n + 2) kind.Composer → texts.arranger ≡ kind_texts kept (n + 2) kind.Arranger → texts.message ≡ kind_texts kept (n + 2) kind.Message → texts.code ≡ kind_texts kept (n + 2) kind.Code
+    → texts.title ≡ kind_texts kept (n + 2) kind.Title
+    → texts.performer ≡ kind_texts kept (n + 2) kind.Performer
+    → texts.songwriter ≡ kind_texts kept (n + 2) kind.Songwriter
+    → texts.composer ≡ kind_texts kept (n + 2) kind.Composer
+    → texts.arranger ≡ kind_texts kept (n + 2) kind.Arranger
+    → texts.message ≡ kind_texts kept (n + 2) kind.Message → texts.code ≡ kind_texts kept (n + 2) kind.Code
     → texts ≡ all_texts kept texts.first texts.last
 texts_of_kinds kept n texts size t0 t1 t2 t3 t4 t5 t6 =
-    same_strings texts.first texts.last (t0 ∙ same kind.Title) (t1 ∙ same kind.Performer) (t2 ∙ same kind.Songwriter) (t3 ∙ same kind.Composer) (t4 ∙ same kind.Arranger) (t5 ∙ same kind.Message) (t6 ∙ same kind.Code)
+    same_strings texts.first texts.last (t0 ∙ same kind.Title) (t1 ∙ same kind.Performer)
+    (t2 ∙ same kind.Songwriter) (t3 ∙ same kind.Composer) (t4 ∙ same kind.Arranger) (t5 ∙ same kind.Message)
+    (t6 ∙ same kind.Code)
   where
     same : (k : TextKind) → kind_texts kept (n + 2) k ≡ kind_texts kept (texts.last - texts.first + 2) k
     same k = ap (λ (m : ℕ). kind_texts kept (m + 2) k) size

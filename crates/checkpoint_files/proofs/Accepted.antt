@@ -38,15 +38,20 @@ mark_read c =
 
 -- a part of single bytes that are below 256
 byte_is : (c : Checkpoint) (part : Part) (late : List Part) (k first count : ℕ) → (row part).size ≡ 1
-    → BeginsAt c (file_of c) (row part).first (part ∷ late) → first ≡ (row part).first → count ≡ (row part).count → k < count
+    → BeginsAt c (file_of c) (row part).first (part ∷ late) → first ≡ (row part).first
+    → count ≡ (row part).count → k < count
     → written_value c part k < 256
     → number_at (file_of c) 1 (first + 1 * k) ≡ written_value c part k
-byte_is c part late k first count one b f e lt small = omega (arith, byte_read c part late k first count one b f e lt, small)
+byte_is c part late k first count one b f e lt small =
+    omega (arith, byte_read c part late k first count one b f e lt, small)
 
-colour_read : (c : Checkpoint) (k : ℕ) → k < 16 → slice_index c.standing.colours k < 65536 → number (file_of c) Colours k ≡ slice_index c.standing.colours k
+colour_read : (c : Checkpoint) (k : ℕ) → k < 16 → slice_index c.standing.colours k < 65536
+    → number (file_of c) Colours k ≡ slice_index c.standing.colours k
 colour_read c k lt small =
-    let high : get_or (file_of c) (64995 + 2 * k) 0 ≡ slice_index c.standing.colours k / 256 % 256 = byte_in c Colours _ k 0 16 (64995 + 2 * k) (at_colours c) refl lt (omega arith) (omega arith) in
-    let low : get_or (file_of c) (64995 + 2 * k + 1) 0 ≡ slice_index c.standing.colours k / 1 % 256 = byte_in c Colours _ k 1 16 (64995 + 2 * k + 1)
+    let high : get_or (file_of c) (64995 + 2 * k) 0 ≡ slice_index c.standing.colours k / 256 % 256 =
+    byte_in c Colours _ k 0 16 (64995 + 2 * k) (at_colours c) refl lt (omega arith) (omega arith) in
+    let low : get_or (file_of c) (64995 + 2 * k + 1) 0 ≡ slice_index c.standing.colours k / 1 % 256 =
+    byte_in c Colours _ k 1 16 (64995 + 2 * k + 1)
     (at_colours c) refl lt (omega arith) (omega arith) in
     omega (arith, high, low, small)
 
@@ -55,8 +60,10 @@ colour_read c k lt small =
 check_small : (bytes : List ℕ) → check_of bytes < 65536
 unfolding check_of
 check_small bytes =
-    let lt : number_of (check_bits (bits_of_bytes bytes)) < 2 ^ length (check_bits (bits_of_bytes bytes)) = number_of-lt (check_bits (bits_of_bytes bytes)) in
-    subst (λ (n : ℕ). number_of (check_bits (bits_of_bytes bytes)) < 2 ^ n) (length-check_bits (bits_of_bytes bytes)) lt
+    let lt : number_of (check_bits (bits_of_bytes bytes)) < 2 ^ length (check_bits (bits_of_bytes bytes)) =
+    number_of-lt (check_bits (bits_of_bytes bytes)) in
+    subst (λ (n : ℕ). number_of (check_bits (bits_of_bytes bytes)) < 2 ^ n)
+    (length-check_bits (bits_of_bytes bytes)) lt
 
 at_check : (c : Checkpoint) → BeginsAt c (file_of c) 65043 []
 at_check c = next_part c (file_of c) 65027 16 65043 Levels [] (at_levels c) refl refl
@@ -72,14 +79,20 @@ body_taken : (c : Checkpoint) → take 65043 (file_of c) ≡ body c
 unfolding file_of
 body_taken c = take_at (body c) (bytes_of 2 (check_of (body c))) 65043 (length-body c)
 
-check_byte : (c : Checkpoint) (i at : ℕ) → 65043 + i ≡ at → get_or (file_of c) at 0 ≡ get_or (bytes_of 2 (check_of (body c))) i 0
-check_byte c i at e = ap (λ p. get_or (file_of c) p 0) (sym e) ∙ sym (get_or-drop 65043 (file_of c) i 0) ∙ ap (λ (l : List ℕ). get_or l i 0) (at_check c).is
+check_byte : (c : Checkpoint) (i at : ℕ) → 65043 + i ≡ at
+    → get_or (file_of c) at 0 ≡ get_or (bytes_of 2 (check_of (body c))) i 0
+check_byte c i at e =
+    ap (λ p. get_or (file_of c) p 0) (sym e)
+    ∙ sym (get_or-drop 65043 (file_of c) i 0)
+    ∙ ap (λ (l : List ℕ). get_or l i 0) (at_check c).is
 
 check_read : (c : Checkpoint) → number (file_of c) Check 0 ≡ check_of (take 65043 (file_of c))
 check_read c =
-    let high : get_or (file_of c) 65043 0 ≡ check_of (body c) / 256 % 256 = check_byte c 0 65043 (omega arith) in
+    let high : get_or (file_of c) 65043 0 ≡ check_of (body c) / 256 % 256 =
+    check_byte c 0 65043 (omega arith) in
     let low : get_or (file_of c) 65044 0 ≡ check_of (body c) / 1 % 256 = check_byte c 1 65044 (omega arith) in
-    let read : number (file_of c) Check 0 ≡ check_of (body c) = omega (arith, high, low, check_small (body c)) in
+    let read : number (file_of c) Check 0 ≡ check_of (body c) =
+    omega (arith, high, low, check_small (body c)) in
     read ∙ ap check_of (sym (body_taken c))
 
 -- ---- a sound checkpoint
@@ -101,19 +114,23 @@ module _ (c : Checkpoint) (sound : IsSoundCheckpoint c) where
   bad_read = four_read c Bad _ 20 refl refl (at_bad c) refl (omega (arith, sound.bad, sound.blocks))
 
   slot_read : (k : ℕ) → k < 168 → number file Slots k ≡ get_or c.slots k 0
-  slot_read k lt = byte_is c Slots _ k 24 168 refl (at_slots c) refl refl lt (omega (arith, sound.slots_below k lt))
+  slot_read k lt =
+      byte_is c Slots _ k 24 168 refl (at_slots c) refl refl lt (omega (arith, sound.slots_below k lt))
 
   pixel_small : (k : ℕ) → k < 64800 → pixel_at c.standing.memory (k % 300) (k / 300) < 16
   pixel_small k lt = sound.standing.memory (k % 300) (k / 300) (omega arith) (omega (arith, lt))
 
   memory_read : (k : ℕ) → k < 64800 → number file Memory k ≡ pixel_at c.standing.memory (k % 300) (k / 300)
-  memory_read k lt = byte_is c Memory _ k 192 64800 refl (at_memory c) refl refl lt (omega (arith, pixel_small k lt))
+  memory_read k lt =
+      byte_is c Memory _ k 192 64800 refl (at_memory c) refl refl lt (omega (arith, pixel_small k lt))
 
   border_read : (k : ℕ) → k < 1 → number file Border k ≡ c.standing.border
-  border_read k lt = byte_is c Border _ k 64992 1 refl (at_border c) refl refl lt (omega (arith, sound.standing.border))
+  border_read k lt =
+      byte_is c Border _ k 64992 1 refl (at_border c) refl refl lt (omega (arith, sound.standing.border))
 
   across_read : (k : ℕ) → k < 1 → number file Across k ≡ c.standing.h
-  across_read k lt = byte_is c Across _ k 64993 1 refl (at_across c) refl refl lt (omega (arith, sound.standing.h))
+  across_read k lt =
+      byte_is c Across _ k 64993 1 refl (at_across c) refl refl lt (omega (arith, sound.standing.h))
 
   down_read : (k : ℕ) → k < 1 → number file Down k ≡ c.standing.v
   down_read k lt = byte_is c Down _ k 64994 1 refl (at_down c) refl refl lt (omega (arith, sound.standing.v))
@@ -122,15 +139,20 @@ module _ (c : Checkpoint) (sound : IsSoundCheckpoint c) where
   colours_read k lt = colour_read c k lt (omega (arith, sound.standing.colour k lt))
 
   levels_read : (k : ℕ) → k < 16 → number file Levels k ≡ slice_index c.standing.levels k
-  levels_read k lt = byte_is c Levels _ k 65027 16 refl (at_levels c) refl refl lt (omega (arith, sound.standing.level k lt))
+  levels_read k lt =
+      byte_is c Levels _ k 65027 16 refl (at_levels c) refl refl lt (omega (arith, sound.standing.level k lt))
 
   slots_in_range : IsPartInRange file Slots
-  slots_in_range k lt =
-      (omega (arith, slot_read k lt, sound.slots_below k lt), λ before. slot_read k lt ∙ sound.slots_empty k (omega (arith, before, program_read)))
+  slots_in_range k lt = (
+    omega (arith, slot_read k lt, sound.slots_below k lt),
+    λ before. slot_read k lt ∙ sound.slots_empty k (omega (arith, before, program_read)),
+  )
 
   program_in_range : IsPartInRange file Program
-  program_in_range k lt =
-      (omega (arith, lead_in_read, program_read, sound.blocks), λ some. program_read ∙ sound.none_yet (omega (arith, some, to_come_read)))
+  program_in_range k lt = (
+    omega (arith, lead_in_read, program_read, sound.blocks),
+    λ some. program_read ∙ sound.none_yet (omega (arith, some, to_come_read)),
+  )
 
   ranges : AllByRecursion (IsPartInRange file) all_parts
   ranges = (
@@ -155,7 +177,10 @@ module _ (c : Checkpoint) (sound : IsSoundCheckpoint c) where
                       λ k lt. omega (arith, down_read k lt, sound.standing.v),
                       (
                         λ k lt. omega (arith, colours_read k lt, sound.standing.colour k lt),
-                        (λ k lt. omega (arith, levels_read k lt, sound.standing.level k lt), (λ k lt. check_read c, tt)),
+                        (
+                          λ k lt. omega (arith, levels_read k lt, sound.standing.level k lt),
+                          (λ k lt. check_read c, tt),
+                        ),
                       ),
                     ),
                   ),
@@ -173,7 +198,9 @@ module _ (c : Checkpoint) (sound : IsSoundCheckpoint c) where
 
   byte_small : (i : ℕ) → get_or c.slots i 0 < 256
   byte_small i = elim (leb_tells 168 i) [
-    | inl past ↦ let none : get_or c.slots i 0 ≡ 0 = get_or-eq_default c.slots 0 (omega (arith, past.1, sound.slots_size)) in omega (arith, none)
+    | inl past ↦ let none : get_or c.slots i 0 ≡ 0 =
+        get_or-eq_default c.slots 0 (omega (arith, past.1, sound.slots_size)) in
+        omega (arith, none)
     | inr before ↦ let lt : i < 168 = omega (arith, before.1) in omega (arith, sound.slots_below i lt)
   ]
 
@@ -182,11 +209,13 @@ module _ (c : Checkpoint) (sound : IsSoundCheckpoint c) where
       let is : part_bytes c Slots ≡ c.slots = slots_written c 168 refl sound.slots_size byte_small in
       let late : List ℕ = from_on c (Memory ∷ Border ∷ Across ∷ Down ∷ Colours ∷ Levels ∷ []) in
       let at : drop 24 file ≡ part_bytes c Slots ++ late = (at_slots c).is
-      ∙ append_assoc (part_bytes c Slots) (flat_map (part_bytes c) (Memory ∷ Border ∷ Across ∷ Down ∷ Colours ∷ Levels ∷ []))
+      ∙ append_assoc (part_bytes c Slots)
+      (flat_map (part_bytes c) (Memory ∷ Border ∷ Across ∷ Down ∷ Colours ∷ Levels ∷ []))
       (bytes_of 2 (check_of (body c))) in
       ap (take 168) at ∙ take_at (part_bytes c Slots) late 168 (ap length is ∙ sound.slots_size) ∙ is
 
-  pixel_read : (x y : ℕ) → x < 300 → y < 216 → number file Memory (300 * y + x) ≡ pixel_at c.standing.memory x y
+  pixel_read : (x y : ℕ) → x < 300 → y < 216
+      → number file Memory (300 * y + x) ≡ pixel_at c.standing.memory x y
   pixel_read x y x_lt y_lt =
       let across : (300 * y + x) % 300 ≡ x = omega (arith, x_lt) in
       let down : (300 * y + x) / 300 ≡ y = omega (arith, x_lt) in
@@ -194,15 +223,30 @@ module _ (c : Checkpoint) (sound : IsSoundCheckpoint c) where
 
   standing_read : standing_in file ≡ c.standing
   standing_read =
-      let memory = rows_same (λ x y. number file Memory (300 * y + x)) (pixel_at c.standing.memory) pixel_read in
+      let memory =
+      rows_same (λ x y. number file Memory (300 * y + x)) (pixel_at c.standing.memory) pixel_read in
       let border = border_read 0 (omega arith) in
       let colours = sixteen_same (number file Colours) (slice_index c.standing.colours) colours_read in
       let levels = sixteen_same (number file Levels) (slice_index c.standing.levels) levels_read in
       let across = across_read 0 (omega arith) in
       let down = down_read 0 (omega arith) in
       let same : standing_in file ≡ standing_after c.standing [] =
-      λ i. record { memory = memory i; border = border i; colours = colours i; levels = levels i; h = across i; v = down i } in
+      λ i. record {
+        memory = memory i;
+        border = border i;
+        colours = colours i;
+        levels = levels i;
+        h = across i;
+        v = down i;
+      } in
       same ∙ sound.standing.whole
 
   pub same : checkpoint_in file ≡ c
-  same = λ i. record { to_come = to_come_read i; lead_in = lead_in_read i; program = program_read i; bad = bad_read i; slots = slots_read i; standing = standing_read i }
+  same = λ i. record {
+    to_come = to_come_read i;
+    lead_in = lead_in_read i;
+    program = program_read i;
+    bad = bad_read i;
+    slots = slots_read i;
+    standing = standing_read i;
+  }

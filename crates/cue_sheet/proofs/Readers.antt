@@ -11,38 +11,48 @@ use Rattle.cue_sheet.specs.declared.section.Track.{Track}
 use Rattle.cue_sheet.specs.declared.fault.CueText.{CueText}
 use Rattle.cue_sheet.specs.declared.fault.CueText.TheVariants.{Title, Performer, Songwriter}
 
-text_of_track : (kind : CueText) (t : Track) → section_text kind (section_of t.section) ≡ track_text kind (track_value t)
+text_of_track : (kind : CueText) (t : Track)
+    → section_text kind (section_of t.section) ≡ track_text kind (track_value t)
 text_of_track Title t = refl
 text_of_track Performer t = refl
 text_of_track Songwriter t = refl
 
 -- a track in memory is the track of its place
 pub track_of_place : (album : Section) (tracks : List Track) (sheet : CueSheet) (k : ℕ) (t : Track)
-    → sheet_value album tracks ≡ sheet → k < length sheet.tracks → t ≡ get_or tracks k t → track_value t ≡ track_of sheet k
+    → sheet_value album tracks ≡ sheet → k < length sheet.tracks → t ≡ get_or tracks k t
+    → track_value t ≡ track_of sheet k
 track_of_place album tracks sheet k t is lt at =
-    let size : k < length tracks = omega (arith, lt, ap (λ (s : CueSheet). length s.tracks) is, length-map tracks track_value) in
-    let found : get_or (sheet_value album tracks).tracks k no_track ≡ track_value t = get_or-map track_value tracks k t no_track size ∙ ap track_value (sym at) in
+    let size : k < length tracks =
+    omega (arith, lt, ap (λ (s : CueSheet). length s.tracks) is, length-map tracks track_value) in
+    let found : get_or (sheet_value album tracks).tracks k no_track ≡ track_value t =
+    get_or-map track_value tracks k t no_track size ∙ ap track_value (sym at) in
     sym found ∙ ap (λ s. track_of s k) is
 
 pub good_place : (album : Section) (tracks : List Track) (sheet : CueSheet) (k : ℕ) (t : Track)
-    → sheet_value album tracks ≡ sheet → k < length sheet.tracks → t ≡ get_or tracks k t → IsSheet (sheet_value album tracks) → IsTrack (track_value t)
+    → sheet_value album tracks ≡ sheet → k < length sheet.tracks → t ≡ get_or tracks k t
+    → IsSheet (sheet_value album tracks)
+    → IsTrack (track_value t)
 good_place album tracks sheet k t is lt at good =
     let whole : IsSheet sheet = subst IsSheet is good in
     subst IsTrack (sym (track_of_place album tracks sheet k t is lt at)) (whole.tracks k lt)
 
 pub first_range : (album : Section) (tracks : List Track) (t : Track)
     → t ≡ get_or tracks 0 t → IsSheet (sheet_value album tracks) → (1 ≤ t.number) × (t.number ≤ 99)
-first_range album tracks t at good = (good_place album tracks (sheet_value album tracks) 0 t refl good.count.0 at good).number
+first_range album tracks t at good =
+    (good_place album tracks (sheet_value album tracks) 0 t refl good.count.0 at good).number
 
 pub text_of_place : (kind : CueText) (sheet : CueSheet) (place : ℕ) (t : Track) (text : List ℕ)
     → 0 < place → track_value t ≡ track_of sheet (place - 1)
     → text ≡ section_text kind (section_of t.section) → text ≡ text_at kind sheet place
 text_of_place kind sheet place t text low same spelled =
     let other : (place == 0) ≡ false = grind arith in
-    let here : text_at kind sheet place ≡ track_text kind (track_of sheet (place - 1)) = cond-false _ _ _ other in
+    let here : text_at kind sheet place ≡ track_text kind (track_of sheet (place - 1)) =
+    cond-false _ _ _ other in
     spelled ∙ (text_of_track kind t ∙ (ap (track_text kind) same ∙ sym here))
 
-pub track_text_is : (kind : CueText) (t : Track) (text : List ℕ) → IsTrack (track_value t) → text ≡ section_text kind (section_of t.section) → IsText text
+pub track_text_is : (kind : CueText) (t : Track) (text : List ℕ) → IsTrack (track_value t)
+    → text ≡ section_text kind (section_of t.section)
+    → IsText text
 track_text_is Title t text good is = subst IsText (sym is) good.title
 track_text_is Performer t text good is = subst IsText (sym is) good.performer
 track_text_is Songwriter t text good is = subst IsText (sym is) good.songwriter

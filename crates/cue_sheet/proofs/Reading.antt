@@ -23,43 +23,60 @@ pub record Reading (text rest : List ℕ) (number : ℕ) (draft : CueState) : Ty
   pub bound : number + length rest ≤ 67108865
   pub positive : 1 ≤ number
 
-pub reading_starts : (text rest : List ℕ) (draft : CueState) → rest ≡ without_mark text → length rest ≤ 67108864 → draft ≡ nothing_said → Reading text rest 1 draft
+pub reading_starts : (text rest : List ℕ) (draft : CueState) → rest ≡ without_mark text
+    → length rest ≤ 67108864 → draft ≡ nothing_said
+    → Reading text rest 1 draft
 reading_starts text rest draft is short empty = record {
-  same = ap (λ r. read_on sheet_step ended 1 nothing_said (lines_in r)) (sym is) ∙ ap (λ s. read_on sheet_step ended 1 s (lines_in rest)) (sym empty);
+  same =
+      ap (λ r. read_on sheet_step ended 1 nothing_said (lines_in r)) (sym is)
+      ∙ ap (λ s. read_on sheet_step ended 1 s (lines_in rest)) (sym empty);
   good = subst IsGood (sym empty) good_start;
   bound = omega arith;
   positive = omega arith;
 }
 
-read_line : (text rest line next : List ℕ) (number : ℕ) (old new : CueState) → Reading text rest number old → lines_in rest ≡ line ∷ lines_in next
-    → length next < length rest → sheet_step old line ≡ Ok new → IsGood new → Reading text next (number + 1) new
+read_line : (text rest line next : List ℕ) (number : ℕ) (old new : CueState) → Reading text rest number old
+    → lines_in rest ≡ line ∷ lines_in next
+    → length next < length rest → sheet_step old line ≡ Ok new → IsGood new
+    → Reading text next (number + 1) new
 read_line text rest line next number old new reading lines shorter taken good = record {
-  same = reading.same ∙ (ap (read_on sheet_step ended number old) lines ∙ read_on-taken sheet_step ended number old new line (lines_in next) taken);
+  same =
+      reading.same
+      ∙ (ap (read_on sheet_step ended number old) lines
+      ∙ read_on-taken sheet_step ended number old new line (lines_in next) taken);
   good = good;
   bound = omega (arith, reading.bound);
   positive = omega arith;
 }
 
-pub reading_goes_on : (text rest line next : List ℕ) (number : ℕ) (old new : CueState) → Reading text rest number old → lines_in rest ≡ line ∷ lines_in next
+pub reading_goes_on : (text rest line next : List ℕ) (number : ℕ) (old new : CueState)
+    → Reading text rest number old → lines_in rest ≡ line ∷ lines_in next
     → length next < length rest → TakesLine old line new → Reading text next (number + 1) new
 reading_goes_on text rest line next number old new reading lines shorter (IsEmpty taken same) =
-    read_line text rest line next number old new reading lines shorter taken (subst IsGood (sym same) reading.good)
+    read_line text rest line next number old new reading lines shorter taken
+    (subst IsGood (sym same) reading.good)
 reading_goes_on text rest line next number old new reading lines shorter (Says said taken range free is) =
-    read_line text rest line next number old new reading lines shorter taken (subst IsGood (sym is) (good_more old said reading.good range free))
+    read_line text rest line next number old new reading lines shorter taken
+    (subst IsGood (sym is) (good_more old said reading.good range free))
 
 -- a line that is not taken is the first that is refused
-pub reading_stops : (text rest line next : List ℕ) (number : ℕ) (old : CueState) (stop : CueStop) → Reading text rest number old → lines_in rest ≡ line ∷ lines_in next
+pub reading_stops : (text rest line next : List ℕ) (number : ℕ) (old : CueState) (stop : CueStop)
+    → Reading text rest number old → lines_in rest ≡ line ∷ lines_in next
     → RefusesLine old number line stop → IsCueAnswer (read_cue text) (Err stop)
 reading_stops text rest line next number old (Fault at why) reading lines refuses =
     reading.same ∙ (ap (read_on sheet_step ended number old) lines
-    ∙ (read_on-refused sheet_step ended number old why line (lines_in next) refuses.1 ∙ ap (λ n. Err (n, why)) (sym refuses.0)))
+    ∙ (read_on-refused sheet_step ended number old why line (lines_in next) refuses.1
+    ∙ ap (λ n. Err (n, why)) (sym refuses.0)))
 reading_stops text rest line next number old NoMemory reading lines refuses = tt
 
-pub reading_ends : (text rest : List ℕ) (number : ℕ) (draft : CueState) (why : Option CueWhy) → Reading text rest number draft → lines_in rest ≡ [] → why ≡ end_reason draft
+pub reading_ends : (text rest : List ℕ) (number : ℕ) (draft : CueState) (why : Option CueWhy)
+    → Reading text rest number draft → lines_in rest ≡ [] → why ≡ end_reason draft
     → read_cue text ≡ at_line number (unless (sheet_said draft) why)
 reading_ends text rest number draft why reading lines is =
     reading.same ∙ (ap (read_on sheet_step ended number draft) lines
-    ∙ (read_on-end sheet_step ended number draft ∙ (ap (at_line number) (ended_is draft) ∙ ap (λ w. at_line number (unless (sheet_said draft) w)) (sym is))))
+    ∙ (read_on-end sheet_step ended number draft
+    ∙ (ap (at_line number) (ended_is draft)
+    ∙ ap (λ w. at_line number (unless (sheet_said draft) w)) (sym is))))
 
 end_needs_file : (f : Bool) → f ≡ false → (if not f then Some NoFile else Some NoTrack) ≡ None → ⊥
 end_needs_file false is h = cc
@@ -69,14 +86,19 @@ end_needs_track : (f : Bool) → f ≡ true → (if not f then Some NoFile else 
 end_needs_track false is h = cc
 end_needs_track true is h = cc
 
-end_needs_index : (f one : Bool) → one ≡ false → (if not f then Some NoFile else (if one then None else Some NoIndex)) ≡ None → ⊥
+end_needs_index : (f one : Bool) → one ≡ false
+    → (if not f then Some NoFile else (if one then None else Some NoIndex)) ≡ None
+    → ⊥
 end_needs_index false one is h = cc
 end_needs_index true false is h = cc
 end_needs_index true true is h = cc
 
 -- where the end is not refused there is a last track, and the sheet is in order
 ends : (s : CueState) (o : Option ℕ) → s.number ≡ o → IsGood s
-    → (if not s.has_file then Some NoFile else (if not (is_some o) then Some NoTrack else (if has_index_one s.section then None else Some NoIndex))) ≡ None
+    → (if not s.has_file
+    then Some NoFile
+    else (if not (is_some o) then Some NoTrack else (if has_index_one s.section then None else Some NoIndex)))
+    ≡ None
     → IsSheet (sheet_from s.album (s.tracks ++ track_with o s.section))
 ends s None is good free = elim (cases_Bool s.has_file) [
   | inl file ↦ let no : ⊥ = end_needs_track s.has_file file free in absurd no
@@ -87,5 +109,7 @@ ends s (Some n) is good free = elim (cases_Bool (has_index_one s.section)) [
   | inr other ↦ let no : ⊥ = end_needs_index s.has_file (has_index_one s.section) other free in absurd no
 ]
 
-pub reading_is_sheet : (text rest : List ℕ) (number : ℕ) (draft : CueState) → Reading text rest number draft → end_reason draft ≡ None → IsSheet (sheet_said draft)
+pub reading_is_sheet : (text rest : List ℕ) (number : ℕ) (draft : CueState) → Reading text rest number draft
+    → end_reason draft ≡ None
+    → IsSheet (sheet_said draft)
 reading_is_sheet text rest number draft reading free = ends draft draft.number refl reading.good free

@@ -10,13 +10,18 @@ use Rattle.cue_sheet.specs.declared.command.SheetCommand.{SheetCommand}
 use Rattle.cue_sheet.specs.declared.fault.CueWhy.{CueWhy}
 use Rattle.cue_sheet.specs.declared.fault.CueWhy.TheVariants.{SecondFile, Misplaced, Repeated, NoIndex, NotAudio, NumberOrder, IndexOrder, TimeOrder, NoFile, NoTrack}
 
-once_is : {X : Type 0} (o : Option X) (next : CueState) → once o next ≡ unless next (if is_some o then Some Repeated else None)
+once_is : {X : Type 0} (o : Option X) (next : CueState)
+    → once o next ≡ unless next (if is_some o then Some Repeated else None)
 once_is None next = refl
 once_is (Some x) next = refl
 
 track_is : (lacks audio follows : Bool) (next : CueState)
-    → (if lacks then Err NoIndex else (if not audio then Err NotAudio else (if follows then Ok next else Err NumberOrder)))
-    ≡ unless next (if lacks then Some NoIndex else (if not audio then Some NotAudio else (if follows then None else Some NumberOrder)))
+    → (if lacks
+    then Err NoIndex
+    else (if not audio then Err NotAudio else (if follows then Ok next else Err NumberOrder)))
+    ≡ unless next (if lacks
+    then Some NoIndex
+    else (if not audio then Some NotAudio else (if follows then None else Some NumberOrder)))
 track_is true audio follows next = refl
 track_is false false follows next = refl
 track_is false true true next = refl
@@ -33,7 +38,8 @@ latest_is : (time latest : ℕ) → nat_lt time latest ≡ false → time ≡ ma
 latest_is time latest free = let late : latest ≤ time = grind (arith, free) in omega arith
 
 -- what a line makes of what was said, unless there is a reason against it
-pub taken_is : (s : CueState) (line : CueLine) → taken s line ≡ unless (after s line) (later_sheet_reason s line)
+pub taken_is : (s : CueState) (line : CueLine)
+    → taken s line ≡ unless (after s line) (later_sheet_reason s line)
 unfolding taken later_sheet_reason
 taken_is s SaysNothing = refl
 taken_is s SaysFile = refl
@@ -45,14 +51,20 @@ taken_is s (SaysFlags n) = once_is s.section.control _
 taken_is s (SaysIsrc t) = once_is s.section.isrc _
 taken_is s (SaysPregap n) = once_is s.section.pregap _
 taken_is s (SaysPostgap n) = once_is s.section.postgap _
-taken_is s (SaysTrack number audio) = track_is (lacks_index s) audio (follows_number s.number number) (begun s number)
+taken_is s (SaysTrack number audio) =
+    track_is (lacks_index s) audio (follows_number s.number number) (begun s number)
 taken_is s (SaysIndex number time) =
-    index_is (follows_index s.section.indices number) (nat_lt time s.latest) _ (after s (SaysIndex number time))
+    index_is (follows_index s.section.indices number) (nat_lt time s.latest) _
+    (after s (SaysIndex number time))
     (λ free. ap (λ n. record (with_index s number time) { latest = n }) (latest_is time s.latest free))
 
 end_is : (file some one : Bool) (sheet : CueSheet)
-    → (if not file then Err NoFile else (if not some then Err NoTrack else (if not one then Err NoIndex else Ok sheet)))
-    ≡ unless sheet (if not file then Some NoFile else (if not some then Some NoTrack else (if one then None else Some NoIndex)))
+    → (if not file
+    then Err NoFile
+    else (if not some then Err NoTrack else (if not one then Err NoIndex else Ok sheet)))
+    ≡ unless sheet (if not file
+    then Some NoFile
+    else (if not some then Some NoTrack else (if one then None else Some NoIndex)))
 end_is false some one sheet = refl
 end_is true false one sheet = refl
 end_is true true false sheet = refl
@@ -68,21 +80,28 @@ passed_is false false answer first here = cc
 passed_is true placed answer first here = cc
 
 -- a command that stands well and is spelled well: the line that it says is taken, unless there is a reason against it
-pub obeyed_is : (s : CueState) (word : Option SheetCommand) (command : SheetCommand) (argument : List ℕ) (line : CueLine) (reason : Option CueWhy)
-    → word ≡ Some command → is_second_file s command ≡ false → is_placed s command ≡ true → said_by command argument ≡ Some line → later_sheet_reason s line ≡ reason
+pub obeyed_is : (s : CueState) (word : Option SheetCommand) (command : SheetCommand) (argument : List ℕ)
+    (line : CueLine) (reason : Option CueWhy)
+    → word ≡ Some command → is_second_file s command ≡ false → is_placed s command ≡ true
+    → said_by command argument ≡ Some line → later_sheet_reason s line ≡ reason
     → obeyed s word argument ≡ unless (after s line) reason
 obeyed_is s word command argument line reason named first here said is =
     ap (λ w. obeyed s w argument) named
-    ∙ (passed_is (is_second_file s command) (is_placed s command) (spelled_line s (said_by command argument)) first here
+    ∙ (passed_is (is_second_file s command) (is_placed s command) (spelled_line s (said_by command argument))
+    first here
     ∙ (ap (spelled_line s) said ∙ (taken_is s line ∙ ap (unless (after s line)) is)))
 
 some_is : (s : CueState) (line : List ℕ) → 0 < length line
-    → (if is_some_bytes line then obeyed s (command_named (first_word line)) (argument_of line) else Ok s) ≡ obeyed s (command_named (first_word line)) (argument_of line)
+    → (if is_some_bytes line then obeyed s (command_named (first_word line)) (argument_of line) else Ok s)
+    ≡ obeyed s (command_named (first_word line)) (argument_of line)
 some_is s line some =
     let is : is_some_bytes line ≡ true = grind arith in
     ap (λ b. if b then obeyed s (command_named (first_word line)) (argument_of line) else Ok s) is
 
 -- a line that is not empty is its command and its argument
-pub step_is : (s : CueState) (line rest : List ℕ) → rest ≡ trimmed line → 0 < length rest → sheet_step s line ≡ obeyed s (command_named (first_word rest)) (argument_of rest)
+pub step_is : (s : CueState) (line rest : List ℕ) → rest ≡ trimmed line → 0 < length rest
+    → sheet_step s line ≡ obeyed s (command_named (first_word rest)) (argument_of rest)
 step_is s line rest is some =
-    ap (λ l. if is_some_bytes l then obeyed s (command_named (first_word l)) (argument_of l) else Ok s) (sym is) ∙ some_is s rest some
+    ap (λ l. if is_some_bytes l then obeyed s (command_named (first_word l)) (argument_of l) else Ok s)
+    (sym is)
+    ∙ some_is s rest some

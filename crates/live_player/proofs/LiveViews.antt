@@ -44,58 +44,84 @@ meant_append [] ys = refl
 meant_append (None ∷ xs) ys = meant_append xs ys
 meant_append (Some word ∷ xs) ys = ap (λ l. meaning word ∷ l) (meant_append xs ys)
 
-instructions_append : (words others : List (List ℕ)) → instructions_of (words ++ others) ≡ instructions_of words ++ instructions_of others
-instructions_append words others = ap meant_by (map-append finding words others) ∙ meant_append (map finding words) (map finding others)
+instructions_append : (words others : List (List ℕ))
+    → instructions_of (words ++ others) ≡ instructions_of words ++ instructions_of others
+instructions_append words others =
+    ap meant_by (map-append finding words others) ∙ meant_append (map finding words) (map finding others)
 
 -- ---- a block
 
-few_of : (program : Bool) (xs : List (List ℕ)) (words : ArrayVec (List ℕ)) → Some words ≡ cond program (Some (record { items = xs })) None → length xs ≤ 4 → length words.items ≤ 4
+few_of : (program : Bool) (xs : List (List ℕ)) (words : ArrayVec (List ℕ))
+    → Some words ≡ cond program (Some (record { items = xs })) None → length xs ≤ 4
+    → length words.items ≤ 4
 few_of true xs words gave few =
     let same : words ≡ record { items = xs } = cc in
     omega (arith, few, ap (λ (v : ArrayVec (List ℕ)). length v.items) same)
 few_of false xs words gave few = let no : ⊥ = cc in absurd no
 
 -- at most four words come with it
-few_given : (s : BlockWords) (block : List ℕ) (words : ArrayVec (List ℕ)) → Some words ≡ words_give s block → length words.items ≤ 4
+few_given : (s : BlockWords) (block : List ℕ) (words : ArrayVec (List ℕ)) → Some words ≡ words_give s block
+    → length words.items ≤ 4
 unfolding words_give
 few_given s block words gave =
-    few_of (s.lead_in == 0) (run_gives (window_next s.form) (window_gives s.form) s.gather (slots_of block)) words gave
-    (omega (arith, gives_few (window_next s.form) (window_gives s.form) s.gather (slots_of block), length-slots_of block))
+    few_of (s.lead_in == 0) (run_gives (window_next s.form) (window_gives s.form) s.gather (slots_of block))
+    words gave
+    (omega (
+      arith,
+      gives_few (window_next s.form) (window_gives s.form) s.gather (slots_of block),
+      length-slots_of block,
+    ))
 
 -- all words that come with a block are drawn
-pub words_drawn : (now : Standing) (new : Painting) (s : BlockWords) (block : List ℕ) (words : ArrayVec (List ℕ)) → IsWholeStanding now → Some words ≡ words_give s block
-    → new ≡ painting_next (record { screen = now; left = 4; bad = 0 }) words → new.screen ≡ standing_after now (drawn_for (words_give s block))
+pub words_drawn : (now : Standing) (new : Painting) (s : BlockWords) (block : List ℕ)
+    (words : ArrayVec (List ℕ)) → IsWholeStanding now → Some words ≡ words_give s block
+    → new ≡ painting_next (record { screen = now; left = 4; bad = 0 }) words
+    → new.screen ≡ standing_after now (drawn_for (words_give s block))
 unfolding painting_next
 words_drawn now new s block words whole gave is =
     let few : length words.items ≤ 4 = few_given s block words gave in
     let drawn = are_drawn now 4 0 words.items whole (omega (arith, few)) in
-    let all : take 4 (map finding words.items) ≡ map finding words.items = take_all 4 (map finding words.items) (omega (arith, few, length-map words.items finding)) in
-    ap (λ (d : Painting). d.screen) is ∙ drawn.stands ∙ ap (λ found. standing_after now (instrs_of found)) all ∙ ap (standing_after now) (sym (meant_same (map finding words.items)))
+    let all : take 4 (map finding words.items) ≡ map finding words.items =
+    take_all 4 (map finding words.items) (omega (arith, few, length-map words.items finding)) in
+    ap (λ (d : Painting). d.screen) is
+    ∙ drawn.stands
+    ∙ ap (λ found. standing_after now (instrs_of found)) all
+    ∙ ap (standing_after now) (sym (meant_same (map finding words.items)))
     ∙ ap (λ o. standing_after now (drawn_for o)) gave
 
 -- and those with no codeword near are counted
-pub words_counted : (now : Standing) (new : Painting) (s : BlockWords) (block : List ℕ) (words : ArrayVec (List ℕ)) → IsWholeStanding now → Some words ≡ words_give s block
-    → new ≡ painting_next (record { screen = now; left = 4; bad = 0 }) words → new.bad ≡ bad_count (map finding words.items)
+pub words_counted : (now : Standing) (new : Painting) (s : BlockWords) (block : List ℕ)
+    (words : ArrayVec (List ℕ)) → IsWholeStanding now → Some words ≡ words_give s block
+    → new ≡ painting_next (record { screen = now; left = 4; bad = 0 }) words
+    → new.bad ≡ bad_count (map finding words.items)
 unfolding painting_next
 words_counted now new s block words whole gave is =
     let few : length words.items ≤ 4 = few_given s block words gave in
     let drawn = are_drawn now 4 0 words.items whole (omega (arith, few)) in
-    let all : take 4 (map finding words.items) ≡ map finding words.items = take_all 4 (map finding words.items) (omega (arith, few, length-map words.items finding)) in
-    let counted : new.bad ≡ 0 + bad_count (take 4 (map finding words.items)) = ap (λ (d : Painting). d.bad) is ∙ drawn.counted in
-    let same : bad_count (take 4 (map finding words.items)) ≡ bad_count (map finding words.items) = ap bad_count all in
+    let all : take 4 (map finding words.items) ≡ map finding words.items =
+    take_all 4 (map finding words.items) (omega (arith, few, length-map words.items finding)) in
+    let counted : new.bad ≡ 0 + bad_count (take 4 (map finding words.items)) =
+    ap (λ (d : Painting). d.bad) is ∙ drawn.counted in
+    let same : bad_count (take 4 (map finding words.items)) ≡ bad_count (map finding words.items) =
+    ap bad_count all in
     omega (arith, counted, same)
 
 -- a count of some words, and then of those that come with a block
-items_counted : (o : Option (ArrayVec (List ℕ))) (old before : ℕ) → old ≡ min before (2 ^ 32 - 1) → bad_counted old o ≡ min (before + bad_count (map finding (all_items (give o [])))) (2 ^ 32 - 1)
-items_counted None old before is = let none : bad_count (map finding (all_items [])) ≡ 0 = refl in omega (arith, is, none)
+items_counted : (o : Option (ArrayVec (List ℕ))) (old before : ℕ) → old ≡ min before (2 ^ 32 - 1)
+    → bad_counted old o ≡ min (before + bad_count (map finding (all_items (give o [])))) (2 ^ 32 - 1)
+items_counted None old before is = let none : bad_count (map finding (all_items [])) ≡ 0 = refl in
+    omega (arith, is, none)
 items_counted (Some words) old before is =
-    let same : bad_count (map finding (all_items (words ∷ []))) ≡ bad_count (map finding words.items) = ap (λ ws. bad_count (map finding ws)) (nothing_after words.items) in
+    let same : bad_count (map finding (all_items (words ∷ []))) ≡ bad_count (map finding words.items) =
+    ap (λ ws. bad_count (map finding ws)) (nothing_after words.items) in
     omega (arith, is, same)
 
 bad_append : (fs gs : List (Option (List ℕ))) → bad_count (fs ++ gs) ≡ bad_count fs + bad_count gs
 bad_append fs gs = sum_by-append _ fs gs
 
-pub nothing_drawn : (now : Standing) (s : BlockWords) (block : List ℕ) → IsWholeStanding now → None ≡ words_give s block → now ≡ standing_after now (drawn_for (words_give s block))
+pub nothing_drawn : (now : Standing) (s : BlockWords) (block : List ℕ) → IsWholeStanding now
+    → None ≡ words_give s block
+    → now ≡ standing_after now (drawn_for (words_give s block))
 nothing_drawn now s block whole gave = sym whole ∙ ap (λ o. standing_after now (drawn_for o)) gave
 
 items_drawn : (o : Option (ArrayVec (List ℕ))) → drawn_for o ≡ instructions_of (all_items (give o []))
@@ -104,43 +130,69 @@ items_drawn (Some words) = ap instructions_of (sym (nothing_after words.items))
 
 -- ---- what a player was given
 
-pub fed_more : (form : Form) (lead_in : ℕ) (given : List Given) (block : List ℕ) (old new : LivePlayer) → length block ≡ 96 → new.words ≡ words_next old.words block
+pub fed_more : (form : Form) (lead_in : ℕ) (given : List Given) (block : List ℕ) (old new : LivePlayer)
+    → length block ≡ 96 → new.words ≡ words_next old.words block
     → standing_on new ≡ standing_after (standing_on old) (drawn_for (words_give old.words block))
-    → new.lead_in ≡ old.lead_in → new.blocks ≡ min (old.blocks + 1) (2 ^ 32 - 1) → new.bad ≡ bad_counted old.bad (words_give old.words block)
+    → new.lead_in ≡ old.lead_in → new.blocks ≡ min (old.blocks + 1) (2 ^ 32 - 1)
+    → new.bad ≡ bad_counted old.bad (words_give old.words block)
     → HasPlayed form lead_in given old → HasPlayed form lead_in (Fed block ∷ given) new
 fed_more form lead_in given block old new size next draws begun counted bad played =
-    let more : bad_words_in form lead_in (blocks_in given ++ block ∷ []) ≡ bad_words_in form lead_in (blocks_in given) + bad_count (map finding (all_items (give (words_give old.words block) []))) =
-    ap (λ ws. bad_count (map finding ws)) (more_words form lead_in (blocks_in given) block old.words size played.sized played.gathers)
-    ∙ ap bad_count (map-append finding (stream_words form lead_in (blocks_in given)) (all_items (give (words_give old.words block) [])))
-    ∙ bad_append (map finding (stream_words form lead_in (blocks_in given))) (map finding (all_items (give (words_give old.words block) []))) in
-    let came : drawn_for (words_give old.words block) ≡ instructions_of (words_with form lead_in (blocks_in given) block) =
-    items_drawn (words_give old.words block) ∙ ap instructions_of (sym (words_come form lead_in (blocks_in given) block old.words size played.sized played.gathers)) in
+    let more : bad_words_in form lead_in (blocks_in given ++ block ∷ [])
+    ≡ bad_words_in form lead_in (blocks_in given)
+    + bad_count (map finding (all_items (give (words_give old.words block) []))) =
+    ap (λ ws. bad_count (map finding ws))
+    (more_words form lead_in (blocks_in given) block old.words size played.sized played.gathers)
+    ∙ ap bad_count (map-append finding (stream_words form lead_in (blocks_in given))
+    (all_items (give (words_give old.words block) [])))
+    ∙ bad_append (map finding (stream_words form lead_in (blocks_in given)))
+    (map finding (all_items (give (words_give old.words block) []))) in
+    let came : drawn_for (words_give old.words block)
+    ≡ instructions_of (words_with form lead_in (blocks_in given) block) =
+    items_drawn (words_give old.words block)
+    ∙ ap instructions_of
+    (sym (words_come form lead_in (blocks_in given) block old.words size played.sized played.gathers)) in
     record {
       sized = sized_append 96 (blocks_in given) (block ∷ []) played.sized (size, tt);
-      gathers = next ∙ ap (λ w. words_next w block) played.gathers ∙ sym (run_state-append words_next (fresh_words form lead_in) (blocks_in given) (block ∷ []));
+      gathers =
+          next
+          ∙ ap (λ w. words_next w block) played.gathers
+          ∙ sym (run_state-append words_next (fresh_words form lead_in) (blocks_in given) (block ∷ []));
       stands = draws ∙ ap₂ (λ now instrs. standing_after now instrs) played.stands came
-          ∙ sym (in_turn blank (instructions_in form lead_in given) (instructions_of (words_with form lead_in (blocks_in given) block)));
+          ∙ sym (in_turn blank (instructions_in form lead_in given)
+          (instructions_of (words_with form lead_in (blocks_in given) block)));
       begun = begun ∙ played.begun;
       counted = omega (arith, counted, played.counted, length-append (blocks_in given) (block ∷ []));
-      bad = bad ∙ items_counted (words_give old.words block) old.bad (bad_words_in form lead_in (blocks_in given)) played.bad ∙ ap (λ n. min n (2 ^ 32 - 1)) (sym more);
+      bad =
+          bad
+          ∙ items_counted (words_give old.words block) old.bad (bad_words_in form lead_in (blocks_in given))
+          played.bad
+          ∙ ap (λ n. min n (2 ^ 32 - 1)) (sym more);
     }
 
-pub drawn_more : (form : Form) (lead_in : ℕ) (given : List Given) (pack : List ℕ) (old new : LivePlayer) → new.words ≡ old.words
+pub drawn_more : (form : Form) (lead_in : ℕ) (given : List Given) (pack : List ℕ) (old new : LivePlayer)
+    → new.words ≡ old.words
     → standing_on new ≡ standing_after (standing_on old) (instruction_of pack ∷ [])
-    → new.lead_in ≡ old.lead_in → new.blocks ≡ old.blocks → new.bad ≡ old.bad → HasPlayed form lead_in given old → HasPlayed form lead_in (Drawn pack ∷ given) new
+    → new.lead_in ≡ old.lead_in → new.blocks ≡ old.blocks → new.bad ≡ old.bad
+    → HasPlayed form lead_in given old
+    → HasPlayed form lead_in (Drawn pack ∷ given) new
 drawn_more form lead_in given pack old new same draws begun counted bad played = record {
   sized = played.sized;
   gathers = same ∙ played.gathers;
-  stands = draws ∙ ap (λ now. standing_after now (instruction_of pack ∷ [])) played.stands ∙ sym (in_turn blank (instructions_in form lead_in given) (instruction_of pack ∷ []));
+  stands =
+      draws
+      ∙ ap (λ now. standing_after now (instruction_of pack ∷ [])) played.stands
+      ∙ sym (in_turn blank (instructions_in form lead_in given) (instruction_of pack ∷ []));
   begun = begun ∙ played.begun;
   counted = counted ∙ played.counted;
   bad = bad ∙ played.bad;
 }
 
-pub begun : (form : Form) (lead_in : ℕ) (player : LivePlayer) → player.words ≡ fresh_words form lead_in → standing_on player ≡ blank
+pub begun : (form : Form) (lead_in : ℕ) (player : LivePlayer) → player.words ≡ fresh_words form lead_in
+    → standing_on player ≡ blank
     → player.lead_in ≡ lead_in → player.blocks ≡ 0 → player.bad ≡ 0 → HasPlayed form lead_in [] player
 begun form lead_in player words zero lead_in_is none none_bad =
-    let nothing : bad_words_in form lead_in [] ≡ 0 = ap (λ ws. bad_count (map finding ws)) (no_words_yet form lead_in) in
+    let nothing : bad_words_in form lead_in [] ≡ 0 =
+    ap (λ ws. bad_count (map finding ws)) (no_words_yet form lead_in) in
     record {
       sized = tt;
       gathers = words;
@@ -159,23 +211,29 @@ sized_before (y ∷ ys) x sized = let rest = sized_before ys x sized.1 in ((size
 not_none : {A : Type 0} (xs : List A) (x : A) → xs ++ x ∷ [] ≡ [] → ⊥
 not_none {A} xs x none = omega (arith, length-append xs (x ∷ []), ap (λ (l : List A). length l) none)
 
-all_drawn : (form : Form) (lead_in : ℕ) (given : List Given) → Sized 96 (blocks_in given) → packs_given given ≡ []
+all_drawn : (form : Form) (lead_in : ℕ) (given : List Given) → Sized 96 (blocks_in given)
+    → packs_given given ≡ []
     → instructions_in form lead_in given ≡ instructions_of (stream_words form lead_in (blocks_in given))
 all_drawn form lead_in [] sized none = ap instructions_of (sym (no_words_yet form lead_in))
 all_drawn form lead_in (Fed block ∷ before) sized none =
     let parts = sized_before (blocks_in before) block sized in
-    ap (λ l. l ++ instructions_of (words_with form lead_in (blocks_in before) block)) (all_drawn form lead_in before parts.0 none)
-    ∙ sym (instructions_append (stream_words form lead_in (blocks_in before)) (words_with form lead_in (blocks_in before) block))
+    ap (λ l. l ++ instructions_of (words_with form lead_in (blocks_in before) block))
+    (all_drawn form lead_in before parts.0 none)
+    ∙ sym (instructions_append (stream_words form lead_in (blocks_in before))
+    (words_with form lead_in (blocks_in before) block))
     ∙ ap instructions_of (sym (words_go_on form lead_in (blocks_in before) block parts.1 parts.0))
 all_drawn form lead_in (Drawn pack ∷ before) sized none = absurd (not_none (packs_given before) pack none)
 
-packs_drawn : (form : Form) (lead_in : ℕ) (given : List Given) → blocks_in given ≡ [] → instructions_in form lead_in given ≡ map instruction_of (packs_given given)
+packs_drawn : (form : Form) (lead_in : ℕ) (given : List Given) → blocks_in given ≡ []
+    → instructions_in form lead_in given ≡ map instruction_of (packs_given given)
 packs_drawn form lead_in [] none = refl
 packs_drawn form lead_in (Fed block ∷ before) none = absurd (not_none (blocks_in before) block none)
 packs_drawn form lead_in (Drawn pack ∷ before) none =
-    ap (λ l. l ++ instruction_of pack ∷ []) (packs_drawn form lead_in before none) ∙ sym (map-append instruction_of (packs_given before) (pack ∷ []))
+    ap (λ l. l ++ instruction_of pack ∷ []) (packs_drawn form lead_in before none)
+    ∙ sym (map-append instruction_of (packs_given before) (pack ∷ []))
 
-pub live_view : (form : Form) (lead_in : ℕ) (given : List Given) (player : LivePlayer) → HasPlayed form lead_in given player
+pub live_view : (form : Form) (lead_in : ℕ) (given : List Given) (player : LivePlayer)
+    → HasPlayed form lead_in given player
     → packs_given given ≡ [] → IsLiveView form lead_in (blocks_in given) (standing_on player)
 live_view form lead_in given player played none =
     let blocks : List (List ℕ) = blocks_in given in
@@ -187,20 +245,26 @@ live_view form lead_in given player played none =
       instrs = instrs_of found;
       meant = are_meant found;
       stands = played.stands ∙ ap (standing_after blank) (all_drawn form lead_in given played.sized none
-          ∙ meant_same (map finding (stream_words form lead_in blocks)) ∙ ap (λ ws. instrs_of (map finding ws)) (sym words));
+          ∙ meant_same (map finding (stream_words form lead_in blocks))
+          ∙ ap (λ ws. instrs_of (map finding ws)) (sym words));
     }
 
 -- of a raw stream, all packs that came are whole where the program is
-pub live_view_now : (lead_in : ℕ) (given : List Given) (player : LivePlayer) → HasPlayed Raw lead_in given player → packs_given given ≡ []
+pub live_view_now : (lead_in : ℕ) (given : List Given) (player : LivePlayer)
+    → HasPlayed Raw lead_in given player → packs_given given ≡ []
     → IsLiveViewAt Raw lead_in (length (blocks_in given) - lead_in) (blocks_in given) (standing_on player)
 live_view_now lead_in given player played none =
     let blocks : List (List ℕ) = blocks_in given in
-    let view : IsLiveView Raw lead_in blocks (standing_on player) = live_view Raw lead_in given player played none in
+    let view : IsLiveView Raw lead_in blocks (standing_on player) =
+    live_view Raw lead_in given player played none in
     let n : ℕ = length blocks - lead_in in
     let program : List (List ℕ) = drop lead_in blocks in
-    let symbols : length (flat_map symbols_of program) ≡ 96 * length program = length-all_symbols program (sized_drop 96 lead_in blocks played.sized) in
-    let count : length view.found ≡ whole_packs n = view.recovered.count ∙ ap whole_packs (omega (arith, symbols, length-drop lead_in blocks)) in
-    let all : take (whole_packs n) view.found ≡ view.found = take_all (whole_packs n) view.found (omega (arith, count)) in
+    let symbols : length (flat_map symbols_of program) ≡ 96 * length program =
+    length-all_symbols program (sized_drop 96 lead_in blocks played.sized) in
+    let count : length view.found ≡ whole_packs n =
+    view.recovered.count ∙ ap whole_packs (omega (arith, symbols, length-drop lead_in blocks)) in
+    let all : take (whole_packs n) view.found ≡ view.found =
+    take_all (whole_packs n) view.found (omega (arith, count)) in
     record {
       found = view.found;
       recovered = view.recovered;
@@ -209,6 +273,8 @@ live_view_now lead_in given player played none =
       stands = view.stands;
     }
 
-pub packs_view : (form : Form) (lead_in : ℕ) (given : List Given) (player : LivePlayer) → HasPlayed form lead_in given player → blocks_in given ≡ []
+pub packs_view : (form : Form) (lead_in : ℕ) (given : List Given) (player : LivePlayer)
+    → HasPlayed form lead_in given player → blocks_in given ≡ []
     → standing_on player ≡ standing_after blank (map instruction_of (packs_given given))
-packs_view form lead_in given player played none = played.stands ∙ ap (standing_after blank) (packs_drawn form lead_in given none)
+packs_view form lead_in given player played none =
+    played.stands ∙ ap (standing_after blank) (packs_drawn form lead_in given none)

@@ -29,7 +29,9 @@ first_is_late script rows k are lt first = record {
 }
 
 -- once picture k is drawn on both canvases, the next one comes
-pub before_next : (script : List Drawing) (k : ℕ) (before now : Board) (weights : List Weighed) → k < pictures script → before.at ≡ Some k → IsPicture script k before → now.at ≡ Some k → IsPicture script k now
+pub before_next : (script : List Drawing) (k : ℕ) (before now : Board) (weights : List Weighed)
+    → k < pictures script → before.at ≡ Some k → IsPicture script k before → now.at ≡ Some k
+    → IsPicture script k now
     → AreWeights script k weights → IsBeforePicture script (k + 1) before now weights
 before_next script k before now weights lt before_at before_is now_at now_is kept = record {
   k_most = omega (arith, lt);

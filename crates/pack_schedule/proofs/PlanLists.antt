@@ -17,72 +17,123 @@ use Rattle.pack_schedule.proofs.SettingLaws.{same_eight}
 -- Tiles in turn.
 
 unfoldable pub plans_so_far : List Drawing → ℕ → Option ℕ → ℕ → List Instr
-plans_so_far script k start i = flat_map (λ p. plan p.0 p.1 (tiles_before script k start p.0 p.1) (picture_tile script k p.0 p.1)) (map place_of (below i))
+plans_so_far script k start i =
+    flat_map (λ p. plan p.0 p.1 (tiles_before script k start p.0 p.1) (picture_tile script k p.0 p.1))
+    (map place_of (below i))
 
-pub plans_none : (script : List Drawing) (k : ℕ) (start : Option ℕ) (old : List Instr) → old ≡ old ++ plans_so_far script k start 0
+pub plans_none : (script : List Drawing) (k : ℕ) (start : Option ℕ) (old : List Instr)
+    → old ≡ old ++ plans_so_far script k start 0
 unfolding plans_so_far
 plans_none script k start old = sym (append-nil old)
 
-pub plans_more : (script : List Drawing) (k i : ℕ) (start : Option ℕ) (old so_far more : List Instr) → so_far ≡ old ++ plans_so_far script k start i
-    → more ≡ so_far ++ plan (i / 48 + 1) (i % 48 + 1) (tiles_before script k start (i / 48 + 1) (i % 48 + 1)) (picture_tile script k (i / 48 + 1) (i % 48 + 1))
+pub plans_more : (script : List Drawing) (k i : ℕ) (start : Option ℕ) (old so_far more : List Instr)
+    → so_far ≡ old ++ plans_so_far script k start i
+    → more
+    ≡ so_far ++ plan (i / 48 + 1) (i % 48 + 1) (tiles_before script k start (i / 48 + 1) (i % 48 + 1))
+    (picture_tile script k (i / 48 + 1) (i % 48 + 1))
     → more ≡ old ++ plans_so_far script k start (i + 1)
 unfolding plans_so_far
 plans_more script k i start old so_far more h next =
     let zero_plus : 0 + i ≡ i = omega arith in
-    let f : ℕ × ℕ → List Instr = λ p. plan p.0 p.1 (tiles_before script k start p.0 p.1) (picture_tile script k p.0 p.1) in
-    next ∙ ap (λ xs. xs ++ f (place_of i)) h ∙ append_assoc old (flat_map f (map place_of (below i))) (f (place_of i))
-    ∙ ap (λ xs. old ++ xs) (ap (λ ys. flat_map f (map place_of (below i)) ++ ys) (sym (append-nil (f (place_of i)))) ∙ sym (flat_map-append f (map place_of (below i)) (place_of i ∷ [])) ∙ ap (flat_map f) (sym (map-range_with_len_more place_of 0 i i zero_plus)))
+    let f : ℕ × ℕ → List Instr =
+    λ p. plan p.0 p.1 (tiles_before script k start p.0 p.1) (picture_tile script k p.0 p.1) in
+    next
+    ∙ ap (λ xs. xs ++ f (place_of i)) h
+    ∙ append_assoc old (flat_map f (map place_of (below i))) (f (place_of i))
+    ∙ ap (λ xs. old ++ xs) (ap (λ ys. flat_map f (map place_of (below i)) ++ ys)
+    (sym (append-nil (f (place_of i))))
+    ∙ sym (flat_map-append f (map place_of (below i)) (place_of i ∷ []))
+    ∙ ap (flat_map f) (sym (map-range_with_len_more place_of 0 i i zero_plus)))
 
-pub plans_all : (script : List Drawing) (k i : ℕ) (start : Option ℕ) (old so_far : List Instr) → i ≡ 768 → so_far ≡ old ++ plans_so_far script k start i → so_far ≡ old ++ planned_tiles script k start
+pub plans_all : (script : List Drawing) (k i : ℕ) (start : Option ℕ) (old so_far : List Instr) → i ≡ 768
+    → so_far ≡ old ++ plans_so_far script k start i
+    → so_far ≡ old ++ planned_tiles script k start
 unfolding plans_so_far planned_tiles
 plans_all script k i start old so_far is h =
-    h ∙ ap (λ n. old ++ flat_map (λ (p : ℕ × ℕ). plan p.0 p.1 (tiles_before script k start p.0 p.1) (picture_tile script k p.0 p.1)) (map place_of (below n))) is
-    ∙ ap (λ ps. old ++ flat_map (λ (p : ℕ × ℕ). plan p.0 p.1 (tiles_before script k start p.0 p.1) (picture_tile script k p.0 p.1)) ps) (sym places_in_order)
+    h
+    ∙ ap (λ n. old ++ flat_map
+    (λ (p : ℕ × ℕ). plan p.0 p.1 (tiles_before script k start p.0 p.1) (picture_tile script k p.0 p.1))
+    (map place_of (below n))) is
+    ∙ ap (λ ps. old ++ flat_map
+    (λ (p : ℕ × ℕ). plan p.0 p.1 (tiles_before script k start p.0 p.1) (picture_tile script k p.0 p.1)) ps)
+    (sym places_in_order)
 
 -- Settings.
 
 unless : Bool → Instr → List Instr
 unless b instr = if b then [] else instr ∷ []
 
-pub first_list : (script : List Drawing) (k : ℕ) (old : List Instr) (border : ℕ) (low high : List ℕ) → k ≡ 0 → border ≡ picture_border script k → low ≡ low_colours script k → high ≡ high_colours script k
-    → ((old ++ BorderPreset border ∷ []) ++ ColoursLow low ∷ []) ++ ColoursHigh high ∷ [] ≡ old ++ settings script k
+pub first_list : (script : List Drawing) (k : ℕ) (old : List Instr) (border : ℕ) (low high : List ℕ) → k ≡ 0
+    → border ≡ picture_border script k → low ≡ low_colours script k → high ≡ high_colours script k
+    → ((old ++ BorderPreset border ∷ []) ++ ColoursLow low ∷ []) ++ ColoursHigh high ∷ []
+    ≡ old ++ settings script k
 first_list script zero old border low high is b l h =
-    append_assoc (old ++ BorderPreset border ∷ []) (ColoursLow low ∷ []) (ColoursHigh high ∷ []) ∙ append_assoc old (BorderPreset border ∷ []) (ColoursLow low ∷ ColoursHigh high ∷ [])
+    append_assoc (old ++ BorderPreset border ∷ []) (ColoursLow low ∷ []) (ColoursHigh high ∷ [])
+    ∙ append_assoc old (BorderPreset border ∷ []) (ColoursLow low ∷ ColoursHigh high ∷ [])
     ∙ rw (b, l, h) refl
 first_list script (suc k) old border low high is b l h = absurd (omega arith)
 
-pub later_list : (script : List Drawing) (k : ℕ) (old : List Instr) (s_border s_low s_high : Bool) (border : ℕ) (low high : List ℕ) → 0 < k
-    → s_border ≡ (picture_border script (k - 1) == picture_border script k) → s_low ≡ are_equal (low_colours script (k - 1)) (low_colours script k) → s_high ≡ are_equal (high_colours script (k - 1)) (high_colours script k)
+pub later_list : (script : List Drawing) (k : ℕ) (old : List Instr) (s_border s_low s_high : Bool)
+    (border : ℕ) (low high : List ℕ) → 0 < k
+    → s_border ≡ (picture_border script (k - 1) == picture_border script k)
+    → s_low ≡ are_equal (low_colours script (k - 1)) (low_colours script k)
+    → s_high ≡ are_equal (high_colours script (k - 1)) (high_colours script k)
     → border ≡ picture_border script k → low ≡ low_colours script k → high ≡ high_colours script k
-    → ((old ++ (if s_border then [] else BorderPreset border ∷ [])) ++ (if s_low then [] else ColoursLow low ∷ [])) ++ (if s_high then [] else ColoursHigh high ∷ []) ≡ old ++ settings script k
+    → ((old ++ (if s_border then [] else BorderPreset border ∷ []))
+    ++ (if s_low then [] else ColoursLow low ∷ [])) ++ (if s_high then [] else ColoursHigh high ∷ [])
+    ≡ old ++ settings script k
 later_list script zero old s_border s_low s_high border low high pos tb tl th b l h = absurd (omega arith)
 later_list script (suc k) old s_border s_low s_high border low high pos tb tl th b l h =
     let at : suc k - 1 ≡ k = omega arith in
     let a = if s_border then [] else BorderPreset border ∷ [] in
     let d = if s_low then [] else ColoursLow low ∷ [] in
     let e = if s_high then [] else ColoursHigh high ∷ [] in
-    let one : a ≡ (if picture_border script k == picture_border script (suc k) then [] else BorderPreset (picture_border script (suc k)) ∷ []) =
-    ap₂ (λ (t : Bool) n. if t then [] else BorderPreset n ∷ []) (tb ∙ ap (λ j. picture_border script j == picture_border script (suc k)) at) b in
-    let two : d ≡ (if are_equal (low_colours script k) (low_colours script (suc k)) then [] else ColoursLow (low_colours script (suc k)) ∷ []) =
-    ap₂ (λ (t : Bool) n. if t then [] else ColoursLow n ∷ []) (tl ∙ ap (λ j. are_equal (low_colours script j) (low_colours script (suc k))) at) l in
-    let three : e ≡ (if are_equal (high_colours script k) (high_colours script (suc k)) then [] else ColoursHigh (high_colours script (suc k)) ∷ []) =
-    ap₂ (λ (t : Bool) n. if t then [] else ColoursHigh n ∷ []) (th ∙ ap (λ j. are_equal (high_colours script j) (high_colours script (suc k))) at) h in
-    append_assoc (old ++ a) d e ∙ append_assoc old a (d ++ e) ∙ ap (λ xs. old ++ xs) (sym (append_assoc a d e) ∙ ap₂ (λ x y. x ++ y) (ap₂ (λ x y. x ++ y) one two) three)
+    let one : a
+    ≡ (if picture_border script k == picture_border script (suc k)
+    then []
+    else BorderPreset (picture_border script (suc k)) ∷ []) =
+    ap₂ (λ (t : Bool) n. if t then [] else BorderPreset n ∷ [])
+    (tb ∙ ap (λ j. picture_border script j == picture_border script (suc k)) at) b in
+    let two : d
+    ≡ (if are_equal (low_colours script k) (low_colours script (suc k))
+    then []
+    else ColoursLow (low_colours script (suc k)) ∷ []) =
+    ap₂ (λ (t : Bool) n. if t then [] else ColoursLow n ∷ [])
+    (tl ∙ ap (λ j. are_equal (low_colours script j) (low_colours script (suc k))) at) l in
+    let three : e
+    ≡ (if are_equal (high_colours script k) (high_colours script (suc k))
+    then []
+    else ColoursHigh (high_colours script (suc k)) ∷ []) =
+    ap₂ (λ (t : Bool) n. if t then [] else ColoursHigh n ∷ [])
+    (th ∙ ap (λ j. are_equal (high_colours script j) (high_colours script (suc k))) at) h in
+    append_assoc (old ++ a) d e
+    ∙ append_assoc old a (d ++ e)
+    ∙ ap (λ xs. old ++ xs)
+    (sym (append_assoc a d e) ∙ ap₂ (λ x y. x ++ y) (ap₂ (λ x y. x ++ y) one two) three)
 
 -- the colours of a canvas are those of its picture
-pub low_are : (script : List Drawing) (k : ℕ) (board : Board) → IsPicture script k board → map (λ n. slice_index board.colours (0 + n)) (below 8) ≡ low_colours script k
+pub low_are : (script : List Drawing) (k : ℕ) (board : Board) → IsPicture script k board
+    → map (λ n. slice_index board.colours (0 + n)) (below 8) ≡ low_colours script k
 unfolding low_colours
-low_are script k board h = same_eight (λ n. slice_index board.colours (0 + n)) (picture_colour script k) (λ n lt.
+low_are script k board h =
+    same_eight (λ n. slice_index board.colours (0 + n)) (picture_colour script k) (λ n lt.
     let zero_plus : 0 + n ≡ n = omega arith in
     ap (slice_index board.colours) zero_plus ∙ h.colours_are n (omega arith))
 
-pub high_are : (script : List Drawing) (k : ℕ) (board : Board) → IsPicture script k board → map (λ n. slice_index board.colours (8 + n)) (below 8) ≡ high_colours script k
+pub high_are : (script : List Drawing) (k : ℕ) (board : Board) → IsPicture script k board
+    → map (λ n. slice_index board.colours (8 + n)) (below 8) ≡ high_colours script k
 unfolding high_colours
-high_are script k board h = same_eight (λ n. slice_index board.colours (8 + n)) (λ n. picture_colour script k (8 + n)) (λ n lt. h.colours_are (8 + n) (omega arith))
+high_are script k board h =
+    same_eight (λ n. slice_index board.colours (8 + n)) (λ n. picture_colour script k (8 + n))
+    (λ n lt. h.colours_are (8 + n) (omega arith))
 
-pub planned_whole : (script : List Drawing) (k : ℕ) (start : Option ℕ) (one two new : List Instr) → one ≡ preset_of start → two ≡ one ++ settings script k → new ≡ two ++ planned_tiles script k start → new ≡ planned_from script k start
+pub planned_whole : (script : List Drawing) (k : ℕ) (start : Option ℕ) (one two new : List Instr)
+    → one ≡ preset_of start → two ≡ one ++ settings script k → new ≡ two ++ planned_tiles script k start
+    → new ≡ planned_from script k start
 unfolding planned_from
-planned_whole script k start one two new a b d = d ∙ ap (λ xs. xs ++ planned_tiles script k start) (b ∙ ap (λ xs. xs ++ settings script k) a)
+planned_whole script k start one two new a b d =
+    d ∙ ap (λ xs. xs ++ planned_tiles script k start) (b ∙ ap (λ xs. xs ++ settings script k) a)
 
-pub all_colour : (k colour : ℕ) (start : Option ℕ) → start ≡ Some colour → IsStart k start → All (λ p. p < 16) (replicate 72 colour)
+pub all_colour : (k colour : ℕ) (start : Option ℕ) → start ≡ Some colour → IsStart k start
+    → All (λ p. p < 16) (replicate 72 colour)
 all_colour k colour start is h = (colour_is_tile colour (start_small k colour (subst (IsStart k) is h))).below

@@ -21,7 +21,8 @@ use Rattle.pack_schedule.specs.declared.change.weights.Weighed.{Weighed}
 use Rattle.pack_schedule.proofs.Counting.{steps_so_far, none_so_far, one_more_tile, all_tiles}
 use Rattle.pack_schedule.proofs.SettingLaws.{zero_all}
 
-pub all_rows : (old new : List ℕ) (r : ℕ) → 16 ≤ r → ((m : ℕ) → m < r → SameRow old new (m + 1)) → SameTiles old new
+pub all_rows : (old new : List ℕ) (r : ℕ) → 16 ≤ r → ((m : ℕ) → m < r → SameRow old new (m + 1))
+    → SameTiles old new
 all_rows old new r end all row first last column from to =
     let back : row - 1 + 1 ≡ row = omega arith in
     subst (λ n. tile_of old n column ≡ tile_of new n column) back (all (row - 1) (omega arith) column from to)
@@ -29,7 +30,8 @@ all_rows old new r end all row first last column from to =
 -- nothing is needed for a tile that stands
 equal_self : (t : List ℕ) → are_equal t t ≡ true
 unfolding are_equal delta
-equal_self t = zero_all (λ p. bit_xor (slice_index t p) (slice_index t p)) 72 0 (λ p. xor_self (slice_index t p))
+equal_self t =
+    zero_all (λ p. bit_xor (slice_index t p) (slice_index t p)) 72 0 (λ p. xor_self (slice_index t p))
 
 pub steps_self : (old new : List ℕ) → old ≡ new → steps old new ≡ 0
 unfolding steps
@@ -40,40 +42,62 @@ unfolding plan
 plan_self row column old new same = ap (plan row column old) (sym same) ∙ rw (equal_self old) refl
 
 -- the tile of a picture that stands on a canvas
-pub tile_picture : (script : List Drawing) (k row column : ℕ) (board : Board) → 1 ≤ row → row ≤ 16 → 1 ≤ column → column ≤ 48 → IsPicture script k board → tile_of board.pixels row column ≡ picture_tile script k row column
+pub tile_picture : (script : List Drawing) (k row column : ℕ) (board : Board) → 1 ≤ row → row ≤ 16
+    → 1 ≤ column → column ≤ 48 → IsPicture script k board
+    → tile_of board.pixels row column ≡ picture_tile script k row column
 tile_picture script k row column board row_ge row_le column_ge column_le h =
-    picture_tile_is script k row column board (tile_of board.pixels row column) row_ge row_le column_ge column_le (tile_size board.pixels row column) (λ q lt. tile_pixel board.pixels row column q lt) h
+    picture_tile_is script k row column board (tile_of board.pixels row column) row_ge row_le column_ge
+    column_le (tile_size board.pixels row column) (λ q lt. tile_pixel board.pixels row column q lt) h
 
-pub same_picture_tile : (script : List Drawing) (k row column : ℕ) (before now : Board) → 1 ≤ row → row ≤ 16 → 1 ≤ column → column ≤ 48 → IsPicture script (k - 1) before → IsPicture script k now
-    → tile_of before.pixels row column ≡ tile_of now.pixels row column → picture_tile script (k - 1) row column ≡ picture_tile script k row column
+pub same_picture_tile : (script : List Drawing) (k row column : ℕ) (before now : Board) → 1 ≤ row → row ≤ 16
+    → 1 ≤ column → column ≤ 48 → IsPicture script (k - 1) before → IsPicture script k now
+    → tile_of before.pixels row column ≡ tile_of now.pixels row column
+    → picture_tile script (k - 1) row column ≡ picture_tile script k row column
 same_picture_tile script k row column before now row_ge row_le column_ge column_le was is same =
-    sym (tile_picture script (k - 1) row column before row_ge row_le column_ge column_le was) ∙ same ∙ tile_picture script k row column now row_ge row_le column_ge column_le is
+    sym (tile_picture script (k - 1) row column before row_ge row_le column_ge column_le was)
+    ∙ same
+    ∙ tile_picture script k row column now row_ge row_le column_ge column_le is
 
 -- a tile of weight 1 takes one instruction from one that it differs from
 abbrev LightTilesTakeOne : Type 0
-LightTilesTakeOne = (old new : List ℕ) → length old ≡ tile_pixels → length new ≡ tile_pixels → weight new ≡ 1 → old ≢ new → steps old new ≡ 1
+LightTilesTakeOne = (old new : List ℕ) → length old ≡ tile_pixels → length new ≡ tile_pixels → weight new ≡ 1
+    → old ≢ new
+    → steps old new ≡ 1
 
-pub light_tile : LightTilesTakeOne → (script : List Drawing) (k row column : ℕ) (before now : Board) → 1 ≤ row → row ≤ 16 → 1 ≤ column → column ≤ 48 → IsPicture script (k - 1) before → IsPicture script k now
-    → tile_of before.pixels row column ≢ tile_of now.pixels row column → weight (tile_of now.pixels row column) ≡ 1
+pub light_tile : LightTilesTakeOne → (script : List Drawing) (k row column : ℕ) (before now : Board) → 1 ≤ row
+    → row ≤ 16 → 1 ≤ column → column ≤ 48 → IsPicture script (k - 1) before → IsPicture script k now
+    → tile_of before.pixels row column ≢ tile_of now.pixels row column
+    → weight (tile_of now.pixels row column) ≡ 1
     → 1 ≡ steps (picture_tile script (k - 1) row column) (picture_tile script k row column)
 light_tile take_one script k row column before now row_ge row_le column_ge column_le was is differ light =
     let one : steps (tile_of before.pixels row column) (tile_of now.pixels row column) ≡ 1 =
-    take_one (tile_of before.pixels row column) (tile_of now.pixels row column) (tile_size before.pixels row column) (tile_size now.pixels row column) light differ in
-    sym one ∙ ap₂ steps (tile_picture script (k - 1) row column before row_ge row_le column_ge column_le was) (tile_picture script k row column now row_ge row_le column_ge column_le is)
+    take_one (tile_of before.pixels row column) (tile_of now.pixels row column)
+    (tile_size before.pixels row column) (tile_size now.pixels row column) light differ in
+    sym one
+    ∙ ap₂ steps (tile_picture script (k - 1) row column before row_ge row_le column_ge column_le was)
+    (tile_picture script k row column now row_ge row_le column_ge column_le is)
 
 -- a row of tiles that is the same in picture k and in the picture before
-pub row_kept : (script : List Drawing) (k r : ℕ) (before now : Board) → r < 16 → IsPicture script (k - 1) before → IsPicture script k now
-    → ((x y : ℕ) → y / 12 ≡ r → picture_pixel script (k - 1) x y ≡ picture_pixel script k x y) → SameRow before.pixels now.pixels (r + 1)
+pub row_kept : (script : List Drawing) (k r : ℕ) (before now : Board) → r < 16
+    → IsPicture script (k - 1) before → IsPicture script k now
+    → ((x y : ℕ) → y / 12 ≡ r → picture_pixel script (k - 1) x y ≡ picture_pixel script k x y)
+    → SameRow before.pixels now.pixels (r + 1)
 row_kept script k r before now lt was is kept column from to =
-    picture_tile_is script k (r + 1) column now (tile_of before.pixels (r + 1) column) (omega arith) (omega (arith, lt)) from to (tile_size before.pixels (r + 1) column)
+    picture_tile_is script k (r + 1) column now (tile_of before.pixels (r + 1) column) (omega arith)
+    (omega (arith, lt)) from to (tile_size before.pixels (r + 1) column)
     (λ q q_lt.
     let x : ℕ = 6 * (column - 1) + q % 6 in
     let y : ℕ = 12 * (r + 1 - 1) + q / 6 in
-    tile_pixel before.pixels (r + 1) column q q_lt ∙ was.pixels_are x y (omega arith) (omega arith) ∙ kept x y (omega arith) ∙ sym (is.pixels_are x y (omega arith) (omega arith)))
+    tile_pixel before.pixels (r + 1) column q q_lt
+    ∙ was.pixels_are x y (omega arith) (omega arith)
+    ∙ kept x y (omega arith)
+    ∙ sym (is.pixels_are x y (omega arith) (omega arith)))
     is ∙ sym (tile_picture script k (r + 1) column now (omega arith) (omega (arith, lt)) from to is)
 
 -- what is told of one row more
-pub row_told : (old new : List ℕ) (same : List Bool) (r : ℕ) (told : Bool) → r < length same → ((m : ℕ) → m < 16 → get_or same m false ≡ true → SameRow old new (m + 1)) → (told ≡ true → SameRow old new (r + 1))
+pub row_told : (old new : List ℕ) (same : List Bool) (r : ℕ) (told : Bool) → r < length same
+    → ((m : ℕ) → m < 16 → get_or same m false ≡ true → SameRow old new (m + 1))
+    → (told ≡ true → SameRow old new (r + 1))
     → (m : ℕ) → m < 16 → get_or (slice_set same r told) m false ≡ true → SameRow old new (m + 1)
 row_told old new same r told inside so_far here m lt is = elim (cases_lt m r) [
   | inl less ↦ so_far m lt (sym (get_or-set_other same r m told false (λ e. omega (arith, e, less))) ∙ is)
@@ -81,46 +105,64 @@ row_told old new same r told inside so_far here m lt is = elim (cases_lt m r) [
     | inl more ↦ so_far m lt (sym (get_or-set_other same r m told false (λ e. omega (arith, e, more))) ∙ is)
     | inr to ↦
         let equal : r ≡ m = omega (arith, from, to) in
-        let at : told ≡ true = sym (get_or-set_same same r told false inside) ∙ ap (λ n. get_or (slice_set same r told) n false) equal ∙ is in
+        let at : told ≡ true =
+        sym (get_or-set_same same r told false inside)
+        ∙ ap (λ n. get_or (slice_set same r told) n false) equal
+        ∙ is in
         subst (λ n. SameRow old new (n + 1)) equal (here at)
   ]
 ]
 
 -- a picture whose tiles all stand
-same_so_far : (script : List Drawing) (k : ℕ) (before now : Board) → IsPicture script (k - 1) before → IsPicture script k now → SameTiles before.pixels now.pixels
+same_so_far : (script : List Drawing) (k : ℕ) (before now : Board) → IsPicture script (k - 1) before
+    → IsPicture script k now → SameTiles before.pixels now.pixels
     → (i : ℕ) → i ≤ 768 → steps_so_far script k None i ≡ 0
 same_so_far script k before now was is same zero le = none_so_far script k None
 same_so_far script k before now was is same (suc i) le =
     let next : suc i ≡ i + 1 = omega arith in
     let row : ℕ = i / 48 + 1 in
     let column : ℕ = i % 48 + 1 in
-    let tile = same_picture_tile script k row column before now (omega arith) (omega arith) (omega arith) (omega arith) was is (same row (omega arith) (omega arith) column (omega arith) (omega arith)) in
-    let none : steps (picture_tile script (k - 1) row column) (picture_tile script k row column) ≡ 0 = steps_self (picture_tile script (k - 1) row column) (picture_tile script k row column) tile in
+    let tile =
+    same_picture_tile script k row column before now (omega arith) (omega arith) (omega arith) (omega arith)
+    was is (same row (omega arith) (omega arith) column (omega arith) (omega arith)) in
+    let none : steps (picture_tile script (k - 1) row column) (picture_tile script k row column) ≡ 0 =
+    steps_self (picture_tile script (k - 1) row column) (picture_tile script k row column) tile in
     let so_far = same_so_far script k before now was is same i (omega arith) in
     ap (steps_so_far script k None) next ∙ one_more_tile script k None i ∙ omega (arith, so_far, none)
 
-pub same_steps : (script : List Drawing) (k : ℕ) (before now : Board) → IsPicture script (k - 1) before → IsPicture script k now → SameTiles before.pixels now.pixels → tile_steps script k None ≡ 0
-same_steps script k before now was is same = sym (all_tiles script k None 768 refl) ∙ same_so_far script k before now was is same 768 (omega arith)
+pub same_steps : (script : List Drawing) (k : ℕ) (before now : Board) → IsPicture script (k - 1) before
+    → IsPicture script k now → SameTiles before.pixels now.pixels
+    → tile_steps script k None ≡ 0
+same_steps script k before now was is same =
+    sym (all_tiles script k None 768 refl) ∙ same_so_far script k before now was is same 768 (omega arith)
 
 -- one that no other is less than is the first of the least
-least_stays : (f : Option ℕ → ℕ) (best : Option ℕ) (xs : List ℕ) → ((x : ℕ) → f best ≤ f (Some x)) → first_least f best (map Some xs) ≡ best
+least_stays : (f : Option ℕ → ℕ) (best : Option ℕ) (xs : List ℕ) → ((x : ℕ) → f best ≤ f (Some x))
+    → first_least f best (map Some xs) ≡ best
 unfolding first_least
 least_stays f best [] least = refl
 least_stays f best (x ∷ xs) least =
     let le = least x in
     let no : nat_lt (f (Some x)) (f best) ≡ false = grind (arith, nat_tests) in
-    ap (λ (b : Bool). first_least f (if b then Some x else best) (map Some xs)) no ∙ least_stays f best xs least
+    ap (λ (b : Bool). first_least f (if b then Some x else best) (map Some xs)) no
+    ∙ least_stays f best xs least
 
-starts_longer : (script : List Drawing) (k c : ℕ) → tile_steps script k None ≡ 0 → planned_length script k None ≤ planned_length script k (Some c)
+starts_longer : (script : List Drawing) (k c : ℕ) → tile_steps script k None ≡ 0
+    → planned_length script k None ≤ planned_length script k (Some c)
 unfolding planned_length
 starts_longer script k c none = omega (arith, none)
 
-pub same_chosen : (script : List Drawing) (k : ℕ) → 0 < k → tile_steps script k None ≡ 0 → None ≡ chosen_start script k
+pub same_chosen : (script : List Drawing) (k : ℕ) → 0 < k → tile_steps script k None ≡ 0
+    → None ≡ chosen_start script k
 unfolding chosen_start
 same_chosen zero_script zero pos none = absurd (omega arith)
-same_chosen script (suc k) pos none = sym (least_stays (planned_length script (suc k)) None (below 16) (λ c. starts_longer script (suc k) c none))
+same_chosen script (suc k) pos none =
+    sym
+    (least_stays (planned_length script (suc k)) None (below 16) (λ c. starts_longer script (suc k) c none))
 
-pub same_length : (script : List Drawing) (k beside : ℕ) → beside ≡ length (settings script k) → tile_steps script k None ≡ 0 → beside ≡ planned_length script k None
+pub same_length : (script : List Drawing) (k beside : ℕ) → beside ≡ length (settings script k)
+    → tile_steps script k None ≡ 0
+    → beside ≡ planned_length script k None
 unfolding planned_length
 same_length script k beside is none = omega (arith, is, none)
 
@@ -130,7 +172,8 @@ later_start zero None h is = absurd h
 later_start zero (Some colour) h is = absurd (cc)
 later_start (suc k) start h is = omega arith
 
-pub before_none : (script : List Drawing) (k row column : ℕ) (start : Option ℕ) → start ≡ None → tiles_before script k start row column ≡ picture_tile script (k - 1) row column
+pub before_none : (script : List Drawing) (k row column : ℕ) (start : Option ℕ) → start ≡ None
+    → tiles_before script k start row column ≡ picture_tile script (k - 1) row column
 before_none script k row column start is = ap (λ s. tiles_before script k s row column) is
 
 pub start_none : (start : Option ℕ) (none : Bool) → is_some start ≡ not none → none ≡ true → start ≡ None
@@ -139,10 +182,13 @@ start_none (Some colour) true told h = absurd (cc)
 start_none (Some colour) false told h = absurd (cc)
 
 -- what is kept of a picture is that of the next one where their tiles are the same
-pub same_weights : (script : List Drawing) (k : ℕ) (before now : Board) (weights : List Weighed) → IsPicture script (k - 1) before → IsPicture script k now → SameTiles before.pixels now.pixels
+pub same_weights : (script : List Drawing) (k : ℕ) (before now : Board) (weights : List Weighed)
+    → IsPicture script (k - 1) before → IsPicture script k now → SameTiles before.pixels now.pixels
     → AreWeights script (k - 1) weights → AreWeights script k weights
 same_weights script k before now weights was is same h i lt =
     let row : ℕ = i / 48 + 1 in
     let column : ℕ = i % 48 + 1 in
-    let tile = same_picture_tile script k row column before now (omega arith) (omega arith) (omega arith) (omega arith) was is (same row (omega arith) (omega arith) column (omega arith) (omega arith)) in
+    let tile =
+    same_picture_tile script k row column before now (omega arith) (omega arith) (omega arith) (omega arith)
+    was is (same row (omega arith) (omega arith) column (omega arith) (omega arith)) in
     subst (λ t. IsWeighed t (get_or weights i not_weighed)) tile (h i lt)

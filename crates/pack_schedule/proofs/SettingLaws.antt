@@ -20,14 +20,21 @@ zero_plus : (n : ℕ) → 0 + n ≡ n
 zero_plus n = omega arith
 
 xor_none : (x y : ℕ) → bit_xor x y ≡ 0 → x ≡ y
-xor_none x y none = sym (xor_zero_r x) ∙ ap (bit_xor x) (sym (xor_self y)) ∙ sym (xor_assoc x y y) ∙ ap (λ z. bit_xor z y) none ∙ xor_zero_l y
+xor_none x y none =
+    sym (xor_zero_r x)
+    ∙ ap (bit_xor x) (sym (xor_self y))
+    ∙ sym (xor_assoc x y y)
+    ∙ ap (λ z. bit_xor z y) none
+    ∙ xor_zero_l y
 
 and_both : (a b : Bool) → (a && b) ≡ true → (a ≡ true) × (b ≡ true)
 and_both true true e = (refl, refl)
 and_both true false e = (refl, e)
 and_both false b e = (e, absurd (cc))
 
-all_zero : (f : ℕ → ℕ) (n a : ℕ) → list_all (λ d. d == 0) (map f (range_with_len a n)) ≡ true → (k : ℕ) → a ≤ k → k < a + n → f k ≡ 0
+all_zero : (f : ℕ → ℕ) (n a : ℕ) → list_all (λ d. d == 0) (map f (range_with_len a n)) ≡ true → (k : ℕ)
+    → a ≤ k → k < a + n
+    → f k ≡ 0
 all_zero f zero a e k from to = absurd (omega (arith, from, to))
 all_zero f (suc n) a e k from to =
     let parts = and_both (f a == 0) (list_all (λ d. d == 0) (map f (range_with_len (a + 1) n))) e in
@@ -39,46 +46,66 @@ all_zero f (suc n) a e k from to =
     ]
 
 -- a list of zeros
-pub zero_all : (f : ℕ → ℕ) (n a : ℕ) → ((k : ℕ) → f k ≡ 0) → list_all (λ d. d == 0) (map f (range_with_len a n)) ≡ true
+pub zero_all : (f : ℕ → ℕ) (n a : ℕ) → ((k : ℕ) → f k ≡ 0)
+    → list_all (λ d. d == 0) (map f (range_with_len a n)) ≡ true
 zero_all f zero a all = refl
 zero_all f (suc n) a all = ap₂ (λ x y. x && y) (ap (λ d. d == 0) (all a)) (zero_all f n (a + 1) all)
 
 -- two lists of eight colours are equal where their elements are
-pub equal_colours : (one other : ℕ → ℕ) → ((n : ℕ) → n < 8 → one n ≡ other n) → are_equal (map one (range_with_len 0 8)) (map other (range_with_len 0 8)) ≡ true
+pub equal_colours : (one other : ℕ → ℕ) → ((n : ℕ) → n < 8 → one n ≡ other n)
+    → are_equal (map one (range_with_len 0 8)) (map other (range_with_len 0 8)) ≡ true
 unfolding are_equal delta
 equal_colours one other all =
-    zero_all (λ p. bit_xor (slice_index (map one (range_with_len 0 8)) p) (slice_index (map other (range_with_len 0 8)) p)) 72 0 (λ p. elim (cases_lt p 8) [
+    zero_all (λ p.
+    bit_xor (slice_index (map one (range_with_len 0 8)) p) (slice_index (map other (range_with_len 0 8)) p))
+    72 0 (λ p. elim (cases_lt p 8) [
       | inl lt ↦
-          ap (bit_xor (slice_index (map one (range_with_len 0 8)) p)) (get_or-map-range_with_len other 0 8 p p 0 lt (zero_plus p) ∙ sym (all p lt) ∙ sym (get_or-map-range_with_len one 0 8 p p 0 lt (zero_plus p)))
+          ap (bit_xor (slice_index (map one (range_with_len 0 8)) p)) (get_or-map-range_with_len other 0 8 p p
+          0 lt (zero_plus p)
+          ∙ sym (all p lt)
+          ∙ sym (get_or-map-range_with_len one 0 8 p p 0 lt (zero_plus p)))
           ∙ xor_self (slice_index (map one (range_with_len 0 8)) p)
       | inr past ↦
-          ap (λ m. bit_xor m (slice_index (map other (range_with_len 0 8)) p)) (get_or_past (map one (range_with_len 0 8)) p 0 (omega (arith, length-map-range_with_len one 0 8)))
-          ∙ xor_zero_l (slice_index (map other (range_with_len 0 8)) p) ∙ get_or_past (map other (range_with_len 0 8)) p 0 (omega (arith, length-map-range_with_len other 0 8))
+          ap (λ m. bit_xor m (slice_index (map other (range_with_len 0 8)) p))
+          (get_or_past (map one (range_with_len 0 8)) p 0 (omega (arith, length-map-range_with_len one 0 8)))
+          ∙ xor_zero_l (slice_index (map other (range_with_len 0 8)) p)
+          ∙ get_or_past (map other (range_with_len 0 8)) p 0
+          (omega (arith, length-map-range_with_len other 0 8))
     ])
 
 -- and else they are not
-pub unequal_colours : (one other : ℕ → ℕ) → are_equal (map one (range_with_len 0 8)) (map other (range_with_len 0 8)) ≡ true → (n : ℕ) → n < 8 → one n ≡ other n
+pub unequal_colours : (one other : ℕ → ℕ)
+    → are_equal (map one (range_with_len 0 8)) (map other (range_with_len 0 8)) ≡ true → (n : ℕ) → n < 8
+    → one n ≡ other n
 unfolding are_equal delta
 unequal_colours one other h n lt =
     sym (get_or-map-range_with_len one 0 8 n n 0 lt (zero_plus n))
-    ∙ xor_none (slice_index (map one (range_with_len 0 8)) n) (slice_index (map other (range_with_len 0 8)) n) (all_zero (λ p. bit_xor (slice_index (map one (range_with_len 0 8)) p) (slice_index (map other (range_with_len 0 8)) p)) 72 0 h n (omega arith) (omega arith))
+    ∙ xor_none (slice_index (map one (range_with_len 0 8)) n) (slice_index (map other (range_with_len 0 8)) n)
+    (all_zero (λ p.
+    bit_xor (slice_index (map one (range_with_len 0 8)) p) (slice_index (map other (range_with_len 0 8)) p))
+    72 0 h n (omega arith) (omega arith))
     ∙ get_or-map-range_with_len other 0 8 n n 0 lt (zero_plus n)
 
 pub not_true : (b : Bool) → (b ≡ true → ⊥) → b ≡ false
 not_true true h = absurd (h refl)
 not_true false h = refl
 
-pub same_eight : (one other : ℕ → ℕ) → ((n : ℕ) → n < 8 → one n ≡ other n) → map one (below 8) ≡ map other (below 8)
+pub same_eight : (one other : ℕ → ℕ) → ((n : ℕ) → n < 8 → one n ≡ other n)
+    → map one (below 8) ≡ map other (below 8)
 same_eight one other all =
     let one_size = length-map-range_with_len one 0 8 in
     let other_size = length-map-range_with_len other 0 8 in
     same_number_lists (map one (below 8)) (map other (below 8)) (omega arith)
-    (λ n lt. get_or-map-range_with_len one 0 8 n n 0 (omega arith) (zero_plus n) ∙ all n (omega arith) ∙ sym (get_or-map-range_with_len other 0 8 n n 0 (omega arith) (zero_plus n)))
+    (λ n lt. get_or-map-range_with_len one 0 8 n n 0 (omega arith) (zero_plus n)
+    ∙ all n (omega arith)
+    ∙ sym (get_or-map-range_with_len other 0 8 n n 0 (omega arith) (zero_plus n)))
 
 flag : Bool → ℕ
 flag b = if b then 0 else 1
 
-three : (b low high : Bool) (x y z : Instr) → length ((if b then [] else x ∷ []) ++ (if low then [] else y ∷ []) ++ (if high then [] else z ∷ [])) ≡ flag b + flag low + flag high
+three : (b low high : Bool) (x y z : Instr)
+    → length ((if b then [] else x ∷ []) ++ (if low then [] else y ∷ []) ++ (if high then [] else z ∷ []))
+    ≡ flag b + flag low + flag high
 unfolding flag
 three true true true x y z = refl
 three true true false x y z = refl
@@ -89,19 +116,34 @@ three false true false x y z = refl
 three false false true x y z = refl
 three false false false x y z = refl
 
-later_settings : (script : List Drawing) (k : ℕ) (b low high : Bool) → (picture_border script k == picture_border script (suc k)) ≡ b
-    → are_equal (low_colours script k) (low_colours script (suc k)) ≡ low → are_equal (high_colours script k) (high_colours script (suc k)) ≡ high
+later_settings : (script : List Drawing) (k : ℕ) (b low high : Bool)
+    → (picture_border script k == picture_border script (suc k)) ≡ b
+    → are_equal (low_colours script k) (low_colours script (suc k)) ≡ low
+    → are_equal (high_colours script k) (high_colours script (suc k)) ≡ high
     → length (settings script (suc k)) ≡ flag b + flag low + flag high
 later_settings script k b low high e l h =
-    ap₂ (λ (p : Bool) (q : Bool). length ((if p then [] else BorderPreset (picture_border script (suc k)) ∷ []) ++ (if q then [] else ColoursLow (low_colours script (suc k)) ∷ [])
-    ++ (if are_equal (high_colours script k) (high_colours script (suc k)) then [] else ColoursHigh (high_colours script (suc k)) ∷ []))) e l
-    ∙ ap (λ (r : Bool). length ((if b then [] else BorderPreset (picture_border script (suc k)) ∷ []) ++ (if low then [] else ColoursLow (low_colours script (suc k)) ∷ []) ++ (if r then [] else ColoursHigh (high_colours script (suc k)) ∷ []))) h
-    ∙ three b low high (BorderPreset (picture_border script (suc k))) (ColoursLow (low_colours script (suc k))) (ColoursHigh (high_colours script (suc k)))
+    ap₂ (λ (p : Bool) (q : Bool). length ((if p
+    then []
+    else BorderPreset (picture_border script (suc k)) ∷ [])
+    ++ (if q then [] else ColoursLow (low_colours script (suc k)) ∷ [])
+    ++ (if are_equal (high_colours script k) (high_colours script (suc k))
+    then []
+    else ColoursHigh (high_colours script (suc k)) ∷ []))) e l
+    ∙ ap (λ (r : Bool). length ((if b then [] else BorderPreset (picture_border script (suc k)) ∷ [])
+    ++ (if low then [] else ColoursLow (low_colours script (suc k)) ∷ [])
+    ++ (if r then [] else ColoursHigh (high_colours script (suc k)) ∷ []))) h
+    ∙ three b low high (BorderPreset (picture_border script (suc k)))
+    (ColoursLow (low_colours script (suc k))) (ColoursHigh (high_colours script (suc k)))
 
-pub settings_differ : (script : List Drawing) (k : ℕ) (b low high : Bool) (old new : Board) → 0 < k → IsPicture script (k - 1) old → IsPicture script k new
+pub settings_differ : (script : List Drawing) (k : ℕ) (b low high : Bool) (old new : Board) → 0 < k
+    → IsPicture script (k - 1) old → IsPicture script k new
     → b ≡ (old.border == new.border)
-    → low ≡ are_equal (map (λ n. slice_index old.colours (0 + n)) (below 8)) (map (λ n. slice_index new.colours (0 + n)) (below 8))
-    → high ≡ are_equal (map (λ n. slice_index old.colours (8 + n)) (below 8)) (map (λ n. slice_index new.colours (8 + n)) (below 8))
+    → low
+    ≡ are_equal (map (λ n. slice_index old.colours (0 + n)) (below 8))
+    (map (λ n. slice_index new.colours (0 + n)) (below 8))
+    → high
+    ≡ are_equal (map (λ n. slice_index old.colours (8 + n)) (below 8))
+    (map (λ n. slice_index new.colours (8 + n)) (below 8))
     → (if b then 0 else 1) + (if low then 0 else 1) + (if high then 0 else 1) ≡ length (settings script k)
 unfolding flag low_colours high_colours
 settings_differ script zero b low high old new pos before now e l h = absurd (omega arith)
@@ -110,7 +152,13 @@ settings_differ script (suc k) b low high old new pos before now e l h =
     let was : IsPicture script k old = subst (λ j. IsPicture script j old) at before in
     sym (later_settings script k b low high
     (ap₂ (λ x y. x == y) (sym was.border_is) (sym now.border_is) ∙ sym e)
-    (ap₂ are_equal (same_eight (picture_colour script k) (λ n. slice_index old.colours (0 + n)) (λ n lt. sym (was.colours_are n (omega arith)) ∙ ap (λ j. slice_index old.colours j) (sym (zero_plus n))))
-    (same_eight (picture_colour script (suc k)) (λ n. slice_index new.colours (0 + n)) (λ n lt. sym (now.colours_are n (omega arith)) ∙ ap (λ j. slice_index new.colours j) (sym (zero_plus n)))) ∙ sym l)
-    (ap₂ are_equal (same_eight (λ n. picture_colour script k (8 + n)) (λ n. slice_index old.colours (8 + n)) (λ n lt. sym (was.colours_are (8 + n) (omega arith))))
-    (same_eight (λ n. picture_colour script (suc k) (8 + n)) (λ n. slice_index new.colours (8 + n)) (λ n lt. sym (now.colours_are (8 + n) (omega arith)))) ∙ sym h))
+    (ap₂ are_equal (same_eight (picture_colour script k) (λ n. slice_index old.colours (0 + n))
+    (λ n lt. sym (was.colours_are n (omega arith)) ∙ ap (λ j. slice_index old.colours j) (sym (zero_plus n))))
+    (same_eight (picture_colour script (suc k)) (λ n. slice_index new.colours (0 + n))
+    (λ n lt. sym (now.colours_are n (omega arith)) ∙ ap (λ j. slice_index new.colours j) (sym (zero_plus n))))
+    ∙ sym l)
+    (ap₂ are_equal (same_eight (λ n. picture_colour script k (8 + n)) (λ n. slice_index old.colours (8 + n))
+    (λ n lt. sym (was.colours_are (8 + n) (omega arith))))
+    (same_eight (λ n. picture_colour script (suc k) (8 + n)) (λ n. slice_index new.colours (8 + n))
+    (λ n lt. sym (now.colours_are (8 + n) (omega arith))))
+    ∙ sym h))

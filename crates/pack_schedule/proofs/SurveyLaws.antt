@@ -18,7 +18,9 @@ use Rattle.pack_schedule.specs.declared.stops.Stop.TheVariants.{Late}
 use Rattle.picture_changes.proofs.Times.{hold_order}
 
 -- picture k stands before the next one is drawn
-pub stands_next : (script : List Drawing) (k : ℕ) (board : Board) → board.at ≡ Some k → IsPicture script k board → Stands script (k + 1) board
+pub stands_next : (script : List Drawing) (k : ℕ) (board : Board) → board.at ≡ Some k
+    → IsPicture script k board
+    → Stands script (k + 1) board
 stands_next script k board at h =
     let here : k ≡ k + 1 - 1 = omega arith in
     record {
@@ -32,11 +34,14 @@ stands_next script k board at h =
 pub stands_now : (script : List Drawing) (k : ℕ) (board : Board) → Stands script (k + 1) board
     → IsPicture script k board × (board.at ≡ Some k)
 stands_now script k board h =
-    let here : k + 1 - 1 ≡ k = omega arith in
-    (subst (λ n. IsPicture script n board) here (h.drawn (omega arith)), h.at_some (omega arith) ∙ ap Some here)
+    let here : k + 1 - 1 ≡ k = omega arith in (
+      subst (λ n. IsPicture script n board) here (h.drawn (omega arith)),
+      h.at_some (omega arith) ∙ ap Some here,
+    )
 
 -- nothing is drawn before the first picture
-pub stands_first : (script : List Drawing) (board : Board) → IsBlank board → board.at ≡ None → Stands script 0 board
+pub stands_first : (script : List Drawing) (board : Board) → IsBlank board → board.at ≡ None
+    → Stands script 0 board
 stands_first script board blank at = record {
   at_none = λ _. at;
   blank = λ _. blank;
@@ -45,52 +50,87 @@ stands_first script board blank at = record {
 }
 
 -- from where picture k can be drawn
-pub stands_before : (script : List Drawing) (k : ℕ) (board : Board) → Stands script k board → StandsBefore script k board
-stands_before script zero board h = subst (λ (at : Option ℕ). MatchOption at (IsBlank board) (λ j. (j ≤ 0) × IsPicture script j board)) (sym (h.at_none refl)) (h.blank refl)
-stands_before script (suc k) board h = subst (λ (at : Option ℕ). MatchOption at (IsBlank board) (λ j. (j ≤ suc k) × IsPicture script j board)) (sym (h.at_some (omega arith))) (omega arith, h.drawn (omega arith))
+pub stands_before : (script : List Drawing) (k : ℕ) (board : Board) → Stands script k board
+    → StandsBefore script k board
+stands_before script zero board h =
+    subst (λ (at : Option ℕ). MatchOption at (IsBlank board) (λ j. (j ≤ 0) × IsPicture script j board))
+    (sym (h.at_none refl)) (h.blank refl)
+stands_before script (suc k) board h =
+    subst (λ (at : Option ℕ). MatchOption at (IsBlank board) (λ j. (j ≤ suc k) × IsPicture script j board))
+    (sym (h.at_some (omega arith))) (omega arith, h.drawn (omega arith))
 
 -- a picture that stands there
-pub stands_at : (script : List Drawing) (k most : ℕ) (board : Board) → board.at ≡ Some k → IsPicture script k board → k ≤ most → StandsBefore script most board
-stands_at script k most board at h le = subst (λ (at : Option ℕ). MatchOption at (IsBlank board) (λ j. (j ≤ most) × IsPicture script j board)) (sym at) (le, h)
+pub stands_at : (script : List Drawing) (k most : ℕ) (board : Board) → board.at ≡ Some k
+    → IsPicture script k board → k ≤ most
+    → StandsBefore script most board
+stands_at script k most board at h le =
+    subst (λ (at : Option ℕ). MatchOption at (IsBlank board) (λ j. (j ≤ most) × IsPicture script j board))
+    (sym at) (le, h)
 
 -- or none
-pub stands_blank : (script : List Drawing) (most : ℕ) (board : Board) → IsBlank board → board.at ≡ None → StandsBefore script most board
-stands_blank script most board blank at = subst (λ (at : Option ℕ). MatchOption at (IsBlank board) (λ j. (j ≤ most) × IsPicture script j board)) (sym at) blank
+pub stands_blank : (script : List Drawing) (most : ℕ) (board : Board) → IsBlank board → board.at ≡ None
+    → StandsBefore script most board
+stands_blank script most board blank at =
+    subst (λ (at : Option ℕ). MatchOption at (IsBlank board) (λ j. (j ≤ most) × IsPicture script j board))
+    (sym at) blank
 
-later_at : (at : Option ℕ) (Blank : Type 0) (There : ℕ → Type 0) (few most : ℕ) → few ≤ most → MatchOption at Blank (λ j. (j ≤ few) × There j) → MatchOption at Blank (λ j. (j ≤ most) × There j)
+later_at : (at : Option ℕ) (Blank : Type 0) (There : ℕ → Type 0) (few most : ℕ) → few ≤ most
+    → MatchOption at Blank (λ j. (j ≤ few) × There j)
+    → MatchOption at Blank (λ j. (j ≤ most) × There j)
 later_at None Blank There few most le h = h
 later_at (Some j) Blank There few most le h = (omega (arith, h.0, le), h.1)
 
 -- it stands there for later pictures too
-pub stands_later : (script : List Drawing) (few most : ℕ) (board : Board) → few ≤ most → StandsBefore script few board → StandsBefore script most board
-stands_later script few most board le h = later_at board.at (IsBlank board) (λ j. IsPicture script j board) few most le h
+pub stands_later : (script : List Drawing) (few most : ℕ) (board : Board) → few ≤ most
+    → StandsBefore script few board
+    → StandsBefore script most board
+stands_later script few most board le h =
+    later_at board.at (IsBlank board) (λ j. IsPicture script j board) few most le h
 
-pub none_planned : (script : List Drawing) (planned : List PlannedChange) → planned ≡ [] → ArePlanned script 0 planned
-none_planned script planned none = record { count_is = ap length none; each = λ j lt. absurd (omega (arith, lt)) }
+pub none_planned : (script : List Drawing) (planned : List PlannedChange) → planned ≡ []
+    → ArePlanned script 0 planned
+none_planned script planned none =
+    record { count_is = ap length none; each = λ j lt. absurd (omega (arith, lt)) }
 
-pub one_planned : (script : List Drawing) (k : ℕ) (planned more : List PlannedChange) (new : PlannedChange) → ArePlanned script k planned → IsPlanned script k new → more ≡ planned ++ new ∷ [] → ArePlanned script (k + 1) more
+pub one_planned : (script : List Drawing) (k : ℕ) (planned more : List PlannedChange) (new : PlannedChange)
+    → ArePlanned script k planned → IsPlanned script k new → more ≡ planned ++ new ∷ []
+    → ArePlanned script (k + 1) more
 one_planned script k planned more new h is added =
     let size = length-append planned (new ∷ []) in
     subst (ArePlanned script (k + 1)) (sym added) (record {
       count_is = omega (arith, size, h.count_is);
       each = λ j lt. elim (cases_lt j k) [
-        | inl before ↦ subst (IsPlanned script j) (sym (get_or_append_left planned (new ∷ []) nothing_planned j (omega (arith, h.count_is)))) (h.each j before)
+        | inl before ↦
+            subst (IsPlanned script j)
+            (sym (get_or_append_left planned (new ∷ []) nothing_planned j (omega (arith, h.count_is))))
+            (h.each j before)
         | inr past ↦
             let last : j ≡ length planned + 0 = omega (arith, h.count_is) in
             let here : k ≡ j = omega arith in
-            subst (IsPlanned script j) (sym (ap (λ n. get_or (planned ++ new ∷ []) n nothing_planned) last ∙ get_or-append-add planned (new ∷ []) 0 nothing_planned)) (subst (λ n. IsPlanned script n new) here is)
+            subst (IsPlanned script j) (sym (ap (λ n. get_or (planned ++ new ∷ []) n nothing_planned) last
+            ∙ get_or-append-add planned (new ∷ []) 0 nothing_planned))
+            (subst (λ n. IsPlanned script n new) here is)
       ];
     })
 
 -- the planned change is a change, each need is its length, and a late picture cannot be ready
 pub record NeedsAreFewest : Type 0 where
-  pub change : (script : List Drawing) (k : ℕ) → AreColoursInRange script → ((k x y : ℕ) → picture_pixel script k x y < 16) → IsChange script k (planned_change script k)
-  pub planned : (script : List Drawing) (k need : ℕ) → AreColoursInRange script → ((k x y : ℕ) → picture_pixel script k x y < 16) → IsNeed script k need → need ≡ length (planned_change script k)
-  pub late : (script : List Drawing) (k need free : ℕ) → AreTimesInOrder script → AreColoursInRange script → ((k x y : ℕ) → picture_pixel script k x y < 16) → IsLate script k need free → CannotBeReady script k need free
+  pub change : (script : List Drawing) (k : ℕ) → AreColoursInRange script
+      → ((k x y : ℕ) → picture_pixel script k x y < 16)
+      → IsChange script k (planned_change script k)
+  pub planned : (script : List Drawing) (k need : ℕ) → AreColoursInRange script
+      → ((k x y : ℕ) → picture_pixel script k x y < 16) → IsNeed script k need
+      → need ≡ length (planned_change script k)
+  pub late : (script : List Drawing) (k need free : ℕ) → AreTimesInOrder script → AreColoursInRange script
+      → ((k x y : ℕ) → picture_pixel script k x y < 16) → IsLate script k need free
+      → CannotBeReady script k need free
 
 -- picture k is late
-pub is_late : NeedsAreFewest → (script : List Drawing) (k need free : ℕ) (planned : List PlannedChange) → AreColoursInRange script → ((k x y : ℕ) → picture_pixel script k x y < 16) → k < pictures script → ArePlanned script k planned
-    → need ≡ length (planned_change script k) → free ≡ free_packs script k → (IsInTime script k need → ⊥) → IsLate script k need free
+pub is_late : NeedsAreFewest → (script : List Drawing) (k need free : ℕ) (planned : List PlannedChange)
+    → AreColoursInRange script → ((k x y : ℕ) → picture_pixel script k x y < 16) → k < pictures script
+    → ArePlanned script k planned
+    → need ≡ length (planned_change script k) → free ≡ free_packs script k → (IsInTime script k need → ⊥)
+    → IsLate script k need free
 is_late known script k need free planned ranges small lt are need_is' free_is' late = record {
   picture = lt;
   need_is = (planned_change script k, known.change script k ranges small, sym need_is');
@@ -99,47 +139,72 @@ is_late known script k need free planned ranges small lt are need_is' free_is' l
   before = λ j j_lt.
       let row = are.each j j_lt in
       let need : ℕ = (get_or planned j nothing_planned).need in
-      let is : IsNeed script j need = (planned_change script j, known.change script j ranges small, sym row.need_is) in
+      let is : IsNeed script j need =
+      (planned_change script j, known.change script j ranges small, sym row.need_is) in
       (need, is, row.in_time);
 }
 
 -- each planned number is what its picture needs
-all_fewest : NeedsAreFewest → (script : List Drawing) (planned : List PlannedChange) → AreColoursInRange script → ((k x y : ℕ) → picture_pixel script k x y < 16) → IsSurvey script planned
+all_fewest : NeedsAreFewest → (script : List Drawing) (planned : List PlannedChange)
+    → AreColoursInRange script → ((k x y : ℕ) → picture_pixel script k x y < 16) → IsSurvey script planned
     → (k : ℕ) → k < pictures script → IsNeed script k (get_or planned k nothing_planned).need
-all_fewest needs script planned ranges small surveyed k lt = (planned_change script k, needs.change script k ranges small, sym (surveyed.each k lt).need_is)
+all_fewest needs script planned ranges small surveyed k lt =
+    (planned_change script k, needs.change script k ranges small, sym (surveyed.each k lt).need_is)
 
-late_told : NeedsAreFewest → (script : List Drawing) (blocks : ℕ) (stop : Stop) → AreTimesInOrder script → AreColoursInRange script → ((k x y : ℕ) → picture_pixel script k x y < 16) → IsStop script blocks stop
+late_told : NeedsAreFewest → (script : List Drawing) (blocks : ℕ) (stop : Stop) → AreTimesInOrder script
+    → AreColoursInRange script → ((k x y : ℕ) → picture_pixel script k x y < 16) → IsStop script blocks stop
     → (picture need free : ℕ) → stop ≡ Late picture need free → CannotBeReady script picture need free
-late_told needs script blocks stop order ranges small is picture need free late = needs.late script picture need free order ranges small (subst (IsStop script blocks) late is).1
+late_told needs script blocks stop order ranges small is picture need free late =
+    needs.late script picture need free order ranges small (subst (IsStop script blocks) late is).1
 
 -- ---- of the answer
 
-pub fewest_of : NeedsAreFewest → (script : List Drawing) → AreColoursInRange script → ((k x y : ℕ) → picture_pixel script k x y < 16) → (result : Result (List PlannedChange) Stop) → IfOk result (IsSurvey script)
-    → IfOk result (λ planned. (k : ℕ) → k < pictures script → IsNeed script k (get_or planned k nothing_planned).need)
-fewest_of needs script ranges small (Ok planned) surveyed = all_fewest needs script planned ranges small surveyed
+pub fewest_of : NeedsAreFewest → (script : List Drawing) → AreColoursInRange script
+    → ((k x y : ℕ) → picture_pixel script k x y < 16) → (result : Result (List PlannedChange) Stop)
+    → IfOk result (IsSurvey script)
+    → IfOk result
+    (λ planned. (k : ℕ) → k < pictures script → IsNeed script k (get_or planned k nothing_planned).need)
+fewest_of needs script ranges small (Ok planned) surveyed =
+    all_fewest needs script planned ranges small surveyed
 fewest_of needs script ranges small (Err stop) surveyed = tt
 
-pub late_of : NeedsAreFewest → (script : List Drawing) (blocks : ℕ) → AreTimesInOrder script → AreColoursInRange script → ((k x y : ℕ) → picture_pixel script k x y < 16) → (result : Result (List PlannedChange) Stop) → IfErr result (IsStop script blocks)
+pub late_of : NeedsAreFewest → (script : List Drawing) (blocks : ℕ) → AreTimesInOrder script
+    → AreColoursInRange script → ((k x y : ℕ) → picture_pixel script k x y < 16)
+    → (result : Result (List PlannedChange) Stop) → IfErr result (IsStop script blocks)
     → (picture need free : ℕ) → result ≡ Err (Late picture need free) → CannotBeReady script picture need free
 late_of needs script blocks order ranges small (Ok planned) is picture need free late = absurd (cc)
 late_of needs script blocks order ranges small (Err stop) is picture need free late =
-    let same : stop ≡ Late picture need free = cc in late_told needs script blocks stop order ranges small is picture need free same
+    let same : stop ≡ Late picture need free = cc in
+    late_told needs script blocks stop order ranges small is picture need free same
 
 -- where the last picture is not held past the end, none is
-pub is_within : (script : List Drawing) (blocks : ℕ) → AreTimesInOrder script → ¬ IsPastEnd script blocks → IsWithin script blocks
+pub is_within : (script : List Drawing) (blocks : ℕ) → AreTimesInOrder script → ¬ IsPastEnd script blocks
+    → IsWithin script blocks
 is_within script blocks order end k lt = elim (cases_lt blocks (hold_time script (pictures script - 1))) [
   | inl past ↦ absurd (end (omega arith, past))
-  | inr le ↦ omega (arith, hold_order script order k (pictures script - 1) (omega (arith, lt)) (omega (arith, lt)), le)
+  | inr le ↦ omega
+      (arith, hold_order script order k (pictures script - 1) (omega (arith, lt)) (omega (arith, lt)), le)
 ]
 
-pub not_in_time : (script : List Drawing) (k start need : ℕ) → start ≡ start_of script k → nat_le (start + need + 7) (4 * ready_time script k) ≡ false → IsInTime script k need → ⊥
-not_in_time script k start need is test h = elim (leb_tells (start + need + 7) (4 * ready_time script k)) [ inl less ↦ absurd (cc) | inr more ↦ omega (arith, more.1, is, h) ]
+pub not_in_time : (script : List Drawing) (k start need : ℕ) → start ≡ start_of script k
+    → nat_le (start + need + 7) (4 * ready_time script k) ≡ false → IsInTime script k need
+    → ⊥
+not_in_time script k start need is test h = elim (leb_tells (start + need + 7) (4 * ready_time script k))
+    [ inl less ↦ absurd (cc) | inr more ↦ omega (arith, more.1, is, h) ]
 
-pub in_time : (script : List Drawing) (k start need : ℕ) → start ≡ start_of script k → nat_le (start + need + 7) (4 * ready_time script k) ≡ true → IsInTime script k need
-in_time script k start need is test = elim (leb_tells (start + need + 7) (4 * ready_time script k)) [ inl less ↦ omega (arith, less.1, is) | inr more ↦ absurd (cc) ]
+pub in_time : (script : List Drawing) (k start need : ℕ) → start ≡ start_of script k
+    → nat_le (start + need + 7) (4 * ready_time script k) ≡ true
+    → IsInTime script k need
+in_time script k start need is test = elim (leb_tells (start + need + 7) (4 * ready_time script k))
+    [ inl less ↦ omega (arith, less.1, is) | inr more ↦ absurd (cc) ]
 
 -- what is told of a change that is not in time
-pub late_at : (script : List Drawing) (k start need free : ℕ) → start ≡ start_of script k → need ≡ length (planned_change script k) → free ≡ free_packs script k → nat_le (start + need + 7) (4 * ready_time script k) ≡ false
-    → (Late k need free ≡ Late k (length (planned_change script k)) (free_packs script k)) × (¬ IsInTime script k (length (planned_change script k)))
-late_at script k start need free start_is need_is free_is test =
-    ((λ i. Late k (need_is i) (free_is i)), subst (λ n. ¬ IsInTime script k n) need_is (not_in_time script k start need start_is test))
+pub late_at : (script : List Drawing) (k start need free : ℕ) → start ≡ start_of script k
+    → need ≡ length (planned_change script k) → free ≡ free_packs script k
+    → nat_le (start + need + 7) (4 * ready_time script k) ≡ false
+    → (Late k need free ≡ Late k (length (planned_change script k)) (free_packs script k))
+    × (¬ IsInTime script k (length (planned_change script k)))
+late_at script k start need free start_is need_is free_is test = (
+  (λ i. Late k (need_is i) (free_is i)),
+  subst (λ n. ¬ IsInTime script k n) need_is (not_in_time script k start need start_is test),
+)

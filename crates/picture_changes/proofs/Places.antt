@@ -26,22 +26,32 @@ inside_places i lt = (omega arith, omega arith)
 
 pub inside : AreInside window_places
 inside = subst AreInside (sym places_in_order) (All-map (λ p. (p.0 < 18) × (p.1 < 50)) place_of (below 768)
-    (All-from_get_or (λ i. (i / 48 + 1 < 18) × (i % 48 + 1 < 50)) (below 768) 0 (λ i lt. subst (λ j. (j / 48 + 1 < 18) × (j % 48 + 1 < 50)) (sym (get_or-range_with_len 0 768 i 0 lt ∙ one_sum i)) (inside_places i lt))))
+    (All-from_get_or (λ i. (i / 48 + 1 < 18) × (i % 48 + 1 < 50)) (below 768) 0 (λ i lt. subst
+    (λ j. (j / 48 + 1 < 18) × (j % 48 + 1 < 50)) (sym (get_or-range_with_len 0 768 i 0 lt ∙ one_sum i))
+    (inside_places i lt))))
 
 -- tiles of pictures and of one colour
-pub picture_is_tile : (script : List Drawing) (k row column : ℕ) → ((k x y : ℕ) → picture_pixel script k x y < 16) → IsTilePixels (picture_tile script k row column)
+pub picture_is_tile : (script : List Drawing) (k row column : ℕ)
+    → ((k x y : ℕ) → picture_pixel script k x y < 16)
+    → IsTilePixels (picture_tile script k row column)
 unfolding picture_tile
 picture_is_tile script k row column small =
     let f : ℕ → ℕ = λ p. picture_pixel script k (6 * (column - 1) + p % 6) (12 * (row - 1) + p / 6) in
     record {
       count = length-map-range_with_len f 0 72;
-      below = All-map (λ n. n < 16) f (below 72) (All-from_get_or (λ p. f p < 16) (below 72) 0 (λ i lt. small k (6 * (column - 1) + get_or (below 72) i 0 % 6) (12 * (row - 1) + get_or (below 72) i 0 / 6)));
+      below =
+          All-map (λ n. n < 16) f (below 72) (All-from_get_or (λ p. f p < 16) (below 72) 0
+          (λ i lt. small k (6 * (column - 1) + get_or (below 72) i 0 % 6)
+          (12 * (row - 1) + get_or (below 72) i 0 / 6)));
     }
 
 pub colour_is_tile : (colour : ℕ) → colour < 16 → IsTilePixels (replicate 72 colour)
 colour_is_tile colour small = record {
   count = length-replicate {A = ℕ} 72 colour;
-  below = All-from_get_or (λ n. n < 16) (replicate 72 colour) 0 (λ i lt. subst (λ n. n < 16) (sym (get_or-replicate {A = ℕ} 72 i colour 0 (omega (arith, length-replicate {A = ℕ} 72 colour)))) small);
+  below =
+      All-from_get_or (λ n. n < 16) (replicate 72 colour) 0 (λ i lt. subst (λ n. n < 16)
+      (sym (get_or-replicate {A = ℕ} 72 i colour 0 (omega (arith, length-replicate {A = ℕ} 72 colour))))
+      small);
 }
 
 pub start_small : (k colour : ℕ) → IsStart k (Some colour) → colour < 16

@@ -17,7 +17,8 @@ use Rattle.picture_script.specs.declared.draft.LineStop.TheVariants.{Refused, No
 use Rattle.picture_script.specs.declared.reasons.ScriptWhy.{ScriptWhy}
 use Rattle.picture_script.specs.declared.reasons.ScriptWhy.TheVariants.{UnknownCommand, BadArgument, OutOfRange, TimeOrder, TooMany}
 
-pub bad_line : (before : List Drawing) (said : Option Drawing) → said ≡ None → checked_line before said ≡ Err BadArgument
+pub bad_line : (before : List Drawing) (said : Option Drawing) → said ≡ None
+    → checked_line before said ≡ Err BadArgument
 unfolding checked_line
 bad_line before said h = ap (checked_line before) h
 
@@ -29,7 +30,8 @@ draws _ = true
 by_range : Drawing → Bool → Result Drawing ScriptWhy
 by_range line b = unless_refused line (if b then None else Some OutOfRange)
 
-checked_drawing : (before : List Drawing) (line : Drawing) → draws line ≡ true → checked_line before (Some line) ≡ by_range line (is_in_range line)
+checked_drawing : (before : List Drawing) (line : Drawing) → draws line ≡ true
+    → checked_line before (Some line) ≡ by_range line (is_in_range line)
 unfolding checked_line by_range
 checked_drawing before (Colour number value) h = refl
 checked_drawing before (Border colour) h = refl
@@ -38,20 +40,29 @@ checked_drawing before (Rect x y width height colour) h = refl
 checked_drawing before (Row x y pixels) h = refl
 checked_drawing before (Show ready hold) h = absurd (cc)
 
-pub out_of_range : (before : List Drawing) (said : Option Drawing) (line : Drawing) → said ≡ Some line → draws line ≡ true → is_in_range line ≡ false → checked_line before said ≡ Err OutOfRange
+pub out_of_range : (before : List Drawing) (said : Option Drawing) (line : Drawing) → said ≡ Some line
+    → draws line ≡ true → is_in_range line ≡ false
+    → checked_line before said ≡ Err OutOfRange
 unfolding by_range
-out_of_range before said line h d range = ap (checked_line before) h ∙ checked_drawing before line d ∙ ap (by_range line) range
+out_of_range before said line h d range =
+    ap (checked_line before) h ∙ checked_drawing before line d ∙ ap (by_range line) range
 
-pub in_range : (before : List Drawing) (said : Option Drawing) (line : Drawing) → said ≡ Some line → draws line ≡ true → is_in_range line ≡ true → checked_line before said ≡ Ok line
+pub in_range : (before : List Drawing) (said : Option Drawing) (line : Drawing) → said ≡ Some line
+    → draws line ≡ true → is_in_range line ≡ true
+    → checked_line before said ≡ Ok line
 unfolding by_range
-in_range before said line h d range = ap (checked_line before) h ∙ checked_drawing before line d ∙ ap (by_range line) range
+in_range before said line h d range =
+    ap (checked_line before) h ∙ checked_drawing before line d ∙ ap (by_range line) range
 
 by_order : ℕ → ℕ → Bool → Bool → Bool → Result Drawing ScriptWhy
 by_order ready hold early after full =
-    unless_refused (Show ready hold) (if early || not after then Some TimeOrder else (if full then Some TooMany else None))
+    unless_refused (Show ready hold)
+    (if early || not after then Some TimeOrder else (if full then Some TooMany else None))
 
-checked_show : (before : List Drawing) (said : Option Drawing) (ready hold : ℕ) (early after full : Bool) → said ≡ Some (Show ready hold)
-    → nat_lt hold ready ≡ early → is_after_hold before ready ≡ after → nat_le 20000 (pictures before) ≡ full → checked_line before said ≡ by_order ready hold early after full
+checked_show : (before : List Drawing) (said : Option Drawing) (ready hold : ℕ) (early after full : Bool)
+    → said ≡ Some (Show ready hold)
+    → nat_lt hold ready ≡ early → is_after_hold before ready ≡ after → nat_le 20000 (pictures before) ≡ full
+    → checked_line before said ≡ by_order ready hold early after full
 unfolding checked_line by_order
 checked_show before said ready hold early after full h e a f =
     ap (checked_line before) h
@@ -71,57 +82,88 @@ le_true a b h = grind (arith, nat_tests)
 le_false : (a b : ℕ) → b < a → nat_le a b ≡ false
 le_false a b h = grind (arith, nat_tests)
 
-pub held_short : (before : List Drawing) (said : Option Drawing) (ready hold : ℕ) → said ≡ Some (Show ready hold) → hold < ready → checked_line before said ≡ Err TimeOrder
+pub held_short : (before : List Drawing) (said : Option Drawing) (ready hold : ℕ)
+    → said ≡ Some (Show ready hold) → hold < ready
+    → checked_line before said ≡ Err TimeOrder
 unfolding by_order
-held_short before said ready hold h lt = checked_show before said ready hold true (is_after_hold before ready) (nat_le 20000 (pictures before)) h (test_true hold ready lt) refl refl
+held_short before said ready hold h lt =
+    checked_show before said ready hold true (is_after_hold before ready) (nat_le 20000 (pictures before)) h
+    (test_true hold ready lt) refl refl
 
-pub ready_early : (before : List Drawing) (said : Option Drawing) (ready hold : ℕ) → said ≡ Some (Show ready hold) → ready ≤ hold → is_after_hold before ready ≡ false → checked_line before said ≡ Err TimeOrder
+pub ready_early : (before : List Drawing) (said : Option Drawing) (ready hold : ℕ)
+    → said ≡ Some (Show ready hold) → ready ≤ hold → is_after_hold before ready ≡ false
+    → checked_line before said ≡ Err TimeOrder
 unfolding by_order
-ready_early before said ready hold h le after = checked_show before said ready hold false false (nat_le 20000 (pictures before)) h (test_false hold ready le) after refl
+ready_early before said ready hold h le after =
+    checked_show before said ready hold false false (nat_le 20000 (pictures before)) h
+    (test_false hold ready le) after refl
 
-pub too_many : (before : List Drawing) (said : Option Drawing) (ready hold : ℕ) → said ≡ Some (Show ready hold) → ready ≤ hold → is_after_hold before ready ≡ true → 20000 ≤ pictures before → checked_line before said ≡ Err TooMany
+pub too_many : (before : List Drawing) (said : Option Drawing) (ready hold : ℕ)
+    → said ≡ Some (Show ready hold) → ready ≤ hold → is_after_hold before ready ≡ true
+    → 20000 ≤ pictures before
+    → checked_line before said ≡ Err TooMany
 unfolding by_order
-too_many before said ready hold h le after full = checked_show before said ready hold false true true h (test_false hold ready le) after (le_true 20000 (pictures before) full)
+too_many before said ready hold h le after full =
+    checked_show before said ready hold false true true h (test_false hold ready le) after
+    (le_true 20000 (pictures before) full)
 
-pub shown_line : (before : List Drawing) (said : Option Drawing) (ready hold : ℕ) → said ≡ Some (Show ready hold) → ready ≤ hold → is_after_hold before ready ≡ true → pictures before < 20000
+pub shown_line : (before : List Drawing) (said : Option Drawing) (ready hold : ℕ)
+    → said ≡ Some (Show ready hold) → ready ≤ hold → is_after_hold before ready ≡ true
+    → pictures before < 20000
     → checked_line before said ≡ Ok (Show ready hold)
 unfolding by_order
-shown_line before said ready hold h le after room = checked_show before said ready hold false true false h (test_false hold ready le) after (le_false 20000 (pictures before) room)
+shown_line before said ready hold h le after room =
+    checked_show before said ready hold false true false h (test_false hold ready le) after
+    (le_false 20000 (pictures before) room)
 
 -- a line is taken, unless there is no room
-pub taken : (checked : Result Drawing ScriptWhy) (old new : ScriptDraft) (line : Drawing) (result : Result (Unit {0}) LineStop) → checked ≡ Ok line → OnOk result (Adds old new line) → IfErr result (λ stop. stop ≡ NoRoom)
+pub taken : (checked : Result Drawing ScriptWhy) (old new : ScriptDraft) (line : Drawing)
+    (result : Result (Unit {0}) LineStop) → checked ≡ Ok line → OnOk result (Adds old new line)
+    → IfErr result (λ stop. stop ≡ NoRoom)
     → Takes checked old new result
-taken checked old new line (Ok u) h adds err = (adds.sound, ap (grown (said_in old)) h ∙ ap Ok (sym adds.lines_are))
+taken checked old new line (Ok u) h adds err =
+    (adds.sound, ap (grown (said_in old)) h ∙ ap Ok (sym adds.lines_are))
 taken checked old new line (Err stop) h adds err = subst (Stops checked) (sym err) tt
 
 -- numbers of words, one and five
-pub one_number : (words : List (List ℕ)) (numbers : List ℕ) → Some numbers ≡ numbers_in 1 words → length numbers ≡ 1 → numbers_in 1 words ≡ Some (slice_index numbers 0 ∷ [])
+pub one_number : (words : List (List ℕ)) (numbers : List ℕ) → Some numbers ≡ numbers_in 1 words
+    → length numbers ≡ 1
+    → numbers_in 1 words ≡ Some (slice_index numbers 0 ∷ [])
 one_number words [] h size = absurd (omega arith)
 one_number words (a ∷ []) h size = sym h
 one_number words (a ∷ b ∷ numbers) h size = absurd (omega arith)
 
-pub border_taken : (words : List (List ℕ)) (colour : ℕ) → numbers_in 1 words ≡ Some (colour ∷ []) → border_line words ≡ Some (Border colour)
+pub border_taken : (words : List (List ℕ)) (colour : ℕ) → numbers_in 1 words ≡ Some (colour ∷ [])
+    → border_line words ≡ Some (Border colour)
 unfolding border_line
 border_taken words colour h = ap border_of h
 
-pub fill_taken : (words : List (List ℕ)) (colour : ℕ) → numbers_in 1 words ≡ Some (colour ∷ []) → fill_line words ≡ Some (Fill colour)
+pub fill_taken : (words : List (List ℕ)) (colour : ℕ) → numbers_in 1 words ≡ Some (colour ∷ [])
+    → fill_line words ≡ Some (Fill colour)
 unfolding fill_line
 fill_taken words colour h = ap fill_of h
 
-pub one_border : (words : List (List ℕ)) (numbers : List ℕ) → Some numbers ≡ numbers_in 1 words → length numbers ≡ 1 → border_line words ≡ Some (Border (slice_index numbers 0))
+pub one_border : (words : List (List ℕ)) (numbers : List ℕ) → Some numbers ≡ numbers_in 1 words
+    → length numbers ≡ 1
+    → border_line words ≡ Some (Border (slice_index numbers 0))
 unfolding border_line
 one_border words [] h size = absurd (omega arith)
 one_border words (a ∷ []) h size = ap border_of (sym h)
 one_border words (a ∷ b ∷ numbers) h size = absurd (omega arith)
 
-pub one_fill : (words : List (List ℕ)) (numbers : List ℕ) → Some numbers ≡ numbers_in 1 words → length numbers ≡ 1 → fill_line words ≡ Some (Fill (slice_index numbers 0))
+pub one_fill : (words : List (List ℕ)) (numbers : List ℕ) → Some numbers ≡ numbers_in 1 words
+    → length numbers ≡ 1
+    → fill_line words ≡ Some (Fill (slice_index numbers 0))
 unfolding fill_line
 one_fill words [] h size = absurd (omega arith)
 one_fill words (a ∷ []) h size = ap fill_of (sym h)
 one_fill words (a ∷ b ∷ numbers) h size = absurd (omega arith)
 
-pub five_rect : (words : List (List ℕ)) (numbers : List ℕ) → Some numbers ≡ numbers_in 5 words → length numbers ≡ 5
-    → rect_line words ≡ Some (Rect (slice_index numbers 0) (slice_index numbers 1) (slice_index numbers 2) (slice_index numbers 3) (slice_index numbers 4))
+pub five_rect : (words : List (List ℕ)) (numbers : List ℕ) → Some numbers ≡ numbers_in 5 words
+    → length numbers ≡ 5
+    → rect_line words
+    ≡ Some (Rect (slice_index numbers 0) (slice_index numbers 1) (slice_index numbers 2)
+    (slice_index numbers 3) (slice_index numbers 4))
 unfolding rect_line
 five_rect words [] h size = absurd (omega arith)
 five_rect words (a ∷ []) h size = absurd (omega arith)
@@ -144,9 +186,12 @@ unfolding rect_line
 no_rect words h = ap rect_of (sym h)
 
 -- the command that a word is
-pub command_is : (before : List Drawing) (command : List ℕ) (words : List (List ℕ)) (colour border fill rect row show : Bool)
-    → bytes_eq command (codes "colour") ≡ colour → bytes_eq command (codes "border") ≡ border → bytes_eq command (codes "fill") ≡ fill
-    → bytes_eq command (codes "rect") ≡ rect → bytes_eq command (codes "row") ≡ row → bytes_eq command (codes "show") ≡ show
+pub command_is : (before : List Drawing) (command : List ℕ) (words : List (List ℕ))
+    (colour border fill rect row show : Bool)
+    → bytes_eq command (codes "colour") ≡ colour → bytes_eq command (codes "border") ≡ border
+    → bytes_eq command (codes "fill") ≡ fill
+    → bytes_eq command (codes "rect") ≡ rect → bytes_eq command (codes "row") ≡ row
+    → bytes_eq command (codes "show") ≡ show
     → checked_command before command words ≡ (
     if colour then checked_line before (colour_line words)
     else (if border then checked_line before (border_line words)
@@ -167,88 +212,125 @@ command_is before command words colour border fill rect row show c b f r w s =
     else Err UnknownCommand))))))) c (rw (← b, ← f, ← r, ← w, ← s) refl)
 
 -- what the words of a line say by the command that they begin with
-pub said_colour : (before : List Drawing) (all words : List (List ℕ)) → all ≡ codes "colour" ∷ words → checked_words before all ≡ checked_line before (colour_line words)
+pub said_colour : (before : List Drawing) (all words : List (List ℕ)) → all ≡ codes "colour" ∷ words
+    → checked_words before all ≡ checked_line before (colour_line words)
 unfolding checked_words checked_command
 said_colour before all words h = ap (checked_words before) h
 
-pub said_border : (before : List Drawing) (all words : List (List ℕ)) → all ≡ codes "border" ∷ words → checked_words before all ≡ checked_line before (border_line words)
+pub said_border : (before : List Drawing) (all words : List (List ℕ)) → all ≡ codes "border" ∷ words
+    → checked_words before all ≡ checked_line before (border_line words)
 unfolding checked_words checked_command
 said_border before all words h = ap (checked_words before) h
 
-pub said_fill : (before : List Drawing) (all words : List (List ℕ)) → all ≡ codes "fill" ∷ words → checked_words before all ≡ checked_line before (fill_line words)
+pub said_fill : (before : List Drawing) (all words : List (List ℕ)) → all ≡ codes "fill" ∷ words
+    → checked_words before all ≡ checked_line before (fill_line words)
 unfolding checked_words checked_command
 said_fill before all words h = ap (checked_words before) h
 
-pub said_rect : (before : List Drawing) (all words : List (List ℕ)) → all ≡ codes "rect" ∷ words → checked_words before all ≡ checked_line before (rect_line words)
+pub said_rect : (before : List Drawing) (all words : List (List ℕ)) → all ≡ codes "rect" ∷ words
+    → checked_words before all ≡ checked_line before (rect_line words)
 unfolding checked_words checked_command
 said_rect before all words h = ap (checked_words before) h
 
-pub said_row : (before : List Drawing) (all words : List (List ℕ)) → all ≡ codes "row" ∷ words → checked_words before all ≡ checked_line before (row_line words)
+pub said_row : (before : List Drawing) (all words : List (List ℕ)) → all ≡ codes "row" ∷ words
+    → checked_words before all ≡ checked_line before (row_line words)
 unfolding checked_words checked_command
 said_row before all words h = ap (checked_words before) h
 
-pub said_show : (before : List Drawing) (all words : List (List ℕ)) → all ≡ codes "show" ∷ words → checked_words before all ≡ checked_line before (show_line words)
+pub said_show : (before : List Drawing) (all words : List (List ℕ)) → all ≡ codes "show" ∷ words
+    → checked_words before all ≡ checked_line before (show_line words)
 unfolding checked_words checked_command
 said_show before all words h = ap (checked_words before) h
 
 other_word : (command text : List ℕ) → (command ≡ text → ⊥) → bytes_eq command text ≡ false
-other_word command text other = elim (cases_Bool (bytes_eq command text)) [ inl same ↦ absurd (other ((bytes_eq-Decides command text).0 same)) | inr differ ↦ differ ]
+other_word command text other = elim (cases_Bool (bytes_eq command text))
+    [ inl same ↦ absurd (other ((bytes_eq-Decides command text).0 same)) | inr differ ↦ differ ]
 
 -- words that begin with none of the commands
 pub said_nothing : (before : List Drawing) (all : List (List ℕ))
-    → (get_or all 0 [] ≡ codes "colour" → ⊥) → (get_or all 0 [] ≡ codes "border" → ⊥) → (get_or all 0 [] ≡ codes "fill" → ⊥)
-    → (get_or all 0 [] ≡ codes "rect" → ⊥) → (get_or all 0 [] ≡ codes "row" → ⊥) → (get_or all 0 [] ≡ codes "show" → ⊥)
+    → (get_or all 0 [] ≡ codes "colour" → ⊥) → (get_or all 0 [] ≡ codes "border" → ⊥)
+    → (get_or all 0 [] ≡ codes "fill" → ⊥)
+    → (get_or all 0 [] ≡ codes "rect" → ⊥) → (get_or all 0 [] ≡ codes "row" → ⊥)
+    → (get_or all 0 [] ≡ codes "show" → ⊥)
     → checked_words before all ≡ Err UnknownCommand
 unfolding checked_words
 said_nothing before [] c b f r w s = refl
 said_nothing before (command ∷ words) c b f r w s =
-    command_is before command words false false false false false false (other_word command (codes "colour") c) (other_word command (codes "border") b)
-    (other_word command (codes "fill") f) (other_word command (codes "rect") r) (other_word command (codes "row") w) (other_word command (codes "show") s)
+    command_is before command words false false false false false false
+    (other_word command (codes "colour") c) (other_word command (codes "border") b)
+    (other_word command (codes "fill") f) (other_word command (codes "rect") r)
+    (other_word command (codes "row") w) (other_word command (codes "show") s)
 
 -- The lines in turn.
 
-pub one_taken : (number : ℕ) (old new : List Drawing) (line : List ℕ) (rest : List (List ℕ)) → script_step old line ≡ Ok new → checked_lines number old (line ∷ rest) ≡ checked_lines (number + 1) new rest
+pub one_taken : (number : ℕ) (old new : List Drawing) (line : List ℕ) (rest : List (List ℕ))
+    → script_step old line ≡ Ok new
+    → checked_lines number old (line ∷ rest) ≡ checked_lines (number + 1) new rest
 unfolding checked_lines
-one_taken number old new line rest h = read_on-taken script_step (λ script. Ok script) number old new line rest h
+one_taken number old new line rest h =
+    read_on-taken script_step (λ script. Ok script) number old new line rest h
 
-pub step_passed : (before : List Drawing) (line : List ℕ) → is_passed_over line ≡ true → script_step before line ≡ Ok before
-step_passed before line h = ap (λ b. if b then Ok before else grown before (checked_words before (words_in line))) h
+pub step_passed : (before : List Drawing) (line : List ℕ) → is_passed_over line ≡ true
+    → script_step before line ≡ Ok before
+step_passed before line h =
+    ap (λ b. if b then Ok before else grown before (checked_words before (words_in line))) h
 
-pub step_heard : (before : List Drawing) (line : List ℕ) → is_passed_over line ≡ false → script_step before line ≡ grown before (checked_words before (words_in line))
-step_heard before line h = ap (λ b. if b then Ok before else grown before (checked_words before (words_in line))) h
+pub step_heard : (before : List Drawing) (line : List ℕ) → is_passed_over line ≡ false
+    → script_step before line ≡ grown before (checked_words before (words_in line))
+step_heard before line h =
+    ap (λ b. if b then Ok before else grown before (checked_words before (words_in line))) h
 
-pub passed : (number : ℕ) (before : List Drawing) (line : List ℕ) (rest : List (List ℕ)) → is_passed_over line ≡ true → checked_lines number before (line ∷ rest) ≡ checked_lines (number + 1) before rest
+pub passed : (number : ℕ) (before : List Drawing) (line : List ℕ) (rest : List (List ℕ))
+    → is_passed_over line ≡ true
+    → checked_lines number before (line ∷ rest) ≡ checked_lines (number + 1) before rest
 passed number before line rest h = one_taken number before before line rest (step_passed before line h)
 
-pub accepted : (number : ℕ) (old new : List Drawing) (line : List ℕ) (rest : List (List ℕ)) → is_passed_over line ≡ false → grown old (checked_words old (words_in line)) ≡ Ok new
+pub accepted : (number : ℕ) (old new : List Drawing) (line : List ℕ) (rest : List (List ℕ))
+    → is_passed_over line ≡ false → grown old (checked_words old (words_in line)) ≡ Ok new
     → checked_lines number old (line ∷ rest) ≡ checked_lines (number + 1) new rest
 accepted number old new line rest h grow = one_taken number old new line rest (step_heard old line h ∙ grow)
 
-pub refused : (number : ℕ) (old : List Drawing) (line : List ℕ) (rest : List (List ℕ)) (why : ScriptWhy) → is_passed_over line ≡ false → checked_words old (words_in line) ≡ Err why
+pub refused : (number : ℕ) (old : List Drawing) (line : List ℕ) (rest : List (List ℕ)) (why : ScriptWhy)
+    → is_passed_over line ≡ false → checked_words old (words_in line) ≡ Err why
     → checked_lines number old (line ∷ rest) ≡ Err (number, why)
 unfolding checked_lines
-refused number old line rest why h stops = read_on-refused script_step (λ script. Ok script) number old why line rest (step_heard old line h ∙ ap (grown old) stops)
+refused number old line rest why h stops =
+    read_on-refused script_step (λ script. Ok script) number old why line rest
+    (step_heard old line h ∙ ap (grown old) stops)
 
 -- A line is read.
 
-pub blank-read : (draft : ScriptDraft) (line : List ℕ) → IsSound draft → is_passed_over line ≡ true → IsRead draft draft line
-blank-read draft line sound h = record { sound = sound; lines_are = λ number rest. passed number (said_in draft) line rest h }
+pub blank-read : (draft : ScriptDraft) (line : List ℕ) → IsSound draft → is_passed_over line ≡ true
+    → IsRead draft draft line
+blank-read draft line sound h =
+    record { sound = sound; lines_are = λ number rest. passed number (said_in draft) line rest h }
 
-pub taken-read : (old new : ScriptDraft) (line : List ℕ) (result : Result (Unit {0}) LineStop) → is_passed_over line ≡ false → Takes (checked_words (said_in old) (words_in line)) old new result → OnOk result (IsRead old new line)
-taken-read old new line (Ok u) h takes = record { sound = takes.0; lines_are = λ number rest. accepted number (said_in old) (said_in new) line rest h takes.1 }
+pub taken-read : (old new : ScriptDraft) (line : List ℕ) (result : Result (Unit {0}) LineStop)
+    → is_passed_over line ≡ false → Takes (checked_words (said_in old) (words_in line)) old new result
+    → OnOk result (IsRead old new line)
+taken-read old new line (Ok u) h takes = record {
+  sound = takes.0;
+  lines_are = λ number rest. accepted number (said_in old) (said_in new) line rest h takes.1;
+}
 taken-read old new line (Err stop) h takes = tt
 
-pub taken-refused : (old new : ScriptDraft) (line : List ℕ) (result : Result (Unit {0}) LineStop) → is_passed_over line ≡ false → Takes (checked_words (said_in old) (words_in line)) old new result → IfErr result (IsRefused (said_in old) line)
+pub taken-refused : (old new : ScriptDraft) (line : List ℕ) (result : Result (Unit {0}) LineStop)
+    → is_passed_over line ≡ false → Takes (checked_words (said_in old) (words_in line)) old new result
+    → IfErr result (IsRefused (said_in old) line)
 taken-refused old new line (Ok u) h takes = tt
-taken-refused old new line (Err (Refused why)) h takes = λ number rest. refused number (said_in old) line rest why h takes
+taken-refused old new line (Err (Refused why)) h takes =
+    λ number rest. refused number (said_in old) line rest why h takes
 taken-refused old new line (Err NoRoom) h takes = tt
 
 -- The whole text.
 
-pub reading_begins : (text : List ℕ) (draft : ScriptDraft) → said_in draft ≡ [] → checked_lines 1 (said_in draft) (lines_in (without_mark text)) ≡ read_script text
+pub reading_begins : (text : List ℕ) (draft : ScriptDraft) → said_in draft ≡ []
+    → checked_lines 1 (said_in draft) (lines_in (without_mark text)) ≡ read_script text
 unfolding read_script
 reading_begins text draft h = ap (λ before. checked_lines 1 before (lines_in (without_mark text))) h
 
-pub reading_ends : (number : ℕ) (before : List Drawing) (lines : List (List ℕ)) → lines ≡ [] → checked_lines number before lines ≡ Ok before
+pub reading_ends : (number : ℕ) (before : List Drawing) (lines : List (List ℕ)) → lines ≡ []
+    → checked_lines number before lines ≡ Ok before
 unfolding checked_lines
-reading_ends number before lines h = ap (checked_lines number before) h ∙ read_on-end script_step (λ script. Ok script) number before
+reading_ends number before lines h =
+    ap (checked_lines number before) h ∙ read_on-end script_step (λ script. Ok script) number before

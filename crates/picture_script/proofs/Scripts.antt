@@ -3,7 +3,8 @@ use Rattle.std.proofs.Common.{◌≡◌, ℕ, zero, suc, ◌<◌, ◌≤◌, Lis
 use Rattle.picture_script.specs.Script.{Drawing, Show, shows, pictures, lines_before}
 
 -- they are the first lines
-pub before_prefix : (script : List Drawing) (k : ℕ) → lines_before script k ≡ take (length (lines_before script k)) script
+pub before_prefix : (script : List Drawing) (k : ℕ)
+    → lines_before script k ≡ take (length (lines_before script k)) script
 unfolding lines_before
 before_prefix [] k = refl
 before_prefix (Show ready hold ∷ rest) zero = refl
@@ -11,7 +12,8 @@ before_prefix (Show ready hold ∷ rest) (suc k) = ap (λ xs. Show ready hold �
 before_prefix (line ∷ rest) k = ap (λ xs. line ∷ xs) (before_prefix rest k)
 
 -- before a later show line stand no fewer
-pub before_rising : (script : List Drawing) (j k : ℕ) → j ≤ k → length (lines_before script j) ≤ length (lines_before script k)
+pub before_rising : (script : List Drawing) (j k : ℕ) → j ≤ k
+    → length (lines_before script j) ≤ length (lines_before script k)
 unfolding lines_before
 before_rising [] j k h = omega arith
 before_rising (Show ready hold ∷ rest) zero k h = omega arith
@@ -20,15 +22,18 @@ before_rising (Show ready hold ∷ rest) (suc j) (suc k) h = omega (arith, befor
 before_rising (line ∷ rest) j k h = omega (arith, before_rising rest j k h)
 
 -- a further line changes nothing before the show lines that stand
-pub before_snoc : (script : List Drawing) (line : Drawing) (k : ℕ) → k < pictures script → lines_before (script ++ line ∷ []) k ≡ lines_before script k
+pub before_snoc : (script : List Drawing) (line : Drawing) (k : ℕ) → k < pictures script
+    → lines_before (script ++ line ∷ []) k ≡ lines_before script k
 unfolding lines_before shows
 before_snoc [] line k h = absurd (omega arith)
 before_snoc (Show ready hold ∷ rest) line zero h = refl
-before_snoc (Show ready hold ∷ rest) line (suc k) h = ap (λ xs. Show ready hold ∷ xs) (before_snoc rest line k (omega arith))
+before_snoc (Show ready hold ∷ rest) line (suc k) h =
+    ap (λ xs. Show ready hold ∷ xs) (before_snoc rest line k (omega arith))
 before_snoc (other ∷ rest) line k h = ap (λ xs. other ∷ xs) (before_snoc rest line k h)
 
 -- before a new show line stand all lines
-pub before_last : (script : List Drawing) (ready hold : ℕ) → lines_before (script ++ Show ready hold ∷ []) (pictures script) ≡ script
+pub before_last : (script : List Drawing) (ready hold : ℕ)
+    → lines_before (script ++ Show ready hold ∷ []) (pictures script) ≡ script
 unfolding lines_before shows
 before_last [] ready hold = refl
 before_last (Show r h ∷ rest) ready hold = ap (λ xs. Show r h ∷ xs) (before_last rest ready hold)

@@ -29,25 +29,31 @@ row_none (a ∷ b ∷ []) h = refl
 row_none (a ∷ b ∷ c ∷ []) h = absurd (h refl)
 row_none (a ∷ b ∷ c ∷ d ∷ words) h = refl
 
-pub colour_two : (words : List (List ℕ)) (a b : List ℕ) → words ≡ a ∷ b ∷ [] → colour_line words ≡ colour_of (small_number a) (colour_in b)
+pub colour_two : (words : List (List ℕ)) (a b : List ℕ) → words ≡ a ∷ b ∷ []
+    → colour_line words ≡ colour_of (small_number a) (colour_in b)
 unfolding colour_line
 colour_two words a b h = ap colour_line h
 
-pub show_two : (words : List (List ℕ)) (a b : List ℕ) → words ≡ a ∷ b ∷ [] → show_line words ≡ show_of (parsed_time a) (parsed_time b)
+pub show_two : (words : List (List ℕ)) (a b : List ℕ) → words ≡ a ∷ b ∷ []
+    → show_line words ≡ show_of (parsed_time a) (parsed_time b)
 unfolding show_line
 show_two words a b h = ap show_line h
 
-pub row_three : (words : List (List ℕ)) (a b c : List ℕ) → words ≡ a ∷ b ∷ c ∷ [] → row_line words ≡ row_of (small_number a) (small_number b) (pixels_in c)
+pub row_three : (words : List (List ℕ)) (a b c : List ℕ) → words ≡ a ∷ b ∷ c ∷ []
+    → row_line words ≡ row_of (small_number a) (small_number b) (pixels_in c)
 unfolding row_line
 row_three words a b c h = ap row_line h
 
-pub pixels_some : (word : List ℕ) → (is_some_bytes word && list_all is_ascii_hexdigit word) ≡ true → pixels_in word ≡ Some (map digit_value word)
+pub pixels_some : (word : List ℕ) → (is_some_bytes word && list_all is_ascii_hexdigit word) ≡ true
+    → pixels_in word ≡ Some (map digit_value word)
 unfolding pixels_in
 pixels_some word h = ap (λ (b : Bool). if b then Some (map digit_value word) else None) h
 
-pub pixels_none : (word : List ℕ) → (is_some_bytes word && list_all is_ascii_hexdigit word) ≡ false → pixels_in word ≡ None
+pub pixels_none : (word : List ℕ) → (is_some_bytes word && list_all is_ascii_hexdigit word) ≡ false
+    → pixels_in word ≡ None
 unfolding pixels_in
 pixels_none word h = ap (λ (b : Bool). if b then Some (map digit_value word) else None) h
 
-pub all_digits : (word : List ℕ) → (is_some_bytes word && list_all is_ascii_hexdigit word) ≡ true → list_all is_ascii_hexdigit word ≡ true
+pub all_digits : (word : List ℕ) → (is_some_bytes word && list_all is_ascii_hexdigit word) ≡ true
+    → list_all is_ascii_hexdigit word ≡ true
 all_digits word h = (and_true (is_some_bytes word) (list_all is_ascii_hexdigit word) h).1

@@ -5,6 +5,8 @@ pub behind : (m one two a b : List ℕ) → one ≡ m ++ a → two ≡ one ++ b 
 behind m one two a b first second = second ∙ ap (λ (l : List ℕ). l ++ b) first ∙ append_assoc m a b
 
 -- a name and what it names, behind a part
-pub named_behind : (m one two a name value : List ℕ) → one ≡ m ++ a → two ≡ one ++ (name ++ value) → two ≡ m ++ ((a ++ name) ++ value)
+pub named_behind : (m one two a name value : List ℕ) → one ≡ m ++ a → two ≡ one ++ (name ++ value)
+    → two ≡ m ++ ((a ++ name) ++ value)
 named_behind m one two a name value first second =
-    behind m one two a (name ++ value) first second ∙ ap (λ (l : List ℕ). m ++ l) (sym (append_assoc a name value))
+    behind m one two a (name ++ value) first second
+    ∙ ap (λ (l : List ℕ). m ++ l) (sym (append_assoc a name value))

@@ -25,24 +25,32 @@ same_bits a b a_size b_size same =
 tail_size : (m : List Bool) → length m ≡ 96 → length (drop 80 m) ≡ 16
 tail_size m size = omega (arith, length-drop 80 m)
 
-check_from_test : (m : List Bool) → length m ≡ 96 → q_check_matches m ≡ true → drop 80 m ≡ check_bits (take 80 m)
-check_from_test m size test = same_bits (drop 80 m) (check_bits (take 80 m)) (tail_size m size) (length-check_bits (take 80 m)) (eqb-true _ _ test)
+check_from_test : (m : List Bool) → length m ≡ 96 → q_check_matches m ≡ true
+    → drop 80 m ≡ check_bits (take 80 m)
+check_from_test m size test =
+    same_bits (drop 80 m) (check_bits (take 80 m)) (tail_size m size) (length-check_bits (take 80 m))
+    (eqb-true _ _ test)
 
 test_from_check : (m : List Bool) → drop 80 m ≡ check_bits (take 80 m) → q_check_matches m ≡ true
-test_from_check m check = eq-eqb (number_of (drop 80 m)) (number_of (check_bits (take 80 m))) (ap number_of check)
+test_from_check m check =
+    eq-eqb (number_of (drop 80 m)) (number_of (check_bits (take 80 m))) (ap number_of check)
 
 -- the one reading is a reading
-reading_by_tests : (m : List Bool) (test : Bool) (bad : Option ℕ) → length m ≡ 96 → q_check_matches m ≡ test → first_bad_field m ≡ bad
+reading_by_tests : (m : List Bool) (test : Bool) (bad : Option ℕ) → length m ≡ 96 → q_check_matches m ≡ test
+    → first_bad_field m ≡ bad
     → IsReading m (reading_by test bad (frame_at (kind_of m) m))
 unfolding first_bad_field
-reading_by_tests m false bad size test fields = λ check. absurd (true≢false (sym (test_from_check m check) ∙ test))
+reading_by_tests m false bad size test fields =
+    λ check. absurd (true≢false (sym (test_from_check m check) ∙ test))
 reading_by_tests m true (Some bit) size test fields = (check_from_test m size test, fields)
 reading_by_tests m true None size test fields =
     let good = is_good m size (ap (first_outside m) (sym (ranges_agree m)) ∙ fields) in
     let check = check_from_test m size test in
     record {
       valid = good.valid;
-      spelling = sym (take-append-drop 80 m) ∙ ap₂ (λ a b. a ++ b) (sym good.bits) (check ∙ ap check_bits (sym good.bits));
+      spelling =
+          sym (take-append-drop 80 m)
+          ∙ ap₂ (λ a b. a ++ b) (sym good.bits) (check ∙ ap check_bits (sym good.bits));
     }
 
 pub is_reading : (m : List Bool) → length m ≡ 96 → IsReading m (reading_of m)
@@ -50,7 +58,8 @@ unfolding reading_of
 is_reading m size = reading_by_tests m (q_check_matches m) (first_bad_field m) size refl refl
 
 -- nothing else is one
-pub only_reading : (m : List Bool) (what : Result QFrame QFault) → length m ≡ 96 → IsReading m what → what ≡ reading_of m
+pub only_reading : (m : List Bool) (what : Result QFrame QFault) → length m ≡ 96 → IsReading m what
+    → what ≡ reading_of m
 unfolding reading_of first_bad_field
 only_reading m (Ok frame) size is =
     let read = read_frame frame m is in

@@ -10,7 +10,8 @@ use Rattle.raw_subcode.specs.Channels.{channel_bit, p_bits, q_bits, symbols_of}
 use Rattle.raw_subcode.proofs.Eight.{read_bit}
 
 -- a bit of bytes by its byte and its place there
-bit_of_bytes : (bytes : List ℕ) (n : ℕ) → n < 8 * length bytes → get_or (bits_of_bytes bytes) n false ≡ has_bit (7 - n % 8) (get_or bytes (n / 8) 0)
+bit_of_bytes : (bytes : List ℕ) (n : ℕ) → n < 8 * length bytes
+    → get_or (bits_of_bytes bytes) n false ≡ has_bit (7 - n % 8) (get_or bytes (n / 8) 0)
 unfolding bits_of_bytes
 bit_of_bytes [] n lt = absurd (let none : 8 * 0 ≡ 0 = omega arith in omega arith)
 bit_of_bytes (b ∷ bytes) n lt = elim (cases_lt n 8) [
@@ -37,14 +38,17 @@ bits_are f block bits size each =
     ∙ each n (omega (arith, length-map block f))
     ∙ get_or_default bits n false d (omega (arith, length-map block f)))
 
-pub p_bits_are : (block : List ℕ) (p : Bool) → length block ≡ 96 → ((n : ℕ) → n < 96 → channel_bit 0 (slice_index block n) ≡ p) → p_bits block ≡ replicate 96 p
+pub p_bits_are : (block : List ℕ) (p : Bool) → length block ≡ 96
+    → ((n : ℕ) → n < 96 → channel_bit 0 (slice_index block n) ≡ p)
+    → p_bits block ≡ replicate 96 p
 p_bits_are block p size each =
     bits_are (channel_bit 0) block (replicate 96 p) (size ∙ sym (length-replicate 96 p)) (λ n lt.
     let below : n < 96 = omega (arith, length-replicate 96 p) in
     each n below ∙ sym (get_or-replicate 96 n p false below))
 
 pub q_bits_are : (block q : List ℕ) → length block ≡ 96 → length q ≡ 12
-    → ((n : ℕ) → n < 96 → channel_bit 1 (slice_index block n) ≡ has_bit (7 - n % 8) (slice_index q (n / 8))) → q_bits block ≡ bits_of_bytes q
+    → ((n : ℕ) → n < 96 → channel_bit 1 (slice_index block n) ≡ has_bit (7 - n % 8) (slice_index q (n / 8)))
+    → q_bits block ≡ bits_of_bytes q
 q_bits_are block q size q_size each =
     bits_are (channel_bit 1) block (bits_of_bytes q) (omega (arith, length-bits_of_bytes q)) (λ n lt.
     let below : n < 8 * length q = omega (arith, length-bits_of_bytes q) in

@@ -59,7 +59,9 @@ built_is p q n j symbols small is lt =
     let qs : ℕ → ℕ = λ k. 64 * (if bit k then 1 else 0) in
     let all : ℕ → ℕ = λ k. byte_of p (bit k) (symbols k) in
     let sums : n ≡ in_lanes 8 all =
-    is ∙ ap (λ m. in_lanes 8 ps + m + in_lanes 8 symbols) (sym (in_lanes-times 8 64 (λ k. if bit k then 1 else 0)))
+    is
+    ∙ ap (λ m. in_lanes 8 ps + m + in_lanes 8 symbols)
+    (sym (in_lanes-times 8 64 (λ k. if bit k then 1 else 0)))
     ∙ ap (λ m. m + in_lanes 8 symbols) (in_lanes-plus 8 ps qs) ∙ in_lanes-plus 8 (λ k. ps k + qs k) symbols in
     byte_at n j lt ∙ ap (λ m. m / 256 ^ j % 256) sums
     ∙ in_lanes-byte 8 j all (λ k k_lt. byte_of-lt p (bit k) (symbols k) (small k k_lt)) lt
@@ -67,14 +69,20 @@ built_is p q n j symbols small is lt =
 pub built_p : (p : Bool) (q n j : ℕ) (symbols : ℕ → ℕ) → ((k : ℕ) → k < 8 → symbols k < 64)
     → n ≡ in_lanes 8 (λ k. if p then 128 else 0) + 64 * lanes_of_byte q + in_lanes 8 symbols → j < 8
     → has_bit 7 (slice_index (bytes_low_first 0 8 n) j) ≡ p
-built_p p q n j symbols small is lt = ap (has_bit 7) (built_is p q n j symbols small is lt) ∙ p_of p (has_bit (7 - j) q) (symbols j) (small j lt)
+built_p p q n j symbols small is lt =
+    ap (has_bit 7) (built_is p q n j symbols small is lt)
+    ∙ p_of p (has_bit (7 - j) q) (symbols j) (small j lt)
 
 pub built_q : (p : Bool) (q n j : ℕ) (symbols : ℕ → ℕ) → ((k : ℕ) → k < 8 → symbols k < 64)
     → n ≡ in_lanes 8 (λ k. if p then 128 else 0) + 64 * lanes_of_byte q + in_lanes 8 symbols → j < 8
     → has_bit 6 (slice_index (bytes_low_first 0 8 n) j) ≡ has_bit (7 - j) q
-built_q p q n j symbols small is lt = ap (has_bit 6) (built_is p q n j symbols small is lt) ∙ q_of p (has_bit (7 - j) q) (symbols j) (small j lt)
+built_q p q n j symbols small is lt =
+    ap (has_bit 6) (built_is p q n j symbols small is lt)
+    ∙ q_of p (has_bit (7 - j) q) (symbols j) (small j lt)
 
 pub built_symbol : (p : Bool) (q n j : ℕ) (symbols : ℕ → ℕ) → ((k : ℕ) → k < 8 → symbols k < 64)
     → n ≡ in_lanes 8 (λ k. if p then 128 else 0) + 64 * lanes_of_byte q + in_lanes 8 symbols → j < 8
     → slice_index (bytes_low_first 0 8 n) j % 64 ≡ symbols j
-built_symbol p q n j symbols small is lt = ap (λ b. b % 64) (built_is p q n j symbols small is lt) ∙ symbol_of p (has_bit (7 - j) q) (symbols j) (small j lt)
+built_symbol p q n j symbols small is lt =
+    ap (λ b. b % 64) (built_is p q n j symbols small is lt)
+    ∙ symbol_of p (has_bit (7 - j) q) (symbols j) (small j lt)

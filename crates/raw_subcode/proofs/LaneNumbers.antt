@@ -35,20 +35,25 @@ test_lanes = refl
 pub lanes_are : (byte found : ℕ) → byte < 256 → found ≡ get_or LANES byte 0 → found ≡ lanes_of_byte byte
 unfolding IsRight
 lanes_are byte found lt is =
-    let right = and_parts (get_or LANES byte 0 == lanes_of_byte byte) (nat_lt (get_or LANES byte 0) 72340172838076674) (all_below-at IsRight 256 byte test_lanes lt) in
+    let right =
+    and_parts (get_or LANES byte 0 == lanes_of_byte byte) (nat_lt (get_or LANES byte 0) 72340172838076674)
+    (all_below-at IsRight 256 byte test_lanes lt) in
     is ∙ eqb-true _ _ right.0
 
 pub lanes-lt : (byte found : ℕ) → byte < 256 → found ≡ get_or LANES byte 0 → found < 72340172838076674
 unfolding IsRight
 lanes-lt byte found lt is =
-    let right = and_parts (get_or LANES byte 0 == lanes_of_byte byte) (nat_lt (get_or LANES byte 0) 72340172838076674) (all_below-at IsRight 256 byte test_lanes lt) in
+    let right =
+    and_parts (get_or LANES byte 0 == lanes_of_byte byte) (nat_lt (get_or LANES byte 0) 72340172838076674)
+    (all_below-at IsRight 256 byte test_lanes lt) in
     let small = ltb-true _ _ right.1 in
     omega arith
 
 -- ---- Numbers side by side.
 
 -- a byte of a number that holds numbers below 256
-pub in_lanes-byte : (n k : ℕ) (f : ℕ → ℕ) → ((j : ℕ) → j < n → f j < 256) → k < n → in_lanes n f / 256 ^ k % 256 ≡ f k
+pub in_lanes-byte : (n k : ℕ) (f : ℕ → ℕ) → ((j : ℕ) → j < n → f j < 256) → k < n
+    → in_lanes n f / 256 ^ k % 256 ≡ f k
 unfolding in_lanes
 in_lanes-byte zero k f small lt = absurd (omega arith)
 in_lanes-byte (suc n) zero f small lt = let first = small 0 (omega arith) in omega (arith, first)

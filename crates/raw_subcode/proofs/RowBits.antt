@@ -27,17 +27,20 @@ both_set (suc zero) (suc (suc b)) a_lt b_lt = absurd (omega arith)
 both_set (suc (suc a)) b a_lt b_lt = absurd (omega arith)
 
 has_bit-and : (b x y : ℕ) → has_bit b (bit_and x y) ≡ (has_bit b x && has_bit b y)
-has_bit-and b x y = ap (λ n. n == 1) (bit_at_and x y b) ∙ both_set (bit_at x b) (bit_at y b) (bit_at-lt x b) (bit_at-lt y b)
+has_bit-and b x y =
+    ap (λ n. n == 1) (bit_at_and x y b) ∙ both_set (bit_at x b) (bit_at y b) (bit_at-lt x b) (bit_at-lt y b)
 
 has_bit-shl : (b places x : ℕ) → has_bit b (x * 2 ^ places) ≡ (nat_le places b && has_bit (b - places) x)
 has_bit-shl b places x =
     let whole : x * 2 ^ places ≡ x * 2 ^ places + 0 = omega arith in
     elim (cases_lt b places) [
       | inl under ↦
-          ap (λ n. bit_at n b == 1) whole ∙ ap (λ n. n == 1) (bit_at_cat_low x places 0 b under ∙ bit_at-zero b)
+          ap (λ n. bit_at n b == 1) whole
+          ∙ ap (λ n. n == 1) (bit_at_cat_low x places 0 b under ∙ bit_at-zero b)
           ∙ ap (λ c. c && has_bit (b - places) x) (sym (lt-leb places b under))
       | inr over ↦
-          ap (λ n. bit_at n b == 1) whole ∙ ap (λ n. n == 1) (bit_at_cat_high x places 0 b (pow_pos places) over)
+          ap (λ n. bit_at n b == 1) whole
+          ∙ ap (λ n. n == 1) (bit_at_cat_high x places 0 b (pow_pos places) over)
           ∙ ap (λ c. c && has_bit (b - places) x) (sym (le-leb places b over))
     ]
 
@@ -76,13 +79,16 @@ abbrev differences : ℕ → ℕ → ℕ → ℕ → ℕ
 differences upper lower places mask = bit_and (bit_xor upper (lower / 2 ^ places)) mask
 
 differences_bit : (b upper lower places mask : ℕ)
-    → has_bit b (differences upper lower places mask) ≡ (exclusive_or (has_bit b upper) (has_bit (places + b) lower) && has_bit b mask)
+    → has_bit b (differences upper lower places mask)
+    ≡ (exclusive_or (has_bit b upper) (has_bit (places + b) lower) && has_bit b mask)
 differences_bit b upper lower places mask =
     has_bit-and b (bit_xor upper (lower / 2 ^ places)) mask
-    ∙ ap (λ c. c && has_bit b mask) (has_bit-xor b upper (lower / 2 ^ places) ∙ ap (exclusive_or (has_bit b upper)) (sym (has_bit-shr b places lower)))
+    ∙ ap (λ c. c && has_bit b mask) (has_bit-xor b upper (lower / 2 ^ places)
+    ∙ ap (exclusive_or (has_bit b upper)) (sym (has_bit-shr b places lower)))
 
 upper_bit : (b upper lower places mask : ℕ)
-    → has_bit b (bit_xor upper (differences upper lower places mask)) ≡ (if has_bit b mask then has_bit (places + b) lower else has_bit b upper)
+    → has_bit b (bit_xor upper (differences upper lower places mask))
+    ≡ (if has_bit b mask then has_bit (places + b) lower else has_bit b upper)
 upper_bit b upper lower places mask =
     has_bit-xor b upper (differences upper lower places mask)
     ∙ ap (exclusive_or (has_bit b upper)) (differences_bit b upper lower places mask)
@@ -100,17 +106,22 @@ lower_bit b upper lower places mask small =
     let all : other * 2 ^ places % 2 ^ 8 ≡ other * 2 ^ places = omega arith in
     ap (λ n. has_bit b (bit_xor lower n)) all
     ∙ has_bit-xor b lower (other * 2 ^ places)
-    ∙ ap (exclusive_or (has_bit b lower)) (has_bit-shl b places other ∙ ap (λ c. nat_le places b && c) (differences_bit (b - places) upper lower places mask))
+    ∙ ap (exclusive_or (has_bit b lower)) (has_bit-shl b places other
+    ∙ ap (λ c. nat_le places b && c) (differences_bit (b - places) upper lower places mask))
     ∙ elim (cases_lt b places) [
       | inl under ↦
           let no = lt-leb places b under in
-          ap (λ n. exclusive_or (has_bit b lower) (n && (exclusive_or (has_bit (b - places) upper) (has_bit (places + (b - places)) lower) && has_bit (b - places) mask))) no
+          ap (λ n. exclusive_or (has_bit b lower) (n && (exclusive_or (has_bit (b - places) upper)
+          (has_bit (places + (b - places)) lower) && has_bit (b - places) mask))) no
           ∙ named_over true (has_bit b lower) true false
-          ∙ ap (λ n. if n && has_bit (b - places) mask then has_bit (b - places) upper else has_bit b lower) (sym no)
+          ∙ ap (λ n. if n && has_bit (b - places) mask then has_bit (b - places) upper else has_bit b lower)
+          (sym no)
       | inr over ↦
           let at : places + (b - places) ≡ b = omega arith in
-          ap (λ k. exclusive_or (has_bit b lower) (nat_le places b && (exclusive_or (has_bit (b - places) upper) (has_bit k lower) && has_bit (b - places) mask))) at
-          ∙ named_over (has_bit (b - places) upper) (has_bit b lower) (has_bit (b - places) mask) (nat_le places b)
+          ap (λ k. exclusive_or (has_bit b lower) (nat_le places b
+          && (exclusive_or (has_bit (b - places) upper) (has_bit k lower) && has_bit (b - places) mask))) at
+          ∙ named_over (has_bit (b - places) upper) (has_bit b lower) (has_bit (b - places) mask)
+          (nat_le places b)
     ]
 
 -- ---- Two rows, lane by lane.
@@ -118,20 +129,25 @@ lower_bit b upper lower places mask small =
 -- the differences of two rows
 abbrev other_row : List ℕ → List ℕ → ℕ → ℕ → List ℕ
 other_row upper lower places mask =
-    zip2 bit_and (zip2 bit_xor upper (zip2 (λ a s. a / 2 ^ s) lower (replicate 16 places))) (replicate 16 mask)
+    zip2 bit_and (zip2 bit_xor upper (zip2 (λ a s. a / 2 ^ s) lower (replicate 16 places)))
+    (replicate 16 mask)
 
 other_row-lanes : (upper lower : List ℕ) (places mask i : ℕ) → length upper ≡ 16 → length lower ≡ 16 → i < 16
-    → (length (other_row upper lower places mask) ≡ 16) × (slice_index (other_row upper lower places mask) i ≡ differences (slice_index upper i) (slice_index lower i) places mask)
+    → (length (other_row upper lower places mask) ≡ 16)
+    × (slice_index (other_row upper lower places mask) i
+    ≡ differences (slice_index upper i) (slice_index lower i) places mask)
 other_row-lanes upper lower places mask i size size' lt =
     let down = zip2 (λ a s. a / 2 ^ s) lower (replicate 16 places) in
-    let down_size : length down ≡ 16 = length-zip2 (λ a s. a / 2 ^ s) lower (replicate 16 places) size' ∙ size' in
+    let down_size : length down ≡ 16 =
+    length-zip2 (λ a s. a / 2 ^ s) lower (replicate 16 places) size' ∙ size' in
     let apart = zip2 bit_xor upper down in
     let apart_size : length apart ≡ 16 = length-zip2 bit_xor upper down (size ∙ sym down_size) ∙ size in (
       length-zip2 bit_and apart (replicate 16 mask) apart_size ∙ apart_size,
       get_or-zip2 bit_and apart (replicate 16 mask) i 0 0 0 (omega arith) lt
           ∙ ap₂ bit_and
           (get_or-zip2 bit_xor upper down i 0 0 0 (omega arith) (omega arith)
-          ∙ ap (bit_xor (slice_index upper i)) (get_or-zip2 (λ a s. a / 2 ^ s) lower (replicate 16 places) i 0 0 0 (omega arith) lt
+          ∙ ap (bit_xor (slice_index upper i))
+          (get_or-zip2 (λ a s. a / 2 ^ s) lower (replicate 16 places) i 0 0 0 (omega arith) lt
           ∙ ap (λ s. slice_index lower i / 2 ^ s) (get_or-replicate 16 i places 0 lt)))
           (get_or-replicate 16 i mask 0 lt),
     )
@@ -147,33 +163,44 @@ pub upper_lane : (upper lower : List ℕ) (places mask b i : ℕ) → length upp
     ≡ (if has_bit b mask then has_bit (places + b) (slice_index lower i) else has_bit b (slice_index upper i))
 upper_lane upper lower places mask b i size size' lt =
     let other = other_row-lanes upper lower places mask i size size' lt in
-    ap (has_bit b) (get_or-zip2 bit_xor upper (other_row upper lower places mask) i 0 0 0 (omega arith) (omega (arith, other.0))
+    ap (has_bit b) (get_or-zip2 bit_xor upper (other_row upper lower places mask) i 0 0 0 (omega arith)
+    (omega (arith, other.0))
     ∙ ap (bit_xor (slice_index upper i)) other.1)
     ∙ upper_bit b (slice_index upper i) (slice_index lower i) places mask
 
 -- the differences moved back up
 abbrev moved_row : List ℕ → List ℕ → ℕ → ℕ → List ℕ
-moved_row upper lower places mask = zip2 (λ a s. a * 2 ^ s % 2 ^ 8) (other_row upper lower places mask) (replicate 16 places)
+moved_row upper lower places mask =
+    zip2 (λ a s. a * 2 ^ s % 2 ^ 8) (other_row upper lower places mask) (replicate 16 places)
 
-moved_size : (upper lower : List ℕ) (places mask : ℕ) → length upper ≡ 16 → length lower ≡ 16 → length (moved_row upper lower places mask) ≡ 16
+moved_size : (upper lower : List ℕ) (places mask : ℕ) → length upper ≡ 16 → length lower ≡ 16
+    → length (moved_row upper lower places mask) ≡ 16
 moved_size upper lower places mask size size' =
     let other = other_row-lanes upper lower places mask 0 size size' (omega arith) in
-    length-zip2 (λ a s. a * 2 ^ s % 2 ^ 8) (other_row upper lower places mask) (replicate 16 places) other.0 ∙ other.0
+    length-zip2 (λ a s. a * 2 ^ s % 2 ^ 8) (other_row upper lower places mask) (replicate 16 places) other.0
+    ∙ other.0
 
 pub lower_size : (upper lower : List ℕ) (places mask : ℕ) → length upper ≡ 16 → length lower ≡ 16
     → length (zip2 bit_xor lower (moved_row upper lower places mask)) ≡ 16
 lower_size upper lower places mask size size' =
-    length-zip2 bit_xor lower (moved_row upper lower places mask) (size' ∙ sym (moved_size upper lower places mask size size')) ∙ size'
+    length-zip2 bit_xor lower (moved_row upper lower places mask)
+    (size' ∙ sym (moved_size upper lower places mask size size'))
+    ∙ size'
 
-pub lower_lane : (upper lower : List ℕ) (places mask b i : ℕ) → length upper ≡ 16 → length lower ≡ 16 → mask * 2 ^ places < 256 → i < 16
+pub lower_lane : (upper lower : List ℕ) (places mask b i : ℕ) → length upper ≡ 16 → length lower ≡ 16
+    → mask * 2 ^ places < 256 → i < 16
     → has_bit b (slice_index (zip2 bit_xor lower (moved_row upper lower places mask)) i)
-    ≡ (if nat_le places b && has_bit (b - places) mask then has_bit (b - places) (slice_index upper i) else has_bit b (slice_index lower i))
+    ≡ (if nat_le places b && has_bit (b - places) mask
+    then has_bit (b - places) (slice_index upper i)
+    else has_bit b (slice_index lower i))
 lower_lane upper lower places mask b i size size' small lt =
     let other = other_row-lanes upper lower places mask i size size' lt in
     let moved = moved_size upper lower places mask size size' in
-    ap (has_bit b) (get_or-zip2 bit_xor lower (moved_row upper lower places mask) i 0 0 0 (omega arith) (omega (arith, moved))
+    ap (has_bit b) (get_or-zip2 bit_xor lower (moved_row upper lower places mask) i 0 0 0 (omega arith)
+    (omega (arith, moved))
     ∙ ap (bit_xor (slice_index lower i))
-    (get_or-zip2 (λ a s. a * 2 ^ s % 2 ^ 8) (other_row upper lower places mask) (replicate 16 places) i 0 0 0 (omega (arith, other.0)) lt
+    (get_or-zip2 (λ a s. a * 2 ^ s % 2 ^ 8) (other_row upper lower places mask) (replicate 16 places) i 0 0 0
+    (omega (arith, other.0)) lt
     ∙ ap₂ (λ a s. a * 2 ^ s % 2 ^ 8) other.1 (get_or-replicate 16 i places 0 lt)))
     ∙ lower_bit b (slice_index upper i) (slice_index lower i) places mask small
 
@@ -181,8 +208,10 @@ lower_lane upper lower places mask b i size size' small lt =
 
 -- the lanes of two rows by turns, from one on
 abbrev from_both : ℕ → List ℕ
-from_both start = (start + 0) ∷ (start + 16) ∷ (start + 1) ∷ (start + 17) ∷ (start + 2) ∷ (start + 18) ∷ (start + 3) ∷ (start + 19)
-    ∷ (start + 4) ∷ (start + 20) ∷ (start + 5) ∷ (start + 21) ∷ (start + 6) ∷ (start + 22) ∷ (start + 7) ∷ (start + 23) ∷ []
+from_both start = (start + 0) ∷ (start + 16) ∷ (start + 1) ∷ (start + 17) ∷ (start + 2) ∷ (start + 18)
+    ∷ (start + 3) ∷ (start + 19)
+    ∷ (start + 4) ∷ (start + 20) ∷ (start + 5) ∷ (start + 21) ∷ (start + 6) ∷ (start + 22) ∷ (start + 7)
+    ∷ (start + 23) ∷ []
 
 abbrev IsByTurns : ℕ → ℕ → Bool
 IsByTurns start i = get_or (from_both start) i 0 == 16 * (i % 2) + (start + i / 2)
@@ -195,10 +224,13 @@ test_second : all_below (IsByTurns 8) 16 ≡ true
 unfolding all_below
 test_second = refl
 
-woven_lane : (even odd : List ℕ) (start i : ℕ) → length even ≡ 16 → length odd ≡ 16 → all_below (IsByTurns start) 16 ≡ true → start ≤ 8 → i < 16
-    → slice_index (map (λ k. get_or (even ++ odd) k 0) (from_both start)) i ≡ slice_index (if i % 2 == 0 then even else odd) (start + i / 2)
+woven_lane : (even odd : List ℕ) (start i : ℕ) → length even ≡ 16 → length odd ≡ 16
+    → all_below (IsByTurns start) 16 ≡ true → start ≤ 8 → i < 16
+    → slice_index (map (λ k. get_or (even ++ odd) k 0) (from_both start)) i
+    ≡ slice_index (if i % 2 == 0 then even else odd) (start + i / 2)
 woven_lane even odd start i size size' test le lt =
-    let from : get_or (from_both start) i 0 ≡ 16 * (i % 2) + (start + i / 2) = eqb-true _ _ (all_below-at (IsByTurns start) 16 i test lt) in
+    let from : get_or (from_both start) i 0 ≡ 16 * (i % 2) + (start + i / 2) =
+    eqb-true _ _ (all_below-at (IsByTurns start) 16 i test lt) in
     get_or-map (λ k. get_or (even ++ odd) k 0) (from_both start) i 0 0 lt
     ∙ ap (λ k. get_or (even ++ odd) k 0) from
     ∙ elim (cases_lt (i % 2) 1) [
@@ -217,13 +249,16 @@ woven_lane even odd start i size size' test le lt =
     ]
 
 pub first_woven : (even odd : List ℕ) → length even ≡ 16 → length odd ≡ 16 → (i : ℕ) → i < 16
-    → slice_index (map (λ k. get_or (even ++ odd) k 0) (from_both 0)) i ≡ slice_index (if i % 2 == 0 then even else odd) (i / 2)
+    → slice_index (map (λ k. get_or (even ++ odd) k 0) (from_both 0)) i
+    ≡ slice_index (if i % 2 == 0 then even else odd) (i / 2)
 first_woven even odd size size' i lt =
     let at : 0 + i / 2 ≡ i / 2 = omega arith in
-    woven_lane even odd 0 i size size' test_first (omega arith) lt ∙ ap (slice_index (if i % 2 == 0 then even else odd)) at
+    woven_lane even odd 0 i size size' test_first (omega arith) lt
+    ∙ ap (slice_index (if i % 2 == 0 then even else odd)) at
 
 pub second_woven : (even odd : List ℕ) → length even ≡ 16 → length odd ≡ 16 → (i : ℕ) → i < 16
-    → slice_index (map (λ k. get_or (even ++ odd) k 0) (from_both 8)) i ≡ slice_index (if i % 2 == 0 then even else odd) (8 + i / 2)
+    → slice_index (map (λ k. get_or (even ++ odd) k 0) (from_both 8)) i
+    ≡ slice_index (if i % 2 == 0 then even else odd) (8 + i / 2)
 second_woven even odd size size' i lt = woven_lane even odd 8 i size size' test_second (omega arith) lt
 
 -- a vector turned by four lanes
@@ -237,7 +272,8 @@ test_fourth : all_below IsFourOn 12 ≡ true
 unfolding all_below
 test_fourth = refl
 
-pub four_on : (xs : List ℕ) → length xs ≡ 16 → (k : ℕ) → k < 12 → slice_index (map (λ i. get_or (xs ++ xs) i 0) from_fourth) k ≡ slice_index xs (k + 4)
+pub four_on : (xs : List ℕ) → length xs ≡ 16 → (k : ℕ) → k < 12
+    → slice_index (map (λ i. get_or (xs ++ xs) i 0) from_fourth) k ≡ slice_index xs (k + 4)
 four_on xs size k lt =
     let from : get_or from_fourth k 0 ≡ k + 4 = eqb-true _ _ (all_below-at IsFourOn 12 k test_fourth lt) in
     get_or-map (λ i. get_or (xs ++ xs) i 0) from_fourth k 0 0 (omega arith)
@@ -246,7 +282,8 @@ four_on xs size k lt =
 
 -- ---- A row that is stored.
 
-pub stored : (bytes row : List ℕ) (first n : ℕ) → length row ≡ 16 → first + 16 ≤ length bytes → first ≤ n → n < first + 16
+pub stored : (bytes row : List ℕ) (first n : ℕ) → length row ≡ 16 → first + 16 ≤ length bytes → first ≤ n
+    → n < first + 16
     → slice_index (put_chunk first bytes row) n ≡ slice_index row (n - first)
 stored bytes row first n size room from to =
     let place : n ≡ first + (n - first) = omega arith in
@@ -254,10 +291,12 @@ stored bytes row first n size room from to =
     ∙ get_or-put_chunk_at first bytes row (n - first) 0 (omega arith) (omega arith)
 
 -- two rows that are stored
-pub both_stored : (bytes row row' even odd : List ℕ) (k n : ℕ) → length bytes ≡ 96 → length row ≡ 16 → length row' ≡ 16 → k < 3 → n / 32 ≡ k
+pub both_stored : (bytes row row' even odd : List ℕ) (k n : ℕ) → length bytes ≡ 96 → length row ≡ 16
+    → length row' ≡ 16 → k < 3 → n / 32 ≡ k
     → ((i : ℕ) → i < 16 → slice_index row i ≡ slice_index (if i % 2 == 0 then even else odd) (i / 2))
     → ((i : ℕ) → i < 16 → slice_index row' i ≡ slice_index (if i % 2 == 0 then even else odd) (8 + i / 2))
-    → slice_index (put_chunk (32 * k + 16) (put_chunk (32 * k) bytes row) row') n ≡ slice_index (if n % 2 == 0 then even else odd) (n % 32 / 2)
+    → slice_index (put_chunk (32 * k + 16) (put_chunk (32 * k) bytes row) row') n
+    ≡ slice_index (if n % 2 == 0 then even else odd) (n % 32 / 2)
 both_stored bytes row row' even odd k n long size size' lt at first second =
     let once = put_chunk (32 * k) bytes row in
     let once_long : length once ≡ 96 = length-put_chunk (32 * k) bytes row ∙ long in
@@ -295,23 +334,40 @@ eight P p0 p1 p2 p3 p4 p5 p6 p7 (suc (suc (suc (suc (suc (suc (suc (suc k)))))))
 pub record Holds (row : List ℕ) (f : ℕ → ℕ → Bool) : Type 0 where
   pub bit : (b i : ℕ) → i < 16 → has_bit b (slice_index row i) ≡ f b i
 
-pub exchanged_hold : (places mask : ℕ) (upper lower : List ℕ) (result : List ℕ × List ℕ) (f g : ℕ → ℕ → Bool) → Holds upper f → Holds lower g
-    → ((b i : ℕ) → i < 16 → has_bit b (slice_index result.0 i) ≡ (if has_bit b mask then has_bit (places + b) (slice_index lower i) else has_bit b (slice_index upper i)))
+pub exchanged_hold : (places mask : ℕ) (upper lower : List ℕ) (result : List ℕ × List ℕ) (f g : ℕ → ℕ → Bool)
+    → Holds upper f → Holds lower g
+    → ((b i : ℕ) → i < 16 → has_bit b (slice_index result.0 i)
+    ≡ (if has_bit b mask
+    then has_bit (places + b) (slice_index lower i)
+    else has_bit b (slice_index upper i)))
     → ((b i : ℕ) → i < 16 → has_bit b (slice_index result.1 i)
-    ≡ (if nat_le places b && has_bit (b - places) mask then has_bit (b - places) (slice_index upper i) else has_bit b (slice_index lower i)))
+    ≡ (if nat_le places b && has_bit (b - places) mask
+    then has_bit (b - places) (slice_index upper i)
+    else has_bit b (slice_index lower i)))
     → Holds result.0 (λ b i. if has_bit b mask then g (places + b) i else f b i)
     × Holds result.1 (λ b i. if nat_le places b && has_bit (b - places) mask then f (b - places) i else g b i)
 exchanged_hold places mask upper lower result f g held held' is is' = (
-  record { bit = λ b i lt. is b i lt ∙ ap₂ (λ x y. if has_bit b mask then x else y) (held'.bit (places + b) i lt) (held.bit b i lt) },
-  record { bit = λ b i lt. is' b i lt ∙ ap₂ (λ x y. if nat_le places b && has_bit (b - places) mask then x else y) (held.bit (b - places) i lt) (held'.bit b i lt) },
+  record {
+    bit =
+        λ b i lt. is b i lt
+        ∙ ap₂ (λ x y. if has_bit b mask then x else y) (held'.bit (places + b) i lt) (held.bit b i lt);
+  },
+  record {
+    bit =
+        λ b i lt. is' b i lt
+        ∙ ap₂ (λ x y. if nat_le places b && has_bit (b - places) mask then x else y)
+        (held.bit (b - places) i lt) (held'.bit b i lt);
+  },
 )
 
 -- the bits of a row at one lane, the highest first
 pub row_bits : (row : List ℕ) (f : ℕ → ℕ → Bool) (g : ℕ → Bool) (i : ℕ) → i < 16 → Holds row f
-    → f 7 i ≡ g 0 → f 6 i ≡ g 1 → f 5 i ≡ g 2 → f 4 i ≡ g 3 → f 3 i ≡ g 4 → f 2 i ≡ g 5 → f 1 i ≡ g 6 → f 0 i ≡ g 7
+    → f 7 i ≡ g 0 → f 6 i ≡ g 1 → f 5 i ≡ g 2 → f 4 i ≡ g 3 → f 3 i ≡ g 4 → f 2 i ≡ g 5 → f 1 i ≡ g 6
+    → f 0 i ≡ g 7
     → (w : ℕ) → w < 8 → has_bit (7 - w) (slice_index row i) ≡ g w
 row_bits row f g i lt held e0 e1 e2 e3 e4 e5 e6 e7 =
-    eight (λ w. has_bit (7 - w) (slice_index row i) ≡ g w) (held.bit 7 i lt ∙ e0) (held.bit 6 i lt ∙ e1) (held.bit 5 i lt ∙ e2) (held.bit 4 i lt ∙ e3)
+    eight (λ w. has_bit (7 - w) (slice_index row i) ≡ g w) (held.bit 7 i lt ∙ e0) (held.bit 6 i lt ∙ e1)
+    (held.bit 5 i lt ∙ e2) (held.bit 4 i lt ∙ e3)
     (held.bit 3 i lt ∙ e4) (held.bit 2 i lt ∙ e5) (held.bit 1 i lt ∙ e6) (held.bit 0 i lt ∙ e7)
 
 -- one of two lanes by turns
@@ -341,25 +397,34 @@ woven_thrice rows a b c d e f x n m q p x_is e_is f_is a_is b_is c_is d_is row p
     let at : (r : ℕ) → r ≡ n % 8 → in_rows rows r p ≡ v = λ r is. ap₂ (in_rows rows) is place in
     by_turns e f x n m v x_is
     (λ n0. by_turns a c (slice_index e m) m q v e_is
-    (λ m0. by_turns (get_or rows 0 []) (get_or rows 4 []) (slice_index a q) q p v a_is (λ q0. at 0 (omega arith)) (λ q1. at 4 (omega arith)))
-    (λ m1. by_turns (get_or rows 2 []) (get_or rows 6 []) (slice_index c q) q p v c_is (λ q0. at 2 (omega arith)) (λ q1. at 6 (omega arith))))
+    (λ m0. by_turns (get_or rows 0 []) (get_or rows 4 []) (slice_index a q) q p v a_is
+    (λ q0. at 0 (omega arith)) (λ q1. at 4 (omega arith)))
+    (λ m1. by_turns (get_or rows 2 []) (get_or rows 6 []) (slice_index c q) q p v c_is
+    (λ q0. at 2 (omega arith)) (λ q1. at 6 (omega arith))))
     (λ n1. by_turns b d (slice_index f m) m q v f_is
-    (λ m0. by_turns (get_or rows 1 []) (get_or rows 5 []) (slice_index b q) q p v b_is (λ q0. at 1 (omega arith)) (λ q1. at 5 (omega arith)))
-    (λ m1. by_turns (get_or rows 3 []) (get_or rows 7 []) (slice_index d q) q p v d_is (λ q0. at 3 (omega arith)) (λ q1. at 7 (omega arith))))
+    (λ m0. by_turns (get_or rows 1 []) (get_or rows 5 []) (slice_index b q) q p v b_is
+    (λ q0. at 1 (omega arith)) (λ q1. at 5 (omega arith)))
+    (λ m1. by_turns (get_or rows 3 []) (get_or rows 7 []) (slice_index d q) q p v d_is
+    (λ q0. at 3 (omega arith)) (λ q1. at 7 (omega arith))))
 
 -- the block of turned rows has the planar form of the rows
 pub rows_form : (bytes planar : List ℕ) (rows rows' : List (List ℕ)) → length planar ≡ 96
     → ((n : ℕ) → n < 96 → slice_index bytes n ≡ in_rows rows' (n % 8) (n / 8))
-    → ((r w i : ℕ) → r < 8 → w < 8 → i < 16 → has_bit (7 - w) (in_rows rows' r i) ≡ has_bit (7 - r) (in_rows rows w i))
-    → ((channel : ℕ) → channel < 8 → (k : ℕ) → k < 12 → in_rows rows channel k ≡ slice_index planar (12 * channel + k))
+    → ((r w i : ℕ) → r < 8 → w < 8 → i < 16
+    → has_bit (7 - w) (in_rows rows' r i) ≡ has_bit (7 - r) (in_rows rows w i))
+    → ((channel : ℕ) → channel < 8 → (k : ℕ) → k < 12
+    → in_rows rows channel k ≡ slice_index planar (12 * channel + k))
     → IsPlanarForm bytes planar
 rows_form bytes planar rows rows' size beside bits channels = record {
   size = size;
   bit = λ channel k j channel_lt k_lt j_lt.
       let row : (8 * k + j) % 8 ≡ j = omega arith in
       let lane : (8 * k + j) / 8 ≡ k = omega arith in
-      let at : slice_index bytes (8 * k + j) ≡ in_rows rows' j k = beside (8 * k + j) (omega arith) ∙ ap₂ (in_rows rows') row lane in
-      sym (ap (has_bit (7 - channel)) at ∙ bits j channel k j_lt channel_lt (omega arith) ∙ ap (has_bit (7 - j)) (channels channel channel_lt k k_lt));
+      let at : slice_index bytes (8 * k + j) ≡ in_rows rows' j k =
+      beside (8 * k + j) (omega arith) ∙ ap₂ (in_rows rows') row lane in
+      sym (ap (has_bit (7 - channel)) at
+      ∙ bits j channel k j_lt channel_lt (omega arith)
+      ∙ ap (has_bit (7 - j)) (channels channel channel_lt k k_lt));
 }
 
 -- ---- Rows one after another.
@@ -393,7 +458,8 @@ four_of row next size i lt =
 pub twelve_of : (row next : List ℕ) → length row ≡ 16 → (i : ℕ) → i < 12
     → slice_index (map (λ k. get_or (row ++ next) k 0) from_last) (4 + i) ≡ slice_index next i
 twelve_of row next size i lt =
-    let from : get_or from_last (4 + i) 0 ≡ 16 + i = eqb-true _ _ (all_below-at IsTwelve 12 i test_twelve lt) in
+    let from : get_or from_last (4 + i) 0 ≡ 16 + i =
+    eqb-true _ _ (all_below-at IsTwelve 12 i test_twelve lt) in
     let at : 16 + i - 16 ≡ i = omega arith in
     get_or-map (λ k. get_or (row ++ next) k 0) from_last (4 + i) 0 0 (omega arith)
     ∙ ap (λ k. get_or (row ++ next) k 0) from
@@ -404,47 +470,71 @@ twelve_of row next size i lt =
 
 -- a byte of a block by its place in sixteen
 abbrev Placed : List ℕ → ℕ → ℕ → ℕ → List ℕ → Type 0
-Placed bytes j k m row = (p : ℕ) → p < 16 → 8 * k + j ≡ 16 * m + p → slice_index row p ≡ slice_index bytes (8 * k + j)
+Placed bytes j k m row =
+    (p : ℕ) → p < 16 → 8 * k + j ≡ 16 * m + p → slice_index row p ≡ slice_index bytes (8 * k + j)
 
-pub placed_in : (bytes row : List ℕ) (j k m : ℕ) → ((p : ℕ) → p < 16 → slice_index row p ≡ slice_index bytes (16 * m + p)) → Placed bytes j k m row
+pub placed_in : (bytes row : List ℕ) (j k m : ℕ)
+    → ((p : ℕ) → p < 16 → slice_index row p ≡ slice_index bytes (16 * m + p))
+    → Placed bytes j k m row
 placed_in bytes row j k m lanes = λ p lt at. lanes p lt ∙ ap (slice_index bytes) (sym at)
 
 -- rows that are woven four times: k is a lane of the last, and q, s and t are the lanes of those before it
-pub woven_four : (bytes g0 g1 e0 e1 f0 f1 a0 a1 b0 b1 c0 c1 d0 d1 v0 v1 v2 v3 v4 v5 none : List ℕ) (x j k q s t p p' : ℕ)
-    → Placed bytes j k 0 v0 → Placed bytes j k 1 v1 → Placed bytes j k 2 v2 → Placed bytes j k 3 v3 → Placed bytes j k 4 v4 → Placed bytes j k 5 v5
+pub woven_four : (bytes g0 g1 e0 e1 f0 f1 a0 a1 b0 b1 c0 c1 d0 d1 v0 v1 v2 v3 v4 v5 none : List ℕ)
+    (x j k q s t p p' : ℕ)
+    → Placed bytes j k 0 v0 → Placed bytes j k 1 v1 → Placed bytes j k 2 v2 → Placed bytes j k 3 v3
+    → Placed bytes j k 4 v4 → Placed bytes j k 5 v5
     → x ≡ slice_index (if k % 2 == 0 then g0 else g1) q
-    → slice_index g0 q ≡ slice_index (if q % 2 == 0 then e0 else f0) s → slice_index g1 q ≡ slice_index (if q % 2 == 0 then e1 else f1) s
-    → slice_index e0 s ≡ slice_index (if s % 2 == 0 then a0 else c0) t → slice_index e1 s ≡ slice_index (if s % 2 == 0 then a1 else c1) t
-    → slice_index f0 s ≡ slice_index (if s % 2 == 0 then b0 else d0) t → slice_index f1 s ≡ slice_index (if s % 2 == 0 then b1 else d1) t
-    → slice_index a0 t ≡ slice_index (if t % 2 == 0 then v0 else v4) p → slice_index a1 t ≡ slice_index (if t % 2 == 0 then v0 else v4) p'
-    → slice_index b0 t ≡ slice_index (if t % 2 == 0 then v1 else v5) p → slice_index b1 t ≡ slice_index (if t % 2 == 0 then v1 else v5) p'
-    → slice_index c0 t ≡ slice_index (if t % 2 == 0 then v2 else none) p → slice_index c1 t ≡ slice_index (if t % 2 == 0 then v2 else none) p'
-    → slice_index d0 t ≡ slice_index (if t % 2 == 0 then v3 else none) p → slice_index d1 t ≡ slice_index (if t % 2 == 0 then v3 else none) p'
-    → j < 8 → k < 12 → p < 8 → p' ≡ 8 + p → 8 * k + j ≡ 16 * (q % 2 + 2 * (s % 2) + 4 * (t % 2)) + 8 * (k % 2) + p
+    → slice_index g0 q ≡ slice_index (if q % 2 == 0 then e0 else f0) s
+    → slice_index g1 q ≡ slice_index (if q % 2 == 0 then e1 else f1) s
+    → slice_index e0 s ≡ slice_index (if s % 2 == 0 then a0 else c0) t
+    → slice_index e1 s ≡ slice_index (if s % 2 == 0 then a1 else c1) t
+    → slice_index f0 s ≡ slice_index (if s % 2 == 0 then b0 else d0) t
+    → slice_index f1 s ≡ slice_index (if s % 2 == 0 then b1 else d1) t
+    → slice_index a0 t ≡ slice_index (if t % 2 == 0 then v0 else v4) p
+    → slice_index a1 t ≡ slice_index (if t % 2 == 0 then v0 else v4) p'
+    → slice_index b0 t ≡ slice_index (if t % 2 == 0 then v1 else v5) p
+    → slice_index b1 t ≡ slice_index (if t % 2 == 0 then v1 else v5) p'
+    → slice_index c0 t ≡ slice_index (if t % 2 == 0 then v2 else none) p
+    → slice_index c1 t ≡ slice_index (if t % 2 == 0 then v2 else none) p'
+    → slice_index d0 t ≡ slice_index (if t % 2 == 0 then v3 else none) p
+    → slice_index d1 t ≡ slice_index (if t % 2 == 0 then v3 else none) p'
+    → j < 8 → k < 12 → p < 8 → p' ≡ 8 + p
+    → 8 * k + j ≡ 16 * (q % 2 + 2 * (s % 2) + 4 * (t % 2)) + 8 * (k % 2) + p
     → x ≡ slice_index bytes (8 * k + j)
-woven_four bytes g0 g1 e0 e1 f0 f1 a0 a1 b0 b1 c0 c1 d0 d1 v0 v1 v2 v3 v4 v5 none x j k q s t p p' at0 at1 at2 at3 at4 at5
-    x_is g0_is g1_is e0_is e1_is f0_is f1_is a0_is a1_is b0_is b1_is c0_is c1_is d0_is d1_is j_lt k_lt p_lt p'_is place =
+woven_four bytes g0 g1 e0 e1 f0 f1 a0 a1 b0 b1 c0 c1 d0 d1 v0 v1 v2 v3 v4 v5 none x j k q s t p p' at0 at1 at2
+    at3 at4 at5
+    x_is g0_is g1_is e0_is e1_is f0_is f1_is a0_is a1_is b0_is b1_is c0_is c1_is d0_is d1_is j_lt k_lt p_lt
+    p'_is place =
     let v = slice_index bytes (8 * k + j) in
     by_turns g0 g1 x k q v x_is
     (λ k0. by_turns e0 f0 (slice_index g0 q) q s v g0_is
     (λ q0. by_turns a0 c0 (slice_index e0 s) s t v e0_is
-    (λ s0. by_turns v0 v4 (slice_index a0 t) t p v a0_is (λ t0. at0 p (omega arith) (omega arith)) (λ t1. at4 p (omega arith) (omega arith)))
-    (λ s1. by_turns v2 none (slice_index c0 t) t p v c0_is (λ t0. at2 p (omega arith) (omega arith)) (λ t1. absurd (omega arith))))
+    (λ s0. by_turns v0 v4 (slice_index a0 t) t p v a0_is (λ t0. at0 p (omega arith) (omega arith))
+    (λ t1. at4 p (omega arith) (omega arith)))
+    (λ s1. by_turns v2 none (slice_index c0 t) t p v c0_is (λ t0. at2 p (omega arith) (omega arith))
+    (λ t1. absurd (omega arith))))
     (λ q1. by_turns b0 d0 (slice_index f0 s) s t v f0_is
-    (λ s0. by_turns v1 v5 (slice_index b0 t) t p v b0_is (λ t0. at1 p (omega arith) (omega arith)) (λ t1. at5 p (omega arith) (omega arith)))
-    (λ s1. by_turns v3 none (slice_index d0 t) t p v d0_is (λ t0. at3 p (omega arith) (omega arith)) (λ t1. absurd (omega arith)))))
+    (λ s0. by_turns v1 v5 (slice_index b0 t) t p v b0_is (λ t0. at1 p (omega arith) (omega arith))
+    (λ t1. at5 p (omega arith) (omega arith)))
+    (λ s1. by_turns v3 none (slice_index d0 t) t p v d0_is (λ t0. at3 p (omega arith) (omega arith))
+    (λ t1. absurd (omega arith)))))
     (λ k1. by_turns e1 f1 (slice_index g1 q) q s v g1_is
     (λ q0. by_turns a1 c1 (slice_index e1 s) s t v e1_is
-    (λ s0. by_turns v0 v4 (slice_index a1 t) t p' v a1_is (λ t0. at0 p' (omega arith) (omega arith)) (λ t1. at4 p' (omega arith) (omega arith)))
-    (λ s1. by_turns v2 none (slice_index c1 t) t p' v c1_is (λ t0. at2 p' (omega arith) (omega arith)) (λ t1. absurd (omega arith))))
+    (λ s0. by_turns v0 v4 (slice_index a1 t) t p' v a1_is (λ t0. at0 p' (omega arith) (omega arith))
+    (λ t1. at4 p' (omega arith) (omega arith)))
+    (λ s1. by_turns v2 none (slice_index c1 t) t p' v c1_is (λ t0. at2 p' (omega arith) (omega arith))
+    (λ t1. absurd (omega arith))))
     (λ q1. by_turns b1 d1 (slice_index f1 s) s t v f1_is
-    (λ s0. by_turns v1 v5 (slice_index b1 t) t p' v b1_is (λ t0. at1 p' (omega arith) (omega arith)) (λ t1. at5 p' (omega arith) (omega arith)))
-    (λ s1. by_turns v3 none (slice_index d1 t) t p' v d1_is (λ t0. at3 p' (omega arith) (omega arith)) (λ t1. absurd (omega arith)))))
+    (λ s0. by_turns v1 v5 (slice_index b1 t) t p' v b1_is (λ t0. at1 p' (omega arith) (omega arith))
+    (λ t1. at5 p' (omega arith) (omega arith)))
+    (λ s1. by_turns v3 none (slice_index d1 t) t p' v d1_is (λ t0. at3 p' (omega arith) (omega arith))
+    (λ t1. absurd (omega arith)))))
 
 -- the rows of a block have its planar form as turned rows
 pub form_of_rows : (bytes planar : List ℕ) (rows rows' : List (List ℕ)) → length planar ≡ 96
     → ((n : ℕ) → n < 96 → slice_index planar n ≡ in_rows rows' (n / 12) (n % 12))
-    → ((r w i : ℕ) → r < 8 → w < 8 → i < 16 → has_bit (7 - w) (in_rows rows' r i) ≡ has_bit (7 - r) (in_rows rows w i))
+    → ((r w i : ℕ) → r < 8 → w < 8 → i < 16
+    → has_bit (7 - w) (in_rows rows' r i) ≡ has_bit (7 - r) (in_rows rows w i))
     → ((j k : ℕ) → j < 8 → k < 12 → in_rows rows j k ≡ slice_index bytes (8 * k + j))
     → IsPlanarForm bytes planar
 form_of_rows bytes planar rows rows' size after bits places = record {
@@ -452,6 +542,9 @@ form_of_rows bytes planar rows rows' size after bits places = record {
   bit = λ channel k j channel_lt k_lt j_lt.
       let row : (12 * channel + k) / 12 ≡ channel = omega arith in
       let lane : (12 * channel + k) % 12 ≡ k = omega arith in
-      let at : slice_index planar (12 * channel + k) ≡ in_rows rows' channel k = after (12 * channel + k) (omega arith) ∙ ap₂ (in_rows rows') row lane in
-      ap (has_bit (7 - j)) at ∙ bits channel j k channel_lt j_lt (omega arith) ∙ ap (has_bit (7 - channel)) (places j k j_lt k_lt);
+      let at : slice_index planar (12 * channel + k) ≡ in_rows rows' channel k =
+      after (12 * channel + k) (omega arith) ∙ ap₂ (in_rows rows') row lane in
+      ap (has_bit (7 - j)) at
+      ∙ bits channel j k channel_lt j_lt (omega arith)
+      ∙ ap (has_bit (7 - channel)) (places j k j_lt k_lt);
 }

@@ -39,17 +39,23 @@ form_bytes block =
 
 block_bytes : (planar : List ℕ) → All (λ b. b < 256) (block_from_planar planar)
 block_bytes planar =
-    All-map (λ b. b < 256) (gathered_at planar) (below 96) (λ k d lt. gathered-lt planar (get_or (below 96) k d))
+    All-map (λ b. b < 256) (gathered_at planar) (below 96)
+    (λ k d lt. gathered-lt planar (get_or (below 96) k d))
 
 -- the block of a planar form is the one that has it
-pub only_block : (block planar : List ℕ) → length block ≡ 96 → All (λ b. b < 256) block → IsPlanarForm block planar → block ≡ block_from_planar planar
+pub only_block : (block planar : List ℕ) → length block ≡ 96 → All (λ b. b < 256) block
+    → IsPlanarForm block planar
+    → block ≡ block_from_planar planar
 only_block block planar size small form =
-    one_block block (block_from_planar planar) planar size (length-map-range_with_len (gathered_at planar) 0 96)
+    one_block block (block_from_planar planar) planar size
+    (length-map-range_with_len (gathered_at planar) 0 96)
     small (block_bytes planar) form (block_is planar form.size)
 
 -- the planar form of a block is the one that it has
-pub only_form : (block planar : List ℕ) → All (λ b. b < 256) planar → IsPlanarForm block planar → planar ≡ planar_form block
-only_form block planar small form = one_planar_form block planar (planar_form block) small (form_bytes block) form (form_is block)
+pub only_form : (block planar : List ℕ) → All (λ b. b < 256) planar → IsPlanarForm block planar
+    → planar ≡ planar_form block
+only_form block planar small form =
+    one_planar_form block planar (planar_form block) small (form_bytes block) form (form_is block)
 
 pub block_comes_back : (block : List ℕ) → length block ≡ 96 → All (λ b. b < 256) block
     → block_from_planar (planar_form block) ≡ block

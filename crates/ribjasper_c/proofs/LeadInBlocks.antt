@@ -19,46 +19,71 @@ front_of (suc n) (suc m) [] le = refl
 front_of (suc n) (suc m) (x ∷ xs) le = ap (λ l. x ∷ l) (front_of n m xs (omega arith))
 
 -- eighteen bytes within a front that stays
-pub stays : (at m : ℕ) (xs ys : List ℕ) → at + 18 ≤ m → take m xs ≡ take m ys → take 18 (drop at xs) ≡ take 18 (drop at ys)
+pub stays : (at m : ℕ) (xs ys : List ℕ) → at + 18 ≤ m → take m xs ≡ take m ys
+    → take 18 (drop at xs) ≡ take 18 (drop at ys)
 stays at m xs ys le same =
-    sym (drop-take at 18 xs) ∙ ap (drop at) (sym (front_of (at + 18) m xs le) ∙ ap (take (at + 18)) same ∙ front_of (at + 18) m ys le) ∙ drop-take at 18 ys
+    sym (drop-take at 18 xs)
+    ∙ ap (drop at) (sym (front_of (at + 18) m xs le) ∙ ap (take (at + 18)) same ∙ front_of (at + 18) m ys le)
+    ∙ drop-take at 18 ys
 
 -- the state after one block more
-pub block_more : (form : Form) (lead_in : ℕ) (bytes : List ℕ) (b : ℕ) (block : List ℕ) (old new : LeadInTexts) → b < length bytes / unit_size form → block ≡ get_or (blocks_of form bytes) b []
-    → old ≡ run_state text_next (fresh_texts lead_in) (take b (blocks_of form bytes)) → new ≡ text_next old block
+pub block_more : (form : Form) (lead_in : ℕ) (bytes : List ℕ) (b : ℕ) (block : List ℕ) (old new : LeadInTexts)
+    → b < length bytes / unit_size form → block ≡ get_or (blocks_of form bytes) b []
+    → old ≡ run_state text_next (fresh_texts lead_in) (take b (blocks_of form bytes))
+    → new ≡ text_next old block
     → new ≡ run_state text_next (fresh_texts lead_in) (take (b + 1) (blocks_of form bytes))
 block_more form lead_in bytes b block old new lt is before step =
     let blocks : List (List ℕ) = blocks_of form bytes in
-    let more : take (b + 1) blocks ≡ take b blocks ++ get_or blocks b [] ∷ [] = take_more blocks b [] (omega (arith, lt, length-blocks form bytes)) in
-    step ∙ ap (λ (s : LeadInTexts). text_next s block) before ∙ ap (text_next (run_state text_next (fresh_texts lead_in) (take b blocks))) is
-    ∙ sym (ap (run_state text_next (fresh_texts lead_in)) more ∙ run_state-append text_next (fresh_texts lead_in) (take b blocks) (get_or blocks b [] ∷ []))
+    let more : take (b + 1) blocks ≡ take b blocks ++ get_or blocks b [] ∷ [] =
+    take_more blocks b [] (omega (arith, lt, length-blocks form bytes)) in
+    step
+    ∙ ap (λ (s : LeadInTexts). text_next s block) before
+    ∙ ap (text_next (run_state text_next (fresh_texts lead_in) (take b blocks))) is
+    ∙ sym (ap (run_state text_next (fresh_texts lead_in)) more
+    ∙ run_state-append text_next (fresh_texts lead_in) (take b blocks) (get_or blocks b [] ∷ []))
 
 -- the blocks of the lead-in, as many as there are
 pub lead_in_blocks : (form : Form) (lead_in : ℕ) (bytes : List ℕ) (n : ℕ) → n ≡ length bytes / unit_size form
     → take lead_in (take (min n lead_in) (blocks_of form bytes)) ≡ take lead_in (blocks_of form bytes)
 lead_in_blocks form lead_in bytes n many =
     let blocks : List (List ℕ) = blocks_of form bytes in
-    let few : length (take (min n lead_in) blocks) ≤ lead_in = omega (arith, length-take (min n lead_in) blocks) in
+    let few : length (take (min n lead_in) blocks) ≤ lead_in =
+    omega (arith, length-take (min n lead_in) blocks) in
     let other : min n lead_in ≡ min lead_in (length blocks) = omega (arith, many, length-blocks form bytes) in
-    take_all lead_in (take (min n lead_in) blocks) few ∙ ap (λ (k : ℕ). take k blocks) other ∙ take_min lead_in blocks
+    take_all lead_in (take (min n lead_in) blocks) few
+    ∙ ap (λ (k : ℕ). take k blocks) other
+    ∙ take_min lead_in blocks
 
 -- what was put, and what stands before it
-pub put_here : (at : ℕ) (old pack rest new : List ℕ) → at ≤ length old → length pack ≡ 18 → new ≡ take at old ++ (pack ++ rest) → take 18 (drop at new) ≡ pack
+pub put_here : (at : ℕ) (old pack rest new : List ℕ) → at ≤ length old → length pack ≡ 18
+    → new ≡ take at old ++ (pack ++ rest)
+    → take 18 (drop at new) ≡ pack
 put_here at old pack rest new fits size is =
     let front : length (take at old) ≡ at = length-take-le at old fits in
-    ap (λ (l : List ℕ). take 18 (drop at l)) is ∙ ap (λ n. take 18 (drop n (take at old ++ (pack ++ rest)))) (sym front) ∙ ap (take 18) (drop-append_seam (take at old) (pack ++ rest))
+    ap (λ (l : List ℕ). take 18 (drop at l)) is
+    ∙ ap (λ n. take 18 (drop n (take at old ++ (pack ++ rest)))) (sym front)
+    ∙ ap (take 18) (drop-append_seam (take at old) (pack ++ rest))
     ∙ ap (λ n. take n (pack ++ rest)) (sym size) ∙ take-append_seam pack rest
 
-pub put_before : (at : ℕ) (old rest new : List ℕ) → at ≤ length old → new ≡ take at old ++ rest → take at new ≡ take at old
+pub put_before : (at : ℕ) (old rest new : List ℕ) → at ≤ length old → new ≡ take at old ++ rest
+    → take at new ≡ take at old
 put_before at old rest new fits is =
     let front : length (take at old) ≡ at = length-take-le at old fits in
     ap (take at) is ∙ ap (λ n. take n (take at old ++ rest)) (sym front) ∙ take-append_seam (take at old) rest
 
 -- the packs up to one, and one more
-pub pack_more : (block old new pack rest : List ℕ) (k : ℕ) → k < 4 → length old ≡ 72 → length pack ≡ 18 → new ≡ take (18 * k) old ++ (pack ++ rest) → pack ≡ pack_at block k
-    → ((j : ℕ) → j < k → take 18 (drop (18 * j) old) ≡ pack_at block j) → (j : ℕ) → j < k + 1 → take 18 (drop (18 * j) new) ≡ pack_at block j
+pub pack_more : (block old new pack rest : List ℕ) (k : ℕ) → k < 4 → length old ≡ 72 → length pack ≡ 18
+    → new ≡ take (18 * k) old ++ (pack ++ rest) → pack ≡ pack_at block k
+    → ((j : ℕ) → j < k → take 18 (drop (18 * j) old) ≡ pack_at block j) → (j : ℕ) → j < k + 1
+    → take 18 (drop (18 * j) new) ≡ pack_at block j
 pack_more block old new pack rest k lt size pack_size is there before j within = elim (cases_lt j k) [
-  | inl below ↦ stays (18 * j) (18 * k) new old (omega arith) (put_before (18 * k) old (pack ++ rest) new (omega arith) is) ∙ before j below
+  | inl below ↦
+      stays (18 * j) (18 * k) new old (omega arith)
+      (put_before (18 * k) old (pack ++ rest) new (omega arith) is)
+      ∙ before j below
   | inr above ↦ let same : j ≡ k = omega arith in
-      ap (λ i. take 18 (drop (18 * i) new)) same ∙ put_here (18 * k) old pack rest new (omega arith) pack_size is ∙ there ∙ ap (pack_at block) (sym same)
+      ap (λ i. take 18 (drop (18 * i) new)) same
+      ∙ put_here (18 * k) old pack rest new (omega arith) pack_size is
+      ∙ there
+      ∙ ap (pack_at block) (sym same)
 ]

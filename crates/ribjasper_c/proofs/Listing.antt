@@ -17,12 +17,17 @@ use Rattle.ribjasper_c.specs.LeadIns.{fault_answer, fault_told, IsRefusedBy}
 use Rattle.ribjasper_c.specs.declared.lead_in.Listed.{Listed}
 use Rattle.ribjasper_c.proofs.ExitNumbers.{is_other}
 
-same_counts : (texts : Texts) (good bad other good' bad' other' : ℕ) → good ≡ good' → bad ≡ bad' → other ≡ other' → counted_lines texts good bad other ≡ counted_lines texts good' bad' other'
+same_counts : (texts : Texts) (good bad other good' bad' other' : ℕ) → good ≡ good' → bad ≡ bad'
+    → other ≡ other'
+    → counted_lines texts good bad other ≡ counted_lines texts good' bad' other'
 same_counts texts good bad other good' bad' other' e f g =
-    ap (λ (n : ℕ). counted_lines texts n bad other) e ∙ ap (λ (n : ℕ). counted_lines texts good' n other) f ∙ ap (λ (n : ℕ). counted_lines texts good' bad' n) g
+    ap (λ (n : ℕ). counted_lines texts n bad other) e
+    ∙ ap (λ (n : ℕ). counted_lines texts good' n other) f
+    ∙ ap (λ (n : ℕ). counted_lines texts good' bad' n) g
 
 -- an answer that is passed on stays
-pub passed_on : (fault : TextFault) (answer : ℤ) → answer ≡ fault_answer fault → to_z w32 (of_z w32 answer) ≡ fault_answer fault
+pub passed_on : (fault : TextFault) (answer : ℤ) → answer ≡ fault_answer fault
+    → to_z w32 (of_z w32 answer) ≡ fault_answer fault
 passed_on (Missing seq) answer e = ap (λ (z : ℤ). to_z w32 (of_z w32 z)) e
 passed_on NoSize answer e = ap (λ (z : ℤ). to_z w32 (of_z w32 z)) e
 passed_on (Malformed seq byte) answer e = ap (λ (z : ℤ). to_z w32 (of_z w32 z)) e
@@ -31,7 +36,8 @@ passed_on NoMemory answer e = ap (λ (z : ℤ). to_z w32 (of_z w32 z)) e
 module _ (form : Form) (lead_in : ℕ) (stream : List ℕ) where
   -- the lines of the packs that were read
   pub listed : (s : LeadInTexts) (text : List ℕ) → HasRead (packs_in form lead_in stream) s
-      → (map : Texts) × (read_texts s.reader ≡ Ok map) × (text ≡ counted_lines map s.good s.bad s.other) → IsTextListed form lead_in stream text 0
+      → (map : Texts) × (read_texts s.reader ≡ Ok map) × (text ≡ counted_lines map s.good s.bad s.other)
+      → IsTextListed form lead_in stream text 0
   listed s text read (map, is, lines) = record {
     texts = map;
     read = sym (ap read_texts read.kept) ∙ is;
@@ -39,29 +45,45 @@ module _ (form : Form) (lead_in : ℕ) (stream : List ℕ) where
     none_bad = refl;
   }
 
-  pub all_listed : (s : LeadInTexts) (result : Result SinkInMemory TextFault) → HasRead (packs_in form lead_in stream) s
-      → IfOk result (λ (lines : SinkInMemory). (map : Texts) × (read_texts s.reader ≡ Ok map) × (lines.held ≡ counted_lines map s.good s.bad s.other))
+  pub all_listed : (s : LeadInTexts) (result : Result SinkInMemory TextFault)
+      → HasRead (packs_in form lead_in stream) s
+      → IfOk result (λ (lines : SinkInMemory). (map : Texts)
+      × (read_texts s.reader ≡ Ok map)
+      × (lines.held ≡ counted_lines map s.good s.bad s.other))
       → IfOk result (λ (lines : SinkInMemory). IsTextListed form lead_in stream lines.held 0)
   all_listed s (Ok lines) read h = listed s lines.held read h
   all_listed s (Err fault) read h = tt
 
-  pub all_refused : (s : LeadInTexts) (result : Result SinkInMemory TextFault) → HasRead (packs_in form lead_in stream) s
-      → IfErr result (λ fault. IsTextFault fault (read_texts s.reader)) → IfErr result (λ fault. IsTextFault fault (texts_of_lead_in form lead_in stream))
+  pub all_refused : (s : LeadInTexts) (result : Result SinkInMemory TextFault)
+      → HasRead (packs_in form lead_in stream) s
+      → IfErr result (λ fault. IsTextFault fault (read_texts s.reader))
+      → IfErr result (λ fault. IsTextFault fault (texts_of_lead_in form lead_in stream))
   all_refused s (Ok lines) read h = tt
-  all_refused s (Err fault) read h = subst (λ (r : Result Texts TextFault). IsTextFault fault r) (ap read_texts read.kept) h
+  all_refused s (Err fault) read h =
+      subst (λ (r : Result Texts TextFault). IsTextFault fault r) (ap read_texts read.kept) h
 
   -- the answer tells why the texts are refused
   abbrev Refusal : ℤ → Listed → Type 0
-  Refusal answer told = (fault : TextFault) × IsRefusedBy fault form lead_in stream × (answer ≡ fault_answer fault) × (told ≡ fault_told fault)
+  Refusal answer told = (fault : TextFault)
+      × IsRefusedBy fault form lead_in stream
+      × (answer ≡ fault_answer fault)
+      × (told ≡ fault_told fault)
 
-  pub refused_texts : (fault : TextFault) (answer : ℤ) (told : Listed) → IsTextFault fault (texts_of_lead_in form lead_in stream) → answer ≡ fault_answer fault
-      → (fault ≢ NoMemory → told ≡ fault_told fault) → (answer ≡ pos 8) ⊎ (answer ≡ pos 9) ⊎ (answer ≡ pos 10) → Refusal answer told
-  refused_texts (Missing seq) answer told (inr is) same tells given = (Missing seq, is, same, tells (λ e. (cc)))
+  pub refused_texts : (fault : TextFault) (answer : ℤ) (told : Listed)
+      → IsTextFault fault (texts_of_lead_in form lead_in stream) → answer ≡ fault_answer fault
+      → (fault ≢ NoMemory → told ≡ fault_told fault) → (answer ≡ pos 8) ⊎ (answer ≡ pos 9) ⊎ (answer ≡ pos 10)
+      → Refusal answer told
+  refused_texts (Missing seq) answer told (inr is) same tells given =
+      (Missing seq, is, same, tells (λ e. (cc)))
   refused_texts NoSize answer told (inr is) same tells given = (NoSize, is, same, tells (λ e. (cc)))
-  refused_texts (Malformed seq byte) answer told (inr is) same tells given = (Malformed seq byte, is, same, tells (λ e. (cc)))
+  refused_texts (Malformed seq byte) answer told (inr is) same tells given =
+      (Malformed seq byte, is, same, tells (λ e. (cc)))
   refused_texts (Missing seq) answer told (inl short) same tells given = absurd (cc)
   refused_texts NoSize answer told (inl short) same tells given = absurd (cc)
   refused_texts (Malformed seq byte) answer told (inl short) same tells given = absurd (cc)
-  refused_texts NoMemory answer told why same tells (inl e) = is_other 7 8 (Refusal answer told) refl refl (sym same ∙ e)
-  refused_texts NoMemory answer told why same tells (inr (inl e)) = is_other 7 9 (Refusal answer told) refl refl (sym same ∙ e)
-  refused_texts NoMemory answer told why same tells (inr (inr e)) = is_other 7 10 (Refusal answer told) refl refl (sym same ∙ e)
+  refused_texts NoMemory answer told why same tells (inl e) =
+      is_other 7 8 (Refusal answer told) refl refl (sym same ∙ e)
+  refused_texts NoMemory answer told why same tells (inr (inl e)) =
+      is_other 7 9 (Refusal answer told) refl refl (sym same ∙ e)
+  refused_texts NoMemory answer told why same tells (inr (inr e)) =
+      is_other 7 10 (Refusal answer told) refl refl (sym same ∙ e)

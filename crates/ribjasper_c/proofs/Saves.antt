@@ -13,7 +13,9 @@ use Rattle.live_player.specs.declared.live.LivePlayer.{LivePlayer}
 use Rattle.ribjasper_c.specs.Handles.{IsPlaying}
 use Rattle.ribjasper_c.specs.Saving.{CannotBeSaved, IsSavedAs}
 
-in_middle : (P : Part → Type 0) (early : List Part) (part : Part) (late : List Part) → AllByRecursion P (early ++ part ∷ late) → P part
+in_middle : (P : Part → Type 0) (early : List Part) (part : Part) (late : List Part)
+    → AllByRecursion P (early ++ part ∷ late)
+    → P part
 in_middle P [] part late all = all.0
 in_middle P (x ∷ early) part late all = in_middle P early part late all.1
 
@@ -22,31 +24,44 @@ not_both : (file : List ℕ) (byte : ℕ) → IsBadAt file byte → IsCheckpoint
 not_both file byte bad is =
     let first = bad.field is.size in
     let here = first.here in
-    here.out (in_middle (IsPartInRange file) first.early first.part first.late (subst (AllByRecursion (IsPartInRange file)) first.order is.ranges) here.k here.field)
+    here.out (in_middle (IsPartInRange file) first.early first.part first.late
+    (subst (AllByRecursion (IsPartInRange file)) first.order is.ranges) here.k here.field)
 
-pub cannot : (file : List ℕ) (byte : ℕ) (live : LivePlayer) → file ≡ file_of (checkpoint_of live) → IsBadAt file byte → CannotBeSaved live
+pub cannot : (file : List ℕ) (byte : ℕ) (live : LivePlayer) → file ≡ file_of (checkpoint_of live)
+    → IsBadAt file byte
+    → CannotBeSaved live
 cannot file byte live same bad = inr (λ is. not_both file byte bad (subst IsCheckpointFile (sym same) is))
 
-can_be_saved : (live : LivePlayer) → live.words.form ≡ Raw → IsCheckpointFile (file_of (checkpoint_of live)) → CannotBeSaved live → ⊥
+can_be_saved : (live : LivePlayer) → live.words.form ≡ Raw → IsCheckpointFile (file_of (checkpoint_of live))
+    → CannotBeSaved live
+    → ⊥
 can_be_saved live raw is (inl other) = other raw
 can_be_saved live raw is (inr none) = none is
 
 -- a player at the checkpoint in the file of another plays on as the other
-pub plays_on : (file bytes : List ℕ) (players : List LivePlayer) (live saved : LivePlayer) (lead_in : ℕ) (given : List Given) → bytes ≡ file → IsAt (checkpoint_in bytes) live → players ≡ live ∷ []
-    → file ≡ file_of (checkpoint_of saved) → (IsAt (checkpoint_in (file_of (checkpoint_of saved))) live → HasPlayed Raw lead_in given live) → IsPlaying Raw lead_in given players
-plays_on file bytes players live saved lead_in given read there held is goes_on = (live, held, goes_on (subst (λ (it : List ℕ). IsAt (checkpoint_in it) live) (read ∙ is) there))
+pub plays_on : (file bytes : List ℕ) (players : List LivePlayer) (live saved : LivePlayer) (lead_in : ℕ)
+    (given : List Given) → bytes ≡ file → IsAt (checkpoint_in bytes) live → players ≡ live ∷ []
+    → file ≡ file_of (checkpoint_of saved)
+    → (IsAt (checkpoint_in (file_of (checkpoint_of saved))) live → HasPlayed Raw lead_in given live)
+    → IsPlaying Raw lead_in given players
+plays_on file bytes players live saved lead_in given read there held is goes_on =
+    (live, held, goes_on (subst (λ (it : List ℕ). IsAt (checkpoint_in it) live) (read ∙ is) there))
 
-pub can : (players : List LivePlayer) (live : LivePlayer) (lead_in : ℕ) (given : List Given) → players ≡ live ∷ [] → IsPlaying Raw lead_in given players
+pub can : (players : List LivePlayer) (live : LivePlayer) (lead_in : ℕ) (given : List Given)
+    → players ≡ live ∷ [] → IsPlaying Raw lead_in given players
     → ((saved : LivePlayer) → HasPlayed Raw lead_in given saved → saved.words.form ≡ Raw)
-    → ((saved : LivePlayer) → HasPlayed Raw lead_in given saved → IsCheckpointFile (file_of (checkpoint_of saved)))
+    → ((saved : LivePlayer) → HasPlayed Raw lead_in given saved
+    → IsCheckpointFile (file_of (checkpoint_of saved)))
     → CannotBeSaved live → ⊥
 can players live lead_in given held (player, is, played) raw file cannot_be =
     let same : player ≡ live = ap (λ (xs : List LivePlayer). get_or xs 0 player) (sym is ∙ held) in
-    let there : HasPlayed Raw lead_in given live = subst (λ (it : LivePlayer). HasPlayed Raw lead_in given it) same played in
+    let there : HasPlayed Raw lead_in given live =
+    subst (λ (it : LivePlayer). HasPlayed Raw lead_in given it) same played in
     can_be_saved live (raw live there) (file live there) cannot_be
 
 -- an answer that is passed on stays
-pub passed_on : (answer : ℤ) → (answer ≡ pos 0) ⊎ (answer ≡ negsuc 0) ⊎ (answer ≡ pos 7) → to_z w32 (of_z w32 answer) ≡ answer
+pub passed_on : (answer : ℤ) → (answer ≡ pos 0) ⊎ (answer ≡ negsuc 0) ⊎ (answer ≡ pos 7)
+    → to_z w32 (of_z w32 answer) ≡ answer
 passed_on answer (inl done) = ap (λ (z : ℤ). to_z w32 (of_z w32 z)) done ∙ sym done
 passed_on answer (inr (inl refused)) = ap (λ (z : ℤ). to_z w32 (of_z w32 z)) refused ∙ sym refused
 passed_on answer (inr (inr no_memory)) = ap (λ (z : ℤ). to_z w32 (of_z w32 z)) no_memory ∙ sym no_memory

@@ -23,41 +23,68 @@ use Rattle.stream_stages.proofs.Restoring.{taken_all}
 use Rattle.round_trips.specs.Answers.{PutsTexts}
 
 -- an authored stream is made of whole blocks
-pub whole_blocks : (sheet : CueSheet) (script : List Drawing) (lead_in audio : ℕ) (bytes : List ℕ) (packs : List (List ℕ)) → IsAuthored (disc_of sheet script lead_in audio) bytes packs
+pub whole_blocks : (sheet : CueSheet) (script : List Drawing) (lead_in audio : ℕ) (bytes : List ℕ)
+    (packs : List (List ℕ)) → IsAuthored (disc_of sheet script lead_in audio) bytes packs
     → length bytes ≤ most_units * 96 → IsWholeInput Raw bytes
 whole_blocks sheet script lead_in audio bytes packs authored few = (few, omega (arith, authored.framing.size))
 
-pub lists_frames : (bytes expected : List ℕ) (given : ℕ) (left : Bytes) (out : Change Bytes) (result : Result Played PlayStop) (taken : List ℕ)
-    → IsWholeInput Raw bytes → ((text : List ℕ) (bad : ℕ) → IsQListed Raw bytes text bad → (text ≡ expected) × (bad ≡ 0))
-    → Streams (in_turn (IsQListed Raw) Raw given) (passing (from_to (Some bytes) left) out) result taken → IsAnsweredBy result 96 (length bytes) → Restores result out.before out.after expected
+pub lists_frames : (bytes expected : List ℕ) (given : ℕ) (left : Bytes) (out : Change Bytes)
+    (result : Result Played PlayStop) (taken : List ℕ)
+    → IsWholeInput Raw bytes
+    → ((text : List ℕ) (bad : ℕ) → IsQListed Raw bytes text bad → (text ≡ expected) × (bad ≡ 0))
+    → Streams (in_turn (IsQListed Raw) Raw given) (passing (from_to (Some bytes) left) out) result taken
+    → IsAnsweredBy result 96 (length bytes)
+    → Restores result out.before out.after expected
 lists_frames bytes expected given left out (Ok played) taken whole lines lists answer =
     let (end, (text, is_played, put)) = lists.done in
     let same : taken ≡ bytes = taken_all bytes left taken lists.taken_from end in
-    let is = lines text played.bad (subst (λ (b : List ℕ). IsQListed Raw b text played.bad) same is_played.written) in
+    let is =
+    lines text played.bad (subst (λ (b : List ℕ). IsQListed Raw b text played.bad) same is_played.written) in
     (is.1, subst (Appends out.before out.after) is.0 put)
 lists_frames bytes expected given left out (Err ReadFault) taken whole lines lists answer = tt
 lists_frames bytes expected given left out (Err WriteFault) taken whole lines lists answer = tt
-lists_frames bytes expected given left out (Err (Torn block)) taken whole lines lists answer = absurd (answer.1 whole.1)
-lists_frames bytes expected given left out (Err TooLong) taken whole lines lists answer = absurd (omega (arith, answer, whole.0))
-lists_frames bytes expected given left out (Err (PastEnd ended)) taken whole lines lists answer = absurd answer
+lists_frames bytes expected given left out (Err (Torn block)) taken whole lines lists answer =
+    absurd (answer.1 whole.1)
+lists_frames bytes expected given left out (Err TooLong) taken whole lines lists answer =
+    absurd (omega (arith, answer, whole.0))
+lists_frames bytes expected given left out (Err (PastEnd ended)) taken whole lines lists answer =
+    absurd answer
 lists_frames bytes expected given left out (Err (Text fault)) taken whole lines lists answer = absurd answer
 
-not_both : (texts : Texts) (fault : TextFault) (read : Result Texts TextFault) → read ≡ Ok texts → read ≡ Err fault → ⊥
+not_both : (texts : Texts) (fault : TextFault) (read : Result Texts TextFault) → read ≡ Ok texts
+    → read ≡ Err fault
+    → ⊥
 not_both texts fault read one other = cc
 
-pub lists_texts : (form : Form) (bytes expected : List ℕ) (lead_in : ℕ) (texts : Texts) (left : Bytes) (out : Change Bytes) (result : Result Played PlayStop) (taken : List ℕ)
-    → IsWholeInput form bytes → texts_of_lead_in form lead_in bytes ≡ Ok texts → ((text : List ℕ) (bad : ℕ) → IsTextListed form lead_in bytes text bad → text ≡ expected)
-    → ListsTexts form lead_in (passing (from_to (Some bytes) left) out) result taken → IsListedBy result form lead_in bytes → PutsTexts result out.before out.after expected
+pub lists_texts : (form : Form) (bytes expected : List ℕ) (lead_in : ℕ) (texts : Texts) (left : Bytes)
+    (out : Change Bytes) (result : Result Played PlayStop) (taken : List ℕ)
+    → IsWholeInput form bytes → texts_of_lead_in form lead_in bytes ≡ Ok texts
+    → ((text : List ℕ) (bad : ℕ) → IsTextListed form lead_in bytes text bad → text ≡ expected)
+    → ListsTexts form lead_in (passing (from_to (Some bytes) left) out) result taken
+    → IsListedBy result form lead_in bytes
+    → PutsTexts result out.before out.after expected
 lists_texts form bytes expected lead_in texts left out (Ok played) taken whole read lines lists answer =
     let (end, (text, is_played, put)) = lists.plays.done in
-    let same : taken ≡ bytes = taken_all bytes left taken lists.plays.taken_from end in
-    (is_played.written.none_bad, subst (Appends out.before out.after) (lines text played.bad (subst (λ (b : List ℕ). IsTextListed form lead_in b text played.bad) same is_played.written)) put)
-lists_texts form bytes expected lead_in texts left out (Err ReadFault) taken whole read lines lists answer = tt
-lists_texts form bytes expected lead_in texts left out (Err WriteFault) taken whole read lines lists answer = tt
-lists_texts form bytes expected lead_in texts left out (Err (Torn block)) taken whole read lines lists answer = absurd (answer.1 whole.1)
-lists_texts form bytes expected lead_in texts left out (Err TooLong) taken whole read lines lists answer = absurd (omega (arith, answer, whole.0))
-lists_texts form bytes expected lead_in texts left out (Err (PastEnd ended)) taken whole read lines lists answer = absurd answer
-lists_texts form bytes expected lead_in texts left out (Err (Text fault)) taken whole read lines lists answer = elim answer.1 [
-  | inl short ↦ short
-  | inr other ↦ absurd (not_both texts fault (texts_of_lead_in form lead_in bytes) read other)
-]
+    let same : taken ≡ bytes = taken_all bytes left taken lists.plays.taken_from end in (
+      is_played.written.none_bad,
+      subst (Appends out.before out.after) (lines text played.bad
+          (subst (λ (b : List ℕ). IsTextListed form lead_in b text played.bad) same is_played.written)) put,
+    )
+lists_texts form bytes expected lead_in texts left out (Err ReadFault) taken whole read lines lists answer =
+    tt
+lists_texts form bytes expected lead_in texts left out (Err WriteFault) taken whole read lines lists answer =
+    tt
+lists_texts form bytes expected lead_in texts left out (Err (Torn block)) taken whole read lines lists
+    answer =
+    absurd (answer.1 whole.1)
+lists_texts form bytes expected lead_in texts left out (Err TooLong) taken whole read lines lists answer =
+    absurd (omega (arith, answer, whole.0))
+lists_texts form bytes expected lead_in texts left out (Err (PastEnd ended)) taken whole read lines lists
+    answer =
+    absurd answer
+lists_texts form bytes expected lead_in texts left out (Err (Text fault)) taken whole read lines lists
+    answer =
+    elim answer.1 [
+      | inl short ↦ short
+      | inr other ↦ absurd (not_both texts fault (texts_of_lead_in form lead_in bytes) read other)
+    ]

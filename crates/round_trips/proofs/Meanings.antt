@@ -25,7 +25,9 @@ graphics_of a b c d symbols table code =
     else Unknown
 
 graphics_is : (word : List ℕ) (code : ℕ)
-    → graphics word code ≡ graphics_of (content word 0) (content word 1) (content word 2) (content word 3) (content_of word) (map (table_colour word) (below 8)) code
+    → graphics word code
+    ≡ graphics_of (content word 0) (content word 1) (content word 2) (content word 3) (content_of word)
+    (map (table_colour word) (below 8)) code
 unfolding graphics_of
 graphics_is word code = refl
 
@@ -37,24 +39,32 @@ meaning_is : (word : List ℕ) → meaning word ≡ meaning_of (graphics word (g
 unfolding meaning meaning_of
 meaning_is word = refl
 
-module _ (word other : List ℕ) (size : length word ≡ 24) (size' : length other ≡ 24) (same : message_of word ≡ message_of other) where
+module _ (word other : List ℕ) (size : length word ≡ 24) (size' : length other ≡ 24)
+    (same : message_of word ≡ message_of other) where
   head_same : (k : ℕ) → k < 2 → get_or word k 0 ≡ get_or other k 0
-  head_same k lt = sym (head_of_message word k size lt) ∙ ap (λ xs. get_or xs k 0) same ∙ head_of_message other k size' lt
+  head_same k lt =
+      sym (head_of_message word k size lt) ∙ ap (λ xs. get_or xs k 0) same ∙ head_of_message other k size' lt
 
   body_same : (k : ℕ) → k < 16 → content word k ≡ content other k
-  body_same k lt = sym (body_of_message word k size lt) ∙ ap (λ xs. get_or xs (2 + k) 0) same ∙ body_of_message other k size' lt
+  body_same k lt =
+      sym (body_of_message word k size lt)
+      ∙ ap (λ xs. get_or xs (2 + k) 0) same
+      ∙ body_of_message other k size' lt
 
   content_same : content_of word ≡ content_of other
   content_same =
-      let one : length (content_of word) ≡ 16 = length-take-le 16 (drop 4 word) (omega (arith, length-drop 4 word, size)) in
-      let two : length (content_of other) ≡ 16 = length-take-le 16 (drop 4 other) (omega (arith, length-drop 4 other, size')) in
+      let one : length (content_of word) ≡ 16 =
+      length-take-le 16 (drop 4 word) (omega (arith, length-drop 4 word, size)) in
+      let two : length (content_of other) ≡ 16 =
+      length-take-le 16 (drop 4 other) (omega (arith, length-drop 4 other, size')) in
       same_number_lists (content_of word) (content_of other) (one ∙ sym two) (λ k lt.
       let small : k < 16 = omega (arith, lt, one) in
       get_or-take 16 (drop 4 word) k 0 small ∙ get_or-drop 4 word k 0 ∙ body_same k small
       ∙ sym (get_or-take 16 (drop 4 other) k 0 small ∙ get_or-drop 4 other k 0))
 
   colour_same : (k : ℕ) → k < 8 → table_colour word k ≡ table_colour other k
-  colour_same k lt = ap₂ (λ a b. 64 * a + b) (body_same (2 * k) (omega arith)) (body_same (2 * k + 1) (omega arith))
+  colour_same k lt =
+      ap₂ (λ a b. 64 * a + b) (body_same (2 * k) (omega arith)) (body_same (2 * k + 1) (omega arith))
 
   table_same : map (table_colour word) (below 8) ≡ map (table_colour other) (below 8)
   table_same =
@@ -75,13 +85,19 @@ module _ (word other : List ℕ) (size : length word ≡ 24) (size' : length oth
       let c = body_same 2 (lit< tt) in
       let d = body_same 3 (lit< tt) in
       graphics_is word code
-      ∙ ap₂ (λ x y. graphics_of x y (content word 2) (content word 3) (content_of word) (map (table_colour word) (below 8)) code) a b
-      ∙ ap₂ (λ x y. graphics_of (content other 0) (content other 1) x y (content_of word) (map (table_colour word) (below 8)) code) c d
-      ∙ ap₂ (λ x y. graphics_of (content other 0) (content other 1) (content other 2) (content other 3) x y code) content_same table_same
+      ∙ ap₂ (λ x y. graphics_of x y (content word 2) (content word 3) (content_of word)
+      (map (table_colour word) (below 8)) code) a b
+      ∙ ap₂ (λ x y. graphics_of (content other 0) (content other 1) x y (content_of word)
+      (map (table_colour word) (below 8)) code) c d
+      ∙ ap₂
+      (λ x y. graphics_of (content other 0) (content other 1) (content other 2) (content other 3) x y code)
+      content_same table_same
       ∙ sym (graphics_is other code)
 
   pub same_meaning : meaning word ≡ meaning other
   same_meaning =
       let first = head_same 0 (lit< tt) in
       let second = head_same 1 (lit< tt) in
-      meaning_is word ∙ ap₂ meaning_of (ap (graphics word) second ∙ graphics_same (get_or other 1 0)) first ∙ sym (meaning_is other)
+      meaning_is word
+      ∙ ap₂ meaning_of (ap (graphics word) second ∙ graphics_same (get_or other 1 0)) first
+      ∙ sym (meaning_is other)

@@ -38,10 +38,13 @@ OneMeaning = (word : List ℕ) (instr : Instr) → Means word instr → instr �
 abbrev pub NoneBad : Type 0
 NoneBad = (packs : List (List ℕ)) → bad_count (map (λ pack. Some pack) packs) ≡ 0
 
-meant_is : OneMeaning → (packs : List (List ℕ)) (instrs : List Instr) → AreMeant (map (λ pack. Some pack) packs) instrs → instrs ≡ map meaning packs
+meant_is : OneMeaning → (packs : List (List ℕ)) (instrs : List Instr)
+    → AreMeant (map (λ pack. Some pack) packs) instrs
+    → instrs ≡ map meaning packs
 meant_is one [] instrs meant = meant
 meant_is one (pack ∷ packs) [] meant = absurd meant
-meant_is one (pack ∷ packs) (instr ∷ instrs) meant = ap₂ (λ i is. i ∷ is) (one pack instr meant.0) (meant_is one packs instrs meant.1)
+meant_is one (pack ∷ packs) (instr ∷ instrs) meant =
+    ap₂ (λ i is. i ∷ is) (one pack instr meant.0) (meant_is one packs instrs meant.1)
 
 -- idle packs
 
@@ -49,9 +52,12 @@ idle_means : meaning idle_pack ≡ Idle
 unfolding meaning
 idle_means = refl
 
-all_idle : (packs : List (List ℕ)) → ((k : ℕ) → k < length packs → get_or packs k [] ≡ idle_pack) → map meaning packs ≡ replicate (length packs) Idle
+all_idle : (packs : List (List ℕ)) → ((k : ℕ) → k < length packs → get_or packs k [] ≡ idle_pack)
+    → map meaning packs ≡ replicate (length packs) Idle
 all_idle [] idle = refl
-all_idle (pack ∷ packs) idle = ap₂ (λ i is. i ∷ is) (ap meaning (idle 0 (omega arith)) ∙ idle_means) (all_idle packs (λ k lt. idle (suc k) (omega (arith, lt))))
+all_idle (pack ∷ packs) idle =
+    ap₂ (λ i is. i ∷ is) (ap meaning (idle 0 (omega arith)) ∙ idle_means)
+    (all_idle packs (λ k lt. idle (suc k) (omega (arith, lt))))
 
 -- the packs of a file
 
@@ -60,7 +66,8 @@ length-parts zero bytes = refl
 length-parts (suc count) bytes = ap suc (length-parts count (drop 24 bytes))
 
 count_of_file : (file : List ℕ) → length (file_packs file) ≡ length file / 24
-count_of_file file = length-map (parts (length file / 24) 24 file) symbols_of ∙ length-parts (length file / 24) file
+count_of_file file =
+    length-map (parts (length file / 24) 24 file) symbols_of ∙ length-parts (length file / 24) file
 
 -- what stands after the first packs of a file, so many or all of them, as a function
 abbrev file_standing : List ℕ → ℕ → Standing
@@ -90,7 +97,8 @@ file_read file many =
     read_each packs (λ n lt.
     let in_file : n < length file / 24 = omega (arith, lt, length-parts (length file / 24) file) in
     has_instruction (get_or packs n []) (part_size (length file / 24) file n in_file (omega arith))) in
-    subst (AreInstructionsOf (take many packs)) (take-map pack_instruction many packs ∙ sym (meanings_are many packs))
+    subst (AreInstructionsOf (take many packs))
+    (take-map pack_instruction many packs ∙ sym (meanings_are many packs))
     (first_read many packs (instructions_of packs) all)
 
 -- packs that are those of a file made good, and idle ones after them
@@ -98,70 +106,91 @@ record AreOfFile (files packs : List (List ℕ)) : Type 0 where
   good : (k : ℕ) → k < length files → k < length packs → IsMadeGood (get_or files k []) (get_or packs k [])
   idle : (k : ℕ) → length files ≤ k → k < length packs → get_or packs k [] ≡ idle_pack
 
-of_file_means : (files packs : List (List ℕ)) → AreOfFile files packs → (n : ℕ) × (map meaning packs ≡ map meaning (take (length packs) files) ++ replicate n Idle)
+of_file_means : (files packs : List (List ℕ)) → AreOfFile files packs
+    → (n : ℕ) × (map meaning packs ≡ map meaning (take (length packs) files) ++ replicate n Idle)
 of_file_means [] packs are =
-    let none : take (length packs) [] ≡ [] = take_all {A = List ℕ} (length packs) [] (omega arith) in
-    (length packs, all_idle packs (λ k lt. are.idle k (omega arith) lt) ∙ ap (λ (xs : List (List ℕ)). map meaning xs ++ replicate (length packs) Idle) (sym none))
+    let none : take (length packs) [] ≡ [] = take_all {A = List ℕ} (length packs) [] (omega arith) in (
+      length packs,
+      all_idle packs (λ k lt. are.idle k (omega arith) lt)
+          ∙ ap (λ (xs : List (List ℕ)). map meaning xs ++ replicate (length packs) Idle) (sym none),
+    )
 of_file_means (file ∷ files) [] are = (0, refl)
 of_file_means (file ∷ files) (pack ∷ packs) are =
     let here = are.good 0 (omega arith) (omega arith) in
     let rest = of_file_means files packs (record {
       good = λ k lt in_packs. are.good (suc k) (omega (arith, lt)) (omega (arith, in_packs));
       idle = λ k past in_packs. are.idle (suc k) (omega (arith, past)) (omega (arith, in_packs));
-    }) in
-    (rest.0, ap₂ (λ i is. i ∷ is) (same_meaning pack file here.codeword.is_word.size here.size here.message) rest.1)
+    }) in (
+      rest.0,
+      ap₂ (λ i is. i ∷ is) (same_meaning pack file here.codeword.is_word.size here.size here.message) rest.1,
+    )
 
-module _ (sheet : CueSheet) (file : List ℕ) (lead_in audio : ℕ) (bytes : List ℕ) (packs : List (List ℕ)) (pressed : IsPressed (press_of sheet file lead_in audio) bytes packs) (time : ℕ) (in_audio : time ≤ audio) where
-  many : file_begin + 4 * time ≤ length packs
-  many = omega (arith, pressed.carries.count, in_audio)
+module _ (sheet : CueSheet) (file : List ℕ) (lead_in audio : ℕ) (bytes : List ℕ) (packs : List (List ℕ))
+    (pressed : IsPressed (press_of sheet file lead_in audio) bytes packs) (time : ℕ) (in_audio : time ≤ audio)
+  where
+    many : file_begin + 4 * time ≤ length packs
+    many = omega (arith, pressed.carries.count, in_audio)
 
-  abbrev before : List (List ℕ)
-  before = take file_begin packs
+    abbrev before : List (List ℕ)
+    before = take file_begin packs
 
-  abbrev within : List (List ℕ)
-  within = take (4 * time) (drop file_begin packs)
+    abbrev within : List (List ℕ)
+    within = take (4 * time) (drop file_begin packs)
 
-  before_count : length before ≡ file_begin
-  before_count = length-take-le file_begin packs (omega (arith, many))
+    before_count : length before ≡ file_begin
+    before_count = length-take-le file_begin packs (omega (arith, many))
 
-  within_count : length within ≡ 4 * time
-  within_count = length-take-le (4 * time) (drop file_begin packs) (omega (arith, many, length-drop file_begin packs))
+    within_count : length within ≡ 4 * time
+    within_count =
+        length-take-le (4 * time) (drop file_begin packs) (omega (arith, many, length-drop file_begin packs))
 
-  within_at : (k : ℕ) → k < length within → get_or within k [] ≡ get_or packs (file_begin + k) []
-  within_at k lt = get_or-take (4 * time) (drop file_begin packs) k [] (omega (arith, lt, within_count)) ∙ get_or-drop file_begin packs k []
+    within_at : (k : ℕ) → k < length within → get_or within k [] ≡ get_or packs (file_begin + k) []
+    within_at k lt =
+        get_or-take (4 * time) (drop file_begin packs) k [] (omega (arith, lt, within_count))
+        ∙ get_or-drop file_begin packs k []
 
-  before_idle : (k : ℕ) → k < length before → get_or before k [] ≡ idle_pack
-  before_idle k lt =
-      let small : k < file_begin = omega (arith, lt, before_count) in
-      get_or-take file_begin packs k [] small ∙ pressed.others k (omega (arith, small, many, pressed.carries.count)) (inl small)
+    before_idle : (k : ℕ) → k < length before → get_or before k [] ≡ idle_pack
+    before_idle k lt =
+        let small : k < file_begin = omega (arith, lt, before_count) in
+        get_or-take file_begin packs k [] small
+        ∙ pressed.others k (omega (arith, small, many, pressed.carries.count)) (inl small)
 
-  within_of_file : AreOfFile (file_packs file) within
-  within_of_file = record {
-    good = λ k lt in_packs.
-        subst (λ (w : List ℕ). IsMadeGood (file_pack file k) w) (sym (within_at k in_packs)) (pressed.of_file k (omega (arith, lt, count_of_file file)));
-    idle = λ k past in_packs.
-        within_at k in_packs
-        ∙ pressed.others (file_begin + k) (omega (arith, in_packs, within_count, many, pressed.carries.count)) (inr (omega (arith, past, count_of_file file)));
-  }
+    within_of_file : AreOfFile (file_packs file) within
+    within_of_file = record {
+      good = λ k lt in_packs.
+          subst (λ (w : List ℕ). IsMadeGood (file_pack file k) w) (sym (within_at k in_packs))
+          (pressed.of_file k (omega (arith, lt, count_of_file file)));
+      idle = λ k past in_packs.
+          within_at k in_packs
+          ∙ pressed.others (file_begin + k)
+          (omega (arith, in_packs, within_count, many, pressed.carries.count))
+          (inr (omega (arith, past, count_of_file file)));
+    }
 
-  first_packs : take (whole_packs (pause_blocks + time)) packs ≡ before ++ within
-  first_packs =
-      let sum : whole_packs (pause_blocks + time) ≡ file_begin + 4 * time = omega arith in
-      ap (λ n. take n packs) sum ∙ take-add file_begin (4 * time) packs
+    first_packs : take (whole_packs (pause_blocks + time)) packs ≡ before ++ within
+    first_packs =
+        let sum : whole_packs (pause_blocks + time) ≡ file_begin + 4 * time = omega arith in
+        ap (λ n. take n packs) sum ∙ take-add file_begin (4 * time) packs
 
-  first_mean : map meaning (take (whole_packs (pause_blocks + time)) packs)
-      ≡ replicate (length before) Idle ++ (map meaning (take (4 * time) (file_packs file)) ++ replicate (of_file_means (file_packs file) within within_of_file).0 Idle)
-  first_mean =
-      ap (map meaning) first_packs ∙ map-append meaning before within
-      ∙ ap₂ (λ xs ys. xs ++ ys) (all_idle before before_idle)
-      ((of_file_means (file_packs file) within within_of_file).1
-      ∙ ap (λ n. map meaning (take n (file_packs file)) ++ replicate (of_file_means (file_packs file) within within_of_file).0 Idle) within_count)
+    first_mean : map meaning (take (whole_packs (pause_blocks + time)) packs)
+        ≡ replicate (length before) Idle ++ (map meaning (take (4 * time) (file_packs file))
+        ++ replicate (of_file_means (file_packs file) within within_of_file).0 Idle)
+    first_mean =
+        ap (map meaning) first_packs ∙ map-append meaning before within
+        ∙ ap₂ (λ xs ys. xs ++ ys) (all_idle before before_idle)
+        ((of_file_means (file_packs file) within within_of_file).1
+        ∙ ap (λ n. map meaning (take n (file_packs file))
+        ++ replicate (of_file_means (file_packs file) within within_of_file).0 Idle) within_count)
 
-  -- what stands is what stands after the packs of the file
-  pub same_standing : InTurn → (instrs : List Instr) → instrs ≡ map meaning (take (whole_packs (pause_blocks + time)) packs) → standing_after blank instrs ≡ file_standing file (4 * time)
-  same_standing laws instrs are =
-      subst (λ (is : List Instr). standing_after blank is ≡ file_standing file (4 * time)) (sym (are ∙ first_mean))
-      (idle_around laws (length before) (of_file_means (file_packs file) within within_of_file).0 (map meaning (take (4 * time) (file_packs file))))
+    -- what stands is what stands after the packs of the file
+    pub same_standing : InTurn → (instrs : List Instr)
+        → instrs ≡ map meaning (take (whole_packs (pause_blocks + time)) packs)
+        → standing_after blank instrs ≡ file_standing file (4 * time)
+    same_standing laws instrs are =
+        subst (λ (is : List Instr). standing_after blank is ≡ file_standing file (4 * time))
+        (sym (are ∙ first_mean))
+        (idle_around laws (length before) (of_file_means (file_packs file) within within_of_file).0
+        (map meaning (take (4 * time) (file_packs file))))
 
 module _ (form : Form) (lead_in : ℕ) (others : List ℕ) (press : DamagedPress form lead_in others) where
   abbrev blocks : ℕ
@@ -176,29 +205,40 @@ module _ (form : Form) (lead_in : ℕ) (others : List ℕ) (press : DamagedPress
     damaged = press.damaged;
   }
 
-  pub found_is : Recovers → (found : List (Option (List ℕ))) → IsRecovered form (program_symbols form others lead_in) found
+  pub found_is : Recovers → (found : List (Option (List ℕ)))
+      → IsRecovered form (program_symbols form others lead_in) found
       → found ≡ map (λ pack. Some pack) (all_packs form (program_blocks press.sheet press.audio) press.packs)
   found_is recovers found recovered =
-      recovers form (program_blocks press.sheet press.audio) _ (program_symbols form others lead_in) press.packs found press.pressed.carries (program_small form others lead_in) press.damaged recovered
+      recovers form (program_blocks press.sheet press.audio) _ (program_symbols form others lead_in)
+      press.packs found press.pressed.carries (program_small form others lead_in) press.damaged recovered
 
-  module _ (recovers : Recovers) (time : ℕ) (text : List ℕ) (bad : ℕ) (in_audio : time ≤ press.audio) (screen : IsScreenAt (moment form lead_in (pause_blocks + time)) others text bad) where
-    first_found : take (whole_packs (pause_blocks + time)) screen.found ≡ map (λ pack. Some pack) (take (whole_packs (pause_blocks + time)) press.packs)
+  module _ (recovers : Recovers) (time : ℕ) (text : List ℕ) (bad : ℕ) (in_audio : time ≤ press.audio)
+      (screen : IsScreenAt (moment form lead_in (pause_blocks + time)) others text bad) where
+    first_found : take (whole_packs (pause_blocks + time)) screen.found
+        ≡ map (λ pack. Some pack) (take (whole_packs (pause_blocks + time)) press.packs)
     first_found =
-        let within : whole_packs (pause_blocks + time) ≤ length press.packs = omega (arith, many press.sheet press.file lead_in press.audio press.bytes press.packs press.pressed time in_audio) in
+        let within : whole_packs (pause_blocks + time) ≤ length press.packs = omega (
+          arith,
+          many press.sheet press.file lead_in press.audio press.bytes press.packs press.pressed time in_audio,
+        ) in
         ap (take (whole_packs (pause_blocks + time))) (found_is recovers screen.found screen.recovered)
         ∙ take-map (λ pack. Some pack) (whole_packs (pause_blocks + time)) (all_packs form blocks press.packs)
-        ∙ ap (map (λ pack. Some pack)) (take-append-le (whole_packs (pause_blocks + time)) press.packs (replicate (word_count form blocks - length press.packs) (replicate 24 0)) within)
+        ∙ ap (map (λ pack. Some pack)) (take-append-le (whole_packs (pause_blocks + time)) press.packs
+        (replicate (word_count form blocks - length press.packs) (replicate 24 0)) within)
 
     pub file_text : OneMeaning → InTurn → IsFileText press.file (4 * time) text
     file_text one laws =
         let are : screen.instrs ≡ map meaning (take (whole_packs (pause_blocks + time)) press.packs) =
-        meant_is one (take (whole_packs (pause_blocks + time)) press.packs) screen.instrs (subst (λ (l : List (Option (List ℕ))). AreMeant l screen.instrs) first_found screen.shown) in
+        meant_is one (take (whole_packs (pause_blocks + time)) press.packs) screen.instrs
+        (subst (λ (l : List (Option (List ℕ))). AreMeant l screen.instrs) first_found screen.shown) in
         record {
           instrs = map meaning (take (4 * time) (file_packs press.file));
           read = file_read press.file (4 * time);
           text_is = screen.text_is
-              ∙ ap pixmap (same_standing press.sheet press.file lead_in press.audio press.bytes press.packs press.pressed time in_audio laws screen.instrs are);
+              ∙ ap pixmap (same_standing press.sheet press.file lead_in press.audio press.bytes press.packs
+              press.pressed time in_audio laws screen.instrs are);
         }
 
     pub none_bad : NoneBad → bad ≡ 0
-    none_bad none = screen.bad_is ∙ ap bad_count first_found ∙ none (take (whole_packs (pause_blocks + time)) press.packs)
+    none_bad none =
+        screen.bad_is ∙ ap bad_count first_found ∙ none (take (whole_packs (pause_blocks + time)) press.packs)

@@ -10,11 +10,15 @@ use Rattle.cdg_io.specs.Change.{Bytes, Change}
 use Rattle.cdg_cmd.specs.declared.status.Status.{Status}
 
 -- packs come back from scratches
-pub scratched_back : (lead_in blocks seed : ℕ) (bytes : List ℕ) (packs : List (List ℕ)) (left : Bytes) (out : Change Bytes) (status : Status)
-    → IsDamagedStream Raw lead_in blocks packs (scratched lead_in seed bytes) → concat (all_packs Raw blocks packs) ≡ concat packs
-    → IfSome left (λ all. (blocks : ℕ) (packs : List (List ℕ)) → IsDamagedStream Raw lead_in blocks packs all → GivesBack (concat (all_packs Raw blocks packs)) out status)
+pub scratched_back : (lead_in blocks seed : ℕ) (bytes : List ℕ) (packs : List (List ℕ)) (left : Bytes)
+    (out : Change Bytes) (status : Status)
+    → IsDamagedStream Raw lead_in blocks packs (scratched lead_in seed bytes)
+    → concat (all_packs Raw blocks packs) ≡ concat packs
+    → IfSome left (λ all. (blocks : ℕ) (packs : List (List ℕ)) → IsDamagedStream Raw lead_in blocks packs all
+    → GivesBack (concat (all_packs Raw blocks packs)) out status)
     → IfSome left (λ all. all ≡ scratched lead_in seed bytes → GivesBack (concat packs) out status)
 scratched_back lead_in blocks seed bytes packs None out status damaged same restores = tt
 scratched_back lead_in blocks seed bytes packs (Some all) out status damaged same restores = λ is.
     subst (λ (t : List ℕ). GivesBack t out status) same
-    (restores blocks packs (subst (λ (b : List ℕ). IsDamagedStream Raw lead_in blocks packs b) (sym is) damaged))
+    (restores blocks packs
+    (subst (λ (b : List ℕ). IsDamagedStream Raw lead_in blocks packs b) (sym is) damaged))

@@ -62,10 +62,12 @@ authored (Err (stop.Late picture need free)) e = absurd (cc)
 authored (Err stop.WriteFault) e = absurd (cc)
 authored (Err stop.NoMemory) e = absurd (cc)
 
-of_author : (lead_in length : ℕ) (call : Call Bytes) → AuthorsWith lead_in length call (ReadFault Second) → ReadsSecond (Author lead_in length) call.first
+of_author : (lead_in length : ℕ) (call : Call Bytes) → AuthorsWith lead_in length call (ReadFault Second)
+    → ReadsSecond (Author lead_in length) call.first
 of_author lead_in length call (StopsAtSheet why took nothing) = absurd why
 of_author lead_in length call (StopsAtScript sheet reads why took nothing) = (sheet, reads)
-of_author lead_in length call (Answers sheet script answer reads_sheet reads_script is put) = absurd (authored answer (sym is))
+of_author lead_in length call (Answers sheet script answer reads_sheet reads_script is put) =
+    absurd (authored answer (sym is))
 
 pressed : (answer : Result (Unit {0}) PressStop) → press_status answer ≢ ReadFault Second
 pressed (Ok done) e = absurd (cc)
@@ -79,10 +81,12 @@ pressed (Err (press.LeadInShort need)) e = absurd (cc)
 pressed (Err press.WriteFault) e = absurd (cc)
 pressed (Err press.NoMemory) e = absurd (cc)
 
-of_press : (lead_in length : ℕ) (call : Call Bytes) → PressesWith lead_in length call (ReadFault Second) → ReadsSecond (Press lead_in length) call.first
+of_press : (lead_in length : ℕ) (call : Call Bytes) → PressesWith lead_in length call (ReadFault Second)
+    → ReadsSecond (Press lead_in length) call.first
 of_press lead_in length call (RefusesSheet why took nothing) = absurd why
 of_press lead_in length call (RefusesFile sheet reads why took nothing) = (sheet, reads)
-of_press lead_in length call (Presses sheet file answer reads_sheet reads_file is put) = absurd (pressed answer (sym is))
+of_press lead_in length call (Presses sheet file answer reads_sheet reads_file is put) =
+    absurd (pressed answer (sym is))
 
 thinned : (answer : Result Pumped PumpStop) → thin_status answer ≢ ReadFault Second
 thinned (Ok done) e = absurd (cc)
@@ -92,7 +96,8 @@ thinned (Err (pump.Torn unit)) e = absurd (cc)
 thinned (Err pump.TooLong) e = absurd (cc)
 
 -- only a fault of the second input is told so
-resumed : (answer : Result Resumed ResumeStop) → resume_status answer ≡ ReadFault Second → answer ≡ Err resume.SecondFault
+resumed : (answer : Result Resumed ResumeStop) → resume_status answer ≡ ReadFault Second
+    → answer ≡ Err resume.SecondFault
 resumed (Ok done) e = absurd (whole (done.bad == 0) done.bad e)
 resumed (Err resume.SecondFault) e = refl
 resumed (Err resume.FirstFault) e = absurd (cc)
@@ -103,15 +108,25 @@ resumed (Err (resume.Torn block)) e = absurd (cc)
 resumed (Err resume.TooLong) e = absurd (cc)
 resumed (Err (resume.PastEnd blocks)) e = absurd (cc)
 
-of_resume : (at : ℕ) (call : Call Bytes) → ResumesWith at call (ReadFault Second) → ReadsSecond (Resume at) call.first
+of_resume : (at : ℕ) (call : Call Bytes) → ResumesWith at call (ReadFault Second)
+    → ReadsSecond (Resume at) call.first
 of_resume at call d =
     let is : d.answer ≡ Err resume.SecondFault = resumed d.answer (sym d.status_is) in
-    let accepted = subst (λ (r : Result Resumed ResumeStop). IsAcceptedBy (acceptance r) at d.file) is d.accepted in
-    let other : d.answer ≢ Err resume.FirstFault = (λ e. let both = sym is ∙ e in absurd (cc)) in
-    (d.file, record { is_file = accepted.0; not_later = accepted.1; taken = d.taken other; end = d.whole other (omega (arith, accepted.0.size)) })
+    let accepted =
+    subst (λ (r : Result Resumed ResumeStop). IsAcceptedBy (acceptance r) at d.file) is d.accepted in
+    let other : d.answer ≢ Err resume.FirstFault = (λ e. let both = sym is ∙ e in absurd (cc)) in (
+      d.file,
+      record {
+        is_file = accepted.0;
+        not_later = accepted.1;
+        taken = d.taken other;
+        end = d.whole other (omega (arith, accepted.0.size));
+      },
+    )
 
 -- what a command did, if it ends so
-pub read_first : (command : Command) (call : Call Bytes) → Does command call (ReadFault Second) → ReadsSecond command call.first
+pub read_first : (command : Command) (call : Call Bytes) → Does command call (ReadFault Second)
+    → ReadsSecond command call.first
 read_first (Convert lead_in form) call d = played d.answer (sym d.status_is)
 read_first (Screen lead_in form at) call d = played d.answer (sym d.status_is)
 read_first (State lead_in form at) call d = played d.answer (sym d.status_is)

@@ -18,20 +18,27 @@ whole_blocks n size is = omega (arith, is)
 -- what is known of scratched streams
 pub record ScratchesAreKnown (lead_in seed : ℕ) (bytes : List ℕ) : Type 0 where
   pub size : length (scratched lead_in seed bytes) ≡ length bytes
-  pub damaged : IsDamaged (program_symbols Raw bytes lead_in) Raw (program_symbols Raw (scratched lead_in seed bytes) lead_in)
+  pub damaged : IsDamaged (program_symbols Raw bytes lead_in) Raw
+      (program_symbols Raw (scratched lead_in seed bytes) lead_in)
 
-pub is_damaged : (sheet : CueSheet) (script : List Drawing) (lead_in audio seed : ℕ) (bytes : List ℕ) (packs : List (List ℕ)) → ScratchesAreKnown lead_in seed bytes
-    → lead_in ≤ 450000 → program_blocks sheet audio ≤ 449999 → IsAuthored (disc_of sheet script lead_in audio) bytes packs → IsDamagedStream Raw lead_in (program_blocks sheet audio) packs (scratched lead_in seed bytes)
+pub is_damaged : (sheet : CueSheet) (script : List Drawing) (lead_in audio seed : ℕ) (bytes : List ℕ)
+    (packs : List (List ℕ)) → ScratchesAreKnown lead_in seed bytes
+    → lead_in ≤ 450000 → program_blocks sheet audio ≤ 449999
+    → IsAuthored (disc_of sheet script lead_in audio) bytes packs
+    → IsDamagedStream Raw lead_in (program_blocks sheet audio) packs (scratched lead_in seed bytes)
 is_damaged sheet script lead_in audio seed bytes packs known lead_in_few blocks_few is =
     let size = known.size ∙ is.framing.size in
     record {
       few = omega (arith, size, lead_in_few, blocks_few);
-      whole = whole_blocks (lead_in + program_blocks sheet audio) (length (scratched lead_in seed bytes)) size;
+      whole =
+          whole_blocks (lead_in + program_blocks sheet audio) (length (scratched lead_in seed bytes)) size;
       symbols = program_symbols Raw bytes lead_in;
       carries = is.carries;
       damaged = known.damaged;
     }
 
-pub all_are : (sheet : CueSheet) (script : List Drawing) (lead_in audio : ℕ) (bytes : List ℕ) (packs : List (List ℕ)) → IsAuthored (disc_of sheet script lead_in audio) bytes packs
+pub all_are : (sheet : CueSheet) (script : List Drawing) (lead_in audio : ℕ) (bytes : List ℕ)
+    (packs : List (List ℕ)) → IsAuthored (disc_of sheet script lead_in audio) bytes packs
     → concat (all_packs Raw (program_blocks sheet audio) packs) ≡ concat packs
-all_are sheet script lead_in audio bytes packs is = ap concat (no_more_packs (program_blocks sheet audio) packs is.carries.count)
+all_are sheet script lead_in audio bytes packs is =
+    ap concat (no_more_packs (program_blocks sheet audio) packs is.carries.count)

@@ -29,36 +29,57 @@ pub weight_is : (xs : List ℕ) → weight_of xs ≡ differences xs (replicate (
 unfolding differences
 weight_is [] = refl
 weight_is (zero ∷ xs) = let rest = weight_is xs in omega (arith, rest)
-weight_is (suc x ∷ xs) = let rest = weight_is xs in let test = ne_eqb (suc x) 0 (λ e. omega (arith, e)) in rw test (omega (arith, rest))
+weight_is (suc x ∷ xs) = let rest = weight_is xs in
+    let test = ne_eqb (suc x) 0 (λ e. omega (arith, e)) in
+    rw test (omega (arith, rest))
 
-chosen : (xs : List ℕ) → sel_l (zip2 ltb xs (replicate (length xs) 1)) xs (replicate (length xs) 1) ≡ ones_of xs
+chosen : (xs : List ℕ)
+    → sel_l (zip2 ltb xs (replicate (length xs) 1)) xs (replicate (length xs) 1) ≡ ones_of xs
 chosen [] = refl
 chosen (zero ∷ xs) = ap (λ l. 0 ∷ l) (chosen xs)
-chosen (suc x ∷ xs) = let one : cond (ltb (suc x) 1) (suc x) 1 ≡ min (suc x) 1 = grind (arith, nat_tests) in ap₂ (λ (n : ℕ) l. n ∷ l) one (chosen xs)
+chosen (suc x ∷ xs) = let one : cond (ltb (suc x) 1) (suc x) 1 ≡ min (suc x) 1 = grind (arith, nat_tests) in
+    ap₂ (λ (n : ℕ) l. n ∷ l) one (chosen xs)
 
 -- a 1 for each, as the lanes of a vector are compared with ones
-pub lanes_at_most_one : (xs : List ℕ) → sel_l (map (top 7) (zip2 (λ a b. cond (ltb a b) (2 ^ 8 - 1) 0) xs (replicate (length xs) 1))) xs (replicate (length xs) 1) ≡ ones_of xs
-lanes_at_most_one xs = ap (λ ms. sel_l ms xs (replicate (length xs) 1)) (tops_compared w8 ltb xs (replicate (length xs) 1)) ∙ chosen xs
+pub lanes_at_most_one : (xs : List ℕ)
+    → sel_l (map (top 7) (zip2 (λ a b. cond (ltb a b) (2 ^ 8 - 1) 0) xs (replicate (length xs) 1))) xs
+    (replicate (length xs) 1)
+    ≡ ones_of xs
+lanes_at_most_one xs =
+    ap (λ ms. sel_l ms xs (replicate (length xs) 1)) (tops_compared w8 ltb xs (replicate (length xs) 1))
+    ∙ chosen xs
 
 -- ---- Eights that are put one behind the other.
 
-pub three_eights : (zeros one two three low middle high : List ℕ) → length zeros ≡ 24 → length low ≡ 8 → length middle ≡ 8 → length high ≡ 8
-    → one ≡ take 0 zeros ++ low ++ drop 8 zeros → two ≡ take 8 one ++ middle ++ drop 16 one → three ≡ take 16 two ++ high ++ drop 24 two
+pub three_eights : (zeros one two three low middle high : List ℕ) → length zeros ≡ 24 → length low ≡ 8
+    → length middle ≡ 8 → length high ≡ 8
+    → one ≡ take 0 zeros ++ low ++ drop 8 zeros → two ≡ take 8 one ++ middle ++ drop 16 one
+    → three ≡ take 16 two ++ high ++ drop 24 two
     → three ≡ low ++ middle ++ high
 three_eights zeros one two three low middle high size low_size middle_size high_size first second third =
     let rest = length-drop 8 zeros in
     let one_size : length one ≡ 24 = ap length first ∙ omega (arith, length-append low (drop 8 zeros)) in
-    let one_front : take 8 one ≡ low = ap (take 8) first ∙ take-append-le 8 low (drop 8 zeros) (omega arith) ∙ take_all 8 low (omega arith) in
-    let begun : two ≡ (low ++ middle) ++ drop 16 one = second ∙ ap (λ l. l ++ middle ++ drop 16 one) one_front in
+    let one_front : take 8 one ≡ low =
+    ap (take 8) first ∙ take-append-le 8 low (drop 8 zeros) (omega arith) ∙ take_all 8 low (omega arith) in
+    let begun : two ≡ (low ++ middle) ++ drop 16 one =
+    second ∙ ap (λ l. l ++ middle ++ drop 16 one) one_front in
     let begun_size : length (low ++ middle) ≡ 16 = length-append low middle ∙ omega arith in
-    let two_size : length two ≡ 24 = ap length begun ∙ length-append (low ++ middle) (drop 16 one) ∙ omega (arith, length-drop 16 one) in
-    let two_front : take 16 two ≡ low ++ middle = ap (take 16) begun ∙ take-append-le 16 (low ++ middle) (drop 16 one) (omega arith) ∙ take_all 16 (low ++ middle) (omega arith) in
-    third ∙ ap (λ l. l ++ high ++ drop 24 two) two_front ∙ ap (λ l. low ++ middle ++ high ++ l) (drop_all 24 two (omega arith)) ∙ append-nil (low ++ middle ++ high)
+    let two_size : length two ≡ 24 =
+    ap length begun ∙ length-append (low ++ middle) (drop 16 one) ∙ omega (arith, length-drop 16 one) in
+    let two_front : take 16 two ≡ low ++ middle =
+    ap (take 16) begun
+    ∙ take-append-le 16 (low ++ middle) (drop 16 one) (omega arith)
+    ∙ take_all 16 (low ++ middle) (omega arith) in
+    third
+    ∙ ap (λ l. l ++ high ++ drop 24 two) two_front
+    ∙ ap (λ l. low ++ middle ++ high ++ l) (drop_all 24 two (omega arith))
+    ∙ append-nil (low ++ middle ++ high)
 
 -- ---- The weight of a word by its eights.
 
 -- what is known of the ones of eight symbols
-ones_small : (ones part : List ℕ) → ones ≡ ones_of part → length part ≡ 8 → (sum_l ones ≤ 8) × (length ones ≡ 8)
+ones_small : (ones part : List ℕ) → ones ≡ ones_of part → length part ≡ 8
+    → (sum_l ones ≤ 8) × (length ones ≡ 8)
 ones_small ones part is size =
     let weight = weight-bound part in
     (omega (arith, ap sum_l is, weight, size), ap length is ∙ length-map part (λ symbol. min symbol 1) ∙ size)
@@ -75,10 +96,14 @@ module _ (symbols low middle high : List ℕ) (are : AreOnes symbols low middle 
   first = ones_small low (take 8 symbols) are.first (length-take-le 8 symbols (omega (arith, are.size)))
 
   second : (sum_l middle ≤ 8) × (length middle ≡ 8)
-  second = ones_small middle (take 8 (drop 8 symbols)) are.second (length-take-le 8 (drop 8 symbols) (omega (arith, are.size, length-drop 8 symbols)))
+  second =
+      ones_small middle (take 8 (drop 8 symbols)) are.second
+      (length-take-le 8 (drop 8 symbols) (omega (arith, are.size, length-drop 8 symbols)))
 
   third : (sum_l high ≤ 8) × (length high ≡ 8)
-  third = ones_small high (take 8 (drop 16 symbols)) are.third (length-take-le 8 (drop 16 symbols) (omega (arith, are.size, length-drop 16 symbols)))
+  third =
+      ones_small high (take 8 (drop 16 symbols)) are.third
+      (length-take-le 8 (drop 16 symbols) (omega (arith, are.size, length-drop 16 symbols)))
 
   abbrev added : List ℕ
   added = zip2 (λ a b. a + b) low middle
@@ -101,18 +126,40 @@ module _ (symbols low middle high : List ℕ) (are : AreOnes symbols low middle 
   pub more_fit : Each2 (λ a b. Fits w8 (a + b)) (zip2 (λ a b. a + b) low middle) high
   more_fit = adds_fit w8 added high (omega (arith, first.0, second.0, third.0, added_sum))
 
-  pub all_fit : Steps (λ s x. Fits w8 (s + x)) (λ s x. s + x) 0 (zip2 (λ a b. a + b) (zip2 (λ a b. a + b) low middle) high)
+  pub all_fit : Steps (λ s x. Fits w8 (s + x)) (λ s x. s + x) 0
+      (zip2 (λ a b. a + b) (zip2 (λ a b. a + b) low middle) high)
   all_fit = sum_fits w8 0 all_added (omega (arith, first.0, second.0, third.0, all_sum))
 
   in_eights : sum_l low + sum_l middle + sum_l high ≡ weight_of symbols
   in_eights =
       let rest = weight-append (take 8 symbols) (drop 8 symbols) in
       let last = weight-append (take 8 (drop 8 symbols)) (drop 8 (drop 8 symbols)) in
-      let whole : weight_of (take 8 symbols ++ drop 8 symbols) ≡ weight_of symbols = ap weight_of (take-append-drop 8 symbols) in
-      let later : weight_of (take 8 (drop 8 symbols) ++ drop 8 (drop 8 symbols)) ≡ weight_of (drop 8 symbols) = ap weight_of (take-append-drop 8 (drop 8 symbols)) in
-      let twice : weight_of (drop 8 (drop 8 symbols)) ≡ weight_of (drop 16 symbols) = ap weight_of (drop-drop 8 8 symbols) in
-      let end : weight_of (take 8 (drop 16 symbols)) ≡ weight_of (drop 16 symbols) = ap weight_of (take_all 8 (drop 16 symbols) (omega (arith, are.size, length-drop 16 symbols))) in
-      omega (arith, ap sum_l are.first, ap sum_l are.second, ap sum_l are.third, rest, last, whole, later, twice, end)
+      let whole : weight_of (take 8 symbols ++ drop 8 symbols) ≡ weight_of symbols =
+      ap weight_of (take-append-drop 8 symbols) in
+      let later : weight_of (take 8 (drop 8 symbols) ++ drop 8 (drop 8 symbols))
+      ≡ weight_of (drop 8 symbols) =
+      ap weight_of (take-append-drop 8 (drop 8 symbols)) in
+      let twice : weight_of (drop 8 (drop 8 symbols)) ≡ weight_of (drop 16 symbols) =
+      ap weight_of (drop-drop 8 8 symbols) in
+      let end : weight_of (take 8 (drop 16 symbols)) ≡ weight_of (drop 16 symbols) =
+      ap weight_of (take_all 8 (drop 16 symbols) (omega (arith, are.size, length-drop 16 symbols))) in
+      omega (
+        arith,
+        ap sum_l are.first,
+        ap sum_l are.second,
+        ap sum_l are.third,
+        rest,
+        last,
+        whole,
+        later,
+        twice,
+        end,
+      )
 
-  pub weight_by_eights : fold_l (λ s x. s + x) 0 (zip2 (λ a b. a + b) (zip2 (λ a b. a + b) low middle) high) ≡ differences symbols (replicate 24 0)
-  weight_by_eights = fold-sum 0 all_added ∙ omega (arith, all_sum, in_eights) ∙ weight_is symbols ∙ ap (λ n. differences symbols (replicate n 0)) are.size
+  pub weight_by_eights : fold_l (λ s x. s + x) 0 (zip2 (λ a b. a + b) (zip2 (λ a b. a + b) low middle) high)
+      ≡ differences symbols (replicate 24 0)
+  weight_by_eights =
+      fold-sum 0 all_added
+      ∙ omega (arith, all_sum, in_eights)
+      ∙ weight_is symbols
+      ∙ ap (λ n. differences symbols (replicate n 0)) are.size

@@ -37,16 +37,22 @@ abbrev pub HasEighths : (ℕ → ℕ) → (ℕ → ℕ) → List ℕ → ℕ →
 HasEighths at f bytes k = (p : ℕ) → p < 24 → p % 8 < k → get_or bytes (at p) 0 % 64 ≡ f p
 
 -- one symbol is put: it stands, and the others stay
-put_here : (at : ℕ → ℕ) (bytes : List ℕ) (p x : ℕ) → IsExchange at → p < 24 → length bytes ≡ 24 → get_or (set bytes (at p) x) (at p) 0 ≡ x
-put_here at bytes p x exchange lt size = get_or-set_same bytes (at p) x 0 (subst (λ n. at p < n) (sym size) (exchange.within p lt))
+put_here : (at : ℕ → ℕ) (bytes : List ℕ) (p x : ℕ) → IsExchange at → p < 24 → length bytes ≡ 24
+    → get_or (set bytes (at p) x) (at p) 0 ≡ x
+put_here at bytes p x exchange lt size =
+    get_or-set_same bytes (at p) x 0 (subst (λ n. at p < n) (sym size) (exchange.within p lt))
 
-put_other : (at : ℕ → ℕ) (bytes : List ℕ) (p q x : ℕ) → IsExchange at → p < 24 → q < 24 → p ≢ q → get_or (set bytes (at q) x) (at p) 0 ≡ get_or bytes (at p) 0
-put_other at bytes p q x exchange lp lq other = get_or-set_other bytes (at q) (at p) x 0 (apart at p q exchange lp lq other)
+put_other : (at : ℕ → ℕ) (bytes : List ℕ) (p q x : ℕ) → IsExchange at → p < 24 → q < 24 → p ≢ q
+    → get_or (set bytes (at q) x) (at p) 0 ≡ get_or bytes (at p) 0
+put_other at bytes p q x exchange lp lq other =
+    get_or-set_other bytes (at q) (at p) x 0 (apart at p q exchange lp lq other)
 
 -- three more symbols
-pub eighth_more : (at f value : ℕ → ℕ) (old one two three : List ℕ) (k : ℕ) → IsExchange at → k < 8 → length old ≡ 24 → HasEighths at f old k
+pub eighth_more : (at f value : ℕ → ℕ) (old one two three : List ℕ) (k : ℕ) → IsExchange at → k < 8
+    → length old ≡ 24 → HasEighths at f old k
     → ((p : ℕ) → p < 24 → p % 8 ≡ k → value p % 64 ≡ f p)
-    → one ≡ set old (at k) (value k) → two ≡ set one (at (k + 8)) (value (k + 8)) → three ≡ set two (at (k + 16)) (value (k + 16))
+    → one ≡ set old (at k) (value k) → two ≡ set one (at (k + 8)) (value (k + 8))
+    → three ≡ set two (at (k + 16)) (value (k + 16))
     → HasEighths at f three (k + 1)
 eighth_more at f value old one two three k exchange lt size before now one_is two_is three_is p lp least =
     let one_size : length one ≡ 24 = grind (arith, one_is, length-set) in
@@ -54,37 +60,52 @@ eighth_more at f value old one two three k exchange lt size before now one_is tw
     elim (cases_eq p (k + 16)) [
       | inl last ↦
           let here : get_or three (at p) 0 ≡ value p =
-          ap (λ l. get_or l (at p) 0) three_is ∙ ap (λ q. get_or (set two (at q) (value q)) (at p) 0) (sym last) ∙ put_here at two p (value p) exchange lp two_size in
+          ap (λ l. get_or l (at p) 0) three_is
+          ∙ ap (λ q. get_or (set two (at q) (value q)) (at p) 0) (sym last)
+          ∙ put_here at two p (value p) exchange lp two_size in
           ap (λ n. n % 64) here ∙ now p lp (omega (arith, last))
       | inr not_last ↦
           let third : get_or three (at p) 0 ≡ get_or two (at p) 0 =
-          ap (λ l. get_or l (at p) 0) three_is ∙ put_other at two p (k + 16) (value (k + 16)) exchange lp (omega arith) not_last in
+          ap (λ l. get_or l (at p) 0) three_is
+          ∙ put_other at two p (k + 16) (value (k + 16)) exchange lp (omega arith) not_last in
           elim (cases_eq p (k + 8)) [
             | inl middle ↦
                 let here : get_or two (at p) 0 ≡ value p =
-                ap (λ l. get_or l (at p) 0) two_is ∙ ap (λ q. get_or (set one (at q) (value q)) (at p) 0) (sym middle) ∙ put_here at one p (value p) exchange lp one_size in
+                ap (λ l. get_or l (at p) 0) two_is
+                ∙ ap (λ q. get_or (set one (at q) (value q)) (at p) 0) (sym middle)
+                ∙ put_here at one p (value p) exchange lp one_size in
                 ap (λ n. n % 64) (third ∙ here) ∙ now p lp (omega (arith, middle))
             | inr not_middle ↦
                 let second : get_or two (at p) 0 ≡ get_or one (at p) 0 =
-                ap (λ l. get_or l (at p) 0) two_is ∙ put_other at one p (k + 8) (value (k + 8)) exchange lp (omega arith) not_middle in
+                ap (λ l. get_or l (at p) 0) two_is
+                ∙ put_other at one p (k + 8) (value (k + 8)) exchange lp (omega arith) not_middle in
                 elim (cases_eq p k) [
                   | inl first ↦
                       let here : get_or one (at p) 0 ≡ value p =
-                      ap (λ l. get_or l (at p) 0) one_is ∙ ap (λ q. get_or (set old (at q) (value q)) (at p) 0) (sym first) ∙ put_here at old p (value p) exchange lp size in
+                      ap (λ l. get_or l (at p) 0) one_is
+                      ∙ ap (λ q. get_or (set old (at q) (value q)) (at p) 0) (sym first)
+                      ∙ put_here at old p (value p) exchange lp size in
                       ap (λ n. n % 64) (third ∙ second ∙ here) ∙ now p lp (omega (arith, first))
                   | inr not_first ↦
                       let stays : get_or one (at p) 0 ≡ get_or old (at p) 0 =
-                      ap (λ l. get_or l (at p) 0) one_is ∙ put_other at old p k (value k) exchange lp (omega arith) not_first in
-                      ap (λ n. n % 64) (third ∙ second ∙ stays) ∙ before p lp (omega (arith, least, not_last, not_middle, not_first))
+                      ap (λ l. get_or l (at p) 0) one_is
+                      ∙ put_other at old p k (value k) exchange lp (omega arith) not_first in
+                      ap (λ n. n % 64) (third ∙ second ∙ stays)
+                      ∙ before p lp (omega (arith, least, not_last, not_middle, not_first))
                 ]
           ]
     ]
 
 -- all symbols
-pub eighths_all : (at f : ℕ → ℕ) (bytes : List ℕ) → IsExchange at → length bytes ≡ 24 → HasEighths at f bytes 8 → map (λ (b : ℕ). b % 64) bytes ≡ map (λ i. f (at i)) (range_with_len 0 24)
+pub eighths_all : (at f : ℕ → ℕ) (bytes : List ℕ) → IsExchange at → length bytes ≡ 24
+    → HasEighths at f bytes 8
+    → map (λ (b : ℕ). b % 64) bytes ≡ map (λ i. f (at i)) (range_with_len 0 24)
 eighths_all at f bytes exchange size done =
-    same_number_lists _ _ (length-map bytes (λ (b : ℕ). b % 64) ∙ size ∙ sym (length-map-range_with_len (λ i. f (at i)) 0 24)) (λ i lt.
+    same_number_lists _ _
+    (length-map bytes (λ (b : ℕ). b % 64) ∙ size ∙ sym (length-map-range_with_len (λ i. f (at i)) 0 24))
+    (λ i lt.
     let within : i < 24 = omega (arith, lt, size, length-map bytes (λ (b : ℕ). b % 64)) in
     get_or-map (λ (b : ℕ). b % 64) bytes i 0 0 (omega (arith, within, size))
-    ∙ ap (λ q. get_or bytes q 0 % 64) (sym (exchange.twice i within)) ∙ done (at i) (exchange.within i within) (omega arith)
+    ∙ ap (λ q. get_or bytes q 0 % 64) (sym (exchange.twice i within))
+    ∙ done (at i) (exchange.within i within) (omega arith)
     ∙ sym (get_or-map-range_with_len (λ j. f (at j)) 0 24 i i 0 within (omega arith)))

@@ -47,7 +47,8 @@ module _ {E : Type 0} (left left' other other' : Option (List ℕ)) (n n' m m' :
   -- one of them has a block and the other none
   pub shorter_told : (count count' room' : ℕ) (one two : List ℕ) → IsFilled 96 left left' count one
       → IsWholeOrNone count → IsFilled 96 other other' count' two → IsWholeOrNone count' → count ≢ count'
-      → room ≡ 96 → room' ≡ 96 → TellsEnd {E = E} room n n' (Ok count) → TellsEnd {E = E} room' m m' (Ok count')
+      → room ≡ 96 → room' ≡ 96 → TellsEnd {E = E} room n n' (Ok count)
+      → TellsEnd {E = E} room' m m' (Ok count')
       → EndsShorter (seen left left' n n') (seen other other' m m')
   shorter_told count count' room' one two f (inl none) s (inl none') differ is is' told told' =
       absurd (differ (omega (arith, none, none')))
@@ -105,7 +106,8 @@ more_told left left' other n n' m xs consumed some same = record {
 
 -- ---- Since the beginning, where as much was taken of both and no end was told.
 
-module _ (left left' left'' other other' other'' : Option (List ℕ)) (n n' n'' m m' m'' : Count) (xs ys : List ℕ)
+module _ (left left' left'' other other' other'' : Option (List ℕ)) (n n' n'' m m' m'' : Count)
+    (xs ys : List ℕ)
     (first : Consumes left left' xs) (second : Consumes other other' ys) (even : length xs ≡ length ys)
     (same : n' ≡ n) (same' : m' ≡ m) where
   ahead_since : EndsUnlessAhead (seen left' left'' n' n'') (seen other' other'' m' m'')
@@ -140,7 +142,8 @@ module _ (left left' left'' other other' other'' : Option (List ℕ)) (n n' n'' 
         ];
       }
 
-  pub stop_since : (stop : MergeStop) → EndsAtStop stop (seen left' left'' n' n'') (seen other' other'' m' m'')
+  pub stop_since : (stop : MergeStop)
+      → EndsAtStop stop (seen left' left'' n' n'') (seen other' other'' m' m'')
       → EndsAtStop stop (seen left left'' n n'') (seen other other'' m m'')
   stop_since FirstFault (untold, untold') = (untold ∙ same, untold' ∙ same')
   stop_since SecondFault (e, untold) = (ahead_since e, untold ∙ same')

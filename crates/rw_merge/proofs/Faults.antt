@@ -18,9 +18,12 @@ risen : {A : Type 0} (count : Change ℕ) → A → Rises count → IsCounted A 
 risen count is (later, rose) = record { later = later; fault = λ _. rose; no_fault = λ not. absurd (not is) }
 
 stayed : {A : Type 0} (count : Change ℕ) → (A → ⊥) → Stays count → IsCounted A count
-stayed count not same = record { later = omega (arith, same); fault = λ is. absurd (not is); no_fault = λ _. same }
+stayed count not same =
+    record { later = omega (arith, same); fault = λ is. absurd (not is); no_fault = λ _. same }
 
-pub first_counted : (result : Result Merged MergeStop) (first second out : Change ℕ) → CountsFaults result first second out → IsCounted (IsErrOf result FirstFault) first
+pub first_counted : (result : Result Merged MergeStop) (first second out : Change ℕ)
+    → CountsFaults result first second out
+    → IsCounted (IsErrOf result FirstFault) first
 first_counted (Ok merged) first second out (f, s, o) = stayed first (λ e. (cc)) f
 first_counted (Err FirstFault) first second out (f, s, o) = risen first refl f
 first_counted (Err SecondFault) first second out (f, s, o) = stayed first (λ e. (cc)) f
@@ -30,7 +33,9 @@ first_counted (Err (Torn n)) first second out (f, s, o) = stayed first (λ e. (c
 first_counted (Err (SecondTorn n)) first second out (f, s, o) = stayed first (λ e. (cc)) f
 first_counted (Err (Unequal n)) first second out (f, s, o) = stayed first (λ e. (cc)) f
 
-pub second_counted : (result : Result Merged MergeStop) (first second out : Change ℕ) → CountsFaults result first second out → IsCounted (IsErrOf result SecondFault) second
+pub second_counted : (result : Result Merged MergeStop) (first second out : Change ℕ)
+    → CountsFaults result first second out
+    → IsCounted (IsErrOf result SecondFault) second
 second_counted (Ok merged) first second out (f, s, o) = stayed second (λ e. (cc)) s
 second_counted (Err FirstFault) first second out (f, s, o) = stayed second (λ e. (cc)) s
 second_counted (Err SecondFault) first second out (f, s, o) = risen second refl s
@@ -40,7 +45,9 @@ second_counted (Err (Torn n)) first second out (f, s, o) = stayed second (λ e. 
 second_counted (Err (SecondTorn n)) first second out (f, s, o) = stayed second (λ e. (cc)) s
 second_counted (Err (Unequal n)) first second out (f, s, o) = stayed second (λ e. (cc)) s
 
-pub out_counted : (result : Result Merged MergeStop) (first second out : Change ℕ) → CountsFaults result first second out → IsCounted (IsErrOf result WriteFault) out
+pub out_counted : (result : Result Merged MergeStop) (first second out : Change ℕ)
+    → CountsFaults result first second out
+    → IsCounted (IsErrOf result WriteFault) out
 out_counted (Ok merged) first second out (f, s, o) = stayed out (λ e. (cc)) o
 out_counted (Err FirstFault) first second out (f, s, o) = stayed out (λ e. (cc)) o
 out_counted (Err SecondFault) first second out (f, s, o) = stayed out (λ e. (cc)) o
@@ -51,12 +58,20 @@ out_counted (Err (SecondTorn n)) first second out (f, s, o) = stayed out (λ e. 
 out_counted (Err (Unequal n)) first second out (f, s, o) = stayed out (λ e. (cc)) o
 
 -- What the last reads of a merge counted is all that it counted, where each count stayed until then.
-pub counted_last : (A : Type 0) (first first' first'' second second' second'' out out' : ℕ) (stop : MergeStop) → first' ≡ first → second' ≡ second → out' ≡ out
-    → CountsReadFaults {A = A} (Err stop) (from_to first' first'') (from_to second' second'') → CountsFaults (Err stop) (from_to first first'') (from_to second second'') (from_to out out')
-counted_last A first first' first'' second second' second'' out out' FirstFault f s o ((later, rose), same) = ((omega (arith, f, later), rw f at rose), same ∙ s, o)
-counted_last A first first' first'' second second' second'' out out' SecondFault f s o (same, (later, rose)) = (same ∙ f, (omega (arith, s, later), rw s at rose), o)
+pub counted_last : (A : Type 0) (first first' first'' second second' second'' out out' : ℕ) (stop : MergeStop)
+    → first' ≡ first → second' ≡ second → out' ≡ out
+    → CountsReadFaults {A = A} (Err stop) (from_to first' first'') (from_to second' second'')
+    → CountsFaults (Err stop) (from_to first first'') (from_to second second'') (from_to out out')
+counted_last A first first' first'' second second' second'' out out' FirstFault f s o ((later, rose), same) =
+    ((omega (arith, f, later), rw f at rose), same ∙ s, o)
+counted_last A first first' first'' second second' second'' out out' SecondFault f s o (same, (later, rose)) =
+    (same ∙ f, (omega (arith, s, later), rw s at rose), o)
 counted_last A first first' first'' second second' second'' out out' WriteFault f s o counts = absurd counts
-counted_last A first first' first'' second second' second'' out out' TooLong f s o (same, same') = (same ∙ f, same' ∙ s, o)
-counted_last A first first' first'' second second' second'' out out' (Torn n) f s o (same, same') = (same ∙ f, same' ∙ s, o)
-counted_last A first first' first'' second second' second'' out out' (SecondTorn n) f s o (same, same') = (same ∙ f, same' ∙ s, o)
-counted_last A first first' first'' second second' second'' out out' (Unequal n) f s o (same, same') = (same ∙ f, same' ∙ s, o)
+counted_last A first first' first'' second second' second'' out out' TooLong f s o (same, same') =
+    (same ∙ f, same' ∙ s, o)
+counted_last A first first' first'' second second' second'' out out' (Torn n) f s o (same, same') =
+    (same ∙ f, same' ∙ s, o)
+counted_last A first first' first'' second second' second'' out out' (SecondTorn n) f s o (same, same') =
+    (same ∙ f, same' ∙ s, o)
+counted_last A first first' first'' second second' second'' out out' (Unequal n) f s o (same, same') =
+    (same ∙ f, same' ∙ s, o)

@@ -15,14 +15,19 @@ pub record HasTaken (size taken : ℕ) (left : Option (List ℕ)) : Type 0 where
   pub least : taken ≤ size
   pub at_end : IsAtEnd left → size ≡ taken
 
-half_answer : (blocks a : ℕ) (left : Option (List ℕ)) (us : List ℕ) → HasTaken a (blocks * 96 + length us) left → IsHalfRead left us → (blocks ≤ a / 96) × (a / 96 ≡ blocks → a % 96 ≡ 0)
+half_answer : (blocks a : ℕ) (left : Option (List ℕ)) (us : List ℕ)
+    → HasTaken a (blocks * 96 + length us) left → IsHalfRead left us
+    → (blocks ≤ a / 96) × (a / 96 ≡ blocks → a % 96 ≡ 0)
 half_answer blocks a left us size half =
     elim half [
       | inl whole ↦ (omega (arith, size.least, whole), λ e. absurd (omega (arith, size.least, whole, e)))
-      | inr none ↦ let zero_long : length us ≡ 0 = ap length none.0 in (omega (arith, size.least, zero_long), λ e. omega (arith, size.at_end none.1, zero_long))
+      | inr none ↦ let zero_long : length us ≡ 0 = ap length none.0 in
+          (omega (arith, size.least, zero_long), λ e. omega (arith, size.at_end none.1, zero_long))
     ]
 
-pub pair_answer : (lead_in blocks a b : ℕ) (left other : Option (List ℕ)) (stop : MergeStop) (us vs : List ℕ) → HasTaken a (blocks * 96 + length us) left → HasTaken b (blocks * 96 + length vs) other → blocks < most_units
+pub pair_answer : (lead_in blocks a b : ℕ) (left other : Option (List ℕ)) (stop : MergeStop) (us vs : List ℕ)
+    → HasTaken a (blocks * 96 + length us) left → HasTaken b (blocks * 96 + length vs) other
+    → blocks < most_units
     → IsPairRead blocks (Err stop) (taken_of us left) (taken_of vs other) → IsAnswer lead_in (Err stop) a b
 pair_answer lead_in blocks a b left other FirstFault us vs a_is b_is lt read = tt
 pair_answer lead_in blocks a b left other SecondFault us vs a_is b_is lt read = tt
@@ -35,29 +40,49 @@ pair_answer lead_in blocks a b left other (Torn n) us vs a_is b_is lt (same, som
     (omega arith, omega arith, omega arith, λ e. absurd (omega (arith, e)))
 pair_answer lead_in blocks a b left other (SecondTorn n) us vs a_is b_is lt (same, half, some, part, end) =
     let first = half_answer blocks a left us a_is half in
-    let second : b ≡ blocks * 96 + length vs = b_is.at_end end in
-    (omega arith, omega (arith, first.0, same), λ e. first.1 (e ∙ same), omega arith, λ e. absurd (omega (arith, e)))
+    let second : b ≡ blocks * 96 + length vs = b_is.at_end end in (
+      omega arith,
+      omega (arith, first.0, same),
+      λ e. first.1 (e ∙ same),
+      omega arith,
+      λ e. absurd (omega (arith, e)),
+    )
 pair_answer lead_in blocks a b left other (Unequal n) us vs a_is b_is lt (same, more) =
     elim more [
       | inl (long, none, end) ↦
           let first : blocks * 96 + 96 ≤ a = omega (arith, long, a_is.least) in
-          let second : b ≡ blocks * 96 = b_is.at_end end ∙ omega (arith, ap length none) in
-          (omega arith, omega arith, λ e. absurd (omega (arith, e)), λ e. absurd (omega (arith, e)), λ e. omega arith)
+          let second : b ≡ blocks * 96 = b_is.at_end end ∙ omega (arith, ap length none) in (
+            omega arith,
+            omega arith,
+            λ e. absurd (omega (arith, e)),
+            λ e. absurd (omega (arith, e)),
+            λ e. omega arith,
+          )
       | inr (none, long, end) ↦
           let first : a ≡ blocks * 96 = a_is.at_end end ∙ omega (arith, ap length none) in
-          let second : blocks * 96 + 96 ≤ b = omega (arith, long, b_is.least) in
-          (omega arith, omega arith, λ e. absurd (omega (arith, e)), λ e. omega arith, λ e. absurd (omega (arith, e)))
+          let second : blocks * 96 + 96 ≤ b = omega (arith, long, b_is.least) in (
+            omega arith,
+            omega arith,
+            λ e. absurd (omega (arith, e)),
+            λ e. omega arith,
+            λ e. absurd (omega (arith, e)),
+          )
     ]
 
-pub end_answer : (lead_in blocks a b : ℕ) (left other : Option (List ℕ)) (stop : MergeStop) (us vs : List ℕ) → HasTaken a (blocks * 96 + length us) left → HasTaken b (blocks * 96 + length vs) other → blocks ≡ most_units
+pub end_answer : (lead_in blocks a b : ℕ) (left other : Option (List ℕ)) (stop : MergeStop) (us vs : List ℕ)
+    → HasTaken a (blocks * 96 + length us) left → HasTaken b (blocks * 96 + length vs) other
+    → blocks ≡ most_units
     → IsEndRead (Err stop) (taken_of us left) (taken_of vs other) → IsAnswer lead_in (Err stop) a b
 end_answer lead_in blocks a b left other FirstFault us vs a_is b_is all read = tt
 end_answer lead_in blocks a b left other SecondFault us vs a_is b_is all read = tt
 end_answer lead_in blocks a b left other WriteFault us vs a_is b_is all read = tt
 end_answer lead_in blocks a b left other TooLong us vs a_is b_is all read =
     let first : blocks * 96 + length us ≤ a = a_is.least in
-    let second : blocks * 96 + length vs ≤ b = b_is.least in
-    (omega arith, omega arith, elim read [ inl (one, none) ↦ inl (omega (arith, one)) | inr (none, one) ↦ inr (omega (arith, one)) ])
+    let second : blocks * 96 + length vs ≤ b = b_is.least in (
+      omega arith,
+      omega arith,
+      elim read [ inl (one, none) ↦ inl (omega (arith, one)) | inr (none, one) ↦ inr (omega (arith, one)) ],
+    )
 end_answer lead_in blocks a b left other (Torn n) us vs a_is b_is all read = absurd read
 end_answer lead_in blocks a b left other (SecondTorn n) us vs a_is b_is all read = absurd read
 end_answer lead_in blocks a b left other (Unequal n) us vs a_is b_is all read = absurd read
@@ -66,7 +91,9 @@ pub taken_exactly : (size taken : ℕ) (left : Option (List ℕ)) → size ≡ t
 taken_exactly size taken left is = record { least = omega arith; at_end = λ end. is }
 
 -- So many bytes of an input were taken, if it is known.
-taken_in_turn : (all xs us : List ℕ) (left' left'' : Option (List ℕ)) (n : ℕ) → Consumes (Some all) left' xs → Consumes left' left'' us → length xs ≡ n → HasTaken (length all) (n + length us) left''
+taken_in_turn : (all xs us : List ℕ) (left' left'' : Option (List ℕ)) (n : ℕ) → Consumes (Some all) left' xs
+    → Consumes left' left'' us → length xs ≡ n
+    → HasTaken (length all) (n + length us) left''
 taken_in_turn all xs us None left'' n before now size = absurd before
 taken_in_turn all xs us (Some rest) None n before now size = absurd now
 taken_in_turn all xs us (Some rest) (Some more) n before now size =
@@ -75,16 +102,29 @@ taken_in_turn all xs us (Some rest) (Some more) n before now size =
     record { least = omega arith; at_end = λ end. omega (arith, ap length end) }
 
 -- The answer of both whole inputs follows from what is left of them, if both are known.
-pub whole_answer : (P : ℕ → ℕ → Type 0) (left left' left'' other other' other'' : Option (List ℕ)) (xs ys us vs : List ℕ) (n : ℕ) → Consumes left left' xs → Consumes left' left'' us → Consumes other other' ys → Consumes other' other'' vs
-    → length xs ≡ n → length ys ≡ n → ((a b : ℕ) → HasTaken a (n + length us) left'' → HasTaken b (n + length vs) other'' → P a b) → IfSome left (λ all. IfSome other (λ every. P (length all) (length every)))
-whole_answer P None left' left'' other other' other'' xs ys us vs n before now earlier later size size' answer = tt
-whole_answer P (Some all) left' left'' None other' other'' xs ys us vs n before now earlier later size size' answer = tt
-whole_answer P (Some all) left' left'' (Some every) other' other'' xs ys us vs n before now earlier later size size' answer =
-    answer (length all) (length every) (taken_in_turn all xs us left' left'' n before now size) (taken_in_turn every ys vs other' other'' n earlier later size')
+pub whole_answer : (P : ℕ → ℕ → Type 0) (left left' left'' other other' other'' : Option (List ℕ))
+    (xs ys us vs : List ℕ) (n : ℕ) → Consumes left left' xs → Consumes left' left'' us
+    → Consumes other other' ys
+    → Consumes other' other'' vs
+    → length xs ≡ n → length ys ≡ n
+    → ((a b : ℕ) → HasTaken a (n + length us) left'' → HasTaken b (n + length vs) other'' → P a b)
+    → IfSome left (λ all. IfSome other (λ every. P (length all) (length every)))
+whole_answer P None left' left'' other other' other'' xs ys us vs n before now earlier later size size'
+    answer =
+    tt
+whole_answer P (Some all) left' left'' None other' other'' xs ys us vs n before now earlier later size size'
+    answer =
+    tt
+whole_answer P (Some all) left' left'' (Some every) other' other'' xs ys us vs n before now earlier later size
+    size' answer =
+    answer (length all) (length every) (taken_in_turn all xs us left' left'' n before now size)
+    (taken_in_turn every ys vs other' other'' n earlier later size')
 
 -- ---- The ends, where a pair of blocks is looked for.
 
-pub first_at_end : (blocks : ℕ) (left : Option (List ℕ)) (second : Taken) (stop : MergeStop) (us : List ℕ) → IsPairRead blocks (Err stop) (taken_of us left) second → FirstIsAtEnd (Err stop) left
+pub first_at_end : (blocks : ℕ) (left : Option (List ℕ)) (second : Taken) (stop : MergeStop) (us : List ℕ)
+    → IsPairRead blocks (Err stop) (taken_of us left) second
+    → FirstIsAtEnd (Err stop) left
 first_at_end blocks left second FirstFault us read = tt
 first_at_end blocks left second SecondFault us read = tt
 first_at_end blocks left second WriteFault us read = tt
@@ -93,7 +133,9 @@ first_at_end blocks left second (Torn n) us (same, some, part, none, end) = end
 first_at_end blocks left second (SecondTorn n) us read = tt
 first_at_end blocks left second (Unequal n) us read = tt
 
-pub second_at_end : (blocks : ℕ) (first : Taken) (other : Option (List ℕ)) (stop : MergeStop) (vs : List ℕ) → IsPairRead blocks (Err stop) first (taken_of vs other) → EndsSecond (Err stop) other
+pub second_at_end : (blocks : ℕ) (first : Taken) (other : Option (List ℕ)) (stop : MergeStop) (vs : List ℕ)
+    → IsPairRead blocks (Err stop) first (taken_of vs other)
+    → EndsSecond (Err stop) other
 second_at_end blocks first other FirstFault vs read = tt
 second_at_end blocks first other SecondFault vs read = tt
 second_at_end blocks first other WriteFault vs read = tt
@@ -104,7 +146,9 @@ second_at_end blocks first other (Unequal n) vs read = tt
 
 -- ---- The same where nothing more may follow.
 
-pub first_at_end_after : (left : Option (List ℕ)) (first second : Taken) (stop : MergeStop) → IsEndRead (Err stop) first second → FirstIsAtEnd (Err stop) left
+pub first_at_end_after : (left : Option (List ℕ)) (first second : Taken) (stop : MergeStop)
+    → IsEndRead (Err stop) first second
+    → FirstIsAtEnd (Err stop) left
 first_at_end_after left first second FirstFault read = tt
 first_at_end_after left first second SecondFault read = tt
 first_at_end_after left first second WriteFault read = tt
@@ -113,7 +157,9 @@ first_at_end_after left first second (Torn n) read = absurd read
 first_at_end_after left first second (SecondTorn n) read = tt
 first_at_end_after left first second (Unequal n) read = tt
 
-pub second_at_end_after : (other : Option (List ℕ)) (first second : Taken) (stop : MergeStop) → IsEndRead (Err stop) first second → EndsSecond (Err stop) other
+pub second_at_end_after : (other : Option (List ℕ)) (first second : Taken) (stop : MergeStop)
+    → IsEndRead (Err stop) first second
+    → EndsSecond (Err stop) other
 second_at_end_after other first second FirstFault read = tt
 second_at_end_after other first second SecondFault read = tt
 second_at_end_after other first second WriteFault read = tt
@@ -124,7 +170,8 @@ second_at_end_after other first second (Unequal n) read = tt
 
 -- ---- A write that failed says nothing of the lengths.
 
-pub write_answer : (lead_in : ℕ) (left other : Option (List ℕ)) → IfSome left (λ xs. IfSome other (λ ys. IsAnswer lead_in (Err WriteFault) (length xs) (length ys)))
+pub write_answer : (lead_in : ℕ) (left other : Option (List ℕ))
+    → IfSome left (λ xs. IfSome other (λ ys. IsAnswer lead_in (Err WriteFault) (length xs) (length ys)))
 write_answer lead_in None other = tt
 write_answer lead_in (Some xs) None = tt
 write_answer lead_in (Some xs) (Some ys) = tt

@@ -50,12 +50,16 @@ use Rattle.stream_stages.proofs.Views.{recovered_units, few_words, whole_taken, 
 
 -- ---- the counts of blocks
 
-words_counted : (form : Form) (lead_in : ℕ) (s : Counting) (blocks : List (List ℕ)) → IsFresh form lead_in s → length blocks ≤ 1000000
-    → AreCounted (words_from form (flat_map slots_of (drop lead_in blocks))) (run_state counting_next s blocks).words.second
+words_counted : (form : Form) (lead_in : ℕ) (s : Counting) (blocks : List (List ℕ)) → IsFresh form lead_in s
+    → length blocks ≤ 1000000
+    → AreCounted (words_from form (flat_map slots_of (drop lead_in blocks)))
+    (run_state counting_next s blocks).words.second
 words_counted form lead_in s blocks fresh few =
     let words : List (List ℕ) = words_from form (flat_map slots_of (drop lead_in blocks)) in
     let run : (run_state counting_next s blocks).words.second ≡ count_after no_counts words =
-    ap (λ w. w.second) (counting_words s blocks) ∙ then_next_second words_next words_give counts_next s.words blocks ∙ counts_run s.words.second (run_gives words_next words_give s.words.first blocks)
+    ap (λ w. w.second) (counting_words s blocks)
+    ∙ then_next_second words_next words_give counts_next s.words blocks
+    ∙ counts_run s.words.second (run_gives words_next words_give s.words.first blocks)
     ∙ ap₂ count_after fresh.counts (block_words form lead_in s.words.first blocks fresh.words) in
     subst (AreCounted words) (sym run) (are_counted words (few_words form lead_in blocks few))
 
@@ -65,30 +69,50 @@ readings_for Raw blocks = map reading_at blocks
 readings_for Sector blocks = map reading_at blocks
 readings_for Cooked blocks = []
 
-frames_are : (form : Form) (blocks : List (List ℕ)) → length blocks ≤ 1000000 → run_state frames_next (record { read = has_frames form; good = 0; bad = 0 }) blocks
-    ≡ record { read = has_frames form; good = count_by is_ok (readings_for form blocks); bad = count_by is_err (readings_for form blocks) }
+frames_are : (form : Form) (blocks : List (List ℕ)) → length blocks ≤ 1000000
+    → run_state frames_next (record { read = has_frames form; good = 0; bad = 0 }) blocks
+    ≡ record {
+      read = has_frames form;
+      good = count_by is_ok (readings_for form blocks);
+      bad = count_by is_err (readings_for form blocks);
+    }
 frames_are Raw blocks few = frames_read blocks few
 frames_are Sector blocks few = frames_read blocks few
 frames_are Cooked blocks few = frames_not_read 0 0 blocks
 
-frames_counted : (form : Form) (lead_in : ℕ) (s : Counting) (blocks : List (List ℕ)) → IsFresh form lead_in s → length blocks ≤ 1000000
-    → (run_state counting_next s blocks).frames ≡ record { read = has_frames form; good = count_by is_ok (readings_for form blocks); bad = count_by is_err (readings_for form blocks) }
-frames_counted form lead_in s blocks fresh few = counting_frames s blocks ∙ ap (λ (f : FrameCounts). run_state frames_next f blocks) fresh.frames ∙ frames_are form blocks few
+frames_counted : (form : Form) (lead_in : ℕ) (s : Counting) (blocks : List (List ℕ)) → IsFresh form lead_in s
+    → length blocks ≤ 1000000
+    → (run_state counting_next s blocks).frames
+    ≡ record {
+      read = has_frames form;
+      good = count_by is_ok (readings_for form blocks);
+      bad = count_by is_err (readings_for form blocks);
+    }
+frames_counted form lead_in s blocks fresh few =
+    counting_frames s blocks
+    ∙ ap (λ (f : FrameCounts). run_state frames_next f blocks) fresh.frames
+    ∙ frames_are form blocks few
 
 -- ---- the lines
 
-same_four : (f : ℕ → ℕ → ℕ → ℕ → List ℕ) (a b c d a' b' c' d' : ℕ) → a ≡ a' → b ≡ b' → c ≡ c' → d ≡ d' → f a b c d ≡ f a' b' c' d'
+same_four : (f : ℕ → ℕ → ℕ → ℕ → List ℕ) (a b c d a' b' c' d' : ℕ) → a ≡ a' → b ≡ b' → c ≡ c' → d ≡ d'
+    → f a b c d ≡ f a' b' c' d'
 same_four f a b c d a' b' c' d' p q r s = rw (p, q, r, s) refl
 
-lines_are : (form : Form) (lead_in n : ℕ) (end : Counting) (words : List (List ℕ)) (readings : List (Result QFrame QFault)) → AreCounted words end.words.second
-    → end.frames.good ≡ count_by is_ok readings → end.frames.bad ≡ count_by is_err readings → length words ≡ word_count form (n - lead_in)
-    → lines_of_counts form lead_in n end ≡ check_text (min lead_in n) (n - lead_in) words (map finding words) readings
+lines_are : (form : Form) (lead_in n : ℕ) (end : Counting) (words : List (List ℕ))
+    (readings : List (Result QFrame QFault)) → AreCounted words end.words.second
+    → end.frames.good ≡ count_by is_ok readings → end.frames.bad ≡ count_by is_err readings
+    → length words ≡ word_count form (n - lead_in)
+    → lines_of_counts form lead_in n end
+    ≡ check_text (min lead_in n) (n - lead_in) words (map finding words) readings
 unfolding lines_of_counts check_text
 lines_are form lead_in n end words readings c good bad size =
-    let join : (xs ys xs' ys' : List ℕ) → xs ≡ xs' → ys ≡ ys' → xs ++ ys ≡ xs' ++ ys' = λ xs ys xs' ys' p q. ap₂ (λ (x y : List ℕ). x ++ y) p q in
+    let join : (xs ys xs' ys' : List ℕ) → xs ≡ xs' → ys ≡ ys' → xs ++ ys ≡ xs' ++ ys' =
+    λ xs ys xs' ys' p q. ap₂ (λ (x y : List ℕ). x ++ y) p q in
     join _ _ _ _ (ap (stream_lines (min lead_in n) (n - lead_in)) (sym size))
     (join _ _ _ _ (same_four wrong_lines _ _ _ _ _ _ _ _ c.clean c.one c.two c.bad)
-    (join _ _ _ _ (same_four pack_count_lines _ _ _ _ _ _ _ _ c.idle c.graphics c.unknown c.foreign) (ap₂ frame_count_lines good bad)))
+    (join _ _ _ _ (same_four pack_count_lines _ _ _ _ _ _ _ _ c.idle c.graphics c.unknown c.foreign)
+    (ap₂ frame_count_lines good bad)))
 
 -- ---- the same by the bytes
 
@@ -96,54 +120,91 @@ sized_blocks : (blocks : List (List ℕ)) → Sized 96 blocks → q_runs.Sized b
 sized_blocks [] sized = tt
 sized_blocks (b ∷ blocks) sized = (sized.0, sized_blocks blocks sized.1)
 
-are_readings : (form : Form) (bytes : List ℕ) (blocks : List (List ℕ)) → blocks_of form bytes ≡ blocks → Sized 96 blocks → AreQReadings (q_blocks form bytes) (readings_for form blocks)
-are_readings Raw bytes blocks e sized = subst (λ (bs : List (List ℕ)). AreQReadings bs (map reading_at blocks)) (sym e) (readings_are blocks (sized_blocks blocks sized))
-are_readings Sector bytes blocks e sized = subst (λ (bs : List (List ℕ)). AreQReadings bs (map reading_at blocks)) (sym e) (readings_are blocks (sized_blocks blocks sized))
+are_readings : (form : Form) (bytes : List ℕ) (blocks : List (List ℕ)) → blocks_of form bytes ≡ blocks
+    → Sized 96 blocks
+    → AreQReadings (q_blocks form bytes) (readings_for form blocks)
+are_readings Raw bytes blocks e sized =
+    subst (λ (bs : List (List ℕ)). AreQReadings bs (map reading_at blocks)) (sym e)
+    (readings_are blocks (sized_blocks blocks sized))
+are_readings Sector bytes blocks e sized =
+    subst (λ (bs : List (List ℕ)). AreQReadings bs (map reading_at blocks)) (sym e)
+    (readings_are blocks (sized_blocks blocks sized))
 are_readings Cooked bytes blocks e sized = refl
 
 -- the words of blocks by their symbols
-words_of_bytes : (form : Form) (blocks : List (List ℕ)) → Sized 96 blocks → words_from form (flat_map slots_of blocks) ≡ map (form_word form (flat_map symbols_of blocks)) (below (word_count form (length blocks)))
+words_of_bytes : (form : Form) (blocks : List (List ℕ)) → Sized 96 blocks
+    → words_from form (flat_map slots_of blocks)
+    ≡ map (form_word form (flat_map symbols_of blocks)) (below (word_count form (length blocks)))
 words_of_bytes form blocks sized =
-    words_are form (flat_map slots_of blocks) (length blocks) (all_slots_sized blocks sized) (length-all_slots blocks)
-    ∙ ap (λ (symbols : List ℕ). map (form_word form symbols) (below (word_count form (length blocks)))) (all_slots_together blocks sized)
+    words_are form (flat_map slots_of blocks) (length blocks) (all_slots_sized blocks sized)
+    (length-all_slots blocks)
+    ∙ ap (λ (symbols : List ℕ). map (form_word form symbols) (below (word_count form (length blocks))))
+    (all_slots_together blocks sized)
 
-checked_blocks : (form : Form) (lead_in : ℕ) (s : Counting) (bytes : List ℕ) (n : ℕ) (end : Counting) → IsFresh form lead_in s → n ≤ most_units → IsWhole (unit_size form) n bytes
-    → end ≡ run_state counting_next s (map (block_of form) (units_of (unit_size form) n bytes)) → IsCheckListed form lead_in bytes (lines_of_counts form lead_in n end) end.words.second.bad
+checked_blocks : (form : Form) (lead_in : ℕ) (s : Counting) (bytes : List ℕ) (n : ℕ) (end : Counting)
+    → IsFresh form lead_in s → n ≤ most_units → IsWhole (unit_size form) n bytes
+    → end ≡ run_state counting_next s (map (block_of form) (units_of (unit_size form) n bytes))
+    → IsCheckListed form lead_in bytes (lines_of_counts form lead_in n end) end.words.second.bad
 checked_blocks form lead_in s bytes n end fresh few whole_units e =
     let size : ℕ = unit_size form in
     let units : List (List ℕ) = units_of size n bytes in
     let blocks : List (List ℕ) = map (block_of form) units in
     let many : length blocks ≡ n = length-map units (block_of form) ∙ length-units_of size n bytes in
     let few_blocks : length blocks ≤ 1000000 = omega (arith, few, many) in
-    let all_units : units_of size (length bytes / size) bytes ≡ units = ap (λ k. units_of size k bytes) (units_in form n bytes whole_units) in
-    let all_blocks : blocks_of form bytes ≡ blocks = ap (λ (us : List (List ℕ)). map (block_of form) us) all_units in
+    let all_units : units_of size (length bytes / size) bytes ≡ units =
+    ap (λ k. units_of size k bytes) (units_in form n bytes whole_units) in
+    let all_blocks : blocks_of form bytes ≡ blocks =
+    ap (λ (us : List (List ℕ)). map (block_of form) us) all_units in
     let sized : Sized 96 blocks = blocks_sized form units (units_sized size n bytes whole_units.fits) in
     let words : List (List ℕ) = words_from form (flat_map slots_of (drop lead_in blocks)) in
-    let counted : AreCounted words end.words.second = subst (λ (c : Counting). AreCounted words c.words.second) (sym e) (words_counted form lead_in s blocks fresh few_blocks) in
+    let counted : AreCounted words end.words.second =
+    subst (λ (c : Counting). AreCounted words c.words.second) (sym e)
+    (words_counted form lead_in s blocks fresh few_blocks) in
     let frames = ap (λ (c : Counting). c.frames) e ∙ frames_counted form lead_in s blocks fresh few_blocks in
-    let program_many : length (drop lead_in blocks) ≡ n - lead_in = length-drop lead_in blocks ∙ ap (λ k. k - lead_in) many in
-    let words_is : words ≡ map (form_word form (flat_map symbols_of (drop lead_in blocks))) (below (word_count form (length (drop lead_in blocks)))) = words_of_bytes form (drop lead_in blocks) (sized_drop 96 lead_in blocks sized) in
-    let words_many : length words ≡ word_count form (n - lead_in) = ap length words_is ∙ length-map-range_with_len (form_word form (flat_map symbols_of (drop lead_in blocks))) 0 _ ∙ ap (word_count form) program_many in
-    let told : words ≡ map (form_word form (program_symbols form bytes lead_in)) (below (word_count form (length (blocks_of form bytes) - lead_in))) =
-    words_is ∙ ap₂ (λ (symbols : List ℕ) k. map (form_word form symbols) (below (word_count form k))) (ap (λ (bs : List (List ℕ)). flat_map symbols_of (drop lead_in bs)) (sym all_blocks))
+    let program_many : length (drop lead_in blocks) ≡ n - lead_in =
+    length-drop lead_in blocks ∙ ap (λ k. k - lead_in) many in
+    let words_is : words
+    ≡ map (form_word form (flat_map symbols_of (drop lead_in blocks)))
+    (below (word_count form (length (drop lead_in blocks)))) =
+    words_of_bytes form (drop lead_in blocks) (sized_drop 96 lead_in blocks sized) in
+    let words_many : length words ≡ word_count form (n - lead_in) =
+    ap length words_is
+    ∙ length-map-range_with_len (form_word form (flat_map symbols_of (drop lead_in blocks))) 0 _
+    ∙ ap (word_count form) program_many in
+    let told : words
+    ≡ map (form_word form (program_symbols form bytes lead_in))
+    (below (word_count form (length (blocks_of form bytes) - lead_in))) =
+    words_is
+    ∙ ap₂ (λ (symbols : List ℕ) k. map (form_word form symbols) (below (word_count form k)))
+    (ap (λ (bs : List (List ℕ)). flat_map symbols_of (drop lead_in bs)) (sym all_blocks))
     (program_many ∙ ap (λ k. k - lead_in) (sym many ∙ ap length (sym all_blocks))) in
     let blocks_many : n ≡ length (blocks_of form bytes) = sym many ∙ ap length (sym all_blocks) in
     record {
       found = found_in form (program form lead_in units);
-      recovered = recovered_units form lead_in bytes units all_units (units_sized size n bytes whole_units.fits);
+      recovered =
+          recovered_units form lead_in bytes units all_units (units_sized size n bytes whole_units.fits);
       readings = readings_for form blocks;
       read = are_readings form bytes blocks all_blocks sized;
-      text_is = lines_are form lead_in n end words (readings_for form blocks) counted (ap (λ (f : FrameCounts). f.good) frames) (ap (λ (f : FrameCounts). f.bad) frames) words_many
-          ∙ ap₂ (λ k (ws : List (List ℕ)). check_text (min lead_in k) (k - lead_in) ws (map finding words) (readings_for form blocks)) blocks_many told;
+      text_is =
+          lines_are form lead_in n end words (readings_for form blocks) counted
+          (ap (λ (f : FrameCounts). f.good) frames) (ap (λ (f : FrameCounts). f.bad) frames) words_many
+          ∙ ap₂ (λ k (ws : List (List ℕ)).
+          check_text (min lead_in k) (k - lead_in) ws (map finding words) (readings_for form blocks))
+          blocks_many told;
       bad_is = counted.bad;
     }
 
 -- a call that writes at the end wrote nothing where the reading stopped
-module _ {S : Type 0} (writes : List ℕ → List ℕ → ℕ → Type 0) (form : Form) (lead_in : ℕ) (next : S → List ℕ → S) (left left' held held' : Option (List ℕ)) (s s' : S) (taken : List ℕ) where
+module _ {S : Type 0} (writes : List ℕ → List ℕ → ℕ → Type 0) (form : Form) (lead_in : ℕ)
+    (next : S → List ℕ → S) (left left' held held' : Option (List ℕ)) (s s' : S) (taken : List ℕ) where
   abbrev Stops : PlayStop → Type 0
-  Stops stop = WritesAtEnd (at_end writes form lead_in) (passing (from_to left left') (from_to held held')) (Err stop) taken
+  Stops stop =
+      WritesAtEnd (at_end writes form lead_in) (passing (from_to left left') (from_to held held')) (Err stop)
+      taken
 
-  stopped_early : (stop : PumpStop) → held' ≡ held → Watches form next (feeding (from_to left left') (from_to s s')) (Err stop) taken → Stops (play_stop stop)
+  stopped_early : (stop : PumpStop) → held' ≡ held
+      → Watches form next (feeding (from_to left left') (from_to s s')) (Err stop) taken
+      → Stops (play_stop stop)
   stopped_early pump_stop.ReadFault same w = record {
     taken_from = w.taken_from;
     within = w.within;
@@ -170,31 +231,50 @@ module _ {S : Type 0} (writes : List ℕ → List ℕ → ℕ → Type 0) (form 
     cut = λ e. (cc);
   }
 
-  pub at_end_stop : (stop : PumpStop) (answer : PlayStop) → held' ≡ held → Watches form next (feeding (from_to left left') (from_to s s')) (Err stop) taken → answer ≡ play_stop stop → Stops answer
+  pub at_end_stop : (stop : PumpStop) (answer : PlayStop) → held' ≡ held
+      → Watches form next (feeding (from_to left left') (from_to s s')) (Err stop) taken
+      → answer ≡ play_stop stop
+      → Stops answer
   at_end_stop stop answer same w e = subst Stops (sym e) (stopped_early stop same w)
 
 -- ---- the answers
 
-module _ (form : Form) (lead_in : ℕ) (left left' held held' : Option (List ℕ)) (s s' : Counting) (taken : List ℕ) where
+module _ (form : Form) (lead_in : ℕ) (left left' held held' : Option (List ℕ)) (s s' : Counting)
+    (taken : List ℕ) where
   abbrev Calls : Result Played PlayStop → Type 0
-  Calls result = WritesAtEnd (at_end (IsCheckListed form lead_in) form lead_in) (passing (from_to left left') (from_to held held')) result taken
+  Calls result =
+      WritesAtEnd (at_end (IsCheckListed form lead_in) form lead_in)
+      (passing (from_to left left') (from_to held held')) result taken
 
-  played_for : (pumped : Pumped) (played : Played) → IsFresh form lead_in s → Watches form counting_next (feeding (from_to left left') (from_to s s')) (Ok pumped) taken → played.blocks ≡ pumped.units - lead_in → played.bad ≡ s'.words.second.bad
-      → IsPlayed (IsCheckListed form lead_in) (blocks_played form lead_in) taken played (lines_of_counts form lead_in pumped.units s')
+  played_for : (pumped : Pumped) (played : Played) → IsFresh form lead_in s
+      → Watches form counting_next (feeding (from_to left left') (from_to s s')) (Ok pumped) taken
+      → played.blocks ≡ pumped.units - lead_in → played.bad ≡ s'.words.second.bad
+      → IsPlayed (IsCheckListed form lead_in) (blocks_played form lead_in) taken played
+      (lines_of_counts form lead_in pumped.units s')
   played_for pumped played fresh w blocks bad =
       let whole_units = whole_taken form pumped.units taken w.done.1 in
       record {
         blocks = blocks ∙ ap (λ n. n - lead_in) (sym (units_in form pumped.units taken whole_units));
-        written = subst (IsCheckListed form lead_in taken (lines_of_counts form lead_in pumped.units s')) (sym bad) (checked_blocks form lead_in s taken pumped.units s' fresh w.done.2 whole_units w.done.3);
+        written =
+            subst (IsCheckListed form lead_in taken (lines_of_counts form lead_in pumped.units s')) (sym bad)
+            (checked_blocks form lead_in s taken pumped.units s' fresh w.done.2 whole_units w.done.3);
       }
 
-  pub checks_done : (pumped : Pumped) (answer : Result Played PlayStop) → IsFresh form lead_in s → Watches form counting_next (feeding (from_to left left') (from_to s s')) (Ok pumped) taken
-      → IfOk answer (λ played. (played.blocks ≡ pumped.units - lead_in) × (played.bad ≡ s'.words.second.bad) × Appends held held' (lines_of_counts form lead_in pumped.units s'))
-      → IfErr answer (λ stop. (stop ≡ WriteFault) × AppendsPrefix held held' (lines_of_counts form lead_in pumped.units s')) → Calls answer
+  pub checks_done : (pumped : Pumped) (answer : Result Played PlayStop) → IsFresh form lead_in s
+      → Watches form counting_next (feeding (from_to left left') (from_to s s')) (Ok pumped) taken
+      → IfOk answer (λ played. (played.blocks ≡ pumped.units - lead_in)
+      × (played.bad ≡ s'.words.second.bad)
+      × Appends held held' (lines_of_counts form lead_in pumped.units s'))
+      → IfErr answer
+      (λ stop. (stop ≡ WriteFault) × AppendsPrefix held held' (lines_of_counts form lead_in pumped.units s'))
+      → Calls answer
   checks_done pumped (Ok played) fresh w ok part = record {
     taken_from = w.taken_from;
     within = w.within;
-    done = (w.done.0, (lines_of_counts form lead_in pumped.units s', played_for pumped played fresh w ok.0 ok.1, ok.2));
+    done = (
+      w.done.0,
+      (lines_of_counts form lead_in pumped.units s', played_for pumped played fresh w ok.0 ok.1, ok.2),
+    );
     stopped = λ stop e not. (cc);
     ended = λ stop e not. (cc);
     cut = λ e. (cc);
@@ -206,32 +286,54 @@ module _ (form : Form) (lead_in : ℕ) (left left' held held' : Option (List ℕ
     stopped = λ other e not. let same : stop ≡ other = cc in absurd (not (sym same ∙ part.0));
     ended = λ other e not. w.done.0;
     cut = λ e.
-        let played : Played = record { blocks = pumped.units - lead_in; bad = s'.words.second.bad } in
-        (w.done.0, (lines_of_counts form lead_in pumped.units s', (played, played_for pumped played fresh w refl refl), part.1));
+        let played : Played = record { blocks = pumped.units - lead_in; bad = s'.words.second.bad } in (
+          w.done.0,
+          (
+            lines_of_counts form lead_in pumped.units s',
+            (played, played_for pumped played fresh w refl refl),
+            part.1,
+          ),
+        );
   }
 
-pub answered_done : (size : ℕ) (pumped : Pumped) (played : Played) (left : Option (List ℕ)) → IfSome left (λ all. IsUnlessFault (Ok pumped) (answer_of size most_units (length all)))
+pub answered_done : (size : ℕ) (pumped : Pumped) (played : Played) (left : Option (List ℕ))
+    → IfSome left (λ all. IsUnlessFault (Ok pumped) (answer_of size most_units (length all)))
     → IfSome left (λ all. IsAnsweredBy (Ok played) size (length all))
 answered_done size pumped played None e = tt
 answered_done size pumped played (Some all) e =
-    let (within, whole, units) = done_tests (nat_lt (most_units * size) (length all)) (length all % size == 0) (length all / size) pumped e in
+    let (within, whole, units) =
+    done_tests (nat_lt (most_units * size) (length all)) (length all % size == 0) (length all / size) pumped
+    e in
     (not_over (most_units * size) (length all) within, zero_rest (length all % size) whole)
 
-pub checked_done : (size : ℕ) (pumped : Pumped) (answer : Result Played PlayStop) (left : Option (List ℕ)) (X : PlayStop → Type 0) → IfErr answer (λ stop. (stop ≡ WriteFault) × X stop) → IfSome left (λ all. IsUnlessFault (Ok pumped) (answer_of size most_units (length all)))
+pub checked_done : (size : ℕ) (pumped : Pumped) (answer : Result Played PlayStop) (left : Option (List ℕ))
+    (X : PlayStop → Type 0) → IfErr answer (λ stop. (stop ≡ WriteFault) × X stop)
+    → IfSome left (λ all. IsUnlessFault (Ok pumped) (answer_of size most_units (length all)))
     → IfSome left (λ all. IsAnsweredBy answer size (length all))
 checked_done size pumped answer None X part e = tt
 checked_done size pumped (Ok played) (Some all) X part e = answered_done size pumped played (Some all) e
-checked_done size pumped (Err stop) (Some all) X part e = subst (λ (a : PlayStop). IsAnsweredBy (Err a) size (length all)) (sym part.0) tt
+checked_done size pumped (Err stop) (Some all) X part e =
+    subst (λ (a : PlayStop). IsAnsweredBy (Err a) size (length all)) (sym part.0) tt
 
-answered_stop : (size : ℕ) (stop : PumpStop) (all : List ℕ) → IsUnlessFault (Err stop) (answer_of size most_units (length all)) → IsAnsweredBy (Err (play_stop stop)) size (length all)
+answered_stop : (size : ℕ) (stop : PumpStop) (all : List ℕ)
+    → IsUnlessFault (Err stop) (answer_of size most_units (length all))
+    → IsAnsweredBy (Err (play_stop stop)) size (length all)
 answered_stop size pump_stop.ReadFault all e = tt
 answered_stop size pump_stop.WriteFault all e = tt
 answered_stop size (pump_stop.Torn unit) all e =
-    let (within, whole, units) = torn_tests (nat_lt (most_units * size) (length all)) (length all % size == 0) (length all / size) unit e in
+    let (within, whole, units) =
+    torn_tests (nat_lt (most_units * size) (length all)) (length all % size == 0) (length all / size) unit
+    e in
     (not_over (most_units * size) (length all) within, some_rest (length all % size) whole, units)
-answered_stop size pump_stop.TooLong all e = is_over (most_units * size) (length all) (long_tests (nat_lt (most_units * size) (length all)) (length all % size == 0) (length all / size) e)
+answered_stop size pump_stop.TooLong all e =
+    is_over (most_units * size) (length all)
+    (long_tests (nat_lt (most_units * size) (length all)) (length all % size == 0) (length all / size) e)
 
-pub checked_stop : (size : ℕ) (stop : PumpStop) (answer : PlayStop) (left : Option (List ℕ)) → answer ≡ play_stop stop → IfSome left (λ all. IsUnlessFault (Err stop) (answer_of size most_units (length all)))
+pub checked_stop : (size : ℕ) (stop : PumpStop) (answer : PlayStop) (left : Option (List ℕ))
+    → answer ≡ play_stop stop
+    → IfSome left (λ all. IsUnlessFault (Err stop) (answer_of size most_units (length all)))
     → IfSome left (λ all. IsAnsweredBy (Err answer) size (length all))
 checked_stop size stop answer None told e = tt
-checked_stop size stop answer (Some all) told e = subst (λ (a : PlayStop). IsAnsweredBy (Err a) size (length all)) (sym told) (answered_stop size stop all e)
+checked_stop size stop answer (Some all) told e =
+    subst (λ (a : PlayStop). IsAnsweredBy (Err a) size (length all)) (sym told)
+    (answered_stop size stop all e)

@@ -20,15 +20,19 @@ pump_error stop = Err stop
 abbrev play_error : PlayStop → Result Played PlayStop
 play_error stop = Err stop
 
-ends_in_turn : (stop : PumpStop) (before now : Count) → TellsEndOf (pump_error stop) before now → EndInTurn (play_error (play_stop stop)) before now
+ends_in_turn : (stop : PumpStop) (before now : Count) → TellsEndOf (pump_error stop) before now
+    → EndInTurn (play_error (play_stop stop)) before now
 ends_in_turn pump.ReadFault before now told = told
 ends_in_turn pump.WriteFault before now told = told
 ends_in_turn (pump.Torn unit) before now told = told
 ends_in_turn pump.TooLong before now told = told
 
 -- where a call stopped that writes while it reads
-pub ends_stopped : (stop : PumpStop) (answer : PlayStop) (before now : Count) → answer ≡ play_stop stop → TellsEndOf (pump_error stop) before now → EndInTurn (play_error answer) before now
-ends_stopped stop answer before now is told = subst (λ (s : PlayStop). EndInTurn (play_error s) before now) (sym is) (ends_in_turn stop before now told)
+pub ends_stopped : (stop : PumpStop) (answer : PlayStop) (before now : Count) → answer ≡ play_stop stop
+    → TellsEndOf (pump_error stop) before now
+    → EndInTurn (play_error answer) before now
+ends_stopped stop answer before now is told =
+    subst (λ (s : PlayStop). EndInTurn (play_error s) before now) (sym is) (ends_in_turn stop before now told)
 
 -- a pump asks for no moment
 pub stops_stream : (stop : PumpStop) → IsStreamStop (play_stop stop)
@@ -40,16 +44,21 @@ stops_stream pump.TooLong = tt
 pub stops_played : (stop : PumpStop) (answer : PlayStop) → answer ≡ play_stop stop → IsStreamStop answer
 stops_played stop answer is = subst IsStreamStop (sym is) (stops_stream stop)
 
-pub ends_first : (stop : PumpStop) (before now : Count) → pump_error stop ≢ pump_error pump.WriteFault → TellsEndOf (pump_error stop) before now → EndFirst (play_error (play_stop stop)) before now
+pub ends_first : (stop : PumpStop) (before now : Count) → pump_error stop ≢ pump_error pump.WriteFault
+    → TellsEndOf (pump_error stop) before now
+    → EndFirst (play_error (play_stop stop)) before now
 ends_first pump.ReadFault before now other told = told
 ends_first pump.WriteFault before now other told = absurd (other refl)
 ends_first (pump.Torn unit) before now other told = told
 ends_first pump.TooLong before now other told = told
 
 -- where a call stopped before it read all
-pub ends_unread : (stop : PumpStop) (answer : PlayStop) (before now : Count) → answer ≡ play_stop stop → pump_error stop ≢ pump_error pump.WriteFault → TellsEndOf (pump_error stop) before now
+pub ends_unread : (stop : PumpStop) (answer : PlayStop) (before now : Count) → answer ≡ play_stop stop
+    → pump_error stop ≢ pump_error pump.WriteFault → TellsEndOf (pump_error stop) before now
     → EndFirst (play_error answer) before now
-ends_unread stop answer before now is other told = subst (λ (s : PlayStop). EndFirst (play_error s) before now) (sym is) (ends_first stop before now other told)
+ends_unread stop answer before now is other told =
+    subst (λ (s : PlayStop). EndFirst (play_error s) before now) (sym is)
+    (ends_first stop before now other told)
 
 -- a call that lists texts may stop where a pump does
 stops_at_list : (stop : PumpStop) → IsListStop (play_stop stop)
@@ -80,7 +89,8 @@ pub viewed_stops : (blocks time bad : ℕ) → IfErr (viewed blocks time bad) Is
 viewed_stops blocks time bad = stops_view (nat_lt blocks time) blocks bad
 
 -- once all was read
-pub ends_texts : (s : LeadInTexts) (blocks : ℕ) (held held' : Option (List ℕ)) (result : Result Played PlayStop) (before now : Count)
+pub ends_texts : (s : LeadInTexts) (blocks : ℕ) (held held' : Option (List ℕ))
+    (result : Result Played PlayStop) (before now : Count)
     → WritesTexts s blocks held held' result → RoseOnce before now → EndFirst result before now
 ends_texts s blocks held held' (Ok played) before now writes told = told
 ends_texts s blocks held held' (Err (Text fault)) before now writes told = told
@@ -91,7 +101,8 @@ ends_texts s blocks held held' (Err TooLong) before now writes told = absurd wri
 ends_texts s blocks held held' (Err (PastEnd past)) before now writes told = absurd writes
 
 -- the writing of texts asks for no moment
-pub stops_list : (s : LeadInTexts) (blocks : ℕ) (held held' : Option (List ℕ)) (result : Result Played PlayStop)
+pub stops_list : (s : LeadInTexts) (blocks : ℕ) (held held' : Option (List ℕ))
+    (result : Result Played PlayStop)
     → WritesTexts s blocks held held' result → IfErr result IsListStop
 stops_list s blocks held held' (Ok played) writes = tt
 stops_list s blocks held held' (Err (Text fault)) writes = tt

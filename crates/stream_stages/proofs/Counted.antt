@@ -26,11 +26,13 @@ use Rattle.stream_stages.specs.declared.counting.Counting.{Counting}
 use Rattle.stream_stages.proofs.StageRuns.{all_items}
 
 -- a word that is near a codeword
-pub fixed_counted : (s : WordCounts) (word codeword : List ℕ) (wrong mode code : ℕ) → wrong ≡ differences word codeword → mode ≡ get_or codeword 0 0 → code ≡ get_or codeword 1 0
+pub fixed_counted : (s : WordCounts) (word codeword : List ℕ) (wrong mode code : ℕ)
+    → wrong ≡ differences word codeword → mode ≡ get_or codeword 0 0 → code ≡ get_or codeword 1 0
     → kind_counted (wrong_counted s wrong) mode code ≡ count_found s word (Some codeword)
 unfolding count_found tick
 fixed_counted s word codeword wrong mode code w m c =
-    ap (λ n. kind_counted (wrong_counted s n) mode code) w ∙ ap (λ n. kind_counted (wrong_counted s (differences word codeword)) n code) m
+    ap (λ n. kind_counted (wrong_counted s n) mode code) w
+    ∙ ap (λ n. kind_counted (wrong_counted s (differences word codeword)) n code) m
     ∙ ap (λ n. kind_counted (wrong_counted s (differences word codeword)) (get_or codeword 0 0) n) c
 
 -- an idle word
@@ -41,38 +43,56 @@ idle_counted s word zeros = sym (ap (λ (w : List ℕ). count_found s w (Some w)
 
 -- ---- four idle words
 
-idle_next : (s t : WordCounts) → IsCodeword (replicate 24 0) → t ≡ record s { clean = tick true s.clean; idle = tick true s.idle } → t ≡ count_next s (replicate 24 0)
-idle_next s t is step = step ∙ idle_counted s (replicate 24 0) refl ∙ ap (count_found s (replicate 24 0)) (found_itself (replicate 24 0) is)
+idle_next : (s t : WordCounts) → IsCodeword (replicate 24 0)
+    → t ≡ record s { clean = tick true s.clean; idle = tick true s.idle }
+    → t ≡ count_next s (replicate 24 0)
+idle_next s t is step =
+    step
+    ∙ idle_counted s (replicate 24 0) refl
+    ∙ ap (count_found s (replicate 24 0)) (found_itself (replicate 24 0) is)
 
-pub four_idle : (s a b c d : WordCounts) → IsCodeword (replicate 24 0) → a ≡ record s { clean = tick true s.clean; idle = tick true s.idle }
-    → b ≡ record a { clean = tick true a.clean; idle = tick true a.idle } → c ≡ record b { clean = tick true b.clean; idle = tick true b.idle }
-    → d ≡ record c { clean = tick true c.clean; idle = tick true c.idle } → d ≡ count_after s (replicate 4 (replicate 24 0))
+pub four_idle : (s a b c d : WordCounts) → IsCodeword (replicate 24 0)
+    → a ≡ record s { clean = tick true s.clean; idle = tick true s.idle }
+    → b ≡ record a { clean = tick true a.clean; idle = tick true a.idle }
+    → c ≡ record b { clean = tick true b.clean; idle = tick true b.idle }
+    → d ≡ record c { clean = tick true c.clean; idle = tick true c.idle }
+    → d ≡ count_after s (replicate 4 (replicate 24 0))
 unfolding count_after
 four_idle s a b c d is first second third fourth =
     let next : WordCounts → WordCounts = λ (t : WordCounts). count_next t (replicate 24 0) in
-    idle_next c d is fourth ∙ ap next (idle_next b c is third ∙ ap next (idle_next a b is second ∙ ap next (idle_next s a is first)))
+    idle_next c d is fourth
+    ∙ ap next (idle_next b c is third ∙ ap next (idle_next a b is second ∙ ap next (idle_next s a is first)))
 
 -- ---- a loop over words
 
-count_append : (s : WordCounts) (words others : List (List ℕ)) → count_after s (words ++ others) ≡ count_after (count_after s words) others
+count_append : (s : WordCounts) (words others : List (List ℕ))
+    → count_after s (words ++ others) ≡ count_after (count_after s words) others
 unfolding count_after
 count_append s [] others = refl
 count_append s (w ∷ words) others = count_append (count_next s w) words others
 
-count_more : (s : WordCounts) (words : List (List ℕ)) (word : List ℕ) → count_after s (words ++ word ∷ []) ≡ count_next (count_after s words) word
+count_more : (s : WordCounts) (words : List (List ℕ)) (word : List ℕ)
+    → count_after s (words ++ word ∷ []) ≡ count_next (count_after s words) word
 unfolding count_after
 count_more s [] word = refl
 count_more s (w ∷ words) word = count_more (count_next s w) words word
 
-pub count_step : (words : List (List ℕ)) (i : ℕ) (word : List ℕ) (start old new : WordCounts) → i < length words → word ≡ get_or words i word → old ≡ count_after start (take i words) → new ≡ count_next old word → new ≡ count_after start (take (i + 1) words)
+pub count_step : (words : List (List ℕ)) (i : ℕ) (word : List ℕ) (start old new : WordCounts)
+    → i < length words → word ≡ get_or words i word → old ≡ count_after start (take i words)
+    → new ≡ count_next old word
+    → new ≡ count_after start (take (i + 1) words)
 count_step words i word start old new lt is done step =
-    step ∙ ap (λ (s : WordCounts). count_next s word) done ∙ sym (count_more start (take i words) word) ∙ ap (count_after start) (sym (take_more words i word lt ∙ ap (λ w. take i words ++ w ∷ []) (sym is)))
+    step
+    ∙ ap (λ (s : WordCounts). count_next s word) done
+    ∙ sym (count_more start (take i words) word)
+    ∙ ap (count_after start) (sym (take_more words i word lt ∙ ap (λ w. take i words ++ w ∷ []) (sym is)))
 
 pub counted_none_yet : (start : WordCounts) → start ≡ count_after start []
 unfolding count_after
 counted_none_yet start = refl
 
-pub counts_run : (s : WordCounts) (vs : List (ArrayVec (List ℕ))) → run_state counts_next s vs ≡ count_after s (all_items vs)
+pub counts_run : (s : WordCounts) (vs : List (ArrayVec (List ℕ)))
+    → run_state counts_next s vs ≡ count_after s (all_items vs)
 unfolding counts_next count_after
 counts_run s [] = refl
 counts_run s (v ∷ vs) = counts_run (count_after s v.items) vs ∙ sym (count_append s v.items (all_items vs))
@@ -93,14 +113,18 @@ at_most_one : (hit : Bool) → (if hit then 1 else 0) ≤ 1
 at_most_one true = omega arith
 at_most_one false = omega arith
 
-tally_counts : {A B : Type 0} (test : B → Bool) (f : A → B) (n : ℕ) (xs : List A) → n + length xs < 2 ^ 32 → tally (λ x. test (f x)) n xs ≡ n + count_by test (map f xs)
+tally_counts : {A B : Type 0} (test : B → Bool) (f : A → B) (n : ℕ) (xs : List A) → n + length xs < 2 ^ 32
+    → tally (λ x. test (f x)) n xs ≡ n + count_by test (map f xs)
 unfolding tally
 tally_counts test f n [] fits = omega arith
 tally_counts {B = B} test f n (x ∷ xs) fits =
     let one : ℕ = if test (f x) then 1 else 0 in
     let step : tick (test (f x)) n ≡ n + one = ticked (test (f x)) n (omega (arith, fits)) in
-    let whole : count_by test (map f (x ∷ xs)) ≡ one + count_by test (map f xs) = sum_by-cons (λ (y : B). if test y then 1 else 0) (f x) (map f xs) in
-    ap (λ k. tally (λ y. test (f y)) k xs) step ∙ tally_counts test f (n + one) xs (omega (arith, fits, at_most_one (test (f x)))) ∙ omega (arith, whole)
+    let whole : count_by test (map f (x ∷ xs)) ≡ one + count_by test (map f xs) =
+    sum_by-cons (λ (y : B). if test y then 1 else 0) (f x) (map f xs) in
+    ap (λ k. tally (λ y. test (f y)) k xs) step
+    ∙ tally_counts test f (n + one) xs (omega (arith, fits, at_most_one (test (f x))))
+    ∙ omega (arith, whole)
 
 -- the counts of words, each by itself
 tallies : (s : WordCounts) (words : List (List ℕ)) → count_after s words ≡ record {
@@ -126,12 +150,14 @@ zip_found (w ∷ words) = ap (λ (l : List (List ℕ × Option (List ℕ))). (w,
 abbrev pub counted_words : Then BlockWords WordCounts → List ℕ → Then BlockWords WordCounts
 counted_words s block = then_next words_next words_give counts_next s block
 
-pub counting_words : (s : Counting) (blocks : List (List ℕ)) → (run_state counting_next s blocks).words ≡ run_state counted_words s.words blocks
+pub counting_words : (s : Counting) (blocks : List (List ℕ))
+    → (run_state counting_next s blocks).words ≡ run_state counted_words s.words blocks
 unfolding counting_next
 counting_words s [] = refl
 counting_words s (b ∷ blocks) = counting_words (counting_next s b) blocks
 
-pub counting_frames : (s : Counting) (blocks : List (List ℕ)) → (run_state counting_next s blocks).frames ≡ run_state frames_next s.frames blocks
+pub counting_frames : (s : Counting) (blocks : List (List ℕ))
+    → (run_state counting_next s blocks).frames ≡ run_state frames_next s.frames blocks
 unfolding counting_next
 counting_frames s [] = refl
 counting_frames s (b ∷ blocks) = counting_frames (counting_next s b) blocks
@@ -142,19 +168,27 @@ reading_at block = reading_of (q_bits block)
 abbrev counts_of_frames : Bool → ℕ → ℕ → FrameCounts
 counts_of_frames read good bad = record { read = read; good = good; bad = bad }
 
-frame_tallies : (good bad : ℕ) (blocks : List (List ℕ)) → run_state frames_next (counts_of_frames true good bad) blocks
-    ≡ counts_of_frames true (tally (λ b. is_ok (reading_at b)) good blocks) (tally (λ b. is_err (reading_at b)) bad blocks)
+frame_tallies : (good bad : ℕ) (blocks : List (List ℕ))
+    → run_state frames_next (counts_of_frames true good bad) blocks
+    ≡ counts_of_frames true (tally (λ b. is_ok (reading_at b)) good blocks)
+    (tally (λ b. is_err (reading_at b)) bad blocks)
 unfolding frames_next tally
 frame_tallies good bad [] = refl
-frame_tallies good bad (b ∷ blocks) = frame_tallies (tick (is_ok (reading_at b)) good) (tick (is_err (reading_at b)) bad) blocks
+frame_tallies good bad (b ∷ blocks) =
+    frame_tallies (tick (is_ok (reading_at b)) good) (tick (is_err (reading_at b)) bad) blocks
 
-pub frames_read : (blocks : List (List ℕ)) → length blocks ≤ 1000000 → run_state frames_next (counts_of_frames true 0 0) blocks ≡ counts_of_frames true (count_by is_ok (map reading_at blocks)) (count_by is_err (map reading_at blocks))
+pub frames_read : (blocks : List (List ℕ)) → length blocks ≤ 1000000
+    → run_state frames_next (counts_of_frames true 0 0) blocks
+    ≡ counts_of_frames true (count_by is_ok (map reading_at blocks)) (count_by is_err (map reading_at blocks))
 frames_read blocks few =
-    let good : tally (λ b. is_ok (reading_at b)) 0 blocks ≡ count_by is_ok (map reading_at blocks) = tally_counts is_ok reading_at 0 blocks (omega (arith, few)) ∙ omega arith in
-    let bad : tally (λ b. is_err (reading_at b)) 0 blocks ≡ count_by is_err (map reading_at blocks) = tally_counts is_err reading_at 0 blocks (omega (arith, few)) ∙ omega arith in
+    let good : tally (λ b. is_ok (reading_at b)) 0 blocks ≡ count_by is_ok (map reading_at blocks) =
+    tally_counts is_ok reading_at 0 blocks (omega (arith, few)) ∙ omega arith in
+    let bad : tally (λ b. is_err (reading_at b)) 0 blocks ≡ count_by is_err (map reading_at blocks) =
+    tally_counts is_err reading_at 0 blocks (omega (arith, few)) ∙ omega arith in
     frame_tallies 0 0 blocks ∙ ap₂ (counts_of_frames true) good bad
 
-pub frames_not_read : (good bad : ℕ) (blocks : List (List ℕ)) → run_state frames_next (counts_of_frames false good bad) blocks ≡ counts_of_frames false good bad
+pub frames_not_read : (good bad : ℕ) (blocks : List (List ℕ))
+    → run_state frames_next (counts_of_frames false good bad) blocks ≡ counts_of_frames false good bad
 unfolding frames_next
 frames_not_read good bad [] = refl
 frames_not_read good bad (b ∷ blocks) = frames_not_read good bad blocks
@@ -173,13 +207,19 @@ pub record AreCounted (words : List (List ℕ)) (end : WordCounts) : Type 0 wher
 abbrev pub no_counts : WordCounts
 no_counts = record { clean = 0; one = 0; two = 0; bad = 0; idle = 0; graphics = 0; unknown = 0; foreign = 0 }
 
-wrong_tallied : (n : ℕ) (words : List (List ℕ)) → 0 + length words < 2 ^ 32 → tally (λ w. has_wrong n (w, finding w)) 0 words ≡ count_by (has_wrong n) (zip words (map finding words))
-wrong_tallied n words few = tally_counts (has_wrong n) (λ w. (w, finding w)) 0 words few ∙ omega arith ∙ ap (count_by (has_wrong n)) (zip_found words)
+wrong_tallied : (n : ℕ) (words : List (List ℕ)) → 0 + length words < 2 ^ 32
+    → tally (λ w. has_wrong n (w, finding w)) 0 words ≡ count_by (has_wrong n) (zip words (map finding words))
+wrong_tallied n words few =
+    tally_counts (has_wrong n) (λ w. (w, finding w)) 0 words few
+    ∙ omega arith
+    ∙ ap (count_by (has_wrong n)) (zip_found words)
 
-found_counted : (test : Option (List ℕ) → Bool) (words : List (List ℕ)) → 0 + length words < 2 ^ 32 → tally (λ w. test (finding w)) 0 words ≡ count_by test (map finding words)
+found_counted : (test : Option (List ℕ) → Bool) (words : List (List ℕ)) → 0 + length words < 2 ^ 32
+    → tally (λ w. test (finding w)) 0 words ≡ count_by test (map finding words)
 found_counted test words few = tally_counts test finding 0 words few ∙ omega arith
 
-pub are_counted : (words : List (List ℕ)) → 0 + length words < 2 ^ 32 → AreCounted words (count_after no_counts words)
+pub are_counted : (words : List (List ℕ)) → 0 + length words < 2 ^ 32
+    → AreCounted words (count_after no_counts words)
 are_counted words few =
     let e = tallies no_counts words in
     record {

@@ -17,34 +17,44 @@ idles n = replicate n (Some idle_pack)
 idles_more : (n : ℕ) → idles n ++ Some idle_pack ∷ [] ≡ idles (n + 1)
 idles_more n = replicate-append-replicate n 1 (Some idle_pack)
 
-found_more : (words : List (List ℕ)) (word : List ℕ) → map finding (words ++ word ∷ []) ≡ map finding words ++ finding word ∷ []
+found_more : (words : List (List ℕ)) (word : List ℕ)
+    → map finding (words ++ word ∷ []) ≡ map finding words ++ finding word ∷ []
 found_more [] word = refl
 found_more (w ∷ words) word = ap (λ (l : List (Option (List ℕ))). finding w ∷ l) (found_more words word)
 
 -- one word more
-pub idle_more : (words : List (List ℕ)) (i : ℕ) (word : List ℕ) → i < length words → word ≡ get_or words i word → IsCodeword idle_pack → IsWord word → IsNear word idle_pack
+pub idle_more : (words : List (List ℕ)) (i : ℕ) (word : List ℕ) → i < length words
+    → word ≡ get_or words i word → IsCodeword idle_pack → IsWord word → IsNear word idle_pack
     → map finding (take i words) ≡ idles i → map finding (take (i + 1) words) ≡ idles (i + 1)
 idle_more words i word lt is codeword is_word near before =
     ap (map finding) (take_one_more words i word lt is) ∙ found_more (take i words) word
-    ∙ ap₂ (λ (l : List (Option (List ℕ))) (o : Option (List ℕ)). l ++ o ∷ []) before (sym (found_some word idle_pack is_word (record { is_codeword = codeword; is_near = near })))
+    ∙ ap₂ (λ (l : List (Option (List ℕ))) (o : Option (List ℕ)). l ++ o ∷ []) before
+    (sym (found_some word idle_pack is_word (record { is_codeword = codeword; is_near = near })))
     ∙ idles_more i
 
 zeros_of : (n : ℕ) → cdg_bytes (idles n) ≡ replicate (24 * n) 0
 zeros_of zero = refl
 zeros_of (suc n) =
     let more : 24 + 24 * n ≡ 24 * suc n = omega arith in
-    ap (λ (l : List ℕ). replicate 24 0 ++ l) (zeros_of n) ∙ replicate-append-replicate 24 (24 * n) 0 ∙ ap (λ m. replicate m 0) more
+    ap (λ (l : List ℕ). replicate 24 0 ++ l) (zeros_of n)
+    ∙ replicate-append-replicate 24 (24 * n) 0
+    ∙ ap (λ m. replicate m 0) more
 
 -- the bytes of what is found are zeros
-pub text_near : (words : List (List ℕ)) (n : ℕ) → n ≡ length words → map finding words ≡ idles (length words) → replicate (24 * n) 0 ≡ cdg_bytes (map finding words)
-text_near words n count found = ap (λ k. replicate (24 * k) 0) count ∙ sym (zeros_of (length words)) ∙ ap cdg_bytes (sym found)
+pub text_near : (words : List (List ℕ)) (n : ℕ) → n ≡ length words → map finding words ≡ idles (length words)
+    → replicate (24 * n) 0 ≡ cdg_bytes (map finding words)
+text_near words n count found =
+    ap (λ k. replicate (24 * k) 0) count ∙ sym (zeros_of (length words)) ∙ ap cdg_bytes (sym found)
 
 -- and no word is bad
-pub bad_near : (bad : ℕ) (words : List (List ℕ)) → map finding words ≡ idles (length words) → bad ≡ bad_after bad words
+pub bad_near : (bad : ℕ) (words : List (List ℕ)) → map finding words ≡ idles (length words)
+    → bad ≡ bad_after bad words
 unfolding bad_after
 bad_near bad [] found = refl
 bad_near bad (word ∷ words) found =
-    let here : Some idle_pack ≡ finding word = sym (ap (λ (l : List (Option (List ℕ))). get_or l 0 None) found) in
-    let rest : map finding words ≡ idles (length words) = ap (λ (l : List (Option (List ℕ))). drop 1 l) found in
+    let here : Some idle_pack ≡ finding word =
+    sym (ap (λ (l : List (Option (List ℕ))). get_or l 0 None) found) in
+    let rest : map finding words ≡ idles (length words) =
+    ap (λ (l : List (Option (List ℕ))). drop 1 l) found in
     let same = bad_some bad word idle_pack here in
     same ∙ bad_near (bad_next bad word) words rest

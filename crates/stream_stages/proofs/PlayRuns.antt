@@ -38,31 +38,58 @@ give_few : {O : Type 0} (o : Option O) (rest : List O) → length (give o rest) 
 give_few None rest = omega arith
 give_few (Some x) rest = omega arith
 
-pub gives_few : {S I O : Type 0} (next : S → I → S) (gives : S → I → Option O) (s : S) (xs : List I) → length (run_gives next gives s xs) ≤ length xs
+pub gives_few : {S I O : Type 0} (next : S → I → S) (gives : S → I → Option O) (s : S) (xs : List I)
+    → length (run_gives next gives s xs) ≤ length xs
 gives_few next gives s [] = omega arith
-gives_few next gives s (x ∷ xs) = omega (arith, give_few (gives s x) (run_gives next gives (next s x) xs), gives_few next gives (next s x) xs)
+gives_few next gives s (x ∷ xs) = omega
+    (arith, give_few (gives s x) (run_gives next gives (next s x) xs), gives_few next gives (next s x) xs)
 
-pub block_words : (form : Form) (lead_in : ℕ) (b : BlockWords) (blocks : List (List ℕ)) → b ≡ fresh_words form lead_in → all_items (run_gives words_next words_give b blocks) ≡ words_from form (flat_map slots_of (drop lead_in blocks))
-block_words form lead_in b blocks start = ap (λ b. all_items (run_gives words_next words_give b blocks)) start ∙ words_run form lead_in [] blocks
+pub block_words : (form : Form) (lead_in : ℕ) (b : BlockWords) (blocks : List (List ℕ))
+    → b ≡ fresh_words form lead_in
+    → all_items (run_gives words_next words_give b blocks)
+    ≡ words_from form (flat_map slots_of (drop lead_in blocks))
+block_words form lead_in b blocks start =
+    ap (λ b. all_items (run_gives words_next words_give b blocks)) start ∙ words_run form lead_in [] blocks
 
-pub block_text : (form : Form) (lead_in : ℕ) (s : Blocks) (blocks : List (List ℕ)) → s.first ≡ fresh_words form lead_in → concat (run_gives blocks_next blocks_give s blocks) ≡ cdg_bytes (found_in form (drop lead_in blocks))
+pub block_text : (form : Form) (lead_in : ℕ) (s : Blocks) (blocks : List (List ℕ))
+    → s.first ≡ fresh_words form lead_in
+    → concat (run_gives blocks_next blocks_give s blocks) ≡ cdg_bytes (found_in form (drop lead_in blocks))
 block_text form lead_in s blocks start =
-    ap concat (then_next_gives words_next words_give correction_next correction_gives s blocks) ∙ correction_run s.second (run_gives words_next words_give s.first blocks)
+    ap concat (then_next_gives words_next words_give correction_next correction_gives s blocks)
+    ∙ correction_run s.second (run_gives words_next words_give s.first blocks)
     ∙ ap (λ ws. cdg_bytes (map finding ws)) (block_words form lead_in s.first blocks start)
 
-pub block_bad : (form : Form) (lead_in : ℕ) (s : Blocks) (blocks : List (List ℕ)) → s.first ≡ fresh_words form lead_in → s.second.bad ≡ 0 → length blocks ≤ 1000000 → (run_state blocks_next s blocks).second.bad ≡ bad_count (found_in form (drop lead_in blocks))
+pub block_bad : (form : Form) (lead_in : ℕ) (s : Blocks) (blocks : List (List ℕ))
+    → s.first ≡ fresh_words form lead_in → s.second.bad ≡ 0 → length blocks ≤ 1000000
+    → (run_state blocks_next s blocks).second.bad ≡ bad_count (found_in form (drop lead_in blocks))
 block_bad form lead_in s blocks start none few =
     let slots : List (List ℕ) = flat_map slots_of (drop lead_in blocks) in
-    let few_words : 0 + length (words_from form slots) < 2 ^ 32 = omega (arith, few, gives_few (window_next form) (window_gives form) [] slots, length-all_slots (drop lead_in blocks), length-drop lead_in blocks) in
-    let alone : 0 + bad_count (found_in form (drop lead_in blocks)) ≡ bad_count (found_in form (drop lead_in blocks)) = omega arith in
-    ap (λ (c : Correction). c.bad) (then_next_second words_next words_give correction_next s blocks) ∙ correction_counts s.second (run_gives words_next words_give s.first blocks)
-    ∙ ap₂ bad_after none (block_words form lead_in s.first blocks start) ∙ bad_counts 0 (words_from form slots) few_words ∙ alone
+    let few_words : 0 + length (words_from form slots) < 2 ^ 32 = omega (
+      arith,
+      few,
+      gives_few (window_next form) (window_gives form) [] slots,
+      length-all_slots (drop lead_in blocks),
+      length-drop lead_in blocks,
+    ) in
+    let alone : 0 + bad_count (found_in form (drop lead_in blocks))
+    ≡ bad_count (found_in form (drop lead_in blocks)) =
+    omega arith in
+    ap (λ (c : Correction). c.bad) (then_next_second words_next words_give correction_next s blocks)
+    ∙ correction_counts s.second (run_gives words_next words_give s.first blocks)
+    ∙ ap₂ bad_after none (block_words form lead_in s.first blocks start)
+    ∙ bad_counts 0 (words_from form slots) few_words
+    ∙ alone
 
 -- the packs of a stream in each form
-pub plays_stream : (form : Form) (lead_in : ℕ) (s : Blocks) → s.first ≡ fresh_words form lead_in → s.second.bad ≡ 0
-    → Plays (IsConverted form lead_in) form (machine_of (on_units form blocks_next) (on_units form blocks_give)) s (λ (t : Blocks). t.second.bad)
+pub plays_stream : (form : Form) (lead_in : ℕ) (s : Blocks) → s.first ≡ fresh_words form lead_in
+    → s.second.bad ≡ 0
+    → Plays (IsConverted form lead_in) form
+    (machine_of (on_units form blocks_next) (on_units form blocks_give)) s (λ (t : Blocks). t.second.bad)
 plays_stream form lead_in s start none =
-    converts_by form lead_in (machine_of (on_units form blocks_next) (on_units form blocks_give)) s (λ (t : Blocks). t.second.bad)
-    (λ units. ap concat (given_on_units form blocks_next blocks_give s units) ∙ block_text form lead_in s (map (block_of form) units) start)
+    converts_by form lead_in (machine_of (on_units form blocks_next) (on_units form blocks_give)) s
+    (λ (t : Blocks). t.second.bad)
+    (λ units. ap concat (given_on_units form blocks_next blocks_give s units)
+    ∙ block_text form lead_in s (map (block_of form) units) start)
     (λ units few. ap (λ (t : Blocks). t.second.bad) (run_on_units form blocks_next s units)
-    ∙ block_bad form lead_in s (map (block_of form) units) start none (omega (arith, few, length-map units (block_of form))))
+    ∙ block_bad form lead_in s (map (block_of form) units) start none
+    (omega (arith, few, length-map units (block_of form))))

@@ -19,10 +19,13 @@ abbrev error : PumpStop → Result Pumped PumpStop
 error stop = Err stop
 
 -- the state of the stage on blocks after the run over units
-pub record RunsOnBlocks {T S : Type 0} (form : Form) (whole_next : T → List ℕ → T) (next : S → List ℕ → S) (inner : T → S) : Type 0 where
-  pub state : (t : T) (units : List (List ℕ)) → inner (run_state whole_next t units) ≡ run_state next (inner t) (map (block_of form) units)
+pub record RunsOnBlocks {T S : Type 0} (form : Form) (whole_next : T → List ℕ → T) (next : S → List ℕ → S)
+    (inner : T → S) : Type 0 where
+  pub state : (t : T) (units : List (List ℕ))
+      → inner (run_state whole_next t units) ≡ run_state next (inner t) (map (block_of form) units)
 
-module _ {T S : Type 0} (form : Form) (size : ℕ) (machine : Machine T) (next : S → List ℕ → S) (inner : T → S) (moved : Moved T) (taken : List ℕ) where
+module _ {T S : Type 0} (form : Form) (size : ℕ) (machine : Machine T) (next : S → List ℕ → S) (inner : T → S)
+    (moved : Moved T) (taken : List ℕ) where
   -- what was fed to the stage on blocks
   abbrev fed_within : Fed S
   fed_within = feeding moved.left (from_to (inner moved.state.before) (inner moved.state.after))
@@ -30,10 +33,13 @@ module _ {T S : Type 0} (form : Form) (size : ℕ) (machine : Machine T) (next :
   abbrev Runs : Result Pumped PumpStop → Type 0
   Runs result = Pumps (record { size = size; limit = 1000000 }) machine moved result taken
 
-  pub watches_done : (pumped : Pumped) → unit_size form ≡ size → 1 < size → RunsOnBlocks form machine.next next inner → Runs (Ok pumped)
+  pub watches_done : (pumped : Pumped) → unit_size form ≡ size → 1 < size
+      → RunsOnBlocks form machine.next next inner → Runs (Ok pumped)
       → Watches form next fed_within (Ok pumped) taken
   watches_done pumped e some runs p =
-      let count : whole size 1000000 (length taken) ≡ pumped.units = ap (whole size 1000000) (p.done.1 ∙ omega arith) ∙ whole_within size 1000000 pumped.units 0 (omega (arith, some)) p.done.2 in
+      let count : whole size 1000000 (length taken) ≡ pumped.units =
+      ap (whole size 1000000) (p.done.1 ∙ omega arith)
+      ∙ whole_within size 1000000 pumped.units 0 (omega (arith, some)) p.done.2 in
       record {
         taken_from = p.taken_from;
         within = subst (λ n. length taken ≤ most_units * n + 1) (sym e) p.within;
@@ -41,7 +47,12 @@ module _ {T S : Type 0} (form : Form) (size : ℕ) (machine : Machine T) (next :
           p.done.0,
           p.done.1 ∙ ap (λ n. pumped.units * n) (sym e),
           p.done.2,
-          ap inner (p.state ∙ ap (λ n. run_state machine.next moved.state.before (units_of size n taken)) count) ∙ runs.state moved.state.before (units_of size pumped.units taken) ∙ ap (λ n. run_state next (inner moved.state.before) (map (block_of form) (units_of n pumped.units taken))) (sym e),
+          ap inner
+              (p.state ∙ ap (λ n. run_state machine.next moved.state.before (units_of size n taken)) count)
+              ∙ runs.state moved.state.before (units_of size pumped.units taken)
+              ∙ ap (λ n.
+              run_state next (inner moved.state.before) (map (block_of form) (units_of n pumped.units taken)))
+              (sym e),
         );
         torn = λ unit h. (cc);
         no_write = λ h. (cc);
@@ -57,20 +68,26 @@ module _ {T S : Type 0} (form : Form) (size : ℕ) (machine : Machine T) (next :
     no_write = λ h. let same : stop ≡ WriteFault = cc in no_fault same;
   }
 
-  pub watches : (result : Result Pumped PumpStop) → unit_size form ≡ size → 1 < size → ¬ IsErrOf result WriteFault → RunsOnBlocks form machine.next next inner → Runs result
+  pub watches : (result : Result Pumped PumpStop) → unit_size form ≡ size → 1 < size
+      → ¬ IsErrOf result WriteFault → RunsOnBlocks form machine.next next inner → Runs result
       → Watches form next fed_within result taken
   watches (Ok pumped) e some no_fault runs p = watches_done pumped e some runs p
   watches (Err stop) e some no_fault runs p = watches_stop stop e (λ same. no_fault (ap error same)) p
 
 -- a run over units is one over their blocks
-pub run_on_units : {S : Type 0} (form : Form) (next : S → List ℕ → S) (s : S) (units : List (List ℕ)) → run_state (on_units form next) s units ≡ run_state next s (map (block_of form) units)
+pub run_on_units : {S : Type 0} (form : Form) (next : S → List ℕ → S) (s : S) (units : List (List ℕ))
+    → run_state (on_units form next) s units ≡ run_state next s (map (block_of form) units)
 run_on_units form next s [] = refl
 run_on_units form next s (u ∷ units) = run_on_units form next (next s (block_of form u)) units
 
-pub given_on_units : {S : Type 0} (form : Form) (next : S → List ℕ → S) (gives : S → List ℕ → Option (List ℕ)) (s : S) (units : List (List ℕ))
-    → run_gives (on_units form next) (on_units form gives) s units ≡ run_gives next gives s (map (block_of form) units)
+pub given_on_units : {S : Type 0} (form : Form) (next : S → List ℕ → S) (gives : S → List ℕ → Option (List ℕ))
+    (s : S) (units : List (List ℕ))
+    → run_gives (on_units form next) (on_units form gives) s units
+    ≡ run_gives next gives s (map (block_of form) units)
 given_on_units form next gives s [] = refl
-given_on_units form next gives s (u ∷ units) = ap (give (gives s (block_of form u))) (given_on_units form next gives (next s (block_of form u)) units)
+given_on_units form next gives s (u ∷ units) =
+    ap (give (gives s (block_of form u))) (given_on_units form next gives (next s (block_of form u)) units)
 
-pub blocks_of_units : {S : Type 0} (form : Form) (next : S → List ℕ → S) → RunsOnBlocks form (on_units form next) next (λ (s : S). s)
+pub blocks_of_units : {S : Type 0} (form : Form) (next : S → List ℕ → S)
+    → RunsOnBlocks form (on_units form next) next (λ (s : S). s)
 blocks_of_units form next = record { state = λ s units. run_on_units form next s units }

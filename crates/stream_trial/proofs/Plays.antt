@@ -116,7 +116,8 @@ module _ (script : List Drawing) (symbols : List ℕ) (packs : List (List ℕ)) 
       record {
         is_codeword = is_codeword;
         is_near =
-            subst (λ d. d ≤ 2) (ap (λ (w : List ℕ). differences w (word_of (symbols_of bytes) k)) (pack_is k lt)
+            subst (λ d. d ≤ 2)
+            (ap (λ (w : List ℕ). differences w (word_of (symbols_of bytes) k)) (pack_is k lt)
             ∙ turned) near;
       }
 
@@ -296,7 +297,8 @@ goes_on shows script order ranges bytes b m old new before after last played wor
             next,
             equal
                 (subst (ShowsPicture script before.next) (sym taken.screen)
-                (shown_now script symbols packs bytes damaged shows order ranges before.next (4 * (b + 1)) new some
+                (shown_now script symbols packs bytes damaged shows order ranges before.next (4 * (b + 1)) new
+                some
                 (sym all ∙ due) taken)),
           )));
     }

@@ -149,9 +149,11 @@ played_out has damage stay script count seed bytes packs found authored plays =
     sym (program_is (trial_blocks count) others size) in
     record {
       one = played.one
-          ∙ ap₂ (λ b (l : List ℕ). differing 1 (whole_packs b) (program_symbols Raw bytes 0) l) blocks symbols;
+          ∙ ap₂ (λ b (l : List ℕ). differing 1 (whole_packs b) (program_symbols Raw bytes 0) l) blocks
+          symbols;
       two = played.two
-          ∙ ap₂ (λ b (l : List ℕ). differing 2 (whole_packs b) (program_symbols Raw bytes 0) l) blocks symbols;
+          ∙ ap₂ (λ b (l : List ℕ). differing 2 (whole_packs b) (program_symbols Raw bytes 0) l) blocks
+          symbols;
       bad = played.bad;
       equal = played.equal;
     }

@@ -24,7 +24,9 @@ widths-append (x ∷ xs) ys = omega (arith, widths-append xs ys)
 length-spelled : (fields : List (ℕ × ℕ)) → length (spelled fields) ≡ widths fields
 unfolding widths
 length-spelled [] = refl
-length-spelled (f ∷ fields) = length-append (bits_of f.0 f.1) (spelled fields) ∙ ap₂ (λ m n. m + n) (length-bits_of f.0 f.1) (length-spelled fields)
+length-spelled (f ∷ fields) =
+    length-append (bits_of f.0 f.1) (spelled fields)
+    ∙ ap₂ (λ m n. m + n) (length-bits_of f.0 f.1) (length-spelled fields)
 
 widths-four : (text : List ℕ) → widths (characters 4 text) ≡ 4 * length text
 unfolding widths
@@ -55,10 +57,25 @@ fields_width (Isrc control code frame) valid =
     let rest : List (ℕ × ℕ) = characters 4 (drop 5 code) ++ (4, 0) ∷ (8, bcd frame) ∷ [] in
     let first = widths-append (characters 6 (take 5 code)) ((2, 0) ∷ rest) in
     let second = widths-append (characters 4 (drop 5 code)) ((4, 0) ∷ (8, bcd frame) ∷ []) in
-    omega (arith, first, second, widths-six (take 5 code), widths-four (drop 5 code), length-take-le 5 code (omega (arith, valid.1)), length-drop 5 code, valid.1)
+    omega (
+      arith,
+      first,
+      second,
+      widths-six (take 5 code),
+      widths-four (drop 5 code),
+      length-take-le 5 code (omega (arith, valid.1)),
+      length-drop 5 code,
+      valid.1,
+    )
 fields_width (Other control mode rest) valid = omega (arith, widths-bytes rest, valid.2)
 
-pub frame_size : (frame : QFrame) → IsValid frame → length (spelled (fields_of frame) ++ check_bits (spelled (fields_of frame))) ≡ 96
+pub frame_size : (frame : QFrame) → IsValid frame
+    → length (spelled (fields_of frame) ++ check_bits (spelled (fields_of frame))) ≡ 96
 frame_size frame valid =
     length-append (spelled (fields_of frame)) (check_bits (spelled (fields_of frame)))
-    ∙ omega (arith, length-spelled (fields_of frame), fields_width frame valid, length-check_bits (spelled (fields_of frame)))
+    ∙ omega (
+      arith,
+      length-spelled (fields_of frame),
+      fields_width frame valid,
+      length-check_bits (spelled (fields_of frame)),
+    )

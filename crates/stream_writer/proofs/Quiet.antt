@@ -15,7 +15,11 @@ one_more (suc n) =
 
 length-next : (packs : List (List ℕ)) (pack : List ℕ) → length packs ≤ 7 → length (spread_next packs pack) ≤ 7
 unfolding spread_next
-length-next packs pack few = omega (arith, length-drop (length (packs ++ pack ∷ []) - 7) (packs ++ pack ∷ []), length-append packs (pack ∷ []))
+length-next packs pack few = omega (
+  arith,
+  length-drop (length (packs ++ pack ∷ []) - 7) (packs ++ pack ∷ []),
+  length-append packs (pack ∷ []),
+)
 
 -- none of the last packs is idle
 pub none_quiet : (packs : List (List ℕ)) → length packs ≤ 7 → AreQuiet packs 0
@@ -24,18 +28,26 @@ none_quiet packs few = record { few = few; before = packs; idle = sym (append-ni
 pub start_quiet : (packs : List (List ℕ)) → packs ≡ [] → AreQuiet packs 0
 start_quiet packs none = none_quiet packs (omega (arith, ap length none))
 
-pub loud : (packs : List (List ℕ)) (quiet : ℕ) (pack : List ℕ) → AreQuiet packs quiet → AreQuiet (spread_next packs pack) 0
+pub loud : (packs : List (List ℕ)) (quiet : ℕ) (pack : List ℕ) → AreQuiet packs quiet
+    → AreQuiet (spread_next packs pack) 0
 loud packs quiet pack are = none_quiet (spread_next packs pack) (length-next packs pack are.few)
 
 -- one idle pack more
-pub one_quiet : (packs : List (List ℕ)) (quiet : ℕ) → AreQuiet packs quiet → quiet < 7 → AreQuiet (spread_next packs idle_pack) (quiet + 1)
+pub one_quiet : (packs : List (List ℕ)) (quiet : ℕ) → AreQuiet packs quiet → quiet < 7
+    → AreQuiet (spread_next packs idle_pack) (quiet + 1)
 unfolding spread_next
 one_quiet packs quiet are lt =
     let all : packs ++ idle_pack ∷ [] ≡ are.before ++ replicate (quiet + 1) idle_pack =
-    ap (λ (xs : List (List ℕ)). xs ++ idle_pack ∷ []) are.idle ∙ append_assoc are.before (replicate quiet idle_pack) (idle_pack ∷ []) ∙ ap (λ (xs : List (List ℕ)). are.before ++ xs) (one_more quiet) in
-    let size : length packs ≡ length are.before + quiet = ap length are.idle ∙ length-append are.before (replicate quiet idle_pack) ∙ ap (λ n. length are.before + n) (length-replicate quiet idle_pack) in
+    ap (λ (xs : List (List ℕ)). xs ++ idle_pack ∷ []) are.idle
+    ∙ append_assoc are.before (replicate quiet idle_pack) (idle_pack ∷ [])
+    ∙ ap (λ (xs : List (List ℕ)). are.before ++ xs) (one_more quiet) in
+    let size : length packs ≡ length are.before + quiet =
+    ap length are.idle
+    ∙ length-append are.before (replicate quiet idle_pack)
+    ∙ ap (λ n. length are.before + n) (length-replicate quiet idle_pack) in
     let cut : ℕ = length (packs ++ idle_pack ∷ []) - 7 in
-    let within : cut ≤ length are.before = omega (arith, are.few, size, length-append packs (idle_pack ∷ [])) in
+    let within : cut ≤ length are.before =
+    omega (arith, are.few, size, length-append packs (idle_pack ∷ [])) in
     record {
       few = length-next packs idle_pack are.few;
       before = drop cut are.before;
@@ -43,12 +55,18 @@ one_quiet packs quiet are lt =
     }
 
 -- all of them
-all_quiet : (packs : List (List ℕ)) (quiet : ℕ) → AreQuiet packs quiet → 7 ≤ quiet → packs ≡ replicate 7 idle_pack
+all_quiet : (packs : List (List ℕ)) (quiet : ℕ) → AreQuiet packs quiet → 7 ≤ quiet
+    → packs ≡ replicate 7 idle_pack
 all_quiet packs quiet are most =
-    let size : length packs ≡ length are.before + quiet = ap length are.idle ∙ length-append are.before (replicate quiet idle_pack) ∙ ap (λ n. length are.before + n) (length-replicate quiet idle_pack) in
+    let size : length packs ≡ length are.before + quiet =
+    ap length are.idle
+    ∙ length-append are.before (replicate quiet idle_pack)
+    ∙ ap (λ n. length are.before + n) (length-replicate quiet idle_pack) in
     let seven : quiet ≡ 7 = omega (arith, size, are.few, most) in
     let none : are.before ≡ [] = nothing are.before (omega (arith, size, are.few, most)) in
-    are.idle ∙ ap (λ (xs : List (List ℕ)). xs ++ replicate quiet idle_pack) none ∙ ap (λ n. replicate n idle_pack) seven
+    are.idle
+    ∙ ap (λ (xs : List (List ℕ)). xs ++ replicate quiet idle_pack) none
+    ∙ ap (λ n. replicate n idle_pack) seven
   where
     nothing : (xs : List (List ℕ)) → length xs ≡ 0 → xs ≡ []
     nothing [] e = refl
@@ -63,7 +81,9 @@ unfolding spread_gives spread_over spread_symbol swapped
 idle_gives = refl
 
 -- after seven idle packs another one brings zeros and leaves them
-pub still_quiet : (Comes : ℕ → List ℕ → Type 0) (packs : List (List ℕ)) (quiet : ℕ) → AreQuiet packs quiet → 7 ≤ quiet → Comes 0 idle_pack → IsCodeword idle_pack → TakesPack Comes packs packs idle_pack idle_pack
+pub still_quiet : (Comes : ℕ → List ℕ → Type 0) (packs : List (List ℕ)) (quiet : ℕ) → AreQuiet packs quiet
+    → 7 ≤ quiet → Comes 0 idle_pack → IsCodeword idle_pack
+    → TakesPack Comes packs packs idle_pack idle_pack
 still_quiet Comes packs quiet are most comes codeword =
     let all = all_quiet packs quiet are most in
     record {

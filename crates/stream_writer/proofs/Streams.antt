@@ -20,16 +20,20 @@ use Rattle.stream_writer.proofs.Framed.{AreBuilt, framing, program_is}
 abbrev lead_in_bytes : DiscLayout → List (List ℕ) → ℕ → List ℕ
 lead_in_bytes layout texts lead_in = flat_map (lead_in_block layout texts lead_in) (below lead_in)
 
-pub stream_put : (layout : DiscLayout) (Comes : ℕ → List ℕ → Type 0) (texts : List (List ℕ)) (lead_in : ℕ) (a b c : Option (List ℕ))
+pub stream_put : (layout : DiscLayout) (Comes : ℕ → List ℕ → Type 0) (texts : List (List ℕ)) (lead_in : ℕ)
+    (a b c : Option (List ℕ))
     → Appends a b (flat_map (lead_in_block layout texts lead_in) (below lead_in))
-    → ((l : ℕ) → l < lead_in → IsBuilt (lead_in_block layout texts lead_in l) false (toc_frame layout lead_in l) (lead_in_symbols texts l))
+    → ((l : ℕ) → l < lead_in → IsBuilt (lead_in_block layout texts lead_in l) false
+    (toc_frame layout lead_in l) (lead_in_symbols texts l))
     → (packs : List (List ℕ)) × PutsProgram layout Comes layout.blocks (from_to b c) packs
     → (packs : List (List ℕ)) × PutsStream (framing_of layout texts lead_in) Comes (from_to a c) packs
 unfolding stream_bytes
 stream_put layout Comes texts lead_in a b c put contents (packs, puts) =
     let symbols : List ℕ = symbols_from [] packs in
-    let built : AreBuilt layout texts lead_in symbols = record { contents = contents; program = puts.built } in
-    let size : length symbols ≡ 96 * layout.blocks = length-symbols_from [] packs ∙ omega (arith, puts.given_are.count) in (
+    let built : AreBuilt layout texts lead_in symbols =
+    record { contents = contents; program = puts.built } in
+    let size : length symbols ≡ 96 * layout.blocks =
+    length-symbols_from [] packs ∙ omega (arith, puts.given_are.count) in (
       packs,
       record {
         given_are = puts.given_are;
@@ -39,9 +43,13 @@ stream_put layout Comes texts lead_in a b c put contents (packs, puts) =
       },
     )
 
-pub part_of_lead_in : (layout : DiscLayout) (Comes : ℕ → List ℕ → Type 0) (texts : List (List ℕ)) (lead_in : ℕ) (a b : Option (List ℕ))
+pub part_of_lead_in : (layout : DiscLayout) (Comes : ℕ → List ℕ → Type 0) (texts : List (List ℕ))
+    (lead_in : ℕ) (a b : Option (List ℕ))
     → AppendsPrefix a b (flat_map (lead_in_block layout texts lead_in) (below lead_in))
-    → (n : ℕ) × (packs : List (List ℕ)) × PutsStreamPart (framing_of layout texts lead_in) Comes (from_to a b) n packs × ComesAfterBlocks Comes n Comes
+    → (n : ℕ)
+    × (packs : List (List ℕ))
+    × PutsStreamPart (framing_of layout texts lead_in) Comes (from_to a b) n packs
+    × ComesAfterBlocks Comes n Comes
 unfolding stream_bytes
 part_of_lead_in layout Comes texts lead_in a b part = (
   0,
@@ -54,10 +62,17 @@ part_of_lead_in layout Comes texts lead_in a b part = (
   none_later Comes,
 )
 
-pub part_of_program : (layout : DiscLayout) (Comes Later : ℕ → List ℕ → Type 0) (texts : List (List ℕ)) (lead_in : ℕ) (a b c : Option (List ℕ))
+pub part_of_program : (layout : DiscLayout) (Comes Later : ℕ → List ℕ → Type 0) (texts : List (List ℕ))
+    (lead_in : ℕ) (a b c : Option (List ℕ))
     → Appends a b (flat_map (lead_in_block layout texts lead_in) (below lead_in))
-    → (n : ℕ) × (packs : List (List ℕ)) × PutsPart layout Comes (from_to b c) n packs × ComesAfterBlocks Comes n Later
-    → (n : ℕ) × (packs : List (List ℕ)) × PutsStreamPart (framing_of layout texts lead_in) Comes (from_to a c) n packs × ComesAfterBlocks Comes n Later
+    → (n : ℕ)
+    × (packs : List (List ℕ))
+    × PutsPart layout Comes (from_to b c) n packs
+    × ComesAfterBlocks Comes n Later
+    → (n : ℕ)
+    × (packs : List (List ℕ))
+    × PutsStreamPart (framing_of layout texts lead_in) Comes (from_to a c) n packs
+    × ComesAfterBlocks Comes n Later
 unfolding stream_bytes
 part_of_program layout Comes Later texts lead_in a b c put (n, packs, puts, later) =
     let first : List ℕ = lead_in_bytes layout texts lead_in in
@@ -67,7 +82,8 @@ part_of_program layout Comes Later texts lead_in a b c put (n, packs, puts, late
       record {
         within = puts.within;
         given_are = puts.given_are;
-        put = prefix_on a b c first second [] _ put puts.put (ap (λ xs. first ++ xs) (sym (append-nil second)));
+        put =
+            prefix_on a b c first second [] _ put puts.put (ap (λ xs. first ++ xs) (sym (append-nil second)));
       },
       later,
     )

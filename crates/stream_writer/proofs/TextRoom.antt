@@ -73,7 +73,8 @@ pub packs_filled : (strings : List (List ℕ)) (count bytes : ℕ) → count ≡
 unfolding Emptiness
 packs_filled strings count bytes counted is = elim (emptiness strings) [
   | inl e ↦
-      ap (λ (b : Bool). if b then 0 else (bytes + 11) / 12) (eq-eqb bytes count (omega (arith, e.1, is, counted)))
+      ap (λ (b : Bool). if b then 0 else (bytes + 11) / 12)
+      (eq-eqb bytes count (omega (arith, e.1, is, counted)))
       ∙ sym (ap (λ (b : Bool). if b then 0 else (length (joined strings) + 11) / 12) e.0)
   | inr m ↦
       ap (λ (b : Bool). if b then 0 else (bytes + 11) / 12)
@@ -138,13 +139,15 @@ record HasFour (texts : Texts) : Type 0 where
   message : are_empty texts.message ≡ true
 
 abbrev filled : Texts → ℕ
-filled texts = count_of texts Title + count_of texts Performer + count_of texts Songwriter + count_of texts Code
+filled texts =
+    count_of texts Title + count_of texts Performer + count_of texts Songwriter + count_of texts Code
 
 length-with_text : (texts : Texts) → HasFour texts → has_no_text texts ≡ false
     → length (contents texts) ≡ filled texts + 3
 length-with_text texts four some =
     let all : length (contents texts) ≡ length (flat_map (kind_contents texts) kinds ++ size_contents texts) =
-    ap (λ (b : Bool). length (if b then [] else flat_map (kind_contents texts) kinds ++ size_contents texts)) some in
+    ap (λ (b : Bool). length (if b then [] else flat_map (kind_contents texts) kinds ++ size_contents texts))
+    some in
     omega (
       arith,
       all,

@@ -14,14 +14,16 @@ abbrev pub IsPrompt : List Drawing → ℕ → Type 0
 IsPrompt script k = IsInTime script k (length (planned_change script k))
 
 prompt_or_not : (script : List Drawing) (k : ℕ) → IsPrompt script k ⊎ (¬ IsPrompt script k)
-prompt_or_not script k = elim (cases_lt (4 * ready_time script k) (start_of script k + length (planned_change script k) + 7)) [
-  | inl less ↦ inr (λ h. omega (arith, less, h))
-  | inr enough ↦ inl enough
-]
+prompt_or_not script k =
+    elim (cases_lt (4 * ready_time script k) (start_of script k + length (planned_change script k) + 7)) [
+      | inl less ↦ inr (λ h. omega (arith, less, h))
+      | inr enough ↦ inl enough
+    ]
 
 -- the first so many pictures are in time, or one of them is the first that is not
 pub first_late : (script : List Drawing) (n : ℕ)
-    → ((j : ℕ) → j < n → IsPrompt script j) ⊎ ((k : ℕ) × (k < n) × (¬ IsPrompt script k) × ((j : ℕ) → j < k → IsPrompt script j))
+    → ((j : ℕ) → j < n → IsPrompt script j)
+    ⊎ ((k : ℕ) × (k < n) × (¬ IsPrompt script k) × ((j : ℕ) → j < k → IsPrompt script j))
 first_late script zero = inl (λ j lt. absurd (omega (arith, lt)))
 first_late script (suc n) =
     elim (first_late script n) [
@@ -37,17 +39,27 @@ first_late script (suc n) =
 
 -- the planned change of a picture is a change for it, each need is its length, and a picture has one need
 pub record NeedsAreKnown : Type 0 where
-  pub change : (script : List Drawing) (k : ℕ) → AreColoursInRange script → ((k x y : ℕ) → picture_pixel script k x y < 16) → IsChange script k (planned_change script k)
-  pub planned : (script : List Drawing) (k need : ℕ) → AreColoursInRange script → ((k x y : ℕ) → picture_pixel script k x y < 16) → IsNeed script k need → need ≡ length (planned_change script k)
-  pub one : (script : List Drawing) (k need other : ℕ) → IsNeed script k need → IsNeed script k other → need ≡ other
+  pub change : (script : List Drawing) (k : ℕ) → AreColoursInRange script
+      → ((k x y : ℕ) → picture_pixel script k x y < 16)
+      → IsChange script k (planned_change script k)
+  pub planned : (script : List Drawing) (k need : ℕ) → AreColoursInRange script
+      → ((k x y : ℕ) → picture_pixel script k x y < 16) → IsNeed script k need
+      → need ≡ length (planned_change script k)
+  pub one : (script : List Drawing) (k need other : ℕ) → IsNeed script k need → IsNeed script k other
+      → need ≡ other
 
-module _ (needs : NeedsAreKnown) (script : List Drawing) (ranges : AreColoursInRange script) (small : (k x y : ℕ) → picture_pixel script k x y < 16) where
+module _ (needs : NeedsAreKnown) (script : List Drawing) (ranges : AreColoursInRange script)
+    (small : (k x y : ℕ) → picture_pixel script k x y < 16) where
   -- a picture that is in time with its planned change can be ready
   prompt_is_ready : (k : ℕ) → IsPrompt script k → CanBeReady script k
-  prompt_is_ready k prompt =
-      (length (planned_change script k), (planned_change script k, needs.change script k ranges small, refl), prompt)
+  prompt_is_ready k prompt = (
+    length (planned_change script k),
+    (planned_change script k, needs.change script k ranges small, refl),
+    prompt,
+  )
 
-  pub is_late : (k : ℕ) → k < pictures script → ¬ IsPrompt script k → ((j : ℕ) → j < k → IsPrompt script j) → IsLate script k (length (planned_change script k)) (free_packs script k)
+  pub is_late : (k : ℕ) → k < pictures script → ¬ IsPrompt script k → ((j : ℕ) → j < k → IsPrompt script j)
+      → IsLate script k (length (planned_change script k)) (free_packs script k)
   is_late k lt late before = record {
     picture = lt;
     need_is = (planned_change script k, needs.change script k ranges small, refl);
@@ -60,7 +72,9 @@ module _ (needs : NeedsAreKnown) (script : List Drawing) (ranges : AreColoursInR
   all_ready prompt k lt = prompt_is_ready k (prompt k lt)
 
 -- a picture that can be ready is not late
-pub ready_not_late : (script : List Drawing) (k need free : ℕ) → CanBeReady script k → IsLate script k need free → ⊥
+pub ready_not_late : (script : List Drawing) (k need free : ℕ) → CanBeReady script k
+    → IsLate script k need free
+    → ⊥
 ready_not_late script k need free (n, one, prompt) is =
     is.late (subst (IsInTime script k) (one_need script k n need one is.need_is) prompt)
 

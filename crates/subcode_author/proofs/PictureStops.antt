@@ -9,7 +9,8 @@ use Rattle.subcode_author.specs.AuthorAnswer.{HoldsPictures, HasRoom, IsPictureS
 use Rattle.subcode_author.specs.declared.stops.AuthorStop.{AuthorStop}
 use Rattle.subcode_author.specs.declared.stops.AuthorStop.TheVariants.{Late, NoMemory}
 
-pub picture_stop : (sheet : CueSheet) (script : List Drawing) (lead_in audio : ℕ) (stop : AuthorStop) → HoldsPictures sheet script audio → HasRoom sheet lead_in
+pub picture_stop : (sheet : CueSheet) (script : List Drawing) (lead_in audio : ℕ) (stop : AuthorStop)
+    → HoldsPictures sheet script audio → HasRoom sheet lead_in
     → IsPictureStop script stop → IsAuthorStop sheet script lead_in audio stop
 picture_stop sheet script lead_in audio (Late picture need free) disc room late = (disc, room, late)
 picture_stop sheet script lead_in audio NoMemory disc room none = (disc, room)
@@ -17,9 +18,16 @@ picture_stop sheet script lead_in audio stop disc room none = absurd none
 
 -- a late picture cannot be ready
 abbrev pub LateCannotBeReady : Type 0
-LateCannotBeReady = (script : List Drawing) (k need free : ℕ) → AreTimesInOrder script → AreColoursInRange script → ((k x y : ℕ) → picture_pixel script k x y < 16) → IsLate script k need free → CannotBeReady script k need free
+LateCannotBeReady = (script : List Drawing) (k need free : ℕ) → AreTimesInOrder script
+    → AreColoursInRange script → ((k x y : ℕ) → picture_pixel script k x y < 16) → IsLate script k need free
+    → CannotBeReady script k need free
 
-pub late_told : LateCannotBeReady → (sheet : CueSheet) (script : List Drawing) (lead_in audio : ℕ) (stop : AuthorStop) → AreTimesInOrder script → AreColoursInRange script → ((k x y : ℕ) → picture_pixel script k x y < 16)
-    → IsAuthorStop sheet script lead_in audio stop → (picture need free : ℕ) → stop ≡ Late picture need free → CannotBeReady script picture need free
+pub late_told : LateCannotBeReady
+    → (sheet : CueSheet) (script : List Drawing) (lead_in audio : ℕ) (stop : AuthorStop)
+    → AreTimesInOrder script
+    → AreColoursInRange script → ((k x y : ℕ) → picture_pixel script k x y < 16)
+    → IsAuthorStop sheet script lead_in audio stop → (picture need free : ℕ) → stop ≡ Late picture need free
+    → CannotBeReady script picture need free
 late_told law sheet script lead_in audio stop order ranges pixels is picture need free told =
-    law script picture need free order ranges pixels (subst (IsAuthorStop sheet script lead_in audio) told is).2
+    law script picture need free order ranges pixels
+    (subst (IsAuthorStop sheet script lead_in audio) told is).2

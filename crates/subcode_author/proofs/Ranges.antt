@@ -21,7 +21,8 @@ pub in_colours-append : (xs ys : List Drawing) → AllInColours xs → AllInColo
 in_colours-append [] ys all all' = all'
 in_colours-append (x ∷ xs) ys all all' = (all.0, in_colours-append xs ys all.1 all')
 
-in_colours-before : (script : List Drawing) (k : ℕ) → AllInColours script → AllInColours (lines_before script k)
+in_colours-before : (script : List Drawing) (k : ℕ) → AllInColours script
+    → AllInColours (lines_before script k)
 unfolding lines_before
 in_colours-before [] k all = tt
 in_colours-before (Show ready hold ∷ rest) zero all = tt
@@ -42,20 +43,35 @@ blank_small : IsSmall blank_picture
 blank_small = record { pixels = λ x y. omega arith; border = omega arith; colours = λ n. omega arith }
 
 line_small : (p : Picture) (line : Drawing) → IsSmall p → InColours line → IsSmall (drawn p line)
-line_small p (Colour number value) h all = record { pixels = h.pixels; border = h.border; colours = λ n. either_below 4096 (number == n) value (p.colour n) all (h.colours n) }
+line_small p (Colour number value) h all = record {
+  pixels = h.pixels;
+  border = h.border;
+  colours = λ n. either_below 4096 (number == n) value (p.colour n) all (h.colours n);
+}
 line_small p (Border colour) h all = record { pixels = h.pixels; border = all; colours = h.colours }
 line_small p (Fill colour) h all = record { pixels = λ x y. all; border = h.border; colours = h.colours }
-line_small p (Rect left top width height colour) h all = record { pixels = λ x y. either_below 16 _ colour (p.pixel x y) all (h.pixels x y); border = h.border; colours = h.colours }
-line_small p (Row left top colours) h all = record { pixels = λ x y. either_below 16 _ (get_or colours (x - left) 0) (p.pixel x y) (all (x - left)) (h.pixels x y); border = h.border; colours = h.colours }
+line_small p (Rect left top width height colour) h all = record {
+  pixels = λ x y. either_below 16 _ colour (p.pixel x y) all (h.pixels x y);
+  border = h.border;
+  colours = h.colours;
+}
+line_small p (Row left top colours) h all = record {
+  pixels =
+      λ x y. either_below 16 _ (get_or colours (x - left) 0) (p.pixel x y) (all (x - left)) (h.pixels x y);
+  border = h.border;
+  colours = h.colours;
+}
 line_small p (Show ready hold) h all = h
 
-lines_small : (lines : List Drawing) (p : Picture) → IsSmall p → AllInColours lines → IsSmall (fold drawn p lines)
+lines_small : (lines : List Drawing) (p : Picture) → IsSmall p → AllInColours lines
+    → IsSmall (fold drawn p lines)
 lines_small [] p h all = h
 lines_small (line ∷ lines) p h all = lines_small lines (drawn p line) (line_small p line h all.0) all.1
 
 module _ (script : List Drawing) (all : AllInColours script) where
   picture_small : (k : ℕ) → IsSmall (drawn_by (lines_before script k))
-  picture_small k = lines_small (lines_before script k) blank_picture blank_small (in_colours-before script k all)
+  picture_small k =
+      lines_small (lines_before script k) blank_picture blank_small (in_colours-before script k all)
 
   pub pixels_in_range : (k x y : ℕ) → picture_pixel script k x y < 16
   unfolding picture_pixel

@@ -13,15 +13,27 @@ use Rattle.subcode_author.specs.declared.stops.AuthorStop.{AuthorStop}
 use Rattle.subcode_author.specs.declared.stops.AuthorStop.TheVariants.{LengthShort, DiscTooLong, PastEnd, TextTooLong, LeadInShort, Late, WriteFault, NoMemory}
 use Rattle.subcode_author.proofs.Late.{NeedsAreKnown, all_ready, first_late, is_late}
 
-module _ (needs : NeedsAreKnown) (sheet : CueSheet) (script : List Drawing) (lead_in audio : ℕ) (ranges : AreColoursInRange script) (small : (k x y : ℕ) → picture_pixel script k x y < 16) where
+module _ (needs : NeedsAreKnown) (sheet : CueSheet) (script : List Drawing) (lead_in audio : ℕ)
+    (ranges : AreColoursInRange script) (small : (k x y : ℕ) → picture_pixel script k x y < 16) where
   -- accepted, or refused for a reason
   abbrev Answer : Type 0
-  Answer = IsAccepted sheet script lead_in audio ⊎ ((stop : AuthorStop) × (stop ≢ NoMemory) × (stop ≢ WriteFault) × IsAuthorStop sheet script lead_in audio stop)
+  Answer =
+      IsAccepted sheet script lead_in audio
+      ⊎ ((stop : AuthorStop)
+      × (stop ≢ NoMemory)
+      × (stop ≢ WriteFault)
+      × IsAuthorStop sheet script lead_in audio stop)
 
   of_pictures : HoldsPictures sheet script audio → HasRoom sheet lead_in → Answer
   of_pictures disc room = elim (first_late script (pictures script)) [
     | inl all ↦ inl (record { disc = disc; room = room; ready = all_ready needs script ranges small all })
-    | inr found ↦ inr (Late found.0 (length (planned_change script found.0)) (free_packs script found.0), λ e. cc, λ e. cc, (disc, room, is_late needs script ranges small found.0 found.1 found.2 found.3))
+    | inr found ↦
+        inr (
+          Late found.0 (length (planned_change script found.0)) (free_packs script found.0),
+          λ e. cc,
+          λ e. cc,
+          (disc, room, is_late needs script ranges small found.0 found.1 found.2 found.3),
+        )
   ]
 
   of_lead_in : HoldsPictures sheet script audio → Answer
@@ -30,7 +42,8 @@ module _ (needs : NeedsAreKnown) (sheet : CueSheet) (script : List Drawing) (lea
     | inl some ↦ elim (cases_lt 256 (length (text_packs sheet))) [
       | inl many ↦ inr (TextTooLong (length (text_packs sheet)), λ e. cc, λ e. cc, (disc, (some, many, refl)))
       | inr few ↦ elim (cases_lt lead_in (lead_in_need sheet)) [
-        | inl short ↦ inr (LeadInShort (lead_in_need sheet), λ e. cc, λ e. cc, (disc, (some, few, short, refl)))
+        | inl short ↦
+            inr (LeadInShort (lead_in_need sheet), λ e. cc, λ e. cc, (disc, (some, few, short, refl)))
         | inr enough ↦ of_pictures disc (λ there. (few, enough))
       ]
     ]

@@ -50,7 +50,9 @@ module _ (needs : NeedsAreKnown) (sheet : CueSheet) (script : List Drawing) (lea
   room_passes disc room (suc (suc (suc (suc (suc i))))) lt = absurd (omega (arith, lt))
 
   -- where a reason comes, the stages before it are good,
-  earlier : (stop : AuthorStop) → IsAuthorStop sheet script lead_in audio stop → stop ≢ NoMemory → (i : ℕ) → i < stage stop → Passes i
+  earlier : (stop : AuthorStop) → IsAuthorStop sheet script lead_in audio stop → stop ≢ NoMemory → (i : ℕ)
+      → i < stage stop
+      → Passes i
   earlier (LengthShort need) h told i lt = absurd (omega (arith, lt))
   earlier (DiscTooLong blocks) h told zero lt = h.0
   earlier (DiscTooLong blocks) h told (suc i) lt = absurd (omega (arith, lt))
@@ -70,25 +72,31 @@ module _ (needs : NeedsAreKnown) (sheet : CueSheet) (script : List Drawing) (lea
   earlier NoMemory h told i lt = absurd (told refl)
 
   -- and its own is not
-  fails : (stop : AuthorStop) → IsAuthorStop sheet script lead_in audio stop → stop ≢ NoMemory → ¬ Passes (stage stop)
+  fails : (stop : AuthorStop) → IsAuthorStop sheet script lead_in audio stop → stop ≢ NoMemory
+      → ¬ Passes (stage stop)
   fails (LengthShort need) h told = λ good. omega (arith, h.1, good)
   fails (DiscTooLong blocks) h told = λ good. omega (arith, h.1, h.2, good)
   fails (PastEnd blocks) h told = λ good. good (subst (IsPastEnd script) h.1 h.2)
   fails (TextTooLong packs) h told = λ good. omega (arith, h.1.1, h.1.2, good h.1.0)
   fails (LeadInShort need) h told = λ good. omega (arith, h.1.2, h.1.3, good h.1.0)
-  fails (Late picture need free) h told = λ good. ready_not_late script picture need free (good picture h.2.picture) h.2
+  fails (Late picture need free) h told =
+      λ good. ready_not_late script picture need free (good picture h.2.picture) h.2
   fails WriteFault h told = λ good. good
   fails NoMemory h told = absurd (told refl)
 
-  one_picture : (k need free k' need' free' : ℕ) → IsLate script k need free → IsLate script k' need' free' → Late k need free ≡ Late k' need' free'
+  one_picture : (k need free k' need' free' : ℕ) → IsLate script k need free → IsLate script k' need' free'
+      → Late k need free ≡ Late k' need' free'
   one_picture k need free k' need' free' is is' =
       let picture = one_is_late script k need free k' need' free' is is' in
-      let same : need ≡ need' = needs.one script k' need need' (subst (λ j. IsNeed script j need) picture is.need_is) is'.need_is in
+      let same : need ≡ need' =
+      needs.one script k' need need' (subst (λ j. IsNeed script j need) picture is.need_is) is'.need_is in
       let frees : free ≡ free' = is.free_is ∙ ap (free_packs script) picture ∙ sym is'.free_is in
       ap (λ j. Late j need free) picture ∙ ap (λ n. Late k' n free) same ∙ ap (λ n. Late k' need' n) frees
 
   -- at one stage comes one reason
-  same : (stop other : AuthorStop) → stage stop ≡ stage other → IsAuthorStop sheet script lead_in audio stop → IsAuthorStop sheet script lead_in audio other → stop ≡ other
+  same : (stop other : AuthorStop) → stage stop ≡ stage other → IsAuthorStop sheet script lead_in audio stop
+      → IsAuthorStop sheet script lead_in audio other
+      → stop ≡ other
   same (LengthShort need) (LengthShort n) e h h' = ap LengthShort (h.0 ∙ sym h'.0)
   same (LengthShort need) other e h h' = absurd (omega (arith, e))
   same (DiscTooLong blocks) (DiscTooLong n) e h h' = ap DiscTooLong (h.1 ∙ sym h'.1)
@@ -106,7 +114,9 @@ module _ (needs : NeedsAreKnown) (sheet : CueSheet) (script : List Drawing) (lea
   same NoMemory NoMemory e h h' = refl
   same NoMemory other e h h' = absurd (omega (arith, e))
 
-  pub one_reason : (stop other : AuthorStop) → IsAuthorStop sheet script lead_in audio stop → IsAuthorStop sheet script lead_in audio other → stop ≢ NoMemory → other ≢ NoMemory → stop ≡ other
+  pub one_reason : (stop other : AuthorStop) → IsAuthorStop sheet script lead_in audio stop
+      → IsAuthorStop sheet script lead_in audio other → stop ≢ NoMemory → other ≢ NoMemory
+      → stop ≡ other
   one_reason stop other h h' told told' = elim (cases_lt (stage stop) (stage other)) [
     | inl less ↦ absurd (fails stop h told (earlier other h' told' (stage stop) less))
     | inr from ↦ elim (cases_lt (stage other) (stage stop)) [
@@ -116,7 +126,9 @@ module _ (needs : NeedsAreKnown) (sheet : CueSheet) (script : List Drawing) (lea
   ]
 
   -- what is accepted is not refused
-  pub not_refused : (stop : AuthorStop) → IsAccepted sheet script lead_in audio → IsAuthorStop sheet script lead_in audio stop → (stop ≡ NoMemory) ⊎ (stop ≡ WriteFault)
+  pub not_refused : (stop : AuthorStop) → IsAccepted sheet script lead_in audio
+      → IsAuthorStop sheet script lead_in audio stop
+      → (stop ≡ NoMemory) ⊎ (stop ≡ WriteFault)
   not_refused NoMemory is h = inl refl
   not_refused WriteFault is h = inr refl
   not_refused stop is h = inr (one_reason stop WriteFault h is (λ e. cc) (λ e. cc))

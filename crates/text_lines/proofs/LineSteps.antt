@@ -11,27 +11,36 @@ use Rattle.text_lines.specs.Text.{lines_in}
 abbrev is_feed : ℕ → Bool
 is_feed b = b == 10
 
-lines_more : (x : List ℕ) (parts : List (List ℕ)) → 0 < length parts → lines_of_parts (x ∷ parts) ≡ strip_carriage_return x ∷ lines_of_parts parts
+lines_more : (x : List ℕ) (parts : List (List ℕ)) → 0 < length parts
+    → lines_of_parts (x ∷ parts) ≡ strip_carriage_return x ∷ lines_of_parts parts
 lines_more x (y ∷ ys) some = refl
 lines_more x [] some = absurd (omega arith)
 
 rest_of : (n : ℕ) (text : List ℕ) → take (length text - n) (drop n text) ≡ drop n text
 rest_of n text = grind (arith, common_steps)
 
-pub first_line : (text : List ℕ) (end : ℕ) (line : List ℕ) → end ≡ position_or_len is_feed text → end < length text → line ≡ strip_carriage_return (take end text)
+pub first_line : (text : List ℕ) (end : ℕ) (line : List ℕ) → end ≡ position_or_len is_feed text
+    → end < length text → line ≡ strip_carriage_return (take end text)
     → lines_in text ≡ line ∷ lines_in (take (length text - (end + 1)) (drop (end + 1) text))
 unfolding lines_in
 first_line text end line at lt is =
     let p : ℕ = position_or_len is_feed text in
     let split = slice_split_first is_feed text 0 (omega arith) in
-    let some : 0 < length (slice_split is_feed (after_first is_feed text)) = omega (arith, length-slice_split is_feed (after_first is_feed text)) in
-    let first : lines text ≡ strip_carriage_return (take (position_or_len is_feed text) text) ∷ lines (drop (position_or_len is_feed text + 1) text) = ap lines_of_parts split ∙ lines_more _ _ some in
+    let some : 0 < length (slice_split is_feed (after_first is_feed text)) =
+    omega (arith, length-slice_split is_feed (after_first is_feed text)) in
+    let first : lines text
+    ≡ strip_carriage_return (take (position_or_len is_feed text) text)
+    ∷ lines (drop (position_or_len is_feed text + 1) text) =
+    ap lines_of_parts split ∙ lines_more _ _ some in
     rw (rest_of, is, at) first
 
-pub last_line : (text : List ℕ) (end : ℕ) → end ≡ position_or_len is_feed text → end ≡ length text → 0 < length text → lines_in text ≡ text ∷ lines_in []
+pub last_line : (text : List ℕ) (end : ℕ) → end ≡ position_or_len is_feed text → end ≡ length text
+    → 0 < length text
+    → lines_in text ≡ text ∷ lines_in []
 unfolding lines_in
 last_line text end at all some =
-    let split : slice_split is_feed text ≡ text ∷ [] = slice_split_none is_feed text (λ k d lt. fails_before_first is_feed text k d (omega arith)) in
+    let split : slice_split is_feed text ≡ text ∷ [] =
+    slice_split_none is_feed text (λ k d lt. fails_before_first is_feed text k d (omega arith)) in
     ap lines_of_parts split ∙ grind (arith, common_steps)
 
 pub no_line : (text : List ℕ) → length text ≡ 0 → lines_in text ≡ []

@@ -10,7 +10,8 @@ use Rattle.std.proofs.lemmas.List.Folds.{list_all_more}
 value_of_digit : (c : ℕ) → 48 ≤ c → c ≤ 57 → digit_value c ≡ c - 48
 value_of_digit c low high = grind arith
 
-pub value_more : (word : List ℕ) (i value digit : ℕ) → i < length word → 48 ≤ get_or word i 0 → get_or word i 0 ≤ 57 → digit ≡ get_or word i 0 - 48
+pub value_more : (word : List ℕ) (i value digit : ℕ) → i < length word → 48 ≤ get_or word i 0
+    → get_or word i 0 ≤ 57 → digit ≡ get_or word i 0 - 48
     → value ≡ digits_value 10 (take i word) → 10 * value + digit ≡ digits_value 10 (take (i + 1) word)
 value_more word i value digit lt low high is at =
     let more = digits_value_more 10 word i lt in
@@ -22,7 +23,8 @@ bound_more i value digit lt le =
     let step : 10 ^ (i + 1) ≡ 10 ^ i * 10 = rw add-one (pow-suc 10 i) in
     omega (arith, step)
 
-pub digits_more : (word : List ℕ) (i : ℕ) → i < length word → is_ascii_digit (get_or word i 0) ≡ true → list_all is_ascii_digit (take i word) ≡ true
+pub digits_more : (word : List ℕ) (i : ℕ) → i < length word → is_ascii_digit (get_or word i 0) ≡ true
+    → list_all is_ascii_digit (take i word) ≡ true
     → list_all is_ascii_digit (take (i + 1) word) ≡ true
 digits_more word i lt one all = grind (arith, list_all_more is_ascii_digit word i 0 lt)
 

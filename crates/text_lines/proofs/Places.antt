@@ -10,7 +10,10 @@ place_or_len : (n size : ℕ) → n ≤ size → unwrap_or (cond (nat_lt n size)
 place_or_len n size le = grind arith
 
 pub place_from : (p : ℕ → Bool) (xs : List ℕ) (r : Option ℕ) (result : ℕ)
-    → r ≡ cond (nat_lt (position_or_len p xs) (length xs)) (Some (position_or_len p xs)) None → result ≡ unwrap_or r (length xs)
+    → r ≡ cond (nat_lt (position_or_len p xs) (length xs)) (Some (position_or_len p xs)) None
+    → result ≡ unwrap_or r (length xs)
     → result ≡ position_or_len p xs
 place_from p xs r result is gives =
-    gives ∙ (ap (λ (o : Option ℕ). unwrap_or o (length xs)) is ∙ place_or_len (position_or_len p xs) (length xs) (prefix_len-le-length (λ x. not (p x)) xs))
+    gives
+    ∙ (ap (λ (o : Option ℕ). unwrap_or o (length xs)) is
+    ∙ place_or_len (position_or_len p xs) (length xs) (prefix_len-le-length (λ x. not (p x)) xs))

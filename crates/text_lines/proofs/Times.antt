@@ -43,7 +43,8 @@ time_is t lt =
     let whole : 4500 * m + 75 * s + f ≡ t = omega arith in
     ap (λ o. time_of o (number_in 2 2 (digits 2 s)) (number_in 2 2 (digits 2 f))) (two_is m (omega arith))
     ∙ ap₂ (λ (o p : Option ℕ). time_of (Some m) o p) (two_is s (omega arith)) (two_is f (omega arith))
-    ∙ ap (λ b. cond b (Some (4500 * m + 75 * s + f)) None) (and_from (nat_le s 59) (nat_le f 74) (le-leb s 59 (omega arith)) (le-leb f 74 (omega arith)))
+    ∙ ap (λ b. cond b (Some (4500 * m + 75 * s + f)) None)
+    (and_from (nat_le s 59) (nat_le f 74) (le-leb s 59 (omega arith)) (le-leb f 74 (omega arith)))
     ∙ ap (λ n. Some n) whole
 
 guarded : (b : Bool) (o : Option ℕ) (n : ℕ) → cond b o None ≡ Some n → (b ≡ true) × (o ≡ Some n)
@@ -66,8 +67,11 @@ two_of a b n e =
     let tens = digit_is a first.0 in
     let ones = digit_is b second.0 in
     let value : digits_value 10 (a ∷ b ∷ []) ≡ n = some_is _ n is.1 in
-    let sum : n ≡ 10 * (a - 48) + (b - 48) = omega (arith, value, tens.2, ones.2) in
-    (omega (arith, tens.0, tens.1, ones.0, ones.1, sum), omega (arith, tens.0, tens.1, ones.0, ones.1, sum), omega (arith, tens.0, tens.1, ones.0, ones.1, sum))
+    let sum : n ≡ 10 * (a - 48) + (b - 48) = omega (arith, value, tens.2, ones.2) in (
+      omega (arith, tens.0, tens.1, ones.0, ones.1, sum),
+      omega (arith, tens.0, tens.1, ones.0, ones.1, sum),
+      omega (arith, tens.0, tens.1, ones.0, ones.1, sum),
+    )
 
 -- the parts of a time that is read
 record Parts (o p q : Option ℕ) (t : ℕ) : Type 0 where
@@ -101,17 +105,21 @@ parts_of (Some a) (Some b) (Some c) t e =
     }
 
 eight : (word : List ℕ) (t : ℕ) → length word ≡ 8 → slice_index word 2 ≡ 58 → slice_index word 5 ≡ 58
-    → time_of (number_in 2 2 (take 2 word)) (number_in 2 2 (take 2 (drop 3 word))) (number_in 2 2 (drop 6 word)) ≡ Some t
+    → time_of (number_in 2 2 (take 2 word)) (number_in 2 2 (take 2 (drop 3 word)))
+    (number_in 2 2 (drop 6 word))
+    ≡ Some t
     → (t < 450000) × (word ≡ time_text t)
 eight (a ∷ b ∷ c ∷ d ∷ e ∷ f ∷ g ∷ h ∷ []) t size two five is =
-    let parts = parts_of (number_in 2 2 (a ∷ b ∷ [])) (number_in 2 2 (d ∷ e ∷ [])) (number_in 2 2 (g ∷ h ∷ [])) t is in
+    let parts =
+    parts_of (number_in 2 2 (a ∷ b ∷ [])) (number_in 2 2 (d ∷ e ∷ [])) (number_in 2 2 (g ∷ h ∷ [])) t is in
     let x = two_of a b parts.min parts.min_is in
     let y = two_of d e parts.sec parts.sec_is in
     let z = two_of g h parts.frame parts.frame_is in
     let at : t ≡ 75 * (60 * parts.min + parts.sec) + parts.frame = omega (arith, parts.block) in (
       omega (arith, at, x.0, parts.sec_range, parts.frame_range),
       (λ i. a ∷ b ∷ two i ∷ d ∷ e ∷ five i ∷ g ∷ h ∷ [])
-          ∙ written a b d e g h parts.min parts.sec parts.frame t x.0 parts.sec_range parts.frame_range x.1 x.2 y.1 y.2 z.1 z.2 at,
+          ∙ written a b d e g h parts.min parts.sec parts.frame t x.0 parts.sec_range parts.frame_range x.1
+          x.2 y.1 y.2 z.1 z.2 at,
     )
 eight [] t size two five is = absurd (omega arith)
 eight (a ∷ []) t size two five is = absurd (omega arith)
@@ -128,12 +136,15 @@ pub time_written : (word : List ℕ) (t : ℕ) → parsed_time word ≡ Some t �
 unfolding parsed_time
 time_written word t e =
     let is = guarded (length word == 8 && slice_index word 2 == 58 && slice_index word 5 == 58)
-    (time_of (number_in 2 2 (take 2 word)) (number_in 2 2 (take 2 (drop 3 word))) (number_in 2 2 (drop 6 word))) t e in
+    (time_of (number_in 2 2 (take 2 word)) (number_in 2 2 (take 2 (drop 3 word)))
+    (number_in 2 2 (drop 6 word))) t e in
     let last = and_parts (length word == 8 && slice_index word 2 == 58) (slice_index word 5 == 58) is.0 in
     let first = and_parts (length word == 8) (slice_index word 2 == 58) last.0 in
     eight word t (eqb-true _ _ first.0) (eqb-true _ _ first.1) (eqb-true _ _ last.1) is.1
 
-no_time : (word : List ℕ) (read : Option ℕ) → parsed_time word ≡ read → ((block : ℕ) → block < 450000 → word ≡ time_text block → None ≡ Some block) → read ≡ None
+no_time : (word : List ℕ) (read : Option ℕ) → parsed_time word ≡ read
+    → ((block : ℕ) → block < 450000 → word ≡ time_text block → None ≡ Some block)
+    → read ≡ None
 no_time word None is all = refl
 no_time word (Some t) is all =
     let from = time_written word t is in
@@ -141,7 +152,9 @@ no_time word (Some t) is all =
     cc
 
 -- what reads times as they are written reads them by their parts
-pub as_parsed : (word : List ℕ) (result : Option ℕ) → IfSome result (λ block. (block < 450000) × (word ≡ time_text block))
-    → ((block : ℕ) → block < 450000 → word ≡ time_text block → result ≡ Some block) → result ≡ parsed_time word
+pub as_parsed : (word : List ℕ) (result : Option ℕ)
+    → IfSome result (λ block. (block < 450000) × (word ≡ time_text block))
+    → ((block : ℕ) → block < 450000 → word ≡ time_text block → result ≡ Some block)
+    → result ≡ parsed_time word
 as_parsed word None is all = sym (no_time word (parsed_time word) refl all)
 as_parsed word (Some t) is all = sym (ap parsed_time is.1 ∙ time_is t is.0)

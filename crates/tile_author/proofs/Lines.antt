@@ -23,13 +23,15 @@ unfolding digit
 digit-bit true k h = ap (λ n. bit_at 1 n == 1) h
 digit-bit false k h = ap (λ n. bit_at 0 n == 1) h
 
-pub has_bit-number_of : (bs : List Bool) (i k : ℕ) → i + k + 1 ≡ length bs → has_bit k (number_of bs) ≡ get_or bs i false
+pub has_bit-number_of : (bs : List Bool) (i k : ℕ) → i + k + 1 ≡ length bs
+    → has_bit k (number_of bs) ≡ get_or bs i false
 unfolding number_of
 has_bit-number_of [] i k h = absurd (omega arith)
 has_bit-number_of (b ∷ bs) zero k h =
     let high : k ≡ length bs = omega arith in
     ap (λ n. bit_at (n + number_of bs) k == 1) (worth b (2 ^ length bs))
-    ∙ ap (λ n. n == 1) (bit_at_cat_high (digit b) (length bs) (number_of bs) k (number_of-lt bs) (omega arith))
+    ∙ ap (λ n. n == 1)
+    (bit_at_cat_high (digit b) (length bs) (number_of bs) k (number_of-lt bs) (omega arith))
     ∙ digit-bit b (k - length bs) (omega arith)
 has_bit-number_of (b ∷ bs) (suc i) k h =
     ap (λ n. bit_at (n + number_of bs) k == 1) (worth b (2 ^ length bs))
@@ -40,16 +42,19 @@ pub length-parts : {X : Type 0} (count size : ℕ) (xs : List X) → length (par
 length-parts zero size xs = refl
 length-parts (suc count) size xs = ap suc (length-parts count size (drop size xs))
 
-pub parts_at : {X : Type 0} (count size : ℕ) (xs : List X) (q : ℕ) (d : List X) → q < count → get_or (parts count size xs) q d ≡ take size (drop (q * size) xs)
+pub parts_at : {X : Type 0} (count size : ℕ) (xs : List X) (q : ℕ) (d : List X) → q < count
+    → get_or (parts count size xs) q d ≡ take size (drop (q * size) xs)
 parts_at zero size xs q d h = absurd (omega arith)
-parts_at (suc count) size xs zero d h = let none : 0 ≡ 0 * size = omega arith in ap (λ n. take size (drop n xs)) none
+parts_at (suc count) size xs zero d h = let none : 0 ≡ 0 * size = omega arith in
+    ap (λ n. take size (drop n xs)) none
 parts_at (suc count) size xs (suc q) d h =
     let more : size + q * size ≡ suc q * size = omega arith in
     parts_at count size (drop size xs) q d (omega arith)
     ∙ ap (take size) (drop-drop (q * size) size xs)
     ∙ ap (λ n. take size (drop n xs)) more
 
-pub line_bit : (bs : List Bool) (p : ℕ) → length bs ≡ 72 → p < 72 → has_bit (5 - p % 6) (slice_index (map number_of (parts 12 6 bs)) (p / 6)) ≡ get_or bs p false
+pub line_bit : (bs : List Bool) (p : ℕ) → length bs ≡ 72 → p < 72
+    → has_bit (5 - p % 6) (slice_index (map number_of (parts 12 6 bs)) (p / 6)) ≡ get_or bs p false
 line_bit bs p size h =
     let q = p / 6 in
     let rest = drop (q * 6) bs in
@@ -58,13 +63,16 @@ line_bit bs p size h =
     let six_size : length six ≡ 6 = length-take-le 6 rest (omega arith) in
     let count = length-parts 12 6 bs in
     let at : q * 6 + p % 6 ≡ p = omega arith in
-    ap (has_bit (5 - p % 6)) (get_or-map number_of (parts 12 6 bs) q [] 0 (omega arith) ∙ ap number_of (parts_at 12 6 bs q [] (omega arith)))
+    ap (has_bit (5 - p % 6)) (get_or-map number_of (parts 12 6 bs) q [] 0 (omega arith)
+    ∙ ap number_of (parts_at 12 6 bs q [] (omega arith)))
     ∙ has_bit-number_of six (p % 6) (5 - p % 6) (omega arith)
     ∙ get_or-take 6 rest (p % 6) false (omega arith)
     ∙ get_or-drop (q * 6) bs (p % 6) false
     ∙ ap (λ n. get_or bs n false) at
 
-pub drawn_member : (w : List ℕ) (j c0 c1 p : ℕ) → length w ≡ 72 → p < 72 → drawn_pixel c0 c1 (tile_lines w j) p ≡ (if has_bit j (selection (basis w) (bit_xor (slice_index w 0) (slice_index w p))) then c1 else c0)
+pub drawn_member : (w : List ℕ) (j c0 c1 p : ℕ) → length w ≡ 72 → p < 72
+    → drawn_pixel c0 c1 (tile_lines w j) p
+    ≡ (if has_bit j (selection (basis w) (bit_xor (slice_index w 0) (slice_index w p))) then c1 else c0)
 unfolding tile_lines member_bits differences_from_first
 drawn_member w j c0 c1 p size h =
     let chosen : ℕ → Bool = λ d. has_bit j (selection (basis w) d) in

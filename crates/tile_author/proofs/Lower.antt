@@ -30,7 +30,8 @@ choice_spans true c0 c1 = inr (xor_self (bit_xor c0 c1))
 choice_spans false c0 c1 = inl (xor_self c0)
 
 -- combining it with another value adds that one number
-choice_adds : (gs : List ℕ) (b : Bool) (c0 c1 base v : ℕ) → Spans gs (bit_xor base v) → Spans (bit_xor c0 c1 ∷ gs) (bit_xor (bit_xor c0 base) (bit_xor (if b then c1 else c0) v))
+choice_adds : (gs : List ℕ) (b : Bool) (c0 c1 base v : ℕ) → Spans gs (bit_xor base v)
+    → Spans (bit_xor c0 c1 ∷ gs) (bit_xor (bit_xor c0 base) (bit_xor (if b then c1 else c0) v))
 unfolding Spans
 choice_adds gs true c0 c1 base v h =
     inr (Spans-same gs _ _
@@ -43,13 +44,20 @@ pub record Reached (old : List ℕ) (rs : List Instr) : Type 0 where
   pub gs : List ℕ
   pub base : ℕ
   pub few : length gs ≤ length rs
-  pub flat : ((0 < length rs) × Flat gs base (λ p. slice_index (tile_from old rs) p)) ⊎ Flat gs base (λ p. bit_xor (slice_index old p) (slice_index (tile_from old rs) p))
+  pub flat : ((0 < length rs) × Flat gs base (λ p. slice_index (tile_from old rs) p))
+      ⊎ Flat gs base (λ p. bit_xor (slice_index old p) (slice_index (tile_from old rs) p))
 
 start : (old : List ℕ) → Reached old []
 unfolding tile_from Flat Spans
-start old = record { gs = []; base = 0; few = omega arith; flat = inr (λ p p_lt. ap (bit_xor 0) (xor_self (slice_index old p))) }
+start old = record {
+  gs = [];
+  base = 0;
+  few = omega arith;
+  flat = inr (λ p p_lt. ap (bit_xor 0) (xor_self (slice_index old p)));
+}
 
-after_set : (old lines : List ℕ) (c0 c1 row column : ℕ) (rs : List Instr) → Reached old (SetTile c0 c1 row column lines ∷ rs)
+after_set : (old lines : List ℕ) (c0 c1 row column : ℕ) (rs : List Instr)
+    → Reached old (SetTile c0 c1 row column lines ∷ rs)
 unfolding tile_from Flat
 after_set old lines c0 c1 row column rs = record {
   gs = bit_xor c0 c1 ∷ [];
@@ -58,16 +66,20 @@ after_set old lines c0 c1 row column rs = record {
   flat = inl (
     omega arith,
     λ p p_lt.
-        Spans-same (bit_xor c0 c1 ∷ []) _ _ (ap (bit_xor c0) (sym (at_below 72 p (drawn_pixel c0 c1 lines) 0 p_lt)))
+        Spans-same (bit_xor c0 c1 ∷ []) _ _
+        (ap (bit_xor c0) (sym (at_below 72 p (drawn_pixel c0 c1 lines) 0 p_lt)))
         (choice_spans (has_bit (5 - p % 6) (slice_index lines (p / 6))) c0 c1),
   );
 }
 
-after_xor : (old lines : List ℕ) (c0 c1 row column : ℕ) (rs : List Instr) → Reached old rs → Reached old (XorTile c0 c1 row column lines ∷ rs)
+after_xor : (old lines : List ℕ) (c0 c1 row column : ℕ) (rs : List Instr) → Reached old rs
+    → Reached old (XorTile c0 c1 row column lines ∷ rs)
 unfolding tile_from Flat
 after_xor old lines c0 c1 row column rs e =
     let older = tile_from old rs in
-    let value : (p : ℕ) → p < 72 → bit_xor (drawn_pixel c0 c1 lines p) (slice_index older p) ≡ slice_index (tile_from old (XorTile c0 c1 row column lines ∷ rs)) p =
+    let value : (p : ℕ) → p < 72
+    → bit_xor (drawn_pixel c0 c1 lines p) (slice_index older p)
+    ≡ slice_index (tile_from old (XorTile c0 c1 row column lines ∷ rs)) p =
     λ p p_lt. sym (at_below 72 p (λ q. bit_xor (drawn_pixel c0 c1 lines q) (slice_index older q)) 0 p_lt) in
     record {
       gs = bit_xor c0 c1 ∷ e.gs;
@@ -78,16 +90,21 @@ after_xor old lines c0 c1 row column rs e =
           omega arith,
           λ p p_lt.
               Spans-same (bit_xor c0 c1 ∷ e.gs) _ _ (ap (bit_xor (bit_xor c0 e.base)) (value p p_lt))
-              (choice_adds e.gs (has_bit (5 - p % 6) (slice_index lines (p / 6))) c0 c1 e.base (slice_index older p) (set.1 p p_lt)),
+              (choice_adds e.gs (has_bit (5 - p % 6) (slice_index lines (p / 6))) c0 c1 e.base
+              (slice_index older p) (set.1 p p_lt)),
         )
         | inr combined ↦ inr (λ p p_lt.
             Spans-same (bit_xor c0 c1 ∷ e.gs) _ _
-            (ap (bit_xor (bit_xor c0 e.base)) (swap (drawn_pixel c0 c1 lines p) (slice_index old p) (slice_index older p) ∙ ap (bit_xor (slice_index old p)) (value p p_lt)))
-            (choice_adds e.gs (has_bit (5 - p % 6) (slice_index lines (p / 6))) c0 c1 e.base (bit_xor (slice_index old p) (slice_index older p)) (combined p p_lt)))
+            (ap (bit_xor (bit_xor c0 e.base)) (swap (drawn_pixel c0 c1 lines p) (slice_index old p)
+            (slice_index older p)
+            ∙ ap (bit_xor (slice_index old p)) (value p p_lt)))
+            (choice_adds e.gs (has_bit (5 - p % 6) (slice_index lines (p / 6))) c0 c1 e.base
+            (bit_xor (slice_index old p) (slice_index older p)) (combined p p_lt)))
       ];
     }
 
-pub reached : (row column : ℕ) (old : List ℕ) (rs : List Instr) → All (IsOfPlace row column) rs → Reached old rs
+pub reached : (row column : ℕ) (old : List ℕ) (rs : List Instr) → All (IsOfPlace row column) rs
+    → Reached old rs
 reached row column old [] h = start old
 reached row column old (SetTile c0 c1 r c lines ∷ rs) h = after_set old lines c0 c1 r c rs
 reached row column old (XorTile c0 c1 r c lines ∷ rs) h =
@@ -106,17 +123,22 @@ reached row column old (ColoursHigh a ∷ rs) h = absurd (All-head (IsOfPlace ro
 pub All-reverse : {X : Type 0} (P : X → Type 0) (xs : List X) → All P xs → All P (reverse xs)
 All-reverse P [] h = h
 All-reverse P (x ∷ xs) h =
-    subst (All P) (sym (reverse-append (x ∷ []) xs)) (All-push P (reverse xs) x (All-reverse P xs (All-tail P x xs h)) (All-head P x xs h))
+    subst (All P) (sym (reverse-append (x ∷ []) xs))
+    (All-push P (reverse xs) x (All-reverse P xs (All-tail P x xs h)) (All-head P x xs h))
 
-Spanned-map : (gs : List ℕ) (a : ℕ) (w : List ℕ) → ((p : ℕ) → p < length w → Spans gs (bit_xor a (slice_index w p))) → Spanned gs (map (bit_xor a) w)
+Spanned-map : (gs : List ℕ) (a : ℕ) (w : List ℕ)
+    → ((p : ℕ) → p < length w → Spans gs (bit_xor a (slice_index w p)))
+    → Spanned gs (map (bit_xor a) w)
 unfolding Spanned
 Spanned-map gs a [] h = tt
 Spanned-map gs a (x ∷ w) h = (h 0 (omega arith), Spanned-map gs a w (λ p p_lt. h (suc p) (omega arith)))
 
 -- flat pixels need no more numbers than those over which they are flat
-pub flat_rank : (gs : List ℕ) (base : ℕ) (w : List ℕ) → length w ≡ 72 → Flat gs base (λ p. slice_index w p) → length (basis w) ≤ length gs
+pub flat_rank : (gs : List ℕ) (base : ℕ) (w : List ℕ) → length w ≡ 72 → Flat gs base (λ p. slice_index w p)
+    → length (basis w) ≤ length gs
 unfolding Flat basis differences_from_first
 flat_rank gs base w size flat =
     rank_within gs (differences_from_first w) (Spanned-map gs (slice_index w 0) w (λ p p_lt.
     Spans-same gs _ _ (both base (slice_index w 0) (slice_index w p))
-    (Spans-sum gs (bit_xor base (slice_index w 0)) (bit_xor base (slice_index w p)) (flat 0 (omega arith)) (flat p (omega arith)))))
+    (Spans-sum gs (bit_xor base (slice_index w 0)) (bit_xor base (slice_index w p)) (flat 0 (omega arith))
+    (flat p (omega arith)))))

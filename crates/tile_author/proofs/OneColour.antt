@@ -26,7 +26,8 @@ All-replicate P (suc n) c h = All-cons P c (replicate n c) h (All-replicate P n 
 pub one_colour : (c : ℕ) → c < 16 → IsTilePixels (replicate 72 c)
 one_colour c h = record { count = length-replicate 72 c; below = All-replicate (λ n. n < 16) 72 c h }
 
-same_differences : (c : ℕ) (new : List ℕ) → length new ≡ 72 → differences_from_first (delta (replicate 72 c) new) ≡ differences_from_first new
+same_differences : (c : ℕ) (new : List ℕ) → length new ≡ 72
+    → differences_from_first (delta (replicate 72 c) new) ≡ differences_from_first new
 unfolding differences_from_first
 same_differences c new size =
     let old = replicate 72 c in
@@ -36,7 +37,8 @@ same_differences c new size =
     let right_size = length-map new (bit_xor (slice_index new 0)) in
     let at : (p : ℕ) → p < 72 → slice_index d p ≡ bit_xor c (slice_index new p) =
     λ p p_lt. delta_at old new p p_lt ∙ ap (λ n. bit_xor n (slice_index new p)) (at-replicate 72 c p p_lt) in
-    ext_get_or 0 (map (bit_xor (slice_index d 0)) d) (map (bit_xor (slice_index new 0)) new) (left_size ∙ d_size ∙ sym size ∙ sym right_size) (λ p p_lt.
+    ext_get_or 0 (map (bit_xor (slice_index d 0)) d) (map (bit_xor (slice_index new 0)) new)
+    (left_size ∙ d_size ∙ sym size ∙ sym right_size) (λ p p_lt.
     get_or-map (bit_xor (slice_index d 0)) d p 0 0 (omega arith)
     ∙ ap₂ bit_xor (at 0 (omega arith)) (at p (omega arith))
     ∙ both c (slice_index new 0) (slice_index new p)
@@ -47,18 +49,23 @@ unfolding weight basis
 same_weight c new size = ap (λ ds. max 1 (length (basis_from [] ds))) (same_differences c new size)
 
 -- what the least number is from a tile of one colour
-pub least_from_colour : (row column c : ℕ) (new : List ℕ) → row < 32 → column < 64 → c < 16 → IsTilePixels new → new ≢ replicate 72 c → IsLeast row column (replicate 72 c) new (weight new)
+pub least_from_colour : (row column c : ℕ) (new : List ℕ) → row < 32 → column < 64 → c < 16 → IsTilePixels new
+    → new ≢ replicate 72 c
+    → IsLeast row column (replicate 72 c) new (weight new)
 unfolding steps
 least_from_colour row column c new row_lt column_lt c_lt tile differ =
     let old = replicate 72 c in
     let same = same_weight c new tile.count in
-    let number : steps old new ≡ weight new = elim (equal_tells old new (one_colour c c_lt).count tile.count) [
+    let number : steps old new ≡ weight new =
+    elim (equal_tells old new (one_colour c c_lt).count tile.count) [
       | inl equal ↦ absurd (differ (sym equal.1))
       | inr unequal ↦ rw unequal.0 (omega arith)
     ] in
-    subst (IsLeast row column old new) number (least row column old new row_lt column_lt (one_colour c c_lt) tile)
+    subst (IsLeast row column old new) number
+    (least row column old new row_lt column_lt (one_colour c c_lt) tile)
 
-pub least_same : (row column c : ℕ) → row < 32 → column < 64 → c < 16 → IsLeast row column (replicate 72 c) (replicate 72 c) 0
+pub least_same : (row column c : ℕ) → row < 32 → column < 64 → c < 16
+    → IsLeast row column (replicate 72 c) (replicate 72 c) 0
 unfolding steps
 least_same row column c row_lt column_lt c_lt =
     let old = replicate 72 c in

@@ -23,14 +23,21 @@ binary zero h = refl
 binary (suc zero) h = refl
 binary (suc (suc n)) h = absurd (omega arith)
 
-pub bit_read : (ms : List ℕ) (v s j : ℕ) → Some s ≡ entry ms v → bit_and (s / 2 ^ j) 1 ≡ (if has_bit j (selection ms v) then 1 else 0)
-bit_read ms v s j h = shr_and_one s j ∙ binary (bit_at s j) (bit_at-lt s j) ∙ ap (λ n. if bit_at n j == 1 then 1 else 0) (sym (made ms v s h).1)
+pub bit_read : (ms : List ℕ) (v s j : ℕ) → Some s ≡ entry ms v
+    → bit_and (s / 2 ^ j) 1 ≡ (if has_bit j (selection ms v) then 1 else 0)
+bit_read ms v s j h =
+    shr_and_one s j
+    ∙ binary (bit_at s j) (bit_at-lt s j)
+    ∙ ap (λ n. if bit_at n j == 1 then 1 else 0) (sym (made ms v s h).1)
 
 pub no_entry : (ms : List ℕ) (v : ℕ) → None ≡ entry ms v → is_combination ms v ≡ true → ⊥
 no_entry ms v none h = false≢true (sym (not_made ms v none) ∙ h)
 
-pub difference_is_made : (pixels : List ℕ) (p : ℕ) → p < length pixels → is_combination (basis pixels) (bit_xor (slice_index pixels 0) (slice_index pixels p)) ≡ true
-difference_is_made pixels p h = spanned_test (basis pixels) (bit_xor (slice_index pixels 0) (slice_index pixels p)) (spans_difference pixels p h)
+pub difference_is_made : (pixels : List ℕ) (p : ℕ) → p < length pixels
+    → is_combination (basis pixels) (bit_xor (slice_index pixels 0) (slice_index pixels p)) ≡ true
+difference_is_made pixels p h =
+    spanned_test (basis pixels) (bit_xor (slice_index pixels 0) (slice_index pixels p))
+    (spans_difference pixels p h)
 
 twice_power : (n : ℕ) → 2 ^ suc n ≡ 2 * 2 ^ n
 twice_power n = omega arith
@@ -48,14 +55,16 @@ power_below (suc (suc (suc (suc (suc (suc (suc n))))))) number h lt = absurd (om
 length-take-at_most : (i n : ℕ) (bs : List Bool) → i ≤ n → length (take i bs) ≤ n
 length-take-at_most i n bs h = omega (arith, length-take i bs)
 
-number_of-snoc : (bs : List Bool) (b : Bool) → number_of (bs ++ b ∷ []) ≡ 2 * number_of bs + (if b then 1 else 0)
+number_of-snoc : (bs : List Bool) (b : Bool)
+    → number_of (bs ++ b ∷ []) ≡ 2 * number_of bs + (if b then 1 else 0)
 unfolding number_of
 number_of-snoc [] true = refl
 number_of-snoc [] false = refl
 number_of-snoc (true ∷ bs) b =
     let more = number_of-snoc bs b in
     let size : length (bs ++ b ∷ []) ≡ suc (length bs) = omega (arith, length-append bs (b ∷ [])) in
-    let power : 2 ^ length (bs ++ b ∷ []) ≡ 2 * 2 ^ length bs = ap (λ n. 2 ^ n) size ∙ twice_power (length bs) in
+    let power : 2 ^ length (bs ++ b ∷ []) ≡ 2 * 2 ^ length bs =
+    ap (λ n. 2 ^ n) size ∙ twice_power (length bs) in
     omega arith
 number_of-snoc (false ∷ bs) b = let more = number_of-snoc bs b in omega arith
 
@@ -67,20 +76,29 @@ pub no_bits : (pixels : List ℕ) (j q : ℕ) → 0 ≡ number_of (read_bits pix
 unfolding read_bits number_of
 no_bits pixels j q = refl
 
-member_bit_at : (pixels : List ℕ) (j p : ℕ) → p < length pixels → get_or (member_bits pixels j) p false ≡ has_bit j (selection (basis pixels) (bit_xor (slice_index pixels 0) (slice_index pixels p)))
+member_bit_at : (pixels : List ℕ) (j p : ℕ) → p < length pixels
+    → get_or (member_bits pixels j) p false
+    ≡ has_bit j (selection (basis pixels) (bit_xor (slice_index pixels 0) (slice_index pixels p)))
 unfolding member_bits differences_from_first
 member_bit_at pixels j p h =
     let chosen : ℕ → Bool = λ d. has_bit j (selection (basis pixels) d) in
     let ds = map (bit_xor (slice_index pixels 0)) pixels in
     let size = length-map pixels (bit_xor (slice_index pixels 0)) in
-    get_or-map chosen ds p 0 false (omega arith) ∙ ap chosen (get_or-map (bit_xor (slice_index pixels 0)) pixels p 0 0 h)
+    get_or-map chosen ds p 0 false (omega arith)
+    ∙ ap chosen (get_or-map (bit_xor (slice_index pixels 0)) pixels p 0 0 h)
 
 length-member_bits : (pixels : List ℕ) (j : ℕ) → length (member_bits pixels j) ≡ length pixels
 unfolding member_bits differences_from_first
-length-member_bits pixels j = length-map (map (bit_xor (slice_index pixels 0)) pixels) (λ d. has_bit j (selection (basis pixels) d)) ∙ length-map pixels (bit_xor (slice_index pixels 0))
+length-member_bits pixels j =
+    length-map (map (bit_xor (slice_index pixels 0)) pixels) (λ d. has_bit j (selection (basis pixels) d))
+    ∙ length-map pixels (bit_xor (slice_index pixels 0))
 
 pub one_more_bit : (pixels : List ℕ) (j q i : ℕ) → length pixels ≡ 72 → q < 12 → i < 6 →
-    number_of (read_bits pixels j q (i + 1)) ≡ 2 * number_of (read_bits pixels j q i) + (if has_bit j (selection (basis pixels) (bit_xor (slice_index pixels 0) (slice_index pixels (6 * q + i)))) then 1 else 0)
+    number_of (read_bits pixels j q (i + 1))
+    ≡ 2 * number_of (read_bits pixels j q i) + (if has_bit j
+    (selection (basis pixels) (bit_xor (slice_index pixels 0) (slice_index pixels (6 * q + i))))
+    then 1
+    else 0)
 unfolding read_bits
 one_more_bit pixels j q i size q_lt i_lt =
     let bs = member_bits pixels j in
@@ -90,7 +108,9 @@ one_more_bit pixels j q i size q_lt i_lt =
     let at : q * 6 + i ≡ 6 * q + i = omega arith in
     ap number_of (take_more rest i false (omega arith))
     ∙ number_of-snoc (take i rest) (get_or rest i false)
-    ∙ ap (λ (b : Bool). 2 * number_of (take i rest) + (if b then 1 else 0)) (get_or-drop (q * 6) bs i false ∙ ap (λ n. get_or bs n false) at ∙ member_bit_at pixels j (6 * q + i) (omega arith))
+    ∙ ap (λ (b : Bool). 2 * number_of (take i rest) + (if b then 1 else 0)) (get_or-drop (q * 6) bs i false
+    ∙ ap (λ n. get_or bs n false) at
+    ∙ member_bit_at pixels j (6 * q + i) (omega arith))
 
 pub bits_small : (pixels : List ℕ) (j q i : ℕ) → i ≤ 6 → number_of (read_bits pixels j q i) < 64
 unfolding read_bits
@@ -99,29 +119,47 @@ bits_small pixels j q i i_le =
     let size : length bs ≤ 6 = length-take-at_most i 6 (drop (q * 6) (member_bits pixels j)) i_le in
     power_below (length bs) (number_of bs) size (number_of-lt bs)
 
-pub all_bits : (pixels : List ℕ) (j q i : ℕ) → q < 12 → i ≡ 6 → number_of (read_bits pixels j q i) ≡ slice_index (tile_lines pixels j) q
+pub all_bits : (pixels : List ℕ) (j q i : ℕ) → q < 12 → i ≡ 6
+    → number_of (read_bits pixels j q i) ≡ slice_index (tile_lines pixels j) q
 unfolding read_bits tile_lines
 all_bits pixels j q i q_lt i_is =
     let bs = member_bits pixels j in
     let count = length-parts 12 6 bs in
     ap (λ n. number_of (take n (drop (q * 6) bs))) i_is
-    ∙ sym (get_or-map number_of (parts 12 6 bs) q [] 0 (omega arith) ∙ ap number_of (parts_at 12 6 bs q [] q_lt))
+    ∙ sym
+    (get_or-map number_of (parts 12 6 bs) q [] 0 (omega arith) ∙ ap number_of (parts_at 12 6 bs q [] q_lt))
 
-pub planned_when : (draws : Bool) (row column : ℕ) (pixels : List ℕ) (j : ℕ) (b : Bool) (c0 c1 : ℕ) (lines : List ℕ) → (draws && (j == 0)) ≡ b → c0 ≡ (if j == 0 then slice_index pixels 0 else 0) → c1 ≡ bit_xor c0 (slice_index (basis pixels) j) → lines ≡ tile_lines pixels j → (if b then SetTile c0 c1 row column lines else XorTile c0 c1 row column lines) ≡ planned draws row column pixels j
+pub planned_when : (draws : Bool) (row column : ℕ) (pixels : List ℕ) (j : ℕ) (b : Bool) (c0 c1 : ℕ)
+    (lines : List ℕ) → (draws && (j == 0)) ≡ b → c0 ≡ (if j == 0 then slice_index pixels 0 else 0)
+    → c1 ≡ bit_xor c0 (slice_index (basis pixels) j) → lines ≡ tile_lines pixels j
+    → (if b then SetTile c0 c1 row column lines else XorTile c0 c1 row column lines)
+    ≡ planned draws row column pixels j
 unfolding planned
 planned_when draws row column pixels j b c0 c1 lines test first second drawn =
-    let both_colours : c1 ≡ bit_xor (if j == 0 then slice_index pixels 0 else 0) (slice_index (basis pixels) j) =
+    let both_colours : c1
+    ≡ bit_xor (if j == 0 then slice_index pixels 0 else 0) (slice_index (basis pixels) j) =
     second ∙ ap (λ n. bit_xor n (slice_index (basis pixels) j)) first in
-    λ t. if sym test t then SetTile (first t) (both_colours t) row column (drawn t) else XorTile (first t) (both_colours t) row column (drawn t)
+    λ t. if sym test t
+    then SetTile (first t) (both_colours t) row column (drawn t)
+    else XorTile (first t) (both_colours t) row column (drawn t)
 
-pub one_more_planned : (draws : Bool) (row column : ℕ) (pixels : List ℕ) (j : ℕ) (items more : List Instr) (instr : Instr) → items ≡ map (planned draws row column pixels) (below j) → instr ≡ planned draws row column pixels j → more ≡ items ++ instr ∷ [] → more ≡ map (planned draws row column pixels) (below (j + 1))
+pub one_more_planned : (draws : Bool) (row column : ℕ) (pixels : List ℕ) (j : ℕ) (items more : List Instr)
+    (instr : Instr) → items ≡ map (planned draws row column pixels) (below j)
+    → instr ≡ planned draws row column pixels j → more ≡ items ++ instr ∷ []
+    → more ≡ map (planned draws row column pixels) (below (j + 1))
 one_more_planned draws row column pixels j items more instr so_far this pushed =
-    pushed ∙ ap₂ (λ is i. is ++ i ∷ []) so_far this ∙ sym (map-range_with_len_more (planned draws row column pixels) 0 j j (omega arith))
+    pushed
+    ∙ ap₂ (λ is i. is ++ i ∷ []) so_far this
+    ∙ sym (map-range_with_len_more (planned draws row column pixels) 0 j j (omega arith))
 
-pub planned_length : (draws : Bool) (row column : ℕ) (pixels : List ℕ) (j : ℕ) (items : List Instr) → items ≡ map (planned draws row column pixels) (below j) → length items ≡ j
-planned_length draws row column pixels j items so_far = ap length so_far ∙ length-map-range_with_len (planned draws row column pixels) 0 j
+pub planned_length : (draws : Bool) (row column : ℕ) (pixels : List ℕ) (j : ℕ) (items : List Instr)
+    → items ≡ map (planned draws row column pixels) (below j)
+    → length items ≡ j
+planned_length draws row column pixels j items so_far =
+    ap length so_far ∙ length-map-range_with_len (planned draws row column pixels) 0 j
 
-pub whole_weight : (members pixels : List ℕ) (n : ℕ) → members ≡ basis pixels → n ≡ max 1 (length members) → n ≡ weight pixels
+pub whole_weight : (members pixels : List ℕ) (n : ℕ) → members ≡ basis pixels → n ≡ max 1 (length members)
+    → n ≡ weight pixels
 unfolding weight
 whole_weight members pixels n is_basis h = h ∙ ap (λ ms. max 1 (length ms)) is_basis
 

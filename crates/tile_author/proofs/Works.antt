@@ -26,13 +26,16 @@ unfoldable pub partial : List ℕ → ℕ → ℕ → ℕ
 partial ms chosen zero = 0
 partial ms chosen (suc n) = bit_xor (if has_bit n chosen then slice_index ms n else 0) (partial ms chosen n)
 
-pub partial-first : (m : ℕ) (ms : List ℕ) (chosen n : ℕ) → partial (m ∷ ms) chosen (suc n) ≡ bit_xor (if has_bit 0 chosen then m else 0) (partial ms (chosen / 2) n)
+pub partial-first : (m : ℕ) (ms : List ℕ) (chosen n : ℕ)
+    → partial (m ∷ ms) chosen (suc n)
+    ≡ bit_xor (if has_bit 0 chosen then m else 0) (partial ms (chosen / 2) n)
 unfolding partial
 partial-first m ms chosen zero = refl
 partial-first m ms chosen (suc n) =
     let first = if has_bit 0 chosen then m else 0 in
     let next = if has_bit n (chosen / 2) then slice_index ms n else 0 in
-    ap₂ bit_xor (ap (λ k. if k == 1 then slice_index ms n else 0) (bit_at-suc chosen n)) (partial-first m ms chosen n)
+    ap₂ bit_xor (ap (λ k. if k == 1 then slice_index ms n else 0) (bit_at-suc chosen n))
+    (partial-first m ms chosen n)
     ∙ swap next first (partial ms (chosen / 2) n)
 
 even_bit : (n : ℕ) → has_bit 0 (2 * n) ≡ false
@@ -41,26 +44,34 @@ even_bit n = let e : bit_at (2 * n) 0 ≡ 0 = omega arith in ap (λ k. k == 1) e
 odd_bit : (n : ℕ) → has_bit 0 (1 + 2 * n) ≡ true
 odd_bit n = let e : bit_at (1 + 2 * n) 0 ≡ 1 = omega arith in ap (λ k. k == 1) e
 
-pub selection_in : (m : ℕ) (ms : List ℕ) (d : ℕ) → is_combination ms d ≡ true → selection (m ∷ ms) d ≡ 2 * selection ms d
+pub selection_in : (m : ℕ) (ms : List ℕ) (d : ℕ) → is_combination ms d ≡ true
+    → selection (m ∷ ms) d ≡ 2 * selection ms d
 unfolding selection
-selection_in m ms d h = ap (λ (b : Bool). if b then 2 * selection ms d else 1 + 2 * selection ms (bit_xor m d)) h
+selection_in m ms d h =
+    ap (λ (b : Bool). if b then 2 * selection ms d else 1 + 2 * selection ms (bit_xor m d)) h
 
-pub selection_out : (m : ℕ) (ms : List ℕ) (d : ℕ) → is_combination ms d ≡ false → selection (m ∷ ms) d ≡ 1 + 2 * selection ms (bit_xor m d)
+pub selection_out : (m : ℕ) (ms : List ℕ) (d : ℕ) → is_combination ms d ≡ false
+    → selection (m ∷ ms) d ≡ 1 + 2 * selection ms (bit_xor m d)
 unfolding selection
-selection_out m ms d h = ap (λ (b : Bool). if b then 2 * selection ms d else 1 + 2 * selection ms (bit_xor m d)) h
+selection_out m ms d h =
+    ap (λ (b : Bool). if b then 2 * selection ms d else 1 + 2 * selection ms (bit_xor m d)) h
 
-without_first : (m : ℕ) (ms : List ℕ) (s d : ℕ) → partial ms s (length ms) ≡ d → partial (m ∷ ms) (2 * s) (suc (length ms)) ≡ d
+without_first : (m : ℕ) (ms : List ℕ) (s d : ℕ) → partial ms s (length ms) ≡ d
+    → partial (m ∷ ms) (2 * s) (suc (length ms)) ≡ d
 without_first m ms s d h =
     let half : (2 * s) / 2 ≡ s = omega arith in
     partial-first m ms (2 * s) (length ms)
-    ∙ ap₂ bit_xor (ap (λ (b : Bool). if b then m else 0) (even_bit s)) (ap (λ n. partial ms n (length ms)) half ∙ h)
+    ∙ ap₂ bit_xor (ap (λ (b : Bool). if b then m else 0) (even_bit s))
+    (ap (λ n. partial ms n (length ms)) half ∙ h)
     ∙ xor_zero_l d
 
-with_first : (m : ℕ) (ms : List ℕ) (s d : ℕ) → partial ms s (length ms) ≡ bit_xor m d → partial (m ∷ ms) (1 + 2 * s) (suc (length ms)) ≡ d
+with_first : (m : ℕ) (ms : List ℕ) (s d : ℕ) → partial ms s (length ms) ≡ bit_xor m d
+    → partial (m ∷ ms) (1 + 2 * s) (suc (length ms)) ≡ d
 with_first m ms s d h =
     let half : (1 + 2 * s) / 2 ≡ s = omega arith in
     partial-first m ms (1 + 2 * s) (length ms)
-    ∙ ap₂ bit_xor (ap (λ (b : Bool). if b then m else 0) (odd_bit s)) (ap (λ n. partial ms n (length ms)) half ∙ h)
+    ∙ ap₂ bit_xor (ap (λ (b : Bool). if b then m else 0) (odd_bit s))
+    (ap (λ n. partial ms n (length ms)) half ∙ h)
     ∙ twice m d
 
 pub partial-selection : (ms : List ℕ) (d : ℕ) → Spans ms d → partial ms (selection ms d) (length ms) ≡ d
@@ -73,20 +84,25 @@ partial-selection (m ∷ ms) d h =
           ∙ without_first m ms (selection ms d) d (partial-selection ms d holds.1)
       | inr fails ↦
           ap (λ n. partial (m ∷ ms) n (suc (length ms))) (selection_out m ms d fails.0)
-          ∙ with_first m ms (selection ms (bit_xor m d)) d (partial-selection ms (bit_xor m d) (elim h [ inl x ↦ absurd (fails.1 x) | inr x ↦ x ]))
+          ∙ with_first m ms (selection ms (bit_xor m d)) d
+          (partial-selection ms (bit_xor m d) (elim h [ inl x ↦ absurd (fails.1 x) | inr x ↦ x ]))
     ]
 
 no_member : (b : Bool) → bit_xor (if b then 0 else 0) 0 ≡ 0
 no_member true = refl
 no_member false = refl
 
-partial-at_least_one : (ms : List ℕ) (chosen : ℕ) → partial ms chosen (max 1 (length ms)) ≡ partial ms chosen (length ms)
+partial-at_least_one : (ms : List ℕ) (chosen : ℕ)
+    → partial ms chosen (max 1 (length ms)) ≡ partial ms chosen (length ms)
 unfolding partial
 partial-at_least_one [] chosen = no_member (has_bit 0 chosen)
-partial-at_least_one (m ∷ ms) chosen = let e : max 1 (suc (length ms)) ≡ suc (length ms) = omega arith in ap (partial (m ∷ ms) chosen) e
+partial-at_least_one (m ∷ ms) chosen = let e : max 1 (suc (length ms)) ≡ suc (length ms) = omega arith in
+    ap (partial (m ∷ ms) chosen) e
 
 -- the members' combination makes each pixel's difference
-pub partial-difference : (w : List ℕ) (p : ℕ) → length w ≡ 72 → p < 72 → partial (basis w) (selection (basis w) (bit_xor (slice_index w 0) (slice_index w p))) (weight w) ≡ bit_xor (slice_index w 0) (slice_index w p)
+pub partial-difference : (w : List ℕ) (p : ℕ) → length w ≡ 72 → p < 72
+    → partial (basis w) (selection (basis w) (bit_xor (slice_index w 0) (slice_index w p))) (weight w)
+    ≡ bit_xor (slice_index w 0) (slice_index w p)
 unfolding weight
 partial-difference w p size h =
     let d = bit_xor (slice_index w 0) (slice_index w p) in
@@ -97,18 +113,22 @@ partial-difference w p size h =
 so_far : Bool → ℕ → ℕ → List ℕ → ℕ → List Instr
 so_far draws row column w n = reverse (map (planned draws row column w) (below n))
 
-so_far-more : (draws : Bool) (row column : ℕ) (w : List ℕ) (n : ℕ) → so_far draws row column w (suc n) ≡ planned draws row column w n ∷ so_far draws row column w n
+so_far-more : (draws : Bool) (row column : ℕ) (w : List ℕ) (n : ℕ)
+    → so_far draws row column w (suc n) ≡ planned draws row column w n ∷ so_far draws row column w n
 unfolding so_far
 so_far-more draws row column w n =
     let f = planned draws row column w in
     let next : suc n ≡ n + 1 = omega arith in
-    ap (λ k. reverse (map f (below k))) next ∙ ap reverse (map-range_with_len_more f 0 n n (omega arith)) ∙ reverse-append (map f (below n)) (f n ∷ [])
+    ap (λ k. reverse (map f (below k))) next
+    ∙ ap reverse (map-range_with_len_more f 0 n n (omega arith))
+    ∙ reverse-append (map f (below n)) (f n ∷ [])
 
 -- what stands at a pixel, without the members
 ground_of : Bool → List ℕ → List ℕ → ℕ → ℕ
 ground_of draws old w p = if draws then slice_index w 0 else bit_xor (slice_index w 0) (slice_index old p)
 
-first_choice : (b : Bool) (first m : ℕ) → (if b then bit_xor first m else first) ≡ bit_xor (bit_xor (if b then m else 0) 0) first
+first_choice : (b : Bool) (first m : ℕ)
+    → (if b then bit_xor first m else first) ≡ bit_xor (bit_xor (if b then m else 0) 0) first
 first_choice true first m = xor_comm first m ∙ ap (λ n. bit_xor n first) (sym (xor_zero_r m))
 first_choice false first m = sym (xor_zero_l first)
 
@@ -122,17 +142,24 @@ formed draws is_first row column w j =
     let colour0 = if is_first then slice_index w 0 else 0 in
     let colour1 = bit_xor colour0 (slice_index (basis w) j) in
     let lines = tile_lines w j in
-    if draws && is_first then SetTile colour0 colour1 row column lines else XorTile colour0 colour1 row column lines
+    if draws && is_first
+    then SetTile colour0 colour1 row column lines
+    else XorTile colour0 colour1 row column lines
 
-formed_later : (draws : Bool) (row column : ℕ) (w : List ℕ) (j : ℕ) → formed draws false row column w j ≡ XorTile 0 (bit_xor 0 (slice_index (basis w) j)) row column (tile_lines w j)
+formed_later : (draws : Bool) (row column : ℕ) (w : List ℕ) (j : ℕ)
+    → formed draws false row column w j
+    ≡ XorTile 0 (bit_xor 0 (slice_index (basis w) j)) row column (tile_lines w j)
 unfolding formed
 formed_later true row column w j = refl
 formed_later false row column w j = refl
 
-planned_later : (draws : Bool) (row column : ℕ) (w : List ℕ) (n : ℕ) → planned draws row column w (suc n) ≡ XorTile 0 (bit_xor 0 (slice_index (basis w) (suc n))) row column (tile_lines w (suc n))
+planned_later : (draws : Bool) (row column : ℕ) (w : List ℕ) (n : ℕ)
+    → planned draws row column w (suc n)
+    ≡ XorTile 0 (bit_xor 0 (slice_index (basis w) (suc n))) row column (tile_lines w (suc n))
 unfolding planned formed
 planned_later draws row column w n =
-    let not_first : (suc n == 0) ≡ false = elim (eqb_tells (suc n) 0) [ inl same ↦ absurd (omega (arith, same.1)) | inr differ ↦ differ.0 ] in
+    let not_first : (suc n == 0) ≡ false =
+    elim (eqb_tells (suc n) 0) [ inl same ↦ absurd (omega (arith, same.1)) | inr differ ↦ differ.0 ] in
     ap (λ b. formed draws b row column w (suc n)) not_first ∙ formed_later draws row column w (suc n)
 
 weight_positive : (w : List ℕ) → weight w ≡ suc (weight w - 1)
@@ -140,7 +167,10 @@ unfolding weight
 weight_positive w = omega arith
 
 -- what stands at a pixel after the first instructions
-pixel_so_far : (draws : Bool) (row column : ℕ) (old w : List ℕ) (n p : ℕ) → length w ≡ 72 → p < 72 → slice_index (tile_from old (so_far draws row column w (suc n))) p ≡ bit_xor (partial (basis w) (selection (basis w) (bit_xor (slice_index w 0) (slice_index w p))) (suc n)) (ground_of draws old w p)
+pixel_so_far : (draws : Bool) (row column : ℕ) (old w : List ℕ) (n p : ℕ) → length w ≡ 72 → p < 72
+    → slice_index (tile_from old (so_far draws row column w (suc n))) p
+    ≡ bit_xor (partial (basis w) (selection (basis w) (bit_xor (slice_index w 0) (slice_index w p))) (suc n))
+    (ground_of draws old w p)
 unfolding tile_from partial ground_of planned so_far
 pixel_so_far true row column old w zero p size h =
     let first = slice_index w 0 in
@@ -155,24 +185,32 @@ pixel_so_far false row column old w zero p size h =
     let m = slice_index (basis w) 0 in
     let chosen = selection (basis w) (bit_xor first (slice_index w p)) in
     ap (λ rs. slice_index (tile_from old rs) p) (so_far-more false row column w 0)
-    ∙ at_below 72 p (λ q. bit_xor (drawn_pixel first (bit_xor first m) (tile_lines w 0) q) (slice_index old q)) 0 h
-    ∙ ap (λ n. bit_xor n (slice_index old p)) (drawn_member w 0 first (bit_xor first m) p size h ∙ first_choice (has_bit 0 chosen) first m)
+    ∙ at_below 72 p
+    (λ q. bit_xor (drawn_pixel first (bit_xor first m) (tile_lines w 0) q) (slice_index old q)) 0 h
+    ∙ ap (λ n. bit_xor n (slice_index old p))
+    (drawn_member w 0 first (bit_xor first m) p size h ∙ first_choice (has_bit 0 chosen) first m)
     ∙ xor_assoc (bit_xor (if has_bit 0 chosen then m else 0) 0) first (slice_index old p)
 pixel_so_far draws row column old w (suc n) p size h =
     let m = slice_index (basis w) (suc n) in
     let chosen = selection (basis w) (bit_xor (slice_index w 0) (slice_index w p)) in
     let before = so_far draws row column w (suc n) in
-    ap (λ rs. slice_index (tile_from old rs) p) (so_far-more draws row column w (suc n) ∙ ap (λ i. i ∷ before) (planned_later draws row column w n))
-    ∙ at_below 72 p (λ q. bit_xor (drawn_pixel 0 (bit_xor 0 m) (tile_lines w (suc n)) q) (slice_index (tile_from old before) q)) 0 h
-    ∙ ap₂ bit_xor (drawn_member w (suc n) 0 (bit_xor 0 m) p size h ∙ later_choice (has_bit (suc n) chosen) m) (pixel_so_far draws row column old w n p size h)
-    ∙ sym (xor_assoc (if has_bit (suc n) chosen then m else 0) (partial (basis w) chosen (suc n)) (ground_of draws old w p))
+    ap (λ rs. slice_index (tile_from old rs) p)
+    (so_far-more draws row column w (suc n) ∙ ap (λ i. i ∷ before) (planned_later draws row column w n))
+    ∙ at_below 72 p (λ q.
+    bit_xor (drawn_pixel 0 (bit_xor 0 m) (tile_lines w (suc n)) q) (slice_index (tile_from old before) q)) 0 h
+    ∙ ap₂ bit_xor (drawn_member w (suc n) 0 (bit_xor 0 m) p size h ∙ later_choice (has_bit (suc n) chosen) m)
+    (pixel_so_far draws row column old w n p size h)
+    ∙ sym (xor_assoc (if has_bit (suc n) chosen then m else 0) (partial (basis w) chosen (suc n))
+    (ground_of draws old w p))
 
 length-tile_from : (old : List ℕ) (rs : List Instr) → length old ≡ 72 → length (tile_from old rs) ≡ 72
 unfolding tile_from
 length-tile_from old [] size = size
-length-tile_from old (SetTile c0 c1 r c lines ∷ rs) size = length-map-range_with_len (drawn_pixel c0 c1 lines) 0 72
+length-tile_from old (SetTile c0 c1 r c lines ∷ rs) size =
+    length-map-range_with_len (drawn_pixel c0 c1 lines) 0 72
 length-tile_from old (XorTile c0 c1 r c lines ∷ rs) size =
-    length-map-range_with_len (λ p. bit_xor (drawn_pixel c0 c1 lines p) (slice_index (tile_from old rs) p)) 0 72
+    length-map-range_with_len (λ p. bit_xor (drawn_pixel c0 c1 lines p) (slice_index (tile_from old rs) p)) 0
+    72
 length-tile_from old (Idle ∷ rs) size = length-tile_from old rs size
 length-tile_from old (Foreign ∷ rs) size = length-tile_from old rs size
 length-tile_from old (Unknown ∷ rs) size = length-tile_from old rs size
@@ -184,7 +222,9 @@ length-tile_from old (Transparency a ∷ rs) size = length-tile_from old rs size
 length-tile_from old (ColoursLow a ∷ rs) size = length-tile_from old rs size
 length-tile_from old (ColoursHigh a ∷ rs) size = length-tile_from old rs size
 
-pixel_after : (draws : Bool) (row column : ℕ) (old w : List ℕ) (p : ℕ) → length w ≡ 72 → p < 72 → slice_index (tile_after old (map (planned draws row column w) (below (weight w)))) p ≡ bit_xor (bit_xor (slice_index w 0) (slice_index w p)) (ground_of draws old w p)
+pixel_after : (draws : Bool) (row column : ℕ) (old w : List ℕ) (p : ℕ) → length w ≡ 72 → p < 72
+    → slice_index (tile_after old (map (planned draws row column w) (below (weight w)))) p
+    ≡ bit_xor (bit_xor (slice_index w 0) (slice_index w p)) (ground_of draws old w p)
 unfolding so_far
 pixel_after draws row column old w p size h =
     let n = weight w - 1 in
@@ -196,7 +236,8 @@ pixel_after draws row column old w p size h =
     ∙ ap (λ k. bit_xor k (ground_of draws old w p)) (partial-difference w p size h)
 
 -- the new tile drawn is the new tile
-pub drawn_new : (row column : ℕ) (old new : List ℕ) → length old ≡ 72 → length new ≡ 72 → tile_after old (map (planned true row column new) (below (weight new))) ≡ new
+pub drawn_new : (row column : ℕ) (old new : List ℕ) → length old ≡ 72 → length new ≡ 72
+    → tile_after old (map (planned true row column new) (below (weight new))) ≡ new
 unfolding ground_of
 drawn_new row column old new old_size new_size =
     let after = map (planned true row column new) (below (weight new)) in
@@ -208,7 +249,8 @@ drawn_new row column old new old_size new_size =
     ∙ twice first (slice_index new p))
 
 -- what differs, combined with the old tile, is the new tile
-pub combined_new : (row column : ℕ) (old new : List ℕ) → length old ≡ 72 → length new ≡ 72 → tile_after old (map (planned false row column (delta old new)) (below (weight (delta old new)))) ≡ new
+pub combined_new : (row column : ℕ) (old new : List ℕ) → length old ≡ 72 → length new ≡ 72
+    → tile_after old (map (planned false row column (delta old new)) (below (weight (delta old new)))) ≡ new
 unfolding ground_of
 combined_new row column old new old_size new_size =
     let d = delta old new in

@@ -12,15 +12,24 @@ both true b h = (refl, h)
 both false b h = absurd (false≢true h)
 
 all_of : (p : ℕ → Bool) (xs : List ℕ) → list_all p xs ≡ true → All (λ c. p c ≡ true) xs
-all_of p xs h = λ k d lt. elim (cases_Bool (p (get_or xs k d))) [ inl yes_it_is ↦ yes_it_is | inr not_it ↦ absurd (false≢true (sym (list_all_at p xs k d lt not_it) ∙ h)) ]
+all_of p xs h =
+    λ k d lt. elim (cases_Bool (p (get_or xs k d))) [
+      | inl yes_it_is ↦ yes_it_is
+      | inr not_it ↦ absurd (false≢true (sym (list_all_at p xs k d lt not_it) ∙ h))
+    ]
 
 pub code_parts : (code : List ℕ) → is_capital_code code ≡ true
     → (length code ≡ 12) × All (λ c. is_ascii_uppercase c ≡ true) (take 2 code)
-    × All (λ c. (is_ascii_digit c || is_ascii_uppercase c) ≡ true) (take 3 (drop 2 code)) × All (λ c. is_ascii_digit c ≡ true) (drop 5 code)
+    × All (λ c. (is_ascii_digit c || is_ascii_uppercase c) ≡ true) (take 3 (drop 2 code))
+    × All (λ c. is_ascii_digit c ≡ true) (drop 5 code)
 code_parts code good =
     let whole = both _ _ good in
     let front = both _ _ whole.0 in
     let start = both _ _ front.0 in
     let first : (length code == 12) ≡ true = start.0 in
-    let size : length code ≡ 12 = eqb-true (length code) 12 first in
-    (size, all_of is_ascii_uppercase (take 2 code) start.1, all_of (λ c. is_ascii_digit c || is_ascii_uppercase c) (take 3 (drop 2 code)) front.1, all_of is_ascii_digit (drop 5 code) whole.1)
+    let size : length code ≡ 12 = eqb-true (length code) 12 first in (
+      size,
+      all_of is_ascii_uppercase (take 2 code) start.1,
+      all_of (λ c. is_ascii_digit c || is_ascii_uppercase c) (take 3 (drop 2 code)) front.1,
+      all_of is_ascii_digit (drop 5 code) whole.1,
+    )

@@ -7,4 +7,7 @@ use Rattle.checkpoint_files.specs.Checkpoint.{checkpoint_in}
 use Rattle.cdg_checkpoint.proofs.gathering.gathered_slots.Given as goal
 
 abbrev pub invariant-loop-k : goal.invariant-loop-k
-invariant-loop-k l = l.gather ≡ run_state gather_next [] (map (λ k. symbols_of (take 24 (drop (24 * k) (checkpoint_in l.file).slots))) (range_with_len (7 - l.kept) l.k))
+invariant-loop-k l =
+    l.gather
+    ≡ run_state gather_next [] (map (λ k. symbols_of (take 24 (drop (24 * k) (checkpoint_in l.file).slots)))
+    (range_with_len (7 - l.kept) l.k))

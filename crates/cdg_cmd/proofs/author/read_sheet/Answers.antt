@@ -5,7 +5,8 @@ use Rattle.cdg_cmd.proofs.author.read_sheet.Goals as goal
 pub returns-in-Err-clause-err : goal.returns-in-Err-clause-err
 returns-in-Err-clause-err g c =
     let e = c.in-Err.ensures in
-    let stopped = unread g.S.Source.left g.S.Source.faults g.S.Source.ends c.args.first.now c.read_whole.new.source
+    let stopped =
+    unread g.S.Source.left g.S.Source.faults g.S.Source.ends c.args.first.now c.read_whole.new.source
     c.in-Err.stop e.too_long e.one_more e.no_memory e.cut e.not_told in
     no_sheet g.S.Source.left g.S.Source.faults g.S.Source.ends c.args.first.now c.read_whole.new.source
     c.in-Err.stop _ c.read_status.ensures stopped
@@ -13,7 +14,8 @@ returns-in-Err-clause-err g c =
 pub returns-in-Err-clause-taken : goal.returns-in-Err-clause-taken
 returns-in-Err-clause-taken g c =
     let e = c.in-Err.ensures in
-    let stopped = unread g.S.Source.left g.S.Source.faults g.S.Source.ends c.args.first.now c.read_whole.new.source
+    let stopped =
+    unread g.S.Source.left g.S.Source.faults g.S.Source.ends c.args.first.now c.read_whole.new.source
     c.in-Err.stop e.too_long e.one_more e.no_memory e.cut e.not_told in
     takes_unread g.S.Source.left g.S.Source.faults g.S.Source.ends c.args.first.now c.read_whole.new.source
     First c.in-Err.stop _ c.read_status.ensures stopped
@@ -21,7 +23,8 @@ returns-in-Err-clause-taken g c =
 pub returns-in-Err-clause-once : goal.returns-in-Err-clause-once
 returns-in-Err-clause-once g c =
     let e = c.in-Err.ensures in
-    let stopped = unread g.S.Source.left g.S.Source.faults g.S.Source.ends c.args.first.now c.read_whole.new.source
+    let stopped =
+    unread g.S.Source.left g.S.Source.faults g.S.Source.ends c.args.first.now c.read_whole.new.source
     c.in-Err.stop e.too_long e.one_more e.no_memory e.cut e.not_told in
     sheet_ends g.S.Source.left g.S.Source.faults g.S.Source.ends c.args.first.now c.read_whole.new.source
     c.in-Err.stop _ c.read_status.ensures stopped

@@ -33,4 +33,5 @@ returns-in-Ok-clause-faults g c =
 pub returns-in-Ok-clause-ended : goal.returns-in-Ok-clause-ended
 returns-in-Ok-clause-ended g c =
     ended c.run.result _ (input g.S.Source.left g.S.Source.ends c.args.first.now c.run.new.first)
-    (input g.T.Source.left g.T.Source.ends c.args.second.now c.run.new.second) c.merge_status.ensures c.run.ensures.told
+    (input g.T.Source.left g.T.Source.ends c.args.second.now c.run.new.second) c.merge_status.ensures
+    c.run.ensures.told

@@ -20,25 +20,31 @@ returns-in-Ok-clause-does g c = λ found.
     }
 
 pub returns-in-Ok-clause-untouched : goal.returns-in-Ok-clause-untouched
-returns-in-Ok-clause-untouched g c = untouched c.resume.result _ _ _ c.resume_status.ensures c.resume.ensures.untouched
+returns-in-Ok-clause-untouched g c =
+    untouched c.resume.result _ _ _ c.resume_status.ensures c.resume.ensures.untouched
 
 pub returns-in-Ok-clause-second : goal.returns-in-Ok-clause-second
 returns-in-Ok-clause-second g c =
     let done = c.resume.ensures in
     let first = input g.S.Source.left g.S.Source.ends c.args.first.now c.resume.new.saved in
-    reads_second _ _ c.args.at first c.resume.new.self.file c.resume.result done.rest_untouched done.accepted done.reads.taken done.reads.end done.reads.told
+    reads_second _ _ c.args.at first c.resume.new.self.file c.resume.result done.rest_untouched done.accepted
+    done.reads.taken done.reads.end done.reads.told
 
 pub returns-in-Ok-clause-first_ended : goal.returns-in-Ok-clause-first_ended
 returns-in-Ok-clause-first_ended g c =
     let done = c.resume.ensures in
-    first_ended c.args.at (input g.S.Source.left g.S.Source.ends c.args.first.now c.resume.new.saved) c.resume.new.self.file c.resume.result _ c.resume_status.ensures done.accepted done.reads.told done.reads.goes_on done.reads.not_told
+    first_ended c.args.at (input g.S.Source.left g.S.Source.ends c.args.first.now c.resume.new.saved)
+    c.resume.new.self.file c.resume.result _ c.resume_status.ensures done.accepted done.reads.told
+    done.reads.goes_on done.reads.not_told
 
 pub returns-in-Ok-clause-second_ended : goal.returns-in-Ok-clause-second_ended
 returns-in-Ok-clause-second_ended g c =
     let done = c.resume.ensures in
-    second_ended c.resume.result _ (input g.T.Source.left g.T.Source.ends c.args.second.now c.resume.new.rest) c.resume_status.ensures (λ refused. ap g.T.Source.ends (done.rest_untouched refused)) done.rest_told
+    second_ended c.resume.result _ (input g.T.Source.left g.T.Source.ends c.args.second.now c.resume.new.rest)
+    c.resume_status.ensures (λ refused. ap g.T.Source.ends (done.rest_untouched refused)) done.rest_told
 
 pub returns-in-Ok-clause-faults : goal.returns-in-Ok-clause-faults
 returns-in-Ok-clause-faults g c =
     let done = c.resume.ensures in
-    told c.resume.result _ _ _ _ _ _ _ c.resume_status.ensures done.first_fault done.second_fault done.write_fault
+    told c.resume.result _ _ _ _ _ _ _ c.resume_status.ensures done.first_fault done.second_fault
+    done.write_fault

@@ -18,7 +18,8 @@ pub returns-in-Ok-clause-no_memory : goal.returns-in-Ok-clause-no_memory
 returns-in-Ok-clause-no_memory g c = λ none. absurd (never_memory c.save.result _ c.pump_status.ensures none)
 
 pub returns-in-Ok-clause-untouched : goal.returns-in-Ok-clause-untouched
-returns-in-Ok-clause-untouched g c = untouched c.save.result _ _ _ c.pump_status.ensures c.save.ensures.untouched
+returns-in-Ok-clause-untouched g c =
+    untouched c.save.result _ _ _ c.pump_status.ensures c.save.ensures.untouched
 
 pub returns-in-Ok-clause-faults : goal.returns-in-Ok-clause-faults
 returns-in-Ok-clause-faults g c =

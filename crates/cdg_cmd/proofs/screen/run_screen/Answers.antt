@@ -14,15 +14,20 @@ returns-in-Ok-clause-does g c = λ found.
     }
 
 pub returns-in-Ok-clause-no_memory : goal.returns-in-Ok-clause-no_memory
-returns-in-Ok-clause-no_memory g c = λ none. absurd (shown_never_memory c.screen_at.result _ c.play_status.ensures c.screen_at.ensures.stops none)
+returns-in-Ok-clause-no_memory g c =
+    λ none.
+    absurd (shown_never_memory c.screen_at.result _ c.play_status.ensures c.screen_at.ensures.stops none)
 
 pub returns-in-Ok-clause-untouched : goal.returns-in-Ok-clause-untouched
-returns-in-Ok-clause-untouched g c = untouched c.screen_at.result _ _ _ c.play_status.ensures c.screen_at.ensures.untouched
+returns-in-Ok-clause-untouched g c =
+    untouched c.screen_at.result _ _ _ c.play_status.ensures c.screen_at.ensures.untouched
 
 pub returns-in-Ok-clause-faults : goal.returns-in-Ok-clause-faults
-returns-in-Ok-clause-faults g c = told_one c.screen_at.result _ _ _ _ _ c.play_status.ensures c.screen_at.ensures.faults
+returns-in-Ok-clause-faults g c =
+    told_one c.screen_at.result _ _ _ _ _ c.play_status.ensures c.screen_at.ensures.faults
 
 pub returns-in-Ok-clause-ended : goal.returns-in-Ok-clause-ended
 returns-in-Ok-clause-ended g c =
-    ended_first c.screen_at.result _ (input g.S.Source.left g.S.Source.ends c.args.source.now c.screen_at.new.source)
+    ended_first c.screen_at.result _
+    (input g.S.Source.left g.S.Source.ends c.args.source.now c.screen_at.new.source)
     c.play_status.ensures c.screen_at.ensures.stops c.screen_at.ensures.ended

@@ -15,15 +15,18 @@ returns-in-Ok-clause-does g c = λ found.
     }
 
 pub returns-in-Ok-clause-untouched : goal.returns-in-Ok-clause-untouched
-returns-in-Ok-clause-untouched g c = untouched c.text_list.result _ _ _ c.play_status.ensures c.text_list.ensures.untouched
+returns-in-Ok-clause-untouched g c =
+    untouched c.text_list.result _ _ _ c.play_status.ensures c.text_list.ensures.untouched
 
 pub returns-in-Ok-clause-faults : goal.returns-in-Ok-clause-faults
-returns-in-Ok-clause-faults g c = told_one c.text_list.result _ _ _ _ _ c.play_status.ensures c.text_list.ensures.faults
+returns-in-Ok-clause-faults g c =
+    told_one c.text_list.result _ _ _ _ _ c.play_status.ensures c.text_list.ensures.faults
 
 pub returns-in-Ok-clause-ended : goal.returns-in-Ok-clause-ended
 returns-in-Ok-clause-ended g c =
     let played = c.text_list.ensures in
-    ended_listed c.text_list.result _ (input g.S.Source.left g.S.Source.ends c.args.source.now c.text_list.new.source)
+    ended_listed c.text_list.result _
+    (input g.S.Source.left g.S.Source.ends c.args.source.now c.text_list.new.source)
     c.play_status.ensures played.ended played.lists.1.plays.ended
 
 pub returns-in-Ok-clause-lacks : goal.returns-in-Ok-clause-lacks

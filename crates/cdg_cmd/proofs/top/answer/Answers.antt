@@ -21,36 +21,58 @@ returns-in-None-clause-usage g c =
 
 pub returns-in-Some-clause-keeps : goal.returns-in-Some-clause-keeps
 returns-in-Some-clause-keeps g c = λ command spelled.
-    subst (λ (k : Command). Keeps k (input g.S.Source.left g.S.Source.ends c.args.first.now c.perform.new.first)
-    (c.args.first.now, c.args.second.now, c.args.out.now) (c.perform.new.first, c.perform.new.second, c.perform.new.out) c.perform.result) (same_command _ _ (c.in-Some.ensures.all command spelled))
-    (record { first = c.perform.ensures.reads_none; second = c.perform.ensures.second; out = c.perform.ensures.writes_last })
+    subst
+    (λ (k : Command). Keeps k (input g.S.Source.left g.S.Source.ends c.args.first.now c.perform.new.first)
+    (c.args.first.now, c.args.second.now, c.args.out.now)
+    (c.perform.new.first, c.perform.new.second, c.perform.new.out) c.perform.result)
+    (same_command _ _ (c.in-Some.ensures.all command spelled))
+    (record {
+      first = c.perform.ensures.reads_none;
+      second = c.perform.ensures.second;
+      out = c.perform.ensures.writes_last;
+    })
 
 pub returns-in-Some-clause-memory : goal.returns-in-Some-clause-memory
 returns-in-Some-clause-memory g c = λ command spelled.
-    subst (λ (k : Command). WantsMemory k (c.args.first.now, c.args.second.now, c.args.out.now) (c.perform.new.first, c.perform.new.second, c.perform.new.out) c.perform.result) (same_command _ _ (c.in-Some.ensures.all command spelled))
-    (record { out = c.perform.ensures.no_memory; inputs = c.perform.ensures.no_memory_first; never = c.perform.ensures.takes_none })
+    subst (λ (k : Command). WantsMemory k (c.args.first.now, c.args.second.now, c.args.out.now)
+    (c.perform.new.first, c.perform.new.second, c.perform.new.out) c.perform.result)
+    (same_command _ _ (c.in-Some.ensures.all command spelled))
+    (record {
+      out = c.perform.ensures.no_memory;
+      inputs = c.perform.ensures.no_memory_first;
+      never = c.perform.ensures.takes_none;
+    })
 
 pub returns-in-Some-clause-does : goal.returns-in-Some-clause-does
 returns-in-Some-clause-does g c = λ command spelled found.
-    subst (λ (k : Command). Does k (call g.S.Source.left g.T.Source.left g.K.Sink.held (c.args.first.now, c.args.second.now, c.args.out.now) (c.perform.new.first, c.perform.new.second, c.perform.new.out)) c.perform.result) (same_command _ _ (c.in-Some.ensures.all command spelled))
+    subst (λ (k : Command). Does k (call g.S.Source.left g.T.Source.left g.K.Sink.held
+    (c.args.first.now, c.args.second.now, c.args.out.now)
+    (c.perform.new.first, c.perform.new.second, c.perform.new.out)) c.perform.result)
+    (same_command _ _ (c.in-Some.ensures.all command spelled))
     (c.perform.ensures.does found)
 
 pub returns-in-Some-clause-ends : goal.returns-in-Some-clause-ends
 returns-in-Some-clause-ends g c = λ command spelled.
-    subst (λ (k : Command). TellsEnds k (input g.S.Source.left g.S.Source.ends c.args.first.now c.perform.new.first) (input g.T.Source.left g.T.Source.ends c.args.second.now c.perform.new.second) c.perform.result)
+    subst (λ (k : Command). TellsEnds k
+    (input g.S.Source.left g.S.Source.ends c.args.first.now c.perform.new.first)
+    (input g.T.Source.left g.T.Source.ends c.args.second.now c.perform.new.second) c.perform.result)
     (same_command _ _ (c.in-Some.ensures.all command spelled)) c.perform.ensures.ends
 
 pub returns-in-None-clause-keeps : goal.returns-in-None-clause-keeps
-returns-in-None-clause-keeps g c = λ command spelled. absurd (no_command command (c.in-None.ensures.all command spelled))
+returns-in-None-clause-keeps g c =
+    λ command spelled. absurd (no_command command (c.in-None.ensures.all command spelled))
 
 pub returns-in-None-clause-memory : goal.returns-in-None-clause-memory
-returns-in-None-clause-memory g c = λ command spelled. absurd (no_command command (c.in-None.ensures.all command spelled))
+returns-in-None-clause-memory g c =
+    λ command spelled. absurd (no_command command (c.in-None.ensures.all command spelled))
 
 pub returns-in-None-clause-does : goal.returns-in-None-clause-does
-returns-in-None-clause-does g c = λ command spelled found. absurd (no_command command (c.in-None.ensures.all command spelled))
+returns-in-None-clause-does g c =
+    λ command spelled found. absurd (no_command command (c.in-None.ensures.all command spelled))
 
 pub returns-in-None-clause-ends : goal.returns-in-None-clause-ends
-returns-in-None-clause-ends g c = λ command spelled. absurd (no_command command (c.in-None.ensures.all command spelled))
+returns-in-None-clause-ends g c =
+    λ command spelled. absurd (no_command command (c.in-None.ensures.all command spelled))
 
 pub returns-in-None-clause-faults : goal.returns-in-None-clause-faults
 returns-in-None-clause-faults g c = unchanged _ _ _
@@ -58,7 +80,8 @@ returns-in-None-clause-faults g c = unchanged _ _ _
 pub returns-in-Some-clause-lacks : goal.returns-in-Some-clause-lacks
 returns-in-Some-clause-lacks g c = λ command spelled none.
     subst (λ (k : Command). LacksMemory k (call g.S.Source.left g.T.Source.left g.K.Sink.held
-    (c.args.first.now, c.args.second.now, c.args.out.now) (c.perform.new.first, c.perform.new.second, c.perform.new.out)))
+    (c.args.first.now, c.args.second.now, c.args.out.now)
+    (c.perform.new.first, c.perform.new.second, c.perform.new.out)))
     (same_command _ _ (c.in-Some.ensures.all command spelled)) (c.perform.ensures.lacks none)
 
 pub returns-in-None-clause-lacks : goal.returns-in-None-clause-lacks

@@ -9,14 +9,19 @@ returns-clause-usage c = c.run.ensures.usage.0
 
 pub returns-clause-answered : goal.returns-clause-answered
 returns-clause-answered c = λ command spelled.
-    c.run.ensures.complete command spelled (record { first = λ r. omega (arith, r); second = λ r. omega (arith, r); out = λ r. omega (arith, r) })
+    c.run.ensures.complete command spelled
+    (record { first = λ r. omega (arith, r); second = λ r. omega (arith, r); out = λ r. omega (arith, r) })
 
 pub returns-clause-does : goal.returns-clause-does
 returns-clause-does c = λ command spelled found. (
   Some c.run.new.first.left,
   Some c.run.new.second.left,
-  subst (λ (b : SliceSource). Does command (dry_call b.left c.args.more.now (Some c.run.new.first.left) (Some c.run.new.second.left)) c.run.result) c.new-first.ensures
-      (subst (λ (b : SliceSource). Does command (dry_call c.new-first.result.left b.left (Some c.run.new.first.left) (Some c.run.new.second.left)) c.run.result) c.new-second.ensures
+  subst (λ (b : SliceSource). Does command
+      (dry_call b.left c.args.more.now (Some c.run.new.first.left) (Some c.run.new.second.left)) c.run.result)
+      c.new-first.ensures
+      (subst (λ (b : SliceSource). Does command
+      (dry_call c.new-first.result.left b.left (Some c.run.new.first.left) (Some c.run.new.second.left))
+      c.run.result) c.new-second.ensures
       (c.run.ensures.does command spelled found)),
 )
 

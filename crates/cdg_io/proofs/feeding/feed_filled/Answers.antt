@@ -7,7 +7,8 @@ pub returns-then-filled-clause-feeds : goal.returns-then-filled-clause-feeds
 returns-then-filled-clause-feeds g c =
     let read = c.in_ok-filled.ensures in
     let room : length c.fill.new.buf ≡ g.row.U = search rules in
-    let count : length (take c.in_ok-filled.filled c.fill.new.buf) ≡ c.in_ok-filled.filled = length-take-le c.in_ok-filled.filled c.fill.new.buf read.within in (
+    let count : length (take c.in_ok-filled.filled c.fill.new.buf) ≡ c.in_ok-filled.filled =
+    length-take-le c.in_ok-filled.filled c.fill.new.buf read.within in (
       take c.in_ok-filled.filled c.fill.new.buf,
       count,
       record {
@@ -43,13 +44,17 @@ pub returns-in_err-filled-clause-stays : goal.returns-in_err-filled-clause-stays
 returns-in_err-filled-clause-stays g c = on_err c.from_residual.result refl
 
 pub returns-in_err-filled-clause-cause : goal.returns-in_err-filled-clause-cause
-returns-in_err-filled-clause-cause g c = failed_cause _ _ _ c.from_residual.ensures.0 c.in_err-filled.ensures.cause.later c.in_err-filled.ensures.cause.failed
+returns-in_err-filled-clause-cause g c =
+    failed_cause _ _ _ c.from_residual.ensures.0 c.in_err-filled.ensures.cause.later
+    c.in_err-filled.ensures.cause.failed
 
 pub returns-in_err-filled-clause-told : goal.returns-in_err-filled-clause-told
-returns-in_err-filled-clause-told g c = failed_end _ _ _ _ c.from_residual.ensures.0 c.in_err-filled.ensures.told.failed
+returns-in_err-filled-clause-told g c =
+    failed_end _ _ _ _ c.from_residual.ensures.0 c.in_err-filled.ensures.told.failed
 
 pub returns-in_err-filled-clause-room : goal.returns-in_err-filled-clause-room
-returns-in_err-filled-clause-room g c = failed_room _ _ _ _ c.from_residual.ensures.0 c.in_err-filled.ensures.room.failed
+returns-in_err-filled-clause-room g c =
+    failed_room _ _ _ _ c.from_residual.ensures.0 c.in_err-filled.ensures.room.failed
 
 pub returns-then-filled-clause-within : goal.returns-then-filled-clause-within
 returns-then-filled-clause-within g c = omega (arith, c.if-filled.true)

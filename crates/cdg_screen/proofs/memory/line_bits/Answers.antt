@@ -6,8 +6,10 @@ use Rattle.cdg_screen.proofs.memory.line_bits.Goals as goal
 
 pub returns-clause-bits : goal.returns-clause-bits
 returns-clause-bits c =
-    let e = ap (λ k. get_or LINES k 0) (c.from.ensures ∙ and_mask c.args.line 6) in (line_is c.args.line _ e).0
+    let e = ap (λ k. get_or LINES k 0) (c.from.ensures ∙ and_mask c.args.line 6) in
+    (line_is c.args.line _ e).0
 
 pub returns-clause-bound : goal.returns-clause-bound
 returns-clause-bound c =
-    let e = ap (λ k. get_or LINES k 0) (c.from.ensures ∙ and_mask c.args.line 6) in (line_is c.args.line _ e).1
+    let e = ap (λ k. get_or LINES k 0) (c.from.ensures ∙ and_mask c.args.line 6) in
+    (line_is c.args.line _ e).1

@@ -8,12 +8,17 @@ pub returns-clause-pixels : goal.returns-clause-pixels
 returns-clause-pixels c =
     let small0 : slice_index c.args.colours 0 < 16 = search rules in
     let small1 : slice_index c.args.colours 1 < 16 = search rules in
-    pixels_are c.line_bits.result c.line_bits-2.result (slice_index c.args.colours 0) (slice_index c.args.colours 1) c.args.line c.to_le_bytes.result c.line_bits.ensures.bound c.line_bits.ensures.bits
+    pixels_are c.line_bits.result c.line_bits-2.result (slice_index c.args.colours 0)
+    (slice_index c.args.colours 1) c.args.line c.to_le_bytes.result c.line_bits.ensures.bound
+    c.line_bits.ensures.bits
     c.line_bits-2.ensures.bound c.line_bits-2.ensures.bits small0 small1
-    (c.to_le_bytes.ensures ∙ ap₂ (λ a b. bytes_low_first 0 8 (bit_xor (c.line_bits.result * a) (c.line_bits-2.result * b))) c.from.ensures c.from-2.ensures)
+    (c.to_le_bytes.ensures
+    ∙ ap₂ (λ a b. bytes_low_first 0 8 (bit_xor (c.line_bits.result * a) (c.line_bits-2.result * b)))
+    c.from.ensures c.from-2.ensures)
 
 pub returns-clause-range : goal.returns-clause-range
 returns-clause-range c i lt =
     let small0 : slice_index c.args.colours 0 < 16 = search rules in
     let small1 : slice_index c.args.colours 1 < 16 = search rules in
-    rw (returns-clause-pixels c i lt) (colour-lt (slice_index c.args.colours 0) (slice_index c.args.colours 1) c.args.line i small0 small1)
+    rw (returns-clause-pixels c i lt)
+    (colour-lt (slice_index c.args.colours 0) (slice_index c.args.colours 1) c.args.line i small0 small1)

@@ -8,4 +8,5 @@ use Rattle.cdg_thin.proofs.instruction.instruction.Goals as goal
 pub returns-clause-meaning : goal.returns-clause-meaning
 unfolding pack_instruction
 returns-clause-meaning c =
-    only_meaning (symbols_of c.args.bytes.now) c.read_word.result (subst (λ (word : List ℕ). Means word c.read_word.result) c.new.ensures c.read_word.ensures.meaning)
+    only_meaning (symbols_of c.args.bytes.now) c.read_word.result
+    (subst (λ (word : List ℕ). Means word c.read_word.result) c.new.ensures c.read_word.ensures.meaning)

@@ -24,4 +24,5 @@ pub returns-clause-size : goal.returns-clause-size
 returns-clause-size c = text_size
 
 pub returns-clause-one_reading : goal.returns-clause-one_reading
-returns-clause-one_reading c = λ packs one other h k. only_reading packs one h ∙ sym (only_reading packs other k)
+returns-clause-one_reading c =
+    λ packs one other h k. only_reading packs one h ∙ sym (only_reading packs other k)

@@ -10,7 +10,8 @@ returns-clause-changed c =
     let size : length mid ≡ 96 = search rules in
     let sixteen : c.args.to + 16 - c.args.to ≡ 16 = omega arith in
     let kept : put ≡ take 16 (drop c.args.to old) = search rules in
-    (combined_few old mid put c.args.from c.args.to (c.args.to + 16 - c.args.to) c.args.change c.told-block size
+    (combined_few old mid put c.args.from c.args.to (c.args.to + 16 - c.args.to) c.args.change c.told-block
+    size
     sixteen c.requires.order c.requires.few c.requires.within c.combine_each.ensures.changed
     c.combine_each.ensures.rest kept).0
 
@@ -22,6 +23,7 @@ returns-clause-rest c =
     let size : length mid ≡ 96 = search rules in
     let sixteen : c.args.to + 16 - c.args.to ≡ 16 = omega arith in
     let kept : put ≡ take 16 (drop c.args.to old) = search rules in
-    (combined_few old mid put c.args.from c.args.to (c.args.to + 16 - c.args.to) c.args.change c.told-block size
+    (combined_few old mid put c.args.from c.args.to (c.args.to + 16 - c.args.to) c.args.change c.told-block
+    size
     sixteen c.requires.order c.requires.few c.requires.within c.combine_each.ensures.changed
     c.combine_each.ensures.rest kept).1

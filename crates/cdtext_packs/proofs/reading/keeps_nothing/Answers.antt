@@ -5,4 +5,7 @@ use Rattle.cdtext_packs.proofs.KeptPacks.{none_kept}
 use Rattle.cdtext_packs.proofs.reading.keeps_nothing.Goals as goal
 
 pub returns : goal.returns
-returns c = all_from_yields_List is_none _ _ _ c.all.ensures.ran (YieldsList-from_slice _ c.iter.ensures.rest) (λ x b q k. search (rules, tests)) ∙ none_kept c.args.kept.now
+returns c =
+    all_from_yields_List is_none _ _ _ c.all.ensures.ran (YieldsList-from_slice _ c.iter.ensures.rest)
+    (λ x b q k. search (rules, tests))
+    ∙ none_kept c.args.kept.now

@@ -18,19 +18,32 @@ loop-slot-preserved c =
     let kind = c.args.kind in
     elim c.match-slot.branch [
       | in-Some+then-kind-pack_type+in_ok-extend_from_slice w ↦
-          let grown : c.match-slot.bytes.items ≡ c.loop-slot.bytes.items ++ pack_text w.in-Some.pack = search rules in
-          let more = bytes_more kept i w.in-Some.pack kind c.loop-slot-test.true (slot_is c.args.kept.now c.loop-slot.slot-index c.slot-item.result (Some w.in-Some.pack) c.loop-slot-test.true c.slot-item.is w.in-Some.is) (sym w.kind.ensures ∙ w.if-kind-pack_type.true ∙ w.pack_type.ensures) in
+          let grown : c.match-slot.bytes.items ≡ c.loop-slot.bytes.items ++ pack_text w.in-Some.pack =
+          search rules in
+          let more =
+          bytes_more kept i w.in-Some.pack kind c.loop-slot-test.true (slot_is c.args.kept.now
+          c.loop-slot.slot-index c.slot-item.result (Some w.in-Some.pack) c.loop-slot-test.true c.slot-item.is
+          w.in-Some.is) (sym w.kind.ensures ∙ w.if-kind-pack_type.true ∙ w.pack_type.ensures) in
           let size = ap length grown ∙ length-append c.loop-slot.bytes.items (pack_text w.in-Some.pack) in
           let part = length-take 12 (drop 4 w.in-Some.pack) in
-          let bound = c.loop-slot.invariant.1 in
-          (grown ∙ ap (λ (xs : List ℕ). xs ++ pack_text w.in-Some.pack) c.loop-slot.invariant.0 ∙ sym more, omega arith)
+          let bound = c.loop-slot.invariant.1 in (
+            grown ∙ ap (λ (xs : List ℕ). xs ++ pack_text w.in-Some.pack) c.loop-slot.invariant.0 ∙ sym more,
+            omega arith,
+          )
       | in-Some+else-kind-pack_type w ↦
-          let other : pack_type w.in-Some.pack ≡ type_of kind → ⊥ = λ e. w.if-kind-pack_type.false (w.kind.ensures ∙ e ∙ sym w.pack_type.ensures) in
-          let same = ap (flat_map pack_text) (packs_pass kept i w.in-Some.pack kind c.loop-slot-test.true (slot_is c.args.kept.now c.loop-slot.slot-index c.slot-item.result (Some w.in-Some.pack) c.loop-slot-test.true c.slot-item.is w.in-Some.is) other) in
+          let other : pack_type w.in-Some.pack ≡ type_of kind → ⊥ =
+          λ e. w.if-kind-pack_type.false (w.kind.ensures ∙ e ∙ sym w.pack_type.ensures) in
+          let same =
+          ap (flat_map pack_text) (packs_pass kept i w.in-Some.pack kind c.loop-slot-test.true
+          (slot_is c.args.kept.now c.loop-slot.slot-index c.slot-item.result (Some w.in-Some.pack)
+          c.loop-slot-test.true c.slot-item.is w.in-Some.is) other) in
           let bound = c.loop-slot.invariant.1 in
           rw w.bytes-is (c.loop-slot.invariant.0 ∙ sym same, omega arith)
       | in_default w ↦
-          let same = ap (flat_map pack_text) (packs_skip kept i kind c.loop-slot-test.true (slot_is c.args.kept.now c.loop-slot.slot-index c.slot-item.result None c.loop-slot-test.true c.slot-item.is w.in_default.is)) in
+          let same =
+          ap (flat_map pack_text) (packs_skip kept i kind c.loop-slot-test.true (slot_is c.args.kept.now
+          c.loop-slot.slot-index c.slot-item.result None c.loop-slot-test.true c.slot-item.is
+          w.in_default.is)) in
           let bound = c.loop-slot.invariant.1 in
           rw w.bytes-is (c.loop-slot.invariant.0 ∙ sym same, omega arith)
     ]

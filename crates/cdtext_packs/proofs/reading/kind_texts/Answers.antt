@@ -5,18 +5,21 @@ use Rattle.cdtext_packs.proofs.reading.kind_texts.Goals as goal
 
 pub returns-then-is_empty-clause-texts : goal.returns-then-is_empty-clause-texts
 returns-then-is_empty-clause-texts c =
-    let none : length (kind_bytes c.args.kept.now c.args.kind) ≡ 0 = search (rules, ap length c.in_ok-bytes.ensures.bytes) in
+    let none : length (kind_bytes c.args.kept.now c.args.kind) ≡ 0 =
+    search (rules, ap length c.in_ok-bytes.ensures.bytes) in
     rw (texts_none c.args.kept.now c.args.count c.args.kind none) c.empty_strings.ensures.strings
 
 pub strings_in-requires-clause-count : goal.strings_in-requires-clause-count
 strings_in-requires-clause-count c =
-    let some : length (kind_bytes c.args.kept.now c.args.kind) ≡ 0 → ⊥ = λ e. (let size = ap length c.in_ok-bytes.ensures.bytes in search rules) in
+    let some : length (kind_bytes c.args.kept.now c.args.kind) ≡ 0 → ⊥ =
+    λ e. (let size = ap length c.in_ok-bytes.ensures.bytes in search rules) in
     let enough = enough_ends c.args.kept.now c.args.count c.args.kind c.requires.enough some in
     let bytes : c.deref.result.now ≡ kind_bytes c.args.kept.now c.args.kind = search rules in
     subst (λ (xs : List ℕ). c.args.count ≤ ends_in xs) (sym bytes) enough
 
 pub returns-clause-texts : goal.returns-clause-texts
 returns-clause-texts c =
-    let some : length (kind_bytes c.args.kept.now c.args.kind) ≡ 0 → ⊥ = λ e. (let size = ap length c.in_ok-bytes.ensures.bytes in search rules) in
+    let some : length (kind_bytes c.args.kept.now c.args.kind) ≡ 0 → ⊥ =
+    λ e. (let size = ap length c.in_ok-bytes.ensures.bytes in search rules) in
     let bytes : c.deref.result.now ≡ kind_bytes c.args.kept.now c.args.kind = search rules in
     rw (texts_some c.args.kept.now c.args.count c.args.kind some, ← bytes) c.strings_in.ensures.strings

@@ -25,25 +25,43 @@ loop-slot-preserved c =
     elim c.match-slot.branch [
       | in-Some+then-kind-pack_type w ↦
           let size = w.text.ensures.size in
-          rw (w.ends-is, w.last-is, w.number.ensures) (seen_more kept i w.in-Some.pack kind c.loop-slot.ends w.zeros_in-ends.result c.loop-slot.last c.loop-slot-test.true (slot_is c.args.kept.now c.loop-slot.slot-index c.slot-item.result (Some w.in-Some.pack) c.loop-slot-test.true c.slot-item.is w.in-Some.is)
-          (sym w.kind.ensures ∙ w.if-kind-pack_type.true ∙ w.pack_type.ensures) (w.zeros_in-ends.ensures.count ∙ ap ends_in w.text.ensures.text) (omega (arith, w.zeros_in-ends.ensures.bound, size)) c.loop-slot.invariant)
+          rw (w.ends-is, w.last-is, w.number.ensures) (seen_more kept i w.in-Some.pack kind c.loop-slot.ends
+          w.zeros_in-ends.result c.loop-slot.last c.loop-slot-test.true (slot_is c.args.kept.now
+          c.loop-slot.slot-index c.slot-item.result (Some w.in-Some.pack) c.loop-slot-test.true c.slot-item.is
+          w.in-Some.is)
+          (sym w.kind.ensures ∙ w.if-kind-pack_type.true ∙ w.pack_type.ensures)
+          (w.zeros_in-ends.ensures.count ∙ ap ends_in w.text.ensures.text)
+          (omega (arith, w.zeros_in-ends.ensures.bound, size)) c.loop-slot.invariant)
       | in-Some+else-kind-pack_type w ↦
-          let other : pack_type w.in-Some.pack ≡ type_of kind → ⊥ = λ e. w.if-kind-pack_type.false (w.kind.ensures ∙ e ∙ sym w.pack_type.ensures) in
-          rw (w.ends-is, w.last-is) (seen_same (take i kept) (take (i + 1) kept) kind c.loop-slot.ends i c.loop-slot.last (packs_pass kept i w.in-Some.pack kind c.loop-slot-test.true (slot_is c.args.kept.now c.loop-slot.slot-index c.slot-item.result (Some w.in-Some.pack) c.loop-slot-test.true c.slot-item.is w.in-Some.is) other) c.loop-slot.invariant)
+          let other : pack_type w.in-Some.pack ≡ type_of kind → ⊥ =
+          λ e. w.if-kind-pack_type.false (w.kind.ensures ∙ e ∙ sym w.pack_type.ensures) in
+          rw (w.ends-is, w.last-is) (seen_same (take i kept) (take (i + 1) kept) kind c.loop-slot.ends i
+          c.loop-slot.last (packs_pass kept i w.in-Some.pack kind c.loop-slot-test.true
+          (slot_is c.args.kept.now c.loop-slot.slot-index c.slot-item.result (Some w.in-Some.pack)
+          c.loop-slot-test.true c.slot-item.is w.in-Some.is) other) c.loop-slot.invariant)
       | in_default w ↦
-          rw (w.ends-is, w.last-is) (seen_same (take i kept) (take (i + 1) kept) kind c.loop-slot.ends i c.loop-slot.last (packs_skip kept i kind c.loop-slot-test.true (slot_is c.args.kept.now c.loop-slot.slot-index c.slot-item.result None c.loop-slot-test.true c.slot-item.is w.in_default.is)) c.loop-slot.invariant)
+          rw (w.ends-is, w.last-is) (seen_same (take i kept) (take (i + 1) kept) kind c.loop-slot.ends i
+          c.loop-slot.last (packs_skip kept i kind c.loop-slot-test.true (slot_is c.args.kept.now
+          c.loop-slot.slot-index c.slot-item.result None c.loop-slot-test.true c.slot-item.is
+          w.in_default.is)) c.loop-slot.invariant)
     ]
 
 pub returns-then-ends-count : goal.returns-then-ends-count
 returns-then-ends-count c =
     let kept = c.args.kept.now in
-    let whole : take c.loop-slot.slot-index kept ≡ kept = take_all c.loop-slot.slot-index kept (omega arith) in
+    let whole : take c.loop-slot.slot-index kept ≡ kept =
+    take_all c.loop-slot.slot-index kept (omega arith) in
     short_is kept c.args.count c.loop-slot.ends c.loop-slot.slot-index c.args.kind c.loop-slot.last
-    (subst (λ (k : List (Option (List ℕ))). SeenPacks k c.args.kind c.loop-slot.ends c.loop-slot.slot-index c.loop-slot.last) whole c.loop-slot.invariant) c.if-ends-count.true
+    (subst (λ (k : List (Option (List ℕ))).
+    SeenPacks k c.args.kind c.loop-slot.ends c.loop-slot.slot-index c.loop-slot.last) whole
+    c.loop-slot.invariant) c.if-ends-count.true
 
 pub returns-else-ends-count : goal.returns-else-ends-count
 returns-else-ends-count c =
     let kept = c.args.kept.now in
-    let whole : take c.loop-slot.slot-index kept ≡ kept = take_all c.loop-slot.slot-index kept (omega arith) in
+    let whole : take c.loop-slot.slot-index kept ≡ kept =
+    take_all c.loop-slot.slot-index kept (omega arith) in
     long_is kept c.args.count c.loop-slot.ends c.loop-slot.slot-index c.args.kind c.loop-slot.last
-    (subst (λ (k : List (Option (List ℕ))). SeenPacks k c.args.kind c.loop-slot.ends c.loop-slot.slot-index c.loop-slot.last) whole c.loop-slot.invariant) c.if-ends-count.false
+    (subst (λ (k : List (Option (List ℕ))).
+    SeenPacks k c.args.kind c.loop-slot.ends c.loop-slot.slot-index c.loop-slot.last) whole
+    c.loop-slot.invariant) c.if-ends-count.false

@@ -6,8 +6,11 @@ use Rattle.cdtext_packs.proofs.Cuts.{IsCut, cut_none, cut_here, cut_more}
 use Rattle.cdtext_packs.proofs.reading.strings_in.Goals as goal
 
 pub loop-place-init : goal.loop-place-init
-loop-place-init c =
-    (omega arith, subst (λ (strings : List (List ℕ)). IsCut c.args.bytes.now c.args.bytes.now strings 0) (sym c.new-strings.ensures) (cut_none c.args.bytes.now c.requires.size))
+loop-place-init c = (
+  omega arith,
+  subst (λ (strings : List (List ℕ)). IsCut c.args.bytes.now c.args.bytes.now strings 0)
+      (sym c.new-strings.ensures) (cut_none c.args.bytes.now c.requires.size),
+)
 
 pub loop-place-preserved : goal.loop-place-preserved
 loop-place-preserved c =
@@ -17,11 +20,21 @@ loop-place-preserved c =
     let end = c.string_end-end.result in
     let some : c.loop-place._place < ends_in bytes = omega arith in
     let whole : take (length bytes - start) (drop start bytes) ≡ drop start bytes = take_rest bytes start in
-    let place : end ≡ position_or_len is_zero (drop start bytes) = c.string_end-end.ensures.end ∙ ap (λ (xs : List ℕ). position_or_len is_zero xs) whole in
-    let here = cut_here bytes (drop start bytes) c.loop-place.strings c.loop-place._place c.loop-place.invariant.1 some in
+    let place : end ≡ position_or_len is_zero (drop start bytes) =
+    c.string_end-end.ensures.end ∙ ap (λ (xs : List ℕ). position_or_len is_zero xs) whole in
+    let here =
+    cut_here bytes (drop start bytes) c.loop-place.strings c.loop-place._place c.loop-place.invariant.1
+    some in
     let left = length-drop start bytes in
-    let first : take end (take (length bytes - start) (drop start bytes)) ≡ before_first is_zero (drop start bytes)
+    let first : take end (take (length bytes - start) (drop start bytes))
+    ≡ before_first is_zero (drop start bytes)
     = ap (λ (xs : List ℕ). take end xs) whole ∙ ap (λ (n : ℕ). take n (drop start bytes)) place in
-    let string : c.in_ok-string.string.items ≡ meant c.loop-place.strings (before_first is_zero (drop start bytes)) = search (rules, first) in
-    let after : drop (start + (end + 1)) bytes ≡ after_first is_zero (drop start bytes) = sym (drop-drop (end + 1) start bytes) ∙ ap (λ (n : ℕ). drop (n + 1) (drop start bytes)) place in
-    (omega arith, cut_more bytes (drop start bytes) _ c.loop-place.strings c.push.new.self c.in_ok-string.string.items c.loop-place._place c.loop-place.invariant.1 some string c.in_ok-push.ensures.pushed after)
+    let string : c.in_ok-string.string.items
+    ≡ meant c.loop-place.strings (before_first is_zero (drop start bytes)) =
+    search (rules, first) in
+    let after : drop (start + (end + 1)) bytes ≡ after_first is_zero (drop start bytes) =
+    sym (drop-drop (end + 1) start bytes) ∙ ap (λ (n : ℕ). drop (n + 1) (drop start bytes)) place in (
+      omega arith,
+      cut_more bytes (drop start bytes) _ c.loop-place.strings c.push.new.self c.in_ok-string.string.items
+          c.loop-place._place c.loop-place.invariant.1 some string c.in_ok-push.ensures.pushed after,
+    )

@@ -7,7 +7,8 @@ use Rattle.cdtext_packs.proofs.text.printed.Goals.{else-byte-ge32-via-then-byte-
 
 pub returns-else-byte-ge32 : goal.returns-else-byte-ge32
 returns-else-byte-ge32 c =
-    let other : printed c.args.byte ≡ 92 ∷ hex_digits 2 c.args.byte = not_printable c.args.byte (elim c.else-byte-ge32.branch [
+    let other : printed c.args.byte ≡ 92 ∷ hex_digits 2 c.args.byte =
+    not_printable c.args.byte (elim c.else-byte-ge32.branch [
       | else-byte-ge32-via-then-byte-ge32+then-byte-le126+else-byte-ne92 w ↦ inl w.if-byte-ne92.false
       | else-byte-ge32-via-then-byte-ge32+else-byte-le126 w ↦ inr (inl (omega (arith, w.if-byte-le126.false)))
       | else-byte-ge32-via-else-byte-ge32 w ↦ inr (inr (omega (arith, w.if-byte-ge32.false)))

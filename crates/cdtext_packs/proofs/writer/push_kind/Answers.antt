@@ -8,8 +8,10 @@ use Rattle.cdtext_packs.proofs.writer.push_kind.Goals as goal
 pub overflow_cast-number : goal.overflow_cast-number
 overflow_cast-number c =
     let old = c.args.packs.now.items in
-    let f : ℕ → Content = text_content c.args.map.now.first (type_of c.args.kind) (strings_of c.args.kind c.args.map.now) in
-    let size : length c.loop-k.packs.items ≡ length old + c.loop-k.k = ap length c.loop-k.invariant ∙ length-pushed old f (length old) c.loop-k.k in
+    let f : ℕ → Content =
+    text_content c.args.map.now.first (type_of c.args.kind) (strings_of c.args.kind c.args.map.now) in
+    let size : length c.loop-k.packs.items ≡ length old + c.loop-k.k =
+    ap length c.loop-k.invariant ∙ length-pushed old f (length old) c.loop-k.k in
     search (rules, size)
 
 pub text_pack-requires-clause-inside : goal.text_pack-requires-clause-inside
@@ -23,8 +25,10 @@ text_pack-requires-clause-inside c =
 pub loop-k-preserved : goal.loop-k-preserved
 loop-k-preserved c =
     let old = c.args.packs.now.items in
-    let f : ℕ → Content = text_content c.args.map.now.first (type_of c.args.kind) (strings_of c.args.kind c.args.map.now) in
-    let size : length c.loop-k.packs.items ≡ length old + c.loop-k.k = ap length c.loop-k.invariant ∙ length-pushed old f (length old) c.loop-k.k in
+    let f : ℕ → Content =
+    text_content c.args.map.now.first (type_of c.args.kind) (strings_of c.args.kind c.args.map.now) in
+    let size : length c.loop-k.packs.items ≡ length old + c.loop-k.k =
+    ap length c.loop-k.invariant ∙ length-pushed old f (length old) c.loop-k.k in
     let more = pushed_more old f (length old) c.loop-k.k c.len-number.result (search (rules, size)) in
     search (rules, more)
 
@@ -32,7 +36,9 @@ pub returns : goal.returns
 unfolding kind_contents
 returns c =
     let old = c.args.packs.now.items in
-    let f : ℕ → Content = text_content c.args.map.now.first (type_of c.args.kind) (strings_of c.args.kind c.args.map.now) in
+    let f : ℕ → Content =
+    text_content c.args.map.now.first (type_of c.args.kind) (strings_of c.args.kind c.args.map.now) in
     let count = length-kind_contents c.args.map.now c.args.kind in
-    let all : c.loop-k.k ≡ pack_count (strings_of c.args.kind c.args.map.now) = omega (arith, c.kind_packs-k-end.ensures.value) in
+    let all : c.loop-k.k ≡ pack_count (strings_of c.args.kind c.args.map.now) =
+    omega (arith, c.kind_packs-k-end.ensures.value) in
     c.loop-k.invariant ∙ ap (λ (k : ℕ). old ++ numbered (length old) (map f (below k))) all

@@ -6,4 +6,6 @@ use Rattle.cdtext_packs.proofs.writer.push_kind.Given as goal
 
 abbrev pub invariant-loop-k : goal.invariant-loop-k
 invariant-loop-k l =
-    l.packs.items ≡ l.initial.packs.items ++ numbered (length l.initial.packs.items) (map (text_content l.map.first (type_of l.kind) (strings_of l.kind l.map)) (below l.k))
+    l.packs.items
+    ≡ l.initial.packs.items ++ numbered (length l.initial.packs.items)
+    (map (text_content l.map.first (type_of l.kind) (strings_of l.kind l.map)) (below l.k))

@@ -8,11 +8,13 @@ pub loop-d-preserved : goal.loop-d-preserved
 loop-d-preserved c =
     let old = c.args.packs.now.items in
     let d = c.loop-d.d in
-    let more = pushed_more old (size_content c.args.map.now) (length old) d (c.len-count.result + d) (search rules) in
+    let more =
+    pushed_more old (size_content c.args.map.now) (length old) d (c.len-count.result + d) (search rules) in
     search (rules, more)
 
 pub returns : goal.returns
 returns c =
     let old = c.args.packs.now.items in
     let all : c.loop-d.d ≡ 3 = omega arith in
-    c.loop-d.invariant ∙ ap (λ (k : ℕ). old ++ numbered (length old) (map (size_content c.args.map.now) (below k))) all
+    c.loop-d.invariant
+    ∙ ap (λ (k : ℕ). old ++ numbered (length old) (map (size_content c.args.map.now) (below k))) all

@@ -5,4 +5,5 @@ use Rattle.cdtext_packs.proofs.writer.push_sizes.Given as goal
 
 abbrev pub invariant-loop-d : goal.invariant-loop-d
 invariant-loop-d l =
-    l.packs.items ≡ l.initial.packs.items ++ numbered (length l.initial.packs.items) (map (size_content l.map) (below l.d))
+    l.packs.items
+    ≡ l.initial.packs.items ++ numbered (length l.initial.packs.items) (map (size_content l.map) (below l.d))

@@ -13,6 +13,8 @@ returns c =
       | else-place-eq0 w ↦ inr (w.if-place-eq0.false, w.track-is)
     ]) in
     let text = c.twelve.ensures in
-    let content = content_is c.args.first (type_of c.args.kind) c.args.number c.args.k c.if-place-eq0.track c.min.result c.args.strings.now c.twelve.result holder
+    let content =
+    content_is c.args.first (type_of c.args.kind) c.args.number c.args.k c.if-place-eq0.track c.min.result
+    c.args.strings.now c.twelve.result holder
     c.holder-place.ensures.holder track c.min.ensures (search rules) in
     search (rules, ap sealed content)

@@ -9,7 +9,8 @@ use Rattle.disc_plan.specs.declared.stops.PlanStop.{PlanStop}
 use Rattle.disc_plan.specs.declared.stops.PlanStop.TheVariants.{ScriptTooLong, Script, NoMemory}
 use Rattle.disc_plan.proofs.plan.plan_disc.Goals as goal
 
-script_stop : (disc : DiscTexts) (room : ℕ) (sheet : CueSheet) (stop : PlanStop) → read_cue disc.sheet ≡ Ok sheet
+script_stop : (disc : DiscTexts) (room : ℕ) (sheet : CueSheet) (stop : PlanStop)
+    → read_cue disc.sheet ≡ Ok sheet
     → length disc.sheet ≤ most_text_bytes → IsPlanScriptStop disc.script stop → IsPlanStop disc room stop
 script_stop disc room sheet ScriptTooLong read few is = (sheet, read, is)
 script_stop disc room sheet (Script line why) read few is = (sheet, read, is)

@@ -12,8 +12,10 @@ pub unreachable-requires-in_default-next_number : goal.unreachable-requires-in_d
 unreachable-requires-in_default-next_number c =
     let script = c.args.script.now in
     let count = c.each_picture_has_a_line.ensures c.args.text.now script c.requires.read in
-    let lt : c.loop-k.k < pictures script = omega (arith, c.pictures-k-end.ensures.value, c.loop-k-test.true, c.loop-k.auto.k-end) in
-    no_line_left (show_lines c.args.text.now) c.loop-k.lines c.loop-k.k c.in_default-next_number.ensures.0 c.loop-k.invariant.0.lines_are (omega (arith, lt, count))
+    let lt : c.loop-k.k < pictures script =
+    omega (arith, c.pictures-k-end.ensures.value, c.loop-k-test.true, c.loop-k.auto.k-end) in
+    no_line_left (show_lines c.args.text.now) c.loop-k.lines c.loop-k.k c.in_default-next_number.ensures.0
+    c.loop-k.invariant.0.lines_are (omega (arith, lt, count))
 
 pub loop-k-preserved : goal.loop-k-preserved
 loop-k-preserved c =
@@ -27,17 +29,30 @@ loop-k-preserved c =
     let same = c.loop-k.invariant.1 in
     let given = c.loop-k.invariant.2 in
     let count = c.each_picture_has_a_line.ensures c.args.text.now script c.requires.read in
-    let lt : k < pictures script = omega (arith, c.pictures-k-end.ensures.value, c.loop-k-test.true, c.loop-k.auto.k-end) in
-    let here : IsPlanRow script k plan = subst (λ (s : List Drawing). IsPlanRow s k plan) same (subst (λ n. IsPlanRow c.loop-k.planner.script n plan) given c.in-Some.ensures.row) in
+    let lt : k < pictures script =
+    omega (arith, c.pictures-k-end.ensures.value, c.loop-k-test.true, c.loop-k.auto.k-end) in
+    let here : IsPlanRow script k plan =
+    subst (λ (s : List Drawing). IsPlanRow s k plan) same
+    (subst (λ n. IsPlanRow c.loop-k.planner.script n plan) given c.in-Some.ensures.row) in
     let found : IsWriting script all c.args.rows.now k (line ∷ lines) c.loop-k.rows c.loop-k.late = subst
-    (λ (ls : List ℕ). IsWriting script all c.args.rows.now k ls c.loop-k.rows c.loop-k.late) c.in-Some-next_number.ensures so_far in
-    let told : IsWriting script all c.args.rows.now (k + 1) lines (slice_set c.loop-k.rows k c.told_row.result) c.if-plan.late =
-    subst (λ (row : PlannedRow). IsWriting script all c.args.rows.now (k + 1) lines (slice_set c.loop-k.rows k row) c.if-plan.late) (sym c.told_row.ensures)
+    (λ (ls : List ℕ). IsWriting script all c.args.rows.now k ls c.loop-k.rows c.loop-k.late)
+    c.in-Some-next_number.ensures so_far in
+    let told : IsWriting script all c.args.rows.now (k + 1) lines
+    (slice_set c.loop-k.rows k c.told_row.result) c.if-plan.late =
+    subst (λ (row : PlannedRow).
+    IsWriting script all c.args.rows.now (k + 1) lines (slice_set c.loop-k.rows k row) c.if-plan.late)
+    (sym c.told_row.ensures)
     (elim c.if-plan.branch [
-      | then-plan w ↦ one_written script all c.args.rows.now c.loop-k.rows k line lines plan c.loop-k.late c.if-plan.late true found lt c.requires.room count here w.if-plan.true w.late-is
-      | else-plan w ↦ one_written script all c.args.rows.now c.loop-k.rows k line lines plan c.loop-k.late c.if-plan.late false found lt c.requires.room count here w.if-plan.false (omega (arith, w.late-is))
+      | then-plan w ↦
+          one_written script all c.args.rows.now c.loop-k.rows k line lines plan c.loop-k.late c.if-plan.late
+          true found lt c.requires.room count here w.if-plan.true w.late-is
+      | else-plan w ↦
+          one_written script all c.args.rows.now c.loop-k.rows k line lines plan c.loop-k.late c.if-plan.late
+          false found lt c.requires.room count here w.if-plan.false (omega (arith, w.late-is))
     ]) in (
       told,
       c.in-Some.ensures.script ∙ same,
-      given_next c.loop-k.planner.given (pictures c.loop-k.planner.script) c.next_row.new.self.given (omega (arith, lt, given, ap pictures same)) c.in-Some.ensures.given ∙ ap (λ n. n + 1) given,
+      given_next c.loop-k.planner.given (pictures c.loop-k.planner.script) c.next_row.new.self.given
+          (omega (arith, lt, given, ap pictures same)) c.in-Some.ensures.given
+          ∙ ap (λ n. n + 1) given,
     )

@@ -6,5 +6,6 @@ use Rattle.live_player.proofs.looking.parts.Given as goal
 abbrev pub invariant-loop-k : goal.invariant-loop-k
 invariant-loop-k l = record {
   size : length l.table ≡ 16;
-  shown : (n : ℕ) → n < l.k → slice_index l.table n ≡ slice_index (colour_bytes (slice_index l.screen.colours n)) l.which;
+  shown : (n : ℕ) → n < l.k
+      → slice_index l.table n ≡ slice_index (colour_bytes (slice_index l.screen.colours n)) l.which;
 }

@@ -4,4 +4,5 @@ use Rattle.cdg_screen.specs.Standing.{screen_pixel}
 use Rattle.live_player.proofs.looking.pixels.Given as goal
 
 abbrev pub invariant-loop-y : goal.invariant-loop-y
-invariant-loop-y l = (n : ℕ) → n < 300 * l.y → slice_index l.pixels n ≡ screen_pixel l.screen (n % 300) (n / 300)
+invariant-loop-y l =
+    (n : ℕ) → n < 300 * l.y → slice_index l.pixels n ≡ screen_pixel l.screen (n % 300) (n / 300)

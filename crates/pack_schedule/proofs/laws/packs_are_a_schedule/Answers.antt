@@ -5,7 +5,8 @@ use Rattle.pack_schedule.proofs.laws.packs_are_a_schedule.Goals as goal
 
 pub returns-clause-schedule : goal.returns-clause-schedule
 returns-clause-schedule c script blocks survey packs ranges small held within surveyed count are =
-    is_schedule IsChange script blocks survey packs (λ k. c.needs_are_fewest.ensures.change script k ranges small)
+    is_schedule IsChange script blocks survey packs
+    (λ k. c.needs_are_fewest.ensures.change script k ranges small)
     held within surveyed count are
 
 pub returns-clause-ordered : goal.returns-clause-ordered

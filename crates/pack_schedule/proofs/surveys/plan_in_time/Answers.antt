@@ -6,7 +6,8 @@ pub returns-then-not-is_in_time-clause-late : goal.returns-then-not-is_in_time-c
 returns-then-not-is_in_time-clause-late c =
     let change = c.plan_picture-change.ensures in
     let made = c.plan_picture-change.result in
-    late_at c.args.script.now c.args.k made.start made.need c.free_packs.result change.start change.need c.free_packs.ensures (sym c.is_in_time.ensures ∙ c.if-not-is_in_time.true)
+    late_at c.args.script.now c.args.k made.start made.need c.free_packs.result change.start change.need
+    c.free_packs.ensures (sym c.is_in_time.ensures ∙ c.if-not-is_in_time.true)
 
 pub returns-clause-planned : goal.returns-clause-planned
 returns-clause-planned c =
@@ -16,5 +17,7 @@ returns-clause-planned c =
       start_is = change.start;
       preset_is = change.preset;
       need_is = change.need;
-      in_time = in_time c.args.script.now c.args.k made.start made.need change.start (sym c.is_in_time.ensures ∙ c.if-not-is_in_time.false);
+      in_time =
+          in_time c.args.script.now c.args.k made.start made.need change.start
+          (sym c.is_in_time.ensures ∙ c.if-not-is_in_time.false);
     }

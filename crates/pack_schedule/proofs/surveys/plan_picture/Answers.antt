@@ -8,4 +8,5 @@ returns-clause-need c =
     let k = c.args.k in
     let small = c.times_rise_and_colours_are_in_range.ensures.pixels in
     c.choose_start-choice.ensures.need ∙ ap (planned_length script k) c.choose_start-choice.ensures.preset
-    ∙ sym (c.changes_have_planned_lengths.ensures.length script k (chosen_start script k) (planned_change script k) small (c.planned_changes_are_changes.ensures.planned script k small))
+    ∙ sym (c.changes_have_planned_lengths.ensures.length script k (chosen_start script k)
+    (planned_change script k) small (c.planned_changes_are_changes.ensures.planned script k small))

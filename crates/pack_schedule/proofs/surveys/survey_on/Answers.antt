@@ -11,10 +11,12 @@ loop-k-preserved c =
     let script = c.args.script.now in
     let k = c.loop-k.k in
     let change = c.in_ok-change.ensures in (
-      one_planned script k c.loop-k.planned.items c.push.new.self.items c.in_ok-change.change c.loop-k.invariant.0 change.planned c.in_ok-push.ensures.items,
+      one_planned script k c.loop-k.planned.items c.push.new.self.items c.in_ok-change.change
+          c.loop-k.invariant.0 change.planned c.in_ok-push.ensures.items,
       stands_next script k c.draw_like.new.self c.draw_like.ensures.at c.draw_like.ensures.picture,
       change.now,
-      (λ pos. let here : k ≡ k + 1 - 1 = omega arith in subst (λ n. AreWeights script n c.plan_in_time.new.weights) here change.weights),
+      (λ pos. let here : k ≡ k + 1 - 1 = omega arith in
+          subst (λ n. AreWeights script n c.plan_in_time.new.weights) here change.weights),
     )
 
 pub returns-in_err-change-clause-err : goal.returns-in_err-change-clause-err
@@ -24,9 +26,13 @@ returns-in_err-change-clause-err c =
     let script = c.args.script.now in
     let known = c.pictures-pictures.ensures in
     let told = c.in_err-change.ensures.late in
-    let stop : IsStop script c.args.blocks c.in_err-change.field-0.0 = subst (IsStop script c.args.blocks) (sym told.0) (
+    let stop : IsStop script c.args.blocks c.in_err-change.field-0.0 =
+    subst (IsStop script c.args.blocks) (sym told.0) (
       is_within script c.args.blocks (record { held = known.held; later = known.later }) c.requires.end,
-      is_late needs script c.loop-k.k _ _ c.loop-k.planned.items (record { border = known.borders; colour = known.colours }) known.pixels (omega (arith, known.value)) c.loop-k.invariant.0 refl refl told.1,
+      is_late needs script c.loop-k.k _ _ c.loop-k.planned.items
+          (record { border = known.borders; colour = known.colours }) known.pixels
+          (omega (arith, known.value))
+          c.loop-k.invariant.0 refl refl told.1,
     ) in
     let p = err_from_is_err_and c.from_residual.result c.from_residual.ensures.1 in
     rw (p.1, p.2) stop
@@ -34,10 +40,16 @@ returns-in_err-change-clause-err c =
 pub returns-clause-within : goal.returns-clause-within
 returns-clause-within c =
     let known = c.pictures-pictures.ensures in
-    is_within c.args.script.now c.args.blocks (record { held = known.held; later = known.later }) c.requires.end
+    is_within c.args.script.now c.args.blocks (record { held = known.held; later = known.later })
+    c.requires.end
 
 pub loop-k-init : goal.loop-k-init
-loop-k-init c = (none_planned c.args.script.now c.new-planned.result.items c.new-planned.ensures.items, c.requires.before, c.requires.now, λ pos. absurd (omega (arith, pos)))
+loop-k-init c = (
+  none_planned c.args.script.now c.new-planned.result.items c.new-planned.ensures.items,
+  c.requires.before,
+  c.requires.now,
+  λ pos. absurd (omega (arith, pos)),
+)
 
 pub plan_in_time-requires-clause-before : goal.plan_in_time-requires-clause-before
 plan_in_time-requires-clause-before c = c.loop-k.invariant.1.drawn
@@ -49,10 +61,12 @@ pub draw_like-requires-clause-there : goal.draw_like-requires-clause-there
 draw_like-requires-clause-there c = (stands_now c.args.script.now c.loop-k.k _ c.in_ok-change.ensures.now).0
 
 pub draw_like-requires-clause-there_at : goal.draw_like-requires-clause-there_at
-draw_like-requires-clause-there_at c = (stands_now c.args.script.now c.loop-k.k _ c.in_ok-change.ensures.now).1
+draw_like-requires-clause-there_at c =
+    (stands_now c.args.script.now c.loop-k.k _ c.in_ok-change.ensures.now).1
 
 pub draw_like-requires-clause-before : goal.draw_like-requires-clause-before
-draw_like-requires-clause-before c = stands_before c.args.script.now c.loop-k.k c.loop-k.before c.loop-k.invariant.1
+draw_like-requires-clause-before c =
+    stands_before c.args.script.now c.loop-k.k c.loop-k.before c.loop-k.invariant.1
 
 pub returns-in_err-push-clause-err : goal.returns-in_err-push-clause-err
 returns-in_err-push-clause-err c =
@@ -61,5 +75,6 @@ returns-in_err-push-clause-err c =
 
 pub returns-clause-planned : goal.returns-clause-planned
 returns-clause-planned c =
-    let all : c.loop-k.k ≡ pictures c.args.script.now = omega (arith, c.pictures-pictures.ensures.value, c.loop-k-test.false, c.loop-k.auto.k-end) in
+    let all : c.loop-k.k ≡ pictures c.args.script.now =
+    omega (arith, c.pictures-pictures.ensures.value, c.loop-k-test.false, c.loop-k.auto.k-end) in
     subst (λ n. ArePlanned c.args.script.now n c.loop-k.planned.items) all c.loop-k.invariant.0

@@ -5,4 +5,8 @@ use Rattle.pack_schedule.specs.Weaving.{Stands}
 use Rattle.pack_schedule.proofs.surveys.survey_on.Given as goal
 
 abbrev pub invariant-loop-k : goal.invariant-loop-k
-invariant-loop-k l = ArePlanned l.script l.k l.planned.items × Stands l.script l.k l.before × Stands l.script l.k l.now × (0 < l.k → AreWeights l.script (l.k - 1) l.weights)
+invariant-loop-k l =
+    ArePlanned l.script l.k l.planned.items
+    × Stands l.script l.k l.before
+    × Stands l.script l.k l.now
+    × (0 < l.k → AreWeights l.script (l.k - 1) l.weights)

@@ -5,11 +5,13 @@ use Rattle.picture_changes.proofs.length_laws.needs_are_fewest.Goals as goal
 
 pub returns-clause-change : goal.returns-clause-change
 returns-clause-change c script k ranges small =
-    c.ordered_changes_are_shortest.ensures script k (planned_change script k) ranges small (c.planned_changes_are_changes.ensures.change script k small)
+    c.ordered_changes_are_shortest.ensures script k (planned_change script k) ranges small
+    (c.planned_changes_are_changes.ensures.change script k small)
 
 pub returns-clause-planned : goal.returns-clause-planned
 returns-clause-planned c script k need ranges small is =
-    one_need script k need (length (planned_change script k)) is (planned_change script k, returns-clause-change c script k ranges small, refl)
+    one_need script k need (length (planned_change script k)) is
+    (planned_change script k, returns-clause-change c script k ranges small, refl)
 
 pub returns-clause-one : goal.returns-clause-one
 returns-clause-one c = one_need

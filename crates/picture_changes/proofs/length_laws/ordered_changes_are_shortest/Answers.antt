@@ -10,6 +10,10 @@ returns c script k instrs ranges small change =
     let l = c.changes_have_planned_lengths.ensures in
     let known : ChangesAreKnown = record { planned = l.planned; length = l.length } in
     record {
-      brings = λ now before. brings c.instructions_in_turn.ensures c.changes_can_be_written.ensures script k now instrs ranges change before;
-      shortest = λ now others before brought. not_shorter plans script k small now others before brought known instrs change;
+      brings =
+          λ now before. brings c.instructions_in_turn.ensures c.changes_can_be_written.ensures script k now
+          instrs ranges change before;
+      shortest =
+          λ now others before brought.
+          not_shorter plans script k small now others before brought known instrs change;
     }

@@ -6,4 +6,7 @@ use Rattle.picture_script.proofs.Numbers.{with_front}
 use Rattle.picture_script.proofs.words.numbers.Given as goal
 
 abbrev pub invariant-loop-i : goal.invariant-loop-i
-invariant-loop-i g l = (numbers_in g.row.N (words_in l.line) ≡ with_front (take l.i l.numbers) (numbers_in (g.row.N - l.i) (words_in l.rest))) × (length l.numbers ≡ g.row.N) × All (λ n. n < 1000) l.numbers
+invariant-loop-i g l = (numbers_in g.row.N (words_in l.line)
+    ≡ with_front (take l.i l.numbers) (numbers_in (g.row.N - l.i) (words_in l.rest)))
+    × (length l.numbers ≡ g.row.N)
+    × All (λ n. n < 1000) l.numbers

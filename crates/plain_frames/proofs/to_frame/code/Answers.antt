@@ -4,4 +4,7 @@ use Rattle.plain_frames.specs.Plain.{IsWhereValid}
 use Rattle.plain_frames.proofs.to_frame.code.Goals as goal
 
 pub returns : goal.returns
-returns c = subst (λ (text : List ℕ). IsWhereValid c.recorded.result (Isrc c.args.plain.now.control text c.args.plain.now.frame)) c.first_twelve.ensures c.recorded.ensures
+returns c =
+    subst (λ (text : List ℕ).
+    IsWhereValid c.recorded.result (Isrc c.args.plain.now.control text c.args.plain.now.frame))
+    c.first_twelve.ensures c.recorded.ensures

@@ -4,4 +4,7 @@ use Rattle.plain_frames.specs.Plain.{IsWhereValid}
 use Rattle.plain_frames.proofs.to_frame.other.Goals as goal
 
 pub returns : goal.returns
-returns c = subst (λ (text : List ℕ). IsWhereValid c.bare.result (Other c.args.plain.now.control c.args.plain.now.mode text)) c.first_nine.ensures c.bare.ensures
+returns c =
+    subst (λ (text : List ℕ).
+    IsWhereValid c.bare.result (Other c.args.plain.now.control c.args.plain.now.mode text))
+    c.first_nine.ensures c.bare.ensures

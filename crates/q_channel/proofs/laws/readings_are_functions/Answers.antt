@@ -4,4 +4,5 @@ use Rattle.q_channel.proofs.ReadingLaws.{is_reading, only_reading}
 use Rattle.q_channel.proofs.laws.readings_are_functions.Goals as goal
 
 pub returns : goal.returns
-returns c message what size = (only_reading message what size, λ is. subst (IsReading message) (sym is) (is_reading message size))
+returns c message what size =
+    (only_reading message what size, λ is. subst (IsReading message) (sym is) (is_reading message size))

@@ -6,5 +6,7 @@ use Rattle.q_channel.proofs.message.bytes_with_check.Goals as goal
 
 pub returns : goal.returns
 returns c =
-    let size : length (bits_of_bytes c.args.bytes.now) ≡ 80 = omega (arith, length-bits_of_bytes c.args.bytes.now, c.type_inv.bytes) in
-    with_check_bits c.args.bytes.now (bits_of_bytes c.args.bytes.now) c.crc16-check.result size refl c.crc16-check.ensures
+    let size : length (bits_of_bytes c.args.bytes.now) ≡ 80 =
+    omega (arith, length-bits_of_bytes c.args.bytes.now, c.type_inv.bytes) in
+    with_check_bits c.args.bytes.now (bits_of_bytes c.args.bytes.now) c.crc16-check.result size refl
+    c.crc16-check.ensures

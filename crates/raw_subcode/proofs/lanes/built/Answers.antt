@@ -9,28 +9,37 @@ pub returns-clause-p : goal.returns-clause-p
 unfolding in_lanes
 returns-clause-p c = λ j lt.
     let symbols : ℕ → ℕ = λ k. slice_index c.args.symbols.now (c.args.first + k) in
-    let begin : slice_index c.args.symbols.now c.args.first ≡ symbols 0 = ap (slice_index c.args.symbols.now) (omega arith) in
-    let eight : c.from_le_bytes-eight.result ≡ in_lanes 8 symbols = omega (arith, c.from_le_bytes-eight.ensures, begin) in
+    let begin : slice_index c.args.symbols.now c.args.first ≡ symbols 0 =
+    ap (slice_index c.args.symbols.now) (omega arith) in
+    let eight : c.from_le_bytes-eight.result ≡ in_lanes 8 symbols =
+    omega (arith, c.from_le_bytes-eight.ensures, begin) in
     ap (λ bytes. channel_bit 0 (slice_index bytes j)) c.to_le_bytes.ensures
-    ∙ built_p c.args.p c.args.q _ j symbols (λ k k_lt. c.requires.symbols (c.args.first + k) 0 (omega (arith, k_lt, c.told-symbols, c.requires.first)))
+    ∙ built_p c.args.p c.args.q _ j symbols (λ k k_lt.
+    c.requires.symbols (c.args.first + k) 0 (omega (arith, k_lt, c.told-symbols, c.requires.first)))
     (omega (arith, c.p_bits.ensures.bits, c.lanes.ensures.lanes, eight)) lt
 
 pub returns-clause-q : goal.returns-clause-q
 unfolding in_lanes
 returns-clause-q c = λ j lt.
     let symbols : ℕ → ℕ = λ k. slice_index c.args.symbols.now (c.args.first + k) in
-    let begin : slice_index c.args.symbols.now c.args.first ≡ symbols 0 = ap (slice_index c.args.symbols.now) (omega arith) in
-    let eight : c.from_le_bytes-eight.result ≡ in_lanes 8 symbols = omega (arith, c.from_le_bytes-eight.ensures, begin) in
+    let begin : slice_index c.args.symbols.now c.args.first ≡ symbols 0 =
+    ap (slice_index c.args.symbols.now) (omega arith) in
+    let eight : c.from_le_bytes-eight.result ≡ in_lanes 8 symbols =
+    omega (arith, c.from_le_bytes-eight.ensures, begin) in
     ap (λ bytes. channel_bit 1 (slice_index bytes j)) c.to_le_bytes.ensures
-    ∙ built_q c.args.p c.args.q _ j symbols (λ k k_lt. c.requires.symbols (c.args.first + k) 0 (omega (arith, k_lt, c.told-symbols, c.requires.first)))
+    ∙ built_q c.args.p c.args.q _ j symbols (λ k k_lt.
+    c.requires.symbols (c.args.first + k) 0 (omega (arith, k_lt, c.told-symbols, c.requires.first)))
     (omega (arith, c.p_bits.ensures.bits, c.lanes.ensures.lanes, eight)) lt
 
 pub returns-clause-symbol : goal.returns-clause-symbol
 unfolding in_lanes
 returns-clause-symbol c = λ j lt.
     let symbols : ℕ → ℕ = λ k. slice_index c.args.symbols.now (c.args.first + k) in
-    let begin : slice_index c.args.symbols.now c.args.first ≡ symbols 0 = ap (slice_index c.args.symbols.now) (omega arith) in
-    let eight : c.from_le_bytes-eight.result ≡ in_lanes 8 symbols = omega (arith, c.from_le_bytes-eight.ensures, begin) in
+    let begin : slice_index c.args.symbols.now c.args.first ≡ symbols 0 =
+    ap (slice_index c.args.symbols.now) (omega arith) in
+    let eight : c.from_le_bytes-eight.result ≡ in_lanes 8 symbols =
+    omega (arith, c.from_le_bytes-eight.ensures, begin) in
     ap (λ bytes. slice_index bytes j % 64) c.to_le_bytes.ensures
-    ∙ built_symbol c.args.p c.args.q _ j symbols (λ k k_lt. c.requires.symbols (c.args.first + k) 0 (omega (arith, k_lt, c.told-symbols, c.requires.first)))
+    ∙ built_symbol c.args.p c.args.q _ j symbols (λ k k_lt.
+    c.requires.symbols (c.args.first + k) 0 (omega (arith, k_lt, c.told-symbols, c.requires.first)))
     (omega (arith, c.p_bits.ensures.bits, c.lanes.ensures.lanes, eight)) lt

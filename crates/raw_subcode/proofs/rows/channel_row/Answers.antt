@@ -12,7 +12,8 @@ returns-clause-lanes c = λ k lt.
     let row : List ℕ = c.if-channel-lt7.result in
     elim c.if-channel-lt7.branch [
       | then-channel-lt7 w ↦
-          ap (λ (l : List ℕ). slice_index l k) w.result-is ∙ get_or-chunk (12 * c.args.channel) 16 planar k 0 (omega arith)
+          ap (λ (l : List ℕ). slice_index l k) w.result-is
+          ∙ get_or-chunk (12 * c.args.channel) 16 planar k 0 (omega arith)
       | else-channel-lt7 w ↦
           let size : length (chunk 80 16 planar) ≡ 16 = length-chunk 80 16 planar (omega arith) in
           let place : 80 + (k + 4) ≡ 12 * c.args.channel + k = omega arith in

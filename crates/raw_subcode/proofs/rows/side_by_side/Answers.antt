@@ -9,20 +9,39 @@ returns c = λ n lt.
     let rows = c.args.rows in
     elim (cases_lt n 64) [
       | inr third ↦
-          woven_thrice rows c.woven.result.1 c.woven-2.result.1 c.woven-3.result.1 c.woven-4.result.1 c.woven-7.result.0 c.woven-8.result.0 (slice_index c.put_woven-3.new.bytes n) n (n % 32 / 2) (n % 32 / 2 / 2) (8 + (n % 32 / 2 / 2) / 2)
-          (c.put_woven-3.ensures.here n lt (omega arith)) (c.woven-7.ensures.first (n % 32 / 2) (omega arith)) (c.woven-8.ensures.first (n % 32 / 2) (omega arith))
-          (c.woven.ensures.second (n % 32 / 2 / 2) (omega arith)) (c.woven-2.ensures.second (n % 32 / 2 / 2) (omega arith)) (c.woven-3.ensures.second (n % 32 / 2 / 2) (omega arith)) (c.woven-4.ensures.second (n % 32 / 2 / 2) (omega arith))
+          woven_thrice rows c.woven.result.1 c.woven-2.result.1 c.woven-3.result.1 c.woven-4.result.1
+          c.woven-7.result.0 c.woven-8.result.0 (slice_index c.put_woven-3.new.bytes n) n (n % 32 / 2)
+          (n % 32 / 2 / 2) (8 + (n % 32 / 2 / 2) / 2)
+          (c.put_woven-3.ensures.here n lt (omega arith)) (c.woven-7.ensures.first (n % 32 / 2) (omega arith))
+          (c.woven-8.ensures.first (n % 32 / 2) (omega arith))
+          (c.woven.ensures.second (n % 32 / 2 / 2) (omega arith))
+          (c.woven-2.ensures.second (n % 32 / 2 / 2) (omega arith))
+          (c.woven-3.ensures.second (n % 32 / 2 / 2) (omega arith))
+          (c.woven-4.ensures.second (n % 32 / 2 / 2) (omega arith))
           (omega arith) (omega arith)
       | inl under ↦ c.put_woven-3.ensures.elsewhere n under ∙ elim (cases_lt n 32) [
         | inr second ↦
-            woven_thrice rows c.woven.result.0 c.woven-2.result.0 c.woven-3.result.0 c.woven-4.result.0 c.woven-5.result.1 c.woven-6.result.1 (slice_index c.put_woven-2.new.bytes n) n (n % 32 / 2) (8 + n % 32 / 2 / 2) ((8 + n % 32 / 2 / 2) / 2)
-            (c.put_woven-2.ensures.here n lt (omega arith)) (c.woven-5.ensures.second (n % 32 / 2) (omega arith)) (c.woven-6.ensures.second (n % 32 / 2) (omega arith))
-            (c.woven.ensures.first (8 + n % 32 / 2 / 2) (omega arith)) (c.woven-2.ensures.first (8 + n % 32 / 2 / 2) (omega arith)) (c.woven-3.ensures.first (8 + n % 32 / 2 / 2) (omega arith)) (c.woven-4.ensures.first (8 + n % 32 / 2 / 2) (omega arith))
+            woven_thrice rows c.woven.result.0 c.woven-2.result.0 c.woven-3.result.0 c.woven-4.result.0
+            c.woven-5.result.1 c.woven-6.result.1 (slice_index c.put_woven-2.new.bytes n) n (n % 32 / 2)
+            (8 + n % 32 / 2 / 2) ((8 + n % 32 / 2 / 2) / 2)
+            (c.put_woven-2.ensures.here n lt (omega arith))
+            (c.woven-5.ensures.second (n % 32 / 2) (omega arith))
+            (c.woven-6.ensures.second (n % 32 / 2) (omega arith))
+            (c.woven.ensures.first (8 + n % 32 / 2 / 2) (omega arith))
+            (c.woven-2.ensures.first (8 + n % 32 / 2 / 2) (omega arith))
+            (c.woven-3.ensures.first (8 + n % 32 / 2 / 2) (omega arith))
+            (c.woven-4.ensures.first (8 + n % 32 / 2 / 2) (omega arith))
             (omega arith) (omega arith)
         | inl first ↦ c.put_woven-2.ensures.elsewhere n first
-            ∙ woven_thrice rows c.woven.result.0 c.woven-2.result.0 c.woven-3.result.0 c.woven-4.result.0 c.woven-5.result.0 c.woven-6.result.0 (slice_index c.put_woven.new.bytes n) n (n % 32 / 2) (n % 32 / 2 / 2) ((n % 32 / 2 / 2) / 2)
-            (c.put_woven.ensures.here n lt (omega arith)) (c.woven-5.ensures.first (n % 32 / 2) (omega arith)) (c.woven-6.ensures.first (n % 32 / 2) (omega arith))
-            (c.woven.ensures.first (n % 32 / 2 / 2) (omega arith)) (c.woven-2.ensures.first (n % 32 / 2 / 2) (omega arith)) (c.woven-3.ensures.first (n % 32 / 2 / 2) (omega arith)) (c.woven-4.ensures.first (n % 32 / 2 / 2) (omega arith))
+            ∙ woven_thrice rows c.woven.result.0 c.woven-2.result.0 c.woven-3.result.0 c.woven-4.result.0
+            c.woven-5.result.0 c.woven-6.result.0 (slice_index c.put_woven.new.bytes n) n (n % 32 / 2)
+            (n % 32 / 2 / 2) ((n % 32 / 2 / 2) / 2)
+            (c.put_woven.ensures.here n lt (omega arith)) (c.woven-5.ensures.first (n % 32 / 2) (omega arith))
+            (c.woven-6.ensures.first (n % 32 / 2) (omega arith))
+            (c.woven.ensures.first (n % 32 / 2 / 2) (omega arith))
+            (c.woven-2.ensures.first (n % 32 / 2 / 2) (omega arith))
+            (c.woven-3.ensures.first (n % 32 / 2 / 2) (omega arith))
+            (c.woven-4.ensures.first (n % 32 / 2 / 2) (omega arith))
             (omega arith) (omega arith)
       ]
     ]

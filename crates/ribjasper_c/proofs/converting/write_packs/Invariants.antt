@@ -6,5 +6,7 @@ abbrev pub invariant-loop-n : goal.invariant-loop-n
 invariant-loop-n l = record {
   stages : l.stages ≡ stages_after l.form l.lead_in l.stream l.n;
   at : l.at ≡ length (text_of l.form l.lead_in l.stream l.n);
-  packs : l.packs ≡ text_of l.form l.lead_in l.stream l.n ++ drop (length (text_of l.form l.lead_in l.stream l.n)) l.initial.packs;
+  packs : l.packs
+      ≡ text_of l.form l.lead_in l.stream l.n
+      ++ drop (length (text_of l.form l.lead_in l.stream l.n)) l.initial.packs;
 }

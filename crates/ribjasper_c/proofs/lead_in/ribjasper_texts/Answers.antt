@@ -9,5 +9,6 @@ pub returns-in-Err-clause-texts : goal.returns-in-Err-clause-texts
 returns-in-Err-clause-texts c =
     let stream = c.args.stream.now in
     refused_texts (stream_form c.args.form) c.args.lead_in stream c.in-Err.fault _ c.refuse.new.told
-    (subst (λ (form : Form). IsTextFault c.in-Err.fault (texts_of_lead_in form c.args.lead_in stream)) c.stream_form-form.ensures c.in-Err.ensures.fault)
+    (subst (λ (form : Form). IsTextFault c.in-Err.fault (texts_of_lead_in form c.args.lead_in stream))
+    c.stream_form-form.ensures c.in-Err.ensures.fault)
     (passed_on c.in-Err.fault c.refuse.result c.refuse.ensures.answer) c.refuse.ensures.told

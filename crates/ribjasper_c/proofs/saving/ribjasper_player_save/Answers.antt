@@ -5,6 +5,8 @@ use Rattle.ribjasper_c.proofs.saving.ribjasper_player_save.Goals as goal
 
 pub returns-clause-can : goal.returns-clause-can
 returns-clause-can c lead_in given playing most few is =
-    can _ _ lead_in given c.take_out-live.ensures playing (λ saved played. c.a_saved_player_goes_on.ensures.raw lead_in given saved played)
+    can _ _ lead_in given c.take_out-live.ensures playing
+    (λ saved played. c.a_saved_player_goes_on.ensures.raw lead_in given saved played)
     (λ saved played. c.a_saved_player_goes_on.ensures.accepted lead_in given saved played most few)
-    (subst CannotBeSaved c.deref.ensures (c.save-answer.ensures.refused (sym (passed_on c.save-answer.result c.save-answer.ensures.answer) ∙ is)))
+    (subst CannotBeSaved c.deref.ensures
+    (c.save-answer.ensures.refused (sym (passed_on c.save-answer.result c.save-answer.ensures.answer) ∙ is)))

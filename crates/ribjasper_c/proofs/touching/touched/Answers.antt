@@ -9,5 +9,6 @@ pub returns : goal.returns
 unfolding instruction_of
 returns c =
     let read : c.read_word.result ≡ instruction_of c.args.pack.now =
-    only_meaning (map (λ byte. byte % 64) c.args.pack.now) c.read_word.result (subst (λ (word : List ℕ). Means word c.read_word.result) c.new.ensures c.read_word.ensures.meaning) in
+    only_meaning (map (λ byte. byte % 64) c.args.pack.now) c.read_word.result
+    (subst (λ (word : List ℕ). Means word c.read_word.result) c.new.ensures c.read_word.ensures.meaning) in
     c.touches.ensures ∙ ap touched_by read

@@ -5,4 +5,5 @@ use Rattle.round_trips.proofs.frames.authored_frames_are_listed.Goals as goal
 
 pub returns : goal.returns
 returns c = λ sheet script lead_in audio bytes packs text bad authored listed.
-    frames_listed (layout_of sheet audio) (text_packs sheet) lead_in bytes authored.framing c.bits_have_one_reading.ensures text bad listed
+    frames_listed (layout_of sheet audio) (text_packs sheet) lead_in bytes authored.framing
+    c.bits_have_one_reading.ensures text bad listed

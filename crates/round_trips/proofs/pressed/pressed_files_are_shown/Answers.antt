@@ -8,4 +8,5 @@ returns-clause-text c form lead_in time others press text bad in_audio screen =
 
 pub returns-clause-bad : goal.returns-clause-bad
 returns-clause-bad c form lead_in time others press text bad in_audio screen =
-    none_bad form lead_in others press c.packs_are_recovered.ensures time text bad in_audio screen c.found_packs_are_the_text.ensures.bad
+    none_bad form lead_in others press c.packs_are_recovered.ensures time text bad in_audio screen
+    c.found_packs_are_the_text.ensures.bad

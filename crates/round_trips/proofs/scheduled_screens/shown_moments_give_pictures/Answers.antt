@@ -4,4 +4,6 @@ use Rattle.round_trips.proofs.scheduled_screens.shown_moments_give_pictures.Goal
 
 pub returns : goal.returns
 returns c form lead_in time all left out answer taken script k scheduled held shows answered =
-    gives_picture form lead_in time (Some all) left out.before out.after answer taken c.screens_show_pictures.ensures.text c.screens_show_pictures.ensures.bad shows answered script k scheduled held
+    gives_picture form lead_in time (Some all) left out.before out.after answer taken
+    c.screens_show_pictures.ensures.text c.screens_show_pictures.ensures.bad shows answered script k scheduled
+    held

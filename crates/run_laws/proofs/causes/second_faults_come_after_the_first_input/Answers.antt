@@ -6,4 +6,5 @@ use Rattle.run_laws.proofs.causes.second_faults_come_after_the_first_input.Goals
 
 pub returns : goal.returns
 returns c = λ command call status is told.
-    read_first command call (subst (λ (s : Status). Does command call s) told (is.does (λ memory. absurd (let both = sym memory ∙ told in cc))))
+    read_first command call (subst (λ (s : Status). Does command call s) told
+    (is.does (λ memory. absurd (let both = sym memory ∙ told in cc))))

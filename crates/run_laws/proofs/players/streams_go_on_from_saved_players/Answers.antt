@@ -6,4 +6,5 @@ use Rattle.run_laws.proofs.players.streams_go_on_from_saved_players.Goals as goa
 
 pub returns : goal.returns
 returns c lead_in given bytes saved blocks first played =
-    save_of lead_in bytes (file_of (checkpoint_of saved)) first (player_is_saved lead_in given bytes first blocks saved played)
+    save_of lead_in bytes (file_of (checkpoint_of saved)) first
+    (player_is_saved lead_in given bytes first blocks saved played)

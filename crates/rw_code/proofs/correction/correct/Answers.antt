@@ -5,4 +5,6 @@ pub returns-in-Some-clause-reads : goal.returns-in-Some-clause-reads
 returns-in-Some-clause-reads c = itself _ _ c.in-Some.ensures.0 c.in-Some.ensures.1
 
 pub returns-then-wrong-le2-clause-reads : goal.returns-then-wrong-le2-clause-reads
-returns-then-wrong-le2-clause-reads c = idle_near c.args.received.now c.idle.result c.weight-wrong.result c.idle.ensures c.weight-wrong.ensures.count c.if-wrong-le2.true
+returns-then-wrong-le2-clause-reads c =
+    idle_near c.args.received.now c.idle.result c.weight-wrong.result c.idle.ensures
+    c.weight-wrong.ensures.count c.if-wrong-le2.true

@@ -7,5 +7,7 @@ use Rattle.rw_interleave.proofs.window.first_words.Given as goal
 abbrev pub invariant-loop-first : goal.invariant-loop-first
 invariant-loop-first l = record {
   few : length l.words.items ≤ l.first;
-  words : l.words.items ≡ run_gives gather_next gather_gives (slots_in (l.early ++ (l.late ++ l.block)) (7 - l.count) l.count) (slots_in (l.early ++ (l.late ++ l.block)) 7 l.first);
+  words : l.words.items
+      ≡ run_gives gather_next gather_gives (slots_in (l.early ++ (l.late ++ l.block)) (7 - l.count) l.count)
+      (slots_in (l.early ++ (l.late ++ l.block)) 7 l.first);
 }

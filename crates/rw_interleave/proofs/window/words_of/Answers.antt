@@ -10,6 +10,8 @@ returns-then-count c =
     let b = (c.args.early.now ++ (c.args.late.now ++ c.args.block.now)) in
     let all : 7 ≡ c.args.count = sym c.if-count.true in
     c.from.ensures.0
-    ∙ four_words b c.word_at.result c.word_at-then-count.result c.word_at-then-count-2.result c.word_at-then-count-3.result
-    c.word_at.ensures c.word_at-then-count.ensures c.word_at-then-count-2.ensures c.word_at-then-count-3.ensures
+    ∙ four_words b c.word_at.result c.word_at-then-count.result c.word_at-then-count-2.result
+    c.word_at-then-count-3.result
+    c.word_at.ensures c.word_at-then-count.ensures c.word_at-then-count-2.ensures
+    c.word_at-then-count-3.ensures
     ∙ ap (λ n. run_gives gather_next gather_gives (slots_in b (7 - n) n) (slots_in b 7 4)) all

@@ -8,9 +8,13 @@ use Rattle.q_channel.specs.ReadingOf.{reading_of}
 use Rattle.rw_mend.specs.Streams.{is_empty_block}
 use Rattle.rw_mend.proofs.cover.is_empty.Goals as goal
 
-empty_is : (block : List ℕ) → is_empty_block block ≡ (list_all (λ byte. byte % 64 == 0) block && not (is_ok (reading_of (q_bits block))))
+empty_is : (block : List ℕ)
+    → is_empty_block block
+    ≡ (list_all (λ byte. byte % 64 == 0) block && not (is_ok (reading_of (q_bits block))))
 unfolding is_empty_block
-empty_is block = ap (λ (t : Bool). t && not (is_ok (reading_of (q_bits block)))) (list_all-map (λ (symbol : ℕ). symbol == 0) (λ (byte : ℕ). byte % 64) block)
+empty_is block =
+    ap (λ (t : Bool). t && not (is_ok (reading_of (q_bits block))))
+    (list_all-map (λ (symbol : ℕ). symbol == 0) (λ (byte : ℕ). byte % 64) block)
 
 pub returns-then-not-has_no_symbol : goal.returns-then-not-has_no_symbol
 returns-then-not-has_no_symbol c =
@@ -24,5 +28,8 @@ returns c =
     let all : list_all (λ byte. byte % 64 == 0) block ≡ true = cc in
     let same : c.from_bytes.result ≡ block = cc in
     let bits : bits_of_bytes c.q_frame.result ≡ q_bits block = c.q_frame.ensures.bits ∙ ap q_bits same in
-    let frame : c.is_frame.result ≡ is_ok (reading_of (q_bits block)) = c.is_frame.ensures ∙ ap (λ l. is_ok (reading_of l)) bits in
-    sym (empty_is block ∙ ap (λ (t : Bool). t && not (is_ok (reading_of (q_bits block)))) all ∙ ap not (sym frame))
+    let frame : c.is_frame.result ≡ is_ok (reading_of (q_bits block)) =
+    c.is_frame.ensures ∙ ap (λ l. is_ok (reading_of l)) bits in
+    sym (empty_is block
+    ∙ ap (λ (t : Bool). t && not (is_ok (reading_of (q_bits block)))) all
+    ∙ ap not (sym frame))

@@ -17,8 +17,10 @@ loop-i-preserved c =
     let x_at = ap (λ l. get_or l i 0) c.bytes-first.ensures.same in
     let y_at = ap (λ l. get_or l i 0) c.bytes-second.ensures.same in
     let w_at = ap (λ l. get_or l i 0) c.bytes-word.ensures.same in
-    let x_24 : length xs ≡ 24 = ap length (sym c.bytes-first.ensures.same) ∙ c.bytes-first.ensures.word.size in
-    let y_24 : length ys ≡ 24 = ap length (sym c.bytes-second.ensures.same) ∙ c.bytes-second.ensures.word.size in
+    let x_24 : length xs ≡ 24 =
+    ap length (sym c.bytes-first.ensures.same) ∙ c.bytes-first.ensures.word.size in
+    let y_24 : length ys ≡ 24 =
+    ap length (sym c.bytes-second.ensures.same) ∙ c.bytes-second.ensures.word.size in
     let w_24 : length ws ≡ 24 = ap length (sym c.bytes-word.ensures.same) ∙ c.bytes-word.ensures.word.size in
     let y_size : length xs ≡ length ys = x_24 ∙ sym y_24 in
     let w_size : length xs ≡ length ws = x_24 ∙ sym w_24 in
@@ -30,17 +32,29 @@ loop-i-preserved c =
       | inr (differ, apart) ↦
           let one = c.doubt-doubts.ensures.apart apart in
           let step = doubts_differ xs ys ws i y_size w_size lt (λ same. apart (x_at ∙ same ∙ sym y_at)) in
-          record { count = ap (λ n. c.loop-i.doubts + n) one ∙ ap (λ n. n + 1) before.count ∙ sym step; few = omega (arith, one, before.few) }
+          record {
+            count = ap (λ n. c.loop-i.doubts + n) one ∙ ap (λ n. n + 1) before.count ∙ sym step;
+            few = omega (arith, one, before.few);
+          }
       | inl (equal, same) ↦
           elim (eqb_tells xb wb) [
             | inr (differ, wrong) ↦
                 let two = c.doubt-doubts.ensures.wrong same wrong in
-                let step = doubts_wrong xs ys ws i y_size w_size lt (sym x_at ∙ same ∙ y_at) (λ right. wrong (x_at ∙ right ∙ sym w_at)) in
-                record { count = ap (λ n. c.loop-i.doubts + n) two ∙ ap (λ n. n + 2) before.count ∙ sym step; few = omega (arith, two, before.few) }
+                let step =
+                doubts_wrong xs ys ws i y_size w_size lt (sym x_at ∙ same ∙ y_at)
+                (λ right. wrong (x_at ∙ right ∙ sym w_at)) in
+                record {
+                  count = ap (λ n. c.loop-i.doubts + n) two ∙ ap (λ n. n + 2) before.count ∙ sym step;
+                  few = omega (arith, two, before.few);
+                }
             | inl (equal', right) ↦
                 let none = c.doubt-doubts.ensures.right same right in
-                let step = doubts_right xs ys ws i y_size w_size lt (sym x_at ∙ same ∙ y_at) (sym x_at ∙ right ∙ w_at) in
-                record { count = ap (λ n. c.loop-i.doubts + n) none ∙ omega arith ∙ before.count ∙ sym step; few = omega (arith, none, before.few) }
+                let step =
+                doubts_right xs ys ws i y_size w_size lt (sym x_at ∙ same ∙ y_at) (sym x_at ∙ right ∙ w_at) in
+                record {
+                  count = ap (λ n. c.loop-i.doubts + n) none ∙ omega arith ∙ before.count ∙ sym step;
+                  few = omega (arith, none, before.few);
+                }
           ]
     ]
 

@@ -5,6 +5,8 @@ use Rattle.rw_merge.proofs.counting.doubts.Given as goal
 
 abbrev pub invariant-loop-i : goal.invariant-loop-i
 invariant-loop-i l = record {
-  count : l.doubts ≡ 2 * equally_wrong (take l.i l.first-2) (take l.i l.second-2) (take l.i l.word-2) + differences (take l.i l.first-2) (take l.i l.second-2);
+  count : l.doubts
+      ≡ 2 * equally_wrong (take l.i l.first-2) (take l.i l.second-2) (take l.i l.word-2)
+      + differences (take l.i l.first-2) (take l.i l.second-2);
   few : l.doubts ≤ 2 * l.i;
 }

@@ -14,7 +14,10 @@ returns-then-first-i c =
       within = c.loop-i-test.true;
       differ = c.if-first-i.true;
       equal = before.equal;
-      count = before.count ∙ differences_other_from c.args.first.now c.args.second.now c.loop-i.i (x_size ∙ sym y_size) lt c.if-first-i.true;
+      count =
+          before.count
+          ∙ differences_other_from c.args.first.now c.args.second.now c.loop-i.i (x_size ∙ sym y_size) lt
+          c.if-first-i.true;
     }
 
 pub loop-i-preserved : goal.loop-i-preserved
@@ -30,9 +33,15 @@ loop-i-preserved c =
           elim (cases_lt k c.loop-i.i) [
             | inl less ↦ before.equal k le less
             | inr after ↦
-                let here : c.loop-i.i ≡ k = omega arith in ap (λ n. get_or c.args.first.now n 0) (sym here) ∙ c.if-first-i.false ∙ ap (λ n. get_or c.args.second.now n 0) here
+                let here : c.loop-i.i ≡ k = omega arith in
+                ap (λ n. get_or c.args.first.now n 0) (sym here)
+                ∙ c.if-first-i.false
+                ∙ ap (λ n. get_or c.args.second.now n 0) here
           ];
-      count = before.count ∙ differences_equal_from c.args.first.now c.args.second.now c.loop-i.i (x_size ∙ sym y_size) lt c.if-first-i.false;
+      count =
+          before.count
+          ∙ differences_equal_from c.args.first.now c.args.second.now c.loop-i.i (x_size ∙ sym y_size) lt
+          c.if-first-i.false;
     }
 
 pub returns : goal.returns
@@ -42,5 +51,8 @@ returns c =
     let y_size : length c.args.second.now ≡ 24 = search rules in
     record {
       equal = λ k le lt. done.equal k le (omega (arith, c.loop-i-test.false, lt));
-      none = done.count ∙ nothing_from c.args.first.now c.args.second.now c.loop-i.i (omega (arith, c.loop-i-test.false)) (omega (arith, c.loop-i-test.false));
+      none =
+          done.count
+          ∙ nothing_from c.args.first.now c.args.second.now c.loop-i.i (omega (arith, c.loop-i-test.false))
+          (omega (arith, c.loop-i-test.false));
     }

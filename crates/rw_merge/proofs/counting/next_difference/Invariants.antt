@@ -7,5 +7,6 @@ invariant-loop-i l = record {
   later : l.from ≤ l.i;
   within : l.i ≤ 24;
   equal : (k : ℕ) → l.from ≤ k → k < l.i → get_or l.first k 0 ≡ get_or l.second k 0;
-  count : differences (drop l.from l.first) (drop l.from l.second) ≡ differences (drop l.i l.first) (drop l.i l.second);
+  count : differences (drop l.from l.first) (drop l.from l.second)
+      ≡ differences (drop l.i l.first) (drop l.i l.second);
 }

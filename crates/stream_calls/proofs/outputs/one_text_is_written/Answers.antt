@@ -6,10 +6,12 @@ pub returns-clause-converted : goal.returns-clause-converted
 returns-clause-converted c = one_conversion c.each_word_has_one_finding.ensures.only
 
 pub returns-clause-screen : goal.returns-clause-screen
-returns-clause-screen c = one_showing c.each_word_has_one_finding.ensures.only c.only_one_meaning.ensures pixmap
+returns-clause-screen c =
+    one_showing c.each_word_has_one_finding.ensures.only c.only_one_meaning.ensures pixmap
 
 pub returns-clause-state : goal.returns-clause-state
-returns-clause-state c = one_showing c.each_word_has_one_finding.ensures.only c.only_one_meaning.ensures state_text
+returns-clause-state c =
+    one_showing c.each_word_has_one_finding.ensures.only c.only_one_meaning.ensures state_text
 
 pub returns-clause-checked : goal.returns-clause-checked
 returns-clause-checked c = one_check c.each_word_has_one_finding.ensures.only c.readings_are_functions.ensures

@@ -16,7 +16,8 @@ returns-in-Ok-clause-lists g c =
     let (taken, p) = c.in-Ok.ensures.pumps in
     let form = c.args.form in (
       taken,
-      done_at _ form _ (machine_of (on_units form q_next) (on_units form q_give)) (λ (t : QLines). t.bad) _ taken (unit_size form) _ _ refl
+      done_at _ form _ (machine_of (on_units form q_next) (on_units form q_give)) (λ (t : QLines). t.bad) _
+          taken (unit_size form) _ _ refl
           (plays_frames form _ c.requires.form refl) p c.saturating_sub.ensures refl,
     )
 
@@ -25,28 +26,33 @@ returns-in-Err-clause-lists g c =
     let (taken, p) = c.in-Err.ensures.pumps in
     let form = c.args.form in (
       taken,
-      stop_at _ form _ (machine_of (on_units form q_next) (on_units form q_give)) (λ (t : QLines). t.bad) _ taken (unit_size form) _ _ refl c.play_stop.ensures
+      stop_at _ form _ (machine_of (on_units form q_next) (on_units form q_give)) (λ (t : QLines). t.bad) _
+          taken (unit_size form) _ _ refl c.play_stop.ensures
           (plays_frames form _ c.requires.form refl) p,
     )
 
 pub returns-in-Ok-clause-faults : goal.returns-in-Ok-clause-faults
 returns-in-Ok-clause-faults g c =
     let read = c.in-Ok.ensures in
-    done_told _ _ _ _ read.read_fault.later read.write_fault.later _ _ read.read_fault.same read.write_fault.same
+    done_told _ _ _ _ read.read_fault.later read.write_fault.later _ _ read.read_fault.same
+    read.write_fault.same
 
 pub returns-in-Err-clause-faults : goal.returns-in-Err-clause-faults
 returns-in-Err-clause-faults g c =
     let read = c.in-Err.ensures in
-    stop_told _ _ _ _ read.read_fault.later read.write_fault.later _ _ c.play_stop.ensures read.read_fault.rose read.read_fault.same read.write_fault.rose read.write_fault.same
+    stop_told _ _ _ _ read.read_fault.later read.write_fault.later _ _ c.play_stop.ensures
+    read.read_fault.rose read.read_fault.same read.write_fault.rose read.write_fault.same
 
 pub returns-in-Ok-clause-ended : goal.returns-in-Ok-clause-ended
 returns-in-Ok-clause-ended g c = c.in-Ok.ensures.ended
 
 pub returns-in-Err-clause-answer : goal.returns-in-Err-clause-answer
-returns-in-Err-clause-answer g c = checked_stop (unit_size c.args.form) _ _ _ c.play_stop.ensures c.in-Err.ensures.answer
+returns-in-Err-clause-answer g c =
+    checked_stop (unit_size c.args.form) _ _ _ c.play_stop.ensures c.in-Err.ensures.answer
 
 pub returns-in-Err-clause-stops : goal.returns-in-Err-clause-stops
 returns-in-Err-clause-stops g c = stops_played c.in-Err.stop c.play_stop.result c.play_stop.ensures
 
 pub returns-in-Err-clause-ended : goal.returns-in-Err-clause-ended
-returns-in-Err-clause-ended g c = ends_stopped c.in-Err.stop c.play_stop.result _ _ c.play_stop.ensures c.in-Err.ensures.ended
+returns-in-Err-clause-ended g c =
+    ends_stopped c.in-Err.stop c.play_stop.result _ _ c.play_stop.ensures c.in-Err.ensures.ended

@@ -6,4 +6,6 @@ pub returns : goal.returns
 unfolding slot_of
 returns c =
     let size : 24 * c.args.i + 24 - 24 * c.args.i ≡ 24 = omega arith in
-    c.new.ensures ∙ ap (map (λ (b : ℕ). b % 64)) (c.copy_from_slice.ensures.after ∙ ap (λ n. take n (drop (24 * c.args.i) c.args.block.now)) size)
+    c.new.ensures
+    ∙ ap (map (λ (b : ℕ). b % 64))
+    (c.copy_from_slice.ensures.after ∙ ap (λ n. take n (drop (24 * c.args.i) c.args.block.now)) size)

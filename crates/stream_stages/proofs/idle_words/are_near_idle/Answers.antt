@@ -6,4 +6,5 @@ pub loop-word-preserved : goal.loop-word-preserved
 loop-word-preserved c =
     let words = c.as_slice-word-items.result.now in
     let near = c.if-not-is_near_idle.ensures.near in
-    idle_more words c.loop-word.word-index _ (omega arith) c.word-item.is c.requires c.is_near_idle.ensures.word (near.0 refl) c.loop-word.invariant
+    idle_more words c.loop-word.word-index _ (omega arith) c.word-item.is c.requires
+    c.is_near_idle.ensures.word (near.0 refl) c.loop-word.invariant

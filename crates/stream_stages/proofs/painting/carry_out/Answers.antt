@@ -6,4 +6,6 @@ use Rattle.stream_stages.proofs.painting.carry_out.Goals as goal
 
 pub returns : goal.returns
 returns c =
-    c.obey.ensures ∙ ap (λ (i : Instr). standing_after c.args.screen.now (i ∷ [])) (only_meaning c.args.pack.now c.read.result c.read.ensures.meaning)
+    c.obey.ensures
+    ∙ ap (λ (i : Instr). standing_after c.args.screen.now (i ∷ []))
+    (only_meaning c.args.pack.now c.read.result c.read.ensures.meaning)

@@ -11,6 +11,9 @@ returns-clause-watches g c =
     let (taken, p) = c.pump_blocks.ensures.pumps in
     let form = c.args.form in (
       taken,
-      watches form (unit_size form) (machine_of (on_units form g.G.Stage.next) (on_units form g.G.Stage.gives)) g.G.Stage.next (λ (s : g.row.G.Denot). s) _ taken c.pump_blocks.result refl (unit_some form)
-          (λ h. omega (arith, c.pump_blocks.ensures.write_fault.rose h)) (blocks_of_units form g.G.Stage.next) p,
+      watches form (unit_size form)
+          (machine_of (on_units form g.G.Stage.next) (on_units form g.G.Stage.gives)) g.G.Stage.next
+          (λ (s : g.row.G.Denot). s) _ taken c.pump_blocks.result refl (unit_some form)
+          (λ h. omega (arith, c.pump_blocks.ensures.write_fault.rose h)) (blocks_of_units form g.G.Stage.next)
+          p,
     )

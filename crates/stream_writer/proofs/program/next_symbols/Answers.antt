@@ -5,7 +5,9 @@ use Rattle.stream_writer.proofs.program.next_symbols.Goals as goal
 
 pub loop-k-init : goal.loop-k-init
 loop-k-init g c = record {
-  written = none_written (g.P.PackSource.comes c.args.source.now) c.args.spread.now c.args.symbols.now c.requires.zeros;
+  written =
+      none_written (g.P.PackSource.comes c.args.source.now) c.args.spread.now c.args.symbols.now
+      c.requires.zeros;
   quiet = c.requires.quiet;
   later = none_later _;
 }
@@ -19,14 +21,19 @@ loop-k-preserved g c =
     record {
       written =
           slot_more Comes Now c.args.spread.now c.loop-k.spread c.next_slot.new.spread
-          c.loop-k.k c.loop-k.symbols taken.0 c.next_slot.new.slot so_far.written c.loop-k-test.true so_far.later
-          taken.1.comes taken.1.codeword taken.1.after_is taken.1.slot_is c.next_slot.ensures.word.size c.next_slot.ensures.word.symbols;
+          c.loop-k.k c.loop-k.symbols taken.0 c.next_slot.new.slot so_far.written c.loop-k-test.true
+          so_far.later
+          taken.1.comes taken.1.codeword taken.1.after_is taken.1.slot_is c.next_slot.ensures.word.size
+          c.next_slot.ensures.word.symbols;
       quiet = c.next_slot.ensures.quiet;
-      later = later_more Comes Now (g.P.PackSource.comes c.next_slot.new.source) c.loop-k.k 1 (c.loop-k.k + 1) so_far.later c.next_slot.ensures.later refl;
+      later =
+          later_more Comes Now (g.P.PackSource.comes c.next_slot.new.source) c.loop-k.k 1 (c.loop-k.k + 1)
+          so_far.later c.next_slot.ensures.later refl;
     }
 
 pub next_slot-requires-clause-zeros : goal.next_slot-requires-clause-zeros
-next_slot-requires-clause-zeros g c = slot_zeros c.loop-k.symbols c.loop-k.k c.loop-k-test.true c.loop-k.invariant.written.rest
+next_slot-requires-clause-zeros g c =
+    slot_zeros c.loop-k.symbols c.loop-k.k c.loop-k-test.true c.loop-k.invariant.written.rest
 
 pub returns-clause-symbols : goal.returns-clause-symbols
 returns-clause-symbols g c = all_taken _ _ _ c.loop-k.k _ c.loop-k.invariant.written (omega arith)
@@ -37,4 +44,5 @@ returns-clause-bound g c = all_small _ _ _ c.loop-k.k _ c.loop-k.invariant.writt
 pub returns-clause-later : goal.returns-clause-later
 returns-clause-later g c =
     let all : c.loop-k.k ≡ 4 = omega arith in
-    subst (λ n. ComesLater (g.P.PackSource.comes c.args.source.now) n (g.P.PackSource.comes c.loop-k.source)) all c.loop-k.invariant.later
+    subst (λ n. ComesLater (g.P.PackSource.comes c.args.source.now) n (g.P.PackSource.comes c.loop-k.source))
+    all c.loop-k.invariant.later

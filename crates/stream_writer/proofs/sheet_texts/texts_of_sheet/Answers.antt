@@ -15,6 +15,9 @@ of_strings-requires-clause-last c =
 
 pub returns : goal.returns
 returns c =
-    let whole = sheet_texts_are c.args.sheet.now c.first.result c.in_ok-titles.titles c.in_ok-performers.performers c.in_ok-songwriters.songwriters c.in_ok-codes.codes
-    c.in_ok-titles.ensures.sheet c.first.ensures.number c.in_ok-titles.ensures.strings c.in_ok-performers.ensures.strings c.in_ok-songwriters.ensures.strings c.in_ok-codes.ensures.strings in
+    let whole =
+    sheet_texts_are c.args.sheet.now c.first.result c.in_ok-titles.titles c.in_ok-performers.performers
+    c.in_ok-songwriters.songwriters c.in_ok-codes.codes
+    c.in_ok-titles.ensures.sheet c.first.ensures.number c.in_ok-titles.ensures.strings
+    c.in_ok-performers.ensures.strings c.in_ok-songwriters.ensures.strings c.in_ok-codes.ensures.strings in
     subst (λ (texts : Texts). IfOk c.of_strings.result (λ map. map ≡ texts)) whole c.of_strings.ensures

@@ -18,9 +18,12 @@ pub loop-l-preserved : goal.loop-l-preserved
 loop-l-preserved g c =
     let f : ℕ → List ℕ = lead_in_block c.args.layout.now c.args.texts.now c.args.lead_in in
     record {
-      put = one_piece_more _ _ _ [] f c.loop-l.l c.loop-l.invariant.put (subst (Appends _ _) c.lead_in_block-block.ensures.bytes c.in_ok-put_all.ensures.ok);
+      put =
+          one_piece_more _ _ _ [] f c.loop-l.l c.loop-l.invariant.put
+          (subst (Appends _ _) c.lead_in_block-block.ensures.bytes c.in_ok-put_all.ensures.ok);
       built = below_more _ _ c.loop-l.invariant.built
-          (subst (λ block. IsBuilt block false (toc_frame c.args.layout.now c.args.lead_in c.loop-l.l) (lead_in_symbols c.args.texts.now c.loop-l.l))
+          (subst (λ block. IsBuilt block false (toc_frame c.args.layout.now c.args.lead_in c.loop-l.l)
+          (lead_in_symbols c.args.texts.now c.loop-l.l))
           c.lead_in_block-block.ensures.bytes c.lead_in_block-block.ensures.built);
       same = c.in_ok-put_all.ensures.cause.same ∙ c.loop-l.invariant.same;
     }

@@ -8,7 +8,10 @@ use Rattle.stream_writer.proofs.stream.put_lead_in.Given as goal
 
 abbrev pub invariant-loop-l : goal.invariant-loop-l
 invariant-loop-l g l = record {
-  put : Appends (g.K.Sink.held l.fn.out) (g.K.Sink.held l.out) (flat_map (lead_in_block l.layout l.texts l.lead_in) (below l.l));
-  built : (n : ℕ) → n < l.l → IsBuilt (lead_in_block l.layout l.texts l.lead_in n) false (toc_frame l.layout l.lead_in n) (lead_in_symbols l.texts n);
+  put : Appends (g.K.Sink.held l.fn.out) (g.K.Sink.held l.out)
+      (flat_map (lead_in_block l.layout l.texts l.lead_in) (below l.l));
+  built : (n : ℕ) → n < l.l
+      → IsBuilt (lead_in_block l.layout l.texts l.lead_in n) false (toc_frame l.layout l.lead_in n)
+      (lead_in_symbols l.texts n);
   same : g.K.Sink.faults l.out ≡ g.K.Sink.faults l.fn.out;
 }

@@ -8,7 +8,9 @@ use Rattle.stream_writer.proofs.stream.put_program.Goals as goal
 
 pub loop-b-init : goal.loop-b-init
 loop-b-init g c = record {
-  done = none_done c.args.layout.now (g.P.PackSource.comes c.args.source.now) (g.K.Sink.held c.args.out.now) c.args.spread.now c.requires;
+  done =
+      none_done c.args.layout.now (g.P.PackSource.comes c.args.source.now) (g.K.Sink.held c.args.out.now)
+      c.args.spread.now c.requires;
   quiet = start_quiet c.args.spread.now c.requires;
   later = none_later _;
   same = refl;
@@ -19,8 +21,10 @@ returns-in_err-put_all-clause-part g c =
     let so_far = c.loop-b.invariant in
     let layout = c.args.layout.now in
     on_err c.from_residual.result _
-    (part_more layout (g.P.PackSource.comes c.args.source.now) (g.P.PackSource.comes c.loop-b.source) c.loop-b.b (g.K.Sink.held c.args.out.now) (g.K.Sink.held c.loop-b.out) _
-    c.loop-b.spread c.next_symbols.new.spread c.next_symbols.new.symbols c.program_block-block.result so_far.done (omega (arith, c.blocks-blocks.ensures.blocks)) so_far.later
+    (part_more layout (g.P.PackSource.comes c.args.source.now) (g.P.PackSource.comes c.loop-b.source)
+    c.loop-b.b (g.K.Sink.held c.args.out.now) (g.K.Sink.held c.loop-b.out) _
+    c.loop-b.spread c.next_symbols.new.spread c.next_symbols.new.symbols c.program_block-block.result
+    so_far.done (omega (arith, c.blocks-blocks.ensures.blocks)) so_far.later
     c.next_symbols.ensures.symbols
     c.program_block-block.ensures.bytes c.in_err-put_all.ensures.part
     (g.P.PackSource.comes c.next_symbols.new.source) c.next_symbols.ensures.later)
@@ -31,20 +35,27 @@ loop-b-preserved g c =
     let layout = c.args.layout.now in
     record {
       done =
-          block_more layout (g.P.PackSource.comes c.args.source.now) (g.P.PackSource.comes c.loop-b.source) c.loop-b.b (g.K.Sink.held c.args.out.now) (g.K.Sink.held c.loop-b.out) _
-          c.loop-b.spread c.next_symbols.new.spread c.next_symbols.new.symbols c.program_block-block.result so_far.done so_far.later
+          block_more layout (g.P.PackSource.comes c.args.source.now) (g.P.PackSource.comes c.loop-b.source)
+          c.loop-b.b (g.K.Sink.held c.args.out.now) (g.K.Sink.held c.loop-b.out) _
+          c.loop-b.spread c.next_symbols.new.spread c.next_symbols.new.symbols c.program_block-block.result
+          so_far.done so_far.later
           c.next_symbols.ensures.symbols
           c.program_block-block.ensures.bytes c.program_block-block.ensures.built c.in_ok-put_all.ensures.ok;
       quiet = c.next_symbols.ensures.quiet;
-      later = later_more (g.P.PackSource.comes c.args.source.now) (g.P.PackSource.comes c.loop-b.source) (g.P.PackSource.comes c.next_symbols.new.source) (4 * c.loop-b.b) 4 (4 * (c.loop-b.b + 1)) so_far.later c.next_symbols.ensures.later (omega arith);
+      later =
+          later_more (g.P.PackSource.comes c.args.source.now) (g.P.PackSource.comes c.loop-b.source)
+          (g.P.PackSource.comes c.next_symbols.new.source) (4 * c.loop-b.b) 4 (4 * (c.loop-b.b + 1))
+          so_far.later c.next_symbols.ensures.later (omega arith);
       same = c.in_ok-put_all.ensures.cause.same ∙ so_far.same;
     }
 
 pub returns-clause-ok : goal.returns-clause-ok
-returns-clause-ok g c = all_done _ _ c.loop-b.b _ _ _ _ c.loop-b.invariant.done (omega (arith, c.blocks-blocks.ensures.blocks))
+returns-clause-ok g c =
+    all_done _ _ c.loop-b.b _ _ _ _ c.loop-b.invariant.done (omega (arith, c.blocks-blocks.ensures.blocks))
 
 pub returns-clause-taken : goal.returns-clause-taken
 returns-clause-taken g c =
     let all : 4 * c.loop-b.b ≡ 4 * c.args.layout.now.blocks = omega (arith, c.blocks-blocks.ensures.blocks) in
-    subst (λ n. ComesLater (g.P.PackSource.comes c.args.source.now) n (g.P.PackSource.comes c.loop-b.source)) all
+    subst (λ n. ComesLater (g.P.PackSource.comes c.args.source.now) n (g.P.PackSource.comes c.loop-b.source))
+    all
     c.loop-b.invariant.later

@@ -6,7 +6,10 @@ pub returns-then-is_empty-clause-lines : goal.returns-then-is_empty-clause-lines
 returns-then-is_empty-clause-lines c = no_line c.args.text.now (grind arith)
 
 pub returns-then-end-text-clause-lines : goal.returns-then-end-text-clause-lines
-returns-then-end-text-clause-lines c = last_line c.args.text.now c.line_end-end.result c.line_end-end.ensures.place (grind arith) (grind arith)
+returns-then-end-text-clause-lines c =
+    last_line c.args.text.now c.line_end-end.result c.line_end-end.ensures.place (grind arith) (grind arith)
 
 pub returns-clause-lines : goal.returns-clause-lines
-returns-clause-lines c = first_line c.args.text.now c.line_end-end.result _ c.line_end-end.ensures.place (grind arith) c.without_return.ensures.line
+returns-clause-lines c =
+    first_line c.args.text.now c.line_end-end.result _ c.line_end-end.ensures.place (grind arith)
+    c.without_return.ensures.line

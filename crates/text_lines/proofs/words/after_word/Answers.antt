@@ -7,16 +7,20 @@ use Rattle.text_lines.proofs.words.after_word.Goals.{else-not-is_empty-via-then-
 
 pub returns-then-not-begins_with-clause-none : goal.returns-then-not-begins_with-clause-none
 returns-then-not-begins_with-clause-none c none at =
-    let yes = c.begins_with.ensures.1 (first_stands c.args.word.now c.args.line.now c.requires.trimmed c.requires.some at) in
+    let yes =
+    c.begins_with.ensures.1
+    (first_stands c.args.word.now c.args.line.now c.requires.trimmed c.requires.some at) in
     grind (arith, common_steps, yes)
 
 pub returns-then-not-is_blank-clause-none : goal.returns-then-not-is_blank-clause-none
 returns-then-not-is_blank-clause-none c none at =
     let line = c.args.line.now in
     let word = c.args.word.now in
-    let here : get_or c.split_at.result.1.now 0 0 ≡ get_or line (length word) 0 = rest_begins line c.split_at.result.1.now (length word) c.split_at.ensures.back in
+    let here : get_or c.split_at.result.1.now 0 0 ≡ get_or line (length word) 0 =
+    rest_begins line c.split_at.result.1.now (length word) c.split_at.ensures.back in
     let more : length word < length line = grind (arith, c.split_at.ensures.back_len) in
-    let over : is_blank (get_or line (length word) 0) ≡ true = first_over word line c.requires.trimmed c.requires.some at more in
+    let over : is_blank (get_or line (length word) 0) ≡ true =
+    first_over word line c.requires.trimmed c.requires.some at more in
     grind (arith, common_steps, over, here, c.is_blank.ensures)
 
 pub returns-clause-words : goal.returns-clause-words
@@ -24,10 +28,12 @@ returns-clause-words c =
     let line = c.args.line.now in
     let word = c.args.word.now in
     let begins : take (length word) line ≡ word = c.begins_with.ensures.0 (grind arith) in
-    let here : get_or c.split_at.result.1.now 0 0 ≡ get_or line (length word) 0 = rest_begins line c.split_at.result.1.now (length word) c.split_at.ensures.back in
+    let here : get_or c.split_at.result.1.now 0 0 ≡ get_or line (length word) 0 =
+    rest_begins line c.split_at.result.1.now (length word) c.split_at.ensures.back in
     front_word word line c.split_at.result.1.now begins c.requires.some c.requires.whole
     (λ more. elim c.else-not-is_empty.branch [
-      | else-not-is_empty-via-then-not-is_empty+else-not-is_blank w ↦ grind (arith, common_steps, here, w.is_blank.ensures)
+      | else-not-is_empty-via-then-not-is_empty+else-not-is_blank w ↦
+          grind (arith, common_steps, here, w.is_blank.ensures)
       | else-not-is_empty-via-else-not-is_empty w ↦ absurd (grind (arith, c.split_at.ensures.back_len))
     ])
     c.split_at.ensures.back

@@ -6,4 +6,5 @@ pub returns-clause-argument : goal.returns-clause-argument
 unfolding argument_of
 returns-clause-argument c =
     c.trim_start.ensures.rest
-    ∙ ap without_blanks (c.split_word.ensures.rest ∙ ap (λ w. drop (length w) c.args.line.now) c.split_word.ensures.word)
+    ∙ ap without_blanks
+    (c.split_word.ensures.rest ∙ ap (λ w. drop (length w) c.args.line.now) c.split_word.ensures.word)

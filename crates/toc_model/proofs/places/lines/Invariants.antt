@@ -4,4 +4,6 @@ use Rattle.cue_sheet.specs.CueSheet.{track_of}
 use Rattle.toc_model.proofs.places.lines.Given as goal
 
 abbrev pub invariant-loop-j : goal.invariant-loop-j
-invariant-loop-j l = l.lines.items ≡ map (λ (line : ℕ × ℕ). (line.0, l.before + line.1)) (take l.j (track_of l.sheet l.k).indices)
+invariant-loop-j l =
+    l.lines.items
+    ≡ map (λ (line : ℕ × ℕ). (line.0, l.before + line.1)) (take l.j (track_of l.sheet l.k).indices)

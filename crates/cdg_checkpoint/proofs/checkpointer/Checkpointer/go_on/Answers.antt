@@ -11,58 +11,100 @@ abbrev error : PumpStop → Result Pumped PumpStop
 error stop = Err stop
 
 pub overflow_add-read : goal.overflow_add-read
-overflow_add-read g c = omega (arith, (c.requires.file.ranges.1.1.1.0 0 (omega arith)).0, c.counts-counts.ensures.lead_in, c.counts-counts.ensures.program)
+overflow_add-read g c = omega (
+  arith,
+  (c.requires.file.ranges.1.1.1.0 0 (omega arith)).0,
+  c.counts-counts.ensures.lead_in,
+  c.counts-counts.ensures.program,
+)
 
 pub overflow_sub-read : goal.overflow_sub-read
-overflow_sub-read g c = omega (arith, (c.requires.file.ranges.1.1.1.0 0 (omega arith)).0, c.counts-counts.ensures.lead_in, c.counts-counts.ensures.program)
+overflow_sub-read g c = omega (
+  arith,
+  (c.requires.file.ranges.1.1.1.0 0 (omega arith)).0,
+  c.counts-counts.ensures.lead_in,
+  c.counts-counts.ensures.program,
+)
 
 pub overflow_add-result : goal.overflow_add-result
 overflow_add-result g c =
     let (taken, w) = c.in-Err.ensures.watches in
-    omega (arith, (w.torn c.in-Torn.unit (ap error c.in-Torn.is)).1, (c.requires.file.ranges.1.1.1.0 0 (omega arith)).0, c.counts-counts.ensures.lead_in, c.counts-counts.ensures.program)
+    omega (
+      arith,
+      (w.torn c.in-Torn.unit (ap error c.in-Torn.is)).1,
+      (c.requires.file.ranges.1.1.1.0 0 (omega arith)).0,
+      c.counts-counts.ensures.lead_in,
+      c.counts-counts.ensures.program,
+    )
 
 pub returns-in-Ok-clause-goes_on : goal.returns-in-Ok-clause-goes_on
 returns-in-Ok-clause-goes_on g c =
     let (taken, w) = c.in-Ok.ensures.watches in (
       taken,
-      goes_on (checkpoint_in c.args.self.now.file) c.args.at _ _ _ taken c.begin_again.new.self.words c.watch_some.new.stage c.in-Ok.pumped (sound_file c.args.self.now.file c.requires.file)
-          (brought_back (checkpoint_in c.args.self.now.file) c.args.at _ _ c.begin_again.new.self.words c.begin_again.ensures.words c.counts-counts.ensures.to_come c.begin_again.ensures.left c.begin_again.ensures.bad c.counts-counts.ensures.bad c.begin_again.ensures.stands)
-          (ap₂ (λ a b. 1000000 - (a + b)) c.counts-counts.ensures.lead_in c.counts-counts.ensures.program) w _ _ _ c.counts-counts.ensures.to_come c.counts-counts.ensures.program c.resumed.ensures.answer,
+      goes_on (checkpoint_in c.args.self.now.file) c.args.at _ _ _ taken c.begin_again.new.self.words
+          c.watch_some.new.stage c.in-Ok.pumped (sound_file c.args.self.now.file c.requires.file)
+          (brought_back (checkpoint_in c.args.self.now.file) c.args.at _ _ c.begin_again.new.self.words
+          c.begin_again.ensures.words c.counts-counts.ensures.to_come c.begin_again.ensures.left
+          c.begin_again.ensures.bad c.counts-counts.ensures.bad c.begin_again.ensures.stands)
+          (ap₂ (λ a b. 1000000 - (a + b)) c.counts-counts.ensures.lead_in c.counts-counts.ensures.program) w _
+          _ _ c.counts-counts.ensures.to_come c.counts-counts.ensures.program c.resumed.ensures.answer,
     )
 
 pub returns-in-Ok-clause-answer : goal.returns-in-Ok-clause-answer
 returns-in-Ok-clause-answer g c =
-    reached_by (checkpoint_in c.args.self.now.file) c.args.at _ _ _ _ c.in-Ok.pumped _ _ (ap₂ (λ a b. 1000000 - (a + b)) c.counts-counts.ensures.lead_in c.counts-counts.ensures.program) c.counts-counts.ensures.to_come c.counts-counts.ensures.program
+    reached_by (checkpoint_in c.args.self.now.file) c.args.at _ _ _ _ c.in-Ok.pumped _ _
+    (ap₂ (λ a b. 1000000 - (a + b)) c.counts-counts.ensures.lead_in c.counts-counts.ensures.program)
+    c.counts-counts.ensures.to_come c.counts-counts.ensures.program
     c.resumed.ensures.answer c.in-Ok.ensures.answer
 
 pub returns-in-Torn-clause-answer : goal.returns-in-Torn-clause-answer
 returns-in-Torn-clause-answer g c =
-    torn_by (checkpoint_in c.args.self.now.file) c.args.at _ _ c.in-Torn.unit _ c.in-Err.stop c.in-Torn.is (ap₂ (λ a b. 1000000 - (a + b)) c.counts-counts.ensures.lead_in c.counts-counts.ensures.program)
-    (ap₂ (λ a b. a + b) c.counts-counts.ensures.lead_in c.counts-counts.ensures.program) c.in-Err.ensures.answer
+    torn_by (checkpoint_in c.args.self.now.file) c.args.at _ _ c.in-Torn.unit _ c.in-Err.stop c.in-Torn.is
+    (ap₂ (λ a b. 1000000 - (a + b)) c.counts-counts.ensures.lead_in c.counts-counts.ensures.program)
+    (ap₂ (λ a b. a + b) c.counts-counts.ensures.lead_in c.counts-counts.ensures.program)
+    c.in-Err.ensures.answer
 
 pub returns-in-ReadFault-clause-goes_on : goal.returns-in-ReadFault-clause-goes_on
 returns-in-ReadFault-clause-goes_on g c =
-    let (taken, w) = c.in-Err.ensures.watches in
-    (taken, gone_on_to_stop (checkpoint_in c.args.self.now.file) c.args.at _ _ _ taken c.begin_again.new.self.words c.watch_some.new.stage c.in-Err.stop _ (ap₂ (λ a b. 1000000 - (a + b)) c.counts-counts.ensures.lead_in c.counts-counts.ensures.program) w (λ block e. absurd (cc)) (λ blocks e. (cc)))
+    let (taken, w) = c.in-Err.ensures.watches in (
+      taken,
+      gone_on_to_stop (checkpoint_in c.args.self.now.file) c.args.at _ _ _ taken c.begin_again.new.self.words
+          c.watch_some.new.stage c.in-Err.stop _
+          (ap₂ (λ a b. 1000000 - (a + b)) c.counts-counts.ensures.lead_in c.counts-counts.ensures.program) w
+          (λ block e. absurd (cc)) (λ blocks e. (cc)),
+    )
 
 pub returns-in-Torn-clause-goes_on : goal.returns-in-Torn-clause-goes_on
 returns-in-Torn-clause-goes_on g c =
-    let (taken, w) = c.in-Err.ensures.watches in
-    (taken, gone_on_to_stop (checkpoint_in c.args.self.now.file) c.args.at _ _ _ taken c.begin_again.new.self.words c.watch_some.new.stage c.in-Err.stop _ (ap₂ (λ a b. 1000000 - (a + b)) c.counts-counts.ensures.lead_in c.counts-counts.ensures.program) w (λ block e. (w.torn c.in-Torn.unit (ap error c.in-Torn.is)).0) (λ blocks e. (cc)))
+    let (taken, w) = c.in-Err.ensures.watches in (
+      taken,
+      gone_on_to_stop (checkpoint_in c.args.self.now.file) c.args.at _ _ _ taken c.begin_again.new.self.words
+          c.watch_some.new.stage c.in-Err.stop _
+          (ap₂ (λ a b. 1000000 - (a + b)) c.counts-counts.ensures.lead_in c.counts-counts.ensures.program) w
+          (λ block e. (w.torn c.in-Torn.unit (ap error c.in-Torn.is)).0) (λ blocks e. (cc)),
+    )
 
 pub returns-in-TooLong-clause-goes_on : goal.returns-in-TooLong-clause-goes_on
 returns-in-TooLong-clause-goes_on g c =
-    let (taken, w) = c.in-Err.ensures.watches in
-    (taken, gone_on_to_stop (checkpoint_in c.args.self.now.file) c.args.at _ _ _ taken c.begin_again.new.self.words c.watch_some.new.stage c.in-Err.stop _ (ap₂ (λ a b. 1000000 - (a + b)) c.counts-counts.ensures.lead_in c.counts-counts.ensures.program) w (λ block e. absurd (cc)) (λ blocks e. (cc)))
+    let (taken, w) = c.in-Err.ensures.watches in (
+      taken,
+      gone_on_to_stop (checkpoint_in c.args.self.now.file) c.args.at _ _ _ taken c.begin_again.new.self.words
+          c.watch_some.new.stage c.in-Err.stop _
+          (ap₂ (λ a b. 1000000 - (a + b)) c.counts-counts.ensures.lead_in c.counts-counts.ensures.program) w
+          (λ block e. absurd (cc)) (λ blocks e. (cc)),
+    )
 
 pub returns-in-Ok-clause-ended : goal.returns-in-Ok-clause-ended
-returns-in-Ok-clause-ended g c = ends_as_reached c.resumed.result _ c.args.at _ _ _ c.resumed.ensures.answer c.in-Ok.ensures.ended
+returns-in-Ok-clause-ended g c =
+    ends_as_reached c.resumed.result _ c.args.at _ _ _ c.resumed.ensures.answer c.in-Ok.ensures.ended
 
 pub returns-in-Ok-clause-no_write : goal.returns-in-Ok-clause-no_write
-returns-in-Ok-clause-no_write g c = reached_is_not c.resumed.result _ c.args.at _ _ c.resumed.ensures.answer write_is_not_past
+returns-in-Ok-clause-no_write g c =
+    reached_is_not c.resumed.result _ c.args.at _ _ c.resumed.ensures.answer write_is_not_past
 
 pub returns-in-Ok-clause-no_first : goal.returns-in-Ok-clause-no_first
-returns-in-Ok-clause-no_first g c = reached_is_not c.resumed.result _ c.args.at _ _ c.resumed.ensures.answer first_is_not_past
+returns-in-Ok-clause-no_first g c =
+    reached_is_not c.resumed.result _ c.args.at _ _ c.resumed.ensures.answer first_is_not_past
 
 pub begin_again-requires-clause-at : goal.begin_again-requires-clause-at
 begin_again-requires-clause-at g c = c.requires.at
@@ -77,7 +119,8 @@ pub begin_again-requires-clause-program : goal.begin_again-requires-clause-progr
 begin_again-requires-clause-program g c = c.counts-counts.ensures.program
 
 pub begin_again-requires-clause-not_later : goal.begin_again-requires-clause-not_later
-begin_again-requires-clause-not_later g c = subst (λ n. n ≤ c.args.at) (sym c.counts-counts.ensures.program) c.requires.not_later
+begin_again-requires-clause-not_later g c =
+    subst (λ n. n ≤ c.args.at) (sym c.counts-counts.ensures.program) c.requires.not_later
 
 pub returns-in-Ok-clause-file : goal.returns-in-Ok-clause-file
 returns-in-Ok-clause-file g c = c.begin_again.ensures.file
@@ -85,7 +128,9 @@ returns-in-Ok-clause-file g c = c.begin_again.ensures.file
 pub returns-in-Ok-clause-fault : goal.returns-in-Ok-clause-fault
 returns-in-Ok-clause-fault g c = record {
   later = c.in-Ok.ensures.read_fault.later;
-  rose = λ e. absurd (reached_is_not c.resumed.result _ c.args.at _ _ c.resumed.ensures.answer second_is_not_past e);
+  rose =
+      λ e.
+      absurd (reached_is_not c.resumed.result _ c.args.at _ _ c.resumed.ensures.answer second_is_not_past e);
   same = λ other. c.in-Ok.ensures.read_fault.same (done_no_read c.in-Ok.pumped);
 }
 
@@ -101,12 +146,14 @@ returns-in-ReadFault-clause-file g c = c.begin_again.ensures.file
 pub returns-in-ReadFault-clause-fault : goal.returns-in-ReadFault-clause-fault
 returns-in-ReadFault-clause-fault g c = record {
   later = c.in-Err.ensures.read_fault.later;
-  rose = λ e. let (taken, w) = c.in-Err.ensures.watches in c.in-Err.ensures.read_fault.rose (is_read c.in-Err.stop c.in-ReadFault.is w.no_write);
+  rose = λ e. let (taken, w) = c.in-Err.ensures.watches in
+      c.in-Err.ensures.read_fault.rose (is_read c.in-Err.stop c.in-ReadFault.is w.no_write);
   same = λ other. absurd (other refl);
 }
 
 pub returns-in-ReadFault-clause-ended : goal.returns-in-ReadFault-clause-ended
-returns-in-ReadFault-clause-ended g c = let (taken, w) = c.in-Err.ensures.watches in read_told c.in-Err.stop _ _ (is_read c.in-Err.stop c.in-ReadFault.is w.no_write) c.in-Err.ensures.ended
+returns-in-ReadFault-clause-ended g c = let (taken, w) = c.in-Err.ensures.watches in
+    read_told c.in-Err.stop _ _ (is_read c.in-Err.stop c.in-ReadFault.is w.no_write) c.in-Err.ensures.ended
 
 pub returns-in-ReadFault-clause-no_write : goal.returns-in-ReadFault-clause-no_write
 returns-in-ReadFault-clause-no_write g c = second_no_write
@@ -128,7 +175,8 @@ returns-in-Torn-clause-fault g c = record {
 }
 
 pub returns-in-Torn-clause-ended : goal.returns-in-Torn-clause-ended
-returns-in-Torn-clause-ended g c = torn_told c.in-Err.stop c.in-Torn.unit _ _ c.in-Torn.is c.in-Err.ensures.ended
+returns-in-Torn-clause-ended g c =
+    torn_told c.in-Err.stop c.in-Torn.unit _ _ c.in-Torn.is c.in-Err.ensures.ended
 
 pub returns-in-Torn-clause-no_write : goal.returns-in-Torn-clause-no_write
 returns-in-Torn-clause-no_write g c = torn_no_write _
@@ -140,7 +188,10 @@ pub returns-in-Torn-clause-accepted : goal.returns-in-Torn-clause-accepted
 returns-in-Torn-clause-accepted g c = refl
 
 pub returns-in-TooLong-clause-answer : goal.returns-in-TooLong-clause-answer
-returns-in-TooLong-clause-answer g c = long_by (checkpoint_in c.args.self.now.file) c.args.at _ _ c.in-Err.stop c.in-TooLong.is (ap₂ (λ a b. 1000000 - (a + b)) c.counts-counts.ensures.lead_in c.counts-counts.ensures.program) c.in-Err.ensures.answer
+returns-in-TooLong-clause-answer g c =
+    long_by (checkpoint_in c.args.self.now.file) c.args.at _ _ c.in-Err.stop c.in-TooLong.is
+    (ap₂ (λ a b. 1000000 - (a + b)) c.counts-counts.ensures.lead_in c.counts-counts.ensures.program)
+    c.in-Err.ensures.answer
 
 pub returns-in-TooLong-clause-file : goal.returns-in-TooLong-clause-file
 returns-in-TooLong-clause-file g c = c.begin_again.ensures.file
@@ -167,4 +218,10 @@ returns-in-TooLong-clause-accepted g c = refl
 pub resumed-requires : goal.resumed-requires
 resumed-requires g c =
     let (taken, w) = c.in-Ok.ensures.watches in
-    omega (arith, w.done.2, (c.requires.file.ranges.1.1.1.0 0 (omega arith)).0, c.counts-counts.ensures.lead_in, c.counts-counts.ensures.program)
+    omega (
+      arith,
+      w.done.2,
+      (c.requires.file.ranges.1.1.1.0 0 (omega arith)).0,
+      c.counts-counts.ensures.lead_in,
+      c.counts-counts.ensures.program,
+    )

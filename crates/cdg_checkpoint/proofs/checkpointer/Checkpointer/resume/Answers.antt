@@ -6,16 +6,20 @@ use Rattle.cdg_checkpoint.specs.declared.stops.ResumeStop.TheVariants.{FirstFaul
 use Rattle.cdg_checkpoint.proofs.checkpointer.Checkpointer.resume.Goals as goal
 
 pub returns-in-Err-clause-accepted : goal.returns-in-Err-clause-accepted
-returns-in-Err-clause-accepted g c = refused c.in-Err.stop c.args.at c.accept.new.self.file c.in-Err.ensures.accepted
+returns-in-Err-clause-accepted g c =
+    refused c.in-Err.stop c.args.at c.accept.new.self.file c.in-Err.ensures.accepted
 
 pub returns-in-Err-clause-resumes : goal.returns-in-Err-clause-resumes
-returns-in-Err-clause-resumes g c = refused_not_accepted c.in-Err.stop c.args.at c.accept.new.self.file _ c.in-Err.ensures.accepted
+returns-in-Err-clause-resumes g c =
+    refused_not_accepted c.in-Err.stop c.args.at c.accept.new.self.file _ c.in-Err.ensures.accepted
 
 pub returns-in-Err-clause-answer : goal.returns-in-Err-clause-answer
-returns-in-Err-clause-answer g c = refused_not_accepted c.in-Err.stop c.args.at c.accept.new.self.file _ c.in-Err.ensures.accepted
+returns-in-Err-clause-answer g c =
+    refused_not_accepted c.in-Err.stop c.args.at c.accept.new.self.file _ c.in-Err.ensures.accepted
 
 pub returns-in-Err-clause-rest_told : goal.returns-in-Err-clause-rest_told
-returns-in-Err-clause-rest_told g c = refused_not_accepted c.in-Err.stop c.args.at c.accept.new.self.file _ c.in-Err.ensures.accepted
+returns-in-Err-clause-rest_told g c =
+    refused_not_accepted c.in-Err.stop c.args.at c.accept.new.self.file _ c.in-Err.ensures.accepted
 
 pub show-requires-clause-at : goal.show-requires-clause-at
 show-requires-clause-at g c = c.requires
@@ -27,16 +31,26 @@ pub show-requires-clause-not_later : goal.show-requires-clause-not_later
 show-requires-clause-not_later g c = c.in-Ok.ensures.accepted.1
 
 pub returns-in-Ok-clause-accepted : goal.returns-in-Ok-clause-accepted
-returns-in-Ok-clause-accepted g c = accepted_by c.show.result c.args.at c.accept.new.self.file c.show.new.self.file c.show.ensures.accepted c.show.ensures.file c.in-Ok.ensures.accepted
+returns-in-Ok-clause-accepted g c =
+    accepted_by c.show.result c.args.at c.accept.new.self.file c.show.new.self.file c.show.ensures.accepted
+    c.show.ensures.file c.in-Ok.ensures.accepted
 
 pub returns-in-Ok-clause-rest_untouched : goal.returns-in-Ok-clause-rest_untouched
 returns-in-Ok-clause-rest_untouched g c = λ refused. accepted_not_refused _ _ c.show.ensures.accepted refused
 
 pub returns-in-Ok-clause-resumes : goal.returns-in-Ok-clause-resumes
-returns-in-Ok-clause-resumes g c = λ ok. let (taken, w) = c.show.ensures.resumes in (taken, resumes_still c.accept.new.self.file c.show.new.self.file c.args.at (passed g.T.Source.left g.K.Sink.held (c.args.rest.now, c.args.out.now) (c.show.new.rest, c.show.new.out)) c.show.result taken c.show.ensures.file w)
+returns-in-Ok-clause-resumes g c = λ ok. let (taken, w) = c.show.ensures.resumes in (
+  taken,
+  resumes_still c.accept.new.self.file c.show.new.self.file c.args.at
+      (passed g.T.Source.left g.K.Sink.held (c.args.rest.now, c.args.out.now)
+      (c.show.new.rest, c.show.new.out))
+      c.show.result taken c.show.ensures.file w,
+)
 
 pub returns-in-Ok-clause-answer : goal.returns-in-Ok-clause-answer
-returns-in-Ok-clause-answer g c = λ ok. answer_still _ c.accept.new.self.file c.show.new.self.file c.args.at c.show.result c.show.ensures.file c.show.ensures.answer
+returns-in-Ok-clause-answer g c =
+    λ ok. answer_still _ c.accept.new.self.file c.show.new.self.file c.args.at c.show.result
+    c.show.ensures.file c.show.ensures.answer
 
 pub returns-in-Ok-clause-untouched : goal.returns-in-Ok-clause-untouched
 returns-in-Ok-clause-untouched g c = c.show.ensures.untouched
@@ -73,21 +87,26 @@ returns-in-Err-clause-first_fault g c = record {
 pub returns-in-Err-clause-second_fault : goal.returns-in-Err-clause-second_fault
 returns-in-Err-clause-second_fault g c = record {
   later = no_less _;
-  rose = λ e. absurd (refused_no_second c.in-Err.stop c.args.at c.accept.new.self.file c.in-Err.ensures.accepted e);
+  rose =
+      λ e.
+      absurd (refused_no_second c.in-Err.stop c.args.at c.accept.new.self.file c.in-Err.ensures.accepted e);
   same = λ other. refl;
 }
 
 pub returns-in-Err-clause-write_fault : goal.returns-in-Err-clause-write_fault
 returns-in-Err-clause-write_fault g c = record {
   later = no_less _;
-  rose = λ e. absurd (refused_no_write c.in-Err.stop c.args.at c.accept.new.self.file c.in-Err.ensures.accepted e);
+  rose =
+      λ e.
+      absurd (refused_no_write c.in-Err.stop c.args.at c.accept.new.self.file c.in-Err.ensures.accepted e);
   same = λ other. refl;
 }
 
 pub returns-in-Ok-clause-reads : goal.returns-in-Ok-clause-reads
 returns-in-Ok-clause-reads g c =
     let first = input g.S.Source.left g.S.Source.ends c.args.saved.now c.accept.new.saved in
-    reads_on first c.show.result c.accept.new.self.file c.show.new.self.file c.show.ensures.file c.show.ensures.no_first c.in-Ok.ensures.reads
+    reads_on first c.show.result c.accept.new.self.file c.show.new.self.file c.show.ensures.file
+    c.show.ensures.no_first c.in-Ok.ensures.reads
 
 pub returns-in-Err-clause-reads : goal.returns-in-Err-clause-reads
 returns-in-Err-clause-reads g c =

@@ -24,7 +24,8 @@ returns-then-self-clause-bytes g c =
     let n = c.write_front-written.result in
     let split = written_and_left items self.start self.end n (omega (arith, c.if-self.true)) in
     let same =
-    ap (λ (l : List ℕ). take n (slice_range l self.start self.end) ++ slice_range items (self.start + n) self.end)
+    ap (λ (l : List ℕ).
+    take n (slice_range l self.start self.end) ++ slice_range items (self.start + n) self.end)
     (sym c.deref.ensures.value) in
     rw (← c.self.view_is) (append_known-moved _ _ _ _ _ c.write_front-written.ensures.bytes (split ∙ same))
 

@@ -6,5 +6,6 @@ use Rattle.cdg_screen.proofs.screen.Screen.memory.Goals as goal
 
 pub returns-clause-pixel : goal.returns-clause-pixel
 returns-clause-pixel c =
-    c.get.ensures.pixel ∙ sym (pixel_of_rows (at c.self.inside.memory) c.args.x c.args.y c.requires.width c.requires.height)
+    c.get.ensures.pixel
+    ∙ sym (pixel_of_rows (at c.self.inside.memory) c.args.x c.args.y c.requires.width c.requires.height)
     ∙ ap (λ (now : Standing). pixel_at now.memory c.args.x c.args.y) c.self.view_is

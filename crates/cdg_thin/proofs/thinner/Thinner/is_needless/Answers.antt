@@ -8,7 +8,8 @@ pub returns-then-is_idle-clause-next : goal.returns-then-is_idle-clause-next
 unfolding thin_next
 returns-then-is_idle-clause-next c =
     let idle = c.is_idle.ensures c.if-is_idle.true in
-    let stands = ap (λ (i : Instr). standing_after c.self.inside.screen (i ∷ [])) idle ∙ c.what_stands_is_whole.ensures in
+    let stands =
+    ap (λ (i : Instr). standing_after c.self.inside.screen (i ∷ [])) idle ∙ c.what_stands_is_whole.ensures in
     rw (← c.self.view_is) (sym stands)
 
 pub returns-then-is_idle-clause-needless : goal.returns-then-is_idle-clause-needless

@@ -6,4 +6,6 @@ use Rattle.cdg_thin.proofs.thinner.Thinner.is_needless_drawing.Goals as goal
 
 pub returns-clause-next : goal.returns-clause-next
 unfolding thin_next
-returns-clause-next c = c.passes_over.ensures.next ∙ ap (λ (i : Instr). standing_after c.args.self.now (i ∷ [])) c.instruction.ensures.meaning
+returns-clause-next c =
+    c.passes_over.ensures.next
+    ∙ ap (λ (i : Instr). standing_after c.args.self.now (i ∷ [])) c.instruction.ensures.meaning

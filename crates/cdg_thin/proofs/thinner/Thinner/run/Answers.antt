@@ -2,8 +2,10 @@ use Rattle.cdg_thin.proofs.Calls.{thins, whole}
 use Rattle.cdg_thin.proofs.thinner.Thinner.run.Goals as goal
 
 pub returns-clause-thins : goal.returns-clause-thins
-returns-clause-thins g c =
-    (c.pump.ensures.pumps.0, thins _ c.pump.ensures.pumps.0 c.reset.ensures c.pump.result c.pump.ensures.pumps.1)
+returns-clause-thins g c = (
+  c.pump.ensures.pumps.0,
+  thins _ c.pump.ensures.pumps.0 c.reset.ensures c.pump.result c.pump.ensures.pumps.1,
+)
 
 pub returns-clause-whole : goal.returns-clause-whole
 returns-clause-whole g c = whole _ _ _ c.pump.result _ (returns-clause-thins g c).1

@@ -8,10 +8,13 @@ invariant_of-result c =
     let size = c.len-count.ensures in
     let some : 2 ≤ count = omega (arith, size, c.requires.some) in
     let whole : count ≡ count - 1 + 1 = omega (arith, some) in
-    has_tracks _ (count - 1) (omega (arith, some)) c.requires.first (omega (arith, some)) (omega (arith, some, size, c.requires.last))
+    has_tracks _ (count - 1) (omega (arith, some)) c.requires.first (omega (arith, some))
+    (omega (arith, some, size, c.requires.last))
     (sym size ∙ whole) (c.requires.performers ∙ sym size ∙ whole) (c.requires.songwriters ∙ sym size ∙ whole)
-    (c.in_ok-empty_strings.ensures.count ∙ whole) (c.in_ok-empty_strings-2.ensures.count ∙ whole) (c.in_ok-empty_strings-3.ensures.count ∙ whole)
+    (c.in_ok-empty_strings.ensures.count ∙ whole) (c.in_ok-empty_strings-2.ensures.count ∙ whole)
+    (c.in_ok-empty_strings-3.ensures.count ∙ whole)
     (c.requires.codes ∙ sym size ∙ whole)
     c.requires.strings.0 c.requires.strings.1 c.requires.strings.2
-    c.in_ok-empty_strings.ensures.each c.in_ok-empty_strings-2.ensures.each c.in_ok-empty_strings-3.ensures.each
+    c.in_ok-empty_strings.ensures.each c.in_ok-empty_strings-2.ensures.each
+    c.in_ok-empty_strings-3.ensures.each
     c.requires.strings.3

@@ -14,10 +14,13 @@ returns c =
     })
 
 pub restore-requires-clause-border : goal.restore-requires-clause-border
-restore-requires-clause-border c = omega (arith, c.byte.ensures.number, c.requires.ranges.1.1.1.1.1.1.1.0 0 (omega arith))
+restore-requires-clause-border c =
+    omega (arith, c.byte.ensures.number, c.requires.ranges.1.1.1.1.1.1.1.0 0 (omega arith))
 
 pub restore-requires-clause-across : goal.restore-requires-clause-across
-restore-requires-clause-across c = omega (arith, c.byte-2.ensures.number, c.requires.ranges.1.1.1.1.1.1.1.1.0 0 (omega arith))
+restore-requires-clause-across c =
+    omega (arith, c.byte-2.ensures.number, c.requires.ranges.1.1.1.1.1.1.1.1.0 0 (omega arith))
 
 pub restore-requires-clause-down : goal.restore-requires-clause-down
-restore-requires-clause-down c = omega (arith, c.byte-3.ensures.number, c.requires.ranges.1.1.1.1.1.1.1.1.1.0 0 (omega arith))
+restore-requires-clause-down c =
+    omega (arith, c.byte-3.ensures.number, c.requires.ranges.1.1.1.1.1.1.1.1.1.0 0 (omega arith))

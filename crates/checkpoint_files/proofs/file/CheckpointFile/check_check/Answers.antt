@@ -6,6 +6,8 @@ returns-then-short_number-check_of_body c = record {
   k = 0;
   field = omega arith;
   byte_is = refl;
-  out = λ same. c.if-short_number-check_of_body.true (c.short_number.ensures ∙ same ∙ sym c.check_of_body.ensures);
+  out =
+      λ same.
+      c.if-short_number-check_of_body.true (c.short_number.ensures ∙ same ∙ sym c.check_of_body.ensures);
   earlier = λ j lt. absurd (omega (arith, lt));
 }

@@ -5,40 +5,76 @@ use Rattle.checkpoint_files.proofs.file.CheckpointFile.check_fields.Goals as goa
 
 pub returns-in_err-check_mark : goal.returns-in_err-check_mark
 returns-in_err-check_mark c = exits c.args.self.now c.from_residual.result _ c.from_residual.ensures.1
-    (record { early = []; part = Mark; late = ToCome ∷ LeadIn ∷ Program ∷ Bad ∷ Slots ∷ Memory ∷ Border ∷ Across ∷ Down ∷ Colours ∷ Levels ∷ Check ∷ []; order = refl; earlier = tt; here = c.in_err-check_mark.ensures })
+    (record {
+      early = [];
+      part = Mark;
+      late =
+          ToCome ∷ LeadIn ∷ Program ∷ Bad ∷ Slots ∷ Memory ∷ Border ∷ Across ∷ Down ∷ Colours ∷ Levels ∷ Check
+          ∷ [];
+      order = refl;
+      earlier = tt;
+      here = c.in_err-check_mark.ensures;
+    })
 
 pub returns-in_err-check_to_come : goal.returns-in_err-check_to_come
-returns-in_err-check_to_come c = exits c.args.self.now c.from_residual-in_err-check_to_come.result _ c.from_residual-in_err-check_to_come.ensures.1
-    (record { early = Mark ∷ []; part = ToCome; late = LeadIn ∷ Program ∷ Bad ∷ Slots ∷ Memory ∷ Border ∷ Across ∷ Down ∷ Colours ∷ Levels ∷ Check ∷ []; order = refl; earlier = (c.in_ok-check_mark.ensures, tt); here = c.in_err-check_to_come.ensures })
+returns-in_err-check_to_come c =
+    exits c.args.self.now c.from_residual-in_err-check_to_come.result _
+    c.from_residual-in_err-check_to_come.ensures.1
+    (record {
+      early = Mark ∷ [];
+      part = ToCome;
+      late = LeadIn ∷ Program ∷ Bad ∷ Slots ∷ Memory ∷ Border ∷ Across ∷ Down ∷ Colours ∷ Levels ∷ Check ∷ [];
+      order = refl;
+      earlier = (c.in_ok-check_mark.ensures, tt);
+      here = c.in_err-check_to_come.ensures;
+    })
 
 pub returns-in_err-check_lead_in : goal.returns-in_err-check_lead_in
-returns-in_err-check_lead_in c = exits c.args.self.now c.from_residual-in_err-check_lead_in.result _ c.from_residual-in_err-check_lead_in.ensures.1
-    (record { early = Mark ∷ ToCome ∷ []; part = LeadIn; late = Program ∷ Bad ∷ Slots ∷ Memory ∷ Border ∷ Across ∷ Down ∷ Colours ∷ Levels ∷ Check ∷ []; order = refl; earlier = (c.in_ok-check_mark.ensures, (c.in_ok-check_to_come.ensures, tt)); here = c.in_err-check_lead_in.ensures })
+returns-in_err-check_lead_in c =
+    exits c.args.self.now c.from_residual-in_err-check_lead_in.result _
+    c.from_residual-in_err-check_lead_in.ensures.1
+    (record {
+      early = Mark ∷ ToCome ∷ [];
+      part = LeadIn;
+      late = Program ∷ Bad ∷ Slots ∷ Memory ∷ Border ∷ Across ∷ Down ∷ Colours ∷ Levels ∷ Check ∷ [];
+      order = refl;
+      earlier = (c.in_ok-check_mark.ensures, (c.in_ok-check_to_come.ensures, tt));
+      here = c.in_err-check_lead_in.ensures;
+    })
 
 pub returns-in_err-check_program : goal.returns-in_err-check_program
-returns-in_err-check_program c = exits c.args.self.now c.from_residual-in_err-check_program.result _ c.from_residual-in_err-check_program.ensures.1
+returns-in_err-check_program c =
+    exits c.args.self.now c.from_residual-in_err-check_program.result _
+    c.from_residual-in_err-check_program.ensures.1
     (record {
       early = Mark ∷ ToCome ∷ LeadIn ∷ [];
       part = Program;
       late = Bad ∷ Slots ∷ Memory ∷ Border ∷ Across ∷ Down ∷ Colours ∷ Levels ∷ Check ∷ [];
       order = refl;
-      earlier = (c.in_ok-check_mark.ensures, (c.in_ok-check_to_come.ensures, (c.in_ok-check_lead_in.ensures, tt)));
+      earlier =
+          (c.in_ok-check_mark.ensures, (c.in_ok-check_to_come.ensures, (c.in_ok-check_lead_in.ensures, tt)));
       here = c.in_err-check_program.ensures;
     })
 
 pub returns-in_err-check_bad : goal.returns-in_err-check_bad
-returns-in_err-check_bad c = exits c.args.self.now c.from_residual-in_err-check_bad.result _ c.from_residual-in_err-check_bad.ensures.1
+returns-in_err-check_bad c =
+    exits c.args.self.now c.from_residual-in_err-check_bad.result _ c.from_residual-in_err-check_bad.ensures.1
     (record {
       early = Mark ∷ ToCome ∷ LeadIn ∷ Program ∷ [];
       part = Bad;
       late = Slots ∷ Memory ∷ Border ∷ Across ∷ Down ∷ Colours ∷ Levels ∷ Check ∷ [];
       order = refl;
-      earlier = (c.in_ok-check_mark.ensures, (c.in_ok-check_to_come.ensures, (c.in_ok-check_lead_in.ensures, (c.in_ok-check_program.ensures, tt))));
+      earlier = (
+        c.in_ok-check_mark.ensures,
+        (c.in_ok-check_to_come.ensures, (c.in_ok-check_lead_in.ensures, (c.in_ok-check_program.ensures, tt))),
+      );
       here = c.in_err-check_bad.ensures;
     })
 
 pub returns-in_err-check_slots : goal.returns-in_err-check_slots
-returns-in_err-check_slots c = exits c.args.self.now c.from_residual-in_err-check_slots.result _ c.from_residual-in_err-check_slots.ensures.1
+returns-in_err-check_slots c =
+    exits c.args.self.now c.from_residual-in_err-check_slots.result _
+    c.from_residual-in_err-check_slots.ensures.1
     (record {
       early = Mark ∷ ToCome ∷ LeadIn ∷ Program ∷ Bad ∷ [];
       part = Slots;
@@ -55,7 +91,9 @@ returns-in_err-check_slots c = exits c.args.self.now c.from_residual-in_err-chec
     })
 
 pub returns-in_err-check_memory : goal.returns-in_err-check_memory
-returns-in_err-check_memory c = exits c.args.self.now c.from_residual-in_err-check_memory.result _ c.from_residual-in_err-check_memory.ensures.1
+returns-in_err-check_memory c =
+    exits c.args.self.now c.from_residual-in_err-check_memory.result _
+    c.from_residual-in_err-check_memory.ensures.1
     (record {
       early = Mark ∷ ToCome ∷ LeadIn ∷ Program ∷ Bad ∷ Slots ∷ [];
       part = Memory;
@@ -65,14 +103,19 @@ returns-in_err-check_memory c = exits c.args.self.now c.from_residual-in_err-che
         c.in_ok-check_mark.ensures,
         (
           c.in_ok-check_to_come.ensures,
-          (c.in_ok-check_lead_in.ensures, (c.in_ok-check_program.ensures, (c.in_ok-check_bad.ensures, (c.in_ok-check_slots.ensures, tt)))),
+          (
+            c.in_ok-check_lead_in.ensures,
+            (c.in_ok-check_program.ensures, (c.in_ok-check_bad.ensures, (c.in_ok-check_slots.ensures, tt))),
+          ),
         ),
       );
       here = c.in_err-check_memory.ensures;
     })
 
 pub returns-in_err-check_border : goal.returns-in_err-check_border
-returns-in_err-check_border c = exits c.args.self.now c.from_residual-in_err-check_border.result _ c.from_residual-in_err-check_border.ensures.1
+returns-in_err-check_border c =
+    exits c.args.self.now c.from_residual-in_err-check_border.result _
+    c.from_residual-in_err-check_border.ensures.1
     (record {
       early = Mark ∷ ToCome ∷ LeadIn ∷ Program ∷ Bad ∷ Slots ∷ Memory ∷ [];
       part = Border;
@@ -95,7 +138,9 @@ returns-in_err-check_border c = exits c.args.self.now c.from_residual-in_err-che
     })
 
 pub returns-in_err-check_across : goal.returns-in_err-check_across
-returns-in_err-check_across c = exits c.args.self.now c.from_residual-in_err-check_across.result _ c.from_residual-in_err-check_across.ensures.1
+returns-in_err-check_across c =
+    exits c.args.self.now c.from_residual-in_err-check_across.result _
+    c.from_residual-in_err-check_across.ensures.1
     (record {
       early = Mark ∷ ToCome ∷ LeadIn ∷ Program ∷ Bad ∷ Slots ∷ Memory ∷ Border ∷ [];
       part = Across;
@@ -109,7 +154,13 @@ returns-in_err-check_across c = exits c.args.self.now c.from_residual-in_err-che
             c.in_ok-check_lead_in.ensures,
             (
               c.in_ok-check_program.ensures,
-              (c.in_ok-check_bad.ensures, (c.in_ok-check_slots.ensures, (c.in_ok-check_memory.ensures, (c.in_ok-check_border.ensures, tt)))),
+              (
+                c.in_ok-check_bad.ensures,
+                (
+                  c.in_ok-check_slots.ensures,
+                  (c.in_ok-check_memory.ensures, (c.in_ok-check_border.ensures, tt)),
+                ),
+              ),
             ),
           ),
         ),
@@ -118,7 +169,9 @@ returns-in_err-check_across c = exits c.args.self.now c.from_residual-in_err-che
     })
 
 pub returns-in_err-check_down : goal.returns-in_err-check_down
-returns-in_err-check_down c = exits c.args.self.now c.from_residual-in_err-check_down.result _ c.from_residual-in_err-check_down.ensures.1
+returns-in_err-check_down c =
+    exits c.args.self.now c.from_residual-in_err-check_down.result _
+    c.from_residual-in_err-check_down.ensures.1
     (record {
       early = Mark ∷ ToCome ∷ LeadIn ∷ Program ∷ Bad ∷ Slots ∷ Memory ∷ Border ∷ Across ∷ [];
       part = Down;
@@ -136,7 +189,10 @@ returns-in_err-check_down c = exits c.args.self.now c.from_residual-in_err-check
                 c.in_ok-check_bad.ensures,
                 (
                   c.in_ok-check_slots.ensures,
-                  (c.in_ok-check_memory.ensures, (c.in_ok-check_border.ensures, (c.in_ok-check_across.ensures, tt))),
+                  (
+                    c.in_ok-check_memory.ensures,
+                    (c.in_ok-check_border.ensures, (c.in_ok-check_across.ensures, tt)),
+                  ),
                 ),
               ),
             ),
@@ -147,7 +203,9 @@ returns-in_err-check_down c = exits c.args.self.now c.from_residual-in_err-check
     })
 
 pub returns-in_err-check_colours : goal.returns-in_err-check_colours
-returns-in_err-check_colours c = exits c.args.self.now c.from_residual-in_err-check_colours.result _ c.from_residual-in_err-check_colours.ensures.1
+returns-in_err-check_colours c =
+    exits c.args.self.now c.from_residual-in_err-check_colours.result _
+    c.from_residual-in_err-check_colours.ensures.1
     (record {
       early = Mark ∷ ToCome ∷ LeadIn ∷ Program ∷ Bad ∷ Slots ∷ Memory ∷ Border ∷ Across ∷ Down ∷ [];
       part = Colours;
@@ -167,7 +225,10 @@ returns-in_err-check_colours c = exits c.args.self.now c.from_residual-in_err-ch
                   c.in_ok-check_slots.ensures,
                   (
                     c.in_ok-check_memory.ensures,
-                    (c.in_ok-check_border.ensures, (c.in_ok-check_across.ensures, (c.in_ok-check_down.ensures, tt))),
+                    (
+                      c.in_ok-check_border.ensures,
+                      (c.in_ok-check_across.ensures, (c.in_ok-check_down.ensures, tt)),
+                    ),
                   ),
                 ),
               ),
@@ -179,7 +240,9 @@ returns-in_err-check_colours c = exits c.args.self.now c.from_residual-in_err-ch
     })
 
 pub returns-in_err-check_levels : goal.returns-in_err-check_levels
-returns-in_err-check_levels c = exits c.args.self.now c.from_residual-in_err-check_levels.result _ c.from_residual-in_err-check_levels.ensures.1
+returns-in_err-check_levels c =
+    exits c.args.self.now c.from_residual-in_err-check_levels.result _
+    c.from_residual-in_err-check_levels.ensures.1
     (record {
       early = Mark ∷ ToCome ∷ LeadIn ∷ Program ∷ Bad ∷ Slots ∷ Memory ∷ Border ∷ Across ∷ Down ∷ Colours ∷ [];
       part = Levels;
@@ -199,7 +262,13 @@ returns-in_err-check_levels c = exits c.args.self.now c.from_residual-in_err-che
                   c.in_ok-check_slots.ensures,
                   (
                     c.in_ok-check_memory.ensures,
-                    (c.in_ok-check_border.ensures, (c.in_ok-check_across.ensures, (c.in_ok-check_down.ensures, (c.in_ok-check_colours.ensures, tt)))),
+                    (
+                      c.in_ok-check_border.ensures,
+                      (
+                        c.in_ok-check_across.ensures,
+                        (c.in_ok-check_down.ensures, (c.in_ok-check_colours.ensures, tt)),
+                      ),
+                    ),
                   ),
                 ),
               ),

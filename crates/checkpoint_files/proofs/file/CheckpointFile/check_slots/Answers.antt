@@ -6,6 +6,7 @@ use Rattle.checkpoint_files.proofs.file.CheckpointFile.check_slots.Goals as goal
 pub returns : goal.returns
 returns c =
     slots_checked c.args.self.now c.empty_symbols-empty.result
-    (c.empty_symbols-empty.ensures.value ∙ ap empty_symbols c.counts.ensures.program) c.empty_symbols-empty.ensures.most
+    (c.empty_symbols-empty.ensures.value ∙ ap empty_symbols c.counts.ensures.program)
+    c.empty_symbols-empty.ensures.most
     (c.in_ok-check_bytes.ensures)
     c.check_bytes-2.result c.check_bytes-2.ensures

@@ -8,5 +8,6 @@ use Rattle.checkpoint_files.proofs.file.CheckpointFile.put_colours.Given as goal
 abbrev pub invariant-loop-k : goal.invariant-loop-k
 invariant-loop-k l = record {
   size : length l.self ≡ length l.fn.self + 2 * l.k;
-  part : (counts : StreamCounts) (slots : List ℕ) → l.self ≡ l.fn.self ++ first_fields (kept counts slots l.screen) Colours l.k;
+  part : (counts : StreamCounts) (slots : List ℕ)
+      → l.self ≡ l.fn.self ++ first_fields (kept counts slots l.screen) Colours l.k;
 }

@@ -6,16 +6,27 @@ use Rattle.checkpoint_files.proofs.MemoryRows.{row_put}
 use Rattle.checkpoint_files.proofs.file.CheckpointFile.put_memory.Goals as goal
 
 pub loop-y-init : goal.loop-y-init
-loop-y-init c = record { size = omega arith; part = λ counts slots. none_put c.args.self.now (kept counts slots c.args.screen.now) Memory }
+loop-y-init c = record {
+  size = omega arith;
+  part = λ counts slots. none_put c.args.self.now (kept counts slots c.args.screen.now) Memory;
+}
 
 pub loop-y-preserved : goal.loop-y-preserved
 loop-y-preserved c = record {
-  size = omega (arith, ap length c.put.ensures, length-append c.loop-y.self c.memory_row.result, c.memory_row.ensures.size, c.loop-y.invariant.size);
+  size = omega (
+    arith,
+    ap length c.put.ensures,
+    length-append c.loop-y.self c.memory_row.result,
+    c.memory_row.ensures.size,
+    c.loop-y.invariant.size,
+  );
   part = λ counts slots.
-      row_put c.args.self.now _ _ c.memory_row.result (kept counts slots c.args.screen.now) c.loop-y.y c.put.ensures (c.loop-y.invariant.part counts slots)
+      row_put c.args.self.now _ _ c.memory_row.result (kept counts slots c.args.screen.now) c.loop-y.y
+      c.put.ensures (c.loop-y.invariant.part counts slots)
       c.memory_row.ensures.row c.memory_row.ensures.size c.memory_row.ensures.range;
 }
 
 pub returns-clause-part : goal.returns-clause-part
 returns-clause-part c counts slots =
-    all_put c.args.self.now _ (kept counts slots c.args.screen.now) Memory (300 * c.loop-y.y) (c.loop-y.invariant.part counts slots) (omega (arith, c.loop-y.auto.y-end, c.loop-y-test.false))
+    all_put c.args.self.now _ (kept counts slots c.args.screen.now) Memory (300 * c.loop-y.y)
+    (c.loop-y.invariant.part counts slots) (omega (arith, c.loop-y.auto.y-end, c.loop-y-test.false))

@@ -8,5 +8,6 @@ use Rattle.checkpoint_files.proofs.file.CheckpointFile.put_memory.Given as goal
 abbrev pub invariant-loop-y : goal.invariant-loop-y
 invariant-loop-y l = record {
   size : length l.self ≡ length l.fn.self + 300 * l.y;
-  part : (counts : StreamCounts) (slots : List ℕ) → l.self ≡ l.fn.self ++ first_fields (kept counts slots l.screen) Memory (300 * l.y);
+  part : (counts : StreamCounts) (slots : List ℕ)
+      → l.self ≡ l.fn.self ++ first_fields (kept counts slots l.screen) Memory (300 * l.y);
 }

@@ -9,6 +9,7 @@ returns-clause-parts c counts slots =
     let k : Checkpoint = kept counts slots c.args.screen.now in
     then_part _ _ _ _ k Down c.put-3.ensures
     (then_part _ _ _ _ k Across c.put-2.ensures
-    (then_part _ _ _ _ k Border c.put.ensures refl refl (written_byte _ _ (sym c.border.ensures.border) (omega (arith, c.border.ensures.range))))
+    (then_part _ _ _ _ k Border c.put.ensures refl refl
+    (written_byte _ _ (sym c.border.ensures.border) (omega (arith, c.border.ensures.range))))
     refl (written_byte _ _ (sym c.offset_h.ensures.offset) (omega (arith, c.offset_h.ensures.range))))
     refl (written_byte _ _ (sym c.offset_v.ensures.offset) (omega (arith, c.offset_v.ensures.range)))

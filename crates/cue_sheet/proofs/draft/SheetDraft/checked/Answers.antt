@@ -8,18 +8,34 @@ use Rattle.cue_sheet.proofs.draft.SheetDraft.checked.Goals as goal
 
 pub returns-in-Some-later_reason : goal.returns-in-Some-later_reason
 returns-in-Some-later_reason c =
-    let named : command_named (first_word c.args.line.now) ≡ Some c.in-Some.command = sym (c.in-Some.ensures ∙ ap command_named c.split_command.ensures.word) in
-    let first : is_second_file c.args.self.now c.in-Some.command ≡ false = sym c.is_second_file.ensures ∙ c.if-is_second_file.false in
-    let here : is_placed c.args.self.now c.in-Some.command ≡ true = sym c.is_placed.ensures ∙ c.if-not-is_placed.false in
-    let says : said_by c.in-Some.command (argument_of c.args.line.now) ≡ Some (line_said c.in-Some-spelled.said) = sym (c.in-Some-spelled.ensures.line ∙ ap (said_by c.in-Some.command) c.split_command.ensures.argument) in
-    obeyed_is c.args.self.now _ c.in-Some.command (argument_of c.args.line.now) (line_said c.in-Some-spelled.said) (Some c.in-Some-later_reason.why)
+    let named : command_named (first_word c.args.line.now) ≡ Some c.in-Some.command =
+    sym (c.in-Some.ensures ∙ ap command_named c.split_command.ensures.word) in
+    let first : is_second_file c.args.self.now c.in-Some.command ≡ false =
+    sym c.is_second_file.ensures ∙ c.if-is_second_file.false in
+    let here : is_placed c.args.self.now c.in-Some.command ≡ true =
+    sym c.is_placed.ensures ∙ c.if-not-is_placed.false in
+    let says : said_by c.in-Some.command (argument_of c.args.line.now)
+    ≡ Some (line_said c.in-Some-spelled.said) =
+    sym (c.in-Some-spelled.ensures.line ∙ ap (said_by c.in-Some.command) c.split_command.ensures.argument) in
+    obeyed_is c.args.self.now _ c.in-Some.command (argument_of c.args.line.now)
+    (line_said c.in-Some-spelled.said) (Some c.in-Some-later_reason.why)
     named first here says (sym c.later_reason.ensures ∙ c.in-Some-later_reason.is)
 
 pub returns-in-None : goal.returns-in-None
 returns-in-None c =
-    let named : command_named (first_word c.args.line.now) ≡ Some c.in-Some.command = sym (c.in-Some.ensures ∙ ap command_named c.split_command.ensures.word) in
-    let first : is_second_file c.args.self.now c.in-Some.command ≡ false = sym c.is_second_file.ensures ∙ c.if-is_second_file.false in
-    let here : is_placed c.args.self.now c.in-Some.command ≡ true = sym c.is_placed.ensures ∙ c.if-not-is_placed.false in
-    let says : said_by c.in-Some.command (argument_of c.args.line.now) ≡ Some (line_said c.in-Some-spelled.said) = sym (c.in-Some-spelled.ensures.line ∙ ap (said_by c.in-Some.command) c.split_command.ensures.argument) in
-    let free : later_sheet_reason c.args.self.now (line_said c.in-Some-spelled.said) ≡ None = sym c.later_reason.ensures ∙ c.in-None.is in
-    (obeyed_is c.args.self.now _ c.in-Some.command (argument_of c.args.line.now) (line_said c.in-Some-spelled.said) None named first here says free, c.in-Some-spelled.ensures.range, free)
+    let named : command_named (first_word c.args.line.now) ≡ Some c.in-Some.command =
+    sym (c.in-Some.ensures ∙ ap command_named c.split_command.ensures.word) in
+    let first : is_second_file c.args.self.now c.in-Some.command ≡ false =
+    sym c.is_second_file.ensures ∙ c.if-is_second_file.false in
+    let here : is_placed c.args.self.now c.in-Some.command ≡ true =
+    sym c.is_placed.ensures ∙ c.if-not-is_placed.false in
+    let says : said_by c.in-Some.command (argument_of c.args.line.now)
+    ≡ Some (line_said c.in-Some-spelled.said) =
+    sym (c.in-Some-spelled.ensures.line ∙ ap (said_by c.in-Some.command) c.split_command.ensures.argument) in
+    let free : later_sheet_reason c.args.self.now (line_said c.in-Some-spelled.said) ≡ None =
+    sym c.later_reason.ensures ∙ c.in-None.is in (
+      obeyed_is c.args.self.now _ c.in-Some.command (argument_of c.args.line.now)
+          (line_said c.in-Some-spelled.said) None named first here says free,
+      c.in-Some-spelled.ensures.range,
+      free,
+    )

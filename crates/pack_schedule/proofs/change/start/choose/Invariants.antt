@@ -6,4 +6,6 @@ use Rattle.pack_schedule.proofs.change.start.choose.Given as goal
 
 abbrev pub invariant-loop-colour : goal.invariant-loop-colour
 invariant-loop-colour l =
-    (l.choice.preset ≡ first_least (planned_length l.script l.k) (preferred l.k) (map Some (below l.colour))) × (l.choice.need ≡ planned_length l.script l.k l.choice.preset) × (l.choice.need ≤ 3076)
+    (l.choice.preset ≡ first_least (planned_length l.script l.k) (preferred l.k) (map Some (below l.colour)))
+    × (l.choice.need ≡ planned_length l.script l.k l.choice.preset)
+    × (l.choice.need ≤ 3076)

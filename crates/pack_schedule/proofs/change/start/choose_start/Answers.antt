@@ -5,15 +5,20 @@ pub returns-then-is_same_picture-clause-preset : goal.returns-then-is_same_pictu
 returns-then-is_same_picture-clause-preset c =
     let pos = c.if-k-gt0.true in
     same_chosen c.args.script.now c.args.k pos
-    (same_steps c.args.script.now c.args.k c.args.before.now c.args.now.now (c.requires.before pos) c.requires.now (c.is_same_picture.ensures c.if-is_same_picture.true))
+    (same_steps c.args.script.now c.args.k c.args.before.now c.args.now.now (c.requires.before pos)
+    c.requires.now (c.is_same_picture.ensures c.if-is_same_picture.true))
 
 pub returns-then-is_same_picture-clause-need : goal.returns-then-is_same_picture-clause-need
 returns-then-is_same_picture-clause-need c =
     let pos = c.if-k-gt0.true in
-    same_length c.args.script.now c.args.k c.count_settings-beside.result c.count_settings-beside.ensures.count
-    (same_steps c.args.script.now c.args.k c.args.before.now c.args.now.now (c.requires.before pos) c.requires.now (c.is_same_picture.ensures c.if-is_same_picture.true))
+    same_length c.args.script.now c.args.k c.count_settings-beside.result
+    c.count_settings-beside.ensures.count
+    (same_steps c.args.script.now c.args.k c.args.before.now c.args.now.now (c.requires.before pos)
+    c.requires.now (c.is_same_picture.ensures c.if-is_same_picture.true))
 
 pub returns-then-is_same_picture-clause-weights : goal.returns-then-is_same_picture-clause-weights
 returns-then-is_same_picture-clause-weights c =
     let pos = c.if-k-gt0.true in
-    same_weights c.args.script.now c.args.k c.args.before.now c.args.now.now c.args.weights.now (c.requires.before pos) c.requires.now (c.is_same_picture.ensures c.if-is_same_picture.true) (c.requires.weights pos)
+    same_weights c.args.script.now c.args.k c.args.before.now c.args.now.now c.args.weights.now
+    (c.requires.before pos) c.requires.now (c.is_same_picture.ensures c.if-is_same_picture.true)
+    (c.requires.weights pos)

@@ -9,7 +9,8 @@ not_the_first zero none = absurd none
 not_the_first (suc k) none = omega arith
 
 pub unreachable-requires : goal.unreachable-requires
-unreachable-requires c = c.in-None-new.ensures (all_colour c.args.k c.in-Some.colour c.args.preset c.in-Some.is c.requires.start)
+unreachable-requires c =
+    c.in-None-new.ensures (all_colour c.args.k c.in-Some.colour c.args.preset c.in-Some.is c.requires.start)
 
 pub returns-in-Some-new : goal.returns-in-Some-new
 returns-in-Some-new c = rw c.in-Some.is c.in-Some-new.ensures.1

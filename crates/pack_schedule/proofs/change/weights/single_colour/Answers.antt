@@ -8,5 +8,7 @@ returns-then-eq-clause-colour c =
     let ps = c.pixels-pixels.result.now in
     let tile = c.pixels-pixels.ensures.tile in (
       All-get_or (λ p. p < 16) ps 0 0 (omega (arith, tile.count)) tile.below,
-      sym c.pixels-pixels.ensures.same ∙ all_same ps (get_or ps 0 0) tile.count (as_before ps c.eq.result tile.count c.eq.ensures c.if-eq.true),
+      sym c.pixels-pixels.ensures.same
+          ∙ all_same ps (get_or ps 0 0) tile.count
+          (as_before ps c.eq.result tile.count c.eq.ensures c.if-eq.true),
     )

@@ -20,7 +20,8 @@ set-requires c =
     record {
       kept = (
         length c.script.inside.pixels.items,
-        kept_at c.script.inside.lines.items (length c.script.inside.pixels.items) (length c.script.inside.pixels.items) c.loop-i.i c.index.result.now c.script.invariant.kept refl
+        kept_at c.script.inside.lines.items (length c.script.inside.pixels.items)
+            (length c.script.inside.pixels.items) c.loop-i.i c.index.result.now c.script.invariant.kept refl
             (omega (arith, size, same, c.requires.place)) c.index.ensures,
       );
     }
@@ -30,7 +31,8 @@ loop-i-preserved c =
     let script = c.args.script.now in
     let size = length-all_said c.script.inside.pixels.items c.script.inside.lines.items in
     let same = ap length c.script.view_is in
-    next_set c.script.inside.pixels.items c.script.inside.lines.items script c.loop-i.i c.index.result.now c.set.new.self c.script.view_is
+    next_set c.script.inside.pixels.items c.script.inside.lines.items script c.loop-i.i c.index.result.now
+    c.set.new.self c.script.view_is
     (omega (arith, size, same, c.requires.place)) c.index.ensures
     (c.set.ensures.set c.script.inside.pixels.items (drawn_by (take c.loop-i.i script)) c.loop-i.invariant)
 
@@ -38,6 +40,11 @@ pub returns : goal.returns
 returns c =
     let here : c.loop-i.i ≡ c.args.place = omega (arith, c.requires.order) in
     record {
-      drawn = filled-drawn c.args.script.now c.args.place c.args.colour c.self.inside.border c.clear.new.self c.self.inside.colours c.self.inside.at c.loop-i.self c.requires.place c.requires.fill c.clear.ensures
-          (subst (λ n. IsSet (drawn_by (take n c.args.script.now)) c.loop-i.self) here c.loop-i.invariant) (sym (ap (λ board. board.border) c.self.view_is)) (sym (ap (λ board. board.colours) c.self.view_is));
+      drawn =
+          filled-drawn c.args.script.now c.args.place c.args.colour c.self.inside.border c.clear.new.self
+          c.self.inside.colours c.self.inside.at c.loop-i.self c.requires.place c.requires.fill
+          c.clear.ensures
+          (subst (λ n. IsSet (drawn_by (take n c.args.script.now)) c.loop-i.self) here c.loop-i.invariant)
+          (sym (ap (λ board. board.border) c.self.view_is))
+          (sym (ap (λ board. board.colours) c.self.view_is));
     }

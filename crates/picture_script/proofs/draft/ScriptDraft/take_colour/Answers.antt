@@ -7,14 +7,20 @@ use Rattle.picture_script.proofs.Refusals.{bad_line, out_of_range, in_range, tak
 use Rattle.picture_script.proofs.draft.ScriptDraft.take_colour.Goals as goal
 
 pub returns-in_default : goal.returns-in_default
-returns-in_default c = bad_line (said_in c.args.self.now) (colour_line (words_in c.args.words.now)) c.in_default.ensures.value
+returns-in_default c =
+    bad_line (said_in c.args.self.now) (colour_line (words_in c.args.words.now)) c.in_default.ensures.value
 
 pub returns-then-number-gt15 : goal.returns-then-number-gt15
 returns-then-number-gt15 c =
-    out_of_range (said_in c.args.self.now) (colour_line (words_in c.args.words.now)) (Colour c.in-Some.number c.in-Some.value) c.in-Some.ensures.value refl (test_false c.in-Some.number 16 (omega arith))
+    out_of_range (said_in c.args.self.now) (colour_line (words_in c.args.words.now))
+    (Colour c.in-Some.number c.in-Some.value) c.in-Some.ensures.value refl
+    (test_false c.in-Some.number 16 (omega arith))
 
 pub returns : goal.returns
 returns c =
-    taken (checked_line (said_in c.args.self.now) (colour_line (words_in c.args.words.now))) c.args.self.now c.push_line.new.self (Colour c.in-Some.number c.in-Some.value) c.push_line.result
-    (in_range (said_in c.args.self.now) (colour_line (words_in c.args.words.now)) (Colour c.in-Some.number c.in-Some.value) c.in-Some.ensures.value refl (test_true c.in-Some.number 16 (omega arith)))
+    taken (checked_line (said_in c.args.self.now) (colour_line (words_in c.args.words.now))) c.args.self.now
+    c.push_line.new.self (Colour c.in-Some.number c.in-Some.value) c.push_line.result
+    (in_range (said_in c.args.self.now) (colour_line (words_in c.args.words.now))
+    (Colour c.in-Some.number c.in-Some.value) c.in-Some.ensures.value refl
+    (test_true c.in-Some.number 16 (omega arith)))
     c.push_line.ensures.ok c.push_line.ensures.err

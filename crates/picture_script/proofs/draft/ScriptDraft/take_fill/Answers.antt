@@ -11,8 +11,11 @@ pub returns : goal.returns
 returns c =
     let words = words_in c.args.words.now in
     let colour = c.in_ok-colour.colour in
-    taken (checked_line (said_in c.args.self.now) (fill_line words)) c.args.self.now c.push_line.new.self (Fill colour) c.push_line.result
-    (in_range (said_in c.args.self.now) (fill_line words) (Fill colour) (fill_taken words colour c.in_ok-colour.ensures.ok.0) refl (test_true colour 16 c.in_ok-colour.ensures.ok.1))
+    taken (checked_line (said_in c.args.self.now) (fill_line words)) c.args.self.now c.push_line.new.self
+    (Fill colour) c.push_line.result
+    (in_range (said_in c.args.self.now) (fill_line words) (Fill colour)
+    (fill_taken words colour c.in_ok-colour.ensures.ok.0) refl
+    (test_true colour 16 c.in_ok-colour.ensures.ok.1))
     c.push_line.ensures.ok c.push_line.ensures.err
 
 pub returns-in_err-colour : goal.returns-in_err-colour

@@ -10,19 +10,26 @@ use Rattle.picture_script.proofs.Refusals.{bad_line, out_of_range, in_range, tak
 use Rattle.picture_script.proofs.draft.ScriptDraft.take_row.Goals as goal
 
 pub returns-in_default : goal.returns-in_default
-returns-in_default c = bad_line (said_in c.args.self.now) (row_line (words_in c.args.words.now)) c.in_default.ensures.value
+returns-in_default c =
+    bad_line (said_in c.args.self.now) (row_line (words_in c.args.words.now)) c.in_default.ensures.value
 
 pub returns-then-not-is_row : goal.returns-then-not-is_row
 returns-then-not-is_row c =
     let digits = c.in-Some.digits.now in
-    let size = ap (λ n. nat_le (c.in-Some.x + n) 288 && nat_le c.in-Some.y 191) (length-map digits digit_value) in
-    out_of_range (said_in c.args.self.now) (row_line (words_in c.args.words.now)) (Row c.in-Some.x c.in-Some.y (map digit_value digits)) c.in-Some.ensures.value refl
+    let size =
+    ap (λ n. nat_le (c.in-Some.x + n) 288 && nat_le c.in-Some.y 191) (length-map digits digit_value) in
+    out_of_range (said_in c.args.self.now) (row_line (words_in c.args.words.now))
+    (Row c.in-Some.x c.in-Some.y (map digit_value digits)) c.in-Some.ensures.value refl
     (size ∙ sym c.is_row.ensures ∙ c.if-not-is_row.true)
 
 pub returns : goal.returns
 returns c =
     let digits = c.in-Some.digits.now in
-    let size = ap (λ n. nat_le (c.in-Some.x + n) 288 && nat_le c.in-Some.y 191) (length-map digits digit_value) in
-    taken (checked_line (said_in c.args.self.now) (row_line (words_in c.args.words.now))) c.args.self.now c.push_row.new.self (Row c.in-Some.x c.in-Some.y (map digit_value digits)) c.push_row.result
-    (in_range (said_in c.args.self.now) (row_line (words_in c.args.words.now)) (Row c.in-Some.x c.in-Some.y (map digit_value digits)) c.in-Some.ensures.value refl (size ∙ sym c.is_row.ensures ∙ c.if-not-is_row.false))
+    let size =
+    ap (λ n. nat_le (c.in-Some.x + n) 288 && nat_le c.in-Some.y 191) (length-map digits digit_value) in
+    taken (checked_line (said_in c.args.self.now) (row_line (words_in c.args.words.now))) c.args.self.now
+    c.push_row.new.self (Row c.in-Some.x c.in-Some.y (map digit_value digits)) c.push_row.result
+    (in_range (said_in c.args.self.now) (row_line (words_in c.args.words.now))
+    (Row c.in-Some.x c.in-Some.y (map digit_value digits)) c.in-Some.ensures.value refl
+    (size ∙ sym c.is_row.ensures ∙ c.if-not-is_row.false))
     c.push_row.ensures.ok c.push_row.ensures.err

@@ -20,4 +20,5 @@ returns-in-Filled-clause-colour c =
     let size = length-all_said c.self.inside.pixels.items c.self.inside.lines.items in
     let same = ap length c.self.view_is in
     fill_small c.self.inside.lines.items (length c.self.inside.pixels.items) _ c.in-Filled.colour
-    c.index.result.now c.self.invariant.kept (omega (arith, size, same, c.requires)) c.index.ensures c.in-Filled.is
+    c.index.result.now c.self.invariant.kept (omega (arith, size, same, c.requires)) c.index.ensures
+    c.in-Filled.is

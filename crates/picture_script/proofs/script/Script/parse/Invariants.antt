@@ -5,7 +5,10 @@ use Rattle.picture_script.specs.Lines.{said_in, IsSound}
 use Rattle.picture_script.proofs.script.Script.parse.Given as goal
 
 abbrev pub invariant-loop-line : goal.invariant-loop-line
-invariant-loop-line l = IsSound l.draft × (checked_lines l.number (said_in l.draft) (lines_in l.rest) ≡ read_script l.text) × (l.number + length l.rest ≤ 67108865)
+invariant-loop-line l =
+    IsSound l.draft
+    × (checked_lines l.number (said_in l.draft) (lines_in l.rest) ≡ read_script l.text)
+    × (l.number + length l.rest ≤ 67108865)
 
 abbrev pub decreases-loop-line : goal.decreases-loop-line
 decreases-loop-line l = length l.rest

@@ -15,7 +15,13 @@ mark_line-requires c =
     let size = length-all_said c.self.inside.pixels.items c.self.inside.lines.items in
     let same = ap length c.self.view_is in
     let kept : ℕ = length c.self.inside.pixels.items in
-    record { kept = (kept, kept_at c.self.inside.lines.items kept kept c.loop-i.i c.index.result.now c.self.invariant.kept refl (omega (arith, size, same, c.requires.lines)) c.index.ensures) }
+    record {
+      kept = (
+        kept,
+        kept_at c.self.inside.lines.items kept kept c.loop-i.i c.index.result.now c.self.invariant.kept refl
+            (omega (arith, size, same, c.requires.lines)) c.index.ensures,
+      );
+    }
 
 pub loop-i-preserved : goal.loop-i-preserved
 loop-i-preserved c r x y none at =
@@ -24,5 +30,7 @@ loop-i-preserved c r x y none at =
     let size = length-all_said c.self.inside.pixels.items c.self.inside.lines.items in
     let same = ap length c.self.view_is in
     let marked = c.mark_line.ensures c.self.inside.pixels.items (drawn_by (take i script)) r x y none at in
-    let next = next_said c.self.inside.pixels.items c.self.inside.lines.items script i c.index.result.now c.self.view_is (omega (arith, size, same, c.requires.lines)) c.index.ensures in
+    let next =
+    next_said c.self.inside.pixels.items c.self.inside.lines.items script i c.index.result.now c.self.view_is
+    (omega (arith, size, same, c.requires.lines)) c.index.ensures in
     c.loop-i.invariant r x y marked.0 at ∙ marked.1 ∙ ap (λ (p : Picture). p.pixel x y) next

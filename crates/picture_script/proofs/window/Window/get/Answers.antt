@@ -5,5 +5,6 @@ use Rattle.picture_script.proofs.window.Window.get.Goals as goal
 
 pub returns-clause-pixel : goal.returns-clause-pixel
 returns-clause-pixel c =
-    let at : c.index.result.now ≡ get_or c.self.inside.pixels.items (288 * c.args.y + c.args.x) 0 = get_or_read c.self.inside.pixels.items _ _ (omega (arith, c.self.invariant.count)) c.index.ensures 0 in
+    let at : c.index.result.now ≡ get_or c.self.inside.pixels.items (288 * c.args.y + c.args.x) 0 =
+    get_or_read c.self.inside.pixels.items _ _ (omega (arith, c.self.invariant.count)) c.index.ensures 0 in
     rw (← c.self.view_is) (get-pixel c.self.inside.pixels.items c.args.x c.args.y c.index.result.now at)

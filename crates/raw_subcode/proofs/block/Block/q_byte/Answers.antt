@@ -10,7 +10,8 @@ unfolding in_lanes
 returns c =
     let bytes = c.self.inside.bytes in
     let first = c.args.first in
-    let begin : slice_index bytes first ≡ slice_index bytes (first + 0) = ap (slice_index bytes) (omega arith) in
+    let begin : slice_index bytes first ≡ slice_index bytes (first + 0) =
+    ap (slice_index bytes) (omega arith) in
     q_byte_is (λ j. slice_index bytes (first + j)) c.from_le_bytes-eight.result
     (λ k lt. c.bytes_are_below_256.ensures (first + k) 0 (omega (arith, lt, c.self.told)))
     (omega (arith, c.from_le_bytes-eight.ensures, begin))

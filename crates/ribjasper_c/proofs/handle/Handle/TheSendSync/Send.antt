@@ -24,10 +24,12 @@ pointer_send = search sendable
 
 owned : (alloc : Global) (at : Ptr) (players : List LivePlayer) → Keyless (handle_owns alloc at players)
 owned alloc at [] = tt
-owned alloc at (player ∷ rest) = (lies Live.the_row live.the_send at player, the_frees.frees alloc (raw (lone Live.the_row.mir)) at)
+owned alloc at (player ∷ rest) =
+    (lies Live.the_row live.the_send at player, the_frees.frees alloc (raw (lone Live.the_row.mir)) at)
 
 pub send : IsSend Handle.the_row
 send =
     let O = Handle.the_type in
     owning_send O (pointer_send, (global.the_field_send, tt)) (λ d. owned d.alloc d.at d.players)
-    (λ k. quiet (to O) (exits_of k (fields O)) ((struct_send (shape O) (pointer_send, (global.the_field_send, tt))).leaving k))
+    (λ k. quiet (to O) (exits_of k (fields O))
+    ((struct_send (shape O) (pointer_send, (global.the_field_send, tt))).leaving k))

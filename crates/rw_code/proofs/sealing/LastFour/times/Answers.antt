@@ -4,4 +4,5 @@ use Rattle.rw_code.proofs.sealing.LastFour.times.Goals as goal
 
 pub returns : goal.returns
 returns c = λ j.
-    coefficients_value j c.mul.ensures c.mul-2.ensures c.mul-3.ensures c.mul-4.ensures ∙ product_value j _ _ _ _ c.args.factor
+    coefficients_value j c.mul.ensures c.mul-2.ensures c.mul-3.ensures c.mul-4.ensures
+    ∙ product_value j _ _ _ _ c.args.factor

@@ -8,10 +8,12 @@ loop-i-init c = part_none c.bytes-bytes.result
 
 pub loop-i-preserved : goal.loop-i-preserved
 loop-i-preserved c =
-    part_more c.bytes-bytes.result c.loop-i.i c.loop-i.lanes c.entry-lanes.result _ c.bytes-bytes.ensures.word c.loop-i-test.true c.loop-i.invariant c.entry-lanes.ensures refl
+    part_more c.bytes-bytes.result c.loop-i.i c.loop-i.lanes c.entry-lanes.result _ c.bytes-bytes.ensures.word
+    c.loop-i-test.true c.loop-i.invariant c.entry-lanes.ensures refl
 
 pub returns : goal.returns
 returns c =
     let last : c.loop-i.i ≡ 24 = omega arith in
     subst (λ word. AreSyndromes word c.loop-i.lanes) c.bytes-bytes.ensures.same
-    (part_all c.bytes-bytes.result c.loop-i.lanes c.bytes-bytes.ensures.word (subst (λ i. IsPart c.bytes-bytes.result i c.loop-i.lanes) last c.loop-i.invariant))
+    (part_all c.bytes-bytes.result c.loop-i.lanes c.bytes-bytes.ensures.word
+    (subst (λ i. IsPart c.bytes-bytes.result i c.loop-i.lanes) last c.loop-i.invariant))

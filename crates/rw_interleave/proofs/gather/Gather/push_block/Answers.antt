@@ -5,4 +5,5 @@ pub returns-then-stays_idle-clause-next : goal.returns-then-stays_idle-clause-ne
 returns-then-stays_idle-clause-next c = c.stays_idle.ensures.next c.if-stays_idle.true
 
 pub returns-then-stays_idle-clause-gives : goal.returns-then-stays_idle-clause-gives
-returns-then-stays_idle-clause-gives c = c.idle_words.ensures ∙ c.stays_idle.ensures.gives c.if-stays_idle.true
+returns-then-stays_idle-clause-gives c =
+    c.idle_words.ensures ∙ c.stays_idle.ensures.gives c.if-stays_idle.true

@@ -30,58 +30,74 @@ pub returns-in-Ok-false-clause-merges : goal.returns-in-Ok-false-clause-merges
 returns-in-Ok-false-clause-merges g c =
     let (xs, ys, works) = c.loop-block.invariant.works in
     let (us, vs, first, second, read, whole) = rw c.in-Ok-false.field-0-test at c.in-Ok-false.ensures.pair in
-    both_end c.args.lead_in c.loop-block.block _ _ _ _ _ _ _ _ _ _ _ _ xs ys us vs works first second read.0 read.1 (omega (arith, c.loop-block-test.true)) c.saturating_sub.ensures
+    both_end c.args.lead_in c.loop-block.block _ _ _ _ _ _ _ _ _ _ _ _ xs ys us vs works first second read.0
+    read.1 (omega (arith, c.loop-block-test.true)) c.saturating_sub.ensures
 
 pub returns-in-Ok-false-clause-answer : goal.returns-in-Ok-false-clause-answer
 returns-in-Ok-false-clause-answer g c =
     let (xs, ys, works) = c.loop-block.invariant.works in
     let (us, vs, first, second, read, whole) = rw c.in-Ok-false.field-0-test at c.in-Ok-false.ensures.pair in
-    both_of_whole c.args.lead_in c.loop-block.block _ c.loop-block.bad _ _ _ _ _ _ _ _ _ _ _ xs ys us vs works first second read.0 read.1 read.2 read.3 (omega (arith, c.loop-block-test.true)) c.saturating_sub.ensures
+    both_of_whole c.args.lead_in c.loop-block.block _ c.loop-block.bad _ _ _ _ _ _ _ _ _ _ _ xs ys us vs works
+    first second read.0 read.1 read.2 read.3 (omega (arith, c.loop-block-test.true)) c.saturating_sub.ensures
 
 pub returns-in-Err-clause-merges : goal.returns-in-Err-clause-merges
 returns-in-Err-clause-merges g c =
     let (xs, ys, works) = c.loop-block.invariant.works in
     let (us, vs, first, second, read, whole) = c.in-Err.ensures.pair in
-    pair_stops c.args.lead_in c.loop-block.block _ _ _ _ _ _ _ _ _ _ _ xs ys us vs c.in-Err.stop works first second read c.loop-block-test.true
+    pair_stops c.args.lead_in c.loop-block.block _ _ _ _ _ _ _ _ _ _ _ xs ys us vs c.in-Err.stop works first
+    second read c.loop-block-test.true
 
 pub returns-in-Err-clause-answer : goal.returns-in-Err-clause-answer
 returns-in-Err-clause-answer g c =
     let (xs, ys, works) = c.loop-block.invariant.works in
     let (us, vs, first, second, read, whole) = c.in-Err.ensures.pair in
-    pair_of_whole c.args.lead_in c.loop-block.block _ _ _ _ _ _ _ _ _ _ _ xs ys us vs c.in-Err.stop works first second read c.loop-block-test.true
+    pair_of_whole c.args.lead_in c.loop-block.block _ _ _ _ _ _ _ _ _ _ _ xs ys us vs c.in-Err.stop works
+    first second read c.loop-block-test.true
 
 pub returns-in-Ok-nothing_follows-clause-merges : goal.returns-in-Ok-nothing_follows-clause-merges
 returns-in-Ok-nothing_follows-clause-merges g c =
     let (xs, ys, works) = c.loop-block.invariant.works in
     let (us, vs, first, second, read) = c.in-Ok-nothing_follows.ensures.end in
-    both_end c.args.lead_in c.loop-block.block _ _ _ _ _ _ _ _ _ _ _ _ xs ys us vs works first second read.0 read.1 (omega (arith, c.loop-block.auto.block-end)) (omega (arith, c.loop-block.auto.block-end, c.loop-block-test.false))
+    both_end c.args.lead_in c.loop-block.block _ _ _ _ _ _ _ _ _ _ _ _ xs ys us vs works first second read.0
+    read.1 (omega (arith, c.loop-block.auto.block-end))
+    (omega (arith, c.loop-block.auto.block-end, c.loop-block-test.false))
 
 pub returns-in-Ok-nothing_follows-clause-answer : goal.returns-in-Ok-nothing_follows-clause-answer
 returns-in-Ok-nothing_follows-clause-answer g c =
     let (xs, ys, works) = c.loop-block.invariant.works in
     let (us, vs, first, second, read) = c.in-Ok-nothing_follows.ensures.end in
-    both_of_whole c.args.lead_in c.loop-block.block _ c.loop-block.bad _ _ _ _ _ _ _ _ _ _ _ xs ys us vs works first second read.0 read.1 read.2 read.3 (omega (arith, c.loop-block.auto.block-end)) (omega (arith, c.loop-block.auto.block-end, c.loop-block-test.false))
+    both_of_whole c.args.lead_in c.loop-block.block _ c.loop-block.bad _ _ _ _ _ _ _ _ _ _ _ xs ys us vs works
+    first second read.0 read.1 read.2 read.3 (omega (arith, c.loop-block.auto.block-end))
+    (omega (arith, c.loop-block.auto.block-end, c.loop-block-test.false))
 
 pub returns-in-Err-nothing_follows-clause-merges : goal.returns-in-Err-nothing_follows-clause-merges
 returns-in-Err-nothing_follows-clause-merges g c =
     let (xs, ys, works) = c.loop-block.invariant.works in
     let (us, vs, first, second, read) = c.in-Err-nothing_follows.ensures.end in
-    end_stops c.args.lead_in c.loop-block.block _ _ _ _ _ _ _ _ _ _ _ xs ys us vs c.in-Err-nothing_follows.stop works first second read (omega (arith, c.loop-block.auto.block-end, c.loop-block-test.false))
+    end_stops c.args.lead_in c.loop-block.block _ _ _ _ _ _ _ _ _ _ _ xs ys us vs
+    c.in-Err-nothing_follows.stop works first second read
+    (omega (arith, c.loop-block.auto.block-end, c.loop-block-test.false))
 
 pub returns-in-Err-nothing_follows-clause-answer : goal.returns-in-Err-nothing_follows-clause-answer
 returns-in-Err-nothing_follows-clause-answer g c =
     let (xs, ys, works) = c.loop-block.invariant.works in
     let (us, vs, first, second, read) = c.in-Err-nothing_follows.ensures.end in
-    end_of_whole c.args.lead_in c.loop-block.block _ _ _ _ _ _ _ _ _ _ _ xs ys us vs c.in-Err-nothing_follows.stop works first second read (omega (arith, c.loop-block.auto.block-end, c.loop-block-test.false))
+    end_of_whole c.args.lead_in c.loop-block.block _ _ _ _ _ _ _ _ _ _ _ xs ys us vs
+    c.in-Err-nothing_follows.stop works first second read
+    (omega (arith, c.loop-block.auto.block-end, c.loop-block-test.false))
 
 pub returns-in-Err-put_all-clause-merges : goal.returns-in-Err-put_all-clause-merges
 returns-in-Err-put_all-clause-merges g c =
     let (xs, ys, works) = c.loop-block.invariant.works in
     let (us, vs, first, second, read, whole) = rw c.in-Ok-true.field-0-test at c.in-Ok-true.ensures.pair in
     let (u_is, v_is) = whole refl in
-    let pair = pair_found c.loop-block.self.first c.loop-block.self.second c.next_pair.new.one c.next_pair.new.other us vs _ _ c.merge.new.self.first c.merge.new.self.second c.merge.new.packs.bytes c.bytes.result.now c.merge.new.packs.bad u_is v_is refl refl c.bytes.ensures.bytes
+    let pair =
+    pair_found c.loop-block.self.first c.loop-block.self.second c.next_pair.new.one c.next_pair.new.other us
+    vs _ _ c.merge.new.self.first c.merge.new.self.second c.merge.new.packs.bytes c.bytes.result.now
+    c.merge.new.packs.bad u_is v_is refl refl c.bytes.ensures.bytes
     c.merge.ensures.first c.merge.ensures.second c.merge.ensures.packs in
-    write_stops c.args.lead_in c.loop-block.block _ _ _ _ _ _ _ _ _ _ _ _ _ _ _ xs ys us vs _ works first second read.0 read.1 c.if-block-lead_in.true c.loop-block-test.true pair c.in-Err-put_all.ensures.part
+    write_stops c.args.lead_in c.loop-block.block _ _ _ _ _ _ _ _ _ _ _ _ _ _ _ xs ys us vs _ works first
+    second read.0 read.1 c.if-block-lead_in.true c.loop-block-test.true pair c.in-Err-put_all.ensures.part
 
 pub loop-block-preserved : goal.loop-block-preserved
 loop-block-preserved g c =
@@ -95,13 +111,24 @@ loop-block-preserved g c =
       | then-block-lead_in+in-Ok w ↦
           let first_is = ap (λ s. s.first) w.self-is in
           let second_is = ap (λ s. s.second) w.self-is in
-          let pair = pair_found c.loop-block.self.first c.loop-block.self.second c.next_pair.new.one c.next_pair.new.other us vs _ _ c.if-block-lead_in.self.first c.if-block-lead_in.self.second w.merge.new.packs.bytes w.bytes.result.now w.merge.new.packs.bad u_is v_is first_is second_is w.bytes.ensures.bytes
+          let pair =
+          pair_found c.loop-block.self.first c.loop-block.self.second c.next_pair.new.one
+          c.next_pair.new.other us vs _ _ c.if-block-lead_in.self.first c.if-block-lead_in.self.second
+          w.merge.new.packs.bytes w.bytes.result.now w.merge.new.packs.bad u_is v_is first_is second_is
+          w.bytes.ensures.bytes
           w.merge.ensures.first w.merge.ensures.second w.merge.ensures.packs in
           let held = ap g.K.Sink.held w.out-is in
-          let put = subst (λ h. Appends (g.K.Sink.held c.loop-block.out) h w.bytes.result.now) (sym held) w.in-Ok.ensures.ok in
+          let put =
+          subst (λ h. Appends (g.K.Sink.held c.loop-block.out) h w.bytes.result.now) (sym held)
+          w.in-Ok.ensures.ok in
           record {
             same = ap length first_is ∙ w.merge.ensures.same ∙ sym (ap length second_is);
-            works = (xs ++ us, ys ++ vs, works_more c.args.lead_in c.loop-block.block _ _ _ _ _ _ _ _ _ _ _ _ _ _ _ xs ys us vs _ works first second read.0 read.1 w.if-block-lead_in.true pair put c.if-block-lead_in.bad w.bad-is);
+            works = (
+              xs ++ us,
+              ys ++ vs,
+              works_more c.args.lead_in c.loop-block.block _ _ _ _ _ _ _ _ _ _ _ _ _ _ _ xs ys us vs _ works
+                  first second read.0 read.1 w.if-block-lead_in.true pair put c.if-block-lead_in.bad w.bad-is,
+            );
             no_first_fault = c.in-Ok-true.ensures.faults.0 ∙ before.no_first_fault;
             no_second_fault = c.in-Ok-true.ensures.faults.1 ∙ before.no_second_fault;
             no_write_fault = ap g.K.Sink.faults w.out-is ∙ w.in-Ok.ensures.cause.same ∙ before.no_write_fault;
@@ -113,11 +140,13 @@ loop-block-preserved g c =
       | else-block-lead_in w ↦
           let held = ap g.K.Sink.held w.out-is in
           record {
-            same = ap (λ s. length s.first) w.self-is ∙ before.same ∙ sym (ap (λ s. length s.second) w.self-is);
+            same =
+                ap (λ s. length s.first) w.self-is ∙ before.same ∙ sym (ap (λ s. length s.second) w.self-is);
             works = (
               xs ++ us,
               ys ++ vs,
-              skipped_as c.args.lead_in c.loop-block.block _ _ _ _ _ _ _ _ _ _ _ _ _ xs ys us vs works first second read.0 read.1 w.if-block-lead_in.false held w.self-is w.bad-is,
+              skipped_as c.args.lead_in c.loop-block.block _ _ _ _ _ _ _ _ _ _ _ _ _ xs ys us vs works first
+                  second read.0 read.1 w.if-block-lead_in.false held w.self-is w.bad-is,
             );
             no_first_fault = c.in-Ok-true.ensures.faults.0 ∙ before.no_first_fault;
             no_second_fault = c.in-Ok-true.ensures.faults.1 ∙ before.no_second_fault;
@@ -131,8 +160,11 @@ loop-block-preserved g c =
 
 pub returns-in-Ok-false-clause-faults : goal.returns-in-Ok-false-clause-faults
 returns-in-Ok-false-clause-faults g c =
-    let (first, second) = c.in-Ok-false.ensures.faults in
-    (first ∙ c.loop-block.invariant.no_first_fault, second ∙ c.loop-block.invariant.no_second_fault, c.loop-block.invariant.no_write_fault)
+    let (first, second) = c.in-Ok-false.ensures.faults in (
+      first ∙ c.loop-block.invariant.no_first_fault,
+      second ∙ c.loop-block.invariant.no_second_fault,
+      c.loop-block.invariant.no_write_fault,
+    )
 
 pub returns-in-Ok-false-clause-ends : goal.returns-in-Ok-false-clause-ends
 returns-in-Ok-false-clause-ends g c =
@@ -147,7 +179,9 @@ returns-in-Ok-false-clause-ends g c =
     )
 
 pub returns-in-Err-clause-faults : goal.returns-in-Err-clause-faults
-returns-in-Err-clause-faults g c = counted_last Bool _ _ _ _ _ _ _ _ c.in-Err.stop c.loop-block.invariant.no_first_fault c.loop-block.invariant.no_second_fault c.loop-block.invariant.no_write_fault c.in-Err.ensures.faults
+returns-in-Err-clause-faults g c =
+    counted_last Bool _ _ _ _ _ _ _ _ c.in-Err.stop c.loop-block.invariant.no_first_fault
+    c.loop-block.invariant.no_second_fault c.loop-block.invariant.no_write_fault c.in-Err.ensures.faults
 
 pub returns-in-Err-clause-ends : goal.returns-in-Err-clause-ends
 returns-in-Err-clause-ends g c =
@@ -163,8 +197,11 @@ returns-in-Err-clause-ends g c =
 
 pub returns-in-Ok-nothing_follows-clause-faults : goal.returns-in-Ok-nothing_follows-clause-faults
 returns-in-Ok-nothing_follows-clause-faults g c =
-    let (first, second) = c.in-Ok-nothing_follows.ensures.faults in
-    (first ∙ c.loop-block.invariant.no_first_fault, second ∙ c.loop-block.invariant.no_second_fault, c.loop-block.invariant.no_write_fault)
+    let (first, second) = c.in-Ok-nothing_follows.ensures.faults in (
+      first ∙ c.loop-block.invariant.no_first_fault,
+      second ∙ c.loop-block.invariant.no_second_fault,
+      c.loop-block.invariant.no_write_fault,
+    )
 
 pub returns-in-Ok-nothing_follows-clause-ends : goal.returns-in-Ok-nothing_follows-clause-ends
 returns-in-Ok-nothing_follows-clause-ends g c =
@@ -179,7 +216,10 @@ returns-in-Ok-nothing_follows-clause-ends g c =
     )
 
 pub returns-in-Err-nothing_follows-clause-faults : goal.returns-in-Err-nothing_follows-clause-faults
-returns-in-Err-nothing_follows-clause-faults g c = counted_last (Unit {0}) _ _ _ _ _ _ _ _ c.in-Err-nothing_follows.stop c.loop-block.invariant.no_first_fault c.loop-block.invariant.no_second_fault c.loop-block.invariant.no_write_fault c.in-Err-nothing_follows.ensures.faults
+returns-in-Err-nothing_follows-clause-faults g c =
+    counted_last (Unit {0}) _ _ _ _ _ _ _ _ c.in-Err-nothing_follows.stop
+    c.loop-block.invariant.no_first_fault c.loop-block.invariant.no_second_fault
+    c.loop-block.invariant.no_write_fault c.in-Err-nothing_follows.ensures.faults
 
 pub returns-in-Err-nothing_follows-clause-ends : goal.returns-in-Err-nothing_follows-clause-ends
 returns-in-Err-nothing_follows-clause-ends g c =
@@ -199,7 +239,10 @@ returns-in-Err-put_all-clause-faults g c =
     let cause = c.in-Err-put_all.ensures.cause in (
       first ∙ c.loop-block.invariant.no_first_fault,
       second ∙ c.loop-block.invariant.no_second_fault,
-      (later_since c.loop-block.invariant.no_write_fault cause.later, rose_since c.loop-block.invariant.no_write_fault cause.failed),
+      (
+        later_since c.loop-block.invariant.no_write_fault cause.later,
+        rose_since c.loop-block.invariant.no_write_fault cause.failed,
+      ),
     )
 
 pub returns-in-Err-put_all-clause-ends : goal.returns-in-Err-put_all-clause-ends
@@ -225,15 +268,18 @@ pub returns-in-Err-clause-rooms : goal.returns-in-Err-clause-rooms
 returns-in-Err-clause-rooms g c =
     let (us, vs, first, second, read, whole) = c.in-Err.ensures.pair in
     let before = c.loop-block.invariant in (
-      first_filled c.args.lead_in c.loop-block.block _ _ _ _ _ c.in-Err.stop c.loop-block-test.true read before.first_rooms c.in-Err.ensures.rooms.0,
-      second_filled c.args.lead_in c.loop-block.block _ _ _ _ _ c.in-Err.stop c.loop-block-test.true read before.second_rooms c.in-Err.ensures.rooms.1,
+      first_filled c.args.lead_in c.loop-block.block _ _ _ _ _ c.in-Err.stop c.loop-block-test.true read
+          before.first_rooms c.in-Err.ensures.rooms.0,
+      second_filled c.args.lead_in c.loop-block.block _ _ _ _ _ c.in-Err.stop c.loop-block-test.true read
+          before.second_rooms c.in-Err.ensures.rooms.1,
     )
 
 pub returns-in-Ok-nothing_follows-clause-rooms : goal.returns-in-Ok-nothing_follows-clause-rooms
 returns-in-Ok-nothing_follows-clause-rooms g c =
     let rooms = c.in-Ok-nothing_follows.ensures.rooms in
     let before = c.loop-block.invariant in
-    let all : c.loop-block.block ≡ 1000000 = omega (arith, c.loop-block.auto.block-end, c.loop-block-test.false) in (
+    let all : c.loop-block.block ≡ 1000000 =
+    omega (arith, c.loop-block.auto.block-end, c.loop-block-test.false) in (
       (c.loop-block.block, omega (arith, all), no_more _ _ _ _ before.first_rooms rooms.0),
       (c.loop-block.block, omega (arith, all), no_more _ _ _ _ before.second_rooms rooms.1),
     )
@@ -243,15 +289,30 @@ returns-in-Err-nothing_follows-clause-rooms g c =
     let (us, vs, first, second, read) = c.in-Err-nothing_follows.ensures.end in
     let rooms = c.in-Err-nothing_follows.ensures.rooms in
     let before = c.loop-block.invariant in
-    let all : c.loop-block.block ≡ most_units = omega (arith, c.loop-block.auto.block-end, c.loop-block-test.false) in (
-      first_filled_after c.args.lead_in _ _ _ _ _ c.in-Err-nothing_follows.stop read (subst (λ (n : ℕ). RoseBy n (g.S.Source.fills c.args.first.now) (g.S.Source.fills c.loop-block.first)) all before.first_rooms) rooms.0,
-      second_filled_after c.args.lead_in _ _ _ _ _ c.in-Err-nothing_follows.stop read (subst (λ (n : ℕ). RoseBy n (g.T.Source.fills c.args.second.now) (g.T.Source.fills c.loop-block.second)) all before.second_rooms) rooms.1,
+    let all : c.loop-block.block ≡ most_units =
+    omega (arith, c.loop-block.auto.block-end, c.loop-block-test.false) in (
+      first_filled_after c.args.lead_in _ _ _ _ _ c.in-Err-nothing_follows.stop read
+          (subst
+          (λ (n : ℕ). RoseBy n (g.S.Source.fills c.args.first.now) (g.S.Source.fills c.loop-block.first))
+          all before.first_rooms) rooms.0,
+      second_filled_after c.args.lead_in _ _ _ _ _ c.in-Err-nothing_follows.stop read
+          (subst
+          (λ (n : ℕ). RoseBy n (g.T.Source.fills c.args.second.now) (g.T.Source.fills c.loop-block.second))
+          all before.second_rooms) rooms.1,
     )
 
 pub returns-in-Err-put_all-clause-rooms : goal.returns-in-Err-put_all-clause-rooms
 returns-in-Err-put_all-clause-rooms g c =
     let rooms = rw c.in-Ok-true.field-0-test at c.in-Ok-true.ensures.rooms in
     let before = c.loop-block.invariant in (
-      (c.loop-block.block + 1, omega (arith, c.loop-block-test.true), one_more _ _ _ _ before.first_rooms rooms.0),
-      (c.loop-block.block + 1, omega (arith, c.loop-block-test.true), one_more _ _ _ _ before.second_rooms rooms.1),
+      (
+        c.loop-block.block + 1,
+        omega (arith, c.loop-block-test.true),
+        one_more _ _ _ _ before.first_rooms rooms.0,
+      ),
+      (
+        c.loop-block.block + 1,
+        omega (arith, c.loop-block-test.true),
+        one_more _ _ _ _ before.second_rooms rooms.1,
+      ),
     )

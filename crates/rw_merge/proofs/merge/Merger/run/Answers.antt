@@ -6,14 +6,16 @@ pub returns-clause-restores : goal.returns-clause-restores
 returns-clause-restores g c =
     let done = c.merge_pairs.ensures in
     let (xs, ys, first, second, merges) = done.merges in
-    restored c.two_readings_give_packs.ensures.text c.args.lead_in _ _ _ _ _ _ c.merge_pairs.result xs ys first second merges done.ends.0 done.ends.1 done.answer
+    restored c.two_readings_give_packs.ensures.text c.args.lead_in _ _ _ _ _ _ c.merge_pairs.result xs ys
+    first second merges done.ends.0 done.ends.1 done.answer
 
 pub returns-clause-repairs : goal.returns-clause-repairs
 returns-clause-repairs g c =
     let done = c.merge_pairs.ensures in
     let (xs, ys, first, second, merges) = done.merges in
     repaired c.two_readings_give_packs.ensures.damage c.args.lead_in _ _ _ _ c.merge_pairs.result
-    (restored c.two_readings_give_packs.ensures.text c.args.lead_in _ _ _ _ _ _ c.merge_pairs.result xs ys first second merges done.ends.0 done.ends.1 done.answer)
+    (restored c.two_readings_give_packs.ensures.text c.args.lead_in _ _ _ _ _ _ c.merge_pairs.result xs ys
+    first second merges done.ends.0 done.ends.1 done.answer)
 
 pub returns-clause-first_end : goal.returns-clause-first_end
 returns-clause-first_end g c = c.merge_pairs.ensures.ends.0

@@ -7,7 +7,9 @@ use Rattle.rw_merge.proofs.Readings.{first_agreed}
 use Rattle.rw_merge.proofs.packs.Packs.set_idle.Goals as goal
 
 zeros_agreed : IsAgreed (replicate 24 0) (replicate 24 0) (replicate 24 0)
-zeros_agreed = first_agreed (replicate 24 0) (replicate 24 0) idle_is_codeword (omega (arith, differences_self (replicate 24 0)))
+zeros_agreed =
+    first_agreed (replicate 24 0) (replicate 24 0) idle_is_codeword
+    (omega (arith, differences_self (replicate 24 0)))
 
 pub returns : goal.returns
 unfolding AreAgreements

@@ -7,6 +7,8 @@ returns-in-Raw c = λ yes.
     let s = c.args.self.now in
     let block = c.args.block.now in
     let none : s.lead_in ≡ 0 = omega (arith, c.if-self-gt0.false) in (
-      taken_next s block s.gather none (c.stays_idle.ensures.next yes ∙ raw_state s.form s.gather block c.in-Raw.is c.told-block),
-      taken_gives s block _ none (c.stays_idle.ensures.gives yes ∙ raw_gives s.form s.gather block c.in-Raw.is c.told-block),
+      taken_next s block s.gather none
+          (c.stays_idle.ensures.next yes ∙ raw_state s.form s.gather block c.in-Raw.is c.told-block),
+      taken_gives s block _ none
+          (c.stays_idle.ensures.gives yes ∙ raw_gives s.form s.gather block c.in-Raw.is c.told-block),
     )

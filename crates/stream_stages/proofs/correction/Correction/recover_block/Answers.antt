@@ -13,4 +13,6 @@ returns-in-None-clause-next c =
 
 pub returns-in-None-clause-bytes : goal.returns-in-None-clause-bytes
 returns-in-None-clause-bytes c =
-    c.set_zeros.ensures ∙ text_idle c.idle_is_codeword.ensures ∙ ap (λ (ws : List (List ℕ)). cdg_bytes (map finding ws)) (sym c.in-None.ensures)
+    c.set_zeros.ensures
+    ∙ text_idle c.idle_is_codeword.ensures
+    ∙ ap (λ (ws : List (List ℕ)). cdg_bytes (map finding ws)) (sym c.in-None.ensures)

@@ -20,18 +20,32 @@ loop-word-preserved c =
     let before = c.loop-word.invariant in
     record {
       few = before.few;
-      size = omega (arith, ap length c.add.ensures.bytes, length-append c.loop-word.piece c.recover.result, before.size, c.recover.ensures.size);
-      piece = text_step words c.loop-word.word-index _ c.loop-word.piece _ c.recover.result (omega arith) c.word-item.is before.piece c.recover.ensures.bytes c.add.ensures.bytes;
-      bad = bad_step words c.loop-word.word-index _ c.args.self.now.bad c.loop-word.self.bad _ (omega arith) c.word-item.is before.bad c.recover.ensures.bad;
+      size = omega (
+        arith,
+        ap length c.add.ensures.bytes,
+        length-append c.loop-word.piece c.recover.result,
+        before.size,
+        c.recover.ensures.size,
+      );
+      piece =
+          text_step words c.loop-word.word-index _ c.loop-word.piece _ c.recover.result (omega arith)
+          c.word-item.is before.piece c.recover.ensures.bytes c.add.ensures.bytes;
+      bad =
+          bad_step words c.loop-word.word-index _ c.args.self.now.bad c.loop-word.self.bad _ (omega arith)
+          c.word-item.is before.bad c.recover.ensures.bad;
     }
 
 pub returns-clause-next : goal.returns-clause-next
 unfolding correction_next
 returns-clause-next c =
     let words = c.as_slice-word-items.result.now in
-    ap (λ (b : ℕ). record { bad = b }) (c.loop-word.invariant.bad ∙ ap (bad_after c.args.self.now.bad) (take_all c.loop-word.word-index words (omega arith) ∙ c.as_slice-word-items.ensures.value))
+    ap (λ (b : ℕ). record { bad = b }) (c.loop-word.invariant.bad
+    ∙ ap (bad_after c.args.self.now.bad)
+    (take_all c.loop-word.word-index words (omega arith) ∙ c.as_slice-word-items.ensures.value))
 
 pub returns-clause-bytes : goal.returns-clause-bytes
 returns-clause-bytes c =
     let words = c.as_slice-word-items.result.now in
-    c.loop-word.invariant.piece ∙ ap (λ ws. cdg_bytes (map finding ws)) (take_all c.loop-word.word-index words (omega arith) ∙ c.as_slice-word-items.ensures.value)
+    c.loop-word.invariant.piece
+    ∙ ap (λ ws. cdg_bytes (map finding ws))
+    (take_all c.loop-word.word-index words (omega arith) ∙ c.as_slice-word-items.ensures.value)

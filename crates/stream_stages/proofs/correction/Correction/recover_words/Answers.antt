@@ -11,4 +11,5 @@ returns-then-are_near_idle-clause-next c =
 
 pub returns-then-are_near_idle-clause-bytes : goal.returns-then-are_near_idle-clause-bytes
 returns-then-are_near_idle-clause-bytes c =
-    c.set_zeros.ensures ∙ text_near c.args.words.now.items c.len.result c.len.ensures.value (c.if-are_near_idle.ensures refl)
+    c.set_zeros.ensures
+    ∙ text_near c.args.words.now.items c.len.result c.len.ensures.value (c.if-are_near_idle.ensures refl)

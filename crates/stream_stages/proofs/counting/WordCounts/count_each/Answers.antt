@@ -9,9 +9,13 @@ loop-word-init c = counted_none_yet _
 
 pub loop-word-preserved : goal.loop-word-preserved
 loop-word-preserved c =
-    count_step c.as_slice-word-items.result.now c.loop-word.word-index _ c.args.self.now c.loop-word.self _ (omega arith) c.word-item.is c.loop-word.invariant c.count.ensures
+    count_step c.as_slice-word-items.result.now c.loop-word.word-index _ c.args.self.now c.loop-word.self _
+    (omega arith) c.word-item.is c.loop-word.invariant c.count.ensures
 
 pub returns : goal.returns
 unfolding counts_next
 returns c =
-    c.loop-word.invariant ∙ ap (count_after c.args.self.now) (take_all c.loop-word.word-index c.as_slice-word-items.result.now (omega arith) ∙ c.as_slice-word-items.ensures.value)
+    c.loop-word.invariant
+    ∙ ap (count_after c.args.self.now) (take_all c.loop-word.word-index c.as_slice-word-items.result.now
+    (omega arith)
+    ∙ c.as_slice-word-items.ensures.value)

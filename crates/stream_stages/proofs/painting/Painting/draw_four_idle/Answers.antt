@@ -6,4 +6,5 @@ use Rattle.stream_stages.proofs.painting.Painting.draw_four_idle.Goals as goal
 pub returns : goal.returns
 returns c =
     let old : Painting = c.args.self.now in
-    ap (λ (n : ℕ). record old { left = n }) c.saturating_sub-self.ensures ∙ four_idle_drawn old c.requires c.idle_packs_draw_nothing.ensures
+    ap (λ (n : ℕ). record old { left = n }) c.saturating_sub-self.ensures
+    ∙ four_idle_drawn old c.requires c.idle_packs_draw_nothing.ensures

@@ -10,7 +10,9 @@ returns-then-is_idle-clause-screen c =
     let word = c.args.word.now in
     let screen = c.args.self.now.screen in
     let (zeros, is_codeword) = c.is_idle.ensures c.if-is_idle.true in
-    c.idle_packs_draw_nothing.ensures ∙ ap (λ (w : List ℕ). standing_after screen (meaning w ∷ [])) (sym zeros) ∙ ap (entry_drawn screen) (found_itself word is_codeword)
+    c.idle_packs_draw_nothing.ensures
+    ∙ ap (λ (w : List ℕ). standing_after screen (meaning w ∷ [])) (sym zeros)
+    ∙ ap (entry_drawn screen) (found_itself word is_codeword)
 
 pub returns-then-is_idle-clause-bad : goal.returns-then-is_idle-clause-bad
 returns-then-is_idle-clause-bad c =

@@ -5,7 +5,9 @@ use Rattle.stream_stages.proofs.painting.Painting.take_corrected.Goals as goal
 
 pub returns-in-Some-clause-screen : goal.returns-in-Some-clause-screen
 returns-in-Some-clause-screen c =
-    c.carry_out.ensures ∙ ap (entry_drawn c.args.self.now.screen) (found_some c.args.word.now _ c.correct.ensures.word c.in-Some.ensures.reads.0)
+    c.carry_out.ensures
+    ∙ ap (entry_drawn c.args.self.now.screen)
+    (found_some c.args.word.now _ c.correct.ensures.word c.in-Some.ensures.reads.0)
 
 pub returns-in-Some-clause-bad : goal.returns-in-Some-clause-bad
 returns-in-Some-clause-bad c =
@@ -13,8 +15,10 @@ returns-in-Some-clause-bad c =
 
 pub returns-in-None-clause-screen : goal.returns-in-None-clause-screen
 returns-in-None-clause-screen c =
-    ap (entry_drawn c.args.self.now.screen) (found_none c.args.word.now c.correct.ensures.word c.in-None.ensures.reads)
+    ap (entry_drawn c.args.self.now.screen)
+    (found_none c.args.word.now c.correct.ensures.word c.in-None.ensures.reads)
 
 pub returns-in-None-clause-bad : goal.returns-in-None-clause-bad
 returns-in-None-clause-bad c =
-    c.saturating_add-self.ensures ∙ bad_none _ _ (found_none c.args.word.now c.correct.ensures.word c.in-None.ensures.reads)
+    c.saturating_add-self.ensures
+    ∙ bad_none _ _ (found_none c.args.word.now c.correct.ensures.word c.in-None.ensures.reads)

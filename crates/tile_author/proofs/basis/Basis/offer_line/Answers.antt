@@ -10,7 +10,9 @@ pub loop-i-init : goal.loop-i-init
 loop-i-init c = c.requires.before ∙ first_pixels c.args.pixels.now c.args.line
 
 pub offer-requires : goal.offer-requires
-offer-requires c = xor_small _ _ (small_at c.args.pixels.now 0 c.requires.tile.below) (small_at c.args.pixels.now (6 * c.args.line + c.loop-i.i) c.requires.tile.below)
+offer-requires c =
+    xor_small _ _ (small_at c.args.pixels.now 0 c.requires.tile.below)
+    (small_at c.args.pixels.now (6 * c.args.line + c.loop-i.i) c.requires.tile.below)
 
 pub loop-i-preserved : goal.loop-i-preserved
 loop-i-preserved c =

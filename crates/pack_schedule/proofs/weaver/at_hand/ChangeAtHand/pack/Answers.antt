@@ -13,11 +13,15 @@ pub write-requires-clause-range : goal.write-requires-clause-range
 write-requires-clause-range c =
     let known = c.pictures-pictures.ensures in
     let w = c.requires.weaving in
-    let lt : c.args.self.now.k < pictures c.args.script.now = omega (arith, known.value, c.if-self-pictures.false) in
-    let place = place_at_hand c.args.script.now c.args.self.now c.args.given w lt c.requires.current (omega (arith, c.if-given-self.false)) in
+    let lt : c.args.self.now.k < pictures c.args.script.now =
+    omega (arith, known.value, c.if-self-pictures.false) in
+    let place =
+    place_at_hand c.args.script.now c.args.self.now c.args.given w lt c.requires.current
+    (omega (arith, c.if-given-self.false)) in
     let fine : IsFine (get_or c.args.self.now.change (c.args.given - c.args.self.now.start) Idle) =
     fine_at c.args.script.now c.args.self.now.change c.args.self.now.k (c.args.given - c.args.self.now.start)
-    (c.changes_can_be_written.ensures c.args.script.now c.args.self.now.k _ _ (record { border = known.borders; colour = known.colours })
+    (c.changes_can_be_written.ensures c.args.script.now c.args.self.now.k _ _
+    (record { border = known.borders; colour = known.colours })
     (c.planned_changes_are_changes.ensures.planned c.args.script.now c.args.self.now.k known.pixels))
     (w.change_is lt) place in
     subst InRange (sym c.get.ensures) fine.0
@@ -26,11 +30,15 @@ pub write-requires-clause-known : goal.write-requires-clause-known
 write-requires-clause-known c =
     let known = c.pictures-pictures.ensures in
     let w = c.requires.weaving in
-    let lt : c.args.self.now.k < pictures c.args.script.now = omega (arith, known.value, c.if-self-pictures.false) in
-    let place = place_at_hand c.args.script.now c.args.self.now c.args.given w lt c.requires.current (omega (arith, c.if-given-self.false)) in
+    let lt : c.args.self.now.k < pictures c.args.script.now =
+    omega (arith, known.value, c.if-self-pictures.false) in
+    let place =
+    place_at_hand c.args.script.now c.args.self.now c.args.given w lt c.requires.current
+    (omega (arith, c.if-given-self.false)) in
     let fine : IsFine (get_or c.args.self.now.change (c.args.given - c.args.self.now.start) Idle) =
     fine_at c.args.script.now c.args.self.now.change c.args.self.now.k (c.args.given - c.args.self.now.start)
-    (c.changes_can_be_written.ensures c.args.script.now c.args.self.now.k _ _ (record { border = known.borders; colour = known.colours })
+    (c.changes_can_be_written.ensures c.args.script.now c.args.self.now.k _ _
+    (record { border = known.borders; colour = known.colours })
     (c.planned_changes_are_changes.ensures.planned c.args.script.now c.args.self.now.k known.pixels))
     (w.change_is lt) place in
     subst IsKnown (sym c.get.ensures) fine.1
@@ -39,19 +47,25 @@ pub returns-then-given-self : goal.returns-then-given-self
 returns-then-given-self c =
     let known = c.pictures-pictures.ensures in
     let w = c.requires.weaving in
-    no_pack c.args.script.now c.args.self.now c.args.given idle_pack w known.held known.later c.requires.current
+    no_pack c.args.script.now c.args.self.now c.args.given idle_pack w known.held known.later
+    c.requires.current
     (λ lt. elim c.then-given-self.branch [
       | then-given-self-via-then-given-self v ↦ omega (arith, w.start_is lt, v.if-given-self.true)
-      | then-given-self-via-else-given-self+then-self-pictures v ↦ absurd (omega (arith, v.if-self-pictures.true, known.value, lt))
+      | then-given-self-via-else-given-self+then-self-pictures v ↦
+          absurd (omega (arith, v.if-self-pictures.true, known.value, lt))
     ]) refl
 
 pub returns : goal.returns
 returns c =
     let known = c.pictures-pictures.ensures in
     let w = c.requires.weaving in
-    let lt : c.args.self.now.k < pictures c.args.script.now = omega (arith, known.value, c.if-self-pictures.false) in
+    let lt : c.args.self.now.k < pictures c.args.script.now =
+    omega (arith, known.value, c.if-self-pictures.false) in
     let begun = w.start_is lt in
-    let instr : c.get.result ≡ get_or (planned_change c.args.script.now c.args.self.now.k) (c.args.given - start_of c.args.script.now c.args.self.now.k) Idle =
+    let instr : c.get.result
+    ≡ get_or (planned_change c.args.script.now c.args.self.now.k)
+    (c.args.given - start_of c.args.script.now c.args.self.now.k) Idle =
     c.get.ensures ∙ ap₂ (λ n xs. get_or xs (c.args.given - n) Idle) begun (w.change_is lt) in
-    change_pack c.args.script.now c.args.self.now c.args.given c.write.result w known.held known.later c.requires.current lt (omega (arith, begun, c.if-given-self.false))
+    change_pack c.args.script.now c.args.self.now c.args.given c.write.result w known.held known.later
+    c.requires.current lt (omega (arith, begun, c.if-given-self.false))
     (subst (λ i. IsWritten i c.write.result) instr c.write.ensures.written)
