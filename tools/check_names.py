@@ -2,9 +2,9 @@
 """Looks at the names and lines of the code: check_names.py [TOP]
 
 Complains of a definition whose name stands in the public specs of two crates, of a type (a struct, an enum, a trait, or
-a record of definitions) whose name stands in two crates, of a line of code, clause or definition over 110 columns (proof
-hints and imports are laid out by `rt fmt`, and are passed over), and of a public item or a definition that nothing names:
-neither another place in the code nor tools/surface.txt, the list of names that callers were promised.
+a record of definitions) whose name stands in two crates, of a line of code, clause, definition or proof over 110 columns
+(comments, proof hints and imports are laid out by `rt fmt`, and are passed over), and of a public item or a definition
+that nothing names: neither another place in the code nor tools/surface.txt, the list of names that callers were promised.
 """
 import re
 import sys
@@ -97,7 +97,7 @@ def doubled(found):
 
 
 def long_lines():
-    for pattern in ("crates/*/src/**/*.rt", "crates/*/specs/**/*.antt"):
+    for pattern in ("crates/*/src/**/*.rt", "crates/*/specs/**/*.antt", "crates/*/proofs/**/*.antt"):
         for path in files(pattern):
             for number, line in enumerate(path.read_text().splitlines(), 1):
                 if len(line) > LIMIT and not PASSED_OVER.match(line):

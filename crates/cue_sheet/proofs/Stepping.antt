@@ -79,7 +79,7 @@ passed_is false true answer first here = refl
 passed_is false false answer first here = cc
 passed_is true placed answer first here = cc
 
--- a command that stands well and is spelled well: the line that it says is taken, unless there is a reason against it
+-- a command that stands well and is spelled well: its line is taken, unless there is a reason against it
 pub obeyed_is : (s : CueState) (word : Option SheetCommand) (command : SheetCommand) (argument : List ℕ)
     (line : CueLine) (reason : Option CueWhy)
     → word ≡ Some command → is_second_file s command ≡ false → is_placed s command ≡ true

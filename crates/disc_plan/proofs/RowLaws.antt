@@ -12,8 +12,8 @@ use Rattle.pack_schedule.specs.declared.planner.PlanRow.{PlanRow}
 use Rattle.disc_plan.specs.Rows.{is_late, no_disc_row, told_row, AreToldRows, IsToldRow}
 use Rattle.disc_plan.specs.declared.rows.PlannedRow.{PlannedRow}
 
--- The rows of the first k pictures are written, of which so many are late; the lines still to come are these. The rows
--- behind the last picture stay.
+-- The rows of the first k pictures are written, of which so many are late; the lines still to come are these.
+-- The rows behind the last picture stay.
 pub record IsWriting (script : List Drawing) (all : List ℕ) (before : List PlannedRow) (k : ℕ)
     (lines : List ℕ) (rows : List PlannedRow) (late : ℕ) : Type 0 where
   pub lines_are : lines ≡ drop k all

@@ -24,7 +24,7 @@ pub counted : (test : Instr → Bool) (instr : Instr) (before : List Instr)
     → count_by test (instr ∷ before) ≡ cond (test instr) 1 0 + count_by test before
 counted test instr before = sum_by-cons (λ i. cond (test i) 1 0) instr before
 
--- the tile instructions since all memory was set last, that preset, and those that set the border and the colours
+-- the tiles since all memory was set last, that preset, and those that set the border and the colours
 pub total : (before : List Instr)
     → tiles_in before + length (preset_of (preset_in before))
     + (count_by sets_border before + count_by sets_low before + count_by sets_high before)

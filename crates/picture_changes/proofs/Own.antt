@@ -1,4 +1,4 @@
--- The tile instructions of one place since all memory was set last. Lists of instructions have the last one first.
+-- The tiles of one place since all memory was set last. Lists of instructions have the last one first.
 use Rattle.std.proofs.Common.{◌≡◌, ℕ, ◌/◌, ◌%◌, ◌≤◌, ◌==◌, ◌&&◌, Bool, true, false, cond, List, [], ◌∷◌, length, get_or, replicate, sym, ap, ap₂, ◌∙◌, subst, arith, bit_xor, Some, None}
 use Rattle.std.specs.declared.option.Option.{Option}
 use Rattle.std.specs.List.{AllByRecursion}

@@ -50,7 +50,7 @@ next_sum p q g h =
     ∙ cross (product p (product p g)) (product p (product q h)) (product q (product p g))
     (product q (product q h)))
 
--- Four numbers of which each of the last two is the one before times s and the one before that times t, added.
+-- Four numbers. Each of the last two is the one before times s plus the one before that times t.
 pub record IsRecurrent (s t s0 s1 s2 s3 : ℕ) : Type 0 where
   pub second : s2 ≡ bit_xor (product s s1) (product t s0)
   pub third : s3 ≡ bit_xor (product s s2) (product t s1)

@@ -132,7 +132,7 @@ only_entry position symbol one other one_is other_is =
 
 -- ---- One pass over a word.
 
--- what the lanes are after the symbols before place i: with the sums of the others they make the sums of the word
+-- the lanes after the symbols before place i: with the sums of the others they make the sums of the word
 pub record IsPart (word : List ℕ) (i lanes : ℕ) : Type 0 where
   pub whole : (j : ℕ) → j < 4 → bit_xor (lane j lanes) (weighted_sum j (drop i word)) ≡ weighted_sum j word
   pub first_four : (j : ℕ) → j < 2
