@@ -7,6 +7,7 @@ use Rattle.raw_subcode.specs.Sizes.{block_bytes, most_units}
 use Rattle.cdg_io.specs.Streams.{Reading, as_pumped}
 use Rattle.cdg_io.specs.declared.pumping.Pumped.{Pumped}
 use Rattle.cdg_io.specs.declared.pumping.PumpStop.{PumpStop}
+use Rattle.rw_interleave.specs.Stream.{least_gap, most_burst}
 use Rattle.cdg_workload.specs.Generator.{generator, high_half}
 
 -- a burst by its first place, how many symbols it has, and what they are combined with
@@ -15,17 +16,25 @@ pub record Burst : Type 0 where
   pub size : ℕ
   pub change : ℕ
 
+-- how many sizes the gap before a burst can have, from the least on
+abbrev pub gap_count : ℕ
+gap_count = 64
+
+-- how many changes a burst can have: those that leave no symbol as it is
+abbrev pub change_count : ℕ
+change_count = 63
+
 -- how many symbols come between the burst before and the one that a word makes
 abbrev pub gap_of : ℕ → ℕ
-gap_of word = 192 + word % 64
+gap_of word = least_gap + word % gap_count
 
 -- how many symbols the burst has that a word makes
 abbrev pub size_of : ℕ → ℕ
-size_of word = 1 + word / 256 % 16
+size_of word = 1 + word / 256 % most_burst
 
 -- what the symbols of the burst that a word makes are combined with
 abbrev pub change_of : ℕ → ℕ
-change_of word = 1 + high_half word % 63
+change_of word = 1 + high_half word % change_count
 
 -- the first bursts that a generator makes from a place on, as many as are wanted
 unfoldable pub bursts : ℕ → ℕ → Lcg → List Burst
@@ -57,14 +66,15 @@ scratched_byte those (place, byte) = 64 * (byte / 64) + bit_xor (byte % 64) (cha
 -- before.
 unfoldable pub scratched : ℕ → ℕ → List ℕ → List ℕ
 scratched lead_in seed bytes =
-    let program = drop (96 * lead_in) bytes in
-    take (96 * lead_in) bytes ++ map (scratched_byte (bursts (length program / 192 + 1) 0 (generator seed)))
+    let program = drop (block_bytes * lead_in) bytes in
+    take (block_bytes * lead_in) bytes
+    ++ map (scratched_byte (bursts (length program / least_gap + 1) 0 (generator seed)))
     (enumerate_from 0 program)
 
 -- the answer to some bytes, and the text that is written: their whole blocks with the scratches
 pub record IsScratched (lead_in seed : ℕ) (bytes : List ℕ) (pumped : Pumped) (text : List ℕ) : Type 0 where
-  pub blocks : pumped.units ≡ length bytes / 96
-  pub text_is : text ≡ scratched lead_in seed (take (length bytes / 96 * 96) bytes)
+  pub blocks : pumped.units ≡ length bytes / block_bytes
+  pub text_is : text ≡ scratched lead_in seed (take (length bytes / block_bytes * block_bytes) bytes)
 
 -- how a call reads raw blocks that scratches them
 abbrev pub scratching : ℕ → ℕ → Reading Pumped PumpStop

@@ -1,6 +1,7 @@
 // The changes of neighbouring symbols, by the words of a generator.
 ghost use Rattle.std.specs.Prelude.{◌≡◌, ◌<◌, ◌≤◌, ◌+◌, ◌-◌, ◌^◌, ◌++◌, bit_xor, drop, false, map, take, true};
 ghost use Rattle.raw_subcode.specs.Sizes.{block_bytes};
+ghost use Rattle.rw_interleave.specs.Stream.{least_gap, most_burst};
 ghost use Rattle.cdg_io.specs.Run.{run_state, run_gives};
 ghost use Rattle.cdg_workload.specs.Steps.{next_needle, ready, byte_next, byte_gives};
 
@@ -8,8 +9,17 @@ use rand_core::utils::NextWord;
 use rand_pcg::Pcg32;
 use raw_subcode::BLOCK_BYTES;
 
+// The fewest symbols between two bursts.
+const LEAST_GAP: u32 = 192;
+
+// How many sizes the gap before a burst can have, from the least on.
+const GAP_COUNT: u32 = 64;
+
 // The most symbols that a burst has.
-const MOST_STRUCK: usize = 16;
+const MOST_BURST: usize = 16;
+
+// How many changes a burst can have: those that leave no symbol as it is.
+const CHANGE_COUNT: u32 = 63;
 
 /// Goes over symbols, and changes them in bursts.
 #[derive(Drop)]
@@ -31,9 +41,9 @@ impl Needle {
     {
         if self.gap == 0 && self.left == 0 {
             let word = self.words.next_word();
-            self.gap = 192 + word % 64;
-            self.left = 1 + word / 256 % 16;
-            self.change = (1 + (word >> 16) % 63) as u8;
+            self.gap = LEAST_GAP + word % GAP_COUNT;
+            self.left = 1 + word / 256 % MOST_BURST as u32;
+            self.change = (1 + (word >> 16) % CHANGE_COUNT) as u8;
         }
     }
 
@@ -42,7 +52,7 @@ impl Needle {
     #[tactic(auto, using(crate::proofs::Needles::ready_gap))]
     fn leave(&mut self, count: usize)
         requires ended { (self.old.gap ≡ 0) × (self.old.left ≡ 0) }
-        requires before { count ≤ 192 }
+        requires before { count ≤ least_gap }
         ensures next { self.new ≡ record (ready self.old) { gap = (ready self.old).gap - count } }
         ensures gap { count ≤ (ready self.old).gap }
     {
@@ -121,7 +131,7 @@ fn combine(block: &mut [u8; BLOCK_BYTES], from: usize, to: usize, change: u8)
         ≡ take from block.old ++ map (λ byte. bit_xor byte change) (take (to - from) (drop from block.old)) }
     ensures rest { drop to block.new ≡ drop to block.old }
 {
-    if to - from <= MOST_STRUCK && to <= BLOCK_BYTES - MOST_STRUCK {
+    if to - from <= MOST_BURST && to <= BLOCK_BYTES - MOST_BURST {
         combine_few(block, from, to, change);
     } else {
         combine_each(block, from, to, change);
@@ -133,16 +143,16 @@ fn combine(block: &mut [u8; BLOCK_BYTES], from: usize, to: usize, change: u8)
 #[inline]
 fn combine_few(block: &mut [u8; BLOCK_BYTES], from: usize, to: usize, change: u8)
     requires order { from ≤ to }
-    requires few { to ≤ from + 16 }
-    requires within { to + 16 ≤ block_bytes }
+    requires few { to ≤ from + most_burst }
+    requires within { to + most_burst ≤ block_bytes }
     ensures changed { take to block.new
         ≡ take from block.old ++ map (λ byte. bit_xor byte change) (take (to - from) (drop from block.old)) }
     ensures rest { drop to block.new ≡ drop to block.old }
 {
-    let mut kept = [0; MOST_STRUCK];
-    kept.copy_from_slice(&block[to..to + MOST_STRUCK]);
-    combine_each(block, from, from + MOST_STRUCK, change);
-    block[to..to + MOST_STRUCK].copy_from_slice(&kept);
+    let mut kept = [0; MOST_BURST];
+    kept.copy_from_slice(&block[to..to + MOST_BURST]);
+    combine_each(block, from, from + MOST_BURST, change);
+    block[to..to + MOST_BURST].copy_from_slice(&kept);
 }
 
 // The same for any number of bytes.

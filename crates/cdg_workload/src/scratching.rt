@@ -163,7 +163,7 @@ pub fn scratches_are_bursts()
 
 /// A law: in a stream of whole blocks, scratches change at most two symbols of each word.
 pub fn scratches_are_damage()
-    ensures { (lead_in seed blocks : ℕ) (bytes : List ℕ) → length bytes ≡ 96 * blocks
+    ensures { (lead_in seed blocks : ℕ) (bytes : List ℕ) → length bytes ≡ block_bytes * blocks
         → IsDamaged (program_symbols Form.Raw bytes lead_in) Form.Raw
         (program_symbols Form.Raw (scratched lead_in seed bytes) lead_in) }
 {

@@ -6,6 +6,7 @@ use Rattle.rw_code.specs.declared.syndromes.Sums.{Sums}
 use Rattle.rw_code.specs.declared.wrong_symbols.Locator.{Locator}
 use Rattle.rw_code.specs.declared.wrong_symbols.Places.{Places}
 use Rattle.rw_code.specs.declared.wrong_symbols.TwoErrors.{TwoErrors}
+use Rattle.rw_code.specs.Sizes.{word_symbols, last_position, symbol_values}
 use Rattle.rw_code.specs.Codeword.{weighted_sum}
 
 -- lane j of a number: six bits of it
@@ -20,7 +21,7 @@ pub record AreSyndromes (word : List ℕ) (lanes : ℕ) : Type 0 where
 
 -- what a symbol at a position adds to these lanes
 pub record IsEntry (position symbol lanes : ℕ) : Type 0 where
-  pub whole : (j : ℕ) → j < 4 → lane j lanes ≡ product (alpha_power (j * (23 - position))) symbol
+  pub whole : (j : ℕ) → j < 4 → lane j lanes ≡ product (alpha_power (j * (last_position - position))) symbol
   pub first_four : (j : ℕ) → j < 2 → position < 4
       → lane (4 + j) lanes ≡ product (alpha_power (j * (3 - position))) symbol
   pub later : (j : ℕ) → j < 2 → 4 ≤ position → lane (4 + j) lanes ≡ 0
@@ -46,8 +47,8 @@ pub record AreLanes (lanes : ℕ) (sums : Sums) : Type 0 where
 
 -- an error at a position
 pub record IsError (position error : ℕ) : Type 0 where
-  pub place : position < 24
-  pub below : error < 64
+  pub place : position < word_symbols
+  pub below : error < symbol_values
   pub wrong : error ≢ 0
 
 -- the lanes of a word with one error
@@ -72,8 +73,8 @@ pub record AreTwoSums (sums : Sums) (places : Places) (e f : ℕ) : Type 0 where
   pub first_error : IsError places.first e
   pub second_error : IsError places.second f
   pub zeroth : sums.zeroth ≡ bit_xor e f
-  pub first : sums.first
-      ≡ bit_xor (product (alpha_power (23 - places.first)) e) (product (alpha_power (23 - places.second)) f)
+  pub first : sums.first ≡ bit_xor (product (alpha_power (last_position - places.first)) e)
+      (product (alpha_power (last_position - places.second)) f)
 
 -- The polynomial of the sums that is 0 at the powers of both wrong positions, where two are wrong: its coefficients.
 pub record IsLocator (sums : Sums) (locator : Locator) : Type 0 where
@@ -84,14 +85,15 @@ pub record IsLocator (sums : Sums) (locator : Locator) : Type 0 where
 -- The polynomial is (x + p)(x + q) times a factor other than 0, where p and q are the powers of two positions.
 pub record IsLocatorOf (locator : Locator) (i j : ℕ) : Type 0 where
   pub square : locator.square ≢ 0
-  pub below : locator.square < 64
-  pub linear : locator.linear ≡ product (bit_xor (alpha_power (23 - i)) (alpha_power (23 - j))) locator.square
+  pub below : locator.square < symbol_values
+  pub linear : locator.linear
+      ≡ product (bit_xor (alpha_power (last_position - i)) (alpha_power (last_position - j))) locator.square
   pub constant : locator.constant
-      ≡ product (product (alpha_power (23 - i)) (alpha_power (23 - j))) locator.square
+      ≡ product (product (alpha_power (last_position - i)) (alpha_power (last_position - j))) locator.square
 
 -- the power d and 1 have as their sum the power z
 pub record IsPair (d z : ℕ) : Type 0 where
   pub apart : 0 < d
-  pub within : d < 24
+  pub within : d < word_symbols
   pub bound : z < 63
   pub sum : bit_xor (alpha_power d) 1 ≡ alpha_power z

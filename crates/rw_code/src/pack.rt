@@ -1,4 +1,4 @@
-// Codewords.
+// Codewords: words that are checked, or sealed with their parity symbols.
 ghost use Rattle.std.specs.Prelude.{◌≡◌, List, ℕ, MatchOption};
 ghost use Rattle.rw_code.specs.Codeword.{IsCodeword, HasSymbols};
 ghost use Rattle.rw_code.specs.Syndromes.{AreSyndromes};

@@ -55,6 +55,7 @@ impl LastFour {
         }
     }
 
+    // The polynomial times a number.
     #[inline]
     fn times(self, factor: Sym) -> LastFour
         ensures { (j : ℕ) → value_at j result ≡ product (value_at j self) factor }
@@ -67,6 +68,7 @@ impl LastFour {
         }
     }
 
+    // The sum of two polynomials.
     #[inline]
     fn add(self, other: LastFour) -> LastFour
         ensures { (j : ℕ) → value_at j result ≡ bit_xor (value_at j self) (value_at j other) }

@@ -1,8 +1,10 @@
 // The part of each symbol at each position in the six sums of a word.
 
+use crate::word::{SYMBOL_VALUES, SYMBOLS};
+
 /// The six sums of the word with one symbol, by its position and its number: six bits for each, lowest first the four
 /// over all symbols and then the two over the first four.
-pub(crate) static SYNDROMES: [[u64; 64]; 24] = [
+pub(crate) static SYNDROMES: [[u64; SYMBOL_VALUES]; SYMBOLS] = [
     [
         0,
         8607705665,

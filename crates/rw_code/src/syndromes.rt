@@ -1,5 +1,6 @@
 // The six sums of a word that are 0 for a codeword.
 ghost use Rattle.std.specs.Prelude.{◌≡◌, ◌<◌, ◌↔◌, IsTrue};
+ghost use Rattle.rw_code.specs.Sizes.{word_symbols, symbol_values};
 ghost use Rattle.rw_code.specs.Codeword.{IsCodeword};
 ghost use Rattle.rw_code.specs.Syndromes.{AreLanes, AreSyndromes, IsEntry, lane};
 
@@ -74,8 +75,8 @@ impl Syndromes {
 /// The part of a symbol at a position in the six sums.
 #[inline]
 pub(crate) fn entry(position: usize, symbol: usize) -> u64
-    requires position { position < 24 }
-    requires symbol { symbol < 64 }
+    requires position { position < word_symbols }
+    requires symbol { symbol < symbol_values }
     ensures { IsEntry position symbol result }
 {
     SYNDROMES[position][symbol]

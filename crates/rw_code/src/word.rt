@@ -1,5 +1,6 @@
-// Words of 24 symbols.
+// A word, its symbols one by one, and how far it is from zeros.
 ghost use Rattle.std.specs.Prelude.{◌≡◌, ◌<◌, ◌%◌, ◌++◌, ◌+◌, ◌≤◌, take, drop, ◌↔◌, IsTrue, All, List, ℕ, length, map, min, slice_index, slice_set, replicate, bit_xor};
+ghost use Rattle.rw_code.specs.Sizes.{word_symbols, symbol_values};
 ghost use Rattle.rw_code.specs.Codeword.{IsWord, IsNear, differences};
 ghost use Rattle.rw_code.specs.Packs.{idle_pack};
 
@@ -7,8 +8,11 @@ use gf64::Sym;
 use std::marker::Model;
 use std::simd::prelude::*;
 
-/// How many symbols a word has.
+/// How many symbols a word has (IEC 60908).
 pub const SYMBOLS: usize = 24;
+
+/// How many values a symbol has: it is six bits.
+pub(crate) const SYMBOL_VALUES: usize = 64;
 
 /// A word of 24 symbols.
 #[derive(Clone, Copy)]
@@ -28,7 +32,7 @@ impl Model for Word {
 
 impl Default for Word {
     fn default() -> Word
-        ensures { result ≡ replicate 24 0 }
+        ensures { result ≡ replicate word_symbols 0 }
     {
         Word {
             bytes: [0; SYMBOLS],
@@ -51,7 +55,7 @@ impl Word {
     /// The word of three times eight symbols, each below 64.
     #[inline]
     pub fn of_eights(low: [u8; 8], middle: [u8; 8], high: [u8; 8]) -> Word
-        requires { All (λ symbol. symbol < 64) (low ++ middle ++ high) }
+        requires { All (λ symbol. symbol < symbol_values) (low ++ middle ++ high) }
         ensures { result ≡ low ++ middle ++ high }
     {
         Word {
@@ -62,7 +66,7 @@ impl Word {
     /// The symbol at a position.
     #[inline]
     pub fn get(&self, i: usize) -> Sym
-        requires { i < 24 }
+        requires { i < word_symbols }
         ensures { result ≡ slice_index self.now i }
     {
         Sym::new(self.bytes[i]).unwrap()
@@ -96,13 +100,13 @@ impl Word {
     {
         let low = ones(&self.bytes[..8]);
         let middle = ones(&self.bytes[8..16]);
-        let high = ones(&self.bytes[16..24]);
+        let high = ones(&self.bytes[16..SYMBOLS]);
         low.strict_add(middle).strict_add(high).strict_reduce_sum()
     }
 
     /// The word with another symbol at a position.
     pub fn with(&self, i: usize, symbol: Sym) -> Word
-        requires { i < 24 }
+        requires { i < word_symbols }
         ensures { result ≡ slice_set self.now i symbol }
     {
         let mut bytes = self.bytes;
@@ -112,7 +116,7 @@ impl Word {
 
     /// The word with an error added to the symbol at a position.
     pub(crate) fn plus(&self, i: usize, error: Sym) -> Word
-        requires { i < 24 }
+        requires { i < word_symbols }
         ensures { result ≡ slice_set self.now i (bit_xor (slice_index self.now i) error) }
     {
         let mut bytes = self.bytes;

@@ -1,6 +1,7 @@
 // The errors of a word by its syndromes.
 ghost use Rattle.std.specs.Prelude.{◌≡◌, ◌≢◌, ◌<◌, ◌+◌, ◌-◌, ◌*◌, ◌%◌, ℕ, Some, IfSome, MatchOption};
 ghost use Rattle.gf64.specs.Field.{product, alpha_power};
+ghost use Rattle.rw_code.specs.Sizes.{last_position, word_symbols};
 ghost use Rattle.rw_code.specs.Syndromes.{IsEntry, IsError, IsOneWrong, AreTwoWrong, AreErrors, AreTwoSums, IsLocator, IsLocatorOf, IsPair};
 
 use crate::SYMBOLS;
@@ -27,7 +28,7 @@ impl SymbolError {
     // Its part in the six sums.
     #[inline]
     fn entry(&self) -> u64
-        requires { self.now.position < 24 }
+        requires { self.now.position < word_symbols }
         ensures { IsEntry self.now.position self.now.value result }
     {
         entry(self.position, self.value.value() as usize)
@@ -57,9 +58,9 @@ pub(crate) fn one_error(syndromes: Syndromes) -> Option<SymbolError>
 // The position whose power is the first sum over the zeroth.
 #[inline]
 fn single_position(zeroth: Sym, first: Sym) -> Option<usize>
-    ensures only { (i : ℕ) → IsError i zeroth → product (alpha_power (23 - i)) zeroth ≡ first
+    ensures only { (i : ℕ) → IsError i zeroth → product (alpha_power (last_position - i)) zeroth ≡ first
         → result ≡ Some i }
-    ensures error { IfSome result (λ i. (i < 24) × (zeroth ≢ 0)) }
+    ensures error { IfSome result (λ i. (i < word_symbols) × (zeroth ≢ 0)) }
 {
     if zeroth.is_zero() || first.is_zero() {
         return None;
@@ -129,9 +130,10 @@ impl Locator {
     // the square of its linear one depends on the difference of their exponents alone.
     #[inline]
     fn places(self) -> Option<Places>
-        ensures only { (i j : ℕ) → i < j → j < 24 → IsLocatorOf self i j
+        ensures only { (i j : ℕ) → i < j → j < word_symbols → IsLocatorOf self i j
             → result ≡ Some (record { first = i; second = j }) }
-        ensures places { IfSome result (λ places. (places.first < places.second) × (places.second < 24)) }
+        ensures places { IfSome result
+            (λ places. (places.first < places.second) × (places.second < word_symbols)) }
     {
         if self.square.is_zero() || self.linear.is_zero() || self.constant.is_zero() {
             return None;
@@ -158,7 +160,7 @@ fn pair_at(ratio: usize) -> Pair
     requires { ratio < 63 }
     ensures only { (d z : ℕ) → IsPair d z → ratio ≡ (d + 126 - 2 * z) % 63
         → result ≡ record { difference = d; sum = z } }
-    ensures bound { (result.difference < 24) × (result.sum < 63) }
+    ensures bound { (result.difference < word_symbols) × (result.sum < 63) }
 {
     Pair {
         difference: DIFFERENCES[ratio] as usize,
@@ -168,7 +170,7 @@ fn pair_at(ratio: usize) -> Pair
 
 // The errors at two positions that have the first two sums.
 fn errors_at(sums: &Sums, places: Places) -> Option<TwoErrors>
-    requires { (places.first < places.second) × (places.second < 24) }
+    requires { (places.first < places.second) × (places.second < word_symbols) }
     ensures only { (e f : ℕ) → AreTwoSums sums.now places e f → result ≡ Some (record {
       first = record { position = places.first; value = e };
       second = record { position = places.second; value = f };
@@ -202,8 +204,8 @@ fn errors_at(sums: &Sums, places: Places) -> Option<TwoErrors>
 // The power of alpha that the sum at 1 has at a position.
 #[inline]
 fn power_at(i: usize) -> Sym
-    requires { i < 24 }
-    ensures { result ≡ alpha_power (23 - i) }
+    requires { i < word_symbols }
+    ensures { result ≡ alpha_power (last_position - i) }
 {
     Sym::alpha((SYMBOLS - 1 - i) as u32)
 }

@@ -4,7 +4,8 @@ use Rattle.std.specs.declared.option.Option.{Option}
 use Rattle.std.specs.List.{concat}
 use Rattle.bit_lists.specs.Counting.{below}
 use Rattle.raw_subcode.specs.Sizes.{symbols_a_slot}
-use Rattle.rw_interleave.specs.Interleave.{packs_kept_back, swapped}
+use Rattle.rw_code.specs.Sizes.{word_symbols}
+use Rattle.rw_interleave.specs.Interleave.{packs_kept_back, span, swapped}
 
 -- the last seven
 abbrev pub last_seven : List (List ℕ) → List (List ℕ)
@@ -16,11 +17,11 @@ kept_symbols slots = replicate (symbols_a_slot * (packs_kept_back - length slots
 
 -- the symbol at a position of the slot that is so many slots after the first
 abbrev pub symbol_at : List (List ℕ) → ℕ → ℕ
-symbol_at slots position = slice_index (slice_index_or slots (position % 8) []) position
+symbol_at slots position = slice_index (slice_index_or slots (position % span) []) position
 
 -- the word whose last symbol came with the last of eight slots
 unfoldable pub gathered : List (List ℕ) → List ℕ
-gathered slots = map (λ i. symbol_at slots (swapped i)) (below 24)
+gathered slots = map (λ i. symbol_at slots (swapped i)) (below word_symbols)
 
 -- the slots kept after one more
 unfoldable pub gather_next : List (List ℕ) → List ℕ → List (List ℕ)

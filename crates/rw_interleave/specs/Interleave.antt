@@ -2,10 +2,14 @@
 use Rattle.std.specs.Prelude.{◌≡◌, ◌≢◌, ℕ, ◌+◌, ◌-◌, ◌*◌, ◌%◌, ◌<◌, List, [], length, map, All, slice_index, slice_index_or, ◌==◌, if◌then◌else◌}
 use Rattle.bit_lists.specs.Counting.{below}
 use Rattle.raw_subcode.specs.Sizes.{block_bytes, slots_a_block, symbols_a_slot}
+use Rattle.rw_code.specs.Sizes.{word_symbols}
 use Rattle.rw_code.specs.Codeword.{IsCodeword}
 
--- the packs that are kept back: the symbols of a pack are spread over eight slots (IEC 60908), so it is whole only
--- with the seven that follow its own
+-- the slots that the symbols of a pack are spread over (IEC 60908)
+abbrev pub span : ℕ
+span = 8
+
+-- the packs that are kept back: a pack is whole only with the seven slots that follow its own
 abbrev pub packs_kept_back : ℕ
 packs_kept_back = 7
 
@@ -19,11 +23,11 @@ swapped i = exchanged 1 18 (exchanged 2 5 (exchanged 3 23 i))
 
 -- the place of symbol i of pack n: slot n and up to seven slots later
 abbrev pub place : ℕ → ℕ → ℕ
-place n i = symbols_a_slot * (n + swapped i % 8) + swapped i
+place n i = symbols_a_slot * (n + swapped i % span) + swapped i
 
--- the 24 symbols at the places of pack n
+-- the symbols at the places of pack n
 unfoldable pub word_of : List ℕ → ℕ → List ℕ
-word_of symbols n = map (λ i. slice_index symbols (place n i)) (below 24)
+word_of symbols n = map (λ i. slice_index symbols (place n i)) (below word_symbols)
 
 -- how many packs of so many slots are whole
 abbrev pub whole_of_slots : ℕ → ℕ
@@ -40,4 +44,4 @@ pub record Carries (blocks : ℕ) (symbols : List ℕ) (packs : List (List ℕ))
   pub codewords : All IsCodeword packs
   pub words : (n : ℕ) → n < whole_packs blocks → word_of symbols n ≡ slice_index_or packs n []
   pub others : (p : ℕ) → p < block_bytes * blocks
-      → ((n i : ℕ) → n < whole_packs blocks → i < 24 → place n i ≢ p) → slice_index symbols p ≡ 0
+      → ((n i : ℕ) → n < whole_packs blocks → i < word_symbols → place n i ≢ p) → slice_index symbols p ≡ 0

@@ -2,7 +2,8 @@
 use Rattle.std.specs.Prelude.{ℕ, ◌-◌, ◌%◌, List, [], ◌∷◌, ◌++◌, length, map, replicate, slice_index, slice_index_or, nat_lt, if◌then◌else◌, Some}
 use Rattle.std.specs.declared.option.Option.{Option}
 use Rattle.bit_lists.specs.Counting.{below}
-use Rattle.rw_interleave.specs.Interleave.{swapped}
+use Rattle.raw_subcode.specs.Sizes.{symbols_a_slot}
+use Rattle.rw_interleave.specs.Interleave.{span, swapped}
 use Rattle.rw_interleave.specs.Gathering.{last_seven}
 use Rattle.rw_code.specs.Packs.{idle_pack}
 
@@ -10,12 +11,12 @@ use Rattle.rw_code.specs.Packs.{idle_pack}
 -- there, and 0 before the first
 unfoldable pub spread_symbol : List (List ℕ) → ℕ → ℕ
 spread_symbol packs position =
-    if nat_lt (position % 8) (length packs)
-    then slice_index (slice_index_or packs (length packs - position % 8 - 1) []) (swapped position) else 0
+    if nat_lt (position % span) (length packs)
+    then slice_index (slice_index_or packs (length packs - position % span - 1) []) (swapped position) else 0
 
 -- the slot that comes with the last of some packs
 unfoldable pub spread_over : List (List ℕ) → List ℕ
-spread_over packs = map (spread_symbol packs) (below 24)
+spread_over packs = map (spread_symbol packs) (below symbols_a_slot)
 
 -- the packs kept after one more
 unfoldable pub spread_next : List (List ℕ) → List ℕ → List (List ℕ)

@@ -2,7 +2,8 @@
 use Rattle.std.specs.List.{list_any}
 use Rattle.std.specs.Prelude.{⊤, Bool, false, nat_le, nat_lt, ◌&&◌, ◌≡◌, ℕ, ◌+◌, ◌-◌, ◌*◌, ◌/◌, ◌<◌, ◌≤◌, List, [], ◌∷◌, ◌++◌, length, map, slice_index, slice_index_or, count_by, replicate, Option, None, is_none}
 use Rattle.bit_lists.specs.Counting.{below}
-use Rattle.raw_subcode.specs.Sizes.{block_bytes}
+use Rattle.raw_subcode.specs.Sizes.{block_bytes, slots_a_block}
+use Rattle.rw_code.specs.Sizes.{word_symbols}
 use Rattle.rw_code.specs.Codeword.{IsNear}
 use Rattle.rw_code.specs.Finding.{IsFinding}
 use Rattle.rw_interleave.specs.Interleave.{word_of, whole_packs}
@@ -12,12 +13,12 @@ use Rattle.rw_code.specs.Packs.{idle_pack}
 
 -- how many words so many blocks hold
 abbrev pub word_count : Form → ℕ → ℕ
-word_count Cooked blocks = 4 * blocks
+word_count Cooked blocks = slots_a_block * blocks
 word_count _ blocks = whole_packs blocks
 
 -- word n of the program symbols: gathered from its places, or as it stands where the stream is cooked
 abbrev pub form_word : Form → List ℕ → ℕ → List ℕ
-form_word Cooked symbols n = map (λ i. slice_index symbols (24 * n + i)) (below 24)
+form_word Cooked symbols n = map (λ i. slice_index symbols (word_symbols * n + i)) (below word_symbols)
 form_word _ symbols n = word_of symbols n
 
 -- what is found for each word of the program symbols
@@ -44,12 +45,20 @@ pub record IsDamaged (symbols : List ℕ) (form : Form) (others : List ℕ) : Ty
 
 -- Symbols that differ in bursts
 
--- bursts by their first place and size, from a place on: each has at most sixteen symbols, and each but the first
--- begins at least 192 places after the one before has ended
+-- the most symbols of a burst
+abbrev pub most_burst : ℕ
+most_burst = 16
+
+-- the fewest symbols between two bursts: as many as the eight slots have that a pack is spread over
+abbrev pub least_gap : ℕ
+least_gap = 192
+
+-- bursts by their first place and size, from a place on: each has at most so many symbols, and each but the first
+-- begins at least so many places after the one before has ended
 abbrev pub AreBurstsFrom : ℕ → List (ℕ × ℕ) → Type 0
 AreBurstsFrom place [] = ⊤
-AreBurstsFrom place (burst ∷ rest) = (place ≤ burst.0) × (burst.1 ≤ 16)
-    × AreBurstsFrom (burst.0 + burst.1 + 192) rest
+AreBurstsFrom place (burst ∷ rest) = (place ≤ burst.0) × (burst.1 ≤ most_burst)
+    × AreBurstsFrom (burst.0 + burst.1 + least_gap) rest
 
 -- whether a burst holds the place
 abbrev pub is_in_burst : ℕ → ℕ × ℕ → Bool

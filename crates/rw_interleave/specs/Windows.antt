@@ -1,12 +1,27 @@
--- The last seven slots of a stream of blocks, and the block behind them, as bytes in a row.
+-- The last seven slots of a stream of blocks, and the block behind them, as bytes in a row. Code calls the sizes by the
+-- names of src/window.rt.
 use Rattle.std.specs.Prelude.{◌≡◌, ℕ, ◌+◌, ◌*◌, ◌%◌, ◌<◌, ◌≤◌, Bool, true, List, length, map, slice_index}
 use Rattle.std.specs.List.{range_with_len}
 use Rattle.bit_lists.specs.Counting.{below}
+use Rattle.raw_subcode.specs.Sizes.{symbols_a_slot}
+use Rattle.rw_code.specs.Sizes.{symbol_values}
 use Rattle.rw_interleave.specs.Interleave.{packs_kept_back}
 
--- slot k of some bytes: the low six bits of 24 of them
+-- the bytes of the last seven slots
+abbrev pub before_bytes : ℕ
+before_bytes = 168
+
+-- the bytes of the first three of them
+abbrev pub early_bytes : ℕ
+early_bytes = 72
+
+-- the bytes of a row: the seven slots and a block behind them
+abbrev pub row_bytes : ℕ
+row_bytes = 264
+
+-- slot k of some bytes: the low six bits of each
 unfoldable pub slot_in : List ℕ → ℕ → List ℕ
-slot_in bytes k = map (λ i. slice_index bytes (24 * k + i) % 64) (below 24)
+slot_in bytes k = map (λ i. slice_index bytes (symbols_a_slot * k + i) % 64) (below symbols_a_slot)
 
 -- so many slots of some bytes, from one on
 unfoldable pub slots_in : List ℕ → ℕ → ℕ → List (List ℕ)
@@ -15,8 +30,8 @@ slots_in bytes first count = map (slot_in bytes) (range_with_len first count)
 -- The bytes of the last seven slots of a stream, of which so many have come, are symbols. Quiet is only a window of
 -- seven slots of zeros.
 pub record IsWindow (bytes : List ℕ) (count : ℕ) (quiet : Bool) : Type 0 where
-  pub size : length bytes ≡ 168
+  pub size : length bytes ≡ before_bytes
   pub few : count ≤ packs_kept_back
-  pub symbols : (n : ℕ) → n < 168 → slice_index bytes n < 64
+  pub symbols : (n : ℕ) → n < before_bytes → slice_index bytes n < symbol_values
   pub full : quiet ≡ true → count ≡ packs_kept_back
-  pub zeros : quiet ≡ true → (n : ℕ) → n < 168 → slice_index bytes n % 64 ≡ 0
+  pub zeros : quiet ≡ true → (n : ℕ) → n < before_bytes → slice_index bytes n % 64 ≡ 0

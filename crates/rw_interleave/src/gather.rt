@@ -3,21 +3,24 @@ ghost use Rattle.std.specs.Prelude.{◌≡◌, ◌-◌, ◌≤◌, ◌<◌, ◌%
 ghost use Rattle.std.specs.List.{concat};
 ghost use Rattle.cdg_io.specs.Run.{run_gives, run_state};
 ghost use Rattle.bit_lists.specs.Counting.{below};
+ghost use Rattle.raw_subcode.specs.Sizes.{slots_a_block, symbols_a_slot};
 ghost use Rattle.rw_code.specs.Codeword.{IsWord};
+ghost use Rattle.rw_code.specs.Packs.{idle_pack};
+ghost use Rattle.rw_code.specs.Sizes.{symbol_values};
 ghost use Rattle.rw_interleave.specs.Gathering.{gather_gives, gather_next, kept_symbols};
-ghost use Rattle.rw_interleave.specs.Interleave.{word_of, whole_of_slots};
-ghost use Rattle.rw_interleave.specs.Windows.{slot_in, slots_in};
+ghost use Rattle.rw_interleave.specs.Interleave.{packs_kept_back, word_of, whole_of_slots};
+ghost use Rattle.rw_interleave.specs.Windows.{before_bytes, row_bytes, slot_in, slots_in};
 
 use crate::Slot;
 use crate::slot::PACKS_KEPT_BACK;
 use crate::window::{
-    ALL, BEFORE, EARLY, are_idle, four_slots, idle_words, last_three, row_of, symbols_of,
-    three_slots, word_at, words_of,
+    BEFORE_BYTES, EARLY_BYTES, ROW_BYTES, are_idle, four_slots, idle_words, last_three, row_of,
+    symbols_of, three_slots, word_at, words_of,
 };
 use arrayvec::ArrayVec;
 use cdg_io::Stage;
-use raw_subcode::BLOCK_BYTES;
-use rw_code::{SYMBOLS, Word};
+use raw_subcode::{BLOCK_BYTES, SLOTS_A_BLOCK, SYMBOLS_A_SLOT};
+use rw_code::Word;
 use std::alloc::{AllocError, Global};
 use std::marker::Model;
 
@@ -27,7 +30,7 @@ use std::marker::Model;
 pub struct Gather {
     /// The symbols of the first three of the last seven slots. Where fewer have come, the first of the seven stand for
     /// none.
-    pub early: [u8; EARLY],
+    pub early: [u8; EARLY_BYTES],
     /// The symbols of the other four.
     pub late: [u8; BLOCK_BYTES],
     /// How many of the seven have come.
@@ -38,11 +41,12 @@ pub struct Gather {
 
 impl Model for Gather {
     ghost use Rattle.std.specs.Prelude.{◌-◌, ◌++◌, List, ℕ};
+    ghost use Rattle.rw_interleave.specs.Interleave.{packs_kept_back};
     ghost use Rattle.rw_interleave.specs.Windows.{slots_in, IsWindow};
 
     ghost Value = { List (List ℕ) };
 
-    ghost view = { λ g. slots_in (g.early ++ g.late) (7 - g.count) g.count };
+    ghost view = { λ g. slots_in (g.early ++ g.late) (packs_kept_back - g.count) g.count };
 
     ghost invariant = { λ g. IsWindow (g.early ++ g.late) g.count g.quiet };
 }
@@ -53,7 +57,7 @@ impl Gather {
         ensures { result ≡ [] }
     {
         Gather {
-            early: [0; EARLY],
+            early: [0; EARLY_BYTES],
             late: [0; BLOCK_BYTES],
             count: 0,
             quiet: false,
@@ -84,8 +88,8 @@ impl Gather {
         let block = alone(slot);
         let word = last_word(&self.early, &self.late, &symbols_of(&block), self.count);
         let row = row_of(&self.early, &self.late, &block);
-        self.early = three_slots(&row, SYMBOLS);
-        self.late = four_slots(&row, SYMBOLS);
+        self.early = three_slots(&row, SYMBOLS_A_SLOT);
+        self.late = four_slots(&row, SYMBOLS_A_SLOT);
         self.count = (self.count + 1).min(PACKS_KEPT_BACK);
         self.quiet = false;
         word
@@ -94,9 +98,10 @@ impl Gather {
     /// Whether the words that come with a block are four of zeros, and the slots stay as they are.
     #[inline]
     pub fn stays_idle(&self, block: &[u8; BLOCK_BYTES]) -> bool
-        ensures next { result ≡ true → self.now ≡ run_state gather_next self.now (slots_in block.now 0 4) }
-        ensures gives { result ≡ true → replicate 4 (replicate 24 0)
-            ≡ run_gives gather_next gather_gives self.now (slots_in block.now 0 4) }
+        ensures next { result ≡ true
+            → self.now ≡ run_state gather_next self.now (slots_in block.now 0 slots_a_block) }
+        ensures gives { result ≡ true → replicate slots_a_block idle_pack
+            ≡ run_gives gather_next gather_gives self.now (slots_in block.now 0 slots_a_block) }
     {
         if self.quiet && are_idle(block) {
             return true;
@@ -107,9 +112,10 @@ impl Gather {
     /// Takes the four slots of a block, which are the low six bits of its bytes, and gives the words whose last symbol
     /// came with them.
     #[inline]
-    pub fn push_block(&mut self, block: &[u8; BLOCK_BYTES]) -> ArrayVec<Word, 4>
-        ensures next { self.new ≡ run_state gather_next self.old (slots_in block.now 0 4) }
-        ensures gives { result.items ≡ run_gives gather_next gather_gives self.old (slots_in block.now 0 4) }
+    pub fn push_block(&mut self, block: &[u8; BLOCK_BYTES]) -> ArrayVec<Word, SLOTS_A_BLOCK>
+        ensures next { self.new ≡ run_state gather_next self.old (slots_in block.now 0 slots_a_block) }
+        ensures gives { result.items
+            ≡ run_gives gather_next gather_gives self.old (slots_in block.now 0 slots_a_block) }
     {
         if self.stays_idle(block) {
             return idle_words();
@@ -120,24 +126,25 @@ impl Gather {
     // The same, where there may be something to gather. It is a function of its own so that idle blocks do not pay for
     // its variables.
     #[inline(never)]
-    fn gather_block(&mut self, block: &[u8; BLOCK_BYTES]) -> ArrayVec<Word, 4>
-        ensures next { self.new ≡ run_state gather_next self.old (slots_in block.now 0 4) }
-        ensures gives { result.items ≡ run_gives gather_next gather_gives self.old (slots_in block.now 0 4) }
+    fn gather_block(&mut self, block: &[u8; BLOCK_BYTES]) -> ArrayVec<Word, SLOTS_A_BLOCK>
+        ensures next { self.new ≡ run_state gather_next self.old (slots_in block.now 0 slots_a_block) }
+        ensures gives { result.items
+            ≡ run_gives gather_next gather_gives self.old (slots_in block.now 0 slots_a_block) }
     {
         let symbols = symbols_of(block);
         let words = words_of(&self.early, &self.late, &symbols, self.count);
         self.early = last_three(&self.late);
         self.late = symbols;
-        self.count = (self.count + 4).min(PACKS_KEPT_BACK);
+        self.count = (self.count + SLOTS_A_BLOCK).min(PACKS_KEPT_BACK);
         self.quiet = are_quiet(&self.early, &self.late, self.count);
         words
     }
 
     /// The symbols of the last seven slots, zeros before the first.
-    pub fn symbols(&self) -> [u8; BEFORE]
+    pub fn symbols(&self) -> [u8; BEFORE_BYTES]
         ensures { result ≡ kept_symbols self.now }
     {
-        let first = SYMBOLS * (PACKS_KEPT_BACK - self.count);
+        let first = SYMBOLS_A_SLOT * (PACKS_KEPT_BACK - self.count);
         let row = row_of(&self.early, &self.late, &[0; BLOCK_BYTES]);
         slots_from(&row, first)
     }
@@ -158,9 +165,10 @@ impl Stage for Gather {
 }
 
 // Whether seven slots have come, with no symbol but 0.
-fn are_quiet(early: &[u8; EARLY], late: &[u8; BLOCK_BYTES], count: usize) -> bool
-    ensures full { result ≡ true → 7 ≤ count }
-    ensures zeros { result ≡ true → (n : ℕ) → n < 168 → slice_index (early.now ++ late.now) n % 64 ≡ 0 }
+fn are_quiet(early: &[u8; EARLY_BYTES], late: &[u8; BLOCK_BYTES], count: usize) -> bool
+    ensures full { result ≡ true → packs_kept_back ≤ count }
+    ensures zeros { result ≡ true → (n : ℕ) → n < before_bytes
+        → slice_index (early.now ++ late.now) n % 64 ≡ 0 }
 {
     if count < PACKS_KEPT_BACK || !are_idle(early) {
         return false;
@@ -169,13 +177,13 @@ fn are_quiet(early: &[u8; EARLY], late: &[u8; BLOCK_BYTES], count: usize) -> boo
 }
 
 // The seven slots of a row, with zeros before a byte.
-fn slots_from(row: &[u8; ALL], first: usize) -> [u8; BEFORE]
-    requires { first ≤ 168 }
+fn slots_from(row: &[u8; ROW_BYTES], first: usize) -> [u8; BEFORE_BYTES]
+    requires { first ≤ before_bytes }
     ensures zeros { (n : ℕ) → n < first → slice_index result n ≡ 0 }
-    ensures rest { (n : ℕ) → first ≤ n → n < 168 → slice_index result n ≡ slice_index row.now n }
+    ensures rest { (n : ℕ) → first ≤ n → n < before_bytes → slice_index result n ≡ slice_index row.now n }
 {
-    let mut symbols = [0; BEFORE];
-    for i in first..BEFORE {
+    let mut symbols = [0; BEFORE_BYTES];
+    for i in first..BEFORE_BYTES {
         symbols[i] = row[i];
     }
     symbols
@@ -184,24 +192,26 @@ fn slots_from(row: &[u8; ALL], first: usize) -> [u8; BEFORE]
 // A slot, as a block that begins with it.
 fn alone(slot: &Slot) -> [u8; BLOCK_BYTES]
     ensures word { IsWord slot.now }
-    ensures symbols { (n : ℕ) → n < 24 → slice_index result n ≡ slice_index slot.now n }
+    ensures symbols { (n : ℕ) → n < symbols_a_slot → slice_index result n ≡ slice_index slot.now n }
 {
     let mut block = [0; BLOCK_BYTES];
-    block[..SYMBOLS].copy_from_slice(&slot.bytes());
+    block[..SYMBOLS_A_SLOT].copy_from_slice(&slot.bytes());
     block
 }
 
 // The word whose last symbol is in the slot behind seven others, of which so many have come.
 fn last_word(
-    early: &[u8; EARLY],
+    early: &[u8; EARLY_BYTES],
     late: &[u8; BLOCK_BYTES],
     block: &[u8; BLOCK_BYTES],
     count: usize,
 ) -> Option<Word>
-    requires count { count ≤ 7 }
-    requires symbols { (n : ℕ) → n < 264 → slice_index (early.now ++ (late.now ++ block.now)) n < 64 }
-    ensures { result ≡ gather_gives (slots_in (early.now ++ (late.now ++ block.now)) (7 - count) count)
-        (slot_in (early.now ++ (late.now ++ block.now)) 7) }
+    requires count { count ≤ packs_kept_back }
+    requires symbols { (n : ℕ) → n < row_bytes
+        → slice_index (early.now ++ (late.now ++ block.now)) n < symbol_values }
+    ensures { result ≡ gather_gives
+        (slots_in (early.now ++ (late.now ++ block.now)) (packs_kept_back - count) count)
+        (slot_in (early.now ++ (late.now ++ block.now)) packs_kept_back) }
 {
     if count < PACKS_KEPT_BACK {
         return None;
@@ -211,7 +221,7 @@ fn last_word(
 
 /// A law: for any slots since the start, the words given are those by places, each as soon as its last symbol has come.
 pub fn gather_gives_words()
-    ensures { (slots : List (List ℕ)) → All (λ slot. length slot ≡ 24) slots
+    ensures { (slots : List (List ℕ)) → All (λ slot. length slot ≡ symbols_a_slot) slots
         → run_gives gather_next gather_gives [] slots
         ≡ map (word_of (concat slots)) (below (whole_of_slots (length slots))) }
 {}

@@ -2,7 +2,9 @@
 ghost use Rattle.std.specs.Prelude.{◌≡◌, ◌<◌, ◌*◌, ◌/◌, All, List, Option, Some, ℕ, length, map};
 ghost use Rattle.std.specs.List.{concat};
 ghost use Rattle.bit_lists.specs.Counting.{below};
+ghost use Rattle.raw_subcode.specs.Sizes.{block_bytes};
 ghost use Rattle.rw_code.specs.Codeword.{IsCodeword};
+ghost use Rattle.rw_code.specs.Sizes.{symbol_values};
 ghost use Rattle.rw_interleave.specs.Interleave.{Carries};
 ghost use Rattle.raw_subcode.specs.declared.form.Form.{Form};
 ghost use Rattle.rw_interleave.specs.Stream.{DiffersInBursts, IsDamaged, IsRecovered, all_packs, bad_count, form_word, word_count};
@@ -14,10 +16,10 @@ use rw_code::{Pack, each_word_has_one_finding, only_one_codeword_is_near};
 /// A law: something is recovered from any symbols below 64, and nothing else is, so what is recovered depends on the
 /// form and the symbols alone.
 pub fn one_list_is_recovered()
-    ensures some { (form : Form) (symbols : List ℕ) → All (λ symbol. symbol < 64) symbols
+    ensures some { (form : Form) (symbols : List ℕ) → All (λ symbol. symbol < symbol_values) symbols
         → (found : List (Option (List ℕ))) × IsRecovered form symbols found }
     ensures one { (form : Form) (symbols : List ℕ) (found other : List (Option (List ℕ)))
-        → All (λ symbol. symbol < 64) symbols
+        → All (λ symbol. symbol < symbol_values) symbols
         → IsRecovered form symbols found → IsRecovered form symbols other → found ≡ other }
 {
     each_word_has_one_finding();
@@ -27,8 +29,9 @@ pub fn one_list_is_recovered()
 pub fn packs_are_recovered()
     ensures { (form : Form) (blocks : ℕ) (symbols others : List ℕ) (packs : List (List ℕ))
         (found : List (Option (List ℕ)))
-        → Carries blocks symbols packs → All (λ symbol. symbol < 64) others → IsDamaged symbols form others
-        → IsRecovered form others found → found ≡ map (λ pack. Some pack) (all_packs form blocks packs) }
+        → Carries blocks symbols packs → All (λ symbol. symbol < symbol_values) others
+        → IsDamaged symbols form others → IsRecovered form others found
+        → found ≡ map (λ pack. Some pack) (all_packs form blocks packs) }
 {
     only_one_codeword_is_near();
     // The word of zeros is a codeword.
@@ -38,9 +41,11 @@ pub fn packs_are_recovered()
 /// A law: where every word is a codeword, these are what is found.
 pub fn clean_words_are_found()
     ensures { (form : Form) (symbols : List ℕ) (found : List (Option (List ℕ)))
-        → ((n : ℕ) → n < word_count form (length symbols / 96) → IsCodeword (form_word form symbols n))
+        → ((n : ℕ) → n < word_count form (length symbols / block_bytes)
+        → IsCodeword (form_word form symbols n))
         → IsRecovered form symbols found
-        → found ≡ map (λ n. Some (form_word form symbols n)) (below (word_count form (length symbols / 96))) }
+        → found ≡ map (λ n. Some (form_word form symbols n))
+        (below (word_count form (length symbols / block_bytes))) }
 {
     only_one_codeword_is_near();
 }
@@ -54,10 +59,10 @@ pub fn found_packs_are_the_text()
 /// A law: symbols that differ in bursts, each of at most sixteen and at least 192 apart, differ in at most two of
 /// each word.
 pub fn bursts_are_damage()
-    ensures raw { (blocks : ℕ) (symbols others : List ℕ) → length symbols ≡ 96 * blocks
+    ensures raw { (blocks : ℕ) (symbols others : List ℕ) → length symbols ≡ block_bytes * blocks
         → DiffersInBursts symbols others
         → IsDamaged symbols Form.Raw others }
-    ensures sector { (blocks : ℕ) (symbols others : List ℕ) → length symbols ≡ 96 * blocks
+    ensures sector { (blocks : ℕ) (symbols others : List ℕ) → length symbols ≡ block_bytes * blocks
         → DiffersInBursts symbols others
         → IsDamaged symbols Form.Sector others }
 {}

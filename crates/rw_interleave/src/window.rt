@@ -1,22 +1,26 @@
 // Slots in a row: the last seven of a stream, and a block behind them.
 ghost use Rattle.std.specs.Prelude.{◌≡◌, ◌<◌, ◌≤◌, ◌+◌, ◌-◌, ◌%◌, ◌++◌, true, ℕ, length, replicate, slice_index};
 ghost use Rattle.cdg_io.specs.Run.{run_gives};
+ghost use Rattle.raw_subcode.specs.Sizes.{block_bytes, slots_a_block, symbols_a_slot};
+ghost use Rattle.rw_code.specs.Packs.{idle_pack};
+ghost use Rattle.rw_code.specs.Sizes.{symbol_values};
 ghost use Rattle.rw_interleave.specs.Gathering.{gathered, gather_gives, gather_next};
-ghost use Rattle.rw_interleave.specs.Windows.{slots_in};
+ghost use Rattle.rw_interleave.specs.Interleave.{packs_kept_back, span};
+ghost use Rattle.rw_interleave.specs.Windows.{before_bytes, early_bytes, row_bytes, slots_in};
 
 use crate::slot::{PACKS_KEPT_BACK, SPAN};
 use arrayvec::ArrayVec;
-use raw_subcode::BLOCK_BYTES;
-use rw_code::{SYMBOLS, Word};
+use raw_subcode::{BLOCK_BYTES, SLOTS_A_BLOCK, SYMBOLS_A_SLOT};
+use rw_code::Word;
 
 /// The bytes of the slots before a block of which a word may have symbols.
-pub(crate) const BEFORE: usize = PACKS_KEPT_BACK * SYMBOLS;
+pub(crate) const BEFORE_BYTES: usize = PACKS_KEPT_BACK * SYMBOLS_A_SLOT;
 
 /// The bytes of the first three of them.
-pub(crate) const EARLY: usize = BEFORE - BLOCK_BYTES;
+pub(crate) const EARLY_BYTES: usize = BEFORE_BYTES - BLOCK_BYTES;
 
 /// The bytes of a row.
-pub(crate) const ALL: usize = BEFORE + BLOCK_BYTES;
+pub(crate) const ROW_BYTES: usize = BEFORE_BYTES + BLOCK_BYTES;
 
 /// Whether the low six bits of all bytes are 0.
 #[inline]
@@ -33,24 +37,26 @@ pub(crate) fn are_idle(bytes: &[u8]) -> bool
 /// The last seven slots, and behind them the symbols of a block: the low six bits of its bytes.
 #[inline(always)]
 pub(crate) fn row_of(
-    early: &[u8; EARLY],
+    early: &[u8; EARLY_BYTES],
     late: &[u8; BLOCK_BYTES],
     block: &[u8; BLOCK_BYTES],
-) -> [u8; ALL]
-    ensures before { (n : ℕ) → n < 168 → slice_index result n ≡ slice_index (early.now ++ late.now) n }
-    ensures block { (n : ℕ) → n < 96 → slice_index result (168 + n) ≡ slice_index block.now n % 64 }
+) -> [u8; ROW_BYTES]
+    ensures before { (n : ℕ) → n < before_bytes
+        → slice_index result n ≡ slice_index (early.now ++ late.now) n }
+    ensures block { (n : ℕ) → n < block_bytes
+        → slice_index result (before_bytes + n) ≡ slice_index block.now n % 64 }
 {
-    let mut row = [0; ALL];
+    let mut row = [0; ROW_BYTES];
     put(&mut row, 0, early);
-    put(&mut row, EARLY, late);
+    put(&mut row, EARLY_BYTES, late);
     put_symbols(&mut row, block);
     row
 }
 
 // Puts bytes from a place on, and leaves those before it.
 #[inline(always)]
-fn put(row: &mut [u8; ALL], at: usize, bytes: &[u8])
-    requires { at + length bytes.now ≤ 264 }
+fn put(row: &mut [u8; ROW_BYTES], at: usize, bytes: &[u8])
+    requires { at + length bytes.now ≤ row_bytes }
     ensures before { (n : ℕ) → n < at → slice_index row.new n ≡ slice_index row.old n }
     ensures put { (n : ℕ) → n < length bytes.now → slice_index row.new (at + n) ≡ slice_index bytes.now n }
 {
@@ -61,41 +67,42 @@ fn put(row: &mut [u8; ALL], at: usize, bytes: &[u8])
 
 // Puts the symbols of a block behind the slots before it.
 #[inline(always)]
-fn put_symbols(row: &mut [u8; ALL], block: &[u8; BLOCK_BYTES])
-    ensures before { (n : ℕ) → n < 168 → slice_index row.new n ≡ slice_index row.old n }
-    ensures block { (n : ℕ) → n < 96 → slice_index row.new (168 + n) ≡ slice_index block.now n % 64 }
+fn put_symbols(row: &mut [u8; ROW_BYTES], block: &[u8; BLOCK_BYTES])
+    ensures before { (n : ℕ) → n < before_bytes → slice_index row.new n ≡ slice_index row.old n }
+    ensures block { (n : ℕ) → n < block_bytes
+        → slice_index row.new (before_bytes + n) ≡ slice_index block.now n % 64 }
 {
     for i in 0..BLOCK_BYTES {
-        row[BEFORE + i] = block[i] % 64;
+        row[BEFORE_BYTES + i] = block[i] % 64;
     }
 }
 
 /// The bytes of three slots of a row, from a byte on.
 #[inline(always)]
-pub(crate) fn three_slots(row: &[u8; ALL], at: usize) -> [u8; EARLY]
-    requires { at ≤ 96 }
-    ensures { (n : ℕ) → n < 72 → slice_index result n ≡ slice_index row.now (at + n) }
+pub(crate) fn three_slots(row: &[u8; ROW_BYTES], at: usize) -> [u8; EARLY_BYTES]
+    requires { at ≤ block_bytes }
+    ensures { (n : ℕ) → n < early_bytes → slice_index result n ≡ slice_index row.now (at + n) }
 {
-    let mut slots = [0; EARLY];
-    slots.copy_from_slice(&row[at..at + EARLY]);
+    let mut slots = [0; EARLY_BYTES];
+    slots.copy_from_slice(&row[at..at + EARLY_BYTES]);
     slots
 }
 
 /// The bytes of the four slots behind those.
 #[inline(always)]
-pub(crate) fn four_slots(row: &[u8; ALL], at: usize) -> [u8; BLOCK_BYTES]
-    requires { at ≤ 96 }
-    ensures { (n : ℕ) → n < 96 → slice_index result n ≡ slice_index row.now (at + 72 + n) }
+pub(crate) fn four_slots(row: &[u8; ROW_BYTES], at: usize) -> [u8; BLOCK_BYTES]
+    requires { at ≤ block_bytes }
+    ensures { (n : ℕ) → n < block_bytes → slice_index result n ≡ slice_index row.now (at + early_bytes + n) }
 {
     let mut slots = [0; BLOCK_BYTES];
-    slots.copy_from_slice(&row[at + EARLY..at + BEFORE]);
+    slots.copy_from_slice(&row[at + EARLY_BYTES..at + BEFORE_BYTES]);
     slots
 }
 
 /// The symbols of a block: the low six bits of its bytes.
 #[inline(always)]
 pub(crate) fn symbols_of(block: &[u8; BLOCK_BYTES]) -> [u8; BLOCK_BYTES]
-    ensures { (n : ℕ) → n < 96 → slice_index result n ≡ slice_index block.now n % 64 }
+    ensures { (n : ℕ) → n < block_bytes → slice_index result n ≡ slice_index block.now n % 64 }
 {
     let mut symbols = [0; BLOCK_BYTES];
     for i in 0..BLOCK_BYTES {
@@ -106,27 +113,28 @@ pub(crate) fn symbols_of(block: &[u8; BLOCK_BYTES]) -> [u8; BLOCK_BYTES]
 
 /// The bytes of the last three of four slots.
 #[inline(always)]
-pub(crate) fn last_three(four: &[u8; BLOCK_BYTES]) -> [u8; EARLY]
-    ensures { (n : ℕ) → n < 72 → slice_index result n ≡ slice_index four.now (24 + n) }
+pub(crate) fn last_three(four: &[u8; BLOCK_BYTES]) -> [u8; EARLY_BYTES]
+    ensures { (n : ℕ) → n < early_bytes → slice_index result n ≡ slice_index four.now (symbols_a_slot + n) }
 {
-    let mut slots = [0; EARLY];
-    slots.copy_from_slice(&four[SYMBOLS..SYMBOLS + EARLY]);
+    let mut slots = [0; EARLY_BYTES];
+    slots.copy_from_slice(&four[SYMBOLS_A_SLOT..SYMBOLS_A_SLOT + EARLY_BYTES]);
     slots
 }
 
 /// The words that come with a block, where so many slots have come before it.
 #[inline]
 pub(crate) fn words_of(
-    early: &[u8; EARLY],
+    early: &[u8; EARLY_BYTES],
     late: &[u8; BLOCK_BYTES],
     block: &[u8; BLOCK_BYTES],
     count: usize,
-) -> ArrayVec<Word, 4>
-    requires count { count ≤ 7 }
-    requires symbols { (n : ℕ) → n < 264 → slice_index (early.now ++ (late.now ++ block.now)) n < 64 }
+) -> ArrayVec<Word, SLOTS_A_BLOCK>
+    requires count { count ≤ packs_kept_back }
+    requires symbols { (n : ℕ) → n < row_bytes
+        → slice_index (early.now ++ (late.now ++ block.now)) n < symbol_values }
     ensures { result.items ≡ run_gives gather_next gather_gives (slots_in (early.now ++ (late.now
-        ++ block.now)) (7 - count) count)
-        (slots_in (early.now ++ (late.now ++ block.now)) 7 4) }
+        ++ block.now)) (packs_kept_back - count) count)
+        (slots_in (early.now ++ (late.now ++ block.now)) packs_kept_back slots_a_block) }
 {
     if count == SPAN - 1 {
         return ArrayVec::from([
@@ -142,19 +150,20 @@ pub(crate) fn words_of(
 // The same at the start of a stream, where fewer words come.
 #[inline(never)]
 fn first_words(
-    early: &[u8; EARLY],
+    early: &[u8; EARLY_BYTES],
     late: &[u8; BLOCK_BYTES],
     block: &[u8; BLOCK_BYTES],
     count: usize,
-) -> ArrayVec<Word, 4>
-    requires count { count ≤ 7 }
-    requires symbols { (n : ℕ) → n < 264 → slice_index (early.now ++ (late.now ++ block.now)) n < 64 }
+) -> ArrayVec<Word, SLOTS_A_BLOCK>
+    requires count { count ≤ packs_kept_back }
+    requires symbols { (n : ℕ) → n < row_bytes
+        → slice_index (early.now ++ (late.now ++ block.now)) n < symbol_values }
     ensures { result.items ≡ run_gives gather_next gather_gives (slots_in (early.now ++ (late.now
-        ++ block.now)) (7 - count) count)
-        (slots_in (early.now ++ (late.now ++ block.now)) 7 4) }
+        ++ block.now)) (packs_kept_back - count) count)
+        (slots_in (early.now ++ (late.now ++ block.now)) packs_kept_back slots_a_block) }
 {
     let mut words = ArrayVec::new();
-    for first in 0..4 {
+    for first in 0..SLOTS_A_BLOCK {
         if count + first >= SPAN - 1 {
             words.push(word_at(early, late, block, first));
         }
@@ -165,16 +174,17 @@ fn first_words(
 /// The word of eight slots from one on: a symbol stands where that of a pack is spread to.
 #[inline]
 pub(crate) fn word_at(
-    early: &[u8; EARLY],
+    early: &[u8; EARLY_BYTES],
     late: &[u8; BLOCK_BYTES],
     block: &[u8; BLOCK_BYTES],
     first: usize,
 ) -> Word
-    requires first { first < 4 }
-    requires symbols { (n : ℕ) → n < 264 → slice_index (early.now ++ (late.now ++ block.now)) n < 64 }
-    ensures { result ≡ gathered (slots_in (early.now ++ (late.now ++ block.now)) first 8) }
+    requires first { first < slots_a_block }
+    requires symbols { (n : ℕ) → n < row_bytes
+        → slice_index (early.now ++ (late.now ++ block.now)) n < symbol_values }
+    ensures { result ≡ gathered (slots_in (early.now ++ (late.now ++ block.now)) first span) }
 {
-    let at = SYMBOLS * first;
+    let at = SYMBOLS_A_SLOT * first;
     Word::of_eights(
         [
             symbol(early, late, block, at),
@@ -212,23 +222,28 @@ pub(crate) fn word_at(
 // Symbol i of the last seven slots and a block behind them. It stands in line, so that a place that is known costs
 // nothing.
 #[inline(always)]
-fn symbol(early: &[u8; EARLY], late: &[u8; BLOCK_BYTES], block: &[u8; BLOCK_BYTES], i: usize) -> u8
-    requires { i < 264 }
+fn symbol(
+    early: &[u8; EARLY_BYTES],
+    late: &[u8; BLOCK_BYTES],
+    block: &[u8; BLOCK_BYTES],
+    i: usize,
+) -> u8
+    requires { i < row_bytes }
     ensures { result ≡ slice_index (early.now ++ (late.now ++ block.now)) i }
 {
-    if i < EARLY {
+    if i < EARLY_BYTES {
         early[i]
-    } else if i < BEFORE {
-        late[i - EARLY]
+    } else if i < BEFORE_BYTES {
+        late[i - EARLY_BYTES]
     } else {
-        block[i - BEFORE]
+        block[i - BEFORE_BYTES]
     }
 }
 
 /// Four words of zeros.
 #[inline]
-pub(crate) fn idle_words() -> ArrayVec<Word, 4>
-    ensures { result.items ≡ replicate 4 (replicate 24 0) }
+pub(crate) fn idle_words() -> ArrayVec<Word, SLOTS_A_BLOCK>
+    ensures { result.items ≡ replicate slots_a_block idle_pack }
 {
-    ArrayVec::from([Word::default(); 4])
+    ArrayVec::from([Word::default(); SLOTS_A_BLOCK])
 }

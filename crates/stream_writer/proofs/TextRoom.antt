@@ -2,7 +2,7 @@
 use Rattle.std.proofs.Common.{◌≡◌, ◌⊎◌, ℕ, zero, suc, ◌+◌, ◌*◌, ◌/◌, ◌<◌, ◌≤◌, Bool, true, false, List, [], ◌∷◌, ◌++◌, length, map, flat_map, replicate, max, refl, sym, ap, subst, ◌∙◌, inl, inr, arith}
 use Rattle.std.specs.Prelude.{◌==◌, ◌&&◌, if◌then◌else◌}
 use Rattle.std.specs.List.{enumerate_from, list_all}
-use Rattle.std.proofs.lemmas.Bool.{cases_lt, cases_Bool, and_parts, and_from, eq-eqb, ne_eqb, false≢true}
+use Rattle.std.proofs.lemmas.Bool.{cases_lt, cases_Bool, and_parts, and_from, eq-eqb, ne_eqb}
 use Rattle.std.proofs.lemmas.Grind.{flat_map-append}
 use Rattle.std.proofs.lemmas.List.{length-append, length-map}
 use Rattle.std.proofs.lemmas.List.Concat.{length-flat_map}
@@ -15,7 +15,7 @@ use Rattle.cdtext_packs.specs.Texts.{Texts, are_empty, has_no_text, is_empty, ki
 use Rattle.cdtext_packs.specs.Writing.{Content, contents, content_bytes, joined, kind_contents, pack_count, packs_of, size_contents, text_content, type_of}
 use Rattle.cdtext_packs.specs.declared.kinds.TextKind.{TextKind}
 use Rattle.cdtext_packs.specs.declared.kinds.TextKind.TheVariants.{Title, Performer, Songwriter, Composer, Arranger, Message, Code}
-use Rattle.stream_writer.specs.SheetTexts.{code_at, for_each, sheet_texts, texts_of_sheet}
+use Rattle.stream_writer.specs.SheetTexts.{code_at, for_each, sheet_texts}
 use Rattle.stream_writer.specs.Needs.{text_packs, lead_in_need, HasRoom, IsLeadInShort, IsTextTooLong}
 
 -- The bytes of strings, each with a zero byte after it.

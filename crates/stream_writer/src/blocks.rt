@@ -1,7 +1,8 @@
-// The blocks of a stream.
+// A block of the lead-in, and a block of the program.
 ghost use Rattle.std.specs.Prelude.{◌≡◌, ◌<◌, ◌≤◌, false, All};
 ghost use Rattle.disc_time.specs.Counts.{most_lead_in};
 ghost use Rattle.q_channel.specs.QFrame.{IsValid};
+ghost use Rattle.rw_code.specs.Sizes.{symbol_values};
 ghost use Rattle.toc_model.specs.Layout.{p_bit, program_frame, toc_frame};
 ghost use Rattle.cdtext_packs.specs.LeadIn.{lead_in_symbols};
 ghost use Rattle.stream_writer.specs.Blocks.{built_block, carrying_block, bits_of_frame, lead_in_block, IsBuilt};
@@ -16,7 +17,7 @@ use toc_model::Layout;
 #[inline(always)]
 fn built(p: bool, frame: &QFrame, symbols: &[u8; BLOCK_BYTES]) -> [u8; BLOCK_BYTES]
     requires frame { IsValid frame.now }
-    requires symbols { All (λ s. s < 64) symbols.now }
+    requires symbols { All (λ s. s < symbol_values) symbols.now }
     ensures bytes { result ≡ built_block p (bits_of_frame frame.now) symbols.now }
     ensures built { IsBuilt result p frame.now symbols.now }
 {
@@ -47,7 +48,7 @@ pub(crate) fn program_block(
     symbols: &[u8; BLOCK_BYTES],
 ) -> [u8; BLOCK_BYTES]
     requires block { b < layout.now.blocks }
-    requires symbols { All (λ s. s < 64) symbols.now }
+    requires symbols { All (λ s. s < symbol_values) symbols.now }
     ensures bytes { result ≡ carrying_block layout.now b symbols.now }
     ensures built { IsBuilt result (p_bit layout.now b) (program_frame layout.now b) symbols.now }
 {

@@ -1,7 +1,9 @@
 // The symbols of the program blocks.
 ghost use Rattle.std.specs.Prelude.{◌≡◌, ◌<◌, ℕ, List, All, Some, length, replicate};
 ghost use Rattle.cdg_io.specs.Change.{from_to};
+ghost use Rattle.raw_subcode.specs.Sizes.{block_bytes, slots_a_block, symbols_a_slot};
 ghost use Rattle.rw_code.specs.Codeword.{IsCodeword, IsWord};
+ghost use Rattle.rw_code.specs.Sizes.{symbol_values};
 ghost use Rattle.rw_interleave.specs.Spreading.{spread_gives, spread_next};
 ghost use Rattle.stream_writer.specs.Given.{AreQuiet, ComesLater, TakesPack, TakesPacks};
 
@@ -22,11 +24,11 @@ pub(crate) fn next_symbols<P: PackSource>(
     symbols: &mut [u8; BLOCK_BYTES],
 )
     requires quiet { AreQuiet spread.old quiet.old }
-    requires zeros { symbols.old ≡ replicate 96 0 }
+    requires zeros { symbols.old ≡ replicate block_bytes 0 }
     ensures symbols { (packs : List (List ℕ))
-        × TakesPacks (P.comes source.old) 4 (from_to spread.old spread.new) symbols.new packs }
-    ensures bound { All (λ s. s < 64) symbols.new }
-    ensures later { ComesLater (P.comes source.old) 4 (P.comes source.new) }
+        × TakesPacks (P.comes source.old) slots_a_block (from_to spread.old spread.new) symbols.new packs }
+    ensures bound { All (λ s. s < symbol_values) symbols.new }
+    ensures later { ComesLater (P.comes source.old) slots_a_block (P.comes source.new) }
     ensures quiet { AreQuiet spread.new quiet.new }
 {
     for k in 0..SLOTS_A_BLOCK {
@@ -39,7 +41,7 @@ pub(crate) fn next_symbols<P: PackSource>(
 // Puts the symbols of the next slot, which comes with one more pack, in place of zeros.
 fn next_slot<P: PackSource>(source: &mut P, spread: &mut Spread, quiet: &mut u8, slot: &mut [u8])
     requires quiet { AreQuiet spread.old quiet.old }
-    requires zeros { slot.old ≡ replicate 24 0 }
+    requires zeros { slot.old ≡ replicate symbols_a_slot 0 }
     ensures slot { (pack : List ℕ) × TakesPack (P.comes source.old) spread.old spread.new slot.new pack }
     ensures word { IsWord slot.new }
     ensures later { ComesLater (P.comes source.old) 1 (P.comes source.new) }
@@ -59,7 +61,7 @@ fn next_slot<P: PackSource>(source: &mut P, spread: &mut Spread, quiet: &mut u8,
 // Puts the symbols of the slot that comes with a pack. It stays a call of its own, since most packs are idle.
 #[inline(never)]
 fn put_slot(spread: &mut Spread, pack: &Pack, slot: &mut [u8])
-    requires { length slot.old ≡ 24 }
+    requires { length slot.old ≡ symbols_a_slot }
     ensures codeword { IsCodeword pack.now }
     ensures next { spread.new ≡ spread_next spread.old pack.now }
     ensures gives { Some slot.new ≡ spread_gives spread.old pack.now }

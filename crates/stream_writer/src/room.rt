@@ -1,8 +1,8 @@
 // Whether a lead-in has room for the texts of a sheet and for the table of contents, which is told without memory.
-ghost use Rattle.std.specs.Prelude.{◌≡◌, ◌≤◌, ◌+◌, ◌/◌, ◌==◌, length, IfErr, OnOk, if◌then◌else◌};
+ghost use Rattle.std.specs.Prelude.{◌≡◌, ◌≤◌, ◌+◌, ◌-◌, ◌/◌, ◌==◌, length, IfErr, OnOk, if◌then◌else◌};
 ghost use Rattle.cue_sheet.specs.CueSheet.{text_at, IsSheet};
 ghost use Rattle.cdtext_packs.specs.Writing.{pack_count};
-ghost use Rattle.stream_writer.specs.Needs.{text_packs, HasRoom};
+ghost use Rattle.stream_writer.specs.Needs.{text_bytes_a_pack, text_packs, HasRoom};
 ghost use Rattle.stream_writer.specs.SheetTexts.{code_at, for_each};
 ghost use Rattle.stream_writer.specs.Stops.{IsLeadInRefusal};
 
@@ -14,6 +14,9 @@ use toc_model::toc_need;
 
 // How many size packs texts have.
 const SIZE_PACKS: usize = 3;
+
+// How many bytes of text a text pack holds.
+const TEXT_BYTES_A_PACK: usize = 12;
 
 /// Whether a lead-in of so many blocks, if there is one, has room for the texts of a sheet and for the table of
 /// contents. This is told without memory.
@@ -83,11 +86,12 @@ fn code_packs(sheet: &Sheet) -> usize
 // How many packs strings fill that have so many bytes with a zero byte after each: none where all are empty.
 fn filled_packs(strings: usize, bytes: usize) -> usize
     requires { bytes ≤ 6710886500 }
-    ensures { result ≡ (if bytes == strings then 0 else (bytes + 11) / 12) }
+    ensures { result ≡ (if bytes == strings then 0
+        else (bytes + (text_bytes_a_pack - 1)) / text_bytes_a_pack) }
 {
     if bytes == strings {
         0
     } else {
-        (bytes + 11) / 12
+        (bytes + TEXT_BYTES_A_PACK - 1) / TEXT_BYTES_A_PACK
     }
 }

@@ -3,7 +3,7 @@ ghost use Rattle.std.specs.Prelude.{◌≡◌, ℕ, List, Option, unwrap_or};
 ghost use Rattle.rw_code.specs.Packs.{idle_pack};
 ghost use Rattle.stream_writer.specs.Given.{ComesLater};
 
-use rw_code::Pack;
+use rw_code::{Pack, SYMBOLS};
 
 /// Gives the packs of a stream one after another, without an end.
 pub trait PackSource {
@@ -20,7 +20,7 @@ pub trait PackSource {
 pub fn unless_idle(pack: Pack) -> Option<Pack>
     ensures { unwrap_or result idle_pack ≡ pack }
 {
-    if pack.word().bytes() == [0; 24] {
+    if pack.word().bytes() == [0; SYMBOLS] {
         None
     } else {
         Some(pack)

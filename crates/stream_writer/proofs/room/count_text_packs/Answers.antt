@@ -1,8 +1,7 @@
-use Rattle.std.proofs.Common.{◌≡◌, ℕ, ◌+◌, length, inl, inr, arith}
+use Rattle.std.proofs.Common.{◌≡◌, ℕ, ◌+◌, inl, inr, arith}
 use Rattle.cue_sheet.specs.CueSheet.{CueSheet, text_at}
 use Rattle.cue_sheet.specs.declared.fault.CueText.TheVariants.{Title, Performer, Songwriter}
 use Rattle.cdtext_packs.specs.Writing.{pack_count}
-use Rattle.stream_writer.specs.Needs.{text_packs}
 use Rattle.stream_writer.specs.SheetTexts.{code_at, for_each}
 use Rattle.stream_writer.proofs.TextRoom.{packs_counted}
 use Rattle.stream_writer.proofs.room.count_text_packs.Goals as goal

@@ -1,4 +1,4 @@
-use Rattle.std.proofs.Common.{◌≡◌, ◌++◌, ℕ, rules, arith, ◌∙◌, ap, length, length-append}
+use Rattle.std.proofs.Common.{◌≡◌, ◌++◌, rules, arith, ◌∙◌, ap, length, length-append}
 use Rattle.cdg_io.specs.Run.{run_state, run_gives}
 use Rattle.rw_interleave.specs.Gathering.{gather_next, gather_gives}
 use Rattle.rw_interleave.specs.Windows.{slots_in}
