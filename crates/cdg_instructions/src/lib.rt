@@ -13,9 +13,9 @@ pub use effect::{DrawnTile, Effect, Scrolling};
 pub use instr::Instr;
 pub use reading::{each_pack_has_a_meaning, only_one_meaning, read, read_word};
 pub use sizes::{
-    SCREEN_COLUMNS, SCREEN_HEIGHT, SCREEN_PIXELS, SCREEN_ROWS, SCREEN_TILES, SCREEN_WIDTH,
-    TILE_HEIGHT, TILE_WIDTH, WINDOW_BOTTOM, WINDOW_COLUMNS, WINDOW_HEIGHT, WINDOW_RIGHT,
-    WINDOW_ROWS, WINDOW_TILES, WINDOW_WIDTH,
+    COLOURS, SCREEN_COLUMNS, SCREEN_HEIGHT, SCREEN_PIXELS, SCREEN_ROWS, SCREEN_TILES, SCREEN_WIDTH,
+    TILE_HEIGHT, TILE_WIDTH, WINDOW_BOTTOM, WINDOW_COLUMNS, WINDOW_HEIGHT, WINDOW_PIXELS,
+    WINDOW_RIGHT, WINDOW_ROWS, WINDOW_TILES, WINDOW_WIDTH,
 };
 pub use tile::{PIXELS, Tile};
 pub use writing::{read_of_written, write};

@@ -1,4 +1,5 @@
-// The sizes of tiles, of the screen and of the window in it. Clauses call them by the names of specs/Sizes.antt.
+// The sizes of tiles, of the screen, of the window in it and of the table of colours. Clauses call them by the
+// names of specs/Sizes.antt.
 
 /// How many pixels a tile is wide: a line of a tile is a symbol, with a bit for each of six pixels (IEC 60908).
 pub const TILE_WIDTH: usize = 6;
@@ -39,8 +40,14 @@ pub const WINDOW_WIDTH: usize = WINDOW_COLUMNS * TILE_WIDTH;
 /// How many pixels the window is high.
 pub const WINDOW_HEIGHT: usize = WINDOW_ROWS * TILE_HEIGHT;
 
+/// How many pixels the window has.
+pub const WINDOW_PIXELS: usize = WINDOW_WIDTH * WINDOW_HEIGHT;
+
 /// The last pixel of the window from the left of the screen.
 pub const WINDOW_RIGHT: usize = TILE_WIDTH + WINDOW_WIDTH - 1;
 
 /// The last pixel of the window from the top of the screen.
 pub const WINDOW_BOTTOM: usize = TILE_HEIGHT + WINDOW_HEIGHT - 1;
+
+/// How many colours the table has: the number of a colour has four bits (IEC 60908).
+pub const COLOURS: usize = 16;

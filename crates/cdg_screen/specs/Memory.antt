@@ -4,7 +4,7 @@ use Rattle.bit_lists.specs.Bits.{has_bit}
 use Rattle.cdg_instructions.specs.Drawing.{tile_colour}
 use Rattle.cdg_instructions.specs.declared.effect.DrawnTile.{DrawnTile}
 use Rattle.cdg_instructions.specs.declared.effect.Scrolling.{Scrolling}
-use Rattle.cdg_instructions.specs.Sizes.{colour_values, screen_height, screen_width, tile_height, tile_width}
+use Rattle.cdg_instructions.specs.Sizes.{colour_count, colour_values, level_values, screen_height, screen_width, tile_height, tile_width}
 use Rattle.cdg_screen.specs.Standing.{covers, is_inside, source_x, source_y}
 
 -- The memory as rows that begin at a moving origin: pixel (0, 0) is element `left` of row `top`, and what is past an
@@ -20,7 +20,7 @@ at memory x y =
     let row = slice_index_or memory.rows ((y + memory.top) % screen_height) [] in
     slice_index row ((x + memory.left) % screen_width)
 
--- rows of 300 numbers below 16, and an origin among them at whole tiles, so that no tile goes on at the other end
+-- rows of 300 numbers of colours, and an origin among them at whole tiles, so that no tile goes on at the other end
 pub record IsMemory (memory : MemoryRows) : Type 0 where
   pub count : length memory.rows ≡ screen_height
   pub widths : (y : ℕ) → y < screen_height → length (slice_index_or memory.rows y []) ≡ screen_width
@@ -28,7 +28,7 @@ pub record IsMemory (memory : MemoryRows) : Type 0 where
   pub top_below : memory.top < screen_height
   pub left_whole : memory.left % tile_width ≡ 0
   pub top_whole : memory.top % tile_height ≡ 0
-  pub colours : (y x : ℕ) → slice_index (slice_index_or memory.rows y []) x < 16
+  pub colours : (y x : ℕ) → slice_index (slice_index_or memory.rows y []) x < colour_count
 
 -- the pixels of the memory become those of a function of the place
 abbrev pub Becomes : MemoryRows → (ℕ → ℕ → ℕ) → Type 0
@@ -65,10 +65,10 @@ scrolled scroll old x y = moved_in scroll.incoming scroll.across scroll.down old
 
 -- the ranges of what stands beside the memory
 pub record IsInRange (border : ℕ) (colours levels : List ℕ) (h v : ℕ) : Type 0 where
-  pub border_below : border < 16
-  pub colours_count : length colours ≡ 16
+  pub border_below : border < colour_count
+  pub colours_count : length colours ≡ colour_count
   pub colours_below : All (λ colour. colour < colour_values) colours
-  pub levels_count : length levels ≡ 16
-  pub levels_below : All (λ level. level < 64) levels
+  pub levels_count : length levels ≡ colour_count
+  pub levels_below : All (λ level. level < level_values) levels
   pub h_most : h ≤ 5
   pub v_most : v ≤ 11

@@ -4,7 +4,7 @@ use Rattle.bit_lists.specs.Counting.{below}
 use Rattle.cdg_instructions.specs.Drawing.{tile_colour}
 use Rattle.cdg_instructions.specs.declared.instr.Instr.{Instr}
 use Rattle.cdg_instructions.specs.declared.instr.Instr.TheVariants.{MemoryPreset, BorderPreset, SetTile, XorTile, ScrollPreset, ScrollCopy, Transparency, ColoursLow, ColoursHigh}
-use Rattle.cdg_instructions.specs.Sizes.{last_column, last_row, screen_height, screen_width, tile_height, tile_width, window_bottom, window_right}
+use Rattle.cdg_instructions.specs.Sizes.{colour_count, last_column, last_row, screen_height, screen_width, tile_height, tile_width, window_bottom, window_right}
 
 -- what stands at a moment: the memory as 216 rows of 300 pixels from the top left, the border, sixteen colours and levels,
 -- and the offsets of the screen
@@ -30,7 +30,7 @@ rows_in pixels = rows_of (λ x y. slice_index pixels (screen_width * y + x))
 
 -- sixteen numbers, by what number k is
 unfoldable pub sixteen : (ℕ → ℕ) → List ℕ
-sixteen number = map number (below 16)
+sixteen number = map number (below colour_count)
 
 -- all zero, as at the start
 abbrev pub blank : Standing

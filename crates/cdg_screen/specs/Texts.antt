@@ -2,7 +2,7 @@
 use Rattle.std.specs.Prelude.{ℕ, ◌*◌, ◌/◌, ◌%◌, List, [], ◌∷◌, ◌++◌, flat_map, slice_index, codes}
 use Rattle.bit_lists.specs.Counting.{below}
 use Rattle.bit_lists.specs.Digits.{digits, hex_digits, line_feed}
-use Rattle.cdg_instructions.specs.Sizes.{screen_height, screen_width}
+use Rattle.cdg_instructions.specs.Sizes.{colour_count, screen_height, screen_width}
 use Rattle.cdg_screen.specs.Standing.{Standing, screen_pixel}
 
 -- the header of a pixmap: its kind, its size and the greatest value of a channel
@@ -36,4 +36,4 @@ state_head now =
 
 -- the state of a screen: the border, the offsets, and the sixteen colours and levels
 unfoldable pub state_text : Standing → List ℕ
-state_text now = state_head now ++ flat_map (state_row now) (below 16)
+state_text now = state_head now ++ flat_map (state_row now) (below colour_count)

@@ -1,7 +1,16 @@
-// The lines of tiles.
+// A table of all lines of tiles, by which the pixels of a line are drawn at once.
+
+/// The line whose six bits are all set.
+pub(crate) const FULL_LINE: u8 = 63;
+
+/// How many lines of six bits there are.
+const LINE_COUNT: usize = 64;
+
+/// How many bytes a number of the table has: one for each of six pixels, and two more.
+pub(crate) const LINE_BYTES: usize = 8;
 
 /// The six bits of each line in six bytes of a number, that of the leftmost pixel in the lowest of them.
-pub(crate) static LINES: [u64; 64] = [
+pub(crate) static LINES: [u64; LINE_COUNT] = [
     0x000000000000,
     0x010000000000,
     0x000100000000,

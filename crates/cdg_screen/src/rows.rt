@@ -1,6 +1,6 @@
-// Whole rows of the screen.
+// Whole rows of the screen and of its memory.
 ghost use Rattle.std.specs.Prelude.{◌≡◌, ◌<◌, ◌≤◌, ◌+◌, ◌-◌, ◌&&◌, nat_le, nat_lt, if◌then◌else◌, ℕ, [], All, length, slice_index, slice_index_or};
-ghost use Rattle.cdg_instructions.specs.Sizes.{screen_height, screen_width, tile_width, window_width};
+ghost use Rattle.cdg_instructions.specs.Sizes.{colour_count, screen_height, screen_width, tile_width, window_width};
 ghost use Rattle.cdg_screen.specs.Memory.{at};
 ghost use Rattle.cdg_screen.specs.Standing.{screen_pixel};
 
@@ -13,7 +13,7 @@ impl Screen {
     pub fn write_row(&self, y: usize, row: &mut [u8; SCREEN_WIDTH])
         requires { y < screen_height }
         ensures pixels { (x : ℕ) → x < screen_width → slice_index row.new x ≡ screen_pixel self.now x y }
-        ensures range { (x : ℕ) → slice_index row.new x < 16 }
+        ensures range { (x : ℕ) → slice_index row.new x < colour_count }
     {
         fill_row(row, self.border);
         if y >= TILE_HEIGHT && y < SCREEN_HEIGHT - TILE_HEIGHT {
@@ -27,7 +27,7 @@ impl Screen {
         requires { y < screen_height }
         ensures row { result ≡ slice_index_or self.now.memory y [] }
         ensures size { length result ≡ screen_width }
-        ensures range { All (λ pixel. pixel < 16) result }
+        ensures range { All (λ pixel. pixel < colour_count) result }
     {
         self.memory.row(y)
     }
@@ -39,7 +39,7 @@ impl Memory {
         requires { y < screen_height }
         ensures size { length result ≡ screen_width }
         ensures pixels { (x : ℕ) → x < screen_width → slice_index result x ≡ at self.now x y }
-        ensures range { All (λ pixel. pixel < 16) result }
+        ensures range { All (λ pixel. pixel < colour_count) result }
     {
         let from = &self.rows[(y + self.top) % SCREEN_HEIGHT];
         let mut row = [0; SCREEN_WIDTH];
@@ -53,11 +53,11 @@ impl Memory {
     fn write_window(&self, h: usize, y: usize, row: &mut [u8; SCREEN_WIDTH])
         requires moved { h ≤ 5 }
         requires height { y < screen_height }
-        requires range { (x : ℕ) → slice_index row.old x < 16 }
+        requires range { (x : ℕ) → slice_index row.old x < colour_count }
         ensures pixels { (x : ℕ) → x < screen_width → slice_index row.new x
             ≡ (if nat_le tile_width x && nat_lt x (tile_width + window_width)
             then at self.now (x + h) y else slice_index row.old x) }
-        ensures range { (x : ℕ) → slice_index row.new x < 16 }
+        ensures range { (x : ℕ) → slice_index row.new x < colour_count }
     {
         let from = &self.rows[(y + self.top) % SCREEN_HEIGHT];
         // What is past the end of the row goes on at its front.
@@ -70,9 +70,9 @@ impl Memory {
 
 // Makes all pixels of a row one colour.
 fn fill_row(row: &mut [u8; SCREEN_WIDTH], colour: u8)
-    requires { colour < 16 }
+    requires { colour < colour_count }
     ensures pixels { (x : ℕ) → x < screen_width → slice_index row.new x ≡ colour }
-    ensures range { (x : ℕ) → slice_index row.new x < 16 }
+    ensures range { (x : ℕ) → slice_index row.new x < colour_count }
 {
     *row = [colour; SCREEN_WIDTH];
 }

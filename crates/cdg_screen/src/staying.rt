@@ -1,7 +1,7 @@
 // Whether a change of the memory would leave it as it is.
 ghost use Rattle.std.specs.Prelude.{◌≡◌, ◌<◌, ◌≤◌, ◌+◌, ◌-◌, ◌*◌, ◌%◌, ◌↔◌, ◌==◌, ◌&&◌, nat_le, nat_lt, if◌then◌else◌, ℕ, All, IsTrue, slice_index};
 ghost use Rattle.cdg_instructions.specs.Drawing.{tile_colour};
-ghost use Rattle.cdg_instructions.specs.Sizes.{screen_height, screen_width, tile_width};
+ghost use Rattle.cdg_instructions.specs.Sizes.{colour_count, screen_height, screen_width, tile_width};
 ghost use Rattle.cdg_screen.specs.Standing.{covers, is_inside, source, source_x, source_y};
 ghost use Rattle.cdg_instructions.specs.Effect.{IsScrollInRange};
 ghost use Rattle.cdg_screen.specs.Memory.{at, Becomes, drawn_over, line_colour, scrolled, with_tile};
@@ -26,7 +26,7 @@ impl Memory {
 
     /// Whether a tile that is drawn, where it is on the memory, leaves each pixel as it is.
     pub(crate) fn keeps_tile(&self, tile: &DrawnTile) -> bool
-        requires { All (λ colour. colour < 16) tile.now.colours }
+        requires { All (λ colour. colour < colour_count) tile.now.colours }
         ensures { IsTrue result ↔ Becomes self.now (with_tile tile.now (at self.now)) }
     {
         if !is_on_memory(tile) {
@@ -46,7 +46,7 @@ impl Memory {
     fn keeps_line(&self, x: usize, y: usize, colours: [u8; 2], line: u8, exclusive: bool) -> bool
         requires width { x + tile_width ≤ screen_width }
         requires height { y < screen_height }
-        requires range { All (λ colour. colour < 16) colours }
+        requires range { All (λ colour. colour < colour_count) colours }
         ensures { IsTrue result ↔ Becomes self.now (λ x' y'.
             if y' == y && nat_le x x' && nat_lt x' (x + tile_width)
             then drawn_over exclusive

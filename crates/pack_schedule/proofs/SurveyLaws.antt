@@ -1,4 +1,4 @@
--- The pictures of a script in turn.
+-- Which picture stands on a canvas while a script is surveyed, and what a survey tells of the pictures.
 use Rattle.std.proofs.Common.{◌≡◌, ℕ, zero, suc, ◌+◌, ◌-◌, ◌*◌, ◌<◌, ◌≤◌, true, false, List, [], ◌∷◌, ◌++◌, length, get_or, refl, ap, sym, subst, ◌∙◌, inl, inr, arith, length-append}
 use Rattle.std.specs.Prelude.{Option, Some, None, MatchOption, nat_le, Result, Ok, Err, IfOk, IfErr}
 use Rattle.std.proofs.lemmas.Bool.{cases_lt}

@@ -1,4 +1,4 @@
--- The packs of a script, one after another.
+-- The pack at each place of a program: one of a change where it is sent there, and else an idle one.
 use Rattle.std.specs.Prelude.{◌≡◌, ℕ, ◌+◌, ◌-◌, ◌<◌, ◌≤◌, ◌⊎◌, List, [], length, slice_index_or}
 use Rattle.cdg_instructions.specs.Instruction.{IsWritten}
 use Rattle.cdg_instructions.specs.declared.instr.Instr.TheVariants.{Idle}

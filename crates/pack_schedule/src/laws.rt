@@ -1,6 +1,7 @@
 // Laws on the packs of a script.
 ghost use Rattle.std.specs.Prelude.{◌≡◌, ◌<◌, ◌≤◌, ℕ, false, List, length, slice_index_or};
 ghost use Rattle.rw_interleave.specs.Interleave.{whole_packs};
+ghost use Rattle.cdg_instructions.specs.Sizes.{colour_count};
 ghost use Rattle.picture_script.specs.Script.{Drawing, pictures, ready_time, hold_time, picture_pixel};
 ghost use Rattle.picture_changes.specs.Schedule.{CanBeReady, IsLate, IsOrderedSchedule, IsSchedule};
 ghost use Rattle.picture_changes.specs.Shown.{AreColoursInRange};
@@ -17,14 +18,14 @@ use picture_changes::{needs_are_fewest, planned_changes_are_changes};
 pub fn packs_are_a_schedule()
     ensures schedule { (script : List Drawing) (blocks : ℕ) (survey : List PlannedChange)
         (packs : List (List ℕ))
-        → AreColoursInRange script → ((k x y : ℕ) → picture_pixel script k x y < 16)
+        → AreColoursInRange script → ((k x y : ℕ) → picture_pixel script k x y < colour_count)
         → ((k : ℕ) → k < pictures script → ready_time script k ≤ hold_time script k)
         → IsWithin script blocks → IsSurvey script survey → length packs ≡ whole_packs blocks
         → ArePacks script packs
         → IsSchedule script blocks packs }
     ensures ordered { (script : List Drawing) (blocks : ℕ) (survey : List PlannedChange)
         (packs : List (List ℕ))
-        → ((k x y : ℕ) → picture_pixel script k x y < 16)
+        → ((k x y : ℕ) → picture_pixel script k x y < colour_count)
         → ((k : ℕ) → k < pictures script → ready_time script k ≤ hold_time script k)
         → IsWithin script blocks → IsSurvey script survey → length packs ≡ whole_packs blocks
         → ArePacks script packs

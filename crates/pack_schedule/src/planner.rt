@@ -1,4 +1,4 @@
-// A row for each picture of a script in turn.
+// What each picture of a script needs and what is free for it, in rows that go on after a late one.
 ghost use Rattle.std.specs.Prelude.{◌≡◌, ◌<◌, ◌≤◌, ◌-◌};
 ghost use Rattle.picture_script.specs.Script.{pictures};
 ghost use Rattle.picture_script.specs.Board.{IsPicture};

@@ -1,4 +1,4 @@
-// Why a script has no schedule.
+// The reasons for which a script has no schedule, and those that memory gives.
 use std::alloc::{AllocError, AllocFailed};
 
 /// Why a script has no schedule.

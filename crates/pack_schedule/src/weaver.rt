@@ -1,4 +1,4 @@
-// The packs of a script, one after another.
+// The packs of a program: those of the changes where they are sent, and idle ones between them.
 mod at_hand;
 
 use crate::surveys::Survey;

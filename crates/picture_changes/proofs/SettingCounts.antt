@@ -1,4 +1,4 @@
--- What a list has to set.
+-- What a list has to set of the border and the colours, so that a picture stands after it.
 use Rattle.std.proofs.Common.{◌≡◌, ℕ, zero, suc, ◌+◌, ◌-◌, ◌<◌, ◌≤◌, ◌==◌, ◌&&◌, Bool, true, false, cond, List, [], ◌∷◌, ◌++◌, length, get_or, map, refl, sym, ap, ap₂, ◌∙◌, arith, length-append, bit_xor}
 use Rattle.std.specs.Prelude.{reverse, count_by}
 use Rattle.std.specs.List.{list_all, range_with_len}

@@ -3,14 +3,14 @@ use Rattle.std.specs.Prelude.{◌≡◌, ℕ, zero, suc, ◌+◌, ◌-◌, ◌<�
 use Rattle.bit_lists.specs.Counting.{below}
 use Rattle.tile_author.specs.Plan.{are_equal}
 use Rattle.picture_script.specs.Script.{Drawing, picture_border, picture_tile, low_colours, high_colours}
-use Rattle.cdg_instructions.specs.Sizes.{tile_pixels}
+use Rattle.cdg_instructions.specs.Sizes.{colour_count, tile_pixels, window_columns, window_rows}
 use Rattle.cdg_instructions.specs.Drawing.{Turns, IsLeast}
 use Rattle.cdg_instructions.specs.declared.instr.Instr.{Instr}
 use Rattle.cdg_instructions.specs.declared.instr.Instr.TheVariants.{MemoryPreset, BorderPreset, ColoursLow, ColoursHigh}
 
 -- the rows and columns of the tiles in the window: rows 1 to 16, and in each of them columns 1 to 48
 abbrev pub window_places : List (ℕ × ℕ)
-window_places = flat_map (λ r. map (λ c. (r + 1, c + 1)) (below 48)) (below 16)
+window_places = flat_map (λ r. map (λ c. (r + 1, c + 1)) (below window_columns)) (below window_rows)
 
 -- the instructions that set the border and both halves of the colours: all of them for the first picture, and for a
 -- later one what differs from the picture before
@@ -36,13 +36,17 @@ AreTileChanges old new (place ∷ rest) instrs =
     × IsLeast row column (old row column) (new row column) (length first)
     × AreTileChanges old new rest others
 
+-- the most instructions that bring the tiles of a picture: four for each of 768
+abbrev pub most_tile_steps : ℕ
+most_tile_steps = 3072
+
 -- the most instructions of a change: one that sets all memory, three settings, and four for each of 768 tiles
 abbrev pub most_change : ℕ
 most_change = 3076
 
 -- A start is a colour of which all memory is set first, or none. Picture 0 has a colour.
 abbrev pub IsStart : ℕ → Option ℕ → Type 0
-IsStart k (Some colour) = colour < 16
+IsStart k (Some colour) = colour < colour_count
 IsStart zero None = ⊥
 IsStart (suc k) None = ⊤
 

@@ -4,6 +4,7 @@ use Rattle.bit_lists.specs.Counting.{below}
 use Rattle.tile_author.specs.Plan.{plan, steps}
 use Rattle.picture_script.specs.Script.{Drawing, picture_tile}
 use Rattle.picture_changes.specs.Change.{settings, window_places, preset_of, tiles_before}
+use Rattle.cdg_instructions.specs.Sizes.{colour_count}
 use Rattle.cdg_instructions.specs.declared.instr.Instr.{Instr}
 
 -- the plans of all tiles of the window
@@ -38,7 +39,7 @@ preferred (suc k) = None
 
 -- the start of the change that is written: the preferred one, where none gives a shorter change
 unfoldable pub chosen_start : List Drawing → ℕ → Option ℕ
-chosen_start script k = first_least (planned_length script k) (preferred k) (map Some (below 16))
+chosen_start script k = first_least (planned_length script k) (preferred k) (map Some (below colour_count))
 
 -- the change that is written for picture k
 unfoldable pub planned_change : List Drawing → ℕ → List Instr

@@ -1,6 +1,7 @@
-// Which lists of instructions bring the pictures of a script, and when their packs are sent.
+// Laws on the change that is written for a picture: that it is one, its length, and that packs can hold it.
 ghost use Rattle.std.specs.Prelude.{◌≡◌, ◌<◌, ◌≤◌, All, List, Option, ℕ, length};
 ghost use Rattle.cdg_instructions.specs.Instruction.{InRange, IsKnown};
+ghost use Rattle.cdg_instructions.specs.Sizes.{colour_count};
 ghost use Rattle.cdg_instructions.specs.declared.instr.Instr.{Instr};
 ghost use Rattle.picture_script.specs.Script.{Drawing, picture_pixel};
 ghost use Rattle.picture_changes.specs.Change.{most_change, IsChangeFrom, IsOrderedChange, IsStart};
@@ -12,10 +13,10 @@ use tile_author::plans_are_shortest;
 /// A law: for each start the planned change is one with this start, and each of them has its length.
 pub fn changes_have_planned_lengths()
     ensures planned { (script : List Drawing) (k : ℕ) (start : Option ℕ)
-        → ((k x y : ℕ) → picture_pixel script k x y < 16)
+        → ((k x y : ℕ) → picture_pixel script k x y < colour_count)
         → IsStart k start → IsChangeFrom script k start (planned_from script k start) }
     ensures length { (script : List Drawing) (k : ℕ) (start : Option ℕ) (instrs : List Instr)
-        → ((k x y : ℕ) → picture_pixel script k x y < 16)
+        → ((k x y : ℕ) → picture_pixel script k x y < colour_count)
         → IsChangeFrom script k start instrs → length instrs ≡ planned_length script k start }
 {
     plans_are_shortest();
@@ -25,13 +26,16 @@ pub fn changes_have_planned_lengths()
 /// that set all memory, the border and the colours, and four for each of 768 tiles. That it is a shortest one of any
 /// form says `ordered_changes_are_shortest`.
 pub fn planned_changes_are_changes()
-    ensures change { (script : List Drawing) (k : ℕ) → ((k x y : ℕ) → picture_pixel script k x y < 16)
+    ensures change { (script : List Drawing) (k : ℕ)
+        → ((k x y : ℕ) → picture_pixel script k x y < colour_count)
         → IsOrderedChange script k (planned_change script k) }
-    ensures few { (script : List Drawing) (k : ℕ) → ((k x y : ℕ) → picture_pixel script k x y < 16)
+    ensures few { (script : List Drawing) (k : ℕ)
+        → ((k x y : ℕ) → picture_pixel script k x y < colour_count)
         → length (planned_change script k) ≤ most_change }
     // It begins with the chosen start, which is one.
     ensures start { (script : List Drawing) (k : ℕ) → IsStart k (chosen_start script k) }
-    ensures planned { (script : List Drawing) (k : ℕ) → ((k x y : ℕ) → picture_pixel script k x y < 16)
+    ensures planned { (script : List Drawing) (k : ℕ)
+        → ((k x y : ℕ) → picture_pixel script k x y < colour_count)
         → IsChangeFrom script k (chosen_start script k) (planned_change script k) }
 {
     plans_are_shortest();

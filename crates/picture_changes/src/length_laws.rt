@@ -1,5 +1,6 @@
 // The change of a picture is a shortest list of instructions, among all that do not scroll.
 ghost use Rattle.std.specs.Prelude.{◌≡◌, ◌<◌, List, ℕ, length};
+ghost use Rattle.cdg_instructions.specs.Sizes.{colour_count};
 ghost use Rattle.cdg_instructions.specs.declared.instr.Instr.{Instr};
 ghost use Rattle.picture_script.specs.Script.{Drawing, picture_pixel};
 ghost use Rattle.picture_changes.specs.Brings.{CannotBeReady, IsChange, IsNeed};
@@ -17,7 +18,7 @@ use tile_author::plans_are_shortest;
 /// instructions.
 pub fn ordered_changes_are_shortest()
     ensures { (script : List Drawing) (k : ℕ) (instrs : List Instr) → AreColoursInRange script
-        → ((k x y : ℕ) → picture_pixel script k x y < 16) → IsOrderedChange script k instrs
+        → ((k x y : ℕ) → picture_pixel script k x y < colour_count) → IsOrderedChange script k instrs
         → IsChange script k instrs }
 {
     instructions_in_turn();
@@ -29,7 +30,7 @@ pub fn ordered_changes_are_shortest()
 /// A law: a schedule of changes in order, as they are written, is a schedule.
 pub fn schedules_of_ordered_changes_are_schedules()
     ensures { (script : List Drawing) (blocks : ℕ) (packs : List (List ℕ)) → AreColoursInRange script
-        → ((k x y : ℕ) → picture_pixel script k x y < 16) → IsOrderedSchedule script blocks packs
+        → ((k x y : ℕ) → picture_pixel script k x y < colour_count) → IsOrderedSchedule script blocks packs
         → IsSchedule script blocks packs }
 {
     ordered_changes_are_shortest();
@@ -39,15 +40,16 @@ pub fn schedules_of_ordered_changes_are_schedules()
 /// number. So a late picture cannot be ready.
 pub fn needs_are_fewest()
     ensures change { (script : List Drawing) (k : ℕ) → AreColoursInRange script
-        → ((k x y : ℕ) → picture_pixel script k x y < 16) → IsChange script k (planned_change script k) }
+        → ((k x y : ℕ) → picture_pixel script k x y < colour_count)
+        → IsChange script k (planned_change script k) }
     ensures planned { (script : List Drawing) (k need : ℕ) → AreColoursInRange script
-        → ((k x y : ℕ) → picture_pixel script k x y < 16) → IsNeed script k need
+        → ((k x y : ℕ) → picture_pixel script k x y < colour_count) → IsNeed script k need
         → need ≡ length (planned_change script k) }
     ensures one { (script : List Drawing) (k need other : ℕ) → IsNeed script k need → IsNeed script k other
         → need ≡ other }
     ensures late { (script : List Drawing) (k need free : ℕ) → AreTimesInOrder script
         → AreColoursInRange script
-        → ((k x y : ℕ) → picture_pixel script k x y < 16) → IsLate script k need free
+        → ((k x y : ℕ) → picture_pixel script k x y < colour_count) → IsLate script k need free
         → CannotBeReady script k need free }
 {
     ordered_changes_are_shortest();

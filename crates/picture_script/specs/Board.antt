@@ -2,7 +2,7 @@
 use Rattle.std.specs.Prelude.{◌≡◌, ℕ, ◌+◌, ◌-◌, ◌*◌, ◌/◌, ◌%◌, ◌<◌, ◌≤◌, List, length, map, slice_index, Option, MatchOption}
 use Rattle.bit_lists.specs.Counting.{below}
 use Rattle.picture_script.specs.Script.{Drawing, Picture, picture_pixel, picture_border, picture_colour}
-use Rattle.cdg_instructions.specs.Sizes.{colour_values, tile_height, tile_pixels, tile_width, window_height, window_width}
+use Rattle.cdg_instructions.specs.Sizes.{colour_count, colour_values, tile_height, tile_pixels, tile_width, window_height, window_pixels, window_width}
 
 -- 288 by 192 pixels, a border, sixteen colours, and the number of the picture that stands there, or none where
 -- nothing was drawn
@@ -24,14 +24,14 @@ ArePixelsOf pixels f = (x y : ℕ) → x < window_width → y < window_height �
 pub record IsBlank (board : Board) : Type 0 where
   pub pixels_are : (x y : ℕ) → x < window_width → y < window_height → pixel_of board.pixels x y ≡ 0
   pub border_is : board.border ≡ 0
-  pub colours_are : (n : ℕ) → n < 16 → slice_index board.colours n ≡ 0
+  pub colours_are : (n : ℕ) → n < colour_count → slice_index board.colours n ≡ 0
 
 -- picture k of the script stands there
 pub record IsPicture (script : List Drawing) (k : ℕ) (board : Board) : Type 0 where
   pub pixels_are : (x y : ℕ) → x < window_width → y < window_height
       → pixel_of board.pixels x y ≡ picture_pixel script k x y
   pub border_is : board.border ≡ picture_border script k
-  pub colours_are : (n : ℕ) → n < 16 → slice_index board.colours n ≡ picture_colour script k n
+  pub colours_are : (n : ℕ) → n < colour_count → slice_index board.colours n ≡ picture_colour script k n
 
 -- nothing is drawn, or a picture of the script that is not after k stands there
 abbrev pub StandsBefore : List Drawing → ℕ → Board → Type 0
@@ -42,12 +42,12 @@ pub record IsDrawn (picture : Picture) (board : Board) : Type 0 where
   pub pixels_are : (x y : ℕ) → x < window_width → y < window_height
       → pixel_of board.pixels x y ≡ picture.pixel x y
   pub border_is : board.border ≡ picture.border
-  pub colours_are : (n : ℕ) → n < 16 → slice_index board.colours n ≡ picture.colour n
+  pub colours_are : (n : ℕ) → n < colour_count → slice_index board.colours n ≡ picture.colour n
 
 -- the border and the colours of this picture stand there
 pub record IsSet (picture : Picture) (board : Board) : Type 0 where
   pub border_is : board.border ≡ picture.border
-  pub colours_are : (n : ℕ) → n < 16 → slice_index board.colours n ≡ picture.colour n
+  pub colours_are : (n : ℕ) → n < colour_count → slice_index board.colours n ≡ picture.colour n
 
 -- the 72 pixels of the tile at a row from 1 to 16 and a column from 1 to 48, line by line from the left
 unfoldable pub tile_of : List ℕ → ℕ → ℕ → List ℕ
@@ -57,15 +57,15 @@ tile_of pixels row column =
 
 -- numbers of colours
 abbrev pub AreColours : List ℕ → Type 0
-AreColours colours = (i : ℕ) → slice_index colours i < 16
+AreColours colours = (i : ℕ) → slice_index colours i < colour_count
 
 -- the pixels of a whole window
 pub record AreWindowPixels (pixels : List ℕ) : Type 0 where
-  pub count : length pixels ≡ 55296
-  pub colours : (i : ℕ) → slice_index pixels i < 16
+  pub count : length pixels ≡ window_pixels
+  pub colours : (i : ℕ) → slice_index pixels i < colour_count
 
 -- the ranges of what stands beside the pixels
 pub record IsCanvasInRange (border : ℕ) (colours : List ℕ) : Type 0 where
-  pub border_below : border < 16
-  pub colours_count : length colours ≡ 16
+  pub border_below : border < colour_count
+  pub colours_count : length colours ≡ colour_count
   pub colours_below : (i : ℕ) → slice_index colours i < colour_values

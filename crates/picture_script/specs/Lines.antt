@@ -12,7 +12,7 @@ use Rattle.picture_script.specs.declared.draft.ScriptDraft.{ScriptDraft}
 use Rattle.picture_script.specs.declared.draft.LineStop.{LineStop}
 use Rattle.picture_script.specs.declared.draft.LineStop.TheVariants.{Refused, NoRoom}
 use Rattle.picture_script.specs.declared.reasons.ScriptWhy.{ScriptWhy}
-use Rattle.cdg_instructions.specs.Sizes.{colour_values, window_height, window_width}
+use Rattle.cdg_instructions.specs.Sizes.{colour_count, colour_values, window_height, window_width}
 
 -- what a line says; a row's colours stand among those of all rows
 abbrev pub said : List ℕ → ScriptLine → Drawing
@@ -28,12 +28,12 @@ all_said pixels lines = map (said pixels) lines
 
 -- whether a line is in its ranges, and a row's colours are among so many
 abbrev pub is_kept : ℕ → ScriptLine → Bool
-is_kept size (TableColour number value) = nat_lt number 16 && nat_lt value colour_values
-is_kept size (BorderColour colour) = nat_lt colour 16
-is_kept size (Filled colour) = nat_lt colour 16
+is_kept size (TableColour number value) = nat_lt number colour_count && nat_lt value colour_values
+is_kept size (BorderColour colour) = nat_lt colour colour_count
+is_kept size (Filled colour) = nat_lt colour colour_count
 is_kept size (Rectangle x y width height colour) = nat_le (x + width) window_width
     && nat_le (y + height) window_height
-    && nat_lt colour 16
+    && nat_lt colour colour_count
 is_kept size (PixelRow y x first count) = nat_le (x + count) window_width && nat_lt y window_height
     && nat_le (first + count) size
 is_kept size (ShowLine ready hold) = true

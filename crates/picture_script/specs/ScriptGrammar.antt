@@ -9,7 +9,7 @@ use Rattle.picture_script.specs.Script.{Drawing, Colour, Border, Fill, Rect, Row
 use Rattle.picture_script.specs.Sizes.{most_pictures}
 use Rattle.picture_script.specs.declared.reasons.ScriptWhy.{ScriptWhy}
 use Rattle.picture_script.specs.declared.reasons.ScriptWhy.TheVariants.{UnknownCommand, BadArgument, OutOfRange, TimeOrder, TooMany}
-use Rattle.cdg_instructions.specs.Sizes.{window_height, window_width}
+use Rattle.cdg_instructions.specs.Sizes.{colour_count, window_height, window_width}
 
 -- a number: one to three decimal digits
 abbrev pub small_number : List ℕ → Option ℕ
@@ -102,13 +102,13 @@ show_line _ = None
 
 -- whether the numbers of a line are in their ranges, and its pixels in the window
 abbrev pub is_in_range : Drawing → Bool
-is_in_range (Colour number value) = nat_lt number 16
-is_in_range (Border colour) = nat_lt colour 16
-is_in_range (Fill colour) = nat_lt colour 16
+is_in_range (Colour number value) = nat_lt number colour_count
+is_in_range (Border colour) = nat_lt colour colour_count
+is_in_range (Fill colour) = nat_lt colour colour_count
 is_in_range (Rect x y width height colour) =
     nat_le 1 width && nat_le 1 height && nat_le (x + width) window_width
-    && nat_le (y + height) window_height && nat_lt colour 16
-is_in_range (Row x y pixels) = nat_le (x + length pixels) window_width && nat_le y 191
+    && nat_le (y + height) window_height && nat_lt colour colour_count
+is_in_range (Row x y pixels) = nat_le (x + length pixels) window_width && nat_lt y window_height
 is_in_range (Show ready hold) = true
 
 -- whether a picture is ready after the picture before it was held

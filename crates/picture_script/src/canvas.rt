@@ -2,7 +2,7 @@
 use crate::line::ScriptLine;
 use crate::script::Script;
 use crate::window::Window;
-use cdg_instructions::{PIXELS, Tile, WINDOW_WIDTH};
+use cdg_instructions::{COLOURS, PIXELS, TILE_HEIGHT, TILE_WIDTH, Tile, WINDOW_WIDTH};
 use std::alloc::{AllocError, Global};
 use std::marker::Model;
 
@@ -14,7 +14,7 @@ const FEW_LINES: usize = 1_000;
 pub struct Canvas {
     window: Window,
     border: u8,
-    colours: [u16; 16],
+    colours: [u16; COLOURS],
     at: Option<u32>,
 }
 
@@ -33,6 +33,7 @@ impl Canvas {
     ghost use Rattle.picture_script.specs.Script.{Drawing, Fill, Picture, drawn, drawn_by, pictures, picture_tile};
     ghost use Rattle.picture_script.specs.Board.{Board, pixel_of, tile_of, AreColours, IsBlank, IsPicture, IsDrawn, IsSet, StandsBefore};
     ghost use Rattle.picture_script.specs.Lines.{said, is_kept};
+    ghost use Rattle.cdg_instructions.specs.Sizes.{colour_count, colour_values, window_columns, window_height, window_rows, window_width};
 
     /// A canvas on which all is 0.
     pub fn start(alloc: Global) -> Result<Canvas, AllocError>
@@ -42,7 +43,7 @@ impl Canvas {
         Ok(Canvas {
             window: Window::new(alloc)?,
             border: 0,
-            colours: [0; 16],
+            colours: [0; COLOURS],
             at: None,
         })
     }
@@ -54,7 +55,7 @@ impl Canvas {
     {
         self.window.clear(0);
         self.border = 0;
-        self.colours = [0; 16];
+        self.colours = [0; COLOURS];
         self.at = None;
     }
 
@@ -129,7 +130,7 @@ impl Canvas {
         requires order { from ≤ place }
         requires place { place < length script.now }
         requires fill { slice_index_or script.now place (Fill 0) ≡ Fill colour }
-        requires colour { colour < 16 }
+        requires colour { colour < colour_count }
         requires before { IsDrawn (drawn_by (take from script.now)) self.old }
         ensures drawn { IsDrawn (drawn_by (take (place + 1) script.now)) self.new }
     {
@@ -195,11 +196,11 @@ impl Canvas {
     /// Whether the tiles of a row from 1 to 16 are those of another canvas.
     pub fn has_row_of(&self, other: &Canvas, row: u8) -> bool
         requires first { 1 ≤ row }
-        requires last { row ≤ 16 }
-        ensures { IsTrue result ↔ ((column : ℕ) → 1 ≤ column → column ≤ 48
+        requires last { row ≤ window_rows }
+        ensures { IsTrue result ↔ ((column : ℕ) → 1 ≤ column → column ≤ window_columns
             → tile_of self.now.pixels row column ≡ tile_of other.now.pixels row column) }
     {
-        let count = 12 * WINDOW_WIDTH;
+        let count = TILE_HEIGHT * WINDOW_WIDTH;
         self.window
             .has_part_of(&other.window, count * (usize::from(row) - 1), count)
     }
@@ -207,14 +208,14 @@ impl Canvas {
     /// Whether the tile at a row from 1 to 16 and a column from 1 to 48 is that of another canvas.
     pub fn has_tile_of(&self, other: &Canvas, row: u8, column: u8) -> bool
         requires row_first { 1 ≤ row }
-        requires row_last { row ≤ 16 }
+        requires row_last { row ≤ window_rows }
         requires column_first { 1 ≤ column }
-        requires column_last { column ≤ 48 }
+        requires column_last { column ≤ window_columns }
         ensures { IsTrue result ↔ tile_of self.now.pixels row column ≡ tile_of other.now.pixels row column }
     {
-        let left = 6 * (usize::from(column) - 1);
-        let top = 12 * (usize::from(row) - 1);
-        for j in 0..12 {
+        let left = TILE_WIDTH * (usize::from(column) - 1);
+        let top = TILE_HEIGHT * (usize::from(row) - 1);
+        for j in 0..TILE_HEIGHT {
             if !self
                 .window
                 .has_line_of(&other.window, WINDOW_WIDTH * (top + j) + left)
@@ -227,10 +228,10 @@ impl Canvas {
 
     /// The colour number of a pixel of the window, `x` below 288 from the left and `y` below 192 from the top.
     pub fn pixel(&self, x: u32, y: u32) -> u8
-        requires width { x < 288 }
-        requires height { y < 192 }
+        requires width { x < window_width }
+        requires height { y < window_height }
         ensures pixel { result ≡ pixel_of self.now.pixels x y }
-        ensures range { result < 16 }
+        ensures range { result < colour_count }
     {
         self.window.get(x as usize, y as usize)
     }
@@ -238,19 +239,22 @@ impl Canvas {
     /// The pixels of the tile at a row from 1 to 16 and a column from 1 to 48.
     pub fn tile(&self, row: u8, column: u8) -> Tile
         requires row_first { 1 ≤ row }
-        requires row_last { row ≤ 16 }
+        requires row_last { row ≤ window_rows }
         requires column_first { 1 ≤ column }
-        requires column_last { column ≤ 48 }
+        requires column_last { column ≤ window_columns }
         ensures tile { result ≡ tile_of self.now.pixels row column }
         ensures picture { (script : List Drawing) (k : ℕ) → IsPicture script k self.now
             → result ≡ picture_tile script k row column }
     {
-        let left = 6 * (usize::from(column) - 1);
-        let top = 12 * (usize::from(row) - 1);
+        let left = TILE_WIDTH * (usize::from(column) - 1);
+        let top = TILE_HEIGHT * (usize::from(row) - 1);
         let mut pixels = [0; PIXELS];
-        for j in 0..12 {
-            self.window
-                .read_line(left, top + j, &mut pixels[6 * j..6 * j + 6]);
+        for j in 0..TILE_HEIGHT {
+            self.window.read_line(
+                left,
+                top + j,
+                &mut pixels[TILE_WIDTH * j..TILE_WIDTH * j + TILE_WIDTH],
+            );
         }
         match Tile::new(&pixels) {
             Some(tile) => tile,
@@ -260,9 +264,9 @@ impl Canvas {
 
     /// Colour `k` of the table, as 0xRGB: four bits each of red, green and blue. `k` is below 16.
     pub fn colour(&self, k: u8) -> u16
-        requires { k < 16 }
+        requires { k < colour_count }
         ensures value { result ≡ slice_index self.now.colours k }
-        ensures range { result < 4096 }
+        ensures range { result < colour_values }
     {
         self.colours[usize::from(k)]
     }
@@ -270,7 +274,7 @@ impl Canvas {
     /// The number of the border's colour.
     pub fn border(&self) -> u8
         ensures value { result ≡ self.now.border }
-        ensures range { result < 16 }
+        ensures range { result < colour_count }
     {
         self.border
     }

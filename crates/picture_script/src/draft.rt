@@ -41,6 +41,7 @@ impl ScriptDraft {
     ghost use Rattle.picture_script.specs.Script.{pictures, Row, Show};
     ghost use Rattle.picture_script.specs.ScriptGrammar.{is_after_hold};
     ghost use Rattle.picture_script.specs.Sizes.{most_pictures};
+    ghost use Rattle.cdg_instructions.specs.Sizes.{window_height, window_width};
     ghost use Rattle.picture_script.specs.Lines.{said, said_in, IsSound, Adds, is_kept, is_drawing};
 
     /// No lines.
@@ -70,8 +71,8 @@ impl ScriptDraft {
     /// Takes a row of pixels.
     pub(crate) fn push_row(&mut self, x: u16, y: u8, digits: &[u8]) -> Result<(), LineStop>
         requires sound { IsSound self.old }
-        requires width { x + length digits.now ≤ 288 }
-        requires height { y < 192 }
+        requires width { x + length digits.now ≤ window_width }
+        requires height { y < window_height }
         requires digits { list_all is_ascii_hexdigit digits.now ≡ true }
         ensures ok { OnOk result (Adds self.old self.new (Row x y (map digit_value digits.now))) }
         ensures err { IfErr result (λ stop. stop ≡ LineStop.NoRoom) }

@@ -3,6 +3,7 @@ ghost use Rattle.std.specs.Prelude.{◌≡◌, ◌<◌, ◌≤◌, ◌+◌, ◌/
 ghost use Rattle.picture_script.specs.Script.{Picture, drawn};
 ghost use Rattle.picture_script.specs.DrawnRows.{KeepsRows, LeavesRows};
 ghost use Rattle.picture_script.specs.Lines.{is_kept, said};
+ghost use Rattle.cdg_instructions.specs.Sizes.{tile_height, window_rows};
 
 use crate::line::ScriptLine;
 use crate::script::Script;
@@ -38,7 +39,7 @@ impl Script {
 fn mark_line(rows: &mut [bool; WINDOW_ROWS], line: ScriptLine)
     requires kept { (size : ℕ) × (is_kept size line ≡ true) }
     ensures { (pixels : List ℕ) (before : Picture) (r x y : ℕ) → slice_index_or rows.new r true ≡ false
-        → y / 12 ≡ r → (slice_index_or rows.old r true ≡ false)
+        → y / tile_height ≡ r → (slice_index_or rows.old r true ≡ false)
         × (before.pixel x y ≡ (drawn before (said pixels line)).pixel x y) }
 {
     match line {
@@ -64,7 +65,7 @@ fn mark_line(rows: &mut [bool; WINDOW_ROWS], line: ScriptLine)
 
 // Marks the rows from one on up to another.
 fn mark_rows(rows: &mut [bool; WINDOW_ROWS], from: usize, to: usize)
-    requires { to ≤ 16 }
+    requires { to ≤ window_rows }
     ensures { (r : ℕ) → slice_index_or rows.new r true ≡ false
         → (slice_index_or rows.old r true ≡ false) × ((r < from) ⊎ (to ≤ r)) }
 {

@@ -1,15 +1,18 @@
-// The grammar of scripts: the lines in turn, or the first that is refused.
-ghost use Rattle.std.specs.Prelude.{◌≡◌, ◌<◌, ◌+◌, ◌∷◌, ◌&&◌, [], List, Some, IfOk, IfErr, nat_le};
+// The commands of a script: each line is taken into the draft, or refused with its first reason.
+ghost use Rattle.std.specs.Prelude.{◌≡◌, ◌<◌, ◌+◌, ◌∷◌, ◌&&◌, [], List, Some, IfOk, IfErr, nat_le, nat_lt};
 ghost use Rattle.picture_script.specs.Script.{Drawing, Rect};
 ghost use Rattle.text_lines.specs.Text.{words_in, without_blanks};
 ghost use Rattle.picture_script.specs.ScriptGrammar.{is_in_range, numbers_in, checked_line, checked_words, colour_line, border_line, fill_line, rect_line, row_line, show_line};
 ghost use Rattle.picture_script.specs.Lines.{said_in, IsSound, Stops, Takes};
+ghost use Rattle.picture_script.specs.Sizes.{small_number_values};
+ghost use Rattle.cdg_instructions.specs.Sizes.{colour_count, window_height, window_width};
 
 use crate::draft::{LineStop, ScriptDraft};
 use crate::line::ScriptLine;
 use crate::reasons::ScriptWhy;
 use crate::sizes::MOST_PICTURES;
 use crate::words::{colour_words, numbers, row_words, show_words};
+use cdg_instructions::{COLOURS, WINDOW_HEIGHT, WINDOW_WIDTH};
 use text_lines::after_word;
 
 impl ScriptDraft {
@@ -22,7 +25,7 @@ impl ScriptDraft {
         let Some((number, value)) = colour_words(words) else {
             return Err(LineStop::Refused(ScriptWhy::BadArgument));
         };
-        if number > 15 {
+        if usize::from(number) >= COLOURS {
             return Err(LineStop::Refused(ScriptWhy::OutOfRange));
         }
         self.push_line(ScriptLine::TableColour {
@@ -135,26 +138,32 @@ impl ScriptDraft {
 
 // Whether the numbers of a `rect` line are in their ranges.
 fn is_rect(x: u16, y: u16, width: u16, height: u16, colour: u16) -> bool
-    requires x { x < 1000 }
-    requires y { y < 1000 }
-    requires width { width < 1000 }
-    requires height { height < 1000 }
+    requires x { x < small_number_values }
+    requires y { y < small_number_values }
+    requires width { width < small_number_values }
+    requires height { height < small_number_values }
     ensures { result ≡ is_in_range (Rect x y width height colour) }
 {
-    width >= 1 && height >= 1 && x + width <= 288 && y + height <= 192 && colour < 16
+    width >= 1
+        && height >= 1
+        && usize::from(x + width) <= WINDOW_WIDTH
+        && usize::from(y + height) <= WINDOW_HEIGHT
+        && usize::from(colour) < COLOURS
 }
 
 // Whether a row of so many pixels is in the window. The first test keeps the sum from overflowing.
 fn is_row(x: u16, y: u16, count: usize) -> bool
-    ensures { result ≡ (nat_le (x + count) 288 && nat_le y 191) }
+    ensures { result ≡ (nat_le (x + count) window_width && nat_lt y window_height) }
 {
-    count <= 288 && usize::from(x) + count <= 288 && y <= 191
+    count <= WINDOW_WIDTH
+        && usize::from(x) + count <= WINDOW_WIDTH
+        && usize::from(y) < WINDOW_HEIGHT
 }
 
 // The number of a colour, which the words after `border` and `fill` are.
 fn colour_number(words: &[u8]) -> Result<u8, LineStop>
     ensures ok { IfOk result
-        (λ colour. (numbers_in 1 (words_in words.now) ≡ Some (colour ∷ [])) × (colour < 16)) }
+        (λ colour. (numbers_in 1 (words_in words.now) ≡ Some (colour ∷ [])) × (colour < colour_count)) }
     ensures border { IfErr result (λ stop. (before : List Drawing)
         → Stops (checked_line before (border_line (words_in words.now))) stop) }
     ensures fill { IfErr result (λ stop. (before : List Drawing)
@@ -164,7 +173,7 @@ fn colour_number(words: &[u8]) -> Result<u8, LineStop>
         return Err(LineStop::Refused(ScriptWhy::BadArgument));
     };
     let colour = numbers[0];
-    if colour > 15 {
+    if usize::from(colour) >= COLOURS {
         return Err(LineStop::Refused(ScriptWhy::OutOfRange));
     }
     Ok(colour as u8)

@@ -1,4 +1,4 @@
-// Reading a script from its text.
+// Reads a script from its text, line by line, up to the first that is refused.
 ghost use Rattle.std.specs.Prelude.{◌≡◌, ◌∷◌, ℕ, List};
 ghost use Rattle.text_lines.specs.Text.{without_blanks};
 ghost use Rattle.picture_script.specs.Script.{Drawing};

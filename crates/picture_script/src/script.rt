@@ -1,4 +1,4 @@
-// A picture script.
+// A script that was read: how many pictures it shows, their times, and the lines that draw them.
 use crate::line::{ScriptLine, Shown};
 use std::alloc::{AllocError, Global};
 use std::marker::Model;
@@ -30,6 +30,7 @@ impl Script {
     ghost use Rattle.disc_time.specs.Counts.{time_count};
     ghost use Rattle.picture_script.specs.Script.{pictures, ready_time, hold_time, picture_pixel, picture_border, picture_colour, lines_before, Drawing, Fill};
     ghost use Rattle.picture_script.specs.Sizes.{most_pictures};
+    ghost use Rattle.cdg_instructions.specs.Sizes.{colour_count, colour_values};
 
     /// How many pictures it shows.
     pub fn pictures(&self) -> u32
@@ -43,9 +44,9 @@ impl Script {
         ensures ends { (k : ℕ) → k < pictures self.now → hold_time self.now k < time_count }
 
         // The numbers of colours are below 16, and the colours of the table have twelve bits.
-        ensures pixels { (k x y : ℕ) → picture_pixel self.now k x y < 16 }
-        ensures borders { (k : ℕ) → picture_border self.now k < 16 }
-        ensures colours { (k n : ℕ) → picture_colour self.now k n < 4096 }
+        ensures pixels { (k x y : ℕ) → picture_pixel self.now k x y < colour_count }
+        ensures borders { (k : ℕ) → picture_border self.now k < colour_count }
+        ensures colours { (k n : ℕ) → picture_colour self.now k n < colour_values }
     {
         self.shown.len() as u32
     }
@@ -56,9 +57,9 @@ impl Script {
         ensures later { (k : ℕ) → k + 1 < pictures self.now
             → hold_time self.now k < ready_time self.now (k + 1) }
         ensures ends { (k : ℕ) → k < pictures self.now → hold_time self.now k < time_count }
-        ensures pixels { (k x y : ℕ) → picture_pixel self.now k x y < 16 }
-        ensures borders { (k : ℕ) → picture_border self.now k < 16 }
-        ensures colours { (k n : ℕ) → picture_colour self.now k n < 4096 }
+        ensures pixels { (k x y : ℕ) → picture_pixel self.now k x y < colour_count }
+        ensures borders { (k : ℕ) → picture_border self.now k < colour_count }
+        ensures colours { (k n : ℕ) → picture_colour self.now k n < colour_values }
     {
         let _ = self.pictures();
     }
@@ -97,7 +98,7 @@ impl Script {
         requires { to ≤ length self.now }
         ensures place { IfSome result (λ found. (from ≤ found.0) × (found.0 < to)) }
         ensures fill { IfSome result (λ found. slice_index_or self.now found.0 (Fill 0) ≡ Fill found.1) }
-        ensures colour { IfSome result (λ found. found.1 < 16) }
+        ensures colour { IfSome result (λ found. found.1 < colour_count) }
     {
         for i in (from..to).rev() {
             if let ScriptLine::Filled { colour } = self.lines[i] {

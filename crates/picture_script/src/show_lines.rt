@@ -23,7 +23,7 @@ impl<'a> Model for ShowLines<'a> {
 
     ghost view = { λ s. show_lines_from s.number (lines_in s.rest.now) };
 
-    ghost invariant = { λ s. s.number + length s.rest.now ≤ 67108865 };
+    ghost invariant = { λ s. s.number + length s.rest.now ≤ most_text_bytes + 1 };
 }
 
 impl<'a> ShowLines<'a> {
@@ -56,12 +56,12 @@ impl<'a> ShowLines<'a> {
 
 // The number of the first line that shows a picture, of lines from this number on, and the text after it.
 fn next_show_line(text: &[u8], number: u32) -> Option<(u32, &[u8])>
-    requires { number + length text.now ≤ 67108865 }
+    requires { number + length text.now ≤ most_text_bytes + 1 }
     ensures found { MatchOption result (show_lines_from number (lines_in text.now) ≡ [])
         (λ found. show_lines_from number (lines_in text.now)
         ≡ found.0 ∷ show_lines_from (found.0 + 1) (lines_in found.1.now)) }
-    ensures few { MatchOption result (number + length text.now ≤ 67108865)
-        (λ found. found.0 + 1 + length found.1.now ≤ 67108865) }
+    ensures few { MatchOption result (number + length text.now ≤ most_text_bytes + 1)
+        (λ found. found.0 + 1 + length found.1.now ≤ most_text_bytes + 1) }
 {
     let mut rest = text;
     let mut number = number;

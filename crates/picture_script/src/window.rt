@@ -2,8 +2,9 @@
 ghost use Rattle.std.specs.Prelude.{◌≡◌, ◌<◌, ◌≤◌, ◌+◌, ◌-◌, ◌*◌, ◌==◌, ◌&&◌, if◌then◌else◌, ℕ, List, length, slice_index, IfOk, IsTrue, ◌↔◌};
 ghost use Rattle.picture_script.specs.Script.{is_within};
 ghost use Rattle.picture_script.specs.Board.{pixel_of, ArePixelsOf, AreWindowPixels, AreColours};
+ghost use Rattle.cdg_instructions.specs.Sizes.{colour_count, tile_width, window_height, window_pixels, window_width};
 
-use cdg_instructions::{WINDOW_HEIGHT, WINDOW_WIDTH};
+use cdg_instructions::{TILE_WIDTH, WINDOW_PIXELS, WINDOW_WIDTH};
 use std::alloc::{AllocError, Global};
 use std::marker::Model;
 
@@ -26,22 +27,23 @@ impl Window {
     pub(crate) fn new(alloc: Global) -> Result<Window, AllocError>
         ensures { IfOk result (λ w. ArePixelsOf w (λ x y. 0)) }
     {
-        let pixels = vec![in alloc; 0; WINDOW_WIDTH * WINDOW_HEIGHT]?;
+        let pixels = vec![in alloc; 0; WINDOW_PIXELS]?;
         Ok(Window { pixels })
     }
 
+    /// The number of the colour of a pixel.
     pub(crate) fn get(&self, x: usize, y: usize) -> u8
-        requires width { x < 288 }
-        requires height { y < 192 }
+        requires width { x < window_width }
+        requires height { y < window_height }
         ensures pixel { result ≡ pixel_of self.now x y }
-        ensures range { result < 16 }
+        ensures range { result < colour_count }
     {
         self.pixels[WINDOW_WIDTH * y + x]
     }
 
     /// Whether the pixels from a place on, row by row, are those of another window.
     pub(crate) fn has_part_of(&self, other: &Window, start: usize, count: usize) -> bool
-        requires { start + count ≤ 55296 }
+        requires { start + count ≤ window_pixels }
         ensures { IsTrue result
             ↔ ((i : ℕ) → start ≤ i → i < start + count → slice_index self.now i ≡ slice_index other.now i) }
     {
@@ -51,12 +53,13 @@ impl Window {
     /// Whether six pixels from a place on are those of another window. It looks at all of them, without a call.
     #[inline]
     pub(crate) fn has_line_of(&self, other: &Window, start: usize) -> bool
-        requires { start + 6 ≤ 55296 }
+        requires { start + tile_width ≤ window_pixels }
         ensures { IsTrue result
-            ↔ ((i : ℕ) → start ≤ i → i < start + 6 → slice_index self.now i ≡ slice_index other.now i) }
+            ↔ ((i : ℕ) → start ≤ i → i < start + tile_width
+            → slice_index self.now i ≡ slice_index other.now i) }
     {
         let mut same = true;
-        for i in start..start + 6 {
+        for i in start..start + TILE_WIDTH {
             same &= self.pixels[i] == other.pixels[i];
         }
         same
@@ -64,15 +67,15 @@ impl Window {
 
     /// Reads six pixels of a row.
     pub(crate) fn read_line(&self, x: usize, y: usize, out: &mut [u8])
-        requires count { length out.old ≡ 6 }
-        requires width { x + 6 ≤ 288 }
-        requires height { y < 192 }
-        ensures count { length out.new ≡ 6 }
-        ensures pixels { (i : ℕ) → i < 6 → slice_index out.new i ≡ pixel_of self.now (x + i) y }
-        ensures range { (i : ℕ) → slice_index out.new i < 16 }
+        requires count { length out.old ≡ tile_width }
+        requires width { x + tile_width ≤ window_width }
+        requires height { y < window_height }
+        ensures count { length out.new ≡ tile_width }
+        ensures pixels { (i : ℕ) → i < tile_width → slice_index out.new i ≡ pixel_of self.now (x + i) y }
+        ensures range { (i : ℕ) → slice_index out.new i < colour_count }
     {
         let start = WINDOW_WIDTH * y + x;
-        out.copy_from_slice(&self.pixels[start..start + 6]);
+        out.copy_from_slice(&self.pixels[start..start + TILE_WIDTH]);
     }
 
     /// Sets all pixels to those of another window.
@@ -84,7 +87,7 @@ impl Window {
 
     /// Sets all pixels.
     pub(crate) fn clear(&mut self, colour: u8)
-        requires { colour < 16 }
+        requires { colour < colour_count }
         ensures { ArePixelsOf self.new (λ x y. colour) }
     {
         self.pixels.fill(colour);
@@ -92,9 +95,9 @@ impl Window {
 
     // Sets pixels of a row to one colour.
     fn fill_row(&mut self, x: usize, y: usize, width: usize, colour: u8)
-        requires width { x + width ≤ 288 }
-        requires height { y < 192 }
-        requires range { colour < 16 }
+        requires width { x + width ≤ window_width }
+        requires height { y < window_height }
+        requires range { colour < colour_count }
         ensures { ArePixelsOf self.new (λ x' y'.
             if y' == y && is_within x width x' then colour else pixel_of self.old x' y') }
     {
@@ -104,9 +107,9 @@ impl Window {
 
     /// Sets the pixels of a rectangle to one colour.
     pub(crate) fn fill(&mut self, x: usize, y: usize, width: usize, height: usize, colour: u8)
-        requires width { x + width ≤ 288 }
-        requires height { y + height ≤ 192 }
-        requires range { colour < 16 }
+        requires width { x + width ≤ window_width }
+        requires height { y + height ≤ window_height }
+        requires range { colour < colour_count }
         ensures { ArePixelsOf self.new (λ x' y'.
             if is_within x width x' && is_within y height y' then colour else pixel_of self.old x' y') }
     {
@@ -117,8 +120,8 @@ impl Window {
 
     /// Sets pixels of a row to these colours.
     pub(crate) fn draw_row(&mut self, x: usize, y: usize, colours: &[u8])
-        requires width { x + length colours.now ≤ 288 }
-        requires height { y < 192 }
+        requires width { x + length colours.now ≤ window_width }
+        requires height { y < window_height }
         requires range { AreColours colours.now }
         ensures { ArePixelsOf self.new (λ x' y'.
             if is_within x (length colours.now) x' && y' == y then slice_index colours.now (x' - x)

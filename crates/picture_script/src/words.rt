@@ -1,4 +1,4 @@
-// The words of a line.
+// The words of a line, read as numbers, colours, pixels and times.
 ghost use Rattle.std.specs.Prelude.{◌≡◌, ◌≢◌, ◌<◌, ◌+◌, ◌∷◌, [], length, MatchOption, Some, None, if◌then◌else◌, IfSome, All, ◌&&◌, map, true};
 ghost use Rattle.disc_time.specs.Counts.{time_count};
 ghost use Rattle.std.specs.Char.{is_ascii_hexdigit, digit_value};
@@ -6,13 +6,15 @@ ghost use Rattle.std.specs.List.{list_all};
 ghost use Rattle.text_lines.specs.Text.{words_in, is_some_bytes};
 ghost use Rattle.picture_script.specs.ScriptGrammar.{small_number, numbers_in, colour_in, colour_line, row_line, show_line};
 ghost use Rattle.picture_script.specs.Script.{Colour, Row, Show};
+ghost use Rattle.picture_script.specs.Sizes.{small_number_values};
+ghost use Rattle.cdg_instructions.specs.Sizes.{colour_values};
 
 use text_lines::{next_word, number, time};
 
 // The number of one to three decimal digits that a word is.
 fn small_number(word: &[u8]) -> Option<u16>
     ensures value { result ≡ small_number word.now }
-    ensures below { IfSome result (λ n. n < 1000) }
+    ensures below { IfSome result (λ n. n < small_number_values) }
 {
     let value = number(word, 1, 3)?;
     Some(value as u16)
@@ -22,7 +24,7 @@ fn small_number(word: &[u8]) -> Option<u16>
 pub(crate) fn numbers<const N: usize>(line: &[u8]) -> Option<[u16; N]>
     ensures value { result ≡ numbers_in N (words_in line.now) }
     ensures count { IfSome result (λ xs. length xs ≡ N) }
-    ensures below { IfSome result (All (λ n. n < 1000)) }
+    ensures below { IfSome result (All (λ n. n < small_number_values)) }
 {
     let mut numbers = [0; N];
     let mut rest = line;
@@ -54,7 +56,7 @@ pub(crate) fn hex_digit(byte: u8) -> Option<u8>
 #[tactic(auto, unfolding(crate::specs::ScriptGrammar::colour_in))]
 fn colour(word: &[u8]) -> Option<u16>
     ensures value { result ≡ colour_in word.now }
-    ensures below { IfSome result (λ value. value < 4096) }
+    ensures below { IfSome result (λ value. value < colour_values) }
 {
     if word.len() != 4 || word[0] != b'0' {
         return None;
@@ -72,6 +74,7 @@ fn is_pixels(word: &[u8]) -> bool
     !word.is_empty() && are_hex_digits(word)
 }
 
+// Whether all bytes of a word are hexadecimal digits.
 fn are_hex_digits(word: &[u8]) -> bool
     ensures { result ≡ list_all is_ascii_hexdigit word.now }
 {
@@ -82,7 +85,7 @@ fn are_hex_digits(word: &[u8]) -> bool
 pub(crate) fn colour_words(words: &[u8]) -> Option<(u16, u16)>
     ensures value { MatchOption result (colour_line (words_in words.now) ≡ None)
         (λ said. colour_line (words_in words.now) ≡ Some (Colour said.0 said.1)) }
-    ensures below { IfSome result (λ said. said.1 < 4096) }
+    ensures below { IfSome result (λ said. said.1 < colour_values) }
 {
     let (number_word, colour_word) = two_words(words)?;
     let number = small_number(number_word)?;
@@ -95,7 +98,7 @@ pub(crate) fn row_words(words: &[u8]) -> Option<(u16, u16, &[u8])>
     ensures value { MatchOption result (row_line (words_in words.now) ≡ None)
         (λ said. row_line (words_in words.now) ≡ Some (Row said.0 said.1 (map digit_value said.2.now))) }
     ensures digits { IfSome result (λ said. list_all is_ascii_hexdigit said.2.now ≡ true) }
-    ensures below { IfSome result (λ said. (said.0 < 1000) × (said.1 < 1000)) }
+    ensures below { IfSome result (λ said. (said.0 < small_number_values) × (said.1 < small_number_values)) }
 {
     let (x_word, y_word, pixels) = three_words(words)?;
     let x = small_number(x_word)?;

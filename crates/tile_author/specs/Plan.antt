@@ -3,6 +3,7 @@ use Rattle.std.specs.Prelude.{◌/◌, ℕ, ◌+◌, ◌*◌, Bool, true, false,
 use Rattle.std.specs.List.{list_all}
 use Rattle.bit_lists.specs.Counting.{below, parts}
 use Rattle.bit_lists.specs.Bits.{has_bit, number_of}
+use Rattle.cdg_instructions.specs.Sizes.{tile_height, tile_pixels, tile_width}
 use Rattle.cdg_instructions.specs.declared.instr.Instr.{Instr}
 use Rattle.cdg_instructions.specs.declared.instr.Instr.TheVariants.{SetTile, XorTile}
 
@@ -18,11 +19,11 @@ basis_from members [] = members
 basis_from members (number ∷ rest) =
     basis_from (if is_combination members number then members else members ++ number ∷ []) rest
 
--- the differences_from_first of the pixels from the first pixel
+-- the differences of the pixels from the first pixel
 unfoldable pub differences_from_first : List ℕ → List ℕ
 differences_from_first pixels = map (bit_xor (slice_index pixels 0)) pixels
 
--- those differences_from_first that are no combination of the ones before them
+-- those differences that are no combination of the ones before them
 unfoldable pub basis : List ℕ → List ℕ
 basis pixels = basis_from [] (differences_from_first pixels)
 
@@ -49,7 +50,7 @@ member_bits pixels j = map (λ d. has_bit j (selection (basis pixels) d)) (diffe
 
 -- the same as twelve lines of six bits, the leftmost the highest
 unfoldable pub tile_lines : List ℕ → ℕ → List ℕ
-tile_lines pixels j = map number_of (parts 12 6 (member_bits pixels j))
+tile_lines pixels j = map number_of (parts tile_height tile_width (member_bits pixels j))
 
 -- instruction j of those that draw the pixels, or that combine them with what stands; the first is number 0
 unfoldable pub planned : Bool → ℕ → ℕ → List ℕ → ℕ → Instr
@@ -62,7 +63,7 @@ planned draws row column pixels j =
 
 -- what is to be combined with the old pixels
 unfoldable pub delta : List ℕ → List ℕ → List ℕ
-delta old new = map (λ p. bit_xor (slice_index old p) (slice_index new p)) (below 72)
+delta old new = map (λ p. bit_xor (slice_index old p) (slice_index new p)) (below tile_pixels)
 
 -- whether the new pixels are the old ones
 unfoldable pub are_equal : List ℕ → List ℕ → Bool

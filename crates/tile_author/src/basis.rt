@@ -5,16 +5,13 @@ ghost use Rattle.bit_lists.specs.Bits.{has_bit};
 ghost use Rattle.bit_lists.specs.Counting.{below};
 ghost use Rattle.tile_author.specs.Plan.{is_combination, selection, basis, tile_lines, planned, weight};
 ghost use Rattle.tile_author.specs.Table.{entry, IsBasis, basis_of_lines};
+ghost use Rattle.tile_author.specs.Sizes.{most_steps, number_count};
+ghost use Rattle.cdg_instructions.specs.Sizes.{tile_height, tile_pixels, tile_width};
 
+use crate::sizes::{MOST_STEPS, NUMBERS};
 use arrayvec::ArrayVec;
-use cdg_instructions::{Instr, PIXELS};
+use cdg_instructions::{Instr, PIXELS, TILE_HEIGHT, TILE_WIDTH};
 use std::marker::Model;
-
-// How many numbers below 16 can be independent.
-const MOST: usize = 4;
-
-// How many numbers there are of four bits.
-const NUMBERS: usize = 16;
 
 /// Independent numbers of four bits, in the order in which they came, with the selection of them that makes each
 /// number.
@@ -22,7 +19,7 @@ const NUMBERS: usize = 16;
 /// A contract sees the members.
 #[derive(Drop)]
 pub(crate) struct Basis {
-    members: ArrayVec<u8, MOST>,
+    members: ArrayVec<u8, MOST_STEPS>,
     selections: [Option<u8>; NUMBERS],
 }
 
@@ -58,7 +55,7 @@ impl Basis {
             return basis;
         }
         basis.offer_line(pixels, 0);
-        for line in 1..12 {
+        for line in 1..TILE_HEIGHT {
             basis.offer_later_line(pixels, line);
         }
         basis
@@ -67,12 +64,12 @@ impl Basis {
     // Takes the differences of a line's pixels as members where they are no combinations.
     fn offer_line(&mut self, pixels: &[u8; PIXELS], line: usize)
         requires tile { IsTilePixels pixels.now }
-        requires line { line < 12 }
+        requires line { line < tile_height }
         requires before { self.old ≡ basis_of_lines line pixels.now }
         ensures { self.new ≡ basis_of_lines (line + 1) pixels.now }
     {
-        for i in 0..6 {
-            self.offer(pixels[0] ^ pixels[6 * line + i]);
+        for i in 0..TILE_WIDTH {
+            self.offer(pixels[0] ^ pixels[TILE_WIDTH * line + i]);
         }
     }
 
@@ -80,7 +77,7 @@ impl Basis {
     fn offer_later_line(&mut self, pixels: &[u8; PIXELS], line: usize)
         requires tile { IsTilePixels pixels.now }
         requires first { 0 < line }
-        requires line { line < 12 }
+        requires line { line < tile_height }
         requires before { self.old ≡ basis_of_lines line pixels.now }
         ensures { self.new ≡ basis_of_lines (line + 1) pixels.now }
     {
@@ -95,7 +92,7 @@ impl Basis {
     pub(crate) fn weight(&self) -> usize
         ensures value { result ≡ max 1 (length self.now) }
         ensures some { 0 < result }
-        ensures most { result ≤ 4 }
+        ensures most { result ≤ most_steps }
     {
         self.members.len().max(1)
     }
@@ -103,7 +100,7 @@ impl Basis {
     // The selection of members that makes a number; its bit j is for member j.
     #[inline]
     fn selection(&self, number: u8) -> Option<u8>
-        requires { number < 16 }
+        requires { number < number_count }
         ensures { result ≡ entry self.now number }
     {
         self.selections[number as usize]
@@ -112,7 +109,7 @@ impl Basis {
     // Whether members make a number.
     #[inline]
     fn makes(&self, number: u8) -> bool
-        requires { number < 16 }
+        requires { number < number_count }
         ensures { result ≡ is_combination self.now number }
     {
         self.selection(number).is_some()
@@ -120,9 +117,9 @@ impl Basis {
 
     // The selection that makes a number once a further one is a member.
     fn grown(&self, member: u8, number: u8) -> Option<u8>
-        requires member { member < 16 }
-        requires number { number < 16 }
-        requires room { length self.now < 4 }
+        requires member { member < number_count }
+        requires number { number < number_count }
+        requires room { length self.now < most_steps }
         requires independent { is_combination self.now member ≡ false }
         ensures { result ≡ entry (self.now ++ member ∷ []) number }
     {
@@ -138,10 +135,10 @@ impl Basis {
 
     // The selections once a further number is a member. The first one makes itself alone, beside 0.
     fn selections_with(&self, member: u8) -> [Option<u8>; NUMBERS]
-        requires member { member < 16 }
-        requires room { length self.now < 4 }
+        requires member { member < number_count }
+        requires room { length self.now < most_steps }
         requires independent { is_combination self.now member ≡ false }
-        ensures { (number : ℕ) → number < 16
+        ensures { (number : ℕ) → number < number_count
             → slice_index_or result number None ≡ entry (self.now ++ member ∷ []) number }
     {
         let mut selections = [None; NUMBERS];
@@ -158,7 +155,7 @@ impl Basis {
 
     // Takes a number as a member where it is no combination of those that it has.
     fn offer(&mut self, number: u8)
-        requires { number < 16 }
+        requires { number < number_count }
         ensures { self.new ≡ (if is_combination self.old number then self.old else self.old ++ number ∷ []) }
     {
         if !self.makes(number) {
@@ -182,9 +179,9 @@ impl Basis {
     // Whether member j has a part in a number that the members make: 1 if so, and else 0.
     #[inline]
     fn bit(&self, number: u8, j: usize) -> u8
-        requires number { number < 16 }
+        requires number { number < number_count }
         requires made { is_combination self.now number ≡ true }
-        requires member { j < 4 }
+        requires member { j < most_steps }
         ensures value { result ≡ (if has_bit j (selection self.now number) then 1 else 0) }
         ensures below { result < 2 }
     {
@@ -198,13 +195,13 @@ impl Basis {
     fn line(&self, pixels: &[u8; PIXELS], line: usize, j: usize) -> u8
         requires tile { IsTilePixels pixels.now }
         requires members { self.now ≡ basis pixels.now }
-        requires line { line < 12 }
-        requires member { j < 4 }
+        requires line { line < tile_height }
+        requires member { j < most_steps }
         ensures { result ≡ slice_index (tile_lines pixels.now j) line }
     {
         let mut bits = 0;
-        for i in 0..6 {
-            bits = 2 * bits + self.bit(pixels[0] ^ pixels[6 * line + i], j);
+        for i in 0..TILE_WIDTH {
+            bits = 2 * bits + self.bit(pixels[0] ^ pixels[TILE_WIDTH * line + i], j);
         }
         bits
     }
@@ -214,8 +211,8 @@ impl Basis {
         requires tile { IsTilePixels pixels.now }
         requires members { self.now ≡ basis pixels.now }
         requires first { 0 < line }
-        requires line { line < 12 }
-        requires member { j < 4 }
+        requires line { line < tile_height }
+        requires member { j < most_steps }
         requires before { before ≡ slice_index (tile_lines pixels.now j) (line - 1) }
         ensures { result ≡ slice_index (tile_lines pixels.now j) line }
     {
@@ -226,15 +223,15 @@ impl Basis {
     }
 
     // The twelve lines of the instruction for member j.
-    fn lines(&self, pixels: &[u8; PIXELS], j: usize) -> [u8; 12]
+    fn lines(&self, pixels: &[u8; PIXELS], j: usize) -> [u8; TILE_HEIGHT]
         requires tile { IsTilePixels pixels.now }
         requires members { self.now ≡ basis pixels.now }
-        requires member { j < 4 }
+        requires member { j < most_steps }
         ensures { result ≡ tile_lines pixels.now j }
     {
-        let mut lines = [0; 12];
+        let mut lines = [0; TILE_HEIGHT];
         lines[0] = self.line(pixels, 0, j);
-        for i in 1..12 {
+        for i in 1..TILE_HEIGHT {
             lines[i] = self.line_after(pixels, i, j, lines[i - 1]);
         }
         lines
@@ -251,7 +248,7 @@ impl Basis {
     ) -> Instr
         requires tile { IsTilePixels pixels.now }
         requires members { self.now ≡ basis pixels.now }
-        requires member { j < 4 }
+        requires member { j < most_steps }
         ensures { result ≡ planned draws row column pixels.now j }
     {
         let colour0 = ground(pixels, j);
@@ -283,7 +280,7 @@ impl Basis {
         draws: bool,
         row: u8,
         column: u8,
-    ) -> ArrayVec<Instr, MOST>
+    ) -> ArrayVec<Instr, MOST_STEPS>
         requires tile { IsTilePixels pixels.now }
         requires members { self.now ≡ basis pixels.now }
         ensures { result.items ≡ map (planned draws row column pixels.now) (below (weight pixels.now)) }
@@ -307,11 +304,12 @@ fn ground(pixels: &[u8; PIXELS], j: usize) -> u8
 #[inline]
 fn is_line_before(pixels: &[u8; PIXELS], line: usize) -> bool
     requires first { 0 < line }
-    requires last { line < 12 }
-    ensures { IsTrue result → (i : ℕ) → i < 6
-        → slice_index pixels.now (6 * line + i) ≡ slice_index pixels.now (6 * (line - 1) + i) }
+    requires last { line < tile_height }
+    ensures { IsTrue result → (i : ℕ) → i < tile_width
+        → slice_index pixels.now (tile_width * line + i)
+        ≡ slice_index pixels.now (tile_width * (line - 1) + i) }
 {
-    let start = 6 * line;
+    let start = TILE_WIDTH * line;
     pixels[start - 6] == pixels[start]
         && pixels[start - 5] == pixels[start + 1]
         && pixels[start - 4] == pixels[start + 2]
@@ -322,7 +320,8 @@ fn is_line_before(pixels: &[u8; PIXELS], line: usize) -> bool
 
 // Whether all pixels have the colour of the first. It looks at all of them, so that many can be compared at once.
 fn is_one_colour(pixels: &[u8; PIXELS]) -> bool
-    ensures { IsTrue result → (i : ℕ) → i < 72 → slice_index pixels.now i ≡ slice_index pixels.now 0 }
+    ensures { IsTrue result → (i : ℕ) → i < tile_pixels
+        → slice_index pixels.now i ≡ slice_index pixels.now 0 }
 {
     let first = pixels[0];
     let mut same = true;

@@ -4,22 +4,26 @@
 ghost use Rattle.std.specs.Prelude.{◌≡◌, ◌≢◌, ◌==◌, ℕ, ◌<◌, ◌≤◌, List, length, replicate, slice_index, bit_xor, ◌^◌, true};
 ghost use Rattle.std.specs.List.{list_all};
 ghost use Rattle.cdg_instructions.specs.Instruction.{IsTilePixels};
-ghost use Rattle.cdg_instructions.specs.Sizes.{tile_pixels};
+ghost use Rattle.cdg_instructions.specs.Sizes.{colour_count, column_values, row_values, screen_columns, screen_rows, tile_pixels};
 ghost use Rattle.cdg_instructions.specs.Drawing.{Turns, IsLeast};
 ghost use Rattle.tile_author.specs.Plan.{basis, combination, delta, is_combination, plan, selection, steps, weight};
 ghost use Rattle.tile_author.specs.Table.{are_independent};
+ghost use Rattle.tile_author.specs.Sizes.{most_steps};
 
 mod basis;
+mod sizes;
 
 use arrayvec::ArrayVec;
 use basis::Basis;
 use cdg_instructions::{Instr, PIXELS, Tile};
+pub use sizes::MOST_STEPS;
 
 /// The length of a shortest list of tile instructions of one place that turns the old tile into the new one.
 pub fn steps(old: &Tile, new: &Tile) -> u8
     ensures value { result ≡ steps old.now new.now }
-    ensures least { (row column : ℕ) → row < 32 → column < 64 → IsLeast row column old.now new.now result }
-    ensures most { result ≤ 4 }
+    ensures least { (row column : ℕ) → row < row_values → column < column_values
+        → IsLeast row column old.now new.now result }
+    ensures most { result ≤ most_steps }
 {
     steps_of_weight(old, new, weight(new))
 }
@@ -29,16 +33,17 @@ pub fn steps(old: &Tile, new: &Tile) -> u8
 pub fn steps_of_weight(old: &Tile, new: &Tile, drawn: u8) -> u8
     requires { drawn ≡ weight new.now }
     ensures value { result ≡ steps old.now new.now }
-    ensures least { (row column : ℕ) → row < 32 → column < 64 → IsLeast row column old.now new.now result }
-    ensures most { result ≤ 4 }
+    ensures least { (row column : ℕ) → row < row_values → column < column_values
+        → IsLeast row column old.now new.now result }
+    ensures most { result ≤ most_steps }
 {
     count(old.pixels(), new.pixels(), drawn)
 }
 
 /// A shortest list of tile instructions of this place that turns the old tile into the new one.
 pub fn plan(old: &Tile, new: &Tile, row: u8, column: u8) -> ArrayVec<Instr, 4>
-    requires row { row < 18 }
-    requires column { column < 50 }
+    requires row { row < screen_rows }
+    requires column { column < screen_columns }
     ensures plan { result.items ≡ plan row column old.now new.now }
     ensures turns { Turns row column old.now new.now result.items }
     ensures count { length result.items ≡ steps old.now new.now }
@@ -50,11 +55,11 @@ pub fn plan(old: &Tile, new: &Tile, row: u8, column: u8) -> ArrayVec<Instr, 4>
 /// colour.
 pub fn weight(new: &Tile) -> u8
     ensures value { result ≡ weight new.now }
-    ensures least { (row column c : ℕ) → row < 32 → column < 64 → c < 16 → new.now ≢ replicate 72 c
-        → IsLeast row column (replicate 72 c) new.now result }
-    ensures none { (row column c : ℕ) → row < 32 → column < 64 → c < 16 → new.now ≡ replicate 72 c
-        → IsLeast row column (replicate 72 c) new.now 0 }
-    ensures most { result ≤ 4 }
+    ensures least { (row column c : ℕ) → row < row_values → column < column_values → c < colour_count
+        → new.now ≢ replicate tile_pixels c → IsLeast row column (replicate tile_pixels c) new.now result }
+    ensures none { (row column c : ℕ) → row < row_values → column < column_values → c < colour_count
+        → new.now ≡ replicate tile_pixels c → IsLeast row column (replicate tile_pixels c) new.now 0 }
+    ensures most { result ≤ most_steps }
 {
     Basis::of(new.pixels()).weight() as u8
 }
@@ -65,7 +70,7 @@ fn count(old: &[u8; PIXELS], new: &[u8; PIXELS], drawn: u8) -> u8
     requires new { IsTilePixels new.now }
     requires drawn { drawn ≡ weight new.now }
     ensures value { result ≡ steps old.now new.now }
-    ensures most { result ≤ 4 }
+    ensures most { result ≤ most_steps }
 {
     let changes = changes(old, new);
     if is_blank(&changes) {
@@ -79,7 +84,7 @@ fn count(old: &[u8; PIXELS], new: &[u8; PIXELS], drawn: u8) -> u8
 }
 
 // The plan for these pixels.
-fn list(old: &[u8; PIXELS], new: &[u8; PIXELS], row: u8, column: u8) -> ArrayVec<Instr, 4>
+fn list(old: &[u8; PIXELS], new: &[u8; PIXELS], row: u8, column: u8) -> ArrayVec<Instr, MOST_STEPS>
     requires old { IsTilePixels old.now }
     requires new { IsTilePixels new.now }
     ensures { result.items ≡ plan row column old.now new.now }
@@ -139,12 +144,12 @@ pub fn selections_are_the_only_ones()
 
 /// The plan of each two tiles turns the one into the other, and no list of instructions of their place is shorter.
 pub fn plans_are_shortest()
-    ensures turns { (row column : ℕ) (old new : List ℕ) → row < 18 → column < 50 → IsTilePixels old
-        → IsTilePixels new → Turns row column old new (plan row column old new) }
-    ensures count { (row column : ℕ) (old new : List ℕ) → row < 18 → column < 50 → IsTilePixels old
-        → IsTilePixels new → length (plan row column old new) ≡ steps old new }
-    ensures least { (row column : ℕ) (old new : List ℕ) → row < 32 → column < 64 → IsTilePixels old
-        → IsTilePixels new → IsLeast row column old new (steps old new) }
+    ensures turns { (row column : ℕ) (old new : List ℕ) → row < screen_rows → column < screen_columns
+        → IsTilePixels old → IsTilePixels new → Turns row column old new (plan row column old new) }
+    ensures count { (row column : ℕ) (old new : List ℕ) → row < screen_rows → column < screen_columns
+        → IsTilePixels old → IsTilePixels new → length (plan row column old new) ≡ steps old new }
+    ensures least { (row column : ℕ) (old new : List ℕ) → row < row_values → column < column_values
+        → IsTilePixels old → IsTilePixels new → IsLeast row column old new (steps old new) }
 {}
 
 /// A law: a tile of weight 1 takes one instruction where a tile stands that differs from it.

@@ -2,9 +2,10 @@
 use cdg_instructions::{Instr, WINDOW_TILES};
 use std::alloc::{AllocError, Global};
 use std::marker::Model;
+use tile_author::MOST_STEPS;
 
 // The most instructions that a change has: one that sets all memory, three settings, and four for each tile.
-const MOST_CHANGE: usize = 4 + 4 * WINDOW_TILES;
+const MOST_CHANGE: usize = 4 + MOST_STEPS * WINDOW_TILES;
 
 /// A list of at most 3,076 instructions.
 #[derive(Drop)]
@@ -38,6 +39,7 @@ impl ChangeList {
         Ok(ChangeList { instrs, len: 0 })
     }
 
+    /// Instruction `i`.
     pub(crate) fn get(&self, i: usize) -> Instr
         requires { i < length self.now }
         ensures { result ≡ slice_index_or self.now i Idle }
@@ -45,12 +47,14 @@ impl ChangeList {
         self.instrs[i]
     }
 
+    /// Makes the list empty; its memory stays.
     pub(crate) fn clear(&mut self)
         ensures { self.new ≡ [] }
     {
         self.len = 0;
     }
 
+    /// Adds an instruction at the end.
     pub(crate) fn push(&mut self, instr: Instr)
         requires { length self.old < most_change }
         ensures { self.new ≡ self.old ++ instr ∷ [] }

@@ -1,5 +1,6 @@
 // Which tiles two canvases share.
 ghost use Rattle.std.specs.Prelude.{◌≡◌, ◌<◌, ◌≤◌, ◌-◌, IsTrue, ◌↔◌};
+ghost use Rattle.cdg_instructions.specs.Sizes.{window_columns, window_rows};
 ghost use Rattle.picture_script.specs.Board.{IsPicture, tile_of};
 ghost use Rattle.pack_schedule.specs.SameTiles.{AreSameRows, SameTiles};
 
@@ -36,9 +37,9 @@ pub(crate) fn is_same_tile(
 ) -> bool
     requires same { AreSameRows before.now.pixels now.now.pixels same.now }
     requires row_first { 1 ≤ row }
-    requires row_last { row ≤ 16 }
+    requires row_last { row ≤ window_rows }
     requires column_first { 1 ≤ column }
-    requires column_last { column ≤ 48 }
+    requires column_last { column ≤ window_columns }
     ensures { IsTrue result ↔ tile_of before.now.pixels row column ≡ tile_of now.now.pixels row column }
 {
     same[usize::from(row) - 1] || before.has_tile_of(now, row, column)

@@ -1,15 +1,16 @@
 // The start from which the change of a picture is shortest.
 ghost use Rattle.std.specs.Prelude.{◌≡◌, ◌<◌, ◌≤◌, ◌+◌, ◌-◌, ℕ, length, slice_index, Some, None, nat_lt, if◌then◌else◌};
+ghost use Rattle.cdg_instructions.specs.Sizes.{colour_count};
 ghost use Rattle.picture_script.specs.Board.{IsPicture};
 ghost use Rattle.pack_schedule.specs.Weights.{AreWeights};
-ghost use Rattle.picture_changes.specs.Change.{most_change, settings};
+ghost use Rattle.picture_changes.specs.Change.{most_change, most_tile_steps, settings};
 ghost use Rattle.picture_changes.specs.PlannedChange.{tile_steps, planned_length, preferred, chosen_start};
 
 use crate::change::same_tiles::{is_same_picture, same_rows};
 use crate::change::settings::count_settings;
 use crate::change::tiles::{TileCounts, count_tiles};
 use crate::change::weights::Weighed;
-use cdg_instructions::WINDOW_TILES;
+use cdg_instructions::{COLOURS, WINDOW_TILES};
 use picture_script::{Canvas, Script};
 
 /// The colour of which all memory is set first, if one is, and how many instructions the change then has.
@@ -42,8 +43,8 @@ fn colour_length(script: &Script, k: u32, beside: u32, counts: &TileCounts, colo
     requires few_beside { beside ≤ 3 }
     requires colours { counts.now.whole
         ≡ slice_index counts.now.single colour + tile_steps script.now k (Some colour) }
-    requires few { counts.now.whole ≤ 3072 }
-    requires colour { colour < 16 }
+    requires few { counts.now.whole ≤ most_tile_steps }
+    requires colour { colour < colour_count }
     ensures value { result ≡ planned_length script.now k (Some colour) }
     ensures few { result ≤ most_change }
 {
@@ -55,9 +56,9 @@ fn first_choice(script: &Script, k: u32, beside: u32, counts: &TileCounts) -> Ch
     requires beside { beside ≡ length (settings script.now k) }
     requires few_beside { beside ≤ 3 }
     requires stands { 0 < k → counts.now.stands ≡ tile_steps script.now k None }
-    requires colours { (c : ℕ) → c < 16
+    requires colours { (c : ℕ) → c < colour_count
         → counts.now.whole ≡ slice_index counts.now.single c + tile_steps script.now k (Some c) }
-    requires few { (counts.now.stands ≤ 3072) × (counts.now.whole ≤ 3072) }
+    requires few { (counts.now.stands ≤ most_tile_steps) × (counts.now.whole ≤ most_tile_steps) }
     ensures preset { result.preset ≡ preferred k }
     ensures need { result.need ≡ planned_length script.now k result.preset }
     ensures few { result.need ≤ most_change }
@@ -80,15 +81,15 @@ fn choose(script: &Script, k: u32, beside: u32, counts: &TileCounts) -> Choice
     requires beside { beside ≡ length (settings script.now k) }
     requires few_beside { beside ≤ 3 }
     requires stands { 0 < k → counts.now.stands ≡ tile_steps script.now k None }
-    requires colours { (c : ℕ) → c < 16
+    requires colours { (c : ℕ) → c < colour_count
         → counts.now.whole ≡ slice_index counts.now.single c + tile_steps script.now k (Some c) }
-    requires few { (counts.now.stands ≤ 3072) × (counts.now.whole ≤ 3072) }
+    requires few { (counts.now.stands ≤ most_tile_steps) × (counts.now.whole ≤ most_tile_steps) }
     ensures preset { result.preset ≡ chosen_start script.now k }
     ensures need { result.need ≡ planned_length script.now k result.preset }
     ensures few { result.need ≤ most_change }
 {
     let mut choice = first_choice(script, k, beside, counts);
-    for colour in 0..16u8 {
+    for colour in 0..COLOURS as u8 {
         choice = choice.or_colour(colour, colour_length(script, k, beside, counts, colour));
     }
     choice

@@ -1,9 +1,10 @@
 // The tiles of a picture: how many instructions bring them, from each start at once, and which from one.
 ghost use Rattle.std.specs.Prelude.{◌≡◌, ◌<◌, ◌≤◌, ◌+◌, ◌-◌, ◌++◌, ℕ, List, length, slice_index, replicate, Some, None};
-ghost use Rattle.cdg_instructions.specs.Sizes.{tile_pixels};
+ghost use Rattle.cdg_instructions.specs.Sizes.{colour_count, tile_pixels, window_columns, window_rows};
+ghost use Rattle.tile_author.specs.Sizes.{most_steps};
 ghost use Rattle.tile_author.specs.Plan.{steps};
 ghost use Rattle.picture_script.specs.Board.{IsPicture};
-ghost use Rattle.picture_changes.specs.Change.{tiles_before, IsStart};
+ghost use Rattle.picture_changes.specs.Change.{most_tile_steps, tiles_before, IsStart};
 ghost use Rattle.picture_changes.specs.PlannedChange.{planned_tiles, tile_steps};
 ghost use Rattle.pack_schedule.specs.SameTiles.{AreSameRows};
 ghost use Rattle.pack_schedule.specs.Weights.{AreWeights, IsWeighed};
@@ -12,9 +13,9 @@ use crate::change::list::ChangeList;
 use crate::change::same_tiles::{is_same_tile, same_rows};
 use crate::change::weights::{Weighed, weigh_tile};
 use arrayvec::ArrayVec;
-use cdg_instructions::{Instr, PIXELS, Tile, WINDOW_COLUMNS, WINDOW_ROWS, WINDOW_TILES};
+use cdg_instructions::{COLOURS, Instr, PIXELS, Tile, WINDOW_COLUMNS, WINDOW_ROWS, WINDOW_TILES};
 use picture_script::{Canvas, Script};
-use tile_author::plan;
+use tile_author::{MOST_STEPS, plan};
 
 /// The sums over tiles of what they take: from what stands there, and from a colour; and of the tiles that are all
 /// one colour.
@@ -22,24 +23,25 @@ use tile_author::plan;
 pub(crate) struct TileCounts {
     pub(crate) stands: u32,
     pub(crate) whole: u32,
-    pub(crate) single: [u32; 16],
+    pub(crate) single: [u32; COLOURS],
 }
 
 impl TileCounts {
     // Counts a tile that takes so many instructions from what stands there, and these from a colour.
     fn add(&mut self, taken: u32, kept: Weighed)
-        requires taken { taken ≤ 4 }
+        requires taken { taken ≤ most_steps }
         requires kept { (tile : List ℕ) × IsWeighed tile kept }
         requires stands { self.old.stands ≤ 4000 }
         requires whole { self.old.whole ≤ 4000 }
         requires single { (c : ℕ) → slice_index self.old.single c ≤ 4000 }
         ensures stands { self.new.stands ≡ self.old.stands + taken }
-        ensures colours { (tile : List ℕ) → IsWeighed tile kept → (c : ℕ) → c < 16
+        ensures colours { (tile : List ℕ) → IsWeighed tile kept → (c : ℕ) → c < colour_count
             → self.new.whole + slice_index self.old.single c
             ≡ self.old.whole + slice_index self.new.single c + steps (replicate tile_pixels c) tile }
-        ensures few_stands { self.new.stands ≤ self.old.stands + 4 }
-        ensures few_whole { self.new.whole ≤ self.old.whole + 4 }
-        ensures few_single { (c : ℕ) → slice_index self.new.single c ≤ slice_index self.old.single c + 4 }
+        ensures few_stands { self.new.stands ≤ self.old.stands + most_steps }
+        ensures few_whole { self.new.whole ≤ self.old.whole + most_steps }
+        ensures few_single { (c : ℕ)
+            → slice_index self.new.single c ≤ slice_index self.old.single c + most_steps }
     {
         let weight = u32::from(kept.weight);
         self.stands += taken;
@@ -65,14 +67,14 @@ pub(crate) fn count_tiles(
     requires weights { 0 < k → AreWeights script.now (k - 1) weights.old }
     ensures weights { AreWeights script.now k weights.new }
     ensures stands { 0 < k → result.stands ≡ tile_steps script.now k None }
-    ensures colours { (c : ℕ) → c < 16
+    ensures colours { (c : ℕ) → c < colour_count
         → result.whole ≡ slice_index result.single c + tile_steps script.now k (Some c) }
-    ensures few { (result.stands ≤ 3072) × (result.whole ≤ 3072) }
+    ensures few { (result.stands ≤ most_tile_steps) × (result.whole ≤ most_tile_steps) }
 {
     let mut counts = TileCounts {
         stands: 0,
         whole: 0,
-        single: [0; 16],
+        single: [0; COLOURS],
     };
     for i in 0..WINDOW_TILES {
         let taken = weigh_tile(weights, script, k, i, before, now, same);
@@ -110,10 +112,10 @@ impl ChangeList {
     }
 
     // Adds the instructions of a tile.
-    fn push_all(&mut self, instrs: &ArrayVec<Instr, 4>)
-        requires { length self.old ≤ 3072 }
+    fn push_all(&mut self, instrs: &ArrayVec<Instr, MOST_STEPS>)
+        requires { length self.old ≤ most_tile_steps }
         ensures whole { self.new ≡ self.old ++ instrs.now.items }
-        ensures few { length self.new ≤ length self.old + 4 }
+        ensures few { length self.new ≤ length self.old + most_steps }
     {
         for i in 0..instrs.len() {
             self.push(instrs[i]);
@@ -133,9 +135,9 @@ fn old_tile(
     requires before { 0 < k → IsPicture script.now (k - 1) before.now }
     requires start { IsStart k preset }
     requires row_first { 1 ≤ row }
-    requires row_last { row ≤ 16 }
+    requires row_last { row ≤ window_rows }
     requires column_first { 1 ≤ column }
-    requires column_last { column ≤ 48 }
+    requires column_last { column ≤ window_columns }
     ensures { result ≡ tiles_before script.now k preset row column }
 {
     match preset {

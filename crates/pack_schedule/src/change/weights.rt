@@ -1,7 +1,8 @@
 // What is kept of tiles from picture to picture, so that a tile that stays is not weighed again.
 ghost use Rattle.std.specs.Prelude.{◌≡◌, ◌≢◌, ◌<◌, ◌≤◌, ◌+◌, ◌-◌, ◌/◌, ◌%◌, ℕ, replicate, slice_index_or, MatchOption};
 ghost use Rattle.cdg_instructions.specs.Instruction.{IsTilePixels};
-ghost use Rattle.cdg_instructions.specs.Sizes.{tile_pixels};
+ghost use Rattle.cdg_instructions.specs.Sizes.{colour_count, tile_pixels, window_columns, window_tiles};
+ghost use Rattle.tile_author.specs.Sizes.{most_steps};
 ghost use Rattle.tile_author.specs.Plan.{steps, weight};
 ghost use Rattle.picture_script.specs.Script.{picture_tile};
 ghost use Rattle.picture_script.specs.Board.{IsPicture};
@@ -9,7 +10,7 @@ ghost use Rattle.pack_schedule.specs.SameTiles.{AreSameRows};
 ghost use Rattle.pack_schedule.specs.Weights.{IsWeighed, IsWeighedAt, not_weighed};
 
 use crate::change::same_tiles::is_same_tile;
-use cdg_instructions::{Tile, WINDOW_COLUMNS, WINDOW_ROWS, WINDOW_TILES};
+use cdg_instructions::{PIXELS, Tile, WINDOW_COLUMNS, WINDOW_ROWS, WINDOW_TILES};
 use picture_script::{Canvas, Script};
 use tile_author::{light_tiles_take_one, plans_are_shortest, steps_of_weight, weight};
 
@@ -41,10 +42,10 @@ fn weigh(tile: &Tile) -> Weighed
 fn single_colour(tile: &Tile) -> Option<u8>
     ensures tile { IsTilePixels tile.now }
     ensures colour { MatchOption result ((c : ℕ) → tile.now ≢ replicate tile_pixels c)
-        (λ c. (c < 16) × (tile.now ≡ replicate tile_pixels c)) }
+        (λ c. (c < colour_count) × (tile.now ≡ replicate tile_pixels c)) }
 {
     let pixels = tile.pixels();
-    if pixels[1..72] == pixels[0..71] {
+    if pixels[1..PIXELS] == pixels[0..PIXELS - 1] {
         return Some(pixels[0]);
     }
     None
@@ -61,14 +62,15 @@ pub(crate) fn weigh_tile(
     now: &Canvas,
     same: &[bool; WINDOW_ROWS],
 ) -> u32
-    requires place { i < 768 }
+    requires place { i < window_tiles }
     requires same { AreSameRows before.now.pixels now.now.pixels same.now }
     requires now { IsPicture script.now k now.now }
     requires before { 0 < k → IsPicture script.now (k - 1) before.now }
     requires kept { 0 < k → IsWeighedAt script.now (k - 1) i weights.old }
-    ensures taken { 0 < k → result ≡ steps (picture_tile script.now (k - 1) (i / 48 + 1) (i % 48 + 1))
-        (picture_tile script.now k (i / 48 + 1) (i % 48 + 1)) }
-    ensures few { result ≤ 4 }
+    ensures taken { 0 < k → result
+        ≡ steps (picture_tile script.now (k - 1) (i / window_columns + 1) (i % window_columns + 1))
+        (picture_tile script.now k (i / window_columns + 1) (i % window_columns + 1)) }
+    ensures few { result ≤ most_steps }
     ensures kept { IsWeighedAt script.now k i weights.new }
     ensures others { (m : ℕ) → m ≢ i
         → slice_index_or weights.new m not_weighed ≡ slice_index_or weights.old m not_weighed }

@@ -1,4 +1,4 @@
-// What a survey tells of each picture.
+// What a survey tells: where the change of each picture begins, how long it is, and what it sets first.
 use std::marker::Model;
 
 /// When the packs of a picture's change are sent.

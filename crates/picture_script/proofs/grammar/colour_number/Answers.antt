@@ -14,24 +14,24 @@ pub returns-in_default-clause-fill : goal.returns-in_default-clause-fill
 returns-in_default-clause-fill c =
     λ before. bad_line before _ (no_fill (words_in c.args.words.now) c.in_default.ensures.value)
 
-pub returns-then-colour-gt15-clause-border : goal.returns-then-colour-gt15-clause-border
-returns-then-colour-gt15-clause-border c = λ before.
+pub returns-then-from-ge-COLOURS-clause-border : goal.returns-then-from-ge-COLOURS-clause-border
+returns-then-from-ge-COLOURS-clause-border c = λ before.
     let words = words_in c.args.words.now in
     let numbers = c.in-Some.numbers in
     out_of_range before (border_line words) (Border (slice_index numbers 0))
     (one_border words numbers c.in-Some.ensures.value c.in-Some.ensures.count) refl
-    (test_false (slice_index numbers 0) 16 (omega arith))
+    (test_false (slice_index numbers 0) 16 (omega (arith, c.from.ensures)))
 
-pub returns-then-colour-gt15-clause-fill : goal.returns-then-colour-gt15-clause-fill
-returns-then-colour-gt15-clause-fill c = λ before.
+pub returns-then-from-ge-COLOURS-clause-fill : goal.returns-then-from-ge-COLOURS-clause-fill
+returns-then-from-ge-COLOURS-clause-fill c = λ before.
     let words = words_in c.args.words.now in
     let numbers = c.in-Some.numbers in
     out_of_range before (fill_line words) (Fill (slice_index numbers 0))
     (one_fill words numbers c.in-Some.ensures.value c.in-Some.ensures.count) refl
-    (test_false (slice_index numbers 0) 16 (omega arith))
+    (test_false (slice_index numbers 0) 16 (omega (arith, c.from.ensures)))
 
 pub returns-clause-ok : goal.returns-clause-ok
 returns-clause-ok c = (
   one_number (words_in c.args.words.now) c.in-Some.numbers c.in-Some.ensures.value c.in-Some.ensures.count,
-  omega arith,
+  omega (arith, c.from.ensures),
 )

@@ -10,11 +10,11 @@ pub returns-in_default : goal.returns-in_default
 returns-in_default c =
     bad_line (said_in c.args.self.now) (colour_line (words_in c.args.words.now)) c.in_default.ensures.value
 
-pub returns-then-number-gt15 : goal.returns-then-number-gt15
-returns-then-number-gt15 c =
+pub returns-then-from-ge-COLOURS : goal.returns-then-from-ge-COLOURS
+returns-then-from-ge-COLOURS c =
     out_of_range (said_in c.args.self.now) (colour_line (words_in c.args.words.now))
     (Colour c.in-Some.number c.in-Some.value) c.in-Some.ensures.value refl
-    (test_false c.in-Some.number 16 (omega arith))
+    (test_false c.in-Some.number 16 (omega (arith, c.from.ensures)))
 
 pub returns : goal.returns
 returns c =
@@ -22,5 +22,5 @@ returns c =
     c.push_line.new.self (Colour c.in-Some.number c.in-Some.value) c.push_line.result
     (in_range (said_in c.args.self.now) (colour_line (words_in c.args.words.now))
     (Colour c.in-Some.number c.in-Some.value) c.in-Some.ensures.value refl
-    (test_true c.in-Some.number 16 (omega arith)))
+    (test_true c.in-Some.number 16 (omega (arith, c.from.ensures))))
     c.push_line.ensures.ok c.push_line.ensures.err

@@ -1,5 +1,6 @@
 use Rattle.std.proofs.Common.{◌+◌, refl, sym, ap, ◌∙◌, map}
-use Rattle.std.specs.Prelude.{◌&&◌, nat_le}
+use Rattle.std.specs.Prelude.{◌&&◌, nat_le, nat_lt}
+use Rattle.cdg_instructions.specs.Sizes.{window_height, window_width}
 use Rattle.std.specs.Char.{digit_value}
 use Rattle.std.proofs.lemmas.List.{length-map}
 use Rattle.text_lines.specs.Text.{words_in}
@@ -17,7 +18,8 @@ pub returns-then-not-is_row : goal.returns-then-not-is_row
 returns-then-not-is_row c =
     let digits = c.in-Some.digits.now in
     let size =
-    ap (λ n. nat_le (c.in-Some.x + n) 288 && nat_le c.in-Some.y 191) (length-map digits digit_value) in
+    ap (λ n. nat_le (c.in-Some.x + n) window_width && nat_lt c.in-Some.y window_height)
+    (length-map digits digit_value) in
     out_of_range (said_in c.args.self.now) (row_line (words_in c.args.words.now))
     (Row c.in-Some.x c.in-Some.y (map digit_value digits)) c.in-Some.ensures.value refl
     (size ∙ sym c.is_row.ensures ∙ c.if-not-is_row.true)
@@ -26,7 +28,8 @@ pub returns : goal.returns
 returns c =
     let digits = c.in-Some.digits.now in
     let size =
-    ap (λ n. nat_le (c.in-Some.x + n) 288 && nat_le c.in-Some.y 191) (length-map digits digit_value) in
+    ap (λ n. nat_le (c.in-Some.x + n) window_width && nat_lt c.in-Some.y window_height)
+    (length-map digits digit_value) in
     taken (checked_line (said_in c.args.self.now) (row_line (words_in c.args.words.now))) c.args.self.now
     c.push_row.new.self (Row c.in-Some.x c.in-Some.y (map digit_value digits)) c.push_row.result
     (in_range (said_in c.args.self.now) (row_line (words_in c.args.words.now))
