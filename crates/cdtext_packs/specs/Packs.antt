@@ -1,10 +1,47 @@
--- Packs of eighteen bytes: type, track, number, position, twelve bytes of text, check.
+-- Packs of eighteen bytes: type, track, number, position, twelve bytes of text, check. Code calls their sizes by the
+-- names of src/pack.rt and src/kinds.rt.
 use Rattle.std.specs.Prelude.{ℕ, ◌+◌, ◌*◌, ◌/◌, ◌%◌, Bool, not, ◌&&◌, List, [], ◌∷◌, ◌++◌, take, drop, slice_index, ◌==◌, nat_lt}
 use Rattle.bit_lists.specs.Check.{check_of}
 
 -- the most packs of a disc: the number of a pack is a byte
 abbrev pub most_text_packs : ℕ
 most_text_packs = 256
+
+-- the bytes of a pack: those of its head and its text, and the two of their check
+abbrev pub pack_bytes : ℕ
+pack_bytes = 18
+
+-- the bytes of its head: type, track, number, position
+abbrev pub head_bytes : ℕ
+head_bytes = 4
+
+-- the bytes of its text
+abbrev pub text_bytes : ℕ
+text_bytes = 12
+
+-- the bytes of its head and its text, of which the check is
+abbrev pub checked_bytes : ℕ
+checked_bytes = 16
+
+-- how many size packs there are
+abbrev pub size_packs : ℕ
+size_packs = 3
+
+-- which of the bytes of text of the size packs is the first track
+abbrev pub first_track_place : ℕ
+first_track_place = 1
+
+-- which of the bytes of text of the size packs is the last track
+abbrev pub last_track_place : ℕ
+last_track_place = 2
+
+-- which of the bytes of text of the size packs is the number of the last pack
+abbrev pub last_number_place : ℕ
+last_number_place = 20
+
+-- the greatest position that a pack can tell, in four bits
+abbrev pub most_position : ℕ
+most_position = 15
 
 -- the type: 80 to 85 and 8E of the kinds of strings, 8F of the size packs, in hexadecimal
 abbrev pub pack_type : List ℕ → ℕ
@@ -20,11 +57,13 @@ pack_number pack = slice_index pack 2
 
 -- the twelve bytes of text
 abbrev pub pack_text : List ℕ → List ℕ
-pack_text pack = take 12 (drop 4 pack)
+pack_text pack = take text_bytes (drop head_bytes pack)
 
 -- whether the last two bytes are the check of the others, the high byte first
 unfoldable pub check_matches : List ℕ → Bool
-check_matches pack = check_of (take 16 pack) == 256 * slice_index pack 16 + slice_index pack 17
+check_matches pack =
+    check_of (take checked_bytes pack)
+    == 256 * slice_index pack checked_bytes + slice_index pack (checked_bytes + 1)
 
 -- whether a pack has single bytes as its characters and is of the first of eight blocks
 abbrev pub is_first_block : List ℕ → Bool

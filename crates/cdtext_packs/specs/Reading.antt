@@ -3,7 +3,7 @@ use Rattle.std.specs.Prelude.{ℕ, ◌+◌, ◌-◌, Bool, not, ◌&&◌, ◌||�
 use Rattle.std.specs.List.{filter_map, slice_split}
 use Rattle.bit_lists.specs.Counting.{below}
 use Rattle.disc_time.specs.Counts.{most_tracks}
-use Rattle.cdtext_packs.specs.Packs.{pack_type, pack_track, pack_number, pack_text}
+use Rattle.cdtext_packs.specs.Packs.{checked_bytes, first_track_place, head_bytes, last_number_place, last_track_place, pack_type, pack_track, pack_number, pack_text, text_bytes}
 use Rattle.cdtext_packs.specs.Kept.{with_number}
 use Rattle.cdtext_packs.specs.Texts.{Texts, no_texts, kinds}
 use Rattle.cdtext_packs.specs.Writing.{type_of, size_type}
@@ -85,7 +85,8 @@ all_texts kept first_track last_track =
 
 -- the texts of packs of which none is missing, where no kind has too few strings
 abbrev pub read_kinds : List (Option (List ℕ)) → ℕ → ℕ → Option TextKind → Result Texts TextFault
-read_kinds kept first_track last_track (Some kind) = Err (Malformed (last_number (kind_packs kept kind)) 15)
+read_kinds kept first_track last_track (Some kind) =
+    Err (Malformed (last_number (kind_packs kept kind)) (checked_bytes - 1))
 read_kinds kept first_track last_track None = Ok (all_texts kept first_track last_track)
 
 -- the least number that is not kept, of these numbers from 0 on
@@ -103,16 +104,16 @@ read_numbers kept count first_track last_track None =
     let used = take count kept in read_kinds used first_track last_track
     (first_short used (last_track - first_track + 2))
 
--- the texts of kept packs by the first two size packs: of the size bytes 1 is the first track, 2 the last, and 20 the
--- last number
+-- the texts of kept packs by the first two size packs, which tell the first track, the last track and the last number
 abbrev pub read_sized : List (Option (List ℕ)) → List ℕ → List ℕ → Result Texts TextFault
 read_sized kept size0 size1 =
-    let first_track = slice_index (pack_text size0) 1 in
-    let last_track = slice_index (pack_text size0) 2 in
-    let count = slice_index (pack_text size1) 8 + 1 in
-    if nat_lt first_track 1 || nat_lt most_tracks first_track then Err (Malformed (pack_number size0) 5)
+    let first_track = slice_index (pack_text size0) first_track_place in
+    let last_track = slice_index (pack_text size0) last_track_place in
+    let count = slice_index (pack_text size1) (last_number_place - text_bytes) + 1 in
+    if nat_lt first_track 1 || nat_lt most_tracks first_track
+    then Err (Malformed (pack_number size0) (head_bytes + first_track_place))
     else (if nat_lt last_track first_track || nat_lt most_tracks last_track
-    then Err (Malformed (pack_number size0) 6)
+    then Err (Malformed (pack_number size0) (head_bytes + last_track_place))
     else read_numbers kept count first_track last_track (first_missing kept count))
 
 -- the same where all three size packs are kept

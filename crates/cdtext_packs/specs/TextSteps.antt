@@ -1,6 +1,6 @@
 -- The steps of the stage that reads the text packs of the lead-in.
 use Rattle.bit_lists.specs.Counting.{counted}
-use Rattle.std.specs.Prelude.{◌≡◌, ℕ, ◌+◌, ◌-◌, ◌^◌, min, not, List, count_by, ◌==◌, if◌then◌else◌}
+use Rattle.std.specs.Prelude.{◌≡◌, ℕ, ◌-◌, not, List, count_by, ◌==◌, if◌then◌else◌}
 use Rattle.cdtext_packs.specs.Packs.{check_matches, is_good, is_of_other_block}
 use Rattle.cdtext_packs.specs.Kept.{nothing_kept, offer_of, kept_by, kept_among}
 use Rattle.cdtext_packs.specs.LeadIn.{pack_at}

@@ -2,7 +2,7 @@
 use Rattle.std.specs.Prelude.{ℕ, ◌+◌, ◌-◌, ◌*◌, ◌/◌, ◌≡◌, ◌<◌, ◌≤◌, List, [], ◌∷◌, ◌++◌, length, map, flat_map, take, drop, replicate, slice_index_or, min, ◌==◌, if◌then◌else◌}
 use Rattle.std.specs.List.{enumerate_from}
 use Rattle.bit_lists.specs.Counting.{below}
-use Rattle.cdtext_packs.specs.Packs.{most_text_packs, sealed}
+use Rattle.cdtext_packs.specs.Packs.{most_position, most_text_packs, sealed, size_packs, text_bytes}
 use Rattle.cdtext_packs.specs.Texts.{Texts, kinds, strings_of, are_empty, has_no_text}
 use Rattle.cdtext_packs.specs.declared.kinds.TextKind.{TextKind}
 use Rattle.cdtext_packs.specs.declared.kinds.TextKind.TheVariants.{Title, Performer, Songwriter, Composer, Arranger, Message, Code}
@@ -23,6 +23,14 @@ type_of Code = 0x8e
 abbrev pub size_type : ℕ
 size_type = 0x8f
 
+-- the code of the language English
+abbrev pub english : ℕ
+english = 9
+
+-- how many packs the strings of a kind fill at most: those of the album and of 99 tracks, each as long as it can be
+abbrev pub most_kind_packs : ℕ
+most_kind_packs = 559240542
+
 -- what a pack holds beside its number and its check
 pub record Content : Type 0 where
   pub type : ℕ
@@ -42,22 +50,23 @@ holders first (s ∷ rest) = map (λ offset. (first, offset)) (below (length s +
 
 -- part k of bytes that are cut by twelve, with zeros past the end
 abbrev pub twelve : List ℕ → ℕ → List ℕ
-twelve bytes k = take 12 (drop (12 * k) bytes ++ replicate 12 0)
+twelve bytes k = take text_bytes (drop (text_bytes * k) bytes ++ replicate text_bytes 0)
 
 -- pack k of the strings of a type: its track and position are those of the byte with which its text begins
 unfoldable pub text_content : ℕ → ℕ → List (List ℕ) → ℕ → Content
 text_content first type strings k =
-    let holder = slice_index_or (holders 0 strings) (12 * k) (0, 0) in
+    let holder = slice_index_or (holders 0 strings) (text_bytes * k) (0, 0) in
     record {
       type = type;
       track = if holder.0 == 0 then 0 else first + holder.0 - 1;
-      position = min holder.1 15;
+      position = min holder.1 most_position;
       text = twelve (joined strings) k;
     }
 
 -- how many packs the strings of a kind fill: none where every string is empty
 abbrev pub pack_count : List (List ℕ) → ℕ
-pack_count strings = if are_empty strings then 0 else (length (joined strings) + 11) / 12
+pack_count strings = if are_empty strings then 0
+    else (length (joined strings) + (text_bytes - 1)) / text_bytes
 
 -- what the packs of a kind hold, in order
 unfoldable pub kind_contents : Texts → TextKind → List Content
@@ -71,8 +80,9 @@ abbrev pub size_bytes : Texts → List ℕ
 size_bytes texts =
     let count = λ (kind : TextKind). length (kind_contents texts kind) in
     0 ∷ texts.first ∷ texts.last ∷ 0
-    ∷ (map count (take 6 kinds) ++ replicate 8 0 ++ count Code ∷ 3
-    ∷ (length (flat_map (kind_contents texts) kinds) + 2) ∷ (replicate 7 0 ++ 9 ∷ replicate 7 0))
+    ∷ (map count (take 6 kinds) ++ replicate 8 0 ++ count Code ∷ size_packs
+    ∷ (length (flat_map (kind_contents texts) kinds) + (size_packs - 1))
+    ∷ (replicate 7 0 ++ english ∷ replicate 7 0))
 
 -- what size pack d of the three holds
 abbrev pub size_content : Texts → ℕ → Content
@@ -85,7 +95,7 @@ size_content texts d = record {
 
 -- what the three size packs hold
 abbrev pub size_contents : Texts → List Content
-size_contents texts = map (size_content texts) (below 3)
+size_contents texts = map (size_content texts) (below size_packs)
 
 -- what all packs of texts hold, in order
 abbrev pub contents : Texts → List Content

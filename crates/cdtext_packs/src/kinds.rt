@@ -37,11 +37,26 @@ pub(crate) const FIRST_TRACK: usize = 1;
 /// Which of the 36 size bytes is the last track.
 pub(crate) const LAST_TRACK: usize = 2;
 
+/// How many size packs there are.
+pub(crate) const SIZE_PACKS: u8 = 3;
+
+/// The bytes of text of the size packs in a row.
+pub(crate) const SIZE_BYTES: usize = 36;
+
+/// Which of the 36 size bytes is the number of packs of codes.
+pub(crate) const CODE_COUNT: usize = 18;
+
+/// Which of the 36 size bytes is the number of size packs.
+pub(crate) const SIZE_COUNT: usize = 19;
+
 /// Which of the 36 size bytes is the number of the last pack.
 pub(crate) const LAST_NUMBER: usize = 20;
 
 /// Which of the 36 size bytes is the language.
 pub(crate) const LANGUAGE: usize = 28;
+
+/// The code of the language English.
+pub(crate) const ENGLISH: u8 = 9;
 
 impl TextKind {
     /// The type of its packs.

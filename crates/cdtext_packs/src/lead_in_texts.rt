@@ -5,7 +5,7 @@ ghost use Rattle.disc_time.specs.Counts.{most_lead_in};
 ghost use Rattle.cdtext_packs.specs.LeadIn.{lead_in_packs};
 ghost use Rattle.cdtext_packs.specs.TextSteps.{fresh_texts, offered, text_next, HasRead};
 
-use crate::{Offer, TextReader, offers_keep_the_first};
+use crate::{Offer, PACK_BYTES, TextReader, offers_keep_the_first};
 use cdg_io::{Piece, Stage};
 use raw_subcode::{BLOCK_BYTES, Block};
 use std::alloc::{AllocError, Global};
@@ -51,7 +51,7 @@ impl LeadInTexts {
 
     // Offers a pack to the reader, and counts the answer.
     #[tactic(auto, unfolding(crate::specs::TextSteps::offered))]
-    fn offer(&mut self, pack: &[u8; 18])
+    fn offer(&mut self, pack: &[u8; PACK_BYTES])
         ensures { self.new ≡ offered self.old pack.now }
     {
         match self.reader.offer(pack) {

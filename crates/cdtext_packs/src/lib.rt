@@ -20,7 +20,7 @@ pub use laws::offers_keep_the_first;
 pub use lead_in::lead_in_symbols;
 pub use lead_in_texts::{LeadInTexts, lead_in_packs_are_read};
 pub use map::TextMap;
-pub use pack::{MOST_PACKS, TextPack};
+pub use pack::{MOST_PACKS, PACK_BYTES, TEXT_BYTES, TextPack};
 pub use reader::TextReader;
 pub use strings::Strings;
 pub use text::write_lines;

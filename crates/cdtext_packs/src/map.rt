@@ -162,6 +162,13 @@ impl TextMap {
         self.last
     }
 
+    /// A law: every map has no texts at all, or those of tracks.
+    pub(crate) fn texts_are_of_tracks(&self)
+        ensures { AreTexts self.now }
+    {
+        let _first = self.first;
+    }
+
     /// The string of a track, or of the album as track 0, and an empty one where there is none.
     pub fn text(&self, kind: TextKind, track: u8) -> &[u8]
         ensures text { result.now ≡ text_of kind track self.now }

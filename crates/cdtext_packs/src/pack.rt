@@ -1,6 +1,6 @@
-// A pack of eighteen bytes.
+// A pack of eighteen bytes. Clauses call its sizes by the names of specs/Packs.antt.
 ghost use Rattle.std.specs.Prelude.{◌≡◌, ◌∷◌, List, ℕ, length};
-ghost use Rattle.cdtext_packs.specs.Packs.{pack_type, pack_track, pack_number, pack_text, check_matches, is_first_block, sealed};
+ghost use Rattle.cdtext_packs.specs.Packs.{pack_type, pack_track, pack_number, pack_text, check_matches, is_first_block, sealed, text_bytes};
 
 use std::marker::Model;
 use subcode_crc::crc16;
@@ -8,10 +8,25 @@ use subcode_crc::crc16;
 /// How many packs a disc has at most: the number of a pack is a byte.
 pub const MOST_PACKS: u32 = 256;
 
+/// The bytes of a pack: those of its head and its text, and the two of their check.
+pub const PACK_BYTES: usize = 18;
+
+/// The bytes of its head: type, track, number, position.
+pub(crate) const HEAD_BYTES: usize = 4;
+
+/// The bytes of its text.
+pub const TEXT_BYTES: usize = 12;
+
+/// The bytes of its head and its text, of which the check is.
+pub(crate) const CHECKED_BYTES: usize = HEAD_BYTES + TEXT_BYTES;
+
+/// The greatest position that a pack can tell, in four bits.
+pub(crate) const MOST_POSITION: usize = 15;
+
 /// A pack: its type, track, number and position, twelve bytes of text, and the check of these sixteen.
 #[derive(Clone, Copy, PartialEq, Eq)]
 pub struct TextPack {
-    bytes: [u8; 18],
+    bytes: [u8; PACK_BYTES],
 }
 
 impl Model for TextPack {
@@ -24,14 +39,14 @@ impl Model for TextPack {
 
 impl TextPack {
     /// The eighteen bytes.
-    pub fn bytes(&self) -> [u8; 18]
+    pub fn bytes(&self) -> [u8; PACK_BYTES]
         ensures { result ≡ self.now }
     {
         self.bytes
     }
 
     /// A pack of any bytes.
-    pub(crate) fn from_bytes(bytes: &[u8; 18]) -> TextPack
+    pub(crate) fn from_bytes(bytes: &[u8; PACK_BYTES]) -> TextPack
         ensures { result ≡ bytes.now }
     {
         TextPack { bytes: *bytes }
@@ -61,16 +76,18 @@ impl TextPack {
     /// Its twelve bytes of text.
     pub(crate) fn text(&self) -> &[u8]
         ensures text { result.now ≡ pack_text self.now }
-        ensures size { length result.now ≡ 12 }
+        ensures size { length result.now ≡ text_bytes }
     {
-        &self.bytes[4..16]
+        &self.bytes[HEAD_BYTES..CHECKED_BYTES]
     }
 
     /// Whether the last two bytes are the check of the others.
     pub(crate) fn check_matches(&self) -> bool
         ensures { result ≡ check_matches self.now }
     {
-        crc16(&self.bytes[..16]) == 256 * u16::from(self.bytes[16]) + u16::from(self.bytes[17])
+        let high = u16::from(self.bytes[CHECKED_BYTES]);
+        let low = u16::from(self.bytes[CHECKED_BYTES + 1]);
+        crc16(&self.bytes[..CHECKED_BYTES]) == 256 * high + low
     }
 
     /// Whether it is of the first block, with single bytes as its characters.
@@ -81,25 +98,31 @@ impl TextPack {
     }
 
     /// The pack of these bytes and their check.
-    pub(crate) fn new(kind: u8, track: u8, number: u8, position: u8, text: &[u8; 12]) -> TextPack
+    pub(crate) fn new(
+        kind: u8,
+        track: u8,
+        number: u8,
+        position: u8,
+        text: &[u8; TEXT_BYTES],
+    ) -> TextPack
         ensures { result ≡ sealed (kind ∷ track ∷ number ∷ position ∷ text.now) }
     {
         let mut content = [
             kind, track, number, position, 0, 0, 0, 0, 0, 0, 0, 0, 0, 0, 0, 0,
         ];
-        content[4..].copy_from_slice(text);
+        content[HEAD_BYTES..].copy_from_slice(text);
         TextPack::sealed(&content)
     }
 
     // The pack of sixteen bytes and their check.
-    fn sealed(content: &[u8; 16]) -> TextPack
+    fn sealed(content: &[u8; CHECKED_BYTES]) -> TextPack
         ensures { result ≡ sealed content.now }
     {
         let check = crc16(content);
-        let mut bytes = [0; 18];
-        bytes[..16].copy_from_slice(content);
-        bytes[16] = (check / 256) as u8;
-        bytes[17] = (check % 256) as u8;
+        let mut bytes = [0; PACK_BYTES];
+        bytes[..CHECKED_BYTES].copy_from_slice(content);
+        bytes[CHECKED_BYTES] = (check / 256) as u8;
+        bytes[CHECKED_BYTES + 1] = (check % 256) as u8;
         TextPack { bytes }
     }
 }

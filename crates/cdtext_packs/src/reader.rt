@@ -7,7 +7,7 @@ ghost use Rattle.disc_time.specs.Counts.{most_tracks};
 
 use crate::kinds::{FIRST_TRACK, LAST_NUMBER, LAST_TRACK, Offer, TextFault};
 use crate::map::TextMap;
-use crate::pack::{MOST_PACKS, TextPack};
+use crate::pack::{CHECKED_BYTES, HEAD_BYTES, MOST_PACKS, PACK_BYTES, TEXT_BYTES, TextPack};
 use crate::reading::{first_missing, first_short, keeps_nothing, size_pack};
 use disc_time::MOST_TRACKS;
 use std::alloc::{AllocError, Global};
@@ -44,7 +44,7 @@ impl TextReader {
     }
 
     /// Keeps a good pack whose number is new.
-    pub fn offer(&mut self, pack: &[u8; 18]) -> Offer
+    pub fn offer(&mut self, pack: &[u8; PACK_BYTES]) -> Offer
         ensures answer { result ≡ offer_of self.old pack.now }
         ensures kept { self.new ≡ kept_by result self.old pack.now }
     {
@@ -106,13 +106,19 @@ fn read_sized(
     let first = tracks.text()[FIRST_TRACK];
     let last = tracks.text()[LAST_TRACK];
     if first < 1 || first > MOST_TRACKS {
-        return Err(TextFault::Malformed { seq, byte: 5 });
+        return Err(TextFault::Malformed {
+            seq,
+            byte: (HEAD_BYTES + FIRST_TRACK) as u8,
+        });
     }
     if last < first || last > MOST_TRACKS {
-        return Err(TextFault::Malformed { seq, byte: 6 });
+        return Err(TextFault::Malformed {
+            seq,
+            byte: (HEAD_BYTES + LAST_TRACK) as u8,
+        });
     }
-    // The second of the size packs begins with byte 12 of the size bytes.
-    let count = usize::from(counts.text()[LAST_NUMBER - 12]) + 1;
+    // The second of the size packs begins where the text of the first ends.
+    let count = usize::from(counts.text()[LAST_NUMBER - TEXT_BYTES]) + 1;
     read_numbers(alloc, kept, count, first, last)
 }
 
@@ -141,7 +147,10 @@ fn read_numbers(
     }
     let used = &kept[..count];
     if let Some(seq) = first_short(used, usize::from(last - first) + 2) {
-        return Err(TextFault::Malformed { seq, byte: 15 });
+        return Err(TextFault::Malformed {
+            seq,
+            byte: (CHECKED_BYTES - 1) as u8,
+        });
     }
     Ok(TextMap::of_packs(alloc, used, first, last)?)
 }

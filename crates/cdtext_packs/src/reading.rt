@@ -3,7 +3,7 @@ ghost use Rattle.std.specs.Prelude.{◌≡◌, ◌≤◌, ◌*◌, false, [], le
 ghost use Rattle.std.specs.List.{position_or_len};
 ghost use Rattle.std.specs.Option.{option_map};
 ghost use Rattle.disc_time.specs.Counts.{most_text_bytes};
-ghost use Rattle.cdtext_packs.specs.Packs.{most_text_packs};
+ghost use Rattle.cdtext_packs.specs.Packs.{most_text_packs, text_bytes};
 ghost use Rattle.cdtext_packs.specs.Texts.{IsString};
 ghost use Rattle.cdtext_packs.specs.Reading.{keeps_nothing, is_size_pack, size_pack, first_missing, first_short, kind_packs, last_number, is_short, is_zero, ends_in, kind_texts, kind_bytes, strings_in, resolved};
 
@@ -124,7 +124,7 @@ fn kind_bytes(
     kind: TextKind,
 ) -> Result<Vec<u8>, AllocError>
     ensures bytes { IfOk result (λ bytes. bytes.items ≡ kind_bytes kept.now kind) }
-    ensures size { IfOk result (λ bytes. length bytes.items ≤ 12 * length kept.now) }
+    ensures size { IfOk result (λ bytes. length bytes.items ≤ text_bytes * length kept.now) }
 {
     let mut bytes = Vec::new(alloc);
     for slot in kept {

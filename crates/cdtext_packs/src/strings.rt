@@ -1,5 +1,6 @@
 // The strings of one kind.
 ghost use Rattle.std.specs.Prelude.{◌≡◌, ◌<◌, ◌≤◌, ◌+◌, ◌*◌, ◌∷◌, ◌++◌, [], List, ℕ, length, IfOk, MatchResult, slice_index_or, map, All};
+ghost use Rattle.disc_time.specs.Counts.{most_text_bytes, most_tracks};
 ghost use Rattle.cdtext_packs.specs.Texts.{are_empty, IsString};
 ghost use Rattle.cdtext_packs.specs.Writing.{joined, holders};
 ghost use Rattle.cdtext_packs.specs.Reading.{meant};
@@ -59,7 +60,7 @@ impl Strings {
     pub(crate) fn meant<'a>(&'a self, string: &'a [u8]) -> &'a [u8]
         ensures { result.now ≡ meant self.now string.now }
     {
-        if string.len() == 1 && string[0] == 9 && self.len() > 0 {
+        if string.len() == 1 && string[0] == b'\t' && self.len() > 0 {
             self.get(self.len() - 1)
         } else {
             string
@@ -75,10 +76,10 @@ impl Strings {
 
     /// How many bytes the strings have with a zero byte after each.
     pub(crate) fn joined_len(&self) -> usize
-        requires count { length self.now ≤ 100 }
+        requires count { length self.now ≤ most_tracks + 1 }
         requires strings { All IsString self.now }
         ensures value { result ≡ length (joined self.now) }
-        ensures bound { result ≤ 67108865 * length self.now }
+        ensures bound { result ≤ (most_text_bytes + 1) * length self.now }
     {
         let mut len = 0;
         for place in 0..self.len() {

@@ -1,14 +1,16 @@
 // The packs of texts.
-ghost use Rattle.std.specs.Prelude.{◌≡◌, ◌<◌, ◌≤◌, ◌+◌, ◌*◌, ◌++◌, length, flat_map, MatchResult, IfOk};
-ghost use Rattle.cdtext_packs.specs.Packs.{most_text_packs, sealed};
+ghost use Rattle.std.specs.Prelude.{◌≡◌, ◌<◌, ◌≤◌, ◌+◌, ◌-◌, ◌*◌, ◌++◌, length, flat_map, MatchResult, IfOk};
+ghost use Rattle.disc_time.specs.Counts.{most_tracks};
+ghost use Rattle.cdtext_packs.specs.Packs.{most_text_packs, sealed, size_packs, text_bytes};
 ghost use Rattle.cdtext_packs.specs.Texts.{kinds};
-ghost use Rattle.cdtext_packs.specs.Writing.{joined, twelve, text_content, kind_contents, contents, content_bytes, numbered, packs_of, type_of, size_bytes, size_contents, IsPackStop};
+ghost use Rattle.cdtext_packs.specs.Writing.{joined, most_kind_packs, twelve, text_content, kind_contents, contents, content_bytes, numbered, packs_of, type_of, size_bytes, size_contents, IsPackStop};
 
 use crate::kinds::{
-    FIRST_TRACK, KINDS, LANGUAGE, LAST_NUMBER, LAST_TRACK, PackStop, SIZE_TYPE, TextKind,
+    CODE_COUNT, ENGLISH, FIRST_TRACK, KINDS, LANGUAGE, LAST_NUMBER, LAST_TRACK, PackStop,
+    SIZE_BYTES, SIZE_COUNT, SIZE_PACKS, SIZE_TYPE, TextKind,
 };
 use crate::map::TextMap;
-use crate::pack::{MOST_PACKS, TextPack};
+use crate::pack::{MOST_PACKS, MOST_POSITION, TEXT_BYTES, TextPack};
 use crate::strings::Strings;
 use std::alloc::{AllocError, Global};
 
@@ -38,7 +40,7 @@ fn packs_needed(map: &TextMap) -> u32
     if map.has_no_text() {
         return 0;
     }
-    let mut count = 3;
+    let mut count = u32::from(SIZE_PACKS);
     for kind in KINDS {
         count += kind_packs(map, kind);
     }
@@ -48,15 +50,15 @@ fn packs_needed(map: &TextMap) -> u32
 // How many packs the strings of a kind need.
 fn kind_packs(map: &TextMap, kind: TextKind) -> u32
     ensures value { result ≡ length (kind_contents map.now kind) }
-    ensures bound { result ≤ 559240542 }
+    ensures bound { result ≤ most_kind_packs }
 {
-    // What holds of every map.
-    let _texts = map.first();
+    // A law, since the strings of a kind are at most as many and as long as those of 99 tracks.
+    map.texts_are_of_tracks();
     let strings = map.strings(kind);
     if strings.are_empty() {
         0
     } else {
-        ((strings.joined_len() + 11) / 12) as u32
+        ((strings.joined_len() + (TEXT_BYTES - 1)) / TEXT_BYTES) as u32
     }
 }
 
@@ -84,24 +86,24 @@ fn push_kind(
 // The last three packs, which tell how many packs there are.
 fn push_sizes(packs: &mut Vec<TextPack>, map: &TextMap) -> Result<(), AllocError>
     requires before { length packs.old.items ≡ length (flat_map (kind_contents map.now) kinds) }
-    requires few { length packs.old.items ≤ 253 }
+    requires few { length packs.old.items ≤ most_text_packs - size_packs }
     ensures { IfOk result (λ _. packs.new.items ≡ packs.old.items
         ++ numbered (length packs.old.items) (size_contents map.now)) }
 {
     let count = packs.len() as u8;
-    let bytes = size_bytes(map, count + 2);
-    for d in 0..3 {
+    let bytes = size_bytes(map, count + (SIZE_PACKS - 1));
+    for d in 0..SIZE_PACKS {
         packs.push(TextPack::new(SIZE_TYPE, d, count + d, 0, &twelve(&bytes, usize::from(d))))?;
     }
     Ok(())
 }
 
 // What the size packs hold.
-fn size_bytes(map: &TextMap, last: u8) -> [u8; 36]
-    requires last { last ≡ length (flat_map (kind_contents map.now) kinds) + 2 }
+fn size_bytes(map: &TextMap, last: u8) -> [u8; SIZE_BYTES]
+    requires last { last ≡ length (flat_map (kind_contents map.now) kinds) + (size_packs - 1) }
     ensures { result ≡ size_bytes map.now }
 {
-    let mut bytes = [0; 36];
+    let mut bytes = [0; SIZE_BYTES];
     bytes[FIRST_TRACK] = map.first();
     bytes[LAST_TRACK] = map.last();
     // From byte 4 on, how many packs the types 80 to 8F have.
@@ -111,17 +113,16 @@ fn size_bytes(map: &TextMap, last: u8) -> [u8; 36]
     bytes[7] = count_of(map, TextKind::Composer);
     bytes[8] = count_of(map, TextKind::Arranger);
     bytes[9] = count_of(map, TextKind::Message);
-    bytes[18] = count_of(map, TextKind::Code);
-    bytes[19] = 3;
+    bytes[CODE_COUNT] = count_of(map, TextKind::Code);
+    bytes[SIZE_COUNT] = SIZE_PACKS;
     bytes[LAST_NUMBER] = last;
-    // English.
-    bytes[LANGUAGE] = 9;
+    bytes[LANGUAGE] = ENGLISH;
     bytes
 }
 
 // The number of packs of a kind, where all are few.
 fn count_of(map: &TextMap, kind: TextKind) -> u8
-    requires { length (flat_map (kind_contents map.now) kinds) ≤ 253 }
+    requires { length (flat_map (kind_contents map.now) kinds) ≤ most_text_packs - size_packs }
     ensures { result ≡ length (kind_contents map.now kind) }
 {
     kind_packs(map, kind) as u8
@@ -137,11 +138,11 @@ fn text_pack(
     number: u8,
 ) -> TextPack
     requires bytes { bytes.now ≡ joined strings.now }
-    requires inside { 12 * k < length bytes.now }
-    requires tracks { first + length strings.now ≤ 101 }
+    requires inside { text_bytes * k < length bytes.now }
+    requires tracks { first + length strings.now ≤ most_tracks + 2 }
     ensures { result ≡ sealed (content_bytes number (text_content first (type_of kind) strings.now k)) }
 {
-    let (place, offset) = strings.holder(12 * k);
+    let (place, offset) = strings.holder(TEXT_BYTES * k);
     let track = if place == 0 {
         0
     } else {
@@ -151,19 +152,19 @@ fn text_pack(
         kind.pack_type(),
         track,
         number,
-        offset.min(15) as u8,
+        offset.min(MOST_POSITION) as u8,
         &twelve(bytes, k),
     )
 }
 
 // Part k of bytes that are cut by twelve, with zeros past the end.
-fn twelve(bytes: &[u8], k: usize) -> [u8; 12]
-    requires { 12 * k < length bytes.now }
+fn twelve(bytes: &[u8], k: usize) -> [u8; TEXT_BYTES]
+    requires { text_bytes * k < length bytes.now }
     ensures { result ≡ twelve bytes.now k }
 {
-    let rest = &bytes[12 * k..];
-    let len = rest.len().min(12);
-    let mut part = [0; 12];
+    let rest = &bytes[TEXT_BYTES * k..];
+    let len = rest.len().min(TEXT_BYTES);
+    let mut part = [0; TEXT_BYTES];
     part[..len].copy_from_slice(&rest[..len]);
     part
 }

@@ -3,6 +3,7 @@ use Rattle.std.specs.Prelude.{◌≤◌, ◌<◌, IsTrue, ℕ, ◌+◌, Bool, fa
 use Rattle.std.specs.List.{list_any, list_all, position}
 use Rattle.std.specs.Str.{str_to_ascii_uppercase, str_eq_ignore_ascii_case}
 use Rattle.disc_time.specs.Counts.{most_tracks, time_count}
+use Rattle.disc_time.specs.Fields.{control_values}
 use Rattle.text_lines.specs.Text.{words_in, is_some_bytes, two_digit_number, parsed_time}
 use Rattle.cue_sheet.specs.CueSheet.{IsText, is_catalogue_number, is_capital_code}
 use Rattle.cue_sheet.specs.declared.command.SheetCommand.{SheetCommand}
@@ -155,7 +156,7 @@ IsLineInRange (SaysTitle s) = IsText s
 IsLineInRange (SaysPerformer s) = IsText s
 IsLineInRange (SaysSongwriter s) = IsText s
 IsLineInRange (SaysTrack number audio) = (1 ≤ number) × (number ≤ most_tracks)
-IsLineInRange (SaysFlags control) = control < 16
+IsLineInRange (SaysFlags control) = control < control_values
 IsLineInRange (SaysIsrc s) = IsTrue (is_capital_code s)
 IsLineInRange (SaysPregap time) = time < time_count
 IsLineInRange (SaysIndex number time) = (number ≤ 99) × (time < time_count)

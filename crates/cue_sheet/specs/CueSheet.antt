@@ -4,6 +4,7 @@ use Rattle.std.specs.Option.{ForSome}
 use Rattle.std.specs.List.{list_all}
 use Rattle.std.specs.Char.{is_ascii_digit, is_ascii_uppercase}
 use Rattle.disc_time.specs.Counts.{most_tracks, time_count}
+use Rattle.disc_time.specs.Fields.{catalogue_digits, control_values, isrc_characters}
 use Rattle.text_lines.specs.Text.{most_text_bytes}
 use Rattle.cue_sheet.specs.declared.fault.CueText.{CueText}
 use Rattle.cue_sheet.specs.declared.fault.CueText.TheVariants.{Title, Performer, Songwriter}
@@ -111,12 +112,12 @@ pub record IsText (s : List ℕ) : Type 0 where
 
 -- a catalogue number: thirteen digits
 abbrev pub is_catalogue_number : List ℕ → Bool
-is_catalogue_number s = length s == 13 && list_all is_ascii_digit s
+is_catalogue_number s = length s == catalogue_digits && list_all is_ascii_digit s
 
 -- a track's code: two letters, three letters or digits, seven digits, the letters capital ones
 abbrev pub is_capital_code : List ℕ → Bool
 is_capital_code s =
-    length s == 12 && list_all is_ascii_uppercase (take 2 s)
+    length s == isrc_characters && list_all is_ascii_uppercase (take 2 s)
     && list_all (λ c. is_ascii_digit c || is_ascii_uppercase c) (take 3 (drop 2 s))
     && list_all is_ascii_digit (drop 5 s)
 
@@ -131,11 +132,11 @@ pub record AreIndices (indices : List (ℕ × ℕ)) : Type 0 where
   pub order : (i j : ℕ) → i ≤ j → j < length indices
       → (slice_index_or indices i (0, 0)).1 ≤ (slice_index_or indices j (0, 0)).1
 
--- a track: its number 1 to 99, its control below 16, its gaps below 100 minutes, its index lines in order, its code
+-- a track: its number 1 to 99, its control of four bits, its gaps below 100 minutes, its index lines in order, its code
 -- and its texts in form
 pub record IsTrack (track : CueTrack) : Type 0 where
   pub number : (1 ≤ track.number) × (track.number ≤ most_tracks)
-  pub control : track.control < 16
+  pub control : track.control < control_values
   pub isrc : ForSome track.isrc (λ code. IsTrue (is_capital_code code))
   pub gaps : (track.pregap < time_count) × (track.postgap < time_count)
   pub indices : AreIndices track.indices

@@ -3,6 +3,7 @@ ghost use Rattle.std.specs.Prelude.{◌≡◌, ◌≤◌, ◌<◌, ◌||◌, IfS
 ghost use Rattle.std.specs.List.{list_all, position};
 ghost use Rattle.std.specs.Char.{is_ascii_digit, is_ascii_uppercase};
 ghost use Rattle.disc_time.specs.Counts.{most_tracks, time_count};
+ghost use Rattle.disc_time.specs.Fields.{control_values};
 ghost use Rattle.text_lines.specs.Text.{most_text_bytes, words_in};
 ghost use Rattle.cue_sheet.specs.CueSheet.{IsText, is_catalogue_number, is_capital_code};
 ghost use Rattle.cue_sheet.specs.CueLines.{IsLineInRange, begins_quoted, catalogue_argument, code_argument, flags_argument, index_argument, is_file, is_flag, is_plain, is_quote, names_flag, plain, quoted, said_by, text_argument, track_argument, two_words};
@@ -10,6 +11,7 @@ ghost use Rattle.cue_sheet.specs.Steps.{line_said};
 
 use crate::command::{SheetCommand, is_word};
 use crate::line::SheetLine;
+use disc_time::{CATALOGUE_DIGITS, ISRC_CHARACTERS};
 use text_lines::{next_word, time, two_digits};
 
 /// What a command says with its argument, if that is spelled as it must be.
@@ -144,28 +146,28 @@ fn word_count(line: &[u8]) -> usize
 
 // A catalogue number, 13 digits.
 #[tactic(auto, unfolding(crate::specs::CueLines::catalogue_argument))]
-fn catalogue(argument: &[u8]) -> Option<[u8; 13]>
+fn catalogue(argument: &[u8]) -> Option<[u8; CATALOGUE_DIGITS]>
     ensures number { result ≡ catalogue_argument argument.now }
     ensures range { IfSome result (λ digits. IsTrue (is_catalogue_number digits)) }
 {
-    if argument.len() != 13 || !are_digits(argument) {
+    if argument.len() != CATALOGUE_DIGITS || !are_digits(argument) {
         return None;
     }
-    let mut digits = [0; 13];
+    let mut digits = [0; CATALOGUE_DIGITS];
     digits.copy_from_slice(argument);
     Some(digits)
 }
 
 // A track's code, its letters as capital ones.
 #[tactic(auto, unfolding(crate::specs::CueLines::code_argument))]
-fn code(argument: &[u8]) -> Option<[u8; 12]>
+fn code(argument: &[u8]) -> Option<[u8; ISRC_CHARACTERS]>
     ensures code { result ≡ code_argument argument.now }
     ensures range { IfSome result (λ code. IsTrue (is_capital_code code)) }
 {
-    if argument.len() != 12 {
+    if argument.len() != ISRC_CHARACTERS {
         return None;
     }
-    let mut code = [0; 12];
+    let mut code = [0; ISRC_CHARACTERS];
     code.copy_from_slice(argument);
     code.make_ascii_uppercase();
     if !is_code(&code) {
@@ -175,7 +177,7 @@ fn code(argument: &[u8]) -> Option<[u8; 12]>
 }
 
 // Whether it is two letters, three letters or digits, and seven digits, the letters all capital.
-fn is_code(code: &[u8; 12]) -> bool
+fn is_code(code: &[u8; ISRC_CHARACTERS]) -> bool
     ensures { result ≡ is_capital_code code.now }
 {
     let (_, digits) = code.split_at(5);
@@ -247,7 +249,7 @@ fn index(argument: &[u8]) -> Option<(u8, u32)>
 #[tactic(auto, unfolding(crate::specs::CueLines::flags_argument))]
 fn flags(argument: &[u8]) -> Option<u8>
     ensures control { result ≡ flags_argument (words_in argument.now) }
-    ensures range { IfSome result (λ control. control < 16) }
+    ensures range { IfSome result (λ control. control < control_values) }
 {
     if next_word(argument).is_none() {
         return None;

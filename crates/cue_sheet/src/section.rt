@@ -4,17 +4,18 @@ ghost use Rattle.std.specs.Option.{option_map};
 
 use crate::fault::CueText;
 use crate::line::SheetLine;
+use disc_time::{CATALOGUE_DIGITS, ISRC_CHARACTERS};
 use std::alloc::{AllocError, Global};
 
 /// What the lines of one track say, or those before the first track. A line that may stand once is kept in an `Option`.
 #[derive(Drop)]
 pub(crate) struct Section {
-    pub(crate) catalogue: Option<[u8; 13]>,
+    pub(crate) catalogue: Option<[u8; CATALOGUE_DIGITS]>,
     pub(crate) title: Option<Vec<u8>>,
     pub(crate) performer: Option<Vec<u8>>,
     pub(crate) songwriter: Option<Vec<u8>>,
     pub(crate) control: Option<u8>,
-    pub(crate) isrc: Option<[u8; 12]>,
+    pub(crate) isrc: Option<[u8; ISRC_CHARACTERS]>,
     pub(crate) pregap: Option<u32>,
     pub(crate) postgap: Option<u32>,
     pub(crate) indices: Vec<(u8, u32)>,

@@ -1,6 +1,7 @@
 // A cue sheet and its readers.
 ghost use Rattle.std.specs.Prelude.{◌≡◌, ◌≤◌, ◌<◌, IfSome, IsTrue, length, option_copied};
 ghost use Rattle.disc_time.specs.Counts.{most_tracks, time_count};
+ghost use Rattle.disc_time.specs.Fields.{control_values};
 ghost use Rattle.text_lines.specs.Text.{most_text_bytes};
 ghost use Rattle.cue_sheet.specs.CueSheet.{CueSheet, IsSheet, IsText, IsTrack, is_capital_code, is_catalogue_number, track_of, text_at, index_line_of};
 ghost use Rattle.cue_sheet.specs.Views.{sheet_value, track_value};
@@ -125,7 +126,7 @@ impl Sheet {
     pub fn control(&self, k: usize) -> u8
         requires { k < length self.now.tracks }
         ensures control { result ≡ (track_of self.now k).control }
-        ensures bound { result < 16 }
+        ensures bound { result < control_values }
     {
         self.track(k).section.control.unwrap_or(0)
     }

@@ -1,6 +1,8 @@
 -- Frames of the Q channel with a number for their kind.
-use Rattle.std.specs.Prelude.{◌≡◌, ◌==◌, if◌then◌else◌, ℕ, [], ◌∷◌, ◌++◌, take, replicate, Option, Some, None, MatchOption, IfSome}
+use Rattle.std.specs.Prelude.{◌≡◌, ◌==◌, if◌then◌else◌, ℕ, [], ◌∷◌, ◌++◌, ◌-◌, take, replicate, Option, Some, None, MatchOption, IfSome}
+use Rattle.disc_time.specs.Fields.{catalogue_digits, isrc_characters}
 use Rattle.q_channel.specs.QFrame.{IsValid}
+use Rattle.q_channel.specs.Sizes.{rest_bytes}
 use Rattle.q_channel.specs.declared.frame.QFrame.{QFrame}
 use Rattle.q_channel.specs.declared.frame.QFrame.TheVariants.{Program, Toc, Catalogue, Isrc, Other}
 use Rattle.q_channel.specs.declared.frame.TocPoint.TheVariants.{Track, First, Last, LeadOut}
@@ -16,8 +18,8 @@ frame_of_plain p =
     else if p.kind == 3 then Some (Toc p.control (Last p.track) p.time)
     else if p.kind == 4 then Some (Toc p.control (LeadOut p.absolute) p.time)
     else if p.kind == 5 then Some (Catalogue p.control p.text p.frame)
-    else if p.kind == 6 then Some (Isrc p.control (take 12 p.text) p.frame)
-    else if p.kind == 7 then Some (Other p.control p.mode (take 9 p.text))
+    else if p.kind == 6 then Some (Isrc p.control (take isrc_characters p.text) p.frame)
+    else if p.kind == 7 then Some (Other p.control p.mode (take rest_bytes p.text))
     else None
 
 -- a plain frame of a kind, all else zero
@@ -32,7 +34,7 @@ plain_kind kind control = record {
   index = 0;
   disc = 0;
   frame = 0;
-  text = replicate 13 0;
+  text = replicate catalogue_digits 0;
 }
 
 -- the plain frame that stands for a frame: the fields that its kind does not name are zero
@@ -57,7 +59,10 @@ plain_of (Toc control (Last track) time) = record (plain_kind 3 control) { track
 plain_of (Toc control (LeadOut start) time) = record (plain_kind 4 control) { absolute = start; time = time }
 plain_of (Catalogue control digits frame) = record (plain_kind 5 control) { text = digits; frame = frame }
 plain_of (Isrc control code frame) = record (plain_kind 6 control) { text = code ++ 0 ∷ []; frame = frame }
-plain_of (Other control adr rest) = record (plain_kind 7 control) { mode = adr; text = rest ++ replicate 4 0 }
+plain_of (Other control adr rest) = record (plain_kind 7 control) {
+  mode = adr;
+  text = rest ++ replicate (catalogue_digits - rest_bytes) 0;
+}
 
 -- this frame where it is valid, or nothing where it is not
 abbrev pub IsWhereValid : Option QFrame → QFrame → Type 0

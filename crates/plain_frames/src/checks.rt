@@ -57,6 +57,7 @@ pub(crate) fn is_other(mode: u8, track: u8, point: u8) -> bool
     }
 }
 
+// Whether a byte stands for an entry of the table of contents.
 #[tactic(auto, unfolding(q_channel::specs::QFrame::is_point))]
 fn is_point(byte: u8) -> bool
     ensures { result ≡ is_point byte }
@@ -64,6 +65,7 @@ fn is_point(byte: u8) -> bool
     is_bcd_track(byte) || byte == 0xa0 || byte == 0xa1 || byte == 0xa2
 }
 
+// Whether a byte of two decimal digits is the number of a track.
 #[tactic(auto, unfolding(q_channel::specs::QFrame::is_bcd_within))]
 fn is_bcd_track(byte: u8) -> bool
     ensures { result ≡ is_bcd_within 1 99 byte }

@@ -1,9 +1,11 @@
 // The plain frame of a frame.
 ghost use Rattle.std.specs.Prelude.{◌≡◌, ◌≤◌, ◌-◌, ◌++◌, Some, length, replicate, take};
+ghost use Rattle.disc_time.specs.Fields.{catalogue_digits};
 ghost use Rattle.plain_frames.specs.Plain.{frame_of_plain, plain_kind, plain_of};
 ghost use Rattle.q_channel.specs.declared.frame.QFrame.TheVariants.{Toc};
 
 use crate::{PlainFrame, kinds};
+use disc_time::CATALOGUE_DIGITS;
 use q_channel::{QFrame, TocPoint};
 
 /// A frame as a plain one. The fields that its kind does not name are zero.
@@ -99,17 +101,17 @@ fn of_kind(kind: u32, control: u8) -> PlainFrame
         index: 0,
         disc: 0,
         frame: 0,
-        text: [0; 13],
+        text: [0; CATALOGUE_DIGITS],
     }
 }
 
 // Bytes with zeros behind them.
-fn text(bytes: &[u8]) -> [u8; 13]
-    requires { length bytes.now ≤ 13 }
-    ensures bytes { result ≡ bytes.now ++ replicate (13 - length bytes.now) 0 }
+fn text(bytes: &[u8]) -> [u8; CATALOGUE_DIGITS]
+    requires { length bytes.now ≤ catalogue_digits }
+    ensures bytes { result ≡ bytes.now ++ replicate (catalogue_digits - length bytes.now) 0 }
     ensures front { take (length bytes.now) result ≡ bytes.now }
 {
-    let mut text = [0; 13];
+    let mut text = [0; CATALOGUE_DIGITS];
     text[..bytes.len()].copy_from_slice(bytes);
     text
 }

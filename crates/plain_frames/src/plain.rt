@@ -1,4 +1,5 @@
 // A frame with a number for its kind.
+use disc_time::CATALOGUE_DIGITS;
 
 /// A frame of the Q channel. Times are blocks, below 450,000.
 #[repr(C)]
@@ -26,5 +27,5 @@ pub struct PlainFrame {
     pub frame: u8,
     /// Thirteen digits (kind 5), twelve letters and digits (6), or bytes 1 to 9 of the frame as they stand
     /// (7).
-    pub text: [u8; 13],
+    pub text: [u8; CATALOGUE_DIGITS],
 }

@@ -1,13 +1,16 @@
 // The frame of a plain frame.
 ghost use Rattle.std.specs.Prelude.{◌≡◌, take};
 ghost use Rattle.plain_frames.specs.Plain.{IsValidOf, IsWhereValid};
+ghost use Rattle.disc_time.specs.Fields.{isrc_characters};
 ghost use Rattle.q_channel.specs.QFrame.{IsValidPoint};
+ghost use Rattle.q_channel.specs.Sizes.{rest_bytes};
 ghost use Rattle.q_channel.specs.declared.frame.QFrame.TheVariants.{Program, Toc, Catalogue, Isrc, Other};
 ghost use Rattle.q_channel.specs.declared.frame.TocPoint.TheVariants.{Track, First, Last, LeadOut};
 
 use crate::checks::{are_capitals, are_capitals_or_digits, are_digits, is_other, is_track, time};
 use crate::{PlainFrame, kinds};
-use q_channel::{QFrame, TocPoint};
+use disc_time::{CATALOGUE_DIGITS, CONTROL_VALUES, ISRC_CHARACTERS};
+use q_channel::{MODE_VALUES, QFrame, REST_BYTES, TocPoint};
 
 /// The frame that a plain one stands for, where its kind is one and its fields have values that they may
 /// have.
@@ -32,7 +35,7 @@ fn program(plain: &PlainFrame) -> Option<QFrame>
     ensures { IsWhereValid result
         (Program plain.now.control plain.now.track plain.now.index plain.now.time plain.now.absolute) }
 {
-    if plain.control >= 16 || !is_track(plain.track) || plain.index > 99 {
+    if plain.control >= CONTROL_VALUES || !is_track(plain.track) || plain.index > 99 {
         return None;
     }
     let from_track = time(plain.time)?;
@@ -105,7 +108,7 @@ fn entry(plain: &PlainFrame, point: TocPoint) -> Option<QFrame>
     requires { IsValidPoint point }
     ensures { IsWhereValid result (Toc plain.now.control point plain.now.time) }
 {
-    if plain.control >= 16 {
+    if plain.control >= CONTROL_VALUES {
         return None;
     }
     let running = time(plain.time)?;
@@ -120,7 +123,7 @@ fn entry(plain: &PlainFrame, point: TocPoint) -> Option<QFrame>
 fn catalogue(plain: &PlainFrame) -> Option<QFrame>
     ensures { IsWhereValid result (Catalogue plain.now.control plain.now.text plain.now.frame) }
 {
-    if plain.control >= 16 || plain.frame > 74 || !are_digits(&plain.text) {
+    if plain.control >= CONTROL_VALUES || plain.frame > 74 || !are_digits(&plain.text) {
         return None;
     }
     Some(QFrame::Catalogue {
@@ -132,16 +135,17 @@ fn catalogue(plain: &PlainFrame) -> Option<QFrame>
 
 // A frame with the code of a track, which is the first twelve bytes of the text.
 fn code(plain: &PlainFrame) -> Option<QFrame>
-    ensures { IsWhereValid result (Isrc plain.now.control (take 12 plain.now.text) plain.now.frame) }
+    ensures { IsWhereValid result
+        (Isrc plain.now.control (take isrc_characters plain.now.text) plain.now.frame) }
 {
     recorded(plain, first_twelve(&plain.text))
 }
 
 // The same, of a code: two letters, three letters or digits, and seven digits.
-fn recorded(plain: &PlainFrame, code: [u8; 12]) -> Option<QFrame>
+fn recorded(plain: &PlainFrame, code: [u8; ISRC_CHARACTERS]) -> Option<QFrame>
     ensures { IsWhereValid result (Isrc plain.now.control code plain.now.frame) }
 {
-    if plain.control >= 16 || plain.frame > 74 {
+    if plain.control >= CONTROL_VALUES || plain.frame > 74 {
         return None;
     }
     let (_, number) = code.split_at(5);
@@ -161,26 +165,29 @@ fn recorded(plain: &PlainFrame, code: [u8; 12]) -> Option<QFrame>
     })
 }
 
-fn first_twelve(text: &[u8; 13]) -> [u8; 12]
-    ensures { result ≡ take 12 text.now }
+fn first_twelve(text: &[u8; CATALOGUE_DIGITS]) -> [u8; ISRC_CHARACTERS]
+    ensures { result ≡ take isrc_characters text.now }
 {
-    let mut first = [0; 12];
-    first.copy_from_slice(&text[..12]);
+    let mut first = [0; ISRC_CHARACTERS];
+    first.copy_from_slice(&text[..ISRC_CHARACTERS]);
     first
 }
 
 // A frame of another mode, whose nine bytes are the first of the text.
 fn other(plain: &PlainFrame) -> Option<QFrame>
-    ensures { IsWhereValid result (Other plain.now.control plain.now.mode (take 9 plain.now.text)) }
+    ensures { IsWhereValid result (Other plain.now.control plain.now.mode (take rest_bytes plain.now.text)) }
 {
     bare(plain, &first_nine(&plain.text))
 }
 
 // The same, of these bytes.
-fn bare(plain: &PlainFrame, rest: &[u8; 9]) -> Option<QFrame>
+fn bare(plain: &PlainFrame, rest: &[u8; REST_BYTES]) -> Option<QFrame>
     ensures { IsWhereValid result (Other plain.now.control plain.now.mode rest.now) }
 {
-    if plain.control >= 16 || plain.mode >= 16 || !is_other(plain.mode, rest[0], rest[1]) {
+    if plain.control >= CONTROL_VALUES
+        || plain.mode >= MODE_VALUES
+        || !is_other(plain.mode, rest[0], rest[1])
+    {
         return None;
     }
     Some(QFrame::Other {
@@ -190,10 +197,10 @@ fn bare(plain: &PlainFrame, rest: &[u8; 9]) -> Option<QFrame>
     })
 }
 
-fn first_nine(text: &[u8; 13]) -> [u8; 9]
-    ensures { result ≡ take 9 text.now }
+fn first_nine(text: &[u8; CATALOGUE_DIGITS]) -> [u8; REST_BYTES]
+    ensures { result ≡ take rest_bytes text.now }
 {
-    let mut first = [0; 9];
-    first.copy_from_slice(&text[..9]);
+    let mut first = [0; REST_BYTES];
+    first.copy_from_slice(&text[..REST_BYTES]);
     first
 }

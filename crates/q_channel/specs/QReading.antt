@@ -3,6 +3,7 @@ use Rattle.std.specs.Prelude.{◌≡◌, ◌≢◌, ℕ, ◌+◌, ◌*◌, Bool,
 use Rattle.std.specs.Char.{is_ascii_uppercase}
 use Rattle.bit_lists.specs.Counting.{below}
 use Rattle.bit_lists.specs.Check.{check_bits}
+use Rattle.disc_time.specs.Fields.{catalogue_digits}
 use Rattle.q_channel.specs.Sizes.{field_bits}
 use Rattle.q_channel.specs.QFrame.{field_value, is_bcd_within, is_other, IsFrame}
 use Rattle.q_channel.specs.declared.frame.QFrame.{QFrame}
@@ -61,7 +62,7 @@ toc_ranges point = time_at 24 ++ zeros_at 48 8 ∷ (
 
 -- a catalogue number: thirteen digits, twelve zero bits, and a frame
 abbrev pub catalogue_ranges : List FieldRange
-catalogue_ranges = digits_at 8 13 ++ zeros_at 60 12 ∷ bcd_at 72 0 74 ∷ []
+catalogue_ranges = digits_at 8 catalogue_digits ++ zeros_at 60 12 ∷ bcd_at 72 0 74 ∷ []
 
 -- a recording code: two letters, three letters or digits, two zero bits, seven digits, four zero bits, and a frame
 abbrev pub isrc_ranges : List FieldRange

@@ -13,20 +13,20 @@ use crate::Message;
 use crate::bcd_table::NUMBERS;
 use crate::kinds::Kind;
 use crate::lines::{digit, six_digits};
-use crate::sizes::{CHECK_BITS, FIELD_BITS};
+use crate::sizes::{CHECK_BITS, FIELD_BITS, FIELD_BYTES, FRAME_BYTES};
 use subcode_crc::crc16;
 
 /// The bytes of the line of a frame of the program: each of its parts has one width.
 pub(crate) const PROGRAM_LINE: usize = 49;
 
 /// Whether these bytes are a frame of the program.
-pub(crate) fn is_program_frame(bytes: &[u8; 12]) -> bool
+pub(crate) fn is_program_frame(bytes: &[u8; FRAME_BYTES]) -> bool
     ensures reading { result ≡ true
         → reading_of (bits_of_bytes bytes.now) ≡ Ok (frame_at Kind.ProgramFrame (bits_of_bytes bytes.now)) }
     ensures ranges { result ≡ true → first_outside (bits_of_bytes bytes.now) program_ranges ≡ None }
 {
     let message = Message::of_frame(bytes);
-    if message.field(FIELD_BITS, CHECK_BITS) != crc16(&bytes[..10]) {
+    if message.field(FIELD_BITS, CHECK_BITS) != crc16(&bytes[..FIELD_BYTES]) {
         return false;
     }
     let kind = Kind::of(message.field(4, 4), message.byte(8), message.byte(16));
@@ -94,7 +94,7 @@ fn bcd_number(byte: u8) -> u8
 }
 
 /// The line of a block with such a frame.
-pub(crate) fn program_line(block: u32, bytes: &[u8; 12]) -> [u8; PROGRAM_LINE]
+pub(crate) fn program_line(block: u32, bytes: &[u8; FRAME_BYTES]) -> [u8; PROGRAM_LINE]
     requires ranges { first_outside (bits_of_bytes bytes.now) program_ranges ≡ None }
     ensures { result ≡ q_line block (Ok (frame_at Kind.ProgramFrame (bits_of_bytes bytes.now))) }
 {

@@ -1,4 +1,4 @@
-// The lines of the Q channel.
+// The stage that gives the line of each block.
 ghost use Rattle.std.specs.Prelude.{◌≡◌, ◌<◌, Some, if◌then◌else◌, is_err};
 ghost use Rattle.bit_lists.specs.Bits.{bits_of_bytes};
 ghost use Rattle.bit_lists.specs.Counting.{counted};
@@ -8,6 +8,7 @@ ghost use Rattle.q_channel.specs.ReadingOf.{reading_of};
 ghost use Rattle.q_channel.specs.QSteps.{q_next, q_give};
 
 use crate::program::{is_program_frame, program_line};
+use crate::sizes::FRAME_BYTES;
 use crate::{decode, line};
 use cdg_io::{Piece, Stage};
 use raw_subcode::{BLOCK_BYTES, Block, MOST_UNITS};
@@ -45,7 +46,7 @@ impl QLines {
     // Puts the line of any frame, with the number of its block. It is a function of its own so that frames of the
     // program do not pay for its variables.
     #[inline(never)]
-    fn put_reading(&mut self, number: u32, frame: &[u8; 12], piece: &mut Piece)
+    fn put_reading(&mut self, number: u32, frame: &[u8; FRAME_BYTES], piece: &mut Piece)
         requires { number < most_units }
         ensures block { self.new.block ≡ self.old.block }
         ensures bad { self.new.bad

@@ -4,6 +4,7 @@ use Rattle.std.specs.List.{list_any}
 use Rattle.std.specs.List.Sorted.{IsNonDecreasingBy}
 use Rattle.std.specs.Option.{ForSome}
 use Rattle.disc_time.specs.Counts.{most_program, most_tracks, pause_blocks, time_count}
+use Rattle.disc_time.specs.Fields.{control_values}
 use Rattle.disc_time.specs.Time.{frame_of}
 use Rattle.cue_sheet.specs.CueSheet.{AreIndices, is_catalogue_number, is_capital_code}
 use Rattle.toc_model.specs.Places.{TrackPlace, DiscLayout, no_place}
@@ -11,6 +12,26 @@ use Rattle.q_channel.specs.declared.frame.QFrame.{QFrame}
 use Rattle.q_channel.specs.declared.frame.QFrame.TheVariants.{Program, Toc, Catalogue, Isrc}
 use Rattle.q_channel.specs.declared.frame.TocPoint.{TocPoint}
 use Rattle.q_channel.specs.declared.frame.TocPoint.TheVariants.{Track, First, Last, LeadOut}
+
+-- how many times in a row each entry of the table of contents stands in the lead-in
+abbrev pub entry_copies : ℕ
+entry_copies = 3
+
+-- how many entries are of no one track: those of the first and the last number, and of the lead-out
+abbrev pub disc_entries : ℕ
+disc_entries = 3
+
+-- of how many program blocks one may carry the catalogue number, and one its track's code
+abbrev pub code_period : ℕ
+code_period = 100
+
+-- which of these blocks may carry the catalogue number
+abbrev pub catalogue_turn : ℕ
+catalogue_turn = 49
+
+-- which of these blocks may carry its track's code
+abbrev pub isrc_turn : ℕ
+isrc_turn = 99
 
 -- the track of a block: the last one that begins at the block or before it
 unfoldable pub track_at : DiscLayout → ℕ → TrackPlace
@@ -59,12 +80,12 @@ isrc_frame place block None = time_frame place block
 isrc_frame place block (Some code) = if index_at place block == 0 then time_frame place block
     else Isrc place.control code (frame_of block)
 
--- the frame of a program block: of each hundred blocks one may carry the catalogue number and one the track's code
+-- the frame of a program block: in each period one may carry the catalogue number and one the track's code
 abbrev pub program_frame : DiscLayout → ℕ → QFrame
 program_frame layout block =
     let place = track_at layout block in
-    if block % 100 == 49 then catalogue_frame place block layout.catalogue
-    else (if block % 100 == 99 then isrc_frame place block place.isrc
+    if block % code_period == catalogue_turn then catalogue_frame place block layout.catalogue
+    else (if block % code_period == isrc_turn then isrc_frame place block place.isrc
     else time_frame place block)
 
 -- track k of a layout, counted from 0
@@ -85,13 +106,14 @@ toc_entries layout =
 -- ends at 00:00:00
 abbrev pub toc_frame : DiscLayout → ℕ → ℕ → QFrame
 toc_frame layout lead_in l =
-    let entry = slice_index_or (toc_entries layout) (l / 3 % (length layout.tracks + 3)) (0, First 0 0) in
+    let place = l / entry_copies % (length layout.tracks + disc_entries) in
+    let entry = slice_index_or (toc_entries layout) place (0, First 0 0) in
     Toc entry.0 entry.1 (time_count - lead_in + l)
 
 -- a place: its numbers in range, its pause before its music, at least two seconds into the disc
 pub record IsPlace (place : TrackPlace) : Type 0 where
   pub number : (1 ≤ place.number) × (place.number ≤ most_tracks)
-  pub control : place.control < 16
+  pub control : place.control < control_values
   pub isrc : ForSome place.isrc (λ code. IsTrue (is_capital_code code))
   pub lines : AreIndices place.lines
   pub begins : place.begin ≤ music_begin place

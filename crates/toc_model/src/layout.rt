@@ -1,19 +1,35 @@
 // The layout of a disc.
 ghost use Rattle.std.specs.Prelude.{◌≡◌, ◌<◌, ◌≤◌, ◌+◌, ◌*◌, length, slice_index_or, IfOk};
 ghost use Rattle.disc_time.specs.Counts.{most_lead_in, most_program, most_tracks};
+ghost use Rattle.disc_time.specs.Fields.{control_values};
 ghost use Rattle.q_channel.specs.QFrame.{IsValid, IsValidPoint};
 ghost use Rattle.toc_model.specs.Places.{DiscLayout, audio_need, layout_of, program_blocks};
-ghost use Rattle.toc_model.specs.Layout.{IsLayout, p_bit, program_frame, toc_entries, toc_frame, track_at};
+ghost use Rattle.toc_model.specs.Layout.{IsLayout, disc_entries, entry_copies, p_bit, program_frame, toc_entries, toc_frame, track_at};
 ghost use Rattle.q_channel.specs.declared.frame.TocPoint.TheVariants.{First};
 ghost use Rattle.toc_model.specs.Answers.{IsBlockCount};
 
 use crate::place::Place;
 use crate::places::{catalogue, gaps, need, places};
 use cue_sheet::Sheet;
-use disc_time::{MOST_PROGRAM, Msf, PAUSE_BLOCKS, TIME_COUNT};
+use disc_time::{CATALOGUE_DIGITS, MOST_PROGRAM, Msf, PAUSE_BLOCKS, TIME_COUNT};
 use q_channel::{QFrame, TocPoint};
 use std::alloc::{AllocError, Global};
 use std::marker::Model;
+
+// How many times in a row each entry of the table of contents stands in the lead-in.
+const ENTRY_COPIES: u32 = 3;
+
+// How many entries are of no one track: those of the first and the last number, and of the lead-out.
+const DISC_ENTRIES: usize = 3;
+
+// Of how many program blocks one may carry the catalogue number, and one its track's code.
+const CODE_PERIOD: u32 = 100;
+
+// Which of these blocks may carry the catalogue number.
+const CATALOGUE_TURN: u32 = 49;
+
+// Which of these blocks may carry its track's code.
+const ISRC_TURN: u32 = 99;
 
 /// Why a sheet has no layout with an audio of some length.
 #[derive(PartialEq, Eq, Debug, Drop)]
@@ -59,25 +75,25 @@ pub fn count_blocks(sheet: &Sheet, length: u32) -> Result<u32, LayoutStop>
 
 /// The number of lead-in blocks in which each entry of the table of contents of a sheet stands three times.
 pub fn toc_need(sheet: &Sheet) -> u32
-    ensures { result ≡ 3 * (length sheet.now.tracks + 3) }
+    ensures { result ≡ entry_copies * (length sheet.now.tracks + disc_entries) }
 {
     // A law, since there are at most 99 tracks.
     sheet.tracks_are_in_order();
-    entries_thrice(sheet.tracks())
+    blocks_of_entries(sheet.tracks())
 }
 
-// Three times the entries of so many tracks: one for each, for the first, for the last and for the lead-out.
-fn entries_thrice(tracks: usize) -> u32
+// How many blocks the entries of a disc of so many tracks fill, each as often as it is repeated.
+fn blocks_of_entries(tracks: usize) -> u32
     requires { tracks ≤ most_tracks }
-    ensures { result ≡ 3 * (tracks + 3) }
+    ensures { result ≡ entry_copies * (tracks + disc_entries) }
 {
-    3 * (tracks as u32 + 3)
+    ENTRY_COPIES * (tracks as u32 + DISC_ENTRIES as u32)
 }
 
 /// Where the tracks of a sheet lie on a disc.
 #[derive(Drop)]
 pub struct Layout {
-    catalogue: Option<[u8; 13]>,
+    catalogue: Option<[u8; CATALOGUE_DIGITS]>,
     tracks: Vec<Place>,
     blocks: u32,
 }
@@ -141,9 +157,9 @@ impl Layout {
         ensures valid { IsValid result }
     {
         let place = self.track_at(block);
-        match block % 100 {
-            49 => place.catalogue_frame(block, &self.catalogue),
-            99 => place.isrc_frame(block),
+        match block % CODE_PERIOD {
+            CATALOGUE_TURN => place.catalogue_frame(block, &self.catalogue),
+            ISRC_TURN => place.isrc_frame(block),
             _ => place.time_frame(block),
         }
     }
@@ -173,9 +189,9 @@ impl Layout {
     /// The number of lead-in blocks in which each entry of the table of contents stands three times. It is for callers
     /// of the library; `toc_need` tells it of a sheet, without a layout.
     pub fn toc_blocks(&self) -> u32
-        ensures { result ≡ 3 * (length self.now.tracks + 3) }
+        ensures { result ≡ entry_copies * (length self.now.tracks + disc_entries) }
     {
-        entries_thrice(self.tracks.len())
+        blocks_of_entries(self.tracks.len())
     }
 
     /// The frame of lead-in block `l` of `n`. The lead-in ends at 00:00:00.
@@ -185,7 +201,9 @@ impl Layout {
         ensures frame { result ≡ toc_frame self.now n l }
         ensures valid { IsValid result }
     {
-        let (control, point) = self.entry((l / 3) as usize % (self.tracks.len() + 3));
+        let (control, point) = self.entry(
+            (l / ENTRY_COPIES) as usize % (self.tracks.len() + DISC_ENTRIES),
+        );
         QFrame::Toc {
             control,
             point,
@@ -195,9 +213,9 @@ impl Layout {
 
     // An entry of the table of contents with its control bits: the tracks, the first, the last, the lead-out.
     fn entry(&self, k: usize) -> (u8, TocPoint)
-        requires { k < length self.now.tracks + 3 }
+        requires { k < length self.now.tracks + disc_entries }
         ensures entry { result ≡ slice_index_or (toc_entries self.now) k (0, First 0 0) }
-        ensures valid { (result.0 < 16) × IsValidPoint result.1 }
+        ensures valid { (result.0 < control_values) × IsValidPoint result.1 }
     {
         let count = self.tracks.len();
         if k < count {

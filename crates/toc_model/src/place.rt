@@ -1,6 +1,7 @@
 // A track on the disc.
 ghost use Rattle.std.specs.Prelude.{◌≡◌, ◌<◌, ◌≤◌, IsTrue};
 ghost use Rattle.disc_time.specs.Counts.{most_tracks, time_count};
+ghost use Rattle.disc_time.specs.Fields.{control_values};
 ghost use Rattle.toc_model.specs.Places.{TrackPlace};
 ghost use Rattle.toc_model.specs.Layout.{IsPlace, music_begin, index_at, is_paused_for, time_frame, catalogue_frame, isrc_frame};
 ghost use Rattle.std.specs.Option.{ForSome};
@@ -8,7 +9,7 @@ ghost use Rattle.cue_sheet.specs.CueSheet.{is_catalogue_number};
 ghost use Rattle.q_channel.specs.declared.frame.TocPoint.TheVariants.{Track};
 ghost use Rattle.q_channel.specs.QFrame.{IsValid, IsValidPoint};
 
-use disc_time::{Msf, PAUSE_BLOCKS};
+use disc_time::{CATALOGUE_DIGITS, ISRC_CHARACTERS, Msf, PAUSE_BLOCKS};
 use q_channel::{QFrame, TocPoint};
 use std::marker::Model;
 
@@ -17,7 +18,7 @@ use std::marker::Model;
 pub(crate) struct Place {
     pub(crate) number: u8,
     pub(crate) control: u8,
-    pub(crate) isrc: Option<[u8; 12]>,
+    pub(crate) isrc: Option<[u8; ISRC_CHARACTERS]>,
     pub(crate) begin: u32,
     pub(crate) lines: Vec<(u8, u32)>,
 }
@@ -54,7 +55,7 @@ impl Place {
     /// The track's control bits.
     pub(crate) fn control(&self) -> u8
         ensures control { result ≡ self.now.control }
-        ensures bound { result < 16 }
+        ensures bound { result < control_values }
     {
         self.control
     }
@@ -119,7 +120,11 @@ impl Place {
     }
 
     /// The frame of a block of the track that may carry the disc's catalogue number.
-    pub(crate) fn catalogue_frame(&self, block: u32, number: &Option<[u8; 13]>) -> QFrame
+    pub(crate) fn catalogue_frame(
+        &self,
+        block: u32,
+        number: &Option<[u8; CATALOGUE_DIGITS]>,
+    ) -> QFrame
         requires block { block < time_count }
         requires number { ForSome number.now (λ digits. IsTrue (is_catalogue_number digits)) }
         ensures frame { result ≡ catalogue_frame self.now block number.now }

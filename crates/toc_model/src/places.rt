@@ -1,13 +1,13 @@
 // The places of a sheet's tracks.
-ghost use Rattle.std.specs.Prelude.{◌≡◌, ◌<◌, ◌≤◌, ◌+◌, ℕ, length, map, IfOk};
+ghost use Rattle.std.specs.Prelude.{◌≡◌, ◌<◌, ◌≤◌, ◌+◌, ◌*◌, ℕ, length, map, IfOk};
 ghost use Rattle.bit_lists.specs.Counting.{below};
-ghost use Rattle.disc_time.specs.Counts.{most_program, time_count};
+ghost use Rattle.disc_time.specs.Counts.{most_program, most_tracks, time_count};
 ghost use Rattle.cue_sheet.specs.CueSheet.{IsSheet, track_of};
 ghost use Rattle.toc_model.specs.Places.{audio_need, pregaps_to, postgaps_to, place_of, program_blocks, track_begin};
 
 use crate::place::Place;
 use cue_sheet::Sheet;
-use disc_time::PAUSE_BLOCKS;
+use disc_time::{CATALOGUE_DIGITS, ISRC_CHARACTERS, PAUSE_BLOCKS};
 use std::alloc::{AllocError, Global};
 
 /// The length of the audio that the index lines need, in blocks.
@@ -25,7 +25,7 @@ pub(crate) fn need(sheet: &Sheet) -> u32
 pub(crate) fn gaps(sheet: &Sheet) -> u32
     ensures sum { result ≡ pregaps_to sheet.now (length sheet.now.tracks) + postgaps_to sheet.now
         (length sheet.now.tracks) }
-    ensures bound { result ≤ 89100000 }
+    ensures bound { result ≤ 2 * most_tracks * time_count }
 {
     let mut sum = 0;
     for k in 0..sheet.tracks() {
@@ -35,22 +35,22 @@ pub(crate) fn gaps(sheet: &Sheet) -> u32
 }
 
 /// The catalogue number.
-pub(crate) fn catalogue(sheet: &Sheet) -> Option<[u8; 13]>
+pub(crate) fn catalogue(sheet: &Sheet) -> Option<[u8; CATALOGUE_DIGITS]>
     ensures { result ≡ sheet.now.catalogue }
 {
     let number = sheet.catalogue()?;
-    let mut digits = [0; 13];
+    let mut digits = [0; CATALOGUE_DIGITS];
     digits.copy_from_slice(number);
     Some(digits)
 }
 
 // The code of a track.
-fn isrc(sheet: &Sheet, k: usize) -> Option<[u8; 12]>
+fn isrc(sheet: &Sheet, k: usize) -> Option<[u8; ISRC_CHARACTERS]>
     requires { k < length sheet.now.tracks }
     ensures { result ≡ (track_of sheet.now k).isrc }
 {
     let code = sheet.isrc(k)?;
-    let mut characters = [0; 12];
+    let mut characters = [0; ISRC_CHARACTERS];
     characters.copy_from_slice(code);
     Some(characters)
 }
