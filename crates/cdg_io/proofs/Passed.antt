@@ -43,7 +43,8 @@ pub passes_both : {S C : Type 0} (steps : Stepping S C) (left left' left'' : Byt
 passes_both steps left left' left'' s s' s'' held held' held'' us vs p q =
     let moved : run_state steps.next s' vs ≡ run_state steps.next s (us ++ vs) =
     ap (λ t. run_state steps.next t vs) p.state ∙ sym (run_state-append steps.next s us vs) in
-    let gave : concat (run_gives steps.next steps.gives s us) ++ concat (run_gives steps.next steps.gives s' vs)
+    let gave : concat (run_gives steps.next steps.gives s us)
+    ++ concat (run_gives steps.next steps.gives s' vs)
     ≡ concat (run_gives steps.next steps.gives s (us ++ vs)) =
     ap (λ t. concat (run_gives steps.next steps.gives s us) ++ concat (run_gives steps.next steps.gives t vs))
     p.state
@@ -59,7 +60,8 @@ passes_both steps left left' left'' s s' s'' held held' held'' us vs p q =
     }
 
 -- one unit
-pub passes_one : {S C : Type 0} (steps : Stepping S C) (left left' : Bytes) (s s' : S) (held held' : Bytes) (u : C)
+pub passes_one : {S C : Type 0} (steps : Stepping S C) (left left' : Bytes) (s s' : S) (held held' : Bytes)
+    (u : C)
     → length (steps.bytes u) ≡ steps.size → Consumes left left' (steps.bytes u) → s' ≡ steps.next s u
     → Appends held held' (given_bytes (steps.gives s u))
     → PassesUnits steps (moving (from_to left left') (from_to s s') (from_to held held')) (u ∷ [])

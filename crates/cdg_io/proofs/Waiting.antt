@@ -38,7 +38,8 @@ piece_behind xs piece rest post start end order within =
     ∙ ap (λ (l : List ℕ). before ++ l) (take-append_seam piece (rest ++ post))
 
 -- a part as what is left of a front
-part_of_front : (xs : List ℕ) (start end : ℕ) → start ≤ end → slice_range xs start end ≡ drop start (take end xs)
+part_of_front : (xs : List ℕ) (start end : ℕ) → start ≤ end
+    → slice_range xs start end ≡ drop start (take end xs)
 part_of_front xs start end order =
     let split : end ≡ start + (end - start) = omega (arith, order) in
     sym (ap (λ (k : ℕ). drop start (take k xs)) split ∙ drop-take start (end - start) xs)

@@ -15,7 +15,8 @@ pub record Stepping (S C : Type 0) : Type 0 where
   pub gives : S → C → Option (List ℕ)
 
 -- such steps, from their parts
-abbrev pub stepping : {S C : Type 0} → (C → List ℕ) → ℕ → (S → C → S) → (S → C → Option (List ℕ)) → Stepping S C
+abbrev pub stepping : {S C : Type 0} → (C → List ℕ) → ℕ → (S → C → S) → (S → C → Option (List ℕ))
+    → Stepping S C
 stepping bytes size next gives = record { bytes = bytes; size = size; next = next; gives = gives }
 
 -- These units were taken, one after another; the stage was fed them, and what it gave was put.
