@@ -36,3 +36,21 @@ piece_behind xs piece rest post start end order within =
     ∙ take-append-add before behind (length piece)
     ∙ ap (λ (l : List ℕ). before ++ take (length piece) l) (append_assoc piece rest post)
     ∙ ap (λ (l : List ℕ). before ++ l) (take-append_seam piece (rest ++ post))
+
+-- a part as what is left of a front
+part_of_front : (xs : List ℕ) (start end : ℕ) → start ≤ end
+    → slice_range xs start end ≡ drop start (take end xs)
+part_of_front xs start end order =
+    let split : end ≡ start + (end - start) = omega (arith, order) in
+    sym (ap (λ (k : ℕ). drop start (take k xs)) split ∙ drop-take start (end - start) xs)
+
+-- more was written behind it
+pub more_behind : (xs ys more : List ℕ) (start end last : ℕ) → start ≤ end → end ≤ length xs → end ≤ last
+    → take last ys ≡ take end xs ++ more
+    → slice_range ys start last ≡ slice_range xs start end ++ more
+more_behind xs ys more start end last order within later is =
+    let front : length (take end xs) ≡ end = length-take-le end xs within in
+    part_of_front ys start last (omega (arith, order, later))
+    ∙ ap (drop start) is
+    ∙ drop-append-le start (take end xs) more (omega (arith, front, order))
+    ∙ ap (λ (l : List ℕ). l ++ more) (sym (part_of_front xs start end order))

@@ -5,8 +5,9 @@ ghost use Rattle.cdg_io.specs.Causes.{HasCause, counted_after};
 ghost use Rattle.cdg_io.specs.Moves.{TakesSome};
 ghost use Rattle.cdg_io.specs.Waiting.{Buffered, bytes_with_waiting};
 
+use crate::chunk::Chunk;
 use crate::copying::copy_front;
-use crate::{Failed, Sink};
+use crate::{Failed, Piece, Sink, Source, Stage};
 use std::alloc::{AllocError, Global};
 use std::io::{ErrorKind, Write};
 use std::marker::Model;
@@ -124,6 +125,20 @@ impl<W: Write> Sink for BufferedSink<W> {
         copy_front(&mut self.buffer[self.end..], piece);
         self.end += piece.len();
         Ok(piece.len())
+    }
+
+    /// What the stage gives is written behind what waits.
+    #[inline]
+    fn pass_at_hand<C: Chunk, S: Source, G: Stage<Item = C, Out = Piece>>(
+        &mut self,
+        source: &mut S,
+        stage: &mut G,
+        given: &mut Option<Piece>,
+        most: u32,
+    ) -> u32 {
+        let passed = source.feed_all_at_hand(stage, given, &mut self.buffer, self.end, most);
+        self.end = passed.end;
+        passed.units
     }
 }
 

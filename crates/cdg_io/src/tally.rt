@@ -1,6 +1,7 @@
 // What a source counts of its answers.
 ghost use Rattle.std.specs.Prelude.{◌≡◌, ◌<◌, ◌≤◌, Some};
 ghost use Rattle.cdg_io.specs.Causes.{RoseOnce};
+ghost use Rattle.cdg_io.specs.Pump.{RoseBy};
 
 /// How often a source told its end, and how often it gave all that it was offered room for.
 #[derive(Clone, Copy)]
@@ -30,5 +31,14 @@ impl Tally {
         } else if count >= room {
             self.fills = self.fills.saturating_add(1);
         }
+    }
+
+    /// Counts so many answers that gave all that there was room for.
+    #[inline]
+    pub fn add_full(&mut self, answers: u32)
+        ensures full { RoseBy answers (Some self.old.fills) (Some self.new.fills) }
+        ensures goes_on { self.new.ends ≡ self.old.ends }
+    {
+        self.fills = self.fills.saturating_add(u64::from(answers));
     }
 }

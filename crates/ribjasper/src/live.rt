@@ -2,7 +2,7 @@
 ghost use Rattle.std.specs.Prelude.{◌≡◌, None};
 
 use crate::input::InputReader;
-use cdg_io::{BufferedSink, Failed, Sink};
+use cdg_io::{BufferedSink, Chunk, Failed, Piece, Sink, Source, Stage};
 use std::cell::RefCell;
 use std::io;
 use std::io::{Read, Stdout};
@@ -65,5 +65,19 @@ impl Sink for LiveOutput<'_> {
         }
         self.faults = self.faults.saturating_add(1);
         Err(Failed)
+    }
+
+    #[inline]
+    fn pass_at_hand<C: Chunk, S: Source, G: Stage<Item = C, Out = Piece>>(
+        &mut self,
+        source: &mut S,
+        stage: &mut G,
+        given: &mut Option<Piece>,
+        most: u32,
+    ) -> u32 {
+        match self.waiting.try_borrow_mut() {
+            Ok(mut sink) => sink.pass_at_hand(source, stage, given, most),
+            Err(_) => 0,
+        }
     }
 }
