@@ -13,7 +13,7 @@ use Rattle.cdg_checkpoint.specs.declared.stops.ResumeStop.TheVariants.{WriteFaul
 pub record IsFirstPart (lead_in : ℕ) (bytes : List ℕ) : Type 0 where
   pub lead_in_most : lead_in ≤ most_lead_in
   pub most : length bytes ≤ most_units * block_bytes
-  pub whole : length bytes % 96 ≡ 0
+  pub whole : length bytes % block_bytes ≡ 0
 
 -- the answer as that of a player of the whole stream, who reads one input
 abbrev pub as_played : Result Resumed ResumeStop → Result Played PlayStop

@@ -16,7 +16,7 @@ use Rattle.cdg_screen.specs.Texts.{pixmap}
 use Rattle.checkpoint_files.specs.Table.{IsBadAt, IsCheckpointFile, empty_symbols, file_size}
 use Rattle.checkpoint_files.specs.Checkpoint.{Checkpoint, checkpoint_in}
 use Rattle.stream_stages.specs.Screen.{AreMeant}
-use Rattle.raw_subcode.specs.Sizes.{most_units}
+use Rattle.raw_subcode.specs.Sizes.{block_bytes, most_units, symbols_a_slot}
 use Rattle.cdg_checkpoint.specs.declared.stops.Resumed.{Resumed}
 use Rattle.cdg_checkpoint.specs.declared.stops.ResumeStop.{ResumeStop}
 use Rattle.cdg_checkpoint.specs.declared.stops.ResumeStop.TheVariants.{FirstFault, SecondFault, WriteFault, BadSave, BeforeSave, Torn, TooLong, PastEnd}
@@ -31,7 +31,7 @@ packs_until c time = whole_packs time - whole_packs c.program
 
 -- the program blocks of the checkpoint and of the rest of the stream
 abbrev pub blocks_after : Checkpoint → List ℕ → ℕ
-blocks_after c rest = c.program + (length rest / 96 - c.to_come)
+blocks_after c rest = c.program + (length rest / block_bytes - c.to_come)
 
 -- What stands at a time after the checkpoint, and how many words are bad: the words that come with the rest of the
 -- stream draw on what stood.
@@ -81,13 +81,13 @@ blocks_left c = most_units - (c.lead_in + c.program)
 
 -- how the rest of the stream, of so many bytes, is answered to
 abbrev pub IsGoneOnBy : Result Resumed ResumeStop → Checkpoint → ℕ → ℕ → Type 0
-IsGoneOnBy (Ok resumed) c time len = (len ≤ blocks_left c * 96) × (len % 96 ≡ 0)
-    × (time ≤ c.program + (len / 96 - c.to_come))
-IsGoneOnBy (Err TooLong) c time len = blocks_left c * 96 < len
-IsGoneOnBy (Err (Torn block)) c time len = (len ≤ blocks_left c * 96) × (len % 96 ≢ 0)
-    × (block ≡ c.lead_in + c.program + len / 96)
-IsGoneOnBy (Err (PastEnd blocks)) c time len = (len ≤ blocks_left c * 96) × (len % 96 ≡ 0)
-    × (blocks ≡ c.program + (len / 96 - c.to_come)) × (blocks < time)
+IsGoneOnBy (Ok resumed) c time len = (len ≤ blocks_left c * block_bytes) × (len % block_bytes ≡ 0)
+    × (time ≤ c.program + (len / block_bytes - c.to_come))
+IsGoneOnBy (Err TooLong) c time len = blocks_left c * block_bytes < len
+IsGoneOnBy (Err (Torn block)) c time len = (len ≤ blocks_left c * block_bytes) × (len % block_bytes ≢ 0)
+    × (block ≡ c.lead_in + c.program + len / block_bytes)
+IsGoneOnBy (Err (PastEnd blocks)) c time len = (len ≤ blocks_left c * block_bytes) × (len % block_bytes ≡ 0)
+    × (blocks ≡ c.program + (len / block_bytes - c.to_come)) × (blocks < time)
 IsGoneOnBy (Err SecondFault) c time len = ⊤
 IsGoneOnBy (Err stop) c time len = ⊥
 
@@ -105,7 +105,7 @@ pub record GoesOn (to : TimeAfter) (left : Change Bytes) (now : Standing)
     (result : Result Resumed ResumeStop) (taken : List ℕ) : Type 0 where
   pub taken_from : Consumes left.before left.after taken
   -- at most one byte past the limit
-  pub within : length taken ≤ blocks_left to.checkpoint * 96 + 1
+  pub within : length taken ≤ blocks_left to.checkpoint * block_bytes + 1
   pub done : IfOk result (λ resumed. IsAtEnd left.after × (resumed.blocks ≡ blocks_after to.checkpoint taken)
       × (to.time ≤ resumed.blocks) × IsGoneOn to.checkpoint to.time taken now resumed.bad)
   pub torn : (block : ℕ) → result ≡ Err (Torn block) → IsAtEnd left.after
@@ -129,7 +129,7 @@ reached blocks time bad = if nat_lt blocks time then Err (PastEnd blocks) else O
 
 -- the saved slots after so many blocks of the program, the oldest first
 abbrev pub saved_slots : Checkpoint → List (List ℕ)
-saved_slots c = map (λ k. symbols_of (take 24 (drop (24 * k) c.slots)))
+saved_slots c = map (λ k. symbols_of (take symbols_a_slot (drop (symbols_a_slot * k) c.slots)))
     (range_with_len (7 - min 7 (4 * c.program)) (min 7 (4 * c.program)))
 
 -- what an answer says of the first input: it was refused, or could not be read, or was accepted
@@ -149,7 +149,7 @@ pub record Resumes (file : List ℕ) (time : ℕ) (passed : Passed) (result : Re
     (taken : List ℕ) : Type 0 where
   pub taken_from : Consumes passed.left.before passed.left.after taken
   -- at most one byte past the limit
-  pub within : length taken ≤ blocks_left (checkpoint_in file) * 96 + 1
+  pub within : length taken ≤ blocks_left (checkpoint_in file) * block_bytes + 1
   pub done : IfOk result (λ resumed. IsAtEnd passed.left.after × (time ≤ resumed.blocks)
       × ((text : List ℕ) × IsResumed file time taken resumed text
       × Appends passed.held.before passed.held.after text))

@@ -26,16 +26,16 @@ pub record IsCheckpointOf (bytes : List ℕ) (lead_in : ℕ) (c : Checkpoint) : 
   pub recovered : IsRecovered Raw (program_symbols Raw bytes lead_in) found
   pub instrs : List Instr
   pub meant : AreMeant found instrs
-  pub to_come_is : c.to_come ≡ lead_in - length bytes / 96
-  pub lead_in_is : c.lead_in ≡ min (length bytes / 96) lead_in
-  pub program_is : c.program ≡ length bytes / 96 - lead_in
+  pub to_come_is : c.to_come ≡ lead_in - length bytes / block_bytes
+  pub lead_in_is : c.lead_in ≡ min (length bytes / block_bytes) lead_in
+  pub program_is : c.program ≡ length bytes / block_bytes - lead_in
   pub bad_is : c.bad ≡ bad_count found
   pub slots_are : c.slots ≡ last_symbols slots_bytes (program_symbols Raw bytes lead_in)
   pub stands : c.standing ≡ standing_after blank instrs
 
 -- the answer to whole blocks, and the file of their checkpoint
 pub record IsSaved (lead_in : ℕ) (bytes : List ℕ) (pumped : Pumped) (text : List ℕ) : Type 0 where
-  pub units : pumped.units ≡ length bytes / 96
+  pub units : pumped.units ≡ length bytes / block_bytes
   pub checkpoint : Checkpoint
   pub is : IsCheckpointOf bytes lead_in checkpoint
   pub text_is : text ≡ file_of checkpoint

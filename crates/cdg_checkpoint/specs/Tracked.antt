@@ -8,6 +8,7 @@ use Rattle.cdg_io.specs.declared.pumping.Pumped.{Pumped}
 use Rattle.cdg_io.specs.declared.pumping.PumpStop.{PumpStop}
 use Rattle.cdg_io.specs.declared.pumping.PumpStop.TheVariants.{WriteFault, Torn}
 use Rattle.cdg_io.specs.declared.stage.Then.{Then}
+use Rattle.raw_subcode.specs.Sizes.{block_bytes}
 use Rattle.stream_stages.specs.Steps.{words_next, words_give}
 use Rattle.stream_stages.specs.Drawn.{painting_next}
 use Rattle.stream_stages.specs.declared.block_words.BlockWords.{BlockWords}
@@ -25,9 +26,9 @@ words_drawn s block = record {
 pub record TracksBlocks {S : Type 0} (limit : ℕ) (next : S → List ℕ → S) (fed : Fed S)
     (result : Result Pumped PumpStop) (taken : List ℕ) : Type 0 where
   pub taken_from : Consumes fed.left.before fed.left.after taken
-  pub within : length taken ≤ limit * 96 + 1
+  pub within : length taken ≤ limit * block_bytes + 1
   pub done : IfOk result
-      (λ p. IsAtEnd fed.left.after × (length taken ≡ p.units * 96) × (p.units ≤ limit)
-      × (fed.state.after ≡ run_state next fed.state.before (units_of 96 p.units taken)))
+      (λ p. IsAtEnd fed.left.after × (length taken ≡ p.units * block_bytes) × (p.units ≤ limit)
+      × (fed.state.after ≡ run_state next fed.state.before (units_of block_bytes p.units taken)))
   pub torn : (unit : ℕ) → result ≡ Err (Torn unit) → IsAtEnd fed.left.after × (unit < limit)
   pub no_write : result ≢ Err WriteFault

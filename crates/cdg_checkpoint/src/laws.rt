@@ -1,4 +1,4 @@
-// A stream that goes on from a checkpoint.
+// Laws on a stream that is cut at a checkpoint: what goes on from there shows what the whole stream does.
 ghost use Rattle.std.specs.Prelude.{◌≡◌, ◌≢◌, ◌≤◌, ◌-◌, ◌/◌, ◌%◌, ◌++◌, List, ℕ, length, Some, Result, Err};
 ghost use Rattle.cdg_io.specs.Change.{Bytes, Change, from_to};
 ghost use Rattle.cdg_screen.specs.Standing.{Standing};
@@ -9,6 +9,7 @@ ghost use Rattle.cdg_io.specs.declared.pumping.Pumped.{Pumped};
 ghost use Rattle.cdg_checkpoint.specs.Cut.{IsFirstPart, as_played};
 ghost use Rattle.cdg_checkpoint.specs.declared.stops.Resumed.{Resumed};
 ghost use Rattle.cdg_checkpoint.specs.declared.stops.ResumeStop.{ResumeStop};
+ghost use Rattle.raw_subcode.specs.Sizes.{block_bytes};
 ghost use Rattle.raw_subcode.specs.declared.form.Form.{Form};
 ghost use Rattle.stream_stages.specs.Watch.{IsViewed};
 ghost use Rattle.stream_stages.specs.Screen.{IsScreenAt, IsShownBy, Shows, moment};
@@ -19,8 +20,9 @@ ghost use Rattle.cdg_checkpoint.specs.Saved.{IsCheckpointOf, IsSaved};
 /// stands then in the whole stream too, and as many words are bad.
 pub fn a_resumed_stream_is_the_whole()
     ensures { (bytes rest : List ℕ) (lead_in time bad : ℕ) (c : Checkpoint) (now : Standing)
-        → length bytes % 96 ≡ 0 → length rest % 96 ≡ 0 → IsCheckpointOf bytes lead_in c → c.program ≤ time
-        → IsGoneOn c time rest now bad → IsViewed (moment Form.Raw lead_in time) (bytes ++ rest) now bad }
+        → length bytes % block_bytes ≡ 0 → length rest % block_bytes ≡ 0 → IsCheckpointOf bytes lead_in c
+        → c.program ≤ time → IsGoneOn c time rest now bad
+        → IsViewed (moment Form.Raw lead_in time) (bytes ++ rest) now bad }
 {}
 
 /// A law: let a stream be cut after whole blocks. The file that `save` writes of its first part is accepted;
@@ -30,22 +32,23 @@ pub fn a_resumed_stream_is_the_whole()
 pub fn a_saved_stream_goes_on_as_the_whole()
     ensures accepted { (lead_in : ℕ) (bytes file : List ℕ) (pumped : Pumped) → IsFirstPart lead_in bytes
         → IsSaved lead_in bytes pumped file
-        → IsCheckpointFile file × ((checkpoint_in file).program ≡ length bytes / 96 - lead_in) }
+        → IsCheckpointFile file × ((checkpoint_in file).program ≡ length bytes / block_bytes - lead_in) }
     ensures answer { (lead_in time : ℕ) (bytes rest file : List ℕ) (pumped : Pumped)
         (result : Result Resumed ResumeStop) → IsFirstPart lead_in bytes → IsSaved lead_in bytes pumped file
         → IsResumedBy result (checkpoint_in file) time (length rest)
-        → IsShownBy (as_played result) lead_in time 96 (length (bytes ++ rest)) }
+        → IsShownBy (as_played result) lead_in time block_bytes (length (bytes ++ rest)) }
     ensures shown { (lead_in time : ℕ) (bytes rest file text : List ℕ) (pumped : Pumped) (resumed : Resumed)
-        → IsFirstPart lead_in bytes → length rest % 96 ≡ 0 → IsSaved lead_in bytes pumped file
-        → length bytes / 96 - lead_in ≤ time → IsResumed file time rest resumed text
+        → IsFirstPart lead_in bytes → length rest % block_bytes ≡ 0 → IsSaved lead_in bytes pumped file
+        → length bytes / block_bytes - lead_in ≤ time → IsResumed file time rest resumed text
         → IsScreenAt (moment Form.Raw lead_in time) (bytes ++ rest) text resumed.bad
-        × (resumed.blocks ≡ length (bytes ++ rest) / 96 - lead_in) }
+        × (resumed.blocks ≡ length (bytes ++ rest) / block_bytes - lead_in) }
     // The same of a call of `resume` that was given this file and this rest: it is a call that shows the time
     // of the whole stream.
     ensures whole { (lead_in time : ℕ) (bytes rest file taken : List ℕ) (pumped : Pumped)
         (result : Result Resumed ResumeStop) (left : Bytes) (out : Change Bytes)
-        → IsFirstPart lead_in bytes → IsSaved lead_in bytes pumped file → length bytes / 96 - lead_in ≤ time
-        → result ≢ Err ResumeStop.WriteFault → IsResumedBy result (checkpoint_in file) time (length rest)
+        → IsFirstPart lead_in bytes → IsSaved lead_in bytes pumped file
+        → length bytes / block_bytes - lead_in ≤ time → result ≢ Err ResumeStop.WriteFault
+        → IsResumedBy result (checkpoint_in file) time (length rest)
         → Resumes file time (record { left = from_to (Some rest) left; held = out }) result taken
         → Shows pixmap (moment Form.Raw lead_in time)
         (record { left = from_to (Some (bytes ++ rest)) left; held = out })

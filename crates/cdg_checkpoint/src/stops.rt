@@ -1,4 +1,4 @@
-// How a resumed call ends.
+// How a call ends that goes on from a checkpoint.
 
 /// What was played after a checkpoint.
 #[derive(Clone, Copy, Debug, PartialEq, Eq)]

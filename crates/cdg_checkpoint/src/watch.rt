@@ -3,6 +3,7 @@ ghost use Rattle.std.specs.Prelude.{◌≡◌, ◌≢◌, ◌≤◌, List, ℕ, 
 ghost use Rattle.cdg_io.specs.Causes.{TellsFault};
 ghost use Rattle.cdg_io.specs.Change.{fed};
 ghost use Rattle.cdg_io.specs.Pump.{IsUnlessFault, TellsEndOf, answer_of};
+ghost use Rattle.raw_subcode.specs.Sizes.{block_bytes};
 ghost use Rattle.cdg_checkpoint.specs.Tracked.{TracksBlocks};
 
 use cdg_io::{Failed, Piece, PumpStop, Pumped, Source, Stage, SteadySink, pump};
@@ -20,7 +21,7 @@ pub(crate) fn watch<S: Source, G: Stage<Item = [u8; BLOCK_BYTES], Out = Piece>>(
         result taken }
     // Where nothing failed, the answer is that of the whole input's length.
     ensures answer { IfSome (S.left source.old)
-        (λ all. IsUnlessFault result (answer_of 96 limit (length all))) }
+        (λ all. IsUnlessFault result (answer_of block_bytes limit (length all))) }
     ensures read_fault { TellsFault PumpStop.ReadFault
         (S.faults source.old) (S.faults source.new) result }
     ensures ended { TellsEndOf result (S.ends source.old) (S.ends source.new) }
@@ -38,7 +39,7 @@ pub(crate) fn watch_some<S: Source, G: Stage<Item = [u8; BLOCK_BYTES], Out = Pie
         × TracksBlocks limit G.next (fed S.left (source.old, stage.old) (source.new, stage.new))
         result taken }
     ensures answer { IfSome (S.left source.old)
-        (λ all. IsUnlessFault result (answer_of 96 limit (length all))) }
+        (λ all. IsUnlessFault result (answer_of block_bytes limit (length all))) }
     ensures read_fault { TellsFault PumpStop.ReadFault
         (S.faults source.old) (S.faults source.new) result }
     ensures ended { TellsEndOf result (S.ends source.old) (S.ends source.new) }

@@ -1,4 +1,4 @@
-// The words of the command line.
+// Each command with its numbers, and the words of a command line that spell it.
 ghost use Rattle.std.specs.Prelude.{◌≡◌, IfSome, Some};
 ghost use Rattle.cdg_cmd.specs.Words.{texts};
 ghost use Rattle.cdg_cmd.specs.Spelling.{Spells};

@@ -1,4 +1,4 @@
-// What a run answers.
+// How a run ends, and the number that the process ends with.
 ghost use Rattle.std.specs.Prelude.{◌≡◌};
 ghost use Rattle.cdg_cmd.specs.Line.{exit_of};
 

@@ -1,4 +1,4 @@
-// The top call.
+// Running a command: its words are read, its work is done, and the line of its status is told.
 ghost use Rattle.std.specs.Prelude.{◌≡◌, ◌≢◌, ◌↔◌, ◌≤◌, ◌⊎◌, ℕ, List, Some, None, IfSome};
 ghost use Rattle.disc_time.specs.Counts.{most_program};
 ghost use Rattle.std.specs.List.{concat};

@@ -12,9 +12,13 @@ use Rattle.stream_writer.specs.Framing.{HasFraming}
 use Rattle.rw_code.specs.Packs.{idle_pack}
 use Rattle.stream_writer.specs.Needs.{text_packs, lead_in_need}
 
+-- the bytes of a pack of a file: one for each symbol
+abbrev pub pack_bytes : ℕ
+pack_bytes = 24
+
 -- the whole packs of a file, as symbols: the low six bits of its bytes
 abbrev pub file_packs : List ℕ → List (List ℕ)
-file_packs file = map symbols_of (whole_parts 24 file)
+file_packs file = map symbols_of (whole_parts pack_bytes file)
 
 -- pack n of a file
 abbrev pub file_pack : List ℕ → ℕ → List ℕ
@@ -42,11 +46,12 @@ press_of sheet file lead_in audio = record {
 
 -- the stream of a sheet carries the packs of the file, in time with the audio, and else idle ones
 pub record IsPressed (press : Press) (bytes : List ℕ) (packs : List (List ℕ)) : Type 0 where
-  pub whole : length press.file % 24 ≡ 0
-  pub of_file : (n : ℕ) → n < length press.file / 24
+  pub whole : length press.file % pack_bytes ≡ 0
+  pub of_file : (n : ℕ) → n < length press.file / pack_bytes
       → IsMadeGood (file_pack press.file n) (slice_index_or packs (file_begin + n) [])
   pub others : (n : ℕ) → n < whole_packs (program_blocks press.sheet press.audio)
-      → (n < file_begin) ⊎ (file_begin + length press.file / 24 ≤ n) → slice_index_or packs n [] ≡ idle_pack
+      → (n < file_begin) ⊎ (file_begin + length press.file / pack_bytes ≤ n)
+      → slice_index_or packs n [] ≡ idle_pack
   pub framing : HasFraming (layout_of press.sheet press.audio) (text_packs press.sheet) press.lead_in bytes
   pub carries : Carries (program_blocks press.sheet press.audio)
       (program_symbols Raw bytes press.lead_in) packs
@@ -54,5 +59,5 @@ pub record IsPressed (press : Press) (bytes : List ℕ) (packs : List (List ℕ)
 
 -- pack n, where so many idle packs come before those of a file, and idle ones after them
 pub record IsPackAfter (wait : ℕ) (file : List ℕ) (n : ℕ) (pack : List ℕ) : Type 0 where
-  pub of_file : (k : ℕ) → n ≡ wait + k → k < length file / 24 → IsMadeGood (file_pack file k) pack
-  pub idle : (n < wait) ⊎ (wait + length file / 24 ≤ n) → pack ≡ idle_pack
+  pub of_file : (k : ℕ) → n ≡ wait + k → k < length file / pack_bytes → IsMadeGood (file_pack file k) pack
+  pub idle : (n < wait) ⊎ (wait + length file / pack_bytes ≤ n) → pack ≡ idle_pack

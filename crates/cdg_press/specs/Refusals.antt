@@ -1,10 +1,12 @@
 -- When a file is pressed, and otherwise the first refusal that holds.
 use Rattle.std.specs.Prelude.{◌≡◌, ◌≢◌, ℕ, ◌+◌, ◌*◌, ◌/◌, ◌%◌, ◌<◌, ◌≤◌, List, length, Result, Ok, Err}
 use Rattle.disc_time.specs.Counts.{most_program}
+use Rattle.raw_subcode.specs.Sizes.{slots_a_block}
 use Rattle.text_lines.specs.Text.{most_text_bytes}
 use Rattle.cue_sheet.specs.CueSheet.{CueSheet, CueTrack, track_of}
 use Rattle.toc_model.specs.Places.{audio_need, program_blocks}
 use Rattle.stream_writer.specs.Needs.{HasLayout, HasRoom, IsLeadInShort, IsTextTooLong}
+use Rattle.cdg_press.specs.Pressed.{pack_bytes}
 use Rattle.cdg_press.specs.declared.stops.PressStop.{PressStop}
 use Rattle.cdg_press.specs.declared.stops.PressStop.TheVariants.{PackTorn, LengthShort, DiscTooLong, Gap, CdgTooLong, TextTooLong, LeadInShort, WriteFault, NoMemory}
 
@@ -14,7 +16,7 @@ IsShort file = length file ≤ most_text_bytes
 
 -- the file is whole packs
 abbrev pub IsWhole : List ℕ → Type 0
-IsWhole file = length file % 24 ≡ 0
+IsWhole file = length file % pack_bytes ≡ 0
 
 -- the two gaps of a track together
 abbrev pub gaps_of : CueTrack → ℕ
@@ -36,7 +38,8 @@ HasDisc sheet file audio = IsWhole file × HasLayout sheet audio
 
 -- they run in time with each other, and the audio has four packs a block for those of the file
 abbrev pub RunsInTime : CueSheet → List ℕ → ℕ → Type 0
-RunsInTime sheet file audio = HasDisc sheet file audio × HasNoGap sheet × (length file / 24 ≤ 4 * audio)
+RunsInTime sheet file audio = HasDisc sheet file audio × HasNoGap sheet
+    × (length file / pack_bytes ≤ slots_a_block * audio)
 
 -- nothing is refused
 pub record IsPressable (sheet : CueSheet) (file : List ℕ) (lead_in audio : ℕ) : Type 0 where
@@ -46,14 +49,15 @@ pub record IsPressable (sheet : CueSheet) (file : List ℕ) (lead_in audio : ℕ
 -- why a stream is not pressed: each refusal comes only where those before it do not hold, and a failed write and want of
 -- memory only where nothing is refused
 abbrev pub IsPressStop : CueSheet → List ℕ → ℕ → ℕ → PressStop → Type 0
-IsPressStop sheet file lead_in audio (PackTorn pack) = (length file % 24 ≢ 0) × (pack ≡ length file / 24)
+IsPressStop sheet file lead_in audio (PackTorn pack) = (length file % pack_bytes ≢ 0)
+    × (pack ≡ length file / pack_bytes)
 IsPressStop sheet file lead_in audio (LengthShort need) = IsWhole file × (need ≡ audio_need sheet)
     × (audio < audio_need sheet)
 IsPressStop sheet file lead_in audio (DiscTooLong blocks) = IsWhole file × (audio_need sheet ≤ audio)
     × (blocks ≡ program_blocks sheet audio) × (most_program < blocks)
 IsPressStop sheet file lead_in audio (Gap track) = HasDisc sheet file audio × IsFirstGap sheet track
 IsPressStop sheet file lead_in audio (CdgTooLong packs room) = HasDisc sheet file audio × HasNoGap sheet
-    × (packs ≡ length file / 24) × (room ≡ 4 * audio) × (room < packs)
+    × (packs ≡ length file / pack_bytes) × (room ≡ slots_a_block * audio) × (room < packs)
 IsPressStop sheet file lead_in audio (TextTooLong packs) = RunsInTime sheet file audio
     × IsTextTooLong sheet lead_in packs
 IsPressStop sheet file lead_in audio (LeadInShort need) = RunsInTime sheet file audio
@@ -63,5 +67,5 @@ IsPressStop sheet file lead_in audio NoMemory = IsPressable sheet file lead_in a
 
 -- the number of the packs of a file, or where it is torn
 abbrev pub IsCounted : List ℕ → Result ℕ PressStop → Type 0
-IsCounted file (Ok packs) = IsWhole file × (packs ≡ length file / 24)
-IsCounted file (Err stop) = (length file % 24 ≢ 0) × (stop ≡ PackTorn (length file / 24))
+IsCounted file (Ok packs) = IsWhole file × (packs ≡ length file / pack_bytes)
+IsCounted file (Err stop) = (length file % pack_bytes ≢ 0) × (stop ≡ PackTorn (length file / pack_bytes))

@@ -2,7 +2,9 @@
 ghost use Rattle.std.specs.Prelude.{◌≡◌, length, unwrap_or};
 ghost use Rattle.raw_subcode.specs.Channels.{symbols_of};
 ghost use Rattle.cdg_instructions.specs.MadeGood.{IsMadeGood};
+ghost use Rattle.rw_code.specs.Codeword.{IsWord};
 ghost use Rattle.rw_code.specs.Packs.{idle_pack};
+ghost use Rattle.cdg_press.specs.Pressed.{pack_bytes};
 
 use crate::checks::PACK_BYTES;
 use gf64::Sym;
@@ -40,7 +42,7 @@ impl<'a> PackSource for FileSource<'a> {
 // The codeword of the symbols of a pack, whatever parity it has, or none where it is idle. Most packs of a file are
 // idle, and these are told without a look at their sums.
 fn made_good(pack: &[u8]) -> Option<Pack>
-    requires { length pack.now ≡ 24 }
+    requires { length pack.now ≡ pack_bytes }
     ensures { IsMadeGood (symbols_of pack.now) (unwrap_or result idle_pack) }
 {
     let mut bytes = [0; PACK_BYTES];
@@ -59,12 +61,18 @@ fn made_good(pack: &[u8]) -> Option<Pack>
 fn sealed(word: &Word) -> Pack
     ensures { IsMadeGood word.now result }
 {
-    // What holds of every word: it has 24 symbols.
-    let _symbols = word.bytes();
+    words_have_24_symbols(word);
     let head = [word.get(0), word.get(1)];
     let mut body = [Sym::default(); 16];
     for i in 0..16 {
         body[i] = word.get(4 + i);
     }
     Pack::seal(head, body)
+}
+
+// A law: each word has 24 symbols below 64.
+fn words_have_24_symbols(word: &Word)
+    ensures { IsWord word.now }
+{
+    word.bytes();
 }

@@ -1,4 +1,4 @@
-// A whole stream in memory.
+// The packs of a whole stream in memory.
 ghost use Rattle.std.specs.Prelude.{◌≡◌, ◌≢◌, ◌<◌, ◌≤◌, ◌+◌, ◌*◌, ◌-◌, ◌/◌, ◌++◌, ◌⊎◌, ◌↔◌, List, ℕ, MatchOption, drop, length, pos, take};
 ghost use Rattle.raw_subcode.specs.Sizes.{most_units, symbols_a_slot};
 ghost use Rattle.disc_time.specs.Counts.{most_lead_in};

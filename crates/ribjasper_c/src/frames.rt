@@ -1,4 +1,4 @@
-// Frames of the Q channel.
+// Frames of the Q channel, read from their twelve bytes and written to them.
 ghost use Rattle.std.specs.Prelude.{◌≡◌, ◌≢◌, ◌↔◌, ◌⊎◌, IfSome, Some, Err, pos, negsuc, take, drop};
 ghost use Rattle.bit_lists.specs.Bits.{bits_of_bytes};
 ghost use Rattle.bit_lists.specs.Check.{check_bits};

@@ -1,4 +1,4 @@
-// Two readings of one stream in memory.
+// The packs of two readings of one stream in memory, each mended by the other.
 ghost use Rattle.std.specs.Prelude.{◌≡◌, ◌==◌, ◌≤◌, if◌then◌else◌, IfSome, None, length, pos};
 ghost use Rattle.disc_time.specs.Counts.{most_lead_in};
 ghost use Rattle.ribjasper_c.specs.Mending.{refusal_of, AreMendedInto};

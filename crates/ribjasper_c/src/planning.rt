@@ -1,4 +1,4 @@
-// The plan of a disc.
+// The plan of a disc: a row for each picture of a script, and whether some are late.
 ghost use Rattle.std.specs.Prelude.{◌≡◌, ◌≢◌, ◌<◌, ◌⊎◌, ◌↔◌, drop, length, pos};
 ghost use Rattle.disc_time.specs.Counts.{most_lead_in, most_program};
 ghost use Rattle.disc_plan.specs.Discs.{planned_disc, IsPlan, IsPlanStop};

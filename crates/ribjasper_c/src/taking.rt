@@ -1,4 +1,4 @@
-// The packs that come with a block.
+// A player that is fed a block and answers with the packs that came with it.
 ghost use Rattle.std.specs.Prelude.{◌≡◌, ◌≤◌, ◌++◌, ◌∷◌, [], List, ℕ, pos, negsuc, length, true, false};
 ghost use Rattle.live_player.specs.Lives.{Given, blocks_in, stream_words};
 ghost use Rattle.live_player.specs.Lives.Given.{Fed};

@@ -119,14 +119,5 @@ nothing_counted = record {
 -- nothing is counted yet of a stream of this form, whose frames are read unless its packs are cooked
 pub record IsFresh (form : Form) (lead_in : ℕ) (s : Counting) : Type 0 where
   pub words : words_of s.words ≡ fresh_words form lead_in
-  pub counts : counts_of s.words ≡ record {
-    clean = 0;
-    one = 0;
-    two = 0;
-    bad = 0;
-    idle = 0;
-    graphics = 0;
-    unknown = 0;
-    foreign = 0;
-  }
+  pub counts : counts_of s.words ≡ nothing_counted
   pub frames : s.frames ≡ record { read = has_frames form; good = 0; bad = 0 }

@@ -6,6 +6,7 @@ use Rattle.rw_code.specs.Finding.{finding}
 use Rattle.bit_lists.specs.Counting.{below}
 use Rattle.rw_interleave.specs.Gathering.{gather_next, gather_gives}
 use Rattle.raw_subcode.specs.Channels.{symbols_of}
+use Rattle.raw_subcode.specs.Sizes.{slots_a_block, symbols_a_slot}
 use Rattle.rw_interleave.specs.Texts.{cdg_bytes}
 use Rattle.raw_subcode.specs.declared.form.Form.{Form}
 use Rattle.raw_subcode.specs.declared.form.Form.TheVariants.{Raw, Sector, Cooked}
@@ -15,11 +16,11 @@ use Rattle.rw_code.specs.Packs.{idle_pack}
 
 -- slot i of a block
 unfoldable pub slot_of : List ℕ → ℕ → List ℕ
-slot_of block i = symbols_of (take 24 (drop (24 * i) block))
+slot_of block i = symbols_of (take symbols_a_slot (drop (symbols_a_slot * i) block))
 
 -- the four slots of a block
 unfoldable pub slots_of : List ℕ → List (List ℕ)
-slots_of block = map (slot_of block) (below 4)
+slots_of block = map (slot_of block) (below slots_a_block)
 
 -- the window after a slot: a cooked stream keeps none
 unfoldable pub window_next : Form → List (List ℕ) → List ℕ → List (List ℕ)
@@ -36,7 +37,7 @@ window_gives Cooked window slot = Some slot
 -- these words, or four idle packs
 abbrev pub words_or_idle : Option (ArrayVec (List ℕ)) → ArrayVec (List ℕ)
 words_or_idle (Some words) = words
-words_or_idle None = record { items = replicate 4 idle_pack }
+words_or_idle None = record { items = replicate slots_a_block idle_pack }
 
 -- the state at the start of a stream
 abbrev pub fresh_words : Form → ℕ → BlockWords
@@ -59,7 +60,7 @@ words_give s block =
 -- A block changes nothing, and four idle packs come with it.
 abbrev pub IdlesOn : BlockWords → List ℕ → Type 0
 IdlesOn s block = (s ≡ words_next s block)
-    × (Some (record { items = replicate 4 idle_pack }) ≡ words_give s block)
+    × (Some (record { items = replicate slots_a_block idle_pack }) ≡ words_give s block)
 
 -- the count of bad words after a word: a u32 that stays at its last value
 unfoldable pub bad_next : ℕ → List ℕ → ℕ

@@ -1,6 +1,7 @@
 // From blocks to words.
 ghost use Rattle.std.specs.Prelude.{◌≡◌, ◌<◌, true, List, ℕ, MatchOption, replicate};
 ghost use Rattle.arrayvec.specs.ArrayVec.{ArrayVec};
+ghost use Rattle.raw_subcode.specs.Sizes.{slots_a_block};
 ghost use Rattle.rw_code.specs.Packs.{idle_pack};
 ghost use Rattle.stream_stages.specs.Steps.{IdlesOn, fresh_words, words_or_idle, slot_of, slots_of, words_next, words_give};
 
@@ -28,7 +29,7 @@ impl BlockOfWords {
     // Four idle packs.
     #[inline]
     fn idle() -> BlockOfWords
-        ensures { result.items ≡ replicate 4 idle_pack }
+        ensures { result.items ≡ replicate slots_a_block idle_pack }
     {
         BlockOfWords { words: None }
     }
@@ -42,7 +43,7 @@ impl BlockOfWords {
     /// The words. None says that they are four idle packs.
     #[inline]
     pub fn unless_idle(&self) -> Option<&ArrayVec<Word, SLOTS_A_BLOCK>>
-        ensures { MatchOption result (self.now.items ≡ replicate 4 idle_pack)
+        ensures { MatchOption result (self.now.items ≡ replicate slots_a_block idle_pack)
             (λ words. words.now ≡ self.now) }
     {
         self.words.as_ref()
@@ -155,7 +156,7 @@ fn slots(block: &[u8; BLOCK_BYTES]) -> ArrayVec<Word, SLOTS_A_BLOCK>
 
 // A slot of a block.
 fn slot(block: &[u8; BLOCK_BYTES], i: usize) -> Word
-    requires { i < 4 }
+    requires { i < slots_a_block }
     ensures { result ≡ slot_of block.now i }
 {
     let mut bytes = [0; SYMBOLS_A_SLOT];

@@ -1,5 +1,6 @@
 // From words to the bytes of packs.
 ghost use Rattle.std.specs.Prelude.{◌≡◌, [], length, map};
+ghost use Rattle.raw_subcode.specs.Sizes.{symbols_a_slot};
 ghost use Rattle.rw_code.specs.Codeword.{IsCodeword};
 ghost use Rattle.rw_code.specs.Finding.{finding};
 ghost use Rattle.rw_code.specs.Packs.{idle_pack};
@@ -63,16 +64,16 @@ impl Correction {
 
     // The bytes of the codeword near a word, or zeros.
     #[tactic(auto, unfolding(crate::specs::Steps::bad_next))]
-    fn recover(&mut self, word: &Word) -> [u8; 24]
+    fn recover(&mut self, word: &Word) -> [u8; SYMBOLS_A_SLOT]
         ensures bytes { result ≡ entry_bytes (finding word.now) }
-        ensures size { length result ≡ 24 }
+        ensures size { length result ≡ symbols_a_slot }
         ensures bad { self.new.bad ≡ bad_next self.old.bad word.now }
     {
         match correct(word) {
             Some(fixed) => fixed.pack.word().bytes(),
             None => {
                 self.bad = self.bad.saturating_add(1);
-                [0; 24]
+                [0; SYMBOLS_A_SLOT]
             }
         }
     }

@@ -1,5 +1,6 @@
 // Counts of words, packs and frames.
 ghost use Rattle.std.specs.Prelude.{◌≡◌, ◌==◌, replicate, true, false, Some, None};
+ghost use Rattle.raw_subcode.specs.Sizes.{slots_a_block};
 ghost use Rattle.rw_code.specs.Codeword.{IsCodeword, differences};
 ghost use Rattle.rw_code.specs.Packs.{idle_pack};
 ghost use Rattle.stream_stages.specs.Steps.{fresh_words};
@@ -13,7 +14,7 @@ use crate::idle_words::idle_is_codeword;
 use arrayvec::ArrayVec;
 use cdg_io::{Piece, Stage, Then};
 use q_channel::is_frame;
-use raw_subcode::{BLOCK_BYTES, Block, Form};
+use raw_subcode::{BLOCK_BYTES, Block, Form, SLOTS_A_BLOCK};
 use rw_code::{Fixed, Word, correct};
 
 // The most wrong symbols of a word that are corrected.
@@ -86,7 +87,7 @@ fn is_known(code: u8) -> bool
 impl WordCounts {
     // Counts the words of a block, one by one.
     #[inline(never)]
-    fn count_each(&mut self, words: &ArrayVec<Word, 4>)
+    fn count_each(&mut self, words: &ArrayVec<Word, SLOTS_A_BLOCK>)
         requires { IsCodeword idle_pack }
         ensures { self.new ≡ counts_next self.old words.now }
     {
@@ -148,7 +149,7 @@ impl WordCounts {
     // Counts four idle words.
     fn count_four_idle(&mut self)
         requires { IsCodeword idle_pack }
-        ensures { self.new ≡ count_after self.old (replicate 4 idle_pack) }
+        ensures { self.new ≡ count_after self.old (replicate slots_a_block idle_pack) }
     {
         self.count_idle();
         self.count_idle();

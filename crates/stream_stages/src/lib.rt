@@ -8,13 +8,13 @@ mod counting;
 mod idle_words;
 mod painting;
 mod played;
+mod pumping;
 mod sector_blocks;
-mod watching;
 
 pub use block_words::{BlockOfWords, BlockWords};
 pub use correction::Correction;
 pub use counting::{Counting, FrameCounts, WordCounts};
 pub use painting::Painting;
 pub use played::{PlayStop, Played, play_stop};
+pub use pumping::{pump_blocks, watch};
 pub use sector_blocks::SectorBlocks;
-pub use watching::{pump_blocks, watch};

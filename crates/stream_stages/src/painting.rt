@@ -2,6 +2,7 @@
 ghost use Rattle.std.specs.Prelude.{◌≡◌, ◌∷◌, [], replicate};
 ghost use Rattle.cdg_instructions.specs.Meaning.{meaning};
 ghost use Rattle.cdg_screen.specs.Standing.{standing_after};
+ghost use Rattle.raw_subcode.specs.Sizes.{slots_a_block};
 ghost use Rattle.rw_code.specs.Codeword.{IsCodeword};
 ghost use Rattle.rw_code.specs.Finding.{finding};
 ghost use Rattle.rw_code.specs.Packs.{idle_pack};
@@ -14,6 +15,7 @@ use arrayvec::ArrayVec;
 use cdg_instructions::read;
 use cdg_io::{Piece, Stage};
 use cdg_screen::Screen;
+use raw_subcode::SLOTS_A_BLOCK;
 use rw_code::{Pack, Word, correct};
 
 /// Draws the corrected packs up to a number of them, and counts the words with no codeword near among these.
@@ -41,7 +43,7 @@ impl Painting {
 
     // Draws the words of a block, one by one.
     #[inline(never)]
-    fn draw_each(&mut self, words: &ArrayVec<Word, 4>)
+    fn draw_each(&mut self, words: &ArrayVec<Word, SLOTS_A_BLOCK>)
         ensures { self.new ≡ painting_next self.old words.now }
     {
         for word in words.as_slice() {
@@ -52,9 +54,9 @@ impl Painting {
     // Draws four idle words: the screen stays.
     fn draw_four_idle(&mut self)
         requires { IsCodeword idle_pack }
-        ensures { self.new ≡ draw_after self.old (replicate 4 idle_pack) }
+        ensures { self.new ≡ draw_after self.old (replicate slots_a_block idle_pack) }
     {
-        self.left = self.left.saturating_sub(4);
+        self.left = self.left.saturating_sub(SLOTS_A_BLOCK as u32);
         // A law: they draw nothing.
         idle_packs_draw_nothing(&self.screen);
     }

@@ -1,5 +1,6 @@
 // From sectors to blocks.
 ghost use Rattle.std.specs.Prelude.{drop};
+ghost use Rattle.raw_subcode.specs.Sizes.{audio_bytes};
 
 use cdg_io::Stage;
 use raw_subcode::{BLOCK_BYTES, Block, SECTOR_BYTES};
@@ -19,9 +20,9 @@ where
 
     type Out = G::Out;
 
-    ghost next = { λ s sector. record { blocks = G.next s.blocks (drop 2352 sector) } };
+    ghost next = { λ s sector. record { blocks = G.next s.blocks (drop audio_bytes sector) } };
 
-    ghost gives = { λ s sector. G.gives s.blocks (drop 2352 sector) };
+    ghost gives = { λ s sector. G.gives s.blocks (drop audio_bytes sector) };
 
     fn feed(&mut self, sector: &[u8; SECTOR_BYTES]) -> Option<G::Out> {
         self.blocks.feed(&Block::from_sector(sector).bytes())

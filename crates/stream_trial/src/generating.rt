@@ -1,4 +1,4 @@
-// The script and the sheet of a trial.
+// The script and the sheet of a trial, read from their texts.
 ghost use Rattle.std.specs.Prelude.{◌≡◌, ◌≤◌, IfOk, IfErr};
 ghost use Rattle.cdg_workload.specs.Script.{most_generated};
 ghost use Rattle.cdg_workload.specs.Generated.{generated_drawings};

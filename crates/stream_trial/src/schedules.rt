@@ -1,4 +1,4 @@
-// Generated scripts are in time.
+// Laws on generated scripts: each picture is ready in time, and a sheet that has room is written with them.
 ghost use Rattle.std.specs.Prelude.{◌≡◌, ◌<◌, ◌≤◌, ◌+◌, ◌*◌, ◌⊎◌, ℕ};
 ghost use Rattle.cue_sheet.specs.CueSheet.{CueSheet};
 ghost use Rattle.toc_model.specs.Places.{program_blocks};

@@ -1,4 +1,4 @@
-// The sheet of a trial.
+// A law on the sheet of a trial: it is read, and each generated script is written with it.
 ghost use Rattle.std.specs.Prelude.{◌≡◌, ◌≤◌, ◌+◌, ◌*◌, ◌⊎◌, ℕ, Ok};
 ghost use Rattle.cdg_workload.specs.Script.{most_generated};
 ghost use Rattle.cue_sheet.specs.Grammar.{read_cue};

@@ -1,4 +1,4 @@
-// A trial of a seed.
+// A whole trial of a seed, from its script to the lines that are written.
 ghost use Rattle.std.specs.Prelude.{◌≡◌, ◌≢◌, ◌≤◌, ℕ, List, Err, OnOk, IfOk, IfErr};
 ghost use Rattle.cdg_workload.specs.Script.{most_generated};
 ghost use Rattle.std.specs.Io.KnownBytes.{Appends};

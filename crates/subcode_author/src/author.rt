@@ -73,7 +73,7 @@ pub fn author_stream<K: Sink>(
     packs_are_a_schedule();
     needs_are_fewest();
     // What holds of every script: its pictures are in order, and have sixteen colours.
-    let _times = script.pictures();
+    script.times_rise_and_colours_are_in_range();
     let blocks = accept_disc(sheet, script, lead_in, length)?;
     let layout = Layout::of_sheet(alloc, sheet, length)?;
     let texts = pack_texts(alloc, sheet, lead_in)?;

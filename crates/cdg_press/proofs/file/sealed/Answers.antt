@@ -1,4 +1,4 @@
-use Rattle.std.proofs.Common.{◌≡◌, ℕ, zero, suc, ◌<◌, List, [], ◌∷◌, length, get_or, sym, ap, ◌∙◌, arith}
+use Rattle.std.proofs.Common.{◌≡◌, ℕ, zero, suc, ◌<◌, List, [], ◌∷◌, get_or, ◌∙◌, arith}
 use Rattle.cdg_press.proofs.Messages.{same_message}
 use Rattle.cdg_press.proofs.file.sealed.Goals as goal
 
@@ -12,11 +12,11 @@ two_of word first second one two (suc (suc k)) lt = absurd (omega (arith, lt))
 
 pub returns : goal.returns
 returns c = record {
-  size = ap length (sym c.bytes-symbols.ensures.same) ∙ c.bytes-symbols.ensures.word.size;
+  size = c.words_have_24_symbols.ensures.size;
   codeword = c.seal.ensures.codeword;
   message =
       same_message c.seal.result c.args.word.now c.seal.ensures.codeword.is_word.size
-      (ap length (sym c.bytes-symbols.ensures.same) ∙ c.bytes-symbols.ensures.word.size)
+      c.words_have_24_symbols.ensures.size
       (λ k lt. c.seal.ensures.symbols.at_head k lt
       ∙ two_of c.args.word.now c.get.result c.get-2.result c.get.ensures c.get-2.ensures k lt)
       (λ k lt. c.seal.ensures.symbols.at_body k lt ∙ c.loop-i.invariant k (omega (arith, lt)));

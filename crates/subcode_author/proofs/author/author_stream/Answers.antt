@@ -44,7 +44,7 @@ returns-in_err-weaver-clause-late g c picture need free told =
     c.in_ok-blocks.ensures.disc c.in_ok-blocks.ensures.room c.in_err-weaver.ensures.err in
     let p =
     err_from_is_err_and c.from_residual-in_err-weaver.result c.from_residual-in_err-weaver.ensures.1 in
-    let known = c.pictures-times.ensures in
+    let known = c.times_rise_and_colours_are_in_range.ensures in
     late_told c.needs_are_fewest.ensures.late c.args.sheet.now c.args.script.now c.args.lead_in c.args.length
     c.in_err-weaver.field-0.0 (record { held = known.held; later = known.later })
     (record { border = known.borders; colour = known.colours }) known.pixels stop picture need free
@@ -75,6 +75,7 @@ same_blocks sheet audio layout blocks is same = same ∙ sym (ap (λ (l : DiscLa
 
 pub write_stream-requires-clause-cut : goal.write_stream-requires-clause-cut
 write_stream-requires-clause-cut g c =
+    let known = c.times_rise_and_colours_are_in_range.ensures in
     cut_idle c.args.script.now c.in_ok-weaver.weaver c.in_ok-layout.layout.blocks
     (few_blocks c.args.sheet.now c.args.length c.in_ok-layout.layout c.in_ok-layout.ensures
     c.in_ok-blocks.ensures.disc.0.1)
@@ -83,9 +84,7 @@ write_stream-requires-clause-cut g c =
     (same_blocks c.args.sheet.now c.args.length c.in_ok-layout.layout c.in_ok-blocks.blocks
     c.in_ok-layout.ensures c.in_ok-blocks.ensures.blocks) c.in_ok-weaver.ensures.within
     c.in_ok-weaver.ensures.planned
-    c.pictures-times.ensures.held
-    (record { border = c.pictures-times.ensures.borders; colour = c.pictures-times.ensures.colours })
-    c.pictures-times.ensures.pixels)
+    known.held (record { border = known.borders; colour = known.colours }) known.pixels)
 
 pub returns-in_err-write_stream-clause-part : goal.returns-in_err-write_stream-clause-part
 returns-in_err-write_stream-clause-part g c = λ failed.
@@ -102,6 +101,7 @@ returns-in_err-write_stream-clause-part g c = λ failed.
 pub returns-clause-authored : goal.returns-clause-authored
 returns-clause-authored g c =
     let blocks = c.in_ok-blocks.ensures.blocks in
+    let known = c.times_rise_and_colours_are_in_range.ensures in
     authored c.packs_are_a_schedule.ensures.schedule c.args.sheet.now c.args.script.now c.in_ok-weaver.weaver
     c.in_ok-layout.layout c.deref.result.now c.args.lead_in c.args.length
     (g.K.Sink.held c.args.out.now) (g.K.Sink.held c.write_stream.new.out)
@@ -113,21 +113,19 @@ returns-clause-authored g c =
     c.in_ok-blocks.ensures.room
     (known_script c.args.script.now c.in_ok-blocks.blocks _ blocks c.in_ok-weaver.ensures.within
     c.in_ok-weaver.ensures.planned
-    c.pictures-times.ensures.held
-    (record { border = c.pictures-times.ensures.borders; colour = c.pictures-times.ensures.colours })
-    c.pictures-times.ensures.pixels)
+    known.held (record { border = known.borders; colour = known.colours }) known.pixels)
     c.in_ok-write_stream.ensures.ok
 
 pub returns-clause-accepted : goal.returns-clause-accepted
 returns-clause-accepted g c =
-    let known = c.pictures-times.ensures in
+    let known = c.times_rise_and_colours_are_in_range.ensures in
     is_accepted c.needs_are_fewest.ensures.change c.args.sheet.now c.args.script.now c.args.lead_in
     c.args.length c.in_ok-blocks.ensures.disc c.in_ok-blocks.ensures.room
     (record { border = known.borders; colour = known.colours }) known.pixels c.in_ok-weaver.ensures.planned
 
 pub returns-in_err-write_stream-clause-stop : goal.returns-in_err-write_stream-clause-stop
 returns-in_err-write_stream-clause-stop g c =
-    let known = c.pictures-times.ensures in
+    let known = c.times_rise_and_colours_are_in_range.ensures in
     let accepted =
     is_accepted c.needs_are_fewest.ensures.change c.args.sheet.now c.args.script.now c.args.lead_in
     c.args.length c.in_ok-blocks.ensures.disc c.in_ok-blocks.ensures.room
@@ -139,6 +137,6 @@ returns-in_err-write_stream-clause-stop g c =
 
 pub returns-clause-fewest : goal.returns-clause-fewest
 returns-clause-fewest g c k lt =
-    let known = c.pictures-times.ensures in
+    let known = c.times_rise_and_colours_are_in_range.ensures in
     c.needs_are_fewest.ensures.change c.args.script.now k
     (record { border = known.borders; colour = known.colours }) known.pixels

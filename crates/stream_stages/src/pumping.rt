@@ -1,4 +1,4 @@
-// A stage at work on the blocks of a whole input.
+// Pumping the blocks of a whole input through a stage, to an output or to none.
 ghost use Rattle.std.specs.Prelude.{◌≡◌, ◌≢◌, ◌≤◌, List, ℕ, length, IfSome, IsErrOf, Err};
 ghost use Rattle.cdg_io.specs.Causes.{TellsFault};
 ghost use Rattle.cdg_io.specs.Change.{fed, moved};

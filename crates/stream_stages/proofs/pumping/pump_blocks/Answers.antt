@@ -2,7 +2,7 @@ use Rattle.std.proofs.Common.{◌≡◌, rules}
 use Rattle.cdg_io.proofs.Frames.{machine_of}
 use Rattle.raw_subcode.specs.Channels.{unit_size}
 use Rattle.stream_stages.proofs.PumpedBlocks.{plain_pumps, sector_pumps}
-use Rattle.stream_stages.proofs.watching.pump_blocks.Goals as goal
+use Rattle.stream_stages.proofs.pumping.pump_blocks.Goals as goal
 
 pub returns-in-Sector-clause-pumps : goal.returns-in-Sector-clause-pumps
 returns-in-Sector-clause-pumps g c =

@@ -4,7 +4,7 @@ use Rattle.raw_subcode.specs.Channels.{unit_size}
 use Rattle.stream_stages.specs.Watch.{on_units}
 use Rattle.stream_stages.proofs.Playing.{unit_some}
 use Rattle.stream_stages.proofs.WatchedBlocks.{watches, blocks_of_units}
-use Rattle.stream_stages.proofs.watching.watch.Goals as goal
+use Rattle.stream_stages.proofs.pumping.watch.Goals as goal
 
 pub returns-clause-watches : goal.returns-clause-watches
 returns-clause-watches g c =
