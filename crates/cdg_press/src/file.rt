@@ -2,13 +2,12 @@
 ghost use Rattle.std.specs.Prelude.{◌≡◌, length, unwrap_or};
 ghost use Rattle.raw_subcode.specs.Channels.{symbols_of};
 ghost use Rattle.cdg_instructions.specs.MadeGood.{IsMadeGood};
-ghost use Rattle.rw_code.specs.Codeword.{IsWord};
 ghost use Rattle.rw_code.specs.Packs.{idle_pack};
 ghost use Rattle.cdg_press.specs.Pressed.{pack_bytes};
 
 use crate::checks::PACK_BYTES;
 use gf64::Sym;
-use rw_code::{Pack, Word};
+use rw_code::{Pack, Word, words_have_24_symbols};
 use stream_writer::{PackSource, unless_idle};
 
 /// Gives idle packs, then the packs of a file with their parity made good, and then idle packs again.
@@ -61,6 +60,7 @@ fn made_good(pack: &[u8]) -> Option<Pack>
 fn sealed(word: &Word) -> Pack
     ensures { IsMadeGood word.now result }
 {
+    // A law: the symbols that are taken are there.
     words_have_24_symbols(word);
     let head = [word.get(0), word.get(1)];
     let mut body = [Sym::default(); 16];
@@ -68,11 +68,4 @@ fn sealed(word: &Word) -> Pack
         body[i] = word.get(4 + i);
     }
     Pack::seal(head, body)
-}
-
-// A law: each word has 24 symbols below 64.
-fn words_have_24_symbols(word: &Word)
-    ensures { IsWord word.now }
-{
-    word.bytes();
 }

@@ -1,13 +1,13 @@
 -- Packs that stand for those of texts.
 use Rattle.std.specs.Prelude.{◌≡◌, ◌≢◌, ◌<◌, ◌⊎◌, ℕ, false, List, [], ◌∷◌, length, All, slice_index_or}
-use Rattle.cdtext_packs.specs.Packs.{check_matches, pack_bytes}
+use Rattle.cdtext_packs.specs.Packs.{check_matches, text_pack_bytes}
 use Rattle.cdtext_packs.specs.Texts.{Texts, strings_of}
 use Rattle.cdtext_packs.specs.Writing.{packs_of}
 use Rattle.cdtext_packs.specs.declared.kinds.TextKind.{TextKind}
 
 -- eighteen bytes
 pub record IsPack (pack : List ℕ) : Type 0 where
-  pub size : length pack ≡ pack_bytes
+  pub size : length pack ≡ text_pack_bytes
   pub bytes : All (λ byte. byte < 256) pack
 
 -- the pack stands somewhere in a list

@@ -8,8 +8,8 @@ abbrev pub most_text_packs : ℕ
 most_text_packs = 256
 
 -- the bytes of a pack: those of its head and its text, and the two of their check
-abbrev pub pack_bytes : ℕ
-pack_bytes = 18
+abbrev pub text_pack_bytes : ℕ
+text_pack_bytes = 18
 
 -- the bytes of its head: type, track, number, position
 abbrev pub head_bytes : ℕ

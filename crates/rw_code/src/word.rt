@@ -126,7 +126,7 @@ impl Word {
 }
 
 /// A law: each word has 24 symbols below 64.
-pub(crate) fn words_have_24_symbols(word: &Word)
+pub fn words_have_24_symbols(word: &Word)
     ensures { IsWord word.now }
 {
     // A proof knows the invariant where a field is named.

@@ -7,10 +7,6 @@ use Rattle.stream_writer.specs.SheetTexts.{texts_of_sheet}
 use Rattle.cdtext_packs.specs.Packs.{most_text_packs}
 use Rattle.cdtext_packs.specs.Writing.{packs_of}
 
--- the bytes of text that a text pack holds
-abbrev pub text_bytes_a_pack : ℕ
-text_bytes_a_pack = 12
-
 -- the sheet has a layout with this audio
 abbrev pub HasLayout : CueSheet → ℕ → Type 0
 HasLayout sheet audio = (audio_need sheet ≤ audio) × (program_blocks sheet audio ≤ most_program)

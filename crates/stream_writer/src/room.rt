@@ -1,22 +1,20 @@
 // Whether a lead-in has room for the texts of a sheet and for the table of contents, which is told without memory.
 ghost use Rattle.std.specs.Prelude.{◌≡◌, ◌≤◌, ◌+◌, ◌-◌, ◌/◌, ◌==◌, length, IfErr, OnOk, if◌then◌else◌};
 ghost use Rattle.cue_sheet.specs.CueSheet.{text_at, IsSheet};
+ghost use Rattle.cdtext_packs.specs.Packs.{text_bytes};
 ghost use Rattle.cdtext_packs.specs.Writing.{pack_count};
-ghost use Rattle.stream_writer.specs.Needs.{text_bytes_a_pack, text_packs, HasRoom};
+ghost use Rattle.stream_writer.specs.Needs.{text_packs, HasRoom};
 ghost use Rattle.stream_writer.specs.SheetTexts.{code_at, for_each};
 ghost use Rattle.stream_writer.specs.Stops.{IsLeadInRefusal};
 
 use crate::sheet_texts::code_at;
 use crate::stops::LeadInStop;
-use cdtext_packs::MOST_PACKS;
+use cdtext_packs::{MOST_PACKS, TEXT_BYTES};
 use cue_sheet::{CueText, Sheet};
 use toc_model::toc_need;
 
 // How many size packs texts have.
 const SIZE_PACKS: usize = 3;
-
-// How many bytes of text a text pack holds.
-const TEXT_BYTES_A_PACK: usize = 12;
 
 /// Whether a lead-in of so many blocks, if there is one, has room for the texts of a sheet and for the table of
 /// contents. This is told without memory.
@@ -87,11 +85,11 @@ fn code_packs(sheet: &Sheet) -> usize
 fn filled_packs(strings: usize, bytes: usize) -> usize
     requires { bytes ≤ 6710886500 }
     ensures { result ≡ (if bytes == strings then 0
-        else (bytes + (text_bytes_a_pack - 1)) / text_bytes_a_pack) }
+        else (bytes + (text_bytes - 1)) / text_bytes) }
 {
     if bytes == strings {
         0
     } else {
-        (bytes + TEXT_BYTES_A_PACK - 1) / TEXT_BYTES_A_PACK
+        (bytes + TEXT_BYTES - 1) / TEXT_BYTES
     }
 }
