@@ -45,6 +45,9 @@ tools/check_surface.py || complain "a promised name is gone or changed"
 # What `make` proves is all of each crate.
 told=$(tools/test_proving.py 2>&1) || complain "tools/test_proving.py fails: $(echo "$told" | tail -n 6)"
 
+# What wraps proof lines changes nothing but white space.
+told=$(tools/test_wrapping.py 2>&1) || complain "tools/test_wrapping.py fails: $(echo "$told" | tail -n 6)"
+
 # Each edit's old text stands exactly once in the file that it names.
 tools/check_edits.py || complain "an edit does not turn what it was written for"
 

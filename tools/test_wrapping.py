@@ -1,0 +1,88 @@
+#!/usr/bin/env python3
+"""Tests of wrap_proofs.py: where lines are broken, and that nothing but white space changes before `rattle fmt` lays out."""
+import unittest
+
+import wrap_proofs
+from wrap_proofs import LIMIT, Room, lay, letters, wrapped
+
+SUM = " ∙ ".join(f"ap (λ k. k * {number}) (rest_{number} size)" for number in range(8))
+CALL = "first_law " + " ".join(f"(argument_{number} left right)" for number in range(9))
+
+
+def broken(line):
+    """The lines of a line, of which those that are still too long are broken again."""
+    lines = [line]
+    for _ in range(wrap_proofs.ROUNDS):
+        lines = [part for it in lines for part in wrapped(it, False, False)]
+    return lines
+
+
+class LinesTest(unittest.TestCase):
+    def lines_of(self, line):
+        """The lines of a line that is too long, which hold what it held and fit."""
+        self.assertGreater(len(line), LIMIT)
+        lines = broken(line)
+        self.assertEqual(letters("\n".join(lines)), letters(line))
+        self.assertLessEqual(max(map(len, lines)), LIMIT)
+        return lines
+
+    def test_a_line_that_fits_stays(self):
+        self.assertEqual(wrapped("    omega (arith, fits)", False, False), ["    omega (arith, fits)"])
+
+    def test_an_outermost_operator_begins_each_line(self):
+        first, *rest = self.lines_of("    " + SUM)
+        self.assertTrue(first.startswith("    ap "))
+        self.assertTrue(all(line.lstrip().startswith("∙ ap ") for line in rest))
+
+    def test_a_call_is_broken_between_its_arguments(self):
+        for line in self.lines_of("    " + CALL):
+            self.assertEqual(line.count("("), line.count(")"))
+
+    def test_what_is_bound_stands_behind_its_name(self):
+        first, *rest = self.lines_of(f"    let sum : whole ≡ parts = {SUM} in")
+        self.assertEqual(first, "    let sum : whole ≡ parts =")
+        self.assertTrue(rest[-1].endswith(" in"))
+
+    def test_a_signature_is_broken_before_its_arrows(self):
+        types = " → ".join(f"IsPart{number} bytes place" for number in range(9))
+        _, *rest = self.lines_of(f"pub law : (bytes : List ℕ) (place : ℕ) → {types}")
+        self.assertTrue(all(line.lstrip().startswith("→") for line in rest))
+
+    def test_a_string_is_not_broken(self):
+        words = " ".join("word" for _ in range(12))
+        lines = self.lines_of(f'    say "{words}" {" ".join(f"(more_{number} left)" for number in range(8))}')
+        self.assertIn(f'"{words}"', "\n".join(lines))
+
+    def test_a_comment_is_filled_anew(self):
+        for line in self.lines_of("-- " + "a word of it " * 12):
+            self.assertTrue(line.startswith("-- "))
+
+    def test_an_import_stays_unless_it_is_asked_for(self):
+        names = ", ".join(f"name_of_a_law_{number}" for number in range(9))
+        line = f"use Rattle.crate.proofs.Laws.{{{names}}}"
+        self.assertEqual(wrapped(line, False, False), [line])
+        self.assertEqual(len(wrapped(line, False, True)), 9 + 2)
+
+
+class RoomTest(unittest.TestCase):
+    def test_what_stands_before_and_behind_takes_room(self):
+        text = "a" * (LIMIT - 10)
+        self.assertTrue(Room(4, 3, 3).fits(text))
+        self.assertFalse(Room(4, 4, 3).fits(text))
+        self.assertEqual(lay(text, Room(4, 4, 3)), [text])
+
+
+class TokensTest(unittest.TestCase):
+    def test_only_separators_of_a_broken_bracket_are_passed_over(self):
+        self.assertTrue(wrap_proofs.is_added(",", "x", ")"))
+        self.assertTrue(wrap_proofs.is_added(";", "x", "}"))
+        self.assertTrue(wrap_proofs.is_added("|", "[", "x"))
+        self.assertFalse(wrap_proofs.is_added(",", "x", "y"))
+
+    def test_a_changed_letter_is_seen(self):
+        self.assertEqual(letters("f (a,\n  b,)"), letters("f (a, b)"))
+        self.assertNotEqual(letters("f (a, c)"), letters("f (a, b)"))
+
+
+if __name__ == "__main__":
+    unittest.main()
