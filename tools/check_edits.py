@@ -4,17 +4,18 @@
 Each edit's old text has to stand exactly once in the file that it names, so that the edit still turns what it was
 written for. Where an edit has several texts, each is looked for in what those before it made.
 """
+import argparse
 import sys
 from pathlib import Path
+from typing import Iterator
 
-TOP = Path(sys.argv[1] if sys.argv[1:] else __file__).resolve()
-TOP = TOP if sys.argv[1:] else TOP.parent.parent
+TOP = Path(__file__).resolve().parent.parent
 KEYS = ("file", "old", "new")
 
 
-def steps(edit):
+def steps(edit: Path) -> Iterator[tuple[str | None, str | None, str]]:
     """The file, old text and new text of each step of an edit, in order."""
-    step = {}
+    step: dict[str, str | None] = {}
     for line in edit.read_text().splitlines():
         key, separator, text = line.partition(": ")
         if not separator or key not in KEYS:
@@ -25,9 +26,10 @@ def steps(edit):
             step = {"file": step.get("file")}
 
 
-def complaints(edit):
+def complaints(edit: Path) -> Iterator[str]:
     """What is wrong with an edit."""
-    crate, texts, count = edit.parent.parent, {}, 0
+    crate, count = edit.parent.parent, 0
+    texts: dict[str, str] = {}
     for name, old, new in steps(edit):
         count += 1
         if name is None or not (crate / name).is_file():
@@ -44,9 +46,12 @@ def complaints(edit):
         yield "turns nothing"
 
 
-def main():
-    edits = sorted(TOP.glob("crates/*/must-fail/*.edit"))
-    wrong = [f"{edit.relative_to(TOP)} {what}" for edit in edits for what in complaints(edit)]
+def main() -> int:
+    parser = argparse.ArgumentParser(description="Looks at the wrong bodies that the checker has to refuse.")
+    parser.add_argument("top", nargs="?", type=Path, default=TOP, help="the repository (default: this one)")
+    top = parser.parse_args().top
+    edits = sorted(top.glob("crates/*/must-fail/*.edit"))
+    wrong = [f"{edit.relative_to(top)} {what}" for edit in edits for what in complaints(edit)]
     for line in wrong:
         print(f"check_edits: {line}", file=sys.stderr)
     return 1 if wrong or not edits else 0

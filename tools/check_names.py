@@ -6,13 +6,15 @@ a record of definitions) whose name stands in two crates, of a line of code, cla
 (comments, proof hints and imports are laid out by `rt fmt`, and are passed over), and of a public item or a definition
 that nothing names: neither another place in the code nor tools/surface.txt, the list of names that callers were promised.
 """
+import argparse
+import os
 import re
 import sys
 from collections import Counter, defaultdict
 from pathlib import Path
+from typing import Iterator
 
-TOP = Path(sys.argv[1] if sys.argv[1:] else __file__).resolve()
-TOP = TOP if sys.argv[1:] else TOP.parent.parent
+TOP = Path(__file__).resolve().parent.parent
 LIMIT = 110
 DEFINITION = re.compile(r"(?:abbrev pub|unfoldable pub|pub record|pub data) ([^\s:(]+)")
 ITEM = re.compile(r"\s*pub (?:extern \"C\" )?(?:const )?(?:fn|struct|enum|trait|static) (\w+)|\s*pub const (\w+)")
@@ -21,24 +23,28 @@ RECORD = re.compile(r"(?:pub )?(?:record|data) ([^\s:({]+)")
 WORD = re.compile(r"[A-Za-z_][A-Za-z0-9_'?!]*")
 PASSED_OVER = re.compile(r"\s*(?:ghost )?(?:pub )?use |\s*#\[tactic|\s*//|\s*--")
 # The types that may be called alike in two crates, at most five, each with the reason.
-ALIKE = {}
+ALIKE: dict[str, str] = {}
 # What may stand although nothing names it, with the reason.
 ALLOWED = {
     "main": "the program's entry",
 }
 
-
-def files(pattern):
-    return sorted(path for path in TOP.glob(pattern) if "out" not in path.relative_to(TOP).parts)
-
-
-def crate_of(path):
-    return path.relative_to(TOP / "crates").parts[0]
+# Each name with the places at which it stands: a file and the number of a line.
+Found = dict[str, list[tuple[Path, int]]]
 
 
-def definitions():
+def files(pattern: str) -> list[Path]:
+    """The files of the repository, which is the working folder, but for what is made in `out`."""
+    return sorted(path for path in Path().glob(pattern) if "out" not in path.parts)
+
+
+def crate_of(path: Path) -> str:
+    return path.parts[1]
+
+
+def definitions() -> Found:
     """Each definition of public specs, with the places at which it stands."""
-    found = defaultdict(list)
+    found: Found = defaultdict(list)
     for path in files("crates/*/specs/**/*.antt"):
         for number, line in enumerate(path.read_text().splitlines(), 1):
             named = DEFINITION.match(line)
@@ -47,9 +53,9 @@ def definitions():
     return found
 
 
-def types():
+def types() -> Found:
     """Each type of the code and each record of definitions, with the places at which it stands."""
-    found = defaultdict(list)
+    found: Found = defaultdict(list)
     for pattern, declared in (("crates/*/src/**/*.rt", TYPE), ("crates/*/specs/**/*.antt", RECORD)):
         for path in files(pattern):
             for number, line in enumerate(path.read_text().splitlines(), 1):
@@ -59,7 +65,7 @@ def types():
     return found
 
 
-def items():
+def items() -> Iterator[tuple[str, Path, int]]:
     """Each public item of the code but those of tests, with the place at which it stands."""
     for path in files("crates/*/src/**/*.rt"):
         if crate_of(path) == "ribjasper_c":
@@ -70,9 +76,9 @@ def items():
                 yield named[1] or named[2], path, number
 
 
-def uses():
+def uses() -> Counter[str]:
     """How often each word stands in the code, the definitions and the proofs."""
-    count = Counter()
+    count: Counter[str] = Counter()
     for pattern in ("crates/*/src/**/*.rt", "crates/*/specs/**/*.antt", "crates/*/proofs/**/*.antt"):
         for path in files(pattern):
             for line in path.read_text().splitlines():
@@ -81,22 +87,22 @@ def uses():
     return count
 
 
-def surface():
-    path = TOP / "tools" / "surface.txt"
+def surface() -> set[str]:
+    path = Path("tools/surface.txt")
     return set(WORD.findall(path.read_text())) if path.exists() else set()
 
 
-def place(path, number):
-    return f"{path.relative_to(TOP)}:{number}"
+def place(path: Path, number: int) -> str:
+    return f"{path}:{number}"
 
 
-def doubled(found):
+def doubled(found: Found) -> Iterator[str]:
     for name, places in sorted(found.items()):
         if len({crate_of(path) for path, _ in places}) > 1:
             yield f"{name} is defined at {' and '.join(place(*it) for it in places)}"
 
 
-def long_lines():
+def long_lines() -> Iterator[str]:
     for pattern in ("crates/*/src/**/*.rt", "crates/*/specs/**/*.antt", "crates/*/proofs/**/*.antt"):
         for path in files(pattern):
             for number, line in enumerate(path.read_text().splitlines(), 1):
@@ -104,7 +110,7 @@ def long_lines():
                     yield f"{place(path, number)} has {len(line)} columns"
 
 
-def unused(found):
+def unused(found: Found) -> Iterator[str]:
     count, promised = uses(), surface()
     for name, places in sorted(found.items()):
         # A definition names itself in its type and on each of its lines.
@@ -119,7 +125,10 @@ def unused(found):
             yield f"{name} ({place(path, number)}) is called by nothing"
 
 
-def main():
+def main() -> int:
+    parser = argparse.ArgumentParser(description="Looks at the names and lines of the code.")
+    parser.add_argument("top", nargs="?", type=Path, default=TOP, help="the repository (default: this one)")
+    os.chdir(parser.parse_args().top)
     found = definitions()
     wrong = sorted({*doubled(found), *doubled(types())}) + [*long_lines(), *unused(found)]
     if len(ALIKE) > 5:

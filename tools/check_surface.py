@@ -5,6 +5,7 @@ tools/surface.txt has a line for each: the crate, the path of a call, type or tr
 has to be reachable under that crate's name, itself or passed on from a crate below, and to have that signature. With
 --write the signatures are taken from the code anew; the names stay.
 """
+import argparse
 import re
 import sys
 from pathlib import Path
@@ -14,11 +15,11 @@ LIST = TOP / "tools" / "surface.txt"
 END = re.compile(r"\s(?:requires|ensures|where)\b")
 
 
-def crates():
+def crates() -> list[str]:
     return [path.name for path in sorted((TOP / "crates").iterdir()) if (path / "src").is_dir()]
 
 
-def joined(lines, first, is_type):
+def joined(lines: list[str], first: int, is_type: bool) -> str:
     """The text from a line on to the end of a signature, or of the body of a type."""
     text = ""
     for line in lines[first:]:
@@ -33,23 +34,23 @@ def joined(lines, first, is_type):
     return text
 
 
-def signature(text):
+def signature(text: str) -> str:
     """A signature without conditions and body, its blanks made one."""
-    text = re.split(r"\s(?:requires|ensures|where)\b", text)[0]
+    text = END.split(text)[0]
     text = re.sub(r"\{\s*\}?\s*$", "", text.strip()).rstrip(";").strip()
     text = re.sub(r"\s+", " ", text).replace("( ", "(").replace(", )", ")").replace(" )", ")")
     return re.sub(r",\s*(?=[)}])", " ", text).replace(" )", ")")
 
 
-def body(text):
+def body(text: str) -> str:
     """A type with its public parts."""
     text = re.sub(r"\s+", " ", text.strip())
     return re.sub(r",\s*\}", " }", text)
 
 
-def names_of(crate):
+def names_of(crate: str) -> dict[str, str]:
     """The paths of a crate's public items with their signatures."""
-    found = {}
+    found: dict[str, str] = {}
     for path in sorted((TOP / "crates" / crate / "src").rglob("*.rt")):
         lines = path.read_text().splitlines()
         owner = None
@@ -72,24 +73,26 @@ def names_of(crate):
     return found
 
 
-def passed_on(crate):
+def passed_on(crate: str) -> dict[str, str]:
     """The names that a crate passes on from others, each with the crate that it comes from."""
-    found = {}
-    text = (TOP / "crates" / crate / "src" / "lib.rt")
-    if not text.exists():
+    found: dict[str, str] = {}
+    root = TOP / "crates" / crate / "src" / "lib.rt"
+    if not root.exists():
         return found
-    for use in re.findall(r"^pub use (\w+)::(.*?);", text.read_text(), re.M | re.S):
+    for use in re.findall(r"^pub use (\w+)::(.*?);", root.read_text(), re.M | re.S):
         for name in re.findall(r"\w+", use[1]):
             found[name] = use[0]
     return found
 
 
 class Code:
-    def __init__(self):
+    """The public names of all crates."""
+
+    def __init__(self) -> None:
         self.known = {crate: names_of(crate) for crate in crates()}
         self.passed = {crate: passed_on(crate) for crate in crates()}
 
-    def find(self, crate, path):
+    def find(self, crate: str, path: str) -> str | None:
         """The signature of a path in a crate, itself or passed on, or None."""
         if crate not in self.known:
             return None
@@ -103,7 +106,12 @@ class Code:
         return None
 
 
-def main():
+def main() -> int:
+    parser = argparse.ArgumentParser(
+        description="Compares the public names that callers were promised with the code."
+    )
+    parser.add_argument("--write", action="store_true", help="take the signatures from the code anew")
+    is_written = parser.parse_args().write
     code, lines, wrong = Code(), [], []
     for line in LIST.read_text().splitlines():
         if not line or line.startswith("#"):
@@ -116,7 +124,7 @@ def main():
         elif promised != [there]:
             wrong.append(f"{crate} {path} is now {there}")
         lines.append(f"{crate} {path} {there}" if there else line)
-    if "--write" in sys.argv:
+    if is_written:
         LIST.write_text("\n".join(lines) + "\n")
         return 0
     for it in wrong:

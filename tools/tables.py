@@ -4,7 +4,7 @@
 The proofs show each table right by themselves; this is how they were made. `tables.py NAME` prints one table in the
 layout of its source, `tables.py` compares all of them with the sources.
 """
-
+import argparse
 import pathlib
 import re
 import sys
@@ -14,7 +14,7 @@ from field64 import LOGARITHMS, POWERS, times
 ROOT = pathlib.Path(__file__).resolve().parent.parent
 
 
-def sums(position, symbol):
+def sums(position: int, symbol: int) -> int:
     """The six sums of the word with one symbol: four over all symbols, two over the first four, six bits each."""
     lanes = 0
     for j in range(4):
@@ -25,7 +25,7 @@ def sums(position, symbol):
     return lanes
 
 
-def pairs():
+def pairs() -> tuple[list[int], list[int]]:
     """By the logarithm of (x + y)^-2 * xy for x = alpha^d, y = 1: d from 1 to 23, and the logarithm of x + y."""
     differences, logs = [0] * 63, [0] * 63
     for d in range(1, 24):
@@ -35,7 +35,7 @@ def pairs():
     return differences, logs
 
 
-def remainder(byte, zeros):
+def remainder(byte: int, zeros: int) -> int:
     """The remainder of a byte with so many zero bits behind it, by x^16 + x^12 + x^5 + 1."""
     value = byte << zeros
     for k in range(zeros + 7, 15, -1):
@@ -44,17 +44,18 @@ def remainder(byte, zeros):
     return value
 
 
-def lanes(byte):
+def lanes(byte: int) -> int:
     """The bits of a byte, each in a byte of a number, the highest bit in the lowest byte."""
     return sum((byte >> 7 - k & 1) << 8 * k for k in range(8))
 
 
-def line(bits):
+def line(bits: int) -> int:
     """The six bits of a line of a tile, each in a byte of a number, that of the leftmost pixel in the lowest byte."""
     return sum((bits >> 5 - k & 1) << 8 * k for k in range(6))
 
 
-def tables():
+def tables() -> dict[str, tuple[str, list[int]]]:
+    """Each table with the source in which it stands, and its numbers."""
     differences, logs = pairs()
     return {
         "SYNDROMES": ("rw_code/src/syndrome_table.rt", [sums(i, s) for i in range(24) for s in range(64)]),
@@ -67,17 +68,22 @@ def tables():
     }
 
 
-def source_of(name, path):
+def source_of(name: str, path: str) -> list[int]:
     """The numbers of a table as they stand in its source."""
     text = (ROOT / "crates" / path).read_text()
     body = re.search(r"static " + name + r": [^=]*= \[(.*?)\n\];", text, re.S).group(1)
     return [int(number, 0) for number in re.findall(r"0x[0-9a-f]+|\d+", body)]
 
 
-def main():
+def main() -> int:
     known = tables()
-    if len(sys.argv) > 1:
-        for number in known[sys.argv[1]][1]:
+    parser = argparse.ArgumentParser(
+        description="Reckons the tables that stand as numbers in the sources, and says which differ."
+    )
+    parser.add_argument("name", nargs="?", choices=known, metavar="NAME", help="print this table alone")
+    name = parser.parse_args().name
+    if name:
+        for number in known[name][1]:
             print(f"{number},")
         return 0
     differing = [name for name, (path, numbers) in known.items() if source_of(name, path) != numbers]
@@ -86,4 +92,5 @@ def main():
     return 1 if differing else 0
 
 
-sys.exit(main())
+if __name__ == "__main__":
+    sys.exit(main())

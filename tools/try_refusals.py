@@ -1,12 +1,14 @@
 #!/usr/bin/env python3
 """Tries the example lines in the tables of docs/FORMATS.md that say why a cue sheet or a script is refused:
 try_refusals.py PROGRAM. Each has to be refused, for its reason, after one of a few beginnings that are accepted."""
+import argparse
 import itertools
 import re
 import subprocess
 import sys
 import tempfile
 from pathlib import Path
+from typing import Iterator
 
 FORMATS = Path(__file__).resolve().parent.parent / "docs" / "FORMATS.md"
 FILE, TRACK, INDEX = 'FILE "a.wav" WAVE', "TRACK 01 AUDIO", "INDEX 01 00:00:00"
@@ -18,7 +20,7 @@ BEGINNINGS = {
 }
 
 
-def tables():
+def tables() -> Iterator[list[list[str]]]:
     """The rows of each table of reasons, but for what comes at the end of a sheet."""
     for part in FORMATS.read_text().split("| Why | For example | What to do |\n")[1:]:
         rows = itertools.takewhile(lambda line: line.startswith("|"), part.splitlines())
@@ -26,7 +28,7 @@ def tables():
         yield [row for row in cells if re.fullmatch("`[a-z-]+`", row[0])]
 
 
-def told(program, sheet, script):
+def told(program: str, sheet: list[str], script: list[str]) -> str:
     """What the program says of a sheet and a script."""
     with tempfile.TemporaryDirectory() as folder:
         names = []
@@ -38,7 +40,7 @@ def told(program, sheet, script):
         return subprocess.run(words, **how).stderr.strip()
 
 
-def is_refused(program, kind, why, example):
+def is_refused(program: str, kind: str, why: str, example: str) -> bool:
     for beginning in BEGINNINGS[kind]:
         lines = [*beginning, example]
         texts = (lines, []) if kind == "cue" else (SHEET, lines)
@@ -47,8 +49,14 @@ def is_refused(program, kind, why, example):
     return False
 
 
-def main():
-    program, count, wrong = sys.argv[1], 0, 0
+def main() -> int:
+    parser = argparse.ArgumentParser(
+        description="Tries the example lines in the tables of docs/FORMATS.md that say why a cue sheet or a "
+        "script is refused."
+    )
+    parser.add_argument("program", metavar="PROGRAM", help="the program that refuses them")
+    program = parser.parse_args().program
+    count, wrong = 0, 0
     for kind, table in zip(("cue", "script"), tables()):
         for why, examples, _ in table:
             for example in re.findall("`([^`]+)`", examples):

@@ -1,14 +1,17 @@
 #!/usr/bin/env python3
-"""Which files a reader meets who follows the calls of a command: way_of.py FILE.. [--top TOP].
+"""Tells which files a reader meets who follows the calls of a command: way_of.py FILE.. [--top TOP].
 
 From each FILE (crates/cdg_cmd/src/convert.rt, say) it follows what the code imports, down to the kit: a name that a `use` line
 brings in and that stands outside of clauses leads to the file that declares it, in the same crate or in another. It prints
 these files with their lines, crate by crate, and how many there are. A file that is met counts whole.
 """
+import argparse
 import re
 import sys
 from pathlib import Path
+from typing import Iterator, Sequence
 
+TOP = Path(__file__).resolve().parent.parent
 USE = re.compile(r"^\s*(?:pub(?:\(crate\))? )?use ([^;]+);", re.M)
 LEFT_OUT = re.compile(r"//[^\n]*|^\s*(?:pub )?ghost [^;]*;|^\s*#!?\[[^\n]*", re.M)
 CLAUSE = re.compile(r"\b(?:requires|ensures)\*? *\w* *\{")
@@ -16,9 +19,10 @@ DECLARED = re.compile(r"\b(?:fn|struct|enum|trait|const|static|type|mod|macro_ru
 WORD = re.compile(r"\w+")
 
 
-def without_clauses(text):
+def without_clauses(text: str) -> str:
     """The code alone: no comments, attributes, ghost lines or clauses."""
-    text, kept = LEFT_OUT.sub("", text), []
+    text = LEFT_OUT.sub("", text)
+    kept: list[str] = []
     while clause := CLAUSE.search(text):
         end, depth = clause.end(), 1
         while depth:
@@ -29,7 +33,7 @@ def without_clauses(text):
     return "".join(kept) + text
 
 
-def split_list(text):
+def split_list(text: str) -> list[str]:
     """The parts of a list between commas that stand in no inner braces."""
     parts, depth = [""], 0
     for letter in text:
@@ -41,7 +45,7 @@ def split_list(text):
     return [part.strip() for part in parts if part.strip()]
 
 
-def paths_of(tree, before=()):
+def paths_of(tree: str, before: Sequence[str] = ()) -> Iterator[tuple[list[str], str]]:
     """The paths that a `use` line names, each as its segments, and the name under which it is known."""
     head, brace, rest = tree.partition("{")
     segments = [*before, *(part.strip() for part in head.split("::") if part.strip())]
@@ -56,15 +60,16 @@ def paths_of(tree, before=()):
 class Way:
     """The files of a repository, and those that are met."""
 
-    def __init__(self, top):
-        self.crates = {path.name: path / "src" for path in sorted((top / "crates").iterdir()) if (path / "src").is_dir()}
-        self.met = {}
+    def __init__(self, top: Path) -> None:
+        folders = (path / "src" for path in sorted((top / "crates").iterdir()))
+        self.crates = {folder.parent.name: folder for folder in folders if folder.is_dir()}
+        self.met: dict[Path, int] = {}
 
-    def root(self, crate):
+    def root(self, crate: str) -> Path:
         roots = [self.crates[crate] / name for name in ("lib.rt", "main.rt")]
         return next(path for path in roots if path.exists())
 
-    def declaring(self, crate, segments):
+    def declaring(self, crate: str, segments: list[str]) -> Path | None:
         """The file that declares what a path names, from the root of a crate."""
         file, folder = self.root(crate), self.crates[crate]
         for at, name in enumerate(segments):
@@ -75,7 +80,7 @@ class Way:
             file, folder = found, folder / name
         return file
 
-    def passed_on(self, crate, file, name, segments):
+    def passed_on(self, crate: str, file: Path, name: str, segments: list[str]) -> Path | None:
         """The file of an item that this one declares or passes on."""
         text = without_clauses(file.read_text())
         if name in DECLARED.findall(USE.sub("", text)):
@@ -86,7 +91,7 @@ class Way:
                     return self.leads_to(crate, file, path if known == name else [*path[:-1], *segments])
         return file
 
-    def leads_to(self, crate, file, path):
+    def leads_to(self, crate: str, file: Path, path: list[str]) -> Path | None:
         """Where a path of a `use` line in a file leads, or None where it leads into the kit."""
         first, rest = path[0], path[1:]
         if first in ("crate", "self"):
@@ -96,7 +101,7 @@ class Way:
         inner = file.parent / (f"{first}.rt" if file.stem in ("lib", "main", "mod") else f"{file.stem}/{first}.rt")
         return self.declaring(crate, path) if inner.exists() else None
 
-    def follow(self, file):
+    def follow(self, file: Path) -> None:
         """Meets a file and all that it leads to."""
         if file in self.met:
             return
@@ -112,14 +117,18 @@ class Way:
                     self.follow(further)
 
 
-def main():
-    words = sys.argv[1:]
-    at = words.index("--top") if "--top" in words else len(words)
-    top = Path(words[at + 1] if words[at + 1 :] else Path(__file__).parent.parent).resolve()
+def main() -> int:
+    parser = argparse.ArgumentParser(
+        description="Tells which files a reader meets who follows the calls of a command."
+    )
+    parser.add_argument("files", nargs="+", metavar="FILE", help="a file of the code, from the top on")
+    parser.add_argument("--top", type=Path, default=TOP, help="the repository (default: this one)")
+    words = parser.parse_args()
+    top = words.top.resolve()
     way = Way(top)
-    for name in words[:at]:
+    for name in words.files:
         way.follow(top / name)
-    crates = {}
+    crates: dict[str, list[tuple[Path, int]]] = {}
     for file, lines in way.met.items():
         crates.setdefault(file.relative_to(top / "crates").parts[0], []).append((file, lines))
     for crate, files in crates.items():
