@@ -4,6 +4,7 @@
 The files are share/ribjasper.1, share/ribjasper.bash and share/_ribjasper. With --check it only says whether
 they are what would be written, and whether README.md lists the same commands.
 """
+import argparse
 import re
 import sys
 from pathlib import Path
@@ -13,8 +14,29 @@ FORMS = ["raw", "sector", "cooked"]
 # These two read no cooked stream.
 WITHOUT_COOKED = ["q", "text"]
 
+# What the manual page has between its title and the commands.
+BEGINNING = r"""
+.SH NAME
+ribjasper \- the subcode of Compact Discs: graphics, texts, Q frames, both ways
+.SH SYNOPSIS
+.B ribjasper
+.I words
+.RB [ \-\-
+.IR first " [" second ]]
+.SH DESCRIPTION
+Works on the subcode channels P to W of a Compact Disc. A command has one spelling, its options in the order shown
+here. What is read is standard input, or the files that are named after a word
+.BR \-\- ;
+what is written is standard output. The one word
+.B usage
+on standard error means: the words are no command, see this page. Streams are read and written as they come.
+.SH COMMANDS
+""".strip().splitlines()
 
-def table(text, head):
+Row = list[str]
+
+
+def table(text: str, head: str) -> list[Row]:
     """The rows of the table whose first line is the head, each a list of its cells."""
     lines = text.splitlines()
     first = lines.index(head) + 2
@@ -26,26 +48,26 @@ def table(text, head):
     return rows
 
 
-def bare(cell):
+def bare(cell: str) -> str:
     """A cell without the marks of code."""
     return cell.replace("`", "")
 
 
-def roff(text):
+def roff(text: str) -> str:
     """A text for a manual page."""
     return bare(text).replace("\\", "\\e").replace("-", "\\-")
 
 
-def words_of(row):
+def words_of(row: Row) -> tuple[str, list[tuple[str, bool]]]:
     """The name of a command and its options, each with whether it may be left out."""
     name, *rest = bare(row[0]).split()
     options = re.findall(r"(\[)?(--[a-z-]+)", " ".join(rest))
     return name, [(option, bool(free)) for free, option in options]
 
 
-def examples(text):
+def examples(text: str) -> list[tuple[str, list[str]]]:
     """What each block of commands of the document shows: pairs of what it is and its lines."""
-    found = []
+    found: list[tuple[str, list[str]]] = []
     for block in re.findall(r"^```sh\n(.*?)^```$", text, re.M | re.S):
         for line in block.splitlines():
             if line.startswith("# "):
@@ -55,69 +77,76 @@ def examples(text):
     return found
 
 
-def why_table(text, kind):
+def why_table(text: str, kind: str) -> list[Row]:
     """The rows of the reasons of a refused line, of the sheet or of the script."""
     head = "| Why | For example | What to do |"
     parts = text.split(head + "\n")
     return table(head + "\n" + parts[1 if kind == "cue" else 2], head)
 
 
-def manual(formats, commands, letters, statuses, reasons):
+def entry(tag: str, said: str) -> list[str]:
+    """A paragraph of the manual page under its tag."""
+    return [".TP", f".B {roff(tag)}", said]
+
+
+def letters(formats: str) -> list[str]:
+    """The part on the letters that stand for values."""
+    out = [".SH VALUES"]
+    for letter, meaning, spelled in table(formats, "| Letter | Is | Spelled |"):
+        said = meaning if spelled == "the same" else f"{meaning}: {spelled}"
+        out += entry(letter, roff(said).replace("'", "\\(aq") + ".")
+    return out
+
+
+def statuses(formats: str) -> list[str]:
+    """The part on the exit statuses."""
+    out = [".SH EXIT STATUS"]
+    for status, exit_number, line in table(formats, "| Status | Exit | Line |"):
+        said = "nothing is written to standard error" if line == "none" else f"standard error has {roff(line)}"
+        out += entry(exit_number, f"{roff(status)}; {said}.")
+    return out
+
+
+def refusals(formats: str) -> list[str]:
+    """The parts on the reasons of a refusal, and on those of a refused line of each text."""
+    out = [".SH REFUSALS", "What stands after", ".BR refused :"]
+    for reason, comes in table(formats, "| Reason after `refused` | Comes where |"):
+        out += entry(reason, roff(comes) + ".")
+    for kind, what in (("cue", "CUE SHEET"), ("script", "PICTURE SCRIPT")):
+        out += [f".SH REFUSED LINES OF {what}", "What stands after", f'.BR "refused {kind} " LINE :']
+        for why, _, remedy in why_table(formats, kind):
+            out += entry(why, roff(remedy) + ".")
+    return out
+
+
+def manual(formats: str, commands: list[Row]) -> str:
     version = (TOP / "VERSION").read_text().strip()
     out = [
         ".\\\" Written by tools/commands.py from docs/FORMATS.md.",
         f'.TH RIBJASPER 1 "" "Ribjasper {version}" "User commands"',
-        ".SH NAME",
-        "ribjasper \\- the subcode of Compact Discs: graphics, texts, Q frames, both ways",
-        ".SH SYNOPSIS",
-        ".B ribjasper",
-        ".I words",
-        ".RB [ \\-\\-",
-        ".IR first \" [\" second ]]",
-        ".SH DESCRIPTION",
-        "Works on the subcode channels P to W of a Compact Disc. A command has one spelling, its options in the order shown",
-        "here. What is read is standard input, or the files that are named after a word",
-        ".BR \\-\\- ;",
-        "what is written is standard output. The one word",
-        ".B usage",
-        "on standard error means: the words are no command, see this page. Streams are read and written as they come.",
-        ".SH COMMANDS",
+        *BEGINNING,
     ]
     for words, inputs, output in commands:
-        out += [".TP", f".B {roff(words)}", f"Reads {roff(inputs)}. Writes {roff(output)}."]
-    out += [".SH VALUES"]
-    for letter, meaning, spelled in letters:
-        said = meaning if spelled == "the same" else f"{meaning}: {spelled}"
-        out += [".TP", f".B {letter}", roff(said).replace("'", "\\(aq") + "."]
-    out += [".SH EXIT STATUS"]
-    for status, exit_number, line in statuses:
-        said = "nothing is written to standard error" if line == "none" else f"standard error has {roff(line)}"
-        out += [".TP", f".B {exit_number}", f"{roff(status)}; {said}."]
-    out += [".SH REFUSALS", "What stands after", ".BR refused :"]
-    for reason, comes in reasons:
-        out += [".TP", f".B {roff(reason)}", roff(comes) + "."]
-    for kind, what in (("cue", "the cue sheet"), ("script", "the picture script")):
-        out += [f".SH REFUSED LINES OF {what.upper().removeprefix('THE ')}", f"What stands after", f".BR \"refused {kind} \" LINE :"]
-        for why, _, remedy in why_table(formats, kind):
-            out += [".TP", f".B {roff(why)}", roff(remedy) + "."]
+        out += entry(words, f"Reads {roff(inputs)}. Writes {roff(output)}.")
+    out += [*letters(formats), *statuses(formats), *refusals(formats)]
     out += [".SH NOTES", "What ends quietly, or with a line that is easily misread."]
     for seen, meaning, remedy in table(formats, "| You see | It is | What to do |"):
-        out += [".TP", f".B {roff(seen)}", f"{roff(meaning)}. Remedy: {roff(remedy)}."]
+        out += entry(seen, f"{roff(meaning)}. Remedy: {roff(remedy)}.")
     out += [".SH EXAMPLES"]
     for said, lines in examples(formats):
-        out += [roff(said), ".PP", ".nf", ".RS", *[roff(line) for line in lines], ".RE", ".fi", ".PP"]
+        out += [roff(said), ".PP", ".nf", ".RS", *map(roff, lines), ".RE", ".fi", ".PP"]
     out += [".SH SEE ALSO", "Formats, byte by byte, and the guide: docs/FORMATS.md and docs/GUIDE.md of the project."]
     return "\n".join(out) + "\n"
 
 
-def values_of(name, option):
+def values_of(name: str, option: str) -> list[str]:
     """What may stand after an option, as far as it can be listed."""
     if option != "--form":
         return []
     return [form for form in FORMS if not (form == "cooked" and name in WITHOUT_COOKED)]
 
 
-def bash(commands):
+def bash(commands: list[Row]) -> str:
     names = " ".join(words_of(row)[0] for row in commands)
     out = [
         "# Completion for bash. Written by tools/commands.py from docs/FORMATS.md.",
@@ -154,7 +183,7 @@ def bash(commands):
     return "\n".join(out) + "\n"
 
 
-def zsh(commands):
+def zsh(commands: list[Row]) -> str:
     out = [
         "#compdef ribjasper",
         "# Completion for zsh. Written by tools/commands.py from docs/FORMATS.md.",
@@ -180,18 +209,21 @@ def zsh(commands):
     return "\n".join(out) + "\n"
 
 
-def main():
+def main() -> int:
+    parser = argparse.ArgumentParser(
+        description="Writes the manual page and the completions of two shells from the tables and examples "
+        "of docs/FORMATS.md."
+    )
+    parser.add_argument("--check", action="store_true", help="only say which files would change")
+    is_check = parser.parse_args().check
     formats = (TOP / "docs" / "FORMATS.md").read_text()
     commands = table(formats, "| Words | Inputs | Output |")
-    letters = table(formats, "| Letter | Is | Spelled |")
-    statuses = table(formats, "| Status | Exit | Line |")
-    reasons = table(formats, "| Reason after `refused` | Comes where |")
     written = {
-        "ribjasper.1": manual(formats, commands, letters, statuses, reasons),
+        "ribjasper.1": manual(formats, commands),
         "ribjasper.bash": bash(commands),
         "_ribjasper": zsh(commands),
     }
-    if sys.argv[1:] != ["--check"]:
+    if not is_check:
         (TOP / "share").mkdir(exist_ok=True)
         for name, text in written.items():
             (TOP / "share" / name).write_text(text)

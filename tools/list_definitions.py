@@ -6,9 +6,11 @@ rest on, once, in the order in which they are met, and those that only name a nu
 earlier act shows is not shown again. What no act reaches is listed by name at the end. With --check it only says whether
 the document is the one that would be written; --count prints the lines of each act.
 """
+import argparse
 import re
 import sys
 from pathlib import Path
+from typing import Iterator
 
 TOP = Path(__file__).resolve().parent.parent
 DOCUMENT = TOP / "docs" / "DEFINITIONS.md"
@@ -165,18 +167,24 @@ WORDS = {
 }
 
 
+# What names mean: the module that each comes from, and its name there. A definition is told in the same way.
+Names = dict[str, tuple[str, str]]
+Target = tuple[str, str]
+# A claim: what is said of it, and its lines.
+Claim = tuple[list[str], list[str]]
+
+
 class Module:
     """The definitions of a file of specs/, with what its names mean."""
 
-    def __init__(self, crate, path):
+    def __init__(self, crate: str, path: Path) -> None:
         self.crate, self.path = crate, path
         self.name = ".".join(path.relative_to(TOP / "crates" / crate / "specs").with_suffix("").parts)
-        self.imports, self.blocks, self.head = {}, {}, ""
+        self.imports: Names = {}
+        self.blocks: dict[str, list[str]] = {}
         self.read(path.read_text().splitlines())
 
-    def read(self, lines):
-        if lines and lines[0].startswith("-- "):
-            self.head = lines[0][3:]
+    def read(self, lines: list[str]) -> None:
         for line in lines:
             self.imports.update(imported(line))
         at = 0
@@ -194,10 +202,10 @@ class Module:
             self.blocks[found[1]] = lines[first:at]
 
 
-def imported(line):
-    """The names that a `use` line brings, each with the module that it comes from and its name there."""
+def imported(line: str) -> Names:
+    """The names that a `use` line brings."""
     found = re.match(r"(?:ghost )?(?:pub )?use Rattle\.(\S+?)\.\{(.*)\};?$", line.strip())
-    names = {}
+    names: Names = {}
     if found:
         for part in found[2].split(","):
             there, _, here = part.strip().partition(" as ")
@@ -205,9 +213,9 @@ def imported(line):
     return names
 
 
-def modules():
+def modules() -> dict[str, Module]:
     """Each file of definitions of each crate, by its path in Rattle."""
-    found = {}
+    found: dict[str, Module] = {}
     for crate in crates():
         for path in sorted((TOP / "crates" / crate / "specs").rglob("*.antt")):
             if path.name != "Lib.antt":
@@ -216,22 +224,24 @@ def modules():
     return found
 
 
-def crates():
+def crates() -> Iterator[str]:
     """The crates in the order of crates.txt, lowest first."""
     for line in (TOP / "crates.txt").read_text().splitlines():
         if line and not line.startswith("#"):
             yield re.match(r"[a-z0-9_]+", line)[0]
 
 
-def clauses():
+def clauses() -> tuple[dict[str, Claim], Names]:
     """The clauses of `run`, each with the comment above it, and what its names mean."""
     lines = CLAIMS.read_text().splitlines()
-    names = {}
+    names: Names = {}
     for line in lines:
         names.update(imported(line))
     first = next(k for k, line in enumerate(lines) if line.startswith("pub fn run<"))
     last = next(k for k in range(first, len(lines)) if lines[k] == "{")
-    found, held, at = {}, [], first
+    found: dict[str, Claim] = {}
+    held: list[str] = []
+    at = first
     while at < last:
         line = lines[at]
         if line.strip().startswith("//"):
@@ -249,11 +259,11 @@ def clauses():
     return found, names
 
 
-def laws():
+def laws() -> Iterator[tuple[list[str], list[str], Names]]:
     """The laws of run_laws in the order of its files: the sentence above each, its name and clauses, and its names."""
     for path in sorted(LAWS.glob("*.rt")):
         lines = path.read_text().splitlines()
-        names = {}
+        names: Names = {}
         for line in lines:
             names.update(imported(line))
         for first, line in enumerate(lines):
@@ -264,10 +274,10 @@ def laws():
                 above -= 1
             said = " ".join(it[3:].strip() for it in lines[above:first])
             last = next(k for k in range(first, len(lines)) if lines[k] in ("{", "{}"))
-            yield [said.removeprefix("A law: ")], [it for it in lines[first:last]], names
+            yield [said.removeprefix("A law: ")], lines[first:last], names
 
 
-def signature():
+def signature() -> list[str]:
     """The head of `run`, without its clauses."""
     lines = CLAIMS.read_text().splitlines()
     first = next(k for k, line in enumerate(lines) if line.startswith("pub fn run<"))
@@ -275,7 +285,7 @@ def signature():
     return lines[first : last + 1]
 
 
-def variants(crate, name):
+def variants(crate: str, name: str) -> list[str]:
     """A public enum of the code as it stands, without its comments."""
     for path in sorted((TOP / "crates" / crate / "src").rglob("*.rt")):
         lines = path.read_text().splitlines()
@@ -286,11 +296,11 @@ def variants(crate, name):
     sys.exit(f"tools/list_definitions.py: {crate} has no public enum {name}")
 
 
-def balanced(text):
+def balanced(text: str) -> bool:
     return text.count("{") == text.count("}")
 
 
-def number_row(name, lines):
+def number_row(name: str, lines: list[str]) -> str | None:
     """The row of a definition that only names a number: its name, the number and what it means."""
     said = " ".join(line.removeprefix("--").strip() for line in lines if line.startswith("--"))
     code = [line for line in lines if not line.startswith("--")]
@@ -301,21 +311,27 @@ def number_row(name, lines):
 
 
 class Book:
-    def __init__(self):
+    """The document, and what of it was shown so far."""
+
+    def __init__(self) -> None:
         self.modules = modules()
         self.clauses, self.names = clauses()
-        self.shown, self.told, self.words, self.types = set(), set(), set(), set()
+        self.shown: set[Target] = set()
+        # The clauses that were told, and the words of std and the types of the code that were met.
+        self.told: set[str] = set()
+        self.words: set[str] = set()
+        self.types: set[str] = set()
 
-    def target(self, name):
+    def target(self, name: str) -> Target:
         """The definition of this name; where there are several, the first in the order of the crates."""
         for where, module in self.modules.items():
             if name in module.blocks:
                 return where, name
         sys.exit(f"tools/list_definitions.py: there is no definition {name}")
 
-    def cites(self, lines, names, own=None):
+    def cites(self, lines: list[str], names: Names, own: Module | None = None) -> list[Target]:
         """The definitions that some lines cite, in order; words of std and types of the code are noted."""
-        cited = []
+        cited: list[Target] = []
         for line in lines:
             if line.startswith("--"):
                 continue
@@ -332,28 +348,34 @@ class Book:
                         cited.append((where, name))
         return cited
 
-    def act(self, roots, later):
-        """The claims of an act, and the definitions that they rest on, in the order in which they are met."""
-        claims, waiting = [], []
+    def claims_of(self, root: str) -> tuple[list[Claim], list[Target]]:
+        """The claims that a root of an act stands for, and the definitions that these cite."""
+        if root == "laws":
+            found = list(laws())
+            cited = [target for _, lines, imports in found for target in self.cites(lines, imports)]
+            return [(said, lines) for said, lines, _ in found], cited
+        if not root.startswith("run."):
+            return [], [self.target(root)]
+        names = [name for name in self.clauses if name not in self.told] if root == "run.*" else [root[4:]]
+        for name in names:
+            if name not in self.clauses:
+                sys.exit(f"tools/list_definitions.py: run has no clause {name}")
+        self.told.update(names)
+        claims = [self.clauses[name] for name in names]
+        return claims, [target for _, lines in claims for target in self.cites(lines, self.names)]
+
+    def act(
+        self, roots: list[str], later: dict[Target, str]
+    ) -> tuple[list[Claim], list[Target], list[Target]]:
+        """The claims of an act, the definitions that they rest on as they are met, and those of later acts."""
+        claims: list[Claim] = []
+        waiting: list[Target] = []
         for root in roots:
-            if root == "laws":
-                for said, lines, imports in laws():
-                    claims.append((said, lines))
-                    waiting += self.cites(lines, imports)
-                continue
-            names = [root[4:]] if root.startswith("run.") else []
-            if root == "run.*":
-                names = [name for name in self.clauses if name not in self.told]
-            for name in names:
-                if name not in self.clauses:
-                    sys.exit(f"tools/list_definitions.py: run has no clause {name}")
-                self.told.add(name)
-                comment, lines = self.clauses[name]
-                claims.append((comment, lines))
-                waiting += self.cites(lines, self.names)
-            if not names and root != "run.*":
-                waiting.append(self.target(root))
-        order, put_off = [], []
+            of_root, cited = self.claims_of(root)
+            claims += of_root
+            waiting += cited
+        order: list[Target] = []
+        put_off: list[Target] = []
         while waiting:
             target = waiting.pop(0)
             if target in self.shown:
@@ -367,32 +389,45 @@ class Book:
             waiting = self.cites(module.blocks[target[1]], module.imports, module) + waiting
         return claims, order, put_off
 
-    def link(self, module):
+    def link(self, module: Module) -> str:
         return f"../crates/{module.crate}/specs/{module.path.relative_to(TOP / 'crates' / module.crate / 'specs')}"
 
-    def acts(self):
+    def acts(self) -> tuple[list[str], list[tuple[str, int, int]]]:
         """The lines of the acts, and how many definitions and printed lines each has."""
-        out, counts = [], []
+        out: list[str] = []
+        counts = []
         for number, (title, _) in enumerate(ACTS):
             lines, definitions = self.printed(number)
             out += [f"## {ROMAN[number]}. {title}", "", *lines]
             counts.append((title, definitions, len(lines)))
         return out, counts
 
-    def printed(self, number):
-        """What an act prints, and how many definitions it shows."""
-        later = {}
+    def later_than(self, number: int) -> dict[Target, str]:
+        """The definitions that later acts begin with, each with the number of its act."""
+        later: dict[Target, str] = {}
         for place in range(number + 1, len(ACTS)):
             for root in ACTS[place][1]:
                 if not root.startswith("run.") and root != "laws":
                     later.setdefault(self.target(root), ROMAN[place])
-        claims, order, put_off = self.act(ACTS[number][1], later)
-        out = [SAID[ACTS[number][0]], ""] if ACTS[number][0] in SAID else []
+        return later
+
+    def printed(self, number: int) -> tuple[list[str], int]:
+        """What an act prints, and how many definitions it shows."""
+        title, roots = ACTS[number]
+        later = self.later_than(number)
+        claims, order, put_off = self.act(roots, later)
+        out = [SAID[title], ""] if title in SAID else []
         if put_off:
             where = ", ".join(f"`{target[1]}` ({later[target]})" for target in put_off)
             out += [f"Taken on trust here, and shown in the act that is named: {where}.", ""]
         for comment, lines in claims:
-            out += [" ".join(comment)] * bool(comment) + [""] * bool(comment) + ["```"] + lines + ["```", ""]
+            out += [" ".join(comment), ""] if comment else []
+            out += ["```", *lines, "```", ""]
+        return out + self.shown_lines(order), len(order)
+
+    def shown_lines(self, order: list[Target]) -> list[str]:
+        """Definitions as they are printed, each file under its name, and numbers in a table at the end."""
+        out: list[str] = []
         before, numbers = None, []
         for where, name in order:
             module = self.modules[where]
@@ -410,18 +445,20 @@ class Book:
         out += ["```", ""] * (before is not None)
         if numbers:
             out += ["| Number | Is | Means |", "|---|---|---|", *numbers, ""]
-        return out, len(order)
+        return out
 
-    def rest(self):
+    def rest(self) -> list[str]:
         """What no act shows, by name."""
         out = []
         for where, module in self.modules.items():
             names = [name for name in module.blocks if (where, name) not in self.shown]
             if names:
-                out.append(f"- [{module.crate}, {module.name}]({self.link(module)}): " + ", ".join(f"`{n}`" for n in names))
+                listed = ", ".join(f"`{name}`" for name in names)
+                out.append(f"- [{module.crate}, {module.name}]({self.link(module)}): {listed}")
         return out
 
-    def text(self):
+    def text(self) -> tuple[str, list[tuple[str, int, int]]]:
+        """The document, and how many definitions and printed lines each act has."""
         acts, counts = self.acts()
         first, second, third = (counts[k][2] for k in range(3))
         out = [
@@ -445,24 +482,33 @@ class Book:
             out += [f"The variants of `{name}`:", "", "```", *variants(crate, name), "```", ""]
         out += ["| Word of the standard library | Means |", "|---|---|"]
         out += [f"| `{word}` | {WORDS[word]} |" for word in sorted(self.words) if word in WORDS]
-        out += ["", "Types of the code that they name: " + ", ".join(sorted({f"`{it.split('.')[-1]}` ({it.split('.')[0]})" for it in self.types})) + "."]
+        types = sorted({f"`{it.split('.')[-1]}` ({it.split('.')[0]})" for it in self.types})
+        out += ["", f"Types of the code that they name: {', '.join(types)}."]
         out += [""] + acts
         out += ["## What no act reaches", "", "Definitions of steps within proofs and of calls below `run`.", ""]
         return "\n".join(out + self.rest()) + "\n", counts
 
 
-def main():
+def main() -> int:
+    parser = argparse.ArgumentParser(
+        description="Writes docs/DEFINITIONS.md: what a reader has to believe, the claims first and then the "
+        "definitions that they cite."
+    )
+    how = parser.add_mutually_exclusive_group()
+    how.add_argument("--check", action="store_true", help="only say whether the document would change")
+    how.add_argument("--count", action="store_true", help="print the lines of each act")
+    arguments = parser.parse_args()
     book = Book()
     text, counts = book.text()
     lacking = sorted(word for word in book.words if word not in WORDS and not word.startswith("◌") and word not in "[]")
-    if "--count" in sys.argv:
+    if arguments.count:
         print(counts, lacking)
         return 0
     failed = False
     if lacking:
         print(f"tools/list_definitions.py: no meaning is given for {', '.join(lacking)}", file=sys.stderr)
         failed = True
-    if "--check" in sys.argv:
+    if arguments.check:
         if DOCUMENT.read_text() != text:
             print("tools/list_definitions.py: docs/DEFINITIONS.md is not what it writes", file=sys.stderr)
             failed = True
