@@ -5,13 +5,18 @@ Each pack is made by the rules of docs/FORMATS.md, by its own arithmetic and not
 be compared with it. With the word `cdg` the packs are written as a .cdg file in place of the stream, and with the word
 `state` the lines of `ribjasper state` at its end. With `without CODE` the packs of one instruction are idle.
 """
+import argparse
 import sys
 from pathlib import Path
 
 sys.path.insert(0, str(Path(__file__).resolve().parent.parent / "tools"))
 from field64 import power, times  # noqa: E402
 
-def generator(roots):
+# The 24 symbols of a pack.
+Pack = list[int]
+
+
+def generator(roots: int) -> list[int]:
     """The polynomial with the roots alpha^0 .. alpha^(roots - 1), the highest coefficient first."""
     coefficients = [1]
     for exponent in range(roots):
@@ -20,21 +25,21 @@ def generator(roots):
     return coefficients
 
 
-def parity(symbols, count):
+def parity(symbols: list[int], count: int) -> list[int]:
     """The parity symbols that follow the symbols: the remainder by the generator."""
     divisor = generator(count)
-    remainder = list(symbols) + [0] * count
+    remainder = symbols + [0] * count
     for place in range(len(symbols)):
         factor = remainder[place]
         for k, coefficient in enumerate(divisor):
             remainder[place + k] ^= times(factor, coefficient)
-    return remainder[len(symbols):]
+    return remainder[len(symbols) :]
 
 
-def pack(code, content):
+def pack(code: int, content: list[int]) -> Pack:
     """The codeword of a graphics instruction with this content."""
     head = [9, code]
-    body = list(content) + [0] * (16 - len(content))
+    body = content + [0] * (16 - len(content))
     word = head + parity(head, 2) + body
     return word + parity(word, 4)
 
@@ -42,29 +47,30 @@ def pack(code, content):
 IDLE = [0] * 24
 
 
-def memory_preset(colour, repeat=0):
+def memory_preset(colour: int, repeat: int = 0) -> Pack:
     return pack(1, [colour, repeat])
 
 
-def border_preset(colour):
+def border_preset(colour: int) -> Pack:
     return pack(2, [colour])
 
 
-def tile(code, colours, row, column, lines):
-    return pack(code, [colours[0], colours[1], row, column] + lines)
+def tile(code: int, colours: tuple[int, int], row: int, column: int, lines: list[int]) -> Pack:
+    return pack(code, [*colours, row, column, *lines])
 
 
-def scroll(code, colour, across, down, h=0, v=0):
+def scroll(code: int, colour: int, across: int, down: int, h: int = 0, v: int = 0) -> Pack:
     return pack(code, [colour, 16 * across + h, 16 * down + v])
 
 
-def colours(code, table):
+def colours(code: int, table: list[int]) -> Pack:
     return pack(code, [part for colour in table for part in (colour >> 6, colour & 63)])
 
 
-FACE = [0b001100, 0b011110, 0b111111, 0b110011, 0b110011, 0b111111, 0b111111, 0b101101, 0b110011, 0b111111, 0b011110, 0b001100]
-
-
+FACE = [
+    0b001100, 0b011110, 0b111111, 0b110011, 0b110011, 0b111111,
+    0b111111, 0b101101, 0b110011, 0b111111, 0b011110, 0b001100,
+]
 LETTERS = {
     "R": "11110 10001 10001 11110 10100 10010 10001", "I": "01110 00100 00100 00100 00100 00100 01110",
     "B": "11110 10001 10001 11110 10001 10001 11110", "J": "00111 00010 00010 00010 00010 10010 01100",
@@ -73,15 +79,16 @@ LETTERS = {
 }
 
 
-def letter(name, colours, row, column):
+def letter(name: str, colours: tuple[int, int], row: int, column: int) -> list[Pack]:
     """Four tiles of a letter at twice its size."""
     small = ["00000"] * 2 + LETTERS[name].split() + ["00000"] * 3
     large = ["".join(2 * bit for bit in line + "0") for line in small for _ in range(2)]
-    return [
-        tile(6, colours, row + down, column + right, [int(line[6 * right:6 * right + 6], 2) for line in large[12 * down:12 * down + 12]])
-        for down in range(2)
-        for right in range(2)
-    ]
+    tiles = []
+    for down in range(2):
+        for right in range(2):
+            lines = [int(line[6 * right :][:6], 2) for line in large[12 * down :][:12]]
+            tiles.append(tile(6, colours, row + down, column + right, lines))
+    return tiles
 
 
 LOW = [0x000, 0xF00, 0x00F, 0xFF0, 0x0F0, 0x0FF, 0xF0F, 0xFFF]
@@ -90,7 +97,7 @@ HIGH = [0x888, 0x800, 0x080, 0x008, 0x880, 0x088, 0x808, 0x444]
 LEVELS = [0] + list(range(48, 63))
 
 
-def state():
+def state() -> list[str]:
     """The lines of `state` at the end of the scene."""
     lines = ["border 02", "offset 0 00"]
     for k, (colour, level) in enumerate(zip(LOW + HIGH, LEVELS)):
@@ -98,7 +105,7 @@ def state():
     return lines
 
 
-def scene():
+def scene() -> list[Pack]:
     """The packs, a border as the memory's own colour, so that players that paint it into the memory agree."""
     packs = [memory_preset(2), border_preset(2)]
     packs.append(colours(30, LOW))
@@ -125,26 +132,36 @@ for one, other in ((1, 18), (2, 5), (3, 23)):
     PLACES[one], PLACES[other] = other, one
 
 
-def spread(packs):
+def spread(packs: list[Pack]) -> bytes:
     """The program symbols that carry the packs: whole blocks, zeros at the places of no pack."""
     slots = -(-(len(packs) + 7) // 4) * 4
     symbols = bytearray(24 * slots)
     for n, word in enumerate(packs):
         for symbol, place in zip(word, PLACES):
             symbols[24 * (n + place % 8) + place] = symbol
-    return symbols
+    return bytes(symbols)
 
 
-def main(words):
+def main() -> int:
+    parser = argparse.ArgumentParser(
+        description="Writes a small raw subcode stream with all nine graphics instructions to standard "
+        "output."
+    )
+    others = parser.add_subparsers(dest="other", title="what may be written in its place")
+    others.add_parser("cdg", help="the packs as a .cdg file")
+    others.add_parser("state", help="the lines of `ribjasper state` at its end")
+    without = others.add_parser("without", help="a stream in which one instruction is idle")
+    without.add_argument("code", type=int, help="the instruction")
+    words = parser.parse_args()
     packs = scene()
-    if words == ["state"]:
+    if words.other == "state":
         print("\n".join(state()))
-        return
-    if words[:1] == ["without"]:
-        packs = [IDLE if word[1] == int(words[1]) else word for word in packs]
-    out = b"".join(map(bytes, packs)) if words == ["cdg"] else bytes(spread(packs))
-    sys.stdout.buffer.write(out)
+        return 0
+    if words.other == "without":
+        packs = [IDLE if word[1] == words.code else word for word in packs]
+    sys.stdout.buffer.write(b"".join(map(bytes, packs)) if words.other == "cdg" else spread(packs))
+    return 0
 
 
 if __name__ == "__main__":
-    main(sys.argv[1:])
+    sys.exit(main())

@@ -4,17 +4,28 @@
 A block of the raw stream has 96 bytes, whose low six bits are symbols. In the lead-in 24 symbols, which are not spread,
 are the eighteen bytes of a pack, most significant bit first. The packs come over and over, numbered from 0 in their
 third bytes, so the first is met again where all of them have been. Every later slot has to hold what the cycle says."""
-
 import sys
+from typing import BinaryIO, Iterator
 
-slots = []
-while symbols := sys.stdin.buffer.read(24):
-    bits = 0
-    for symbol in symbols:
-        bits = bits << 6 | symbol & 63
-    slots.append(bits.to_bytes(18, "big"))
-cycle = slots.index(slots[0], 1) if slots[0] in slots[1:] else len(slots)
-for place, pack in enumerate(slots):
-    if pack != slots[place % cycle]:
-        sys.exit(f"slot {place} does not hold the pack of its place in the cycle")
-sys.stdout.buffer.write(b"".join(slots[:cycle]))
+
+def slots_of(stream: BinaryIO) -> Iterator[bytes]:
+    """What each 24 symbols of a stream hold."""
+    while symbols := stream.read(24):
+        bits = 0
+        for symbol in symbols:
+            bits = bits << 6 | symbol & 63
+        yield bits.to_bytes(18, "big")
+
+
+def main() -> int:
+    slots = list(slots_of(sys.stdin.buffer))
+    cycle = slots.index(slots[0], 1) if slots[0] in slots[1:] else len(slots)
+    for place, pack in enumerate(slots):
+        if pack != slots[place % cycle]:
+            sys.exit(f"slot {place} does not hold the pack of its place in the cycle")
+    sys.stdout.buffer.write(b"".join(slots[:cycle]))
+    return 0
+
+
+if __name__ == "__main__":
+    sys.exit(main())

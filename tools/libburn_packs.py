@@ -2,27 +2,39 @@
 """Writes the CD-TEXT packs that libburn, the library of cdrskin, makes of a cue sheet: libburn_packs.py SHEET >PACKS.
 
 The audio file that the sheet names has to be there. Needs libburn.so.4; nothing is burnt and no drive is asked for."""
-
+import argparse
 import ctypes
 import sys
+from ctypes import byref
 
-libburn = ctypes.CDLL("libburn.so.4")
-libburn.burn_session_create.restype = ctypes.c_void_p
-if not libburn.burn_initialize():
-    sys.exit("libburn cannot begin")
-session = ctypes.c_void_p(libburn.burn_session_create())
-fifo = ctypes.c_void_p()
-given = ctypes.POINTER(ctypes.c_ubyte)()
-given_count = ctypes.c_int()
-if (
-    libburn.burn_session_by_cue_file(
-        session, sys.argv[1].encode(), 0, ctypes.byref(fifo), ctypes.byref(given), ctypes.byref(given_count), 0
+Bytes = ctypes.POINTER(ctypes.c_ubyte)
+
+
+def packs_of(sheet: str) -> bytes:
+    """The packs of a sheet, as libburn makes them."""
+    libburn = ctypes.CDLL("libburn.so.4")
+    libburn.burn_session_create.restype = ctypes.c_void_p
+    if not libburn.burn_initialize():
+        sys.exit("libburn cannot begin")
+    session = ctypes.c_void_p(libburn.burn_session_create())
+    fifo, given, given_count = ctypes.c_void_p(), Bytes(), ctypes.c_int()
+    wanted = (byref(fifo), byref(given), byref(given_count))
+    if libburn.burn_session_by_cue_file(session, sheet.encode(), 0, *wanted, 0) <= 0:
+        sys.exit("libburn does not read the sheet")
+    packs, count = Bytes(), ctypes.c_int()
+    if libburn.burn_cdtext_from_session(session, byref(packs), byref(count), 0) < 0:
+        sys.exit("libburn makes no packs")
+    return bytes(packs[: 18 * count.value])
+
+
+def main() -> int:
+    parser = argparse.ArgumentParser(
+        description="Writes the CD-TEXT packs that libburn, the library of cdrskin, makes of a cue sheet."
     )
-    <= 0
-):
-    sys.exit("libburn does not read the sheet")
-packs = ctypes.POINTER(ctypes.c_ubyte)()
-count = ctypes.c_int()
-if libburn.burn_cdtext_from_session(session, ctypes.byref(packs), ctypes.byref(count), 0) < 0:
-    sys.exit("libburn makes no packs")
-sys.stdout.buffer.write(bytes(packs[: 18 * count.value]))
+    parser.add_argument("sheet", metavar="SHEET", help="the cue sheet")
+    sys.stdout.buffer.write(packs_of(parser.parse_args().sheet))
+    return 0
+
+
+if __name__ == "__main__":
+    sys.exit(main())

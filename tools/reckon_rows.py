@@ -5,14 +5,16 @@ Prints a line for each reckoned value: the name of its row, the word of the row 
 --check it looks for each in the files of rows, and ends with 1 where one is not there. Streams, packs,
 checks, scripts and scratches are made here from their written definitions (docs/FORMATS.md), without a
 line of the program."""
+import argparse
 import hashlib
 import pathlib
 import sys
+from typing import Iterator, NamedTuple, Sequence
 
 from field64 import inverse, power, times
 
 
-def solve(rows):
+def solve(rows: list[list[int]]) -> list[int]:
     """The solution of linear equations, each a list of coefficients and its right side."""
     size = len(rows)
     for column in range(size):
@@ -27,7 +29,7 @@ def solve(rows):
     return [row[-1] for row in rows]
 
 
-def parity(known, size, count, unknown):
+def parity(known: dict[int, int], size: int, count: int, unknown: list[int]) -> list[int]:
     """The unknown symbols with which the first `count` sums of a word of this size are zero."""
     rows = []
     for j in range(count):
@@ -38,7 +40,7 @@ def parity(known, size, count, unknown):
     return solve(rows)
 
 
-def seal(head, body=()):
+def seal(head: tuple[int, int], body: Sequence[int] = ()) -> bytes:
     """The codeword of a head of two symbols and up to sixteen of content."""
     word = list(head) + [0, 0] + list(body) + [0] * (16 - len(body))
     word[2:4] = parity({0: word[0], 1: word[1]}, 4, 2, [2, 3])
@@ -48,29 +50,29 @@ def seal(head, body=()):
 IDLE = bytes(24)
 
 
-def memory_preset(colour):
+def memory_preset(colour: int) -> bytes:
     return seal((9, 1), [colour, 0])
 
 
-def border_preset(colour):
+def border_preset(colour: int) -> bytes:
     return seal((9, 2), [colour])
 
 
-def colour_table(instruction, colours):
-    body = []
+def colour_table(instruction: int, colours: list[int]) -> bytes:
+    body: list[int] = []
     for colour in colours:
         body += [colour >> 6, colour & 63]
     return seal((9, instruction), body)
 
 
-def tile(instruction, first, second, row, column, lines):
+def tile(instruction: int, first: int, second: int, row: int, column: int, lines: list[int]) -> bytes:
     return seal((9, instruction), [first, second, row, column] + lines)
 
 
 EXCHANGED = {1: 18, 18: 1, 2: 5, 5: 2, 3: 23, 23: 3}
 
 
-def spread(packs, slots):
+def spread(packs: Sequence[bytes], slots: int) -> bytearray:
     """The symbols of so many slots that carry packs."""
     symbols = bytearray(24 * slots)
     for n, pack in enumerate(packs):
@@ -85,7 +87,7 @@ def spread(packs, slots):
 # Times, checks and Q frames.
 
 
-def check(content):
+def check(content: bytes) -> bytes:
     """The remainder by x^16 + x^12 + x^5 + 1, inverted."""
     bits = int.from_bytes(content, "big") << 16
     for place in range(bits.bit_length() - 1, 15, -1):
@@ -94,42 +96,53 @@ def check(content):
     return (bits ^ 0xFFFF).to_bytes(2, "big")
 
 
-def bcd(number):
+def bcd(number: int) -> int:
     return number // 10 * 16 + number % 10
 
 
-def time(blocks):
+def time(blocks: int) -> bytes:
     return bytes([bcd(blocks // 4500), bcd(blocks // 75 % 60), bcd(blocks % 75)])
 
 
-def frame(content):
+def frame(content: bytes) -> bytes:
     return content + check(content)
 
 
-def digits(text):
+def digits(text: str) -> bytes:
     return bytes(int(text[k : k + 2], 16) for k in range(0, len(text), 2))
 
 
-def recording_code(text):
+def recording_code(text: str) -> bytes:
     bits = 0
     for letter in text[:5]:
         bits = bits << 6 | ord(letter) - 0x30
     return (bits << 2).to_bytes(4, "big") + digits(text[5:] + "0")
 
 
-class Track:
-    def __init__(self, number, indices, control=0, isrc=None, pregap=0, postgap=0):
-        self.number, self.indices, self.control = number, indices, control
-        self.isrc, self.pregap, self.postgap = isrc, pregap, postgap
+# The strings of each type of pack: those of the album and of each track.
+Strings = Sequence[tuple[int, list[bytes]]]
+
+
+class Track(NamedTuple):
+    """A track, whose index lines are pairs of a number and a time of the file."""
+
+    number: int
+    indices: list[tuple[int, int]]
+    control: int = 0
+    isrc: str = ""
+    pregap: int = 0
+    postgap: int = 0
 
 
 class Disc:
-    """A disc of tracks, whose index lines are pairs of a number and a time of the file, and strings."""
+    """A disc of tracks and strings."""
 
-    def __init__(self, tracks, length, lead_in, strings=(), catalogue=None):
-        self.tracks, self.length, self.lead_in = tracks, length, lead_in
-        self.strings, self.catalogue = strings, catalogue
-        self.begins, self.starts = [], []
+    def __init__(
+        self, tracks: list[Track], length: int, lead_in: int, strings: Strings = (), catalogue: str = ""
+    ) -> None:
+        self.tracks, self.lead_in, self.strings, self.catalogue = tracks, lead_in, strings, catalogue
+        self.begins: list[int] = []
+        self.starts: list[list[tuple[int, int]]] = []
         gaps = 0
         for k, track in enumerate(tracks):
             first = track.indices[0][1]
@@ -139,10 +152,12 @@ class Disc:
             gaps += track.postgap
         self.blocks = 150 + length + gaps
 
-    def one(self, k):
+    def one(self, k: int) -> int:
+        """Where index 1 of a track stands."""
         return dict(self.starts[k])[1]
 
-    def program_frame(self, n):
+    def program_frame(self, n: int) -> tuple[bool, bytes]:
+        """Whether a block of the program is one of a pause, and its Q frame."""
         k = max(k for k, begin in enumerate(self.begins) if begin <= n)
         track, start = self.tracks[k], self.one(k)
         index = max([i for i, s in self.starts[k] if s <= n], default=0)
@@ -157,7 +172,7 @@ class Disc:
             content = bytes([track.control << 4 | 3]) + recording_code(track.isrc) + time(n)[2:]
         return n < start or is_next, frame(content)
 
-    def lead_in_frame(self, n):
+    def lead_in_frame(self, n: int) -> bytes:
         first, last = self.tracks[0], self.tracks[-1]
         entries = [(t.control, bcd(t.number), time(self.one(k))) for k, t in enumerate(self.tracks)]
         entries.append((first.control, 0xA0, bytes([bcd(first.number), 0, 0])))
@@ -167,11 +182,12 @@ class Disc:
         now = time(450_000 - self.lead_in + n)
         return frame(bytes([control << 4 | 1, 0, point]) + now + b"\0" + tail)
 
-    def text_packs(self):
-        """The packs of strings, given for each type as a list of the album's and each track's."""
-        packs = []
+    def text_packs(self) -> list[bytes]:
+        """The packs of the strings."""
+        packs: list[bytes] = []
         for kind, strings in self.strings:
-            text, owners = b"", []
+            text = b""
+            owners: list[tuple[int, int]] = []
             for track, string in enumerate(strings):
                 number = 0 if track == 0 else self.tracks[0].number + track - 1
                 owners += [(number, k) for k in range(len(string) + 1)]
@@ -192,7 +208,7 @@ class Disc:
             packs.append(bytes([0x8F, k, len(packs), 0]) + sizes[12 * k : 12 * k + 12])
         return [pack + check(pack) for pack in packs]
 
-    def stream(self, packs=()):
+    def stream(self, packs: Sequence[bytes] = ()) -> bytes:
         texts = self.text_packs()
         blocks = []
         for n in range(self.lead_in):
@@ -204,17 +220,17 @@ class Disc:
         return b"".join(blocks)
 
 
-def text_symbols(pack):
+def text_symbols(pack: bytes) -> bytes:
     bits = int.from_bytes(pack, "big")
     return bytes(bits >> 6 * (23 - k) & 63 for k in range(24))
 
 
-def block(paused, q, symbols):
+def block(paused: bool, q: bytes, symbols: Sequence[int]) -> bytes:
     bits = int.from_bytes(q, "big")
     return bytes(128 * paused | (bits >> 95 - k & 1) << 6 | symbols[k] for k in range(96))
 
 
-def planar(q):
+def planar(q: bytes) -> str:
     """A planar block with this frame, as rows spell it."""
     return f"12*00 {q.hex()} 72*00"
 
@@ -222,7 +238,7 @@ def planar(q):
 # Generated scripts and scratches.
 
 
-def words_of(seed):
+def words_of(seed: int) -> Iterator[int]:
     """The words of the generator pcg32 (XSH RR) with stream 54."""
     mask, increment = 2**64 - 1, 54 << 1 | 1
     state = (seed + increment) * 6364136223846793005 + increment & mask
@@ -232,11 +248,11 @@ def words_of(seed):
         state = state * 6364136223846793005 + increment & mask
 
 
-def spelled(blocks):
+def spelled(blocks: int) -> str:
     return f"{blocks // 4500:02}:{blocks // 75 % 60:02}:{blocks % 75:02}"
 
 
-def script(seed, pictures):
+def script(seed: int, pictures: int) -> bytes:
     words = words_of(seed)
     lines = [f"colour {k} 0{k:x}{k:x}{k:x}" for k in range(16)]
     for k in range(pictures):
@@ -249,7 +265,7 @@ def script(seed, pictures):
     return "".join(line + "\n" for line in lines).encode()
 
 
-def pixmap(seed):
+def pixmap(seed: int) -> bytes:
     """The screen that shows the only picture of a generated script: grey rectangles on a black border."""
     levels = [[0] * 300 for _ in range(216)]
     for line in script(seed, 1).decode().splitlines():
@@ -261,20 +277,20 @@ def pixmap(seed):
     return b"P6\n300 216\n255\n" + bytes(level for row in levels for level in row for _ in range(3))
 
 
-def scratched(stream, lead_in, seed):
-    stream = bytearray(stream)
+def scratched(stream: bytes, lead_in: int, seed: int) -> bytes:
+    made = bytearray(stream)
     words, place = words_of(seed), 0
-    front = 96 * min(lead_in, len(stream) // 96)
-    while place < len(stream) - front:
+    front = 96 * min(lead_in, len(made) // 96)
+    while place < len(made) - front:
         a = next(words)
         start = place + 192 + a % 64
         place = start + 1 + a // 256 % 16
-        for k in range(start, min(place, len(stream) - front)):
-            stream[front + k] ^= 1 + (a >> 16) % 63
-    return bytes(stream)
+        for k in range(start, min(place, len(made) - front)):
+            made[front + k] ^= 1 + (a >> 16) % 63
+    return bytes(made)
 
 
-def digest(content):
+def digest(content: bytes) -> str:
     return hashlib.sha256(content).hexdigest()
 
 
@@ -292,6 +308,8 @@ BAND = [
     (0x81, [b"Demo Band", b"", b"", b""]),
     (0x8E, [b"0000000000000", b"", b"", b"GBAAA2400003"]),
 ]
+SHORT = Disc(ONE, 1, 0)
+TITLED = Disc(ONE, 1, 12, TITLES)
 
 
 LINES = [0x3F] * 12
@@ -340,7 +358,7 @@ TITLE_PACK = b"\x80\0\0\0Demo\0One\0\0\0\0"
 TRACK_SIZES = bytes([0x8F, 0, 1, 0, 0, 1, 1, 0, 1, 0, 0, 0, 0, 0, 0, 0])
 
 
-def changed(pack, place, byte):
+def changed(pack: bytes, place: int, byte: int) -> bytes:
     return pack[:place] + bytes([byte]) + pack[place + 1 :]
 
 
@@ -374,48 +392,55 @@ ALL = [
 ]
 
 
-def pressed(disc, packs):
+def pressed(disc: Disc, packs: list[bytes]) -> bytes:
     """The stream of a disc with the packs of a file, which begin with the first block of the audio."""
     return disc.stream([IDLE] * 593 + packs)
 
 
-def with_other_bits(pack):
+def with_other_bits(pack: bytes) -> bytes:
     """The pack with all upper bits set, and with the opposite of its parity."""
     return bytes(192 | (byte ^ 63 if place in (2, 3, 20, 21, 22, 23) else byte) for place, byte in enumerate(pack))
 
 
-def checkpoint(program, bad=0, slots=bytes(168), to_come=0, lead_in=0):
+def checkpoint(
+    program: int, bad: int = 0, slots: bytes = bytes(168), to_come: int = 0, lead_in: int = 0
+) -> bytes:
     """A checkpoint of a screen on which all is zero."""
     counts = b"".join(number.to_bytes(4, "big") for number in (to_come, lead_in, program, bad))
     content = b"CDGSAVE1" + counts + slots + bytes(64_800 + 3 + 32 + 16)
     return content + check(content)
 
 
-def values():
-    """The name of each row, the word of the row, and the value."""
+# The name of a row, the word of the row, and the value.
+Value = tuple[str, str, str]
+
+
+def of_tables() -> Iterator[Value]:
     for name, pack in PACKS.items():
         yield name, "out", pack.hex()
     for name, pack in TEXTS.items():
         yield name, "out", text_symbols(pack + check(pack)).hex()
     for name, content in FRAMES.items():
         yield name, "first", planar(content)
-    titled = Disc(ONE, 1, 12, TITLES)
-    yield "a-disc-with-texts", "digest", digest(titled.stream())
+
+
+def of_discs() -> Iterator[Value]:
+    yield "a-disc-with-texts", "digest", digest(TITLED.stream())
     letters = Disc(ONE, 1, 12, [(0x80, [b"ABCDEFGHIJKL", b"One"])])
     yield "a-long-title", "digest", digest(letters.stream())
-    one = Disc(ONE, 1, 0)
-    yield "a-pause-and-a-block-of-music", "digest", digest(one.stream())
+    yield "a-pause-and-a-block-of-music", "digest", digest(SHORT.stream())
     three = Disc(THREE, 12_001, 18, BAND, "0000000000000")
     yield "three-tracks", "digest", digest(three.stream())
     yield "a-gap-before-the-music", "digest", digest(Disc(GAP, 1, 0).stream())
     yield "gaps-between-tracks", "digest", digest(Disc(GAPS, 1000, 150).stream())
-    fills = [memory_preset(5), border_preset(0), colour_table(30, [0] * 8), colour_table(31, [0] * 8), IDLE]
-    fills += [memory_preset(6)]
-    yield "a-pressed-pack", "digest", digest(pressed(one, [memory_preset(0)]))
+    yield "a-pressed-pack", "digest", digest(pressed(SHORT, [memory_preset(0)]))
     yield "a-file-of-all-instructions", "out", b"".join(ALL).hex()
     yield "all-instructions-are-pressed", "digest", digest(pressed(Disc(ONE, 10, 0), ALL))
     yield "a-file-with-bits-of-its-own", "out", b"".join(map(with_other_bits, ALL)).hex()
-    yield "four-instructions-with-texts", "digest", digest(pressed(titled, ALL[:4]))
+    yield "four-instructions-with-texts", "digest", digest(pressed(TITLED, ALL[:4]))
+
+
+def of_screens() -> Iterator[Value]:
     yield "a-checkpoint-of-nothing", "out", f"43 44 47 53 41 56 45 31 65035*00 {checkpoint(0)[-2:].hex()}"
     yield "a-checkpoint-of-two-blocks", "out", f"43 44 47 53 41 56 45 31 11*00 02 65023*00 {checkpoint(2)[-2:].hex()}"
     in_lead_in = checkpoint(0, to_come=1, lead_in=2)[-2:].hex()
@@ -425,35 +450,48 @@ def values():
         wrong[place] = 1
     yield "the-screen-of-a-whole-stream", "digest", digest(pixmap(42))
     yield "a-checkpoint-after-a-bad-word", "digest", digest(checkpoint(2, 1, bytes(wrong[24:])))
-    yield "two-fills", "digest", digest(one.stream(fills))
+    fills = [memory_preset(5), border_preset(0), colour_table(30, [0] * 8), colour_table(31, [0] * 8), IDLE]
+    yield "two-fills", "digest", digest(SHORT.stream([*fills, memory_preset(6)]))
+
+
+def of_workloads() -> Iterator[Value]:
     for seed, pictures in [(42, 1), (42, 2), (7, 3), (2**64 - 1, 1), (0, 500)]:
         yield f"a-script-of-seed-{seed}-and-{pictures}", "digest", digest(script(seed, pictures))
     yield "zeros-are-scratched", "digest", digest(scratched(bytes(480), 0, 42))
     lines = "".join(f"{block:06} bad crc\n" for block in range(1_000_000))
     yield "frames-of-too-many-blocks", "digest", digest(lines.encode())
-    yield "a-disc-is-scratched", "digest", digest(scratched(titled.stream(), 12, 7))
+    yield "a-disc-is-scratched", "digest", digest(scratched(TITLED.stream(), 12, 7))
 
 
-def main():
-    files = pathlib.Path(__file__).parent.parent.glob("crates/rows/data/*.rows")
-    rows = {}
-    for file in files:
+def rows() -> dict[str, list[str]]:
+    """The lines of each row of the files."""
+    found: dict[str, list[str]] = {}
+    for file in pathlib.Path(__file__).parent.parent.glob("crates/rows/data/*.rows"):
         for stanza in file.read_text().split("\n\n"):
             lines = stanza.splitlines()
             for line in lines:
                 word, _, name = line.partition(" ")
                 if word in ("row", "bytes"):
-                    rows[name] = lines
-    status = 0
-    for name, word, value in values():
+                    found[name] = lines
+    return found
+
+
+def main() -> int:
+    parser = argparse.ArgumentParser(
+        description="Works out by other means what rows in crates/rows/data want."
+    )
+    parser.add_argument("--check", action="store_true", help="only look for each value in the files of rows")
+    is_check = parser.parse_args().check
+    known, status = rows(), 0
+    for name, word, value in [*of_tables(), *of_discs(), *of_screens(), *of_workloads()]:
         line = f"{word} {value}"
-        if "--check" not in sys.argv:
+        if not is_check:
             print(name, line)
-        elif line not in rows.get(name, []):
+        elif line not in known.get(name, []):
             print(f"row {name} lacks: {line}")
             status = 1
-    sys.exit(status)
+    return status
 
 
 if __name__ == "__main__":
-    main()
+    sys.exit(main())

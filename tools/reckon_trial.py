@@ -4,7 +4,9 @@
 No stream is made here. The changes are counted tile by tile by the rank of the differences of their
 colours, over every start that a change may have, and the words that scratches touch by the places
 of their symbols alone. It shares no code with the program, so the two check each other."""
+import argparse
 import sys
+from typing import Iterable
 
 # Symbol i of a pack goes to position i, but for three pairs that are exchanged; position p comes p mod 8
 # slots later.
@@ -18,15 +20,15 @@ class Pcg32:
     MULTIPLIER = 6364136223846793005
     MASK = 2**64 - 1
 
-    def __init__(self, seed):
+    def __init__(self, seed: int) -> None:
         self.increment = (54 << 1) | 1
         self.state = (seed + self.increment) & self.MASK
         self.step()
 
-    def step(self):
+    def step(self) -> None:
         self.state = (self.state * self.MULTIPLIER + self.increment) & self.MASK
 
-    def word(self):
+    def word(self) -> int:
         old = self.state
         self.step()
         mixed = (((old >> 18) ^ old) >> 27) & 0xFFFFFFFF
@@ -34,9 +36,9 @@ class Pcg32:
         return ((mixed >> turn) | (mixed << (-turn & 31))) & 0xFFFFFFFF
 
 
-def rank(values):
+def rank(values: Iterable[int]) -> int:
     """The number of independent ones among numbers, as lists of bits under exclusive or."""
-    basis = []
+    basis: list[int] = []
     for value in values:
         for member in basis:
             value = min(value, value ^ member)
@@ -45,18 +47,19 @@ def rank(values):
     return len(basis)
 
 
-def planes(tile):
+def planes(tile: list[int]) -> int:
     """How many instructions set a tile, or combine it with what stands there."""
     return max(1, rank(colour ^ tile[0] for colour in set(tile)))
 
 
-def steps(old, new):
+def steps(old: list[int], new: list[int]) -> int:
+    """How many instructions make one tile of another."""
     if old == new:
         return 0
     return min(planes(new), planes([a ^ b for a, b in zip(old, new)]))
 
 
-def tiles(window):
+def tiles(window: list[list[int]]) -> list[list[int]]:
     return [
         [window[12 * row + j][6 * column + i] for j in range(12) for i in range(6)]
         for row in range(16)
@@ -64,11 +67,11 @@ def tiles(window):
     ]
 
 
-def changes(seed, pictures):
+def changes(seed: int, pictures: int) -> int:
     """The instructions of all changes of the generated script."""
     words = Pcg32(seed)
     window = [[0] * 288 for _ in range(192)]
-    before = None
+    before: list[list[int]] | None = None
     total = 0
     for _ in range(pictures):
         for _ in range(3):
@@ -88,7 +91,7 @@ def changes(seed, pictures):
     return total
 
 
-def touched(seed, blocks):
+def touched(seed: int, blocks: int) -> list[int]:
     """How many words have none, one, two .. symbols in the bursts of the seed."""
     symbols = 96 * blocks
     hit = bytearray(symbols)
@@ -106,8 +109,14 @@ def touched(seed, blocks):
     return counts
 
 
-def main():
-    seed, pictures = int(sys.argv[1]), int(sys.argv[2])
+def main() -> int:
+    parser = argparse.ArgumentParser(
+        description="Works out the nine lines of `ribjasper trial` by other means."
+    )
+    parser.add_argument("seed", type=int, metavar="SEED")
+    parser.add_argument("pictures", type=int, metavar="PICTURES")
+    words = parser.parse_args()
+    seed, pictures = words.seed, words.pictures
     blocks = 800 * pictures + 170
     counts = touched(seed, blocks)
     for name, number in [
@@ -122,6 +131,8 @@ def main():
         ("equal", pictures),
     ]:
         print(name, number)
+    return 0
 
 
-main()
+if __name__ == "__main__":
+    sys.exit(main())
