@@ -1,17 +1,21 @@
 #!/usr/bin/env python3
-"""What tools/gate_times.sh does: see there."""
+"""Runs the gate and prints what each crate took of the processor: see tools/gate_times.sh."""
+import argparse
 import os
 import pathlib
 import re
 import subprocess
 import sys
 import time
+from typing import Iterator
 
 TICKS = os.sysconf("SC_CLK_TCK")
 KINDS = ("proof", "tests", "edits")
+# Processor seconds by crate and kind.
+Table = dict[str, dict[str, float]]
 
 
-def processes():
+def processes() -> dict[int, tuple[int, float]]:
     """Each process that runs: its parent and its processor seconds."""
     found = {}
     for folder in pathlib.Path("/proc").glob("[0-9]*"):
@@ -23,7 +27,7 @@ def processes():
     return found
 
 
-def label_of(pid):
+def label_of(pid: int) -> tuple[str, str] | None:
     """The crate that a process checks and what of it, where it checks one."""
     try:
         words = pathlib.Path(f"/proc/{pid}/cmdline").read_bytes().decode(errors="replace").split("\0")
@@ -37,10 +41,14 @@ def label_of(pid):
 
 
 class Watch:
-    def __init__(self, root):
-        self.root, self.labels, self.seconds, self.members = root, {}, {}, {root}
+    """A process and all that come of it, with what each took of the processor."""
 
-    def look(self):
+    def __init__(self, root: int) -> None:
+        self.labels: dict[int, tuple[str, str] | None] = {}
+        self.seconds: dict[int, float] = {}
+        self.members = {root}
+
+    def look(self) -> None:
         found = processes()
         # A child has a greater number than its parent, but where numbers start again.
         for pid in sorted(found):
@@ -51,16 +59,15 @@ class Watch:
                     self.labels[pid] = label_of(pid) or self.labels.get(parent)
                 self.seconds[pid] = max(seconds, self.seconds.get(pid, 0))
 
-    def table(self):
-        """Processor seconds by crate and kind."""
-        made = {}
+    def table(self) -> Table:
+        made: Table = {}
         for pid, seconds in self.seconds.items():
             crate, kind = self.labels[pid] or ("(the rest)", "proof")
             made.setdefault(crate, dict.fromkeys(KINDS, 0.0))[kind] += seconds
         return made
 
 
-def lines_of(made):
+def lines_of(made: Table) -> Iterator[str]:
     rows = sorted(made.items(), key=lambda it: -sum(it[1].values()))
     rows.append(("all", {kind: sum(it[kind] for it in made.values()) for kind in KINDS}))
     yield f"times: {'crate':20} {'seconds':>8} {'proof':>8} {'tests':>8} {'edits':>8}"
@@ -71,30 +78,39 @@ def lines_of(made):
     yield f"times: {total / 60:.1f} processor minutes"
 
 
-def again(log):
-    """Prints the table that an earlier run left in its log."""
-    print("\n".join(re.findall(r"(?m)^times: .*", pathlib.Path(log).read_text(errors="replace"))))
-    return 0
-
-
-def main(words):
-    if words[:1] == ["--again"]:
-        return again(words[1])
-    anew = words[:1] == ["--anew"]
-    log = words[-1] if len(words) > anew else "gate.log"
+def run(log: pathlib.Path, anew: bool) -> int:
+    """Runs the gate into a log, and adds the table."""
     with open(log, "w") as out:
         started = time.monotonic()
-        gate = subprocess.Popen(["rt", "ci", *["--anew"] * anew], stdin=subprocess.DEVNULL, stdout=out, stderr=subprocess.STDOUT)
+        words = ["rt", "ci", *["--anew"] * anew]
+        gate = subprocess.Popen(words, stdin=subprocess.DEVNULL, stdout=out, stderr=subprocess.STDOUT)
         watch = Watch(gate.pid)
         while gate.poll() is None:
             watch.look()
             time.sleep(0.5)
         took = time.monotonic() - started
-        lines = [*lines_of(watch.table()), f"times: {took / 60:.1f} minutes on {len(os.sched_getaffinity(0))} processors"]
+        processors = len(os.sched_getaffinity(0))
+        lines = [*lines_of(watch.table()), f"times: {took / 60:.1f} minutes on {processors} processors"]
         print("\n".join(lines), file=out)
     print("\n".join(lines))
-    print(pathlib.Path(log).read_text(errors="replace").splitlines()[-len(lines) - 1])
+    print(log.read_text(errors="replace").splitlines()[-len(lines) - 1])
     return gate.returncode
 
 
-sys.exit(main(sys.argv[1:]))
+def main() -> int:
+    parser = argparse.ArgumentParser(
+        description="Runs the gate and prints what each crate took of the processor, dearest first."
+    )
+    how = parser.add_mutually_exclusive_group()
+    how.add_argument("--anew", action="store_true", help="prove and try all from nothing")
+    how.add_argument("--again", action="store_true", help="run nothing, and print the table of the log")
+    parser.add_argument("log", nargs="?", type=pathlib.Path, default="gate.log", help="default: gate.log")
+    words = parser.parse_args()
+    if not words.again:
+        return run(words.log, words.anew)
+    print("\n".join(re.findall(r"(?m)^times: .*", words.log.read_text(errors="replace"))))
+    return 0
+
+
+if __name__ == "__main__":
+    sys.exit(main())

@@ -4,6 +4,9 @@
 Says beforehand how long it will take, and as it goes which library of how many is proved. What is proved
 is kept in crates/*/out, so a call that was stopped is gone on with by the next. `rt run` of the crates
 themselves looks at all of it again, so nothing here is taken on trust."""
+from __future__ import annotations
+
+import argparse
 import hashlib
 import os
 import pathlib
@@ -20,9 +23,9 @@ LINES_A_SECOND, LEAST_SECONDS = 30, 10
 BYTES = 2_500_000_000
 
 
-def graph():
+def graph() -> dict[str, list[str]]:
     """The crates of the repository with those of it that each stands on."""
-    below = {}
+    below: dict[str, list[str]] = {}
     for line in (ROOT / "crates.txt").read_text().splitlines():
         name, colon, rest = line.split("#")[0].partition(":")
         if colon:
@@ -30,11 +33,11 @@ def graph():
     return {name: [it for it in rest if it in below] for name, rest in below.items()}
 
 
-def libraries(below, goals):
+def libraries(below: dict[str, list[str]], goals: list[str]) -> list[str]:
     """All that the goals stand on, lowest first."""
-    found = []
+    found: list[str] = []
 
-    def visit(name):
+    def visit(name: str) -> None:
         for it in below[name]:
             visit(it)
         if name not in found:
@@ -45,15 +48,15 @@ def libraries(below, goals):
     return [it for it in found if it not in goals]
 
 
-def files_of(name):
+def files_of(name: str) -> list[pathlib.Path]:
     parts = (ROOT / "crates" / name / part for part in ("src", "specs", "proofs"))
     return sorted(file for part in parts for file in part.rglob("*") if file.is_file())
 
 
-def stamps(names, below):
+def stamps(names: list[str], below: dict[str, list[str]]) -> dict[str, str]:
     """What a proof of each crate depends on: the kit, its files, and the crates below it."""
     kit = subprocess.run(["rt", "version"], stdout=subprocess.PIPE, check=True).stdout
-    made = {}
+    made: dict[str, str] = {}
     for name in names:
         digest = hashlib.sha256(kit)
         for file in files_of(name):
@@ -64,26 +67,26 @@ def stamps(names, below):
     return made
 
 
-def kept(name):
+def kept(name: str) -> str:
     file = ROOT / "crates" / name / "out" / "proved"
     return file.read_text() if file.exists() else ""
 
 
-def seconds_of(name):
+def seconds_of(name: str) -> float:
     lines = sum(file.read_bytes().count(b"\n") for file in files_of(name))
     return LEAST_SECONDS + lines / LINES_A_SECOND
 
 
-def spoken(seconds):
+def spoken(seconds: float) -> str:
     return f"{seconds:.0f} seconds" if seconds < 100 else f"{seconds / 60:.0f} minutes"
 
 
-def all_below(name, below):
+def all_below(name: str, below: dict[str, list[str]]) -> set[str]:
     """A crate and all of the repository that it stands on."""
     return {name}.union(*(all_below(it, below) for it in below[name]))
 
 
-def room_of(name, below):
+def room_of(name: str, below: dict[str, list[str]]) -> pathlib.Path:
     """A copy, by links, of a crate and what it stands on.
 
     `rt` keeps every other `rt` out of the crates that it works over, so two proofs that stand on the same
@@ -102,23 +105,23 @@ def room_of(name, below):
     return room
 
 
-def copy_crate(crate, place):
+def copy_crate(crate: pathlib.Path, place: pathlib.Path) -> None:
     """Copies a crate by links, all of it but the room that is made in its `out`: the name may stand elsewhere too."""
 
-    def skipped(folder, names):
+    def skipped(folder: str, names: list[str]) -> set[str]:
         return {"room"}.intersection(names) if pathlib.Path(folder) == crate / "out" else set()
 
     shutil.copytree(crate, place, ignore=skipped, copy_function=link_or_copy)
 
 
-def link_or_copy(old, new):
+def link_or_copy(old: str, new: str) -> None:
     try:
         os.link(old, new)
     except OSError:
         shutil.copy2(old, new)
 
 
-def give_back(name, room):
+def give_back(name: str, room: pathlib.Path) -> None:
     """Puts what was made in the room where it belongs, and clears the room."""
     here = ROOT / "crates" / name / "out"
     for made in (room / "crates" / name / "out").iterdir():
@@ -130,7 +133,11 @@ def give_back(name, room):
 
 
 class Proving:
-    def __init__(self, names, below, made, lanes):
+    """What is proved of some crates, lowest first, what is left of them and what runs."""
+
+    def __init__(
+        self, names: list[str], below: dict[str, list[str]], made: dict[str, str], lanes: int
+    ) -> None:
         self.below, self.made, self.lanes = below, made, lanes
         self.done = {it for it in names if kept(it) == made[it]}
         self.left = [it for it in names if it not in self.done]
@@ -141,19 +148,23 @@ class Proving:
             for it in below[name]:
                 if it in self.chain:
                     self.chain[it] = max(self.chain[it], self.cost[it] + self.chain[name])
-        self.total, self.failed, self.running, self.used = len(names), [], {}, {}
+        self.total = len(names)
+        self.failed: list[str] = []
+        # When each crate began that is being proved, and how many processors it was given.
+        self.running: dict[str, float] = {}
+        self.used: dict[str, int] = {}
         self.news = threading.Condition()
 
-    def seconds_left(self):
+    def seconds_left(self) -> float:
         rest = [*self.left, *self.running]
         return max(sum(self.cost[it] for it in rest) / self.lanes, max((self.chain[it] for it in rest), default=0))
 
-    def jobs(self, ready):
+    def jobs(self, ready: int) -> int:
         """How many processors the next crate is given: those that no running or ready crate waits for."""
         free = self.lanes - sum(self.used.values())
         return max(1, free - (ready - 1))
 
-    def prove(self, name, jobs):
+    def prove(self, name: str, jobs: int) -> None:
         """Proves a crate with so many processors and builds its library, over what earlier runs kept."""
         folder = ROOT / "crates" / name
         os.makedirs(folder / "out", exist_ok=True)
@@ -176,7 +187,7 @@ class Proving:
                 print(f"{name} is not proved: crates/{name}/out/proving.log says why", flush=True)
             self.news.notify()
 
-    def run(self):
+    def run(self) -> bool:
         with self.news:
             while self.left or self.running:
                 ready = [it for it in self.left if all(low in self.done for low in self.below[it])]
@@ -193,7 +204,7 @@ class Proving:
         return not self.failed
 
 
-def lanes():
+def lanes() -> int:
     """As many checks at a time as JOBS says, or as there are processors and memory for."""
     if os.environ.get("JOBS", "").isdigit():
         return max(1, int(os.environ["JOBS"]))
@@ -201,9 +212,13 @@ def lanes():
     return max(1, min(len(os.sched_getaffinity(0)), int(free / BYTES)))
 
 
-def main():
+def main() -> int:
     below = graph()
-    names = libraries(below, sys.argv[1:])
+    parser = argparse.ArgumentParser(
+        description="Proves the libraries that crates stand on, independent ones side by side."
+    )
+    parser.add_argument("crates", nargs="+", choices=below, metavar="CRATE", help="a crate of the repository")
+    names = libraries(below, parser.parse_args().crates)
     proving = Proving(names, below, stamps(names, below), lanes())
     if proving.left:
         number, how_long = len(proving.left), spoken(proving.seconds_left())

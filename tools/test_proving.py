@@ -7,21 +7,21 @@ import unittest
 import prove_crates
 
 
-def files_below(folder):
+def files_below(folder: pathlib.Path) -> dict[pathlib.Path, bytes]:
     """The files below a folder by their places in it, but for what is made in `out`."""
     found = (it.relative_to(folder) for it in folder.rglob("*") if it.is_file())
     return {it: (folder / it).read_bytes() for it in found if it.parts[0] != "out"}
 
 
 class CopiesTest(unittest.TestCase):
-    def test_each_crate_is_copied_whole(self):
+    def test_each_crate_is_copied_whole(self) -> None:
         for name in prove_crates.graph():
             with self.subTest(crate=name), tempfile.TemporaryDirectory(dir=prove_crates.ROOT) as room:
                 crate, copy = prove_crates.ROOT / "crates" / name, pathlib.Path(room) / name
                 prove_crates.copy_crate(crate, copy)
                 self.assertEqual(files_below(copy), files_below(crate))
 
-    def test_the_room_in_out_is_left_out(self):
+    def test_the_room_in_out_is_left_out(self) -> None:
         with tempfile.TemporaryDirectory() as folder:
             crate, copy = pathlib.Path(folder) / "crate", pathlib.Path(folder) / "copy"
             for place in ("out/room/crates", "out/rlib", "proofs/room"):
@@ -34,14 +34,14 @@ class CopiesTest(unittest.TestCase):
 
 
 class OrderTest(unittest.TestCase):
-    def test_each_library_comes_after_what_it_stands_on(self):
+    def test_each_library_comes_after_what_it_stands_on(self) -> None:
         below = prove_crates.graph()
         order = prove_crates.libraries(below, ["ribjasper", "ribjasper_c"])
         for place, name in enumerate(order):
             self.assertTrue(set(below[name]) <= set(order[:place]), name)
 
-    def test_all_that_a_crate_stands_on_is_below_it(self):
-        below = {"low": [], "high": ["low"]}
+    def test_all_that_a_crate_stands_on_is_below_it(self) -> None:
+        below: dict[str, list[str]] = {"low": [], "high": ["low"]}
         self.assertEqual(prove_crates.all_below("high", below), {"low", "high"})
 
 
