@@ -12,6 +12,8 @@ the bits; `scratch` by the copy; `author`, `press` and `trial` by the writer of 
 pictures; `thin` by the drawing. Long scripts come last: 20,000 `show` lines without a change, bound by the comparison of each
 picture with the one before, and 64 MiB of `fill` lines, by the grammar.
 """
+from __future__ import annotations
+
 import hashlib
 import os
 import shutil
@@ -20,7 +22,7 @@ import sys
 import tempfile
 import time
 from pathlib import Path
-from typing import NamedTuple
+from typing import NamedTuple, Sequence
 
 TOP = Path(__file__).resolve().parent.parent
 PROGRAM = TOP / "bin" / "ribjasper"
@@ -41,15 +43,19 @@ class Run(NamedTuple):
     status: int
 
 
-def through_pipes(words, files):
+def named(files: Sequence[str]) -> list[str]:
+    """The words that name files, where they are more than one; a single one is standard input."""
+    return ["--", *files] if len(files) > 1 else []
+
+
+def through_pipes(words: list[str], files: Sequence[str]) -> Run:
     """Runs a command from a pipe to a pipe; with two files it reads them by name."""
     feed = None
     if len(files) < 2:
-        feed = subprocess.Popen(["cat", files[0] if files else "/dev/null"], stdout=subprocess.PIPE)
-        words, given = words, feed.stdout
-    else:
-        words, given = [*words, "--", *files], subprocess.DEVNULL
-    work = subprocess.Popen(words, stdin=given, stdout=subprocess.PIPE, stderr=subprocess.DEVNULL)
+        feed = subprocess.Popen(["cat", files[0] if files else os.devnull], stdout=subprocess.PIPE)
+    given = feed.stdout if feed else subprocess.DEVNULL
+    how = dict(stdin=given, stdout=subprocess.PIPE, stderr=subprocess.DEVNULL)
+    work = subprocess.Popen([*words, *named(files)], **how)
     sink = subprocess.Popen(["wc", "-c"], stdin=work.stdout, stdout=subprocess.PIPE)
     work.stdout.close()
     if feed:
@@ -62,12 +68,12 @@ def through_pipes(words, files):
     return Run(used.ru_utime + used.ru_stime, count, work.returncode)
 
 
-def peak(words, files):
+def peak(words: list[str], files: Sequence[str]) -> int:
     """The most memory, in KB, that a run of a command held, as far as looks at it every millisecond tell."""
-    named = ["--", *files] if len(files) > 1 else []
     most = 0
     with open(files[0] if files else os.devnull) as given:
-        work = subprocess.Popen([*words, *named], stdin=given, stdout=subprocess.DEVNULL, stderr=subprocess.DEVNULL)
+        how = dict(stdin=given, stdout=subprocess.DEVNULL, stderr=subprocess.DEVNULL)
+        work = subprocess.Popen([*words, *named(files)], **how)
         while work.poll() is None:
             try:
                 told = Path(f"/proc/{work.pid}/status").read_text()
@@ -80,11 +86,11 @@ def peak(words, files):
     return most
 
 
-def best(words, files):
+def best(words: list[str], files: Sequence[str]) -> float:
     return min(through_pipes(words, files).seconds for _ in range(RUNS))
 
 
-def reference(work):
+def reference(work: Path) -> str | None:
     """The plain program, where it can be built."""
     made = work / "reference"
     how = ["rustc", "-O", "--edition", "2021", "-o", str(made), str(TOP / "bench" / "reference.rs")]
@@ -93,7 +99,7 @@ def reference(work):
     return str(made)
 
 
-def plain_words(program, words):
+def plain_words(program: str | None, words: str) -> list[str] | None:
     """What asks the plain program for the work of a command, where it can do it."""
     command, *options = words.split()
     if program is None or command not in PLAIN:
@@ -105,29 +111,27 @@ def plain_words(program, words):
     return [program, command]
 
 
-def written(words, files):
+def written(words: list[str], files: Sequence[str]) -> str:
     """A digest of what a run writes."""
-    named = ["--", *files] if len(files) > 1 else []
     with open(files[0] if files else os.devnull) as given:
-        ran = subprocess.run(
-            [*words, *named], stdin=given, stdout=subprocess.PIPE, stderr=subprocess.DEVNULL, check=False
-        )
+        how = dict(stdin=given, stdout=subprocess.PIPE, stderr=subprocess.DEVNULL)
+        ran = subprocess.run([*words, *named(files)], check=False, **how)
     return hashlib.sha256(ran.stdout).hexdigest()
 
 
-def ribjasper(words):
+def ribjasper(words: str) -> list[str]:
     return [str(PROGRAM), *words.split()]
 
 
-def made(words, files, path):
+def made(words: str, files: Sequence[str], path: Path) -> str:
     """The output of a command, as a file."""
-    named = ["--", *files] if len(files) > 1 else []
     with open(files[0] if files else os.devnull) as given, open(path, "wb") as out:
-        subprocess.run([*ribjasper(words), *named], stdin=given, stdout=out, stderr=subprocess.DEVNULL, check=False)
+        how = dict(stdin=given, stdout=out, stderr=subprocess.DEVNULL)
+        subprocess.run([*ribjasper(words), *named(files)], check=False, **how)
     return str(path)
 
 
-def inputs(work):
+def inputs(work: Path) -> dict[str, str]:
     """The inputs, by name."""
     clean = work / "clean.raw"
     clean.write_bytes(bytes(96 * BLOCKS))
@@ -165,7 +169,7 @@ def inputs(work):
     return files
 
 
-def told_time(block):
+def told_time(block: int) -> str:
     """A block as MM:SS:FF."""
     return f"{block // 4500:02}:{block // 75 % 60:02}:{block % 75:02}"
 
@@ -201,11 +205,11 @@ ROWS = [
 ]
 
 
-def milliseconds(seconds):
+def milliseconds(seconds: float | None) -> str:
     return "-" if seconds is None else f"{1e3 * seconds:.0f}"
 
 
-def plain_time(program, words, given):
+def plain_time(program: str | None, words: str, given: Sequence[str]) -> float | None:
     """The time of the plain program, where it does the work; it has to write the same."""
     other = plain_words(program, words)
     if other is None:
@@ -215,7 +219,7 @@ def plain_time(program, words, given):
     return best(other, given)
 
 
-def row(program, what, words, given, size):
+def row(program: str | None, what: str, words: str, given: Sequence[str], size: int | None) -> str:
     """A line of the table, once the command is seen to write what it should."""
     ran = through_pipes(ribjasper(words), given)
     if ran.status > 1 or ran.count == 0 or (size is not None and ran.count != size):
@@ -228,14 +232,15 @@ def row(program, what, words, given, size):
     return f"| {' | '.join(cells)} |"
 
 
-def main():
+def main() -> int:
     if not PROGRAM.exists():
         subprocess.run([TOP / "tools" / "build.sh"], check=True)
     failed = False
     with tempfile.TemporaryDirectory() as folder:
         files = inputs(Path(folder))
         program = reference(Path(folder))
-        print(f"Processor milliseconds, the least of {RUNS} runs; load {os.getloadavg()[0]:.1f}, {os.cpu_count()} processors.\n")
+        at = f"load {os.getloadavg()[0]:.1f}, {os.cpu_count()} processors"
+        print(f"Processor milliseconds, the least of {RUNS} runs; {at}.\n")
         print("| Command | Input | `cat` | Ours | The plain program | Its time to ours | MB held |")
         print("|---|---|---|---|---|---|---|", flush=True)
         for words, names, what, size in ROWS:

@@ -4,6 +4,9 @@ texts, its pictures and its packs are got back from it, also from scratched read
 demo/, or in the folder that is named.
 
 It runs bin/ribjasper. Where that is not built yet, it compiles the program unproved, once for all calls."""
+from __future__ import annotations
+
+import argparse
 import os
 import shutil
 import subprocess
@@ -11,12 +14,11 @@ import sys
 import tempfile
 import threading
 from pathlib import Path
-from typing import Callable, NamedTuple
+from typing import Callable, Iterable, NamedTuple
 
 from pictures import as_png, as_text, is_shown_by
 
 TOP = Path(__file__).resolve().parent.parent
-DEMO = Path(sys.argv[1]).resolve() if sys.argv[1:] else TOP / "demo"
 # What make built, or else what the gate left.
 PROGRAMS = [TOP / "bin" / "ribjasper", TOP / "crates" / "ribjasper" / "out" / "ribjasper"]
 # The lengths of what the files of each kind are made of.
@@ -28,10 +30,10 @@ class Call(NamedTuple):
 
     output: str
     words: str
-    inputs: tuple = ()
+    inputs: tuple[str, ...] = ()
     status: int = 0
 
-    def line(self):
+    def line(self) -> str:
         names = f" -- {' '.join(self.inputs)}" if self.inputs else ""
         return f"ribjasper {self.words}{names} >{self.output}"
 
@@ -39,18 +41,18 @@ class Call(NamedTuple):
 class Built:
     """The program, which is built."""
 
-    def __init__(self, program):
+    def __init__(self, program: Path) -> None:
         print(f"This is {program.relative_to(TOP)}.")
         self.program = program
 
-    def run(self, call):
+    def run(self, call: Call) -> tuple[int, str]:
         names = ["--", *call.inputs] if call.inputs else []
-        with open(DEMO / call.output, "wb") as out:
-            how = dict(cwd=DEMO, stdin=subprocess.DEVNULL, stdout=out, stderr=subprocess.PIPE, text=True)
+        with open(call.output, "wb") as out:
+            how = dict(stdin=subprocess.DEVNULL, stdout=out, stderr=subprocess.PIPE, text=True)
             ran = subprocess.run([self.program, *call.words.split(), *names], **how)
         return ran.returncode, ran.stderr
 
-    def end(self):
+    def end(self) -> None:
         pass
 
 
@@ -59,7 +61,7 @@ class Tried:
 
     A call waits for its inputs at pipes, so that they may come of the calls before it."""
 
-    def __init__(self, calls):
+    def __init__(self, calls: list[Call]) -> None:
         if not shutil.which("rt"):
             sys.exit("Neither bin/ribjasper nor the command rt of the Rattle kit is here.")
         print("No bin/ribjasper stands yet: 'rt try' compiles the program, and proves nothing ('make' does).")
@@ -82,13 +84,13 @@ class Tried:
         self.trying = subprocess.Popen(trial, cwd=TOP / "crates" / "ribjasper", **how)
 
     @staticmethod
-    def name_of(number):
+    def name_of(number: int) -> str:
         return f"call{number:02}"
 
-    def pipes_of(self, call):
+    def pipes_of(self, call: Call) -> list[str]:
         return [f"{self.folder.name}/{place}-{call.output}" for place in range(len(call.inputs))]
 
-    def run(self, call):
+    def run(self, call: Call) -> tuple[int | str, str]:
         for pipe, name in zip(self.pipes_of(call), call.inputs):
             threading.Thread(target=self.feed, args=(pipe, read(name)), daemon=True).start()
         told = []
@@ -103,67 +105,68 @@ class Tried:
         return int(status[0]) if status else line.strip(), "".join(told)
 
     @staticmethod
-    def feed(pipe, content):
+    def feed(pipe: str, content: bytes) -> None:
         with open(pipe, "wb") as to:
             to.write(content)
 
-    def keep(self, call):
+    def keep(self, call: Call) -> None:
         """Writes what the call printed, without the line feed that `rt try` adds to it."""
         printed = Path(self.output.name).read_bytes()
-        content = printed[self.said:].partition(f"== {self.name_of(self.count)}\n".encode())[2]
+        content = printed[self.said :].partition(f"== {self.name_of(self.count)}\n".encode())[2]
         self.count, self.said = self.count + 1, len(printed)
         unit = UNITS.get(Path(call.output).suffix, 1)
-        (DEMO / call.output).write_bytes(content[: len(content) - len(content) % unit])
+        Path(call.output).write_bytes(content[: len(content) - len(content) % unit])
 
-    def end(self):
+    def end(self) -> None:
         self.trying.terminate()
         self.trying.wait()
 
 
-def read(name):
-    return (DEMO / name).read_bytes()
+def read(name: str) -> bytes:
+    """A file of demo/, which is the working folder."""
+    return Path(name).read_bytes()
 
 
-def lines(name):
+def lines(name: str) -> list[str]:
     return read(name).decode().splitlines()
 
 
-def tell(rows):
+def tell(rows: Iterable[str]) -> None:
     print("".join(f"   {row}\n" for row in rows), end="")
 
 
-def must(is_so, what):
+def must(is_so: bool, what: str) -> None:
     """Says what is so, or ends the tour."""
     if not is_so:
         sys.exit(f"   It is not so: {what}")
     tell([what])
 
 
-def picture(name):
+def picture(name: str) -> None:
     print(as_text(read(name)))
 
 
-def show_screen():
+def show_screen() -> None:
     picture("hello.ppm")
-    (DEMO / "screen.png").write_bytes(as_png(read("hello.ppm")))
+    Path("screen.png").write_bytes(as_png(read("hello.ppm")))
     readme = TOP / "docs" / "screen.png"
     must(is_shown_by(read("hello.ppm"), readme), "demo/screen.png: the picture of the README")
 
 
-def with_hole(content, start):
+def with_hole(content: bytes, start: int) -> bytes:
     """A reading in which 25 bytes in a row are destroyed."""
     return content[:start] + b"\x15" * 25 + content[start + 25 :]
 
 
-def packs(content):
+def packs(content: bytes) -> list[bytes]:
     return [content[start : start + 24] for start in range(0, len(content), 24)]
 
 
-def graphics(name):
+def graphics(name: str) -> int:
     return sum(pack[0] == 9 for pack in packs(read(name)))
 
 
-def show_thin():
+def show_thin() -> None:
     before, after = graphics("twice.cdg"), graphics("thin.cdg")
     must(after < before == 2 * graphics("clean.cdg"), f"{before} graphics packs before, {after} after")
 
@@ -183,9 +186,11 @@ MADE = {
 
 
 class Step(NamedTuple):
+    """A stop of the tour: its calls, and what shows what they wrote."""
+
     title: str
-    calls: list
-    show: Callable
+    calls: list[Call]
+    show: Callable[[], object]
 
 
 N = "--lead-in 30"
@@ -288,11 +293,11 @@ STEPS = [
 ]
 
 
-def run(program, call):
+def run(program: Built | Tried, call: Call) -> None:
     print(f"   $ {call.line()}", flush=True)
     for name in call.inputs:
         if name in MADE:
-            (DEMO / name).write_bytes(MADE[name]())
+            Path(name).write_bytes(MADE[name]())
     status, told = program.run(call)
     if told:
         tell([f"{told.strip()} (status {status})"])
@@ -300,8 +305,12 @@ def run(program, call):
         sys.exit(f"   The status is {status}, and not {call.status}")
 
 
-def main():
-    DEMO.mkdir(exist_ok=True)
+def main() -> int:
+    parser = argparse.ArgumentParser(description="A tour of each command on one disc.")
+    parser.add_argument("folder", nargs="?", type=Path, default=TOP / "demo", help="default: demo/")
+    folder = parser.parse_args().folder.resolve()
+    folder.mkdir(exist_ok=True)
+    os.chdir(folder)
     print("A tour of the commands. Its input is made here: the sheet and script of examples/, a stream authored of them.")
     built = [program for program in PROGRAMS if program.exists()]
     program = Built(built[0]) if built else Tried([call for step in STEPS for call in step.calls])
@@ -313,8 +322,10 @@ def main():
             step.show()
     finally:
         program.end()
-    print(f"\nThe files are in {DEMO}. Where to go next: docs/GUIDE.md, for publishers, archivists or makers of players.")
+    guide = "docs/GUIDE.md, for publishers, archivists or makers of players"
+    print(f"\nThe files are in {folder}. Where to go next: {guide}.")
+    return 0
 
 
 if __name__ == "__main__":
-    main()
+    sys.exit(main())
