@@ -1,5 +1,5 @@
 -- A merge at work: what was taken, found and put, pair of blocks by pair of blocks.
-use Rattle.std.proofs.Common.{◌≡◌, ◌≢◌, ◌⊎◌, ℕ, ◌+◌, ◌-◌, ◌*◌, ◌/◌, ◌<◌, ◌≤◌, min, List, [], ◌++◌, length, take, drop, refl, sym, ap, ap₂, ◌∙◌, subst, subst₂, inl, inr, arith, append-nil, length-append, IfOk, Result, Ok, Err}
+use Rattle.std.proofs.Common.{◌≡◌, ◌≢◌, ◌⊎◌, ℕ, ◌+◌, ◌-◌, ◌*◌, ◌/◌, ◌%◌, ◌<◌, ◌≤◌, min, List, [], ◌++◌, length, take, drop, refl, sym, ap, ap₂, ◌∙◌, subst, subst₂, inl, inr, arith, append-nil, length-append, IfOk, Result, Ok, Err}
 use Rattle.std.specs.Prelude.{IfSome}
 use Rattle.std.specs.declared.option.Option.{Option}
 use Rattle.std.specs.Io.KnownBytes.{Appends, Consumes, IsAtEnd}
@@ -13,7 +13,7 @@ use Rattle.rw_interleave.specs.Stream.{bad_count}
 use Rattle.rw_interleave.specs.Texts.{cdg_bytes}
 use Rattle.cdg_io.specs.Change.{from_to}
 use Rattle.raw_subcode.specs.Sizes.{most_units}
-use Rattle.rw_merge.specs.Merging.{GivesMergedText, IsAnswer, IsMergedText, Merges}
+use Rattle.rw_merge.specs.Merging.{GivesMergedText, IsAnswer, IsMergedText, Merges, TakesInTurn}
 use Rattle.rw_merge.specs.Windows.{Windows}
 use Rattle.rw_merge.specs.Steps.{AreAgreements, IsEndRead, IsHalfRead, IsPairRead, leading_slots, taken_of, window_after, words_after}
 use Rattle.rw_merge.specs.declared.merge.Merged.{Merged}
@@ -177,12 +177,13 @@ pub stops : (lead_in blocks : ℕ) (left left' other other' held held' : Option 
     → blocks * 96 + length vs ≤ most_units * 96 + 1
     → result ≢ Err WriteFault
     → (((a b : ℕ) → a ≡ blocks * 96 + length us → b ≡ blocks * 96 + length vs → IsAnswer lead_in result a b))
+    → (((a b : ℕ) → a ≡ blocks * 96 + length us → b ≡ blocks * 96 + length vs → TakesInTurn result a b))
     → IfOk result (λ merged. (text : List ℕ)
     × IsMergedText lead_in (xs ++ us) (ys ++ vs) text merged.bad
     × Appends held held' text)
     → Merges lead_in (from_to held held') result (xs ++ us) (ys ++ vs)
 stops lead_in blocks left left' other other' held held' w v bad xs ys us vs result works u_le v_le short
-    within within' other_result answer done =
+    within within' other_result answer turns done =
     let f = works.is_found in
     let long : length (xs ++ us) ≡ blocks * 96 + length us =
     length-append xs us ∙ ap (λ n. n + length us) f.first_size in
@@ -193,6 +194,7 @@ stops lead_in blocks left left' other other' held held' w v bad xs ys us vs resu
     record {
       in_step = (omega (arith, long, long', u_le), omega (arith, long, long', v_le));
       within = (omega (arith, long, within), omega (arith, long', within'));
+      turns = turns (length (xs ++ us)) (length (ys ++ vs)) long long';
       answer = answer (length (xs ++ us)) (length (ys ++ vs)) long long';
       done = done;
       put = λ _. (
@@ -230,7 +232,7 @@ ends lead_in blocks total left left' other other' held held' w v bad xs ys us vs
       omega (arith, a_is, b_is, none, none'),
       omega (arith, a_is, none),
       total_is ∙ omega (arith, a_is, none),
-    )) (
+    )) (λ a b a_is b_is. tt) (
       cdg_bytes works.found,
       subst (λ n. IsMergedText lead_in (xs ++ us) (ys ++ vs) (cdg_bytes works.found) n) (sym works.bad_is)
           text,
@@ -310,6 +312,50 @@ short_end left other (Torn n) us vs read = absurd read
 short_end left other (SecondTorn n) us vs read = absurd read
 short_end left other (Unequal n) us vs read = absurd read
 
+-- So much is taken in turn.
+whole_turns : (blocks a b : ℕ) (left : Option (List ℕ)) (us vs : List ℕ) → a ≡ blocks * 96 + length us
+    → b ≡ blocks * 96 + length vs
+    → IsHalfRead left us
+    → length vs < 96
+    → (a % 96 ≡ 0) × (b < a + 96)
+whole_turns blocks a b left us vs a_is b_is half short =
+    elim half [
+      | inl whole ↦ (omega (arith, a_is, whole), omega (arith, a_is, b_is, short))
+      | inr none ↦ (omega (arith, a_is, ap length none.0), omega (arith, a_is, b_is, short))
+    ]
+
+pub pair_turns : (blocks a b : ℕ) (left other : Option (List ℕ)) (stop : MergeStop) (us vs : List ℕ)
+    → a ≡ blocks * 96 + length us → b ≡ blocks * 96 + length vs
+    → IsPairRead blocks (Err stop) (taken_of us left) (taken_of vs other)
+    → TakesInTurn (Err stop) a b
+pair_turns blocks a b left other FirstFault us vs a_is b_is read =
+    omega (arith, a_is, b_is, read.0, ap length read.1)
+pair_turns blocks a b left other SecondFault us vs a_is b_is read =
+    whole_turns blocks a b left us vs a_is b_is read.0 read.1
+pair_turns blocks a b left other WriteFault us vs a_is b_is read = tt
+pair_turns blocks a b left other TooLong us vs a_is b_is read = tt
+pair_turns blocks a b left other (Torn n) us vs a_is b_is read =
+    omega (arith, a_is, b_is, read.2, ap length read.3)
+pair_turns blocks a b left other (SecondTorn n) us vs a_is b_is read =
+    whole_turns blocks a b left us vs a_is b_is read.1 read.3
+pair_turns blocks a b left other (Unequal n) us vs a_is b_is read = tt
+
+pub end_turns : (blocks a b : ℕ) (left other : Option (List ℕ)) (stop : MergeStop) (us vs : List ℕ)
+    → a ≡ blocks * 96 + length us → b ≡ blocks * 96 + length vs
+    → IsEndRead (Err stop) (taken_of us left) (taken_of vs other)
+    → TakesInTurn (Err stop) a b
+end_turns blocks a b left other FirstFault us vs a_is b_is read =
+    omega (arith, a_is, b_is, ap length read.0, ap length read.1)
+end_turns blocks a b left other SecondFault us vs a_is b_is read = (
+  omega (arith, a_is, ap length read.0),
+  omega (arith, a_is, b_is, ap length read.0, ap length read.1),
+)
+end_turns blocks a b left other WriteFault us vs a_is b_is read = tt
+end_turns blocks a b left other TooLong us vs a_is b_is read = tt
+end_turns blocks a b left other (Torn n) us vs a_is b_is read = absurd read
+end_turns blocks a b left other (SecondTorn n) us vs a_is b_is read = absurd read
+end_turns blocks a b left other (Unequal n) us vs a_is b_is read = tt
+
 pub pair_stops : (lead_in blocks : ℕ) (left left' left'' other other' other'' held held' : Option (List ℕ))
     (w v : List (List ℕ)) (bad : ℕ) (xs ys us vs : List ℕ) (stop : MergeStop)
     → Works lead_in blocks left left' other other' held held' w v bad xs ys → Consumes left' left'' us
@@ -330,7 +376,8 @@ pair_stops lead_in blocks left left' left'' other other' other'' held held' w v 
           is.second is.short (omega (arith, is.first, lt)) (omega (arith, is.second, lt))
           (λ e. is.is_other (let same : stop ≡ WriteFault = cc in same))
           (λ a b a_is b_is. pair_answer lead_in blocks a b left'' other'' stop us vs
-          (taken_exactly a _ left'' a_is) (taken_exactly b _ other'' b_is) lt read) tt,
+          (taken_exactly a _ left'' a_is) (taken_exactly b _ other'' b_is) lt read)
+          (λ a b a_is b_is. pair_turns blocks a b left'' other'' stop us vs a_is b_is read) tt,
     )
 
 pub end_stops : (lead_in blocks : ℕ) (left left' left'' other other' other'' held held' : Option (List ℕ))
@@ -353,7 +400,8 @@ end_stops lead_in blocks left left' left'' other other' other'' held held' w v b
           (omega (arith, one)) (omega (arith, two)) (inl (omega (arith, one))) (omega (arith, one, all))
           (omega (arith, two, all)) (λ e. is_other (let same : stop ≡ WriteFault = cc in same))
           (λ a b a_is b_is. end_answer lead_in blocks a b left'' other'' stop us vs
-          (taken_exactly a _ left'' a_is) (taken_exactly b _ other'' b_is) all read) tt,
+          (taken_exactly a _ left'' a_is) (taken_exactly b _ other'' b_is) all read)
+          (λ a b a_is b_is. end_turns blocks a b left'' other'' stop us vs a_is b_is read) tt,
     )
 
 -- The answer of both whole inputs.
@@ -511,6 +559,7 @@ write_stops lead_in blocks left left' left'' other other' other'' held held' hel
           omega (arith, next.first_size, next.second_size),
         );
         within = (omega (arith, next.first_size, lt), omega (arith, next.second_size, lt));
+        turns = tt;
         answer = tt;
         done = tt;
         put = λ e. absurd (e refl);

@@ -59,12 +59,25 @@ IsAnswer lead_in (Err FirstFault) first second = ⊤
 IsAnswer lead_in (Err SecondFault) first second = ⊤
 IsAnswer lead_in (Err WriteFault) first second = ⊤
 
+-- How much was taken of two inputs where no whole block came of one of them, as it had none or a read of it
+-- failed. If this was the first, as many whole blocks were taken of the second; if it was the second, whole
+-- blocks were taken of the first, and of the second less than a block beyond them.
+abbrev pub TakesInTurn : Result Merged MergeStop → ℕ → ℕ → Type 0
+TakesInTurn (Err FirstFault) first second = second ≡ first / block_bytes * block_bytes
+TakesInTurn (Err (Torn block)) first second = second ≡ first / block_bytes * block_bytes
+TakesInTurn (Err SecondFault) first second = (first % block_bytes ≡ 0) × (second < first + block_bytes)
+TakesInTurn (Err (SecondTorn block)) first second = (first % block_bytes ≡ 0)
+    × (second < first + block_bytes)
+TakesInTurn result first second = ⊤
+
 -- Of two inputs these bytes were taken, and the text of their pairs of blocks was put.
 pub record Merges (lead_in : ℕ) (held : Change Bytes) (result : Result Merged MergeStop)
     (first second : List ℕ) : Type 0 where
   -- of neither is more taken than a block beyond the other
   pub in_step : (length first ≤ length second + block_bytes) × (length second ≤ length first + block_bytes)
   pub within : (length first ≤ most_units * block_bytes + 1) × (length second ≤ most_units * block_bytes + 1)
+  -- a block of the first was asked for and then one of the second
+  pub turns : TakesInTurn result (length first) (length second)
   pub answer : IsAnswer lead_in result (length first) (length second)
   pub done : IfOk result (λ merged. (text : List ℕ) × IsMergedText lead_in first second text merged.bad
       × Appends held.before held.after text)

@@ -1,5 +1,5 @@
 // Two readings of one stream, block by block in turn.
-ghost use Rattle.std.specs.Prelude.{◌≡◌, ◌≢◌, ◌≤◌, ◌<◌, ◌+◌, [], List, ℕ, Err, length, IsErrOf, IfOk, IfSome, replicate, true};
+ghost use Rattle.std.specs.Prelude.{◌≡◌, ◌≢◌, ◌≤◌, ◌<◌, ◌+◌, [], List, ℕ, Err, length, IsErrOf, IsOk, IfOk, IfSome, replicate, true};
 ghost use Rattle.std.specs.List.{concat};
 ghost use Rattle.std.specs.Io.KnownBytes.{Consumes};
 ghost use Rattle.std.specs.declared.option.Option.{Option};
@@ -81,7 +81,8 @@ impl Model for Merger {
 impl Merger {
     /// Makes both windows, which lie in the merger itself: nothing is taken from the allocator.
     pub fn start(_alloc: Global) -> Result<Merger, AllocError>
-        ensures { IfOk result (λ m. m ≡ record { first = []; second = [] }) }
+        ensures made { IsOk result }
+        ensures fresh { IfOk result (λ m. m ≡ record { first = []; second = [] }) }
     {
         Ok(Merger {
             first: Gather::new(),
