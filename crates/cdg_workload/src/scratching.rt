@@ -4,7 +4,7 @@ ghost use Rattle.disc_time.specs.Counts.{most_lead_in};
 ghost use Rattle.raw_subcode.specs.Sizes.{block_bytes, most_units};
 ghost use Rattle.cdg_io.specs.Causes.{TellsFault};
 ghost use Rattle.cdg_io.specs.Change.{passed};
-ghost use Rattle.cdg_io.specs.Pump.{IsUnlessFault, TellsEndOf, answer_of};
+ghost use Rattle.cdg_io.specs.Pump.{FillsUnits, IsUnlessFault, TellsEndOf, answer_of};
 ghost use Rattle.cdg_io.specs.Streams.{Streams};
 ghost use Rattle.raw_subcode.specs.Channels.{symbols_of, program_symbols};
 ghost use Rattle.rw_interleave.specs.Stream.{DiffersInBursts, IsDamaged};
@@ -139,6 +139,7 @@ pub fn scratch<S: Source, K: Sink>(
     ensures read_fault { TellsFault PumpStop.ReadFault
         (S.faults source.old) (S.faults source.new) result }
     ensures ended { TellsEndOf result (S.ends source.old) (S.ends source.new) }
+    ensures rooms { FillsUnits most_units result (S.fills source.old) (S.fills source.new) }
     ensures write_fault { TellsFault PumpStop.WriteFault (K.faults out.old) (K.faults out.new) result }
 {
     pump(
