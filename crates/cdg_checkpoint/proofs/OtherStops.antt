@@ -186,6 +186,7 @@ reads_on first result file now kept other reads = subst (λ f. ReadsSaved first 
   told = λ e. reads.told (accepted_no_stop tt FirstFault);
   goes_on = λ e. reads.goes_on (accepted_no_stop tt FirstFault);
   cut = λ e. absurd (other e);
+  kept = λ e. absurd (other e);
   not_told = λ e. absurd (other e);
 })
 
@@ -199,5 +200,6 @@ reads_stopped first stop file reads = record {
   told = λ other. reads.told (other_stop stop FirstFault other);
   goes_on = λ other. reads.goes_on (other_stop stop FirstFault other);
   cut = λ e. reads.cut (same_stop stop FirstFault e);
+  kept = λ e. reads.kept (same_stop stop FirstFault e);
   not_told = λ e. reads.not_told (same_stop stop FirstFault e);
 }

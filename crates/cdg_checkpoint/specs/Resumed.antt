@@ -63,8 +63,9 @@ IsAcceptedBy (Err (BeforeSave blocks)) time file = IsCheckpointFile file
 IsAcceptedBy (Err FirstFault) time file = ⊤
 IsAcceptedBy (Err stop) time file = ⊥
 
--- How the first input was read: this was taken of it, at most one byte more than a checkpoint has, and its end was told
--- where there was no such byte. Where a read failed, no more than the bytes of a checkpoint were taken.
+-- How the first input was read: this was taken of it, at most one byte more than a checkpoint has, and its
+-- end was told where there was no such byte. Where a read failed, no more than the bytes of a checkpoint were
+-- taken, and the file is what was taken until then.
 pub record ReadsSaved {T : Type 0} (saved : Input) (result : Result T ResumeStop)
     (file : List ℕ) : Type 0 where
   pub most : length file ≤ file_size + 1
@@ -73,6 +74,8 @@ pub record ReadsSaved {T : Type 0} (saved : Input) (result : Result T ResumeStop
   pub told : result ≢ Err FirstFault → length file ≤ file_size → RoseOnce saved.ends.before saved.ends.after
   pub goes_on : result ≢ Err FirstFault → file_size < length file → saved.ends.after ≡ saved.ends.before
   pub cut : result ≡ Err FirstFault → ConsumesBelow saved.left.before saved.left.after (file_size + 1)
+  pub kept : result ≡ Err FirstFault
+      → Consumes saved.left.before saved.left.after file × (length file ≤ file_size)
   pub not_told : result ≡ Err FirstFault → saved.ends.after ≡ saved.ends.before
 
 -- the most blocks that may follow a checkpoint

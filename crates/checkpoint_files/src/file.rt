@@ -78,8 +78,10 @@ impl CheckpointFile {
     /// # Errors
     /// `Failed` where a read failed.
     pub fn read<S: Source>(&mut self, source: &mut S) -> Result<(), Failed>
-        ensures taken { OnOk result (Consumes (S.left source.old) (S.left source.new) self.new) }
+        // After a read that failed the file is what was taken until then.
+        ensures taken { Consumes (S.left source.old) (S.left source.new) self.new }
         ensures most { length self.new ≤ file_size + 1 }
+        ensures fewer { OnErr result (length self.new ≤ file_size) }
         ensures end { OnOk result (length self.new ≤ file_size → IsAtEnd (S.left source.new)) }
         ensures part { OnErr result (ConsumesBelow (S.left source.old) (S.left source.new) (file_size + 1)) }
         ensures cause { HasCause (S.faults source.old) (S.faults source.new) result }

@@ -12,8 +12,8 @@ use Rattle.disc_plan.proofs.plan.plan_disc.Goals as goal
 script_stop : (disc : DiscTexts) (room : ℕ) (sheet : CueSheet) (stop : PlanStop)
     → read_cue disc.sheet ≡ Ok sheet
     → length disc.sheet ≤ most_text_bytes → IsPlanScriptStop disc.script stop → IsPlanStop disc room stop
-script_stop disc room sheet ScriptTooLong read few is = (sheet, read, is)
-script_stop disc room sheet (Script line why) read few is = (sheet, read, is)
+script_stop disc room sheet ScriptTooLong read few is = (sheet, (few, read), is)
+script_stop disc room sheet (Script line why) read few is = (sheet, (few, read), is)
 script_stop disc room sheet NoMemory read few is = few
 script_stop disc room sheet stop read few is = absurd is
 
