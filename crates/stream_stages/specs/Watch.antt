@@ -9,7 +9,7 @@ use Rattle.cdg_io.specs.declared.pumping.Pumped.{Pumped}
 use Rattle.cdg_io.specs.declared.pumping.PumpStop.{PumpStop}
 use Rattle.cdg_io.specs.declared.pumping.PumpStop.TheVariants as pump_stop
 use Rattle.rw_interleave.specs.Interleave.{whole_packs}
-use Rattle.raw_subcode.specs.Channels.{unit_size, block_of, program_symbols}
+use Rattle.raw_subcode.specs.Channels.{unit_size, block_of, blocks_of, program_symbols}
 use Rattle.raw_subcode.specs.declared.form.Form.{Form}
 use Rattle.rw_interleave.specs.Stream.{IsRecovered, bad_count}
 use Rattle.cdg_instructions.specs.declared.instr.Instr.{Instr}
@@ -30,12 +30,13 @@ use Rattle.stream_stages.specs.declared.played.PlayStop.TheVariants.{ReadFault, 
 abbrev pub on_units : {S A : Type 0} → Form → (S → List ℕ → A) → S → List ℕ → A
 on_units form step s unit = step s (block_of form unit)
 
--- These bytes were taken, and where they are whole units to the end, the stage is in the last state of its run over
--- their blocks.
+-- These bytes were taken, and the stage is in the last state of its run over the blocks of their whole units.
+-- Where nothing failed, they are whole units to the end.
 pub record Watches {S : Type 0} (form : Form) (next : S → List ℕ → S) (fed : Fed S)
     (result : Result Pumped PumpStop) (taken : List ℕ) : Type 0 where
   pub taken_from : Consumes fed.left.before fed.left.after taken
   pub within : length taken ≤ most_units * unit_size form + 1
+  pub state : fed.state.after ≡ run_state next fed.state.before (blocks_of form taken)
   pub done : IfOk result (λ p. IsAtEnd fed.left.after × (length taken ≡ p.units * unit_size form)
       × (p.units ≤ most_units) × (fed.state.after
       ≡ run_state next fed.state.before (map (block_of form) (units_of (unit_size form) p.units taken))))

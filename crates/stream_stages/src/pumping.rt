@@ -2,7 +2,7 @@
 ghost use Rattle.std.specs.Prelude.{◌≡◌, ◌≢◌, ◌≤◌, List, ℕ, length, IfSome, IsErrOf, Err};
 ghost use Rattle.cdg_io.specs.Causes.{TellsFault};
 ghost use Rattle.cdg_io.specs.Change.{fed, moved};
-ghost use Rattle.cdg_io.specs.Pump.{IsUnlessFault, Pumps, TellsEndOf, answer_of};
+ghost use Rattle.cdg_io.specs.Pump.{FillsUnits, IsUnlessFault, Pumps, TellsEndOf, answer_of};
 ghost use Rattle.raw_subcode.specs.Channels.{unit_size};
 ghost use Rattle.raw_subcode.specs.Sizes.{most_units};
 ghost use Rattle.stream_stages.specs.Watch.{Watches, on_units};
@@ -28,6 +28,7 @@ pub fn pump_blocks<S: Source, G: Stage<Item = [u8; BLOCK_BYTES], Out = Piece>, K
     ensures read_fault { TellsFault PumpStop.ReadFault
         (S.faults source.old) (S.faults source.new) result }
     ensures ended { TellsEndOf result (S.ends source.old) (S.ends source.new) }
+    ensures rooms { FillsUnits most_units result (S.fills source.old) (S.fills source.new) }
     ensures write_fault { TellsFault PumpStop.WriteFault (K.faults out.old) (K.faults out.new) result }
 {
     match form {
@@ -50,6 +51,7 @@ pub fn watch<S: Source, G: Stage<Item = [u8; BLOCK_BYTES], Out = Piece>>(
     ensures read_fault { TellsFault PumpStop.ReadFault
         (S.faults source.old) (S.faults source.new) result }
     ensures ended { TellsEndOf result (S.ends source.old) (S.ends source.new) }
+    ensures rooms { FillsUnits most_units result (S.fills source.old) (S.fills source.new) }
 {
     pump_blocks(form, source, stages, &mut SteadySink::new())
 }

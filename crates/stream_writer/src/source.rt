@@ -1,5 +1,5 @@
 // Where the packs of a stream come from.
-ghost use Rattle.std.specs.Prelude.{◌≡◌, ℕ, List, Option, unwrap_or};
+ghost use Rattle.std.specs.Prelude.{◌≡◌, ◌↔◌, ℕ, List, Option, IsNone, unwrap_or};
 ghost use Rattle.rw_code.specs.Packs.{idle_pack};
 ghost use Rattle.stream_writer.specs.Given.{ComesLater};
 
@@ -18,7 +18,8 @@ pub trait PackSource {
 
 /// The pack, or none where it is idle.
 pub fn unless_idle(pack: Pack) -> Option<Pack>
-    ensures { unwrap_or result idle_pack ≡ pack }
+    ensures pack { unwrap_or result idle_pack ≡ pack }
+    ensures none { IsNone result ↔ (pack ≡ idle_pack) }
 {
     if pack.word().bytes() == [0; SYMBOLS] {
         None

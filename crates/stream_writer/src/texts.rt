@@ -1,5 +1,5 @@
 // The text packs of a lead-in.
-ghost use Rattle.std.specs.Prelude.{◌≡◌, ◌<◌, IfOk};
+ghost use Rattle.std.specs.Prelude.{◌≡◌, ◌<◌, [], IfOk, IsOkAnd};
 ghost use Rattle.stream_writer.specs.Needs.{text_packs, HasRoom};
 
 use crate::sheet_texts::texts_of_sheet;
@@ -11,7 +11,8 @@ use std::alloc::{AllocError, Global};
 /// none.
 pub fn pack_texts(alloc: Global, sheet: &Sheet, lead_in: u32) -> Result<Vec<TextPack>, AllocError>
     requires { HasRoom sheet.now lead_in }
-    ensures { IfOk result (λ packs. 0 < lead_in → packs.items ≡ text_packs sheet.now) }
+    ensures texts { IfOk result (λ packs. 0 < lead_in → packs.items ≡ text_packs sheet.now) }
+    ensures none { lead_in ≡ 0 → IsOkAnd result (λ packs. packs.items ≡ []) }
 {
     if lead_in == 0 {
         return Ok(Vec::new(alloc));

@@ -95,7 +95,7 @@ returns-in_err-write_stream-clause-part g c = λ failed.
     (few_blocks c.args.sheet.now c.args.length c.in_ok-layout.layout c.in_ok-layout.ensures
     c.in_ok-blocks.ensures.disc.0.1)
     (record { script_is = c.in_ok-weaver.ensures.script; given_is = c.in_ok-weaver.ensures.given })
-    (λ some. c.deref.ensures.value ∙ c.in_ok-texts.ensures some)
+    (λ some. c.deref.ensures.value ∙ c.in_ok-texts.ensures.texts some)
     (let part = c.in_err-write_stream.ensures.part in (part.0, part.1, part.2))
 
 pub returns-clause-authored : goal.returns-clause-authored
@@ -109,7 +109,7 @@ returns-clause-authored g c =
     (few_blocks c.args.sheet.now c.args.length c.in_ok-layout.layout c.in_ok-layout.ensures
     c.in_ok-blocks.ensures.disc.0.1)
     (record { script_is = c.in_ok-weaver.ensures.script; given_is = c.in_ok-weaver.ensures.given })
-    (λ some. c.deref.ensures.value ∙ c.in_ok-texts.ensures some)
+    (λ some. c.deref.ensures.value ∙ c.in_ok-texts.ensures.texts some)
     c.in_ok-blocks.ensures.room
     (known_script c.args.script.now c.in_ok-blocks.blocks _ blocks c.in_ok-weaver.ensures.within
     c.in_ok-weaver.ensures.planned
