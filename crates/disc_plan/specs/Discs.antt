@@ -27,16 +27,16 @@ planned_disc sheet script lead_in audio =
     record { sheet = sheet; script = script; lead_in = lead_in; audio = audio }
 
 -- the text of the sheet is not too long, and is read as this one
-abbrev pub IsSheetText : DiscTexts → CueSheet → Type 0
-IsSheetText disc sheet = (length disc.sheet ≤ most_text_bytes) × (read_cue disc.sheet ≡ Ok sheet)
+abbrev pub HasSheetText : DiscTexts → CueSheet → Type 0
+HasSheetText disc sheet = (length disc.sheet ≤ most_text_bytes) × (read_cue disc.sheet ≡ Ok sheet)
 
 -- the text of the script is not too long, and is read as this one
-abbrev pub IsScriptText : DiscTexts → List Drawing → Type 0
-IsScriptText disc script = (length disc.script ≤ most_text_bytes) × (read_script disc.script ≡ Ok script)
+abbrev pub HasScriptText : DiscTexts → List Drawing → Type 0
+HasScriptText disc script = (length disc.script ≤ most_text_bytes) × (read_script disc.script ≡ Ok script)
 
 -- the texts of a disc are read as this sheet and this script
 abbrev pub IsReadAs : DiscTexts → CueSheet → List Drawing → Type 0
-IsReadAs disc sheet script = IsSheetText disc sheet × IsScriptText disc script
+IsReadAs disc sheet script = HasSheetText disc sheet × HasScriptText disc script
 
 -- nothing is refused of a disc before its pictures are planned
 abbrev pub HasPlan : DiscTexts → CueSheet → List Drawing → Type 0
@@ -66,9 +66,9 @@ IsPlanStop disc room (Disc stop) = (sheet : CueSheet) × (script : List Drawing)
 IsPlanStop disc room (NoRoom count blocks) = (sheet : CueSheet) × (script : List Drawing)
     × HasPlan disc sheet script
     × (count ≡ pictures script) × (blocks ≡ program_blocks sheet disc.audio) × (room < count)
-IsPlanStop disc room ScriptTooLong = (sheet : CueSheet) × IsSheetText disc sheet
+IsPlanStop disc room ScriptTooLong = (sheet : CueSheet) × HasSheetText disc sheet
     × IsPlanScriptStop disc.script ScriptTooLong
-IsPlanStop disc room (Script line why) = (sheet : CueSheet) × IsSheetText disc sheet
+IsPlanStop disc room (Script line why) = (sheet : CueSheet) × HasSheetText disc sheet
     × IsPlanScriptStop disc.script (Script line why)
 IsPlanStop disc room stop = IsPlanSheetStop disc.sheet stop
 
