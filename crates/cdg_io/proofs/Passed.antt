@@ -1,18 +1,20 @@
 -- Units that are fed one after another.
-use Rattle.std.proofs.Common.{◌≡◌, ℕ, ◌+◌, ◌-◌, ◌≤◌, List, [], ◌∷◌, ◌++◌, length, take, drop, refl, sym, ap, ◌∙◌, subst, append-nil, length-append, None, Some, arith, length-drop, take_all}
+use Rattle.std.proofs.Common.{◌≡◌, ℕ, ◌+◌, ◌-◌, ◌≤◌, List, [], ◌∷◌, ◌++◌, length, take, drop, refl, sym, ap, ◌∙◌, subst, append-nil, length-append, None, Some, option_map, arith, length-drop, length-take-le, drop_at, slice_range, take_all}
+use Rattle.std.proofs.Math.Path.{fun_ext}
 use Rattle.std.proofs.Math.Seq.{take-append_seam}
-use Rattle.std.proofs.lemmas.List.{take-append-drop}
-use borrow.Rule.Slice.PartMut.{put_mid}
+use Rattle.std.proofs.lemmas.List.{take-append-drop, drop-drop, nil_from_length, take_rest}
+use borrow.Rule.Slice.PartMut.{put_mid, post_of}
 use Rattle.cdg_io.proofs.Bytes.{take-put_mid_on}
 use Rattle.std.proofs.lemmas.Grind.{flat_map-append}
+use Rattle.std.proofs.lemmas.Iterator.Adapters.{option_map_id}
 use Rattle.std.proofs.lemmas.List.Elements.{All-append, All-cons, All-nil}
 use Rattle.std.proofs.lemmas.List.Folds.{concat-append}
 use Rattle.std.proofs.KnownBytes.{Appends-trans, Consumes-trans, Appends-nil, Consumes-nil}
 use Rattle.std.specs.List.{concat}
 use Rattle.std.specs.declared.option.Option.{Option}
 use Rattle.std.specs.Io.KnownBytes.{Appends, Consumes}
-use Rattle.cdg_io.specs.Change.{Bytes, from_to}
-use Rattle.cdg_io.specs.Passing.{PassesUnits, Stepping}
+use Rattle.cdg_io.specs.Change.{Bytes, Moved, from_to}
+use Rattle.cdg_io.specs.Passing.{PassesUnits, Stepping, stepping}
 use Rattle.cdg_io.specs.Pump.{given_bytes}
 use Rattle.cdg_io.specs.Run.{give, run_state, run_gives}
 use Rattle.cdg_io.proofs.Frames.{moving}
@@ -93,3 +95,28 @@ unit_taken row unit size n same fits is =
     ∙ take_all (length row - size) (drop size row) (omega (arith, length-drop size row)) in
     sym (take-append-drop size row) ∙ ap (λ l. l ++ drop size row) (sym is)
     ∙ ap (λ l. unit ++ l) (sym rest)
+
+-- behind what was given the buffer is as it was
+pub rest_stays : (buffer new given old : List ℕ) (end k n : ℕ) → end ≤ length buffer
+    → length buffer ≤ end + k → n ≡ length given
+    → new ≡ given ++ drop n (slice_range buffer end (length buffer)) → drop end buffer ≡ drop end old
+    → drop (end + n) (put_mid end k buffer new) ≡ drop (end + n) old
+rest_stays buffer new given old end k n within all count is same =
+    let nothing : post_of end k buffer ≡ [] = nil_from_length _ (omega (arith, length-drop k (drop end buffer), length-drop end buffer, all)) in
+    let part : drop end (put_mid end k buffer new) ≡ new =
+    drop_at (take end buffer) (new ++ post_of end k buffer) end (length-take-le end buffer within)
+    ∙ ap (λ l. new ++ l) nothing ∙ append-nil new in
+    let rest : drop n new ≡ drop n (drop end buffer) =
+    ap (drop n) is ∙ drop_at given (drop n (slice_range buffer end (length buffer))) n (sym count)
+    ∙ ap (drop n) (take_rest buffer end) in
+    sym (drop-drop n end (put_mid end k buffer new)) ∙ ap (drop n) part ∙ rest ∙ ap (drop n) same
+    ∙ drop-drop n end old
+
+-- what a stage of pieces gives is its bytes as they are
+pub as_given : {S C : Type 0} (bytes : C → List ℕ) (size : ℕ) (next : S → C → S)
+    (gives : S → C → Option (List ℕ)) (moved : Moved S) (units : List C)
+    → PassesUnits (stepping bytes size next (λ s unit. option_map (λ (l : List ℕ). l) (gives s unit))) moved units
+    → PassesUnits (stepping bytes size next gives) moved units
+as_given {S} {C} bytes size next gives moved units passes =
+    subst (λ (h : S → C → Option (List ℕ)). PassesUnits (stepping bytes size next h) moved units)
+    (fun_ext (λ s. fun_ext (λ unit. option_map_id (gives s unit)))) passes

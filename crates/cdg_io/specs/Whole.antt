@@ -1,7 +1,8 @@
--- What the reading of a whole input took of it where it stopped.
+-- What the reading of a whole input took of it where it stopped, and what the writing of a whole piece put.
 use Rattle.std.specs.Prelude.{◌≡◌, ℕ, ◌≤◌, List, length}
 use Rattle.cdg_io.specs.Causes.{Count, RoseOnce}
 use Rattle.std.specs.Io.KnownBytes.{Consumes, IsAtEnd, Keeps}
+use Rattle.cdg_io.specs.Moves.{AppendsLess}
 use Rattle.std.specs.declared.option.Option.{Option}
 
 -- known bytes begin with exactly n bytes, and lose them
@@ -19,6 +20,16 @@ pub record StopsAtFault {S : Type 0} (left : S → Option (List ℕ)) (faults : 
   pub took : Consumes (left before) (left last) taken
   pub quiet : faults last ≡ faults before
   pub nothing : Keeps (left last) (left after)
+
+-- All that was put, less than all of these bytes, was put before a write failed: no fault was counted until then, and
+-- nothing was put by the failed write or after it.
+pub record PutsUntilFault {K : Type 0} (held : K → Option (List ℕ)) (faults : K → ℕ) (bytes : List ℕ)
+    (before after : K) : Type 0 where
+  -- the sink as the failed write found it
+  pub last : K
+  pub put : AppendsLess (held before) (held last) bytes
+  pub quiet : faults last ≡ faults before
+  pub nothing : Keeps (held last) (held after)
 
 -- The input was read to its end, which came within so many bytes and was told once.
 pub record ReadsWithin {S : Type 0} (left : S → Option (List ℕ)) (ends : S → Count) (most : ℕ)

@@ -1,5 +1,5 @@
 // A writer with a buffer before it, as a sink.
-ghost use Rattle.std.specs.Prelude.{◌≡◌, ◌<◌, ◌≤◌, ◌+◌, [], length, take, slice_range, IfOk, IsOk, OnOk, vec_len};
+ghost use Rattle.std.specs.Prelude.{◌≡◌, ◌≢◌, ◌<◌, ◌≤◌, ◌+◌, [], length, take, slice_range, IfOk, IsOk, OnErr, OnOk, vec_len};
 ghost use Rattle.std.specs.Io.KnownBytes.{Appends, Keeps, WriteAppends};
 ghost use Rattle.cdg_io.specs.Causes.{HasCause, counted_after};
 ghost use Rattle.cdg_io.specs.Moves.{TakesSome};
@@ -61,8 +61,9 @@ impl<W: Write> BufferedSink<W> {
     /// `Failed` where a write failed. The count of faults stays: the next piece for which there is no room says so.
     pub fn flush(&mut self) -> Result<(), Failed>
         ensures empty { OnOk result (self.new.waiting ≡ []) }
-        // Where nothing waits there is nothing to fail.
+        // Where nothing waits there is nothing to fail, and where a write failed something still waits.
         ensures nothing { self.old.waiting ≡ [] → IsOk result }
+        ensures left { OnErr result (self.new.waiting ≢ []) }
         ensures bytes { Keeps (bytes_with_waiting W.contents self.old)
             (bytes_with_waiting W.contents self.new) }
         ensures faults { self.new.faults ≡ self.old.faults }

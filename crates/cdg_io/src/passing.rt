@@ -1,12 +1,12 @@
-// Units that are at hand, fed one after another.
-ghost use Rattle.std.specs.Prelude.{◌≡◌, ◌<◌, ◌≤◌, ◌+◌, ◌++◌, List, ℕ, drop, length, take, Some};
+// What units that are at hand gave into a buffer.
+ghost use Rattle.std.specs.Prelude.{◌≡◌, ◌<◌, ◌≤◌, ◌++◌, List, ℕ, drop, length, option_map, take, Some};
 ghost use Rattle.cdg_io.specs.Change.{from_to};
 ghost use Rattle.cdg_io.specs.Passing.{PassesUnits, stepping};
 ghost use Rattle.cdg_io.specs.Pump.{given_bytes};
 
 use crate::chunk::Chunk;
 use crate::copying::copy_front;
-use crate::piece::CAPACITY;
+use crate::piece::FewBytes;
 use crate::{Piece, Stage};
 
 /// How many units were fed to a stage, and where in a buffer ends what it gave for them.
@@ -16,10 +16,9 @@ pub struct PassedUnits {
     pub end: usize,
 }
 
-// Feeds the units that a row begins with to a stage, at most so many. What the stage gives is put into the buffer from
-// `start` on, for as long as there is room for a whole piece. The row becomes what follows those units.
+// Feeds the units that a row begins with to a stage that gives pieces, as its `pass_row` does.
 #[inline]
-pub(crate) fn pass_row<C: Chunk, G: Stage<Item = C, Out = Piece>>(
+pub(crate) fn pass_pieces<C: Chunk, G: Stage<Item = C, Out = Piece>>(
     row: &mut &[u8],
     stage: &mut G,
     given: &mut Option<Piece>,
@@ -37,33 +36,24 @@ pub(crate) fn pass_row<C: Chunk, G: Stage<Item = C, Out = Piece>>(
         }) units }
     ensures most { result.units ≤ most }
     ensures within { (start ≤ result.end) × (result.end ≤ length buffer.new) }
+    ensures behind { drop result.end buffer.new ≡ drop result.end buffer.old }
 {
-    let mut units = 0;
-    let mut end = start;
-    while units < most && buffer.len() - end >= CAPACITY {
-        let Some(unit) = C::first_of(row) else {
-            return PassedUnits { units, end };
-        };
-        stage.emit(unit, given);
-        end += put_front(&mut buffer[end..], given);
-        *row = &row[C::SIZE..];
-        units += 1;
-    }
-    PassedUnits { units, end }
+    stage.pass_row(row, given, buffer, start, most)
 }
 
 // Puts what was given, if anything, to the front of a buffer, and answers how many bytes that are.
 #[inline]
-fn put_front(buffer: &mut [u8], given: &Option<Piece>) -> usize
+pub(crate) fn put_front<P: FewBytes>(buffer: &mut [u8], given: &Option<P>) -> usize
     requires { 128 ≤ length buffer.old }
-    ensures put { buffer.new ≡ given_bytes given.now ++ drop result buffer.old }
-    ensures count { result ≡ length (given_bytes given.now) }
+    ensures put { buffer.new ≡ given_bytes (option_map P.bytes given.now) ++ drop result buffer.old }
+    ensures count { result ≡ length (given_bytes (option_map P.bytes given.now)) }
     ensures fits { result ≤ 128 }
 {
     match given {
         Some(piece) => {
-            copy_front(buffer, piece.bytes());
-            piece.bytes().len()
+            let bytes = piece.few_bytes();
+            copy_front(buffer, bytes);
+            bytes.len()
         }
         None => 0,
     }
