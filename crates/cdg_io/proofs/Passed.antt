@@ -102,7 +102,8 @@ pub rest_stays : (buffer new given old : List ℕ) (end k n : ℕ) → end ≤ l
     → new ≡ given ++ drop n (slice_range buffer end (length buffer)) → drop end buffer ≡ drop end old
     → drop (end + n) (put_mid end k buffer new) ≡ drop (end + n) old
 rest_stays buffer new given old end k n within all count is same =
-    let nothing : post_of end k buffer ≡ [] = nil_from_length _ (omega (arith, length-drop k (drop end buffer), length-drop end buffer, all)) in
+    let nothing : post_of end k buffer ≡ [] =
+    nil_from_length _ (omega (arith, length-drop k (drop end buffer), length-drop end buffer, all)) in
     let part : drop end (put_mid end k buffer new) ≡ new =
     drop_at (take end buffer) (new ++ post_of end k buffer) end (length-take-le end buffer within)
     ∙ ap (λ l. new ++ l) nothing ∙ append-nil new in
@@ -115,7 +116,8 @@ rest_stays buffer new given old end k n within all count is same =
 -- what a stage of pieces gives is its bytes as they are
 pub as_given : {S C : Type 0} (bytes : C → List ℕ) (size : ℕ) (next : S → C → S)
     (gives : S → C → Option (List ℕ)) (moved : Moved S) (units : List C)
-    → PassesUnits (stepping bytes size next (λ s unit. option_map (λ (l : List ℕ). l) (gives s unit))) moved units
+    → PassesUnits (stepping bytes size next (λ s unit. option_map (λ (l : List ℕ). l) (gives s unit))) moved
+    units
     → PassesUnits (stepping bytes size next gives) moved units
 as_given {S} {C} bytes size next gives moved units passes =
     subst (λ (h : S → C → Option (List ℕ)). PassesUnits (stepping bytes size next h) moved units)

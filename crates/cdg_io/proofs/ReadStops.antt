@@ -1,7 +1,8 @@
 -- The stops of a reader and of a pump differ.
-use Rattle.std.proofs.Common.{◌≡◌, ℕ, ◌+◌, List, Result, Err, refl, arith}
+use Rattle.std.proofs.Common.{◌≡◌, ℕ, ◌+◌, ◌≤◌, List, ◌++◌, length, length-append, Result, Err, refl, arith, ◌∙◌}
 use Rattle.std.specs.declared.option.Option.{Option}
-use Rattle.std.proofs.KnownBytes.{Consumes-kept}
+use Rattle.std.proofs.KnownBytes.{Consumes-kept, Consumes-trans}
+use Rattle.std.specs.Io.KnownBytes.{Consumes}
 use Rattle.cdg_io.specs.Causes.{Count}
 use Rattle.cdg_io.specs.Moves.{ConsumesBelow}
 use Rattle.cdg_io.specs.Whole.{ConsumesExactly, ReadsWithin, StopsAtFault}
@@ -60,3 +61,17 @@ read_part Failed left faults ends most {before} {after} none long cut =
       omega (arith, read.within),
       Consumes-kept (left before) (left read.last) (left after) read.taken read.took read.nothing,
     )
+
+-- a read failed after some bytes were taken without a fault
+pub stops_after : {S : Type 0} (left : S → Option (List ℕ)) (faults : S → ℕ) (few most : ℕ)
+    (before mid after : S) (taken : List ℕ) → Consumes (left before) (left mid) taken
+    → faults mid ≡ faults before → length taken + few ≤ most → StopsAtFault left faults few mid after
+    → StopsAtFault left faults most before after
+stops_after left faults few most before mid after taken took quiet fits stops = record {
+  last = stops.last;
+  taken = taken ++ stops.taken;
+  within = omega (arith, length-append taken stops.taken, stops.within, fits);
+  took = Consumes-trans (left before) (left mid) (left stops.last) taken stops.taken took stops.took;
+  quiet = stops.quiet ∙ quiet;
+  nothing = stops.nothing;
+}

@@ -88,6 +88,7 @@ impl<W: Write> BufferedSink<W> {
         ensures bytes { WriteAppends (bytes_with_waiting W.contents self.old)
             (bytes_with_waiting W.contents self.new) result piece.now }
         ensures counted { self.new.faults ≡ counted_after result self.old.faults }
+        ensures nothing { self.old.waiting ≡ [] → IsOk result }
     {
         match self.flush() {
             Ok(()) => {
@@ -119,6 +120,8 @@ impl<W: Write> Sink for BufferedSink<W> {
             (bytes_with_waiting W.contents self.new) result piece.now }
         ensures cause { HasCause self.old.faults self.new.faults result }
         ensures counted { self.new.faults ≡ counted_after result self.old.faults }
+        // Where nothing waits no write can fail.
+        ensures nothing { self.old.waiting ≡ [] → IsOk result }
     {
         if piece.len() > self.buffer.len() - self.end {
             return self.put_full(piece);

@@ -4,6 +4,7 @@ ghost use Rattle.cdg_io.specs.Causes.{FillsRoom, HasCause, TellsEnd};
 ghost use Rattle.cdg_io.specs.Change.{fed};
 ghost use Rattle.cdg_io.specs.Moves.{ConsumesBelow};
 ghost use Rattle.cdg_io.specs.Pump.{FeedsUnit};
+ghost use Rattle.cdg_io.specs.Whole.{StopsAtFault};
 
 use crate::whole::fill;
 use crate::{Failed, Piece, Source, Stage};
@@ -22,6 +23,7 @@ pub(crate) fn feed_unit<const U: usize, S: Source, G: Stage<Item = [u8; U], Out 
         × FeedsUnit U (record { next = G.next; gives = G.gives })
         (fed S.left (source.old, stage.old) (source.new, stage.new)) given.new unit) }
     ensures part { OnErr result (ConsumesBelow (S.left source.old) (S.left source.new) U) }
+    ensures cut { OnErr result (StopsAtFault S.left S.faults U source.old source.new) }
     ensures stays { OnErr result (stage.new ≡ stage.old) }
     ensures cause { HasCause (S.faults source.old) (S.faults source.new) result }
     ensures told { TellsEnd U (S.ends source.old) (S.ends source.new) result }
@@ -46,6 +48,7 @@ fn feed_filled<const U: usize, S: Source, G: Stage<Item = [u8; U], Out = Piece>>
         × FeedsUnit U (record { next = G.next; gives = G.gives })
         (fed S.left (source.old, stage.old) (source.new, stage.new)) given.new unit) }
     ensures part { OnErr result (ConsumesBelow (S.left source.old) (S.left source.new) U) }
+    ensures cut { OnErr result (StopsAtFault S.left S.faults U source.old source.new) }
     ensures stays { OnErr result (stage.new ≡ stage.old) }
     ensures cause { HasCause (S.faults source.old) (S.faults source.new) result }
     ensures told { TellsEnd U (S.ends source.old) (S.ends source.new) result }

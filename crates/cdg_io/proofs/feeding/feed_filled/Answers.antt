@@ -70,3 +70,21 @@ returns-clause-part g c = tt
 
 pub returns-clause-stays : goal.returns-clause-stays
 returns-clause-stays g c = tt
+
+pub returns-in_err-filled-clause-cut : goal.returns-in_err-filled-clause-cut
+returns-in_err-filled-clause-cut g c =
+    let cut = c.in_err-filled.ensures.cut in
+    on_err c.from_residual.result (record {
+      last = cut.last;
+      taken = cut.taken;
+      within = search (rules, arith, cut.within);
+      took = cut.took;
+      quiet = cut.quiet;
+      nothing = cut.nothing;
+    })
+
+pub returns-then-filled-clause-cut : goal.returns-then-filled-clause-cut
+returns-then-filled-clause-cut g c = tt
+
+pub returns-clause-cut : goal.returns-clause-cut
+returns-clause-cut g c = tt
