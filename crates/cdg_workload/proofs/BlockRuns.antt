@@ -1,7 +1,7 @@
 -- The run of the stage over the blocks of a stream.
-use Rattle.std.proofs.Common.{◌≡◌, ℕ, zero, suc, ◌+◌, ◌-◌, ◌*◌, ◌/◌, ◌%◌, ◌^◌, ◌<◌, ◌≤◌, ◌==◌, cond, Bool, true, false, List, [], ◌∷◌, ◌++◌, length, get_or, set, take, drop, map, bit_xor, Some, Result, Ok, Err, refl, sym, ap, ap₂, ◌∙◌, subst, length-drop, drop-drop, drop-set-lt, append_assoc, lit<, arith}
-use Rattle.std.proofs.Math.Seq.{take-nil, drop-nil, take-add, take-append-add, drop-append-add, take-append_seam, drop-append_seam, take-length}
-use Rattle.std.proofs.lemmas.Bool.{ne_eqb}
+use Rattle.std.proofs.Common.{◌≡◌, ℕ, zero, suc, ◌+◌, ◌-◌, ◌*◌, ◌/◌, ◌%◌, ◌^◌, ◌<◌, ◌≤◌, ◌==◌, cond, inl, inr, Bool, true, false, List, [], ◌∷◌, ◌++◌, length, get_or, set, take, drop, map, bit_xor, Some, Result, Ok, Err, refl, sym, ap, ap₂, ◌∙◌, subst, length-append, length-drop, drop-drop, drop-set-lt, append_assoc, lit<, arith}
+use Rattle.std.proofs.Math.Seq.{take-nil, drop-nil, take-add, take-append-add, drop-append-add, take-append_seam, drop-append_seam}
+use Rattle.std.proofs.lemmas.Bool.{cases_lt, ne_eqb}
 use Rattle.std.proofs.lemmas.List.{append-nil, get_or-drop, map-append, take_more, take_more_set, length-take, take-append-drop, take-map, take-take}
 use Rattle.std.proofs.lemmas.Nat.{xor_block}
 use Rattle.std.specs.Int.Bits.{xor_zero_r}
@@ -22,16 +22,16 @@ use Rattle.cdg_workload.specs.Scratches.{Burst, bursts, change_at, scratched_byt
 use Rattle.cdg_workload.specs.Steps.{ready, change_now, past_byte, byte_next, byte_gives, block_next, block_gives, fresh_scratches}
 use Rattle.cdg_workload.specs.declared.needle.Needle.{Needle}
 use Rattle.cdg_workload.specs.declared.scratching.Scratches.{Scratches}
-use Rattle.cdg_workload.proofs.Needles.{at, ready_stays, run, changed_from, scratches_all, next_before, gives_before, next_within, gives_within}
+use Rattle.cdg_workload.proofs.Needles.{at, ready_again, ready_some, run, changed_from, scratches_all, next_before, gives_before, next_within, gives_within}
 
 -- ---- One block, byte by byte.
 
-abbrev state : Needle → List ℕ → Needle
+abbrev pub state : Needle → List ℕ → Needle
 state needle xs = run_state byte_next needle xs
 
 -- ---- All blocks.
 
-abbrev stage : ℕ → Needle → Scratches
+abbrev pub stage : ℕ → Needle → Scratches
 stage l needle = record { lead_in = l; needle = needle }
 
 abbrev texts : Scratches → List (List ℕ) → List (List ℕ)
@@ -54,7 +54,7 @@ lead_in_block l h b bs =
     (texts (cond u (stage (suc l) (state h b)) (stage (suc l - 1) h)) bs)) more more
     ∙ ap (λ n. b ∷ texts (stage n h) bs) less
 
-stream_blocks : (l k : ℕ) (h : Needle) (blocks : List (List ℕ)) → k ≡ 96 * l
+pub stream_blocks : (l k : ℕ) (h : Needle) (blocks : List (List ℕ)) → k ≡ 96 * l
     → AllByRecursion (λ (b : List ℕ). length b ≡ 96) blocks
     → concat (texts (stage l h) blocks) ≡ take k (concat blocks) ++ run h (drop k (concat blocks))
 stream_blocks zero k h blocks at all =
@@ -70,14 +70,49 @@ stream_blocks (suc l) k h (b ∷ bs) at all =
     (sym (drop-append-add b (concat bs) (96 * l)))
     ∙ ap (λ n. take n (b ++ concat bs) ++ run h (drop n (b ++ concat bs))) size
 
-units_joined : (n k : ℕ) (bytes : List ℕ) → k ≡ n * 96 → concat (units_of 96 n bytes) ≡ take k bytes
+program_state : (h : Needle) (blocks : List (List ℕ))
+    → run_state block_next (stage 0 h) blocks ≡ stage 0 (state h (concat blocks))
+unfolding block_next
+program_state h [] = refl
+program_state h (b ∷ bs) = program_state (state h b) bs
+    ∙ ap (stage 0) (sym (run_state-append byte_next h b (concat bs)))
+
+lead_in_next : (l : ℕ) (h : Needle) (b : List ℕ) → block_next (stage (suc l) h) b ≡ stage l h
+unfolding block_next
+lead_in_next l h b =
+    let more : (suc l == 0) ≡ false = ne_eqb (suc l) 0 (λ e. omega arith) in
+    let less : suc l - 1 ≡ l = omega arith in
+    ap (λ (t : Bool). cond t (stage (suc l) (state h b)) (stage (suc l - 1) h)) more
+    ∙ ap (λ n. stage n h) less
+
+-- the stage after blocks: less of the lead-in to come, and the needle after each byte behind it
+pub stream_state : (l k : ℕ) (h : Needle) (blocks : List (List ℕ)) → k ≡ 96 * l
+    → AllByRecursion (λ (b : List ℕ). length b ≡ 96) blocks
+    → run_state block_next (stage l h) blocks
+    ≡ stage (l - length blocks) (state h (drop k (concat blocks)))
+stream_state zero k h blocks at all =
+    let none : 0 ≡ k = omega arith in
+    let less : 0 ≡ 0 - length blocks = omega arith in
+    program_state h blocks ∙ ap₂ (λ n m. stage n (state h (drop m (concat blocks)))) less none
+stream_state (suc l) k h [] at all =
+    let less : suc l ≡ suc l - 0 = omega arith in
+    ap₂ (λ n (rest : List ℕ). stage n (state h rest)) less (sym (drop-nil k))
+stream_state (suc l) k h (b ∷ bs) at all =
+    let size : length b + 96 * l ≡ k = omega (arith, all.0) in
+    let less : l - length bs ≡ suc l - length (b ∷ bs) = omega arith in
+    ap (λ s. run_state block_next s bs) (lead_in_next l h b)
+    ∙ stream_state l (96 * l) h bs refl all.1
+    ∙ ap₂ (λ n (rest : List ℕ). stage n (state h rest)) less (sym (drop-append-add b (concat bs) (96 * l))
+    ∙ ap (λ n. drop n (b ++ concat bs)) size)
+
+pub units_joined : (n k : ℕ) (bytes : List ℕ) → k ≡ n * 96 → concat (units_of 96 n bytes) ≡ take k bytes
 units_joined zero k bytes at = let none : 0 ≡ k = omega arith in ap (λ m. take m bytes) none
 units_joined (suc n) k bytes at =
     let more : 96 + n * 96 ≡ k = omega arith in
     ap (λ t. take 96 bytes ++ t) (units_joined n (n * 96) (drop 96 bytes) refl)
     ∙ sym (take-add 96 (n * 96) bytes) ∙ ap (λ m. take m bytes) more
 
-units_sized : (n : ℕ) (bytes : List ℕ) → n * 96 ≤ length bytes
+pub units_sized : (n : ℕ) (bytes : List ℕ) → n * 96 ≤ length bytes
     → AllByRecursion (λ (b : List ℕ). length b ≡ 96) (units_of 96 n bytes)
 units_sized zero bytes fits = tt
 units_sized (suc n) bytes fits = (
@@ -85,6 +120,10 @@ units_sized (suc n) bytes fits = (
       ∙ omega arith,
   units_sized n (drop 96 bytes) (omega (arith, length-drop 96 bytes)),
 )
+
+pub units_counted : (n : ℕ) (bytes : List ℕ) → length (units_of 96 n bytes) ≡ n
+units_counted zero bytes = refl
+units_counted (suc n) bytes = ap suc (units_counted n (drop 96 bytes))
 
 -- ---- Changes keep the P and Q bits.
 
@@ -219,73 +258,11 @@ block_skipped s t block none size before is =
           ∙ sym (ap (λ u. cond u (Some (run s.needle block)) (Some block)) program),
     )
 
--- some symbols more that stay
-pub pass_more : (s t t' : Needle) (block old : List ℕ) (i m k : ℕ) → i + m ≡ k → k ≤ length block → m ≤ t.gap
-    → t' ≡ record t { gap = t.gap - m }
-    → t ≡ state s (take i block) → take i old ≡ run s (take i block) → drop i old ≡ drop i block
-    → (t' ≡ state s (take k block)) × (take k old ≡ run s (take k block)) × (drop k old ≡ drop k block)
-pass_more s t t' block old i m k sum fits few is now done rest =
-    let ys = take m (drop i block) in
-    let size : length ys ≡ m = length-take m (drop i block) ∙ omega (arith, length-drop i block) in
-    let more : (xs : List ℕ)
-    → take k xs ≡ take i xs ++ take m (drop i xs) = λ xs. ap (λ n. take n xs) (sym sum) ∙ take-add i m xs in
-    let later : (xs : List ℕ) → drop k xs ≡ drop m (drop i xs) = λ xs. ap (λ n. drop n xs) (sym sum)
-    ∙ sym (drop-drop m i xs) in
-    let (after, given) = pass_run ys t.gap t.left t.change t.words (omega (arith, size, few)) in
-    let gap : t.gap - m ≡ t.gap - length ys = ap (λ n. t.gap - n) (sym size) in (
-      is ∙ ap (λ n. at n t.left t.change t.words) gap ∙ after ∙ ap (λ u. state u ys) now
-          ∙ sym (ap (state s) (more block) ∙ run_state-append byte_next s (take i block) ys),
-      more old ∙ ap₂ (λ (l r : List ℕ). l ++ r) done (ap (take m) rest ∙ given ∙ ap (λ u. run u ys) now)
-          ∙ sym (ap (run s) (more block) ∙ run_gives-append byte_next byte_gives s (take i block) ys),
-      later old ∙ ap (drop m) rest ∙ sym (later block),
-    )
-
--- a needle that has left its burst goes on as one that is ready for the next
-ready_run : (t : Needle) (ys : List ℕ) → 0 < length ys → 0 < (ready t).gap
-    → (state (ready t) ys ≡ state t ys) × (run (ready t) ys ≡ run t ys)
-unfolding byte_next byte_gives
-ready_run t [] some gap = absurd (omega (arith, some))
-ready_run t (y ∷ ys) some gap =
-    let same : ready (ready t) ≡ ready t =
-    ready_stays (ready t).gap (ready t).left (ready t).change (ready t).words gap in (
-      ap (λ n. state (past_byte n) ys) same,
-      ap (λ n. give (Some (bit_xor y (change_now n))) (run (past_byte n) ys)) same,
-    )
-
--- the symbols behind a burst stay, up to the end of the block
-pub leave_more : (s t t' : Needle) (block old : List ℕ) (i m : ℕ) → i + m ≡ length block → 0 < m
-    → m ≤ (ready t).gap → t' ≡ record (ready t) { gap = (ready t).gap - m }
-    → t ≡ state s (take i block) → take i old ≡ run s (take i block) → drop i old ≡ drop i block
-    → (t' ≡ state s block) × (old ≡ run s block)
-leave_more s t t' block old i m sum some few is now done rest =
-    let r = ready t in
-    let ys : List ℕ = drop i block in
-    let size : length ys ≡ m = length-drop i block ∙ omega (arith, sum) in
-    let whole : block ≡ take i block ++ ys = sym (take-append-drop i block) in
-    let (after, given) = pass_run ys r.gap r.left r.change r.words (omega (arith, size, few)) in
-    let (same, alike) = ready_run t ys (omega (arith, size, some)) (omega (arith, some, few)) in (
-      is ∙ ap (λ n. at (r.gap - n) r.left r.change r.words) (sym size) ∙ after ∙ same
-          ∙ ap (λ u. state u ys) now
-          ∙ sym (ap (state s) whole ∙ run_state-append byte_next s (take i block) ys),
-      sym (take-append-drop i old)
-          ∙ ap₂ (λ (l r : List ℕ). l ++ r) done (rest ∙ given ∙ alike ∙ ap (λ u. run u ys) now)
-          ∙ sym (ap (run s) whole ∙ run_gives-append byte_next byte_gives s (take i block) ys),
-    )
-
--- so does a block that ends with the burst, or before it
-pub ends_there : (s t : Needle) (block old : List ℕ) (i : ℕ) → length block ≡ i → length old ≡ i
-    → t ≡ state s (take i block) → take i old ≡ run s (take i block)
-    → (t ≡ state s block) × (old ≡ run s block)
-ends_there s t block old i size size' now done =
-    let all : take i block ≡ block = ap (λ n. take n block) (sym size) ∙ take-length block in
-    let all' : take i old ≡ old = ap (λ n. take n old) (sym size') ∙ take-length old in
-    (now ∙ ap (state s) all, sym all' ∙ done ∙ ap (run s) all)
-
 -- ---- Runs of symbols that a burst changes.
 
 -- sixteen symbols are changed, and those of them put back that stay
-pub combined_few : (old mid kept : List ℕ) (from to n c : ℕ) → length old ≡ 96 → length mid ≡ 96 → n ≡ 16
-    → from ≤ to → to ≤ from + 16 → to + 16 ≤ 96
+pub combined_few : (old mid kept : List ℕ) (from to n c : ℕ) → length mid ≡ length old → n ≡ 16
+    → from ≤ to → to ≤ from + 16 → to + 16 ≤ length old
     → take (from + 16) mid ≡ take from old
     ++ map (λ byte. bit_xor byte c) (take (from + 16 - from) (drop from old))
     → drop (from + 16) mid ≡ drop (from + 16) old
@@ -293,13 +270,13 @@ pub combined_few : (old mid kept : List ℕ) (from to n c : ℕ) → length old 
     → (take to (take to mid ++ (kept ++ drop n (drop to mid)))
     ≡ take from old ++ map (λ byte. bit_xor byte c) (take (to - from) (drop from old)))
     × (drop to (take to mid ++ (kept ++ drop n (drop to mid))) ≡ drop to old)
-combined_few old mid kept from to n c size size' sixteen order few within changed rest kept_is =
+combined_few old mid kept from to n c size sixteen order few within changed rest kept_is =
     let f : ℕ → ℕ = λ byte. bit_xor byte c in
     let front : List ℕ = take from old in
     let m : ℕ = to - from in
     let struck : List ℕ = map f (take (from + 16 - from) (drop from old)) in
-    let count : length (take to mid) ≡ to = length-take to mid ∙ omega (arith, size', within) in
-    let place : to ≡ length front + m = omega (arith, length-take from old, size, order, within) in
+    let count : length (take to mid) ≡ to = length-take to mid ∙ omega (arith, size, within) in
+    let place : to ≡ length front + m = omega (arith, length-take from old, order, within) in
     let shorter : take m (take (from + 16 - from) (drop from old)) ≡ take m (drop from old) =
     take-take m (from + 16 - from) (drop from old) (omega (arith, few, order)) in
     let before : take to mid ≡ front ++ map f (take m (drop from old)) =
@@ -335,13 +312,13 @@ combined_none old from n c none =
     ∙ append-nil (take from old))
 
 -- one symbol more is changed
-pub combined_more : (old now : List ℕ) (from i c : ℕ) → length old ≡ 96 → length now ≡ 96 → from ≤ i → i < 96
+pub combined_more : (old now : List ℕ) (from i c : ℕ) → length now ≡ length old → from ≤ i → i < length old
     → take i now ≡ take from old ++ map (λ byte. bit_xor byte c) (take (i - from) (drop from old))
     → drop i now ≡ drop i old
     → (take (i + 1) (set now i (bit_xor (get_or now i 0) c)) ≡ take from old ++ map (λ byte. bit_xor byte c)
     (take (i + 1 - from) (drop from old)))
     × (drop (i + 1) (set now i (bit_xor (get_or now i 0) c)) ≡ drop (i + 1) old)
-combined_more old now from i c size size' begun lt changed rest =
+combined_more old now from i c size begun lt changed rest =
     let f : ℕ → ℕ = λ byte. bit_xor byte c in
     let x = get_or now i 0 in
     let ys : List ℕ = drop from old in
@@ -350,9 +327,9 @@ combined_more old now from i c size size' begun lt changed rest =
     let same : x ≡ get_or ys n 0 = first_same i now old rest ∙ ap (λ k. get_or old k 0) place
     ∙ sym (get_or-drop from old n 0) in
     let more : take (n + 1) ys ≡ take n ys ++ get_or ys n 0 ∷ [] =
-    take_more ys n 0 (omega (arith, length-drop from old, size, place, lt)) in
+    take_more ys n 0 (omega (arith, length-drop from old, place, lt)) in
     let count : n + 1 ≡ i + 1 - from = omega (arith, begun) in (
-      take_more_set now i (f x) (omega (arith, size', lt)) ∙ ap (λ (l : List ℕ). l ++ f x ∷ []) changed
+      take_more_set now i (f x) (omega (arith, size, lt)) ∙ ap (λ (l : List ℕ). l ++ f x ∷ []) changed
           ∙ append_assoc (take from old) (map f (take n ys)) (f x ∷ [])
           ∙ ap (λ (l : List ℕ). take from old ++ l)
           (ap (λ y. map f (take n ys) ++ f y ∷ []) same ∙ sym (map-append f (take n ys) (get_or ys n 0 ∷ []))
@@ -382,28 +359,92 @@ struck_run [] g l c w fits begun = let none : l - 0 ≡ l = omega arith in (ap (
 struck_run (y ∷ ys) zero l c w fits begun = within_run (y ∷ ys) l c w fits
 struck_run (y ∷ ys) (suc g) l c w fits begun = absurd (omega (arith, begun (omega arith)))
 
--- some symbols more that a burst changes
-pub strike_more : (s t t' : Needle) (block old new : List ℕ) (i m : ℕ) → i + m ≤ length block → m ≤ t.left
-    → (0 < m → t.gap ≡ 0) → t' ≡ record t { left = t.left - m }
-    → t ≡ state s (take i block) → take i old ≡ run s (take i block) → drop i old ≡ drop i block
-    → take (i + m) new ≡ take i old ++ map (λ byte. bit_xor byte t.change) (take (i + m - i) (drop i old))
-    → drop (i + m) new ≡ drop (i + m) old
-    → (t' ≡ state s (take (i + m) block)) × (take (i + m) new ≡ run s (take (i + m) block))
-    × (drop (i + m) new ≡ drop (i + m) block)
-strike_more s t t' block old new i m fits few begun is now done rest changed kept =
-    let f : ℕ → ℕ = λ byte. bit_xor byte t.change in
-    let ys = take m (drop i block) in
-    let size : length ys ≡ m = length-take m (drop i block) ∙ omega (arith, length-drop i block) in
-    let more : take (i + m) block ≡ take i block ++ ys = take-add i m block in
-    let later : (xs : List ℕ) → drop (i + m) xs ≡ drop m (drop i xs) = λ xs. sym (drop-drop m i xs) in
-    let (after, given) = struck_run ys t.gap t.left t.change t.words (omega (arith, size, few))
-    (λ some. begun (omega (arith, size, some))) in
-    let left : t.left - m ≡ t.left - length ys = ap (λ n. t.left - n) (sym size) in
-    let count : i + m - i ≡ m = omega arith in (
-      is ∙ ap (λ n. at t.gap n t.change t.words) left ∙ after ∙ ap (λ u. state u ys) now
-          ∙ sym (ap (state s) more ∙ run_state-append byte_next s (take i block) ys),
-      changed ∙ ap₂ (λ (l r : List ℕ). l ++ r) done (ap (λ n. map f (take n (drop i old))) count
-          ∙ ap (λ (l : List ℕ). map f (take m l)) rest ∙ given ∙ ap (λ u. run u ys) now)
-          ∙ sym (ap (run s) more ∙ run_gives-append byte_next byte_gives s (take i block) ys),
-      kept ∙ later old ∙ ap (drop m) rest ∙ sym (later block),
+-- a needle that is ready for the next symbol goes on as before
+ready_run : (t : Needle) (ys : List ℕ) → 0 < length ys
+    → (state (ready t) ys ≡ state t ys) × (run (ready t) ys ≡ run t ys)
+unfolding byte_next byte_gives
+ready_run t [] some = absurd (omega (arith, some))
+ready_run t (y ∷ ys) some =
+    let same : ready (ready t) ≡ ready t = ready_again t.gap t.left t.change t.words in (
+      ap (λ n. state (past_byte n) ys) same,
+      ap (λ n. give (Some (bit_xor y (change_now n))) (run (past_byte n) ys)) same,
     )
+
+-- m symbols that stay and n that a burst changes, from a needle that is ready
+burst_run : (r t u : Needle) (ys zs : List ℕ) → length ys ≤ r.gap → t ≡ record r { gap = r.gap - length ys }
+    → length zs ≤ t.left → (0 < length zs → t.gap ≡ 0) → u ≡ record t { left = t.left - length zs }
+    → (u ≡ state r (ys ++ zs)) × (ys ++ map (λ byte. bit_xor byte u.change) zs ≡ run r (ys ++ zs))
+burst_run r t u ys zs before passed few begun struck =
+    let (after, given) = pass_run ys r.gap r.left r.change r.words before in
+    let (after', given') = struck_run zs t.gap t.left t.change t.words few begun in
+    let now : t ≡ state r ys = passed ∙ after in
+    let change : u.change ≡ t.change = ap (λ (n : Needle). n.change) struck in (
+      struck ∙ after' ∙ ap (λ n. state n zs) now ∙ sym (run_state-append byte_next r ys zs),
+      ap (λ c. ys ++ map (λ byte. bit_xor byte c) zs) change
+          ∙ ap₂ (λ (l k : List ℕ). l ++ k) given (given' ∙ ap (λ n. run n zs) now)
+          ∙ sym (run_gives-append byte_next byte_gives r ys zs),
+    )
+
+-- some symbols more: those before a burst, and those of it
+pub burst_more : (s t r t' u : Needle) (block old new : List ℕ) (i m n : ℕ) → i + m + n ≤ length block
+    → 0 < m + n
+    → r ≡ ready t → m ≤ r.gap → t' ≡ record r { gap = r.gap - m }
+    → n ≤ t'.left → (0 < n → t'.gap ≡ 0) → u ≡ record t' { left = t'.left - n }
+    → t ≡ state s (take i block) → take i old ≡ run s (take i block) → drop i old ≡ drop i block
+    → take (i + m + n) new
+    ≡ take (i + m) old ++ map (λ byte. bit_xor byte u.change) (take (i + m + n - (i + m)) (drop (i + m) old))
+    → drop (i + m + n) new ≡ drop (i + m + n) old
+    → (u ≡ state s (take (i + m + n) block)) × (take (i + m + n) new ≡ run s (take (i + m + n) block))
+    × (drop (i + m + n) new ≡ drop (i + m + n) block)
+burst_more s t r t' u block old new i m n fits some is before passed few begun struck now done rest changed
+    kept =
+    let f : ℕ → ℕ = λ byte. bit_xor byte u.change in
+    let ys : List ℕ = take m (drop i block) in
+    let zs : List ℕ = take n (drop (i + m) block) in
+    let first : List ℕ = take i block in
+    let size : m ≡ length ys =
+    sym (length-take m (drop i block) ∙ omega (arith, length-drop i block, fits)) in
+    let size' : n ≡ length zs =
+    sym (length-take n (drop (i + m) block) ∙ omega (arith, length-drop (i + m) block, fits)) in
+    let (after, given) = burst_run r t' u ys zs (omega (arith, size, before))
+    (passed ∙ ap (λ k. at (r.gap - k) r.left r.change r.words) size)
+    (omega (arith, size', few)) (λ more. begun (omega (arith, size', more)))
+    (struck ∙ ap (λ k. at t'.gap (t'.left - k) t'.change t'.words) size') in
+    let (same, alike) = ready_run t (ys ++ zs) (omega (arith, some, size, size', length-append ys zs)) in
+    let whole : take (i + m + n) block ≡ first ++ (ys ++ zs) =
+    take-add (i + m) n block ∙ ap (λ (l : List ℕ). l ++ zs) (take-add i m block) ∙ append_assoc first ys zs in
+    let later : drop (i + m) old ≡ drop (i + m) block =
+    sym (drop-drop m i old) ∙ ap (drop m) rest ∙ drop-drop m i block in
+    let front : take (i + m) old ≡ run s first ++ ys =
+    take-add i m old ∙ ap₂ (λ (l k : List ℕ). l ++ k) done (ap (take m) rest) in
+    let count : i + m + n - (i + m) ≡ n = omega arith in (
+      after ∙ ap (λ h. state h (ys ++ zs)) is ∙ same ∙ ap (λ h. state h (ys ++ zs)) now
+          ∙ sym (ap (state s) whole ∙ run_state-append byte_next s first (ys ++ zs)),
+      changed ∙ ap₂ (λ (l k : List ℕ). l ++ map f k) front
+          (ap (λ k. take k (drop (i + m) old)) count ∙ ap (take n) later)
+          ∙ append_assoc (run s first) ys (map f zs)
+          ∙ ap (λ (l : List ℕ). run s first ++ l) (given ∙ ap (λ h. run h (ys ++ zs)) is ∙ alike
+          ∙ ap (λ h. run h (ys ++ zs)) now)
+          ∙ sym (ap (run s) whole ∙ run_gives-append byte_next byte_gives s first (ys ++ zs)),
+      kept ∙ sym (drop-drop n (i + m) old) ∙ ap (drop n) later ∙ drop-drop n (i + m) block,
+    )
+
+-- that is at least one symbol
+pub some_more : (t r t' u : Needle) (m n most rest : ℕ) → r ≡ ready t → t' ≡ record r { gap = r.gap - m }
+    → u ≡ record t' { left = t'.left - n } → 0 < most → most ≤ m + rest → (m < most → t'.gap ≡ 0)
+    → (t'.gap ≡ 0 → n < rest → u.left ≡ 0) → 0 < m + n
+some_more t r t' u m n most rest is passed struck room all_of gap_ends left_ends =
+    let some : 0 < (ready t).gap + (ready t).left = ready_some t.gap t.left t.change t.words in
+    let gap : (ready t).gap ≡ r.gap = ap (λ (h : Needle). h.gap) (sym is) in
+    let left : (ready t).left ≡ r.left = ap (λ (h : Needle). h.left) (sym is) in
+    let gap' : t'.gap ≡ r.gap - m = ap (λ (h : Needle). h.gap) passed in
+    let left' : t'.left ≡ r.left = ap (λ (h : Needle). h.left) passed in
+    let left'' : u.left ≡ t'.left - n = ap (λ (h : Needle). h.left) struck in
+    elim (cases_lt m most) [
+      | inl short ↦
+          elim (cases_lt n rest) [
+            | inl short' ↦ omega (arith, gap_ends short, left_ends (gap_ends short) short')
+            | inr long ↦ omega arith
+          ]
+      | inr long ↦ omega arith
+    ]

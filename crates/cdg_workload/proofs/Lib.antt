@@ -3,6 +3,7 @@ pub mod GeneratorLemmas
 pub mod Needles
 pub mod BlockRuns
 pub mod BlockByBlock
+pub mod Rows
 pub mod BurstLaws
 pub mod ScriptTexts
 pub mod DamageLaws

@@ -73,6 +73,20 @@ ready_gap t none ended =
     let gap : (ready t).gap ≡ gap_of (pcg32 t.words).0 = ap (λ (n : Needle). n.gap) drawn in
     omega (arith, gap)
 
+-- a needle that is ready stays so
+pub ready_again : (g l c : ℕ) (w : Lcg) → ready (ready (at g l c w)) ≡ ready (at g l c w)
+ready_again (suc g) l c w = ap ready (ready_before g l c w)
+ready_again zero (suc l) c w = ap ready (ready_within l c w)
+ready_again zero zero c w =
+    let r : Needle = ready (at 0 0 c w) in
+    ready_stays r.gap r.left r.change r.words (omega (arith, ready_gap (at 0 0 c w) refl refl))
+
+-- it has symbols before a burst, or of one
+pub ready_some : (g l c : ℕ) (w : Lcg) → 0 < (ready (at g l c w)).gap + (ready (at g l c w)).left
+ready_some (suc g) l c w = omega (arith, ap (λ (n : Needle). n.gap) (ready_before g l c w))
+ready_some zero (suc l) c w = omega (arith, ap (λ (n : Needle). n.left) (ready_within l c w))
+ready_some zero zero c w = omega (arith, ready_gap (at 0 0 c w) refl refl)
+
 ready_drawn : (c : ℕ) (w : Lcg)
     → ready (at 0 0 c w) ≡ ready
     (at (suc (gap_less w)) (size_of (pcg32 w).0) (change_of (pcg32 w).0) (pcg32 w).1)

@@ -1,7 +1,7 @@
 // The changes of neighbouring symbols, by the words of a generator.
-ghost use Rattle.std.specs.Prelude.{◌≡◌, ◌<◌, ◌≤◌, ◌+◌, ◌-◌, ◌^◌, ◌++◌, bit_xor, drop, false, map, take, true};
+ghost use Rattle.std.specs.Prelude.{◌≡◌, ◌<◌, ◌≤◌, ◌+◌, ◌-◌, ◌^◌, ◌++◌, bit_xor, drop, false, length, map, take, true};
 ghost use Rattle.raw_subcode.specs.Sizes.{block_bytes};
-ghost use Rattle.rw_interleave.specs.Stream.{least_gap, most_burst};
+ghost use Rattle.rw_interleave.specs.Stream.{most_burst};
 ghost use Rattle.cdg_io.specs.Run.{run_state, run_gives};
 ghost use Rattle.cdg_workload.specs.Steps.{next_needle, ready, byte_next, byte_gives};
 
@@ -47,31 +47,17 @@ impl Needle {
         }
     }
 
-    // After a burst, goes over symbols before the next one.
-    #[inline]
-    #[tactic(auto, using(crate::proofs::Needles::ready_gap))]
-    fn leave(&mut self, count: usize)
-        requires ended { (self.old.gap ≡ 0) × (self.old.left ≡ 0) }
-        requires before { count ≤ least_gap }
-        ensures next { self.new ≡ record (ready self.old) { gap = (ready self.old).gap - count } }
-        ensures gap { count ≤ (ready self.old).gap }
-    {
-        self.make_ready();
-        self.gap -= count as u32;
-    }
-
     // Goes over the symbols before the next one that is changed, at most so many: how many they are.
     #[inline]
     fn pass(&mut self, most: usize) -> usize
-        requires { most < 2 ^ 32 }
         ensures next { self.new ≡ record self.old { gap = self.old.gap - result } }
         ensures gap { result ≤ self.old.gap }
         ensures most { result ≤ most }
         ensures all { result < most → self.new.gap ≡ 0 }
     {
-        let passed = self.gap.min(most as u32);
-        self.gap -= passed;
-        passed as usize
+        let passed = (self.gap as usize).min(most);
+        self.gap -= passed as u32;
+        passed
     }
 
     /// Whether the next burst comes after a whole block: then that block is gone over.
@@ -91,7 +77,6 @@ impl Needle {
     // Goes over the symbols of a burst that has begun, at most so many: how many they are.
     #[inline]
     fn strike(&mut self, most: usize) -> usize
-        requires { most < 2 ^ 32 }
         ensures next { self.new ≡ record self.old { left = self.old.left - result } }
         ensures left { result ≤ self.old.left }
         ensures begun { 0 < result → self.old.gap ≡ 0 }
@@ -101,70 +86,70 @@ impl Needle {
         if self.gap > 0 {
             return 0;
         }
-        let struck = self.left.min(most as u32);
-        self.left -= struck;
-        struck as usize
+        let struck = (self.left as usize).min(most);
+        self.left -= struck as u32;
+        struck
     }
 
-    /// Changes the symbols of a block. Those before a burst, those of it and those after it are gone over at once.
-    pub(crate) fn scratch(&mut self, block: &mut [u8; BLOCK_BYTES])
-        ensures next { self.new ≡ run_state byte_next self.old block.old }
-        ensures gives { block.new ≡ run_gives byte_next byte_gives self.old block.old }
+    /// Changes symbols, from burst to burst. Those before a burst are gone over at once.
+    pub(crate) fn scratch_all(&mut self, bytes: &mut [u8])
+        ensures next { self.new ≡ run_state byte_next self.old bytes.old }
+        ensures gives { bytes.new ≡ run_gives byte_next byte_gives self.old bytes.old }
     {
-        let mut at = self.pass(BLOCK_BYTES);
-        let struck = self.strike(BLOCK_BYTES - at);
-        combine(block, at, at + struck, self.change);
-        at += struck;
-        if at < BLOCK_BYTES {
-            // The next burst comes after the block.
-            self.leave(BLOCK_BYTES - at);
+        let mut at = 0;
+        while at < bytes.len() {
+            self.make_ready();
+            at += self.pass(bytes.len() - at);
+            let struck = self.strike(bytes.len() - at);
+            combine(bytes, at, at + struck, self.change);
+            at += struck;
         }
     }
 }
 
-// Combines the bytes of a block between two places with a change.
+// Combines the bytes between two places with a change.
 #[inline]
-fn combine(block: &mut [u8; BLOCK_BYTES], from: usize, to: usize, change: u8)
+fn combine(bytes: &mut [u8], from: usize, to: usize, change: u8)
     requires order { from ≤ to }
-    requires within { to ≤ block_bytes }
-    ensures changed { take to block.new
-        ≡ take from block.old ++ map (λ byte. bit_xor byte change) (take (to - from) (drop from block.old)) }
-    ensures rest { drop to block.new ≡ drop to block.old }
+    requires within { to ≤ length bytes.old }
+    ensures changed { take to bytes.new
+        ≡ take from bytes.old ++ map (λ byte. bit_xor byte change) (take (to - from) (drop from bytes.old)) }
+    ensures rest { drop to bytes.new ≡ drop to bytes.old }
 {
-    if to - from <= MOST_BURST && to <= BLOCK_BYTES - MOST_BURST {
-        combine_few(block, from, to, change);
+    if to - from <= MOST_BURST && bytes.len() - to >= MOST_BURST {
+        combine_few(bytes, from, to, change);
     } else {
-        combine_each(block, from, to, change);
+        combine_each(bytes, from, to, change);
     }
 }
 
 // The same for at most sixteen bytes. It takes the same steps however many they are: it changes sixteen, and puts those
 // back that stay.
 #[inline]
-fn combine_few(block: &mut [u8; BLOCK_BYTES], from: usize, to: usize, change: u8)
+fn combine_few(bytes: &mut [u8], from: usize, to: usize, change: u8)
     requires order { from ≤ to }
     requires few { to ≤ from + most_burst }
-    requires within { to + most_burst ≤ block_bytes }
-    ensures changed { take to block.new
-        ≡ take from block.old ++ map (λ byte. bit_xor byte change) (take (to - from) (drop from block.old)) }
-    ensures rest { drop to block.new ≡ drop to block.old }
+    requires within { to + most_burst ≤ length bytes.old }
+    ensures changed { take to bytes.new
+        ≡ take from bytes.old ++ map (λ byte. bit_xor byte change) (take (to - from) (drop from bytes.old)) }
+    ensures rest { drop to bytes.new ≡ drop to bytes.old }
 {
     let mut kept = [0; MOST_BURST];
-    kept.copy_from_slice(&block[to..to + MOST_BURST]);
-    combine_each(block, from, from + MOST_BURST, change);
-    block[to..to + MOST_BURST].copy_from_slice(&kept);
+    kept.copy_from_slice(&bytes[to..to + MOST_BURST]);
+    combine_each(bytes, from, from + MOST_BURST, change);
+    bytes[to..to + MOST_BURST].copy_from_slice(&kept);
 }
 
 // The same for any number of bytes.
 #[inline]
-fn combine_each(block: &mut [u8; BLOCK_BYTES], from: usize, to: usize, change: u8)
+fn combine_each(bytes: &mut [u8], from: usize, to: usize, change: u8)
     requires order { from ≤ to }
-    requires within { to ≤ block_bytes }
-    ensures changed { take to block.new
-        ≡ take from block.old ++ map (λ byte. bit_xor byte change) (take (to - from) (drop from block.old)) }
-    ensures rest { drop to block.new ≡ drop to block.old }
+    requires within { to ≤ length bytes.old }
+    ensures changed { take to bytes.new
+        ≡ take from bytes.old ++ map (λ byte. bit_xor byte change) (take (to - from) (drop from bytes.old)) }
+    ensures rest { drop to bytes.new ≡ drop to bytes.old }
 {
     for i in from..to {
-        block[i] ^= change;
+        bytes[i] ^= change;
     }
 }

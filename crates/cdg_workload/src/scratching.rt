@@ -1,10 +1,13 @@
 // Scratches of a raw stream.
 ghost use Rattle.std.specs.Prelude.{◌≡◌, ◌≢◌, ◌≤◌, ◌+◌, ◌*◌, ◌/◌, List, ℕ, length, map, take, drop, IfSome, IsErrOf, Some, Err};
+ghost use Rattle.std.specs.List.{concat};
 ghost use Rattle.disc_time.specs.Counts.{most_lead_in};
 ghost use Rattle.raw_subcode.specs.Sizes.{block_bytes, most_units};
 ghost use Rattle.cdg_io.specs.Causes.{TellsFault};
-ghost use Rattle.cdg_io.specs.Change.{passed};
-ghost use Rattle.cdg_io.specs.Pump.{FillsUnits, IsUnlessFault, TellsEndOf, answer_of};
+ghost use Rattle.cdg_io.specs.Change.{from_to, passed};
+ghost use Rattle.cdg_io.specs.Passing.{PassesUnits, stepping};
+ghost use Rattle.cdg_io.specs.Pump.{FillsUnits, IsUnlessFault, TellsEndOf, answer_of, units_of};
+ghost use Rattle.cdg_io.specs.Run.{run_state, run_gives};
 ghost use Rattle.cdg_io.specs.Streams.{Streams};
 ghost use Rattle.raw_subcode.specs.Channels.{symbols_of, program_symbols};
 ghost use Rattle.rw_interleave.specs.Stream.{DiffersInBursts, IsDamaged};
@@ -13,7 +16,7 @@ ghost use Rattle.cdg_workload.specs.Steps.{fresh_scratches, scratches_after, blo
 
 use crate::needle::Needle;
 use crate::words::generator;
-use cdg_io::{Piece, PumpStop, Pumped, Sink, Source, Stage, pump};
+use cdg_io::{PassedUnits, Piece, PumpStop, Pumped, Sink, Source, Stage, pump};
 use raw_subcode::{BLOCK_BYTES, Form, MOST_UNITS};
 use rw_interleave::bursts_are_damage;
 
@@ -51,7 +54,7 @@ impl Scratches {
         if self.lead_in > 0 {
             self.lead_in -= 1;
         } else if !self.needle.skip_block() {
-            self.needle.scratch(block);
+            self.needle.scratch_all(block);
         }
     }
 
@@ -83,8 +86,57 @@ impl Scratches {
         ensures gives { Some piece.new ≡ block_gives self.old block.now }
     {
         let mut scratched = *block;
-        self.needle.scratch(&mut scratched);
+        self.needle.scratch_all(&mut scratched);
         piece.set(&scratched);
+    }
+
+    // Goes over so many blocks that stand one behind another. Those of the lead-in stay, and those of the program are
+    // scratched where they stand, from burst to burst.
+    #[inline]
+    fn scratch_row(&mut self, blocks: &mut [u8], count: usize)
+        requires { length blocks.old ≡ block_bytes * count }
+        ensures next { self.new ≡ run_state block_next self.old (units_of block_bytes count blocks.old) }
+        ensures gives { blocks.new
+            ≡ concat (run_gives block_next block_gives self.old (units_of block_bytes count blocks.old)) }
+    {
+        let kept = (self.lead_in as usize).min(count);
+        self.lead_in -= kept as u32;
+        self.needle.scratch_all(&mut blocks[BLOCK_BYTES * kept..]);
+    }
+
+    // Copies the blocks that a row begins with into a buffer from `start` on, at most so many and as many as there is
+    // room for, and goes over them there. The row becomes what follows them.
+    #[inline]
+    fn pass_blocks(
+        &mut self,
+        row: &mut &[u8],
+        buffer: &mut [u8],
+        start: usize,
+        most: u32,
+    ) -> PassedUnits
+        requires start { start ≤ length buffer.old }
+        ensures passes { (units : List (List ℕ)) × (length units ≡ result.units)
+            × PassesUnits (stepping (λ (all : List ℕ). all) block_bytes block_next block_gives) (record {
+              left = from_to (Some row.old.now) (Some row.new.now);
+              state = from_to self.old self.new;
+              held = from_to (Some (take start buffer.old)) (Some (take result.end buffer.new));
+            }) units }
+        ensures most { result.units ≤ most }
+        ensures within { (start ≤ result.end) × (result.end ≤ length buffer.new) }
+        ensures behind { drop result.end buffer.new ≡ drop result.end buffer.old }
+    {
+        let room = (buffer.len() - start) / BLOCK_BYTES;
+        let count = (row.len() / BLOCK_BYTES).min(room).min(most as usize);
+        let size = BLOCK_BYTES * count;
+        let end = start + size;
+        let place = &mut buffer[start..end];
+        place.copy_from_slice(&row[..size]);
+        self.scratch_row(place, count);
+        *row = &row[size..];
+        PassedUnits {
+            units: count as u32,
+            end,
+        }
     }
 }
 

@@ -3,10 +3,10 @@ use Rattle.cdg_workload.proofs.needle.combine_each.Given as goal
 
 abbrev pub invariant-loop-i : goal.invariant-loop-i
 invariant-loop-i l = record {
-  size : length l.block ≡ 96;
+  size : length l.bytes ≡ length l.fn.bytes;
   begun : l.from ≤ l.i;
   within : l.i ≤ l.to;
-  changed : take l.i l.block ≡ take l.from l.fn.block ++ map (λ byte. bit_xor byte l.change)
-      (take (l.i - l.from) (drop l.from l.fn.block));
-  rest : drop l.i l.block ≡ drop l.i l.fn.block;
+  changed : take l.i l.bytes ≡ take l.from l.fn.bytes ++ map (λ byte. bit_xor byte l.change)
+      (take (l.i - l.from) (drop l.from l.fn.bytes));
+  rest : drop l.i l.bytes ≡ drop l.i l.fn.bytes;
 }

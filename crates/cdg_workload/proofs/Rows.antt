@@ -1,0 +1,135 @@
+-- Blocks that stand one behind another, and that the stage goes over where they stand.
+use Rattle.std.proofs.Common.{◌≡◌, ℕ, zero, suc, min, ◌+◌, ◌-◌, ◌*◌, ◌≤◌, inl, inr, List, [], ◌++◌, length, take, drop, Some, refl, sym, ap, ap₂, ◌∙◌, append-nil, length-drop, length-take-le, take_all, arith}
+use Rattle.std.proofs.lemmas.Bool.{cases_lt}
+use Rattle.std.proofs.lemmas.List.{drop_all, take_rest, take-append-drop}
+use Rattle.std.proofs.lemmas.List.Concat.{flat_map-cons}
+use Rattle.std.proofs.lemmas.List.Elements.{All-from_recursion}
+use Rattle.std.proofs.lemmas.Slice.{take-put_mid, drop-put_mid}
+use Rattle.std.proofs.Math.Seq.{take-add}
+use Rattle.std.specs.List.{concat}
+use borrow.Rule.Slice.PartMut.{put_mid}
+use Rattle.cdg_io.specs.Change.{from_to}
+use Rattle.cdg_io.specs.Passing.{PassesUnits, stepping}
+use Rattle.cdg_io.specs.Pump.{units_of}
+use Rattle.cdg_io.specs.Run.{run_state, run_gives}
+use Rattle.cdg_io.proofs.Frames.{moving}
+use Rattle.cdg_io.proofs.Units.{joined}
+use Rattle.cdg_workload.specs.Steps.{block_next, block_gives}
+use Rattle.cdg_workload.specs.declared.needle.Needle.{Needle}
+use Rattle.cdg_workload.specs.declared.scratching.Scratches.{Scratches}
+use Rattle.cdg_workload.proofs.Needles.{run}
+use Rattle.cdg_workload.proofs.BlockRuns.{stage, state, stream_blocks, stream_state, units_counted, units_joined, units_sized}
+
+-- what is cut behind the end is cut at it
+cut_alike : (bytes : List ℕ) (n l m k : ℕ) → length bytes ≡ 96 * n → m ≡ min l n → k ≡ 96 * m
+    → take (96 * l) bytes ≡ take k bytes
+cut_alike bytes n l m k size few place =
+    elim (cases_lt n l) [
+      | inl short ↦
+          take_all (96 * l) bytes (omega (arith, size, short))
+          ∙ sym (take_all k bytes (omega (arith, size, short, few, place)))
+      | inr long ↦ ap (λ c. take c bytes) (omega (arith, long, few, place))
+    ]
+
+left_alike : (bytes : List ℕ) (n l m k : ℕ) → length bytes ≡ 96 * n → m ≡ min l n → k ≡ 96 * m
+    → drop (96 * l) bytes ≡ drop k bytes
+left_alike bytes n l m k size few place =
+    elim (cases_lt n l) [
+      | inl short ↦
+          drop_all (96 * l) bytes (omega (arith, size, short))
+          ∙ sym (drop_all k bytes (omega (arith, size, short, few, place)))
+      | inr long ↦ ap (λ c. drop c bytes) (omega (arith, long, few, place))
+    ]
+
+-- blocks that stand one behind another: those of the lead-in stay, and a needle goes over the bytes behind them
+row_of_blocks : (s : Scratches) (bytes : List ℕ) (n m k : ℕ) → length bytes ≡ 96 * n → m ≡ min s.lead_in n
+    → k ≡ 96 * m
+    → (stage (s.lead_in - m) (state s.needle (drop k bytes))
+    ≡ run_state block_next s (units_of 96 n bytes))
+    × (take k bytes ++ run s.needle (drop k bytes)
+    ≡ concat (run_gives block_next block_gives s (units_of 96 n bytes)))
+row_of_blocks s bytes n m k size few place =
+    let l = s.lead_in in
+    let units = units_of 96 n bytes in
+    let sized = units_sized n bytes (omega (arith, size)) in
+    let whole : concat units ≡ bytes = units_joined n (96 * n) bytes (omega arith) ∙ take_all (96 * n) bytes
+    (omega (arith, size)) in
+    let less : l - length units ≡ l - m = omega (arith, units_counted n bytes, few) in
+    let front : take (96 * l) bytes ≡ take k bytes = cut_alike bytes n l m k size few place in
+    let behind : drop (96 * l) bytes ≡ drop k bytes = left_alike bytes n l m k size few place in (
+      sym (stream_state l (96 * l) s.needle units refl sized
+          ∙ ap₂ (λ c (rest : List ℕ). stage c (state s.needle rest)) less
+          (ap (drop (96 * l)) whole ∙ behind)),
+      sym (stream_blocks l (96 * l) s.needle units refl sized
+          ∙ ap (λ (all : List ℕ). take (96 * l) all ++ run s.needle (drop (96 * l) all)) whole
+          ∙ ap₂ (λ (a b : List ℕ). a ++ run s.needle b) front behind),
+    )
+
+-- the same of a needle that went over the part of a row behind the lead-in
+pub row_scratched : (s : Scratches) (t : Needle) (bytes part new : List ℕ) (n m k : ℕ) → length bytes ≡ 96 * n
+    → m ≡ min s.lead_in n → k ≡ 96 * m → part ≡ take (length bytes - k) (drop k bytes)
+    → t ≡ state s.needle part → new ≡ run s.needle part
+    → (stage (s.lead_in - m) t ≡ run_state block_next s (units_of 96 n bytes))
+    × (put_mid k (length bytes - k) bytes new
+    ≡ concat (run_gives block_next block_gives s (units_of 96 n bytes)))
+row_scratched s t bytes part new n m k size few place is now gave =
+    let (after, given) = row_of_blocks s bytes n m k size few place in
+    let rest : part ≡ drop k bytes = is ∙ take_rest bytes k in
+    let none : drop (length bytes - k) (drop k bytes) ≡ [] =
+    drop_all (length bytes - k) (drop k bytes) (omega (arith, length-drop k bytes)) in (
+      ap (stage (s.lead_in - m)) (now ∙ ap (state s.needle) rest) ∙ after,
+      ap₂ (λ (a b : List ℕ). take k bytes ++ (a ++ b)) (gave ∙ ap (run s.needle) rest) none
+          ∙ ap (λ l. take k bytes ++ l) (append-nil (run s.needle (drop k bytes))) ∙ given,
+    )
+
+-- the bytes of units are those that they were cut from
+units_taken : (n k : ℕ) (bytes : List ℕ) → k ≡ n * 96 → joined (units_of 96 n bytes) ≡ take k bytes
+units_taken zero k bytes at = let none : 0 ≡ k = omega arith in ap (λ m. take m bytes) none
+units_taken (suc n) k bytes at =
+    let more : 96 + n * 96 ≡ k = omega arith in
+    flat_map-cons (λ (u : List ℕ). u) (take 96 bytes) (units_of 96 n (drop 96 bytes))
+    ∙ ap (λ t. take 96 bytes ++ t) (units_taken n (n * 96) (drop 96 bytes) refl)
+    ∙ sym (take-add 96 (n * 96) bytes) ∙ ap (λ m. take m bytes) more
+
+-- The blocks that a row begins with were copied to a buffer from a place on, and the stage went over them there: what
+-- follows them is left, the stage ran, and what it gave stands behind what the buffer held.
+pub row_passes : (s s' : Scratches) (row row' copied buffer new : List ℕ) (start n size end : ℕ)
+    → size ≡ 96 * n → size ≤ length row → copied ≡ take size row → row' ≡ drop size row
+    → s' ≡ run_state block_next s (units_of 96 n copied)
+    → take end new ≡ take start buffer ++ concat (run_gives block_next block_gives s (units_of 96 n copied))
+    → (units : List (List ℕ)) × (length units ≡ n)
+    × PassesUnits (stepping (λ (all : List ℕ). all) 96 block_next block_gives)
+    (moving (from_to (Some row) (Some row')) (from_to s s')
+    (from_to (Some (take start buffer)) (Some (take end new)))) units
+row_passes s s' row row' copied buffer new start n size end count fits copy left after put =
+    let units = units_of 96 n copied in
+    let long : length copied ≡ size = ap length copy ∙ length-take-le size row fits in
+    let taken : joined units ≡ take size row =
+    units_taken n size copied (omega (arith, count)) ∙ take_all size copied (omega (arith, long)) ∙ copy in (
+      units,
+      units_counted n copied,
+      record {
+        sizes =
+            All-from_recursion (λ (u : List ℕ). length u ≡ 96) units
+            (units_sized n copied (omega (arith, long, count)));
+        taken_from =
+            sym (take-append-drop size row)
+            ∙ ap₂ (λ (a b : List ℕ). a ++ b) (sym taken) (sym left);
+        state = after;
+        put = put;
+      },
+    )
+
+-- what a part of a buffer became stands behind what was before it
+pub put_behind : (buffer struck : List ℕ) (start size end : ℕ) → start ≤ length buffer → end ≡ start + size
+    → length struck ≡ size
+    → take end (put_mid start (end - start) buffer struck) ≡ take start buffer ++ struck
+put_behind buffer struck start size end within at long =
+    take-put_mid start (end - start) buffer struck end (omega (arith, at, long)) within
+
+-- and what was behind it stays
+pub stays_behind : (buffer struck : List ℕ) (start size end : ℕ) → start ≤ length buffer → end ≡ start + size
+    → length struck ≡ size
+    → drop end (put_mid start (end - start) buffer struck) ≡ drop end buffer
+stays_behind buffer struck start size end within at long =
+    drop-put_mid start (end - start) buffer struck end (omega (arith, at)) within (omega (arith, at, long))

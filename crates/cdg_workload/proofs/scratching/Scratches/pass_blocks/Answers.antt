@@ -1,0 +1,28 @@
+use Rattle.std.proofs.Common.{◌≡◌, ◌≤◌, ◌+◌, ◌-◌, ◌*◌, ◌++◌, take, drop, length, refl, rules, arith, ◌∙◌, ap}
+use Rattle.std.proofs.lemmas.List.{take_rest}
+use Rattle.cdg_workload.proofs.Rows.{row_passes, put_behind, stays_behind}
+use Rattle.cdg_workload.proofs.scratching.Scratches.pass_blocks.Goals as goal
+
+pub returns-clause-passes : goal.returns-clause-passes
+returns-clause-passes c =
+    let row = c.args.row.now.now in
+    let buffer = c.args.buffer.now in
+    let start = c.args.start in
+    let n = c.min-count.result in
+    let size = 96 * n in
+    let copied = c.copy_from_slice.new.self in
+    let struck = c.scratch_row.new.blocks in
+    let fits : size ≤ length row = omega arith in
+    let copy : copied ≡ take size row = search rules in
+    let long : length struck ≡ size = search rules in
+    let behind = put_behind buffer struck start size (start + size) c.requires.start refl long in
+    row_passes c.args.self.now c.scratch_row.new.self row (take (length row - size) (drop size row)) copied
+    buffer _ start n size (start + size) refl fits copy (take_rest row size) c.scratch_row.ensures.next
+    (behind ∙ ap (λ l. take start buffer ++ l) c.scratch_row.ensures.gives)
+
+pub returns-clause-behind : goal.returns-clause-behind
+returns-clause-behind c =
+    let size = 96 * c.min-count.result in
+    let long : length c.scratch_row.new.blocks ≡ size = search rules in
+    stays_behind c.args.buffer.now c.scratch_row.new.blocks c.args.start size (c.args.start + size)
+    c.requires.start refl long
