@@ -1,8 +1,8 @@
 -- The checkpoint of a whole stream.
-use Rattle.std.proofs.Common.{◌≡◌, ℕ, ◌-◌, ◌*◌, ◌/◌, ◌≤◌, List, length, take, drop, refl, sym, ap, ◌∙◌, subst, arith, length-drop, Ok, Err}
+use Rattle.std.proofs.Common.{◌≡◌, ◌≢◌, ℕ, ◌-◌, ◌*◌, ◌/◌, ◌≤◌, List, length, take, drop, refl, sym, ap, ◌∙◌, subst, arith, length-drop, Result, Ok, Err}
 use Rattle.std.specs.Prelude.{Option, min}
 use Rattle.std.specs.List.{flat_map}
-use Rattle.std.specs.Io.KnownBytes.{Appends}
+use Rattle.std.specs.Io.KnownBytes.{Appends, Consumes}
 use Rattle.std.proofs.lemmas.List.{take_all}
 use Rattle.cdg_io.specs.Moves.{AppendsPrefix}
 use Rattle.cdg_io.specs.Run.{run_state}
@@ -10,7 +10,8 @@ use Rattle.cdg_io.specs.Change.{from_to}
 use Rattle.cdg_io.proofs.Frames.{feeding, passing}
 use Rattle.cdg_io.specs.Pump.{units_of}
 use Rattle.cdg_io.specs.declared.pumping.Pumped.{Pumped}
-use Rattle.cdg_io.specs.declared.pumping.PumpStop.TheVariants.{WriteFault}
+use Rattle.cdg_io.specs.declared.pumping.PumpStop.{PumpStop}
+use Rattle.cdg_io.specs.declared.pumping.PumpStop.TheVariants.{ReadFault, WriteFault, Torn, TooLong}
 use Rattle.cdg_io.specs.declared.stage.Then.{Then}
 use Rattle.cdg_io.proofs.Streaming.{IsWhole}
 use Rattle.rw_interleave.specs.Interleave.{whole_packs}
@@ -28,7 +29,7 @@ use Rattle.stream_stages.proofs.Conversion.{units_sized, length-units_of}
 use Rattle.stream_stages.proofs.Playing.{units_in}
 use Rattle.stream_stages.proofs.Views.{IsReady, paintings_next, viewed_bytes, whole_taken}
 use Rattle.cdg_checkpoint.specs.Tracked.{TracksBlocks, words_drawn}
-use Rattle.cdg_checkpoint.specs.Saved.{IsSaved, Saves, last_symbols}
+use Rattle.cdg_checkpoint.specs.Saved.{IsSaved, KeepsFile, Saves, last_symbols}
 use Rattle.cdg_checkpoint.specs.Keeping.{IsKept}
 use Rattle.cdg_checkpoint.proofs.Tails.{kept_after}
 use Rattle.cdg_io.proofs.Runs.{then_next_first}
@@ -109,11 +110,14 @@ module _ (lead_in n : ℕ) (bytes file : List ℕ) (s s' : Then BlockWords Paint
 
 -- ---- the answers
 
+abbrev failed : PumpStop → Result Pumped PumpStop
+failed stop = Err stop
+
 module _ (lead_in : ℕ) (left left' held held' : Option (List ℕ)) (s s' : Then BlockWords Painting)
     (taken file : List ℕ) (pumped : Pumped) (ready : IsReady Raw lead_in 1000000 s)
     (w : TracksBlocks most_units words_drawn (feeding (from_to left left') (from_to s s')) (Ok pumped) taken)
     (kept : IsKept pumped.units lead_in s' file) where
-  saved : IsSaved lead_in taken pumped file
+  pub saved : IsSaved lead_in taken pumped file
   saved = is_saved lead_in pumped.units taken file s s' ready w.done.2 w.done.1 w.done.3 kept
 
   pub saves_done : (text : List ℕ) → text ≡ file → Appends held held' text
@@ -137,3 +141,24 @@ module _ (lead_in : ℕ) (left left' held held' : Option (List ℕ)) (s s' : The
     ended = λ stop e not. w.done.0;
     cut = λ h. (w.done.0, (file, (pumped, saved), subst (λ (t : List ℕ). AppendsPrefix held held' t) e put));
   }
+
+  pub keeps_done : (before text : List ℕ) → text ≡ file → Appends held held' text
+      → Consumes left left' taken
+      × KeepsFile lead_in taken (from_to held held') (from_to before file) (Ok pumped)
+  keeps_done before text e put =
+      (w.taken_from, (saved, subst (λ (t : List ℕ). Appends held held' t) e put))
+
+  pub keeps_cut : (before text : List ℕ) → text ≡ file → AppendsPrefix held held' text
+      → Consumes left left' taken
+      × KeepsFile lead_in taken (from_to held held') (from_to before file) (Err WriteFault)
+  keeps_cut before text e put =
+      (w.taken_from, (pumped, saved, subst (λ (t : List ℕ). AppendsPrefix held held' t) e put))
+
+-- any other stop leaves the file as it was
+pub keeps_stop : (lead_in : ℕ) (taken : List ℕ) (held held' : Option (List ℕ)) (before after : List ℕ)
+    (stop : PumpStop) → failed stop ≢ Err WriteFault → after ≡ before
+    → KeepsFile lead_in taken (from_to held held') (from_to before after) (Err stop)
+keeps_stop lead_in taken held held' before after WriteFault no_write same = absurd (no_write refl)
+keeps_stop lead_in taken held held' before after ReadFault no_write same = same
+keeps_stop lead_in taken held held' before after TooLong no_write same = same
+keeps_stop lead_in taken held held' before after (Torn unit) no_write same = same

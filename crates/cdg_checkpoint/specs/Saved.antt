@@ -2,7 +2,9 @@
 use Rattle.std.specs.Prelude.{◌≡◌, ℕ, ◌-◌, ◌/◌, ⊤, List, ◌++◌, length, drop, replicate, min, Option, Result, Ok, Err}
 use Rattle.cdg_io.specs.Streams.{WholeReading, WritesAtEnd}
 use Rattle.cdg_io.specs.Causes.{Count, RoseOnce}
-use Rattle.cdg_io.specs.Change.{Passed}
+use Rattle.std.specs.Io.KnownBytes.{Appends}
+use Rattle.cdg_io.specs.Change.{Bytes, Change, Passed}
+use Rattle.cdg_io.specs.Moves.{AppendsPrefix}
 use Rattle.cdg_io.specs.declared.pumping.Pumped.{Pumped}
 use Rattle.cdg_io.specs.declared.pumping.PumpStop.{PumpStop}
 use Rattle.cdg_io.specs.declared.pumping.PumpStop.TheVariants.{ReadFault, WriteFault, Torn, TooLong}
@@ -58,6 +60,15 @@ saving lead_in = record {
 -- A call took these bytes: it writes the file of their checkpoint at the end.
 abbrev pub Saves : ℕ → Passed → Result Pumped PumpStop → List ℕ → Type 0
 Saves lead_in passed result taken = WritesAtEnd (saving lead_in) passed result taken
+
+-- The file that is kept after these bytes were taken: where all was read it is that of the checkpoint after them, and
+-- it was put, or a prefix of it where a write failed; and else it is the one that was kept before.
+abbrev pub KeepsFile : ℕ → List ℕ → Change Bytes → Change (List ℕ) → Result Pumped PumpStop → Type 0
+KeepsFile lead_in taken held file (Ok pumped) = IsSaved lead_in taken pumped file.after
+    × Appends held.before held.after file.after
+KeepsFile lead_in taken held file (Err WriteFault) = (pumped : Pumped)
+    × IsSaved lead_in taken pumped file.after × AppendsPrefix held.before held.after file.after
+KeepsFile lead_in taken held file (Err stop) = file.after ≡ file.before
 
 -- The count of told ends rose where the input was read to its end, and nowhere else.
 abbrev pub EndsAsSaved : Result Pumped PumpStop → Count → Count → Type 0

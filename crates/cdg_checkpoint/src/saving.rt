@@ -2,14 +2,15 @@
 ghost use Rattle.std.specs.Prelude.{◌≡◌, ◌≢◌, ◌≤◌, ◌-◌, List, ℕ, length, min, replicate, IfSome, IfErr, IsErrOf, Err};
 ghost use Rattle.disc_time.specs.Counts.{most_lead_in};
 ghost use Rattle.cdg_io.specs.Causes.{TellsFault};
-ghost use Rattle.cdg_io.specs.Change.{passed};
+ghost use Rattle.std.specs.Io.KnownBytes.{Consumes};
+ghost use Rattle.cdg_io.specs.Change.{change, from_to, passed};
 ghost use Rattle.cdg_io.specs.Pump.{IsUnlessFault, answer_of};
 ghost use Rattle.raw_subcode.specs.Sizes.{block_bytes, most_units};
 ghost use Rattle.rw_interleave.specs.Interleave.{whole_packs};
 ghost use Rattle.cdg_screen.specs.Standing.{blank};
 ghost use Rattle.stream_stages.specs.Steps.{fresh_words};
 ghost use Rattle.stream_stages.specs.Stages.{painting_of, words_of};
-ghost use Rattle.cdg_checkpoint.specs.Saved.{EndsAsSaved, Saves};
+ghost use Rattle.cdg_checkpoint.specs.Saved.{EndsAsSaved, KeepsFile, Saves};
 ghost use Rattle.cdg_checkpoint.specs.Keeping.{IsKept};
 
 use crate::Checkpointer;
@@ -35,6 +36,10 @@ impl Checkpointer {
         requires { lead_in ≤ most_lead_in }
         ensures saves { (taken : List ℕ) × Saves lead_in
             (passed S.left K.held (source.old, out.old) (source.new, out.new)) result taken }
+        // The file that was put is kept, and none is changed before the input was read to its end.
+        ensures file { (taken : List ℕ) × Consumes (S.left source.old) (S.left source.new) taken
+            × KeepsFile lead_in taken (change K.held out.old out.new) (from_to self.old.file self.new.file)
+            result }
         // Where nothing failed, the answer is that of the whole input's length.
         ensures answer { IfSome (S.left source.old)
             (λ all. IsUnlessFault result (answer_of block_bytes most_units (length all))) }
@@ -65,6 +70,7 @@ impl Checkpointer {
         ensures left { (painting_of self.new.words).left ≡ whole_packs most_units }
         ensures bad { (painting_of self.new.words).bad ≡ 0 }
         ensures blank { (painting_of self.new.words).screen ≡ blank }
+        ensures file { self.new.file ≡ self.old.file }
     {
         self.words.first.begin(lead_in, Form::Raw);
         let painting = &mut self.words.second;

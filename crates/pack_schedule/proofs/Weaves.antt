@@ -1,11 +1,11 @@
 -- What a weaver keeps, from the change of one picture to that of the next, and the packs that it gives.
-use Rattle.std.proofs.Common.{◌≡◌, ℕ, suc, ◌+◌, ◌-◌, ◌*◌, ◌<◌, ◌≤◌, List, length, get_or, All, ap, sym, subst, ◌∙◌, inl, inr, arith}
-use Rattle.std.specs.Prelude.{Option}
+use Rattle.std.proofs.Common.{◌≡◌, ◌≢◌, ℕ, suc, ◌+◌, ◌-◌, ◌*◌, ◌<◌, ◌≤◌, List, [], length, get_or, All, ap, refl, sym, subst, ◌∙◌, inl, inr, arith}
+use Rattle.std.specs.Prelude.{Option, replicate, slice_index}
 use Rattle.std.proofs.lemmas.Bool.{cases_lt}
 use Rattle.std.proofs.lemmas.List.Elements.{All-get_or}
-use Rattle.cdg_instructions.specs.Instruction.{InRange, IsKnown, IsWritten}
+use Rattle.cdg_instructions.specs.Instruction.{InRange, IsKnown, IsWritten, message_of, written_symbols}
 use Rattle.cdg_instructions.specs.declared.instr.Instr.{Instr}
-use Rattle.cdg_instructions.specs.declared.instr.Instr.TheVariants.{Idle}
+use Rattle.cdg_instructions.specs.declared.instr.Instr.TheVariants.{Idle, Foreign, Unknown, MemoryPreset, BorderPreset, SetTile, XorTile, ScrollPreset, ScrollCopy, Transparency, ColoursLow, ColoursHigh}
 use Rattle.picture_script.specs.Script.{Drawing, pictures, ready_time, hold_time}
 use Rattle.picture_changes.specs.Change.{IsStart}
 use Rattle.rw_code.specs.Packs.{idle_pack}
@@ -168,6 +168,41 @@ pub fine_at : (script : List Drawing) (change : List Instr) (k i : ℕ) → All 
     → change ≡ planned_change script k → i < length change
     → IsFine (get_or change i Idle)
 fine_at script change k i fine is lt = All-get_or IsFine change i Idle lt (subst (All IsFine) (sym is) fine)
+
+pub busy_at : (script : List Drawing) (change : List Instr) (k i : ℕ)
+    → All (λ instr. instr ≢ Idle) (planned_change script k)
+    → change ≡ planned_change script k → i < length change
+    → get_or change i Idle ≢ Idle
+busy_at script change k i busy is lt =
+    All-get_or (λ instr. instr ≢ Idle) change i Idle lt (subst (All (λ instr. instr ≢ Idle)) (sym is) busy)
+
+-- what is written for an instruction that is not idle is no idle pack: its first symbol is not 0
+first_symbol : (instr : Instr) → instr ≢ Idle → slice_index (written_symbols instr) 0 ≡ 0
+    → written_symbols instr ≡ []
+first_symbol Idle busy zero = absurd (busy refl)
+first_symbol Foreign busy zero = refl
+first_symbol Unknown busy zero = refl
+first_symbol (MemoryPreset colour repeat) busy zero = absurd (omega (arith, zero))
+first_symbol (BorderPreset colour) busy zero = absurd (omega (arith, zero))
+first_symbol (SetTile colour0 colour1 row column lines) busy zero = absurd (omega (arith, zero))
+first_symbol (XorTile colour0 colour1 row column lines) busy zero = absurd (omega (arith, zero))
+first_symbol (ScrollPreset colour across h down v) busy zero = absurd (omega (arith, zero))
+first_symbol (ScrollCopy colour across h down v) busy zero = absurd (omega (arith, zero))
+first_symbol (Transparency levels) busy zero = absurd (omega (arith, zero))
+first_symbol (ColoursLow colours) busy zero = absurd (omega (arith, zero))
+first_symbol (ColoursHigh colours) busy zero = absurd (omega (arith, zero))
+
+idle_message : message_of idle_pack ≡ replicate 18 0
+idle_message = refl
+
+pub not_idle : (instr : Instr) (pack : List ℕ) → instr ≢ Idle → IsWritten instr pack → pack ≢ idle_pack
+not_idle instr pack busy written idle =
+    let symbols : written_symbols instr ≡ replicate 18 0 =
+    sym written.message ∙ (ap message_of idle ∙ idle_message) in
+    let none : written_symbols instr ≡ [] =
+    first_symbol instr busy (ap (λ s. slice_index s 0) symbols) in
+    let short : 18 ≡ 0 = ap length (sym symbols ∙ none) in
+    absurd (omega (arith, short))
 
 -- the place of a pack in the change at hand
 pub place_at_hand : (script : List Drawing) (at_hand : ChangeAtHand) (given : ℕ)

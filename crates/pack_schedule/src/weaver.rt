@@ -30,7 +30,7 @@ impl<'a> Model for Weaver<'a> {
 }
 
 impl<'a> Weaver<'a> {
-    ghost use Rattle.std.specs.Prelude.{◌≡◌, ◌+◌, IfOk, min, unwrap_or};
+    ghost use Rattle.std.specs.Prelude.{◌≡◌, ◌↔◌, ◌+◌, IfOk, IsNone, min, unwrap_or};
     ghost use Rattle.rw_code.specs.Packs.{idle_pack};
     ghost use Rattle.pack_schedule.specs.Survey.{IsSurvey};
     ghost use Rattle.pack_schedule.specs.Woven.{IsPackAt};
@@ -69,6 +69,7 @@ impl<'a> Weaver<'a> {
     #[inline]
     pub fn next_unless_idle(&mut self) -> Option<Pack>
         ensures pack { IsPackAt self.old.script self.old.given (unwrap_or result idle_pack) }
+        ensures none { IsNone result ↔ (unwrap_or result idle_pack ≡ idle_pack) }
         ensures script { self.new.script ≡ self.old.script }
         ensures given { self.new.given ≡ min (self.old.given + 1) 4294967295 }
     {

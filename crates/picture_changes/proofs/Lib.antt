@@ -2,6 +2,7 @@ pub mod Least
 pub mod Places
 pub mod PlannedLaws
 pub mod Short
+pub mod Parts
 pub mod Known
 pub mod Times
 pub mod Tiles

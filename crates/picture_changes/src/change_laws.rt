@@ -1,8 +1,9 @@
 // Laws on the change that is written for a picture: that it is one, its length, and that packs can hold it.
-ghost use Rattle.std.specs.Prelude.{◌≡◌, ◌<◌, ◌≤◌, All, List, Option, ℕ, length};
+ghost use Rattle.std.specs.Prelude.{◌≡◌, ◌≢◌, ◌<◌, ◌≤◌, All, List, Option, ℕ, length};
 ghost use Rattle.cdg_instructions.specs.Instruction.{InRange, IsKnown};
 ghost use Rattle.cdg_instructions.specs.Sizes.{colour_count};
 ghost use Rattle.cdg_instructions.specs.declared.instr.Instr.{Instr};
+ghost use Rattle.cdg_instructions.specs.declared.instr.Instr.TheVariants.{Idle};
 ghost use Rattle.picture_script.specs.Script.{Drawing, picture_pixel};
 ghost use Rattle.picture_changes.specs.Change.{most_change, IsChangeFrom, IsOrderedChange, IsStart};
 ghost use Rattle.picture_changes.specs.PlannedChange.{chosen_start, planned_change, planned_from, planned_length};
@@ -37,6 +38,10 @@ pub fn planned_changes_are_changes()
     ensures planned { (script : List Drawing) (k : ℕ)
         → ((k x y : ℕ) → picture_pixel script k x y < colour_count)
         → IsChangeFrom script k (chosen_start script k) (planned_change script k) }
+    // None of its instructions is idle.
+    ensures busy { (script : List Drawing) (k : ℕ)
+        → ((k x y : ℕ) → picture_pixel script k x y < colour_count)
+        → All (λ instr. instr ≢ Idle) (planned_change script k) }
 {
     plans_are_shortest();
 }

@@ -7,7 +7,7 @@ use Rattle.bit_lists.specs.Counting.{below}
 use Rattle.std.proofs.lemmas.List.{take_more, get_or-map, length-map, length-take}
 use Rattle.std.proofs.lemmas.List.Elements.{All-get_or}
 use Rattle.std.proofs.lemmas.List.Sums.{fold-append}
-use Rattle.picture_script.specs.Script.{Drawing, Fill, Picture, blank_picture, drawn, drawn_by, lines_before, picture_pixel, picture_border, picture_colour, picture_tile}
+use Rattle.picture_script.specs.Script.{Drawing, Border, Fill, Picture, blank_picture, drawn, drawn_by, lines_before, picture_pixel, picture_border, picture_colour, picture_tile}
 use Rattle.picture_script.specs.Lines.{said, all_said, is_kept}
 use Rattle.picture_script.specs.declared.line.ScriptLine.{ScriptLine}
 use Rattle.picture_script.specs.declared.line.ScriptLine.TheVariants.{Filled}
@@ -64,6 +64,15 @@ next_said pixels lines script i line view i_lt read =
     ∙ get_or-map (said pixels) lines i line (said pixels line) i_lt
     ∙ ap (said pixels) (sym read)) in
     sym (ap drawn_by more ∙ fold-append drawn blank_picture (take i script) (said pixels line ∷ []))
+
+-- the line at a place
+pub said_at : (pixels : List ℕ) (lines : List ScriptLine) (script : List Drawing) (i : ℕ) (line : ScriptLine)
+    → all_said pixels lines ≡ script → i < length lines → line ≡ get_or lines i line
+    → said pixels line ≡ get_or script i (Border 0)
+unfolding all_said
+said_at pixels lines script i line view i_lt read =
+    ap (said pixels) read ∙ sym (get_or-map (said pixels) lines i line (Border 0) i_lt)
+    ∙ ap (λ xs. get_or xs i (Border 0)) view
 
 pub next_line : (pixels : List ℕ) (lines : List ScriptLine) (script : List Drawing) (i : ℕ)
     (line : ScriptLine) (board : Board) → all_said pixels lines ≡ script → i < length lines

@@ -1,16 +1,31 @@
 -- Rows of tiles that lines draw on.
 use Rattle.std.proofs.Common.{◌≡◌, ℕ, ◌+◌, ◌-◌, ◌<◌, ◌≤◌, ◌⊎◌, Bool, true, false, List, length, take, get_or, ap, sym, subst, ◌∙◌, inl, inr, arith}
-use Rattle.std.specs.Prelude.{slice_set}
+use Rattle.std.specs.Prelude.{replicate, slice_set}
 use Rattle.std.proofs.lemmas.Bool.{cases_lt}
-use Rattle.std.proofs.lemmas.List.{get_or-set_other, get_or-set_same}
-use Rattle.picture_script.specs.Script.{Drawing, drawn_by, lines_before, picture_pixel}
-use Rattle.picture_script.specs.DrawnRows.{LeavesRows, KeepsRows}
+use Rattle.std.proofs.lemmas.List.{get_or-replicate, length-replicate, get_or-set_other, get_or-set_same, get_or_past}
+use Rattle.picture_script.specs.Script.{Drawing, Border, drawn_by, lines_before, picture_pixel}
+use Rattle.picture_script.specs.DrawnRows.{DrawsOn, KeepsRows, LeavesRows, MarksRows, TellsRows}
 use Rattle.picture_script.proofs.Scripts.{before_prefix}
 
 -- marks so far: a row that is not marked was not marked before, and is not between these
 abbrev pub Unmarked : List Bool → List Bool → ℕ → ℕ → Type 0
 Unmarked old new from to =
     (r : ℕ) → get_or new r true ≡ false → (get_or old r true ≡ false) × ((r < from) ⊎ (to ≤ r))
+
+-- a row that is marked was marked before, or is between these
+abbrev pub Marked : List Bool → List Bool → ℕ → ℕ → Type 0
+Marked old new from to =
+    (r : ℕ) → get_or new r false ≡ true → (get_or old r false ≡ true) ⊎ ((from ≤ r) × (r < to))
+
+pub marked_to : (old new : List Bool) (from i to : ℕ) → (i ≡ from) ⊎ (i ≤ to) → Marked old new from i
+    → Marked old new from to
+marked_to old new from i to within marked r told = elim (marked r told) [
+  | inl before ↦ inl before
+  | inr between ↦ elim within [
+    | inl none ↦ absurd (omega (arith, none, between.0, between.1))
+    | inr le ↦ inr (between.0, omega (arith, le, between.1))
+  ]
+]
 
 differ : (b : Bool) → b ≡ true → b ≡ false → ⊥
 differ true is is_not = absurd (cc)
@@ -54,3 +69,29 @@ between_pictures script k from to rows pos from_is to_is leaves r none =
           ∙ leaves r x y none at
           ∙ ap (λ lines. (drawn_by lines).pixel x y) last,
     )
+
+pub told_between : (script : List Drawing) (k from to : ℕ) (rows : List Bool)
+    → from ≡ length (lines_before script (k - 1)) → to ≡ length (lines_before script k)
+    → MarksRows script from to rows
+    → TellsRows script k rows
+told_between script k from to rows from_is to_is marks pos lt r told =
+    let (i, le, below, draws) = marks r told in
+    (i, omega (arith, from_is, le), omega (arith, to_is, below), draws)
+
+pub not_marked : (n r : ℕ) → get_or (replicate n false) r false ≡ true → ⊥
+not_marked n r told = elim (cases_lt r n) [
+  | inl lt ↦ differ (get_or (replicate n false) r false) told (get_or-replicate n r false false lt)
+  | inr past ↦
+      differ (get_or (replicate n false) r false) told
+      (get_or_past (replicate n false) r false (omega (arith, length-replicate n false, past)))
+]
+
+-- one line more, which may mark a row
+pub one_line_more : (script : List Drawing) (from i r : ℕ) (rows : List Bool) (line : Drawing) → from ≤ i
+    → line ≡ get_or script i (Border 0) → MarksRows script from i rows
+    → (get_or rows r false ≡ true) ⊎ DrawsOn line r
+    → (j : ℕ) × (from ≤ j) × (j < i + 1) × DrawsOn (get_or script j (Border 0)) r
+one_line_more script from i r rows line le is marks (inl before) =
+    let (j, from_le, below, draws) = marks r before in (j, from_le, omega (arith, below), draws)
+one_line_more script from i r rows line le is marks (inr draws) =
+    (i, le, omega arith, subst (λ (d : Drawing). DrawsOn d r) is draws)

@@ -1,6 +1,6 @@
 -- Which rows of tiles lines draw on: twelve pixels down each, the first row at the top.
-use Rattle.std.specs.Prelude.{◌≡◌, ℕ, ◌-◌, ◌/◌, ◌<◌, Bool, true, false, List, take, slice_index_or}
-use Rattle.picture_script.specs.Script.{Drawing, drawn_by, picture_pixel}
+use Rattle.std.specs.Prelude.{◌≡◌, ℕ, ◌+◌, ◌-◌, ◌*◌, ◌/◌, ◌<◌, ◌≤◌, ⊤, Bool, true, false, List, length, take, slice_index_or}
+use Rattle.picture_script.specs.Script.{Drawing, drawn_by, lines_before, picture_pixel, pictures, Border, Fill, Rect, Row}
 use Rattle.cdg_instructions.specs.Sizes.{tile_height}
 
 -- lines from a place on up to another draw on no row that is not marked
@@ -12,3 +12,21 @@ LeavesRows script from to rows = (r x y : ℕ) → slice_index_or rows r true �
 abbrev pub KeepsRows : List Drawing → ℕ → List Bool → Type 0
 KeepsRows script k rows = (r : ℕ) → slice_index_or rows r true ≡ false → (0 < k)
     × ((x y : ℕ) → y / tile_height ≡ r → picture_pixel script (k - 1) x y ≡ picture_pixel script k x y)
+
+-- a line draws on a row of tiles: a rectangle on each that lies between its edges
+abbrev pub DrawsOn : Drawing → ℕ → Type 0
+DrawsOn (Fill colour) r = ⊤
+DrawsOn (Rect left top width height colour) r = (top < tile_height * (r + 1))
+    × (tile_height * r < top + height)
+DrawsOn (Row left top colours) r = top / tile_height ≡ r
+DrawsOn _ r = ⊥
+
+-- on each row that is marked a line draws, from a place on up to another
+abbrev pub MarksRows : List Drawing → ℕ → ℕ → List Bool → Type 0
+MarksRows script from to rows = (r : ℕ) → slice_index_or rows r false ≡ true
+    → (i : ℕ) × (from ≤ i) × (i < to) × DrawsOn (slice_index_or script i (Border 0)) r
+
+-- on each row that is marked a line draws between the show lines of picture k and of the picture before, if both are
+abbrev pub TellsRows : List Drawing → ℕ → List Bool → Type 0
+TellsRows script k rows = 0 < k → k < pictures script
+    → MarksRows script (length (lines_before script (k - 1))) (length (lines_before script k)) rows

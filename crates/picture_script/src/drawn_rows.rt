@@ -1,7 +1,7 @@
 // Which rows of tiles the lines between two pictures draw on.
 ghost use Rattle.std.specs.Prelude.{◌≡◌, ◌<◌, ◌≤◌, ◌+◌, ◌/◌, ◌⊎◌, ℕ, List, false, true, length, slice_index_or};
 ghost use Rattle.picture_script.specs.Script.{Picture, drawn};
-ghost use Rattle.picture_script.specs.DrawnRows.{KeepsRows, LeavesRows};
+ghost use Rattle.picture_script.specs.DrawnRows.{DrawsOn, KeepsRows, LeavesRows, MarksRows, TellsRows};
 ghost use Rattle.picture_script.specs.Lines.{is_kept, said};
 ghost use Rattle.cdg_instructions.specs.Sizes.{tile_height, window_rows};
 
@@ -13,7 +13,9 @@ impl Script {
     /// Whether each row of tiles, from the top, may differ between picture `k` and the picture before it: one that may not
     /// is drawn on by no line between their shows. Each one may where there is no such picture or none before it.
     pub fn drawn_rows(&self, k: u32) -> [bool; WINDOW_ROWS]
-        ensures { KeepsRows self.now k result }
+        ensures keeps { KeepsRows self.now k result }
+        // No other row is told where there are two such pictures.
+        ensures tells { TellsRows self.now k result }
     {
         if k == 0 || k >= self.pictures() {
             return [true; WINDOW_ROWS];
@@ -25,7 +27,8 @@ impl Script {
     fn rows_between(&self, from: usize, to: usize) -> [bool; WINDOW_ROWS]
         requires order { from ≤ to }
         requires lines { to ≤ length self.now }
-        ensures { LeavesRows self.now from to result }
+        ensures leaves { LeavesRows self.now from to result }
+        ensures marks { MarksRows self.now from to result }
     {
         let mut rows = [false; WINDOW_ROWS];
         for i in from..to {
@@ -38,9 +41,11 @@ impl Script {
 // Marks the rows that a line draws on.
 fn mark_line(rows: &mut [bool; WINDOW_ROWS], line: ScriptLine)
     requires kept { (size : ℕ) × (is_kept size line ≡ true) }
-    ensures { (pixels : List ℕ) (before : Picture) (r x y : ℕ) → slice_index_or rows.new r true ≡ false
+    ensures leaves { (pixels : List ℕ) (before : Picture) (r x y : ℕ) → slice_index_or rows.new r true ≡ false
         → y / tile_height ≡ r → (slice_index_or rows.old r true ≡ false)
         × (before.pixel x y ≡ (drawn before (said pixels line)).pixel x y) }
+    ensures marks { (pixels : List ℕ) (r : ℕ) → slice_index_or rows.new r false ≡ true
+        → (slice_index_or rows.old r false ≡ true) ⊎ DrawsOn (said pixels line) r }
 {
     match line {
         ScriptLine::Filled { .. } => mark_rows(rows, 0, WINDOW_ROWS),
@@ -66,8 +71,10 @@ fn mark_line(rows: &mut [bool; WINDOW_ROWS], line: ScriptLine)
 // Marks the rows from one on up to another.
 fn mark_rows(rows: &mut [bool; WINDOW_ROWS], from: usize, to: usize)
     requires { to ≤ window_rows }
-    ensures { (r : ℕ) → slice_index_or rows.new r true ≡ false
+    ensures leaves { (r : ℕ) → slice_index_or rows.new r true ≡ false
         → (slice_index_or rows.old r true ≡ false) × ((r < from) ⊎ (to ≤ r)) }
+    ensures marks { (r : ℕ) → slice_index_or rows.new r false ≡ true
+        → (slice_index_or rows.old r false ≡ true) ⊎ ((from ≤ r) × (r < to)) }
 {
     for r in from..to {
         rows[r] = true;

@@ -6,7 +6,7 @@ use Rattle.std.specs.Str.Lines.{lines, lines_of_parts, strip_carriage_return}
 use Rattle.std.proofs.lemmas.List.Splits.{slice_split_first, slice_split_none, length-slice_split}
 use Rattle.std.proofs.lemmas.List.Sums.{fails_before_first}
 use Rattle.std.proofs.lemmas.Grind.{common_steps}
-use Rattle.text_lines.specs.Text.{lines_in}
+use Rattle.text_lines.specs.Text.{lines_in, after_line}
 
 abbrev is_feed : ℕ → Bool
 is_feed b = b == 10
@@ -47,3 +47,14 @@ pub no_line : (text : List ℕ) → length text ≡ 0 → lines_in text ≡ []
 unfolding lines_in
 no_line [] none = refl
 no_line (x ∷ xs) none = absurd (omega arith)
+
+-- what follows the first line: what stands after its line feed, or nothing
+pub rest_is : (text : List ℕ) (end : ℕ) → end ≡ position_or_len is_feed text
+    → take (length text - (end + 1)) (drop (end + 1) text) ≡ after_line text
+unfolding after_line
+rest_is text end at = rest_of (end + 1) text ∙ ap (λ n. drop (n + 1) text) at
+
+pub no_rest : (text : List ℕ) (end : ℕ) → end ≡ position_or_len is_feed text → end ≡ length text
+    → [] ≡ after_line text
+unfolding after_line
+no_rest text end at all = grind (arith, common_steps)

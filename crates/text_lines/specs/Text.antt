@@ -1,6 +1,6 @@
 -- Texts in lines, lines in words, and words that are numbers or times.
 use Rattle.std.specs.Prelude.{ℕ, ◌+◌, ◌*◌, Bool, not, ◌&&◌, List, length, filter, take, drop, reverse, slice_index, [], ◌∷◌, Option, Some, None, ◌==◌, ◌||◌, nat_le, nat_eq, if◌then◌else◌}
-use Rattle.std.specs.List.{slice_split, before_first, list_all, starts_with}
+use Rattle.std.specs.List.{slice_split, before_first, after_first, list_all, starts_with}
 use Rattle.std.specs.Str.Lines.{lines}
 use Rattle.std.specs.Str.Parse.{digits_value}
 use Rattle.std.specs.Char.{is_ascii_digit}
@@ -19,6 +19,10 @@ without_mark text = if starts_with nat_eq text (0xef ∷ 0xbb ∷ 0xbf ∷ []) t
 -- feed is a line if it is not empty
 unfoldable pub lines_in : List ℕ → List (List ℕ)
 lines_in text = lines text
+
+-- what follows the first line feed of a text, or nothing where there is none
+unfoldable pub after_line : List ℕ → List ℕ
+after_line text = after_first (λ b. b == 10) text
 
 -- the lines of a text
 abbrev pub lines_of : List ℕ → List (List ℕ)

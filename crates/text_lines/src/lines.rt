@@ -1,8 +1,8 @@
 // The lines of a text.
-ghost use Rattle.std.specs.Prelude.{◌≡◌, ◌<◌, ◌≤◌, ◌+◌, ◌∷◌, [], length, MatchOption, ◌==◌};
+ghost use Rattle.std.specs.Prelude.{◌≡◌, ◌<◌, ◌≤◌, ◌+◌, ◌∷◌, [], length, MatchOption, IfSome, ◌==◌};
 ghost use Rattle.std.specs.List.{position_or_len};
 ghost use Rattle.std.specs.Str.Lines.{strip_carriage_return};
-ghost use Rattle.text_lines.specs.Text.{without_mark, lines_in};
+ghost use Rattle.text_lines.specs.Text.{without_mark, lines_in, after_line};
 
 /// The text without the three bytes EF BB BF with which a text in UTF-8 may begin.
 #[tactic(auto, unfolding(crate::specs::Text::without_mark))]
@@ -22,6 +22,7 @@ pub fn without_mark(text: &[u8]) -> &[u8]
 pub fn next_line(text: &[u8]) -> Option<(&[u8], &[u8])>
     ensures lines { MatchOption result (lines_in text.now ≡ [])
         (λ found. lines_in text.now ≡ found.0.now ∷ lines_in found.1.now) }
+    ensures rest { IfSome result (λ found. found.1.now ≡ after_line text.now) }
     ensures shorter { MatchOption result (text.now ≡ [])
         (λ found. length found.0.now + length found.1.now ≤ length text.now) }
     ensures ends { MatchOption result (text.now ≡ []) (λ found. length found.1.now < length text.now) }

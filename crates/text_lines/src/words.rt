@@ -44,6 +44,8 @@ pub fn split_command(line: &[u8]) -> (&[u8], &[u8])
 pub fn next_word(line: &[u8]) -> Option<(&[u8], &[u8])>
     ensures words { MatchOption result (words_in line.now ≡ [])
         (λ found. words_in line.now ≡ found.0.now ∷ words_in found.1.now) }
+    ensures rest { IfSome result
+        (λ found. found.1.now ≡ drop (length found.0.now) (without_blanks line.now)) }
     ensures shorter { MatchOption result (words_in line.now ≡ [])
         (λ found. (0 < length found.0.now) × (length found.0.now + length found.1.now ≤ length line.now)) }
 {
@@ -61,6 +63,7 @@ pub fn after_word<'a>(line: &'a [u8], word: &[u8]) -> Option<&'a [u8]>
     requires some { 0 < length word.now }
     requires whole { list_all (λ b. not (is_blank b)) word.now ≡ true }
     ensures words { IfSome result (λ rest. words_in line.now ≡ word.now ∷ words_in rest.now) }
+    ensures rest { IfSome result (λ rest. rest.now ≡ drop (length word.now) line.now) }
     ensures none { IsNone result → slice_index_or (words_in line.now) 0 [] ≢ word.now }
 {
     if !begins_with(line, word) {

@@ -24,7 +24,7 @@ pub(crate) struct ChangeAtHand {
 }
 
 impl ChangeAtHand {
-    ghost use Rattle.std.specs.Prelude.{◌≡◌, ◌<◌, ◌≤◌, ◌+◌, ◌-◌, length, unwrap_or, IfOk};
+    ghost use Rattle.std.specs.Prelude.{◌≡◌, ◌↔◌, ◌<◌, ◌≤◌, ◌+◌, ◌-◌, length, unwrap_or, IfOk, IsNone};
     ghost use Rattle.picture_script.specs.Board.{StandsBefore};
     ghost use Rattle.picture_script.specs.Script.{pictures};
     ghost use Rattle.rw_code.specs.Packs.{idle_pack};
@@ -127,7 +127,8 @@ impl ChangeAtHand {
         requires weaving { IsWeaving script.now self.now given }
         requires current { self.now.k < pictures script.now
             → given < start_of script.now self.now.k + length (planned_change script.now self.now.k) }
-        ensures { IsPackAt script.now given (unwrap_or result idle_pack) }
+        ensures pack { IsPackAt script.now given (unwrap_or result idle_pack) }
+        ensures none { IsNone result ↔ (unwrap_or result idle_pack ≡ idle_pack) }
     {
         // For the proof alone: each instruction can be written.
         planned_changes_are_changes();

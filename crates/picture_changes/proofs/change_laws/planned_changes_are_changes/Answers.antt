@@ -1,4 +1,5 @@
 use Rattle.picture_changes.proofs.PlannedLaws.{PlansAreShortest, chosen_is_start, chosen_change, planned_is_shortest}
+use Rattle.picture_changes.proofs.Known.{change_busy}
 use Rattle.picture_changes.proofs.Short.{change_few}
 use Rattle.picture_changes.proofs.change_laws.planned_changes_are_changes.Goals as goal
 
@@ -22,3 +23,9 @@ returns-clause-planned c script k small =
     let p = c.plans_are_shortest.ensures in
     let plans : PlansAreShortest = record { turns = p.turns; count = p.count; least = p.least } in
     chosen_change plans script k small
+
+pub returns-clause-busy : goal.returns-clause-busy
+returns-clause-busy c script k small =
+    let p = c.plans_are_shortest.ensures in
+    let plans : PlansAreShortest = record { turns = p.turns; count = p.count; least = p.least } in
+    change_busy script k _ _ (chosen_change plans script k small)

@@ -1,5 +1,5 @@
 use Rattle.std.proofs.Common.{arith}
-use Rattle.text_lines.proofs.LineSteps.{no_line, last_line, first_line}
+use Rattle.text_lines.proofs.LineSteps.{no_line, last_line, first_line, rest_is, no_rest}
 use Rattle.text_lines.proofs.lines.next_line.Goals as goal
 
 pub returns-then-is_empty-clause-lines : goal.returns-then-is_empty-clause-lines
@@ -13,3 +13,10 @@ pub returns-clause-lines : goal.returns-clause-lines
 returns-clause-lines c =
     first_line c.args.text.now c.line_end-end.result _ c.line_end-end.ensures.place (grind arith)
     c.without_return.ensures.line
+
+pub returns-then-end-text-clause-rest : goal.returns-then-end-text-clause-rest
+returns-then-end-text-clause-rest c =
+    no_rest c.args.text.now c.line_end-end.result c.line_end-end.ensures.place (grind arith)
+
+pub returns-clause-rest : goal.returns-clause-rest
+returns-clause-rest c = rest_is c.args.text.now c.line_end-end.result c.line_end-end.ensures.place

@@ -18,7 +18,7 @@ loop-r-preserved c =
     (elim c.if-not-drawn-r.branch [
       | then-not-drawn-r w ↦
           let kept =
-          c.drawn_rows-drawn.ensures r (get_or_default c.drawn_rows-drawn.result r true false
+          c.drawn_rows-drawn.ensures.keeps r (get_or_default c.drawn_rows-drawn.result r true false
           (omega (arith, inside, c.loop-r.invariant.0, c.drawn_rows-drawn.type_inv))
           ∙ w.if-not-drawn-r.true) in
           row_kept script k r before now (omega (arith, inside, c.loop-r.invariant.0))

@@ -1,11 +1,11 @@
-use Rattle.std.proofs.Common.{◌≡◌, ◌-◌, ◌<◌, ◌∙◌, ap₂, refl, sym, subst, arith, get_or}
+use Rattle.std.proofs.Common.{◌≡◌, ◌≢◌, ◌-◌, ◌<◌, ◌∙◌, ap₂, refl, sym, subst, arith, get_or}
 use Rattle.cdg_instructions.specs.declared.instr.Instr.TheVariants.{Idle}
 use Rattle.cdg_instructions.specs.Instruction.{IsWritten, InRange, IsKnown}
 use Rattle.picture_script.specs.Script.{pictures}
 use Rattle.rw_code.specs.Packs.{idle_pack}
 use Rattle.picture_changes.specs.Schedule.{start_of}
 use Rattle.picture_changes.specs.PlannedChange.{planned_change}
-use Rattle.pack_schedule.proofs.Weaves.{IsFine, change_pack, fine_at, no_pack, place_at_hand}
+use Rattle.pack_schedule.proofs.Weaves.{IsFine, busy_at, change_pack, fine_at, no_pack, not_idle, place_at_hand}
 use Rattle.pack_schedule.proofs.weaver.at_hand.ChangeAtHand.pack.Goals as goal
 use Rattle.pack_schedule.proofs.weaver.at_hand.ChangeAtHand.pack.Goals.{then-given-self-via-then-given-self, then-given-self-via-else-given-self+then-self-pictures}
 
@@ -43,8 +43,8 @@ write-requires-clause-known c =
     (w.change_is lt) place in
     subst IsKnown (sym c.get.ensures) fine.1
 
-pub returns-then-given-self : goal.returns-then-given-self
-returns-then-given-self c =
+pub returns-then-given-self-clause-pack : goal.returns-then-given-self-clause-pack
+returns-then-given-self-clause-pack c =
     let known = c.pictures-pictures.ensures in
     let w = c.requires.weaving in
     no_pack c.args.script.now c.args.self.now c.args.given idle_pack w known.held known.later
@@ -55,8 +55,8 @@ returns-then-given-self c =
           absurd (omega (arith, v.if-self-pictures.true, known.value, lt))
     ]) refl
 
-pub returns : goal.returns
-returns c =
+pub returns-clause-pack : goal.returns-clause-pack
+returns-clause-pack c =
     let known = c.pictures-pictures.ensures in
     let w = c.requires.weaving in
     let lt : c.args.self.now.k < pictures c.args.script.now =
@@ -69,3 +69,21 @@ returns c =
     change_pack c.args.script.now c.args.self.now c.args.given c.write.result w known.held known.later
     c.requires.current lt (omega (arith, begun, c.if-given-self.false))
     (subst (λ i. IsWritten i c.write.result) instr c.write.ensures.written)
+
+pub returns-clause-none : goal.returns-clause-none
+returns-clause-none c =
+    let known = c.pictures-pictures.ensures in
+    let w = c.requires.weaving in
+    let lt : c.args.self.now.k < pictures c.args.script.now =
+    omega (arith, known.value, c.if-self-pictures.false) in
+    let place =
+    place_at_hand c.args.script.now c.args.self.now c.args.given w lt c.requires.current
+    (omega (arith, c.if-given-self.false)) in
+    let busy : get_or c.args.self.now.change (c.args.given - c.args.self.now.start) Idle ≢ Idle =
+    busy_at c.args.script.now c.args.self.now.change c.args.self.now.k (c.args.given - c.args.self.now.start)
+    (c.planned_changes_are_changes.ensures.busy c.args.script.now c.args.self.now.k known.pixels)
+    (w.change_is lt) place in (
+      (λ none. absurd (cc)),
+      (λ idle. absurd (not_idle c.get.result c.write.result (λ is. busy (sym c.get.ensures ∙ is))
+          c.write.ensures.written idle)),
+    )
