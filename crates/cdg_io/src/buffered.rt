@@ -5,9 +5,8 @@ ghost use Rattle.cdg_io.specs.Causes.{HasCause, counted_after};
 ghost use Rattle.cdg_io.specs.Moves.{TakesSome};
 ghost use Rattle.cdg_io.specs.Waiting.{Buffered, bytes_with_waiting};
 
-use crate::chunk::Chunk;
 use crate::copying::copy_front;
-use crate::{Failed, Piece, Sink, Source, Stage};
+use crate::{Failed, Piece, Sink, Source, UnitStage};
 use std::alloc::{AllocError, Global};
 use std::io::{ErrorKind, Write};
 use std::marker::Model;
@@ -133,7 +132,7 @@ impl<W: Write> Sink for BufferedSink<W> {
 
     /// What the stage gives is written behind what waits.
     #[inline]
-    fn pass_at_hand<C: Chunk, S: Source, G: Stage<Item = C, Out = Piece>>(
+    fn pass_at_hand<S: Source, G: UnitStage>(
         &mut self,
         source: &mut S,
         stage: &mut G,

@@ -14,3 +14,4 @@ pub mod Accepting
 pub mod Reading
 pub mod Times
 pub mod Lengths
+pub mod Given

@@ -4,8 +4,7 @@ ghost use Rattle.std.specs.List.{concat};
 ghost use Rattle.disc_time.specs.Counts.{most_lead_in};
 ghost use Rattle.raw_subcode.specs.Sizes.{block_bytes, most_units};
 ghost use Rattle.cdg_io.specs.Causes.{TellsFault};
-ghost use Rattle.cdg_io.specs.Change.{from_to, passed};
-ghost use Rattle.cdg_io.specs.Passing.{PassesUnits, stepping};
+ghost use Rattle.cdg_io.specs.Change.{passed};
 ghost use Rattle.cdg_io.specs.Pump.{FillsUnits, IsUnlessFault, TellsEndOf, answer_of, units_of};
 ghost use Rattle.cdg_io.specs.Run.{run_state, run_gives};
 ghost use Rattle.cdg_io.specs.Streams.{Streams};
@@ -14,6 +13,7 @@ ghost use Rattle.rw_interleave.specs.Stream.{DiffersInBursts, IsDamaged};
 ghost use Rattle.cdg_workload.specs.Scratches.{scratched, scratching};
 ghost use Rattle.cdg_workload.specs.Steps.{fresh_scratches, scratches_after, block_next, block_gives};
 
+use crate::in_rows::{InRows, RowStage};
 use crate::needle::Needle;
 use crate::words::generator;
 use cdg_io::{PassedUnits, Piece, PumpStop, Pumped, Sink, Source, Stage, pump};
@@ -58,38 +58,6 @@ impl Scratches {
         }
     }
 
-    // Makes a piece of a block, scratched where it is one of the program. Most blocks are before the next burst, and
-    // stay whole.
-    #[inline]
-    #[tactic(auto, unfolding(crate::specs::Steps::block_next, crate::specs::Steps::block_gives))]
-    fn pass(&mut self, block: &[u8; BLOCK_BYTES], piece: &mut Piece)
-        ensures next { self.new ≡ block_next self.old block.now }
-        ensures gives { Some piece.new ≡ block_gives self.old block.now }
-    {
-        if self.lead_in > 0 {
-            self.lead_in -= 1;
-            piece.set(block);
-        } else if self.needle.skip_block() {
-            piece.set(block);
-        } else {
-            self.pass_scratched(block, piece);
-        }
-    }
-
-    // The same for a block of the program that may hold a burst. It stands apart, so that other blocks do not pay for
-    // its variables.
-    #[inline(never)]
-    #[tactic(auto, unfolding(crate::specs::Steps::block_next, crate::specs::Steps::block_gives))]
-    fn pass_scratched(&mut self, block: &[u8; BLOCK_BYTES], piece: &mut Piece)
-        requires { self.old.lead_in ≡ 0 }
-        ensures next { self.new ≡ block_next self.old block.now }
-        ensures gives { Some piece.new ≡ block_gives self.old block.now }
-    {
-        let mut scratched = *block;
-        self.needle.scratch_all(&mut scratched);
-        piece.set(&scratched);
-    }
-
     // Goes over so many blocks that stand one behind another. Those of the lead-in stay, and those of the program are
     // scratched where they stand, from burst to burst.
     #[inline]
@@ -103,41 +71,6 @@ impl Scratches {
         self.lead_in -= kept as u32;
         self.needle.scratch_all(&mut blocks[BLOCK_BYTES * kept..]);
     }
-
-    // Copies the blocks that a row begins with into a buffer from `start` on, at most so many and as many as there is
-    // room for, and goes over them there. The row becomes what follows them.
-    #[inline]
-    fn pass_blocks(
-        &mut self,
-        row: &mut &[u8],
-        buffer: &mut [u8],
-        start: usize,
-        most: u32,
-    ) -> PassedUnits
-        requires start { start ≤ length buffer.old }
-        ensures passes { (units : List (List ℕ)) × (length units ≡ result.units)
-            × PassesUnits (stepping (λ (all : List ℕ). all) block_bytes block_next block_gives) (record {
-              left = from_to (Some row.old.now) (Some row.new.now);
-              state = from_to self.old self.new;
-              held = from_to (Some (take start buffer.old)) (Some (take result.end buffer.new));
-            }) units }
-        ensures most { result.units ≤ most }
-        ensures within { (start ≤ result.end) × (result.end ≤ length buffer.new) }
-        ensures behind { drop result.end buffer.new ≡ drop result.end buffer.old }
-    {
-        let room = (buffer.len() - start) / BLOCK_BYTES;
-        let count = (row.len() / BLOCK_BYTES).min(room).min(most as usize);
-        let size = BLOCK_BYTES * count;
-        let end = start + size;
-        let place = &mut buffer[start..end];
-        place.copy_from_slice(&row[..size]);
-        self.scratch_row(place, count);
-        *row = &row[size..];
-        PassedUnits {
-            units: count as u32,
-            end,
-        }
-    }
 }
 
 impl Stage for Scratches {
@@ -149,20 +82,46 @@ impl Stage for Scratches {
 
     ghost gives = { block_gives };
 
-    // It is called for the first block alone.
-    #[cold]
-    #[inline(never)]
     fn feed(&mut self, block: &[u8; BLOCK_BYTES]) -> Option<Piece> {
+        let mut scratched = *block;
+        self.scratch(&mut scratched);
         let mut piece = Piece::new();
-        self.pass(block, &mut piece);
+        piece.set(&scratched);
         Some(piece)
     }
+}
 
+impl RowStage for Scratches {
+    type Unit = [u8; BLOCK_BYTES];
+
+    ghost next = { block_next };
+
+    ghost gives = { block_gives };
+
+    fn take(&mut self, block: &[u8; BLOCK_BYTES]) -> Option<Piece> {
+        self.feed(block)
+    }
+
+    /// Most bytes stay as they are, so all whole blocks are copied at once, and the bursts fall on them there.
     #[inline]
-    fn emit(&mut self, block: &[u8; BLOCK_BYTES], out: &mut Option<Piece>) {
-        match out {
-            Some(piece) => self.pass(block, piece),
-            None => *out = self.feed(block),
+    fn take_row(
+        &mut self,
+        row: &mut &[u8],
+        buffer: &mut [u8],
+        start: usize,
+        most: u32,
+    ) -> PassedUnits {
+        let room = (buffer.len() - start) / BLOCK_BYTES;
+        let count = (row.len() / BLOCK_BYTES).min(room).min(most as usize);
+        let size = BLOCK_BYTES * count;
+        let end = start + size;
+        let place = &mut buffer[start..end];
+        place.copy_from_slice(&row[..size]);
+        self.scratch_row(place, count);
+        *row = &row[size..];
+        PassedUnits {
+            units: count as u32,
+            end,
         }
     }
 }
@@ -194,12 +153,10 @@ pub fn scratch<S: Source, K: Sink>(
     ensures rooms { FillsUnits most_units result (S.fills source.old) (S.fills source.new) }
     ensures write_fault { TellsFault PumpStop.WriteFault (K.faults out.old) (K.faults out.new) result }
 {
-    pump(
-        source,
-        MOST_UNITS,
-        &mut Scratches::start(lead_in, seed),
-        out,
-    )
+    let mut rows = InRows {
+        stage: Scratches::start(lead_in, seed),
+    };
+    pump(source, MOST_UNITS, &mut rows, out)
 }
 
 /// A law: what scratches change of a stream are bursts of symbols of the program: up to sixteen, and at least 192

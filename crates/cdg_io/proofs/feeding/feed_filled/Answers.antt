@@ -1,34 +1,38 @@
-use Rattle.std.proofs.Common.{◌≡◌, length, take, refl, arith, rules, length-take-le}
+use Rattle.std.proofs.Common.{◌≡◌, ◌<◌, ◌≤◌, length, take, refl, sym, ◌∙◌, arith, rules, length-take-le}
 use Rattle.cdg_io.proofs.Stops.{failed_cause, failed_end, failed_room, if_no_value, on_err}
 use Rattle.cdg_io.proofs.PumpSteps.{Consumes-filled}
 use Rattle.cdg_io.proofs.feeding.feed_filled.Goals as goal
 
-pub returns-then-filled-clause-feeds : goal.returns-then-filled-clause-feeds
-returns-then-filled-clause-feeds g c =
+pub returns-then-filled-SIZE-clause-feeds : goal.returns-then-filled-SIZE-clause-feeds
+returns-then-filled-SIZE-clause-feeds g c =
     let read = c.in_ok-filled.ensures in
-    let room : length c.fill.new.buf ≡ g.row.U = search rules in
+    let room : length c.fill.new.buf ≡ g.G.UnitStage.SIZE = search (rules, c.SIZE.ensures) in
+    let few : c.in_ok-filled.filled < g.G.UnitStage.SIZE =
+    omega (arith, c.SIZE-2.ensures, c.if-filled-SIZE.true) in
     let count : length (take c.in_ok-filled.filled c.fill.new.buf) ≡ c.in_ok-filled.filled =
     length-take-le c.in_ok-filled.filled c.fill.new.buf read.within in (
       take c.in_ok-filled.filled c.fill.new.buf,
       count,
       record {
         taken_from = read.ok;
-        step = λ whole. absurd (omega (arith, count, whole, c.if-filled.true));
-        gave = λ whole. absurd (omega (arith, count, whole, c.if-filled.true));
+        step = λ whole. absurd (omega (arith, count, whole, few));
+        gave = λ whole. absurd (omega (arith, count, whole, few));
         stays = λ short. refl;
-        ended = λ short. read.end (omega (arith, room, c.if-filled.true));
+        ended = λ short. read.end (omega (arith, room, few));
       },
     )
 
 pub returns-clause-feeds : goal.returns-clause-feeds
 returns-clause-feeds g c =
-    let room : length c.fill.new.buf ≡ g.row.U = search rules in (
+    let room : length c.fill.new.buf ≡ g.G.UnitStage.SIZE = search (rules, c.SIZE.ensures) in
+    let full : g.G.UnitStage.SIZE ≤ c.in_ok-filled.filled =
+    omega (arith, c.SIZE-2.ensures, c.if-filled-SIZE.false) in (
       c.fill.new.buf,
-      room,
+      room ∙ sym c.SIZE-3.ensures,
       record {
-        taken_from = Consumes-filled _ _ _ _ _ room c.if-filled.false c.in_ok-filled.ensures.ok;
-        step = λ whole. c.emit.ensures.next;
-        gave = λ whole. c.emit.ensures.gives;
+        taken_from = Consumes-filled _ _ _ _ _ room full c.in_ok-filled.ensures.ok;
+        step = λ whole. c.take_unit.ensures.next;
+        gave = λ whole. c.take_unit.ensures.gives;
         stays = λ short. absurd (omega (arith, room, short));
         ended = λ short. absurd (omega (arith, room, short));
       },
@@ -56,14 +60,14 @@ pub returns-in_err-filled-clause-room : goal.returns-in_err-filled-clause-room
 returns-in_err-filled-clause-room g c =
     failed_room _ _ _ _ c.from_residual.ensures.0 c.in_err-filled.ensures.room.failed
 
-pub returns-then-filled-clause-within : goal.returns-then-filled-clause-within
-returns-then-filled-clause-within g c = omega (arith, c.if-filled.true)
+pub returns-then-filled-SIZE-clause-within : goal.returns-then-filled-SIZE-clause-within
+returns-then-filled-SIZE-clause-within g c = omega (arith, c.SIZE-2.ensures, c.if-filled-SIZE.true)
 
-pub returns-then-filled-clause-part : goal.returns-then-filled-clause-part
-returns-then-filled-clause-part g c = tt
+pub returns-then-filled-SIZE-clause-part : goal.returns-then-filled-SIZE-clause-part
+returns-then-filled-SIZE-clause-part g c = tt
 
-pub returns-then-filled-clause-stays : goal.returns-then-filled-clause-stays
-returns-then-filled-clause-stays g c = tt
+pub returns-then-filled-SIZE-clause-stays : goal.returns-then-filled-SIZE-clause-stays
+returns-then-filled-SIZE-clause-stays g c = tt
 
 pub returns-clause-part : goal.returns-clause-part
 returns-clause-part g c = tt
@@ -83,8 +87,8 @@ returns-in_err-filled-clause-cut g c =
       nothing = cut.nothing;
     })
 
-pub returns-then-filled-clause-cut : goal.returns-then-filled-clause-cut
-returns-then-filled-clause-cut g c = tt
+pub returns-then-filled-SIZE-clause-cut : goal.returns-then-filled-SIZE-clause-cut
+returns-then-filled-SIZE-clause-cut g c = tt
 
 pub returns-clause-cut : goal.returns-clause-cut
 returns-clause-cut g c = tt

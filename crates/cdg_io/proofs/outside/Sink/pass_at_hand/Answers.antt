@@ -1,6 +1,6 @@
-use Rattle.std.proofs.Common.{[], refl}
-use Rattle.cdg_io.proofs.Passed.{passes_none}
+use Rattle.std.proofs.Common.{[]}
+use Rattle.cdg_io.proofs.PumpSteps.{Works-start}
 use Rattle.cdg_io.proofs.outside.Sink.pass_at_hand.Goals as goal
 
-pub returns-clause-passes : goal.returns-clause-passes
-returns-clause-passes g c = ([], refl, passes_none _ _ _ _)
+pub returns-clause-works : goal.returns-clause-works
+returns-clause-works g c = ([], Works-start _ _ _ _ _)

@@ -1,7 +1,7 @@
 use Rattle.std.proofs.Common.{◌≡◌, ◌≤◌, ◌+◌, ◌-◌, ◌*◌, ◌++◌, take, drop, length, refl, rules, arith, ◌∙◌, ap}
 use Rattle.std.proofs.lemmas.List.{take_rest}
 use Rattle.cdg_workload.proofs.Rows.{row_passes, put_behind, stays_behind}
-use Rattle.cdg_workload.proofs.scratching.Scratches.pass_blocks.Goals as goal
+use Rattle.cdg_workload.proofs.scratching.ScratchesRowStage.take_row.Goals as goal
 
 pub returns-clause-passes : goal.returns-clause-passes
 returns-clause-passes c =
