@@ -1,7 +1,7 @@
 -- The run of the stage over the blocks of a stream.
-use Rattle.std.proofs.Common.{◌≡◌, ℕ, zero, suc, ◌+◌, ◌-◌, ◌*◌, ◌/◌, ◌%◌, ◌^◌, ◌<◌, ◌≤◌, ◌==◌, cond, inl, inr, Bool, true, false, List, [], ◌∷◌, ◌++◌, length, get_or, set, take, drop, map, bit_xor, Some, Result, Ok, Err, refl, sym, ap, ap₂, ◌∙◌, subst, length-append, length-drop, drop-drop, drop-set-lt, append_assoc, lit<, arith}
+use Rattle.std.proofs.Common.{◌≡◌, ℕ, zero, suc, ◌+◌, ◌-◌, ◌*◌, ◌/◌, ◌%◌, ◌^◌, ◌<◌, ◌≤◌, ◌==◌, cond, Bool, true, false, List, [], ◌∷◌, ◌++◌, length, get_or, set, take, drop, map, bit_xor, Some, Result, Ok, Err, refl, sym, ap, ap₂, ◌∙◌, subst, length-drop, drop-drop, drop-set-lt, append_assoc, lit<, arith}
 use Rattle.std.proofs.Math.Seq.{take-nil, drop-nil, take-add, take-append-add, drop-append-add, take-append_seam, drop-append_seam}
-use Rattle.std.proofs.lemmas.Bool.{cases_lt, ne_eqb}
+use Rattle.std.proofs.lemmas.Bool.{ne_eqb}
 use Rattle.std.proofs.lemmas.List.{append-nil, get_or-drop, map-append, take_more, take_more_set, length-take, take-append-drop, take-map, take-take}
 use Rattle.std.proofs.lemmas.Nat.{xor_block}
 use Rattle.std.specs.Int.Bits.{xor_zero_r}
@@ -385,66 +385,72 @@ burst_run r t u ys zs before passed few begun struck =
           ∙ sym (run_gives-append byte_next byte_gives r ys zs),
     )
 
--- some symbols more: those before a burst, and those of it
-pub burst_more : (s t r t' u : Needle) (block old new : List ℕ) (i m n : ℕ) → i + m + n ≤ length block
-    → 0 < m + n
-    → r ≡ ready t → m ≤ r.gap → t' ≡ record r { gap = r.gap - m }
-    → n ≤ t'.left → (0 < n → t'.gap ≡ 0) → u ≡ record t' { left = t'.left - n }
-    → t ≡ state s (take i block) → take i old ≡ run s (take i block) → drop i old ≡ drop i block
+-- m symbols before a burst and n of it, from a place on
+pub burst_at : (r t u : Needle) (old new : List ℕ) (i m n : ℕ) → i + m + n ≤ length old
+    → m ≤ r.gap → t ≡ record r { gap = r.gap - m }
+    → n ≤ t.left → (0 < n → t.gap ≡ 0) → u ≡ record t { left = t.left - n }
     → take (i + m + n) new
     ≡ take (i + m) old ++ map (λ byte. bit_xor byte u.change) (take (i + m + n - (i + m)) (drop (i + m) old))
-    → drop (i + m + n) new ≡ drop (i + m + n) old
-    → (u ≡ state s (take (i + m + n) block)) × (take (i + m + n) new ≡ run s (take (i + m + n) block))
-    × (drop (i + m + n) new ≡ drop (i + m + n) block)
-burst_more s t r t' u block old new i m n fits some is before passed few begun struck now done rest changed
-    kept =
+    → (u ≡ state r (take (i + m + n - i) (drop i old)))
+    × (take (i + m + n) new ≡ take i old ++ run r (take (i + m + n - i) (drop i old)))
+burst_at r t u old new i m n fits before passed few begun struck changed =
     let f : ℕ → ℕ = λ byte. bit_xor byte u.change in
-    let ys : List ℕ = take m (drop i block) in
-    let zs : List ℕ = take n (drop (i + m) block) in
-    let first : List ℕ = take i block in
-    let size : m ≡ length ys =
-    sym (length-take m (drop i block) ∙ omega (arith, length-drop i block, fits)) in
+    let ys : List ℕ = take m (drop i old) in
+    let zs : List ℕ = take n (drop (i + m) old) in
+    let size : m ≡ length ys = sym (length-take m (drop i old) ∙ omega (arith, length-drop i old, fits)) in
     let size' : n ≡ length zs =
-    sym (length-take n (drop (i + m) block) ∙ omega (arith, length-drop (i + m) block, fits)) in
-    let (after, given) = burst_run r t' u ys zs (omega (arith, size, before))
+    sym (length-take n (drop (i + m) old) ∙ omega (arith, length-drop (i + m) old, fits)) in
+    let (after, given) = burst_run r t u ys zs (omega (arith, size, before))
     (passed ∙ ap (λ k. at (r.gap - k) r.left r.change r.words) size)
     (omega (arith, size', few)) (λ more. begun (omega (arith, size', more)))
-    (struck ∙ ap (λ k. at t'.gap (t'.left - k) t'.change t'.words) size') in
-    let (same, alike) = ready_run t (ys ++ zs) (omega (arith, some, size, size', length-append ys zs)) in
-    let whole : take (i + m + n) block ≡ first ++ (ys ++ zs) =
-    take-add (i + m) n block ∙ ap (λ (l : List ℕ). l ++ zs) (take-add i m block) ∙ append_assoc first ys zs in
-    let later : drop (i + m) old ≡ drop (i + m) block =
-    sym (drop-drop m i old) ∙ ap (drop m) rest ∙ drop-drop m i block in
-    let front : take (i + m) old ≡ run s first ++ ys =
-    take-add i m old ∙ ap₂ (λ (l k : List ℕ). l ++ k) done (ap (take m) rest) in
+    (struck ∙ ap (λ k. at t.gap (t.left - k) t.change t.words) size') in
+    let part : take (i + m + n - i) (drop i old) ≡ ys ++ zs =
+    ap (λ k. take k (drop i old)) (omega arith) ∙ take-add m n (drop i old)
+    ∙ ap (λ l. ys ++ take n l) (drop-drop m i old) in
     let count : i + m + n - (i + m) ≡ n = omega arith in (
-      after ∙ ap (λ h. state h (ys ++ zs)) is ∙ same ∙ ap (λ h. state h (ys ++ zs)) now
-          ∙ sym (ap (state s) whole ∙ run_state-append byte_next s first (ys ++ zs)),
-      changed ∙ ap₂ (λ (l k : List ℕ). l ++ map f k) front
-          (ap (λ k. take k (drop (i + m) old)) count ∙ ap (take n) later)
-          ∙ append_assoc (run s first) ys (map f zs)
-          ∙ ap (λ (l : List ℕ). run s first ++ l) (given ∙ ap (λ h. run h (ys ++ zs)) is ∙ alike
-          ∙ ap (λ h. run h (ys ++ zs)) now)
-          ∙ sym (ap (run s) whole ∙ run_gives-append byte_next byte_gives s first (ys ++ zs)),
-      kept ∙ sym (drop-drop n (i + m) old) ∙ ap (drop n) later ∙ drop-drop n (i + m) block,
+      after ∙ ap (state r) (sym part),
+      changed ∙ ap₂ (λ l k. l ++ map f (take k (drop (i + m) old))) (take-add i m old) count
+          ∙ append_assoc (take i old) ys (map f zs)
+          ∙ ap (λ (l : List ℕ). take i old ++ l) (given ∙ ap (run r) (sym part)),
     )
 
--- that is at least one symbol
-pub some_more : (t r t' u : Needle) (m n most rest : ℕ) → r ≡ ready t → t' ≡ record r { gap = r.gap - m }
-    → u ≡ record t' { left = t'.left - n } → 0 < most → most ≤ m + rest → (m < most → t'.gap ≡ 0)
-    → (t'.gap ≡ 0 → n < rest → u.left ≡ 0) → 0 < m + n
-some_more t r t' u m n most rest is passed struck room all_of gap_ends left_ends =
-    let some : 0 < (ready t).gap + (ready t).left = ready_some t.gap t.left t.change t.words in
-    let gap : (ready t).gap ≡ r.gap = ap (λ (h : Needle). h.gap) (sym is) in
-    let left : (ready t).left ≡ r.left = ap (λ (h : Needle). h.left) (sym is) in
-    let gap' : t'.gap ≡ r.gap - m = ap (λ (h : Needle). h.gap) passed in
-    let left' : t'.left ≡ r.left = ap (λ (h : Needle). h.left) passed in
-    let left'' : u.left ≡ t'.left - n = ap (λ (h : Needle). h.left) struck in
-    elim (cases_lt m most) [
-      | inl short ↦
-          elim (cases_lt n rest) [
-            | inl short' ↦ omega (arith, gap_ends short, left_ends (gap_ends short) short')
-            | inr long ↦ omega arith
-          ]
-      | inr long ↦ omega arith
-    ]
+-- some symbols more, after those before them
+pub run_more : (s t r u : Needle) (block old new : List ℕ) (i k : ℕ) → i < k → k ≤ length block
+    → r ≡ ready t → u ≡ state r (take (k - i) (drop i old))
+    → take k new ≡ take i old ++ run r (take (k - i) (drop i old)) → drop k new ≡ drop k old
+    → t ≡ state s (take i block) → take i old ≡ run s (take i block) → drop i old ≡ drop i block
+    → (u ≡ state s (take k block)) × (take k new ≡ run s (take k block)) × (drop k new ≡ drop k block)
+run_more s t r u block old new i k further fits is after given kept now done rest =
+    let first : List ℕ = take i block in
+    let part : List ℕ = take (k - i) (drop i block) in
+    let step : i + (k - i) ≡ k = omega (arith, further) in
+    let size : length part ≡ k - i =
+    length-take (k - i) (drop i block) ∙ omega (arith, length-drop i block, fits) in
+    let (same, alike) = ready_run t part (omega (arith, size, further)) in
+    let mid : take (k - i) (drop i old) ≡ part = ap (take (k - i)) rest in
+    let whole : take k block ≡ first ++ part = ap (λ n. take n block) (sym step) ∙ take-add i (k - i) block in
+    let later : (xs : List ℕ) → drop k xs ≡ drop (k - i) (drop i xs) = λ xs.
+    sym (drop-drop (k - i) i xs ∙ ap (λ n. drop n xs) step) in (
+      after ∙ ap₂ state is mid ∙ same ∙ ap (λ h. state h part) now
+          ∙ sym (ap (state s) whole ∙ run_state-append byte_next s first part),
+      given ∙ ap₂ (λ (l k : List ℕ). l ++ k) done (ap₂ run is mid ∙ alike ∙ ap (λ h. run h part) now)
+          ∙ sym (ap (run s) whole ∙ run_gives-append byte_next byte_gives s first part),
+      kept ∙ later old ∙ ap (drop (k - i)) rest ∙ sym (later block),
+    )
+
+-- the same of all symbols before a burst and all of it
+pub whole_burst : (r : Needle) (old new : List ℕ) (i : ℕ) → i + r.gap + r.left ≤ length old
+    → take (i + r.gap + r.left) new ≡ take (i + r.gap) old
+    ++ map (λ byte. bit_xor byte r.change) (take (i + r.gap + r.left - (i + r.gap)) (drop (i + r.gap) old))
+    → (at 0 0 r.change r.words ≡ state r (take (i + r.gap + r.left - i) (drop i old)))
+    × (take (i + r.gap + r.left) new ≡ take i old ++ run r (take (i + r.gap + r.left - i) (drop i old)))
+whole_burst r old new i fits changed =
+    let none : (n : ℕ) → 0 ≡ n - n = λ n. omega arith in
+    burst_at r (at 0 r.left r.change r.words) (at 0 0 r.change r.words) old new i r.gap r.left fits
+    (omega arith) (ap (λ n. at n r.left r.change r.words) (none r.gap)) (omega arith) (λ some. refl)
+    (ap (λ n. at 0 n r.change r.words) (none r.left)) changed
+
+-- a needle that is ready has symbols before a burst, or of one
+pub some_ready : (t r : Needle) → r ≡ ready t → 0 < r.gap + r.left
+some_ready t r is =
+    subst (λ (n : Needle). 0 < n.gap + n.left) (sym is) (ready_some t.gap t.left t.change t.words)

@@ -91,7 +91,37 @@ impl Needle {
         struck
     }
 
-    /// Changes symbols, from burst to burst. Those before a burst are gone over at once.
+    // From a place on, goes over the symbols before the next burst and changes those of it, as far as the bytes reach:
+    // where that ends. Most bursts lie well within the bytes, and take the few steps of the first branch.
+    #[inline]
+    fn pass_burst(&mut self, bytes: &mut [u8], at: usize) -> usize
+        requires place { at < length bytes.old }
+        requires some { 0 < self.old.gap + self.old.left }
+        ensures next { self.new ≡ run_state byte_next self.old (take (result - at) (drop at bytes.old)) }
+        ensures gives { take result bytes.new ≡ take at bytes.old
+            ++ run_gives byte_next byte_gives self.old (take (result - at) (drop at bytes.old)) }
+        ensures rest { drop result bytes.new ≡ drop result bytes.old }
+        ensures further { at < result }
+        ensures within { result ≤ length bytes.new }
+    {
+        let gap = self.gap as usize;
+        let left = self.left as usize;
+        let room = bytes.len() - at;
+        if left <= MOST_BURST && room >= gap + 2 * MOST_BURST {
+            let from = at + gap;
+            self.gap = 0;
+            self.left = 0;
+            combine_few(bytes, from, from + left, self.change);
+            from + left
+        } else {
+            let from = at + self.pass(room);
+            let to = from + self.strike(bytes.len() - from);
+            combine(bytes, from, to, self.change);
+            to
+        }
+    }
+
+    /// Changes symbols, from burst to burst.
     pub(crate) fn scratch_all(&mut self, bytes: &mut [u8])
         ensures next { self.new ≡ run_state byte_next self.old bytes.old }
         ensures gives { bytes.new ≡ run_gives byte_next byte_gives self.old bytes.old }
@@ -99,10 +129,7 @@ impl Needle {
         let mut at = 0;
         while at < bytes.len() {
             self.make_ready();
-            at += self.pass(bytes.len() - at);
-            let struck = self.strike(bytes.len() - at);
-            combine(bytes, at, at + struck, self.change);
-            at += struck;
+            at = self.pass_burst(bytes, at);
         }
     }
 }
@@ -134,10 +161,32 @@ fn combine_few(bytes: &mut [u8], from: usize, to: usize, change: u8)
         ≡ take from bytes.old ++ map (λ byte. bit_xor byte change) (take (to - from) (drop from bytes.old)) }
     ensures rest { drop to bytes.new ≡ drop to bytes.old }
 {
-    let mut kept = [0; MOST_BURST];
-    kept.copy_from_slice(&bytes[to..to + MOST_BURST]);
+    let kept = sixteen_of(&bytes[to..to + MOST_BURST]);
     combine_each(bytes, from, from + MOST_BURST, change);
-    bytes[to..to + MOST_BURST].copy_from_slice(&kept);
+    put_sixteen(&mut bytes[to..to + MOST_BURST], &kept);
+}
+
+// Sixteen bytes as an array, which is moved in one step.
+#[inline]
+fn sixteen_of(row: &[u8]) -> [u8; MOST_BURST]
+    requires { length row.now ≡ most_burst }
+    ensures { result ≡ row.now }
+{
+    match row.first_chunk::<MOST_BURST>() {
+        Some(array) => *array,
+        None => [0; MOST_BURST],
+    }
+}
+
+// Puts sixteen bytes in place of others.
+#[inline]
+fn put_sixteen(row: &mut [u8], bytes: &[u8; MOST_BURST])
+    requires { length row.old ≡ most_burst }
+    ensures { row.new ≡ bytes.now }
+{
+    if let Some(array) = row.first_chunk_mut::<MOST_BURST>() {
+        *array = *bytes;
+    }
 }
 
 // The same for any number of bytes.

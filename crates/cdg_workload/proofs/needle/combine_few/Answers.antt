@@ -6,7 +6,7 @@ pub returns-clause-changed : goal.returns-clause-changed
 returns-clause-changed c =
     let old = c.args.bytes.now in
     let mid = c.combine_each.new.bytes in
-    let put = c.copy_from_slice-2.new.self in
+    let put = c.put_sixteen.new.row in
     let size : length mid ≡ length old = search rules in
     let sixteen : c.args.to + 16 - c.args.to ≡ 16 = omega arith in
     let kept : put ≡ take 16 (drop c.args.to old) = search rules in
@@ -19,7 +19,7 @@ pub returns-clause-rest : goal.returns-clause-rest
 returns-clause-rest c =
     let old = c.args.bytes.now in
     let mid = c.combine_each.new.bytes in
-    let put = c.copy_from_slice-2.new.self in
+    let put = c.put_sixteen.new.row in
     let size : length mid ≡ length old = search rules in
     let sixteen : c.args.to + 16 - c.args.to ≡ 16 = omega arith in
     let kept : put ≡ take 16 (drop c.args.to old) = search rules in
