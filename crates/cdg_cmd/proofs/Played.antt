@@ -1,7 +1,7 @@
 -- From the answer of a player to the status of a command.
 use Rattle.std.specs.Io.KnownBytes.{IsAtEnd}
 use Rattle.raw_subcode.specs.declared.form.Form.{Form}
-use Rattle.stream_stages.specs.TextListing.{IsListedBy, IsWholeInput}
+use Rattle.stream_stages.specs.TextListing.{GivesTexts, IsListedBy}
 use Rattle.std.proofs.Common.{inr, Some, None, IfSome, ◌≡◌, ◌≢◌, ◌≤◌, ◌==◌, ℕ, Bool, true, false, Result, Ok, Err, IfErr, IsErrOf, refl, sym, subst, ◌∙◌, if◌then◌else◌, arith}
 use Rattle.cdg_io.specs.Causes.{Rose}
 use Rattle.cdg_io.specs.Change.{Bytes, Input}
@@ -214,18 +214,18 @@ pub never_memory : (answer : Result Played PlayStop) (status : Status) → statu
     → status ≢ NoMemory
 never_memory answer status is stops = shown_never_memory answer status is (moment_stop answer stops)
 
--- Where memory is lacking for texts, all of a whole input was read
+-- Where memory is lacking for texts, all of a whole input was read, and its lead-in gives some
 
-whole_if_known : (form : Form) (lead_in : ℕ) (left : Bytes)
+texts_if_known : (form : Form) (lead_in : ℕ) (left : Bytes)
     → IfSome left (λ all. IsListedBy (Err (play.Text fault.NoMemory)) form lead_in all)
-    → IfSome left (IsWholeInput form)
-whole_if_known form lead_in None listed = tt
-whole_if_known form lead_in (Some all) listed = listed.0
+    → IfSome left (GivesTexts form lead_in)
+texts_if_known form lead_in None listed = tt
+texts_if_known form lead_in (Some all) listed = listed
 
 lacking : (answer : Result Played PlayStop) (form : Form) (lead_in : ℕ) (left left' : Bytes)
     → ((stop : PlayStop) → answer ≡ Err stop → ¬ (IsEarly stop) → IsAtEnd left')
     → IfSome left (λ all. IsListedBy answer form lead_in all) → play_status answer ≡ NoMemory
-    → IsAtEnd left' × IfSome left (IsWholeInput form)
+    → IsAtEnd left' × IfSome left (GivesTexts form lead_in)
 lacking (Ok played) form lead_in left left' ended listed none =
     absurd (whole_never (played.bad == 0) played.bad none)
 lacking (Err play.ReadFault) form lead_in left left' ended listed none = absurd (cc)
@@ -237,12 +237,12 @@ lacking (Err (play.Text (fault.Missing seq))) form lead_in left left' ended list
 lacking (Err (play.Text fault.NoSize)) form lead_in left left' ended listed none = absurd (cc)
 lacking (Err (play.Text (fault.Malformed seq byte))) form lead_in left left' ended listed none = absurd (cc)
 lacking (Err (play.Text fault.NoMemory)) form lead_in left left' ended listed none =
-    (ended (play.Text fault.NoMemory) refl (λ early. early), whole_if_known form lead_in left listed)
+    (ended (play.Text fault.NoMemory) refl (λ early. early), texts_if_known form lead_in left listed)
 
 pub lacks_memory : (answer : Result Played PlayStop) (status : Status) (form : Form) (lead_in : ℕ)
     (left left' : Bytes) → status ≡ play_status answer
     → ((stop : PlayStop) → answer ≡ Err stop → ¬ (IsEarly stop) → IsAtEnd left')
     → IfSome left (λ all. IsListedBy answer form lead_in all) → status ≡ NoMemory
-    → IsAtEnd left' × IfSome left (IsWholeInput form)
+    → IsAtEnd left' × IfSome left (GivesTexts form lead_in)
 lacks_memory answer status form lead_in left left' is ended listed none =
     lacking answer form lead_in left left' ended listed (sym is ∙ none)

@@ -11,7 +11,7 @@ use Rattle.stream_stages.specs.Calls.{IsAnsweredBy, IsListStop, IsMomentStop, Is
 use Rattle.stream_stages.specs.Convert.{IsConverted}
 use Rattle.stream_stages.specs.Check.{IsCheckListed}
 use Rattle.stream_stages.specs.Screen.{IsShownBy, Moment, Shows, moment}
-use Rattle.stream_stages.specs.TextListing.{IsListedBy, IsWholeInput, ListsTexts}
+use Rattle.stream_stages.specs.TextListing.{GivesTexts, IsListedBy, ListsTexts}
 use Rattle.cdtext_packs.specs.declared.kinds.TextFault.{TextFault}
 use Rattle.cdtext_packs.specs.declared.kinds.TextFault.TheVariants as fault
 use Rattle.stream_stages.specs.declared.played.Played.{Played}
@@ -110,10 +110,11 @@ Does (Save lead_in) call status = SavesWith lead_in call status
 Does (Resume at) call status = ResumesWith at call status
 
 -- What is known where no memory was found. `author` and `press` are said like any other end of theirs, and `text` has
--- read nothing, or all of an input of whole blocks, not too many; the others take their memory before they read.
+-- read nothing, or all of an input of whole blocks, not too many, whose lead-in gives texts; the others take their
+-- memory before they read.
 abbrev pub LacksMemory : Command → Call Bytes → Type 0
 LacksMemory (Text lead_in form) call = (call.first.after ≡ call.first.before)
-    ⊎ (IsAtEnd call.first.after × IfSome call.first.before (IsWholeInput form))
+    ⊎ (IsAtEnd call.first.after × IfSome call.first.before (GivesTexts form lead_in))
 LacksMemory (Author lead_in length) call = AuthorsWith lead_in length call NoMemory
 LacksMemory (Press lead_in length) call = PressesWith lead_in length call NoMemory
 LacksMemory command call = ⊤

@@ -63,7 +63,7 @@ ScriptEnds script (ReadFault which) = EndIsUntold script
 ScriptEnds script NoMemory = EndsOrUntouched script
 ScriptEnds script status = EndIsTold script
 
--- two readings, which are read in turn: where no memory was found neither is touched
+-- two readings, which are read in turn
 abbrev pub ReadingsEnd : Input → Input → Status → Type 0
 ReadingsEnd one other Done = EndIsTold one × EndIsTold other
 ReadingsEnd one other (Damaged n) = EndIsTold one × EndIsTold other
@@ -74,7 +74,6 @@ ReadingsEnd one other (Refused TooLong) = EndsAtStop merge.TooLong one other
 ReadingsEnd one other (ReadFault First) = EndsAtStop merge.FirstFault one other
 ReadingsEnd one other (ReadFault Second) = EndsAtStop merge.SecondFault one other
 ReadingsEnd one other WriteFault = EndsAtStop merge.WriteFault one other
-ReadingsEnd one other NoMemory = EndIsUntold one × EndIsUntold other
 ReadingsEnd one other status = ⊥
 
 -- The checkpoint of `resume`: where its first bad byte is past the file's last, the file is too long and its end was

@@ -111,7 +111,7 @@ profile (Trial seed pictures) = profile_row (codes "trial")
     NoInput TakesBefore AtTheEnd (FirstEnds NeverEnds)
 profile (Merge lead_in) = profile_row (codes "merge")
     (lead_in ≤ most_lead_in) (IsLeadInOption lead_in)
-    InTurn TakesBefore AsItGoes ReadingsEnd
+    InTurn TakesNothing AsItGoes ReadingsEnd
 profile Thin = profile_row (codes "thin")
     ⊤ HasNoOptions
     OneInput TakesBefore AsItGoes (FirstEnds EndsInTurn)

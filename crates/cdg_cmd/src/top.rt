@@ -155,7 +155,7 @@ pub fn run<S: Source, T: Source, K: Sink, E: Sink>(
     ensures merges { (lead_in : ℕ) → Spells (Command.Merge lead_in) (texts words.now)
         → IfSome (S.left first.old) (λ one. IfSome (T.left second.old) (λ other. (blocks : ℕ)
         (packs : List (List ℕ)) → IsReadTwice lead_in blocks packs one other
-        → GivesIfFound (concat packs) (change K.held out.old out.new) result)) }
+        → GivesBack (concat packs) (change K.held out.old out.new) result)) }
     // From a pressed stream, after damage of at most two symbols a word, a conversion gives back every pack, and the
     // screen shows, so many blocks after the audio has begun, what stands after four packs of the file for each.
     ensures unpresses { (command : Command) → Spells command (texts words.now)

@@ -12,8 +12,8 @@ use Rattle.cdtext_packs.specs.TextSteps.{HasRead}
 use Rattle.cdtext_packs.specs.declared.kinds.TextFault.{TextFault}
 use Rattle.cdtext_packs.specs.declared.kinds.TextFault.TheVariants.{Missing, NoSize, Malformed, NoMemory}
 use Rattle.cdtext_packs.specs.declared.lead_in_texts.LeadInTexts.{LeadInTexts}
-use Rattle.stream_stages.specs.TextListing.{packs_in, texts_of_lead_in, IsTextListed, IsTextFault}
-use Rattle.ribjasper_c.specs.LeadIns.{fault_answer, fault_told, IsRefusedBy}
+use Rattle.stream_stages.specs.TextListing.{packs_in, texts_of_lead_in, IsTextListed}
+use Rattle.ribjasper_c.specs.LeadIns.{fault_answer, fault_told, IsFaultOrShort, IsRefusedBy}
 use Rattle.ribjasper_c.specs.declared.lead_in.Listed.{Listed}
 use Rattle.ribjasper_c.proofs.ExitNumbers.{is_other}
 
@@ -56,11 +56,11 @@ module _ (form : Form) (lead_in : ℕ) (stream : List ℕ) where
 
   pub all_refused : (s : LeadInTexts) (result : Result SinkInMemory TextFault)
       → HasRead (packs_in form lead_in stream) s
-      → IfErr result (λ fault. IsTextFault fault (read_texts s.reader))
-      → IfErr result (λ fault. IsTextFault fault (texts_of_lead_in form lead_in stream))
+      → IfErr result (λ fault. IsFaultOrShort fault (read_texts s.reader))
+      → IfErr result (λ fault. IsFaultOrShort fault (texts_of_lead_in form lead_in stream))
   all_refused s (Ok lines) read h = tt
   all_refused s (Err fault) read h =
-      subst (λ (r : Result Texts TextFault). IsTextFault fault r) (ap read_texts read.kept) h
+      subst (λ (r : Result Texts TextFault). IsFaultOrShort fault r) (ap read_texts read.kept) h
 
   -- the answer tells why the texts are refused
   abbrev Refusal : ℤ → Listed → Type 0
@@ -70,7 +70,7 @@ module _ (form : Form) (lead_in : ℕ) (stream : List ℕ) where
       × (told ≡ fault_told fault)
 
   pub refused_texts : (fault : TextFault) (answer : ℤ) (told : Listed)
-      → IsTextFault fault (texts_of_lead_in form lead_in stream) → answer ≡ fault_answer fault
+      → IsFaultOrShort fault (texts_of_lead_in form lead_in stream) → answer ≡ fault_answer fault
       → (fault ≢ NoMemory → told ≡ fault_told fault) → (answer ≡ pos 8) ⊎ (answer ≡ pos 9) ⊎ (answer ≡ pos 10)
       → Refusal answer told
   refused_texts (Missing seq) answer told (inr is) same tells given =

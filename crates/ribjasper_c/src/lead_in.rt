@@ -7,8 +7,8 @@ ghost use Rattle.cdtext_packs.specs.TextSteps.{HasRead};
 ghost use Rattle.cdtext_packs.specs.Texts.{Texts};
 ghost use Rattle.cdtext_packs.specs.declared.kinds.TextFault.{TextFault};
 ghost use Rattle.ribjasper_c.specs.Conversions.{stream_form};
-ghost use Rattle.ribjasper_c.specs.LeadIns.{fault_answer, fault_told, ArePacksOf, IsRefusedBy};
-ghost use Rattle.stream_stages.specs.TextListing.{packs_in, IsTextListed, IsTextFault, IsWholeInput, texts_of_lead_in};
+ghost use Rattle.ribjasper_c.specs.LeadIns.{fault_answer, fault_told, ArePacksOf, IsFaultOrShort, IsRefusedBy};
+ghost use Rattle.stream_stages.specs.TextListing.{packs_in, IsTextListed, IsWholeInput, texts_of_lead_in};
 
 use crate::answers::{
     DONE, NO_MEMORY, REFUSED, TEXT_MALFORMED, TEXT_MISSING, TEXT_NO_SIZE, USAGE, WRITE_FAULT,
@@ -156,7 +156,7 @@ fn tell(told: &mut Listed, seq: u8, byte: u8)
 fn lines_of(alloc: Global, form: Form, lead_in: u32, stream: &[u8]) -> Result<MemSink, TextFault>
     requires { lead_in ≤ most_lead_in }
     ensures lines { IfOk result (λ lines. IsTextListed form lead_in stream.now lines.held 0) }
-    ensures fault { IfErr result (λ fault. IsTextFault fault (texts_of_lead_in form lead_in stream.now)) }
+    ensures fault { IfErr result (λ fault. IsFaultOrShort fault (texts_of_lead_in form lead_in stream.now)) }
 {
     let Ok(mut texts) = LeadInTexts::start(alloc) else {
         return Err(TextFault::NoMemory);
@@ -184,7 +184,7 @@ fn read_lead_in(texts: &mut LeadInTexts, form: Form, lead_in: u32, stream: &[u8]
 fn write_texts(alloc: Global, texts: &LeadInTexts) -> Result<MemSink, TextFault>
     ensures lines { IfOk result (λ lines. (map : Texts) × (read_texts texts.now.reader ≡ Ok map)
         × (lines.held ≡ counted_lines map texts.now.good texts.now.bad texts.now.other)) }
-    ensures fault { IfErr result (λ fault. IsTextFault fault (read_texts texts.now.reader)) }
+    ensures fault { IfErr result (λ fault. IsFaultOrShort fault (read_texts texts.now.reader)) }
 {
     let map = match texts.reader.finish(alloc) {
         Ok(map) => map,

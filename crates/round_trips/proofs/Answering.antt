@@ -1,5 +1,5 @@
 -- What a player answers where it is known what is listed.
-use Rattle.std.proofs.Common.{◌≡◌, ℕ, ◌*◌, ◌≤◌, List, length, Some, Result, Ok, Err, inl, inr, subst, arith}
+use Rattle.std.proofs.Common.{◌≡◌, ℕ, ◌*◌, ◌≤◌, List, length, Some, Result, Ok, Err, refl, subst, arith}
 use Rattle.std.specs.Io.KnownBytes.{Appends}
 use Rattle.raw_subcode.specs.declared.form.Form.{Form}
 use Rattle.raw_subcode.specs.declared.form.Form.TheVariants.{Raw}
@@ -8,6 +8,7 @@ use Rattle.picture_script.specs.Script.{Drawing}
 use Rattle.q_channel.specs.QList.{IsQListed}
 use Rattle.cdtext_packs.specs.Texts.{Texts}
 use Rattle.cdtext_packs.specs.declared.kinds.TextFault.{TextFault}
+use Rattle.cdtext_packs.specs.declared.kinds.TextFault.TheVariants.{Missing, NoSize, Malformed, NoMemory}
 use Rattle.subcode_author.specs.Authored.{IsAuthored, disc_of}
 use Rattle.raw_subcode.specs.Sizes.{most_units}
 use Rattle.cdg_io.specs.Change.{Bytes, Change, from_to}
@@ -82,9 +83,15 @@ lists_texts form bytes expected lead_in texts left out (Err TooLong) taken whole
 lists_texts form bytes expected lead_in texts left out (Err (PastEnd ended)) taken whole read lines lists
     answer =
     absurd answer
-lists_texts form bytes expected lead_in texts left out (Err (Text fault)) taken whole read lines lists
+lists_texts form bytes expected lead_in texts left out (Err (Text NoMemory)) taken whole read lines lists
     answer =
-    elim answer.1 [
-      | inl short ↦ short
-      | inr other ↦ absurd (not_both texts fault (texts_of_lead_in form lead_in bytes) read other)
-    ]
+    refl
+lists_texts form bytes expected lead_in texts left out (Err (Text (Missing seq))) taken whole read lines lists
+    answer =
+    absurd (not_both texts (Missing seq) (texts_of_lead_in form lead_in bytes) read answer.1)
+lists_texts form bytes expected lead_in texts left out (Err (Text NoSize)) taken whole read lines lists
+    answer =
+    absurd (not_both texts NoSize (texts_of_lead_in form lead_in bytes) read answer.1)
+lists_texts form bytes expected lead_in texts left out (Err (Text (Malformed seq byte))) taken whole read
+    lines lists answer =
+    absurd (not_both texts (Malformed seq byte) (texts_of_lead_in form lead_in bytes) read answer.1)

@@ -4,3 +4,4 @@ pub mod TextLists
 pub mod OneText
 pub mod Ends
 pub mod Told
+pub mod TextFaults

@@ -43,8 +43,8 @@ impl TextLister {
     ///
     /// # Errors
     ///
-    /// `Text` where the packs are no texts, or no memory is found for them, and `Torn`, `TooLong` and `ReadFault` as
-    /// the input says: then nothing is written. After `WriteFault` the sink holds a prefix.
+    /// `Text` where the packs are no texts, or they are and no memory is found for them, and `Torn`, `TooLong` and
+    /// `ReadFault` as the input says: then nothing is written. After `WriteFault` the sink holds a prefix.
     pub fn text_list<S: Source, K: Sink>(
         &mut self,
         alloc: Global,

@@ -1,5 +1,5 @@
 -- The texts of a stream's lead-in.
-use Rattle.std.specs.Prelude.{◌≡◌, ℕ, ◌*◌, ◌%◌, ◌≤◌, ◌⊎◌, List, length, take, Result, Ok, Err, IsOk}
+use Rattle.std.specs.Prelude.{◌≡◌, ℕ, ◌*◌, ◌%◌, ◌≤◌, List, length, take, Result, Ok, Err, IsOk}
 use Rattle.cdg_io.specs.Change.{Passed}
 use Rattle.cdg_io.specs.Streams.{WritesAtEnd}
 use Rattle.raw_subcode.specs.Channels.{unit_size, blocks_of}
@@ -32,9 +32,10 @@ pub record IsTextListed (form : Form) (lead_in : ℕ) (bytes text : List ℕ) (b
   pub text_is : text ≡ text_lines texts (packs_in form lead_in bytes)
   pub none_bad : bad ≡ 0
 
--- the fault is that of the packs, or memory is short
+-- where memory is short the packs give texts; else the fault is that of the packs
 abbrev pub IsTextFault : TextFault → Result Texts TextFault → Type 0
-IsTextFault fault texts = (fault ≡ NoMemory) ⊎ (texts ≡ Err fault)
+IsTextFault NoMemory texts = IsOk texts
+IsTextFault fault texts = texts ≡ Err fault
 
 -- A call that lists the texts took these bytes: it writes at the end, where the packs give texts.
 pub record ListsTexts (form : Form) (lead_in : ℕ) (passed : Passed) (result : Result Played PlayStop)
@@ -47,9 +48,13 @@ pub record ListsTexts (form : Form) (lead_in : ℕ) (passed : Passed) (result : 
 abbrev pub IsWholeInput : Form → List ℕ → Type 0
 IsWholeInput form all = (length all ≤ most_units * unit_size form) × (length all % unit_size form ≡ 0)
 
+-- an input of whole units, not too many, whose lead-in gives texts
+abbrev pub GivesTexts : Form → ℕ → List ℕ → Type 0
+GivesTexts form lead_in all = IsWholeInput form all × IsOk (texts_of_lead_in form lead_in all)
+
 -- the answer to an input that is read and written without a fault
 abbrev pub IsListedBy : Result Played PlayStop → Form → ℕ → List ℕ → Type 0
-IsListedBy (Ok played) form lead_in all = IsWholeInput form all × IsOk (texts_of_lead_in form lead_in all)
+IsListedBy (Ok played) form lead_in all = GivesTexts form lead_in all
 IsListedBy (Err (Text fault)) form lead_in all = IsWholeInput form all
     × IsTextFault fault (texts_of_lead_in form lead_in all)
 IsListedBy (Err stop) form lead_in all = IsAnsweredBy (Err stop) (unit_size form) (length all)

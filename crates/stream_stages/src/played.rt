@@ -27,7 +27,7 @@ pub enum PlayStop {
     TooLong,
     /// The moment is later than the end of this many program blocks.
     PastEnd { blocks: u32 },
-    /// The text packs of the lead-in give no texts, or no memory is found for them.
+    /// The text packs of the lead-in give no texts, or give some and no memory is found for them.
     Text(TextFault),
 }
 

@@ -7,7 +7,8 @@ use Rattle.std.specs.List.{range_with_len}
 use Rattle.std.specs.declared.option.Option.{Option}
 use Rattle.std.specs.Io.KnownBytes.{Appends}
 use Rattle.std.proofs.KnownBytes.{Appends-trans}
-use Rattle.cdg_io.specs.Moves.{AppendsPrefix}
+use Rattle.cdg_io.specs.Moves.{AppendsBetween, AppendsPrefix}
+use Rattle.cdg_io.proofs.PumpSteps.{between}
 use Rattle.bit_lists.specs.Counting.{below}
 
 range_more : (a n : ℕ) → range_with_len a (suc n) ≡ range_with_len a n ++ (a + n) ∷ []
@@ -61,6 +62,28 @@ pub prefix_first : (a c : Option (List ℕ)) (ys zs whole : List ℕ) → Append
 prefix_first a c ys zs whole (n, within, more) e =
     let part : take n whole ≡ take n ys = ap (take n) e ∙ take-append-le n ys zs within in
     (n, omega (arith, ap length e, length-append ys zs), subst (Appends a c) (sym part) more)
+
+-- What was put ends within the last piece.
+pub between_pieces : (a b c : Option (List ℕ)) (low piece high : List ℕ) → Appends a b low
+    → AppendsPrefix b c piece → high ≡ low ++ piece
+    → AppendsBetween a c low high
+between_pieces a b c low piece high put (n, within, more) grown =
+    between a c low piece high n grown (Appends-trans a b c _ _ put more)
+
+-- the same after what was put before
+pub between_after : (a b c : Option (List ℕ)) (first low high : List ℕ) → Appends a b first
+    → AppendsBetween b c low high
+    → AppendsBetween a c (first ++ low) (first ++ high)
+between_after a b c first low high put (bytes, more, begins, grows) = (
+  first ++ bytes,
+  Appends-trans a b c _ _ put more,
+  ap (λ k. take k (first ++ bytes)) (length-append first low)
+      ∙ take-append-add first bytes (length low)
+      ∙ ap (λ l. first ++ l) begins,
+  ap (λ k. take k (first ++ high)) (length-append first bytes)
+      ∙ take-append-add first high (length bytes)
+      ∙ ap (λ l. first ++ l) grows,
+)
 
 -- The header and the first pieces were put, and a prefix of the next one.
 pub prefix_of_pieces : (a b c : Option (List ℕ)) (head : List ℕ) (f : ℕ → List ℕ) (count n : ℕ) → n < count

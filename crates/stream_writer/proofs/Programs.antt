@@ -9,13 +9,13 @@ use Rattle.std.proofs.lemmas.List.{append-nil}
 use Rattle.bit_lists.specs.Counting.{below}
 use Rattle.cdg_io.specs.Change.{from_to}
 use Rattle.cdg_io.specs.Run.{run_state}
-use Rattle.cdg_io.specs.Moves.{AppendsPrefix}
+use Rattle.cdg_io.specs.Moves.{AppendsBetween, AppendsPrefix}
 use Rattle.rw_interleave.specs.Spreading.{spread_next}
 use Rattle.toc_model.specs.Places.{DiscLayout}
 use Rattle.toc_model.specs.Layout.{p_bit, program_frame}
 use Rattle.stream_writer.specs.Blocks.{carrying_block, program_block, symbols_at, IsBuilt}
 use Rattle.stream_writer.specs.Given.{symbols_from, AreGiven, ComesAfterBlocks, ComesLater, TakesPacks, PutsPart, PutsProgram}
-use Rattle.stream_writer.proofs.Pieces.{pieces_more, prefix_on}
+use Rattle.stream_writer.proofs.Pieces.{between_pieces, pieces_more, prefix_on}
 use Rattle.stream_writer.proofs.Slots.{none_given, later_more, given_later, given_more, length-symbols_from, symbols_from-append, run_state-append, earlier_block, last_block}
 
 pub same_in_range : (f g : ℕ → List ℕ) (a n : ℕ) → ((i : ℕ) → i < a + n → f i ≡ g i)
@@ -48,6 +48,8 @@ record NextBlock (layout : DiscLayout) (Comes : ℕ → List ℕ → Type 0) (n 
   given_are : AreGiven Comes 0 (4 * (n + 1)) (packs ++ four)
   bytes : flat_map (program_block layout (symbols_from [] (packs ++ four))) (below (n + 1))
       ≡ flat_map (program_block layout (symbols_from [] packs)) (below n) ++ carrying_block layout n symbols
+  front : flat_map (program_block layout (symbols_from [] (packs ++ four))) (below n)
+      ≡ flat_map (program_block layout (symbols_from [] packs)) (below n)
   earlier : (b : ℕ) → b < n
       → symbols_at (symbols_from [] (packs ++ four)) b ≡ symbols_at (symbols_from [] packs) b
   last : symbols_at (symbols_from [] (packs ++ four)) n ≡ symbols
@@ -72,15 +74,16 @@ next_block layout Comes Later n before after packs four symbols given_are spread
     ap (λ xs. symbols_at xs n) joined ∙ last_block so_far symbols n size one in
     let next : n + 1 ≡ suc n = omega arith in
     let f : ℕ → List ℕ = program_block layout (symbols_from [] (packs ++ four)) in
+    let front : flat_map f (below n) ≡ flat_map (program_block layout so_far) (below n) =
+    same_in_range f (program_block layout so_far) 0 n
+    (λ i lt. ap (carrying_block layout i) (earlier i (omega arith))) in
     record {
       given_are =
           given_more Comes 0 (4 * n) (4 * n) 4 (4 * (n + 1)) packs four given_are
           (given_later Comes Later (4 * n) 4 four later taken.given_are) (omega arith) (omega arith);
       bytes = ap (λ k. flat_map f (below k)) next ∙ pieces_more f n
-          ∙ ap₂ (λ xs ys. xs ++ ys)
-          (same_in_range f (program_block layout so_far) 0 n
-          (λ i lt. ap (carrying_block layout i) (earlier i (omega arith))))
-          (ap (carrying_block layout n) last);
+          ∙ ap₂ (λ xs ys. xs ++ ys) front (ap (carrying_block layout n) last);
+      front = front;
       earlier = earlier;
       last = last;
     }
@@ -152,13 +155,21 @@ part_more layout Comes Later n held held' held'' before after symbols block done
     let first : List ℕ = flat_map (program_block layout (symbols_from [] packs)) (below n) in
     let whole : flat_map (program_block layout (symbols_from [] (packs ++ four))) (below (n + 1))
     ≡ first ++ (block ++ []) =
-    next.bytes ∙ ap (λ xs. first ++ xs) (sym (append-nil block ∙ bytes)) in (
+    next.bytes ∙ ap (λ xs. first ++ xs) (sym (append-nil block ∙ bytes)) in
+    let f : ℕ → List ℕ = program_block layout (symbols_from [] (packs ++ four)) in
+    let cut : AppendsBetween held held'' (flat_map f (below n)) (flat_map f (below (n + 1))) =
+    between_pieces held held' held'' _ block _ (subst (Appends held held') (sym next.front) puts.put) part
+    (next.bytes ∙ ap₂ (λ xs ys. xs ++ ys) (sym next.front) (sym bytes)) in (
       n + 1,
       packs ++ four,
       record {
         within = omega arith;
         given_are = next.given_are;
         put = prefix_on held held' held'' first block [] _ puts.put part whole;
+        in_turn = λ m e.
+            let same : n ≡ m = omega (arith, e) in
+            subst (λ k. AppendsBetween held held'' (flat_map f (below k)) (flat_map f (below (n + 1)))) same
+            cut;
       },
       later_more Comes Later Latest (4 * n) 4 (4 * (n + 1)) later next_later (omega arith),
     )

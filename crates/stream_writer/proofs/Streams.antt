@@ -12,7 +12,7 @@ use Rattle.toc_model.specs.Layout.{toc_frame}
 use Rattle.cdtext_packs.specs.LeadIn.{lead_in_symbols}
 use Rattle.stream_writer.specs.Blocks.{lead_in_block, program_block, stream_bytes, IsBuilt}
 use Rattle.stream_writer.specs.Given.{ComesAfterBlocks, PutsPart, PutsProgram, PutsStream, PutsStreamPart, framing_of, symbols_from}
-use Rattle.stream_writer.proofs.Pieces.{prefix_first, prefix_on}
+use Rattle.stream_writer.proofs.Pieces.{between_after, prefix_first, prefix_on}
 use Rattle.stream_writer.proofs.Slots.{none_given, none_later, length-symbols_from}
 use Rattle.stream_writer.proofs.Framed.{AreBuilt, framing, program_is}
 
@@ -58,6 +58,7 @@ part_of_lead_in layout Comes texts lead_in a b part = (
     within = omega arith;
     given_are = none_given Comes 0;
     put = prefix_first a b (lead_in_bytes layout texts lead_in) [] _ part refl;
+    in_turn = λ m e. absurd (omega (arith, e));
   },
   none_later Comes,
 )
@@ -84,6 +85,7 @@ part_of_program layout Comes Later texts lead_in a b c put (n, packs, puts, late
         given_are = puts.given_are;
         put =
             prefix_on a b c first second [] _ put puts.put (ap (λ xs. first ++ xs) (sym (append-nil second)));
+        in_turn = λ m e. between_after a b c first _ _ put (puts.in_turn m e);
       },
       later,
     )

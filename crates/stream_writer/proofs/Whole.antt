@@ -120,7 +120,12 @@ pub part_with : (layout : DiscLayout) (Comes : ℕ → List ℕ → Type 0) (xs 
     → PutsStreamPart (framing_of layout ys lead_in) Comes (from_to a b) n packs
 unfolding stream_bytes
 part_with layout Comes xs ys zero a b n packs same puts =
-    record { within = puts.within; given_are = puts.given_are; put = puts.put }
+    record {
+      within = puts.within;
+      given_are = puts.given_are;
+      put = puts.put;
+      in_turn = puts.in_turn;
+    }
 part_with layout Comes xs ys (suc l) a b n packs same puts =
     subst (λ (t : List (List ℕ)). PutsStreamPart (framing_of layout t (suc l)) Comes (from_to a b) n packs)
     (same (omega arith)) puts

@@ -5,7 +5,7 @@ use Rattle.std.specs.Io.KnownBytes.{Appends}
 use Rattle.bit_lists.specs.Counting.{below}
 use Rattle.cdg_io.specs.Change.{Bytes, Change}
 use Rattle.cdg_io.specs.Run.{run_gives, run_state}
-use Rattle.cdg_io.specs.Moves.{AppendsPrefix}
+use Rattle.cdg_io.specs.Moves.{AppendsBetween, AppendsPrefix}
 use Rattle.rw_code.specs.Packs.{idle_pack}
 use Rattle.raw_subcode.specs.Channels.{program_symbols}
 use Rattle.raw_subcode.specs.declared.form.Form.TheVariants.{Raw}
@@ -67,12 +67,16 @@ pub record PutsProgram (layout : DiscLayout) (Comes : ℕ → List ℕ → Type 
       → IsBuilt (program_block layout (symbols_from [] packs) b) (p_bit layout b) (program_frame layout b)
       (symbols_at (symbols_from [] packs) b)
 
--- a prefix of so many program blocks with these packs was put
+-- a prefix of so many program blocks with these packs was put, up to some byte of the last of them
 pub record PutsPart (layout : DiscLayout) (Comes : ℕ → List ℕ → Type 0) (held : Change Bytes) (n : ℕ)
     (packs : List (List ℕ)) : Type 0 where
   pub within : n ≤ layout.blocks
   pub given_are : AreGiven Comes 0 (slots_a_block * n) packs
   pub put : AppendsPrefix held.before held.after
+      (flat_map (program_block layout (symbols_from [] packs)) (below n))
+  -- all of the earlier blocks was put
+  pub in_turn : (m : ℕ) → n ≡ m + 1 → AppendsBetween held.before held.after
+      (flat_map (program_block layout (symbols_from [] packs)) (below m))
       (flat_map (program_block layout (symbols_from [] packs)) (below n))
 
 -- what stands around the packs of a stream: the places of a disc, and the text packs and blocks of its lead-in
@@ -99,12 +103,15 @@ pub record PutsStream (around : Framing) (Comes : ℕ → List ℕ → Type 0) (
   pub symbols_are : program_symbols Raw (framed_bytes around around.layout.blocks packs) around.lead_in
       ≡ symbols_from [] packs
 
--- a prefix of the lead-in and so many program blocks with these packs was put
+-- a prefix of the lead-in and so many program blocks with these packs was put, up to some byte of the last of them
 pub record PutsStreamPart (around : Framing) (Comes : ℕ → List ℕ → Type 0) (held : Change Bytes) (n : ℕ)
     (packs : List (List ℕ)) : Type 0 where
   pub within : n ≤ around.layout.blocks
   pub given_are : AreGiven Comes 0 (slots_a_block * n) packs
   pub put : AppendsPrefix held.before held.after (framed_bytes around n packs)
+  -- all of the lead-in and of the earlier blocks was put
+  pub in_turn : (m : ℕ) → n ≡ m + 1
+      → AppendsBetween held.before held.after (framed_bytes around m packs) (framed_bytes around n packs)
 
 -- the bytes have this framing, and their program carries these packs, which are as they come
 pub record CarriesComing (around : Framing) (Comes : ℕ → List ℕ → Type 0) (bytes : List ℕ)

@@ -109,8 +109,8 @@ fn put_stream<P: PackSource, K: Sink>(
 ///
 /// # Errors
 ///
-/// `Failed` where a write failed. Then the lead-in and some program blocks were written, or a prefix of them, and the
-/// packs of these blocks were taken of the source, and no more.
+/// `Failed` where a write failed. Then a prefix of the lead-in was written, and no pack taken; or the lead-in and some
+/// program blocks were written, up to some byte of the last, and the packs of these blocks were taken, and no more.
 pub fn write_stream<P: PackSource, K: Sink>(
     layout: &Layout,
     texts: &[TextPack],

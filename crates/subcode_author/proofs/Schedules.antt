@@ -187,6 +187,7 @@ part_of_script script woven layout texts lead_in a b n packs few first part = re
   within = part.within;
   given_are = given_of script woven (4 * n) packs first (omega (arith, part.within)) part.given_are;
   put = part.put;
+  in_turn = part.in_turn;
 }
 
 -- the part that was put is one of the stream of the sheet and the script

@@ -176,7 +176,7 @@ returns-in-Merge-clause-does g c = λ found.
     subst (λ (k : Command). Does k (call g.S.Source.left g.T.Source.left g.K.Sink.held
     (c.args.first.now, c.args.second.now, c.args.out.now)
     (c.run_merge.new.first, c.run_merge.new.second, c.run_merge.new.out)) c.run_merge.result)
-    (sym c.in-Merge.is) (c.run_merge.ensures.does found)
+    (sym c.in-Merge.is) c.run_merge.ensures.does
 
 pub returns-in-Merge-clause-ends : goal.returns-in-Merge-clause-ends
 returns-in-Merge-clause-ends g c =

@@ -86,7 +86,8 @@ returns-clause-strings g c = λ form disc stream lines packs spelled authored.
 pub returns-clause-merges : goal.returns-clause-merges
 returns-clause-merges g c = λ lead_in spelled.
     merged_back c.two_readings_give_packs.ensures.text lead_in _ _ _ c.answer-status.result _ _
-    (c.answer-status.ensures.does (Merge lead_in) spelled)
+    (c.answer-status.ensures.does (Merge lead_in) spelled
+    ((c.answer-status.ensures.memory (Merge lead_in) spelled).never tt))
 
 pub returns-clause-unpresses : goal.returns-clause-unpresses
 returns-clause-unpresses g c = λ command spelled.
