@@ -59,6 +59,13 @@ can players live lead_in given held (player, is, played) raw file cannot_be =
     subst (λ (it : LivePlayer). HasPlayed Raw lead_in given it) same played in
     can_be_saved live (raw live there) (file live there) cannot_be
 
+-- the player that was taken out is the one that was held
+pub of_packs : (players : List LivePlayer) (taken live : LivePlayer) → players ≡ taken ∷ []
+    → players ≡ live ∷ [] → live.words.form ≢ Raw → taken.words.form ≢ Raw
+of_packs players taken live held is other raw =
+    let same : taken ≡ live = ap (λ (xs : List LivePlayer). get_or xs 0 live) (sym held ∙ is) in
+    other (subst (λ (it : LivePlayer). it.words.form ≡ Raw) same raw)
+
 -- an answer that is passed on stays
 pub passed_on : (answer : ℤ) → (answer ≡ pos 0) ⊎ (answer ≡ negsuc 0) ⊎ (answer ≡ pos 7)
     → to_z w32 (of_z w32 answer) ≡ answer

@@ -33,6 +33,9 @@ pub extern "C" fn ribjasper_player_save(
     ensures can { (lead_in : ℕ) (given : List Given)
         → IsPlaying Form.Raw lead_in given player.old.handle.players
         → lead_in ≤ most_lead_in → length (blocks_in given) ≤ most_units → result ≢ negsuc 0 }
+    // A player of packs is not saved.
+    ensures packs { (live : LivePlayer) → player.old.handle.players ≡ live ∷ [] → live.words.form ≢ Form.Raw
+        → result ≡ negsuc 0 }
     ensures closed { player.old.is_open ≡ false → result ≡ negsuc 0 }
     ensures answer { (result ≡ pos 0) ⊎ (result ≡ negsuc 0) ⊎ (result ≡ pos 7) }
     ensures stays { player.new.is_open ≡ player.old.is_open }
@@ -53,6 +56,7 @@ pub extern "C" fn ribjasper_player_save(
 fn save(alloc: Global, live: &LivePlayer, file: &mut [u8; FILE_BYTES]) -> i32
     ensures saved { result ≡ pos 0 → IsSavedAs file.new live.now }
     ensures refused { result ≡ negsuc 0 → CannotBeSaved live.now }
+    ensures packs { live.now.words.form ≢ Form.Raw → result ≡ negsuc 0 }
     ensures answer { (result ≡ pos 0) ⊎ (result ≡ negsuc 0) ⊎ (result ≡ pos 7) }
     ensures untouched { result ≢ pos 0 → file.new ≡ file.old }
 {

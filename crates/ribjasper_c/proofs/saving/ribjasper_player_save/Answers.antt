@@ -1,6 +1,8 @@
-use Rattle.std.proofs.Common.{subst, sym, ◌∙◌}
+use Rattle.std.proofs.Common.{◌≢◌, subst, sym, ◌∙◌}
+use Rattle.raw_subcode.specs.declared.form.Form.TheVariants.{Raw}
+use Rattle.live_player.specs.declared.live.LivePlayer.{LivePlayer}
 use Rattle.ribjasper_c.specs.Saving.{CannotBeSaved}
-use Rattle.ribjasper_c.proofs.Saves.{can, passed_on}
+use Rattle.ribjasper_c.proofs.Saves.{can, of_packs, passed_on}
 use Rattle.ribjasper_c.proofs.saving.ribjasper_player_save.Goals as goal
 
 pub returns-clause-can : goal.returns-clause-can
@@ -10,3 +12,10 @@ returns-clause-can c lead_in given playing most few is =
     (λ saved played. c.a_saved_player_goes_on.ensures.accepted lead_in given saved played most few)
     (subst CannotBeSaved c.deref.ensures
     (c.save-answer.ensures.refused (sym (passed_on c.save-answer.result c.save-answer.ensures.answer) ∙ is)))
+
+pub returns-clause-packs : goal.returns-clause-packs
+returns-clause-packs c live held other =
+    passed_on c.save-answer.result c.save-answer.ensures.answer
+    ∙ c.save-answer.ensures.packs
+    (subst (λ (it : LivePlayer). it.words.form ≢ Raw) (sym c.deref.ensures)
+    (of_packs _ _ live c.take_out-live.ensures held other))
